@@ -1,0 +1,8 @@
+-- The laws of the page forest, proved.
+pub mod Reading
+pub mod Owning
+pub mod Writing
+pub mod Linking
+pub mod Settling
+pub mod Commands
+pub mod Ranges

@@ -1,0 +1,3 @@
+pub mod Forest
+pub mod Pages
+pub mod Places

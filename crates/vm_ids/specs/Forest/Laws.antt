@@ -1,0 +1,10 @@
+-- The laws of the page forest, each of all forests of any type of pages. The contracts of the functions in
+-- src/laws.rt name them, and so each is proved.
+pub mod Reading
+pub mod Owning
+pub mod Writing
+pub mod Linking
+pub mod Settling
+pub mod Saving
+pub mod Commands
+pub mod Ranges

@@ -1,0 +1,27 @@
+-- The numbers of refusals.
+use Rattle.std.specs.Prelude.{ℕ}
+use Rattle.vm_ids.specs.declared.refusal.Refusal.{Refusal}
+use Rattle.vm_ids.specs.declared.refusal.Refusal.TheVariants.{BadLine, NoActor, NoCache, NoRegion, NoSegment, SegmentInUse, OutOfCache, BadAddress, Protection, Overlap, Unaligned, Crosses, WriteDenied, Locked, LockLimit, InUse, TooMany, NotTemp, NotNamed, NotLocked}
+
+-- Each refusal has a number from 1 to 20.
+abbrev pub refusal_number : Refusal → ℕ
+refusal_number BadLine = 1
+refusal_number NoActor = 2
+refusal_number NoCache = 3
+refusal_number NoRegion = 4
+refusal_number NoSegment = 5
+refusal_number SegmentInUse = 6
+refusal_number OutOfCache = 7
+refusal_number BadAddress = 8
+refusal_number Protection = 9
+refusal_number Overlap = 10
+refusal_number Unaligned = 11
+refusal_number Crosses = 12
+refusal_number WriteDenied = 13
+refusal_number Locked = 14
+refusal_number LockLimit = 15
+refusal_number InUse = 16
+refusal_number TooMany = 17
+refusal_number NotTemp = 18
+refusal_number NotNamed = 19
+refusal_number NotLocked = 20

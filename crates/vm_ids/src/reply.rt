@@ -1,0 +1,58 @@
+// What commands answer.
+use crate::{ActorId, CacheId, Mapping, PageNo, Piece, Refusal, RegionId};
+
+/// A region as `status` tells it: its actor, its mapping, and whether it is locked.
+#[derive(Clone, Copy, Debug, PartialEq, Eq)]
+pub struct RegionStatus {
+    pub actor: ActorId,
+    pub mapping: Mapping,
+    pub locked: bool,
+}
+
+/// What a command that was carried out answers.
+#[derive(Drop)]
+pub enum Reply {
+    Done,
+    Actor(ActorId),
+    Cache(CacheId),
+    Region(RegionId),
+    Bytes(Piece),
+}
+
+/// At which call a mapper failed.
+#[derive(Clone, Copy, Debug, PartialEq, Eq)]
+pub enum FaultAt {
+    /// The size of a segment was asked.
+    Opening,
+    /// The write access to this page was asked.
+    Access(PageNo),
+    /// A page was to be saved for its copies; so many saves of the command were done before.
+    Save(u32),
+    /// This page of the cache was to be brought in or pushed out.
+    Page(PageNo),
+    /// A victim of eviction was to be pushed out.
+    Victim,
+}
+
+/// There was no memory.
+#[derive(Clone, Copy, Debug, PartialEq, Eq)]
+pub struct NoMemory;
+
+/// Why a command wasn't carried out. The machine is then as it was before.
+#[derive(Clone, Copy, Debug, PartialEq, Eq)]
+pub enum Trouble {
+    Refused(Refusal),
+    Mapper(FaultAt),
+    Memory,
+}
+
+/// What one command answers.
+pub type Answer = Result<Reply, Trouble>;
+
+/// How much a manager keeps: the pages of all live caches, the working nodes, and the pages copied since opening.
+#[derive(Clone, Copy, Debug, PartialEq, Eq)]
+pub struct Counts {
+    pub live: u32,
+    pub working: u32,
+    pub copies: u64,
+}
