@@ -1,0 +1,6 @@
+pub mod Calls
+pub mod Choosing
+pub mod Failing
+pub mod Mapping
+pub mod Rows
+pub mod Streams
