@@ -1,0 +1,3 @@
+pub mod EachRecord
+pub mod Ready
+pub mod Still

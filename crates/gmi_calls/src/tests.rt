@@ -1,0 +1,267 @@
+// Each call once on its happy path, through the interface, and refusals in their order.
+ghost use Rattle.std.specs.Prelude.{◌≡◌, ◌≤◌, ◌+◌, ◌^◌, IfOk};
+ghost use Rattle.vm_model.specs.declared.limits.TheConstants.{LIVE_PAGES};
+ghost use Rattle.vm_model.specs.Asking.{IsWellFormed};
+ghost use Rattle.vm_model.specs.Machine.{live_pages};
+ghost use Rattle.gmi_calls.specs.Calling.{Fits};
+
+use crate::{Gmi, answer};
+use std::process::Abort;
+use std::test::Fail;
+use vm_ids::{
+    ActorId, Answer, CacheId, Command, Extent, Mapping, PageNo, Piece, Prot, Refusal, RegionId,
+    Reply, Span, Trouble,
+};
+use vm_model::EagerMachine;
+use vm_port::{Chooser, Fifo, Mapper, NoMapper};
+
+// What an answer comes to.
+#[derive(Clone, Copy, Debug, PartialEq, Eq)]
+enum Shown {
+    Done,
+    Actor(u32),
+    Cache(u32),
+    Region(u32),
+    Two(u8, u8),
+    Refused(Refusal),
+    Other,
+}
+
+fn seen(answer: Answer) -> Shown {
+    match answer {
+        Ok(Reply::Done) => Shown::Done,
+        Ok(Reply::Actor(ActorId(n))) => Shown::Actor(n),
+        Ok(Reply::Cache(CacheId(n))) => Shown::Cache(n),
+        Ok(Reply::Region(RegionId(n))) => Shown::Region(n),
+        Ok(Reply::Bytes(piece)) => two(piece.as_slice()),
+        Err(Trouble::Refused(refusal)) => Shown::Refused(refusal),
+        Err(_) => Shown::Other,
+    }
+}
+
+fn two(bytes: &[u8]) -> Shown {
+    if bytes.len() == 2 {
+        Shown::Two(bytes[0], bytes[1])
+    } else {
+        Shown::Other
+    }
+}
+
+// A copy from page 0 on.
+fn copy(from: u32, to: u32, to_page: u32, pages: u32) -> Command
+    requires { 1 ≤ pages }
+    ensures { IsWellFormed result }
+{
+    Command::Copy(Span {
+        from: CacheId(from),
+        from_page: PageNo(0),
+        to: CacheId(to),
+        to_page: PageNo(to_page),
+        pages,
+    })
+}
+
+// A mapping of one page of cache 1 into actor 1, for reading alone or for writing too.
+fn map(first: u32, address: u64, write: bool) -> Command
+    ensures { IsWellFormed result }
+{
+    let extent = Extent {
+        cache: CacheId(1),
+        first: PageNo(first),
+        pages: 1,
+    };
+    Command::Map(
+        ActorId(1),
+        Mapping {
+            extent,
+            address,
+            prot: Prot { write },
+        },
+    )
+}
+
+// Two bytes at an address of an actor.
+fn load(actor: u32, address: u64) -> Command
+    ensures { IsWellFormed result }
+{
+    Command::Load(ActorId(actor), address, 2)
+}
+
+fn store(address: u64) -> Result<Command, Fail>
+    ensures { IfOk result (λ c. IsWellFormed c) }
+{
+    let piece = Piece::new(&[0x0a, 0x0b]).ok_or("no piece")?;
+    Ok(Command::Store(ActorId(1), address, piece))
+}
+
+// The row of the least success, through the bound.
+fn least_success<G: Gmi<M, C>, M: Mapper, C: Chooser>(
+    rt: &impl Abort,
+    gmi: &mut G,
+    mapper: &mut M,
+    chooser: &mut C,
+) -> Result<(), Fail>
+    requires valid { G.valid gmi.old (M.held mapper.old) }
+    requires made { G.made gmi.old ≤ 2 ^ 61 }
+    requires fits { Fits (M.page_bytes mapper.old) (G.machine gmi.old (M.held mapper.old)) }
+    requires live { live_pages (G.machine gmi.old (M.held mapper.old)) ≤ LIVE_PAGES }
+{
+    assert_eq!(rt;
+        seen(answer(gmi, &Command::MakeActor, mapper, chooser)),
+        Shown::Actor(1)
+    );
+    assert_eq!(rt;
+        seen(answer(gmi, &Command::MakeTemp(1), mapper, chooser)),
+        Shown::Cache(1)
+    );
+    assert_eq!(rt;
+        seen(answer(gmi, &map(0, 0x10000, true), mapper, chooser)),
+        Shown::Region(1)
+    );
+    assert_eq!(rt;
+        seen(answer(gmi, &store(0x10000)?, mapper, chooser)),
+        Shown::Done
+    );
+    assert_eq!(rt;
+        seen(answer(gmi, &load(1, 0x10000), mapper, chooser)),
+        Shown::Two(0x0a, 0x0b)
+    );
+    assert_eq!(rt;
+        seen(answer(gmi, &Command::MakeTemp(1), mapper, chooser)),
+        Shown::Cache(2)
+    );
+    assert_eq!(rt;
+        seen(answer(gmi, &copy(1, 2, 0, 1), mapper, chooser)),
+        Shown::Done
+    );
+    Ok(())
+}
+
+#[test]
+fn the_plain_program_succeeds(rt: HostRuntime) -> Result<(), Fail> {
+    let mut gmi = EagerMachine::new(rt.alloc(), 3, 4096);
+    least_success(&rt, &mut gmi, &mut NoMapper::new(), &mut Fifo::new())
+}
+
+// What a copy leaves of its source and its destination: page 1 of cache 1 keeps what page 0 held at the copy.
+#[test]
+fn a_copy_is_of_its_moment(rt: HostRuntime) -> Result<(), Fail> {
+    let mut gmi = EagerMachine::new(rt.alloc(), 3, 512);
+    let (mapper, chooser) = (&mut NoMapper::new(), &mut Fifo::new());
+    assert_eq!(rt;
+        seen(answer(&mut gmi, &Command::MakeActor, mapper, chooser)),
+        Shown::Actor(1)
+    );
+    assert_eq!(rt;
+        seen(answer(&mut gmi, &Command::MakeTemp(4), mapper, chooser)),
+        Shown::Cache(1)
+    );
+    assert_eq!(rt;
+        seen(answer(&mut gmi, &map(0, 0x200, true), mapper, chooser)),
+        Shown::Region(1)
+    );
+    assert_eq!(rt;
+        seen(answer(&mut gmi, &map(1, 0x400, true), mapper, chooser)),
+        Shown::Region(2)
+    );
+    assert_eq!(rt;
+        seen(answer(&mut gmi, &store(0x200)?, mapper, chooser)),
+        Shown::Done
+    );
+    assert_eq!(rt;
+        seen(answer(&mut gmi, &copy(1, 1, 1, 1), mapper, chooser)),
+        Shown::Done
+    );
+    assert_eq!(rt;
+        seen(answer(&mut gmi, &store(0x201)?, mapper, chooser)),
+        Shown::Done
+    );
+    assert_eq!(rt;
+        seen(answer(&mut gmi, &load(1, 0x200), mapper, chooser)),
+        Shown::Two(0x0a, 0x0a)
+    );
+    assert_eq!(rt;
+        seen(answer(&mut gmi, &load(1, 0x400), mapper, chooser)),
+        Shown::Two(0x0a, 0x0b)
+    );
+    assert_eq!(rt;
+        seen(answer(&mut gmi, &load(1, 0x5fe), mapper, chooser)),
+        Shown::Two(0, 0)
+    );
+    Ok(())
+}
+
+#[test]
+fn refusals_by_the_rows(rt: HostRuntime) -> Result<(), Fail> {
+    let mut gmi = EagerMachine::new(rt.alloc(), 3, 4096);
+    let (mapper, chooser) = (&mut NoMapper::new(), &mut Fifo::new());
+    assert_eq!(rt;
+        seen(answer(&mut gmi, &map(0, 0x10000, true), mapper, chooser)),
+        Shown::Refused(Refusal::NoActor)
+    );
+    assert_eq!(rt;
+        seen(answer(&mut gmi, &Command::MakeActor, mapper, chooser)),
+        Shown::Actor(1)
+    );
+    assert_eq!(rt;
+        seen(answer(&mut gmi, &map(0, 0x10001, true), mapper, chooser)),
+        Shown::Refused(Refusal::NoCache)
+    );
+    assert_eq!(rt;
+        seen(answer(&mut gmi, &Command::MakeTemp(64), mapper, chooser)),
+        Shown::Cache(1)
+    );
+    assert_eq!(rt;
+        seen(answer(&mut gmi, &Command::MakeTemp(1), mapper, chooser)),
+        Shown::Refused(Refusal::TooMany)
+    );
+    assert_eq!(rt;
+        seen(answer(&mut gmi, &map(0, 0x10000, false), mapper, chooser)),
+        Shown::Region(1)
+    );
+    assert_eq!(rt;
+        seen(answer(&mut gmi, &map(0, 0x30001, true), mapper, chooser)),
+        Shown::Refused(Refusal::Unaligned)
+    );
+    assert_eq!(rt;
+        seen(answer(&mut gmi, &map(0, 1 << 48, true), mapper, chooser)),
+        Shown::Refused(Refusal::BadAddress)
+    );
+    assert_eq!(rt;
+        seen(answer(&mut gmi, &map(64, 0x10000, true), mapper, chooser)),
+        Shown::Refused(Refusal::OutOfCache)
+    );
+    assert_eq!(rt;
+        seen(answer(&mut gmi, &map(0, 0x10000, true), mapper, chooser)),
+        Shown::Refused(Refusal::Overlap)
+    );
+    assert_eq!(rt;
+        seen(answer(&mut gmi, &load(2, 0x10000), mapper, chooser)),
+        Shown::Refused(Refusal::NoActor)
+    );
+    assert_eq!(rt;
+        seen(answer(&mut gmi, &load(1, 0x10fff), mapper, chooser)),
+        Shown::Refused(Refusal::Crosses)
+    );
+    assert_eq!(rt;
+        seen(answer(&mut gmi, &load(1, 0x11000), mapper, chooser)),
+        Shown::Refused(Refusal::BadAddress)
+    );
+    assert_eq!(rt;
+        seen(answer(&mut gmi, &store(0x10000)?, mapper, chooser)),
+        Shown::Refused(Refusal::Protection)
+    );
+    assert_eq!(rt;
+        seen(answer(&mut gmi, &copy(1, 2, 0, 1), mapper, chooser)),
+        Shown::Refused(Refusal::NoCache)
+    );
+    assert_eq!(rt;
+        seen(answer(&mut gmi, &copy(1, 1, 63, 2), mapper, chooser)),
+        Shown::Refused(Refusal::OutOfCache)
+    );
+    assert_eq!(rt;
+        seen(answer(&mut gmi, &copy(1, 1, 1, 2), mapper, chooser)),
+        Shown::Refused(Refusal::Overlap)
+    );
+    Ok(())
+}

@@ -1,0 +1,168 @@
+-- The machine's answer to a command, row by row: the first refusal that holds, or else the reply and the change.
+use Rattle.std.specs.Prelude.{◌==◌, ℕ, ◌+◌, ◌-◌, ◌*◌, ◌%◌, ◌^◌, ◌&&◌, ◌||◌, not, Bool, false, nat_lt, nat_le, List, [], ◌∷◌, ◌++◌, length, take, drop, replicate, Option, Some, None, option_and_then, slice_get, slice_set, Result, Ok, Err, if◌then◌else◌, unwrap_or}
+use Rattle.std.specs.List.{list_any, range_with_len}
+use Rattle.std.specs.Option.{option_map_or}
+use Rattle.vm_ids.specs.Denying.{denies}
+use Rattle.vm_ids.specs.Held.{Segments}
+use Rattle.vm_ids.specs.declared.command.Command.{Command}
+use Rattle.vm_ids.specs.declared.command.Command.TheVariants as commands
+use Rattle.vm_ids.specs.declared.command.Mapping.{Mapping}
+use Rattle.vm_ids.specs.declared.command.Span.{Span}
+use Rattle.vm_ids.specs.declared.reply.Reply.{Reply}
+use Rattle.vm_ids.specs.declared.reply.Reply.TheVariants as replies
+use Rattle.vm_ids.specs.declared.reply.Trouble.{Trouble}
+use Rattle.vm_ids.specs.declared.reply.Trouble.TheVariants as troubles
+use Rattle.vm_ids.specs.declared.refusal.Refusal.{Refusal}
+use Rattle.vm_ids.specs.declared.refusal.Refusal.TheVariants as refusals
+use Rattle.vm_model.specs.declared.limits.TheConstants.{LIVING_ACTORS, LIVE_PAGES, MADE}
+use Rattle.vm_model.specs.Machine.{Machine, Page, Cache, Region, Actor, zero_page, live_pages, living_actors, cache_of, actor_of, is_locked_page}
+use Rattle.vm_model.specs.Place.{Place, place}
+
+-- what one command answers
+abbrev pub Answer : Type 0
+Answer = Result Reply Trouble
+
+-- what a call gave, as the answer to its command
+abbrev pub answer_by : {A : Type 0} → (A → Reply) → Result A Trouble → Answer
+answer_by f (Ok x) = Ok (f x)
+answer_by f (Err e) = Err e
+
+-- An answer, and the machine after it.
+pub record Answered : Type 0 where
+  pub answer : Answer
+  pub next : Machine
+
+-- refused: the machine stays
+abbrev pub refuse : Machine → Refusal → Answered
+refuse m r = record { answer = Err (troubles.Refused r); next = m }
+
+abbrev pub reply : Reply → Machine → Answered
+reply r next = record { answer = Ok r; next = next }
+
+-- refused where this is bad
+unfoldable pub unless : Bool → Refusal → Machine → Answered → Answered
+unless bad r m go = if bad then refuse m r else go
+
+-- refused where there is nothing; else it goes on with what was found
+unfoldable pub with_some : {A : Type 0} → Option A → Refusal → Machine → (A → Answered) → Answered
+with_some None r m go = refuse m r
+with_some (Some x) r m go = go x
+
+-- refused as this is; else it goes on with what was found
+unfoldable pub with_ok : {A : Type 0} → Result A Refusal → Machine → (A → Answered) → Answered
+with_ok (Err r) m go = refuse m r
+with_ok (Ok x) m go = go x
+
+-- a part of a list, from this place on, is replaced
+abbrev pub overwrite : {A : Type 0} → ℕ → List A → List A → List A
+overwrite at part whole = take at whole ++ part ++ drop (at + length part) whole
+
+-- actor: a new one without regions
+unfoldable pub make_actor_of : Machine → Answered
+make_actor_of m =
+    unless (nat_le LIVING_ACTORS (living_actors m) || nat_le MADE (length m.actors)) refusals.TooMany m
+    (reply (replies.Actor (record { 0 = length m.actors + 1 })) (record m { actors = m.actors ++ Some [] ∷ [] }))
+
+abbrev pub temporary : ℕ → ℕ → Cache
+temporary page_bytes pages = record { segment = None; pages = replicate pages (zero_page page_bytes) }
+
+-- temp: a new temporary cache of zero pages
+unfoldable pub make_temp_of : Machine → ℕ → Answered
+make_temp_of m pages =
+    unless (nat_le MADE (length m.caches) || nat_lt LIVE_PAGES (live_pages m + pages)) refusals.TooMany m
+    (reply (replies.Cache (record { 0 = length m.caches + 1 })) (record m { caches = m.caches ++ Some (temporary m.page_bytes pages) ∷ [] }))
+
+-- these pages pass the end of the cache
+abbrev pub passes_end : Cache → ℕ → ℕ → Bool
+passes_end c first pages = nat_lt (length c.pages) (first + pages)
+
+-- two ranges of so many pages or addresses each share one
+abbrev pub shares : ℕ → ℕ → ℕ → ℕ → Bool
+shares start size other other_size = nat_lt start (other + other_size) && nat_lt other (start + size)
+
+-- the mapper denies writing to this page of the cache: only where a segment names the cache
+abbrev pub is_denied_page : Machine → Segments → ℕ → ℕ → Bool
+is_denied_page m h cache page = option_map_or (λ seg. denies h.denied seg page) (option_and_then (λ (c : Cache). c.segment) (cache_of m cache)) false
+
+abbrev pub put_pages : ℕ → List Page → Cache → Cache
+put_pages first pages c = record c { pages = overwrite first pages c.pages }
+
+abbrev pub put_cache : Machine → ℕ → Cache → Machine
+put_cache m cache c = record m { caches = slice_set m.caches (cache - 1) (Some c) }
+
+-- copy: the destination's pages become what the source's pages held before, all at once
+unfoldable pub copy_of : Machine → Span → Segments → Answered
+copy_of m s h =
+    with_some (cache_of m s.from.0) refusals.NoCache m (λ source.
+    with_some (cache_of m s.to.0) refusals.NoCache m (λ destination.
+    unless (passes_end source s.from_page.0 s.pages || passes_end destination s.to_page.0 s.pages) refusals.OutOfCache m
+    (unless (s.from.0 == s.to.0 && shares s.from_page.0 s.pages s.to_page.0 s.pages) refusals.Overlap m
+    (unless (list_any (is_locked_page m s.to.0) (range_with_len s.to_page.0 s.pages)) refusals.Locked m
+    (unless (list_any (is_denied_page m h s.to.0) (range_with_len s.to_page.0 s.pages)) refusals.WriteDenied m
+    (reply replies.Done (put_cache m s.to.0 (put_pages s.to_page.0 (take s.pages (drop s.from_page.0 source.pages)) destination))))))))
+
+-- the region shares an address with so many pages at this address
+abbrev pub overlaps : ℕ → ℕ → ℕ → Region → Bool
+overlaps page_bytes address pages r = shares address (page_bytes * pages) r.start (page_bytes * r.pages)
+
+-- in order of start address
+abbrev pub insert_region : Region → Actor → Actor
+insert_region r [] = r ∷ []
+insert_region r (x ∷ xs) = if nat_lt r.start x.start then r ∷ x ∷ xs else x ∷ insert_region r xs
+
+abbrev pub region_of : ℕ → Mapping → Region
+region_of number p = record { number = number; start = p.address; pages = p.extent.pages; may_write = p.prot.write; cache = p.extent.cache.0; offset = p.extent.first.0; locked = false }
+
+abbrev pub put_actor : Machine → ℕ → Actor → Machine
+put_actor m actor regions = record m { actors = slice_set m.actors (actor - 1) (Some regions) }
+
+abbrev pub add_region : Machine → ℕ → Actor → Mapping → Machine
+add_region m actor regions p = record (put_actor m actor (insert_region (region_of (m.regions_made + 1) p) regions)) { regions_made = m.regions_made + 1 }
+
+-- map: a new region, unlocked
+unfoldable pub map_of : Machine → ℕ → Mapping → Answered
+map_of m actor p =
+    with_some (actor_of m actor) refusals.NoActor m (λ regions.
+    with_some (cache_of m p.extent.cache.0) refusals.NoCache m (λ cache.
+    unless (not (p.address % m.page_bytes == 0)) refusals.Unaligned m
+    (unless (nat_lt (2 ^ 48) (p.address + m.page_bytes * p.extent.pages)) refusals.BadAddress m
+    (unless (passes_end cache p.extent.first.0 p.extent.pages) refusals.OutOfCache m
+    (unless (list_any (overlaps m.page_bytes p.address p.extent.pages) regions) refusals.Overlap m
+    (unless (nat_le MADE m.regions_made) refusals.TooMany m
+    (reply (replies.Region (record { 0 = m.regions_made + 1 })) (add_region m actor regions p))))))))
+
+-- the page of a place, empty where there is none
+abbrev pub page_at : Machine → Place → Page
+page_at m p = option_map_or (λ (c : Cache). unwrap_or (slice_get c.pages p.page) []) (cache_of m p.region.cache) []
+
+abbrev pub bytes_at : Machine → Place → ℕ → List ℕ
+bytes_at m p length = take length (drop p.byte (page_at m p))
+
+-- load: the bytes at the place
+unfoldable pub load_of : Machine → ℕ → ℕ → ℕ → Answered
+load_of m actor address length =
+    with_ok (place m actor address length) m (λ p. reply (replies.Bytes (bytes_at m p length)) m)
+
+abbrev pub put_page : ℕ → Page → Cache → Cache
+put_page page bytes c = record c { pages = slice_set c.pages page bytes }
+
+-- these bytes stand at the place
+abbrev pub write_at : Machine → Place → List ℕ → Machine
+write_at m p bytes = option_map_or (λ c. put_cache m p.region.cache (put_page p.page (overwrite p.byte bytes (page_at m p)) c)) (cache_of m p.region.cache) m
+
+-- store: the bytes at the place change
+unfoldable pub store_of : Machine → ℕ → ℕ → List ℕ → Segments → Answered
+store_of m actor address bytes h =
+    with_ok (place m actor address (length bytes)) m (λ p.
+    unless (not p.region.may_write) refusals.Protection m
+    (unless (is_denied_page m h p.region.cache p.page) refusals.WriteDenied m
+    (reply replies.Done (write_at m p bytes))))
+
+-- the whole table
+abbrev pub answer_of : Machine → Command → Segments → Answered
+answer_of m commands.MakeActor h = make_actor_of m
+answer_of m (commands.MakeTemp pages) h = make_temp_of m pages
+answer_of m (commands.Copy span) h = copy_of m span h
+answer_of m (commands.Map actor mapping) h = map_of m actor.0 mapping
+answer_of m (commands.Load actor address length) h = load_of m actor.0 address length
+answer_of m (commands.Store actor address piece) h = store_of m actor.0 address piece h

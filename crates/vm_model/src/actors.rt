@@ -1,0 +1,30 @@
+// Actors are made.
+ghost use Rattle.std.specs.Prelude.{◌≡◌, ℕ, ◌+◌, ◌≤◌, ◌<◌, ◌∷◌, ◌++◌, [], length};
+ghost use Rattle.vm_ids.specs.Counting.{no_counts};
+ghost use Rattle.vm_ids.specs.Held.{Segments};
+ghost use Rattle.vm_model.specs.Answering.{answer_by};
+ghost use Rattle.vm_model.specs.Outcome.{Outcome};
+ghost use Rattle.vm_model.specs.Seen.{machine_seen, IsSound};
+
+use crate::tables::{Actor, Tables};
+use crate::{LIVING_ACTORS, MADE};
+use vm_ids::{ActorId, Command, Refusal, Reply, Trouble};
+
+#[tactic(auto, unfolding(crate::specs::Answering::make_actor_of, crate::specs::Answering::unless))]
+pub(crate) fn make_actor(tables: &mut Tables) -> Result<ActorId, Trouble>
+    requires { IsSound tables.old }
+    ensures sound { IsSound tables.new }
+    ensures outcome { (h : Segments) → Outcome (machine_seen tables.old) Command.MakeActor h (answer_by Reply.Actor result) (machine_seen tables.new) no_counts }
+{
+    if tables.living >= LIVING_ACTORS || tables.actors.len() >= MADE as usize {
+        return Err(Trouble::Refused(Refusal::TooMany));
+    }
+    let actor = Actor {
+        regions: Vec::new(tables.alloc),
+    };
+    if tables.actors.push(Some(actor)).is_err() {
+        return Err(Trouble::Memory);
+    }
+    tables.living += 1;
+    Ok(ActorId(tables.actors.len() as u32))
+}

@@ -1,0 +1,22 @@
+//! The machine that the memory manager is measured by: it keeps each cache as plain bytes and copies at once.
+//!
+//! Its definitions are what a reader must believe, and are in specs/: the machine (`Machine`), the place of an access
+//! (`Place`), the answer to each command (`Answering`), what a manager may answer (`Outcome`), what a push writes
+//! (`Pushing`) and a whole run (`Run`). [`EagerMachine`] is the plain program that computes them; it is seen as the
+//! machine itself. The crate stands on the plain types alone; the interface, every manager and the replay stand on it.
+#![tactic(auto)]
+
+mod accesses;
+mod actors;
+mod caches;
+mod copies;
+mod eager_machine;
+mod limits;
+mod maps;
+mod place;
+mod tables;
+#[cfg(test)]
+mod tests;
+
+pub use eager_machine::EagerMachine;
+pub use limits::{LIVE_PAGES, LIVING_ACTORS, MADE};
