@@ -1,0 +1,67 @@
+//! The program `chorusvm`: it replays a script of actors on standard input, and writes the replies to standard output.
+//!
+//! It is the top of the layers, and has no model of its own: what it answers is said by the contract of the one call
+//! that it makes, `replay::run`. Here stand only the adapters over the real streams, and the exit statuses with their
+//! messages on standard error.
+#![tactic(auto)]
+
+mod fault;
+mod sink;
+mod source;
+#[cfg(test)]
+mod tests;
+
+use fault::Fault;
+use replay::{Status, run};
+use sink::StreamSink;
+use source::StreamSource;
+use std::env;
+use std::process::ExitCode;
+use vm_port::{Fifo, NoMapper};
+
+// The words behind the program's name. Words that can't be had as text are those of no run.
+fn words_given(rt: &HostRuntime) -> Result<Vec<String>, Status> {
+    let Ok(given) = env::args(rt) else {
+        return Err(Status::Usage);
+    };
+    let mut words = Vec::new(rt.alloc());
+    for word in given.skip(1) {
+        if words.push(word).is_err() {
+            return Err(Status::NoMemory);
+        }
+    }
+    Ok(words)
+}
+
+// Runs these words over standard input and output.
+fn run_words(rt: &HostRuntime, words: &[String]) -> Status {
+    let mut texts = Vec::new(rt.alloc());
+    for word in words {
+        if texts.push(word.as_str()).is_err() {
+            return Status::NoMemory;
+        }
+    }
+    let mut source = StreamSource::new(rt.stdin());
+    let mut sink = StreamSink::new(rt.stdout());
+    let mut mapper = NoMapper::new();
+    let mut chooser = Fifo::new();
+    run(
+        rt.alloc(),
+        &texts,
+        &mut source,
+        &mut sink,
+        &mut mapper,
+        &mut chooser,
+    )
+}
+
+fn main(rt: HostRuntime) -> ExitCode {
+    let status = match words_given(&rt) {
+        Ok(words) => run_words(&rt, &words),
+        Err(status) => status,
+    };
+    if let Some(fault) = Fault::of(status) {
+        let _ = eprintln!(rt; "{fault}");
+    }
+    ExitCode::from(status.code())
+}

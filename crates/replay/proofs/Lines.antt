@@ -1,0 +1,141 @@
+-- The lines of some bytes, and of one byte more.
+use Rattle.std.proofs.Common.{◌≡◌, ◌==◌, ◌<◌, ℕ, Bool, true, false, cond, List, [], ◌∷◌, ◌++◌, length, take, map, Err, refl, sym, ap, subst, ◌∙◌, append_assoc, arith, inl, inr}
+use Rattle.std.specs.List.{onto_first}
+use Rattle.std.proofs.lemmas.Bool.{cases_lt, cond_below, eqb-true}
+use Rattle.std.proofs.lemmas.List.{append-nil, map-append, take_all, length-take}
+use Rattle.vm_ids.specs.declared.refusal.Refusal.TheVariants.{BadLine}
+use Rattle.replay.specs.Forms.{command_of, read_of}
+use Rattle.replay.specs.Script.{parts_of, all_but_last, last_part, ended_lines_of, unended_of, lines_of, unless_empty, commands_of, ended_commands_of, IsFront}
+
+-- there is a part
+data Some : List (List ℕ) → Type 0 where
+  some : (part : List ℕ) (parts : List (List ℕ)) → Some (part ∷ parts)
+
+-- a byte in front, which ends a part or doesn't
+abbrev step : Bool → ℕ → List (List ℕ) → List (List ℕ)
+step ends b parts = cond ends ([] ∷ parts) (onto_first b parts)
+
+step_some : (ends : Bool) (b : ℕ) (parts : List (List ℕ)) → Some (step ends b parts)
+step_some true b parts = some [] parts
+step_some false b [] = some (b ∷ []) []
+step_some false b (part ∷ parts) = some (b ∷ part) parts
+
+parts_some : (bytes : List ℕ) → Some (parts_of bytes)
+parts_some [] = some [] []
+parts_some (b ∷ bs) = step_some (b == 10) b (parts_of bs)
+
+-- a part more at the end
+step_part : (ends : Bool) (b : ℕ) (parts : List (List ℕ)) → Some parts → step ends b (parts ++ [] ∷ []) ≡ step ends b parts ++ [] ∷ []
+step_part true b parts h = refl
+step_part false b [] h = elim h [ ]
+step_part false b (part ∷ parts) h = refl
+
+parts_feed : (bytes : List ℕ) → parts_of (bytes ++ 10 ∷ []) ≡ parts_of bytes ++ [] ∷ []
+parts_feed [] = refl
+parts_feed (b ∷ bs) = ap (step (b == 10) b) (parts_feed bs) ∙ step_part (b == 10) b (parts_of bs) (parts_some bs)
+
+-- a byte more in the last part
+abbrev longer : ℕ → List (List ℕ) → List (List ℕ)
+longer c parts = all_but_last parts ++ (last_part parts ++ c ∷ []) ∷ []
+
+step_longer : (ends : Bool) (b c : ℕ) (parts : List (List ℕ)) → Some parts → step ends b (longer c parts) ≡ longer c (step ends b parts)
+step_longer ends b c [] h = elim h [ ]
+step_longer true b c (part ∷ parts) h = refl
+step_longer false b c (part ∷ []) h = refl
+step_longer false b c (part ∷ next ∷ parts) h = refl
+
+parts_other : (bytes : List ℕ) (c : ℕ) → (c == 10) ≡ false → parts_of (bytes ++ c ∷ []) ≡ longer c (parts_of bytes)
+parts_other [] c e = ap (λ (ends : Bool). step ends c ([] ∷ [])) e
+parts_other (b ∷ bs) c e = ap (step (b == 10) b) (parts_other bs c e) ∙ step_longer (b == 10) b c (parts_of bs) (parts_some bs)
+
+all_but_last-push : (parts : List (List ℕ)) (part : List ℕ) → all_but_last (parts ++ part ∷ []) ≡ parts
+all_but_last-push [] part = refl
+all_but_last-push (p ∷ []) part = refl
+all_but_last-push (p ∷ q ∷ ps) part = ap (λ (l : List (List ℕ)). p ∷ l) (all_but_last-push (q ∷ ps) part)
+
+last_part-push : (parts : List (List ℕ)) (part : List ℕ) → last_part (parts ++ part ∷ []) ≡ part
+last_part-push [] part = refl
+last_part-push (p ∷ []) part = refl
+last_part-push (p ∷ q ∷ ps) part = last_part-push (q ∷ ps) part
+
+joined : (parts : List (List ℕ)) → Some parts → parts ≡ all_but_last parts ++ last_part parts ∷ []
+joined [] h = elim h [ ]
+joined (p ∷ []) h = refl
+joined (p ∷ q ∷ ps) h = ap (λ (l : List (List ℕ)). p ∷ l) (joined (q ∷ ps) (some q ps))
+
+-- a line feed ends the line
+pub ended_feed : (bytes : List ℕ) → ended_lines_of (bytes ++ 10 ∷ []) ≡ ended_lines_of bytes ++ unended_of bytes ∷ []
+unfolding ended_lines_of unended_of
+ended_feed bytes = ap all_but_last (parts_feed bytes) ∙ all_but_last-push (parts_of bytes) [] ∙ joined (parts_of bytes) (parts_some bytes)
+
+pub unended_feed : (bytes : List ℕ) → unended_of (bytes ++ 10 ∷ []) ≡ []
+unfolding unended_of
+unended_feed bytes = ap last_part (parts_feed bytes) ∙ last_part-push (parts_of bytes) []
+
+-- another byte goes on with it
+pub ended_other : (bytes : List ℕ) (c : ℕ) → (c == 10) ≡ false → ended_lines_of (bytes ++ c ∷ []) ≡ ended_lines_of bytes
+unfolding ended_lines_of
+ended_other bytes c e = ap all_but_last (parts_other bytes c e) ∙ all_but_last-push (all_but_last (parts_of bytes)) (last_part (parts_of bytes) ++ c ∷ [])
+
+pub unended_other : (bytes : List ℕ) (c : ℕ) → (c == 10) ≡ false → unended_of (bytes ++ c ∷ []) ≡ unended_of bytes ++ c ∷ []
+unfolding unended_of
+unended_other bytes c e = ap last_part (parts_other bytes c e) ∙ last_part-push (all_but_last (parts_of bytes)) (last_part (parts_of bytes) ++ c ∷ [])
+
+-- fronts
+
+pub front_same : {A : Type 0} (xs ys : List A) → xs ≡ ys → IsFront xs ys
+front_same xs ys e = record { back = []; parts = sym (append-nil xs ∙ e) }
+
+pub front_longer : {A : Type 0} (xs ys : List A) → IsFront xs (xs ++ ys)
+front_longer xs ys = record { back = ys; parts = refl }
+
+pub front_trans : {A : Type 0} (xs ys zs : List A) → IsFront xs ys → IsFront ys zs → IsFront xs zs
+front_trans xs ys zs p q = record { back = p.back ++ q.back; parts = q.parts ∙ ap (λ (l : List _). l ++ q.back) p.parts ∙ append_assoc xs p.back q.back }
+
+pub front_map : {A B : Type 0} (f : A → B) (xs ys : List A) → IsFront xs ys → IsFront (map f xs) (map f ys)
+front_map f xs ys p = record { back = map f p.back; parts = ap (map f) p.parts ∙ map-append f xs p.back }
+
+front_byte : (bytes : List ℕ) (c : ℕ) (ends : Bool) → (c == 10) ≡ ends → IsFront (ended_lines_of bytes) (ended_lines_of (bytes ++ c ∷ []))
+front_byte bytes c false e = front_same _ _ (sym (ended_other bytes c e))
+front_byte bytes c true e = subst (λ (b : ℕ). IsFront (ended_lines_of bytes) (ended_lines_of (bytes ++ b ∷ []))) (sym (eqb-true c 10 e)) (record { back = unended_of bytes ∷ []; parts = ended_feed bytes })
+
+front_ended : (bytes more : List ℕ) → IsFront (ended_lines_of bytes) (ended_lines_of (bytes ++ more))
+front_ended bytes [] = front_same _ _ (ap ended_lines_of (sym (append-nil bytes)))
+front_ended bytes (c ∷ more) = front_trans _ _ _ (front_byte bytes c (c == 10) refl) (subst (λ (l : List ℕ). IsFront (ended_lines_of (bytes ++ c ∷ [])) (ended_lines_of l)) (append_assoc bytes (c ∷ []) more) (front_ended (bytes ++ c ∷ []) more))
+
+-- the commands of the lines that end begin those of any bytes that go on
+pub front_ended_commands : (bytes more : List ℕ) → IsFront (ended_commands_of bytes) (ended_commands_of (bytes ++ more))
+front_ended_commands bytes more = front_map command_of (ended_lines_of bytes) (ended_lines_of (bytes ++ more)) (front_ended bytes more)
+
+front_lines : (bytes : List ℕ) → IsFront (ended_lines_of bytes) (lines_of bytes)
+unfolding lines_of
+front_lines bytes = front_longer (ended_lines_of bytes) (unless_empty (unended_of bytes))
+
+pub front_commands : (bytes more : List ℕ) → IsFront (ended_commands_of bytes) (commands_of (bytes ++ more))
+front_commands bytes more = front_trans _ _ _ (front_ended_commands bytes more) (front_map command_of (ended_lines_of (bytes ++ more)) (lines_of (bytes ++ more)) (front_lines (bytes ++ more)))
+
+-- what stands behind the last line feed
+pub no_last_line : (bytes : List ℕ) → unended_of bytes ≡ [] → commands_of bytes ≡ ended_commands_of bytes
+unfolding lines_of
+no_last_line bytes e = ap (λ (line : List ℕ). map command_of (ended_lines_of bytes ++ unless_empty line)) e ∙ ap (map command_of) (append-nil (ended_lines_of bytes))
+
+one_line : (line : List ℕ) → 0 < length line → unless_empty line ≡ line ∷ []
+one_line [] h = absurd (omega arith)
+one_line (b ∷ bs) h = refl
+
+pub last_line : (bytes : List ℕ) → 0 < length (unended_of bytes) → commands_of bytes ≡ ended_commands_of bytes ++ command_of (unended_of bytes) ∷ []
+unfolding lines_of
+last_line bytes h = ap (λ (l : List (List ℕ)). map command_of (ended_lines_of bytes ++ l)) (one_line (unended_of bytes) h) ∙ map-append command_of (ended_lines_of bytes) (unended_of bytes ∷ [])
+
+-- the front of a line tells its command
+long_line : (line : List ℕ) → 257 < length line → command_of (take 257 line) ≡ command_of line
+unfolding command_of
+long_line line h =
+    sym (cond_below 256 (length (take 257 line)) (Err BadLine) (read_of (take 257 line)) (omega (arith, length-take 257 line)))
+    ∙ cond_below 256 (length line) (Err BadLine) (read_of line) (omega arith)
+
+pub command_of-front : (line : List ℕ) → command_of (take 257 line) ≡ command_of line
+command_of-front line = elim (cases_lt 257 (length line)) [
+  | inl h ↦ long_line line h
+  | inr h ↦ ap command_of (take_all 257 line h)
+]

@@ -1,0 +1,26 @@
+use Rattle.std.proofs.Common.{◌++◌, take, rules, arith}
+use Rattle.std.proofs.lemmas.Result.{err_from_is_err_and}
+use Rattle.replay.proofs.OneByte.{going_next, going_all, broken_next}
+use Rattle.replay.proofs.feeding.feed.Goals as goal
+
+pub returns-in_err-feed_byte-clause-going : goal.returns-in_err-feed_byte-clause-going
+returns-in_err-feed_byte-clause-going g c = λ before script h.
+    let i = c.loop-byte.byte-index in
+    let p = err_from_is_err_and c.from_residual.result c.from_residual.ensures.1 in
+    rw p.1 (broken_next before _ script c.args.bytes.now i (omega arith) (c.in_err-feed_byte.ensures.going before (script ++ take i c.args.bytes.now) (c.loop-byte.invariant.going before script h)))
+
+pub loop-byte-preserved : goal.loop-byte-preserved
+loop-byte-preserved g c = record {
+  valid = search rules;
+  ready = search rules;
+  made = search rules;
+  few = search rules;
+  faults = search rules;
+  going = λ before script h.
+      let i = c.loop-byte.byte-index in
+      going_next before _ _ _ script c.args.bytes.now i (omega arith) (c.in_ok-feed_byte.ensures.going before (script ++ take i c.args.bytes.now) (c.loop-byte.invariant.going before script h));
+}
+
+pub returns-clause-going : goal.returns-clause-going
+returns-clause-going g c = λ before script h.
+    going_all before _ _ _ script c.args.bytes.now c.loop-byte.byte-index (omega arith) (c.loop-byte.invariant.going before script h)

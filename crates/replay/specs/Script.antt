@@ -1,0 +1,50 @@
+-- The lines of a script, and their commands.
+use Rattle.std.specs.Prelude.{◌≡◌, ◌==◌, ℕ, List, [], ◌∷◌, ◌++◌, map}
+use Rattle.std.specs.List.{slice_split}
+use Rattle.vm_model.specs.Run.{Read}
+use Rattle.replay.specs.Forms.{command_of}
+
+-- A script has at most this many bytes.
+abbrev pub most_bytes : ℕ
+most_bytes = 67108864
+
+abbrev pub all_but_last : List (List ℕ) → List (List ℕ)
+all_but_last [] = []
+all_but_last (part ∷ []) = []
+all_but_last (part ∷ next ∷ parts) = part ∷ all_but_last (next ∷ parts)
+
+abbrev pub last_part : List (List ℕ) → List ℕ
+last_part [] = []
+last_part (part ∷ []) = part
+last_part (part ∷ next ∷ parts) = last_part (next ∷ parts)
+
+-- What stands between the line feeds of some bytes.
+abbrev pub parts_of : List ℕ → List (List ℕ)
+parts_of bytes = slice_split (λ b. b == 10) bytes
+
+-- The lines that a line feed ends.
+unfoldable pub ended_lines_of : List ℕ → List (List ℕ)
+ended_lines_of bytes = all_but_last (parts_of bytes)
+
+-- What stands behind the last line feed.
+unfoldable pub unended_of : List ℕ → List ℕ
+unended_of bytes = last_part (parts_of bytes)
+
+abbrev pub unless_empty : List ℕ → List (List ℕ)
+unless_empty [] = []
+unless_empty (b ∷ bs) = (b ∷ bs) ∷ []
+
+-- The lines of a script: a line feed ends a line, and what stands behind the last one is a line unless it is empty.
+unfoldable pub lines_of : List ℕ → List (List ℕ)
+lines_of bytes = ended_lines_of bytes ++ unless_empty (unended_of bytes)
+
+abbrev pub commands_of : List ℕ → List Read
+commands_of script = map command_of (lines_of script)
+
+abbrev pub ended_commands_of : List ℕ → List Read
+ended_commands_of script = map command_of (ended_lines_of script)
+
+-- A list begins with this one.
+pub record IsFront {A : Type 0} (front whole : List A) : Type 0 where
+  pub back : List A
+  pub parts : whole ≡ front ++ back

@@ -1,0 +1,58 @@
+// One line, answered and written.
+ghost use Rattle.std.specs.Prelude.{◌≡◌, ◌≤◌, ◌+◌, ◌^◌};
+ghost use Rattle.vm_ids.specs.Counting.{HasCause};
+ghost use Rattle.vm_model.specs.Run.{state_of};
+ghost use Rattle.replay.specs.Forms.{command_of};
+ghost use Rattle.replay.specs.Ending.{scene_of};
+ghost use Rattle.replay.specs.Going.{IsReady, LineDone, Replied, line_budget};
+
+use crate::{read_line, write_reply};
+use gmi_calls::{Gmi, answer};
+use vm_ids::{Answer, Trouble};
+use vm_port::{Chooser, Failed, Mapper, Sink};
+
+// The answer to one line.
+fn reply_to<G: Gmi<M, C>, M: Mapper, C: Chooser>(
+    gmi: &mut G,
+    mapper: &mut M,
+    chooser: &mut C,
+    line: &[u8],
+) -> Answer
+    requires valid { G.valid gmi.old (M.held mapper.old) }
+    requires ready { IsReady (M.page_bytes mapper.old) (G.machine gmi.old (M.held mapper.old)) }
+    requires made { G.made gmi.old ≤ 2 ^ 62 }
+    ensures valid { G.valid gmi.new (M.held mapper.new) }
+    ensures ready { IsReady (M.page_bytes mapper.new) (G.machine gmi.new (M.held mapper.new)) }
+    ensures made { G.made gmi.new ≤ G.made gmi.old + line_budget }
+    ensures replied { Replied (state_of G.machine M.held gmi.old mapper.old) (command_of line.now) result
+        (state_of G.machine M.held gmi.new mapper.new) (M.counts mapper.old) (M.counts mapper.new) }
+{
+    match read_line(line) {
+        Ok(command) => answer(gmi, &command, mapper, chooser),
+        Err(refusal) => Err(Trouble::Refused(refusal)),
+    }
+}
+
+/// Answers one line, and writes its reply.
+pub fn answer_line<G: Gmi<M, C>, M: Mapper, C: Chooser, K: Sink>(
+    gmi: &mut G,
+    mapper: &mut M,
+    chooser: &mut C,
+    sink: &mut K,
+    number: u32,
+    line: &[u8],
+) -> Result<(), Failed>
+    requires valid { G.valid gmi.old (M.held mapper.old) }
+    requires ready { IsReady (M.page_bytes mapper.old) (G.machine gmi.old (M.held mapper.old)) }
+    requires made { G.made gmi.old ≤ 2 ^ 62 }
+    ensures valid { G.valid gmi.new (M.held mapper.new) }
+    ensures ready { IsReady (M.page_bytes mapper.new) (G.machine gmi.new (M.held mapper.new)) }
+    ensures made { G.made gmi.new ≤ G.made gmi.old + line_budget }
+    ensures done { LineDone result number (command_of line.now)
+        (scene_of M.held M.counts K.written (G.machine gmi.old (M.held mapper.old)) mapper.old sink.old)
+        (scene_of M.held M.counts K.written (G.machine gmi.new (M.held mapper.new)) mapper.new sink.new) }
+    ensures cause { HasCause (K.faults sink.old) (K.faults sink.new) result }
+{
+    let reply = reply_to(gmi, mapper, chooser, line);
+    write_reply(number, &reply, sink)
+}
