@@ -1,0 +1,190 @@
+// A pool of page frames.
+ghost use Rattle.std.specs.Prelude.{◌≡◌, ◌≢◌, ℕ, ◌<◌, ◌≤◌, ◌^◌, true, false, not, length, replicate, slice_set, map, count_by, All, IfOk, MatchOption};
+ghost use Rattle.std.specs.Borrow.{sem};
+ghost use Rattle.frame_pool.specs.Lending.{LendsPage};
+ghost use Rattle.frame_pool.specs.Pool.{bytes_of, is_evictable, is_held, is_pinned, with_bytes};
+
+use std::alloc::{AllocError, Global};
+use std::marker::Model;
+use vm_ids::{FrameId, NoMemory};
+
+/// The page frames, each free or held.
+#[derive(Drop)]
+pub struct FramePool {
+    page: usize,
+    held: Vec<bool>,
+    pinned: Vec<bool>,
+    pages: Vec<Vec<u8>>,
+}
+
+impl Model for FramePool {
+    ghost use Rattle.frame_pool.specs.Pool.{Frames, frames_seen, IsSized};
+
+    ghost Value = { Frames };
+
+    ghost view = { frames_seen };
+
+    ghost invariant = { IsSized };
+}
+
+// So many pages of zeros.
+fn zero_pages(alloc: Global, frames: usize, page: usize) -> Result<Vec<Vec<u8>>, AllocError>
+    requires frames { frames ≤ 2 ^ 16 }
+    requires page { page ≤ 2 ^ 16 }
+    ensures zeros { IfOk result (λ v. map (λ p. p.items) v.items ≡ replicate frames (replicate page 0)) }
+    ensures sized { IfOk result (λ v. All (λ p. length p.items ≡ page) v.items) }
+    ensures count { IfOk result (λ v. length v.items ≡ frames) }
+{
+    let mut pages = Vec::with_capacity(alloc, frames)?;
+    for _at in 0..frames {
+        pages.push(vec![in alloc; 0u8; page]?)?;
+    }
+    Ok(pages)
+}
+
+impl FramePool {
+    /// A pool of so many free frames of `page` bytes each, all bytes zero.
+    pub fn new(alloc: Global, frames: u32, page: u32) -> Result<FramePool, NoMemory>
+        requires frames { frames ≤ 2 ^ 16 }
+        requires page { page ≤ 2 ^ 16 }
+        ensures { IfOk result (λ p. p ≡ record { page = page; held = replicate frames false; pinned = replicate frames false; bytes = replicate frames (replicate page 0) }) }
+    {
+        let count = frames as usize;
+        let page = page as usize;
+        let Ok(held) = vec![in alloc; false; count] else {
+            return Err(NoMemory)
+        };
+        let Ok(pinned) = vec![in alloc; false; count] else {
+            return Err(NoMemory)
+        };
+        let Ok(pages) = zero_pages(alloc, count, page) else {
+            return Err(NoMemory)
+        };
+        Ok(FramePool {
+            page,
+            held,
+            pinned,
+            pages,
+        })
+    }
+
+    /// How many frames there are, free or held.
+    pub fn count(&self) -> u32
+        ensures { result ≡ length self.now.held }
+    {
+        self.held.len() as u32
+    }
+
+    /// How many frames are free.
+    pub fn free_count(&self) -> u32
+        ensures { result ≡ count_by (λ held. not held) self.now.held }
+    {
+        self.held.iter().filter(|held| !**held).count() as u32
+    }
+
+    /// A free frame, which is then held with whatever bytes it had. `None` exactly where no frame is free.
+    pub fn take(&mut self) -> Option<FrameId>
+        ensures { MatchOption result
+            ((self.new ≡ self.old) × All (λ held. held ≡ true) self.old.held)
+            (λ frame. (frame.0 < length self.old.held) × (is_held self.old frame.0 ≡ false) × (self.new ≡ record self.old { held = slice_set self.old.held frame.0 true })) }
+    {
+        let at = self.held.iter().position(|held| !*held)?;
+        self.held[at] = true;
+        Some(FrameId(at as u32))
+    }
+
+    /// Gives a held frame back that isn't pinned. It is then free.
+    pub fn give_back(&mut self, frame: FrameId)
+        requires held { is_held self.old frame.0 ≡ true }
+        requires unpinned { is_pinned self.old frame.0 ≡ false }
+        ensures { self.new ≡ record self.old { held = slice_set self.old.held frame.0 false } }
+    {
+        self.held[frame.0 as usize] = false;
+    }
+
+    /// Whether a frame is held.
+    pub fn is_held(&self, frame: FrameId) -> bool
+        requires { frame.0 < length self.now.held }
+        ensures { result ≡ is_held self.now frame.0 }
+    {
+        self.held[frame.0 as usize]
+    }
+
+    /// Whether a frame is pinned.
+    pub fn is_pinned(&self, frame: FrameId) -> bool
+        requires { frame.0 < length self.now.held }
+        ensures { result ≡ is_pinned self.now frame.0 }
+    {
+        self.pinned[frame.0 as usize]
+    }
+
+    /// Whether a frame is held and not pinned.
+    pub fn is_evictable(&self, frame: FrameId) -> bool
+        requires { frame.0 < length self.now.held }
+        ensures { result ≡ is_evictable self.now frame.0 }
+    {
+        let at = frame.0 as usize;
+        self.held[at] && !self.pinned[at]
+    }
+
+    /// Pins a frame, so that it is no victim of eviction.
+    pub fn pin(&mut self, frame: FrameId)
+        requires { frame.0 < length self.old.held }
+        ensures { self.new ≡ record self.old { pinned = slice_set self.old.pinned frame.0 true } }
+    {
+        self.pinned[frame.0 as usize] = true;
+    }
+
+    /// Unpins a frame.
+    pub fn unpin(&mut self, frame: FrameId)
+        requires { frame.0 < length self.old.held }
+        ensures { self.new ≡ record self.old { pinned = slice_set self.old.pinned frame.0 false } }
+    {
+        self.pinned[frame.0 as usize] = false;
+    }
+
+    /// The bytes of a frame, as many as a page has.
+    pub fn bytes(&self, frame: FrameId) -> &[u8]
+        requires { frame.0 < length self.now.held }
+        ensures bytes { result.now ≡ bytes_of self.now frame.0 }
+        ensures page { length result.now ≡ self.now.page }
+    {
+        &self.pages[frame.0 as usize]
+    }
+
+    /// The bytes of a frame, to be written.
+    pub fn bytes_mut(&mut self, frame: FrameId) -> &mut [u8]
+        requires { frame.0 < length self.old.held }
+        ensures* writes_back { sem 𝓛 (LendsPage self.entry frame.0 result) }
+        ensures bytes { result.now ≡ bytes_of self.old frame.0 }
+        ensures page { length result.now ≡ self.old.page }
+    {
+        self.pages[frame.0 as usize].as_mut_slice()
+    }
+
+    /// Makes the bytes of one frame those of another.
+    pub fn copy(&mut self, from: FrameId, to: FrameId)
+        requires from { from.0 < length self.old.held }
+        requires to { to.0 < length self.old.held }
+        requires apart { from.0 ≢ to.0 }
+        ensures { self.new ≡ with_bytes self.old to.0 (bytes_of self.old from.0) }
+    {
+        let from = from.0 as usize;
+        let to = to.0 as usize;
+        if from < to {
+            let (low, high) = self.pages.split_at_mut(to);
+            high[0].copy_from_slice(&low[from]);
+        } else {
+            let (low, high) = self.pages.split_at_mut(from);
+            low[to].copy_from_slice(&high[0]);
+        }
+    }
+
+    /// Makes the bytes of a frame zeros.
+    pub fn zero(&mut self, frame: FrameId)
+        requires { frame.0 < length self.old.held }
+        ensures { self.new ≡ with_bytes self.old frame.0 (replicate self.old.page 0) }
+    {
+        self.pages[frame.0 as usize].fill(0);
+    }
+}

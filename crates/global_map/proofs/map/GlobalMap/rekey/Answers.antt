@@ -1,0 +1,19 @@
+use Rattle.std.proofs.Common.{◌≡◌, ◌<◌, sym, ap, ◌∙◌, arith, length, List, Option, subst}
+use Rattle.std.specs.Option.{IsSome}
+use Rattle.std.specs.Prelude.{position, Some}
+use Rattle.vm_ids.specs.declared.numbers.NodeId.{NodeId}
+use Rattle.vm_ids.proofs.Places.{some_position}
+use Rattle.global_map.specs.Pairs.{bound_times, is_node, node_of}
+use Rattle.global_map.proofs.Places.{at_place, bound_once}
+use Rattle.global_map.proofs.map.GlobalMap.rekey.Goals as goal
+
+pub unwrap-at-requires : goal.unwrap-at-requires
+unwrap-at-requires c =
+    let once : bound_times c.deref.result.now c.args.from.0 ≡ 1 = ap (λ (xs : List (Option NodeId)). bound_times xs c.args.from.0) (c.deref.ensures.value ∙ c.self.view_is) ∙ c.requires.from in
+    subst IsSome (sym c.place_of.ensures) (some_position (is_node c.args.from.0) c.deref.result.now (omega arith))
+
+pub invariant_of-self : goal.invariant_of-self
+invariant_of-self c =
+    let place : (c.unwrap-at.result < length c.self.inside.nodes.items) × (node_of c.self.inside.nodes.items c.unwrap-at.result ≡ Some c.args.from)
+    = at_place c.self.inside.nodes.items c.args.from c.unwrap-at.result (ap (λ (xs : List (Option NodeId)). position (is_node c.args.from.0) xs) (sym c.deref.ensures.value) ∙ sym c.place_of.ensures ∙ c.unwrap-at.ensures) in
+    bound_once c.self.inside.nodes.items c.unwrap-at.result c.args.to c.self.invariant place.0 (ap (λ (xs : List (Option NodeId)). bound_times xs c.args.to.0) c.self.view_is ∙ c.requires.to)

@@ -1,0 +1,104 @@
+// A one-to-one map between page nodes and page frames.
+ghost use Rattle.std.specs.Prelude.{◌≡◌, ◌≤◌, ◌<◌, ◌^◌, length, None, Some, replicate, slice_set, position, IfOk, MatchOption};
+ghost use Rattle.global_map.specs.Pairs.{bound_times, frame_of, is_node, node_of};
+
+use std::alloc::Global;
+use std::marker::Model;
+use vm_ids::{FrameId, NoMemory, NodeId};
+
+/// Which node is in each frame.
+#[derive(Drop)]
+pub struct GlobalMap {
+    nodes: Vec<Option<NodeId>>,
+}
+
+impl Model for GlobalMap {
+    ghost use Rattle.std.specs.Prelude.{List, Option};
+    ghost use Rattle.vm_ids.specs.declared.numbers.NodeId.{NodeId};
+
+    ghost Value = { List (Option NodeId) };
+
+    ghost use Rattle.global_map.specs.Pairs.{IsOneToOne};
+
+    ghost view = { λ m. m.nodes.items };
+
+    ghost invariant = { λ m. IsOneToOne m.nodes.items };
+}
+
+fn is_at(entry: &Option<NodeId>, node: NodeId) -> bool
+    ensures { result ≡ is_node node.0 entry.now }
+{
+    match entry {
+        Some(other) => other.0 == node.0,
+        None => false,
+    }
+}
+
+// Where a node stands.
+fn place_of(nodes: &[Option<NodeId>], node: NodeId) -> Option<usize>
+    ensures { result ≡ position (is_node node.0) nodes.now }
+{
+    nodes.iter().position(|entry| is_at(entry, node))
+}
+
+impl GlobalMap {
+    /// A map of so many frames, all unbound.
+    pub fn new(alloc: Global, frames: u32) -> Result<GlobalMap, NoMemory>
+        requires { frames ≤ 2 ^ 16 }
+        ensures { IfOk result (λ m. m ≡ replicate frames None) }
+    {
+        let mut nodes = Vec::new(alloc);
+        match nodes.resize(frames as usize, None) {
+            Ok(()) => Ok(GlobalMap { nodes }),
+            Err(_) => Err(NoMemory),
+        }
+    }
+
+    /// The node that is bound to a frame. `None` exactly where none is.
+    pub fn node_at(&self, frame: FrameId) -> Option<NodeId>
+        requires { frame.0 < length self.now }
+        ensures { result ≡ node_of self.now frame.0 }
+    {
+        self.nodes[frame.0 as usize]
+    }
+
+    /// The frame to which a node is bound. `None` exactly where it is bound to none.
+    pub fn get(&self, node: NodeId) -> Option<FrameId>
+        ensures found { MatchOption result (bound_times self.now node.0 ≡ 0) (λ frame. (frame.0 < length self.now) × (node_of self.now frame.0 ≡ Some node)) }
+        ensures once { bound_times self.now node.0 ≤ 1 }
+    {
+        match place_of(&self.nodes, node) {
+            Some(at) => Some(FrameId(at as u32)),
+            None => None,
+        }
+    }
+
+    /// Binds an unbound node to an unbound frame.
+    pub fn bind(&mut self, node: NodeId, frame: FrameId)
+        requires frame { frame.0 < length self.old }
+        requires free { node_of self.old frame.0 ≡ None }
+        requires node { bound_times self.old node.0 ≡ 0 }
+        ensures { self.new ≡ slice_set self.old frame.0 (Some node) }
+    {
+        self.nodes[frame.0 as usize] = Some(node);
+    }
+
+    /// Unbinds a bound node from its frame.
+    pub fn unbind(&mut self, node: NodeId)
+        requires { bound_times self.old node.0 ≡ 1 }
+        ensures { self.new ≡ slice_set self.old (frame_of self.old node.0) None }
+    {
+        let at = place_of(&self.nodes, node).unwrap();
+        self.nodes[at] = None;
+    }
+
+    /// Binds the unbound node `to` in place of the bound node `from`.
+    pub fn rekey(&mut self, from: NodeId, to: NodeId)
+        requires from { bound_times self.old from.0 ≡ 1 }
+        requires to { bound_times self.old to.0 ≡ 0 }
+        ensures { self.new ≡ slice_set self.old (frame_of self.old from.0) (Some to) }
+    {
+        let at = place_of(&self.nodes, from).unwrap();
+        self.nodes[at] = Some(to);
+    }
+}
