@@ -1,0 +1,18 @@
+use Rattle.std.proofs.Common.{◌≡◌, ◌+◌, List, length, map, ◌++◌}
+use Rattle.std.specs.Vec.{vec_len, vec_capacity}
+use Rattle.slab.specs.Slab.{slab_len}
+use Rattle.vm_ids.specs.declared.numbers.NodeId.{NodeId}
+use Rattle.local_cache.specs.Arena.{IsFilled, entry_for}
+use Rattle.local_cache.specs.Layout.{cells_of}
+use Rattle.local_cache.specs.Queue.{Entry, IsQueued}
+use Rattle.local_cache.proofs.caches.add_pages.Given as goal
+
+abbrev pub invariant-loop-page : goal.invariant-loop-page
+invariant-loop-page l = record {
+  filled : (ns : List NodeId) × (length ns ≡ l.page) × IsFilled (cells_of l.initial.nodes) l.cache 0 l.own ns (cells_of l.nodes) × (l.entries.items ≡ l.initial.entries.items ++ map entry_for ns);
+  queued : (items : List Entry) → IsQueued l.initial.nodes items → IsQueued l.nodes items;
+  nodes_len : slab_len l.nodes ≡ slab_len l.initial.nodes + l.page;
+  nodes_capacity : l.nodes.capacity ≡ l.initial.nodes.capacity;
+  entries_len : vec_len l.entries ≡ vec_len l.initial.entries + l.page;
+  entries_capacity : vec_capacity l.entries ≡ vec_capacity l.initial.entries;
+}

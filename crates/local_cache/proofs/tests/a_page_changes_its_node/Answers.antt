@@ -1,0 +1,14 @@
+use Rattle.std.proofs.Common.{lit<, subst, sym}
+use Rattle.local_cache.specs.declared.own_state.OwnState.TheVariants.{Zero}
+use Rattle.local_cache.specs.Arena.{IsVacant}
+use Rattle.local_cache.proofs.Vacated.{page_named, vacated}
+use Rattle.local_cache.proofs.tests.a_page_changes_its_node.Goals as goal
+
+pub fresh-new-requires-clause-vacant : goal.fresh-new-requires-clause-vacant
+fresh-new-requires-clause-vacant g c =
+    let a = c.make_temp-cache.new.self in
+    let cache = c.make_temp-cache.result in
+    let has = c.make_temp-cache.ensures.pages 0 (lit< tt) in
+    subst (λ b. IsVacant b cache (record { 0 = 0 })) (sym c.in_ok-reserve-2.ensures.kept)
+    (subst (λ b. IsVacant b cache (record { 0 = 0 })) (sym c.to_working.ensures.changed)
+    (vacated a c.node_of-old.result cache (record { 0 = 0 }) (page_named a cache 0 Zero c.node_of-old.result has c.node_of-old.ensures) c.node_of-old.ensures))

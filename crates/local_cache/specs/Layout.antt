@@ -1,0 +1,79 @@
+-- What the fields of the caches stand for.
+use Rattle.std.specs.Prelude.{◌≡◌, ℕ, zero, suc, ◌+◌, ◌-◌, ◌<◌, ◌≤◌, ◌^◌, min, List, [], ◌∷◌, length, map, take, drop, Option, Some, None, option_map, slice_index_or}
+use Rattle.std.specs.Ordering.{nat_cmp}
+use Rattle.std.specs.FinMap.{FinMap}
+use Rattle.std.specs.FinMap as ids
+use Rattle.std.specs.Vec.{vec_len, vec_capacity}
+use Rattle.std.proofs.Common.{Vec, Global}
+use Rattle.slab.specs.Slab.{Slab, entries, slab_len}
+use Rattle.local_cache.specs.declared.page_table.CacheEntry.{CacheEntry}
+use Rattle.local_cache.specs.declared.page_table.PageEntry.{PageEntry}
+use Rattle.std.specs.BinaryHeap.{IsHeap, heap_capacity, heap_items}
+use Rattle.std.specs.declared.collections.BinaryHeap.{BinaryHeap}
+use Rattle.local_cache.specs.Queue.{Entry, IsQueued, entry_cmp}
+use Rattle.local_cache.specs.Arena.{Arena, Cell, Table}
+
+abbrev pub cells_of : Slab Cell → FinMap nat_cmp Cell
+cells_of s = ids.from_entries (entries s)
+
+-- a cache's part of the table of all pages
+abbrev pub table_in : List PageEntry → CacheEntry → Table
+table_in entries e = record { segment = e.segment; pages = take e.pages (drop e.first entries) }
+
+abbrev pub tables_in : List PageEntry → List (Option CacheEntry) → List (Option Table)
+tables_in entries caches = map (λ o. option_map (table_in entries) o) caches
+
+abbrev pub arena_of : Slab Cell → Vec (Option CacheEntry) Global → Vec PageEntry Global → ℕ → ℕ → ℕ → Arena
+arena_of nodes caches entries thin_room made copies = record {
+  cells = cells_of nodes;
+  caches = tables_in entries.items caches.items;
+  made = made;
+  copies = copies;
+  room = record {
+    nodes = min nodes.capacity thin_room - slab_len nodes;
+    caches = vec_capacity caches - vec_len caches;
+    entries = vec_capacity entries - vec_len entries;
+  };
+}
+
+-- the parts of the live caches stand in the order of their numbers, none inside another, all between two places
+abbrev pub AreInRow : ℕ → List (Option CacheEntry) → ℕ → Type 0
+AreInRow from [] end = from ≤ end
+AreInRow from (None ∷ es) end = AreInRow from es end
+AreInRow from (Some e ∷ es) end = (from ≤ e.first) × AreInRow (e.first + e.pages) es end
+
+pub record IsLaidOut (nodes : Slab Cell) (caches : List (Option CacheEntry)) (entries : List PageEntry) : Type 0 where
+  pub row : AreInRow 0 caches (length entries)
+  pub few : length caches < 2 ^ 32
+  pub fits : slab_len nodes ≤ nodes.capacity
+
+-- The heap is in order, has room for an entry of each node that there is room for, and has one of each thin node.
+pub record IsReady (nodes : Slab Cell) (thin : BinaryHeap Entry Global) (thin_room : ℕ) : Type 0 where
+  pub held : slab_len nodes ≤ thin_room
+  pub room : thin_room ≤ heap_capacity thin
+  pub ordered : IsHeap entry_cmp (heap_items thin)
+  pub queued : IsQueued nodes (heap_items thin)
+
+-- what holds of all fields
+pub record IsRight (nodes : Slab Cell) (caches : List (Option CacheEntry)) (entries : List PageEntry) (thin : BinaryHeap Entry Global) (thin_room : ℕ) : Type 0 where
+  pub laid : IsLaidOut nodes caches entries
+  pub ready : IsReady nodes thin thin_room
+
+-- the entry of a cache, counted from 1
+abbrev pub entry_at : List (Option CacheEntry) → ℕ → Option CacheEntry
+entry_at caches zero = None
+entry_at caches (suc k) = slice_index_or caches k None
+
+-- n elements from one place on are taken out of the list xs
+pub record HasClosed {X : Type 0} (from n : ℕ) (xs ys : List X) : Type 0 where
+  pub before : (k : ℕ) (d : X) → k < from → slice_index_or ys k d ≡ slice_index_or xs k d
+  pub behind : (k : ℕ) (d : X) → from ≤ k → slice_index_or ys k d ≡ slice_index_or xs (k + n) d
+
+abbrev pub lowered : ℕ → CacheEntry → CacheEntry
+lowered n e = record e { first = e.first - n }
+
+-- the parts of the caches from an index on stand lower by n
+pub record AreLowered (from n : ℕ) (xs ys : List (Option CacheEntry)) : Type 0 where
+  pub length : length ys ≡ length xs
+  pub before : (k : ℕ) → k < from → slice_index_or ys k None ≡ slice_index_or xs k None
+  pub behind : (k : ℕ) → from ≤ k → slice_index_or ys k None ≡ option_map (lowered n) (slice_index_or xs k None)

@@ -1,0 +1,10 @@
+pub mod Arena
+pub mod Changes
+pub mod Codes
+pub mod Layout
+pub mod Own
+pub mod Queue
+pub mod Reading
+pub mod Sound
+pub mod Thin
+pub mod Threads

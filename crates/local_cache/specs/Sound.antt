@@ -1,0 +1,37 @@
+-- What the crates above need of the caches, and keep.
+use Rattle.std.specs.Prelude.{◌≡◌, ℕ, List, [], ◌∷◌, Some, ◌⊎◌}
+use Rattle.vm_ids.specs.Forest.Shape.{IsLinked}
+use Rattle.vm_ids.specs.declared.node_name.NodeName.TheVariants.{Live}
+use Rattle.vm_ids.specs.declared.numbers.NodeId.{NodeId}
+use Rattle.local_cache.specs.Arena.{Arena, cell, IsHeld, node_at}
+use Rattle.local_cache.specs.Reading.{name_of, forest_of, IsNamed}
+use Rattle.local_cache.specs.Threads.{AreThreaded}
+
+infix 50 ◌∈◌
+-- n stands in the list
+abbrev pub ◌∈◌ : NodeId → List NodeId → Type 0
+x ∈ [] = ⊥
+x ∈ (y ∷ ys) = (x ≡ y) ⊎ (x ∈ ys)
+
+-- The tables have the node of each page that has one.
+pub record IsListed (a : Arena) : Type 0 where
+  pub nodes : (cache page : ℕ) (n : NodeId) → node_at a cache page ≡ Some n → IsHeld a n × (name_of a n ≡ Live (record { 0 = cache }) (record { 0 = page }))
+  pub pages : (cache page : ℕ) (n : NodeId) → IsHeld a n → name_of a n ≡ Live (record { 0 = cache }) (record { 0 = page }) → node_at a cache page ≡ Some n
+
+-- What holds between the steps of a rule: the names are apart and counted, the tables have them, parents and children
+-- are nodes, and the lists of stubs are threaded.
+pub record IsKept (a : Arena) : Type 0 where
+  pub named : IsNamed a
+  pub listed : IsListed a
+  pub parents : (n p : NodeId) → IsHeld a n → (cell a n).links.parent ≡ Some p → IsHeld a p
+  pub children : (n m : NodeId) → IsHeld a n → m ∈ (cell a n).tree → IsHeld a m
+  pub threaded : AreThreaded a
+
+-- What holds before and after each rule: that, and the shape of the forest's links.
+pub record IsSound (a : Arena) : Type 0 where
+  pub named : IsNamed a
+  pub listed : IsListed a
+  pub parents : (n p : NodeId) → IsHeld a n → (cell a n).links.parent ≡ Some p → IsHeld a p
+  pub children : (n m : NodeId) → IsHeld a n → m ∈ (cell a n).tree → IsHeld a m
+  pub threaded : AreThreaded a
+  pub linked : IsLinked (forest_of a)

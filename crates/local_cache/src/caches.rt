@@ -1,0 +1,421 @@
+// The page nodes and the tables of the caches.
+ghost use Rattle.std.specs.Prelude.{◌≡◌, ℕ, ◌+◌, ◌-◌, ◌<◌, ◌≤◌, ◌^◌, ◌++◌, [], List, length, map, None, Some, option_and_then, option_map, IsOk, OnOk, OnErr, IsSome, slice_get};
+ghost use Rattle.std.specs.Vec.{vec_len, vec_capacity};
+ghost use Rattle.vm_ids.specs.declared.numbers.NodeId.{NodeId};
+ghost use Rattle.slab.specs.Slab.{HasRoomFor, slab_len};
+ghost use Rattle.local_cache.specs.Arena.{HasPage, IsFilled, IsHeld, IsMade, IsVacant, as_working, cell, entry_for, find, node_at, table_of, with_links, with_name, with_new, with_own, with_tree, with_working, without, without_cache};
+ghost use Rattle.local_cache.specs.Layout.{cells_of};
+ghost use Rattle.local_cache.specs.Queue.{Entry, IsQueued};
+ghost use Rattle.local_cache.specs.Thin.{IsLeastThin};
+
+use crate::page_node::PageNode;
+use crate::page_table::{CacheEntry, close_gap, entry_of, lower, set_node};
+use crate::thin_nodes::{ThinNodes, least, make_room, number_at, queue};
+use crate::{Links, OwnState, PageEntry};
+use slab::Slab;
+use std::alloc::Global;
+use std::marker::Model;
+use vm_ids::{CacheId, NoMemory, NodeId, NodeName, PageNo, SegId};
+
+/// All page nodes and all caches.
+#[derive(Drop)]
+pub struct Caches {
+    nodes: Slab<PageNode>,
+    caches: Vec<Option<CacheEntry>>,
+    entries: Vec<PageEntry>,
+    thin: ThinNodes,
+    // for how many nodes `thin` has room
+    thin_room: usize,
+    alloc: Global,
+    made: u64,
+    copies: u64,
+}
+
+impl Model for Caches {
+    ghost use Rattle.local_cache.specs.Arena.{Arena};
+    ghost use Rattle.local_cache.specs.Codes.{arena_code};
+
+    ghost Value = { Arena };
+
+    ghost coded = { arena_code };
+
+    ghost use Rattle.local_cache.specs.Layout.{arena_of, IsRight};
+
+    ghost view = { λ a. arena_of a.nodes a.caches a.entries a.thin_room a.made a.copies };
+
+    ghost invariant = { λ a. IsRight a.nodes a.caches.items a.entries.items a.thin a.thin_room };
+}
+
+// Makes a node for each page of a cache, and appends an entry for each to the table of all pages.
+fn add_pages(
+    alloc: Global,
+    nodes: &mut Slab<PageNode>,
+    entries: &mut Vec<PageEntry>,
+    cache: CacheId,
+    own: OwnState,
+    pages: u32,
+)
+    requires nodes { HasRoomFor nodes.old pages }
+    requires entries { vec_len entries.old + pages ≤ vec_capacity entries.old }
+    ensures filled { (ns : List NodeId) × (length ns ≡ pages) × IsFilled (cells_of nodes.old) cache 0 own ns (cells_of nodes.new) × (entries.new.items ≡ entries.old.items ++ map entry_for ns) }
+    ensures queued { (items : List Entry) → IsQueued nodes.old items → IsQueued nodes.new items }
+    ensures nodes_len { slab_len nodes.new ≡ slab_len nodes.old + pages }
+    ensures nodes_capacity { nodes.new.capacity ≡ nodes.old.capacity }
+    ensures entries_len { vec_len entries.new ≡ vec_len entries.old + pages }
+    ensures entries_capacity { vec_capacity entries.new ≡ vec_capacity entries.old }
+{
+    for page in 0..pages {
+        let name = NodeName::Live(cache, PageNo(page));
+        let node = nodes.insert_reserved(PageNode::new(alloc, name, own));
+        entries.push_reserved(PageEntry {
+            node: Some(NodeId(node as u64)),
+        });
+    }
+}
+
+impl Caches {
+    /// No cache, no node and no spare room.
+    pub fn new(alloc: Global) -> Self
+        ensures nodes { (n : NodeId) → find result n ≡ None }
+        ensures caches { result.caches ≡ [] }
+        ensures counters { (result.made ≡ 0) × (result.copies ≡ 0) }
+    {
+        Caches {
+            nodes: Slab::new(alloc),
+            caches: Vec::new(alloc),
+            entries: Vec::new(alloc),
+            thin: ThinNodes::new(alloc),
+            thin_room: 0,
+            alloc,
+            made: 0,
+            copies: 0,
+        }
+    }
+
+    /// Takes memory for so many more caches and so many more pages. It can fail only where there is too little room, and
+    /// after an error what was there is there still.
+    pub fn reserve(&mut self, caches: u32, nodes: u32) -> Result<(), NoMemory>
+        ensures nodes { OnOk result (nodes ≤ self.new.room.nodes) }
+        ensures caches { OnOk result (caches ≤ self.new.room.caches) }
+        ensures entries { OnOk result (nodes ≤ self.new.room.entries) }
+        ensures kept { self.new ≡ record self.old { room = self.new.room } }
+        ensures no_less { (self.old.room.nodes ≤ self.new.room.nodes) × (self.old.room.caches ≤ self.new.room.caches) × (self.old.room.entries ≤ self.new.room.entries) }
+        ensures enough { caches ≤ self.old.room.caches → nodes ≤ self.old.room.nodes → nodes ≤ self.old.room.entries → IsOk result }
+    {
+        if self.nodes.reserve(nodes as usize).is_err() {
+            return Err(NoMemory);
+        }
+        if self.caches.reserve(caches as usize).is_err() {
+            return Err(NoMemory);
+        }
+        if self.entries.reserve(nodes as usize).is_err() {
+            return Err(NoMemory);
+        }
+        let room = self.nodes.len() + nodes as usize;
+        if make_room(&mut self.thin, room).is_err() {
+            return Err(NoMemory);
+        }
+        if self.thin_room < room {
+            self.thin_room = room;
+        }
+        Ok(())
+    }
+
+    /// Makes a temporary cache of so many pages, each a page of zeros, and answers its number, which is one more than
+    /// caches were made before. It takes no memory: there has to be room for the cache, its nodes and its table.
+    pub fn make_temp(&mut self, pages: u32) -> CacheId
+        requires number { length self.old.caches + 1 < 2 ^ 32 }
+        requires caches { 1 ≤ self.old.room.caches }
+        requires nodes { pages ≤ self.old.room.nodes }
+        requires entries { pages ≤ self.old.room.entries }
+        ensures made { (nodes : List NodeId) × (length nodes ≡ pages) × IsMade self.old self.new result None OwnState.Zero nodes }
+        ensures pages { (page : ℕ) → page < pages → HasPage self.new result page OwnState.Zero }
+        ensures stays { (n : NodeId) → IsHeld self.old n → find self.new n ≡ find self.old n }
+        ensures tables { (other : ℕ) → other ≤ length self.old.caches → table_of self.new other ≡ table_of self.old other }
+    {
+        self.make(None, OwnState::Zero, pages)
+    }
+
+    /// Makes the cache of a segment of so many pages, each where the segment has it, and answers its number, which is one
+    /// more than caches were made before. It takes no memory: there has to be room for the cache, its nodes and its table.
+    pub fn make_named(&mut self, seg: SegId, pages: u32) -> CacheId
+        requires number { length self.old.caches + 1 < 2 ^ 32 }
+        requires caches { 1 ≤ self.old.room.caches }
+        requires nodes { pages ≤ self.old.room.nodes }
+        requires entries { pages ≤ self.old.room.entries }
+        ensures made { (nodes : List NodeId) × (length nodes ≡ pages) × IsMade self.old self.new result (Some seg) OwnState.OnSegment nodes }
+        ensures pages { (page : ℕ) → page < pages → HasPage self.new result page OwnState.OnSegment }
+        ensures stays { (n : NodeId) → IsHeld self.old n → find self.new n ≡ find self.old n }
+        ensures tables { (other : ℕ) → other ≤ length self.old.caches → table_of self.new other ≡ table_of self.old other }
+    {
+        self.make(Some(seg), OwnState::OnSegment, pages)
+    }
+
+    /// Gives back a cache whose pages have no nodes any more, and with it the room for its pages. Its number isn't used
+    /// again. It takes time for the pages of the caches that were made later.
+    pub fn remove(&mut self, cache: CacheId)
+        requires live { IsSome (table_of self.old cache.0) }
+        requires retired { (page : ℕ) → node_at self.old cache.0 page ≡ None }
+        ensures { self.new ≡ without_cache self.old cache }
+    {
+        let gap = entry_of(&self.caches, cache).unwrap();
+        let index = cache.0 as usize - 1;
+        self.caches[index] = None;
+        close_gap(&mut self.entries, gap.first, gap.pages as usize);
+        lower(&mut self.caches, index + 1, gap.pages as usize);
+    }
+
+    /// How many pages a cache has, or `None` exactly where no live cache has this number.
+    pub fn pages(&self, cache: CacheId) -> Option<u32>
+        ensures { result ≡ option_map (λ table. length table.pages) (table_of self.now cache.0) }
+    {
+        match entry_of(&self.caches, cache) {
+            Some(entry) => Some(entry.pages),
+            None => None,
+        }
+    }
+
+    /// The segment that names a cache, or `None` exactly where none does or no live cache has this number.
+    pub fn segment(&self, cache: CacheId) -> Option<SegId>
+        ensures { result ≡ option_and_then (λ table. table.segment) (table_of self.now cache.0) }
+    {
+        match entry_of(&self.caches, cache) {
+            Some(entry) => entry.segment,
+            None => None,
+        }
+    }
+
+    /// The node of a page that has one.
+    pub fn node_of(&self, cache: CacheId, page: PageNo) -> NodeId
+        requires { IsSome (node_at self.now cache.0 page.0) }
+        ensures { node_at self.now cache.0 page.0 ≡ Some result }
+    {
+        let entry = entry_of(&self.caches, cache).unwrap();
+        self.entries[entry.first + page.0 as usize].node.unwrap()
+    }
+
+    /// The name of a node.
+    pub fn name(&self, node: NodeId) -> NodeName
+        requires { IsHeld self.now node }
+        ensures { result ≡ (cell self.now node).name }
+    {
+        match self.nodes.get(node.0 as usize) {
+            Some(held) => held.name(),
+            None => unreachable!(),
+        }
+    }
+
+    /// Where a node's own page is.
+    pub fn own_state(&self, node: NodeId) -> OwnState
+        requires { IsHeld self.now node }
+        ensures { result ≡ (cell self.now node).own }
+    {
+        match self.nodes.get(node.0 as usize) {
+            Some(held) => held.own_state(),
+            None => unreachable!(),
+        }
+    }
+
+    /// Sets where a node's own page is.
+    pub fn set_state(&mut self, node: NodeId, state: OwnState)
+        requires { IsHeld self.old node }
+        ensures changed { self.new ≡ with_own self.old node state }
+        ensures stays { (n : NodeId) → IsHeld self.old n → IsHeld self.new n }
+    {
+        match self.nodes.get_mut(node.0 as usize) {
+            Some(held) => held.set_state(state),
+            None => unreachable!(),
+        }
+    }
+
+    /// How a node hangs, and the ends of its list of stubs.
+    pub fn links(&self, node: NodeId) -> Links
+        requires { IsHeld self.now node }
+        ensures { result ≡ (cell self.now node).links }
+    {
+        match self.nodes.get(node.0 as usize) {
+            Some(held) => held.links(),
+            None => unreachable!(),
+        }
+    }
+
+    /// Sets how a node hangs, and the ends of its list of stubs.
+    pub fn set_links(&mut self, node: NodeId, links: Links)
+        requires { IsHeld self.old node }
+        ensures changed { self.new ≡ with_links self.old node links }
+        ensures stays { (n : NodeId) → IsHeld self.old n → IsHeld self.new n }
+    {
+        let before = number_at(&self.nodes, node.0);
+        match self.nodes.get_mut(node.0 as usize) {
+            Some(held) => held.set_links(links),
+            None => unreachable!(),
+        }
+        queue(&self.nodes, &mut self.thin, node.0, before);
+    }
+
+    /// The tree child of a node at a place counted from 0, or `None` exactly where there are no more.
+    pub fn tree_child(&self, node: NodeId, place: u32) -> Option<NodeId>
+        requires { IsHeld self.now node }
+        ensures { result ≡ slice_get (cell self.now node).tree place }
+    {
+        match self.nodes.get(node.0 as usize) {
+            Some(held) => held.tree_child(place),
+            None => unreachable!(),
+        }
+    }
+
+    /// Sets the tree children of a node, of which there are at most two.
+    pub fn set_tree_children(&mut self, node: NodeId, children: &[NodeId])
+        requires held { IsHeld self.old node }
+        requires few { length children.now ≤ 2 }
+        ensures changed { self.new ≡ with_tree self.old node children.now }
+        ensures stays { (n : NodeId) → IsHeld self.old n → IsHeld self.new n }
+    {
+        let before = number_at(&self.nodes, node.0);
+        match self.nodes.get_mut(node.0 as usize) {
+            Some(held) => held.set_tree_children(children),
+            None => unreachable!(),
+        }
+        queue(&self.nodes, &mut self.thin, node.0, before);
+    }
+
+    /// Makes the node of a page that has none, with this own state and without parent and children. It takes no memory:
+    /// there has to be room for a node.
+    pub fn fresh(&mut self, cache: CacheId, page: PageNo, state: OwnState) -> NodeId
+        requires room { 1 ≤ self.old.room.nodes }
+        requires vacant { IsVacant self.old cache page }
+        ensures new { find self.old result ≡ None }
+        ensures changed { self.new ≡ with_new self.old result (NodeName.Live cache page) state }
+        ensures held { IsHeld self.new result }
+        ensures stays { (n : NodeId) → IsHeld self.old n → IsHeld self.new n }
+    {
+        self.insert(NodeName::Live(cache, page), state)
+    }
+
+    /// Makes a working node under the next number, `Absent` and without parent and children. It takes no memory: there
+    /// has to be room for a node.
+    pub fn fresh_working(&mut self) -> NodeId
+        requires room { 1 ≤ self.old.room.nodes }
+        requires made { self.old.made < 2 ^ 63 }
+        ensures new { find self.old result ≡ None }
+        ensures changed { self.new ≡ with_working self.old result }
+        ensures held { IsHeld self.new result }
+        ensures stays { (n : NodeId) → IsHeld self.old n → IsHeld self.new n }
+    {
+        self.made += 1;
+        self.insert(NodeName::Working(self.made), OwnState::Absent)
+    }
+
+    /// Names a node by the next number of a working node. The page that it was the node of has none then.
+    pub fn to_working(&mut self, node: NodeId)
+        requires held { IsHeld self.old node }
+        requires made { self.old.made < 2 ^ 63 }
+        ensures changed { self.new ≡ as_working self.old node }
+        ensures stays { (n : NodeId) → IsHeld self.old n → IsHeld self.new n }
+    {
+        self.made += 1;
+        self.set_name(node, NodeName::Working(self.made));
+    }
+
+    /// Makes a node that of a page that has none. The page that it was the node of has none then.
+    pub fn rename(&mut self, node: NodeId, cache: CacheId, page: PageNo)
+        requires held { IsHeld self.old node }
+        requires vacant { IsVacant self.old cache page }
+        ensures changed { self.new ≡ with_name self.old node (NodeName.Live cache page) }
+        ensures stays { (n : NodeId) → IsHeld self.old n → IsHeld self.new n }
+    {
+        self.set_name(node, NodeName::Live(cache, page));
+    }
+
+    /// Gives back a node that nothing names. The page that it was the node of has none then.
+    pub fn free(&mut self, node: NodeId)
+        requires { IsHeld self.old node }
+        ensures { self.new ≡ without self.old node }
+    {
+        let freed = self.nodes.remove(node.0 as usize);
+        set_node(&self.caches, &mut self.entries, freed.name(), None);
+    }
+
+    /// Counts one copied page more.
+    pub fn count_copy(&mut self)
+        requires { self.old.copies < 2 ^ 63 }
+        ensures { self.new ≡ record self.old { copies = self.old.copies + 1 } }
+    {
+        self.copies += 1;
+    }
+
+    /// The working node with the least number that has fewer than two children, tree children and stubs together, or
+    /// `None` exactly where there is none. Nothing that a contract sees changes. It takes time logarithmic in the number
+    /// of such nodes, on the average over the calls that made them.
+    pub fn thin(&mut self) -> Option<NodeId>
+        ensures least { IsLeastThin self.old result }
+        ensures same { self.new ≡ self.old }
+    {
+        match least(&self.nodes, &mut self.thin) {
+            Some(key) => Some(NodeId(key)),
+            None => None,
+        }
+    }
+
+    // Makes a cache of so many pages, each of one own state.
+    fn make(&mut self, segment: Option<SegId>, own: OwnState, pages: u32) -> CacheId
+        requires number { length self.old.caches + 1 < 2 ^ 32 }
+        requires caches { 1 ≤ self.old.room.caches }
+        requires nodes { pages ≤ self.old.room.nodes }
+        requires entries { pages ≤ self.old.room.entries }
+        ensures made { (nodes : List NodeId) × (length nodes ≡ pages) × IsMade self.old self.new result segment own nodes }
+        ensures pages { (page : ℕ) → page < pages → HasPage self.new result page own }
+        ensures stays { (n : NodeId) → IsHeld self.old n → find self.new n ≡ find self.old n }
+        ensures tables { (other : ℕ) → other ≤ length self.old.caches → table_of self.new other ≡ table_of self.old other }
+    {
+        let cache = CacheId(self.caches.len() as u32 + 1);
+        let first = self.entries.len();
+        add_pages(
+            self.alloc,
+            &mut self.nodes,
+            &mut self.entries,
+            cache,
+            own,
+            pages,
+        );
+        self.caches.push_reserved(Some(CacheEntry {
+            segment,
+            first,
+            pages,
+        }));
+        cache
+    }
+
+    // Makes a node under a name, in the tables too.
+    fn insert(&mut self, name: NodeName, own: OwnState) -> NodeId
+        requires { 1 ≤ self.old.room.nodes }
+        ensures new { find self.old result ≡ None }
+        ensures changed { self.new ≡ with_new self.old result name own }
+        ensures held { IsHeld self.new result }
+        ensures stays { (n : NodeId) → IsHeld self.old n → IsHeld self.new n }
+    {
+        let place = self
+            .nodes
+            .insert_reserved(PageNode::new(self.alloc, name, own));
+        let node = NodeId(place as u64);
+        queue(&self.nodes, &mut self.thin, node.0, None);
+        set_node(&self.caches, &mut self.entries, name, Some(node));
+        node
+    }
+
+    // Gives a node another name, in the tables too.
+    fn set_name(&mut self, node: NodeId, name: NodeName)
+        requires { IsHeld self.old node }
+        ensures changed { self.new ≡ with_name self.old node name }
+        ensures stays { (n : NodeId) → IsHeld self.old n → IsHeld self.new n }
+    {
+        let left = self.name(node);
+        match self.nodes.get_mut(node.0 as usize) {
+            Some(held) => held.set_name(name),
+            None => unreachable!(),
+        }
+        queue(&self.nodes, &mut self.thin, node.0, None);
+        set_node(&self.caches, &mut self.entries, left, None);
+        set_node(&self.caches, &mut self.entries, name, Some(node));
+    }
+}

@@ -1,0 +1,90 @@
+// The tables of the caches, one behind the other.
+ghost use Rattle.std.specs.Prelude.{◌≡◌, ℕ, ◌+◌, ◌≤◌, length, None, Some, slice_index_or};
+ghost use Rattle.std.specs.Vec.{vec_len, vec_capacity};
+ghost use Rattle.local_cache.specs.Arena.{tables_with};
+ghost use Rattle.local_cache.specs.Layout.{AreInRow, AreLowered, HasClosed, entry_at, tables_in};
+
+use vm_ids::{CacheId, NodeId, NodeName, SegId};
+
+/// What the table of a cache has for one page: the page's node, or none between two steps of a call.
+#[derive(Clone, Copy, Debug, PartialEq, Eq)]
+pub struct PageEntry {
+    pub node: Option<NodeId>,
+}
+
+/// A live cache: its segment, if it is named by one, and where its pages stand in the table of all pages.
+#[derive(Clone, Copy, Debug, PartialEq, Eq)]
+pub(crate) struct CacheEntry {
+    pub segment: Option<SegId>,
+    pub first: usize,
+    pub pages: u32,
+}
+
+// The entry of a cache, or `None` exactly where it isn't live.
+pub(crate) fn entry_of(caches: &[Option<CacheEntry>], cache: CacheId) -> Option<CacheEntry>
+    ensures { result ≡ entry_at caches.now cache.0 }
+{
+    if cache.0 == 0 {
+        return None;
+    }
+    match caches.get(cache.0 as usize - 1) {
+        Some(entry) => *entry,
+        None => None,
+    }
+}
+
+// Sets the node of the page of this name, where a live cache has such a page.
+pub(crate) fn set_node(
+    caches: &[Option<CacheEntry>],
+    entries: &mut Vec<PageEntry>,
+    name: NodeName,
+    node: Option<NodeId>,
+)
+    requires { AreInRow 0 caches.now (length entries.old.items) }
+    ensures tables { tables_in entries.new.items caches.now ≡ tables_with (tables_in entries.old.items caches.now) name node }
+    ensures row { AreInRow 0 caches.now (length entries.new.items) }
+    ensures len { vec_len entries.new ≡ vec_len entries.old }
+    ensures capacity { vec_capacity entries.new ≡ vec_capacity entries.old }
+{
+    match name {
+        NodeName::Live(cache, page) => {
+            if let Some(entry) = entry_of(caches, cache) {
+                if page.0 < entry.pages {
+                    entries[entry.first + page.0 as usize] = PageEntry { node };
+                }
+            }
+        }
+        NodeName::Working(_) => {}
+    }
+}
+
+// Takes a part out of the table of all pages, and moves down what stands behind it.
+pub(crate) fn close_gap(entries: &mut Vec<PageEntry>, first: usize, pages: usize)
+    requires { first + pages ≤ vec_len entries.old }
+    ensures closed { HasClosed first pages entries.old.items entries.new.items }
+    ensures len { vec_len entries.new + pages ≡ vec_len entries.old }
+    ensures capacity { vec_capacity entries.new ≡ vec_capacity entries.old }
+{
+    let len = entries.len();
+    for at in first + pages..len {
+        entries[at - pages] = entries[at];
+    }
+    entries.truncate(len - pages);
+}
+
+// Says of the caches from an index on that their parts stand lower.
+pub(crate) fn lower(caches: &mut Vec<Option<CacheEntry>>, from: usize, pages: usize)
+    requires { (k : ℕ) (e : CacheEntry) → from ≤ k → slice_index_or caches.old.items k None ≡ Some e → pages ≤ e.first }
+    ensures lowered { AreLowered from pages caches.old.items caches.new.items }
+    ensures len { vec_len caches.new ≡ vec_len caches.old }
+    ensures capacity { vec_capacity caches.new ≡ vec_capacity caches.old }
+{
+    for index in from..caches.len() {
+        if let Some(entry) = caches[index] {
+            caches[index] = Some(CacheEntry {
+                first: entry.first - pages,
+                ..entry
+            });
+        }
+    }
+}

@@ -1,0 +1,137 @@
+-- What layers above use of a right store: which small changes keep it right, and what stays where every page is still.
+use Rattle.std.proofs.Common.{◌≡◌, ℕ, ◌+◌, ◌-◌, ◌≤◌, ◌||◌, Bool, true, false, not, List, ◌++◌, length, get_or, set, replicate, Option, Some, None, is_some, option_map, refl, sym, ap, ◌∙◌, arith, inl, inr, length-set, length-append}
+use Rattle.std.specs.Prelude.{option_and_then}
+use Rattle.std.proofs.lemmas.Bool.{cases_lt, cases_eq}
+use Rattle.std.proofs.lemmas.List.{get_or-set_other, get_or_past, get_or_append_left, get_or-append_right}
+use Rattle.std.proofs.lemmas.List.Sums.{sum_by-append}
+use Rattle.vm_ids.specs.Held.{slot_of}
+use Rattle.vm_ids.specs.declared.numbers.CacheId.{CacheId}
+use Rattle.vm_ids.specs.declared.numbers.NodeId.{NodeId}
+use Rattle.vm_ids.specs.declared.numbers.SegId.{SegId}
+use Rattle.vm_ids.proofs.Places.{bit, count-replicate_none, same_all}
+use Rattle.frame_pool.specs.Pool.{is_pinned, with_bytes}
+use Rattle.slot_pool.specs.Slots as swap
+use Rattle.local_cache.specs.declared.own_state.OwnState.{OwnState}
+use Rattle.local_cache.specs.declared.own_state.OwnState.TheVariants.{Absent, Zero, Resident, Slot, OnSegment}
+use Rattle.local_cache.specs.Arena.{Arena, Cell, IsHeld, IsMade, cell, find}
+use Rattle.local_cache.specs.Own.{is_absent, is_in_slot, is_on_segment, is_resident, is_slot, own_of, own_states}
+use Rattle.local_cache.proofs.States.{filled_count, filled_length, filled_own}
+use Rattle.residency.specs.World.{World, HasOwnPage, IsStoreRight, SameNodes, Still, frame_page, is_bound, own_page, page_by, without_own, zero_page}
+
+-- who is a node stays one
+bare_some : (o : Option Cell) → is_some (option_map without_own o) ≡ is_some o
+bare_some None = refl
+bare_some (Some c) = refl
+
+pub held_stays : (a b : Arena) → SameNodes a b → (n : NodeId) → IsHeld a n → IsHeld b n
+held_stays a b s n held = sym (bare_some (find b n)) ∙ ap is_some (s.nodes n) ∙ bare_some (find a n) ∙ held
+
+has_page : {P : Type 0} (z f : P) (s : ℕ → P) (g : P) (x : OwnState) → is_absent x ≡ not (is_some (page_by z f s g x))
+has_page z f s g Absent = refl
+has_page z f s g Zero = refl
+has_page z f s g (Resident d) = refl
+has_page z f s g (Slot k) = refl
+has_page z f s g OnSegment = refl
+
+page_there : (w : World) (n : NodeId) → is_absent (own_of w.caches n) ≡ not (is_some (own_page w n))
+page_there w n = has_page (option_map (λ _. zero_page w) w.told) (option_map (λ _. frame_page w n) w.told) (λ k. option_and_then (λ h. slot_of h k) w.told) None (own_of w.caches n)
+
+-- who has an own page has one still, whatever a mapper tells
+pub absent_stays : (a b : World) → Still a b → (n : NodeId) → is_absent (own_of b.caches n) ≡ is_absent (own_of a.caches n)
+absent_stays a b s n = page_there b n ∙ ap (λ (o : Option (Option (List ℕ))). not (is_some o)) (s.pages n) ∙ sym (page_there a n)
+
+pub own_page_stays : (a b : World) → Still a b → (n : NodeId) → HasOwnPage a.caches n → HasOwnPage b.caches n
+own_page_stays a b s n h = record { node = held_stays a.caches b.caches s.caches n h.node; own_page = absent_stays a b s n ∙ h.own_page }
+
+abbrev pub pin_set : World → ℕ → Bool → World
+pin_set w f t = record w { frames = record w.frames { pinned = set w.frames.pinned f t } }
+
+or_bound : (b p q : Bool) → b ≡ true → (b || p) ≡ (b || q)
+or_bound true p q e = refl
+or_bound false p q e = absurd (cc)
+
+-- a bound frame may be pinned and unpinned
+pub pin_right : (w : World) (f : ℕ) (t : Bool) → IsStoreRight w → is_bound w f ≡ true → IsStoreRight (pin_set w f t)
+pin_right w f t right bound = record {
+  bound = right.bound;
+  held = λ g. elim (cases_eq g f) [
+    | inl e ↦ right.held g ∙ or_bound (is_bound w g) (is_pinned w.frames g) (get_or (set w.frames.pinned f t) g false) (ap (is_bound w) e ∙ bound)
+    | inr d ↦ right.held g ∙ ap (λ (b : Bool). is_bound w g || b) (sym (get_or-set_other w.frames.pinned f g t false d))
+  ];
+  slots = right.slots;
+  in_slots = right.in_slots;
+  capacity = right.capacity;
+  there = right.there;
+  temporary = right.temporary;
+  map_frames = right.map_frames;
+  bytes_frames = right.bytes_frames;
+  pinned_frames = length-set w.frames.pinned f t ∙ right.pinned_frames;
+  marks_frames = right.marks_frames;
+  few = right.few;
+  page = right.page;
+}
+
+-- the bytes of a frame may be written
+pub written_right : (w : World) (f : ℕ) (bytes : List ℕ) → IsStoreRight w → IsStoreRight (record w { frames = with_bytes w.frames f bytes })
+written_right w f bytes right = record {
+  bound = right.bound;
+  held = right.held;
+  slots = right.slots;
+  in_slots = right.in_slots;
+  capacity = right.capacity;
+  there = right.there;
+  temporary = right.temporary;
+  map_frames = right.map_frames;
+  bytes_frames = length-set w.frames.bytes f bytes ∙ right.bytes_frames;
+  pinned_frames = right.pinned_frames;
+  marks_frames = right.marks_frames;
+  few = right.few;
+  page = right.page;
+}
+
+more_false : (xs : List Bool) (n s : ℕ) → get_or (xs ++ replicate n false) s false ≡ get_or xs s false
+more_false xs n s = elim (cases_lt s (length xs)) [
+  | inl b ↦ get_or_append_left xs (replicate n false) false s b
+  | inr b ↦ get_or-append_right xs (replicate n false) (length xs) s false refl b ∙ same_all n false (s - length xs) ∙ sym (get_or_past xs s false b)
+]
+
+-- there may be more slots
+pub slots_right : (w : World) (n : ℕ) → IsStoreRight w → IsStoreRight (record w { slots = w.slots ++ replicate n false })
+slots_right w n right = record {
+  bound = right.bound;
+  held = right.held;
+  slots = λ s. right.slots s ∙ sym (ap bit (more_false w.slots n s));
+  in_slots = sum_by-append (λ h. bit h) w.slots (replicate n false) ∙ ap (λ (k : ℕ). swap.held_count w.slots + k) (count-replicate_none (λ h. h) n false refl) ∙ omega (arith, right.in_slots);
+  capacity = omega (arith, length-append w.slots (replicate n false), right.capacity);
+  there = λ s h. right.there s (sym (more_false w.slots n s) ∙ h);
+  temporary = right.temporary;
+  map_frames = right.map_frames;
+  bytes_frames = right.bytes_frames;
+  pinned_frames = right.pinned_frames;
+  marks_frames = right.marks_frames;
+  few = right.few;
+  page = right.page;
+}
+
+own_alike : (a b : Arena) (cache : CacheId) (segment : Option SegId) (ns : List NodeId) → IsMade a b cache segment Zero ns → (f : OwnState → Bool) → f Zero ≡ f Absent → (n : NodeId) → f (own_of b n) ≡ f (own_of a n)
+unfolding cell
+own_alike a b cache segment ns m f alike n = filled_own ns a.cells 0 b.cells cache Zero f n.0 m.cells alike
+
+-- a cache of pages of zeros may be made, where there are slots for them
+pub made_right : (w : World) (b : Arena) (cache : CacheId) (segment : Option SegId) (ns : List NodeId) → IsStoreRight w → IsMade w.caches b cache segment Zero ns → length (own_states w.caches) + length ns ≤ length w.slots
+    → IsStoreRight (record w { caches = b })
+made_right w b cache segment ns right m room = record {
+  bound = λ n. right.bound n ∙ sym (ap bit (own_alike w.caches b cache segment ns m is_resident refl n));
+  held = right.held;
+  slots = λ s. filled_count ns w.caches.cells 0 b.cells cache Zero (is_slot s) m.cells refl ∙ right.slots s;
+  in_slots = right.in_slots ∙ sym (filled_count ns w.caches.cells 0 b.cells cache Zero is_in_slot m.cells refl);
+  capacity = omega (arith, filled_length ns w.caches.cells 0 b.cells cache Zero m.cells);
+  there = right.there;
+  temporary = λ n. own_alike w.caches b cache segment ns m is_on_segment refl n ∙ right.temporary n;
+  map_frames = right.map_frames;
+  bytes_frames = right.bytes_frames;
+  pinned_frames = right.pinned_frames;
+  marks_frames = right.marks_frames;
+  few = right.few;
+  page = right.page;
+}

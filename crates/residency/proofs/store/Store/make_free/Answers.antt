@@ -1,0 +1,15 @@
+use Rattle.std.proofs.Common.{arith, ◌≡◌, ℕ, sym, subst}
+use Rattle.residency.specs.Causes.{Made, pushes_for}
+use Rattle.residency.proofs.Claimed.{pushes_when_full}
+use Rattle.residency.proofs.store.Store.make_free.Goals as goal
+
+pub returns-in-None-clause-made : goal.returns-in-None-clause-made
+returns-in-None-clause-made g c =
+    let once : pushes_for c.args.self.now.frames.held ≡ 1 = pushes_when_full c.args.self.now.frames.held c.in-None.ensures.1 in
+    subst (λ (n : ℕ). Made 0 n (g.M.Mapper.counts c.args.mapper.now) (g.M.Mapper.counts c.make_room.new.mapper)) (sym once) c.make_room.ensures.made
+
+pub returns-in-None-clause-idle : goal.returns-in-None-clause-idle
+returns-in-None-clause-idle g c = λ none. absurd (omega (arith, pushes_when_full c.args.self.now.frames.held c.in-None.ensures.1, none))
+
+pub returns-in-None-clause-idle_caches : goal.returns-in-None-clause-idle_caches
+returns-in-None-clause-idle_caches g c = λ none. absurd (omega (arith, pushes_when_full c.args.self.now.frames.held c.in-None.ensures.1, none))

@@ -1,0 +1,17 @@
+use Rattle.std.proofs.Common.{◌≡◌, ◌+◌}
+use Rattle.vm_ids.specs.Counting.{RoseBy}
+use Rattle.frame_pool.specs.Pool.{held_count}
+use Rattle.residency.specs.Causes.{Later}
+use Rattle.residency.specs.World.{OthersStay, Still, world}
+use Rattle.residency.proofs.store.Store.page_out.Given as goal
+
+abbrev pub invariant-loop-done : goal.invariant-loop-done
+invariant-loop-done g l = record {
+  still : Still (world (g.M.Mapper.held l.initial.mapper) (g.M.Mapper.page_bytes l.initial.mapper) l.initial.caches l.initial.self) (world (g.M.Mapper.held l.mapper) (g.M.Mapper.page_bytes l.mapper) l.caches l.self);
+  pinned : l.self.frames.pinned ≡ l.initial.self.frames.pinned;
+  fewer : held_count l.self.frames + l.done ≡ held_count l.initial.self.frames;
+  others : OthersStay l.initial.caches l.caches;
+  later : Later (g.M.Mapper.counts l.initial.mapper) (g.M.Mapper.counts l.mapper);
+  pulls : RoseBy 0 (g.M.Mapper.counts l.initial.mapper).pulls (g.M.Mapper.counts l.mapper).pulls;
+  pushes : RoseBy l.done (g.M.Mapper.counts l.initial.mapper).pushes (g.M.Mapper.counts l.mapper).pushes;
+}

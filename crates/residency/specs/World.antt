@@ -1,0 +1,169 @@
+-- What a store, the caches and a mapper say together of each node's own page.
+use Rattle.std.specs.Prelude.{◌≡◌, ◌≢◌, ℕ, ◌<◌, ◌≤◌, ◌^◌, Bool, true, false, if◌then◌else◌, ◌||◌, List, length, replicate, Option, Some, None, option_map, option_and_then, is_some, IfSome, IsSome, slice_set, count_by}
+use Rattle.vm_ids.specs.Held.{Held, slot_of, with_slot}
+use Rattle.vm_ids.specs.declared.numbers.NodeId.{NodeId}
+use Rattle.vm_ids.specs.declared.numbers.SlotId.{SlotId}
+use Rattle.frame_pool.specs.Pool.{Frames, bytes_of, is_held, is_pinned}
+use Rattle.slot_pool.specs.Slots as swap
+use Rattle.global_map.specs.Pairs.{bound_times, frame_of, node_of}
+use Rattle.local_cache.specs.declared.own_state.OwnState.{OwnState}
+use Rattle.local_cache.specs.declared.own_state.OwnState.TheVariants.{Absent, Zero, Resident, Slot, OnSegment}
+use Rattle.local_cache.specs.Arena.{Arena, Cell, IsHeld, find, with_own}
+use Rattle.local_cache.specs.Own.{is_absent, is_in_slot, is_on_segment, is_resident, is_slot, own_of, own_states}
+use Rattle.residency.specs.declared.store.Store.{Store}
+
+-- what the mapper holds and the size of its pages, where it tells that; the caches; the parts of the store, of whose marks no more than how many there are
+pub record World : Type 0 where
+  pub told : Option Held
+  pub page_bytes : Option ℕ
+  pub caches : Arena
+  pub frames : Frames
+  pub slots : List Bool
+  pub map : List (Option NodeId)
+  pub marks : ℕ
+
+abbrev pub world : Option Held → Option ℕ → Arena → Store → World
+world told page_bytes caches s = record { told = told; page_bytes = page_bytes; caches = caches; frames = s.frames; slots = s.slots; map = s.map; marks = length s.marks }
+
+abbrev pub zero_page : World → List ℕ
+zero_page w = replicate w.frames.page 0
+
+abbrev pub frame_page : World → NodeId → List ℕ
+frame_page w n = bytes_of w.frames (frame_of w.map n.0)
+
+-- the page that an own state stands for: none, the zero page, that of its frame, that of its slot, that of its segment
+abbrev pub page_by : {P : Type 0} → P → P → (ℕ → P) → P → OwnState → Option P
+page_by zero frame slot segment Absent = None
+page_by zero frame slot segment Zero = Some zero
+page_by zero frame slot segment (Resident dirty) = Some frame
+page_by zero frame slot segment (Slot s) = Some (slot s.0)
+page_by zero frame slot segment OnSegment = Some segment
+
+-- The own page of a node, or none; and where the mapper doesn't tell what it holds, no more than that there is one. Nor is the page told of a node that is on its segment: no page of a temporary cache is.
+abbrev pub own_page : World → NodeId → Option (Option (List ℕ))
+own_page w n = page_by (option_map (λ _. zero_page w) w.told) (option_map (λ _. frame_page w n) w.told) (λ slot. option_and_then (λ h. slot_of h slot) w.told) None (own_of w.caches n)
+
+abbrev pub is_bound : World → ℕ → Bool
+is_bound w frame = is_some (node_of w.map frame)
+
+abbrev pub is_slot_held : World → ℕ → Bool
+is_slot_held w slot = swap.is_held w.slots slot
+
+pub record IsStoreRight (w : World) : Type 0 where
+  -- a node is bound, to one frame, exactly where it is resident
+  pub bound : (n : NodeId) → bound_times w.map n.0 ≡ (if is_resident (own_of w.caches n) then 1 else 0)
+  -- a frame is held exactly where it is bound or pinned
+  pub held : (f : ℕ) → is_held w.frames f ≡ (is_bound w f || is_pinned w.frames f)
+  -- a held slot is that of one node, and any other of none
+  pub slots : (s : ℕ) → count_by (is_slot s) (own_states w.caches) ≡ (if is_slot_held w s then 1 else 0)
+  pub in_slots : swap.held_count w.slots ≡ count_by is_in_slot (own_states w.caches)
+  -- there are slots enough
+  pub capacity : length (own_states w.caches) ≤ length w.slots
+  -- the mapper holds a page in each held slot, where it tells
+  pub there : (s : ℕ) → is_slot_held w s ≡ true → IfSome w.told (λ h. IsSome (slot_of h s))
+  -- every cache is temporary, so that no page is on a segment
+  pub temporary : (n : NodeId) → is_on_segment (own_of w.caches n) ≡ false
+  -- the tables have an entry for each frame, and the mapper takes pages of this size
+  pub map_frames : length w.map ≡ length w.frames.held
+  pub bytes_frames : length w.frames.bytes ≡ length w.frames.held
+  pub pinned_frames : length w.frames.pinned ≡ length w.frames.held
+  pub marks_frames : w.marks ≡ length w.frames.held
+  pub few : length w.frames.held ≤ 2 ^ 16
+  pub page : IfSome w.page_bytes (λ n. n ≡ w.frames.page)
+
+-- a frame that was pinned is as it was: it is pinned, and has its bytes and its node or none
+pub record PinnedStays (old new : World) (f : ℕ) : Type 0 where
+  pub pinned : is_pinned new.frames f ≡ true
+  pub bytes : bytes_of new.frames f ≡ bytes_of old.frames f
+  pub node : node_of new.map f ≡ node_of old.map f
+
+abbrev pub without_own : Cell → Cell
+without_own c = record c { own = Absent }
+
+-- the caches are the same but for where own pages are
+pub record SameNodes (old new : Arena) : Type 0 where
+  pub nodes : (n : NodeId) → option_map without_own (find new n) ≡ option_map without_own (find old n)
+  pub rest : record new { cells = old.cells } ≡ old
+
+-- from one moment to the next the store is right still, and each node has its page
+pub record Still (old new : World) : Type 0 where
+  pub right : IsStoreRight new
+  pub pages : (n : NodeId) → own_page new n ≡ own_page old n
+  pub pinned : (f : ℕ) → is_pinned old.frames f ≡ true → PinnedStays old new f
+  pub caches : SameNodes old.caches new.caches
+  pub frames : length new.frames.held ≡ length old.frames.held
+  pub page : new.frames.page ≡ old.frames.page
+  pub page_bytes : new.page_bytes ≡ old.page_bytes
+
+-- a node that isn't resident has its own state
+abbrev pub OthersStay : Arena → Arena → Type 0
+OthersStay old new = (m : NodeId) → is_resident (own_of old m) ≡ false → own_of new m ≡ own_of old m
+
+-- the same but for one node
+abbrev pub OthersStayBut : NodeId → Arena → Arena → Type 0
+OthersStayBut n old new = (m : NodeId) → m.0 ≢ n.0 → is_resident (own_of old m) ≡ false → own_of new m ≡ own_of old m
+
+-- frame f of node n after its page was pushed to slot s
+abbrev pub evicted : World → ℕ → NodeId → SlotId → World
+evicted w f n s = record w {
+  told = option_map (with_slot s.0 (bytes_of w.frames f)) w.told;
+  caches = with_own w.caches n (Slot s);
+  frames = record w.frames { held = slice_set w.frames.held f false };
+  slots = slice_set w.slots s.0 true;
+  map = slice_set w.map f None;
+}
+
+-- the page in frame f was moved to a slot that was free, and nothing else changed
+pub record IsEvicted (old new : World) (f : ℕ) : Type 0 where
+  pub node : NodeId
+  pub slot : SlotId
+  pub was : node_of old.map f ≡ Some node
+  pub free : is_slot_held old slot.0 ≡ false
+  pub is : new ≡ evicted old f node slot
+
+-- frame f, which was not pinned, is given to its taker: it is held, pinned and bound to no node, and no other frame is pinned or unpinned
+pub record IsMadeFree (old new : World) (f : ℕ) : Type 0 where
+  pub within : f < length old.frames.held
+  pub loose : is_pinned old.frames f ≡ false
+  pub pinned : new.frames.pinned ≡ slice_set old.frames.pinned f true
+  pub held : is_held new.frames f ≡ true
+  pub unbound : node_of new.map f ≡ None
+
+-- there is a frame that isn't pinned
+abbrev pub HasUnpinned : Frames → Type 0
+HasUnpinned p = count_by (λ pinned. pinned) p.pinned < length p.pinned
+
+-- what frame f has after a page with this own state was brought in: zeros for a page of zeros, and for one in a slot the page that the mapper gave, where it tells that
+pub record HoldsPage (own : OwnState) (last : Option (List ℕ)) (frames : Frames) (f : ℕ) : Type 0 where
+  pub zeros : own ≡ Zero → bytes_of frames f ≡ replicate frames.page 0
+  pub given : is_in_slot own ≡ true → IfSome last (λ page. bytes_of frames f ≡ page)
+
+abbrev pub HasNoNodes : Arena → Type 0
+HasNoNodes a = (n : NodeId) → find a n ≡ None
+
+-- the same as Still but for frame f, which its taker has
+pub record StillBut (f : ℕ) (old new : World) : Type 0 where
+  pub right : IsStoreRight new
+  pub pages : (n : NodeId) → own_page new n ≡ own_page old n
+  pub pinned : (g : ℕ) → g ≢ f → is_pinned old.frames g ≡ true → PinnedStays old new g
+  pub caches : SameNodes old.caches new.caches
+  pub frames : length new.frames.held ≡ length old.frames.held
+  pub page : new.frames.page ≡ old.frames.page
+  pub page_bytes : new.page_bytes ≡ old.page_bytes
+
+-- frame f is a taker's: held, pinned and bound to no node
+pub record IsTaken (w : World) (f : ℕ) : Type 0 where
+  pub within : f < length w.frames.held
+  pub pinned : is_pinned w.frames f ≡ true
+  pub unbound : node_of w.map f ≡ None
+
+-- a node that has an own page
+pub record HasOwnPage (a : Arena) (n : NodeId) : Type 0 where
+  pub node : IsHeld a n
+  pub own_page : is_absent (own_of a n) ≡ false
+
+-- a node that has an own page in no frame
+pub record IsAway (a : Arena) (n : NodeId) : Type 0 where
+  pub node : IsHeld a n
+  pub own_page : is_absent (own_of a n) ≡ false
+  pub away : is_resident (own_of a n) ≡ false

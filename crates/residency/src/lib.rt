@@ -1,0 +1,23 @@
+//! Residency: which pages are in frames, and the calls that bring pages in and evict them.
+//!
+//! A store has the page frames, the swap slots, the map from page nodes to frames, and the marks that a policy of
+//! eviction looks at. Whatever it moves, every node's own page stays what it is: the page in the node's frame, in its
+//! swap slot, or a page of zeros. A frame that is pinned is never evicted. A fault of the mapper is answered only
+//! where the mapper's count of faults rose, and it leaves every page where it was.
+//!
+//! A store is seen as the record of its parts, each by its own model; of the marks a contract sees only how many there
+//! are, so that no promise rests on the policy. `IsStoreRight` of `specs` says how the parts, the caches and the
+//! mapper belong together, and `Still` what each call keeps. The crate stands on `frame_pool`, `slot_pool`,
+//! `global_map`, `local_cache` and the traits of the outside; the paths of faults, copies and segments stand on it.
+//! It serves the nodes of temporary caches.
+#![tactic(auto)]
+
+mod marks;
+mod miss;
+mod store;
+
+pub use miss::Miss;
+pub use store::Store;
+
+#[cfg(test)]
+mod tests;

@@ -1,0 +1,10 @@
+// Why a page couldn't be brought in.
+
+/// Why a page couldn't be brought in. Every page is then where it was, or in a slot.
+#[derive(Clone, Copy, Debug, PartialEq, Eq)]
+pub enum Miss {
+    /// A pull failed.
+    Pull,
+    /// The push of a victim of eviction failed.
+    Victim,
+}

@@ -1,0 +1,436 @@
+// Frames, slots and the map, and the calls that move pages between them.
+ghost use Rattle.std.specs.Prelude.{◌≡◌, ◌≢◌, ℕ, ◌+◌, ◌-◌, ◌<◌, ◌≤◌, ◌^◌, ◌++◌, List, [], length, replicate, slice_set, min, true, false, Option, Some, None, IfSome, All, IfOk, IfErr, OnOk, OnErr, IsOk};
+ghost use Rattle.std.specs.Borrow.{sem};
+ghost use Rattle.vm_ids.specs.Counting.{Counted, RoseBy};
+ghost use Rattle.vm_ids.specs.Held.{Held};
+ghost use Rattle.frame_pool.specs.Pool.{bytes_of, held_count, is_held, is_pinned, pinned_count, with_bytes};
+ghost use Rattle.slot_pool.specs.Slots as swap;
+ghost use Rattle.global_map.specs.Pairs.{bound_times, frame_of, node_of};
+ghost use Rattle.local_cache.specs.Arena.{Arena, IsHeld, with_own};
+ghost use Rattle.local_cache.specs.Own.{is_resident, own_of};
+ghost use Rattle.residency.specs.Causes.{HasMissCause, Later, Made, PushFailed, is_victim, pulls_for, pushes_for, pushes_to_bring};
+ghost use Rattle.residency.specs.Lending.{LendsFrame};
+ghost use Rattle.residency.specs.World.{HasNoNodes, HasOwnPage, HoldsPage, HasUnpinned, IsAway, IsEvicted, IsMadeFree, IsStoreRight, IsTaken, OthersStay, OthersStayBut, Still, StillBut, world};
+
+use crate::Miss;
+use crate::marks::{Marks, any_evictable};
+use frame_pool::FramePool;
+use global_map::GlobalMap;
+use local_cache::{Caches, OwnState};
+use slot_pool::SlotPool;
+use std::alloc::Global;
+use vm_ids::{FrameId, NoMemory, NodeId, SlotId};
+use vm_port::{Chooser, Failed, Mapper};
+
+/// The page frames, the swap slots and the map from page nodes to frames.
+#[derive(Drop)]
+pub struct Store {
+    frames: FramePool,
+    slots: SlotPool,
+    map: GlobalMap,
+    marks: Marks,
+}
+
+impl Store {
+    /// A store of so many free frames of `page` bytes each, without swap slots.
+    pub fn new(alloc: Global, frames: u32, page: u32) -> Result<Store, NoMemory>
+        requires frames { frames ≤ 2 ^ 16 }
+        requires page { page ≤ 2 ^ 16 }
+        ensures is { IfOk result (λ s. s ≡ record { frames = record { page = page; held = replicate frames false; pinned = replicate frames false; bytes = replicate frames (replicate page 0) }; slots = []; map = replicate frames None; marks = replicate frames false }) }
+        ensures right { IfOk result (λ s. (told : Option Held) (size : Option ℕ) (caches : Arena) → HasNoNodes caches → IfSome size (λ n. n ≡ page) → IsStoreRight (world told size caches s)) }
+    {
+        let pool = FramePool::new(alloc, frames, page)?;
+        let map = GlobalMap::new(alloc, frames)?;
+        let marks = Marks::new(alloc, frames)?;
+        Ok(Store {
+            frames: pool,
+            slots: SlotPool::new(alloc),
+            map,
+            marks,
+        })
+    }
+
+    /// The page frames.
+    pub fn frames(&self) -> &FramePool
+        ensures { result.now ≡ self.now.frames }
+    {
+        &self.frames
+    }
+
+    /// The swap slots.
+    pub fn slots(&self) -> &SlotPool
+        ensures { result.now ≡ self.now.slots }
+    {
+        &self.slots
+    }
+
+    /// Which node is in each frame.
+    pub fn map(&self) -> &GlobalMap
+        ensures { result.now ≡ self.now.map }
+    {
+        &self.map
+    }
+
+    /// The bytes of a frame, to be written.
+    pub fn bytes_mut(&mut self, frame: FrameId) -> &mut [u8]
+        requires { frame.0 < length self.old.frames.held }
+        ensures* writes_back { sem 𝓛 (LendsFrame self.entry frame.0 result) }
+        ensures bytes { result.now ≡ bytes_of self.old.frames frame.0 }
+        ensures page { length result.now ≡ self.old.frames.page }
+    {
+        self.frames.bytes_mut(frame)
+    }
+
+    /// Makes the bytes of one frame those of another.
+    pub fn copy(&mut self, from: FrameId, to: FrameId)
+        requires from { from.0 < length self.old.frames.held }
+        requires to { to.0 < length self.old.frames.held }
+        requires apart { from.0 ≢ to.0 }
+        ensures { self.new ≡ record self.old { frames = with_bytes self.old.frames to.0 (bytes_of self.old.frames from.0) } }
+    {
+        self.frames.copy(from, to);
+    }
+
+    /// Makes the bytes of a frame zeros.
+    pub fn zero(&mut self, frame: FrameId)
+        requires { frame.0 < length self.old.frames.held }
+        ensures { self.new ≡ record self.old { frames = with_bytes self.old.frames frame.0 (replicate self.old.frames.page 0) } }
+    {
+        self.frames.zero(frame);
+    }
+
+    /// Pins a frame, so that it is no victim of eviction.
+    pub fn pin(&mut self, frame: FrameId)
+        requires { frame.0 < length self.old.frames.held }
+        ensures { self.new ≡ record self.old { frames = record self.old.frames { pinned = slice_set self.old.frames.pinned frame.0 true } } }
+    {
+        self.frames.pin(frame);
+    }
+
+    /// Unpins a frame.
+    pub fn unpin(&mut self, frame: FrameId)
+        requires { frame.0 < length self.old.frames.held }
+        ensures { self.new ≡ record self.old { frames = record self.old.frames { pinned = slice_set self.old.frames.pinned frame.0 false } } }
+    {
+        self.frames.unpin(frame);
+    }
+
+    /// Gives a held frame back that isn't pinned. It is then free.
+    pub fn give_back_frame(&mut self, frame: FrameId)
+        requires held { is_held self.old.frames frame.0 ≡ true }
+        requires unpinned { is_pinned self.old.frames frame.0 ≡ false }
+        ensures { self.new ≡ record self.old { frames = record self.old.frames { held = slice_set self.old.frames.held frame.0 false } } }
+    {
+        self.frames.give_back(frame);
+    }
+
+    /// Binds an unbound node to an unbound frame.
+    pub fn bind(&mut self, node: NodeId, frame: FrameId)
+        requires frame { frame.0 < length self.old.map }
+        requires free { node_of self.old.map frame.0 ≡ None }
+        requires node { bound_times self.old.map node.0 ≡ 0 }
+        ensures { self.new ≡ record self.old { map = slice_set self.old.map frame.0 (Some node) } }
+    {
+        self.map.bind(node, frame);
+    }
+
+    /// Unbinds a bound node from its frame.
+    pub fn unbind(&mut self, node: NodeId)
+        requires { bound_times self.old.map node.0 ≡ 1 }
+        ensures { self.new ≡ record self.old { map = slice_set self.old.map (frame_of self.old.map node.0) None } }
+    {
+        self.map.unbind(node);
+    }
+
+    /// Binds the unbound node `to` in place of the bound node `from`.
+    pub fn rekey(&mut self, from: NodeId, to: NodeId)
+        requires from { bound_times self.old.map from.0 ≡ 1 }
+        requires to { bound_times self.old.map to.0 ≡ 0 }
+        ensures { self.new ≡ record self.old { map = slice_set self.old.map (frame_of self.old.map from.0) (Some to) } }
+    {
+        self.map.rekey(from, to);
+    }
+
+    /// Gives a held slot back. It is then free.
+    pub fn give_back_slot(&mut self, slot: SlotId)
+        requires { swap.is_held self.old.slots slot.0 ≡ true }
+        ensures { self.new ≡ record self.old { slots = slice_set self.old.slots slot.0 false } }
+    {
+        self.slots.give_back(slot);
+    }
+
+    /// Makes the number of slots at least `total`, the new ones free. After an error the store is as it was.
+    pub fn reserve_slots(&mut self, total: u32) -> Result<(), NoMemory>
+        ensures ok { OnOk result (self.new ≡ record self.old { slots = self.old.slots ++ replicate (total - length self.old.slots) false }) }
+        ensures err { OnErr result (self.new ≡ self.old) }
+    {
+        self.slots.reserve(total)
+    }
+
+    /// Sets the referenced mark of a frame, which the chooser sees at its next pick.
+    pub fn touch(&mut self, frame: FrameId)
+        requires { frame.0 < length self.old.marks }
+        ensures { self.new ≡ record self.old { marks = slice_set self.old.marks frame.0 true } }
+    {
+        self.marks.touch(frame);
+    }
+
+    /// Moves the page in a held frame that isn't pinned to a swap slot. The frame is then free. After a fault the store and
+    /// the caches are as they were. It takes one push.
+    pub fn evict<M: Mapper>(
+        &mut self,
+        caches: &mut Caches,
+        frame: FrameId,
+        mapper: &mut M,
+    ) -> Result<(), Failed>
+        requires right { IsStoreRight (world (M.held mapper.old) (M.page_bytes mapper.old) caches.old self.old) }
+        requires held { is_held self.old.frames frame.0 ≡ true }
+        requires unpinned { is_pinned self.old.frames frame.0 ≡ false }
+        ensures still { Still (world (M.held mapper.old) (M.page_bytes mapper.old) caches.old self.old) (world (M.held mapper.new) (M.page_bytes mapper.new) caches.new self.new) }
+        ensures evicted { OnOk result (IsEvicted (world (M.held mapper.old) (M.page_bytes mapper.old) caches.old self.old) (world (M.held mapper.new) (M.page_bytes mapper.new) caches.new self.new) frame.0) }
+        ensures free { OnOk result (self.new.frames.held ≡ slice_set self.old.frames.held frame.0 false) }
+        ensures failed { OnErr result (self.new ≡ self.old) }
+        ensures failed_caches { OnErr result (caches.new ≡ caches.old) }
+        ensures pinned { self.new.frames.pinned ≡ self.old.frames.pinned }
+        ensures others { OthersStay caches.old caches.new }
+        ensures counts { Counted 0 1 (M.counts mapper.old) (M.counts mapper.new) result }
+    {
+        let node = self.map.node_at(frame).unwrap();
+        let slot = self.slots.take();
+        match mapper.swap_out(slot, self.frames.bytes(frame)) {
+            Ok(()) => {
+                caches.set_state(node, OwnState::Slot(slot));
+                self.map.unbind(node);
+                self.frames.give_back(frame);
+                Ok(())
+            }
+            Err(failed) => {
+                self.slots.give_back(slot);
+                Err(failed)
+            }
+        }
+    }
+
+    /// A frame for the caller, which is held, pinned and bound to no node. It evicts a page only where no frame is free, and
+    /// fails only where that push fails.
+    pub fn make_free<M: Mapper, C: Chooser>(
+        &mut self,
+        caches: &mut Caches,
+        mapper: &mut M,
+        chooser: &mut C,
+    ) -> Result<FrameId, Failed>
+        requires right { IsStoreRight (world (M.held mapper.old) (M.page_bytes mapper.old) caches.old self.old) }
+        requires unpinned { HasUnpinned self.old.frames }
+        ensures still { Still (world (M.held mapper.old) (M.page_bytes mapper.old) caches.old self.old) (world (M.held mapper.new) (M.page_bytes mapper.new) caches.new self.new) }
+        ensures free { IfOk result (λ f. IsMadeFree (world (M.held mapper.old) (M.page_bytes mapper.old) caches.old self.old) (world (M.held mapper.new) (M.page_bytes mapper.new) caches.new self.new) f.0) }
+        ensures pinned { OnErr result (self.new.frames.pinned ≡ self.old.frames.pinned) }
+        ensures others { OthersStay caches.old caches.new }
+        ensures idle { pushes_for self.old.frames.held ≡ 0 → mapper.new ≡ mapper.old }
+        ensures idle_caches { pushes_for self.old.frames.held ≡ 0 → caches.new ≡ caches.old }
+        ensures later { Later (M.counts mapper.old) (M.counts mapper.new) }
+        ensures made { Made 0 (pushes_for self.old.frames.held) (M.counts mapper.old) (M.counts mapper.new) }
+        ensures cause { OnErr result (PushFailed (M.counts mapper.old) (M.counts mapper.new)) }
+    {
+        match self.frames.take() {
+            Some(frame) => {
+                self.frames.pin(frame);
+                Ok(frame)
+            }
+            None => self.make_room(caches, mapper, chooser),
+        }
+    }
+
+    // The same where no frame is free.
+    fn make_room<M: Mapper, C: Chooser>(
+        &mut self,
+        caches: &mut Caches,
+        mapper: &mut M,
+        chooser: &mut C,
+    ) -> Result<FrameId, Failed>
+        requires right { IsStoreRight (world (M.held mapper.old) (M.page_bytes mapper.old) caches.old self.old) }
+        requires unpinned { HasUnpinned self.old.frames }
+        requires full { All (λ h. h ≡ true) self.old.frames.held }
+        ensures still { Still (world (M.held mapper.old) (M.page_bytes mapper.old) caches.old self.old) (world (M.held mapper.new) (M.page_bytes mapper.new) caches.new self.new) }
+        ensures free { IfOk result (λ f. IsMadeFree (world (M.held mapper.old) (M.page_bytes mapper.old) caches.old self.old) (world (M.held mapper.new) (M.page_bytes mapper.new) caches.new self.new) f.0) }
+        ensures pinned { OnErr result (self.new.frames.pinned ≡ self.old.frames.pinned) }
+        ensures others { OthersStay caches.old caches.new }
+        ensures later { Later (M.counts mapper.old) (M.counts mapper.new) }
+        ensures made { Made 0 1 (M.counts mapper.old) (M.counts mapper.new) }
+        ensures cause { OnErr result (PushFailed (M.counts mapper.old) (M.counts mapper.new)) }
+    {
+        let victim = self.marks.pick(&self.frames, chooser);
+        self.evict(caches, victim, mapper)?;
+        let frame = self.frames.take().unwrap();
+        self.frames.pin(frame);
+        Ok(frame)
+    }
+
+    /// Brings the own page of a node into a frame, which it answers. A resident page stays where it is. Else a frame is made
+    /// free for it, and the page is pulled from its slot or is zeros. After a fault the node's page is where it was.
+    pub fn bring_in<M: Mapper, C: Chooser>(
+        &mut self,
+        caches: &mut Caches,
+        node: NodeId,
+        mapper: &mut M,
+        chooser: &mut C,
+    ) -> Result<FrameId, Miss>
+        requires right { IsStoreRight (world (M.held mapper.old) (M.page_bytes mapper.old) caches.old self.old) }
+        requires own { HasOwnPage caches.old node }
+        requires unpinned { is_resident (own_of caches.old node) ≡ false → HasUnpinned self.old.frames }
+        ensures still { Still (world (M.held mapper.old) (M.page_bytes mapper.old) caches.old self.old) (world (M.held mapper.new) (M.page_bytes mapper.new) caches.new self.new) }
+        ensures home { IfOk result (λ f. (f.0 < length self.new.map) × (node_of self.new.map f.0 ≡ Some node)) }
+        ensures page { IfOk result (λ f. HoldsPage (own_of caches.old node) (M.given mapper.new) self.new.frames f.0) }
+        ensures idle { is_resident (own_of caches.old node) ≡ true → IsOk result × (self.new ≡ self.old) × (caches.new ≡ caches.old) × (mapper.new ≡ mapper.old) }
+        ensures others { OthersStayBut node caches.old caches.new }
+        ensures failed { OnErr result (OthersStay caches.old caches.new) }
+        ensures pinned { self.new.frames.pinned ≡ self.old.frames.pinned }
+        ensures later { Later (M.counts mapper.old) (M.counts mapper.new) }
+        ensures made { Made (pulls_for result (own_of caches.old node)) (pushes_to_bring (own_of caches.old node) self.old.frames.held) (M.counts mapper.old) (M.counts mapper.new) }
+        ensures cause { IfErr result (HasMissCause (M.counts mapper.old) (M.counts mapper.new)) }
+    {
+        match self.map.get(node) {
+            Some(frame) => Ok(frame),
+            None => self.fetch(caches, node, mapper, chooser),
+        }
+    }
+
+    // The same for a node that isn't resident.
+    fn fetch<M: Mapper, C: Chooser>(
+        &mut self,
+        caches: &mut Caches,
+        node: NodeId,
+        mapper: &mut M,
+        chooser: &mut C,
+    ) -> Result<FrameId, Miss>
+        requires right { IsStoreRight (world (M.held mapper.old) (M.page_bytes mapper.old) caches.old self.old) }
+        requires node { IsAway caches.old node }
+        requires unpinned { HasUnpinned self.old.frames }
+        ensures still { Still (world (M.held mapper.old) (M.page_bytes mapper.old) caches.old self.old) (world (M.held mapper.new) (M.page_bytes mapper.new) caches.new self.new) }
+        ensures home { IfOk result (λ f. (f.0 < length self.new.map) × (node_of self.new.map f.0 ≡ Some node)) }
+        ensures page { IfOk result (λ f. HoldsPage (own_of caches.old node) (M.given mapper.new) self.new.frames f.0) }
+        ensures others { OthersStayBut node caches.old caches.new }
+        ensures failed { OnErr result (OthersStay caches.old caches.new) }
+        ensures pinned { self.new.frames.pinned ≡ self.old.frames.pinned }
+        ensures later { Later (M.counts mapper.old) (M.counts mapper.new) }
+        ensures made { Made (pulls_for result (own_of caches.old node)) (pushes_for self.old.frames.held) (M.counts mapper.old) (M.counts mapper.new) }
+        ensures cause { IfErr result (HasMissCause (M.counts mapper.old) (M.counts mapper.new)) }
+    {
+        match self.make_free(caches, mapper, chooser) {
+            Ok(frame) => self.fill(caches, node, frame, mapper),
+            Err(_) => Err(Miss::Victim),
+        }
+    }
+
+    // Puts a node's page into a frame that was made free for it, or gives that back.
+    fn fill<M: Mapper>(
+        &mut self,
+        caches: &mut Caches,
+        node: NodeId,
+        frame: FrameId,
+        mapper: &mut M,
+    ) -> Result<FrameId, Miss>
+        requires right { IsStoreRight (world (M.held mapper.old) (M.page_bytes mapper.old) caches.old self.old) }
+        requires node { IsAway caches.old node }
+        requires taken { IsTaken (world (M.held mapper.old) (M.page_bytes mapper.old) caches.old self.old) frame.0 }
+        ensures still { StillBut frame.0 (world (M.held mapper.old) (M.page_bytes mapper.old) caches.old self.old) (world (M.held mapper.new) (M.page_bytes mapper.new) caches.new self.new) }
+        ensures home { IfOk result (λ f. (f.0 < length self.new.map) × (node_of self.new.map f.0 ≡ Some node)) }
+        ensures page { IfOk result (λ f. HoldsPage (own_of caches.old node) (M.given mapper.new) self.new.frames f.0) }
+        ensures others { OthersStayBut node caches.old caches.new }
+        ensures failed { OnErr result (caches.new ≡ caches.old) }
+        ensures pinned { self.new.frames.pinned ≡ slice_set self.old.frames.pinned frame.0 false }
+        ensures later { Later (M.counts mapper.old) (M.counts mapper.new) }
+        ensures made { Made (pulls_for result (own_of caches.old node)) 0 (M.counts mapper.old) (M.counts mapper.new) }
+        ensures filled { is_victim result ≡ false }
+        ensures cause { IfErr result (HasMissCause (M.counts mapper.old) (M.counts mapper.new)) }
+    {
+        match caches.own_state(node) {
+            OwnState::Slot(slot) => self.pull_slot(caches, node, slot, frame, mapper),
+            _ => {
+                self.frames.zero(frame);
+                self.settle_in(caches, node, frame);
+                Ok(frame)
+            }
+        }
+    }
+
+    // The same for a page in a slot.
+    fn pull_slot<M: Mapper>(
+        &mut self,
+        caches: &mut Caches,
+        node: NodeId,
+        slot: SlotId,
+        frame: FrameId,
+        mapper: &mut M,
+    ) -> Result<FrameId, Miss>
+        requires right { IsStoreRight (world (M.held mapper.old) (M.page_bytes mapper.old) caches.old self.old) }
+        requires node { IsHeld caches.old node }
+        requires slot { own_of caches.old node ≡ OwnState.Slot slot }
+        requires taken { IsTaken (world (M.held mapper.old) (M.page_bytes mapper.old) caches.old self.old) frame.0 }
+        ensures still { StillBut frame.0 (world (M.held mapper.old) (M.page_bytes mapper.old) caches.old self.old) (world (M.held mapper.new) (M.page_bytes mapper.new) caches.new self.new) }
+        ensures home { IfOk result (λ f. (f.0 < length self.new.map) × (node_of self.new.map f.0 ≡ Some node)) }
+        ensures page { IfOk result (λ f. HoldsPage (own_of caches.old node) (M.given mapper.new) self.new.frames f.0) }
+        ensures others { OthersStayBut node caches.old caches.new }
+        ensures failed { OnErr result (caches.new ≡ caches.old) }
+        ensures pinned { self.new.frames.pinned ≡ slice_set self.old.frames.pinned frame.0 false }
+        ensures later { Later (M.counts mapper.old) (M.counts mapper.new) }
+        ensures made { Made 1 0 (M.counts mapper.old) (M.counts mapper.new) }
+        ensures filled { is_victim result ≡ false }
+        ensures cause { IfErr result (HasMissCause (M.counts mapper.old) (M.counts mapper.new)) }
+    {
+        match mapper.swap_in(slot, self.frames.bytes_mut(frame)) {
+            Ok(()) => {
+                self.slots.give_back(slot);
+                self.settle_in(caches, node, frame);
+                Ok(frame)
+            }
+            Err(_) => {
+                self.frames.unpin(frame);
+                self.frames.give_back(frame);
+                Err(Miss::Pull)
+            }
+        }
+    }
+
+    // The frame that its taker filled becomes the node's.
+    fn settle_in(&mut self, caches: &mut Caches, node: NodeId, frame: FrameId)
+        requires node { IsHeld caches.old node }
+        requires frame { frame.0 < length self.old.frames.held }
+        requires place { frame.0 < length self.old.map }
+        requires free { node_of self.old.map frame.0 ≡ None }
+        requires away { bound_times self.old.map node.0 ≡ 0 }
+        ensures caches { caches.new ≡ with_own caches.old node (OwnState.Resident true) }
+        ensures store { self.new ≡ record self.old { frames = record self.old.frames { pinned = slice_set self.old.frames.pinned frame.0 false }; map = slice_set self.old.map frame.0 (Some node) } }
+    {
+        caches.set_state(node, OwnState::Resident { dirty: true });
+        self.map.bind(node, frame);
+        self.frames.unpin(frame);
+    }
+
+    /// Evicts so many pages, or all whose frames aren't pinned where they are fewer. It ends at the first push that fails.
+    pub fn page_out<M: Mapper, C: Chooser>(
+        &mut self,
+        caches: &mut Caches,
+        count: u32,
+        mapper: &mut M,
+        chooser: &mut C,
+    ) -> Result<(), Failed>
+        requires right { IsStoreRight (world (M.held mapper.old) (M.page_bytes mapper.old) caches.old self.old) }
+        ensures still { Still (world (M.held mapper.old) (M.page_bytes mapper.old) caches.old self.old) (world (M.held mapper.new) (M.page_bytes mapper.new) caches.new self.new) }
+        ensures fewer { OnOk result (held_count self.new.frames + min count (held_count self.old.frames - pinned_count self.old.frames) ≡ held_count self.old.frames) }
+        ensures pinned { self.new.frames.pinned ≡ self.old.frames.pinned }
+        ensures others { OthersStay caches.old caches.new }
+        ensures later { Later (M.counts mapper.old) (M.counts mapper.new) }
+        ensures pulls { RoseBy 0 (M.counts mapper.old).pulls (M.counts mapper.new).pulls }
+        ensures pushes { OnOk result (RoseBy (min count (held_count self.old.frames - pinned_count self.old.frames)) (M.counts mapper.old).pushes (M.counts mapper.new).pushes) }
+        ensures cause { OnErr result (PushFailed (M.counts mapper.old) (M.counts mapper.new)) }
+    {
+        for done in 0..count {
+            if !any_evictable(&self.frames) {
+                return Ok(());
+            }
+            let victim = self.marks.pick(&self.frames, chooser);
+            self.evict(caches, victim, mapper)?;
+        }
+        Ok(())
+    }
+}
