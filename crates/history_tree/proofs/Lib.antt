@@ -1,0 +1,5 @@
+pub mod Children
+pub mod Hang
+pub mod Inheriting
+pub mod OneNode
+pub mod Upward

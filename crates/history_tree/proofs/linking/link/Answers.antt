@@ -1,0 +1,61 @@
+use Rattle.std.proofs.Common.{◌≡◌, List, [], ◌∷◌, Some, None, sym, ap, subst, ◌∙◌, slice_get, refl, inl}
+use Rattle.vm_ids.specs.declared.numbers.NodeId.{NodeId}
+use Rattle.local_cache.specs.Arena.{Arena, IsHeld, cell, find, with_working}
+use Rattle.local_cache.specs.Reading.{forest_of}
+use Rattle.local_cache.specs.Sound.{IsSound, ◌∈◌}
+use Rattle.history_tree.specs.Hanging.{set_one, set_two, IsGrown}
+use Rattle.history_tree.proofs.Hang.{CanLink, Linked, links-first, links-more}
+use Rattle.history_tree.proofs.linking.link.Goals as goal
+
+none_there : (ts : List NodeId) → None ≡ slice_get ts 0 → ts ≡ []
+none_there [] e = refl
+none_there (t ∷ ts) e = absurd (cc e)
+
+rest_of : (ts : List NodeId) (h : NodeId) → Some h ≡ slice_get ts 0 → (rest : List NodeId) × (ts ≡ h ∷ rest)
+rest_of [] h e = absurd (cc e)
+rest_of (t ∷ ts) h e = (ts, let same : h ≡ t = cc e in ap (λ k. k ∷ ts) (sym same))
+
+first_child : (a : Arena) (s : NodeId) (h : NodeId) → IsSound a → IsHeld a s → Some h ≡ slice_get (cell a s).tree 0 → IsHeld a h
+first_child a s h sound hs e = let r = rest_of (cell a s).tree h e in sound.children s h hs (subst (λ ts. h ∈ ts) (sym r.1) (inl refl))
+
+pub put_between-requires-clause-h : goal.put_between-requires-clause-h
+put_between-requires-clause-h c = first_child c.args.caches.now c.args.s c.in-Some.h c.requires.sound c.requires.s c.in-Some.ensures
+
+pub returns-in-None-clause-forest : goal.returns-in-None-clause-forest
+returns-in-None-clause-forest c =
+    let r = c.requires in
+    let can : CanLink c.args.caches.now c.args.d c.args.s = record { sound = r.sound; held_d = r.d; held_s = r.s; bare = r.bare; live = r.live; apart = r.apart } in
+    ap forest_of c.hang_one.ensures.changed ∙ (links-first c.args.caches.now c.args.d c.args.s can (none_there _ c.in-None.ensures)).forest
+
+pub returns-in-None-clause-sound : goal.returns-in-None-clause-sound
+returns-in-None-clause-sound c =
+    let r = c.requires in
+    let can : CanLink c.args.caches.now c.args.d c.args.s = record { sound = r.sound; held_d = r.d; held_s = r.s; bare = r.bare; live = r.live; apart = r.apart } in
+    subst IsSound (sym c.hang_one.ensures.changed) (links-first c.args.caches.now c.args.d c.args.s can (none_there _ c.in-None.ensures)).sound
+
+more : (a b : Arena) (d s w h : NodeId) → CanLink a d s → Some h ≡ slice_get (cell a s).tree 0 → find a w ≡ None → b ≡ set_two (set_one (with_working a w) s w) w h d → Linked a b d s
+more a b d s w h can e free is = let r = rest_of (cell a s).tree h e in subst (λ x. Linked a x d s) (sym is) (links-more a d s w h r.0 can r.1 free)
+
+pub returns-in-Some-clause-forest : goal.returns-in-Some-clause-forest
+returns-in-Some-clause-forest c =
+    let r = c.requires in
+    let can : CanLink c.args.caches.now c.args.d c.args.s = record { sound = r.sound; held_d = r.d; held_s = r.s; bare = r.bare; live = r.live; apart = r.apart } in
+    (more c.args.caches.now _ c.args.d c.args.s _ c.in-Some.h can c.in-Some.ensures c.put_between.ensures.fresh c.put_between.ensures.changed).forest
+
+pub returns-in-Some-clause-sound : goal.returns-in-Some-clause-sound
+returns-in-Some-clause-sound c =
+    let r = c.requires in
+    let can : CanLink c.args.caches.now c.args.d c.args.s = record { sound = r.sound; held_d = r.d; held_s = r.s; bare = r.bare; live = r.live; apart = r.apart } in
+    (more c.args.caches.now _ c.args.d c.args.s _ c.in-Some.h can c.in-Some.ensures c.put_between.ensures.fresh c.put_between.ensures.changed).sound
+
+pub returns-in-None-clause-grown : goal.returns-in-None-clause-grown
+returns-in-None-clause-grown c =
+    let r = c.requires in
+    let can : CanLink c.args.caches.now c.args.d c.args.s = record { sound = r.sound; held_d = r.d; held_s = r.s; bare = r.bare; live = r.live; apart = r.apart } in
+    subst (IsGrown c.args.caches.now) (sym c.hang_one.ensures.changed) (links-first c.args.caches.now c.args.d c.args.s can (none_there _ c.in-None.ensures)).grown
+
+pub returns-in-Some-clause-grown : goal.returns-in-Some-clause-grown
+returns-in-Some-clause-grown c =
+    let r = c.requires in
+    let can : CanLink c.args.caches.now c.args.d c.args.s = record { sound = r.sound; held_d = r.d; held_s = r.s; bare = r.bare; live = r.live; apart = r.apart } in
+    (more c.args.caches.now _ c.args.d c.args.s _ c.in-Some.h can c.in-Some.ensures c.put_between.ensures.fresh c.put_between.ensures.changed).grown

@@ -1,0 +1,27 @@
+-- What the steps of `link` do to the caches, node by node.
+use Rattle.std.specs.Prelude.{◌≡◌, ◌+◌, ◌≤◌, [], ◌∷◌, false, Some}
+use Rattle.vm_ids.specs.declared.numbers.NodeId.{NodeId}
+use Rattle.local_cache.specs.Arena.{Arena, cell, IsHeld, with_links, with_tree}
+use Rattle.local_cache.specs.Reading.{name_of}
+
+-- n hangs on p by a tree link
+abbrev pub hung : Arena → NodeId → NodeId → Arena
+hung a n p = with_links a n (record (cell a n).links { parent = Some p; by_stub = false })
+
+-- x is the only tree child of p
+abbrev pub set_one : Arena → NodeId → NodeId → Arena
+set_one a p x = hung (with_tree a p (x ∷ [])) x p
+
+-- x and y are the tree children of p
+abbrev pub set_two : Arena → NodeId → NodeId → NodeId → Arena
+set_two a p x y = hung (hung (with_tree a p (x ∷ y ∷ [])) y p) x p
+
+-- All nodes that were there are there still under their numbers and names, and so are the tables. At most one node was
+-- made.
+pub record IsGrown (a b : Arena) : Type 0 where
+  pub held : (n : NodeId) → IsHeld a n → IsHeld b n
+  pub names : (n : NodeId) → IsHeld a n → name_of b n ≡ name_of a n
+  pub tables : b.caches ≡ a.caches
+  pub nodes : a.room.nodes ≤ b.room.nodes + 1
+  pub caches : b.room.caches ≡ a.room.caches
+  pub entries : b.room.entries ≡ a.room.entries

@@ -1,0 +1,252 @@
+-- Handing stubs over is the rule of the forest.
+use Rattle.std.proofs.Common.{◌≡◌, ◌≢◌, ◌⊎◌, ◌<◌, ◌++◌, ℕ, List, [], ◌∷◌, map, true, Some, None, refl, sym, ap, ◌∙◌, subst, inl, inr}
+use Rattle.std.proofs.lemmas.List.{map-append}
+use Rattle.vm_ids.specs.declared.node_name.NodeName.{NodeName}
+use Rattle.vm_ids.specs.declared.numbers.NodeId.{NodeId}
+use Rattle.vm_ids.specs.Forest.NameLists as names
+use Rattle.vm_ids.specs.Forest.Nodes.{Forest, node, parent_of, IsNode}
+use Rattle.vm_ids.specs.Forest.Nodes.Hang.{StubOf}
+use Rattle.vm_ids.specs.Forest.Shape.{IsLinked, IsRanked}
+use Rattle.vm_ids.specs.Forest.Rules.{hand_stubs}
+use Rattle.vm_ids.proofs.Forest.Names.{name_cases}
+use Rattle.vm_ids.proofs.Forest.NameLists.{in_append, append_in, in_cases, Once-append}
+use Rattle.vm_ids.proofs.Forest.Columns.{hand_stubs-own, hand_stubs-tree, hand_stubs-hang, hand_stubs-hang_other, hand_stubs-stubs_from, hand_stubs-stubs_to, hand_stubs-stubs_other}
+use Rattle.vm_ids.proofs.Forest.Counters.{hand_stubs-counters}
+use Rattle.vm_ids.proofs.Forest.NamesAfter.{hand_stubs-names}
+use Rattle.local_cache.specs.declared.own_state.OwnState.{OwnState}
+use Rattle.local_cache.specs.Arena.{Arena, cell, IsHeld}
+use Rattle.local_cache.specs.Reading.{name_of, forest_of, hang_by, stubs_of, page_of}
+use Rattle.local_cache.specs.Threads.{IsThreaded}
+use Rattle.local_cache.specs.Sound.{IsSound, IsKept, ◌∈◌}
+use Rattle.local_cache.specs.Changes.{Relinked, Once}
+use Rattle.local_cache.proofs.Threads.{threaded_is, row-each}
+use Rattle.local_cache.proofs.Changes.{id_cases, forest_of-made, forest_of-copies}
+use Rattle.local_cache.proofs.Edit.{kept_of}
+use Rattle.local_cache.proofs.Reading.{node-forest_of, IsNode-forest_of}
+use Rattle.local_cache.proofs.Rule.{Follows, follows-forest, follows-sound}
+use Rattle.page_stubs.specs.Under.{IsUnder}
+use Rattle.page_stubs.proofs.CutRule.{once-map, in_map, map-in}
+use Rattle.page_stubs.proofs.Joining.{Joined, in_ids, threaded_to, threaded_from, threaded_other}
+use Rattle.page_stubs.proofs.Ranks.{raised, raised-ranked, raised-above}
+
+-- The shape -------------------------------------------------------------------------
+
+module _ {P : Type 0} (f : Forest P) (linked : IsLinked f) (x h : NodeName) (apart : h ≢ x) where
+  -- a node is handed over, or hangs as before
+  cases : (y : NodeName) → (names.◌∈◌ y (node f x).stubs × ((node f y).hang ≡ StubOf x) × ((node (hand_stubs f x h) y).hang ≡ StubOf h))
+      ⊎ ((names.◌∈◌ y (node f x).stubs → ⊥) × ((node (hand_stubs f x h) y).hang ≡ (node f y).hang))
+  cases y = elim (in_cases (node f x).stubs y) [
+    | inl i ↦ inl (i, (linked.stub_links y x).0 i, hand_stubs-hang f x h y i)
+    | inr out ↦ inr (out, hand_stubs-hang_other f x h y out)
+  ]
+
+  -- the list of a node: that of x, that of h, or another
+  abbrev ListIs : NodeName → Type 0
+  ListIs p = ((p ≡ x) × ((node (hand_stubs f x h) p).stubs ≡ []))
+      ⊎ (((p ≡ h) × ((node (hand_stubs f x h) p).stubs ≡ (node f h).stubs ++ (node f x).stubs))
+      ⊎ ((p ≢ x) × (p ≢ h) × ((node (hand_stubs f x h) p).stubs ≡ (node f p).stubs)))
+
+  list_is : (p : NodeName) → ListIs p
+  list_is p = elim (name_cases p x) [
+    | inl e ↦ inl (e, ap (λ z. (node (hand_stubs f x h) z).stubs) e ∙ hand_stubs-stubs_from f x h)
+    | inr not_x ↦ elim (name_cases p h) [
+      | inl e ↦ inr (inl (e, ap (λ z. (node (hand_stubs f x h) z).stubs) e ∙ hand_stubs-stubs_to f x h apart))
+      | inr not_h ↦ inr (inr (not_x, not_h, hand_stubs-stubs_other f x h p not_x not_h))
+    ]
+  ]
+
+  listed : (y p : NodeName) → names.◌∈◌ y (node (hand_stubs f x h) p).stubs → (node (hand_stubs f x h) y).hang ≡ StubOf p
+  listed y p i = elim (list_is p) [
+    | inl k ↦ absurd (subst (λ zs. names.◌∈◌ y zs) k.1 i)
+    | inr c ↦ elim c [
+      | inl k ↦ elim (in_append _ _ y (subst (λ zs. names.◌∈◌ y zs) k.1 i)) [
+        | inl j ↦ elim (cases y) [ inl q ↦ q.2 ∙ ap StubOf (sym k.0) | inr q ↦ q.1 ∙ (linked.stub_links y h).0 j ∙ ap StubOf (sym k.0) ]
+        | inr j ↦ hand_stubs-hang f x h y j ∙ ap StubOf (sym k.0)
+      ]
+      | inr k ↦
+          let old = (linked.stub_links y p).0 (subst (λ zs. names.◌∈◌ y zs) k.2 i) in
+          elim (cases y) [ inl q ↦ absurd (k.0 (cc (old, q.1))) | inr q ↦ q.1 ∙ old ]
+    ]
+  ]
+
+  in_list : (y p : NodeName) → (node (hand_stubs f x h) y).hang ≡ StubOf p → names.◌∈◌ y (node (hand_stubs f x h) p).stubs
+  in_list y p e = elim (cases y) [
+    | inl q ↦
+        let p_is : h ≡ p = cc (e, q.2) in
+        subst (λ z. names.◌∈◌ y (node (hand_stubs f x h) z).stubs) p_is (subst (λ zs. names.◌∈◌ y zs) (sym (hand_stubs-stubs_to f x h apart)) (append_in _ _ y (inr q.0)))
+    | inr q ↦
+        let old = (linked.stub_links y p).1 (sym q.1 ∙ e) in
+        elim (list_is p) [
+          | inl k ↦ absurd (q.0 (subst (λ z. names.◌∈◌ y (node f z).stubs) k.0 old))
+          | inr c ↦ elim c [
+            | inl k ↦ subst (λ zs. names.◌∈◌ y zs) (sym k.1) (append_in _ _ y (inl (subst (λ z. names.◌∈◌ y (node f z).stubs) k.0 old)))
+            | inr k ↦ subst (λ zs. names.◌∈◌ y zs) (sym k.2) old
+          ]
+        ]
+  ]
+
+  once_listed : (p : NodeName) → names.Once (node (hand_stubs f x h) p).stubs
+  once_listed p = elim (list_is p) [
+    | inl k ↦ subst names.Once (sym k.1) tt
+    | inr c ↦ elim c [
+      | inl k ↦ subst names.Once (sym k.1) (Once-append _ _ (linked.once h).1 (linked.once x).1 (λ z i j. apart (cc ((linked.stub_links z h).0 i, (linked.stub_links z x).0 j))))
+      | inr k ↦ subst names.Once (sym k.2) (linked.once p).1
+    ]
+  ]
+
+  module _ (clear : (y : NodeName) → names.◌∈◌ y (node f x).stubs → IsUnder f h y → ⊥) where
+    rank : NodeName → ℕ
+    rank = raised f linked.order.0 linked.order.1 (λ y. names.◌∈◌ y (node f x).stubs) (in_cases (node f x).stubs) h
+
+    ranked : IsRanked (hand_stubs f x h) rank
+    unfolding rank
+    ranked y p up = elim (cases y) [
+      | inl q ↦
+          let p_is : h ≡ p = cc (ap parent_of (sym q.2) ∙ up) in
+          subst (λ z. rank z < rank y) p_is (raised-above f linked.order.0 linked.order.1 (λ y. names.◌∈◌ y (node f x).stubs) (in_cases (node f x).stubs) h y (λ m. clear m.0 m.1 m.2) q.0)
+      | inr q ↦ raised-ranked f linked.order.0 linked.order.1 (λ y. names.◌∈◌ y (node f x).stubs) (in_cases (node f x).stubs) h y p (ap parent_of (sym q.1) ∙ up)
+    ]
+
+    pub handed-linked : IsLinked (hand_stubs f x h)
+    handed-linked = record {
+      order = (rank, ranked);
+      few = λ y. rw (hand_stubs-tree f x h y) (linked.few y);
+      stub_bare = λ y p e. hand_stubs-own f x h y ∙ elim (cases y) [
+        | inl q ↦ linked.stub_bare y x q.1
+        | inr q ↦ linked.stub_bare y p (sym q.1 ∙ e)
+      ];
+      tree_links = λ y p. (
+        λ i. let e = (linked.tree_links y p).0 (subst (λ zs. names.◌∈◌ y zs) (hand_stubs-tree f x h p) i) in
+            elim (cases y) [ inl q ↦ absurd (cc (e, q.1)) | inr q ↦ q.1 ∙ e ],
+        λ e. subst (λ zs. names.◌∈◌ y zs) (sym (hand_stubs-tree f x h p)) (elim (cases y) [
+          | inl q ↦ absurd (cc (e, q.2))
+          | inr q ↦ (linked.tree_links y p).1 (sym q.1 ∙ e)
+        ]),
+      );
+      stub_links = λ y p. (listed y p, in_list y p);
+      once = λ y. (subst names.Once (sym (hand_stubs-tree f x h y)) (linked.once y).0, once_listed y);
+    }
+
+-- The caches ------------------------------------------------------------------------
+
+-- the names of a node's stubs stand once
+pub once_stubs : (a : Arena) → IsKept a → IsLinked (forest_of a) → (n : NodeId) → IsHeld a n → Once (stubs_of a n)
+once_stubs a kept linked n h = once-map a (stubs_of a n) (subst names.Once (ap (λ m. m.stubs) (node-forest_of a kept.named n h)) (linked.once (name_of a n)).1)
+
+pub record HasHanded (a c : Arena) (from to : NodeId) : Type 0 where
+  pub forest : forest_of c ≡ hand_stubs (forest_of a) (name_of a from) (name_of a to)
+  pub sound : IsSound c
+  pub links : Relinked a c
+
+module _ (a c : Arena) (sound : IsSound a) (from to : NodeId) (hf : IsHeld a from) (ht : IsHeld a to) (apart : to ≢ from)
+    (clear : (y : NodeName) → names.◌∈◌ y (node (forest_of a) (name_of a from)).stubs → IsUnder (forest_of a) (name_of a to) y → ⊥)
+    (join : Joined a c from to (stubs_of a from) (stubs_of a to)) where
+  abbrev f : Forest OwnState
+  f = forest_of a
+
+  abbrev x : NodeName
+  x = name_of a from
+
+  abbrev h : NodeName
+  h = name_of a to
+
+  kept : IsKept a
+  kept = kept_of a sound
+
+  names_apart : h ≢ x
+  names_apart e = apart (sound.named.apart to from ht hf e)
+
+  ids_from : (node f x).stubs ≡ map (name_of a) (stubs_of a from)
+  ids_from = ap (λ m. m.stubs) (node-forest_of a sound.named from hf)
+
+  ids_to : (node f h).stubs ≡ map (name_of a) (stubs_of a to)
+  ids_to = ap (λ m. m.stubs) (node-forest_of a sound.named to ht)
+
+  each : (m : NodeId) → m ∈ stubs_of a from → IsHeld a m × ((cell a m).links.parent ≡ Some from) × ((cell a m).links.by_stub ≡ true)
+  each m i = row-each a from None (stubs_of a from) None (sound.threaded from hf).row m i
+
+  once_from : Once (stubs_of a from)
+  once_from = once_stubs a kept sound.linked from hf
+
+  once_to : Once (stubs_of a to)
+  once_to = once_stubs a kept sound.linked to ht
+
+  list_to : IsThreaded c to (stubs_of a to ++ stubs_of a from)
+  list_to = threaded_to a c from to apart (stubs_of a from) (stubs_of a to) (sound.threaded from hf) (sound.threaded to ht) once_from once_to join
+
+  list_from : IsThreaded c from []
+  list_from = threaded_from a c from to apart (stubs_of a from) (stubs_of a to) (sound.threaded from hf) (sound.threaded to ht) once_from once_to join
+
+  list_other : (m : NodeId) → IsHeld a m → m ≢ to → m ≢ from → IsThreaded c m (stubs_of a m)
+  list_other m hm nt nf = threaded_other a c from to apart (stubs_of a from) (stubs_of a to) (sound.threaded from hf) (sound.threaded to ht) once_from once_to join m (stubs_of a m) nt nf (sound.threaded m hm)
+
+  by_list : (m : NodeId) (us : List NodeId) → IsThreaded c m us → IsThreaded c m (stubs_of c m)
+  by_list m us t = subst (IsThreaded c m) (sym (threaded_is c m us t)) t
+
+  lists : (m : NodeId) → IsHeld a m → IsThreaded c m (stubs_of c m)
+  lists m hm = elim (id_cases m to) [
+    | inl e ↦ subst (λ k. IsThreaded c k (stubs_of c k)) (sym e) (by_list to _ list_to)
+    | inr nt ↦ elim (id_cases m from) [
+      | inl e ↦ subst (λ k. IsThreaded c k (stubs_of c k)) (sym e) (by_list from _ list_from)
+      | inr nf ↦ by_list m _ (list_other m hm nt nf)
+    ]
+  ]
+
+  abbrev StubsAre : NodeId → Type 0
+  StubsAre m = (node (hand_stubs f x h) (name_of a m)).stubs ≡ map (name_of a) (stubs_of c m)
+
+  stubs_column : (m : NodeId) → IsHeld a m → StubsAre m
+  stubs_column m hm = elim (id_cases m to) [
+    | inl e ↦ subst StubsAre (sym e)
+        (hand_stubs-stubs_to f x h names_apart ∙ (λ i. ids_to i ++ ids_from i) ∙ sym (map-append (name_of a) (stubs_of a to) (stubs_of a from)) ∙ ap (map (name_of a)) (sym (threaded_is c to _ list_to)))
+    | inr nt ↦ elim (id_cases m from) [
+      | inl e ↦ subst StubsAre (sym e) (hand_stubs-stubs_from f x h ∙ ap (map (name_of a)) (sym (threaded_is c from _ list_from)))
+      | inr nf ↦ hand_stubs-stubs_other f x h (name_of a m) (λ e. nf (sound.named.apart m from hm hf e)) (λ e. nt (sound.named.apart m to hm ht e))
+          ∙ ap (λ k. k.stubs) (node-forest_of a sound.named m hm)
+          ∙ ap (map (name_of a)) (sym (threaded_is c m _ (list_other m hm nt nf)))
+    ]
+  ]
+
+  hang_column : (m : NodeId) → IsHeld a m → (node (hand_stubs f x h) (name_of a m)).hang ≡ hang_by a (cell c m).links.parent (cell c m).links.by_stub
+  hang_column m hm = elim (in_ids (stubs_of a from) m) [
+    | inl i ↦ hand_stubs-hang f x h (name_of a m) (subst (λ zs. names.◌∈◌ (name_of a m) zs) (sym ids_from) (in_map a (stubs_of a from) m i))
+        ∙ sym (ap (λ o. hang_by a o (cell c m).links.by_stub) (join.parent_in m i) ∙ ap (hang_by a (Some to)) (join.by_stub m ∙ (each m i).2))
+    | inr out ↦ hand_stubs-hang_other f x h (name_of a m) (λ i. out (map-in a kept m hm (stubs_of a from) (λ k j. (each k j).0) (subst (λ zs. names.◌∈◌ (name_of a m) zs) ids_from i)))
+        ∙ ap (λ k. k.hang) (node-forest_of a sound.named m hm)
+        ∙ sym (ap (λ o. hang_by a o (cell c m).links.by_stub) (join.parent_out m out) ∙ ap (hang_by a (cell a m).links.parent) (join.by_stub m))
+  ]
+
+  rule : Follows a c (hand_stubs f x h) (stubs_of c)
+  rule = record {
+    like = join.links.like;
+    same_made = join.links.made;
+    made = sym ((hand_stubs-counters f x h).made ∙ forest_of-made a ∙ join.links.made);
+    copies = sym ((hand_stubs-counters f x h).copies ∙ forest_of-copies a ∙ join.links.copies);
+    names = hand_stubs-names f sound.linked x h (IsNode-forest_of a sound.named from hf) (IsNode-forest_of a sound.named to ht) (λ y i. is_node y (subst (λ zs. names.◌∈◌ y zs) ids_from i));
+    threaded = lists;
+    own = λ m hm. hand_stubs-own f x h (name_of a m) ∙ ap (λ k. k.own) (node-forest_of a sound.named m hm) ∙ ap page_of (sym (join.links.own m));
+    hang = hang_column;
+    tree = λ m hm. hand_stubs-tree f x h (name_of a m) ∙ ap (λ k. k.tree) (node-forest_of a sound.named m hm) ∙ ap (map (name_of a)) (sym (join.links.tree m));
+    stubs = stubs_column;
+    parents = λ m q hm up. elim (in_ids (stubs_of a from) m) [
+      | inl i ↦ (let two : Some to ≡ Some q = sym (join.parent_in m i) ∙ up in let same : to ≡ q = cc two in subst (IsHeld a) same ht)
+      | inr out ↦ sound.parents m q hm (sym (join.parent_out m out) ∙ up)
+    ];
+    children = λ m k hm i. sound.children m k hm (subst (λ ts. k ∈ ts) (join.links.tree m) i);
+    linked = handed-linked f sound.linked x h names_apart clear;
+  }
+    where
+      from_map : (ys : List NodeId) → ((m : NodeId) → m ∈ ys → IsHeld a m) → (y : NodeName) → names.◌∈◌ y (map (name_of a) ys) → IsNode f y
+      from_map [] all y i = absurd i
+      from_map (z ∷ ys) all y (inl e) = subst (IsNode f) (sym e) (IsNode-forest_of a sound.named z (all z (inl refl)))
+      from_map (z ∷ ys) all y (inr i) = from_map ys (λ m j. all m (inr j)) y i
+
+      is_node : (y : NodeName) → names.◌∈◌ y (map (name_of a) (stubs_of a from)) → IsNode f y
+      is_node y i = from_map (stubs_of a from) (λ m j. (each m j).0) y i
+
+  pub hands : HasHanded a c from to
+  hands = record {
+    forest = follows-forest a c sound.named (hand_stubs f x h) (stubs_of c) rule;
+    sound = follows-sound a c sound.named (hand_stubs f x h) (stubs_of c) rule sound.listed;
+    links = join.links;
+  }

@@ -1,0 +1,11 @@
+pub mod Add
+pub mod Cut
+pub mod CutRule
+pub mod Exchange
+pub mod ExchangeRule
+pub mod Hand
+pub mod HandRule
+pub mod Joining
+pub mod Links
+pub mod Ranks
+pub mod Room

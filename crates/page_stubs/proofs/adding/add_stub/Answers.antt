@@ -1,0 +1,40 @@
+use Rattle.std.proofs.Common.{sym, ap, subst, ◌∙◌, arith}
+use Rattle.local_cache.specs.Reading.{forest_of, name_of}
+use Rattle.local_cache.specs.Sound.{IsSound}
+use Rattle.local_cache.specs.Changes.{Relinked}
+use Rattle.local_cache.proofs.Edit.{kept_of}
+use Rattle.local_cache.proofs.Reading.{IsNode-forest_of}
+use Rattle.page_stubs.proofs.Room.{room-added, one_more_fits, count_is}
+use Rattle.page_stubs.proofs.Add.{last_held, adds, forest_is, sound_after}
+use Rattle.page_stubs.proofs.adding.add_stub.Goals as goal
+
+pub thread_last-requires-clause-last : goal.thread_last-requires-clause-last
+thread_last-requires-clause-last c = let r = c.requires in last_held c.args.caches.now r.sound c.args.d c.args.s r.d r.s r.bare r.apart
+
+pub returns-clause-forest : goal.returns-clause-forest
+returns-clause-forest c =
+    let r = c.requires in
+    let a = c.args.caches.now in
+    ap forest_of c.thread_last.ensures ∙ forest_is a r.sound c.args.d c.args.s r.d r.s r.bare r.apart _ (adds a r.sound c.args.d c.args.s r.d r.s r.bare r.apart)
+
+pub returns-clause-sound : goal.returns-clause-sound
+returns-clause-sound c =
+    let r = c.requires in
+    let a = c.args.caches.now in
+    subst IsSound (sym c.thread_last.ensures) (sound_after a r.sound c.args.d c.args.s r.d r.s r.bare r.apart _ (adds a r.sound c.args.d c.args.s r.d r.s r.bare r.apart))
+
+pub thread_last-requires-clause-few : goal.thread_last-requires-clause-few
+thread_last-requires-clause-few c =
+    let r = c.requires in
+    let a = c.args.caches.now in
+    let fits = one_more_fits (forest_of a) r.sound.linked (name_of a c.args.d) (name_of a c.args.s) (IsNode-forest_of a r.sound.named c.args.d r.d) (ap (λ n. n.hang) r.bare) in
+    omega (arith, count_is a (kept_of a r.sound) c.args.s r.s, fits, r.few)
+
+pub returns-clause-links : goal.returns-clause-links
+returns-clause-links c =
+    let r = c.requires in
+    let a = c.args.caches.now in
+    subst (Relinked a) (sym c.thread_last.ensures) (adds a r.sound c.args.d c.args.s r.d r.s r.bare r.apart).relinked
+
+pub returns-clause-room : goal.returns-clause-room
+returns-clause-room c = ap (λ b. b.room) c.thread_last.ensures ∙ room-added c.args.caches.now c.args.d c.args.s _

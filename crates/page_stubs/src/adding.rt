@@ -1,0 +1,63 @@
+// A stub is added at the end of a list.
+ghost use Rattle.std.specs.Prelude.{◌≡◌, ◌≢◌, ◌<◌, ◌-◌, ◌^◌, None};
+ghost use Rattle.vm_ids.specs.Forest.NameMap.{len};
+ghost use Rattle.vm_ids.specs.Forest.Nodes.{node, childless};
+ghost use Rattle.vm_ids.specs.Forest.Nodes.Hang.{Root};
+ghost use Rattle.vm_ids.specs.Forest.Rules.{stub};
+ghost use Rattle.local_cache.specs.Arena.{IsHeld, cell};
+ghost use Rattle.local_cache.specs.Changes.{Relinked};
+ghost use Rattle.local_cache.specs.Reading.{name_of, forest_of};
+ghost use Rattle.local_cache.specs.Sound.{IsSound};
+ghost use Rattle.page_stubs.specs.Threading.{IsHeldIf, added};
+
+use crate::threading::set_behind;
+use local_cache::{Caches, Links};
+use vm_ids::NodeId;
+
+// d, which has no parent, is hung on s behind the last of its stubs.
+fn thread_last(caches: &mut Caches, d: NodeId, s: NodeId)
+    requires d { IsHeld caches.old d }
+    requires s { IsHeld caches.old s }
+    requires last { IsHeldIf caches.old (cell caches.old s).links.last }
+    requires few { (cell caches.old s).links.stubs < 2 ^ 32 - 1 }
+    ensures { caches.new ≡ added caches.old d s (cell caches.old s).links.last }
+{
+    let to = caches.links(s);
+    let own = caches.links(d);
+    caches.set_links(
+        d,
+        Links {
+            parent: Some(s),
+            by_stub: true,
+            before: to.last,
+            behind: None,
+            ..own
+        },
+    );
+    set_behind(caches, to.last, Some(d));
+    caches.set_links(
+        s,
+        Links {
+            first: to.first.or(Some(d)),
+            last: Some(d),
+            stubs: to.stubs + 1,
+            ..to
+        },
+    );
+}
+
+/// The node `d`, which has no own page, parent and children, becomes the last stub of `s`.
+pub fn add_stub(caches: &mut Caches, d: NodeId, s: NodeId)
+    requires sound { IsSound caches.old }
+    requires d { IsHeld caches.old d }
+    requires s { IsHeld caches.old s }
+    requires bare { node (forest_of caches.old) (name_of caches.old d) ≡ childless None Root }
+    requires apart { d ≢ s }
+    requires few { len (forest_of caches.old).nodes < 2 ^ 32 }
+    ensures forest { forest_of caches.new ≡ stub (forest_of caches.old) (name_of caches.old d) (name_of caches.old s) }
+    ensures sound { IsSound caches.new }
+    ensures links { Relinked caches.old caches.new }
+    ensures room { caches.new.room ≡ caches.old.room }
+{
+    thread_last(caches, d, s);
+}

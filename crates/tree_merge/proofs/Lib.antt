@@ -1,0 +1,14 @@
+mod Staying
+mod Lists
+mod CutTree
+mod TreePlace
+mod Cut
+mod ChildNames
+mod Gone
+mod Retired
+mod Detached
+mod Pass
+mod Placing
+mod Settle
+mod Making
+mod Rows

@@ -1,0 +1,3 @@
+pub mod Releasing
+pub mod Staying
+pub mod TreeLists

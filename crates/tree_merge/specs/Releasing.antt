@@ -1,0 +1,58 @@
+-- What a call releases, and which own states the nodes have then.
+use Rattle.std.specs.Prelude.{◌≡◌, ◌≢◌, ◌<◌, ◌==◌, ◌&&◌, cond, not, Option, Some, None, slice_get}
+use Rattle.std.specs.Option.{option_or}
+use Rattle.vm_ids.specs.declared.node_name.NodeName.{NodeName}
+use Rattle.vm_ids.specs.declared.numbers.NodeId.{NodeId}
+use Rattle.vm_ids.specs.Forest.Nodes.{child_count}
+use Rattle.vm_ids.specs.Forest.Settling.{settle_step, thin}
+use Rattle.local_cache.specs.declared.own_state.OwnState.{OwnState}
+use Rattle.local_cache.specs.Arena.{Arena, as_working, cell, find, IsHeld, with_new}
+use Rattle.local_cache.specs.Own.{is_absent, own_of}
+use Rattle.local_cache.specs.Reading.{forest_of, name_of}
+use Rattle.tree_merge.specs.declared.released.Released.{Released}
+use Rattle.tree_merge.specs.declared.released.Released.TheVariants.{Nothing, Dropped, Moved}
+use Rattle.tree_merge.specs.Staying.{IsGone}
+
+-- the own state of a node after what was released
+abbrev pub own_after : Arena → Released → NodeId → OwnState
+own_after a Nothing m = own_of a m
+own_after a (Dropped n s) m = own_of a m
+own_after a (Moved from to) m = cond (m.0 == to.0) (own_of a from) (own_of a m)
+
+-- All nodes but n have the own states that they had, and the one that took over that of n.
+abbrev pub OwnsAfter : Arena → Arena → NodeId → Released → Type 0
+OwnsAfter a b n released = (m : NodeId) → m ≢ n → own_of b m ≡ own_after a released m
+
+-- the first child of a node
+abbrev pub first_child : Arena → NodeId → Option NodeId
+first_child a n = option_or (slice_get (cell a n).tree 0) (cell a n).links.first
+
+-- What is released where n gives way to this child, or goes without one: its child takes its own page over where it has
+-- none, and else that page goes.
+abbrev pub released_to : Arena → NodeId → Option NodeId → Released
+released_to a n None = Dropped n (own_of a n)
+released_to a n (Some y) = cond (not (is_absent (own_of a n)) && is_absent (own_of a y)) (Moved n y) (Dropped n (own_of a n))
+
+-- The node n is retired: it is gone where it has no children, and its own page with it, and else it is a working node
+-- under the same number.
+pub record IsRetired (a b : Arena) (n : NodeId) (released : Released) : Type 0 where
+  pub leaf : child_count (forest_of a) (name_of a n) ≡ 0 → (released ≡ Dropped n (own_of a n)) × IsGone a b n × OwnsAfter a b n released
+  pub parent : 0 < child_count (forest_of a) (name_of a n) → (released ≡ Nothing) × (b ≡ as_working a n)
+
+-- The node n is retired, and then a fresh node has this name and own state.
+pub record IsDetached (a b : Arena) (n : NodeId) (x : NodeName) (s : OwnState) (released : Released) : Type 0 where
+  pub between : Arena
+  pub fresh : NodeId
+  pub retired : IsRetired a between n released
+  pub free : find between fresh ≡ None
+  pub is : b ≡ with_new between fresh x s
+
+-- One step of settle was done, at the thin node with the least number.
+pub record IsMerged (a b : Arena) (released : Released) : Type 0 where
+  pub node : NodeId
+  pub held : IsHeld a node
+  pub least : thin (forest_of a) ≡ Some (name_of a node)
+  pub forest : forest_of b ≡ settle_step (forest_of a) (name_of a node)
+  pub told : released ≡ released_to a node (first_child a node)
+  pub gone : IsGone a b node
+  pub owns : OwnsAfter a b node released

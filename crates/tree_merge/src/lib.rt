@@ -1,0 +1,26 @@
+//! Merging history trees: a page's node is detached from its tree, and working nodes that are no longer needed go.
+//!
+//! When a page is replaced or its cache goes, its node is retired: freed, or made a working node where other nodes
+//! still read through it. A working node that is left with fewer than two children has nothing to hold apart any more,
+//! and gives way to its child. So the history trees (Abrossimov, Rozier and Shapiro, SOSP 1989) stay no deeper and no
+//! larger than the copies that are there need.
+//!
+//! The model is that of the local caches: each call changes the page forest that is read off them by the rule of its
+//! name, and `Released` tells which node's frame or swap slot falls free or becomes another node's. This crate stands on
+//! `local_cache` and `page_stubs`, and its tests link copies by `history_tree`. It keeps no page itself.
+#![tactic(auto)]
+
+mod children;
+mod cutting;
+mod detaching;
+mod released;
+mod retiring;
+mod settling;
+mod tree_lists;
+
+pub use detaching::{detach, retire};
+pub use released::Released;
+pub use settling::settle_step;
+
+#[cfg(test)]
+mod tests;

@@ -1,0 +1,189 @@
+// A working node with fewer than two children gives way.
+ghost use Rattle.std.specs.Prelude.{◌≡◌, ◌≢◌, ◌<◌, ◌&&◌, not, true, false, Some, MatchOption};
+ghost use Rattle.vm_ids.specs.declared.numbers.NodeId.{NodeId};
+ghost use Rattle.vm_ids.specs.Forest.Changes.{cut as rule_cut, free as rule_free};
+ghost use Rattle.vm_ids.specs.Forest.Nodes.{child_count, node as node_named, parent as parent_named};
+ghost use Rattle.vm_ids.specs.Forest.Nodes.Hang.{Root};
+ghost use Rattle.vm_ids.specs.Forest.Laws.Settling.{IsSettled};
+ghost use Rattle.vm_ids.specs.Forest.Settling.{give_way as rule_give_way, pass_page as rule_pass_page, settle_step as rule_settle_step};
+ghost use Rattle.local_cache.specs.Arena.{IsHeld, cell};
+ghost use Rattle.local_cache.specs.Changes.{Like};
+ghost use Rattle.local_cache.specs.Own as own;
+ghost use Rattle.local_cache.specs.Own.{own_of};
+ghost use Rattle.local_cache.specs.Reading.{name_of, forest_of};
+ghost use Rattle.local_cache.specs.Sound.{IsSound};
+ghost use Rattle.tree_merge.specs.Releasing.{IsMerged, OwnsAfter, own_after, released_to};
+ghost use Rattle.tree_merge.specs.Releasing as spec;
+ghost use Rattle.tree_merge.specs.Staying.{HasNoChild, IsBelow, IsGone, Rehung, placed};
+
+use crate::Released;
+use crate::children::first_child;
+use crate::cutting::cut;
+use crate::retiring::drop_node;
+use crate::tree_lists::take_tree_place;
+use local_cache::{Caches, OwnState};
+use page_stubs::{cut_stub, take_place_of};
+use vm_ids::NodeId;
+
+fn is_absent(state: OwnState) -> bool
+    ensures { result ≡ own.is_absent state }
+{
+    matches!(state, OwnState::Absent)
+}
+
+// Whether a node with the first state passes its own page to a child with the second one.
+fn passes(from: OwnState, to: OwnState) -> bool
+    ensures { result ≡ (not (own.is_absent from) && own.is_absent to) }
+{
+    !is_absent(from) && is_absent(to)
+}
+
+// The child gets the node's own page, if the node has one and the child has none.
+fn pass_page(caches: &mut Caches, node: NodeId, child: NodeId) -> Released
+    requires sound { IsSound caches.old }
+    requires held { IsHeld caches.old node }
+    requires child { IsHeld caches.old child }
+    requires root { (node_named (forest_of caches.old) (name_of caches.old child)).hang ≡ Root }
+    ensures forest { forest_of caches.new ≡ rule_pass_page (forest_of caches.old) (name_of caches.old node) (name_of caches.old child) }
+    ensures sound { IsSound caches.new }
+    ensures released { result ≡ released_to caches.old node (Some child) }
+    ensures like { Like caches.old caches.new }
+    ensures owns { (m : NodeId) → own_of caches.new m ≡ own_after caches.old result m }
+    ensures counters { (caches.new.made ≡ caches.old.made) × (caches.new.copies ≡ caches.old.copies) }
+    ensures room { caches.new.room ≡ caches.old.room }
+{
+    let state = caches.own_state(node);
+    let other = caches.own_state(child);
+    if passes(state, other) {
+        caches.set_state(child, state);
+        Released::Moved(node, child)
+    } else {
+        Released::Dropped(node, state)
+    }
+}
+
+// The child, which has no parent, comes in the place of the stub `node`. Where it has an own page it stays without a
+// parent, and the node is cut off.
+fn put_for_stub(caches: &mut Caches, node: NodeId, child: NodeId, parent: NodeId)
+    requires sound { IsSound caches.old }
+    requires held { IsHeld caches.old node }
+    requires child { IsHeld caches.old child }
+    requires parent { (cell caches.old node).links.parent ≡ Some parent }
+    requires by_stub { (cell caches.old node).links.by_stub ≡ true }
+    requires root { (node_named (forest_of caches.old) (name_of caches.old child)).hang ≡ Root }
+    requires below { IsBelow (forest_of caches.old) (name_of caches.old node) (name_of caches.old child) }
+    ensures forest { forest_of caches.new ≡ placed (forest_of caches.old) (name_of caches.old node) (name_of caches.old child) }
+    ensures sound { IsSound caches.new }
+    ensures rehung { Rehung caches.old caches.new }
+{
+    if is_absent(caches.own_state(child)) {
+        take_place_of(caches, node, child);
+    } else {
+        cut_stub(caches, node);
+    }
+}
+
+// The same where the node hangs on this parent by a stub link or by a tree link.
+fn put_on(caches: &mut Caches, node: NodeId, child: NodeId, parent: NodeId, by_stub: bool)
+    requires sound { IsSound caches.old }
+    requires held { IsHeld caches.old node }
+    requires child { IsHeld caches.old child }
+    requires parent { (cell caches.old node).links.parent ≡ Some parent }
+    requires by_stub { (cell caches.old node).links.by_stub ≡ by_stub }
+    requires root { (node_named (forest_of caches.old) (name_of caches.old child)).hang ≡ Root }
+    requires below { IsBelow (forest_of caches.old) (name_of caches.old node) (name_of caches.old child) }
+    ensures forest { forest_of caches.new ≡ placed (forest_of caches.old) (name_of caches.old node) (name_of caches.old child) }
+    ensures sound { IsSound caches.new }
+    ensures rehung { Rehung caches.old caches.new }
+{
+    if by_stub {
+        put_for_stub(caches, node, child, parent);
+    } else {
+        take_tree_place(caches, node, child, parent);
+    }
+}
+
+// The same where the node may have no parent either.
+fn put_instead(caches: &mut Caches, node: NodeId, child: NodeId)
+    requires sound { IsSound caches.old }
+    requires held { IsHeld caches.old node }
+    requires child { IsHeld caches.old child }
+    requires root { (node_named (forest_of caches.old) (name_of caches.old child)).hang ≡ Root }
+    requires below { IsBelow (forest_of caches.old) (name_of caches.old node) (name_of caches.old child) }
+    ensures forest { forest_of caches.new ≡ placed (forest_of caches.old) (name_of caches.old node) (name_of caches.old child) }
+    ensures sound { IsSound caches.new }
+    ensures rehung { Rehung caches.old caches.new }
+{
+    let links = caches.links(node);
+    match links.parent {
+        Some(parent) => put_on(caches, node, child, parent, links.by_stub),
+        None => {}
+    }
+}
+
+// The child comes in the place of the node, which goes.
+fn give_way(caches: &mut Caches, node: NodeId, child: NodeId)
+    requires sound { IsSound caches.old }
+    requires held { IsHeld caches.old node }
+    requires child { IsHeld caches.old child }
+    requires root { (node_named (forest_of caches.old) (name_of caches.old child)).hang ≡ Root }
+    requires below { IsBelow (forest_of caches.old) (name_of caches.old node) (name_of caches.old child) }
+    requires none { HasNoChild (forest_of caches.old) (name_of caches.old node) }
+    ensures forest { forest_of caches.new ≡ rule_give_way (forest_of caches.old) (name_of caches.old node) (name_of caches.old child) }
+    ensures sound { IsSound caches.new }
+    ensures gone { IsGone caches.old caches.new node }
+    ensures owns { (m : NodeId) → m ≢ node → own_of caches.new m ≡ own_of caches.old m }
+{
+    put_instead(caches, node, child);
+    caches.free(node);
+}
+
+// The only child takes the page and the place of the node, which goes.
+fn give_to(caches: &mut Caches, node: NodeId, child: NodeId) -> Released
+    requires sound { IsSound caches.old }
+    requires held { IsHeld caches.old node }
+    requires child { IsHeld caches.old child }
+    requires up { parent_named (forest_of caches.old) (name_of caches.old child) ≡ Some (name_of caches.old node) }
+    requires few { child_count (forest_of caches.old) (name_of caches.old node) < 2 }
+    ensures forest { forest_of caches.new ≡ rule_give_way (rule_pass_page (rule_cut (forest_of caches.old) (name_of caches.old child)) (name_of caches.old node) (name_of caches.old child)) (name_of caches.old node) (name_of caches.old child) }
+    ensures sound { IsSound caches.new }
+    ensures released { result ≡ released_to caches.old node (Some child) }
+    ensures gone { IsGone caches.old caches.new node }
+    ensures owns { OwnsAfter caches.old caches.new node result }
+{
+    cut(caches, child);
+    let released = pass_page(caches, node, child);
+    give_way(caches, node, child);
+    released
+}
+
+// A node with fewer than two children goes. Its only child, where it has one, takes its page and its place.
+pub(crate) fn merge(caches: &mut Caches, node: NodeId) -> Released
+    requires sound { IsSound caches.old }
+    requires held { IsHeld caches.old node }
+    requires few { child_count (forest_of caches.old) (name_of caches.old node) < 2 }
+    ensures forest { forest_of caches.new ≡ rule_settle_step (forest_of caches.old) (name_of caches.old node) }
+    ensures sound { IsSound caches.new }
+    ensures released { result ≡ released_to caches.old node (spec.first_child caches.old node) }
+    ensures gone { IsGone caches.old caches.new node }
+    ensures owns { OwnsAfter caches.old caches.new node result }
+{
+    match first_child(caches, node) {
+        Some(child) => give_to(caches, node, child),
+        None => drop_node(caches, node),
+    }
+}
+
+/// One step of settle. The working node with the least number of those that have fewer than two children goes: its only
+/// child, where it has one, takes its place, and takes its own page over where it has none itself. It answers `None`, and
+/// changes nothing, exactly where each working node has at least two children.
+pub fn settle_step(caches: &mut Caches) -> Option<Released>
+    requires { IsSound caches.old }
+    ensures sound { IsSound caches.new }
+    ensures step { MatchOption result (IsSettled (forest_of caches.old) × (caches.new ≡ caches.old)) (λ released. IsMerged caches.old caches.new released) }
+{
+    match caches.thin() {
+        Some(node) => Some(merge(caches, node)),
+        None => None,
+    }
+}

@@ -1,0 +1,125 @@
+// A node is taken out of its parent's tree children, or another one comes in its place.
+ghost use Rattle.std.specs.Prelude.{◌≡◌, ◌≢◌, ◌≤◌, length, slice_get, false, [], None, Some, option_and_then};
+ghost use Rattle.std.specs.List.{cons_option};
+ghost use Rattle.vm_ids.specs.declared.numbers.NodeId.{NodeId};
+ghost use Rattle.vm_ids.specs.Forest.Nodes.{node as node_named};
+ghost use Rattle.vm_ids.specs.Forest.Nodes.Hang.{Root};
+ghost use Rattle.vm_ids.specs.Forest.Changes.{cut as rule_cut};
+ghost use Rattle.vm_ids.specs.Forest.Settling.{take_place as rule_take_place};
+ghost use Rattle.local_cache.specs.Arena.{IsHeld, cell, with_tree};
+ghost use Rattle.local_cache.specs.Reading.{name_of, forest_of};
+ghost use Rattle.local_cache.specs.Sound.{IsSound};
+ghost use Rattle.tree_merge.specs.TreeLists.{exchanged, hung, in_place};
+ghost use Rattle.tree_merge.specs.Staying.{IsBelow, Rehung};
+
+use local_cache::{Caches, Links};
+use vm_ids::NodeId;
+
+// The tree child at this place, with another one, or none, in the place of a node.
+fn child_at(
+    caches: &Caches,
+    parent: NodeId,
+    place: u32,
+    node: NodeId,
+    instead: Option<NodeId>,
+) -> Option<NodeId>
+    requires { IsHeld caches.now parent }
+    ensures { result ≡ option_and_then (in_place node instead) (slice_get (cell caches.now parent).tree place) }
+{
+    match caches.tree_child(parent, place) {
+        Some(child) => { if child == node { instead } else { Some(child) } }
+        None => None,
+    }
+}
+
+// Sets the tree children of a parent, of which there are up to two.
+fn set_children(caches: &mut Caches, parent: NodeId, first: Option<NodeId>, second: Option<NodeId>)
+    requires { IsHeld caches.old parent }
+    ensures changed { caches.new ≡ with_tree caches.old parent (cons_option first (cons_option second [])) }
+    ensures stays { (n : NodeId) → IsHeld caches.old n → IsHeld caches.new n }
+{
+    match (first, second) {
+        (Some(first), Some(second)) => caches.set_tree_children(parent, &[first, second]),
+        (Some(only), None) => caches.set_tree_children(parent, &[only]),
+        (None, Some(only)) => caches.set_tree_children(parent, &[only]),
+        (None, None) => caches.set_tree_children(parent, &[]),
+    }
+}
+
+// Among the tree children of the parent comes another one, or none, in the place of a node.
+fn exchange(caches: &mut Caches, parent: NodeId, node: NodeId, instead: Option<NodeId>)
+    requires held { IsHeld caches.old parent }
+    requires few { length (cell caches.old parent).tree ≤ 2 }
+    ensures changed { caches.new ≡ with_tree caches.old parent (exchanged node instead (cell caches.old parent).tree) }
+    ensures stays { (n : NodeId) → IsHeld caches.old n → IsHeld caches.new n }
+{
+    let first = child_at(caches, parent, 0, node, instead);
+    let second = child_at(caches, parent, 1, node, instead);
+    set_children(caches, parent, first, second);
+}
+
+// The node hangs on this parent by a tree link, and its parent's list isn't touched.
+fn hang(caches: &mut Caches, node: NodeId, parent: NodeId)
+    requires { IsHeld caches.old node }
+    ensures changed { caches.new ≡ hung caches.old node (Some parent) }
+    ensures stays { (n : NodeId) → IsHeld caches.old n → IsHeld caches.new n }
+{
+    let links = caches.links(node);
+    caches.set_links(
+        node,
+        Links {
+            parent: Some(parent),
+            by_stub: false,
+            ..links
+        },
+    );
+}
+
+// The node has no parent, and its parent's list isn't touched.
+fn unhang(caches: &mut Caches, node: NodeId)
+    requires { IsHeld caches.old node }
+    ensures changed { caches.new ≡ hung caches.old node None }
+    ensures stays { (n : NodeId) → IsHeld caches.old n → IsHeld caches.new n }
+{
+    let links = caches.links(node);
+    caches.set_links(
+        node,
+        Links {
+            parent: None,
+            by_stub: false,
+            ..links
+        },
+    );
+}
+
+// The node is taken out of the tree children of its parent, and has no parent.
+pub(crate) fn cut_tree(caches: &mut Caches, node: NodeId, parent: NodeId)
+    requires sound { IsSound caches.old }
+    requires held { IsHeld caches.old node }
+    requires parent { (cell caches.old node).links.parent ≡ Some parent }
+    requires by_tree { (cell caches.old node).links.by_stub ≡ false }
+    ensures forest { forest_of caches.new ≡ rule_cut (forest_of caches.old) (name_of caches.old node) }
+    ensures sound { IsSound caches.new }
+    ensures rehung { Rehung caches.old caches.new }
+{
+    exchange(caches, parent, node, None);
+    unhang(caches, node);
+}
+
+// A node without a parent comes in the place of another one among the tree children of a parent.
+pub(crate) fn take_tree_place(caches: &mut Caches, node: NodeId, instead: NodeId, parent: NodeId)
+    requires sound { IsSound caches.old }
+    requires held { IsHeld caches.old node }
+    requires instead { IsHeld caches.old instead }
+    requires parent { (cell caches.old node).links.parent ≡ Some parent }
+    requires by_tree { (cell caches.old node).links.by_stub ≡ false }
+    requires loose { (node_named (forest_of caches.old) (name_of caches.old instead)).hang ≡ Root }
+    requires below { IsBelow (forest_of caches.old) (name_of caches.old node) (name_of caches.old instead) }
+    ensures forest { forest_of caches.new ≡ rule_take_place (forest_of caches.old) (name_of caches.old node) (name_of caches.old instead) }
+    ensures sound { IsSound caches.new }
+    ensures rehung { Rehung caches.old caches.new }
+{
+    exchange(caches, parent, node, Some(instead));
+    hang(caches, instead, parent);
+    unhang(caches, node);
+}
