@@ -12,6 +12,7 @@ use Rattle.vm_ids.proofs.Forest.Names.{name_cases}
 use Rattle.vm_ids.proofs.Forest.NameLists.{in_append, append_in, in_cases, Once-append}
 use Rattle.vm_ids.proofs.Forest.Columns.{hand_stubs-own, hand_stubs-tree, hand_stubs-hang, hand_stubs-hang_other, hand_stubs-stubs_from, hand_stubs-stubs_to, hand_stubs-stubs_other}
 use Rattle.vm_ids.proofs.Forest.Counters.{hand_stubs-counters}
+use Rattle.vm_ids.proofs.Forest.Handing.{handed_cases, handed-linked}
 use Rattle.vm_ids.proofs.Forest.NamesAfter.{hand_stubs-names}
 use Rattle.local_cache.specs.declared.own_state.OwnState.{OwnState}
 use Rattle.local_cache.specs.Arena.{Arena, cell, IsHeld}
@@ -31,101 +32,21 @@ use Rattle.page_stubs.proofs.Ranks.{raised, raised-ranked, raised-above}
 
 -- The shape -------------------------------------------------------------------------
 
-module _ {P : Type 0} (f : Forest P) (linked : IsLinked f) (x h : NodeName) (apart : h ≢ x) where
-  -- a node is handed over, or hangs as before
-  cases : (y : NodeName) → (names.◌∈◌ y (node f x).stubs × ((node f y).hang ≡ StubOf x) × ((node (hand_stubs f x h) y).hang ≡ StubOf h))
-      ⊎ ((names.◌∈◌ y (node f x).stubs → ⊥) × ((node (hand_stubs f x h) y).hang ≡ (node f y).hang))
-  cases y = elim (in_cases (node f x).stubs y) [
-    | inl i ↦ inl (i, (linked.stub_links y x).0 i, hand_stubs-hang f x h y i)
-    | inr out ↦ inr (out, hand_stubs-hang_other f x h y out)
-  ]
+module _ {P : Type 0} (f : Forest P) (linked : IsLinked f) (x h : NodeName) (apart : h ≢ x) (clear : (y : NodeName) → names.◌∈◌ y (node f x).stubs → IsUnder f h y → ⊥) where
+  rank : NodeName → ℕ
+  rank = raised f linked.order.0 linked.order.1 (λ y. names.◌∈◌ y (node f x).stubs) (in_cases (node f x).stubs) h
 
-  -- the list of a node: that of x, that of h, or another
-  abbrev ListIs : NodeName → Type 0
-  ListIs p = ((p ≡ x) × ((node (hand_stubs f x h) p).stubs ≡ []))
-      ⊎ (((p ≡ h) × ((node (hand_stubs f x h) p).stubs ≡ (node f h).stubs ++ (node f x).stubs))
-      ⊎ ((p ≢ x) × (p ≢ h) × ((node (hand_stubs f x h) p).stubs ≡ (node f p).stubs)))
-
-  list_is : (p : NodeName) → ListIs p
-  list_is p = elim (name_cases p x) [
-    | inl e ↦ inl (e, ap (λ z. (node (hand_stubs f x h) z).stubs) e ∙ hand_stubs-stubs_from f x h)
-    | inr not_x ↦ elim (name_cases p h) [
-      | inl e ↦ inr (inl (e, ap (λ z. (node (hand_stubs f x h) z).stubs) e ∙ hand_stubs-stubs_to f x h apart))
-      | inr not_h ↦ inr (inr (not_x, not_h, hand_stubs-stubs_other f x h p not_x not_h))
-    ]
-  ]
-
-  listed : (y p : NodeName) → names.◌∈◌ y (node (hand_stubs f x h) p).stubs → (node (hand_stubs f x h) y).hang ≡ StubOf p
-  listed y p i = elim (list_is p) [
-    | inl k ↦ absurd (subst (λ zs. names.◌∈◌ y zs) k.1 i)
-    | inr c ↦ elim c [
-      | inl k ↦ elim (in_append _ _ y (subst (λ zs. names.◌∈◌ y zs) k.1 i)) [
-        | inl j ↦ elim (cases y) [ inl q ↦ q.2 ∙ ap StubOf (sym k.0) | inr q ↦ q.1 ∙ (linked.stub_links y h).0 j ∙ ap StubOf (sym k.0) ]
-        | inr j ↦ hand_stubs-hang f x h y j ∙ ap StubOf (sym k.0)
-      ]
-      | inr k ↦
-          let old = (linked.stub_links y p).0 (subst (λ zs. names.◌∈◌ y zs) k.2 i) in
-          elim (cases y) [ inl q ↦ absurd (k.0 (cc (old, q.1))) | inr q ↦ q.1 ∙ old ]
-    ]
-  ]
-
-  in_list : (y p : NodeName) → (node (hand_stubs f x h) y).hang ≡ StubOf p → names.◌∈◌ y (node (hand_stubs f x h) p).stubs
-  in_list y p e = elim (cases y) [
+  ranked : IsRanked (hand_stubs f x h) rank
+  unfolding rank
+  ranked y p up = elim (handed_cases f linked x h apart y) [
     | inl q ↦
-        let p_is : h ≡ p = cc (e, q.2) in
-        subst (λ z. names.◌∈◌ y (node (hand_stubs f x h) z).stubs) p_is (subst (λ zs. names.◌∈◌ y zs) (sym (hand_stubs-stubs_to f x h apart)) (append_in _ _ y (inr q.0)))
-    | inr q ↦
-        let old = (linked.stub_links y p).1 (sym q.1 ∙ e) in
-        elim (list_is p) [
-          | inl k ↦ absurd (q.0 (subst (λ z. names.◌∈◌ y (node f z).stubs) k.0 old))
-          | inr c ↦ elim c [
-            | inl k ↦ subst (λ zs. names.◌∈◌ y zs) (sym k.1) (append_in _ _ y (inl (subst (λ z. names.◌∈◌ y (node f z).stubs) k.0 old)))
-            | inr k ↦ subst (λ zs. names.◌∈◌ y zs) (sym k.2) old
-          ]
-        ]
+        let p_is : h ≡ p = cc (ap parent_of (sym q.2) ∙ up) in
+        subst (λ z. rank z < rank y) p_is (raised-above f linked.order.0 linked.order.1 (λ y. names.◌∈◌ y (node f x).stubs) (in_cases (node f x).stubs) h y (λ m. clear m.0 m.1 m.2) q.0)
+    | inr q ↦ raised-ranked f linked.order.0 linked.order.1 (λ y. names.◌∈◌ y (node f x).stubs) (in_cases (node f x).stubs) h y p (ap parent_of (sym q.1) ∙ up)
   ]
 
-  once_listed : (p : NodeName) → names.Once (node (hand_stubs f x h) p).stubs
-  once_listed p = elim (list_is p) [
-    | inl k ↦ subst names.Once (sym k.1) tt
-    | inr c ↦ elim c [
-      | inl k ↦ subst names.Once (sym k.1) (Once-append _ _ (linked.once h).1 (linked.once x).1 (λ z i j. apart (cc ((linked.stub_links z h).0 i, (linked.stub_links z x).0 j))))
-      | inr k ↦ subst names.Once (sym k.2) (linked.once p).1
-    ]
-  ]
-
-  module _ (clear : (y : NodeName) → names.◌∈◌ y (node f x).stubs → IsUnder f h y → ⊥) where
-    rank : NodeName → ℕ
-    rank = raised f linked.order.0 linked.order.1 (λ y. names.◌∈◌ y (node f x).stubs) (in_cases (node f x).stubs) h
-
-    ranked : IsRanked (hand_stubs f x h) rank
-    unfolding rank
-    ranked y p up = elim (cases y) [
-      | inl q ↦
-          let p_is : h ≡ p = cc (ap parent_of (sym q.2) ∙ up) in
-          subst (λ z. rank z < rank y) p_is (raised-above f linked.order.0 linked.order.1 (λ y. names.◌∈◌ y (node f x).stubs) (in_cases (node f x).stubs) h y (λ m. clear m.0 m.1 m.2) q.0)
-      | inr q ↦ raised-ranked f linked.order.0 linked.order.1 (λ y. names.◌∈◌ y (node f x).stubs) (in_cases (node f x).stubs) h y p (ap parent_of (sym q.1) ∙ up)
-    ]
-
-    pub handed-linked : IsLinked (hand_stubs f x h)
-    handed-linked = record {
-      order = (rank, ranked);
-      few = λ y. rw (hand_stubs-tree f x h y) (linked.few y);
-      stub_bare = λ y p e. hand_stubs-own f x h y ∙ elim (cases y) [
-        | inl q ↦ linked.stub_bare y x q.1
-        | inr q ↦ linked.stub_bare y p (sym q.1 ∙ e)
-      ];
-      tree_links = λ y p. (
-        λ i. let e = (linked.tree_links y p).0 (subst (λ zs. names.◌∈◌ y zs) (hand_stubs-tree f x h p) i) in
-            elim (cases y) [ inl q ↦ absurd (cc (e, q.1)) | inr q ↦ q.1 ∙ e ],
-        λ e. subst (λ zs. names.◌∈◌ y zs) (sym (hand_stubs-tree f x h p)) (elim (cases y) [
-          | inl q ↦ absurd (cc (e, q.2))
-          | inr q ↦ (linked.tree_links y p).1 (sym q.1 ∙ e)
-        ]),
-      );
-      stub_links = λ y p. (listed y p, in_list y p);
-      once = λ y. (subst names.Once (sym (hand_stubs-tree f x h y)) (linked.once y).0, once_listed y);
-    }
+  pub cleared-linked : IsLinked (hand_stubs f x h)
+  cleared-linked = handed-linked f linked x h apart rank ranked
 
 -- The caches ------------------------------------------------------------------------
 
@@ -233,7 +154,7 @@ module _ (a c : Arena) (sound : IsSound a) (from to : NodeId) (hf : IsHeld a fro
       | inr out ↦ sound.parents m q hm (sym (join.parent_out m out) ∙ up)
     ];
     children = λ m k hm i. sound.children m k hm (subst (λ ts. k ∈ ts) (join.links.tree m) i);
-    linked = handed-linked f sound.linked x h names_apart clear;
+    linked = cleared-linked f sound.linked x h names_apart clear;
   }
     where
       from_map : (ys : List NodeId) → ((m : NodeId) → m ∈ ys → IsHeld a m) → (y : NodeName) → names.◌∈◌ y (map (name_of a) ys) → IsNode f y

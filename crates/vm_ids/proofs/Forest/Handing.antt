@@ -97,7 +97,8 @@ module _ {P : Type 0} (f : Forest P) (linked : IsLinked f) (x : NodeName) (v : O
   }
 
 module _ {P : Type 0} (f : Forest P) (linked : IsLinked f) (x h : NodeName) (apart : h ≢ x) where
-  handed_cases : (y : NodeName) → ((y ∈ (node f x).stubs) × ((node f y).hang ≡ StubOf x) × ((node (hand_stubs f x h) y).hang ≡ StubOf h)) ⊎ ((y ∈ (node f x).stubs → ⊥) × ((node (hand_stubs f x h) y).hang ≡ (node f y).hang))
+  -- a node is handed over, or hangs as before
+  pub handed_cases : (y : NodeName) → ((y ∈ (node f x).stubs) × ((node f y).hang ≡ StubOf x) × ((node (hand_stubs f x h) y).hang ≡ StubOf h)) ⊎ ((y ∈ (node f x).stubs → ⊥) × ((node (hand_stubs f x h) y).hang ≡ (node f y).hang))
   handed_cases y = elim (in_cases (node f x).stubs y) [
     | inl i ↦ inl (i, (linked.stub_links y x).0 i, hand_stubs-hang f x h y i)
     | inr out ↦ inr (out, hand_stubs-hang_other f x h y out)
@@ -193,9 +194,10 @@ module _ {P : Type 0} (f : Forest P) (linked : IsLinked f) (x h : NodeName) (apa
         ]
   ]
 
-  pub hand_stubs-linked : (rank : NodeName → ℕ) → IsRanked f rank → rank x < rank h → ((node f h).hang ≡ TreeOf x) ⊎ ((node f h).hang ≡ Root) → IsLinked (hand_stubs f x h)
-  hand_stubs-linked rank ranked below hangs = record {
-    order = (lifted rank, handed-ranked rank ranked below hangs);
+  -- Handing stubs over keeps the shape, where some rank rises along the links that come of it.
+  pub handed-linked : (rank : NodeName → ℕ) → IsRanked (hand_stubs f x h) rank → IsLinked (hand_stubs f x h)
+  handed-linked rank ranked = record {
+    order = (rank, ranked);
     few = λ y. rw (hand_stubs-tree f x h y) (linked.few y);
     stub_bare = λ y p e. hand_stubs-own f x h y ∙ elim (handed_cases y) [
       | inl k ↦ linked.stub_bare y x k.1
@@ -212,3 +214,6 @@ module _ {P : Type 0} (f : Forest P) (linked : IsLinked f) (x h : NodeName) (apa
     stub_links = λ y p. (to_link y p, from_link y p);
     once = λ y. (subst Once (sym (hand_stubs-tree f x h y)) (linked.once y).0, once_handed y);
   }
+
+  pub hand_stubs-linked : (rank : NodeName → ℕ) → IsRanked f rank → rank x < rank h → ((node f h).hang ≡ TreeOf x) ⊎ ((node f h).hang ≡ Root) → IsLinked (hand_stubs f x h)
+  hand_stubs-linked rank ranked below hangs = handed-linked (lifted rank) (handed-ranked rank ranked below hangs)
