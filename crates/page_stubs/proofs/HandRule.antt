@@ -12,7 +12,7 @@ use Rattle.vm_ids.proofs.Forest.Names.{name_cases}
 use Rattle.vm_ids.proofs.Forest.NameLists.{in_append, append_in, in_cases, Once-append}
 use Rattle.vm_ids.proofs.Forest.Columns.{hand_stubs-own, hand_stubs-tree, hand_stubs-hang, hand_stubs-hang_other, hand_stubs-stubs_from, hand_stubs-stubs_to, hand_stubs-stubs_other}
 use Rattle.vm_ids.proofs.Forest.Counters.{hand_stubs-counters}
-use Rattle.vm_ids.proofs.Forest.Handing.{handed_cases, handed-linked}
+use Rattle.vm_ids.proofs.Forest.Handing.{handed_cases, hand_stubs-by_rank}
 use Rattle.vm_ids.proofs.Forest.NamesAfter.{hand_stubs-names}
 use Rattle.local_cache.specs.declared.own_state.OwnState.{OwnState}
 use Rattle.local_cache.specs.Arena.{Arena, cell, IsHeld}
@@ -46,7 +46,7 @@ module _ {P : Type 0} (f : Forest P) (linked : IsLinked f) (x h : NodeName) (apa
   ]
 
   pub cleared-linked : IsLinked (hand_stubs f x h)
-  cleared-linked = handed-linked f linked x h apart rank ranked
+  cleared-linked = hand_stubs-by_rank f linked x h apart rank ranked
 
 -- The caches ------------------------------------------------------------------------
 

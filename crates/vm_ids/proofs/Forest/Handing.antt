@@ -195,8 +195,8 @@ module _ {P : Type 0} (f : Forest P) (linked : IsLinked f) (x h : NodeName) (apa
   ]
 
   -- Handing stubs over keeps the shape, where some rank rises along the links that come of it.
-  pub handed-linked : (rank : NodeName → ℕ) → IsRanked (hand_stubs f x h) rank → IsLinked (hand_stubs f x h)
-  handed-linked rank ranked = record {
+  pub hand_stubs-by_rank : (rank : NodeName → ℕ) → IsRanked (hand_stubs f x h) rank → IsLinked (hand_stubs f x h)
+  hand_stubs-by_rank rank ranked = record {
     order = (rank, ranked);
     few = λ y. rw (hand_stubs-tree f x h y) (linked.few y);
     stub_bare = λ y p e. hand_stubs-own f x h y ∙ elim (handed_cases y) [
@@ -216,4 +216,4 @@ module _ {P : Type 0} (f : Forest P) (linked : IsLinked f) (x h : NodeName) (apa
   }
 
   pub hand_stubs-linked : (rank : NodeName → ℕ) → IsRanked f rank → rank x < rank h → ((node f h).hang ≡ TreeOf x) ⊎ ((node f h).hang ≡ Root) → IsLinked (hand_stubs f x h)
-  hand_stubs-linked rank ranked below hangs = handed-linked (lifted rank) (handed-ranked rank ranked below hangs)
+  hand_stubs-linked rank ranked below hangs = hand_stubs-by_rank (lifted rank) (handed-ranked rank ranked below hangs)

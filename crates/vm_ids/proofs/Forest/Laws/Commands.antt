@@ -118,22 +118,22 @@ module _ {P : Type 0} where
   page-source true f s y = refl
   page-source false f s y = refl
 
-  still_pages : (f g : Forest P) (xs : List NodeName) → ((x : NodeName) → x ∈ xs → IsNode f x → IsNode g x) → ArePagesOnce f xs → ArePagesOnce g xs
+  pub still_pages : (f g : Forest P) (xs : List NodeName) → ((x : NodeName) → x ∈ xs → IsNode f x → IsNode g x) → ArePagesOnce f xs → ArePagesOnce g xs
   still_pages f g xs stays are = record { once = are.once; live = λ x i. let k = are.live x i in (stays x i k.0, k.1) }
 
-  still_can : (f g : Forest P) (pairs : List (NodeName × NodeName)) → ((x : NodeName) → is_live x ≡ true → IsNode f x → IsNode g x) → CanCopy f pairs → CanCopy g pairs
+  pub still_can : (f g : Forest P) (pairs : List (NodeName × NodeName)) → ((x : NodeName) → is_live x ≡ true → IsNode f x → IsNode g x) → CanCopy f pairs → CanCopy g pairs
   still_can f g pairs stays can = record {
     destinations = still_pages f g (firsts pairs) (λ x i is. stays x (can.destinations.live x i).1 is) can.destinations;
     sources = λ x i. let k = can.sources x i in (stays x k.1 k.0, k.1, k.2);
   }
 
-  later_can : (f : Forest P) (e : NodeName × NodeName) (es : List (NodeName × NodeName)) → CanCopy f (e ∷ es) → CanCopy f es
+  pub later_can : (f : Forest P) (e : NodeName × NodeName) (es : List (NodeName × NodeName)) → CanCopy f (e ∷ es) → CanCopy f es
   later_can f e es can = record {
     destinations = record { once = can.destinations.once.1; live = λ x i. can.destinations.live x (inr i) };
     sources = λ x i. let k = can.sources x (inr i) in (k.0, k.1, λ j. k.2 (inr j));
   }
 
-  first_pages : (f : Forest P) (e : NodeName × NodeName) (es : List (NodeName × NodeName)) → CanCopy f (e ∷ es) → ArePages f e.0 e.1
+  pub first_pages : (f : Forest P) (e : NodeName × NodeName) (es : List (NodeName × NodeName)) → CanCopy f (e ∷ es) → ArePages f e.0 e.1
   first_pages f e es can =
       let d = can.destinations.live e.0 (inl refl) in
       let s = can.sources e.1 (inl refl) in
@@ -149,7 +149,7 @@ module _ {P : Type 0} where
     | inr i ↦ (can.sources (source_of es y) (inr i)).2 (inl q)
   ]
 
-  copy_pages-facts : (is_small : Bool) (pairs : List (NodeName × NodeName)) (f : Forest P) → IsConsistent f → CanCopy f pairs
+  pub copy_pages-facts : (is_small : Bool) (pairs : List (NodeName × NodeName)) (f : Forest P) → IsConsistent f → CanCopy f pairs
       → IsConsistent (copy_pages is_small pairs f) × ((y : NodeName) → is_live y ≡ true → value_of (copy_pages is_small pairs f) y ≡ value_of f (source_of pairs y))
   copy_pages-facts is_small [] f c can = (c, λ y live. refl)
   copy_pages-facts is_small (e ∷ es) f c can =
@@ -280,7 +280,7 @@ module _ {P : Type 0} where
   move_counts_saves named zeros pairs f = (settle-counters _).copies ∙ move_pages-copies zeros pairs _
 
   -- invalidate
-  later_pages : (f : Forest P) (x : NodeName) (xs : List NodeName) → ArePagesOnce f (x ∷ xs) → ArePagesOnce f xs
+  pub later_pages : (f : Forest P) (x : NodeName) (xs : List NodeName) → ArePagesOnce f (x ∷ xs) → ArePagesOnce f xs
   later_pages f x xs are = record { once = are.once.1; live = λ y i. are.live y (inr i) }
 
   replace_pages-facts : (pages : List (NodeName × P)) (f : Forest P) → IsConsistent f → ArePagesOnce f (firsts pages)
@@ -333,7 +333,7 @@ module _ {P : Type 0} where
   invalidate_counts_saves pages f = (settle-counters _).copies ∙ replace_pages-copies pages _
 
   -- destroy
-  retire_all-facts : (xs : List NodeName) (f : Forest P) → IsConsistent f → ArePagesOnce f xs
+  pub retire_all-facts : (xs : List NodeName) (f : Forest P) → IsConsistent f → ArePagesOnce f xs
       → IsConsistent (retire_all xs f) × ((y : NodeName) → is_live y ≡ true → value_of (retire_all xs f) y ≡ cond (is_in y xs) None (value_of f y))
   retire_all-facts [] f c are = (c, λ y live. refl)
   retire_all-facts (x ∷ xs) f c are =
