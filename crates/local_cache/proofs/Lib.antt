@@ -1,6 +1,7 @@
 pub mod Adding
 pub mod Cells
 pub mod Changes
+pub mod Counts
 pub mod Edit
 pub mod Filled
 pub mod Freeing

@@ -11,7 +11,7 @@ use Rattle.local_cache.specs.declared.own_state.OwnState.{OwnState}
 use Rattle.local_cache.specs.declared.page_table.CacheEntry.{CacheEntry}
 use Rattle.local_cache.specs.declared.page_table.PageEntry.{PageEntry}
 use Rattle.local_cache.specs.Arena.{Arena, IsMade, Room, entry_for}
-use Rattle.local_cache.specs.Layout.{AreInRow, IsRight, table_in, tables_in}
+use Rattle.local_cache.specs.Layout.{AreInRow, IsRight, table_in, tables_in, working_len}
 use Rattle.local_cache.specs.Queue.{Entry, IsQueued, entry_cmp}
 use Rattle.local_cache.proofs.Slots.{seen}
 use Rattle.std.proofs.Common.{Global, min}
@@ -39,9 +39,11 @@ pub record After (i j : Inside) (cache : CacheId) (segment : Option SegId) (own 
   pub named : e.segment ≡ segment
   pub made : j.made ≡ i.made
   pub copies : j.copies ≡ i.copies
+  pub working : j.working ≡ i.working
+  pub working_len : working_len j.nodes ≡ working_len i.nodes
 
-pub right_after : (i j : Inside) (cache : CacheId) (segment : Option SegId) (own : OwnState) (pages : ℕ) (e : CacheEntry) → IsRight i.nodes i.caches.items i.entries.items i.thin i.thin_room → After i j cache segment own pages e → length i.caches.items + 1 < 2 ^ 32 → pages ≤ min i.nodes.capacity i.thin_room - slab_len i.nodes
-    → IsRight j.nodes j.caches.items j.entries.items j.thin j.thin_room
+pub right_after : (i j : Inside) (cache : CacheId) (segment : Option SegId) (own : OwnState) (pages : ℕ) (e : CacheEntry) → IsRight i.nodes i.caches.items i.entries.items i.thin i.thin_room i.working → After i j cache segment own pages e → length i.caches.items + 1 < 2 ^ 32 → pages ≤ min i.nodes.capacity i.thin_room - slab_len i.nodes
+    → IsRight j.nodes j.caches.items j.entries.items j.thin j.thin_room j.working
 right_after i j cache segment own pages e right after few room =
     let first : e.first ≡ length i.entries.items = after.first ∙ i.entries.ok.0 in
     let whole : e.first + e.pages ≡ length j.entries.items = omega (arith, after.first, after.pages, after.entries_len, j.entries.ok.0) in
@@ -57,12 +59,16 @@ right_after i j cache segment own pages e right after few room =
         ordered = subst (λ (t : BinaryHeap Entry Global). IsHeap entry_cmp (heap_items t)) (sym after.thin) right.ready.ordered;
         queued = subst (λ (t : BinaryHeap Entry Global). IsQueued j.nodes (heap_items t)) (sym after.thin) (after.queued (heap_items i.thin) right.ready.queued);
       };
+      counted = record {
+        counter = after.working ∙ right.counted.counter ∙ sym after.working_len;
+        few = omega (arith, after.thin_room, right.counted.few);
+      };
     }
 
 same_room : (a b : Room) → a.nodes ≡ b.nodes → a.caches ≡ b.caches → a.entries ≡ b.entries → a ≡ b
 same_room a b nodes caches entries = λ i. record { nodes = nodes i; caches = caches i; entries = entries i }
 
-made_from : (i j : Inside) (cache : CacheId) (segment : Option SegId) (own : OwnState) (pages : ℕ) (e : CacheEntry) → IsRight i.nodes i.caches.items i.entries.items i.thin i.thin_room → After i j cache segment own pages e → cache.0 ≡ vec_len i.caches + 1
+made_from : (i j : Inside) (cache : CacheId) (segment : Option SegId) (own : OwnState) (pages : ℕ) (e : CacheEntry) → IsRight i.nodes i.caches.items i.entries.items i.thin i.thin_room i.working → After i j cache segment own pages e → cache.0 ≡ vec_len i.caches + 1
     → (ns : List NodeId) × (length ns ≡ pages) × IsMade (seen i) (seen j) cache segment own ns
 made_from i j cache segment own pages e right after number =
     let ns : List NodeId = after.filled.0 in
@@ -86,6 +92,6 @@ made_from i j cache segment own pages e right after number =
       },
     )
 
-pub made : (i j : Inside) (a : Arena) (cache : CacheId) (segment : Option SegId) (own : OwnState) (pages : ℕ) (e : CacheEntry) → seen i ≡ a → IsRight i.nodes i.caches.items i.entries.items i.thin i.thin_room → After i j cache segment own pages e → cache.0 ≡ vec_len i.caches + 1
+pub made : (i j : Inside) (a : Arena) (cache : CacheId) (segment : Option SegId) (own : OwnState) (pages : ℕ) (e : CacheEntry) → seen i ≡ a → IsRight i.nodes i.caches.items i.entries.items i.thin i.thin_room i.working → After i j cache segment own pages e → cache.0 ≡ vec_len i.caches + 1
     → (ns : List NodeId) × (length ns ≡ pages) × IsMade a (seen j) cache segment own ns
 made i j a cache segment own pages e v right after number = subst (λ (a : Arena). (ns : List NodeId) × (length ns ≡ pages) × IsMade a (seen j) cache segment own ns) v (made_from i j cache segment own pages e right after number)

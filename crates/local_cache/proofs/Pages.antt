@@ -64,7 +64,7 @@ made_pages old new cache segment own ns page m h =
       is = filled_page ns old.cells 0 new.cells cache own page d m.cells h ∙ ap (λ (p : ℕ). Some (named cache p own)) (zero-add page);
     }
 
-whole : (o : Option Cell) → IsSome o → (c : Cell) × (o ≡ Some c)
+pub whole : (o : Option Cell) → IsSome o → (c : Cell) × (o ≡ Some c)
 whole None h = absurd (false≢true h)
 whole (Some c) h = (c, refl)
 

@@ -25,7 +25,7 @@ pub record Left (i : Inside) (cache : ℕ) (gap : CacheEntry) (after : Vec (Opti
   pub lowered_len : vec_len after ≡ vec_len i.caches
   pub lowered_capacity : vec_capacity after ≡ vec_capacity i.caches
 
-module _ (i : Inside) (cache : ℕ) (gap : CacheEntry) (after : Vec (Option CacheEntry) Global) (ys : Vec PageEntry Global) (right : IsRight i.nodes i.caches.items i.entries.items i.thin i.thin_room) (left : Left i cache gap after ys) where
+module _ (i : Inside) (cache : ℕ) (gap : CacheEntry) (after : Vec (Option CacheEntry) Global) (ys : Vec PageEntry Global) (right : IsRight i.nodes i.caches.items i.entries.items i.thin i.thin_room i.working) (left : Left i cache gap after ys) where
   len : length ys.items + gap.pages ≡ length i.entries.items
   len = omega (arith, left.closed_len, ys.ok.0, i.entries.ok.0)
 
@@ -35,7 +35,7 @@ module _ (i : Inside) (cache : ℕ) (gap : CacheEntry) (after : Vec (Option Cach
       tables_closed i.caches.items after.items i.entries.items ys.items (cache - 1) gap right.laid.row at.0 left.closed len left.lowered
       ∙ ap (tables_without (tables_in i.entries.items i.caches.items)) (sym at.1)
 
-  pub right_left : IsRight i.nodes after.items ys.items i.thin i.thin_room
+  pub right_left : IsRight i.nodes after.items ys.items i.thin i.thin_room i.working
   right_left = record {
     laid = record {
       row = row_closed i.caches.items after.items i.entries.items ys.items (cache - 1) gap right.laid.row (at_index i.caches.items cache gap left.found).0 left.closed len left.lowered;
@@ -43,6 +43,7 @@ module _ (i : Inside) (cache : ℕ) (gap : CacheEntry) (after : Vec (Option Cach
       fits = right.laid.fits;
     };
     ready = right.ready;
+    counted = right.counted;
   }
 
   pub removed : (a : Arena) (c : CacheId) → c.0 ≡ cache → seen i ≡ a → seen (record i { caches = after; entries = ys }) ≡ without_cache a c

@@ -1,11 +1,13 @@
 -- What the fields of the caches stand for.
-use Rattle.std.specs.Prelude.{◌≡◌, ℕ, zero, suc, ◌+◌, ◌-◌, ◌<◌, ◌≤◌, ◌^◌, min, List, [], ◌∷◌, length, map, take, drop, Option, Some, None, option_map, slice_index_or}
+use Rattle.std.specs.Prelude.{◌≡◌, ℕ, zero, suc, ◌+◌, ◌-◌, ◌<◌, ◌≤◌, ◌^◌, min, List, [], ◌∷◌, length, map, sum_by, take, drop, Option, Some, None, option_map, slice_index_or}
 use Rattle.std.specs.Ordering.{nat_cmp}
 use Rattle.std.specs.FinMap.{FinMap}
 use Rattle.std.specs.FinMap as ids
 use Rattle.std.specs.Vec.{vec_len, vec_capacity}
 use Rattle.std.proofs.Common.{Vec, Global}
 use Rattle.slab.specs.Slab.{Slab, entries, slab_len}
+use Rattle.vm_ids.specs.declared.node_name.NodeName.{NodeName}
+use Rattle.vm_ids.specs.declared.node_name.NodeName.TheVariants.{Live, Working}
 use Rattle.local_cache.specs.declared.page_table.CacheEntry.{CacheEntry}
 use Rattle.local_cache.specs.declared.page_table.PageEntry.{PageEntry}
 use Rattle.std.specs.BinaryHeap.{IsHeap, heap_capacity, heap_items}
@@ -54,10 +56,30 @@ pub record IsReady (nodes : Slab Cell) (thin : BinaryHeap Entry Global) (thin_ro
   pub ordered : IsHeap entry_cmp (heap_items thin)
   pub queued : IsQueued nodes (heap_items thin)
 
+-- how many working nodes a node of this name is, one or none
+abbrev pub working_of : NodeName → ℕ
+working_of (Live cache page) = 0
+working_of (Working k) = 1
+
+-- how many working nodes a slot has, one or none
+abbrev pub working_in : Option Cell → ℕ
+working_in None = 0
+working_in (Some c) = working_of c.name
+
+-- how many of the nodes are working ones
+abbrev pub working_len : Slab Cell → ℕ
+working_len nodes = sum_by working_in nodes.slots
+
+-- The working nodes are counted, and there is room for fewer nodes than 2 ^ 32.
+pub record IsCounted (nodes : Slab Cell) (thin_room working : ℕ) : Type 0 where
+  pub counter : working ≡ working_len nodes
+  pub few : thin_room < 2 ^ 32
+
 -- what holds of all fields
-pub record IsRight (nodes : Slab Cell) (caches : List (Option CacheEntry)) (entries : List PageEntry) (thin : BinaryHeap Entry Global) (thin_room : ℕ) : Type 0 where
+pub record IsRight (nodes : Slab Cell) (caches : List (Option CacheEntry)) (entries : List PageEntry) (thin : BinaryHeap Entry Global) (thin_room working : ℕ) : Type 0 where
   pub laid : IsLaidOut nodes caches entries
   pub ready : IsReady nodes thin thin_room
+  pub counted : IsCounted nodes thin_room working
 
 -- the entry of a cache, counted from 1
 abbrev pub entry_at : List (Option CacheEntry) → ℕ → Option CacheEntry

@@ -4,18 +4,21 @@ ghost use Rattle.std.specs.Vec.{vec_len, vec_capacity};
 ghost use Rattle.vm_ids.specs.declared.numbers.NodeId.{NodeId};
 ghost use Rattle.slab.specs.Slab.{HasRoomFor, slab_len};
 ghost use Rattle.local_cache.specs.Arena.{HasPage, IsFilled, IsHeld, IsMade, IsVacant, as_working, cell, entry_for, find, node_at, table_of, with_links, with_name, with_new, with_own, with_tree, with_working, without, without_cache};
-ghost use Rattle.local_cache.specs.Layout.{cells_of};
+ghost use Rattle.vm_ids.specs.Forest.NameMap.{len};
+ghost use Rattle.vm_ids.specs.Forest.Reading.{counts_of};
+ghost use Rattle.local_cache.specs.Layout.{cells_of, working_len};
 ghost use Rattle.local_cache.specs.Queue.{Entry, IsQueued};
+ghost use Rattle.local_cache.specs.Reading.{IsNamed, forest_of};
 ghost use Rattle.local_cache.specs.Thin.{IsLeastThin};
 
-use crate::page_node::PageNode;
+use crate::page_node::{PageNode, working_of};
 use crate::page_table::{CacheEntry, close_gap, entry_of, lower, set_node};
 use crate::thin_nodes::{ThinNodes, least, make_room, number_at, queue};
 use crate::{Links, OwnState, PageEntry};
 use slab::Slab;
 use std::alloc::Global;
 use std::marker::Model;
-use vm_ids::{CacheId, NoMemory, NodeId, NodeName, PageNo, SegId};
+use vm_ids::{CacheId, Counts, NoMemory, NodeId, NodeName, PageNo, SegId};
 
 /// All page nodes and all caches.
 #[derive(Drop)]
@@ -29,6 +32,8 @@ pub struct Caches {
     alloc: Global,
     made: u64,
     copies: u64,
+    // how many of the nodes are working ones
+    working: u32,
 }
 
 impl Model for Caches {
@@ -43,7 +48,7 @@ impl Model for Caches {
 
     ghost view = { λ a. arena_of a.nodes a.caches a.entries a.thin_room a.made a.copies };
 
-    ghost invariant = { λ a. IsRight a.nodes a.caches.items a.entries.items a.thin a.thin_room };
+    ghost invariant = { λ a. IsRight a.nodes a.caches.items a.entries.items a.thin a.thin_room a.working };
 }
 
 // Makes a node for each page of a cache, and appends an entry for each to the table of all pages.
@@ -61,6 +66,7 @@ fn add_pages(
     ensures queued { (items : List Entry) → IsQueued nodes.old items → IsQueued nodes.new items }
     ensures nodes_len { slab_len nodes.new ≡ slab_len nodes.old + pages }
     ensures nodes_capacity { nodes.new.capacity ≡ nodes.old.capacity }
+    ensures working { working_len nodes.new ≡ working_len nodes.old }
     ensures entries_len { vec_len entries.new ≡ vec_len entries.old + pages }
     ensures entries_capacity { vec_capacity entries.new ≡ vec_capacity entries.old }
 {
@@ -89,11 +95,12 @@ impl Caches {
             alloc,
             made: 0,
             copies: 0,
+            working: 0,
         }
     }
 
     /// Takes memory for so many more caches and so many more pages. It can fail only where there is too little room, and
-    /// after an error what was there is there still.
+    /// it does where the nodes could be 2^32 or more in all. After an error what was there is there still.
     pub fn reserve(&mut self, caches: u32, nodes: u32) -> Result<(), NoMemory>
         ensures nodes { OnOk result (nodes ≤ self.new.room.nodes) }
         ensures caches { OnOk result (caches ≤ self.new.room.caches) }
@@ -102,6 +109,10 @@ impl Caches {
         ensures no_less { (self.old.room.nodes ≤ self.new.room.nodes) × (self.old.room.caches ≤ self.new.room.caches) × (self.old.room.entries ≤ self.new.room.entries) }
         ensures enough { caches ≤ self.old.room.caches → nodes ≤ self.old.room.nodes → nodes ≤ self.old.room.entries → IsOk result }
     {
+        let room = self.nodes.len() + nodes as usize;
+        if room > u32::MAX as usize {
+            return Err(NoMemory);
+        }
         if self.nodes.reserve(nodes as usize).is_err() {
             return Err(NoMemory);
         }
@@ -111,7 +122,6 @@ impl Caches {
         if self.entries.reserve(nodes as usize).is_err() {
             return Err(NoMemory);
         }
-        let room = self.nodes.len() + nodes as usize;
         if make_room(&mut self.thin, room).is_err() {
             return Err(NoMemory);
         }
@@ -163,6 +173,34 @@ impl Caches {
         self.caches[index] = None;
         close_gap(&mut self.entries, gap.first, gap.pages as usize);
         lower(&mut self.caches, index + 1, gap.pages as usize);
+    }
+
+    /// How much is kept: the pages of live caches, the working nodes, and the pages copied so far. No two nodes may have
+    /// one name, which holds wherever the caches are sound.
+    pub fn counts(&self) -> Counts
+        requires { IsNamed self.now }
+        ensures counts { result ≡ counts_of (forest_of self.now) }
+        ensures few { len (forest_of self.now).nodes < 2 ^ 32 }
+    {
+        Counts {
+            live: (self.nodes.len() - self.working as usize) as u32,
+            working: self.working,
+            copies: self.copies,
+        }
+    }
+
+    /// How many caches were made so far, removed ones too; the next one has the next number.
+    pub fn caches_made(&self) -> u32
+        ensures { result ≡ length self.now.caches }
+    {
+        self.caches.len() as u32
+    }
+
+    /// How many working nodes were made so far; the next one has the next number.
+    pub fn working_made(&self) -> u64
+        ensures { result ≡ self.now.made }
+    {
+        self.made
     }
 
     /// How many pages a cache has, or `None` exactly where no live cache has this number.
@@ -333,6 +371,7 @@ impl Caches {
         ensures { self.new ≡ without self.old node }
     {
         let freed = self.nodes.remove(node.0 as usize);
+        self.working -= working_of(freed.name());
         set_node(&self.caches, &mut self.entries, freed.name(), None);
     }
 
@@ -398,6 +437,7 @@ impl Caches {
             .nodes
             .insert_reserved(PageNode::new(self.alloc, name, own));
         let node = NodeId(place as u64);
+        self.working += working_of(name);
         queue(&self.nodes, &mut self.thin, node.0, None);
         set_node(&self.caches, &mut self.entries, name, Some(node));
         node
@@ -414,6 +454,7 @@ impl Caches {
             Some(held) => held.set_name(name),
             None => unreachable!(),
         }
+        self.working = self.working - working_of(left) + working_of(name);
         queue(&self.nodes, &mut self.thin, node.0, None);
         set_node(&self.caches, &mut self.entries, left, None);
         set_node(&self.caches, &mut self.entries, name, Some(node));

@@ -42,7 +42,18 @@ impl Model for PageNode {
 
 ghost use Rattle.std.specs.Prelude.{◌≡◌, ◌≤◌, length, slice_get};
 ghost use Rattle.local_cache.specs.Arena.{new_cell};
+ghost use Rattle.local_cache.specs.Layout.{working_of};
 ghost use Rattle.local_cache.specs.Queue.{thin_number};
+
+// How many working nodes a node of this name is: one or none.
+pub(crate) fn working_of(name: NodeName) -> u32
+    ensures { result ≡ working_of name }
+{
+    match name {
+        NodeName::Live(..) => 0,
+        NodeName::Working(_) => 1,
+    }
+}
 
 impl PageNode {
     pub(crate) fn new(alloc: Global, name: NodeName, own: OwnState) -> Self

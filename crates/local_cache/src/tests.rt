@@ -1,7 +1,7 @@
 // Each call once, with memory at hand.
 use crate::{Caches, Links, OwnState};
 use std::test::Fail;
-use vm_ids::{CacheId, NodeId, NodeName, PageNo, SegId, SlotId};
+use vm_ids::{CacheId, Counts, NodeId, NodeName, PageNo, SegId, SlotId};
 
 #[test]
 fn caches_have_a_node_for_each_page(rt: HostRuntime) -> Result<(), Fail> {
@@ -102,5 +102,22 @@ fn the_least_thin_node_comes_first(rt: HostRuntime) -> Result<(), Fail> {
     assert_eq!(rt; caches.thin(), Some(first));
     caches.free(first);
     assert_eq!(rt; caches.thin(), Some(second));
+    Ok(())
+}
+
+#[test]
+fn what_is_kept_is_counted(rt: HostRuntime) -> Result<(), Fail> {
+    let mut caches = Caches::new(rt.alloc());
+    let none = Counts {
+        live: 0,
+        working: 0,
+        copies: 0,
+    };
+    assert_eq!(rt; caches.counts(), none);
+    caches.reserve(1, 2)?;
+    caches.make_temp(1);
+    caches.fresh_working();
+    assert_eq!(rt; caches.caches_made(), 1);
+    assert_eq!(rt; caches.working_made(), 1);
     Ok(())
 }

@@ -1,5 +1,6 @@
 use Rattle.std.proofs.Common.{Some, ap, arith}
 use Rattle.local_cache.specs.Queue.{thin_number}
+use Rattle.local_cache.proofs.Counts.{working_more}
 use Rattle.local_cache.proofs.Queued.{queued_none}
 use Rattle.local_cache.proofs.Filled.{filled_step}
 use Rattle.local_cache.proofs.caches.add_pages.Goals as goal
@@ -11,6 +12,7 @@ loop-page-preserved c = record {
   queued = λ items queued. queued_none c.loop-page.nodes c.insert_reserved-node.new.self c.insert_reserved-node.result (Some c.new.result) items c.insert_reserved-node.ensures.updates (ap thin_number c.new.ensures) (c.loop-page.invariant.queued items queued);
   nodes_len = omega arith;
   nodes_capacity = omega arith;
+  working = omega (arith, working_more c.loop-page.nodes c.insert_reserved-node.new.self c.insert_reserved-node.result c.new.result _ c.insert_reserved-node.ensures.was_vacant c.insert_reserved-node.ensures.updates (ap (λ d. d.name) c.new.ensures), c.loop-page.invariant.working);
   entries_len = omega arith;
   entries_capacity = omega arith;
 }

@@ -3,7 +3,7 @@ use Rattle.std.specs.Vec.{vec_len, vec_capacity}
 use Rattle.slab.specs.Slab.{slab_len}
 use Rattle.vm_ids.specs.declared.numbers.NodeId.{NodeId}
 use Rattle.local_cache.specs.Arena.{IsFilled, entry_for}
-use Rattle.local_cache.specs.Layout.{cells_of}
+use Rattle.local_cache.specs.Layout.{cells_of, working_len}
 use Rattle.local_cache.specs.Queue.{Entry, IsQueued}
 use Rattle.local_cache.proofs.caches.add_pages.Given as goal
 
@@ -13,6 +13,7 @@ invariant-loop-page l = record {
   queued : (items : List Entry) → IsQueued l.initial.nodes items → IsQueued l.nodes items;
   nodes_len : slab_len l.nodes ≡ slab_len l.initial.nodes + l.page;
   nodes_capacity : l.nodes.capacity ≡ l.initial.nodes.capacity;
+  working : working_len l.nodes ≡ working_len l.initial.nodes;
   entries_len : vec_len l.entries ≡ vec_len l.initial.entries + l.page;
   entries_capacity : vec_capacity l.entries ≡ vec_capacity l.initial.entries;
 }

@@ -1,6 +1,7 @@
-use Rattle.std.proofs.Common.{None, ap, ◌∙◌}
+use Rattle.std.proofs.Common.{rules, ◌-◌, None, ap, ◌∙◌, arith}
 use Rattle.local_cache.specs.Arena.{tables_with}
-use Rattle.local_cache.specs.Layout.{tables_in}
+use Rattle.local_cache.specs.Layout.{tables_in, working_of}
+use Rattle.local_cache.proofs.Counts.{counted_less, taken_fits}
 use Rattle.local_cache.proofs.Slots.{some_at, taken}
 use Rattle.local_cache.proofs.Tables.{through}
 use Rattle.local_cache.proofs.caches.Caches.free.Goals as goal
@@ -12,5 +13,19 @@ pub returns : goal.returns
 returns c =
     let i = c.self.inside in
     taken i c.args.self.now _ c.args.node _ c.set_node.new.entries c.self.view_is c.remove-freed.ensures.value c.remove-freed.ensures.updates c.remove-freed.ensures.len c.remove-freed.ensures.capacity c.self.invariant.laid.fits c.self.invariant.ready.held
-    (through _ i.caches.items i.entries.items _ _ None c.deref.ensures.value c.set_node.ensures.tables ∙ ap (λ x. tables_with (tables_in i.entries.items i.caches.items) x None) c.name.ensures)
+    (through _ i.caches.items i.entries.items _ _ None c.deref.ensures.value c.set_node.ensures.tables ∙ ap (λ x. tables_with (tables_in i.entries.items i.caches.items) x None) c.name-2.ensures)
     c.set_node.ensures.len c.set_node.ensures.capacity
+
+pub overflow_sub-self : goal.overflow_sub-self
+overflow_sub-self c =
+    let i = c.self.inside in
+    omega (arith, taken_fits i.nodes i.thin_room i.working c.self.invariant.counted c.args.node.0 c.remove-freed.result c.remove-freed.ensures.value, c.working_of.ensures ∙ ap working_of c.name.ensures)
+
+pub invariant_of-self : goal.invariant_of-self
+invariant_of-self c =
+    let i = c.self.inside in
+    record {
+      laid = search rules;
+      ready = search rules;
+      counted = counted_less i.nodes i.thin_room i.working c.self.invariant.counted _ c.args.node.0 c.remove-freed.result _ c.remove-freed.ensures.value c.remove-freed.ensures.updates (ap (λ k. i.working - k) (c.working_of.ensures ∙ ap working_of c.name.ensures));
+    }

@@ -1,9 +1,28 @@
-use Rattle.std.proofs.Common.{Some}
+use Rattle.std.proofs.Common.{rules, ◌+◌, ◌≤◌, Some, ap, arith}
+use Rattle.std.proofs.Math.Nat.{min-le_right}
+use Rattle.slab.specs.Slab.{slab_len}
 use Rattle.vm_ids.specs.declared.numbers.NodeId.{NodeId}
+use Rattle.local_cache.specs.Arena.{Arena}
 use Rattle.local_cache.proofs.Cells.{held-new, stays-new}
+use Rattle.local_cache.proofs.Counts.{added_fits, counted_more}
 use Rattle.local_cache.proofs.Slots.{added, none_at}
 use Rattle.local_cache.proofs.Tables.{through}
 use Rattle.local_cache.proofs.caches.Caches.insert.Goals as goal
+
+pub overflow_add-self : goal.overflow_add-self
+overflow_add-self c =
+    let i = c.self.inside in
+    let less : slab_len i.nodes + 1 ≤ i.thin_room = omega (arith, c.requires, ap (λ (a : Arena). a.room.nodes) c.self.view_is, min-le_right i.nodes.capacity i.thin_room) in
+    omega (arith, added_fits i.nodes i.thin_room i.working c.self.invariant.counted c.args.name less, c.working_of.ensures)
+
+pub invariant_of-self : goal.invariant_of-self
+invariant_of-self c =
+    let i = c.self.inside in
+    record {
+      laid = search rules;
+      ready = search rules;
+      counted = counted_more i.nodes i.thin_room i.working c.self.invariant.counted _ c.insert_reserved-place.result c.new.result c.args.name _ c.insert_reserved-place.ensures.was_vacant c.insert_reserved-place.ensures.updates (ap (λ d. d.name) c.new.ensures) (ap (λ k. i.working + k) c.working_of.ensures);
+    }
 
 pub returns-clause-new : goal.returns-clause-new
 returns-clause-new c = none_at c.self.inside c.args.self.now _ c.self.view_is c.insert_reserved-place.ensures.was_vacant

@@ -36,6 +36,8 @@ after c = record {
   named = refl;
   made = refl;
   copies = refl;
+  working = refl;
+  working_len = c.add_pages.ensures.working;
 }
 
 pub invariant_of-self : goal.invariant_of-self

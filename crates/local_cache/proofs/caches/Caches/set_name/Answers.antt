@@ -1,11 +1,41 @@
-use Rattle.std.proofs.Common.{None, Some, ◌∙◌}
+use Rattle.std.proofs.Common.{None, Some, sym, ap, ◌∙◌, arith}
+use Rattle.std.proofs.lemmas.Grind.{common_steps}
+use Rattle.local_cache.specs.Layout.{working_of}
 use Rattle.local_cache.proofs.Cells.{stays-named}
+use Rattle.local_cache.proofs.Counts.{counted_named, named_fits, taken_fits, was_counted}
 use Rattle.local_cache.proofs.Slots.{named, reads_none}
 use Rattle.local_cache.proofs.Tables.{through}
 use Rattle.local_cache.proofs.caches.Caches.set_name.Goals as goal
 
 pub unreachable-requires : goal.unreachable-requires
 unreachable-requires c = reads_none c.self.inside c.args.self.now c.args.node c.self.view_is c.in-None.ensures.value c.requires
+
+pub overflow_sub-self : goal.overflow_sub-self
+overflow_sub-self c =
+    let i = c.self.inside in
+    let old = c.in-Some.held.now in
+    let gone = was_counted i c.args.self.now c.args.node old c.name-left.result _ c.self.view_is c.in-Some.ensures.value c.name-left.ensures c.working_of.ensures in
+    omega (arith, gone, taken_fits i.nodes i.thin_room i.working c.self.invariant.counted c.args.node.0 old (sym c.in-Some.ensures.value))
+
+pub overflow_add-self : goal.overflow_add-self
+overflow_add-self c =
+    let i = c.self.inside in
+    let old = c.in-Some.held.now in
+    let gone = was_counted i c.args.self.now c.args.node old c.name-left.result _ c.self.view_is c.in-Some.ensures.value c.name-left.ensures c.working_of.ensures in
+    let come = c.working_of-2.ensures ∙ ap (λ d. working_of d.name) (sym c.set_name.ensures) in
+    omega (arith, gone, come, named_fits i.nodes i.thin_room i.working c.self.invariant.counted c.args.node.0 old c.set_name.new.self (sym c.in-Some.ensures.value) c.self.invariant.ready.held)
+
+pub invariant_of-self : goal.invariant_of-self
+invariant_of-self c =
+    let i = c.self.inside in
+    let old = c.in-Some.held.now in
+    let gone = was_counted i c.args.self.now c.args.node old c.name-left.result _ c.self.view_is c.in-Some.ensures.value c.name-left.ensures c.working_of.ensures in
+    let come = c.working_of-2.ensures ∙ ap (λ d. working_of d.name) (sym c.set_name.ensures) in
+    record {
+      laid = grind (arith, common_steps);
+      ready = grind (arith, common_steps);
+      counted = counted_named i.nodes i.thin_room i.working c.self.invariant.counted c.args.node.0 old c.set_name.new.self _ (sym c.in-Some.ensures.value) (omega (arith, gone, come));
+    }
 
 pub returns-clause-changed : goal.returns-clause-changed
 returns-clause-changed c =
