@@ -1,8 +1,10 @@
 pub mod Adding
+pub mod Alike
 pub mod Cells
 pub mod Changes
 pub mod Counts
 pub mod Edit
+pub mod Empty
 pub mod Filled
 pub mod Freeing
 pub mod Fresh

@@ -6,7 +6,7 @@ use Rattle.vm_ids.specs.declared.node_name.NodeName.{NodeName}
 use Rattle.vm_ids.specs.declared.node_name.NodeName.TheVariants.{Live, Working}
 use Rattle.vm_ids.specs.declared.numbers.NodeId.{NodeId}
 use Rattle.local_cache.specs.declared.page_table.PageEntry.{PageEntry}
-use Rattle.local_cache.specs.Arena.{Table, cache_with, table_with, entry_at, table_at, tables_with}
+use Rattle.local_cache.specs.Arena.{Table, cache_with, table_with, entry_at, table_at, tables_with, tables_without}
 
 module _ {X : Type 0} where
   get_set_same : (xs : List X) (k : ℕ) (v : X) → slice_get (set xs k v) k ≡ option_map (λ _. v) (slice_get xs k)
@@ -102,3 +102,20 @@ module _ (ts : List (Option Table)) (cache page : ℕ) where
   pub left-node : (x : NodeName) (m : NodeId) → (x ≡ page_name cache page) ⊎ (x ≢ page_name cache page) → node_in (tables_with ts x None) cache page ≡ Some m → (x ≢ page_name cache page) × (node_in ts cache page ≡ Some m)
   left-node x m (inl e) is = absurd (let clash : None ≡ Some m = sym cleared-node ∙ ap (λ y. node_in (tables_with ts y None) cache page) (sym e) ∙ is in cc clash)
   left-node x m (inr ne) is = (ne, sym (other-node x None ne) ∙ is)
+
+-- Where the pages of a cache have no nodes, its table finds none.
+pub without-node : (ts : List (Option Table)) (gone : ℕ) → ((page : ℕ) → node_in ts gone page ≡ None) → (cache page : ℕ) → node_in (tables_without ts gone) cache page ≡ node_in ts cache page
+without-node ts zero none cache page = refl
+without-node ts (suc k) none zero page = refl
+without-node ts (suc k) none (suc j) page = elim (cases_eq j k) [
+  | inl e ↦ ap (λ i. node_of_table (get_or (set ts k None) i None)) e ∙ ap node_of_table (gone_table ts k) ∙ sym (ap (λ i. node_in ts (suc i) page) e ∙ none page)
+  | inr apart ↦ ap node_of_table (read_other ts k j None apart)
+]
+  where
+    node_of_table : Option Table → Option NodeId
+    node_of_table t = option_and_then (λ t. node_of_entry (slice_get t.pages page)) t
+
+    gone_table : (ts : List (Option Table)) (k : ℕ) → get_or (set ts k None) k None ≡ None
+    gone_table [] k = refl
+    gone_table (t ∷ ts) zero = refl
+    gone_table (t ∷ ts) (suc k) = gone_table ts k

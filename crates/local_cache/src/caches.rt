@@ -4,11 +4,14 @@ ghost use Rattle.std.specs.Vec.{vec_len, vec_capacity};
 ghost use Rattle.vm_ids.specs.declared.numbers.NodeId.{NodeId};
 ghost use Rattle.slab.specs.Slab.{HasRoomFor, slab_len};
 ghost use Rattle.local_cache.specs.Arena.{HasPage, IsFilled, IsHeld, IsMade, IsVacant, as_working, cell, entry_for, find, node_at, table_of, with_links, with_name, with_new, with_own, with_tree, with_working, without, without_cache};
+ghost use Rattle.vm_ids.specs.Forest.Changes.{count_copy};
 ghost use Rattle.vm_ids.specs.Forest.NameMap.{len};
+ghost use Rattle.vm_ids.specs.Forest.Nodes.{no_forest};
 ghost use Rattle.vm_ids.specs.Forest.Reading.{counts_of};
 ghost use Rattle.local_cache.specs.Layout.{cells_of, working_len};
 ghost use Rattle.local_cache.specs.Queue.{Entry, IsQueued};
 ghost use Rattle.local_cache.specs.Reading.{IsNamed, forest_of};
+ghost use Rattle.local_cache.specs.Sound.{IsSound};
 ghost use Rattle.local_cache.specs.Thin.{IsLeastThin};
 
 use crate::page_node::{PageNode, working_of};
@@ -85,6 +88,8 @@ impl Caches {
         ensures nodes { (n : NodeId) → find result n ≡ None }
         ensures caches { result.caches ≡ [] }
         ensures counters { (result.made ≡ 0) × (result.copies ≡ 0) }
+        ensures forest { forest_of result ≡ no_forest }
+        ensures sound { IsSound result }
     {
         Caches {
             nodes: Slab::new(alloc),
@@ -101,6 +106,7 @@ impl Caches {
 
     /// Takes memory for so many more caches and so many more pages. It can fail only where there is too little room, and
     /// it does where the nodes could be 2^32 or more in all. After an error what was there is there still.
+    #[tactic(auto, using(crate::proofs::Alike::roomier_forest))]
     pub fn reserve(&mut self, caches: u32, nodes: u32) -> Result<(), NoMemory>
         ensures nodes { OnOk result (nodes ≤ self.new.room.nodes) }
         ensures caches { OnOk result (caches ≤ self.new.room.caches) }
@@ -108,6 +114,8 @@ impl Caches {
         ensures kept { self.new ≡ record self.old { room = self.new.room } }
         ensures no_less { (self.old.room.nodes ≤ self.new.room.nodes) × (self.old.room.caches ≤ self.new.room.caches) × (self.old.room.entries ≤ self.new.room.entries) }
         ensures enough { caches ≤ self.old.room.caches → nodes ≤ self.old.room.nodes → nodes ≤ self.old.room.entries → IsOk result }
+        ensures forest { IsSound self.old → forest_of self.new ≡ forest_of self.old }
+        ensures sound { IsSound self.old → IsSound self.new }
     {
         let room = self.nodes.len() + nodes as usize;
         if room > u32::MAX as usize {
@@ -166,7 +174,9 @@ impl Caches {
     pub fn remove(&mut self, cache: CacheId)
         requires live { IsSome (table_of self.old cache.0) }
         requires retired { (page : ℕ) → node_at self.old cache.0 page ≡ None }
-        ensures { self.new ≡ without_cache self.old cache }
+        ensures changed { self.new ≡ without_cache self.old cache }
+        ensures forest { IsSound self.old → forest_of self.new ≡ forest_of self.old }
+        ensures sound { IsSound self.old → IsSound self.new }
     {
         let gap = entry_of(&self.caches, cache).unwrap();
         let index = cache.0 as usize - 1;
@@ -378,7 +388,9 @@ impl Caches {
     /// Counts one copied page more.
     pub fn count_copy(&mut self)
         requires { self.old.copies < 2 ^ 63 }
-        ensures { self.new ≡ record self.old { copies = self.old.copies + 1 } }
+        ensures changed { self.new ≡ record self.old { copies = self.old.copies + 1 } }
+        ensures forest { IsSound self.old → forest_of self.new ≡ count_copy (forest_of self.old) }
+        ensures sound { IsSound self.old → IsSound self.new }
     {
         self.copies += 1;
     }

@@ -1,6 +1,7 @@
 use Rattle.std.proofs.Common.{◌≡◌, List, Option, Some, ◌-◌, length, refl, sym, ap, ◌∙◌, arith}
 use Rattle.local_cache.specs.declared.page_table.CacheEntry.{CacheEntry}
 use Rattle.local_cache.specs.Layout.{entry_at}
+use Rattle.local_cache.proofs.Alike.{removed_forest, removed_sound}
 use Rattle.local_cache.proofs.Gaps.{row_behind_gap}
 use Rattle.local_cache.proofs.Removed.{Left, at_index, removed, right_left}
 use Rattle.local_cache.proofs.Tables.{entry_within}
@@ -32,5 +33,11 @@ left c = record {
 pub invariant_of-self : goal.invariant_of-self
 invariant_of-self c = right_left c.self.inside c.args.cache.0 c.unwrap-gap.result c.lower.new.caches c.close_gap.new.entries c.self.invariant (left c)
 
-pub returns : goal.returns
-returns c = removed c.self.inside c.args.cache.0 c.unwrap-gap.result c.lower.new.caches c.close_gap.new.entries c.self.invariant (left c) c.args.self.now c.args.cache refl c.self.view_is
+pub returns-clause-changed : goal.returns-clause-changed
+returns-clause-changed c = removed c.self.inside c.args.cache.0 c.unwrap-gap.result c.lower.new.caches c.close_gap.new.entries c.self.invariant (left c) c.args.self.now c.args.cache refl c.self.view_is
+
+pub returns-clause-forest : goal.returns-clause-forest
+returns-clause-forest c sound = removed_forest c.args.self.now _ c.args.cache (returns-clause-changed c)
+
+pub returns-clause-sound : goal.returns-clause-sound
+returns-clause-sound c = removed_sound c.args.self.now _ c.args.cache (returns-clause-changed c) c.requires.retired

@@ -1,0 +1,21 @@
+use Rattle.std.proofs.Common.{rules}
+use Rattle.local_cache.proofs.Alike.{roomier_sound}
+use Rattle.local_cache.proofs.caches.Caches.reserve.Goals as goal
+
+pub returns-then-is_err-clause-sound : goal.returns-then-is_err-clause-sound
+returns-then-is_err-clause-sound c sound = roomier_sound c.args.self.now _ sound (search rules)
+
+pub returns-then-is_err-2-clause-sound : goal.returns-then-is_err-2-clause-sound
+returns-then-is_err-2-clause-sound c sound = roomier_sound c.args.self.now _ sound (search rules)
+
+pub returns-then-is_err-3-clause-sound : goal.returns-then-is_err-3-clause-sound
+returns-then-is_err-3-clause-sound c sound = roomier_sound c.args.self.now _ sound (search rules)
+
+pub returns-then-is_err-4-clause-sound : goal.returns-then-is_err-4-clause-sound
+returns-then-is_err-4-clause-sound c sound = roomier_sound c.args.self.now _ sound (search rules)
+
+pub returns-then-self-room-clause-sound : goal.returns-then-self-room-clause-sound
+returns-then-self-room-clause-sound c sound = roomier_sound c.args.self.now _ sound (search rules)
+
+pub returns-else-self-room-clause-sound : goal.returns-else-self-room-clause-sound
+returns-else-self-room-clause-sound c sound = roomier_sound c.args.self.now _ sound (search rules)
