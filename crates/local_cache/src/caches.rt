@@ -114,7 +114,7 @@ impl Caches {
         ensures kept { self.new ≡ record self.old { room = self.new.room } }
         ensures no_less { (self.old.room.nodes ≤ self.new.room.nodes) × (self.old.room.caches ≤ self.new.room.caches) × (self.old.room.entries ≤ self.new.room.entries) }
         ensures enough { caches ≤ self.old.room.caches → nodes ≤ self.old.room.nodes → nodes ≤ self.old.room.entries → IsOk result }
-        ensures forest { IsSound self.old → forest_of self.new ≡ forest_of self.old }
+        ensures forest { forest_of self.new ≡ forest_of self.old }
         ensures sound { IsSound self.old → IsSound self.new }
     {
         let room = self.nodes.len() + nodes as usize;
@@ -175,7 +175,7 @@ impl Caches {
         requires live { IsSome (table_of self.old cache.0) }
         requires retired { (page : ℕ) → node_at self.old cache.0 page ≡ None }
         ensures changed { self.new ≡ without_cache self.old cache }
-        ensures forest { IsSound self.old → forest_of self.new ≡ forest_of self.old }
+        ensures forest { forest_of self.new ≡ forest_of self.old }
         ensures sound { IsSound self.old → IsSound self.new }
     {
         let gap = entry_of(&self.caches, cache).unwrap();
@@ -389,7 +389,7 @@ impl Caches {
     pub fn count_copy(&mut self)
         requires { self.old.copies < 2 ^ 63 }
         ensures changed { self.new ≡ record self.old { copies = self.old.copies + 1 } }
-        ensures forest { IsSound self.old → forest_of self.new ≡ count_copy (forest_of self.old) }
+        ensures forest { forest_of self.new ≡ count_copy (forest_of self.old) }
         ensures sound { IsSound self.old → IsSound self.new }
     {
         self.copies += 1;

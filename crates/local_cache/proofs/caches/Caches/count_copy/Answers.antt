@@ -4,7 +4,7 @@ use Rattle.local_cache.proofs.Alike.{copied_forest, copied_sound}
 use Rattle.local_cache.proofs.caches.Caches.count_copy.Goals as goal
 
 pub returns-clause-forest : goal.returns-clause-forest
-returns-clause-forest c sound = copied_forest c.args.self.now _ (ap (λ (a : Arena). record a { copies = a.copies + 1 }) c.self.view_is)
+returns-clause-forest c = copied_forest c.args.self.now _ (ap (λ (a : Arena). record a { copies = a.copies + 1 }) c.self.view_is)
 
 pub returns-clause-sound : goal.returns-clause-sound
 returns-clause-sound c = copied_sound c.args.self.now _ (ap (λ (a : Arena). record a { copies = a.copies + 1 }) c.self.view_is)

@@ -37,7 +37,7 @@ pub returns-clause-changed : goal.returns-clause-changed
 returns-clause-changed c = removed c.self.inside c.args.cache.0 c.unwrap-gap.result c.lower.new.caches c.close_gap.new.entries c.self.invariant (left c) c.args.self.now c.args.cache refl c.self.view_is
 
 pub returns-clause-forest : goal.returns-clause-forest
-returns-clause-forest c sound = removed_forest c.args.self.now _ c.args.cache (returns-clause-changed c)
+returns-clause-forest c = removed_forest c.args.self.now _ c.args.cache (returns-clause-changed c)
 
 pub returns-clause-sound : goal.returns-clause-sound
 returns-clause-sound c = removed_sound c.args.self.now _ c.args.cache (returns-clause-changed c) c.requires.retired
