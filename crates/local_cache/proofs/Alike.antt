@@ -1,5 +1,5 @@
 -- Caches with the same nodes: their tables, counters and spare room may be others.
-use Rattle.std.proofs.Common.{◌≡◌, ℕ, zero, suc, ◌+◌, ◌≤◌, ◌∷◌, map, Option, Some, None, is_some, unwrap_or, refl, sym, ap, ◌∙◌, subst}
+use Rattle.std.proofs.Common.{◌≡◌, ℕ, zero, suc, ◌+◌, ◌≤◌, List, ◌∷◌, map, Option, Some, None, is_some, unwrap_or, refl, sym, ap, ◌∙◌, subst}
 use Rattle.std.specs.FinMap as ids
 use Rattle.vm_ids.specs.Forest.Changes.{count_copy}
 use Rattle.vm_ids.specs.Forest.NameMap as names
@@ -7,7 +7,7 @@ use Rattle.vm_ids.specs.Forest.Nodes.{Forest, node}
 use Rattle.vm_ids.specs.Forest.Shape.{IsLinked}
 use Rattle.vm_ids.specs.declared.numbers.CacheId.{CacheId}
 use Rattle.vm_ids.specs.declared.numbers.NodeId.{NodeId}
-use Rattle.local_cache.specs.Arena.{Arena, IsHeld, blank, cell, node_at, without_cache}
+use Rattle.local_cache.specs.Arena.{Arena, IsHeld, Table, blank, cell, node_at, without_cache}
 use Rattle.local_cache.specs.Reading.{at_key, forest_of, hang_by, name_of, node_of, page_of, stubs_of, walk}
 use Rattle.local_cache.specs.Sound.{IsSound, ◌∈◌}
 use Rattle.local_cache.specs.Threads.{IsThreaded}
@@ -90,6 +90,10 @@ same_counters a = refl
 one_copied : (a : Arena) → record (forest_of a) { made = a.made; copies = a.copies + 1 } ≡ count_copy (forest_of a)
 unfolding forest_of
 one_copied a = refl
+
+-- other tables
+pub retabled_forest : (a : Arena) (ts : List (Option Table)) → forest_of (record a { caches = ts }) ≡ forest_of a
+retabled_forest a ts = alike_forest a (record a { caches = ts }) refl ∙ same_counters a
 
 -- more room, or less
 pub roomier_forest : (a b : Arena) → b ≡ record a { room = b.room } → forest_of b ≡ forest_of a

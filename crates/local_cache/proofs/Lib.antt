@@ -12,6 +12,7 @@ pub mod Gaps
 pub mod Least
 pub mod Listing
 pub mod Made
+pub mod Making
 pub mod Pages
 pub mod Queued
 pub mod Reading

@@ -5,6 +5,7 @@ ghost use Rattle.vm_ids.specs.declared.numbers.NodeId.{NodeId};
 ghost use Rattle.slab.specs.Slab.{HasRoomFor, slab_len};
 ghost use Rattle.local_cache.specs.Arena.{HasPage, IsFilled, IsHeld, IsMade, IsVacant, as_working, cell, entry_for, find, node_at, table_of, with_links, with_name, with_new, with_own, with_tree, with_working, without, without_cache};
 ghost use Rattle.vm_ids.specs.Forest.Changes.{count_copy};
+ghost use Rattle.vm_ids.specs.Forest.Commands.{make, page_names};
 ghost use Rattle.vm_ids.specs.Forest.NameMap.{len};
 ghost use Rattle.vm_ids.specs.Forest.Nodes.{no_forest};
 ghost use Rattle.vm_ids.specs.Forest.Reading.{counts_of};
@@ -148,6 +149,8 @@ impl Caches {
         requires entries { pages ≤ self.old.room.entries }
         ensures made { (nodes : List NodeId) × (length nodes ≡ pages) × IsMade self.old self.new result None OwnState.Zero nodes }
         ensures pages { (page : ℕ) → page < pages → HasPage self.new result page OwnState.Zero }
+        ensures forest { IsSound self.old → forest_of self.new ≡ make (map (λ x. (x, OwnState.Zero)) (page_names result 0 pages)) (forest_of self.old) }
+        ensures sound { IsSound self.old → IsSound self.new }
         ensures stays { (n : NodeId) → IsHeld self.old n → find self.new n ≡ find self.old n }
         ensures tables { (other : ℕ) → other ≤ length self.old.caches → table_of self.new other ≡ table_of self.old other }
     {
@@ -163,6 +166,8 @@ impl Caches {
         requires entries { pages ≤ self.old.room.entries }
         ensures made { (nodes : List NodeId) × (length nodes ≡ pages) × IsMade self.old self.new result (Some seg) OwnState.OnSegment nodes }
         ensures pages { (page : ℕ) → page < pages → HasPage self.new result page OwnState.OnSegment }
+        ensures forest { IsSound self.old → forest_of self.new ≡ make (map (λ x. (x, OwnState.OnSegment)) (page_names result 0 pages)) (forest_of self.old) }
+        ensures sound { IsSound self.old → IsSound self.new }
         ensures stays { (n : NodeId) → IsHeld self.old n → find self.new n ≡ find self.old n }
         ensures tables { (other : ℕ) → other ≤ length self.old.caches → table_of self.new other ≡ table_of self.old other }
     {

@@ -108,15 +108,16 @@ fn the_least_thin_node_comes_first(rt: HostRuntime) -> Result<(), Fail> {
 #[test]
 fn what_is_kept_is_counted(rt: HostRuntime) -> Result<(), Fail> {
     let mut caches = Caches::new(rt.alloc());
-    let none = Counts {
-        live: 0,
-        working: 0,
-        copies: 0,
-    };
-    assert_eq!(rt; caches.counts(), none);
-    caches.reserve(1, 2)?;
-    caches.make_temp(1);
+    caches.count_copy();
+    caches.reserve(1, 3)?;
+    caches.make_temp(2);
     caches.fresh_working();
+    let kept = Counts {
+        live: 2,
+        working: 1,
+        copies: 1,
+    };
+    assert_eq!(rt; caches.counts(), kept);
     assert_eq!(rt; caches.caches_made(), 1);
     assert_eq!(rt; caches.working_made(), 1);
     Ok(())
