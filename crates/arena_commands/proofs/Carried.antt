@@ -1,0 +1,193 @@
+-- What whole commands leave of the forest.
+use Rattle.std.proofs.Common.{◌≡◌, ◌≢◌, ◌⊎◌, ℕ, zero, suc, ◌+◌, ◌<◌, ◌≤◌, ◌^◌, Bool, true, false, cond, leb, List, [], ◌∷◌, get_or, set, length, Option, Some, None, is_some, option_map, refl, sym, ap, ◌∙◌, subst, inl, inr, arith}
+use Rattle.std.specs.List.{list_any}
+use Rattle.std.proofs.lemmas.List.{length-map}
+use Rattle.std.proofs.lemmas.Bool.{false≢true}
+use Rattle.vm_ids.specs.declared.node_name.NodeName.{NodeName}
+use Rattle.vm_ids.specs.declared.numbers.CacheId.{CacheId}
+use Rattle.vm_ids.specs.declared.numbers.NodeId.{NodeId}
+use Rattle.vm_ids.specs.declared.command.Span.{Span}
+use Rattle.vm_ids.specs.declared.reply.Counts.{Counts}
+use Rattle.vm_ids.specs.Forest.Names.{same}
+use Rattle.vm_ids.specs.Forest.NameLists.{◌∈◌}
+use Rattle.vm_ids.specs.Forest.NameMap.{contains_key, keys, len}
+use Rattle.vm_ids.specs.Forest.Nodes.{Forest, IsNode, is_live}
+use Rattle.vm_ids.specs.Forest.Reading.{counts_of, value_of}
+use Rattle.vm_ids.specs.Forest.Rules.{heir_gets, owned, write}
+use Rattle.vm_ids.specs.Forest.Settling.{settle}
+use Rattle.vm_ids.specs.Forest.Shape.{IsConsistent}
+use Rattle.vm_ids.specs.Forest.Commands.{copy, copy_pages, destroy, page_name, page_names, page_pairs, retire_all, small_copy, span_pairs}
+use Rattle.vm_ids.specs.Forest.Laws.Commands.{is_in}
+use Rattle.vm_ids.proofs.Forest.Agreeing.{IsNode-equal}
+use Rattle.vm_ids.proofs.Forest.Bound.{any_from_in, split_length}
+use Rattle.vm_ids.proofs.Forest.Fitting.{IsNode-IsValue, in_from_any}
+use Rattle.vm_ids.proofs.Forest.Laws.Commands.{destroy_destroys}
+use Rattle.vm_ids.proofs.Forest.Laws.Settling.{settle_keeps_consistency}
+use Rattle.vm_ids.proofs.Forest.Laws.Writing.{write_keeps_consistency}
+use Rattle.vm_ids.proofs.Forest.Laws.Ranges.{ranges_hold_their_pages}
+use Rattle.vm_ids.proofs.Forest.NamesAfter.{heir_gets-names}
+use Rattle.vm_ids.proofs.Forest.NodesAfter.{has-put}
+use Rattle.vm_ids.proofs.Forest.Owning.{has_value}
+use Rattle.vm_ids.proofs.Forest.Paths.{IsNode-value}
+use Rattle.vm_ids.proofs.Forest.Settling.{settle-Rests}
+use Rattle.vm_ids.proofs.Forest.Writing.{owned-Owned}
+use Rattle.local_cache.specs.declared.own_state.OwnState.{OwnState}
+use Rattle.local_cache.specs.Arena.{Arena, Table, node_at, tables_without, without_cache}
+use Rattle.local_cache.specs.Reading.{forest_of}
+use Rattle.local_cache.specs.Sound.{IsSound}
+use Rattle.local_cache.proofs.Reading.{IsNode-forest_of}
+use Rattle.arena_commands.specs.Whole.{IsWhole, SameSizes, size_of}
+use Rattle.arena_commands.proofs.Growing.{more_names}
+use Rattle.arena_commands.proofs.Leaving.{pages_once}
+use Rattle.arena_commands.proofs.Wholes.{node_page, whole_after}
+
+pairs_length : (c : CacheId) (p : ℕ) (d : CacheId) (q n : ℕ) → length (page_pairs c p d q n) ≡ n
+pairs_length c p d q zero = refl
+pairs_length c p d q (suc n) = ap suc (pairs_length c (p + 1) d (q + 1) n)
+
+module _ {P : Type 0} where
+  -- live and working nodes are all
+  pub counted : (f : Forest P) (r : Counts) → r ≡ counts_of f → r.live + r.working ≡ len f.nodes
+  counted f r is = ap (λ (c : Counts). c.live + c.working) is ∙ split_length is_live (keys f.nodes) ∙ length-map f.nodes.list _
+
+  -- settle keeps live nodes, and makes none
+  settle_stays : (f : Forest P) → IsConsistent f → (x : NodeName) → is_live x ≡ true → IsNode f x → IsNode (settle f) x
+  settle_stays f c x live is = let v = has_value f c.shaped x is in IsNode-IsValue (settle f) ((settle-Rests f c.shaped).lives x v.0 live v.1)
+
+  settle_len : (f : Forest P) → IsConsistent f → len (settle f).nodes ≤ len f.nodes
+  settle_len f c = let most = more_names f (settle f) [] (λ z is. inr ((settle-Rests f c.shaped).names z is)) in omega (arith, most)
+
+  -- a write makes and drops no node
+  module _ (f : Forest P) (c : IsConsistent f) (x : NodeName) (is : IsNode f x) (change : P → P) where
+    write_names : (z : NodeName) → contains_key (write f x change).nodes z ≡ contains_key f.nodes z
+    unfolding write
+    write_names z =
+        let owns = owned-Owned f c.shaped x is in
+        let handed : (y : NodeName) → contains_key (heir_gets (owned f x) x).nodes y ≡ contains_key f.nodes y = λ y. heir_gets-names (owned f x) owns.shaped.linked x y ∙ owns.names y in
+        has-put (heir_gets (owned f x) x) x _ (handed x ∙ is) z ∙ handed z
+
+    write_stays : (z : NodeName) → IsNode f z → IsNode (write f x change) z
+    write_stays z there = write_names z ∙ there
+
+    write_len : len (write f x change).nodes ≤ len f.nodes
+    write_len = let most = more_names f (write f x change) [] (λ z there. inr (sym (write_names z) ∙ there)) in omega (arith, most)
+
+  -- the pages of a copy, and then settle
+  pub copied : (f g h : Forest P) (s : Span) → g ≡ copy_pages (leb s.pages small_copy) (span_pairs s) f → h ≡ settle g → h ≡ copy false (span_pairs s) f
+  copied f g h s pages settled = settled ∙ ap settle pages ∙ ap (λ n. settle (copy_pages (leb n small_copy) (span_pairs s) f)) (sym (pairs_length s.from s.from_page.0 s.to s.to_page.0 s.pages))
+
+-- a cache that goes ----------------------------------------------------------------------
+
+module _ (a b : Arena) (whole : IsWhole a) (cache : CacheId) (n : ℕ) (size : size_of a cache.0 ≡ Some n) (forest_is : forest_of b ≡ destroy false (page_names cache 0 n) (forest_of a)) (sound : IsSound b) (consistent : IsConsistent (forest_of b)) (sizes : SameSizes a b) where
+  value_is : (y : NodeName) → is_live y ≡ true → value_of (forest_of b) y ≡ cond (is_in y (page_names cache 0 n)) None (value_of (forest_of a) y)
+  value_is y live = ap (λ g. value_of g y) forest_is ∙ destroy_destroys false (page_names cache 0 n) (forest_of a) whole.consistent (pages_once a whole cache n size) y live
+
+  -- none of its pages has a node
+  page_gone : (page : ℕ) → page < n → IsNode (forest_of b) (page_name cache page) → ⊥
+  page_gone page low is =
+      let number : page ≡ 0 + page = omega arith in
+      let i : page_name cache page ∈ page_names cache 0 n = (ranges_hold_their_pages cache 0 n (page_name cache page)).1 (page, low, ap (page_name cache) number) in
+      let none : value_of (forest_of b) (page_name cache page) ≡ None = value_is (page_name cache page) refl ∙ ap (λ t. cond t None (value_of (forest_of a) (page_name cache page))) (any_from_in (page_names cache 0 n) (page_name cache page) i) in
+      false≢true (sym (ap is_some none) ∙ (IsNode-value (forest_of b) consistent.shaped (page_name cache page)).0 is)
+
+  all_gone : (page : ℕ) → node_at b cache.0 page ≡ None
+  all_gone page = go (node_at b cache.0 page) refl
+    where
+      go : (o : Option NodeId) → node_at b cache.0 page ≡ o → node_at b cache.0 page ≡ None
+      go None e = e
+      go (Some m) e =
+          let at = sound.listed.nodes cache.0 page m e in
+          let is : IsNode (forest_of b) (page_name cache page) = subst (IsNode (forest_of b)) at.1 (IsNode-forest_of b sound.named m at.0) in
+          let p = node_page b sound cache page is in
+          let two : Some p.0 ≡ Some n = sym p.1 ∙ sizes cache.0 ∙ size in
+          let same_size : p.0 ≡ n = cc two in
+          absurd (page_gone page (let low = p.2 in omega arith) is)
+
+  -- the pages of other caches have theirs
+  others_stay : (other : CacheId) (page : ℕ) → other.0 ≢ cache.0 → IsNode (forest_of a) (page_name other page) → IsNode (forest_of b) (page_name other page)
+  others_stay other page apart is = IsNode-equal (forest_of a) (forest_of b) whole.consistent.shaped (page_name other page) (page_name other page)
+      (value_is (page_name other page) refl ∙ ap (λ t. cond t None (value_of (forest_of a) (page_name other page))) (out (list_any (same (page_name other page)) (page_names cache 0 n)) refl)) is
+    where
+      another : (i : ℕ) → page_name other page ≡ page_name cache (0 + i) → other.0 ≡ cache.0
+      another i e = cc e
+
+      out : (t : Bool) → is_in (page_name other page) (page_names cache 0 n) ≡ t → is_in (page_name other page) (page_names cache 0 n) ≡ false
+      out false e = e
+      out true e =
+          let at = (ranges_hold_their_pages cache 0 n (page_name other page)).0 (in_from_any (page_names cache 0 n) (page_name other page) e) in
+          absurd (apart (another at.0 at.2))
+
+-- The caches after whole commands ---------------------------------------------------------
+
+-- a page was written
+pub whole_written : (a b : Arena) → IsWhole a → (x : NodeName) → IsNode (forest_of a) x → is_live x ≡ true → (change : OwnState → OwnState) → forest_of b ≡ write (forest_of a) x change → IsSound b → SameSizes a b → IsWhole b
+whole_written a b whole x is live change forest_is sound sizes =
+    let f = forest_of a in
+    whole_after a b whole sound (subst IsConsistent (sym forest_is) (write_keeps_consistency f whole.consistent x change is live)) sizes
+    (λ z _ there. subst (λ g. IsNode g z) (sym forest_is) (write_stays f whole.consistent x is change z there))
+    (let most = write_len f whole.consistent x is change in omega (arith, most, whole.few, ap (λ g. len g.nodes) forest_is))
+
+-- the pages of a copy were linked, and then the working nodes settled
+pub whole_copied : (a b c : Arena) → IsWhole a → (more : ℕ) → len (forest_of a).nodes + more < 2 ^ 32 → IsConsistent (forest_of b) → ((x : NodeName) → IsNode (forest_of a) x → IsNode (forest_of b) x) → len (forest_of b).nodes ≤ len (forest_of a).nodes + more → SameSizes a b
+    → forest_of c ≡ settle (forest_of b) → IsSound c → SameSizes b c → IsWhole c
+whole_copied a b c whole more few consistent stays most first forest_is sound second =
+    whole_after a c whole sound (subst IsConsistent (sym forest_is) (settle_keeps_consistency (forest_of b) consistent)) (λ cache. second cache ∙ first cache)
+    (λ x live there. subst (λ g. IsNode g x) (sym forest_is) (settle_stays (forest_of b) consistent x live (stays x there)))
+    (let less = settle_len (forest_of b) consistent in omega (arith, less, most, few, ap (λ g. len g.nodes) forest_is))
+
+-- a cache is gone
+module _ (a b c : Arena) (whole : IsWhole a) (cache : CacheId) (n : ℕ) (size : size_of a cache.0 ≡ Some n) (forest_is : forest_of b ≡ destroy false (page_names cache 0 n) (forest_of a)) (sound : IsSound b) (consistent : IsConsistent (forest_of b)) (sizes : SameSizes a b)
+    (few : len (forest_of b).nodes ≤ len (forest_of a).nodes) (changed : c ≡ without_cache b cache) (after : IsSound c) (same_forest : forest_of c ≡ forest_of b) where
+  gone_size : (other : ℕ) → ((other ≢ cache.0) × (size_of c other ≡ size_of b other)) ⊎ (size_of c other ≡ None)
+  gone_size other = go cache.0 other refl
+    where
+      kept : (ts : List (Option Table)) (k j : ℕ) → (j ≢ k) × (get_or (set ts k None) j None ≡ get_or ts j None) ⊎ (get_or (set ts k None) j None ≡ None)
+      kept [] k j = inr refl
+      kept (t ∷ ts) zero zero = inr refl
+      kept (t ∷ ts) zero (suc j) = inl (λ e. (let z : suc j ≡ 0 = e in absurd (omega arith)), refl)
+      kept (t ∷ ts) (suc k) zero = inl (λ e. (let z : 0 ≡ suc k = e in absurd (omega arith)), refl)
+      kept (t ∷ ts) (suc k) (suc j) = elim (kept ts k j) [ inl r ↦ inl (λ e. r.0 (omega (arith, e)), r.1) | inr none ↦ inr none ]
+
+      tables : c.caches ≡ tables_without b.caches cache.0
+      tables = ap (λ (k : Arena). k.caches) changed
+
+      go : (k j : ℕ) → cache.0 ≡ k → ((j ≢ cache.0) × (size_of c j ≡ size_of b j)) ⊎ (size_of c j ≡ None)
+      go k zero e = inr refl
+      go zero (suc j) e = inl ((λ q. (let z : suc j ≡ 0 = q ∙ e in absurd (omega arith))), ap (λ (ts : List (Option Table)). option_map (λ (t : Table). length t.pages) (get_or ts j None)) (tables ∙ ap (tables_without b.caches) e))
+      go (suc k) (suc j) e =
+          let at : c.caches ≡ set b.caches k None = tables ∙ ap (tables_without b.caches) e in
+          elim (kept b.caches k j) [
+            | inl r ↦ inl ((λ q. r.0 (let z : suc j ≡ suc k = q ∙ e in omega arith)), ap (λ (ts : List (Option Table)). option_map (λ (t : Table). length t.pages) (get_or ts j None)) at ∙ ap (λ (o : Option Table). option_map (λ (t : Table). length t.pages) o) r.1)
+            | inr none ↦ inr (ap (λ (ts : List (Option Table)). option_map (λ (t : Table). length t.pages) (get_or ts j None)) at ∙ ap (λ (o : Option Table). option_map (λ (t : Table). length t.pages) o) none)
+          ]
+
+  whole_gone : IsWhole c
+  whole_gone = record {
+    sound = after;
+    consistent = subst IsConsistent (sym same_forest) consistent;
+    pages = λ other page count is low. elim (gone_size other.0) [
+      | inl k ↦ subst (λ g. IsNode g (page_name other page)) (sym same_forest) (others_stay a b whole cache n size forest_is sound consistent sizes other page k.0 (whole.pages other page count (sym (sizes other.0) ∙ sym k.1 ∙ is) low))
+      | inr none ↦ (let e : Some count ≡ None = sym is ∙ none in absurd (cc e))
+    ];
+    few = omega (arith, few, whole.few, ap (λ g. len g.nodes) same_forest);
+  }
+
+-- The pages of a cache were retired, the working nodes settled, and then the cache removed.
+module _ (a b c : Arena) (whole : IsWhole a) (cache : CacheId) (n : ℕ) (size : size_of a cache.0 ≡ Some n) (left : forest_of b ≡ retire_all (page_names cache 0 n) (forest_of a)) (consistent : IsConsistent (forest_of b)) (first : SameSizes a b) (few : len (forest_of b).nodes ≤ len (forest_of a).nodes)
+    (settled : forest_of c ≡ settle (forest_of b)) (sound : IsSound c) (second : SameSizes b c) where
+  is_destroyed : forest_of c ≡ destroy false (page_names cache 0 n) (forest_of a)
+  is_destroyed = settled ∙ ap settle left
+
+  still_consistent : IsConsistent (forest_of c)
+  still_consistent = subst IsConsistent (sym settled) (settle_keeps_consistency (forest_of b) consistent)
+
+  same_sizes : SameSizes a c
+  same_sizes cache = second cache ∙ first cache
+
+  -- no page of the cache has a node
+  pub emptied : (page : ℕ) → node_at c cache.0 page ≡ None
+  emptied = all_gone a c whole cache n size is_destroyed sound still_consistent same_sizes
+
+  pub whole_emptied : (d : Arena) → d ≡ without_cache c cache → IsSound d → forest_of d ≡ forest_of c → IsWhole d
+  whole_emptied d changed after same_forest = whole_gone a c d whole cache n size is_destroyed sound still_consistent same_sizes
+      (let less = settle_len (forest_of b) consistent in omega (arith, less, few, ap (λ g. len g.nodes) settled)) changed after same_forest

@@ -1,0 +1,13 @@
+pub mod Begun
+pub mod Carried
+pub mod Counted
+pub mod Giving
+pub mod Growing
+pub mod Handing
+pub mod Leaving
+pub mod Linked
+pub mod Pairs
+pub mod Settled
+pub mod Sizes
+pub mod Wholes
+pub mod Written

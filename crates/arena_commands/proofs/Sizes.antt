@@ -1,0 +1,67 @@
+-- The sizes of caches stay where their tables get or lose nodes.
+use Rattle.std.proofs.Common.{◌≡◌, ℕ, zero, suc, List, [], ◌∷◌, get_or, set, length, length-set, Option, Some, None, option_map, refl, ap, ◌∙◌, arith}
+use Rattle.vm_ids.specs.declared.node_name.NodeName.{NodeName}
+use Rattle.vm_ids.specs.declared.node_name.NodeName.TheVariants.{Live, Working}
+use Rattle.vm_ids.specs.declared.numbers.NodeId.{NodeId}
+use Rattle.vm_ids.specs.Forest.Nodes.{child_count}
+use Rattle.local_cache.specs.declared.own_state.OwnState.{OwnState}
+use Rattle.local_cache.specs.Arena.{Arena, Table, as_working, put, table_at, table_with, tables_with, with_new}
+use Rattle.local_cache.specs.Reading.{forest_of, name_of}
+use Rattle.tree_merge.specs.declared.released.Released.{Released}
+use Rattle.tree_merge.specs.Releasing.{IsDetached, IsRetired}
+use Rattle.arena_commands.specs.Whole.{SameSizes}
+
+abbrev size : Option Table → Option ℕ
+size o = option_map (λ (t : Table). length t.pages) o
+
+sized_with : (page : ℕ) (n : Option NodeId) (o : Option Table) → size (option_map (table_with page n) o) ≡ size o
+sized_with page n None = refl
+sized_with page n (Some t) = ap Some (length-set t.pages page (record { node = n }))
+
+sizes_with : (page : ℕ) (n : Option NodeId) (ts : List (Option Table)) (k j : ℕ) → size (get_or (set ts k (option_map (table_with page n) (get_or ts k None))) j None) ≡ size (get_or ts j None)
+sizes_with page n [] k j = refl
+sizes_with page n (t ∷ ts) zero zero = sized_with page n t
+sizes_with page n (t ∷ ts) zero (suc j) = refl
+sizes_with page n (t ∷ ts) (suc k) zero = refl
+sizes_with page n (t ∷ ts) (suc k) (suc j) = sizes_with page n ts k j
+
+-- the node of a page is another one
+table_sizes : (ts : List (Option Table)) (x : NodeName) (n : Option NodeId) (cache : ℕ) → size (table_at (tables_with ts x n) cache) ≡ size (table_at ts cache)
+table_sizes ts (Working k) n cache = refl
+table_sizes ts (Live c page) n zero = refl
+table_sizes ts (Live c page) n (suc j) = go c.0
+  where
+    go : (k : ℕ) → size (table_at (tables_with ts (Live (record { 0 = k }) page) n) (suc j)) ≡ size (table_at ts (suc j))
+    go zero = refl
+    go (suc k) = sizes_with page.0 n ts k j
+
+pub sizes_by : (a b : Arena) (x : NodeName) (n : Option NodeId) → b.caches ≡ tables_with a.caches x n → SameSizes a b
+sizes_by a b x n e cache = ap (λ (ts : List (Option Table)). size (table_at ts cache)) e ∙ table_sizes a.caches x n cache
+
+pub sizes_same : (a b : Arena) → b.caches ≡ a.caches → SameSizes a b
+sizes_same a b e cache = ap (λ (ts : List (Option Table)). size (table_at ts cache)) e
+
+pub sizes_then : (a b c : Arena) → SameSizes a b → SameSizes b c → SameSizes a c
+sizes_then a b c f g cache = g cache ∙ f cache
+
+caches_working : (a : Arena) (n : NodeId) → (as_working a n).caches ≡ tables_with a.caches (name_of a n) None
+unfolding put
+caches_working a n = refl
+
+caches_new : (a : Arena) (n : NodeId) (x : NodeName) (s : OwnState) → (with_new a n x s).caches ≡ tables_with a.caches x (Some n)
+unfolding with_new
+caches_new a n x s = refl
+
+-- the node of a page is retired
+pub sizes_retired : (a b : Arena) (n : NodeId) (released : Released) → IsRetired a b n released → SameSizes a b
+sizes_retired a b n released r = go (child_count (forest_of a) (name_of a n)) refl
+  where
+    go : (k : ℕ) → child_count (forest_of a) (name_of a n) ≡ k → SameSizes a b
+    go zero e = sizes_by a b (name_of a n) None (r.leaf e).1.caches
+    go (suc k) e = sizes_by a b (name_of a n) None (ap (λ (c : Arena). c.caches) (r.parent (omega arith)).1 ∙ caches_working a n)
+
+-- and a fresh one made for it
+pub sizes_detached : (a b : Arena) (n : NodeId) (x : NodeName) (s : OwnState) (released : Released) → IsDetached a b n x s released → SameSizes a b
+sizes_detached a b n x s released d =
+    sizes_then a d.between b (sizes_retired a d.between n released d.retired)
+    (sizes_by d.between b x (Some d.fresh) (ap (λ (c : Arena). c.caches) d.is ∙ caches_new d.between d.fresh x s))

@@ -1,0 +1,26 @@
+use Rattle.std.proofs.Common.{◌≡◌, ◌+◌, ◌-◌, ◌*◌, ◌≤◌, leb}
+use Rattle.vm_ids.specs.Forest.Commands.{copy_pages as rule_copy_pages, page_pairs, small_copy, span_pairs}
+use Rattle.vm_ids.specs.Forest.Laws.Commands.{CanCopy}
+use Rattle.vm_ids.specs.declared.node_name.NodeName.{NodeName}
+use Rattle.vm_ids.specs.Forest.NameMap.{len}
+use Rattle.vm_ids.specs.Forest.Nodes.{IsNode}
+use Rattle.vm_ids.specs.Forest.Shape.{IsConsistent}
+use Rattle.local_cache.specs.Reading.{forest_of}
+use Rattle.local_cache.specs.Sound.{IsSound}
+use Rattle.arena_commands.specs.Whole.{SameSizes}
+use Rattle.arena_commands.proofs.copying.copy_pages.Given as goal
+
+abbrev pub invariant-loop-page : goal.invariant-loop-page
+invariant-loop-page l =
+    let left = page_pairs l.span.from (l.span.from_page.0 + l.page) l.span.to (l.span.to_page.0 + l.page) (l.span.pages - l.page) in
+    record {
+      forest : rule_copy_pages (leb l.span.pages small_copy) left (forest_of l.caches) ≡ rule_copy_pages (leb l.span.pages small_copy) (span_pairs l.span) (forest_of l.fn.caches);
+      sound : IsSound l.caches;
+      consistent : IsConsistent (forest_of l.caches);
+      can : CanCopy (forest_of l.caches) left;
+      stays : (x : NodeName) → IsNode (forest_of l.fn.caches) x → IsNode (forest_of l.caches) x;
+      sizes : SameSizes l.fn.caches l.caches;
+      room : l.fn.caches.room.nodes ≤ l.caches.room.nodes + 2 * l.page;
+      made : l.caches.made ≤ l.fn.caches.made + 2 * l.page;
+      few : len (forest_of l.caches).nodes ≤ len (forest_of l.fn.caches).nodes + 2 * l.page;
+    }

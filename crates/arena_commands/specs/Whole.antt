@@ -1,0 +1,25 @@
+-- What holds of the caches between two commands.
+use Rattle.std.specs.Prelude.{◌≡◌, ℕ, ◌<◌, ◌^◌, length, Option, Some, option_map}
+use Rattle.vm_ids.specs.declared.numbers.CacheId.{CacheId}
+use Rattle.vm_ids.specs.Forest.NameMap.{len}
+use Rattle.vm_ids.specs.Forest.Nodes.{IsNode}
+use Rattle.vm_ids.specs.Forest.Shape.{IsConsistent}
+use Rattle.vm_ids.specs.Forest.Commands.{page_name}
+use Rattle.local_cache.specs.Arena.{Arena, table_of}
+use Rattle.local_cache.specs.Reading.{forest_of}
+use Rattle.local_cache.specs.Sound.{IsSound}
+
+-- how many pages a cache has, or none where it isn't live
+abbrev pub size_of : Arena → ℕ → Option ℕ
+size_of a cache = option_map (λ t. length t.pages) (table_of a cache)
+
+-- the same caches are live, with as many pages
+abbrev pub SameSizes : Arena → Arena → Type 0
+SameSizes a b = (cache : ℕ) → size_of b cache ≡ size_of a cache
+
+-- The caches are sound, their forest is consistent, each page of a live cache has a node, and the nodes can be counted.
+pub record IsWhole (a : Arena) : Type 0 where
+  pub sound : IsSound a
+  pub consistent : IsConsistent (forest_of a)
+  pub pages : (cache : CacheId) (page count : ℕ) → size_of a cache.0 ≡ Some count → page < count → IsNode (forest_of a) (page_name cache page)
+  pub few : len (forest_of a).nodes < 2 ^ 32

@@ -1,0 +1,218 @@
+// The caches between two commands, and what is read of them.
+ghost use Rattle.std.specs.Prelude.{◌≡◌, ◌≢◌, ◌+◌, ◌*◌, ◌<◌, ◌≤◌, ◌^◌, ◌↔◌, [], length, false, true, None, Some, IfErr, IfOk, IfSome, OnErr, OnOk};
+ghost use Rattle.vm_ids.specs.Forest.Commands.{copy as rule_copy, destroy as rule_destroy, make, page_names, span_pairs};
+ghost use Rattle.vm_ids.specs.Forest.NameMap.{len};
+ghost use Rattle.vm_ids.specs.Forest.Nodes.{IsNode, no_forest};
+ghost use Rattle.vm_ids.specs.Forest.Reading.{chain_of, counts_of, value_of};
+ghost use Rattle.vm_ids.specs.Forest.Rules.{write as rule_write};
+ghost use Rattle.local_cache.specs.Arena.{IsHeld};
+ghost use Rattle.local_cache.specs.Reading.{forest_of, name_of};
+ghost use Rattle.arena_commands.specs.Whole.{size_of};
+ghost use Rattle.vm_ids.specs.Forest.Laws.Ranges.{AreNodes};
+ghost use Rattle.arena_commands.specs.Commands.{IsWithin, RefusedWhere, zero_pages};
+
+use crate::Refusal;
+use crate::copying::copy_pages;
+use crate::destroying::retire_pages;
+use crate::settling::settle;
+use crate::writing::write;
+use history_tree::{chain, owner_of};
+use local_cache::{Caches, OwnState};
+use std::alloc::Global;
+use std::marker::Model;
+use vm_ids::{CacheId, ChainList, Counts, NoMemory, NodeId, NodeName, PageNo, SlotId, Span};
+
+// So many working nodes may be made; the numbers go on a good deal further.
+const MOST_WORKING: u64 = 1 << 62;
+
+// So many copies may be counted.
+const MOST_COPIES: u64 = 1 << 62;
+
+/// Caches whose pages are numbers: the number of a swap slot stands for what a page holds, and a page of zeros for what
+/// it holds at first.
+#[derive(Drop)]
+pub struct Pages {
+    caches: Caches,
+}
+
+impl Model for Pages {
+    ghost use Rattle.local_cache.specs.Arena.{Arena};
+    ghost use Rattle.local_cache.specs.Codes.{arena_code};
+    ghost use Rattle.arena_commands.specs.Whole.{IsWhole};
+
+    ghost Value = { Arena };
+
+    ghost coded = { arena_code };
+
+    ghost view = { λ p. p.caches };
+
+    ghost invariant = { λ p. IsWhole p.caches };
+}
+
+impl Pages {
+    /// No cache.
+    pub fn new(alloc: Global) -> Self
+        ensures forest { forest_of result ≡ no_forest }
+        ensures caches { result.caches ≡ [] }
+    {
+        Pages {
+            caches: Caches::new(alloc),
+        }
+    }
+
+    /// Makes a temporary cache of so many pages of zeros and answers its number, which is one more than caches were made
+    /// before. `Full` where there is no memory or no number for it.
+    pub fn make_temp(&mut self, pages: u32) -> Result<CacheId, Refusal>
+        ensures number { IfOk result (λ cache. cache.0 ≡ length self.old.caches + 1) }
+        ensures made { IfOk result (λ cache. forest_of self.new ≡ make (zero_pages cache pages) (forest_of self.old)) }
+        ensures refused { OnErr result (forest_of self.new ≡ forest_of self.old) }
+    {
+        let counts = self.caches.counts();
+        let nodes = counts.live as u64 + counts.working as u64 + pages as u64;
+        if self.caches.caches_made() == u32::MAX || nodes > u32::MAX as u64 {
+            return Err(Refusal::Full);
+        }
+        if self.caches.reserve(1, pages).is_err() {
+            return Err(Refusal::Full);
+        }
+        Ok(self.caches.make_temp(pages))
+    }
+
+    /// What a page holds: `Slot` with the number that was stored last, or `Zero`. `None` exactly where no live cache has
+    /// this page.
+    pub fn load(&self, cache: CacheId, page: PageNo) -> Option<OwnState>
+        ensures { result ≡ value_of (forest_of self.now) (NodeName.Live cache page) }
+    {
+        let node = self.node(cache, page)?;
+        let owner = owner_of(&self.caches, node);
+        Some(self.caches.own_state(owner))
+    }
+
+    /// The chain of a page: the nodes from its own up to the one whose page it reads, each with its number of children.
+    /// `NoPage` exactly where no live cache has this page, and `Full` where there is no memory for the answer.
+    pub fn chain(&self, alloc: Global, cache: CacheId, page: PageNo) -> Result<ChainList, Refusal>
+        ensures chain { IfOk result (λ list. list ≡ chain_of (forest_of self.now) (NodeName.Live cache page)) }
+        ensures no_page { RefusedWhere Refusal.NoPage (IsNode (forest_of self.now) (NodeName.Live cache page) → ⊥) result }
+    {
+        let Some(node) = self.node(cache, page) else {
+            return Err(Refusal::NoPage)
+        };
+        match chain(alloc, &self.caches, node) {
+            Ok(list) => Ok(list),
+            Err(NoMemory) => Err(Refusal::Full),
+        }
+    }
+
+    /// How many pages live caches have, how many working nodes there are, and how many pages were copied.
+    pub fn counts(&self) -> Counts
+        ensures { result ≡ counts_of (forest_of self.now) }
+    {
+        self.caches.counts()
+    }
+
+    /// Stores this content in a page. `NoPage` exactly where no live cache has it, and `Full` where the numbers of copies
+    /// are used up.
+    pub fn store(&mut self, cache: CacheId, page: PageNo, content: SlotId) -> Result<(), Refusal>
+        ensures stored { OnOk result (forest_of self.new ≡ rule_write (forest_of self.old) (NodeName.Live cache page) (λ _. OwnState.Slot content)) }
+        ensures refused { OnErr result (self.new ≡ self.old) }
+        ensures no_page { RefusedWhere Refusal.NoPage (IsNode (forest_of self.old) (NodeName.Live cache page) → ⊥) result }
+    {
+        let Some(node) = self.node(cache, page) else {
+            return Err(Refusal::NoPage)
+        };
+        if self.caches.counts().copies >= MOST_COPIES {
+            return Err(Refusal::Full);
+        }
+        write(&mut self.caches, node, OwnState::Slot(content));
+        Ok(())
+    }
+
+    /// Copies pages from one cache to another, all at once. `SameCache` exactly where it is one cache, else `NoPage`
+    /// exactly where a page of either range is in no live cache, else `Full` where there is no memory or the numbers of
+    /// nodes are used up.
+    pub fn copy(&mut self, span: Span) -> Result<(), Refusal>
+        ensures copied { OnOk result (forest_of self.new ≡ rule_copy false (span_pairs span) (forest_of self.old)) }
+        ensures refused { OnErr result (forest_of self.new ≡ forest_of self.old) }
+        ensures same_cache { RefusedWhere Refusal.SameCache (span.from ≡ span.to) result }
+        ensures no_page { span.from ≢ span.to → RefusedWhere Refusal.NoPage (IsWithin (forest_of self.old) span → ⊥) result }
+    {
+        if span.from == span.to {
+            return Err(Refusal::SameCache);
+        }
+        if !self.has_pages(span.from, span.from_page, span.pages)
+            || !self.has_pages(span.to, span.to_page, span.pages)
+        {
+            return Err(Refusal::NoPage);
+        }
+        self.make_room(span.pages)?;
+        copy_pages(&mut self.caches, span);
+        settle(&mut self.caches);
+        Ok(())
+    }
+
+    /// Destroys a cache. Its pages stay for those that read them. `NoPage` exactly where no live cache has this number,
+    /// else `Full` where the numbers of working nodes are used up.
+    pub fn destroy(&mut self, cache: CacheId) -> Result<(), Refusal>
+        ensures destroyed { OnOk result (IfSome (size_of self.old cache.0) (λ pages. forest_of self.new ≡ rule_destroy false (page_names cache 0 pages) (forest_of self.old))) }
+        ensures refused { OnErr result (self.new ≡ self.old) }
+        ensures no_page { RefusedWhere Refusal.NoPage (size_of self.old cache.0 ≡ None) result }
+    {
+        let Some(pages) = self.caches.pages(cache) else {
+            return Err(Refusal::NoPage)
+        };
+        if self.caches.working_made() >= MOST_WORKING {
+            return Err(Refusal::Full);
+        }
+        retire_pages(&mut self.caches, cache, pages);
+        settle(&mut self.caches);
+        self.caches.remove(cache);
+        Ok(())
+    }
+
+    // Makes room for the nodes of a copy: up to two for each page.
+    fn make_room(&mut self, pages: u32) -> Result<(), Refusal>
+        ensures forest { forest_of self.new ≡ forest_of self.old }
+        ensures room { OnOk result (2 * pages ≤ self.new.room.nodes) }
+        ensures made { OnOk result (self.new.made + 2 * pages < 2 ^ 63) }
+        ensures few { OnOk result (len (forest_of self.new).nodes + 2 * pages < 2 ^ 32) }
+        ensures full { IfErr result (λ refusal. refusal ≡ Refusal.Full) }
+    {
+        let counts = self.caches.counts();
+        let more = 2 * pages as u64;
+        let nodes = counts.live as u64 + counts.working as u64 + more;
+        if self.caches.working_made() >= MOST_WORKING || nodes > u32::MAX as u64 {
+            return Err(Refusal::Full);
+        }
+        match self.caches.reserve(0, more as u32) {
+            Ok(()) => Ok(()),
+            Err(NoMemory) => Err(Refusal::Full),
+        }
+    }
+
+    // Whether these pages of a cache are there.
+    fn has_pages(&self, cache: CacheId, first: PageNo, pages: u32) -> bool
+        ensures there { (result ≡ true) ↔ AreNodes (forest_of self.now) cache first.0 pages }
+        ensures within { result ≡ true → first.0 + pages < 2 ^ 32 }
+    {
+        if pages == 0 {
+            return true;
+        }
+        match self.caches.pages(cache) {
+            Some(count) => first.0 as u64 + pages as u64 <= count as u64,
+            None => false,
+        }
+    }
+
+    // The node of a page.
+    fn node(&self, cache: CacheId, page: PageNo) -> Option<NodeId>
+        ensures none { result ≡ None → IsNode (forest_of self.now) (NodeName.Live cache page) → ⊥ }
+        ensures there { IfSome result (λ node. IsNode (forest_of self.now) (NodeName.Live cache page)) }
+        ensures held { IfSome result (λ node. IsHeld self.now node) }
+        ensures name { IfSome result (λ node. name_of self.now node ≡ NodeName.Live cache page) }
+    {
+        match self.caches.pages(cache) {
+            Some(pages) if page.0 < pages => Some(self.caches.node_of(cache, page)),
+            _ => None,
+        }
+    }
+}
