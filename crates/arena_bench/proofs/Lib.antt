@@ -1,3 +1,1 @@
-pub mod Counted
-pub mod Making
-pub mod Staying
+pub mod Copied

@@ -90,6 +90,10 @@ pub copies-put : (a : Arena) (n : NodeId) (c : Cell) → (put a n c).copies ≡ 
 unfolding put
 copies-put a n c = refl
 
+pub room-put : (a : Arena) (n : NodeId) (c : Cell) → (put a n c).room ≡ a.room
+unfolding put
+room-put a n c = refl
+
 pub relinked : (a : Arena) (n : NodeId) (l : Links) → IsHeld a n → Relinked a (with_links a n l)
 relinked a n l h = record {
   like = like-with_links a n l h;

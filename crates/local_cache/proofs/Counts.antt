@@ -20,7 +20,7 @@ use Rattle.local_cache.specs.Arena.{Arena, Cell, IsHeld, cell}
 use Rattle.local_cache.specs.Layout.{IsCounted, working_in, working_len, working_of}
 use Rattle.local_cache.specs.Reading.{IsNamed, at_key, forest_of, name_of}
 use Rattle.local_cache.proofs.Changes.{forest_of-copies}
-use Rattle.local_cache.proofs.Pages.{whole}
+use Rattle.local_cache.proofs.Pages.{some_of}
 use Rattle.local_cache.proofs.Reading.{IsNode-forest_of, forest_of-IsNode}
 use Rattle.local_cache.proofs.Slots.{cell-seen, find-seen, len-with_value, reads_some, seen, some_at}
 
@@ -171,7 +171,7 @@ module _ (i : Inside) (a : Arena) (v : seen i ≡ a) (named : IsNamed a) where
   key_named : (x : NodeName) → x ∈ keys (forest_of a).nodes → x ∈ names i.nodes.slots
   key_named x is =
       let f = forest_of-IsNode a x (key-IsNode (forest_of a) x is) in
-      let c = whole (get i.nodes f.0.0) (some_at i a f.0 v f.1) in
+      let c = some_of (get i.nodes f.0.0) (some_at i a f.0 v f.1) in
       subst (λ y. y ∈ names i.nodes.slots) (sym (held_at f.0.0 c.0 c.1).1 ∙ f.2) (names_in i.nodes.slots f.0.0 c.0 c.1)
 
   named_key : (x : NodeName) → x ∈ names i.nodes.slots → x ∈ keys (forest_of a).nodes

@@ -15,7 +15,7 @@ use Rattle.local_cache.proofs.Listing.{node_in}
 use Rattle.local_cache.proofs.Reading.{get-forest_of_none, reads_as}
 
 module _ (a : Arena) (none : (n : NodeId) → find a n ≡ None) where
-  no_held : (n : NodeId) → IsHeld a n → ⊥
+  pub no_held : (n : NodeId) → IsHeld a n → ⊥
   no_held n h = false≢true (sym (ap is_some (none n)) ∙ h)
 
   no_node : (x : NodeName) → node (forest_of a) x ≡ childless None Root

@@ -1,5 +1,6 @@
 pub mod Adding
 pub mod Alike
+pub mod Bare
 pub mod Cells
 pub mod Changes
 pub mod Counts

@@ -64,13 +64,13 @@ made_pages old new cache segment own ns page m h =
       is = filled_page ns old.cells 0 new.cells cache own page d m.cells h ∙ ap (λ (p : ℕ). Some (named cache p own)) (zero-add page);
     }
 
-pub whole : (o : Option Cell) → IsSome o → (c : Cell) × (o ≡ Some c)
-whole None h = absurd (false≢true h)
-whole (Some c) h = (c, refl)
+pub some_of : {A : Type 0} (o : Option A) → IsSome o → (x : A) × (o ≡ Some x)
+some_of None h = absurd (false≢true h)
+some_of (Some x) h = (x, refl)
 
 pub made_stays : (old new : Arena) (cache : CacheId) (segment : Option SegId) (own : OwnState) (ns : List NodeId) → IsMade old new cache segment own ns → (n : NodeId) → IsHeld old n → find new n ≡ find old n
 made_stays old new cache segment own ns m n held =
-    let w : (c : Cell) × (find old n ≡ Some c) = whole (find old n) held in
+    let w : (c : Cell) × (find old n ≡ Some c) = some_of (find old n) held in
     filled_stays ns old.cells 0 new.cells cache own n.0 w.0 m.cells w.1 ∙ sym w.1
 
 pub made_tables : (old new : Arena) (cache : CacheId) (segment : Option SegId) (own : OwnState) (ns : List NodeId) → IsMade old new cache segment own ns → (other : ℕ) → other ≤ length old.caches → table_of new other ≡ table_of old other

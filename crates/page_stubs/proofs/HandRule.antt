@@ -1,15 +1,13 @@
 -- Handing stubs over is the rule of the forest.
-use Rattle.std.proofs.Common.{◌≡◌, ◌≢◌, ◌⊎◌, ◌<◌, ◌++◌, ℕ, List, [], ◌∷◌, map, true, Some, None, refl, sym, ap, ◌∙◌, subst, inl, inr}
+use Rattle.std.proofs.Common.{◌≡◌, ◌≢◌, ◌<◌, ◌++◌, ℕ, List, [], ◌∷◌, map, true, Some, None, refl, sym, ap, ◌∙◌, subst, inl, inr}
 use Rattle.std.proofs.lemmas.List.{map-append}
 use Rattle.vm_ids.specs.declared.node_name.NodeName.{NodeName}
 use Rattle.vm_ids.specs.declared.numbers.NodeId.{NodeId}
 use Rattle.vm_ids.specs.Forest.NameLists as names
 use Rattle.vm_ids.specs.Forest.Nodes.{Forest, node, parent_of, IsNode}
-use Rattle.vm_ids.specs.Forest.Nodes.Hang.{StubOf}
 use Rattle.vm_ids.specs.Forest.Shape.{IsLinked, IsRanked}
 use Rattle.vm_ids.specs.Forest.Rules.{hand_stubs}
-use Rattle.vm_ids.proofs.Forest.Names.{name_cases}
-use Rattle.vm_ids.proofs.Forest.NameLists.{in_append, append_in, in_cases, Once-append}
+use Rattle.vm_ids.proofs.Forest.NameLists.{in_cases}
 use Rattle.vm_ids.proofs.Forest.Columns.{hand_stubs-own, hand_stubs-tree, hand_stubs-hang, hand_stubs-hang_other, hand_stubs-stubs_from, hand_stubs-stubs_to, hand_stubs-stubs_other}
 use Rattle.vm_ids.proofs.Forest.Counters.{hand_stubs-counters}
 use Rattle.vm_ids.proofs.Forest.Handing.{handed_cases, hand_stubs-by_rank}

@@ -1,6 +1,6 @@
 -- The page of a retired node, and the fresh node that it gets.
 use Rattle.std.proofs.Common.{◌≡◌, ℕ, zero, suc, ◌+◌, ◌≤◌, Option, Some, None, IsSome, option_map, refl, sym, ap, ◌∙◌, subst, arith}
-use Rattle.vm_ids.specs.declared.node_name.NodeName.TheVariants.{Live, Working}
+use Rattle.vm_ids.specs.declared.node_name.NodeName.TheVariants.{Live}
 use Rattle.vm_ids.specs.declared.numbers.CacheId.{CacheId}
 use Rattle.vm_ids.specs.declared.numbers.NodeId.{NodeId}
 use Rattle.vm_ids.specs.declared.numbers.PageNo.{PageNo}
@@ -10,7 +10,7 @@ use Rattle.vm_ids.specs.Forest.Changes.{put}
 use Rattle.vm_ids.specs.Forest.Rules.{detach, retire}
 use Rattle.local_cache.specs.declared.own_state.OwnState.{OwnState}
 use Rattle.local_cache.specs.declared.page_table.PageEntry.{PageEntry}
-use Rattle.local_cache.specs.Arena.{Arena, IsHeld, IsVacant, as_working, cell, entry_at, find, node_at, tables_with, with_new}
+use Rattle.local_cache.specs.Arena.{Arena, IsHeld, IsVacant, as_working, entry_at, find, node_at, tables_with, with_new}
 use Rattle.local_cache.specs.Reading.{name_of, forest_of, page_of}
 use Rattle.local_cache.specs.Sound.{IsSound}
 use Rattle.local_cache.proofs.Edit.{kept_of}
@@ -18,7 +18,7 @@ use Rattle.local_cache.proofs.Fresh.{page-forest, page-sound}
 use Rattle.local_cache.proofs.Listing.{entry-cache_with, node_by_entry, node_of_entry}
 use Rattle.tree_merge.specs.declared.released.Released.{Released}
 use Rattle.tree_merge.specs.Releasing.{IsRetired}
-use Rattle.tree_merge.proofs.Staying.{room-put}
+use Rattle.local_cache.proofs.Vacated.{room-as_working}
 
 -- the node of a page
 module _ (a : Arena) (sound : IsSound a) (cache : CacheId) (page : PageNo) (n : NodeId) (is : node_at a cache.0 page.0 ≡ Some n) where
@@ -55,14 +55,14 @@ module _ (a : Arena) (sound : IsSound a) (cache : CacheId) (page : PageNo) (n : 
       go zero e = emptied_page b (r.leaf e).1.caches
       go (suc k) e = emptied_page b (ap (λ c. c.caches) (r.parent (omega arith)).1 ∙ working_tables)
 
--- there is room for the fresh node
-pub retired_room : (a b : Arena) (n : NodeId) (released : Released) → IsRetired a b n released → 1 ≤ a.room.nodes → 1 ≤ b.room.nodes
-retired_room a b n released r room = go (child_count (forest_of a) (name_of a n)) refl
+-- there is as much room as before
+pub retired_room : (a b : Arena) (n : NodeId) (released : Released) → IsRetired a b n released → a.room.nodes ≤ b.room.nodes
+retired_room a b n released r = go (child_count (forest_of a) (name_of a n)) refl
   where
-    go : (k : ℕ) → child_count (forest_of a) (name_of a n) ≡ k → 1 ≤ b.room.nodes
+    go : (k : ℕ) → child_count (forest_of a) (name_of a n) ≡ k → a.room.nodes ≤ b.room.nodes
     go zero e = let more : b.room.nodes ≡ a.room.nodes + 1 = ap (λ k. k.nodes) (r.leaf e).1.room in omega arith
     go (suc k) e =
-        let same : b.room.nodes ≡ a.room.nodes = ap (λ c. c.room.nodes) (r.parent (omega arith)).1 ∙ ap (λ k. k.nodes) (room-put a n (record (cell a n) { name = Working (a.made + 1) })) in
+        let same : b.room.nodes ≡ a.room.nodes = ap (λ c. c.room.nodes) (r.parent (omega arith)).1 ∙ ap (λ k. k.nodes) (room-as_working a n) in
         omega arith
 
 pub detached-forest : (a b c : Arena) (d : NodeId) (cache : CacheId) (page : PageNo) (s : OwnState) → IsSound b → forest_of b ≡ retire (forest_of a) (Live cache page) → IsVacant b cache page → find b d ≡ None → c ≡ with_new b d (Live cache page) s

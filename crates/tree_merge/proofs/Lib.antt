@@ -10,5 +10,5 @@ mod Detached
 mod Pass
 mod Placing
 mod Settle
-mod Making
-mod Rows
+mod Counted
+pub mod Keeping

@@ -17,7 +17,7 @@ use Rattle.local_cache.specs.Own.{is_absent, own_of}
 use Rattle.local_cache.specs.Reading.{name_of, forest_of, page_of}
 use Rattle.local_cache.specs.Sound.{IsSound}
 use Rattle.local_cache.proofs.Cells.{cell-put, cell-put_other}
-use Rattle.local_cache.proofs.Changes.{Like, like-put, id_cases, made-put, copies-put}
+use Rattle.local_cache.proofs.Changes.{Like, like-put, id_cases, made-put, copies-put, room-put}
 use Rattle.local_cache.proofs.Edit.{kept_of, sound_of, own-forest, own-kept}
 use Rattle.local_cache.proofs.Reading.{node-forest_of, IsNode-forest_of}
 use Rattle.tree_merge.specs.declared.released.Released.{Released}
@@ -25,7 +25,6 @@ use Rattle.tree_merge.specs.declared.released.Released.TheVariants.{Dropped, Mov
 use Rattle.tree_merge.specs.Releasing.{own_after, released_to}
 use Rattle.tree_merge.proofs.Cut.{put_same}
 use Rattle.tree_merge.proofs.Lists.{equal, unequal}
-use Rattle.tree_merge.proofs.Staying.{room-put}
 
 pub page_none : (s : OwnState) → is_absent s ≡ true → page_of s ≡ None
 page_none Absent e = refl

@@ -4,15 +4,11 @@ use Rattle.vm_ids.specs.Forest.Nodes.{Forest}
 use Rattle.vm_ids.specs.declared.numbers.NodeId.{NodeId}
 use Rattle.local_cache.specs.declared.links.Links.{Links}
 use Rattle.local_cache.specs.declared.own_state.OwnState.{OwnState}
-use Rattle.local_cache.specs.Arena.{Arena, Cell, IsHeld, put, with_tree, with_links}
+use Rattle.local_cache.specs.Arena.{Arena, IsHeld, with_tree, with_links}
 use Rattle.local_cache.specs.Reading.{forest_of}
 use Rattle.local_cache.specs.Sound.{IsSound}
-use Rattle.local_cache.proofs.Changes.{like_then, like-with_links, like-put, with_links-keeps, with_tree-keeps, made-put, copies-put}
+use Rattle.local_cache.proofs.Changes.{like_then, like-with_links, like-put, with_links-keeps, with_tree-keeps, made-put, copies-put, room-put}
 use Rattle.tree_merge.specs.Staying.{Rehung}
-
-pub room-put : (a : Arena) (n : NodeId) (c : Cell) → (put a n c).room ≡ a.room
-unfolding put
-room-put a n c = refl
 
 pub rehung-links : (a : Arena) (n : NodeId) (l : Links) → IsHeld a n → Rehung a (with_links a n l)
 rehung-links a n l h = record { like = like-with_links a n l h; own = with_links-keeps (λ c. c.own) (λ c k. refl) a n l; made = made-put a n _; copies = copies-put a n _; room = room-put a n _ }

@@ -21,9 +21,9 @@ fn a_source_that_goes_gives_its_page_to_its_copy(rt: HostRuntime) {
     caches.reserve(2, 4).expect(&rt, "memory");
     let source = caches.make_temp(1);
     let copy = caches.make_temp(1);
-    let node = caches.node_of(source, PageNo(0));
     let released = detach(&mut caches, copy, PageNo(0), OwnState::Absent);
     let fresh = caches.node_of(copy, PageNo(0));
+    let node = caches.node_of(source, PageNo(0));
     assert_eq!(&rt; released, Released::Dropped(fresh, OwnState::Zero));
     link(&mut caches, fresh, node);
     assert_eq!(&rt; retire(&mut caches, source, PageNo(0)), Released::Nothing);

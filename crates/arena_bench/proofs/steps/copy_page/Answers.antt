@@ -4,7 +4,8 @@ use Rattle.vm_ids.specs.Forest.Nodes.{node}
 use Rattle.local_cache.specs.Arena.{node_at}
 use Rattle.vm_ids.specs.Forest.Rules.{link}
 use Rattle.local_cache.specs.Reading.{forest_of, name_of}
-use Rattle.arena_bench.proofs.Staying.{some_of, live_cache, apart_by_name, detached_keeps, detached_room, detached_made, detached_bare, grown_keeps, linked_made}
+use Rattle.local_cache.proofs.Pages.{some_of}
+use Rattle.tree_merge.proofs.Keeping.{live_cache, apart_by_name, detached_keeps, detached_room, detached_made, detached_bare, grown_keeps, linked_made}
 use Rattle.arena_bench.proofs.steps.copy_page.Goals as goal
 
 pub node_of-fresh-requires : goal.node_of-fresh-requires

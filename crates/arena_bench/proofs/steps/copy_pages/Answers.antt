@@ -3,7 +3,7 @@ use Rattle.vm_ids.specs.declared.node_name.NodeName.TheVariants.{Live}
 use Rattle.vm_ids.specs.Forest.Rules.{copy_page}
 use Rattle.local_cache.specs.Reading.{forest_of}
 use Rattle.arena_bench.specs.Steps.{copied}
-use Rattle.arena_bench.proofs.Staying.{copied_then}
+use Rattle.arena_bench.proofs.Copied.{copied_then}
 use Rattle.arena_bench.proofs.steps.copy_pages.Goals as goal
 
 pub loop-page-preserved : goal.loop-page-preserved

@@ -4,7 +4,8 @@ use Rattle.vm_ids.specs.Forest.Rules.{retire}
 use Rattle.local_cache.specs.Arena.{node_at}
 use Rattle.local_cache.specs.Reading.{forest_of}
 use Rattle.arena_bench.specs.Steps.{retired}
-use Rattle.arena_bench.proofs.Staying.{some_of, live_page, retired_keeps, retired_made}
+use Rattle.local_cache.proofs.Pages.{some_of}
+use Rattle.tree_merge.proofs.Keeping.{live_page, retired_keeps, retired_made}
 use Rattle.arena_bench.proofs.steps.retire_pages.Goals as goal
 
 pub loop-page-preserved : goal.loop-page-preserved

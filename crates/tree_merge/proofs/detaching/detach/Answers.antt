@@ -1,4 +1,4 @@
-use Rattle.std.proofs.Common.{◌≡◌, ◌≤◌, Option, Some, None, IsSome, refl}
+use Rattle.std.proofs.Common.{◌≡◌, ◌≤◌, Option, Some, None, IsSome, refl, arith}
 use Rattle.vm_ids.specs.declared.numbers.NodeId.{NodeId}
 use Rattle.local_cache.specs.Arena.{Arena, node_at}
 use Rattle.tree_merge.specs.declared.released.Released.{Released}
@@ -8,7 +8,7 @@ use Rattle.tree_merge.proofs.detaching.detach.Goals as goal
 
 room : (a b : Arena) (o : Option NodeId) (released : Released) → IsSome o → ((n : NodeId) → o ≡ Some n → IsRetired a b n released) → 1 ≤ a.room.nodes → 1 ≤ b.room.nodes
 room a b None released h r more = absurd (cc h)
-room a b (Some n) released h r more = retired_room a b n released (r n refl) more
+room a b (Some n) released h r more = omega (arith, retired_room a b n released (r n refl))
 
 pub fresh-requires-clause-room : goal.fresh-requires-clause-room
 fresh-requires-clause-room c = room c.args.caches.now _ (node_at c.args.caches.now c.args.cache.0 c.args.page.0) _ c.requires.node c.retire-released.ensures.retired c.requires.room

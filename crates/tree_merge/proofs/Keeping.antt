@@ -12,22 +12,19 @@ use Rattle.vm_ids.specs.Forest.Rules.{detach, link, retire}
 use Rattle.vm_ids.proofs.Forest.Names.{name_cases}
 use Rattle.vm_ids.proofs.Forest.NodesAfter.{node-put}
 use Rattle.local_cache.specs.declared.own_state.OwnState.{OwnState}
-use Rattle.local_cache.specs.Arena.{Arena, Cell, IsHeld, as_working, blank, cell, find, new_cell, node_at, with_new}
-use Rattle.local_cache.specs.Arena as arena
+use Rattle.local_cache.specs.Arena.{Arena, Cell, IsHeld, blank, cell, find, new_cell, node_at, with_new}
 use Rattle.local_cache.specs.Reading.{forest_of, name_of}
 use Rattle.local_cache.specs.Sound.{IsSound}
 use Rattle.local_cache.proofs.Cells.{find-put_other, find-with_new, held-new}
 use Rattle.local_cache.proofs.Changes.{forest_of-made}
+use Rattle.local_cache.proofs.Pages.{some_of}
 use Rattle.local_cache.proofs.Slots.{tied, apart}
+use Rattle.local_cache.proofs.Vacated.{room-with_new}
 use Rattle.history_tree.specs.Hanging.{IsGrown}
 use Rattle.tree_merge.specs.declared.released.Released.{Released}
 use Rattle.tree_merge.specs.Releasing.{IsDetached, IsRetired}
-use Rattle.arena_bench.specs.Steps.{IsCopied, KeepsPages}
-use Rattle.arena_bench.proofs.Counted.{retire-made, detach-made, link-made}
-
-pub some_of : {A : Type 0} (o : Option A) → IsSome o → (x : A) × (o ≡ Some x)
-some_of None h = absurd (false≢true h)
-some_of (Some x) h = (x, refl)
+use Rattle.tree_merge.proofs.Detached.{retired_room}
+use Rattle.tree_merge.proofs.Counted.{retire-made, detach-made, link-made}
 
 -- a node that is found alike has the same name
 name_found : (a b : Arena) (n : NodeId) → find b n ≡ find a n → name_of b n ≡ name_of a n
@@ -37,10 +34,6 @@ name_found a b n e = ap (λ (o : Option Cell). (unwrap_or o blank).name) e
 -- a page's node that stays under its name is that of the page still
 pub page_stays : (a b : Arena) → IsSound a → IsSound b → (cache page : ℕ) (n : NodeId) → node_at a cache page ≡ Some n → IsHeld b n → name_of b n ≡ name_of a n → node_at b cache page ≡ Some n
 page_stays a b before after cache page n at held name = after.listed.pages cache page n held (name ∙ (before.listed.nodes cache page n at).1)
-
-room-working : (a : Arena) (n : NodeId) → (as_working a n).room.nodes ≡ a.room.nodes
-unfolding arena.put
-room-working a n = refl
 
 -- all other nodes stay when one is retired
 module _ (a b : Arena) (n : NodeId) (released : Released) (r : IsRetired a b n released) where
@@ -52,17 +45,6 @@ module _ (a b : Arena) (n : NodeId) (released : Released) (r : IsRetired a b n r
       go (suc k) e =
           let found : find b m ≡ find a m = ap (λ x. find x m) (r.parent (omega arith)).1 ∙ find-put_other a n m (record (cell a n) { name = Working (a.made + 1) }) ne in
           (ap is_some found ∙ h, name_found a b m found)
-
-  retired_room : a.room.nodes ≤ b.room.nodes
-  retired_room = go (child_count (forest_of a) (name_of a n)) refl
-    where
-      go : (k : ℕ) → child_count (forest_of a) (name_of a n) ≡ k → a.room.nodes ≤ b.room.nodes
-      go zero e = let more : b.room.nodes ≡ a.room.nodes + 1 = ap (λ k. k.nodes) (r.leaf e).1.room in omega arith
-      go (suc k) e = let same : b.room.nodes ≡ a.room.nodes = ap (λ (c : Arena). c.room.nodes) (r.parent (omega arith)).1 ∙ room-working a n in omega arith
-
-room-new : (a : Arena) (n : NodeId) (x : NodeName) (s : OwnState) → (with_new a n x s).room.nodes ≡ a.room.nodes - 1
-unfolding with_new
-room-new a n x s = refl
 
 new_other : (a : Arena) (n m : NodeId) (x : NodeName) (s : OwnState) → m ≢ n → find (with_new a n x s) m ≡ find a m
 new_other a n m x s ne = find-with_new a n m x s ∙ rw (apart m.0 n.0 (λ e. ne (λ i. record { 0 = e i })))
@@ -93,7 +75,7 @@ module _ (a b : Arena) (before : IsSound a) (after : IsSound b) (cache : CacheId
       let found : find b m ≡ find d.between m = ap (λ x. find x m) d.is ∙ new_other d.between d.fresh m (Live cache page) s not_fresh in
       (ap is_some found ∙ kept.0, name_found d.between b m found ∙ kept.1)
 
-  pub detached_keeps : KeepsPages a b
+  pub detached_keeps : (c p : ℕ) → IsSome (node_at a c p) → IsSome (node_at b c p)
   detached_keeps c p h = elim (name_cases (Live (record { 0 = c }) (record { 0 = p })) (Live cache page)) [
     | inl e ↦ ap is_some (after.listed.pages c p d.fresh (held-new d.between b d.fresh (Live cache page) s d.is) (ap (λ x. name_of x d.fresh) d.is ∙ new_name d.between d.fresh (Live cache page) s ∙ sym e))
     | inr ne ↦
@@ -106,7 +88,7 @@ module _ (a b : Arena) (before : IsSound a) (after : IsSound b) (cache : CacheId
   pub detached_room : a.room.nodes ≤ b.room.nodes + 1
   detached_room =
       let more = retired_room a d.between n released d.retired in
-      let less : b.room.nodes ≡ d.between.room.nodes - 1 = ap (λ (x : Arena). x.room.nodes) d.is ∙ room-new d.between d.fresh (Live cache page) s in
+      let less : b.room.nodes ≡ d.between.room.nodes - 1 = ap (λ (x : Arena). x.room.nodes) d.is ∙ room-with_new d.between d.fresh (Live cache page) s in
       omega arith
 
 pub made_by : (a b : Arena) (f : Forest OwnState) → forest_of b ≡ f → f.made ≤ a.made + 1 → b.made ≤ a.made + 1
@@ -134,15 +116,8 @@ retired_keeps a b before after cache page n at released r c p ne h =
     let kept = retired_other a b n released r w.0 other (before.listed.nodes c p w.0 w.1).0 in
     ap is_some (page_stays a b before after c p w.0 w.1 kept.0 kept.1)
 
-pub grown_keeps : (a b : Arena) → IsSound a → IsSound b → IsGrown a b → KeepsPages a b
+pub grown_keeps : (a b : Arena) → IsSound a → IsSound b → IsGrown a b → (c p : ℕ) → IsSome (node_at a c p) → IsSome (node_at b c p)
 grown_keeps a b before after g c p h =
     let w = some_of (node_at a c p) h in
     let held = (before.listed.nodes c p w.0 w.1).0 in
     ap is_some (page_stays a b before after c p w.0 w.1 (g.held w.0 held) (g.names w.0 held))
-
-pub copied_itself : (a : Arena) → IsSound a → IsCopied a a 0
-copied_itself a sound = record { sound = sound; kept = λ c p h. h; room = omega arith; made = omega arith }
-
-pub copied_then : (a b c : Arena) (pages more : ℕ) → IsCopied a b pages → IsCopied b c more → IsCopied a c (pages + more)
-copied_then a b c pages more f g =
-    record { sound = g.sound; kept = λ cache page h. g.kept cache page (f.kept cache page h); room = omega (arith, f.room, g.room); made = omega (arith, f.made, g.made) }
