@@ -1,12 +1,12 @@
 // Why nothing is measured.
+use arena_commands::Refusal;
 use std::io;
 use thiserror::Error;
-use vm_ids::NoMemory;
 
 /// Why a measurement isn't done, as it is told on standard error.
 #[derive(Clone, Copy, Debug, Drop, Error)]
 pub enum Fault {
-    #[error("usage: arena_bench [PAGES ..], each at most 16777216")]
+    #[error("usage: arena_bench [PAGES ..]")]
     Usage,
     #[error("no memory")]
     NoMemory,
@@ -14,8 +14,8 @@ pub enum Fault {
     Io,
 }
 
-impl From<NoMemory> for Fault {
-    fn from(_fault: NoMemory) -> Self {
+impl From<Refusal> for Fault {
+    fn from(_refusal: Refusal) -> Self {
         Fault::NoMemory
     }
 }

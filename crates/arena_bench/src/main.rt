@@ -1,32 +1,23 @@
-//! How long the calls of large copies take, page by page.
+//! How long the commands on large caches take.
 //!
-//! The program makes a source cache and two destinations of so many pages, links both as large copies of the source,
-//! destroys the source, and settles the working nodes that this leaves. It tells on standard error how many microseconds
-//! each part took. The numbers of pages are the words of the command line, and without words it is 3,000.
+//! The program makes a source cache and two destinations of so many pages, copies the source to both, and destroys the
+//! source, whose working nodes then settle. It tells on standard error how many microseconds each part took. The numbers
+//! of pages are the words of the command line, and without words it is 3,000.
 //!
-//! It stands on `local_cache`, `history_tree` and `tree_merge`, nothing stands on it, and it has no model of its own:
-//! that each call is made as its contract wants is proved.
+//! It stands on `arena_commands`, nothing stands on it, and it has no model of its own.
 #![tactic(auto)]
-
-ghost use Rattle.std.specs.Prelude.{◌≤◌, ◌^◌, IfOk};
 
 mod fault;
 mod measuring;
-mod steps;
 
 use fault::Fault;
-use measuring::{MOST_PAGES, measure};
+use measuring::measure;
 use std::env;
 use std::process::ExitCode;
 
 // The number of pages that a word of the command line gives.
-fn pages_of(word: &str) -> Result<u32, Fault>
-    ensures { IfOk result (λ pages. pages ≤ 2 ^ 24) }
-{
-    match word.parse::<u32>() {
-        Ok(pages) if pages <= MOST_PAGES => Ok(pages),
-        _ => Err(Fault::Usage),
-    }
+fn pages_of(word: &str) -> Result<u32, Fault> {
+    word.parse::<u32>().map_err(|_| Fault::Usage)
 }
 
 // Measures for each word, or once where there is none.

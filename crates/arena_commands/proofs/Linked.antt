@@ -19,8 +19,11 @@ use Rattle.local_cache.specs.Reading.{forest_of, name_of}
 use Rattle.local_cache.specs.Sound.{IsSound}
 use Rattle.local_cache.proofs.Changes.{forest_of-made}
 use Rattle.local_cache.proofs.Reading.{forest_of-IsNode}
+use Rattle.local_cache.proofs.Pages.{some_of}
+use Rattle.local_cache.proofs.Vacated.{room-with_new}
 use Rattle.tree_merge.specs.declared.released.Released.{Released}
 use Rattle.tree_merge.specs.Releasing.{IsDetached, IsRetired}
+use Rattle.tree_merge.proofs.Detached.{retired_room}
 use Rattle.arena_commands.specs.Whole.{SameSizes}
 use Rattle.arena_commands.proofs.Counted.{detach-made}
 use Rattle.arena_commands.proofs.Growing.{detach_len, detached_pages}
@@ -36,30 +39,11 @@ apart_by_name a n m x y is_x is_y ne e = ne (sym is_x ∙ ap (name_of a) e ∙ i
 
 -- how much room is left ----------------------------------------------------------
 
-room-working : (a : Arena) (n : NodeId) → (as_working a n).room.nodes ≡ a.room.nodes
-unfolding put
-room-working a n = refl
-
-room-new : (a : Arena) (n : NodeId) (x : NodeName) (s : OwnState) → (with_new a n x s).room.nodes ≡ a.room.nodes - 1
-unfolding with_new
-room-new a n x s = refl
-
-retired_room : (a b : Arena) (n : NodeId) (released : Released) → IsRetired a b n released → a.room.nodes ≤ b.room.nodes
-retired_room a b n released r = go (child_count (forest_of a) (name_of a n)) refl
-  where
-    go : (k : ℕ) → child_count (forest_of a) (name_of a n) ≡ k → a.room.nodes ≤ b.room.nodes
-    go zero e = let more : b.room.nodes ≡ a.room.nodes + 1 = ap (λ k. k.nodes) (r.leaf e).1.room in omega arith
-    go (suc k) e = let same : b.room.nodes ≡ a.room.nodes = ap (λ (c : Arena). c.room.nodes) (r.parent (omega arith)).1 ∙ room-working a n in omega arith
-
 detached_room : (a b : Arena) (n : NodeId) (x : NodeName) (s : OwnState) (released : Released) → IsDetached a b n x s released → a.room.nodes ≤ b.room.nodes + 1
 detached_room a b n x s released d =
     let more = retired_room a d.between n released d.retired in
-    let less : b.room.nodes ≡ d.between.room.nodes - 1 = ap (λ (c : Arena). c.room.nodes) d.is ∙ room-new d.between d.fresh x s in
+    let less : b.room.nodes ≡ d.between.room.nodes - 1 = ap (λ (c : Arena). c.room.nodes) d.is ∙ room-with_new d.between d.fresh x s in
     omega arith
-
-pub some_of : {A : Type 0} (o : Option A) → IsSome o → (x : A) × (o ≡ Some x)
-some_of None h = absurd (false≢true h)
-some_of (Some x) h = (x, refl)
 
 -- of the node of a page
 module _ (a b : Arena) (o : Option NodeId) (there : IsSome o) (x : NodeName) (s : OwnState) (released : Released) (d : (n : NodeId) → o ≡ Some n → IsDetached a b n x s released) where

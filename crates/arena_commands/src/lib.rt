@@ -18,3 +18,6 @@ mod writing;
 
 pub use pages::Pages;
 pub use refusal::Refusal;
+
+#[cfg(test)]
+mod tests;

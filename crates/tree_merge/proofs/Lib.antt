@@ -6,9 +6,7 @@ mod Cut
 mod ChildNames
 mod Gone
 mod Retired
-mod Detached
+pub mod Detached
 mod Pass
 mod Placing
 mod Settle
-mod Counted
-pub mod Keeping
