@@ -192,7 +192,7 @@ fn a_copy_is_of_its_moment(rt: HostRuntime) -> Result<(), Fail> {
 }
 
 #[test]
-fn refusals_by_the_rows(rt: HostRuntime) -> Result<(), Fail> {
+fn a_map_is_refused_in_the_order_of_its_refusals(rt: HostRuntime) -> Result<(), Fail> {
     let mut gmi = EagerMachine::new(rt.alloc(), 3, 4096);
     let (mapper, chooser) = (&mut NoMapper::new(), &mut Fifo::new());
     assert_eq!(rt;
@@ -216,10 +216,6 @@ fn refusals_by_the_rows(rt: HostRuntime) -> Result<(), Fail> {
         Shown::Refused(Refusal::TooMany)
     );
     assert_eq!(rt;
-        seen(answer(&mut gmi, &map(0, 0x10000, false), mapper, chooser)),
-        Shown::Region(1)
-    );
-    assert_eq!(rt;
         seen(answer(&mut gmi, &map(0, 0x30001, true), mapper, chooser)),
         Shown::Refused(Refusal::Unaligned)
     );
@@ -232,12 +228,35 @@ fn refusals_by_the_rows(rt: HostRuntime) -> Result<(), Fail> {
         Shown::Refused(Refusal::OutOfCache)
     );
     assert_eq!(rt;
+        seen(answer(&mut gmi, &map(0, 0x10000, false), mapper, chooser)),
+        Shown::Region(1)
+    );
+    assert_eq!(rt;
         seen(answer(&mut gmi, &map(0, 0x10000, true), mapper, chooser)),
         Shown::Refused(Refusal::Overlap)
     );
+    Ok(())
+}
+
+#[test]
+fn an_access_is_refused_in_the_order_of_its_refusals(rt: HostRuntime) -> Result<(), Fail> {
+    let mut gmi = EagerMachine::new(rt.alloc(), 3, 4096);
+    let (mapper, chooser) = (&mut NoMapper::new(), &mut Fifo::new());
     assert_eq!(rt;
-        seen(answer(&mut gmi, &load(2, 0x10000), mapper, chooser)),
+        seen(answer(&mut gmi, &load(1, 0x10000), mapper, chooser)),
         Shown::Refused(Refusal::NoActor)
+    );
+    assert_eq!(rt;
+        seen(answer(&mut gmi, &Command::MakeActor, mapper, chooser)),
+        Shown::Actor(1)
+    );
+    assert_eq!(rt;
+        seen(answer(&mut gmi, &Command::MakeTemp(64), mapper, chooser)),
+        Shown::Cache(1)
+    );
+    assert_eq!(rt;
+        seen(answer(&mut gmi, &map(0, 0x10000, false), mapper, chooser)),
+        Shown::Region(1)
     );
     assert_eq!(rt;
         seen(answer(&mut gmi, &load(1, 0x10fff), mapper, chooser)),
@@ -250,6 +269,17 @@ fn refusals_by_the_rows(rt: HostRuntime) -> Result<(), Fail> {
     assert_eq!(rt;
         seen(answer(&mut gmi, &store(0x10000)?, mapper, chooser)),
         Shown::Refused(Refusal::Protection)
+    );
+    Ok(())
+}
+
+#[test]
+fn a_copy_is_refused_in_the_order_of_its_refusals(rt: HostRuntime) -> Result<(), Fail> {
+    let mut gmi = EagerMachine::new(rt.alloc(), 3, 4096);
+    let (mapper, chooser) = (&mut NoMapper::new(), &mut Fifo::new());
+    assert_eq!(rt;
+        seen(answer(&mut gmi, &Command::MakeTemp(64), mapper, chooser)),
+        Shown::Cache(1)
     );
     assert_eq!(rt;
         seen(answer(&mut gmi, &copy(1, 2, 0, 1), mapper, chooser)),
