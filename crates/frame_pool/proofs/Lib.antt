@@ -1,2 +1,2 @@
-pub mod Copied
+pub mod Pages
 pub mod Views

@@ -1,5 +1,6 @@
 -- A pool of page frames.
-use Rattle.std.specs.Prelude.{◌≡◌, ◌≤◌, ◌^◌, ℕ, Bool, false, ◌&&◌, not, List, [], length, map, All, slice_index_or, slice_set, count_by}
+use Rattle.std.specs.Prelude.{◌≡◌, ◌*◌, ◌≤◌, ◌^◌, ℕ, Bool, false, ◌&&◌, not, List, [], length, slice_index_or, slice_set, count_by}
+use Rattle.std.specs.Simd.{first_chunks}
 use Rattle.frame_pool.specs.declared.pool.FramePool.TheInside.{Inside}
 
 -- the page size, and of each frame whether it is held, whether it is pinned, and its bytes
@@ -10,13 +11,13 @@ pub record Frames : Type 0 where
   pub bytes : List (List ℕ)
 
 pub record IsSized (a : Inside) : Type 0 where
-  pub held : length a.pages.items ≡ length a.held.items
+  pub region : length a.region.items ≡ length a.held.items * a.page
   pub pinned : length a.pinned.items ≡ length a.held.items
-  pub pages : All (λ v. length v.items ≡ a.page) a.pages.items
   pub few : length a.held.items ≤ 2 ^ 16
 
+-- frame k has the k-th page of the region
 abbrev pub frames_seen : Inside → Frames
-frames_seen a = record { page = a.page; held = a.held.items; pinned = a.pinned.items; bytes = map (λ v. v.items) a.pages.items }
+frames_seen a = record { page = a.page; held = a.held.items; pinned = a.pinned.items; bytes = first_chunks a.page (length a.held.items) a.region.items }
 
 abbrev pub is_held : Frames → ℕ → Bool
 is_held p frame = slice_index_or p.held frame false

@@ -1,4 +1,4 @@
-//! The page frames: memory for so many pages, which are taken once at opening.
+//! The page frames: memory for so many pages, one region that is taken once at opening.
 //!
 //! A frame is free, or held by someone with the bytes of a page in it. A held frame may be pinned, which keeps it
 //! from being chosen as a victim of eviction. Frames are numbered from 0.
@@ -9,6 +9,7 @@
 //! which frame.
 #![tactic(auto)]
 
+mod part;
 mod pool;
 
 pub use pool::FramePool;

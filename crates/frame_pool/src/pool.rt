@@ -1,10 +1,11 @@
 // A pool of page frames.
-ghost use Rattle.std.specs.Prelude.{◌≡◌, ◌≢◌, ℕ, ◌<◌, ◌≤◌, ◌^◌, true, false, not, length, replicate, slice_set, map, count_by, All, IfOk, MatchOption};
+ghost use Rattle.std.specs.Prelude.{◌≡◌, ◌≢◌, ℕ, ◌<◌, ◌≤◌, ◌^◌, true, false, not, length, replicate, slice_set, count_by, All, IfOk, MatchOption};
 ghost use Rattle.std.specs.Borrow.{sem};
 ghost use Rattle.frame_pool.specs.Lending.{LendsPage};
 ghost use Rattle.frame_pool.specs.Pool.{bytes_of, is_evictable, is_held, is_pinned, with_bytes};
 
-use std::alloc::{AllocError, Global};
+use crate::part::part_mut;
+use std::alloc::Global;
 use std::marker::Model;
 use vm_ids::{FrameId, NoMemory};
 
@@ -14,7 +15,8 @@ pub struct FramePool {
     page: usize,
     held: Vec<bool>,
     pinned: Vec<bool>,
-    pages: Vec<Vec<u8>>,
+    // The bytes of frame 0, then those of frame 1, and so on.
+    region: Vec<u8>,
 }
 
 impl Model for FramePool {
@@ -25,21 +27,6 @@ impl Model for FramePool {
     ghost view = { frames_seen };
 
     ghost invariant = { IsSized };
-}
-
-// So many pages of zeros.
-fn zero_pages(alloc: Global, frames: usize, page: usize) -> Result<Vec<Vec<u8>>, AllocError>
-    requires frames { frames ≤ 2 ^ 16 }
-    requires page { page ≤ 2 ^ 16 }
-    ensures zeros { IfOk result (λ v. map (λ p. p.items) v.items ≡ replicate frames (replicate page 0)) }
-    ensures sized { IfOk result (λ v. All (λ p. length p.items ≡ page) v.items) }
-    ensures count { IfOk result (λ v. length v.items ≡ frames) }
-{
-    let mut pages = Vec::with_capacity(alloc, frames)?;
-    for _at in 0..frames {
-        pages.push(vec![in alloc; 0u8; page]?)?;
-    }
-    Ok(pages)
 }
 
 impl FramePool {
@@ -57,14 +44,14 @@ impl FramePool {
         let Ok(pinned) = vec![in alloc; false; count] else {
             return Err(NoMemory)
         };
-        let Ok(pages) = zero_pages(alloc, count, page) else {
+        let Ok(region) = vec![in alloc; 0u8; count * page] else {
             return Err(NoMemory)
         };
         Ok(FramePool {
             page,
             held,
             pinned,
-            pages,
+            region,
         })
     }
 
@@ -149,7 +136,8 @@ impl FramePool {
         ensures bytes { result.now ≡ bytes_of self.now frame.0 }
         ensures page { length result.now ≡ self.now.page }
     {
-        &self.pages[frame.0 as usize]
+        let start = frame.0 as usize * self.page;
+        &self.region[start..start + self.page]
     }
 
     /// The bytes of a frame, to be written.
@@ -159,7 +147,9 @@ impl FramePool {
         ensures bytes { result.now ≡ bytes_of self.old frame.0 }
         ensures page { length result.now ≡ self.old.page }
     {
-        self.pages[frame.0 as usize].as_mut_slice()
+        let start = frame.0 as usize * self.page;
+        let end = start + self.page;
+        part_mut(&mut self.region, start, end)
     }
 
     /// Makes the bytes of one frame those of another.
@@ -169,15 +159,10 @@ impl FramePool {
         requires apart { from.0 ≢ to.0 }
         ensures { self.new ≡ with_bytes self.old to.0 (bytes_of self.old from.0) }
     {
-        let from = from.0 as usize;
-        let to = to.0 as usize;
-        if from < to {
-            let (low, high) = self.pages.split_at_mut(to);
-            high[0].copy_from_slice(&low[from]);
-        } else {
-            let (low, high) = self.pages.split_at_mut(from);
-            low[to].copy_from_slice(&high[0]);
-        }
+        let start = from.0 as usize * self.page;
+        let end = start + self.page;
+        let place = to.0 as usize * self.page;
+        self.region.copy_within(start..end, place);
     }
 
     /// Makes the bytes of a frame zeros.
@@ -185,6 +170,6 @@ impl FramePool {
         requires { frame.0 < length self.old.held }
         ensures { self.new ≡ with_bytes self.old frame.0 (replicate self.old.page 0) }
     {
-        self.pages[frame.0 as usize].fill(0);
+        self.bytes_mut(frame).fill(0);
     }
 }

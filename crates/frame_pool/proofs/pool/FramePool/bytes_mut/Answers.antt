@@ -1,13 +1,13 @@
-use Rattle.std.proofs.Common.{◌∙◌, refl}
-use Rattle.frame_pool.proofs.Views.{lent_page, page_of_frame, bytes_seen}
+use Rattle.std.proofs.Common.{◌∙◌, refl, ap, List, ℕ, length}
+use Rattle.frame_pool.proofs.Views.{lent_page, bytes_seen, page_long}
 use Rattle.frame_pool.proofs.pool.FramePool.bytes_mut.Goals as goal
 
 pub returns : goal.returns
 returns c = (
-  (refl, λ w. lent_page c.self.inside c.args.self.now c.args.frame.0 c.index_mut.result.now w c.self.view_is c.self.invariant c.requires c.index_mut.ensures.value),
+  (refl, λ w. lent_page c.self.inside c.args.self.now c.args.frame.0 w c.self.view_is c.self.invariant c.requires),
   record {
     writes_back = tt;
-    bytes = c.as_mut_slice.ensures.value ∙ bytes_seen c.self.inside c.args.self.now c.args.frame.0 c.index_mut.result.now c.self.view_is c.self.invariant c.requires c.index_mut.ensures.value;
-    page = c.as_mut_slice.ensures.len ∙ page_of_frame c.self.inside c.args.self.now c.args.frame.0 c.index_mut.result.now c.self.view_is c.self.invariant c.requires c.index_mut.ensures.value;
+    bytes = c.part_mut.ensures.bytes ∙ bytes_seen c.self.inside c.args.self.now c.args.frame.0 c.self.view_is c.requires;
+    page = ap (λ (xs : List ℕ). length xs) c.part_mut.ensures.bytes ∙ page_long c.self.inside c.args.self.now c.args.frame.0 c.self.view_is c.self.invariant c.requires;
   },
 )

@@ -1,0 +1,27 @@
+// A part of a vector's bytes, lent to be written.
+ghost use Rattle.std.specs.Prelude.{◌≡◌, ◌≤◌, slice_range};
+ghost use Rattle.std.specs.Borrow.{sem};
+ghost use Rattle.std.specs.Vec.{vec_len};
+ghost use Rattle.frame_pool.specs.Lending.{LendsPart, LendsRun};
+
+// The bytes from `start` up to `end`. Its clause says what the vector ends as for a list of any length, and so says
+// nothing of the bytes behind `end`.
+fn run_mut(bytes: &mut Vec<u8>, start: usize, end: usize) -> &mut [u8]
+    requires order { start ≤ end }
+    requires within { end ≤ vec_len bytes.old }
+    ensures* writes_back { sem 𝓛 (LendsRun bytes.entry start result) }
+    ensures bytes { result.now ≡ slice_range bytes.old.items start end }
+{
+    bytes.slice_mut(start..end)
+}
+
+// The same, where the clause counts on the length: what is lent as a slice comes back as long as it was, and the other
+// bytes are as before. The borrow checker shows no such clause, so its proof is written by hand.
+pub(crate) fn part_mut(bytes: &mut Vec<u8>, start: usize, end: usize) -> &mut [u8]
+    requires order { start ≤ end }
+    requires within { end ≤ vec_len bytes.old }
+    ensures* writes_back { sem 𝓛 (LendsPart bytes.entry start end result) }
+    ensures bytes { result.now ≡ slice_range bytes.old.items start end }
+{
+    run_mut(bytes, start, end)
+}
