@@ -5,11 +5,11 @@
 //! swap slot, or a page of zeros. A frame that is pinned is never evicted. A fault of the mapper is answered only
 //! where the mapper's count of faults rose, and it leaves every page where it was.
 //!
-//! A store is seen as the record of its parts, each by its own model; of the marks a contract sees only how many there
-//! are, so that no promise rests on the policy. `IsStoreRight` of `specs` says how the parts, the caches and the
-//! mapper belong together, and `Still` what each call keeps. The crate stands on `frame_pool`, `slot_pool`,
-//! `global_map`, `local_cache` and the traits of the outside; the paths of faults, copies and segments stand on it.
-//! It serves the nodes of temporary caches.
+//! A store is seen as the record of its parts, each by its own model; of the marks the calls that move pages say only
+//! how many there are, so that no promise of theirs rests on the policy. `IsStoreRight` of `specs` says how the parts,
+//! the caches and the mapper belong together, and `Still` what each call keeps. The crate stands on `frame_pool`,
+//! `slot_pool`, `global_map`, `local_cache` and the traits of the outside; the paths of faults, copies and segments
+//! stand on it. It serves the nodes of temporary caches.
 #![tactic(auto)]
 
 mod marks;
