@@ -20,6 +20,7 @@ use Rattle.local_cache.proofs.Threads.{threaded_is, row-front, row-rear, row-joi
 use Rattle.local_cache.proofs.Changes.{Like, listed-like, Relinked, relinked, relinked_then, links-with_links, links-with_links_other, id_cases, map-like, named-like, reads_like, hang_root, hang-like, irreflexive, same_node, forest_of-made, forest_of-copies}
 use Rattle.local_cache.proofs.Threads.Ends.{IsNone, EndsBy}
 use Rattle.page_stubs.specs.Threading.{IsHeldIf, with_behind, added}
+use Rattle.page_stubs.proofs.Links.{behind_relinked, held_if, links-behind, links-behind_other}
 
 pub record Added (a b : Arena) (d s : NodeId) (last : Option NodeId) : Type 0 where
   pub relinked : Relinked a b
@@ -28,38 +29,21 @@ pub record Added (a b : Arena) (d s : NodeId) (last : Option NodeId) : Type 0 wh
   pub of_s : (cell b s).links ≡ record (cell a s).links { first = option_or (cell a s).links.first (Some d); last = Some d; stubs = (cell a s).links.stubs + 1 }
   pub others : (n : NodeId) → n ≢ d → n ≢ s → (last ≡ Some n → ⊥) → (cell b n).links ≡ (cell a n).links
 
-pub held_after : (a : Arena) (n m : NodeId) (l : Links) → IsHeld a n → IsHeld a m → IsHeld (with_links a n l) m
-held_after a n m l h k = (relinked a n l h).like.held m ∙ k
-
 pub added-Added : (a : Arena) (d s : NodeId) (last : Option NodeId) → IsHeld a d → IsHeld a s → IsHeldIf a last → d ≢ s → ((l : NodeId) → last ≡ Some l → (l ≢ d) × (l ≢ s)) → Added a (added a d s last) d s last
-added-Added a d s None hd hs hl d_s far =
-    let own : Links = record (cell a d).links { parent = Some s; by_stub = true; before = None; behind = None } in
-    let to : Links = record (cell a s).links { first = option_or (cell a s).links.first (Some d); last = Some d; stubs = (cell a s).links.stubs + 1 } in
+added-Added a d s last hd hs hl d_s far =
+    let own : Links = record (cell a d).links { parent = Some s; by_stub = true; before = last; behind = None } in
+    let to : Links → Links = λ l. record l { first = option_or (cell a s).links.first (Some d); last = Some d; stubs = (cell a s).links.stubs + 1 } in
+    let behind_d : Links → Links = λ l. record l { behind = Some d } in
     let a1 : Arena = with_links a d own in
+    let a2 : Arena = with_behind a1 last (Some d) in
+    let r1 = relinked a d own hd in
+    let r2 = relinked_then a a1 a2 r1 (behind_relinked a1 last (Some d) (held_if a a1 last r1.like hl)) in
     record {
-      relinked = relinked_then a a1 (with_links a1 s to) (relinked a d own hd) (relinked a1 s to (held_after a d s own hd hs));
-      of_d = links-with_links_other a1 s d to d_s ∙ links-with_links a d own;
-      of_last = λ l e. absurd (cc e);
-      of_s = links-with_links a1 s to;
-      others = λ n nd ns nl. links-with_links_other a1 s n to ns ∙ links-with_links_other a d n own nd;
-    }
-added-Added a d s (Some l) hd hs hl d_s far =
-    let own : Links = record (cell a d).links { parent = Some s; by_stub = true; before = Some l; behind = None } in
-    let to : Links = record (cell a s).links { first = option_or (cell a s).links.first (Some d); last = Some d; stubs = (cell a s).links.stubs + 1 } in
-    let a1 : Arena = with_links a d own in
-    let end : Links = record (cell a1 l).links { behind = Some d } in
-    let a2 : Arena = with_links a1 l end in
-    let apart = far l refl in
-    let behind_d : Links → Links = λ k. record k { behind = Some d } in
-    let l1 = held_after a d l own hd hl in
-    let s2 = held_after a1 l s end l1 (held_after a d s own hd hs) in
-    record {
-      relinked = relinked_then a a1 (with_links a2 s to) (relinked a d own hd) (relinked_then a1 a2 (with_links a2 s to) (relinked a1 l end l1) (relinked a2 s to s2));
-      of_d = links-with_links_other a2 s d to d_s ∙ links-with_links_other a1 l d end (λ e. apart.0 (sym e)) ∙ links-with_links a d own;
-      of_last = λ m e. let is : l ≡ m = cc e in subst (λ k. (cell (with_links a2 s to) k).links ≡ record (cell a k).links { behind = Some d }) is
-          (links-with_links_other a2 s l to apart.1 ∙ links-with_links a1 l end ∙ ap behind_d (links-with_links_other a d l own apart.0));
-      of_s = links-with_links a2 s to;
-      others = λ n nd ns nl. links-with_links_other a2 s n to ns ∙ links-with_links_other a1 l n end (λ e. nl (ap Some (sym e))) ∙ links-with_links_other a d n own nd;
+      relinked = relinked_then a a2 (added a d s last) r2 (relinked a2 s (to (cell a2 s).links) (r2.like.held s ∙ hs));
+      of_d = links-with_links_other a2 s d _ d_s ∙ links-behind_other a1 last (Some d) d (λ e. (far d e).0 refl) ∙ links-with_links a d own;
+      of_last = λ l e. links-with_links_other a2 s l _ (far l e).1 ∙ links-behind a1 last (Some d) l e ∙ ap behind_d (links-with_links_other a d l own (far l e).0);
+      of_s = links-with_links a2 s _ ∙ ap to (links-behind_other a1 last (Some d) s (λ e. (far s e).1 refl) ∙ links-with_links_other a d s own (λ e. d_s (sym e)));
+      others = λ n nd ns nl. links-with_links_other a2 s n _ ns ∙ links-behind_other a1 last (Some d) n nl ∙ links-with_links_other a d n own nd;
     }
 
 option_or-head : (us : List NodeId) (d : NodeId) → option_or (head_or us None) (Some d) ≡ head_or (us ++ d ∷ []) None
@@ -137,14 +121,6 @@ threaded_s a b d s ys can link = record {
           },
           tt,
         )
-
-pub held_if_after : (a : Arena) (n : NodeId) (l : Links) (o : Option NodeId) → IsHeld a n → IsHeldIf a o → IsHeldIf (with_links a n l) o
-held_if_after a n l None h k = tt
-held_if_after a n l (Some m) h k = held_after a n m l h k
-
-pub held_behind : (a : Arena) (o to : Option NodeId) (m : NodeId) → IsHeldIf a o → IsHeld a m → IsHeld (with_behind a o to) m
-held_behind a None to m h k = k
-held_behind a (Some n) to m h k = held_after a n m _ h k
 
 stub-made_is : {P : Type 0} (f : Forest P) (d s : NodeName) → (stub f d s).made ≡ f.made
 unfolding stub forest.put

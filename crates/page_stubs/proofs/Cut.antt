@@ -11,36 +11,7 @@ use Rattle.local_cache.proofs.Threads.{row-front, row-rear, row-join, row-each, 
 use Rattle.local_cache.proofs.Threads.Ends.{IsNone, EndsBy}
 use Rattle.local_cache.proofs.Changes.{Like, Relinked, relinked, relinked_then, relinked_itself, links-with_links, links-with_links_other}
 use Rattle.page_stubs.specs.Threading.{IsHeldIf, with_behind, with_before, end_after, cut_out}
-
--- One neighbour ---------------------------------------------------------------------
-
-behind_relinked : (a : Arena) (o to : Option NodeId) → IsHeldIf a o → Relinked a (with_behind a o to)
-behind_relinked a None to h = relinked_itself a
-behind_relinked a (Some n) to h = relinked a n _ h
-
-before_relinked : (a : Arena) (o to : Option NodeId) → IsHeldIf a o → Relinked a (with_before a o to)
-before_relinked a None to h = relinked_itself a
-before_relinked a (Some n) to h = relinked a n _ h
-
-behind_at : (a : Arena) (o to : Option NodeId) (l : NodeId) → o ≡ Some l → (cell (with_behind a o to) l).links ≡ record (cell a l).links { behind = to }
-behind_at a None to l e = absurd (cc e)
-behind_at a (Some n) to l e = let same : n ≡ l = cc e in subst (λ k. (cell (with_behind a (Some n) to) k).links ≡ record (cell a k).links { behind = to }) same (links-with_links a n _)
-
-behind_other : (a : Arena) (o to : Option NodeId) (m : NodeId) → (o ≡ Some m → ⊥) → (cell (with_behind a o to) m).links ≡ (cell a m).links
-behind_other a None to m ne = refl
-behind_other a (Some n) to m ne = links-with_links_other a n m _ (λ e. ne (ap Some (sym e)))
-
-before_at : (a : Arena) (o to : Option NodeId) (l : NodeId) → o ≡ Some l → (cell (with_before a o to) l).links ≡ record (cell a l).links { before = to }
-before_at a None to l e = absurd (cc e)
-before_at a (Some n) to l e = let same : n ≡ l = cc e in subst (λ k. (cell (with_before a (Some n) to) k).links ≡ record (cell a k).links { before = to }) same (links-with_links a n _)
-
-before_other : (a : Arena) (o to : Option NodeId) (m : NodeId) → (o ≡ Some m → ⊥) → (cell (with_before a o to) m).links ≡ (cell a m).links
-before_other a None to m ne = refl
-before_other a (Some n) to m ne = links-with_links_other a n m _ (λ e. ne (ap Some (sym e)))
-
-held_if : (a b : Arena) (o : Option NodeId) → Like a b → IsHeldIf a o → IsHeldIf b o
-held_if a b None like h = tt
-held_if a b (Some n) like h = like.held n ∙ h
+use Rattle.page_stubs.proofs.Links.{before_relinked, behind_relinked, held_if, links-before, links-before_other, links-behind, links-behind_other}
 
 pub record Cut (a b : Arena) (n p : NodeId) (before behind : Option NodeId) : Type 0 where
   pub relinked : Relinked a b
@@ -63,23 +34,26 @@ pub cut-Cut : (a : Arena) (n p : NodeId) (before behind : Option NodeId) → IsH
 cut-Cut a n p before behind hn hp hb hh far =
     let a1 : Arena = with_behind a before behind in
     let a2 : Arena = with_before a1 behind before in
-    let of : Links = record (cell a p).links { first = end_after before behind (cell a p).links.first; last = end_after behind before (cell a p).links.last; stubs = (cell a p).links.stubs - 1 } in
-    let out : Links = record (cell a n).links { parent = None; by_stub = false; before = None; behind = None } in
-    let a3 : Arena = with_links a2 p of in
+    let first : Option NodeId = end_after before behind (cell a p).links.first in
+    let last : Option NodeId = end_after behind before (cell a p).links.last in
+    let of : Links → Links = λ l. record l { first = first; last = last; stubs = (cell a p).links.stubs - 1 } in
+    let out : Links → Links = λ l. record l { parent = None; by_stub = false; before = None; behind = None } in
+    let a3 : Arena = with_links a2 p (of (cell a2 p).links) in
+    let b : Arena = with_links a3 n (out (cell a3 n).links) in
     let r1 = behind_relinked a before behind hb in
     let r2 = before_relinked a1 behind before (held_if a a1 behind r1.like hh) in
     let r12 = relinked_then a a1 a2 r1 r2 in
-    let r3 = relinked a2 p of (r12.like.held p ∙ hp) in
+    let r3 = relinked a2 p (of (cell a2 p).links) (r12.like.held p ∙ hp) in
     let r13 = relinked_then a a2 a3 r12 r3 in
-    let b : Arena = with_links a3 n out in
-    let late : (m : NodeId) → m ≢ n → m ≢ p → (cell b m).links ≡ (cell a2 m).links = λ m nn np. links-with_links_other a3 n m out nn ∙ links-with_links_other a2 p m of np in
+    let early : (m : NodeId) → (before ≡ Some m → ⊥) → (behind ≡ Some m → ⊥) → (cell a2 m).links ≡ (cell a m).links = λ m nb nh. links-before_other a1 behind before m nh ∙ links-behind_other a before behind m nb in
+    let late : (m : NodeId) → m ≢ n → m ≢ p → (cell b m).links ≡ (cell a2 m).links = λ m nn np. links-with_links_other a3 n m _ nn ∙ links-with_links_other a2 p m _ np in
     record {
-      relinked = relinked_then a a3 b r13 (relinked a3 n out (r13.like.held n ∙ hn));
-      of_before = λ l e. late l (λ q. far.before_n (e ∙ ap Some q)) (λ q. far.before_p (e ∙ ap Some q)) ∙ before_other a1 behind before l (far.both l e) ∙ behind_at a before behind l e;
-      of_behind = λ r e. late r (λ q. far.behind_n (e ∙ ap Some q)) (λ q. far.behind_p (e ∙ ap Some q)) ∙ before_at a1 behind before r e ∙ ap (before_is before) (behind_other a before behind r (λ q. far.both r q e));
-      of_p = links-with_links_other a3 n p out (λ e. far.n_p (sym e)) ∙ links-with_links a2 p of;
-      of_n = links-with_links a3 n out;
-      others = λ m nn np nb nh. late m nn np ∙ before_other a1 behind before m nh ∙ behind_other a before behind m nb;
+      relinked = relinked_then a a3 b r13 (relinked a3 n (out (cell a3 n).links) (r13.like.held n ∙ hn));
+      of_before = λ l e. late l (λ q. far.before_n (e ∙ ap Some q)) (λ q. far.before_p (e ∙ ap Some q)) ∙ links-before_other a1 behind before l (far.both l e) ∙ links-behind a before behind l e;
+      of_behind = λ r e. late r (λ q. far.behind_n (e ∙ ap Some q)) (λ q. far.behind_p (e ∙ ap Some q)) ∙ links-before a1 behind before r e ∙ ap (before_is before) (links-behind_other a before behind r (λ q. far.both r q e));
+      of_p = links-with_links_other a3 n p _ (λ e. far.n_p (sym e)) ∙ links-with_links a2 p _ ∙ ap of (early p far.before_p far.behind_p);
+      of_n = links-with_links a3 n _ ∙ ap out (links-with_links_other a2 p n _ far.n_p ∙ early n far.before_n far.behind_n);
+      others = λ m nn np nb nh. late m nn np ∙ early m nb nh;
     }
   where
     before_is : Option NodeId → Links → Links

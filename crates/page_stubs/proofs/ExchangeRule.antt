@@ -233,8 +233,5 @@ module _ (a : Arena) (sound : IsSound a) (w y p : NodeId) (hw : IsHeld a w) (hy 
   places = let s = split (stubs_of a p) w in_list in placed s.0 s.1 s.2
 
   -- what the code needs of the neighbours
-  pub parent_held : IsHeld a p
-  parent_held = hp
-
   pub neighbours_held : IsHeldIf a (cell a w).links.before × IsHeldIf a (cell a w).links.behind
   neighbours_held = let s = split (stubs_of a p) w in_list in (before_held s.0 s.1 s.2, behind_held s.0 s.1 s.2)

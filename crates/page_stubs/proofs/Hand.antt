@@ -29,9 +29,6 @@ pub take_whole : (ys : List NodeId) → take (length ys) ys ≡ ys
 take_whole [] = refl
 take_whole (y ∷ ys) = ap (λ zs. y ∷ zs) (take_whole ys)
 
-pub handed_none : (a : Arena) (to : NodeId) → Handed a a [] to
-handed_none a to = record { relinked = relinked_itself a; room = refl; done = λ m i. absurd i; rest = λ m out. refl }
-
 in_end : (us : List NodeId) (y m : NodeId) → m ∈ (us ++ y ∷ []) → (m ∈ us) ⊎ (m ≡ y)
 in_end [] y m (inl e) = inr e
 in_end [] y m (inr i) = absurd i

@@ -34,19 +34,32 @@ pub before-col : {A : Type 0} (col : Links → A) → ((l : Links) (o : Option N
 before-col col same a None to m = refl
 before-col col same a (Some n) to m = links-col col a n _ m (same (cell a n).links to)
 
+-- the links of the node that is set, and of all others
+pub links-behind : (a : Arena) (o to : Option NodeId) (m : NodeId) → o ≡ Some m → (cell (with_behind a o to) m).links ≡ record (cell a m).links { behind = to }
+links-behind a None to m e = absurd (cc e)
+links-behind a (Some n) to m e = let same : n ≡ m = cc e in subst (λ k. (cell (with_behind a (Some n) to) k).links ≡ record (cell a k).links { behind = to }) same (links-with_links a n _)
+
+pub links-behind_other : (a : Arena) (o to : Option NodeId) (m : NodeId) → (o ≡ Some m → ⊥) → (cell (with_behind a o to) m).links ≡ (cell a m).links
+links-behind_other a None to m ne = refl
+links-behind_other a (Some n) to m ne = links-with_links_other a n m _ (λ e. ne (ap Some (sym e)))
+
+pub links-before : (a : Arena) (o to : Option NodeId) (m : NodeId) → o ≡ Some m → (cell (with_before a o to) m).links ≡ record (cell a m).links { before = to }
+links-before a None to m e = absurd (cc e)
+links-before a (Some n) to m e = let same : n ≡ m = cc e in subst (λ k. (cell (with_before a (Some n) to) k).links ≡ record (cell a k).links { before = to }) same (links-with_links a n _)
+
+pub links-before_other : (a : Arena) (o to : Option NodeId) (m : NodeId) → (o ≡ Some m → ⊥) → (cell (with_before a o to) m).links ≡ (cell a m).links
+links-before_other a None to m ne = refl
+links-before_other a (Some n) to m ne = links-with_links_other a n m _ (λ e. ne (ap Some (sym e)))
+
 -- the column that is set
 pub behind_at : (a : Arena) (o to : Option NodeId) (m : NodeId) → o ≡ Some m → (cell (with_behind a o to) m).links.behind ≡ to
-behind_at a None to m e = absurd (cc e)
-behind_at a (Some n) to m e = let same : n ≡ m = cc e in subst (λ k. (cell (with_behind a (Some n) to) k).links.behind ≡ to) same (ap (λ l. l.behind) (links-with_links a n _))
+behind_at a o to m e = ap (λ l. l.behind) (links-behind a o to m e)
 
 pub behind_other : (a : Arena) (o to : Option NodeId) (m : NodeId) → (o ≡ Some m → ⊥) → (cell (with_behind a o to) m).links.behind ≡ (cell a m).links.behind
-behind_other a None to m ne = refl
-behind_other a (Some n) to m ne = ap (λ l. l.behind) (links-with_links_other a n m _ (λ e. ne (ap Some (sym e))))
+behind_other a o to m ne = ap (λ l. l.behind) (links-behind_other a o to m ne)
 
 pub before_at : (a : Arena) (o to : Option NodeId) (m : NodeId) → o ≡ Some m → (cell (with_before a o to) m).links.before ≡ to
-before_at a None to m e = absurd (cc e)
-before_at a (Some n) to m e = let same : n ≡ m = cc e in subst (λ k. (cell (with_before a (Some n) to) k).links.before ≡ to) same (ap (λ l. l.before) (links-with_links a n _))
+before_at a o to m e = ap (λ l. l.before) (links-before a o to m e)
 
 pub before_other : (a : Arena) (o to : Option NodeId) (m : NodeId) → (o ≡ Some m → ⊥) → (cell (with_before a o to) m).links.before ≡ (cell a m).links.before
-before_other a None to m ne = refl
-before_other a (Some n) to m ne = ap (λ l. l.before) (links-with_links_other a n m _ (λ e. ne (ap Some (sym e))))
+before_other a o to m ne = ap (λ l. l.before) (links-before_other a o to m ne)

@@ -12,13 +12,17 @@ abbrev pub with_behind : Arena → Option NodeId → Option NodeId → Arena
 with_behind a None to = a
 with_behind a (Some n) to = with_links a n (record (cell a n).links { behind = to })
 
+-- the ends of the stubs of n, and how many they are
+abbrev pub with_ends : Arena → NodeId → Option NodeId → Option NodeId → ℕ → Arena
+with_ends a n first last stubs = with_links a n (record (cell a n).links { first = first; last = last; stubs = stubs })
+
+-- how n hangs, and its neighbours in its parent's list
+abbrev pub with_place : Arena → NodeId → Option NodeId → Bool → Option NodeId → Option NodeId → Arena
+with_place a n parent by_stub before behind = with_links a n (record (cell a n).links { parent = parent; by_stub = by_stub; before = before; behind = behind })
+
 -- d, without a parent, at the end of the stubs of s, behind `last`
 abbrev pub added : Arena → NodeId → NodeId → Option NodeId → Arena
-added a d s last =
-    with_links
-    (with_behind (with_links a d (record (cell a d).links { parent = Some s; by_stub = true; before = last; behind = None })) last (Some d))
-    s
-    (record (cell a s).links { first = option_or (cell a s).links.first (Some d); last = Some d; stubs = (cell a s).links.stubs + 1 })
+added a d s last = with_ends (with_behind (with_place a d (Some s) true last None) last (Some d)) s (option_or (cell a s).links.first (Some d)) (Some d) ((cell a s).links.stubs + 1)
 
 abbrev pub with_before : Arena → Option NodeId → Option NodeId → Arena
 with_before a None to = a
@@ -32,21 +36,18 @@ end_after (Some n) other end = end
 -- n taken out of the stubs of p, where it stands between two neighbours
 abbrev pub cut_out : Arena → NodeId → NodeId → Option NodeId → Option NodeId → Arena
 cut_out a n p before behind =
-    with_links
-    (with_links
+    with_place
+    (with_ends
     (with_before (with_behind a before behind) behind before)
     p
-    (record (cell a p).links { first = end_after before behind (cell a p).links.first; last = end_after behind before (cell a p).links.last; stubs = (cell a p).links.stubs - 1 }))
+    (end_after before behind (cell a p).links.first)
+    (end_after behind before (cell a p).links.last)
+    ((cell a p).links.stubs - 1))
     n
-    (record (cell a n).links { parent = None; by_stub = false; before = None; behind = None })
-
--- the ends of the stubs of n, and how many they are
-abbrev pub with_ends : Arena → NodeId → Option NodeId → Option NodeId → ℕ → Arena
-with_ends a n first last stubs = with_links a n (record (cell a n).links { first = first; last = last; stubs = stubs })
-
--- how n hangs, and its neighbours in its parent's list
-abbrev pub with_place : Arena → NodeId → Option NodeId → Bool → Option NodeId → Option NodeId → Arena
-with_place a n parent by_stub before behind = with_links a n (record (cell a n).links { parent = parent; by_stub = by_stub; before = before; behind = behind })
+    None
+    false
+    None
+    None
 
 -- the list of `from`, whose stubs have `to` as their parent, behind that of `to`
 abbrev pub joined : Arena → NodeId → NodeId → Arena

@@ -10,8 +10,8 @@ ghost use Rattle.local_cache.specs.Reading.{name_of, forest_of};
 ghost use Rattle.local_cache.specs.Sound.{IsSound};
 ghost use Rattle.page_stubs.specs.Threading.{IsHeldIf, added};
 
-use crate::threading::set_behind;
-use local_cache::{Caches, Links};
+use crate::threading::{set_behind, set_ends, set_place};
+use local_cache::Caches;
 use vm_ids::NodeId;
 
 // d, which has no parent, is hung on s behind the last of its stubs.
@@ -23,27 +23,9 @@ fn thread_last(caches: &mut Caches, d: NodeId, s: NodeId)
     ensures { caches.new ≡ added caches.old d s (cell caches.old s).links.last }
 {
     let to = caches.links(s);
-    let own = caches.links(d);
-    caches.set_links(
-        d,
-        Links {
-            parent: Some(s),
-            by_stub: true,
-            before: to.last,
-            behind: None,
-            ..own
-        },
-    );
+    set_place(caches, d, Some(s), true, to.last, None);
     set_behind(caches, to.last, Some(d));
-    caches.set_links(
-        s,
-        Links {
-            first: to.first.or(Some(d)),
-            last: Some(d),
-            stubs: to.stubs + 1,
-            ..to
-        },
-    );
+    set_ends(caches, s, to.first.or(Some(d)), Some(d), to.stubs + 1);
 }
 
 /// The node `d`, which has no own page, parent and children, becomes the last stub of `s`.

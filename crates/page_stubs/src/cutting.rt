@@ -10,8 +10,8 @@ ghost use Rattle.local_cache.specs.Sound.{IsSound, IsKept};
 ghost use Rattle.page_stubs.specs.Threading.{IsHeldIf};
 ghost use Rattle.page_stubs.specs.Threading as spec;
 
-use crate::threading::{set_before, set_behind};
-use local_cache::{Caches, Links};
+use crate::threading::{set_before, set_behind, set_ends, set_place};
+use local_cache::Caches;
 use vm_ids::NodeId;
 
 // The end of a list from which a stub with these neighbours was taken out.
@@ -40,28 +40,16 @@ fn take_out(
     ensures { caches.new ≡ spec.cut_out caches.old n p before behind }
 {
     let of = caches.links(p);
-    let own = caches.links(n);
     set_behind(caches, before, behind);
     set_before(caches, behind, before);
-    caches.set_links(
+    set_ends(
+        caches,
         p,
-        Links {
-            first: end_after(before, behind, of.first),
-            last: end_after(behind, before, of.last),
-            stubs: of.stubs - 1,
-            ..of
-        },
+        end_after(before, behind, of.first),
+        end_after(behind, before, of.last),
+        of.stubs - 1,
     );
-    caches.set_links(
-        n,
-        Links {
-            parent: None,
-            by_stub: false,
-            before: None,
-            behind: None,
-            ..own
-        },
-    );
+    set_place(caches, n, None, false, None, None);
 }
 
 /// The stub `node` is taken out of its parent's list, and has no parent.
