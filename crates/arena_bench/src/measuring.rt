@@ -25,7 +25,7 @@ fn first_pages(from: CacheId, to: CacheId, pages: u32) -> Span {
 
 /// Makes a source cache and two destinations of so many pages, copies the source to both, destroys the source, and tells
 /// how many microseconds each part took.
-pub fn measure(rt: &HostRuntime, pages: u32) -> Result<(), Fault> {
+pub(crate) fn measure(rt: &HostRuntime, pages: u32) -> Result<(), Fault> {
     eprintln!(rt; "pages {pages}")?;
     let start = Instant::now(rt)?;
     let mut caches = Pages::new(rt.alloc());

@@ -1,20 +1,19 @@
 -- One page of a copy: what its calls need, and how much room they take.
-use Rattle.std.proofs.Common.{◌≡◌, ◌≢◌, ℕ, zero, suc, ◌+◌, ◌-◌, ◌≤◌, Option, Some, None, IsSome, is_some, refl, sym, ap, ◌∙◌, subst, arith}
-use Rattle.std.proofs.lemmas.Bool.{false≢true}
+use Rattle.std.proofs.Common.{◌≡◌, ◌≢◌, ◌+◌, ◌-◌, ◌≤◌, Option, Some, None, IsSome, is_some, sym, ap, ◌∙◌, subst, arith}
 use Rattle.vm_ids.specs.declared.node_name.NodeName.{NodeName}
 use Rattle.vm_ids.specs.declared.node_name.NodeName.TheVariants.{Live}
 use Rattle.vm_ids.specs.declared.numbers.CacheId.{CacheId}
 use Rattle.vm_ids.specs.declared.numbers.NodeId.{NodeId}
 use Rattle.vm_ids.specs.declared.numbers.PageNo.{PageNo}
 use Rattle.vm_ids.specs.Forest.NameMap.{len}
-use Rattle.vm_ids.specs.Forest.Nodes.{Forest, IsNode, child_count, childless, node}
+use Rattle.vm_ids.specs.Forest.Nodes.{Forest, IsNode, childless, node}
 use Rattle.vm_ids.specs.Forest.Nodes.Hang.{Root}
 use Rattle.vm_ids.specs.Forest.Rules.{detach}
 use Rattle.vm_ids.specs.Forest.Shape.{IsConsistent}
 use Rattle.vm_ids.specs.Forest.Laws.Linking.{ArePages}
 use Rattle.vm_ids.proofs.Forest.NodesAfter.{node-put}
 use Rattle.local_cache.specs.declared.own_state.OwnState.{OwnState}
-use Rattle.local_cache.specs.Arena.{Arena, IsHeld, as_working, node_at, put, with_new}
+use Rattle.local_cache.specs.Arena.{Arena, IsHeld, node_at}
 use Rattle.local_cache.specs.Reading.{forest_of, name_of}
 use Rattle.local_cache.specs.Sound.{IsSound}
 use Rattle.local_cache.proofs.Changes.{forest_of-made}

@@ -1,5 +1,5 @@
 -- What holds of the caches between two commands.
-use Rattle.std.specs.Prelude.{◌≡◌, ℕ, ◌<◌, ◌^◌, length, Option, Some, option_map}
+use Rattle.std.specs.Prelude.{◌≡◌, ◌≢◌, ℕ, ◌<◌, ◌^◌, length, Option, Some, option_map}
 use Rattle.vm_ids.specs.declared.numbers.CacheId.{CacheId}
 use Rattle.vm_ids.specs.Forest.NameMap.{len}
 use Rattle.vm_ids.specs.Forest.Nodes.{IsNode}
@@ -16,6 +16,10 @@ size_of a cache = option_map (λ t. length t.pages) (table_of a cache)
 -- the same caches are live, with as many pages
 abbrev pub SameSizes : Arena → Arena → Type 0
 SameSizes a b = (cache : ℕ) → size_of b cache ≡ size_of a cache
+
+-- the same but for one cache
+abbrev pub OtherSizesStay : ℕ → Arena → Arena → Type 0
+OtherSizesStay cache a b = (other : ℕ) → other ≢ cache → size_of b other ≡ size_of a other
 
 -- The caches are sound, their forest is consistent, each page of a live cache has a node, and the nodes can be counted.
 pub record IsWhole (a : Arena) : Type 0 where

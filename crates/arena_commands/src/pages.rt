@@ -7,7 +7,7 @@ ghost use Rattle.vm_ids.specs.Forest.Reading.{chain_of, counts_of, value_of};
 ghost use Rattle.vm_ids.specs.Forest.Rules.{write as rule_write};
 ghost use Rattle.local_cache.specs.Arena.{IsHeld};
 ghost use Rattle.local_cache.specs.Reading.{forest_of, name_of};
-ghost use Rattle.arena_commands.specs.Whole.{size_of};
+ghost use Rattle.arena_commands.specs.Whole.{OtherSizesStay, SameSizes, size_of};
 ghost use Rattle.vm_ids.specs.Forest.Laws.Ranges.{AreNodes};
 ghost use Rattle.arena_commands.specs.Commands.{IsWithin, RefusedWhere, zero_pages};
 
@@ -65,7 +65,10 @@ impl Pages {
     pub fn make_temp(&mut self, pages: u32) -> Result<CacheId, Refusal>
         ensures number { IfOk result (λ cache. cache.0 ≡ length self.old.caches + 1) }
         ensures made { IfOk result (λ cache. forest_of self.new ≡ make (zero_pages cache pages) (forest_of self.old)) }
+        ensures size { IfOk result (λ cache. size_of self.new cache.0 ≡ Some pages) }
+        ensures other_sizes { IfOk result (λ cache. OtherSizesStay cache.0 self.old self.new) }
         ensures refused { OnErr result (forest_of self.new ≡ forest_of self.old) }
+        ensures refused_sizes { OnErr result (SameSizes self.old self.new) }
     {
         let counts = self.caches.counts();
         let nodes = counts.live as u64 + counts.working as u64 + pages as u64;
@@ -114,6 +117,7 @@ impl Pages {
     /// are used up.
     pub fn store(&mut self, cache: CacheId, page: PageNo, content: SlotId) -> Result<(), Refusal>
         ensures stored { OnOk result (forest_of self.new ≡ rule_write (forest_of self.old) (NodeName.Live cache page) (λ _. OwnState.Slot content)) }
+        ensures sizes { SameSizes self.old self.new }
         ensures refused { OnErr result (self.new ≡ self.old) }
         ensures no_page { RefusedWhere Refusal.NoPage (IsNode (forest_of self.old) (NodeName.Live cache page) → ⊥) result }
     {
@@ -132,6 +136,7 @@ impl Pages {
     /// nodes are used up.
     pub fn copy(&mut self, span: Span) -> Result<(), Refusal>
         ensures copied { OnOk result (forest_of self.new ≡ rule_copy false (span_pairs span) (forest_of self.old)) }
+        ensures sizes { SameSizes self.old self.new }
         ensures refused { OnErr result (forest_of self.new ≡ forest_of self.old) }
         ensures same_cache { RefusedWhere Refusal.SameCache (span.from ≡ span.to) result }
         ensures no_page { span.from ≢ span.to → RefusedWhere Refusal.NoPage (IsWithin (forest_of self.old) span → ⊥) result }
@@ -154,6 +159,8 @@ impl Pages {
     /// else `Full` where the numbers of working nodes are used up.
     pub fn destroy(&mut self, cache: CacheId) -> Result<(), Refusal>
         ensures destroyed { OnOk result (IfSome (size_of self.old cache.0) (λ pages. forest_of self.new ≡ rule_destroy false (page_names cache 0 pages) (forest_of self.old))) }
+        ensures size { OnOk result (size_of self.new cache.0 ≡ None) }
+        ensures other_sizes { OtherSizesStay cache.0 self.old self.new }
         ensures refused { OnErr result (self.new ≡ self.old) }
         ensures no_page { RefusedWhere Refusal.NoPage (size_of self.old cache.0 ≡ None) result }
     {
@@ -172,6 +179,7 @@ impl Pages {
     // Makes room for the nodes of a copy: up to two for each page.
     fn make_room(&mut self, pages: u32) -> Result<(), Refusal>
         ensures forest { forest_of self.new ≡ forest_of self.old }
+        ensures sizes { SameSizes self.old self.new }
         ensures room { OnOk result (2 * pages ≤ self.new.room.nodes) }
         ensures made { OnOk result (self.new.made + 2 * pages < 2 ^ 63) }
         ensures few { OnOk result (len (forest_of self.new).nodes + 2 * pages < 2 ^ 32) }
