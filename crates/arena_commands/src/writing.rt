@@ -1,5 +1,5 @@
 // A page gets a page of its own, and its heir gets the page that it loses.
-ghost use Rattle.std.specs.Prelude.{◌≡◌, ◌+◌, ◌<◌, ◌^◌, true, None, Some, IsSome, is_none};
+ghost use Rattle.std.specs.Prelude.{◌≡◌, ◌+◌, ◌<◌, ◌^◌, true, None, Some, IsSome};
 ghost use Rattle.vm_ids.specs.Forest.NameMap.{len};
 ghost use Rattle.vm_ids.specs.Forest.Nodes.{is_live, is_stub, node as node_named};
 ghost use Rattle.vm_ids.specs.Forest.Rules as forest;
@@ -14,12 +14,6 @@ use history_tree::{heir, owner_of};
 use local_cache::{Caches, OwnState};
 use page_stubs::{cut_stub, hand_stubs};
 use vm_ids::NodeId;
-
-fn is_absent(state: OwnState) -> bool
-    ensures { result ≡ is_none (page_of state) }
-{
-    matches!(state, OwnState::Absent)
-}
 
 // Whether a node hangs by a stub link.
 fn hangs_by_stub(caches: &Caches, node: NodeId) -> bool
@@ -91,7 +85,7 @@ fn own_page(caches: &mut Caches, node: NodeId)
     ensures sound { IsSound caches.new }
     ensures like { Like caches.old caches.new }
 {
-    if is_absent(caches.own_state(node)) {
+    if caches.own_state(node).is_absent() {
         own(caches, node);
     }
 }

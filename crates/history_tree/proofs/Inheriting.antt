@@ -11,7 +11,7 @@ use Rattle.vm_ids.specs.Forest.Rules.{heir}
 use Rattle.local_cache.specs.declared.own_state.OwnState.{OwnState}
 use Rattle.local_cache.specs.Arena.{Arena, cell, IsHeld}
 use Rattle.local_cache.specs.Reading.{name_of, page_of, forest_of, stubs_of}
-use Rattle.local_cache.specs.Threads.{head_or, Row}
+use Rattle.local_cache.specs.Threads.{head_or}
 use Rattle.local_cache.specs.Sound.{IsSound, ◌∈◌}
 use Rattle.local_cache.proofs.Reading.{node-forest_of}
 
@@ -23,10 +23,6 @@ most_one (Working k) live = absurd (false≢true live)
 first_name : (a : Arena) (ys : List NodeId) → first (map (name_of a) ys) ≡ option_map (name_of a) (head_or ys None)
 first_name a [] = refl
 first_name a (y ∷ ys) = refl
-
-head_held : (a : Arena) (x : NodeId) (ys : List NodeId) → Row a x None ys None → (y : NodeId) → head_or ys None ≡ Some y → IsHeld a y
-head_held a x [] row y e = absurd (cc e)
-head_held a x (z ∷ ys) row y e = let same : z ≡ y = cc e in subst (IsHeld a) same row.0.held
 
 none_there : (ts : List NodeId) → None ≡ slice_get ts 0 → ts ≡ []
 none_there [] e = refl
@@ -56,9 +52,6 @@ module _ (a : Arena) (sound : IsSound a) (n : NodeId) (h : IsHeld a n) where
 
   pub heir_stub : None ≡ slice_get (cell a n).tree 0 → heir (forest_of a) (name_of a n) ≡ option_map (name_of a) (cell a n).links.first
   heir_stub none = heir_is [] (tree_is ∙ ap (map (name_of a)) (none_there _ none)) ∙ stub_is
-
-  pub stub_held : (y : NodeId) → (cell a n).links.first ≡ Some y → IsHeld a y
-  stub_held y e = let t = sound.threaded n h in head_held a n (stubs_of a n) t.row y (sym t.first ∙ e)
 
   module _ (live : is_live (name_of a n) ≡ true) (t : NodeId) (there : Some t ≡ slice_get (cell a n).tree 0) where
     few : length (cell a n).tree ≤ 1

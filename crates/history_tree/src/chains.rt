@@ -8,7 +8,6 @@ ghost use Rattle.local_cache.specs.Reading.{name_of, forest_of};
 ghost use Rattle.local_cache.specs.Sound.{IsSound};
 ghost use Rattle.history_tree.specs.Items.{item_for};
 
-use crate::owner::is_absent;
 use local_cache::Caches;
 use std::alloc::Global;
 use vm_ids::{ChainItem, ChainList, NoMemory, NodeId};
@@ -52,7 +51,7 @@ pub fn chain(alloc: Global, caches: &Caches, node: NodeId) -> Result<ChainList, 
 {
     let mut items = Vec::new(alloc);
     let mut at = node;
-    while is_absent(caches.own_state(at)) {
+    while caches.own_state(at).is_absent() {
         if items.push(item_of(caches, at)).is_err() {
             return Err(NoMemory);
         }

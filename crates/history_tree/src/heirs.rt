@@ -6,7 +6,6 @@ ghost use Rattle.local_cache.specs.Arena.{IsHeld};
 ghost use Rattle.local_cache.specs.Reading.{name_of, forest_of};
 ghost use Rattle.local_cache.specs.Sound.{IsSound};
 
-use crate::owner::is_absent;
 use local_cache::Caches;
 use vm_ids::NodeId;
 
@@ -22,7 +21,7 @@ pub fn heir(caches: &Caches, node: NodeId) -> Option<NodeId>
     let stub = caches.links(node).first;
     match caches.tree_child(node, 0) {
         Some(child) => {
-            if is_absent(caches.own_state(child)) {
+            if caches.own_state(child).is_absent() {
                 Some(child)
             } else {
                 stub

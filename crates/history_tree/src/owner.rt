@@ -1,19 +1,13 @@
 // The owner of a page: the first node on the way up that has an own page.
-ghost use Rattle.std.specs.Prelude.{◌≡◌, IsSome, is_none};
+ghost use Rattle.std.specs.Prelude.{◌≡◌, IsSome};
 ghost use Rattle.vm_ids.specs.Forest.Reading as forest;
 ghost use Rattle.vm_ids.specs.Forest.Shape.{IsWellShaped};
 ghost use Rattle.local_cache.specs.Arena.{IsHeld, cell};
 ghost use Rattle.local_cache.specs.Reading.{name_of, forest_of, page_of};
 ghost use Rattle.local_cache.specs.Sound.{IsSound};
 
-use local_cache::{Caches, OwnState};
+use local_cache::Caches;
 use vm_ids::NodeId;
-
-pub(crate) fn is_absent(state: OwnState) -> bool
-    ensures { result ≡ is_none (page_of state) }
-{
-    matches!(state, OwnState::Absent)
-}
 
 /// The owner of a node: the first node with an own page on the way up by parents, the node itself included. Its page is
 /// what the node reads.
@@ -26,7 +20,7 @@ pub fn owner_of(caches: &Caches, node: NodeId) -> NodeId
     ensures own { IsSome (page_of (cell caches.now result).own) }
 {
     let mut at = node;
-    while is_absent(caches.own_state(at)) {
+    while caches.own_state(at).is_absent() {
         match caches.links(at).parent {
             Some(parent) => at = parent,
             None => unreachable!(),

@@ -1,6 +1,5 @@
 -- A part is taken out of the table of all pages, and the parts behind it stand lower.
-use Rattle.std.proofs.Common.{◌≡◌, ◌⊎◌, ℕ, zero, suc, ◌+◌, ◌-◌, ◌<◌, ◌≤◌, List, [], ◌∷◌, length, get_or, set, take, drop, Option, Some, None, option_map, refl, sym, ap, ◌∙◌, subst, inl, inr, arith, length-set, length-take}
-use Rattle.std.proofs.lemmas.Bool.{cases_eq}
+use Rattle.std.proofs.Common.{◌≡◌, ◌⊎◌, ℕ, zero, suc, ◌+◌, ◌-◌, ◌<◌, ◌≤◌, List, [], ◌∷◌, length, get_or, set, take, drop, Option, Some, None, option_map, refl, sym, ap, ◌∙◌, subst, inl, inr, arith, length-set}
 use Rattle.std.proofs.lemmas.List.{get_or-drop, get_or-set_other, get_or-set_same, get_or-take, get_or_past, ext_get_or}
 use Rattle.local_cache.specs.declared.page_table.CacheEntry.{CacheEntry}
 use Rattle.local_cache.specs.declared.page_table.PageEntry.{PageEntry}
@@ -21,89 +20,12 @@ pub record IsClosing {X : Type 0} (from n at : ℕ) (xs ys : List X) : Type 0 wh
   pub done : (k : ℕ) (d : X) → from ≤ k → k + n < at → get_or ys k d ≡ get_or xs (k + n) d
   pub rest : (k : ℕ) (d : X) → from ≤ k → at ≤ k + n → get_or ys k d ≡ get_or xs k d
 
-module _ {X : Type 0} (from n : ℕ) (xs : List X) where
-  pub closing_start : IsClosing from n (from + n) xs xs
-  closing_start = record { len = refl; front = λ k d h. refl; done = λ k d h g. absurd (omega arith); rest = λ k d h g. refl }
-
-  pub closing_step : (at : ℕ) (ys : List X) (v : X) → from + n ≤ at → at < length xs → v ≡ get_or ys at v → IsClosing from n at xs ys → IsClosing from n (at + 1) xs (set ys (at - n) v)
-  closing_step at ys v low within is c = record {
-    len = length-set ys (at - n) v ∙ c.len;
-    front = λ k d h. get_or-set_other ys (at - n) k v d (λ e. omega arith) ∙ c.front k d h;
-    done = λ k d h g. elim (cases_eq k (at - n)) [
-      | inl e ↦
-          let there : k + n ≡ at = omega arith in
-          ap (λ j. get_or (set ys (at - n) v) j d) e ∙ get_or-set_same ys (at - n) v d (omega (arith, c.len))
-          ∙ is ∙ c.rest at v (omega arith) (omega arith) ∙ any_default xs at v d within ∙ ap (λ j. get_or xs j d) (sym there)
-      | inr ne ↦ get_or-set_other ys (at - n) k v d ne ∙ c.done k d h (omega arith)
-    ];
-    rest = λ k d h g. get_or-set_other ys (at - n) k v d (λ e. omega arith) ∙ c.rest k d h (omega arith);
-  }
-
-  pub closing_end : (ys : List X) → from + n ≤ length xs → IsClosing from n (length xs) xs ys → HasClosed from n xs (take (length xs - n) ys)
-  closing_end ys low c = record {
-    before = λ k d h. get_or-take (length xs - n) ys k d (omega arith) ∙ c.front k d h;
-    behind = λ k d h. elim (less_or k) [
-      | inl less ↦ get_or-take (length xs - n) ys k d less ∙ c.done k d h (omega arith)
-      | inr more ↦ get_or_past (take (length xs - n) ys) k d (omega (arith, length-take (length xs - n) ys)) ∙ sym (get_or_past xs (k + n) d (omega arith))
-    ];
-  }
-    where
-      less_or : (k : ℕ) → (k < length xs - n) ⊎ (length xs - n ≤ k)
-      less_or k = less_cases k (length xs - n)
-        where
-          less_cases : (a b : ℕ) → (a < b) ⊎ (b ≤ a)
-          less_cases a zero = inr (omega arith)
-          less_cases zero (suc b) = inl (omega arith)
-          less_cases (suc a) (suc b) = elim (less_cases a b) [ inl h ↦ inl (omega arith) | inr h ↦ inr (omega arith) ]
-
 -- the caches from one index up to another stand lower by n
 pub record AreLowering (from n at : ℕ) (xs ys : List (Option CacheEntry)) : Type 0 where
   pub len : length ys ≡ length xs
   pub front : (k : ℕ) → k < from → get_or ys k None ≡ get_or xs k None
   pub done : (k : ℕ) → from ≤ k → k < at → get_or ys k None ≡ option_map (lowered n) (get_or xs k None)
   pub rest : (k : ℕ) → at ≤ k → get_or ys k None ≡ get_or xs k None
-
-module _ (from n : ℕ) (xs : List (Option CacheEntry)) where
-  pub lowering_start : AreLowering from n from xs xs
-  lowering_start = record { len = refl; front = λ k h. refl; done = λ k h g. absurd (omega arith); rest = λ k h. refl }
-
-  pub lowering_some : (at : ℕ) (ys : List (Option CacheEntry)) (e : CacheEntry) → from ≤ at → at < length xs → get_or ys at None ≡ Some e → AreLowering from n at xs ys → AreLowering from n (at + 1) xs (set ys at (Some (lowered n e)))
-  lowering_some at ys e low within is c = record {
-    len = length-set ys at (Some (lowered n e)) ∙ c.len;
-    front = λ k h. get_or-set_other ys at k (Some (lowered n e)) None (λ q. omega arith) ∙ c.front k h;
-    done = λ k h g. elim (cases_eq k at) [
-      | inl q ↦ ap (λ j. get_or (set ys at (Some (lowered n e))) j None) q ∙ get_or-set_same ys at (Some (lowered n e)) None (omega (arith, c.len))
-          ∙ ap (option_map (lowered n)) (sym is ∙ c.rest at (omega arith) ∙ ap (λ j. get_or xs j None) (sym q))
-      | inr ne ↦ get_or-set_other ys at k (Some (lowered n e)) None ne ∙ c.done k h (omega arith)
-    ];
-    rest = λ k h. get_or-set_other ys at k (Some (lowered n e)) None (λ q. omega arith) ∙ c.rest k (omega arith);
-  }
-
-  pub lowering_none : (at : ℕ) (ys : List (Option CacheEntry)) → from ≤ at → get_or ys at None ≡ None → AreLowering from n at xs ys → AreLowering from n (at + 1) xs ys
-  lowering_none at ys low is c = record {
-    len = c.len;
-    front = c.front;
-    done = λ k h g. elim (cases_eq k at) [
-      | inl q ↦ ap (λ j. get_or ys j None) q ∙ is ∙ ap (option_map (lowered n)) (sym is ∙ c.rest at (omega arith) ∙ ap (λ j. get_or xs j None) (sym q))
-      | inr ne ↦ c.done k h (omega arith)
-    ];
-    rest = λ k h. c.rest k (omega arith);
-  }
-
-  pub lowering_end : (at : ℕ) (ys : List (Option CacheEntry)) → length xs ≤ at → AreLowering from n at xs ys → AreLowered from n xs ys
-  lowering_end at ys all c = record {
-    length = c.len;
-    before = c.front;
-    behind = λ k h. elim (cases at k) [
-      | inl less ↦ c.done k h less
-      | inr more ↦ (let past : get_or xs k None ≡ None = get_or_past xs k None (omega arith) in c.rest k more ∙ past ∙ ap (option_map (lowered n)) (sym past))
-    ];
-  }
-    where
-      cases : (b a : ℕ) → (a < b) ⊎ (b ≤ a)
-      cases zero a = inr (omega arith)
-      cases (suc b) zero = inl (omega arith)
-      cases (suc b) (suc a) = elim (cases b a) [ inl h ↦ inl (omega arith) | inr h ↦ inr (omega arith) ]
 
 -- the parts of the caches, each by itself and two by two
 record IsRow (from : ℕ) (es : List (Option CacheEntry)) (end : ℕ) : Type 0 where

@@ -1,6 +1,5 @@
 pub mod Adding
 pub mod Alike
-pub mod Bare
 pub mod Cells
 pub mod Changes
 pub mod Counts

@@ -180,13 +180,6 @@ tables_past es entries (suc k) e page o is h =
     set_past (x ∷ xs) zero v h = absurd (omega arith)
     set_past (x ∷ xs) (suc k) v h = ap (λ ys. x ∷ ys) (set_past xs k v (omega arith))
 
--- that of a page of no live cache
-pub tables_none : (es : List (Option CacheEntry)) (entries : List PageEntry) (cache page : ℕ) (o : Option NodeId) → entry_at es cache ≡ None → tables_in entries es ≡ cache_with (tables_in entries es) cache page o
-tables_none es entries zero page o is = refl
-tables_none es entries (suc k) page o is =
-    let found : get_or (tables_in entries es) k None ≡ None = table_get entries es k ∙ ap (option_map (table_in entries)) is in
-    sym (ap (λ t. set (tables_in entries es) k (option_map (table_with page o) t)) found ∙ ap (set (tables_in entries es) k) (sym found) ∙ set-get_or (tables_in entries es) k None)
-
 -- what `set_node` tells, of the caches that a slice shows
 pub through : (shown es : List (Option CacheEntry)) (before after : List PageEntry) (x : NodeName) (o : Option NodeId) → shown ≡ es → tables_in after shown ≡ tables_with (tables_in before shown) x o → tables_in after es ≡ tables_with (tables_in before es) x o
 through shown es before after x o e is = subst (λ (cs : List (Option CacheEntry)). tables_in after cs ≡ tables_with (tables_in before cs) x o) e is

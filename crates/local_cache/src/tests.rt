@@ -59,7 +59,7 @@ fn a_page_changes_its_node(rt: HostRuntime) -> Result<(), Fail> {
     caches.reserve(0, 1)?;
     let new = caches.fresh(cache, PageNo(0), OwnState::Absent);
     assert_eq!(rt; caches.name(new), NodeName::Live(cache, PageNo(0)));
-    assert_eq!(rt; caches.own_state(new), OwnState::Absent);
+    assert!(rt; caches.own_state(new).is_absent());
     caches.free(new);
     Ok(())
 }

@@ -9,7 +9,7 @@ use Rattle.local_cache.specs.Sound.{◌∈◌}
 pub use Rattle.local_cache.specs.Changes.{Once}
 use Rattle.local_cache.proofs.Threads.{row-front, row-rear, row-join, row-each, Keeps, keeps_links, row-kept, ends, last_or-end, last_or-append, last_in}
 use Rattle.local_cache.proofs.Threads.Ends.{IsNone, EndsBy}
-use Rattle.local_cache.proofs.Changes.{Like, Relinked, relinked, relinked_then, relinked_itself, links-with_links, links-with_links_other}
+use Rattle.local_cache.proofs.Changes.{Relinked, relinked, relinked_then, links-with_links, links-with_links_other}
 use Rattle.page_stubs.specs.Threading.{IsHeldIf, with_behind, with_before, end_after, cut_out}
 use Rattle.page_stubs.proofs.Links.{before_relinked, behind_relinked, held_if, links-before, links-before_other, links-behind, links-behind_other}
 

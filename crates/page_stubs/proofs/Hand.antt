@@ -8,7 +8,7 @@ use Rattle.local_cache.specs.Threads.{head_or, last_or, IsStub, Row}
 use Rattle.local_cache.specs.Sound.{IsKept, ◌∈◌}
 use Rattle.local_cache.specs.Changes.{Once}
 use Rattle.local_cache.proofs.Threads.{row-rear}
-use Rattle.local_cache.proofs.Changes.{relinked, relinked_then, relinked_itself, links-with_links, links-with_links_other}
+use Rattle.local_cache.proofs.Changes.{relinked, relinked_then, links-with_links, links-with_links_other}
 use Rattle.page_stubs.specs.Handing.{Handed}
 use Rattle.page_stubs.proofs.Cut.{once-apart}
 use Rattle.page_stubs.proofs.Room.{room-links}

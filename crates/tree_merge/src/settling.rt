@@ -8,8 +8,7 @@ ghost use Rattle.vm_ids.specs.Forest.Laws.Settling.{IsSettled};
 ghost use Rattle.vm_ids.specs.Forest.Settling.{give_way as rule_give_way, pass_page as rule_pass_page, settle_step as rule_settle_step};
 ghost use Rattle.local_cache.specs.Arena.{IsHeld, cell};
 ghost use Rattle.local_cache.specs.Changes.{Like};
-ghost use Rattle.local_cache.specs.Own as own;
-ghost use Rattle.local_cache.specs.Own.{own_of};
+ghost use Rattle.local_cache.specs.Own.{is_absent, own_of};
 ghost use Rattle.local_cache.specs.Reading.{name_of, forest_of};
 ghost use Rattle.local_cache.specs.Sound.{IsSound};
 ghost use Rattle.tree_merge.specs.Releasing.{IsMerged, OwnsAfter, own_after, released_to};
@@ -25,17 +24,11 @@ use local_cache::{Caches, OwnState};
 use page_stubs::{cut_stub, take_place_of};
 use vm_ids::NodeId;
 
-fn is_absent(state: OwnState) -> bool
-    ensures { result ≡ own.is_absent state }
-{
-    matches!(state, OwnState::Absent)
-}
-
 // Whether a node with the first state passes its own page to a child with the second one.
 fn passes(from: OwnState, to: OwnState) -> bool
-    ensures { result ≡ (not (own.is_absent from) && own.is_absent to) }
+    ensures { result ≡ (not (is_absent from) && is_absent to) }
 {
-    !is_absent(from) && is_absent(to)
+    !from.is_absent() && to.is_absent()
 }
 
 // The child gets the node's own page, if the node has one and the child has none.
@@ -76,7 +69,7 @@ fn put_for_stub(caches: &mut Caches, node: NodeId, child: NodeId, parent: NodeId
     ensures sound { IsSound caches.new }
     ensures rehung { Rehung caches.old caches.new }
 {
-    if is_absent(caches.own_state(child)) {
+    if caches.own_state(child).is_absent() {
         take_place_of(caches, node, child);
     } else {
         cut_stub(caches, node);

@@ -23,13 +23,13 @@ the_last xs ys cs whole x e f g = e ∙ ap (λ us. xs ++ us) (sym f) ∙ g
 pub loop-items-smaller : goal.loop-items-smaller
 loop-items-smaller c =
     let a = c.args.caches.now in
-    let bare : is_none (page_of (cell a c.loop-items.at).own) ≡ true = ap (λ s. is_none (page_of s)) (sym c.own_state.ensures) ∙ sym c.is_absent.ensures ∙ c.loop-items-test.true in
+    let bare : is_none (page_of (cell a c.loop-items.at).own) ≡ true = ap (λ s. is_none (page_of s)) (sym c.own_state.ensures) ∙ sym c.is_absent.ensures.page ∙ c.loop-items-test.true in
     shorter a c.requires.sound c.requires.shaped c.loop-items.at c.loop-items.invariant.held c.in-Some.parent bare (ap (λ l. l.parent) (sym c.links.ensures) ∙ c.in-Some.is)
 
 pub loop-items-preserved : goal.loop-items-preserved
 loop-items-preserved c =
     let a = c.args.caches.now in
-    let bare : is_none (page_of (cell a c.loop-items.at).own) ≡ true = ap (λ s. is_none (page_of s)) (sym c.own_state.ensures) ∙ sym c.is_absent.ensures ∙ c.loop-items-test.true in
+    let bare : is_none (page_of (cell a c.loop-items.at).own) ≡ true = ap (λ s. is_none (page_of s)) (sym c.own_state.ensures) ∙ sym c.is_absent.ensures.page ∙ c.loop-items-test.true in
     let up : (cell a c.loop-items.at).links.parent ≡ _ = ap (λ l. l.parent) (sym c.links.ensures) ∙ c.in-Some.is in
     let ok : is_ok c.push.result ≡ true = c.is_err.ensures.negation ∙ ap not c.if-is_err.false in
     let items = ◌∙◌ {A = List ChainItem} c.push.ensures.items (pushed _ c.loop-items.items.items c.item_of.result (item_for (forest_of a) (name_of a c.loop-items.at)) ok c.item_of.ensures) in
@@ -41,13 +41,13 @@ loop-items-preserved c =
 pub unreachable-requires : goal.unreachable-requires
 unreachable-requires c =
     let a = c.args.caches.now in
-    let bare : is_none (page_of (cell a c.loop-items.at).own) ≡ true = ap (λ s. is_none (page_of s)) (sym c.own_state.ensures) ∙ sym c.is_absent.ensures ∙ c.loop-items-test.true in
+    let bare : is_none (page_of (cell a c.loop-items.at).own) ≡ true = ap (λ s. is_none (page_of s)) (sym c.own_state.ensures) ∙ sym c.is_absent.ensures.page ∙ c.loop-items-test.true in
     has_parent a c.requires.sound c.requires.shaped c.loop-items.at c.loop-items.invariant.held bare (ap (λ l. l.parent) (sym c.links.ensures) ∙ c.in-None.is)
 
 pub returns : goal.returns
 returns c =
     let a = c.args.caches.now in
-    let full : is_none (page_of (cell a c.loop-items.at).own) ≡ false = ap (λ s. is_none (page_of s)) (sym c.own_state.ensures) ∙ sym c.is_absent.ensures ∙ c.loop-items-test.false in
+    let full : is_none (page_of (cell a c.loop-items.at).own) ≡ false = ap (λ s. is_none (page_of s)) (sym c.own_state.ensures) ∙ sym c.is_absent.ensures.page ∙ c.loop-items-test.false in
     let ok : is_ok c.push-2.result ≡ true = c.is_err-2.ensures.negation ∙ ap not c.if-is_err-2.false in
     let items = ◌∙◌ {A = List ChainItem} c.push-2.ensures.items (pushed _ c.loop-items.items.items c.item_of-2.result (item_for (forest_of a) (name_of a c.loop-items.at)) ok c.item_of-2.ensures) in
     c.new.ensures ∙ the_last c.loop-items.items.items _ _ _ _ items (chain_end a c.requires.sound c.requires.shaped c.loop-items.at c.loop-items.invariant.held full) c.loop-items.invariant.so_far

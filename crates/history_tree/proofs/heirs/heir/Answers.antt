@@ -10,7 +10,7 @@ pub returns-then-is_absent-clause-heir : goal.returns-then-is_absent-clause-heir
 returns-then-is_absent-clause-heir c =
     let r = c.requires in
     sym (heir_child c.args.caches.now r.sound c.args.node r.node r.live c.in-Some.child c.in-Some.ensures
-    (ap (λ s. is_none (page_of s)) (sym c.own_state.ensures) ∙ sym c.is_absent.ensures ∙ c.if-is_absent.true))
+    (ap (λ s. is_none (page_of s)) (sym c.own_state.ensures) ∙ sym c.is_absent.ensures.page ∙ c.if-is_absent.true))
 
 pub returns-then-is_absent-clause-held : goal.returns-then-is_absent-clause-held
 returns-then-is_absent-clause-held c = let r = c.requires in child_held c.args.caches.now r.sound c.args.node r.node r.live c.in-Some.child c.in-Some.ensures
@@ -20,7 +20,7 @@ returns-else-is_absent-clause-heir c =
     let r = c.requires in
     ap (λ l. option_map (name_of c.args.caches.now) l.first) c.links-stub.ensures
     ∙ sym (heir_past c.args.caches.now r.sound c.args.node r.node r.live c.in-Some.child c.in-Some.ensures
-    (ap (λ s. is_none (page_of s)) (sym c.own_state.ensures) ∙ sym c.is_absent.ensures ∙ c.if-is_absent.false))
+    (ap (λ s. is_none (page_of s)) (sym c.own_state.ensures) ∙ sym c.is_absent.ensures.page ∙ c.if-is_absent.false))
 
 pub returns-in-None-clause-heir : goal.returns-in-None-clause-heir
 returns-in-None-clause-heir c =

@@ -7,13 +7,13 @@ use Rattle.history_tree.proofs.owner.owner_of.Goals as goal
 pub loop-at-smaller : goal.loop-at-smaller
 loop-at-smaller c =
     let a = c.args.caches.now in
-    let bare : is_none (page_of (cell a c.loop-at.at).own) ≡ true = ap (λ s. is_none (page_of s)) (sym c.own_state.ensures) ∙ sym c.is_absent.ensures ∙ c.loop-at-test.true in
+    let bare : is_none (page_of (cell a c.loop-at.at).own) ≡ true = ap (λ s. is_none (page_of s)) (sym c.own_state.ensures) ∙ sym c.is_absent.ensures.page ∙ c.loop-at-test.true in
     shorter a c.requires.sound c.requires.shaped c.loop-at.at c.loop-at.invariant.held c.in-Some.parent bare (ap (λ l. l.parent) (sym c.links.ensures) ∙ c.in-Some.is)
 
 pub loop-at-preserved : goal.loop-at-preserved
 loop-at-preserved c =
     let a = c.args.caches.now in
-    let bare : is_none (page_of (cell a c.loop-at.at).own) ≡ true = ap (λ s. is_none (page_of s)) (sym c.own_state.ensures) ∙ sym c.is_absent.ensures ∙ c.loop-at-test.true in
+    let bare : is_none (page_of (cell a c.loop-at.at).own) ≡ true = ap (λ s. is_none (page_of s)) (sym c.own_state.ensures) ∙ sym c.is_absent.ensures.page ∙ c.loop-at-test.true in
     record {
       held = held_up a c.requires.sound c.requires.shaped c.loop-at.at c.loop-at.invariant.held c.in-Some.parent bare (ap (λ l. l.parent) (sym c.links.ensures) ∙ c.in-Some.is);
       same_owner = sym (same_owner a c.requires.sound c.requires.shaped c.loop-at.at c.loop-at.invariant.held c.in-Some.parent bare (ap (λ l. l.parent) (sym c.links.ensures) ∙ c.in-Some.is)) ∙ c.loop-at.invariant.same_owner;
@@ -22,10 +22,10 @@ loop-at-preserved c =
 pub unreachable-requires : goal.unreachable-requires
 unreachable-requires c =
     let a = c.args.caches.now in
-    let bare : is_none (page_of (cell a c.loop-at.at).own) ≡ true = ap (λ s. is_none (page_of s)) (sym c.own_state.ensures) ∙ sym c.is_absent.ensures ∙ c.loop-at-test.true in
+    let bare : is_none (page_of (cell a c.loop-at.at).own) ≡ true = ap (λ s. is_none (page_of s)) (sym c.own_state.ensures) ∙ sym c.is_absent.ensures.page ∙ c.loop-at-test.true in
     has_parent a c.requires.sound c.requires.shaped c.loop-at.at c.loop-at.invariant.held bare (ap (λ l. l.parent) (sym c.links.ensures) ∙ c.in-None.is)
 
 pub returns-clause-owner : goal.returns-clause-owner
 returns-clause-owner c =
     let a = c.args.caches.now in
-    sym (itself_owns a c.requires.sound c.requires.shaped c.loop-at.at c.loop-at.invariant.held (ap (λ s. is_none (page_of s)) (sym c.own_state.ensures) ∙ sym c.is_absent.ensures ∙ c.loop-at-test.false)) ∙ c.loop-at.invariant.same_owner
+    sym (itself_owns a c.requires.sound c.requires.shaped c.loop-at.at c.loop-at.invariant.held (ap (λ s. is_none (page_of s)) (sym c.own_state.ensures) ∙ sym c.is_absent.ensures.page ∙ c.loop-at-test.false)) ∙ c.loop-at.invariant.same_owner
