@@ -8,15 +8,15 @@ use thiserror::Error;
 pub enum Fault {
     #[error("usage: arena_bench [PAGES ..]")]
     Usage,
-    #[error("no memory")]
-    NoMemory,
+    #[error("no memory, or no numbers, for so many pages")]
+    NoRoom,
     #[error("no clock, or standard error takes nothing")]
     Io,
 }
 
 impl From<Refusal> for Fault {
     fn from(_refusal: Refusal) -> Self {
-        Fault::NoMemory
+        Fault::NoRoom
     }
 }
 

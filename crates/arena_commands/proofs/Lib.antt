@@ -7,6 +7,7 @@ pub mod Handing
 pub mod Leaving
 pub mod Linked
 pub mod Pairs
+pub mod Refused
 pub mod Settled
 pub mod Sizes
 pub mod Wholes

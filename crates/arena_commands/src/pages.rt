@@ -1,5 +1,5 @@
 // The caches between two commands, and what is read of them.
-ghost use Rattle.std.specs.Prelude.{◌≡◌, ◌≢◌, ◌+◌, ◌*◌, ◌<◌, ◌≤◌, ◌^◌, ◌↔◌, [], length, false, true, None, Some, IfErr, IfOk, IfSome, OnErr, OnOk};
+ghost use Rattle.std.specs.Prelude.{◌≡◌, ◌≢◌, ◌+◌, ◌*◌, ◌<◌, ◌≤◌, ◌^◌, ◌↔◌, ◌⊎◌, [], length, false, true, None, Some, IfErr, IfOk, IfSome, IsSome, OnErr, OnOk};
 ghost use Rattle.vm_ids.specs.Forest.Commands.{copy as rule_copy, destroy as rule_destroy, make, page_names, span_pairs};
 ghost use Rattle.vm_ids.specs.Forest.NameMap.{len};
 ghost use Rattle.vm_ids.specs.Forest.Nodes.{IsNode, no_forest};
@@ -9,7 +9,7 @@ ghost use Rattle.local_cache.specs.Arena.{IsHeld};
 ghost use Rattle.local_cache.specs.Reading.{forest_of, name_of};
 ghost use Rattle.arena_commands.specs.Whole.{OtherSizesStay, SameSizes, size_of};
 ghost use Rattle.vm_ids.specs.Forest.Laws.Ranges.{AreNodes};
-ghost use Rattle.arena_commands.specs.Commands.{IsWithin, RefusedWhere, zero_pages};
+ghost use Rattle.arena_commands.specs.Commands.{HasNoNumbers, IsWithin, RefusedWhere, zero_pages};
 
 use crate::Refusal;
 use crate::copying::copy_pages;
@@ -61,22 +61,22 @@ impl Pages {
     }
 
     /// Makes a temporary cache of so many pages of zeros and answers its number, which is one more than caches were made
-    /// before. `Full` where there is no memory or no number for it.
+    /// before. `TooMany` exactly where there is no number for it or for its nodes, else `NoMemory` where there is none.
     pub fn make_temp(&mut self, pages: u32) -> Result<CacheId, Refusal>
         ensures number { IfOk result (λ cache. cache.0 ≡ length self.old.caches + 1) }
         ensures made { IfOk result (λ cache. forest_of self.new ≡ make (zero_pages cache pages) (forest_of self.old)) }
         ensures size { IfOk result (λ cache. size_of self.new cache.0 ≡ Some pages) }
         ensures other_sizes { IfOk result (λ cache. OtherSizesStay cache.0 self.old self.new) }
+        ensures too_many { RefusedWhere Refusal.TooMany ((length self.old.caches + 1 ≡ 2 ^ 32) ⊎ (2 ^ 32 ≤ len (forest_of self.old).nodes + pages)) result }
         ensures refused { OnErr result (forest_of self.new ≡ forest_of self.old) }
         ensures refused_sizes { OnErr result (SameSizes self.old self.new) }
     {
-        let counts = self.caches.counts();
-        let nodes = counts.live as u64 + counts.working as u64 + pages as u64;
+        let nodes = self.nodes() + pages as u64;
         if self.caches.caches_made() == u32::MAX || nodes > u32::MAX as u64 {
-            return Err(Refusal::Full);
+            return Err(Refusal::TooMany);
         }
         if self.caches.reserve(1, pages).is_err() {
-            return Err(Refusal::Full);
+            return Err(Refusal::NoMemory);
         }
         Ok(self.caches.make_temp(pages))
     }
@@ -92,7 +92,7 @@ impl Pages {
     }
 
     /// The chain of a page: the nodes from its own up to the one whose page it reads, each with its number of children.
-    /// `NoPage` exactly where no live cache has this page, and `Full` where there is no memory for the answer.
+    /// `NoPage` exactly where no live cache has this page, and else `NoMemory` where there is none for the answer.
     pub fn chain(&self, alloc: Global, cache: CacheId, page: PageNo) -> Result<ChainList, Refusal>
         ensures chain { IfOk result (λ list. list ≡ chain_of (forest_of self.now) (NodeName.Live cache page)) }
         ensures no_page { RefusedWhere Refusal.NoPage (IsNode (forest_of self.now) (NodeName.Live cache page) → ⊥) result }
@@ -102,7 +102,7 @@ impl Pages {
         };
         match chain(alloc, &self.caches, node) {
             Ok(list) => Ok(list),
-            Err(NoMemory) => Err(Refusal::Full),
+            Err(NoMemory) => Err(Refusal::NoMemory),
         }
     }
 
@@ -113,33 +113,35 @@ impl Pages {
         self.caches.counts()
     }
 
-    /// Stores this content in a page. `NoPage` exactly where no live cache has it, and `Full` where the numbers of copies
-    /// are used up.
+    /// Stores this content in a page. `NoPage` exactly where no live cache has it, else `TooMany` exactly where 2^62 copies
+    /// were counted.
     pub fn store(&mut self, cache: CacheId, page: PageNo, content: SlotId) -> Result<(), Refusal>
         ensures stored { OnOk result (forest_of self.new ≡ rule_write (forest_of self.old) (NodeName.Live cache page) (λ _. OwnState.Slot content)) }
         ensures sizes { SameSizes self.old self.new }
         ensures refused { OnErr result (self.new ≡ self.old) }
         ensures no_page { RefusedWhere Refusal.NoPage (IsNode (forest_of self.old) (NodeName.Live cache page) → ⊥) result }
+        ensures too_many { IsNode (forest_of self.old) (NodeName.Live cache page) → RefusedWhere Refusal.TooMany (2 ^ 62 ≤ self.old.copies) result }
     {
         let Some(node) = self.node(cache, page) else {
             return Err(Refusal::NoPage)
         };
         if self.caches.counts().copies >= MOST_COPIES {
-            return Err(Refusal::Full);
+            return Err(Refusal::TooMany);
         }
         write(&mut self.caches, node, OwnState::Slot(content));
         Ok(())
     }
 
     /// Copies pages from one cache to another, all at once. `SameCache` exactly where it is one cache, else `NoPage`
-    /// exactly where a page of either range is in no live cache, else `Full` where there is no memory or the numbers of
-    /// nodes are used up.
+    /// exactly where a page of either range is in no live cache, else `TooMany` exactly where there may not be numbers for
+    /// the nodes, two for each page, else `NoMemory` where there is none.
     pub fn copy(&mut self, span: Span) -> Result<(), Refusal>
         ensures copied { OnOk result (forest_of self.new ≡ rule_copy false (span_pairs span) (forest_of self.old)) }
         ensures sizes { SameSizes self.old self.new }
         ensures refused { OnErr result (forest_of self.new ≡ forest_of self.old) }
         ensures same_cache { RefusedWhere Refusal.SameCache (span.from ≡ span.to) result }
         ensures no_page { span.from ≢ span.to → RefusedWhere Refusal.NoPage (IsWithin (forest_of self.old) span → ⊥) result }
+        ensures too_many { span.from ≢ span.to → IsWithin (forest_of self.old) span → RefusedWhere Refusal.TooMany (HasNoNumbers self.old (2 * span.pages)) result }
     {
         if span.from == span.to {
             return Err(Refusal::SameCache);
@@ -156,19 +158,20 @@ impl Pages {
     }
 
     /// Destroys a cache. Its pages stay for those that read them. `NoPage` exactly where no live cache has this number,
-    /// else `Full` where the numbers of working nodes are used up.
+    /// else `TooMany` exactly where 2^62 working nodes were made.
     pub fn destroy(&mut self, cache: CacheId) -> Result<(), Refusal>
         ensures destroyed { OnOk result (IfSome (size_of self.old cache.0) (λ pages. forest_of self.new ≡ rule_destroy false (page_names cache 0 pages) (forest_of self.old))) }
         ensures size { OnOk result (size_of self.new cache.0 ≡ None) }
         ensures other_sizes { OtherSizesStay cache.0 self.old self.new }
         ensures refused { OnErr result (self.new ≡ self.old) }
         ensures no_page { RefusedWhere Refusal.NoPage (size_of self.old cache.0 ≡ None) result }
+        ensures too_many { IsSome (size_of self.old cache.0) → RefusedWhere Refusal.TooMany (2 ^ 62 ≤ self.old.made) result }
     {
         let Some(pages) = self.caches.pages(cache) else {
             return Err(Refusal::NoPage)
         };
         if self.caches.working_made() >= MOST_WORKING {
-            return Err(Refusal::Full);
+            return Err(Refusal::TooMany);
         }
         retire_pages(&mut self.caches, cache, pages);
         settle(&mut self.caches);
@@ -183,18 +186,27 @@ impl Pages {
         ensures room { OnOk result (2 * pages ≤ self.new.room.nodes) }
         ensures made { OnOk result (self.new.made + 2 * pages < 2 ^ 63) }
         ensures few { OnOk result (len (forest_of self.new).nodes + 2 * pages < 2 ^ 32) }
-        ensures full { IfErr result (λ refusal. refusal ≡ Refusal.Full) }
+        ensures too_many { RefusedWhere Refusal.TooMany (HasNoNumbers self.old (2 * pages)) result }
+        ensures refusals { IfErr result (λ refusal. (refusal ≡ Refusal.TooMany) ⊎ (refusal ≡ Refusal.NoMemory)) }
     {
-        let counts = self.caches.counts();
         let more = 2 * pages as u64;
-        let nodes = counts.live as u64 + counts.working as u64 + more;
+        let nodes = self.nodes() + more;
         if self.caches.working_made() >= MOST_WORKING || nodes > u32::MAX as u64 {
-            return Err(Refusal::Full);
+            return Err(Refusal::TooMany);
         }
         match self.caches.reserve(0, more as u32) {
             Ok(()) => Ok(()),
-            Err(NoMemory) => Err(Refusal::Full),
+            Err(NoMemory) => Err(Refusal::NoMemory),
         }
+    }
+
+    // How many nodes there are.
+    fn nodes(&self) -> u64
+        ensures nodes { result ≡ len (forest_of self.now).nodes }
+        ensures few { result < 2 ^ 32 }
+    {
+        let counts = self.caches.counts();
+        counts.live as u64 + counts.working as u64
     }
 
     // Whether these pages of a cache are there.

@@ -7,6 +7,8 @@ pub enum Refusal {
     NoPage,
     /// Source and destination are pages of one cache.
     SameCache,
-    /// There is no memory, or the numbers for caches, nodes or copies are used up.
-    Full,
+    /// The numbers of caches, nodes or copies are used up.
+    TooMany,
+    /// There is no memory.
+    NoMemory,
 }
