@@ -1,5 +1,5 @@
 -- How many working nodes there are: what a change of one slot adds, and that the forest has as many.
-use Rattle.std.proofs.Common.{◌≡◌, ◌≢◌, ℕ, zero, suc, ◌+◌, ◌-◌, ◌<◌, ◌≤◌, ◌^◌, Bool, not, cond, List, [], ◌∷◌, length, filter, get_or, sum_by, count_by, Option, Some, None, IsSome, is_some, refl, sym, ap, ◌∙◌, subst, inl, inr, arith, zero-add}
+use Rattle.std.proofs.Common.{◌≡◌, ℕ, zero, suc, ◌+◌, ◌-◌, ◌<◌, ◌≤◌, ◌^◌, Bool, not, cond, List, [], ◌∷◌, length, filter, get_or, sum_by, count_by, Option, Some, None, IsSome, is_some, refl, sym, ap, ◌∙◌, subst, inl, inr, arith, zero-add}
 use Rattle.std.proofs.lemmas.List.{length-map}
 use Rattle.std.proofs.lemmas.List.Sums.{get_or-le-sum_by, sum_by-cons, sum_by-le-sum_by}
 use Rattle.slab.specs.Slab.{Slab, Updates, get, slab_len, with_value}
@@ -22,28 +22,10 @@ use Rattle.local_cache.specs.Reading.{IsNamed, at_key, forest_of, name_of}
 use Rattle.local_cache.proofs.Changes.{forest_of-copies}
 use Rattle.local_cache.proofs.Pages.{some_of}
 use Rattle.local_cache.proofs.Reading.{IsNode-forest_of, forest_of-IsNode}
+use Rattle.local_cache.proofs.SlotSums.{sum_updated}
 use Rattle.local_cache.proofs.Slots.{cell-seen, find-seen, len-with_value, reads_some, seen, some_at}
 
 -- The counter -------------------------------------------------------------------
-
-module _ {X : Type 0} (f : Option X → ℕ) (none : f None ≡ 0) where
-  -- slots that are found alike
-  sum_alike : (xs ys : List (Option X)) → ((k : ℕ) → get_or xs k None ≡ get_or ys k None) → sum_by f xs ≡ sum_by f ys
-  sum_alike [] [] same = refl
-  sum_alike [] (y ∷ ys) same = omega (arith, sum_by-cons f y ys, ap f (same 0), none, sum_alike [] ys (λ k. same (suc k)))
-  sum_alike (x ∷ xs) [] same = omega (arith, sum_by-cons f x xs, ap f (same 0), none, sum_alike xs [] (λ k. same (suc k)))
-  sum_alike (x ∷ xs) (y ∷ ys) same = omega (arith, sum_by-cons f x xs, sum_by-cons f y ys, ap f (same 0), sum_alike xs ys (λ k. same (suc k)))
-
-  -- one slot is found otherwise
-  sum_updated : (xs ys : List (Option X)) (key : ℕ) (slot : Option X) → get_or ys key None ≡ slot → ((k : ℕ) → k ≢ key → get_or ys k None ≡ get_or xs k None) → sum_by f ys + f (get_or xs key None) ≡ sum_by f xs + f slot
-  sum_updated [] [] key slot here others = omega (arith, ap f here)
-  sum_updated [] (y ∷ ys) zero slot here others = omega (arith, sum_by-cons f y ys, ap f here, none, sum_alike ys [] (λ k. others (suc k) (λ e. omega arith)))
-  sum_updated [] (y ∷ ys) (suc key) slot here others = omega (arith, sum_by-cons f y ys, ap f (others 0 (λ e. omega arith)), none, sum_updated [] ys key slot here (λ k ne. others (suc k) (λ e. ne (omega arith))))
-  sum_updated (x ∷ xs) [] zero slot here others = omega (arith, sum_by-cons f x xs, ap f here, none, sum_alike xs [] (λ k. sym (others (suc k) (λ e. omega arith))))
-  sum_updated (x ∷ xs) [] (suc key) slot here others = omega (arith, sum_by-cons f x xs, ap f (others 0 (λ e. omega arith)), none, sum_updated xs [] key slot here (λ k ne. others (suc k) (λ e. ne (omega arith))))
-  sum_updated (x ∷ xs) (y ∷ ys) zero slot here others = omega (arith, sum_by-cons f x xs, sum_by-cons f y ys, ap f here, sum_alike ys xs (λ k. others (suc k) (λ e. omega arith)))
-  sum_updated (x ∷ xs) (y ∷ ys) (suc key) slot here others =
-      omega (arith, sum_by-cons f x xs, sum_by-cons f y ys, ap f (others 0 (λ e. omega arith)), sum_updated xs ys key slot here (λ k ne. others (suc k) (λ e. ne (omega arith))))
 
 -- what a slot had goes, and what it has now comes
 working_updated : (old new : Slab Cell) (key : ℕ) (was is : Option Cell) → get old key ≡ was → Updates old new key is → working_len new + working_in was ≡ working_len old + working_in is

@@ -1,5 +1,5 @@
 -- The thin nodes of the slab are those of the arena.
-use Rattle.std.proofs.Common.{◌≡◌, ℕ, Bool, true, false, Option, Some, None, IsSome, is_some, option_map, refl, sym, ap, ◌∙◌, subst}
+use Rattle.std.proofs.Common.{◌≡◌, ℕ, Bool, true, false, List, Contains, Option, Some, None, IsSome, is_some, option_map, refl, sym, ap, ◌∙◌, subst, arith}
 use Rattle.std.specs.Prelude.{option_and_then}
 use Rattle.vm_ids.specs.declared.node_name.NodeName.{NodeName}
 use Rattle.vm_ids.specs.declared.node_name.NodeName.TheVariants.{Live, Working}
@@ -7,9 +7,12 @@ use Rattle.vm_ids.specs.declared.numbers.NodeId.{NodeId}
 use Rattle.slab.specs.Slab as slab
 use Rattle.local_cache.specs.declared.caches.Caches.TheInside.{Inside}
 use Rattle.local_cache.specs.Arena.{Arena, Cell, cell, IsHeld}
-use Rattle.local_cache.specs.Queue.{IsLeastKey, number_at, number_if, thin_number}
+use Rattle.local_cache.specs.declared.entry_heap.Entry.{Entry}
+use Rattle.local_cache.specs.Heap.{IsFirst}
+use Rattle.local_cache.specs.Queue.{IsQueued, number_at, number_if, thin_number}
 use Rattle.local_cache.specs.Reading.{at_key}
 use Rattle.local_cache.specs.Thin.{has_few, IsThin, IsLeastThin}
+use Rattle.local_cache.proofs.Queued.{entry_of, of_node}
 use Rattle.local_cache.proofs.Slots.{cell-seen, find-seen, seen, some_at}
 
 by_number : (x : NodeName) (b : Bool) (k : ℕ) → number_if x b ≡ Some k → (x ≡ Working k) × (b ≡ true)
@@ -41,6 +44,11 @@ module _ (i : Inside) (a : Arena) (v : seen i ≡ a) where
           let is : cell a n ≡ c = ap (λ b. cell b n) (sym v) ∙ cell-seen i n c found in
           ap (option_and_then thin_number) found ∙ ap thin_number (sym is) ∙ (λ j. number_if (t.name j) (t.few j))
 
-  pub least_by_key : (r : Option ℕ) → IsLeastKey i.nodes r → IsLeastThin a (option_map at_key r)
-  least_by_key None least = λ n k t. least n.0 k (number_by_thin n k t)
-  least_by_key (Some key) least = (least.0, thin_by_number (at_key key) least.0 least.1, λ m other t. least.2 m.0 other (number_by_thin m other t))
+  -- the first entry is that of the least thin node
+  pub least_thin : (items : List Entry) (r : Option Entry) → IsQueued i.nodes items → IsFirst items r → IsLeastThin a (option_map (λ e. at_key e.key) r)
+  least_thin items None queued none = λ n k t. absurd (let has = (subst (λ xs. Contains xs (record { number = k; key = n.0 })) none (entry_of i.nodes items n.0 k queued (number_by_thin n k t))).1 in omega arith)
+  least_thin items (Some e) queued first = (
+    e.number,
+    thin_by_number (at_key e.key) e.number (of_node i.nodes items e queued first.0),
+    λ m other t. first.1 (record { number = other; key = m.0 }) (entry_of i.nodes items m.0 other queued (number_by_thin m other t)),
+  )

@@ -12,12 +12,12 @@ use Rattle.local_cache.specs.declared.page_table.CacheEntry.{CacheEntry}
 use Rattle.local_cache.specs.declared.page_table.PageEntry.{PageEntry}
 use Rattle.local_cache.specs.Arena.{Arena, IsMade, Room, entry_for}
 use Rattle.local_cache.specs.Layout.{AreInRow, IsRight, table_in, tables_in, working_len}
-use Rattle.local_cache.specs.Queue.{Entry, IsQueued, entry_cmp}
+use Rattle.local_cache.specs.declared.entry_heap.Entry.{Entry}
+use Rattle.local_cache.specs.Heap.{Heap}
+use Rattle.local_cache.specs.Queue.{IsQueued}
 use Rattle.local_cache.proofs.Slots.{seen}
-use Rattle.std.proofs.Common.{Global, min}
+use Rattle.std.proofs.Common.{min}
 use Rattle.std.proofs.Math.Nat.{min-le_left, min-le_right}
-use Rattle.std.specs.BinaryHeap.{IsHeap, heap_capacity, heap_items}
-use Rattle.std.specs.declared.collections.BinaryHeap.{BinaryHeap}
 use Rattle.local_cache.proofs.Filled.{Filled}
 use Rattle.local_cache.proofs.Tables.{row_more, tables_made}
 
@@ -55,9 +55,8 @@ right_after i j cache segment own pages e right after few room =
       };
       ready = record {
         held = omega (arith, after.nodes_len, after.thin_room, right.ready.held, min-le_right i.nodes.capacity i.thin_room);
-        room = omega (arith, after.thin_room, right.ready.room, ap (λ (t : BinaryHeap Entry Global). heap_capacity t) after.thin);
-        ordered = subst (λ (t : BinaryHeap Entry Global). IsHeap entry_cmp (heap_items t)) (sym after.thin) right.ready.ordered;
-        queued = subst (λ (t : BinaryHeap Entry Global). IsQueued j.nodes (heap_items t)) (sym after.thin) (after.queued (heap_items i.thin) right.ready.queued);
+        room = omega (arith, after.thin_room, right.ready.room, ap (λ (t : Heap). t.room) after.thin);
+        queued = subst (λ (t : Heap). IsQueued j.nodes t.entries) (sym after.thin) (after.queued i.thin.entries right.ready.queued);
       };
       counted = record {
         counter = after.working ∙ right.counted.counter ∙ sym after.working_len;

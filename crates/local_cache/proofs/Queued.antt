@@ -1,191 +1,151 @@
--- The heap of thin nodes: entries come in and go, and the one at the top has the least number.
-use Rattle.std.proofs.Common.{◌≡◌, ◌≢◌, ℕ, zero, suc, ◌+◌, ◌<◌, ◌≤◌, true, false, List, [], ◌∷◌, length, get_or, take, count_by, Contains, Option, Some, None, is_some, IfSome, IsSome, refl, sym, ap, ◌∙◌, subst, inl, inr, arith}
-use Rattle.std.specs.Prelude.{option_and_then, nat_eq}
-use Rattle.std.specs.Option.{option_eq}
-use Rattle.std.proofs.lemmas.Bool.{cases_eq, false≢true}
-use Rattle.std.proofs.lemmas.Bool.Decides.{nat_tests}
-use Rattle.std.proofs.lemmas.List.Sorted.{Contains-permutation, IsPermutation-sym}
-use Rattle.std.proofs.Common.{Global}
-use Rattle.std.specs.declared.collections.BinaryHeap.{BinaryHeap}
-use Rattle.std.specs.BinaryHeap.{IsHeap, IsUpperBound, PopsGreatest, heap_capacity, heap_items, heap_len}
+-- The entries of the thin nodes: what a change of one node and of its entry leaves.
+use Rattle.std.proofs.Common.{◌≡◌, ◌≢◌, ℕ, ◌+◌, ◌<◌, ◌≤◌, ◌==◌, ◌&&◌, Bool, true, false, List, [], ◌∷◌, length, Contains, Option, Some, None, is_some, IsSome, refl, sym, ap, ◌∙◌, subst, inl, inr, arith}
+use Rattle.std.specs.Prelude.{option_and_then}
 use Rattle.std.specs.List.Sorted.{IsPermutation}
-use Rattle.std.specs.Ordering.{is_lt, nat_cmp, MatchOrdering, ordering_then}
-use Rattle.std.specs.Cmp.{ranks}
-use Rattle.std.specs.declared.cmp.Ordering.{Ordering}
-use Rattle.std.specs.declared.cmp.Ordering.TheVariants.{Less, Equal, Greater}
-use Rattle.slab.specs.Slab.{Slab, Updates, slab_len}
+use Rattle.std.proofs.lemmas.Bool.{cases_eq}
+use Rattle.std.proofs.lemmas.Bool.Decides.{nat_tests}
+use Rattle.std.proofs.lemmas.List.Sorted.{length_permutation, sum_by-IsPermutation}
+use Rattle.std.proofs.lemmas.List.Sums.{sum_by-le-sum_by}
+use Rattle.slab.specs.Slab.{Slab, Updates, slab_len, with_value}
 use Rattle.slab.specs.Slab as slab
-use Rattle.slab.proofs.SlabLemmas.{Contains-cons, Contains-cons_cases}
-use Rattle.vm_ids.proofs.Places.{bit, count_cons}
+use Rattle.slab.proofs.SlabLemmas.{Contains-cons, Updates-with_value}
+use Rattle.vm_ids.proofs.Places.{bit, bit-le, count_cons, count_some, other_number, same_number}
+use Rattle.local_cache.proofs.SlotSums.{sum_updated}
+use Rattle.local_cache.specs.declared.entry_heap.Entry.{Entry}
 use Rattle.local_cache.specs.Arena.{Cell}
-use Rattle.local_cache.specs.Queue.{Entry, IsQueued, IsQueuedBut, entry, entry_cmp, number_at, thin_number}
+use Rattle.local_cache.specs.Queue.{IsQueued, IsQueuedBut, number_at, thin_len, thin_number, times, times_for}
 
-next : (k : ℕ) → suc k ≡ k + 1
-next k = omega arith
-
-module _ {X : Type 0} where
-  -- what a pushed element joins
-  pub pushed : (x e : X) (old new : List X) → IsPermutation (x ∷ old) new → Contains old e → Contains new e
-  pushed x e old new moved has = Contains-permutation (x ∷ old) new e moved (Contains-cons x e old has)
-
-  pub pushed_itself : (x : X) (old new : List X) → IsPermutation (x ∷ old) new → Contains new x
-  pushed_itself x old new moved = Contains-permutation (x ∷ old) new x moved (0, omega arith, refl)
-
-  -- what is left when another one was popped
-  pub left_popped : (x e : X) (old new : List X) → IsPermutation old (x ∷ new) → x ≢ e → Contains old e → Contains new e
-  left_popped x e old new moved apart has = elim (Contains-cons_cases x e new (Contains-permutation old (x ∷ new) e moved has)) [
-    | inl same ↦ absurd (apart same)
-    | inr rest ↦ rest
-  ]
-
-  -- how many slots before a key have a value
-  pub taken_some : (xs : List (Option X)) (k : ℕ) → IsSome (get_or xs k None) → count_by is_some (take k xs) < count_by is_some xs
-  taken_some [] k h = absurd (false≢true h)
-  taken_some (x ∷ xs) zero h = omega (arith, count_cons is_some x xs, ap bit h)
-  taken_some (x ∷ xs) (suc k) h = omega (arith, count_cons is_some x xs, count_cons is_some x (take k xs), taken_some xs k h)
-
-  more_by : (xs : List (Option X)) (k : ℕ) → count_by is_some (take k xs) ≤ count_by is_some (take (suc k) xs)
-  more_by [] zero = omega arith
-  more_by [] (suc k) = omega arith
-  more_by (x ∷ xs) zero = omega arith
-  more_by (x ∷ xs) (suc k) = omega (arith, count_cons is_some x (take k xs), count_cons is_some x (take (suc k) xs), more_by xs k)
-
-  one_more_by : (xs : List (Option X)) (k : ℕ) → IsSome (get_or xs k None) → count_by is_some (take k xs) + 1 ≤ count_by is_some (take (suc k) xs)
-  one_more_by [] k h = absurd (false≢true h)
-  one_more_by (x ∷ xs) zero h = omega (arith, count_cons is_some x [], ap bit h)
-  one_more_by (x ∷ xs) (suc k) h = omega (arith, count_cons is_some x (take k xs), count_cons is_some x (take (suc k) xs), one_more_by xs k h)
-
-  pub taken_more : (xs : List (Option X)) (k : ℕ) → count_by is_some (take k xs) ≤ count_by is_some (take (k + 1) xs)
-  taken_more xs k = subst (λ j. count_by is_some (take k xs) ≤ count_by is_some (take j xs)) (next k) (more_by xs k)
-
-  pub taken_one_more : (xs : List (Option X)) (k : ℕ) → IsSome (get_or xs k None) → count_by is_some (take k xs) + 1 ≤ count_by is_some (take (k + 1) xs)
-  taken_one_more xs k h = subst (λ j. count_by is_some (take k xs) + 1 ≤ count_by is_some (take j xs)) (next k) (one_more_by xs k h)
-
-  pub some_within : (xs : List (Option X)) (k : ℕ) → IsSome (get_or xs k None) → k < length xs
-  some_within [] k h = absurd (false≢true h)
-  some_within (x ∷ xs) zero h = omega arith
-  some_within (x ∷ xs) (suc k) h = omega (arith, some_within xs k h)
+-- how many thin nodes a slot has, one or none
+abbrev thin_in : Option Cell → ℕ
+thin_in o = bit (is_some (option_and_then thin_number o))
 
 -- a thin node is a node
-pub number_there : (nodes : Slab Cell) (key number : ℕ) → number_at nodes key ≡ Some number → IsSome (slab.get nodes key)
-number_there nodes key number e = go (slab.get nodes key) e
+pub thin_len-le : (nodes : Slab Cell) → thin_len nodes ≤ slab_len nodes
+thin_len-le nodes = sum_by-le-sum_by (λ o. bit (is_some (option_and_then thin_number o))) (λ o. bit (is_some o)) nodes.slots at
   where
-    go : (o : Option Cell) → option_and_then thin_number o ≡ Some number → IsSome o
-    go None e = absurd (cc e)
-    go (Some c) e = refl
+    at : (o : Option Cell) → bit (is_some (option_and_then thin_number o)) ≤ bit (is_some o)
+    at None = omega arith
+    at (Some c) = bit-le (is_some (thin_number c))
 
--- no number is less than that of the entry at the top
-not_less : (x y : ℕ) (r : Ordering) → is_lt (ordering_then (nat_cmp y x) r) ≡ false → x ≤ y
-not_less x y r e = go (nat_cmp y x) (ranks y x) e
+abbrev entry : ℕ → ℕ → Entry
+entry number key = record { number = number; key = key }
+
+-- whether an entry is that one
+abbrev is : Entry → Entry → Bool
+is e x = x.number == e.number && x.key == e.key
+
+and_true : (a : Bool) → (a && true) ≡ a
+and_true true = refl
+and_true false = refl
+
+and_false : (a : Bool) → (a && false) ≡ false
+and_false true = refl
+and_false false = refl
+
+-- an entry is itself, and no other one
+itself : (e : Entry) → is e e ≡ true
+itself e = ap (λ (t : Bool). t && e.key == e.key) (same_number e.number) ∙ same_number e.key
+
+same_key : (key m n : ℕ) → bit (is (entry n key) (entry m key)) ≡ bit (m == n)
+same_key key m n = ap bit (ap (λ (t : Bool). m == n && t) (same_number key) ∙ and_true (m == n))
+
+other_key : (x e : Entry) → e.key ≢ x.key → bit (is e x) ≡ 0
+other_key x e ne = ap bit (ap (λ (t : Bool). x.number == e.number && t) (other_number x.key e.key (λ q. ne (sym q))) ∙ and_false (x.number == e.number))
+
+from_test : (x e : Entry) → is e x ≡ true → x ≡ e
+from_test x e h = go (x.number == e.number) (x.key == e.key) refl refl h
   where
-    go : (o : Ordering) → MatchOrdering o (y < x) (y ≡ x) (x < y) → is_lt (ordering_then o r) ≡ false → x ≤ y
-    go Less h e = absurd (false≢true (sym e))
-    go Equal h e = omega arith
-    go Greater h e = omega arith
+    go : (a b : Bool) → (x.number == e.number) ≡ a → (x.key == e.key) ≡ b → (a && b) ≡ true → x ≡ e
+    go false b p q h = absurd (cc h)
+    go true false p q h = absurd (cc h)
+    go true true p q h =
+        let number : x.number ≡ e.number = grind (arith, nat_tests) in
+        let key : x.key ≡ e.key = grind (arith, nat_tests) in
+        λ i. record { number = number i; key = key i }
 
-pub top_least : (x : Entry) (items : List Entry) (number key : ℕ) → IsUpperBound entry_cmp x items → Contains items (entry number key) → x.0.0 ≤ number
-top_least x [] number key up has = absurd (let h = has.1 in omega arith)
-top_least x (y ∷ ys) number key up has = elim (Contains-cons_cases y (entry number key) ys has) [
-  | inl same ↦ (let less : x.0.0 ≤ y.0.0 = not_less x.0.0 y.0.0 (nat_cmp x.1 y.1) up.0 in let is : y.0.0 ≡ number = ap (λ (e : Entry). e.0.0) same in omega arith)
-  | inr rest ↦ top_least x ys number key up.1 rest
-]
+-- one that is counted stands there
+contained_by : (x : Entry) (xs : List Entry) (e : Entry) (b : Bool) → is e x ≡ b → 1 ≤ times e (x ∷ xs) → (1 ≤ times e xs → Contains xs e) → Contains (x ∷ xs) e
+contained_by x xs e true t h rest = (0, omega arith, from_test x e t)
+contained_by x xs e false t h rest = Contains-cons x e xs (rest (omega (arith, count_cons (is e) x xs, ap bit t)))
 
--- an equality that was tested
-pub tested : (o : Option ℕ) (k : ℕ) → option_eq nat_eq o (Some k) ≡ true → o ≡ Some k
-tested None k e = absurd (false≢true e)
-tested (Some j) k e = ap Some (grind (arith, nat_tests))
+contained : (items : List Entry) (e : Entry) → 1 ≤ times e items → Contains items e
+contained [] e h = absurd (omega arith)
+contained (x ∷ xs) e h = contained_by x xs e (is e x) refl h (contained xs e)
 
-pub tested_not : (o : Option ℕ) (k : ℕ) → option_eq nat_eq o (Some k) ≡ false → o ≢ Some k
-tested_not o k e is = absurd (false≢true (sym e ∙ ap (λ p. option_eq nat_eq p (Some k)) is ∙ same k))
-  where
-    same : (k : ℕ) → nat_eq k k ≡ true
-    same k = grind (arith, nat_tests)
+-- one that stands there is counted
+counted : (items : List Entry) (e : Entry) → Contains items e → 1 ≤ times e items
+counted items e has = count_some (is e) items has.0 e has.1 (ap (is e) has.2 ∙ itself e)
 
--- the entry of one more node
-pub queued_one : (nodes : Slab Cell) (old new : List Entry) (key n : ℕ) → IsQueuedBut key nodes old → number_at nodes key ≡ Some n → IsPermutation (entry n key ∷ old) new → IsQueued nodes new
-queued_one nodes old new key n others is moved q m e = elim (cases_eq q key) [
-  | inl same ↦
-      let two : Some n ≡ Some m = sym is ∙ ap (number_at nodes) (sym same) ∙ e in
-      let number : n ≡ m = cc two in
-      subst (λ (x : Entry). Contains new x) (λ i. entry (number i) (sym same i)) (pushed_itself (entry n key) old new moved)
-  | inr ne ↦ pushed (entry n key) (entry m q) old new moved (others q m ne e)
-]
+-- one entry more
+times_more : (x : Entry) (old new : List Entry) (e : Entry) → IsPermutation (x ∷ old) new → times e new ≡ bit (is e x) + times e old
+times_more x old new e moved = sum_by-IsPermutation (λ y. bit (is e y)) (x ∷ old) new moved ∙ count_cons (is e) x old
 
--- the nodes before a key have their entries
-abbrev pub IsQueuedBelow : ℕ → Slab Cell → List Entry → Type 0
-IsQueuedBelow below nodes items = (key number : ℕ) → key < below → number_at nodes key ≡ Some number → Contains items (entry number key)
+-- one entry less
+times_less : (x : Entry) (old new : List Entry) (e : Entry) → IsPermutation old (x ∷ new) → times e old ≡ bit (is e x) + times e new
+times_less x old new e moved = sym (sum_by-IsPermutation (λ y. bit (is e y)) old (x ∷ new) moved) ∙ count_cons (is e) x new
 
-pub below_one : (nodes : Slab Cell) (old new : List Entry) (key n : ℕ) → IsQueuedBelow key nodes old → number_at nodes key ≡ Some n → IsPermutation (entry n key ∷ old) new → IsQueuedBelow (key + 1) nodes new
-below_one nodes old new key n below is moved q m h e = elim (cases_eq q key) [
-  | inl same ↦
-      let two : Some n ≡ Some m = sym is ∙ ap (number_at nodes) (sym same) ∙ e in
-      let number : n ≡ m = cc two in
-      subst (λ (x : Entry). Contains new x) (λ i. entry (number i) (sym same i)) (pushed_itself (entry n key) old new moved)
-  | inr ne ↦ pushed (entry n key) (entry m q) old new moved (below q m (omega arith) e)
-]
-
-pub below_none : (nodes : Slab Cell) (items : List Entry) (key : ℕ) → IsQueuedBelow key nodes items → ((n : ℕ) → number_at nodes key ≡ Some n → ⊥) → IsQueuedBelow (key + 1) nodes items
-below_none nodes items key below none q m h e = elim (cases_eq q key) [
-  | inl same ↦ absurd (none m (ap (number_at nodes) (sym same) ∙ e))
-  | inr ne ↦ below q m (omega arith) e
-]
-
--- an entry that is of no thin node may go
-pub stale_popped : (nodes : Slab Cell) (x : Entry) (old new : List Entry) → IsQueued nodes old → number_at nodes x.1 ≢ Some x.0.0 → IsPermutation old (x ∷ new) → IsQueued nodes new
-stale_popped nodes x old new queued stale moved q m e = left_popped x (entry m q) old new moved (λ (same : x ≡ entry m q). stale (ap (λ (y : Entry). number_at nodes y.1) same ∙ e ∙ ap (λ (y : Entry). Some y.0.0) (sym same))) (queued q m e)
-
--- the heap with the entries of the nodes before a key
-pub record IsFilledTo (nodes : Slab Cell) (room key : ℕ) (thin : BinaryHeap Entry Global) : Type 0 where
-  pub ordered : IsHeap entry_cmp (heap_items thin)
-  pub queued : IsQueuedBelow key nodes (heap_items thin)
-  pub len : heap_len thin ≤ count_by is_some (take key nodes.slots)
-  pub capacity : room ≤ heap_capacity thin
-
-pub filled_one : (nodes : Slab Cell) (room key n : ℕ) (old new : BinaryHeap Entry Global) → IsFilledTo nodes room key old → number_at nodes key ≡ Some n → IsPermutation (entry n key ∷ heap_items old) (heap_items new)
-    → (IsHeap entry_cmp (heap_items old) → IsHeap entry_cmp (heap_items new)) → heap_len new ≡ heap_len old + 1 → heap_capacity old ≤ heap_capacity new → IsFilledTo nodes room (key + 1) new
-filled_one nodes room key n old new f is moved ordered len capacity = record {
-  ordered = ordered f.ordered;
-  queued = below_one nodes (heap_items old) (heap_items new) key n f.queued is moved;
-  len = omega (arith, f.len, taken_one_more nodes.slots key (number_there nodes key n is));
-  capacity = omega (arith, f.capacity);
+-- the entry of the node at a key goes
+pub left : (nodes : Slab Cell) (key number : ℕ) (old new : List Entry) → IsQueuedBut key (Some number) nodes old → IsPermutation old (entry number key ∷ new) → IsQueuedBut key None nodes new
+left nodes key number old new queued moved = record {
+  others = λ e ne. omega (arith, times_less (entry number key) old new e moved, other_key (entry number key) e ne, queued.others e ne);
+  here = λ n. omega (arith, times_less (entry number key) old new (entry n key) moved, same_key key number n, queued.here n);
+  len = omega (arith, length_permutation old (entry number key ∷ new) moved, queued.len);
 }
 
-pub filled_none : (nodes : Slab Cell) (room key : ℕ) (thin : BinaryHeap Entry Global) → IsFilledTo nodes room key thin → ((n : ℕ) → number_at nodes key ≡ Some n → ⊥) → IsFilledTo nodes room (key + 1) thin
-filled_none nodes room key thin f none = record {
-  ordered = f.ordered;
-  queued = below_none nodes (heap_items thin) key f.queued none;
-  len = omega (arith, f.len, taken_more nodes.slots key);
-  capacity = f.capacity;
+-- the entry of the node at a key comes
+pub entered : (nodes : Slab Cell) (key number : ℕ) (old new : List Entry) → IsQueuedBut key None nodes old → IsPermutation (entry number key ∷ old) new → IsQueuedBut key (Some number) nodes new
+entered nodes key number old new queued moved = record {
+  others = λ e ne. omega (arith, times_more (entry number key) old new e moved, other_key (entry number key) e ne, queued.others e ne);
+  here = λ n. omega (arith, times_more (entry number key) old new (entry n key) moved, same_key key number n, queued.here n);
+  len = omega (arith, length_permutation (entry number key ∷ old) new moved, queued.len);
 }
 
-same_first : (old new : List Entry) (x top : Entry) → IsPermutation old (x ∷ new) → x ≡ get_or old 0 x → top ≡ get_or old 0 top → x ≡ top
-same_first [] new x top moved is first = absurd (let h = (Contains-permutation (x ∷ new) [] x (IsPermutation-sym [] (x ∷ new) moved) (0, omega arith, refl)).1 in omega arith)
-same_first (y ∷ ys) new x top moved is first = is ∙ sym first
+-- the node at a key has the entry that it should have
+pub up_to_date : (nodes : Slab Cell) (key : ℕ) (before : Option ℕ) (items : List Entry) → IsQueuedBut key before nodes items → number_at nodes key ≡ before → IsQueued nodes items
+up_to_date nodes key before items queued now = record {
+  once = λ e. elim (cases_eq e.key key) [
+    | inl same ↦ ap (λ (k : ℕ). times (entry e.number k) items) same ∙ queued.here e.number ∙ ap (λ (o : Option ℕ). times_for o e.number) (sym now ∙ ap (number_at nodes) (sym same))
+    | inr ne ↦ queued.others e ne
+  ];
+  len = omega (arith, queued.len, ap (λ (o : Option ℕ). bit (is_some o)) now);
+}
 
--- the entry at the top is popped, which is of no thin node
-pub top_popped : (nodes : Slab Cell) (r : Option Entry) (top : Entry) (old new : List Entry) → IsSome r → IfSome r (λ x. x ≡ get_or old 0 x) → IfSome r (λ x. IsPermutation old (x ∷ new)) → top ≡ get_or old 0 top → IsQueued nodes old
-    → number_at nodes top.1 ≢ Some top.0.0 → IsQueued nodes new
-top_popped nodes None top old new some is moved first queued stale = absurd (false≢true some)
-top_popped nodes (Some x) top old new some is moved first queued stale =
-    let same : x ≡ top = same_first old new x top moved is first in
-    stale_popped nodes x old new queued (λ e. stale (ap (λ (y : Entry). number_at nodes y.1) (sym same) ∙ e ∙ ap (λ (y : Entry). Some y.0.0) same)) moved
+-- the node at a key has an entry
+pub has_entry : (nodes : Slab Cell) (key : ℕ) (before : Option ℕ) (items : List Entry) → IsQueuedBut key before nodes items → (number : ℕ) → before ≡ Some number → Contains items (entry number key)
+has_entry nodes key before items queued number was = contained items (entry number key) (omega (arith, queued.here number, ap (λ (o : Option ℕ). times_for o number) was, ap bit (same_number number)))
 
-pub order_popped : (r : Option Entry) (old new : List Entry) → IsSome r → IfSome r (λ x. PopsGreatest entry_cmp old x new) → IsHeap entry_cmp old → IsHeap entry_cmp new
-order_popped None old new some pops ordered = absurd (false≢true some)
-order_popped (Some x) old new some pops ordered = (pops ordered).0
+-- there is room for the entry of a node
+pub has_room : (nodes : Slab Cell) (key number room : ℕ) (items : List Entry) → IsQueuedBut key None nodes items → number_at nodes key ≡ Some number → slab_len nodes ≤ room → length items < room
+has_room nodes key number room items queued now few = omega (arith, queued.len, ap (λ (o : Option ℕ). bit (is_some o)) now, thin_len-le nodes)
 
--- the nodes after a change at one key
-pub queued_others : (old new : Slab Cell) (key : ℕ) (slot : Option Cell) (items : List Entry) → Updates old new key slot → IsQueued old items → IsQueuedBut key new items
-queued_others old new key slot items up queued q m ne e = queued q m (sym (ap (option_and_then thin_number) (up.others q ne)) ∙ e)
+-- no entry has the key of a node that has none
+pub is_fresh : (nodes : Slab Cell) (key : ℕ) (items : List Entry) → IsQueuedBut key None nodes items → (other : Entry) → Contains items other → other.key ≢ key
+is_fresh nodes key items queued other has same = absurd (omega (arith, counted items other has, queued.here other.number, ap (λ (k : ℕ). times (entry other.number k) items) same))
 
-pub queued_same : (old new : Slab Cell) (key : ℕ) (slot : Option Cell) (items : List Entry) → Updates old new key slot → option_and_then thin_number slot ≡ number_at old key → IsQueued old items → IsQueued new items
-queued_same old new key slot items up same queued q m e = elim (cases_eq q key) [
-  | inl is ↦ queued q m (ap (number_at old) is ∙ sym same ∙ sym (ap (option_and_then thin_number) up.changed) ∙ ap (number_at new) (sym is) ∙ e)
-  | inr ne ↦ queued_others old new key slot items up queued q m ne e
-]
+-- a node was changed, and its entry is as it was
+pub queued_but : (old new : Slab Cell) (key : ℕ) (slot : Option Cell) (before : Option ℕ) (items : List Entry) → Updates old new key slot → before ≡ number_at old key → IsQueued old items → IsQueuedBut key before new items
+queued_but old new key slot before items up was queued = record {
+  others = λ e ne. queued.once e ∙ ap (λ (o : Option ℕ). times_for o e.number) (sym (ap (option_and_then thin_number) (up.others e.key ne)));
+  here = λ n. queued.once (entry n key) ∙ ap (λ (o : Option ℕ). times_for o n) (sym was);
+  len = omega (arith, sum_updated thin_in refl old.slots new.slots key (slab.get new key) refl up.others, queued.len, ap (λ (o : Option ℕ). bit (is_some o)) was);
+}
 
-pub queued_none : (old new : Slab Cell) (key : ℕ) (slot : Option Cell) (items : List Entry) → Updates old new key slot → option_and_then thin_number slot ≡ None → IsQueued old items → IsQueued new items
-queued_none old new key slot items up none queued q m e = elim (cases_eq q key) [
-  | inl is ↦ absurd (let clash : None ≡ Some m = sym none ∙ sym (ap (option_and_then thin_number) up.changed) ∙ ap (number_at new) (sym is) ∙ e in cc clash)
-  | inr ne ↦ queued_others old new key slot items up queued q m ne e
-]
+-- and so after a write through `get_mut`
+pub queued_but_written : (nodes : Slab Cell) (key : ℕ) (c d : Cell) (before : Option ℕ) (items : List Entry) → Some c ≡ slab.get nodes key → before ≡ number_at nodes key → IsQueued nodes items → IsQueuedBut key before (with_value nodes key d) items
+queued_but_written nodes key c d before items is was queued = queued_but nodes (with_value nodes key d) key (Some d) before items (Updates-with_value nodes key d (subst IsSome is refl)) was queued
+
+-- a node came that isn't thin
+pub queued_more : (old new : Slab Cell) (key : ℕ) (slot : Option Cell) (items : List Entry) → Updates old new key slot → slab.get old key ≡ None → option_and_then thin_number slot ≡ None → IsQueued old items → IsQueued new items
+queued_more old new key slot items up none fat queued = up_to_date new key (number_at old key) items (queued_but old new key slot (number_at old key) items up refl queued) (ap (option_and_then thin_number) up.changed ∙ fat ∙ sym (ap (option_and_then thin_number) none))
+
+-- an entry is that of its node
+pub of_node : (nodes : Slab Cell) (items : List Entry) (e : Entry) → IsQueued nodes items → Contains items e → number_at nodes e.key ≡ Some e.number
+of_node nodes items e queued has = go (number_at nodes e.key) (omega (arith, counted items e has, queued.once e))
+  where
+    go : (o : Option ℕ) → 1 ≤ times_for o e.number → o ≡ Some e.number
+    go None h = absurd (omega arith)
+    go (Some own) h = ap Some (grind (arith, nat_tests))
+
+-- a thin node has its entry
+pub entry_of : (nodes : Slab Cell) (items : List Entry) (key number : ℕ) → IsQueued nodes items → number_at nodes key ≡ Some number → Contains items (entry number key)
+entry_of nodes items key number queued now = contained items (entry number key) (omega (arith, queued.once (entry number key), ap (λ (o : Option ℕ). times_for o number) now, ap bit (same_number number)))

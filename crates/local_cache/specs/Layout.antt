@@ -10,9 +10,8 @@ use Rattle.vm_ids.specs.declared.node_name.NodeName.{NodeName}
 use Rattle.vm_ids.specs.declared.node_name.NodeName.TheVariants.{Live, Working}
 use Rattle.local_cache.specs.declared.page_table.CacheEntry.{CacheEntry}
 use Rattle.local_cache.specs.declared.page_table.PageEntry.{PageEntry}
-use Rattle.std.specs.BinaryHeap.{IsHeap, heap_capacity, heap_items}
-use Rattle.std.specs.declared.collections.BinaryHeap.{BinaryHeap}
-use Rattle.local_cache.specs.Queue.{Entry, IsQueued, entry_cmp}
+use Rattle.local_cache.specs.Heap.{Heap}
+use Rattle.local_cache.specs.Queue.{IsQueued}
 use Rattle.local_cache.specs.Arena.{Arena, Cell, Table}
 
 abbrev pub cells_of : Slab Cell → FinMap nat_cmp Cell
@@ -49,12 +48,11 @@ pub record IsLaidOut (nodes : Slab Cell) (caches : List (Option CacheEntry)) (en
   pub few : length caches < 2 ^ 32
   pub fits : slab_len nodes ≤ nodes.capacity
 
--- The heap is in order, has room for an entry of each node that there is room for, and has one of each thin node.
-pub record IsReady (nodes : Slab Cell) (thin : BinaryHeap Entry Global) (thin_room : ℕ) : Type 0 where
+-- The heap has room for an entry of each node that there is room for, and has the entries of the thin nodes.
+pub record IsReady (nodes : Slab Cell) (thin : Heap) (thin_room : ℕ) : Type 0 where
   pub held : slab_len nodes ≤ thin_room
-  pub room : thin_room ≤ heap_capacity thin
-  pub ordered : IsHeap entry_cmp (heap_items thin)
-  pub queued : IsQueued nodes (heap_items thin)
+  pub room : thin_room ≤ thin.room
+  pub queued : IsQueued nodes thin.entries
 
 -- how many working nodes a node of this name is, one or none
 abbrev pub working_of : NodeName → ℕ
@@ -76,7 +74,7 @@ pub record IsCounted (nodes : Slab Cell) (thin_room working : ℕ) : Type 0 wher
   pub few : thin_room < 2 ^ 32
 
 -- what holds of all fields
-pub record IsRight (nodes : Slab Cell) (caches : List (Option CacheEntry)) (entries : List PageEntry) (thin : BinaryHeap Entry Global) (thin_room working : ℕ) : Type 0 where
+pub record IsRight (nodes : Slab Cell) (caches : List (Option CacheEntry)) (entries : List PageEntry) (thin : Heap) (thin_room working : ℕ) : Type 0 where
   pub laid : IsLaidOut nodes caches entries
   pub ready : IsReady nodes thin thin_room
   pub counted : IsCounted nodes thin_room working

@@ -1,6 +1,7 @@
 pub mod Arena
 pub mod Changes
 pub mod Codes
+pub mod Heap
 pub mod Layout
 pub mod Own
 pub mod Queue

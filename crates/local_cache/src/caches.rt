@@ -9,15 +9,17 @@ ghost use Rattle.vm_ids.specs.Forest.Commands.{make, page_names};
 ghost use Rattle.vm_ids.specs.Forest.NameMap.{len};
 ghost use Rattle.vm_ids.specs.Forest.Nodes.{no_forest};
 ghost use Rattle.vm_ids.specs.Forest.Reading.{counts_of};
+ghost use Rattle.local_cache.specs.declared.entry_heap.Entry.{Entry};
 ghost use Rattle.local_cache.specs.Layout.{cells_of, working_len};
-ghost use Rattle.local_cache.specs.Queue.{Entry, IsQueued};
+ghost use Rattle.local_cache.specs.Queue.{IsQueued};
 ghost use Rattle.local_cache.specs.Reading.{IsNamed, forest_of};
 ghost use Rattle.local_cache.specs.Sound.{IsSound};
 ghost use Rattle.local_cache.specs.Thin.{IsLeastThin};
 
+use crate::entry_heap::EntryHeap;
 use crate::page_node::{PageNode, working_of};
 use crate::page_table::{CacheEntry, close_gap, entry_of, lower, set_node};
-use crate::thin_nodes::{ThinNodes, least, make_room, number_at, queue};
+use crate::thin_nodes::{number_at, queue};
 use crate::{Links, OwnState, PageEntry};
 use slab::Slab;
 use std::alloc::Global;
@@ -30,7 +32,7 @@ pub struct Caches {
     nodes: Slab<PageNode>,
     caches: Vec<Option<CacheEntry>>,
     entries: Vec<PageEntry>,
-    thin: ThinNodes,
+    thin: EntryHeap,
     // for how many nodes `thin` has room
     thin_room: usize,
     alloc: Global,
@@ -96,7 +98,7 @@ impl Caches {
             nodes: Slab::new(alloc),
             caches: Vec::new(alloc),
             entries: Vec::new(alloc),
-            thin: ThinNodes::new(alloc),
+            thin: EntryHeap::new(alloc),
             thin_room: 0,
             alloc,
             made: 0,
@@ -131,10 +133,10 @@ impl Caches {
         if self.entries.reserve(nodes as usize).is_err() {
             return Err(NoMemory);
         }
-        if make_room(&mut self.thin, room).is_err() {
-            return Err(NoMemory);
-        }
         if self.thin_room < room {
+            if self.thin.reserve(room, self.nodes.capacity()).is_err() {
+                return Err(NoMemory);
+            }
             self.thin_room = room;
         }
         Ok(())
@@ -385,8 +387,10 @@ impl Caches {
         requires { IsHeld self.old node }
         ensures { self.new ≡ without self.old node }
     {
+        let before = number_at(&self.nodes, node.0);
         let freed = self.nodes.remove(node.0 as usize);
         self.working -= working_of(freed.name());
+        queue(&self.nodes, &mut self.thin, node.0, before);
         set_node(&self.caches, &mut self.entries, freed.name(), None);
     }
 
@@ -401,14 +405,13 @@ impl Caches {
     }
 
     /// The working node with the least number that has fewer than two children, tree children and stubs together, or
-    /// `None` exactly where there is none. Nothing that a contract sees changes. It takes time logarithmic in the number
-    /// of such nodes, on the average over the calls that made them.
-    pub fn thin(&mut self) -> Option<NodeId>
-        ensures least { IsLeastThin self.old result }
-        ensures same { self.new ≡ self.old }
+    /// `None` exactly where there is none. It takes constant time: the calls that change a node keep these nodes in order,
+    /// in time logarithmic in their number.
+    pub fn thin(&self) -> Option<NodeId>
+        ensures { IsLeastThin self.now result }
     {
-        match least(&self.nodes, &mut self.thin) {
-            Some(key) => Some(NodeId(key)),
+        match self.thin.first() {
+            Some(entry) => Some(NodeId(entry.key)),
             None => None,
         }
     }
@@ -467,12 +470,13 @@ impl Caches {
         ensures stays { (n : NodeId) → IsHeld self.old n → IsHeld self.new n }
     {
         let left = self.name(node);
+        let before = number_at(&self.nodes, node.0);
         match self.nodes.get_mut(node.0 as usize) {
             Some(held) => held.set_name(name),
             None => unreachable!(),
         }
         self.working = self.working - working_of(left) + working_of(name);
-        queue(&self.nodes, &mut self.thin, node.0, None);
+        queue(&self.nodes, &mut self.thin, node.0, before);
         set_node(&self.caches, &mut self.entries, left, None);
         set_node(&self.caches, &mut self.entries, name, Some(node));
     }

@@ -11,6 +11,7 @@
 #![tactic(auto)]
 
 mod caches;
+mod entry_heap;
 mod links;
 mod own_state;
 mod page_node;

@@ -13,7 +13,7 @@ use Rattle.vm_ids.proofs.Forest.Laws.Settling.{nothing_is_thin}
 use Rattle.vm_ids.proofs.Forest.NodesAfter.{keeps}
 use Rattle.vm_ids.specs.Forest.Laws.Settling.{IsSettled}
 use Rattle.vm_ids.specs.declared.numbers.NodeId.{NodeId}
-use Rattle.local_cache.specs.Arena.{Arena, IsHeld}
+use Rattle.local_cache.specs.Arena.{Arena}
 use Rattle.local_cache.specs.Changes.{Like}
 use Rattle.local_cache.specs.Own.{is_absent, own_of}
 use Rattle.local_cache.specs.Reading.{name_of, forest_of}
@@ -108,22 +108,21 @@ given_owns a b c d w released r passed went m ne = went m ne ∙ passed m ∙ ow
 
 -- At the thin node -------------------------------------------------------------------
 
-pub few_children : (a b : Arena) → IsSound a → (w : NodeId) → IsLeastThin a (Some w) → b ≡ a → IsHeld b w × (child_count (forest_of b) (name_of b w) < 2)
-few_children a b sound w least same =
-    let held : IsHeld a w = least.1.held in
+pub few_children : (a : Arena) → IsSound a → (w : NodeId) → IsLeastThin a (Some w) → child_count (forest_of a) (name_of a w) < 2
+few_children a sound w least =
     let few = ltb-true _ _ least.1.few in
-    subst (λ k. IsHeld k w × (child_count (forest_of k) (name_of k w) < 2)) (sym same) (held, omega (arith, child_count-is a (kept_of a sound) w held))
+    omega (arith, child_count-is a (kept_of a sound) w least.1.held)
 
-pub merged : (a t b : Arena) → IsSound a → (w : NodeId) (released : Released) → IsLeastThin a (Some w) → t ≡ a
-    → forest_of b ≡ settle_step (forest_of t) (name_of t w) → released ≡ released_to t w (first_child t w) → IsGone t b w → OwnsAfter t b w released → IsMerged a b released
-merged a t b sound w released least same forest is gone owns = record {
+pub merged : (a b : Arena) → IsSound a → (w : NodeId) (released : Released) → IsLeastThin a (Some w)
+    → forest_of b ≡ settle_step (forest_of a) (name_of a w) → released ≡ released_to a w (first_child a w) → IsGone a b w → OwnsAfter a b w released → IsMerged a b released
+merged a b sound w released least forest is gone owns = record {
   node = w;
   held = least.1.held;
   least = thin-forest a (kept_of a sound) (Some w) least;
-  forest = subst (λ k. forest_of b ≡ settle_step (forest_of k) (name_of k w)) same forest;
-  told = subst (λ k. released ≡ released_to k w (first_child k w)) same is;
-  gone = subst (λ k. IsGone k b w) same gone;
-  owns = subst (λ k. OwnsAfter k b w released) same owns;
+  forest = forest;
+  told = is;
+  gone = gone;
+  owns = owns;
 }
 
 pub none_thin : (a : Arena) → IsSound a → IsLeastThin a None → IsSettled (forest_of a)

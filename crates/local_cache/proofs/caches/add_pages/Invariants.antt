@@ -4,7 +4,8 @@ use Rattle.slab.specs.Slab.{slab_len}
 use Rattle.vm_ids.specs.declared.numbers.NodeId.{NodeId}
 use Rattle.local_cache.specs.Arena.{IsFilled, entry_for}
 use Rattle.local_cache.specs.Layout.{cells_of, working_len}
-use Rattle.local_cache.specs.Queue.{Entry, IsQueued}
+use Rattle.local_cache.specs.declared.entry_heap.Entry.{Entry}
+use Rattle.local_cache.specs.Queue.{IsQueued}
 use Rattle.local_cache.proofs.caches.add_pages.Given as goal
 
 abbrev pub invariant-loop-page : goal.invariant-loop-page

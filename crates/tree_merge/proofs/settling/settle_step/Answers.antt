@@ -1,4 +1,4 @@
-use Rattle.std.proofs.Common.{subst}
+use Rattle.std.proofs.Common.{refl, subst}
 use Rattle.local_cache.specs.Thin.{IsLeastThin}
 use Rattle.tree_merge.proofs.Settle.{few_children, merged, none_thin}
 use Rattle.tree_merge.proofs.settling.settle_step.Goals as goal
@@ -6,15 +6,15 @@ use Rattle.tree_merge.proofs.settling.settle_step.Goals as goal
 pub merge-requires-clause-few : goal.merge-requires-clause-few
 merge-requires-clause-few c =
     let a = c.args.caches.now in
-    (few_children a c.thin.new.self c.requires c.in-Some.node (subst (IsLeastThin a) c.in-Some.is c.thin.ensures.least) c.thin.ensures.same).1
+    few_children a c.requires c.in-Some.node (subst (IsLeastThin a) c.in-Some.is c.thin.ensures)
 
 pub returns-in-Some-clause-step : goal.returns-in-Some-clause-step
 returns-in-Some-clause-step c =
     let a = c.args.caches.now in
     let e = c.merge.ensures in
-    merged a c.thin.new.self c.merge.new.caches c.requires c.in-Some.node c.merge.result (subst (IsLeastThin a) c.in-Some.is c.thin.ensures.least) c.thin.ensures.same e.forest e.released e.gone e.owns
+    merged a c.merge.new.caches c.requires c.in-Some.node c.merge.result (subst (IsLeastThin a) c.in-Some.is c.thin.ensures) e.forest e.released e.gone e.owns
 
 pub returns-in-None-clause-step : goal.returns-in-None-clause-step
 returns-in-None-clause-step c =
     let a = c.args.caches.now in
-    (none_thin a c.requires (subst (IsLeastThin a) c.in-None.is c.thin.ensures.least), c.thin.ensures.same)
+    (none_thin a c.requires (subst (IsLeastThin a) c.in-None.is c.thin.ensures), refl)

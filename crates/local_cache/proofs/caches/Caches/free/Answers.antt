@@ -4,10 +4,16 @@ use Rattle.local_cache.specs.Layout.{tables_in, working_of}
 use Rattle.local_cache.proofs.Counts.{counted_less, taken_fits}
 use Rattle.local_cache.proofs.Slots.{some_at, taken}
 use Rattle.local_cache.proofs.Tables.{through}
+use Rattle.local_cache.proofs.Queued.{queued_but}
 use Rattle.local_cache.proofs.caches.Caches.free.Goals as goal
 
 pub remove-freed-requires : goal.remove-freed-requires
 remove-freed-requires c = some_at c.self.inside c.args.self.now c.args.node c.self.view_is c.requires
+
+pub queue-requires-clause-queued : goal.queue-requires-clause-queued
+queue-requires-clause-queued c =
+    let i = c.self.inside in
+    queued_but i.nodes c.remove-freed.new.self c.args.node.0 None c.number_at-before.result i.thin.entries c.remove-freed.ensures.updates c.number_at-before.ensures c.self.invariant.ready.queued
 
 pub returns : goal.returns
 returns c =

@@ -1,13 +1,21 @@
-use Rattle.std.proofs.Common.{rules, ◌+◌, ◌≤◌, Some, ap, arith}
+use Rattle.std.proofs.Common.{rules, ◌+◌, ◌≤◌, None, Some, ap, sym, arith}
 use Rattle.std.proofs.Math.Nat.{min-le_right}
+use Rattle.std.specs.Prelude.{option_and_then}
 use Rattle.slab.specs.Slab.{slab_len}
+use Rattle.local_cache.specs.Queue.{thin_number}
 use Rattle.vm_ids.specs.declared.numbers.NodeId.{NodeId}
 use Rattle.local_cache.specs.Arena.{Arena}
 use Rattle.local_cache.proofs.Cells.{held-new, stays-new}
 use Rattle.local_cache.proofs.Counts.{added_fits, counted_more}
 use Rattle.local_cache.proofs.Slots.{added, none_at}
 use Rattle.local_cache.proofs.Tables.{through}
+use Rattle.local_cache.proofs.Queued.{queued_but}
 use Rattle.local_cache.proofs.caches.Caches.insert.Goals as goal
+
+pub queue-requires-clause-queued : goal.queue-requires-clause-queued
+queue-requires-clause-queued c =
+    let i = c.self.inside in
+    queued_but i.nodes c.insert_reserved-place.new.self c.insert_reserved-place.result (Some c.new.result) None i.thin.entries c.insert_reserved-place.ensures.updates (sym (ap (option_and_then thin_number) c.insert_reserved-place.ensures.was_vacant)) c.self.invariant.ready.queued
 
 pub overflow_add-self : goal.overflow_add-self
 overflow_add-self c =

@@ -14,8 +14,8 @@ returns-then-is_err-3-clause-sound c sound = roomier_sound c.args.self.now _ sou
 pub returns-then-is_err-4-clause-sound : goal.returns-then-is_err-4-clause-sound
 returns-then-is_err-4-clause-sound c sound = roomier_sound c.args.self.now _ sound (search rules)
 
-pub returns-then-self-room-clause-sound : goal.returns-then-self-room-clause-sound
-returns-then-self-room-clause-sound c sound = roomier_sound c.args.self.now _ sound (search rules)
+pub returns-else-is_err-4-clause-sound : goal.returns-else-is_err-4-clause-sound
+returns-else-is_err-4-clause-sound c sound = roomier_sound c.args.self.now _ sound (search rules)
 
 pub returns-else-self-room-clause-sound : goal.returns-else-self-room-clause-sound
 returns-else-self-room-clause-sound c sound = roomier_sound c.args.self.now _ sound (search rules)

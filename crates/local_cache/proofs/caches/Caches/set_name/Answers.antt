@@ -5,10 +5,16 @@ use Rattle.local_cache.proofs.Cells.{stays-named}
 use Rattle.local_cache.proofs.Counts.{counted_named, named_fits, taken_fits, was_counted}
 use Rattle.local_cache.proofs.Slots.{named, reads_none}
 use Rattle.local_cache.proofs.Tables.{through}
+use Rattle.local_cache.proofs.Queued.{queued_but_written}
 use Rattle.local_cache.proofs.caches.Caches.set_name.Goals as goal
 
 pub unreachable-requires : goal.unreachable-requires
 unreachable-requires c = reads_none c.self.inside c.args.self.now c.args.node c.self.view_is c.in-None.ensures.value c.requires
+
+pub queue-requires-clause-queued : goal.queue-requires-clause-queued
+queue-requires-clause-queued c =
+    let i = c.self.inside in
+    queued_but_written i.nodes c.args.node.0 _ c.set_name.new.self c.number_at-before.result i.thin.entries c.in-Some.ensures.value c.number_at-before.ensures c.self.invariant.ready.queued
 
 pub overflow_sub-self : goal.overflow_sub-self
 overflow_sub-self c =
