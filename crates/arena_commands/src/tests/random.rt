@@ -65,9 +65,9 @@ impl Both {
             pages: pages as u32,
         })?;
         let source = self.contents[from];
-        self.contents[to][to_page..to_page + pages].copy_from_slice(
-            &source[from_page..from_page + pages],
-        );
+        for k in 0..pages {
+            self.contents[to][to_page + k] = source[from_page + k];
+        }
         Ok(())
     }
 
