@@ -7,7 +7,7 @@
 //!
 //! The model is that of the local caches: each call changes the page forest that is read off them by the rule of its
 //! name, and `Released` tells which node's frame or swap slot falls free or becomes another node's. This crate stands on
-//! `local_cache` and `page_stubs`, and its tests link copies by `history_tree`. It keeps no page itself.
+//! `local_cache` and `page_stubs`, and `arena_commands` stands on it. It keeps no page itself.
 #![tactic(auto)]
 
 mod children;
