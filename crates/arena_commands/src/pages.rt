@@ -68,6 +68,7 @@ impl Pages {
         ensures size { IfOk result (λ cache. size_of self.new cache.0 ≡ Some pages) }
         ensures other_sizes { IfOk result (λ cache. OtherSizesStay cache.0 self.old self.new) }
         ensures too_many { RefusedWhere Refusal.TooMany ((length self.old.caches + 1 ≡ 2 ^ 32) ⊎ (2 ^ 32 ≤ len (forest_of self.old).nodes + pages)) result }
+        ensures refusals { IfErr result (λ refusal. (refusal ≡ Refusal.TooMany) ⊎ (refusal ≡ Refusal.NoMemory)) }
         ensures refused { OnErr result (forest_of self.new ≡ forest_of self.old) }
         ensures refused_sizes { OnErr result (SameSizes self.old self.new) }
     {
@@ -96,6 +97,7 @@ impl Pages {
     pub fn chain(&self, alloc: Global, cache: CacheId, page: PageNo) -> Result<ChainList, Refusal>
         ensures chain { IfOk result (λ list. list ≡ chain_of (forest_of self.now) (NodeName.Live cache page)) }
         ensures no_page { RefusedWhere Refusal.NoPage (IsNode (forest_of self.now) (NodeName.Live cache page) → ⊥) result }
+        ensures refusals { IfErr result (λ refusal. (refusal ≡ Refusal.NoPage) ⊎ (refusal ≡ Refusal.NoMemory)) }
     {
         let Some(node) = self.node(cache, page) else {
             return Err(Refusal::NoPage)
@@ -113,14 +115,15 @@ impl Pages {
         self.caches.counts()
     }
 
-    /// Stores this content in a page. `NoPage` exactly where no live cache has it, else `TooMany` exactly where 2^62 copies
-    /// were counted.
+    /// Stores this content in a page, for which no memory is taken. `NoPage` exactly where no live cache has it, else
+    /// `TooMany` exactly where 2^62 copies were counted.
     pub fn store(&mut self, cache: CacheId, page: PageNo, content: SlotId) -> Result<(), Refusal>
         ensures stored { OnOk result (forest_of self.new ≡ rule_write (forest_of self.old) (NodeName.Live cache page) (λ _. OwnState.Slot content)) }
         ensures sizes { SameSizes self.old self.new }
         ensures refused { OnErr result (self.new ≡ self.old) }
         ensures no_page { RefusedWhere Refusal.NoPage (IsNode (forest_of self.old) (NodeName.Live cache page) → ⊥) result }
         ensures too_many { IsNode (forest_of self.old) (NodeName.Live cache page) → RefusedWhere Refusal.TooMany (2 ^ 62 ≤ self.old.copies) result }
+        ensures refusals { IfErr result (λ refusal. (refusal ≡ Refusal.NoPage) ⊎ (refusal ≡ Refusal.TooMany)) }
     {
         let Some(node) = self.node(cache, page) else {
             return Err(Refusal::NoPage)
@@ -157,8 +160,8 @@ impl Pages {
         Ok(())
     }
 
-    /// Destroys a cache. Its pages stay for those that read them. `NoPage` exactly where no live cache has this number,
-    /// else `TooMany` exactly where 2^62 working nodes were made.
+    /// Destroys a cache, for which no memory is taken. Its pages stay for those that read them. `NoPage` exactly where no
+    /// live cache has this number, else `TooMany` exactly where 2^62 working nodes were made.
     pub fn destroy(&mut self, cache: CacheId) -> Result<(), Refusal>
         ensures destroyed { OnOk result (IfSome (size_of self.old cache.0) (λ pages. forest_of self.new ≡ rule_destroy false (page_names cache 0 pages) (forest_of self.old))) }
         ensures size { OnOk result (size_of self.new cache.0 ≡ None) }
@@ -166,6 +169,7 @@ impl Pages {
         ensures refused { OnErr result (self.new ≡ self.old) }
         ensures no_page { RefusedWhere Refusal.NoPage (size_of self.old cache.0 ≡ None) result }
         ensures too_many { IsSome (size_of self.old cache.0) → RefusedWhere Refusal.TooMany (2 ^ 62 ≤ self.old.made) result }
+        ensures refusals { IfErr result (λ refusal. (refusal ≡ Refusal.NoPage) ⊎ (refusal ≡ Refusal.TooMany)) }
     {
         let Some(pages) = self.caches.pages(cache) else {
             return Err(Refusal::NoPage)
