@@ -36,9 +36,10 @@ use Rattle.local_cache.specs.Arena.{Arena, Table, node_at, tables_without, witho
 use Rattle.local_cache.specs.Reading.{forest_of}
 use Rattle.local_cache.specs.Sound.{IsSound}
 use Rattle.local_cache.proofs.Reading.{IsNode-forest_of}
-use Rattle.arena_commands.specs.Whole.{IsWhole, SameSizes, size_of}
+use Rattle.arena_commands.specs.Whole.{IsWhole, SameCaches, size_of}
 use Rattle.arena_commands.proofs.Growing.{more_names}
 use Rattle.arena_commands.proofs.Leaving.{pages_once}
+use Rattle.arena_commands.proofs.Sizes.{sizes_then}
 use Rattle.arena_commands.proofs.Wholes.{node_page, whole_after}
 
 pairs_length : (c : CacheId) (p : ℕ) (d : CacheId) (q n : ℕ) → length (page_pairs c p d q n) ≡ n
@@ -78,7 +79,7 @@ module _ {P : Type 0} where
 
 -- a cache that goes ----------------------------------------------------------------------
 
-module _ (a b : Arena) (whole : IsWhole a) (cache : CacheId) (n : ℕ) (size : size_of a cache.0 ≡ Some n) (forest_is : forest_of b ≡ destroy false (page_names cache 0 n) (forest_of a)) (sound : IsSound b) (consistent : IsConsistent (forest_of b)) (sizes : SameSizes a b) where
+module _ (a b : Arena) (whole : IsWhole a) (cache : CacheId) (n : ℕ) (size : size_of a cache.0 ≡ Some n) (forest_is : forest_of b ≡ destroy false (page_names cache 0 n) (forest_of a)) (sound : IsSound b) (consistent : IsConsistent (forest_of b)) (sizes : SameCaches a b) where
   value_is : (y : NodeName) → is_live y ≡ true → value_of (forest_of b) y ≡ cond (is_in y (page_names cache 0 n)) None (value_of (forest_of a) y)
   value_is y live = ap (λ g. value_of g y) forest_is ∙ destroy_destroys false (page_names cache 0 n) (forest_of a) whole.consistent (pages_once a whole cache n size) y live
 
@@ -99,7 +100,7 @@ module _ (a b : Arena) (whole : IsWhole a) (cache : CacheId) (n : ℕ) (size : s
           let at = sound.listed.nodes cache.0 page m e in
           let is : IsNode (forest_of b) (page_name cache page) = subst (IsNode (forest_of b)) at.1 (IsNode-forest_of b sound.named m at.0) in
           let p = node_page b sound cache page is in
-          let two : Some p.0 ≡ Some n = sym p.1 ∙ sizes cache.0 ∙ size in
+          let two : Some p.0 ≡ Some n = sym p.1 ∙ sizes.sizes cache.0 ∙ size in
           let same_size : p.0 ≡ n = cc two in
           absurd (page_gone page (let low = p.2 in omega arith) is)
 
@@ -120,7 +121,7 @@ module _ (a b : Arena) (whole : IsWhole a) (cache : CacheId) (n : ℕ) (size : s
 -- The caches after whole commands ---------------------------------------------------------
 
 -- a page was written
-pub whole_written : (a b : Arena) → IsWhole a → (x : NodeName) → IsNode (forest_of a) x → is_live x ≡ true → (change : OwnState → OwnState) → forest_of b ≡ write (forest_of a) x change → IsSound b → SameSizes a b → IsWhole b
+pub whole_written : (a b : Arena) → IsWhole a → (x : NodeName) → IsNode (forest_of a) x → is_live x ≡ true → (change : OwnState → OwnState) → forest_of b ≡ write (forest_of a) x change → IsSound b → SameCaches a b → IsWhole b
 whole_written a b whole x is live change forest_is sound sizes =
     let f = forest_of a in
     whole_after a b whole sound (subst IsConsistent (sym forest_is) (write_keeps_consistency f whole.consistent x change is live)) sizes
@@ -128,15 +129,15 @@ whole_written a b whole x is live change forest_is sound sizes =
     (let most = write_len f whole.consistent x is change in omega (arith, most, whole.few, ap (λ g. len g.nodes) forest_is))
 
 -- the pages of a copy were linked, and then the working nodes settled
-pub whole_copied : (a b c : Arena) → IsWhole a → (more : ℕ) → len (forest_of a).nodes + more < 2 ^ 32 → IsConsistent (forest_of b) → ((x : NodeName) → IsNode (forest_of a) x → IsNode (forest_of b) x) → len (forest_of b).nodes ≤ len (forest_of a).nodes + more → SameSizes a b
-    → forest_of c ≡ settle (forest_of b) → IsSound c → SameSizes b c → IsWhole c
+pub whole_copied : (a b c : Arena) → IsWhole a → (more : ℕ) → len (forest_of a).nodes + more < 2 ^ 32 → IsConsistent (forest_of b) → ((x : NodeName) → IsNode (forest_of a) x → IsNode (forest_of b) x) → len (forest_of b).nodes ≤ len (forest_of a).nodes + more → SameCaches a b
+    → forest_of c ≡ settle (forest_of b) → IsSound c → SameCaches b c → IsWhole c
 whole_copied a b c whole more few consistent stays most first forest_is sound second =
-    whole_after a c whole sound (subst IsConsistent (sym forest_is) (settle_keeps_consistency (forest_of b) consistent)) (λ cache. second cache ∙ first cache)
+    whole_after a c whole sound (subst IsConsistent (sym forest_is) (settle_keeps_consistency (forest_of b) consistent)) (sizes_then a b c first second)
     (λ x live there. subst (λ g. IsNode g x) (sym forest_is) (settle_stays (forest_of b) consistent x live (stays x there)))
     (let less = settle_len (forest_of b) consistent in omega (arith, less, most, few, ap (λ g. len g.nodes) forest_is))
 
 -- a cache is gone
-module _ (a b c : Arena) (whole : IsWhole a) (cache : CacheId) (n : ℕ) (size : size_of a cache.0 ≡ Some n) (forest_is : forest_of b ≡ destroy false (page_names cache 0 n) (forest_of a)) (sound : IsSound b) (consistent : IsConsistent (forest_of b)) (sizes : SameSizes a b)
+module _ (a b c : Arena) (whole : IsWhole a) (cache : CacheId) (n : ℕ) (size : size_of a cache.0 ≡ Some n) (forest_is : forest_of b ≡ destroy false (page_names cache 0 n) (forest_of a)) (sound : IsSound b) (consistent : IsConsistent (forest_of b)) (sizes : SameCaches a b)
     (few : len (forest_of b).nodes ≤ len (forest_of a).nodes) (changed : c ≡ without_cache b cache) (after : IsSound c) (same_forest : forest_of c ≡ forest_of b) where
   gone_size : (other : ℕ) → ((other ≢ cache.0) × (size_of c other ≡ size_of b other)) ⊎ (size_of c other ≡ None)
   gone_size other = go cache.0 other refl
@@ -166,23 +167,23 @@ module _ (a b c : Arena) (whole : IsWhole a) (cache : CacheId) (n : ℕ) (size :
     sound = after;
     consistent = subst IsConsistent (sym same_forest) consistent;
     pages = λ other page count is low. elim (gone_size other.0) [
-      | inl k ↦ subst (λ g. IsNode g (page_name other page)) (sym same_forest) (others_stay a b whole cache n size forest_is sound consistent sizes other page k.0 (whole.pages other page count (sym (sizes other.0) ∙ sym k.1 ∙ is) low))
+      | inl k ↦ subst (λ g. IsNode g (page_name other page)) (sym same_forest) (others_stay a b whole cache n size forest_is sound consistent sizes other page k.0 (whole.pages other page count (sym (sizes.sizes other.0) ∙ sym k.1 ∙ is) low))
       | inr none ↦ (let e : Some count ≡ None = sym is ∙ none in absurd (cc e))
     ];
     few = omega (arith, few, whole.few, ap (λ g. len g.nodes) same_forest);
   }
 
 -- The pages of a cache were retired, the working nodes settled, and then the cache removed.
-module _ (a b c : Arena) (whole : IsWhole a) (cache : CacheId) (n : ℕ) (size : size_of a cache.0 ≡ Some n) (left : forest_of b ≡ retire_all (page_names cache 0 n) (forest_of a)) (consistent : IsConsistent (forest_of b)) (first : SameSizes a b) (few : len (forest_of b).nodes ≤ len (forest_of a).nodes)
-    (settled : forest_of c ≡ settle (forest_of b)) (sound : IsSound c) (second : SameSizes b c) where
+module _ (a b c : Arena) (whole : IsWhole a) (cache : CacheId) (n : ℕ) (size : size_of a cache.0 ≡ Some n) (left : forest_of b ≡ retire_all (page_names cache 0 n) (forest_of a)) (consistent : IsConsistent (forest_of b)) (first : SameCaches a b) (few : len (forest_of b).nodes ≤ len (forest_of a).nodes)
+    (settled : forest_of c ≡ settle (forest_of b)) (sound : IsSound c) (second : SameCaches b c) where
   is_destroyed : forest_of c ≡ destroy false (page_names cache 0 n) (forest_of a)
   is_destroyed = settled ∙ ap settle left
 
   still_consistent : IsConsistent (forest_of c)
   still_consistent = subst IsConsistent (sym settled) (settle_keeps_consistency (forest_of b) consistent)
 
-  same_sizes : SameSizes a c
-  same_sizes cache = second cache ∙ first cache
+  same_sizes : SameCaches a c
+  same_sizes = sizes_then a b c first second
 
   -- no page of the cache has a node
   pub emptied : (page : ℕ) → node_at c cache.0 page ≡ None

@@ -23,7 +23,7 @@ use Rattle.local_cache.proofs.Vacated.{room-with_new}
 use Rattle.tree_merge.specs.declared.released.Released.{Released}
 use Rattle.tree_merge.specs.Releasing.{IsDetached, IsRetired}
 use Rattle.tree_merge.proofs.Detached.{retired_room}
-use Rattle.arena_commands.specs.Whole.{SameSizes}
+use Rattle.arena_commands.specs.Whole.{SameCaches}
 use Rattle.arena_commands.proofs.Counted.{detach-made}
 use Rattle.arena_commands.proofs.Growing.{detach_len, detached_pages}
 use Rattle.arena_commands.proofs.Sizes.{sizes_detached, sizes_retired}
@@ -49,7 +49,7 @@ module _ (a b : Arena) (o : Option NodeId) (there : IsSome o) (x : NodeName) (s 
   pub room_after : a.room.nodes ≤ b.room.nodes + 1
   room_after = let n = some_of o there in detached_room a b n.0 x s released (d n.0 n.1)
 
-  pub sizes_after : SameSizes a b
+  pub sizes_after : SameCaches a b
   sizes_after = let n = some_of o there in sizes_detached a b n.0 x s released (d n.0 n.1)
 
 -- a page was detached ----------------------------------------------------------------
@@ -96,5 +96,5 @@ module _ (a b : Arena) (consistent : IsConsistent (forest_of a)) (to from : Cach
     fresh_apart = apart_by_name b d s (Live to to_page) (Live from from_page) fresh_name origin_name pages.apart
 
 -- the node of a page was retired
-pub sizes_gone : (a b : Arena) (o : Option NodeId) → IsSome o → (released : Released) → ((n : NodeId) → o ≡ Some n → IsRetired a b n released) → SameSizes a b
+pub sizes_gone : (a b : Arena) (o : Option NodeId) → IsSome o → (released : Released) → ((n : NodeId) → o ≡ Some n → IsRetired a b n released) → SameCaches a b
 sizes_gone a b o there released r = let n = some_of o there in sizes_retired a b n.0 released (r n.0 n.1)

@@ -10,7 +10,7 @@ use Rattle.local_cache.specs.Arena.{Arena}
 use Rattle.local_cache.specs.Reading.{forest_of, name_of}
 use Rattle.tree_merge.specs.declared.released.Released.{Released}
 use Rattle.tree_merge.specs.Releasing.{IsMerged}
-use Rattle.arena_commands.specs.Whole.{SameSizes}
+use Rattle.arena_commands.specs.Whole.{SameCaches}
 use Rattle.arena_commands.proofs.Sizes.{sizes_by}
 
 -- what `settle_step` answers
@@ -22,7 +22,7 @@ pub record IsStep (a b : Arena) : Type 0 where
   pub fewer : len (forest_of b).nodes < len (forest_of a).nodes
   pub forest : settle (forest_of b) ≡ settle (forest_of a)
   pub consistent : IsConsistent (forest_of b)
-  pub sizes : SameSizes a b
+  pub sizes : SameCaches a b
 
 pub step_of : (a b : Arena) → IsConsistent (forest_of a) → (r : Option Released) → is_some r ≡ true → Stepped a b r → IsStep a b
 step_of a b c None some step = absurd (cc some)

@@ -9,7 +9,7 @@ use Rattle.local_cache.specs.Arena.{Arena, Table, as_working, put, table_at, tab
 use Rattle.local_cache.specs.Reading.{forest_of, name_of}
 use Rattle.tree_merge.specs.declared.released.Released.{Released}
 use Rattle.tree_merge.specs.Releasing.{IsDetached, IsRetired}
-use Rattle.arena_commands.specs.Whole.{SameSizes}
+use Rattle.arena_commands.specs.Whole.{SameCaches}
 
 abbrev size : Option Table → Option ℕ
 size o = option_map (λ (t : Table). length t.pages) o
@@ -35,14 +35,32 @@ table_sizes ts (Live c page) n (suc j) = go c.0
     go zero = refl
     go (suc k) = sizes_with page.0 n ts k j
 
-pub sizes_by : (a b : Arena) (x : NodeName) (n : Option NodeId) → b.caches ≡ tables_with a.caches x n → SameSizes a b
-sizes_by a b x n e cache = ap (λ (ts : List (Option Table)). size (table_at ts cache)) e ∙ table_sizes a.caches x n cache
+-- there are as many tables
+table_count : (ts : List (Option Table)) (x : NodeName) (n : Option NodeId) → length (tables_with ts x n) ≡ length ts
+table_count ts (Working k) n = refl
+table_count ts (Live c page) n = go c.0
+  where
+    go : (k : ℕ) → length (tables_with ts (Live (record { 0 = k }) page) n) ≡ length ts
+    go zero = refl
+    go (suc k) = length-set ts k (option_map (table_with page.0 n) (get_or ts k None))
 
-pub sizes_same : (a b : Arena) → b.caches ≡ a.caches → SameSizes a b
-sizes_same a b e cache = ap (λ (ts : List (Option Table)). size (table_at ts cache)) e
+pub sizes_by : (a b : Arena) (x : NodeName) (n : Option NodeId) → b.caches ≡ tables_with a.caches x n → SameCaches a b
+sizes_by a b x n e = record {
+  made = ap length e ∙ table_count a.caches x n;
+  sizes = λ cache. ap (λ (ts : List (Option Table)). size (table_at ts cache)) e ∙ table_sizes a.caches x n cache;
+}
 
-pub sizes_then : (a b c : Arena) → SameSizes a b → SameSizes b c → SameSizes a c
-sizes_then a b c f g cache = g cache ∙ f cache
+pub sizes_same : (a b : Arena) → b.caches ≡ a.caches → SameCaches a b
+sizes_same a b e = record {
+  made = ap length e;
+  sizes = λ cache. ap (λ (ts : List (Option Table)). size (table_at ts cache)) e;
+}
+
+pub sizes_then : (a b c : Arena) → SameCaches a b → SameCaches b c → SameCaches a c
+sizes_then a b c f g = record {
+  made = g.made ∙ f.made;
+  sizes = λ cache. g.sizes cache ∙ f.sizes cache;
+}
 
 caches_working : (a : Arena) (n : NodeId) → (as_working a n).caches ≡ tables_with a.caches (name_of a n) None
 unfolding put
@@ -53,15 +71,15 @@ unfolding with_new
 caches_new a n x s = refl
 
 -- the node of a page is retired
-pub sizes_retired : (a b : Arena) (n : NodeId) (released : Released) → IsRetired a b n released → SameSizes a b
+pub sizes_retired : (a b : Arena) (n : NodeId) (released : Released) → IsRetired a b n released → SameCaches a b
 sizes_retired a b n released r = go (child_count (forest_of a) (name_of a n)) refl
   where
-    go : (k : ℕ) → child_count (forest_of a) (name_of a n) ≡ k → SameSizes a b
+    go : (k : ℕ) → child_count (forest_of a) (name_of a n) ≡ k → SameCaches a b
     go zero e = sizes_by a b (name_of a n) None (r.leaf e).1.caches
     go (suc k) e = sizes_by a b (name_of a n) None (ap (λ (c : Arena). c.caches) (r.parent (omega arith)).1 ∙ caches_working a n)
 
 -- and a fresh one made for it
-pub sizes_detached : (a b : Arena) (n : NodeId) (x : NodeName) (s : OwnState) (released : Released) → IsDetached a b n x s released → SameSizes a b
+pub sizes_detached : (a b : Arena) (n : NodeId) (x : NodeName) (s : OwnState) (released : Released) → IsDetached a b n x s released → SameCaches a b
 sizes_detached a b n x s released d =
     sizes_then a d.between b (sizes_retired a d.between n released d.retired)
     (sizes_by d.between b x (Some d.fresh) (ap (λ (c : Arena). c.caches) d.is ∙ caches_new d.between d.fresh x s))

@@ -15,7 +15,7 @@ use Rattle.local_cache.specs.declared.page_table.PageEntry.{PageEntry}
 use Rattle.local_cache.specs.Arena.{Arena, Table, table_of}
 use Rattle.local_cache.specs.Reading.{forest_of}
 use Rattle.local_cache.specs.Sound.{IsSound}
-use Rattle.arena_commands.specs.Whole.{IsWhole, SameSizes, size_of}
+use Rattle.arena_commands.specs.Whole.{IsWhole, SameCaches, size_of}
 use Rattle.arena_commands.proofs.Linked.{page_there}
 
 -- Pages and nodes ---------------------------------------------------------------------
@@ -51,16 +51,16 @@ there_range a sound cache first pages some nodes =
 
 -- What keeps the caches whole ----------------------------------------------------------
 
-pub whole_after : (a b : Arena) → IsWhole a → IsSound b → IsConsistent (forest_of b) → SameSizes a b → ((x : NodeName) → is_live x ≡ true → IsNode (forest_of a) x → IsNode (forest_of b) x) → len (forest_of b).nodes < 2 ^ 32 → IsWhole b
+pub whole_after : (a b : Arena) → IsWhole a → IsSound b → IsConsistent (forest_of b) → SameCaches a b → ((x : NodeName) → is_live x ≡ true → IsNode (forest_of a) x → IsNode (forest_of b) x) → len (forest_of b).nodes < 2 ^ 32 → IsWhole b
 whole_after a b whole sound consistent sizes stays few = record {
   sound = sound;
   consistent = consistent;
-  pages = λ cache page count size low. stays (page_name cache page) refl (whole.pages cache page count (sym (sizes cache.0) ∙ size) low);
+  pages = λ cache page count size low. stays (page_name cache page) refl (whole.pages cache page count (sym (sizes.sizes cache.0) ∙ size) low);
   few = few;
 }
 
 -- the forest and the tables are the same
-pub whole_same : (a b : Arena) → IsWhole a → IsSound b → forest_of b ≡ forest_of a → SameSizes a b → IsWhole b
+pub whole_same : (a b : Arena) → IsWhole a → IsSound b → forest_of b ≡ forest_of a → SameCaches a b → IsWhole b
 whole_same a b whole sound is sizes = whole_after a b whole sound (subst IsConsistent (sym is) whole.consistent) sizes (λ x live there. subst (λ g. IsNode g x) (sym is) there) (subst (λ g. len g.nodes < 2 ^ 32) (sym is) whole.few)
 
 -- what `pages` answers of a cache

@@ -20,7 +20,7 @@ use Rattle.local_cache.specs.Sound.{IsSound}
 use Rattle.local_cache.proofs.Changes.{forest_of-copies}
 use Rattle.local_cache.proofs.Edit.{kept_of, own-forest, own-kept, sound_of}
 use Rattle.local_cache.proofs.Reading.{IsNode-forest_of, node-forest_of}
-use Rattle.arena_commands.specs.Whole.{SameSizes}
+use Rattle.arena_commands.specs.Whole.{SameCaches}
 use Rattle.arena_commands.proofs.Growing.{more_names}
 use Rattle.arena_commands.proofs.Sizes.{sizes_same}
 
@@ -77,7 +77,7 @@ caches-own : (a : Arena) (n : NodeId) (s : OwnState) → (with_own a n s).caches
 unfolding put
 caches-own a n s = refl
 
-pub written_sizes : (a b c d : Arena) (n : NodeId) (s : OwnState) → Like a b → Like b c → d ≡ with_own c n s → SameSizes a d
+pub written_sizes : (a b c d : Arena) (n : NodeId) (s : OwnState) → Like a b → Like b c → d ≡ with_own c n s → SameCaches a d
 written_sizes a b c d n s first second is = sizes_same a d (ap (λ k. k.caches) is ∙ caches-own c n s ∙ second.caches ∙ first.caches)
 
 -- whether the node had a page

@@ -13,9 +13,10 @@ use Rattle.local_cache.specs.Sound.{IsSound}
 abbrev pub size_of : Arena → ℕ → Option ℕ
 size_of a cache = option_map (λ t. length t.pages) (table_of a cache)
 
--- the same caches are live, with as many pages
-abbrev pub SameSizes : Arena → Arena → Type 0
-SameSizes a b = (cache : ℕ) → size_of b cache ≡ size_of a cache
+-- as many caches were made, and the same ones are live, with as many pages
+pub record SameCaches (a b : Arena) : Type 0 where
+  pub made : length b.caches ≡ length a.caches
+  pub sizes : (cache : ℕ) → size_of b cache ≡ size_of a cache
 
 -- the same but for one cache
 abbrev pub OtherSizesStay : ℕ → Arena → Arena → Type 0

@@ -10,7 +10,7 @@ ghost use Rattle.vm_ids.specs.Forest.Shape.{IsConsistent};
 ghost use Rattle.vm_ids.specs.Forest.Laws.Linking.{ArePages};
 ghost use Rattle.local_cache.specs.Reading.{forest_of};
 ghost use Rattle.local_cache.specs.Sound.{IsSound};
-ghost use Rattle.arena_commands.specs.Whole.{IsWhole, SameSizes};
+ghost use Rattle.arena_commands.specs.Whole.{IsWhole, SameCaches};
 
 use history_tree::link;
 use local_cache::{Caches, OwnState};
@@ -35,7 +35,7 @@ fn copy_page(
     requires few { len (forest_of caches.old).nodes + 1 < 2 ^ 32 }
     ensures forest { forest_of caches.new ≡ forest.copy_page is_small (forest_of caches.old) (NodeName.Live to to_page) (NodeName.Live from from_page) }
     ensures sound { IsSound caches.new }
-    ensures sizes { SameSizes caches.old caches.new }
+    ensures sizes { SameCaches caches.old caches.new }
     ensures room { caches.old.room.nodes ≤ caches.new.room.nodes + 2 }
 {
     detach(caches, to, to_page, OwnState::Absent);
@@ -60,7 +60,7 @@ pub(crate) fn copy_pages(caches: &mut Caches, span: Span)
     ensures sound { IsSound caches.new }
     ensures consistent { IsConsistent (forest_of caches.new) }
     ensures stays { (x : NodeName) → IsNode (forest_of caches.old) x → IsNode (forest_of caches.new) x }
-    ensures sizes { SameSizes caches.old caches.new }
+    ensures sizes { SameCaches caches.old caches.new }
     ensures few { len (forest_of caches.new).nodes ≤ len (forest_of caches.old).nodes + 2 * span.pages }
 {
     let is_small = span.pages <= SMALL_COPY;

@@ -5,7 +5,7 @@ ghost use Rattle.vm_ids.specs.Forest.NameMap.{len};
 ghost use Rattle.vm_ids.specs.Forest.Shape.{IsConsistent};
 ghost use Rattle.local_cache.specs.Reading.{forest_of};
 ghost use Rattle.local_cache.specs.Sound.{IsSound};
-ghost use Rattle.arena_commands.specs.Whole.{IsWhole, SameSizes, size_of};
+ghost use Rattle.arena_commands.specs.Whole.{IsWhole, SameCaches, size_of};
 
 use local_cache::Caches;
 use tree_merge::retire;
@@ -19,7 +19,7 @@ pub(crate) fn retire_pages(caches: &mut Caches, cache: CacheId, pages: u32)
     ensures forest { forest_of caches.new ≡ retire_all (page_names cache 0 pages) (forest_of caches.old) }
     ensures sound { IsSound caches.new }
     ensures consistent { IsConsistent (forest_of caches.new) }
-    ensures sizes { SameSizes caches.old caches.new }
+    ensures sizes { SameCaches caches.old caches.new }
     ensures few { len (forest_of caches.new).nodes ≤ len (forest_of caches.old).nodes }
 {
     for page in 0..pages {

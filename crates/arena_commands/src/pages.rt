@@ -7,7 +7,7 @@ ghost use Rattle.vm_ids.specs.Forest.Reading.{chain_of, counts_of, value_of};
 ghost use Rattle.vm_ids.specs.Forest.Rules.{write as rule_write};
 ghost use Rattle.local_cache.specs.Arena.{IsHeld};
 ghost use Rattle.local_cache.specs.Reading.{forest_of, name_of};
-ghost use Rattle.arena_commands.specs.Whole.{OtherSizesStay, SameSizes, size_of};
+ghost use Rattle.arena_commands.specs.Whole.{OtherSizesStay, SameCaches, size_of};
 ghost use Rattle.vm_ids.specs.Forest.Laws.Ranges.{AreNodes};
 ghost use Rattle.arena_commands.specs.Commands.{HasNoNumbers, IsWithin, RefusedWhere, zero_pages};
 
@@ -64,13 +64,14 @@ impl Pages {
     /// before. `TooMany` exactly where there is no number for it or for its nodes, else `NoMemory` where there is none.
     pub fn make_temp(&mut self, pages: u32) -> Result<CacheId, Refusal>
         ensures number { IfOk result (λ cache. cache.0 ≡ length self.old.caches + 1) }
+        ensures caches { IfOk result (λ cache. length self.new.caches ≡ cache.0) }
         ensures made { IfOk result (λ cache. forest_of self.new ≡ make (zero_pages cache pages) (forest_of self.old)) }
         ensures size { IfOk result (λ cache. size_of self.new cache.0 ≡ Some pages) }
         ensures other_sizes { IfOk result (λ cache. OtherSizesStay cache.0 self.old self.new) }
         ensures too_many { RefusedWhere Refusal.TooMany ((length self.old.caches + 1 ≡ 2 ^ 32) ⊎ (2 ^ 32 ≤ len (forest_of self.old).nodes + pages)) result }
         ensures refusals { IfErr result (λ refusal. (refusal ≡ Refusal.TooMany) ⊎ (refusal ≡ Refusal.NoMemory)) }
         ensures refused { OnErr result (forest_of self.new ≡ forest_of self.old) }
-        ensures refused_sizes { OnErr result (SameSizes self.old self.new) }
+        ensures refused_sizes { OnErr result (SameCaches self.old self.new) }
     {
         let nodes = self.nodes() + pages as u64;
         if self.caches.caches_made() == u32::MAX || nodes > u32::MAX as u64 {
@@ -119,7 +120,7 @@ impl Pages {
     /// `TooMany` exactly where 2^62 copies were counted.
     pub fn store(&mut self, cache: CacheId, page: PageNo, content: SlotId) -> Result<(), Refusal>
         ensures stored { OnOk result (forest_of self.new ≡ rule_write (forest_of self.old) (NodeName.Live cache page) (λ _. OwnState.Slot content)) }
-        ensures sizes { SameSizes self.old self.new }
+        ensures sizes { SameCaches self.old self.new }
         ensures refused { OnErr result (self.new ≡ self.old) }
         ensures no_page { RefusedWhere Refusal.NoPage (IsNode (forest_of self.old) (NodeName.Live cache page) → ⊥) result }
         ensures too_many { IsNode (forest_of self.old) (NodeName.Live cache page) → RefusedWhere Refusal.TooMany (2 ^ 62 ≤ self.old.copies) result }
@@ -140,7 +141,7 @@ impl Pages {
     /// the nodes, two for each page, else `NoMemory` where there is none.
     pub fn copy(&mut self, span: Span) -> Result<(), Refusal>
         ensures copied { OnOk result (forest_of self.new ≡ rule_copy false (span_pairs span) (forest_of self.old)) }
-        ensures sizes { SameSizes self.old self.new }
+        ensures sizes { SameCaches self.old self.new }
         ensures refused { OnErr result (forest_of self.new ≡ forest_of self.old) }
         ensures same_cache { RefusedWhere Refusal.SameCache (span.from ≡ span.to) result }
         ensures no_page { span.from ≢ span.to → RefusedWhere Refusal.NoPage (IsWithin (forest_of self.old) span → ⊥) result }
@@ -160,11 +161,13 @@ impl Pages {
         Ok(())
     }
 
-    /// Destroys a cache, for which no memory is taken. Its pages stay for those that read them. `NoPage` exactly where no
-    /// live cache has this number, else `TooMany` exactly where 2^62 working nodes were made.
+    /// Destroys a cache, for which no memory is taken. Its pages stay for those that read them, and its number isn't used
+    /// again. `NoPage` exactly where no live cache has this number, else `TooMany` exactly where 2^62 working nodes were
+    /// made.
     pub fn destroy(&mut self, cache: CacheId) -> Result<(), Refusal>
         ensures destroyed { OnOk result (IfSome (size_of self.old cache.0) (λ pages. forest_of self.new ≡ rule_destroy false (page_names cache 0 pages) (forest_of self.old))) }
         ensures size { OnOk result (size_of self.new cache.0 ≡ None) }
+        ensures caches { length self.new.caches ≡ length self.old.caches }
         ensures other_sizes { OtherSizesStay cache.0 self.old self.new }
         ensures refused { OnErr result (self.new ≡ self.old) }
         ensures no_page { RefusedWhere Refusal.NoPage (size_of self.old cache.0 ≡ None) result }
@@ -186,7 +189,7 @@ impl Pages {
     // Makes room for the nodes of a copy: up to two for each page.
     fn make_room(&mut self, pages: u32) -> Result<(), Refusal>
         ensures forest { forest_of self.new ≡ forest_of self.old }
-        ensures sizes { SameSizes self.old self.new }
+        ensures sizes { SameCaches self.old self.new }
         ensures room { OnOk result (2 * pages ≤ self.new.room.nodes) }
         ensures made { OnOk result (self.new.made + 2 * pages < 2 ^ 63) }
         ensures few { OnOk result (len (forest_of self.new).nodes + 2 * pages < 2 ^ 32) }

@@ -8,7 +8,7 @@ ghost use Rattle.local_cache.specs.Arena.{IsHeld};
 ghost use Rattle.local_cache.specs.Changes.{Like};
 ghost use Rattle.local_cache.specs.Reading.{forest_of, name_of, node_of, page_of};
 ghost use Rattle.local_cache.specs.Sound.{IsSound};
-ghost use Rattle.arena_commands.specs.Whole.{SameSizes};
+ghost use Rattle.arena_commands.specs.Whole.{SameCaches};
 
 use history_tree::{heir, owner_of};
 use local_cache::{Caches, OwnState};
@@ -101,7 +101,7 @@ pub(crate) fn write(caches: &mut Caches, node: NodeId, content: OwnState)
     requires few { len (forest_of caches.old).nodes < 2 ^ 32 }
     ensures forest { forest_of caches.new ≡ forest.write (forest_of caches.old) (name_of caches.old node) (λ _. content) }
     ensures sound { IsSound caches.new }
-    ensures sizes { SameSizes caches.old caches.new }
+    ensures sizes { SameCaches caches.old caches.new }
 {
     own_page(caches, node);
     heir_gets(caches, node);

@@ -9,7 +9,7 @@ use Rattle.local_cache.specs.Reading.{forest_of}
 use Rattle.local_cache.proofs.Changes.{forest_of-made}
 use Rattle.arena_commands.proofs.Growing.{copy_page_len, copy_page_made, copy_page_stays}
 use Rattle.arena_commands.proofs.Pairs.{can_by, copied_by, pages_now, pairs_start}
-use Rattle.arena_commands.proofs.Sizes.{sizes_then}
+use Rattle.arena_commands.proofs.Sizes.{sizes_same, sizes_then}
 use Rattle.arena_commands.proofs.copying.copy_pages.Goals as goal
 
 pub loop-page-init : goal.loop-page-init
@@ -23,7 +23,7 @@ loop-page-init c =
       consistent = c.requires.whole.consistent;
       can = subst (CanCopy (forest_of a)) all c.requires.can;
       stays = λ x is. is;
-      sizes = λ cache. refl;
+      sizes = sizes_same a a refl;
       room = omega arith;
       made = omega arith;
       few = omega arith;

@@ -7,7 +7,7 @@ use Rattle.vm_ids.specs.Forest.Nodes.{IsNode}
 use Rattle.vm_ids.specs.Forest.Shape.{IsConsistent}
 use Rattle.local_cache.specs.Reading.{forest_of}
 use Rattle.local_cache.specs.Sound.{IsSound}
-use Rattle.arena_commands.specs.Whole.{SameSizes}
+use Rattle.arena_commands.specs.Whole.{SameCaches}
 use Rattle.arena_commands.proofs.copying.copy_pages.Given as goal
 
 abbrev pub invariant-loop-page : goal.invariant-loop-page
@@ -19,7 +19,7 @@ invariant-loop-page l =
       consistent : IsConsistent (forest_of l.caches);
       can : CanCopy (forest_of l.caches) left;
       stays : (x : NodeName) → IsNode (forest_of l.fn.caches) x → IsNode (forest_of l.caches) x;
-      sizes : SameSizes l.fn.caches l.caches;
+      sizes : SameCaches l.fn.caches l.caches;
       room : l.fn.caches.room.nodes ≤ l.caches.room.nodes + 2 * l.page;
       made : l.caches.made ≤ l.fn.caches.made + 2 * l.page;
       few : len (forest_of l.caches).nodes ≤ len (forest_of l.fn.caches).nodes + 2 * l.page;

@@ -11,7 +11,7 @@ use Rattle.arena_commands.proofs.Counted.{retire-made}
 use Rattle.arena_commands.proofs.Growing.{retire_len}
 use Rattle.arena_commands.proofs.Leaving.{names_start, page_now, pages_by, pages_once, retired_by}
 use Rattle.arena_commands.proofs.Linked.{page_there, sizes_gone}
-use Rattle.arena_commands.proofs.Sizes.{sizes_then}
+use Rattle.arena_commands.proofs.Sizes.{sizes_same, sizes_then}
 use Rattle.arena_commands.proofs.destroying.retire_pages.Goals as goal
 
 pub loop-page-init : goal.loop-page-init
@@ -23,7 +23,7 @@ loop-page-init c =
       sound = c.requires.whole.sound;
       consistent = c.requires.whole.consistent;
       pages = subst (ArePagesOnce (forest_of a)) all (pages_once a c.requires.whole c.args.cache c.args.pages c.requires.pages);
-      sizes = λ cache. refl;
+      sizes = sizes_same a a refl;
       few = omega arith;
       made = omega arith;
     }

@@ -5,7 +5,7 @@ use Rattle.vm_ids.specs.Forest.NameMap.{len}
 use Rattle.vm_ids.specs.Forest.Shape.{IsConsistent}
 use Rattle.local_cache.specs.Reading.{forest_of}
 use Rattle.local_cache.specs.Sound.{IsSound}
-use Rattle.arena_commands.specs.Whole.{SameSizes}
+use Rattle.arena_commands.specs.Whole.{SameCaches}
 use Rattle.arena_commands.proofs.destroying.retire_pages.Given as goal
 
 abbrev pub invariant-loop-page : goal.invariant-loop-page
@@ -16,7 +16,7 @@ invariant-loop-page l =
       sound : IsSound l.caches;
       consistent : IsConsistent (forest_of l.caches);
       pages : ArePagesOnce (forest_of l.caches) left;
-      sizes : SameSizes l.fn.caches l.caches;
+      sizes : SameCaches l.fn.caches l.caches;
       few : len (forest_of l.caches).nodes ≤ len (forest_of l.fn.caches).nodes;
       made : l.caches.made ≤ l.fn.caches.made + l.page;
     }
