@@ -18,6 +18,9 @@ pub mod SettleStep
 pub mod Bound
 pub mod Settling
 pub mod Renaming
+pub mod PageMap
+pub mod BareShape
+pub mod BareThin
 pub mod Order
 pub mod Detaching
 pub mod Paths
@@ -25,5 +28,10 @@ pub mod Counters
 pub mod Agreeing
 pub mod Laws
 pub mod Pages
+pub mod Made
+pub mod Lengths
+pub mod Moving
+pub mod Pairs
+pub mod CachePages
 pub mod Saving
 pub mod Rows

@@ -25,7 +25,8 @@ pub record MapperCounts : Type 0 where
   pub pushes : ℕ
 
 -- One call with so many pulls and pushes, which count where it fails too.
-pub record Counted {T E : Type 0} (pulls pushes : ℕ) (before now : MapperCounts) (result : Result T E) : Type 0 where
+pub record Counted {T E : Type 0} (pulls pushes : ℕ) (before now : MapperCounts)
+    (result : Result T E) : Type 0 where
   pub faults : HasCause before.faults now.faults result
   pub pulls_later : before.pulls ≤ now.pulls
   pub pulled : RoseBy pulls before.pulls now.pulls
@@ -45,4 +46,5 @@ abbrev pub no_counts : MapperCounts
 no_counts = record { faults = 0; pulls = 0; pushes = 0 }
 
 abbrev pub counts_sum : MapperCounts → MapperCounts → MapperCounts
-counts_sum a b = record { faults = a.faults + b.faults; pulls = a.pulls + b.pulls; pushes = a.pushes + b.pushes }
+counts_sum a b =
+    record { faults = a.faults + b.faults; pulls = a.pulls + b.pulls; pushes = a.pushes + b.pushes }

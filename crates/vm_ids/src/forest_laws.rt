@@ -10,7 +10,9 @@ ghost use Rattle.vm_ids.specs.Forest.Laws.Settling.{ThinIsWorking, ThinIsLeast, 
 ghost use Rattle.vm_ids.specs.Forest.Laws.Saving.{SavesKeepConsistency, SavesKeepBound, SavesKeepValues, NextSave, NoMoreSaves, SavesCountCopies, SaveRangeCountsCopies, SaveRangeEnds};
 ghost use Rattle.vm_ids.specs.Forest.Laws.Commands.{NoForestIsConsistent, NoForestIsBounded, MakeKeepsConsistency, MakeKeepsBound, MakeGivesPages, CopyKeepsConsistency, CopyCopies, CopyBounds, CopySettles, CopyCountsSaves, MoveKeepsConsistency, MoveMoves, MoveBounds, MoveSettles, MoveCountsSaves, InvalidateKeepsConsistency, InvalidateGivesPages, InvalidateBounds, InvalidateSettles, InvalidateCountsSaves, DestroyKeepsConsistency, DestroyDestroys, DestroyBounds, DestroySettles, DestroyCountsSaves, LockKeepsConsistency, LockKeepsBound, LockKeepsValues, LockOwnsPages, LockCountsItsPages};
 ghost use Rattle.vm_ids.specs.Forest.Laws.Ranges.{RangesHoldTheirPages, RangesHoldPagesOnce, PairsFillDestinations, PairsReadSources, PairsKeepPlaces, ExtentsArePages, SpansCanBeCopied, PagesHaveTheirNames, PagesAreGiven};
-ghost use Rattle.vm_ids.specs.Forest.Rows.{TreeCopyOfNinePages, CopiedThreeTimes, SmallCopies, ThereAndBack, CopyOfACopy, DeadSourceThenAMerge, LockedCopies, MoveOfACopiedPage, ForkedThreeTimes, Invalidated, ASaveFails, TreeChildBeforeStubs, MoveInsideOneCache, MergeUnderAStub};
+ghost use Rattle.vm_ids.specs.Forest.Laws.Made.{OwnMakesNone, HeirGetsMakesNone, WriteMakesNone, DetachMakesAtMostOne, LinkMakesAtMostOne, StubMakesNone, CopyPageMakesAtMostTwo, MovePageMakesAtMostOne, StepMakesNone, SettleMakesNone, SavesMakeNone, MakeMakesNone, CopyMakesAtMostTwoAPage, MoveMakesAtMostOneAPage, InvalidateMakesAtMostOneAPage, DestroyMakesAtMostOneAPage, LockMakesNone};
+ghost use Rattle.vm_ids.specs.Forest.Laws.PageMap.{ValuesGoWithPages, OwnersStay, ChainsStay, CountsStay, OwnGoesWithPages, HeirGetsGoesWithPages, WriteGoesWithPages, DetachGoesWithPages, LinkGoesWithPages, StubGoesWithPages, CopyPageGoesWithPages, MovePageGoesWithPages, StepGoesWithPages, SettleGoesWithPages, SavesGoWithPages, MakeGoesWithPages, CopyGoesWithPages, MoveGoesWithPages, InvalidateGoesWithPages, DestroyGoesWithPages, LockGoesWithPages};
+ghost use Rattle.vm_ids.specs.Forest.Rows.{TreeCopyOfNinePages, CopiedThreeTimes, SmallCopies, ThereAndBack, CopyOfACopy, DeadSourceThenAMerge, LockedCopies, MoveOfACopiedPage, ForkedThreeTimes, Invalidated, ASaveFails, TreeChildBeforeStubs, MoveInsideOneCache, MergeUnderAStub, WorkingNodeKeepsThePlace, SettledChildTakesThePlace};
 
 /// What is read of a forest: a node has a value by its own page or its parent, its owner and its chain follow,
 /// and no chain is longer than there are nodes. The rank of the shape is an order of all nodes.
@@ -202,6 +204,53 @@ pub fn ranges<P>()
     ensures pages_are_given { PagesAreGiven P }
 {}
 
+/// How many working nodes the rules make: a copy at most two a page, a move, an invalidated and a destroyed page at most one,
+/// and all others none.
+pub fn making_working_nodes<P>()
+    ensures own_makes_none { OwnMakesNone P }
+    ensures heir_gets_makes_none { HeirGetsMakesNone P }
+    ensures write_makes_none { WriteMakesNone P }
+    ensures detach_makes_at_most_one { DetachMakesAtMostOne P }
+    ensures link_makes_at_most_one { LinkMakesAtMostOne P }
+    ensures stub_makes_none { StubMakesNone P }
+    ensures copy_page_makes_at_most_two { CopyPageMakesAtMostTwo P }
+    ensures move_page_makes_at_most_one { MovePageMakesAtMostOne P }
+    ensures step_makes_none { StepMakesNone P }
+    ensures settle_makes_none { SettleMakesNone P }
+    ensures saves_make_none { SavesMakeNone P }
+    ensures make_makes_none { MakeMakesNone P }
+    ensures copy_makes_at_most_two_a_page { CopyMakesAtMostTwoAPage P }
+    ensures move_makes_at_most_one_a_page { MoveMakesAtMostOneAPage P }
+    ensures invalidate_makes_at_most_one_a_page { InvalidateMakesAtMostOneAPage P }
+    ensures destroy_makes_at_most_one_a_page { DestroyMakesAtMostOneAPage P }
+    ensures lock_makes_none { LockMakesNone P }
+{}
+
+/// No rule looks at what a page holds: the rules, the values, owners, chains and counts go with a change of pages.
+pub fn changing_pages<P, Q>()
+    ensures values_go_with_pages { ValuesGoWithPages P Q }
+    ensures owners_stay { OwnersStay P Q }
+    ensures chains_stay { ChainsStay P Q }
+    ensures counts_stay { CountsStay P Q }
+    ensures own_goes_with_pages { OwnGoesWithPages P Q }
+    ensures heir_gets_goes_with_pages { HeirGetsGoesWithPages P Q }
+    ensures write_goes_with_pages { WriteGoesWithPages P Q }
+    ensures detach_goes_with_pages { DetachGoesWithPages P Q }
+    ensures link_goes_with_pages { LinkGoesWithPages P Q }
+    ensures stub_goes_with_pages { StubGoesWithPages P Q }
+    ensures copy_page_goes_with_pages { CopyPageGoesWithPages P Q }
+    ensures move_page_goes_with_pages { MovePageGoesWithPages P Q }
+    ensures step_goes_with_pages { StepGoesWithPages P Q }
+    ensures settle_goes_with_pages { SettleGoesWithPages P Q }
+    ensures saves_go_with_pages { SavesGoWithPages P Q }
+    ensures make_goes_with_pages { MakeGoesWithPages P Q }
+    ensures copy_goes_with_pages { CopyGoesWithPages P Q }
+    ensures move_goes_with_pages { MoveGoesWithPages P Q }
+    ensures invalidate_goes_with_pages { InvalidateGoesWithPages P Q }
+    ensures destroy_goes_with_pages { DestroyGoesWithPages P Q }
+    ensures lock_goes_with_pages { LockGoesWithPages P Q }
+{}
+
 /// Worked scripts, computed by the definitions.
 pub fn worked_rows()
     ensures tree_copy_of_nine_pages { TreeCopyOfNinePages }
@@ -218,4 +267,6 @@ pub fn worked_rows()
     ensures tree_child_before_stubs { TreeChildBeforeStubs }
     ensures move_inside_one_cache { MoveInsideOneCache }
     ensures merge_under_a_stub { MergeUnderAStub }
+    ensures working_node_keeps_the_place { WorkingNodeKeepsThePlace }
+    ensures settled_child_takes_the_place { SettledChildTakesThePlace }
 {}

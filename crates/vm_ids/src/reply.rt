@@ -1,7 +1,7 @@
 // What commands answer.
-use crate::{ActorId, CacheId, Mapping, PageNo, Piece, Refusal, RegionId};
+use crate::{ActorId, CacheId, ChainList, Mapping, PageNo, Piece, Refusal, RegionId};
 
-/// A region as `status` tells it: its actor, its mapping, and whether it is locked.
+/// What there is to tell of a region: its actor, its mapping, and whether it is locked. No reply tells it yet.
 #[derive(Clone, Copy, Debug, PartialEq, Eq)]
 pub struct RegionStatus {
     pub actor: ActorId,
@@ -17,6 +17,8 @@ pub enum Reply {
     Cache(CacheId),
     Region(RegionId),
     Bytes(Piece),
+    Chain(ChainList),
+    Stat(Counts),
 }
 
 /// At which call a mapper failed.

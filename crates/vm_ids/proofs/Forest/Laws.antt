@@ -6,3 +6,5 @@ pub mod Linking
 pub mod Settling
 pub mod Commands
 pub mod Ranges
+pub mod Made
+pub mod PageMap

@@ -8,7 +8,7 @@ use Rattle.vm_ids.specs.Forest.Changes.{put, free, relist, cut, cut_stub, hang_a
 use Rattle.vm_ids.specs.Forest.Rules.{gets, own, heir, hand_stubs, heir_gets, write, retire, detach, link, stub}
 use Rattle.vm_ids.specs.Forest.Settling.{thin, take_place, pass_page, give_way, settle_step, settle_within, settle}
 use Rattle.vm_ids.specs.Forest.Saving.{unsaved, saves, save_range}
-use Rattle.vm_ids.specs.Forest.Rows.{TreeCopyOfNinePages, CopiedThreeTimes, SmallCopies, ThereAndBack, CopyOfACopy, DeadSourceThenAMerge, LockedCopies, MoveOfACopiedPage, ForkedThreeTimes, Invalidated, ASaveFails, TreeChildBeforeStubs, MoveInsideOneCache, MergeUnderAStub}
+use Rattle.vm_ids.specs.Forest.Rows.{TreeCopyOfNinePages, CopiedThreeTimes, SmallCopies, ThereAndBack, CopyOfACopy, DeadSourceThenAMerge, LockedCopies, MoveOfACopiedPage, ForkedThreeTimes, Invalidated, ASaveFails, TreeChildBeforeStubs, MoveInsideOneCache, MergeUnderAStub, WorkingNodeKeepsThePlace, SettledChildTakesThePlace}
 
 -- A proof that unfolds this unfolds the whole forest.
 computes : Unit {0}
@@ -70,3 +70,11 @@ move_inside_one_cache = (refl, refl)
 pub merge_under_a_stub : MergeUnderAStub
 unfolding computes
 merge_under_a_stub = (refl, refl, refl, refl, refl, refl, refl)
+
+pub working_node_keeps_the_place : WorkingNodeKeepsThePlace
+unfolding computes
+working_node_keeps_the_place = (refl, refl, refl, refl, refl, refl)
+
+pub settled_child_takes_the_place : SettledChildTakesThePlace
+unfolding computes
+settled_child_takes_the_place = (refl, refl, refl, refl, refl)

@@ -83,4 +83,8 @@ module _ {P : Type 0} where
 
   -- The node a is named b wherever it is named, where no node is named b.
   unfoldable pub rename : Forest P → NodeName → NodeName → Forest P
-  rename f a b = record f { nodes = from_entries (map (λ e. (swapped a b e.0, swapped_node a b e.1)) (entries f.nodes)) }
+  rename f a b =
+      record f {
+        nodes = from_entries
+            (map (λ e. (swapped a b e.0, swapped_node a b e.1)) (entries f.nodes));
+      }

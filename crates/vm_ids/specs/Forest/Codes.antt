@@ -24,7 +24,8 @@ name_back (Working k) = refl
 
 -- names as numbers
 abbrev pub name_code : Coded NodeName
-name_code = code_by ((ℕ × ℕ) ⊎ ℕ) (coded⊎ (coded× coded_ℕ coded_ℕ) coded_ℕ) name_parts name_from name_back
+name_code =
+    code_by ((ℕ × ℕ) ⊎ ℕ) (coded⊎ (coded× coded_ℕ coded_ℕ) coded_ℕ) name_parts name_from name_back
 
 -- the parts of a link, and the link of its parts
 abbrev pub hang_parts : Hang → Option (Bool × NodeName)
@@ -47,17 +48,24 @@ hang_back (StubOf p) = refl
 
 -- links as a flag and a name
 abbrev pub hang_code : Coded Hang
-hang_code = code_by (Option (Bool × NodeName)) (coded_option (coded× coded_bool name_code)) hang_parts hang_from hang_back
+hang_code =
+    code_by (Option (Bool × NodeName))
+    (coded_option (coded× coded_bool name_code)) hang_parts hang_from hang_back
 
 module _ {P : Type 0} (page : Coded P) where
   -- nodes, maps and forests as tuples and lists
   abbrev pub node_code : Coded (Node P)
-  node_code = code_by (Option P × (Hang × (List NodeName × List NodeName))) (coded× (coded_option page) (coded× hang_code (coded× (coded_list name_code) (coded_list name_code))))
-      (λ n. (n.own, (n.hang, (n.tree, n.stubs)))) (λ t. record { own = t.0; hang = t.1.0; tree = t.1.1.0; stubs = t.1.1.1 }) (λ _. refl)
+  node_code =
+      code_by (Option P × (Hang × (List NodeName × List NodeName)))
+      (coded× (coded_option page)
+      (coded× hang_code (coded× (coded_list name_code) (coded_list name_code))))
+      (λ n. (n.own, (n.hang, (n.tree, n.stubs))))
+      (λ t. record { own = t.0; hang = t.1.0; tree = t.1.1.0; stubs = t.1.1.1 }) (λ _. refl)
 
   abbrev pub map_code : Coded (NameMap (Node P))
   map_code = coded_via (coded_list (coded× name_code node_code)) entries same_list
 
   abbrev pub forest_code : Coded (Forest P)
   forest_code = code_by (NameMap (Node P) × (ℕ × ℕ)) (coded× map_code (coded× coded_ℕ coded_ℕ))
-      (λ f. (f.nodes, (f.made, f.copies))) (λ t. record { nodes = t.0; made = t.1.0; copies = t.1.1 }) (λ _. refl)
+      (λ f. (f.nodes, (f.made, f.copies)))
+      (λ t. record { nodes = t.0; made = t.1.0; copies = t.1.1 }) (λ _. refl)

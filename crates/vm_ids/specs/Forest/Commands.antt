@@ -63,7 +63,8 @@ module _ {P : Type 0} where
 
   -- Each first page becomes a copy of the second one.
   abbrev pub copy : Bool → List (NodeName × NodeName) → Forest P → Forest P
-  copy named pairs f = settle (copy_pages (leb (length pairs) small_copy) pairs (saved named (firsts pairs) f))
+  copy named pairs f =
+      settle (copy_pages (leb (length pairs) small_copy) pairs (saved named (firsts pairs) f))
 
   -- the pages of a move, one after the other
   abbrev pub move_pages : P → List (NodeName × NodeName) → Forest P → Forest P

@@ -38,11 +38,19 @@ module _ {X : Type 0} where
 
   -- x stands for n
   unfoldable pub insert : NameMap X → NodeName → X → NameMap X
-  insert m x n = record { list = put name_cmp x n m.list; sorted = is_sorted-put name_cmp name_cmp_total x n m.list m.sorted }
+  insert m x n =
+      record {
+        list = put name_cmp x n m.list;
+        sorted = is_sorted-put name_cmp name_cmp_total x n m.list m.sorted;
+      }
 
   -- x is there no more
   unfoldable pub remove : NameMap X → NodeName → NameMap X
-  remove m x = record { list = where_key name_cmp (λ y. not (same x y)) m.list; sorted = is_sorted-where_key name_cmp (λ y. not (same x y)) m.list m.sorted }
+  remove m x =
+      record {
+        list = where_key name_cmp (λ y. not (same x y)) m.list;
+        sorted = is_sorted-where_key name_cmp (λ y. not (same x y)) m.list m.sorted;
+      }
 
   -- Of two entries of one name the first one counts.
   unfoldable pub from_entries : List (NodeName × X) → NameMap X
@@ -51,5 +59,6 @@ module _ {X : Type 0} where
 
   pub same_list : (m n : NameMap X) → m.list ≡ n.list → m ≡ n
   same_list m n e =
-      let pairs : ◌≡◌ {A = (es : List (NodeName × X)) × T (is_sorted name_cmp es)} (m.list, m.sorted) (n.list, n.sorted) = Σ_prop_path (λ es. T_prop _) e in
+      let pairs : ◌≡◌ {A = (es : List (NodeName × X)) × T (is_sorted name_cmp es)}
+      (m.list, m.sorted) (n.list, n.sorted) = Σ_prop_path (λ es. T_prop _) e in
       λ i. record { list = (pairs i).0; sorted = (pairs i).1 }

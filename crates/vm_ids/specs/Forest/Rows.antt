@@ -99,7 +99,9 @@ TreeCopyOfNinePages =
 
 -- One cache copied three times and written after each copy.
 abbrev pub three_copies : Forest ℕ
-three_copies = script (temp 1 9 ∷ temp 2 9 ∷ temp 3 9 ∷ temp 4 9 ∷ store 1 0 1 ∷ copy_from 1 0 2 0 9 ∷ store 1 0 2 ∷
+three_copies =
+    script (temp 1 9 ∷ temp 2 9 ∷ temp 3 9 ∷ temp 4 9 ∷ store 1 0 1 ∷ copy_from 1 0 2 0 9
+    ∷ store 1 0 2 ∷
     copy_from 1 0 3 0 9 ∷ store 1 0 3 ∷ copy_from 1 0 4 0 9 ∷ store 1 0 4 ∷ [])
 
 abbrev pub CopiedThreeTimes : Type 0
@@ -111,12 +113,15 @@ CopiedThreeTimes =
     × (chain_of three_copies (page 2 0) ≡ item (page 2 0) 0 ∷ [])
     × (chain_of three_copies (page 3 0) ≡ item (page 3 0) 0 ∷ item (Working 1) 2 ∷ [])
     × (chain_of three_copies (page 4 0) ≡ item (page 4 0) 0 ∷ item (Working 10) 2 ∷ [])
-    × (chain_of three_copies (page 2 1) ≡ item (page 2 1) 0 ∷ item (Working 2) 2 ∷ item (Working 11) 2 ∷ item (page 1 1) 1 ∷ [])
+    × (chain_of three_copies (page 2 1)
+    ≡ item (page 2 1) 0 ∷ item (Working 2) 2 ∷ item (Working 11) 2 ∷ item (page 1 1) 1 ∷ [])
     × (counts_of three_copies ≡ counts 36 18 3)
 
 -- Two small copies by stubs.
 abbrev pub two_stubs : Forest ℕ
-two_stubs = script (temp 1 8 ∷ temp 2 8 ∷ temp 3 8 ∷ store 1 0 1 ∷ copy_from 1 0 2 0 8 ∷ copy_from 1 0 3 0 8 ∷ [])
+two_stubs =
+    script (temp 1 8 ∷ temp 2 8 ∷ temp 3 8 ∷ store 1 0 1 ∷ copy_from 1 0 2 0 8 ∷ copy_from 1 0 3 0 8
+    ∷ [])
 
 abbrev pub stubs_handed : Forest ℕ
 stubs_handed = after (store 1 0 2 ∷ []) two_stubs
@@ -136,7 +141,8 @@ SmallCopies =
 
 -- A page copied there and back.
 abbrev pub back_again : Forest ℕ
-back_again = script (temp 1 1 ∷ temp 2 1 ∷ store 1 0 1 ∷ copy_from 1 0 2 0 1 ∷ copy_from 2 0 1 0 1 ∷ [])
+back_again =
+    script (temp 1 1 ∷ temp 2 1 ∷ store 1 0 1 ∷ copy_from 1 0 2 0 1 ∷ copy_from 2 0 1 0 1 ∷ [])
 
 abbrev pub back_written : Forest ℕ
 back_written = after (store 1 0 2 ∷ store 2 0 3 ∷ []) back_again
@@ -150,14 +156,17 @@ ThereAndBack =
 
 -- A copy of a copy, the middle one written.
 abbrev pub copied_twice : Forest ℕ
-copied_twice = script (temp 1 9 ∷ temp 2 9 ∷ temp 3 9 ∷ store 1 0 1 ∷ copy_from 1 0 2 0 9 ∷ copy_from 2 0 3 0 9 ∷ [])
+copied_twice =
+    script (temp 1 9 ∷ temp 2 9 ∷ temp 3 9 ∷ store 1 0 1 ∷ copy_from 1 0 2 0 9 ∷ copy_from 2 0 3 0 9
+    ∷ [])
 
 abbrev pub middle_written : Forest ℕ
 middle_written = after (store 2 0 2 ∷ []) copied_twice
 
 abbrev pub CopyOfACopy : Type 0
 CopyOfACopy =
-    (chain_of copied_twice (page 3 0) ≡ item (page 3 0) 0 ∷ item (page 2 0) 1 ∷ item (page 1 0) 1 ∷ [])
+    (chain_of copied_twice (page 3 0)
+    ≡ item (page 3 0) 0 ∷ item (page 2 0) 1 ∷ item (page 1 0) 1 ∷ [])
     × Loads middle_written 1 0 1
     × Loads middle_written 2 0 2
     × Loads middle_written 3 0 1
@@ -165,7 +174,9 @@ CopyOfACopy =
 
 -- A source that is destroyed while two copies read it, and a merge when one of them goes.
 abbrev pub source_gone : Forest ℕ
-source_gone = script (temp 1 9 ∷ temp 2 9 ∷ temp 3 9 ∷ store 1 0 1 ∷ copy_from 1 0 2 0 9 ∷ copy_from 1 0 3 0 9 ∷
+source_gone =
+    script (temp 1 9 ∷ temp 2 9 ∷ temp 3 9 ∷ store 1 0 1 ∷ copy_from 1 0 2 0 9
+    ∷ copy_from 1 0 3 0 9 ∷
     destroy_temp 1 9 ∷ [])
 
 abbrev pub copy_gone : Forest ℕ
@@ -181,17 +192,22 @@ DeadSourceThenAMerge =
 
 -- Pages of a copy that are locked, one of them written.
 abbrev pub pages_locked : Forest ℕ
-pages_locked = script (temp 1 6 ∷ temp 2 6 ∷ store 1 0 1 ∷ copy_from 1 0 2 0 6 ∷ lock_pages 2 0 5 ∷ store 2 0 2 ∷ [])
+pages_locked =
+    script (temp 1 6 ∷ temp 2 6 ∷ store 1 0 1 ∷ copy_from 1 0 2 0 6 ∷ lock_pages 2 0 5 ∷ store 2 0 2
+    ∷ [])
 
 abbrev pub all_locked : Forest ℕ
 all_locked = after (lock_pages 2 5 1 ∷ []) pages_locked
 
 abbrev pub LockedCopies : Type 0
-LockedCopies = Loads pages_locked 1 0 1 × Loads pages_locked 2 0 2 × (counts_of all_locked ≡ counts 12 0 6)
+LockedCopies =
+    Loads pages_locked 1 0 1 × Loads pages_locked 2 0 2 × (counts_of all_locked ≡ counts 12 0 6)
 
 -- A page that was copied is moved.
 abbrev pub copied_moved : Forest ℕ
-copied_moved = script (temp 1 1 ∷ temp 2 1 ∷ temp 3 1 ∷ store 1 0 9 ∷ copy_from 1 0 3 0 1 ∷ move_from 1 0 2 0 1 ∷ [])
+copied_moved =
+    script (temp 1 1 ∷ temp 2 1 ∷ temp 3 1 ∷ store 1 0 9 ∷ copy_from 1 0 3 0 1 ∷ move_from 1 0 2 0 1
+    ∷ [])
 
 abbrev pub moved_written : Forest ℕ
 moved_written = after (store 2 0 10 ∷ []) copied_moved
@@ -206,8 +222,10 @@ MoveOfACopiedPage =
 
 -- A process forked three times: its text is shared, its data are copied.
 abbrev pub forked : Forest ℕ
-forked = script (open_pages 1 (32581 ∷ 0 ∷ []) ∷ temp 2 10 ∷ store 2 0 17 ∷ store 2 9 34 ∷ temp 3 10 ∷
-    copy_from 2 0 3 0 10 ∷ store 3 0 51 ∷ temp 4 10 ∷ copy_from 2 0 4 0 10 ∷ store 2 0 68 ∷ temp 5 10 ∷
+forked =
+    script (open_pages 1 (32581 ∷ 0 ∷ []) ∷ temp 2 10 ∷ store 2 0 17 ∷ store 2 9 34 ∷ temp 3 10 ∷
+    copy_from 2 0 3 0 10 ∷ store 3 0 51 ∷ temp 4 10 ∷ copy_from 2 0 4 0 10 ∷ store 2 0 68
+    ∷ temp 5 10 ∷
     copy_from 2 0 5 0 10 ∷ store 2 9 85 ∷ [])
 
 abbrev pub child_gone : Forest ℕ
@@ -219,9 +237,11 @@ ForkedThreeTimes =
     × Loads forked 2 0 68
     × Loads forked 3 0 51
     × Loads forked 3 9 34
-    × (chain_of forked (page 3 9) ≡ item (page 3 9) 0 ∷ item (Working 10) 2 ∷ item (Working 20) 2 ∷ [])
+    × (chain_of forked (page 3 9)
+    ≡ item (page 3 9) 0 ∷ item (Working 10) 2 ∷ item (Working 20) 2 ∷ [])
     × (chain_of forked (page 4 0) ≡ item (page 4 0) 0 ∷ item (Working 1) 2 ∷ [])
-    × (chain_of forked (page 5 0) ≡ item (page 5 0) 0 ∷ item (Working 11) 2 ∷ item (page 2 0) 1 ∷ [])
+    × (chain_of forked (page 5 0)
+    ≡ item (page 5 0) 0 ∷ item (Working 11) 2 ∷ item (page 2 0) 1 ∷ [])
     × (counts_of child_gone ≡ counts 32 10 3)
 
 -- A page of a segment is written and invalidated, before and after it was pushed.
@@ -232,18 +252,25 @@ abbrev pub pushed_invalidated : Forest ℕ
 pushed_invalidated = after (store 1 0 88 ∷ invalidate_pages 1 0 (88 ∷ []) ∷ []) invalidated
 
 abbrev pub Invalidated : Type 0
-Invalidated = Loads invalidated 1 0 65 × Loads pushed_invalidated 1 0 88 × (counts_of pushed_invalidated ≡ counts 1 0 0)
+Invalidated =
+    Loads invalidated 1 0 65 × Loads pushed_invalidated 1 0 88
+    × (counts_of pushed_invalidated ≡ counts 1 0 0)
 
 -- The second save of a destroy fails, and then the cache is destroyed.
 abbrev pub save_failed : Forest ℕ
-save_failed = script (open_pages 1 (0 ∷ 0 ∷ []) ∷ temp 2 2 ∷ copy_from 1 0 2 0 2 ∷ fail_at_save 1 1 2 ∷ [])
+save_failed =
+    script (open_pages 1 (0 ∷ 0 ∷ []) ∷ temp 2 2 ∷ copy_from 1 0 2 0 2 ∷ fail_at_save 1 1 2 ∷ [])
 
 abbrev pub ASaveFails : Type 0
-ASaveFails = (counts_of save_failed ≡ counts 4 0 1) × (counts_of (after (destroy_named 1 2 ∷ []) save_failed) ≡ counts 2 0 2)
+ASaveFails =
+    (counts_of save_failed ≡ counts 4 0 1)
+    × (counts_of (after (destroy_named 1 2 ∷ []) save_failed) ≡ counts 2 0 2)
 
 -- A page with a tree child and a stub: the tree child is the heir.
 abbrev pub mixed : Forest ℕ
-mixed = script (temp 1 9 ∷ temp 2 9 ∷ temp 3 9 ∷ store 1 0 1 ∷ copy_from 1 0 2 0 9 ∷ copy_from 1 0 3 0 1 ∷ [])
+mixed =
+    script (temp 1 9 ∷ temp 2 9 ∷ temp 3 9 ∷ store 1 0 1 ∷ copy_from 1 0 2 0 9 ∷ copy_from 1 0 3 0 1
+    ∷ [])
 
 abbrev pub mixed_written : Forest ℕ
 mixed_written = after (store 1 0 2 ∷ []) mixed
@@ -263,7 +290,9 @@ MoveInsideOneCache = Loads moved_inside 1 0 0 × Loads moved_inside 1 1 7
 
 -- A working node that hangs by a stub link goes, and its only child has a page of its own: the child hangs nowhere then.
 abbrev pub under_a_stub : Forest ℕ
-under_a_stub = script (temp 1 1 ∷ temp 2 9 ∷ temp 3 9 ∷ store 1 0 1 ∷ copy_from 1 0 2 0 1 ∷ copy_from 2 0 3 0 9 ∷
+under_a_stub =
+    script (temp 1 1 ∷ temp 2 9 ∷ temp 3 9 ∷ store 1 0 1 ∷ copy_from 1 0 2 0 1
+    ∷ copy_from 2 0 3 0 9 ∷
     store 3 0 5 ∷ [])
 
 abbrev pub merged_under_a_stub : Forest ℕ
@@ -278,3 +307,34 @@ MergeUnderAStub =
     × Loads merged_under_a_stub 3 0 5
     × Loads merged_under_a_stub 3 1 0
     × (counts_of merged_under_a_stub ≡ counts 10 0 1)
+
+-- A copy that goes leaves its working node in its place among the stubs of the source, before the other copy: so it is
+-- the heir.
+abbrev pub middle_gone : Forest ℕ
+middle_gone = script (temp 1 1 ∷ temp 2 1 ∷ temp 3 1 ∷ temp 4 1 ∷ temp 5 1 ∷ store 1 0 1 ∷
+    copy_from 1 0 2 0 1 ∷ copy_from 1 0 3 0 1 ∷ copy_from 2 0 4 0 1 ∷ copy_from 2 0 5 0 1 ∷
+    destroy_temp 2 1 ∷ [])
+
+abbrev pub working_heir : Forest ℕ
+working_heir = after (store 1 0 2 ∷ []) middle_gone
+
+abbrev pub WorkingNodeKeepsThePlace : Type 0
+WorkingNodeKeepsThePlace =
+    (chain_of middle_gone (page 3 0) ≡ item (page 3 0) 0 ∷ item (page 1 0) 2 ∷ [])
+    × (chain_of working_heir (page 3 0) ≡ item (page 3 0) 0 ∷ item (Working 1) 3 ∷ [])
+    × (chain_of working_heir (page 5 0) ≡ item (page 5 0) 0 ∷ item (Working 1) 3 ∷ [])
+    × (chain_of working_heir (page 1 0) ≡ item (page 1 0) 0 ∷ [])
+    × Loads working_heir 3 0 1
+    × (counts_of working_heir ≡ counts 4 1 1)
+
+-- And the child that is left when the working node goes takes that place.
+abbrev pub child_heir : Forest ℕ
+child_heir = after (destroy_temp 4 1 ∷ store 1 0 2 ∷ []) middle_gone
+
+abbrev pub SettledChildTakesThePlace : Type 0
+SettledChildTakesThePlace =
+    (chain_of child_heir (page 3 0) ≡ item (page 3 0) 0 ∷ item (page 5 0) 1 ∷ [])
+    × (chain_of child_heir (page 5 0) ≡ item (page 5 0) 1 ∷ [])
+    × (chain_of child_heir (page 1 0) ≡ item (page 1 0) 0 ∷ [])
+    × Loads child_heir 3 0 1
+    × (counts_of child_heir ≡ counts 3 0 1)

@@ -30,11 +30,13 @@ module _ {P : Type 0} where
   unfoldable pub hand_stubs : Forest P → NodeName → NodeName → Forest P
   hand_stubs f x h =
       let left = (node f x).stubs in
-      edit (edit (hang_all f left (StubOf h)) h (λ n. with_stubs (n.stubs ++ left) n)) x (with_stubs [])
+      edit (edit (hang_all f left (StubOf h)) h (λ n. with_stubs (n.stubs ++ left) n)) x
+      (with_stubs [])
 
   -- The heir of x, where there is one, gets the page of x and all other stubs of x.
   unfoldable pub heir_gets : Forest P → NodeName → Forest P
-  heir_gets f x = elim (heir f x) [ None ↦ f | Some h ↦ count_copy (hand_stubs (gets f h (value_of f x)) x h) ]
+  heir_gets f x =
+      elim (heir f x) [ None ↦ f | Some h ↦ count_copy (hand_stubs (gets f h (value_of f x)) x h) ]
 
   -- A write to x: x owns its page, the heir gets the page as it was, and then the page changes.
   unfoldable pub write : Forest P → NodeName → (P → P) → Forest P
@@ -56,7 +58,8 @@ module _ {P : Type 0} where
   unfoldable pub link : Forest P → NodeName → NodeName → Forest P
   link f d s = elim (node f s).tree [
     | [] ↦ set_tree f s (d ∷ [])
-    | h ∷ _ ↦ let w = Working (f.made + 1) in count_working (set_tree (set_tree f s (w ∷ [])) w (h ∷ d ∷ []))
+    | h ∷ _ ↦ let w =
+        Working (f.made + 1) in count_working (set_tree (set_tree f s (w ∷ [])) w (h ∷ d ∷ []))
   ]
 
   -- The fresh node d, a page of a small copy, becomes the last stub of its source s.

@@ -30,7 +30,8 @@ module _ {P : Type 0} where
   -- w goes, whose only child y was cut off: y takes its place, but has no parent where it would hang by a stub link
   -- with an own page
   unfoldable pub give_way : Forest P → NodeName → NodeName → Forest P
-  give_way f w y = free (cond (is_stub (node f w).hang && is_some (node f y).own) (cut f w) (take_place f w y)) w
+  give_way f w y =
+      free (cond (is_stub (node f w).hang && is_some (node f y).own) (cut f w) (take_place f w y)) w
 
   -- One step of settle, at the thin node w: it is freed, and its only child, where it has one, takes its page and
   -- its place.

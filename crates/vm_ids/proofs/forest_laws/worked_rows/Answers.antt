@@ -1,5 +1,5 @@
 -- Each row as it is computed.
-use Rattle.vm_ids.proofs.Forest.Rows.{tree_copy_of_nine_pages, copied_three_times, small_copies, there_and_back, copy_of_a_copy, dead_source_then_a_merge, locked_copies, move_of_a_copied_page, forked_three_times, invalidated, a_save_fails, tree_child_before_stubs, move_inside_one_cache, merge_under_a_stub}
+use Rattle.vm_ids.proofs.Forest.Rows.{tree_copy_of_nine_pages, copied_three_times, small_copies, there_and_back, copy_of_a_copy, dead_source_then_a_merge, locked_copies, move_of_a_copied_page, forked_three_times, invalidated, a_save_fails, tree_child_before_stubs, move_inside_one_cache, merge_under_a_stub, working_node_keeps_the_place, settled_child_takes_the_place}
 use Rattle.vm_ids.proofs.forest_laws.worked_rows.Goals as goal
 
 pub returns-clause-tree_copy_of_nine_pages : goal.returns-clause-tree_copy_of_nine_pages
@@ -43,3 +43,9 @@ returns-clause-move_inside_one_cache c = move_inside_one_cache
 
 pub returns-clause-merge_under_a_stub : goal.returns-clause-merge_under_a_stub
 returns-clause-merge_under_a_stub c = merge_under_a_stub
+
+pub returns-clause-working_node_keeps_the_place : goal.returns-clause-working_node_keeps_the_place
+returns-clause-working_node_keeps_the_place c = working_node_keeps_the_place
+
+pub returns-clause-settled_child_takes_the_place : goal.returns-clause-settled_child_takes_the_place
+returns-clause-settled_child_takes_the_place c = settled_child_takes_the_place

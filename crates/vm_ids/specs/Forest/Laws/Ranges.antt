@@ -15,7 +15,9 @@ AreNodes f c p n = (i : ℕ) → i < n → IsNode f (page_name c (p + i))
 
 -- The two ranges share no page.
 abbrev pub IsApart : Span → Type 0
-IsApart s = s.from ≡ s.to → (s.from_page.0 + s.pages ≤ s.to_page.0) ⊎ (s.to_page.0 + s.pages ≤ s.from_page.0)
+IsApart s =
+    s.from ≡ s.to
+    → (s.from_page.0 + s.pages ≤ s.to_page.0) ⊎ (s.to_page.0 + s.pages ≤ s.from_page.0)
 
 -- The names of a range are those of its pages, each once.
 abbrev pub RangesHoldTheirPages : Type 0
@@ -27,26 +29,33 @@ RangesHoldPagesOnce = (c : CacheId) (p n : ℕ) → Once (page_names c p n)
 
 -- The pairs of a copy or move fill its destination from its source, page by page.
 abbrev pub PairsFillDestinations : Type 0
-PairsFillDestinations = (c d : CacheId) (p q n : ℕ) → firsts (page_pairs c p d q n) ≡ page_names d q n
+PairsFillDestinations =
+    (c d : CacheId) (p q n : ℕ) → firsts (page_pairs c p d q n) ≡ page_names d q n
 
 abbrev pub PairsReadSources : Type 0
 PairsReadSources = (c d : CacheId) (p q n : ℕ) → seconds (page_pairs c p d q n) ≡ page_names c p n
 
 abbrev pub PairsKeepPlaces : Type 0
 PairsKeepPlaces = (s : Span) (i : ℕ) → i < s.pages
-    → source_of (span_pairs s) (page_name s.to (s.to_page.0 + i)) ≡ page_name s.from (s.from_page.0 + i)
+    → source_of (span_pairs s) (page_name s.to (s.to_page.0 + i))
+    ≡ page_name s.from (s.from_page.0 + i)
 
 module _ (P : Type 0) where
   abbrev pub ExtentsArePages : Type 0
-  ExtentsArePages = (f : Forest P) (e : Extent) → AreNodes f e.cache e.first.0 e.pages → ArePagesOnce f (extent_names e)
+  ExtentsArePages =
+      (f : Forest P) (e : Extent) → AreNodes f e.cache e.first.0 e.pages
+      → ArePagesOnce f (extent_names e)
 
   -- Two ranges of live pages that share none can be copied or moved.
   abbrev pub SpansCanBeCopied : Type 0
-  SpansCanBeCopied = (f : Forest P) (s : Span) → AreNodes f s.from s.from_page.0 s.pages → AreNodes f s.to s.to_page.0 s.pages
+  SpansCanBeCopied =
+      (f : Forest P) (s : Span) → AreNodes f s.from s.from_page.0 s.pages
+      → AreNodes f s.to s.to_page.0 s.pages
       → IsApart s → CanCopy f (span_pairs s)
 
   abbrev pub PagesHaveTheirNames : Type 0
-  PagesHaveTheirNames = (c : CacheId) (p : ℕ) (vs : List P) → firsts (pages_at c p vs) ≡ page_names c p (length vs)
+  PagesHaveTheirNames =
+      (c : CacheId) (p : ℕ) (vs : List P) → firsts (pages_at c p vs) ≡ page_names c p (length vs)
 
   abbrev pub PagesAreGiven : Type 0
   PagesAreGiven = (c : CacheId) (p : ℕ) (vs : List P) (i : ℕ) → i < length vs

@@ -26,24 +26,34 @@ module _ (P : Type 0) where
   RanksAreOrders = (f : Forest P) → IsWellShaped f → (order : List NodeName) × IsOrder f order
 
   abbrev pub OrdersAreRanks : Type 0
-  OrdersAreRanks = (f : Forest P) (order : List NodeName) → IsOrder f order → IsRanked f (place order)
+  OrdersAreRanks =
+      (f : Forest P) (order : List NodeName) → IsOrder f order → IsRanked f (place order)
 
   -- The function of values is the relation by cases.
   abbrev pub ValuesByCases : Type 0
-  ValuesByCases = (f : Forest P) → IsWellShaped f → (x : NodeName) (v : P) → (value_of f x ≡ Some v) ↔ IsValue f x v
+  ValuesByCases =
+      (f : Forest P) → IsWellShaped f → (x : NodeName) (v : P)
+      → (value_of f x ≡ Some v) ↔ IsValue f x v
 
   abbrev pub NodesHaveValues : Type 0
-  NodesHaveValues = (f : Forest P) → IsWellShaped f → (x : NodeName) → IsNode f x ↔ IsSome (value_of f x)
+  NodesHaveValues =
+      (f : Forest P) → IsWellShaped f → (x : NodeName) → IsNode f x ↔ IsSome (value_of f x)
 
   abbrev pub OwnersOwnValues : Type 0
-  OwnersOwnValues = (f : Forest P) → IsWellShaped f → (x : NodeName) → IsNode f x → (node f (owner_of f x)).own ≡ value_of f x
+  OwnersOwnValues =
+      (f : Forest P) → IsWellShaped f → (x : NodeName) → IsNode f x
+      → (node f (owner_of f x)).own ≡ value_of f x
 
   -- A node with an own page is its own owner. The owner of any other node is that of its parent.
   abbrev pub OwnersOwnThemselves : Type 0
-  OwnersOwnThemselves = (f : Forest P) → IsWellShaped f → (x : NodeName) (v : P) → (node f x).own ≡ Some v → owner_of f x ≡ x
+  OwnersOwnThemselves =
+      (f : Forest P) → IsWellShaped f → (x : NodeName) (v : P) → (node f x).own ≡ Some v
+      → owner_of f x ≡ x
 
   abbrev pub OwnersAreInherited : Type 0
-  OwnersAreInherited = (f : Forest P) → IsWellShaped f → (x p : NodeName) → (node f x).own ≡ None → parent f x ≡ Some p
+  OwnersAreInherited =
+      (f : Forest P) → IsWellShaped f → (x p : NodeName) → (node f x).own ≡ None
+      → parent f x ≡ Some p
       → owner_of f x ≡ owner_of f p
 
   -- The path of a node is the node, and behind it the path of its parent where it has no own page.
@@ -52,4 +62,5 @@ module _ (P : Type 0) where
       → path_of f x ≡ x ∷ names_above (node f x).own (parent f x) (path_of f)
 
   abbrev pub ChainsAreShort : Type 0
-  ChainsAreShort = (f : Forest P) (x : NodeName) → length (chain_of f x) ≤ live_count f + working_count f
+  ChainsAreShort =
+      (f : Forest P) (x : NodeName) → length (chain_of f x) ≤ live_count f + working_count f

@@ -10,10 +10,13 @@ use Rattle.vm_ids.specs.Forest.Saving.{is_unsaved, unsaved, saves, save_range}
 
 module _ (P : Type 0) where
   abbrev pub SavesKeepConsistency : Type 0
-  SavesKeepConsistency = (n : ℕ) (xs : List NodeName) (f : Forest P) → IsConsistent f → IsConsistent (saves n xs f)
+  SavesKeepConsistency =
+      (n : ℕ) (xs : List NodeName) (f : Forest P) → IsConsistent f → IsConsistent (saves n xs f)
 
   abbrev pub SavesKeepBound : Type 0
-  SavesKeepBound = (n : ℕ) (xs : List NodeName) (f : Forest P) → IsWellShaped f → IsBounded f → IsBounded (saves n xs f)
+  SavesKeepBound =
+      (n : ℕ) (xs : List NodeName) (f : Forest P) → IsWellShaped f → IsBounded f
+      → IsBounded (saves n xs f)
 
   -- No name gains, loses or changes a value.
   abbrev pub SavesKeepValues : Type 0
@@ -22,15 +25,21 @@ module _ (P : Type 0) where
 
   -- The next save is at the first node of the range that has an own page and an heir then.
   abbrev pub NextSave : Type 0
-  NextSave = (n : ℕ) (xs : List NodeName) (f : Forest P) (x : NodeName) → unsaved (saves n xs f) xs ≡ Some x
+  NextSave =
+      (n : ℕ) (xs : List NodeName) (f : Forest P) (x : NodeName)
+      → unsaved (saves n xs f) xs ≡ Some x
       → saves (suc n) xs f ≡ heir_gets (saves n xs f) x
 
   abbrev pub NoMoreSaves : Type 0
-  NoMoreSaves = (n : ℕ) (xs : List NodeName) (f : Forest P) → unsaved (saves n xs f) xs ≡ None → saves (suc n) xs f ≡ saves n xs f
+  NoMoreSaves =
+      (n : ℕ) (xs : List NodeName) (f : Forest P) → unsaved (saves n xs f) xs ≡ None
+      → saves (suc n) xs f ≡ saves n xs f
 
   -- Where saves are left to be done, each of those asked was done.
   abbrev pub SavesCountCopies : Type 0
-  SavesCountCopies = (n : ℕ) (xs : List NodeName) (f : Forest P) (x : NodeName) → unsaved (saves n xs f) xs ≡ Some x
+  SavesCountCopies =
+      (n : ℕ) (xs : List NodeName) (f : Forest P) (x : NodeName)
+      → unsaved (saves n xs f) xs ≡ Some x
       → (saves n xs f).copies ≡ f.copies + n
 
   -- The saves of a range are some number of saves, and that number is counted.

@@ -13,11 +13,15 @@ IsSettled f = (k : ℕ) → IsNode f (Working k) → 2 ≤ child_count f (Workin
 
 module _ (P : Type 0) where
   abbrev pub ThinIsWorking : Type 0
-  ThinIsWorking = (f : Forest P) (w : NodeName) → thin f ≡ Some w → IsNode f w × (is_live w ≡ false) × (child_count f w < 2)
+  ThinIsWorking =
+      (f : Forest P) (w : NodeName) → thin f ≡ Some w
+      → IsNode f w × (is_live w ≡ false) × (child_count f w < 2)
 
   -- The order of settle is the least number first.
   abbrev pub ThinIsLeast : Type 0
-  ThinIsLeast = (f : Forest P) (k j : ℕ) → thin f ≡ Some (Working k) → IsNode f (Working j) → child_count f (Working j) < 2
+  ThinIsLeast =
+      (f : Forest P) (k j : ℕ) → thin f ≡ Some (Working k) → IsNode f (Working j)
+      → child_count f (Working j) < 2
       → k ≤ j
 
   abbrev pub NothingIsThin : Type 0
@@ -27,7 +31,9 @@ module _ (P : Type 0) where
   SettledHasNothingThin = (f : Forest P) → IsSettled f → thin f ≡ None
 
   abbrev pub StepKeepsConsistency : Type 0
-  StepKeepsConsistency = (f : Forest P) (w : NodeName) → IsConsistent f → thin f ≡ Some w → IsConsistent (settle_step f w)
+  StepKeepsConsistency =
+      (f : Forest P) (w : NodeName) → IsConsistent f → thin f ≡ Some w
+      → IsConsistent (settle_step f w)
 
   -- The node is gone, and no other name gains, loses or changes a value.
   abbrev pub StepKeepsValues : Type 0
@@ -39,7 +45,9 @@ module _ (P : Type 0) where
 
   -- Settle is its steps, the thin node with the least number first, until no node is thin.
   abbrev pub SettleBySteps : Type 0
-  SettleBySteps = (f : Forest P) (w : NodeName) → IsConsistent f → thin f ≡ Some w → settle f ≡ settle (settle_step f w)
+  SettleBySteps =
+      (f : Forest P) (w : NodeName) → IsConsistent f → thin f ≡ Some w
+      → settle f ≡ settle (settle_step f w)
 
   abbrev pub SettleEnds : Type 0
   SettleEnds = (f : Forest P) → thin f ≡ None → settle f ≡ f
