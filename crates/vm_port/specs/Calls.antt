@@ -2,9 +2,9 @@
 use Rattle.std.specs.Prelude.{ℕ, ◌+◌, ◌-◌, ◌^◌, ◌==◌, Bool, List, min}
 use Rattle.std.specs.List.{list_any}
 
--- the number of the next call, counted from 1: it stays at the end of its type
+-- The number of the next call, counted from 1. It stays at the end of its type, far behind each number of a list.
 abbrev pub next_call : ℕ → ℕ
-next_call calls = min (calls + 1) (2 ^ 32 - 1)
+next_call calls = min (calls + 1) (2 ^ 64 - 1)
 
 -- one fault more, likewise
 abbrev pub fault_more : ℕ → ℕ

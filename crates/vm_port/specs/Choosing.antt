@@ -8,7 +8,8 @@ first_true may = unwrap_or (position (λ b. b) may) 0
 
 -- the first place from the hand on that is true, or else the first of all: once round
 abbrev pub next_true : List Bool → ℕ → ℕ
-next_true may hand = option_map_or (λ i. hand + i) (position (λ b. b) (drop hand may)) (first_true may)
+next_true may hand =
+    option_map_or (λ i. hand + i) (position (λ b. b) (drop hand may)) (first_true may)
 
 -- the places that are true, in rising order, where the first place is numbered so
 abbrev pub true_places : ℕ → List Bool → List ℕ
@@ -38,7 +39,8 @@ IsUnmarked may referenced k = (slice_get may k ≡ Some true) × (slice_get refe
 
 -- the hand passes this place on its way, upwards and round, before it comes to the pick
 abbrev pub is_passed : ℕ → ℕ → ℕ → Bool
-is_passed hand pick k = if nat_le hand pick then nat_le hand k && nat_lt k pick else nat_le hand k || nat_lt k pick
+is_passed hand pick k =
+    if nat_le hand pick then nat_le hand k && nat_lt k pick else nat_le hand k || nat_lt k pick
 
 abbrev pub IsPassed : ℕ → ℕ → ℕ → Type 0
 IsPassed hand pick k = is_passed hand pick k ≡ true

@@ -36,4 +36,5 @@ counted SwapOut c = record c { swap_out = next_call c.swap_out }
 
 -- the nth call of this kind is to fail
 abbrev pub is_failing_call : List CallNo → CallKind → ℕ → Bool
-is_failing_call fails kind nth = list_any (λ (c : CallNo). is_kind kind c.kind && c.nth == nth) fails
+is_failing_call fails kind nth =
+    list_any (λ (c : CallNo). is_kind kind c.kind && c.nth == nth) fails

@@ -36,7 +36,12 @@ pub record MapperInMemory : Type 0 where
 
 -- what it holds: segments count from 1, slots from 0
 abbrev pub held_of : MapperInMemory → Held
-held_of m = record { segments = from_row 1 (map (λ pages. Some pages) m.segments); slots = from_row 0 m.slots; denied = m.denied }
+held_of m =
+    record {
+      segments = from_row 1 (map (λ pages. Some pages) m.segments);
+      slots = from_row 0 m.slots;
+      denied = m.denied;
+    }
 
 -- the counts after a call with so many pulls and pushes, which failed or didn't
 abbrev pub counts_after : ℕ → ℕ → Bool → MapperCounts → MapperCounts
@@ -48,14 +53,16 @@ counts_after pulls pushes failed c = record {
 
 -- after a call of this kind, with so many pulls and pushes, which failed or didn't
 abbrev pub called : CallKind → ℕ → ℕ → Bool → MapperInMemory → MapperInMemory
-called kind pulls pushes failed m = record m { calls = counted kind m.calls; counts = counts_after pulls pushes failed m.counts }
+called kind pulls pushes failed m =
+    record m { calls = counted kind m.calls; counts = counts_after pulls pushes failed m.counts }
 
 -- the next call of this kind is to fail
 abbrev pub fails_next : CallKind → MapperInMemory → Bool
 fails_next kind m = is_failing_call m.fails kind (count_of kind (counted kind m.calls))
 
 -- every page has all its bytes, and a segment has fewer pages than numbers
-pub record IsWholeMapper (page_bytes : ℕ) (segments : List Segment) (slots : List Slot) : Type 0 where
+pub record IsWholeMapper (page_bytes : ℕ) (segments : List Segment)
+    (slots : List Slot) : Type 0 where
   pub some : 1 ≤ page_bytes
   pub pages : All (λ s. All (λ p. length p.items ≡ page_bytes) s.pages.items) segments
   pub few : All (λ s. length s.pages.items < 2 ^ 32) segments
@@ -68,7 +75,8 @@ filled page_bytes bytes = bytes ++ replicate (page_bytes - length bytes) 0
 -- so many pages of bytes, one behind the other
 abbrev pub cut : ℕ → ℕ → List ℕ → List (List ℕ)
 cut zero page_bytes bytes = []
-cut (suc pages) page_bytes bytes = filled page_bytes (take page_bytes bytes) ∷ cut pages page_bytes (drop page_bytes bytes)
+cut (suc pages) page_bytes bytes =
+    filled page_bytes (take page_bytes bytes) ∷ cut pages page_bytes (drop page_bytes bytes)
 
 -- bytes cut into pages, the last filled up with zeros
 abbrev pub pages_of : ℕ → List ℕ → List (List ℕ)
@@ -76,8 +84,11 @@ pages_of page_bytes bytes = cut ((length bytes + page_bytes - 1) / page_bytes) p
 
 -- the page of a segment, where it is there
 abbrev pub page_in : List (List (List ℕ)) → ℕ → ℕ → Option (List ℕ)
-page_in segments seg page = if seg == 0 then None else option_and_then (λ pages. slice_get pages page) (slice_get segments (seg - 1))
+page_in segments seg page =
+    if seg == 0 then None
+    else option_and_then (λ pages. slice_get pages page) (slice_get segments (seg - 1))
 
 -- these bytes are put there
 abbrev pub put_page_in : List (List (List ℕ)) → ℕ → ℕ → List ℕ → List (List (List ℕ))
-put_page_in segments seg page bytes = slice_set segments (seg - 1) (slice_set (slice_index_or segments (seg - 1) []) page bytes)
+put_page_in segments seg page bytes =
+    slice_set segments (seg - 1) (slice_set (slice_index_or segments (seg - 1) []) page bytes)

@@ -1,5 +1,6 @@
-// Which calls of a mapper in memory fail.
+// Which calls of an object in memory fail.
 ghost use Rattle.std.specs.Prelude.{◌≡◌, ◌==◌, ◌&&◌};
+ghost use Rattle.vm_port.specs.Calls.{is_failing};
 ghost use Rattle.vm_port.specs.Failing.{counted, count_of, is_failing_call, is_kind};
 
 /// The kinds of call of a mapper.
@@ -23,12 +24,12 @@ pub struct CallNo {
 // How many calls of each kind were made. Each count stays at its type's end.
 #[derive(Clone, Copy, Debug, PartialEq, Eq)]
 pub(crate) struct Calls {
-    pub size: u32,
-    pub pull_in: u32,
-    pub push_out: u32,
-    pub access: u32,
-    pub swap_in: u32,
-    pub swap_out: u32,
+    pub size: u64,
+    pub pull_in: u64,
+    pub push_out: u64,
+    pub access: u64,
+    pub swap_in: u64,
+    pub swap_out: u64,
 }
 
 fn is_kind(kind: CallKind, other: CallKind) -> bool
@@ -46,7 +47,7 @@ fn is_kind(kind: CallKind, other: CallKind) -> bool
 }
 
 // One call more of this kind, and its number.
-fn count_call(calls: &mut Calls, kind: CallKind) -> u32
+fn count_call(calls: &mut Calls, kind: CallKind) -> u64
     ensures number { result ≡ count_of kind calls.new }
     ensures calls { calls.new ≡ counted kind calls.old }
 {
@@ -78,11 +79,11 @@ fn count_call(calls: &mut Calls, kind: CallKind) -> u32
     }
 }
 
-fn is_listed(fails: &[CallNo], kind: CallKind, nth: u32) -> bool
+fn is_listed(fails: &[CallNo], kind: CallKind, nth: u64) -> bool
     ensures { result ≡ is_failing_call fails.now kind nth }
 {
     for call in fails {
-        if is_kind(kind, call.kind) && call.nth == nth {
+        if is_kind(kind, call.kind) && u64::from(call.nth) == nth {
             return true;
         }
     }
@@ -96,4 +97,11 @@ pub(crate) fn fails_now(calls: &mut Calls, fails: &[CallNo], kind: CallKind) -> 
 {
     let nth = count_call(calls, kind);
     is_listed(fails, kind, nth)
+}
+
+// Whether the call of this number, of a source or a sink, is to fail.
+pub(crate) fn is_failing(fails: &[u32], call: u64) -> bool
+    ensures { result ≡ is_failing fails.now call }
+{
+    fails.iter().any(|n| u64::from(*n) == call)
 }

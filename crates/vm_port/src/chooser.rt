@@ -9,5 +9,6 @@ pub trait Chooser {
         requires lengths { length referenced.old ≡ length may.now }
         requires some { Contains may.now true }
         ensures may { slice_get may.now result ≡ Some true }
-        ensures marks { (k : ℕ) → slice_get referenced.new k ≡ Some true → slice_get referenced.old k ≡ Some true };
+        ensures marks { (k : ℕ) → slice_get referenced.new k ≡ Some true
+            → slice_get referenced.old k ≡ Some true };
 }

@@ -72,7 +72,8 @@ impl Chooser for Fifo {
         requires lengths { length referenced.old ≡ length may.now }
         requires some { Contains may.now true }
         ensures may { slice_get may.now result ≡ Some true }
-        ensures marks { (k : ℕ) → slice_get referenced.new k ≡ Some true → slice_get referenced.old k ≡ Some true }
+        ensures marks { (k : ℕ) → slice_get referenced.new k ≡ Some true
+            → slice_get referenced.old k ≡ Some true }
         ensures place { result ≡ next_true may.now self.old }
         ensures hand { self.new ≡ result + 1 }
         ensures same_marks { referenced.new ≡ referenced.old }

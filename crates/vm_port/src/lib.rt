@@ -2,11 +2,11 @@
 //! slots, and choosers of what to evict.
 //!
 //! It stands on the plain types alone, and every layer that reads, writes, pulls, pushes or evicts stands on it. The
-//! outside is seen through four traits, each with meanings that contracts speak of: what a source has left, what was
-//! written to a sink, what a mapper holds and which page it gave last. An object in memory tells these, an adapter
-//! over a file or a stream doesn't, and each clause on content holds where it is told. Every object counts its faults,
-//! and a call answers [`Failed`] only where that count rose in the call. Counts never fall; they end at 2^64 - 1 and
-//! stay there.
+//! outside is seen through four traits. Contracts speak of what a source has left, what was written to a sink, what a
+//! mapper holds and which page it gave last. An object in memory tells these, an adapter over a file or a stream
+//! doesn't, and each clause on content holds where it is told. Sources, sinks and mappers count their faults, and a
+//! call answers [`Failed`] only where that count rose in the call; a chooser can't fail. Counts never fall; they end
+//! at 2^64 - 1 and stay there.
 #![tactic(auto)]
 
 mod call_no;
@@ -19,7 +19,6 @@ mod mapper;
 mod memory_mapper;
 mod memory_sink;
 mod memory_source;
-mod no_mapper;
 mod sink;
 mod source;
 #[cfg(test)]
@@ -35,6 +34,5 @@ pub use mapper::Mapper;
 pub use memory_mapper::MemoryMapper;
 pub use memory_sink::MemorySink;
 pub use memory_source::MemorySource;
-pub use no_mapper::NoMapper;
 pub use sink::Sink;
 pub use source::Source;

@@ -77,7 +77,8 @@ impl<'a> Chooser for Listed<'a> {
         requires lengths { length referenced.old ≡ length may.now }
         requires some { Contains may.now true }
         ensures may { slice_get may.now result ≡ Some true }
-        ensures marks { (k : ℕ) → slice_get referenced.new k ≡ Some true → slice_get referenced.old k ≡ Some true }
+        ensures marks { (k : ℕ) → slice_get referenced.new k ≡ Some true
+            → slice_get referenced.old k ≡ Some true }
         ensures place { result ≡ chosen may.now (next_choice self.old) }
         ensures rest { self.new ≡ drop 1 self.old }
         ensures same_marks { referenced.new ≡ referenced.old }

@@ -29,7 +29,9 @@ pub trait Mapper {
 
     /// The number of pages of a segment, or `None` exactly where there is no such segment.
     fn size(&mut self, seg: SegId) -> Result<Option<u32>, Failed>
-        ensures pages { IfOk result (λ pages. IfSome (held self.old) (λ h. pages ≡ option_map length (FinMap.get h.segments seg.0))) }
+        ensures pages { IfOk result
+            (λ pages. IfSome (held self.old)
+            (λ h. pages ≡ option_map length (FinMap.get h.segments seg.0))) }
         ensures held { held self.new ≡ held self.old }
         ensures given { given self.new ≡ given self.old }
         ensures counts { Counted 0 0 (counts self.old) (counts self.new) result }
@@ -39,7 +41,8 @@ pub trait Mapper {
     fn pull_in(&mut self, seg: SegId, page: PageNo, into: &mut [u8]) -> Result<(), Failed>
         requires room { IfSome (page_bytes self.old) (λ n. length into.old ≡ n) }
         requires there { IfSome (held self.old) (λ h. IsSome (page_of h seg.0 page.0)) }
-        ensures bytes { OnOk result (IfSome (held self.old) (λ h. page_of h seg.0 page.0 ≡ Some into.new)) }
+        ensures bytes { OnOk result
+            (IfSome (held self.old) (λ h. page_of h seg.0 page.0 ≡ Some into.new)) }
         ensures given { OnOk result (given self.new ≡ option_map (λ _. into.new) (given self.old)) }
         ensures not_given { OnErr result (given self.new ≡ given self.old) }
         ensures held { held self.new ≡ held self.old }
@@ -50,7 +53,8 @@ pub trait Mapper {
     fn push_out(&mut self, seg: SegId, page: PageNo, from: &[u8]) -> Result<(), Failed>
         requires room { IfSome (page_bytes self.old) (λ n. length from.now ≡ n) }
         requires there { IfSome (held self.old) (λ h. IsSome (page_of h seg.0 page.0)) }
-        ensures ok { OnOk result (held self.new ≡ option_map (with_page seg.0 page.0 from.now) (held self.old)) }
+        ensures ok { OnOk result
+            (held self.new ≡ option_map (with_page seg.0 page.0 from.now) (held self.old)) }
         ensures err { OnErr result (held self.new ≡ held self.old) }
         ensures given { given self.new ≡ given self.old }
         ensures counts { Counted 0 1 (counts self.old) (counts self.new) result }
@@ -59,7 +63,8 @@ pub trait Mapper {
     /// Asks whether a page of a segment may be written: false exactly where the mapper denies it.
     fn get_write_access(&mut self, seg: SegId, page: PageNo) -> Result<bool, Failed>
         requires { IfSome (held self.old) (λ h. IsSome (page_of h seg.0 page.0)) }
-        ensures granted { IfOk result (λ may. IfSome (held self.old) (λ h. may ≡ not (denies h.denied seg.0 page.0))) }
+        ensures granted { IfOk result
+            (λ may. IfSome (held self.old) (λ h. may ≡ not (denies h.denied seg.0 page.0))) }
         ensures held { held self.new ≡ held self.old }
         ensures given { given self.new ≡ given self.old }
         ensures counts { Counted 0 0 (counts self.old) (counts self.new) result }
@@ -69,7 +74,8 @@ pub trait Mapper {
     fn swap_in(&mut self, slot: SlotId, into: &mut [u8]) -> Result<(), Failed>
         requires room { IfSome (page_bytes self.old) (λ n. length into.old ≡ n) }
         requires there { IfSome (held self.old) (λ h. IsSome (slot_of h slot.0)) }
-        ensures bytes { OnOk result (IfSome (held self.old) (λ h. slot_of h slot.0 ≡ Some into.new)) }
+        ensures bytes { OnOk result
+            (IfSome (held self.old) (λ h. slot_of h slot.0 ≡ Some into.new)) }
         ensures given { OnOk result (given self.new ≡ option_map (λ _. into.new) (given self.old)) }
         ensures not_given { OnErr result (given self.new ≡ given self.old) }
         ensures held { held self.new ≡ held self.old }
@@ -79,7 +85,8 @@ pub trait Mapper {
     /// Pushes a page out to a swap slot. Where it fails, the slot is as it was.
     fn swap_out(&mut self, slot: SlotId, from: &[u8]) -> Result<(), Failed>
         requires { IfSome (page_bytes self.old) (λ n. length from.now ≡ n) }
-        ensures ok { OnOk result (held self.new ≡ option_map (with_slot slot.0 from.now) (held self.old)) }
+        ensures ok { OnOk result
+            (held self.new ≡ option_map (with_slot slot.0 from.now) (held self.old)) }
         ensures err { OnErr result (held self.new ≡ held self.old) }
         ensures given { given self.new ≡ given self.old }
         ensures counts { Counted 0 1 (counts self.old) (counts self.new) result }

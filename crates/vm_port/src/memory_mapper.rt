@@ -196,8 +196,10 @@ fn segments_of(
 ) -> Result<Vec<Segment>, AllocError>
     requires some { 1 ≤ page_bytes }
     requires pages { All (λ s. length s.items ≤ (2 ^ 32 - 1) * page_bytes) segments.now }
-    ensures seen { IfOk result (λ v. map pages_seen v.items ≡ map (λ s. pages_of page_bytes s.items) segments.now) }
-    ensures whole { IfOk result (λ v. All (λ s. All (λ p. length p.items ≡ page_bytes) s.pages.items) v.items) }
+    ensures seen { IfOk result
+        (λ v. map pages_seen v.items ≡ map (λ s. pages_of page_bytes s.items) segments.now) }
+    ensures whole { IfOk result
+        (λ v. All (λ s. All (λ p. length p.items ≡ page_bytes) s.pages.items) v.items) }
     ensures few { IfOk result (λ v. All (λ s. length s.pages.items < 2 ^ 32) v.items) }
 {
     let mut all = Vec::with_capacity(alloc, segments.len())?;
@@ -259,7 +261,8 @@ fn page_in(segments: &[Segment], seg: u32, page: u32) -> Option<&[u8]>
 // The bytes of a page of a segment.
 fn read_page(segments: &[Segment], seg: u32, page: u32, into: &mut [u8])
     requires there { IsSome (page_in (map pages_seen segments.now) seg page) }
-    requires whole { All (λ s. All (λ p. length p.items ≡ length into.old) s.pages.items) segments.now }
+    requires whole { All
+        (λ s. All (λ p. length p.items ≡ length into.old) s.pages.items) segments.now }
     ensures { page_in (map pages_seen segments.now) seg page ≡ Some into.new }
 {
     match page_in(segments, seg, page) {
@@ -282,10 +285,14 @@ fn put_in(segment: &mut Segment, page: u32, from: &[u8])
 
 fn put_page(segments: &mut Vec<Segment>, seg: u32, page: u32, from: &[u8])
     requires there { IsSome (page_in (map pages_seen segments.old.items) seg page) }
-    requires whole { All (λ s. All (λ p. length p.items ≡ length from.now) s.pages.items) segments.old.items }
-    ensures whole { All (λ s. All (λ p. length p.items ≡ length from.now) s.pages.items) segments.new.items }
-    ensures few { All (λ s. length s.pages.items < 2 ^ 32) segments.old.items → All (λ s. length s.pages.items < 2 ^ 32) segments.new.items }
-    ensures put { map pages_seen segments.new.items ≡ put_page_in (map pages_seen segments.old.items) seg page from.now }
+    requires whole { All
+        (λ s. All (λ p. length p.items ≡ length from.now) s.pages.items) segments.old.items }
+    ensures whole { All
+        (λ s. All (λ p. length p.items ≡ length from.now) s.pages.items) segments.new.items }
+    ensures few { All (λ s. length s.pages.items < 2 ^ 32) segments.old.items
+        → All (λ s. length s.pages.items < 2 ^ 32) segments.new.items }
+    ensures put { map pages_seen segments.new.items
+        ≡ put_page_in (map pages_seen segments.old.items) seg page from.now }
 {
     put_in(&mut segments[seg as usize - 1], page, from);
 }
@@ -295,7 +302,8 @@ fn put_slot(slots: &mut Vec<Slot>, slot: u32, from: &[u8])
     requires there { slot < length slots.old.items }
     requires whole { All (λ s. length s.bytes.items ≡ length from.now) slots.old.items }
     ensures whole { All (λ s. length s.bytes.items ≡ length from.now) slots.new.items }
-    ensures put { map slot_seen slots.new.items ≡ slice_set (map slot_seen slots.old.items) slot (Some from.now) }
+    ensures put { map slot_seen slots.new.items
+        ≡ slice_set (map slot_seen slots.old.items) slot (Some from.now) }
 {
     let slot = &mut slots[slot as usize];
     slot.bytes.copy_from_slice(from);
@@ -304,7 +312,8 @@ fn put_slot(slots: &mut Vec<Slot>, slot: u32, from: &[u8])
 
 // The page of a slot, where it has one.
 fn slot_in(slots: &[Slot], slot: u32) -> Option<&[u8]>
-    ensures { option_map (λ p. p.now) result ≡ option_and_then (λ o. o) (slice_get (map slot_seen slots.now) slot) }
+    ensures { option_map (λ p. p.now) result
+        ≡ option_and_then (λ o. o) (slice_get (map slot_seen slots.now) slot) }
 {
     match slots.get(slot as usize) {
         Some(slot) => slot_page(slot),
@@ -349,7 +358,9 @@ fn is_denied(denied: &[(SegId, PageNo)], seg: SegId, page: PageNo) -> bool
 // How many pages a segment has, where it is there.
 fn size_of(segments: &[Segment], seg: u32) -> Option<u32>
     requires { All (λ s. length s.pages.items < 2 ^ 32) segments.now }
-    ensures { result ≡ (if seg == 0 then None else option_map length (slice_get (map pages_seen segments.now) (seg - 1))) }
+    ensures { result
+        ≡ (if seg == 0 then None
+        else option_map length (slice_get (map pages_seen segments.now) (seg - 1))) }
 {
     if seg == 0 {
         return None;
@@ -370,7 +381,8 @@ impl Mapper for MemoryMapper {
     ghost page_bytes = { λ m. Some m.page_bytes };
 
     fn size(&mut self, seg: SegId) -> Result<Option<u32>, Failed>
-        ensures pages { IfOk result (λ pages. pages ≡ option_map length (FinMap.get (held_of self.old).segments seg.0)) }
+        ensures pages { IfOk result
+            (λ pages. pages ≡ option_map length (FinMap.get (held_of self.old).segments seg.0)) }
         ensures counts { Counted 0 0 self.old.counts self.new.counts result }
         ensures failing { is_err result ≡ fails_next CallKind.Size self.old }
         ensures after { self.new ≡ called CallKind.Size 0 0 (is_err result) self.old }
@@ -402,10 +414,17 @@ impl Mapper for MemoryMapper {
     fn push_out(&mut self, seg: SegId, page: PageNo, from: &[u8]) -> Result<(), Failed>
         requires room { length from.now ≡ self.old.page_bytes }
         requires there { IsSome (page_of (held_of self.old) seg.0 page.0) }
-        ensures held { held_of self.new ≡ (if is_ok result then with_page seg.0 page.0 from.now (held_of self.old) else held_of self.old) }
+        ensures held { held_of self.new
+            ≡ (if is_ok result then with_page seg.0 page.0 from.now (held_of self.old)
+            else held_of self.old) }
         ensures counts { Counted 0 1 self.old.counts self.new.counts result }
         ensures failing { is_err result ≡ fails_next CallKind.PushOut self.old }
-        ensures after { self.new ≡ record (called CallKind.PushOut 0 1 (is_err result) self.old) { segments = if is_ok result then put_page_in self.old.segments seg.0 page.0 from.now else self.old.segments } }
+        ensures after { self.new
+            ≡ record (called CallKind.PushOut 0 1
+            (is_err result) self.old) {
+              segments = if is_ok result
+                  then put_page_in self.old.segments seg.0 page.0 from.now else self.old.segments;
+            } }
     {
         self.pushes = self.pushes.saturating_add(1);
         if fails_now(&mut self.calls, &self.fails, CallKind::PushOut) {
@@ -449,10 +468,18 @@ impl Mapper for MemoryMapper {
 
     fn swap_out(&mut self, slot: SlotId, from: &[u8]) -> Result<(), Failed>
         requires { length from.now ≡ self.old.page_bytes }
-        ensures held { held_of self.new ≡ (if is_ok result then with_slot slot.0 from.now (held_of self.old) else held_of self.old) }
+        ensures held { held_of self.new
+            ≡ (if is_ok result then with_slot slot.0 from.now (held_of self.old)
+            else held_of self.old) }
         ensures counts { Counted 0 1 self.old.counts self.new.counts result }
-        ensures failing { is_err result ≡ (fails_next CallKind.SwapOut self.old || nat_le (length self.old.slots) slot.0) }
-        ensures after { self.new ≡ record (called CallKind.SwapOut 0 1 (is_err result) self.old) { slots = if is_ok result then slice_set self.old.slots slot.0 (Some from.now) else self.old.slots } }
+        ensures failing { is_err result
+            ≡ (fails_next CallKind.SwapOut self.old || nat_le (length self.old.slots) slot.0) }
+        ensures after { self.new
+            ≡ record (called CallKind.SwapOut 0 1
+            (is_err result) self.old) {
+              slots = if is_ok result
+                  then slice_set self.old.slots slot.0 (Some from.now) else self.old.slots;
+            } }
     {
         self.pushes = self.pushes.saturating_add(1);
         if fails_now(&mut self.calls, &self.fails, CallKind::SwapOut)

@@ -5,6 +5,7 @@ ghost use Rattle.vm_ids.specs.Counting.{HasCause};
 ghost use Rattle.vm_port.specs.Calls.{next_call, fault_more, is_failing};
 ghost use Rattle.vm_port.specs.Streams.{SinkInMemory};
 
+use crate::call_no::is_failing;
 use crate::{Failed, Sink};
 use std::alloc::Global;
 use std::marker::Model;
@@ -17,14 +18,20 @@ pub struct MemorySink {
     bytes: Vec<u8>,
     room: usize,
     fails: Vec<u32>,
-    calls: u32,
+    calls: u64,
     faults: u64,
 }
 
 impl Model for MemorySink {
     ghost Value = { SinkInMemory };
 
-    ghost view = { λ s. record { written = s.bytes.items; room = s.room; fails = s.fails.items; calls = s.calls; faults = s.faults } };
+    ghost view = { λ s. record {
+      written = s.bytes.items;
+      room = s.room;
+      fails = s.fails.items;
+      calls = s.calls;
+      faults = s.faults;
+    } };
 
     ghost invariant = { λ s. (length s.bytes.items ≤ s.room) × (s.room ≤ vec_capacity s.bytes) };
 }
@@ -33,7 +40,8 @@ impl MemorySink {
     /// With room for so many bytes. It fails at the calls whose numbers, counted from 1, stand in `fails`. Its writes
     /// take no memory. `NoMemory` where there is none for the room.
     pub fn new(alloc: Global, room: usize, fails: &[u32]) -> Result<MemorySink, NoMemory>
-        ensures { IfOk result (λ s. s ≡ record { written = []; room = room; fails = fails.now; calls = 0; faults = 0 }) }
+        ensures { IfOk result (λ s.
+            s ≡ record { written = []; room = room; fails = fails.now; calls = 0; faults = 0 }) }
     {
         let Ok(bytes) = Vec::with_capacity(alloc, room) else {
             return Err(NoMemory);
@@ -67,19 +75,28 @@ impl Sink for MemorySink {
         requires { 0 < length from.now }
         ensures least { IfOk result (λ n. 0 < n) }
         ensures most { IfOk result (λ n. n ≤ length from.now) }
-        ensures taken { IfOk result (λ n. Some self.new.written ≡ option_map (λ old. old ++ take n from.now) (Some self.old.written)) }
+        ensures taken { IfOk result (λ n.
+            Some self.new.written ≡ option_map (λ old. old ++ take n from.now) (Some self.old.written)) }
         ensures err { OnErr result (Some self.new.written ≡ Some self.old.written) }
         ensures cause { HasCause self.old.faults self.new.faults result }
         // It fails exactly at the calls told and where no room is left.
-        ensures failing { is_err result ≡ (is_failing self.old.fails (next_call self.old.calls) || self.old.room - length self.old.written == 0) }
-        ensures failed { OnErr result (self.new ≡ record self.old { calls = next_call self.old.calls; faults = fault_more self.old.faults }) }
+        ensures failing { is_err result ≡ (is_failing self.old.fails (next_call self.old.calls)
+            || self.old.room - length self.old.written == 0) }
+        ensures failed { OnErr result (self.new ≡ record self.old {
+          calls = next_call self.old.calls;
+          faults = fault_more self.old.faults;
+        }) }
         // Else it takes as much as fits.
-        ensures count { IfOk result (λ n. n ≡ min (self.old.room - length self.old.written) (length from.now)) }
-        ensures after { IfOk result (λ n. self.new ≡ record self.old { written = self.old.written ++ take n from.now; calls = next_call self.old.calls }) }
+        ensures count { IfOk result (λ n.
+            n ≡ min (self.old.room - length self.old.written) (length from.now)) }
+        ensures after { IfOk result (λ n. self.new ≡ record self.old {
+          written = self.old.written ++ take n from.now;
+          calls = next_call self.old.calls;
+        }) }
     {
         self.calls = self.calls.saturating_add(1);
         let room = self.room - self.bytes.len();
-        if self.fails.contains(&self.calls) || room == 0 {
+        if is_failing(&self.fails, self.calls) || room == 0 {
             self.faults = self.faults.saturating_add(1);
             return Err(Failed);
         }

@@ -18,7 +18,9 @@ pub trait Sink {
         requires { 0 < length from.now }
         ensures least { IfOk result (λ n. 0 < n) }
         ensures most { IfOk result (λ n. n ≤ length from.now) }
-        ensures taken { IfOk result (λ n. written self.new ≡ option_map (λ old. old ++ take n from.now) (written self.old)) }
+        ensures taken { IfOk result
+            (λ n. written self.new
+            ≡ option_map (λ old. old ++ take n from.now) (written self.old)) }
         ensures err { OnErr result (written self.new ≡ written self.old) }
         ensures cause { HasCause (faults self.old) (faults self.new) result };
 }

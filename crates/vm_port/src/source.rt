@@ -17,7 +17,8 @@ pub trait Source {
     fn read(&mut self, into: &mut [u8]) -> Result<usize, Failed>
         requires { 0 < length into.old }
         ensures most { IfOk result (λ n. n ≤ length into.new) }
-        ensures front { IfOk result (λ n. left self.old ≡ option_map (λ rest. take n into.new ++ rest) (left self.new)) }
+        ensures front { IfOk result
+            (λ n. left self.old ≡ option_map (λ rest. take n into.new ++ rest) (left self.new)) }
         ensures end { IfOk result (λ n. n ≡ 0 → IfSome (left self.old) (λ rest. rest ≡ [])) }
         ensures err { OnErr result (left self.new ≡ left self.old) }
         ensures cause { HasCause (faults self.old) (faults self.new) result };

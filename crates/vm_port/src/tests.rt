@@ -1,7 +1,7 @@
 // Each object in memory once on its happy path, and its faults where it was told to have them.
 use crate::{
     CallKind, CallNo, Chooser, Clock, Failed, Fifo, Listed, Mapper, MemoryMapper, MemorySink,
-    MemorySource, NoMapper, Sink, Source,
+    MemorySource, Sink, Source,
 };
 use std::test::Fail;
 use vm_ids::{PageNo, SegId, SlotId};
@@ -54,18 +54,6 @@ fn a_second_chance(rt: HostRuntime) {
     marks = [true; 3];
     assert_eq!(rt; clock.pick(&may, &mut marks), 1);
     assert_eq!(rt; marks, [false; 3]);
-}
-
-#[test]
-fn no_mapper_at_all(rt: HostRuntime) {
-    let mut mapper = NoMapper::new();
-    let mut page = [0u8; 1];
-    assert_eq!(rt; mapper.size(SegId(1)), Ok(None));
-    assert_eq!(rt; mapper.pull_in(SegId(1), PageNo(0), &mut page), Err(Failed));
-    assert_eq!(rt; mapper.push_out(SegId(1), PageNo(0), &page), Err(Failed));
-    assert_eq!(rt; mapper.get_write_access(SegId(1), PageNo(0)), Err(Failed));
-    assert_eq!(rt; mapper.swap_in(SlotId(0), &mut page), Err(Failed));
-    assert_eq!(rt; mapper.swap_out(SlotId(0), &page), Err(Failed));
 }
 
 // Segment 1 has 3 bytes on pages of 2, and the first pull of it fails.
