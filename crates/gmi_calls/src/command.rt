@@ -3,8 +3,8 @@ ghost use Rattle.std.specs.Prelude.{◌≡◌, ℕ, ◌≤◌, ◌+◌, ◌*◌,
 ghost use Rattle.vm_model.specs.declared.limits.TheConstants.{LIVE_PAGES};
 ghost use Rattle.vm_model.specs.Machine.{live_pages};
 ghost use Rattle.vm_model.specs.Asking.{IsWellFormed};
-ghost use Rattle.vm_model.specs.Run.{CallIs, state_of};
-ghost use Rattle.gmi_calls.specs.Calling.{Fits, RaisesMade};
+ghost use Rattle.vm_model.specs.Run.{state_of};
+ghost use Rattle.gmi_calls.specs.Calling.{Calls, Fits, RaisesMade};
 
 use crate::Gmi;
 use vm_ids::{Answer, Command, Reply};
@@ -23,9 +23,10 @@ pub fn answer<G: Gmi<M, C>, M: Mapper, C: Chooser>(
     requires fits { Fits (M.page_bytes mapper.old) (G.machine gmi.old (M.held mapper.old)) }
     requires live { live_pages (G.machine gmi.old (M.held mapper.old)) ≤ LIVE_PAGES }
     ensures valid { G.valid gmi.new (M.held mapper.new) }
-    ensures answers { CallIs (M.counts mapper.old) (M.counts mapper.new) (state_of G.machine M.held gmi.old mapper.old)
-        command.now result (state_of G.machine M.held gmi.new mapper.new) }
-    ensures made { RaisesMade (G.machine gmi.old (M.held mapper.old)) command.now result (G.made gmi.old) (G.made gmi.new) }
+    ensures answers { Calls M.counts M.held (state_of G.machine G.forest) mapper.old gmi.old
+        command.now result mapper.new gmi.new }
+    ensures made { RaisesMade (G.machine gmi.old (M.held mapper.old)) command.now result
+        (G.made gmi.old) (G.made gmi.new) }
     ensures page { M.page_bytes mapper.new ≡ M.page_bytes mapper.old }
     // What the next command needs: pages of one size, live pages within their limit, and counters that don't wrap.
     ensures fits { Fits (M.page_bytes mapper.new) (G.machine gmi.new (M.held mapper.new)) }
@@ -36,7 +37,7 @@ pub fn answer<G: Gmi<M, C>, M: Mapper, C: Chooser>(
 }
 
 // The call itself.
-#[tactic(auto, using(crate::proofs::Still::without_mapper))]
+#[tactic(auto, using(crate::proofs::Still::without_mapper, crate::proofs::Still::made_still))]
 fn call<G: Gmi<M, C>, M: Mapper, C: Chooser>(
     gmi: &mut G,
     command: &Command,
@@ -48,19 +49,32 @@ fn call<G: Gmi<M, C>, M: Mapper, C: Chooser>(
     requires made { G.made gmi.old ≤ 2 ^ 62 }
     requires fits { Fits (M.page_bytes mapper.old) (G.machine gmi.old (M.held mapper.old)) }
     ensures valid { G.valid gmi.new (M.held mapper.new) }
-    ensures answers { CallIs (M.counts mapper.old) (M.counts mapper.new) (state_of G.machine M.held gmi.old mapper.old)
-        command.now result (state_of G.machine M.held gmi.new mapper.new) }
-    ensures made { RaisesMade (G.machine gmi.old (M.held mapper.old)) command.now result (G.made gmi.old) (G.made gmi.new) }
+    ensures answers { Calls M.counts M.held (state_of G.machine G.forest) mapper.old gmi.old
+        command.now result mapper.new gmi.new }
+    ensures made { RaisesMade (G.machine gmi.old (M.held mapper.old)) command.now result
+        (G.made gmi.old) (G.made gmi.new) }
     ensures page { M.page_bytes mapper.new ≡ M.page_bytes mapper.old }
 {
     match command {
         Command::MakeActor => Ok(Reply::Actor(gmi.make_actor()?)),
         Command::MakeTemp(pages) => Ok(Reply::Cache(gmi.make_temp(*pages)?)),
+        Command::Destroy(cache) => {
+            gmi.destroy(*cache, mapper, chooser)?;
+            Ok(Reply::Done)
+        }
         Command::Copy(span) => {
             gmi.copy_pages(*span, mapper, chooser)?;
             Ok(Reply::Done)
         }
+        Command::Move(span) => {
+            gmi.move_pages(*span, mapper, chooser)?;
+            Ok(Reply::Done)
+        }
         Command::Map(actor, mapping) => Ok(Reply::Region(gmi.map(*actor, *mapping)?)),
+        Command::Unmap(region) => {
+            gmi.unmap(*region)?;
+            Ok(Reply::Done)
+        }
         Command::Load(actor, address, bytes) => {
             let piece = gmi.load(*actor, *address, *bytes, mapper, chooser)?;
             Ok(Reply::Bytes(piece))
@@ -69,5 +83,11 @@ fn call<G: Gmi<M, C>, M: Mapper, C: Chooser>(
             gmi.store(*actor, *address, piece, mapper, chooser)?;
             Ok(Reply::Done)
         }
+        Command::PageOut(count) => {
+            gmi.page_out(*count, mapper, chooser)?;
+            Ok(Reply::Done)
+        }
+        Command::Chain(cache, page) => Ok(Reply::Chain(gmi.chain(*cache, *page)?)),
+        Command::Stat => Ok(Reply::Stat(gmi.stat())),
     }
 }

@@ -1,42 +1,49 @@
 // The calls of a manager.
-ghost use Rattle.std.specs.Prelude.{◌≡◌, ℕ, ◌≤◌, ◌^◌, Option, length, IfOk};
-ghost use Rattle.vm_ids.specs.Counting.{no_counts};
-ghost use Rattle.vm_ids.specs.Held.{Held, segments_of};
+ghost use Rattle.std.specs.Prelude.{◌≡◌, ℕ, ◌≤◌, ◌^◌, Option, length, Ok, IfOk};
+ghost use Rattle.vm_ids.specs.Held.{Held};
 ghost use Rattle.vm_model.specs.Answering.{answer_by};
 ghost use Rattle.vm_model.specs.Machine.{Machine};
-ghost use Rattle.vm_model.specs.Outcome.{OutcomeAt};
-ghost use Rattle.vm_model.specs.Run.{CallIs, state_of};
-ghost use Rattle.gmi_calls.specs.Calling.{Fits, RaisesMade};
+ghost use Rattle.vm_model.specs.PageForest.{PageForest};
+ghost use Rattle.vm_model.specs.Run.{state_of};
+ghost use Rattle.gmi_calls.specs.Calling.{Answers, Calls, Fits, Numbers, RaisesMade, StaysValid, done_by};
 
-use vm_ids::{ActorId, CacheId, Command, Mapping, Piece, RegionId, Reply, Span, Trouble};
+use vm_ids::{
+    ActorId, CacheId, ChainList, Command, Counts, Mapping, PageNo, Piece, RegionId, Reply, Span,
+    Trouble,
+};
 use vm_port::{Chooser, Mapper};
 
 /// A memory manager.
 ///
 /// Each call gives the answer of the machine that the manager stands for, or a mapper fault that has a cause, or want
 /// of memory; after a refusal, a fault or want of memory that machine is as before. Where the mapper tells what it
-/// holds, machine and answers are said byte by byte; where it doesn't, the same is said of a machine without bytes. A
-/// call that takes no mapper keeps this for every record for which the manager is valid.
+/// holds, machine and answers are said byte by byte; where it doesn't, the same is said of a machine without bytes. The
+/// page forest, where the manager tells it, follows each answer by the command's rule. A call that takes no mapper keeps
+/// this for every record for which the manager is valid, pushes nothing and raises no count.
 pub trait Gmi<M: Mapper, C: Chooser> {
     /// The machine that the manager stands for, given what the mapper holds, where that is told.
     ghost machine: { Self → Option Held → Machine };
 
+    /// The page forest that the manager keeps, where it tells one; without the bytes of its pages where the mapper doesn't
+    /// tell what it holds. Where a manager tells none, chains and counts are those of the plain forest of its machine.
+    ghost forest: { Self → Option Held → Option PageForest };
+
     /// What each call needs, and keeps.
     ghost valid: { Self → Option Held → Type 0 };
 
-    /// A number that is never below the page nodes numbered, the working nodes made and the pages copied, so that no
-    /// counter wraps.
+    /// A number by which a manager bounds its counters, as those of the working nodes made and of the pages copied, so
+    /// that none of them wraps.
     ghost made: { Self → ℕ };
 
     /// Makes an actor without regions. Refused as `TooMany` exactly where 256 actors are alive or 65,535 were made.
     fn make_actor(&mut self) -> Result<ActorId, Trouble>
         requires valid { (h : Option Held) × valid self.old h }
         requires made { made self.old ≤ 2 ^ 62 }
-        ensures valid { (h : Option Held) → valid self.old h → valid self.new h }
-        ensures outcome { (h : Option Held) → valid self.old h →
-            OutcomeAt (segments_of h) (machine self.old h) Command.MakeActor (answer_by Reply.Actor result) (machine self.new h) no_counts }
-        ensures made { (h : Option Held) → valid self.old h →
-            RaisesMade (machine self.old h) Command.MakeActor (answer_by Reply.Actor result) (made self.old) (made self.new) };
+        ensures valid { StaysValid valid self.old self.new }
+        ensures answers { Answers valid (state_of machine forest) self.old
+            Command.MakeActor (answer_by Reply.Actor result) self.new }
+        ensures made { Numbers valid machine made self.old
+            Command.MakeActor (answer_by Reply.Actor result) self.new };
 
     /// Makes a temporary cache of so many zero pages. Refused as `TooMany` exactly where 65,535 caches were made or
     /// the live pages would be too many.
@@ -44,11 +51,23 @@ pub trait Gmi<M: Mapper, C: Chooser> {
         requires some { 1 ≤ pages }
         requires valid { (h : Option Held) × valid self.old h }
         requires made { made self.old ≤ 2 ^ 62 }
-        ensures valid { (h : Option Held) → valid self.old h → valid self.new h }
-        ensures outcome { (h : Option Held) → valid self.old h →
-            OutcomeAt (segments_of h) (machine self.old h) (Command.MakeTemp pages) (answer_by Reply.Cache result) (machine self.new h) no_counts }
-        ensures made { (h : Option Held) → valid self.old h →
-            RaisesMade (machine self.old h) (Command.MakeTemp pages) (answer_by Reply.Cache result) (made self.old) (made self.new) };
+        ensures valid { StaysValid valid self.old self.new }
+        ensures answers { Answers valid (state_of machine forest) self.old
+            (Command.MakeTemp pages) (answer_by Reply.Cache result) self.new }
+        ensures made { Numbers valid machine made self.old
+            (Command.MakeTemp pages) (answer_by Reply.Cache result) self.new };
+
+    /// Takes a cache away, with all its pages. Refused as `NoCache` or `InUse`, in this order.
+    fn destroy(&mut self, cache: CacheId, mapper: &mut M, chooser: &mut C) -> Result<(), Trouble>
+        requires valid { valid self.old (M.held mapper.old) }
+        requires made { made self.old ≤ 2 ^ 62 }
+        requires fits { Fits (M.page_bytes mapper.old) (machine self.old (M.held mapper.old)) }
+        ensures valid { valid self.new (M.held mapper.new) }
+        ensures answers { Calls M.counts M.held (state_of machine forest) mapper.old self.old
+            (Command.Destroy cache) (done_by result) mapper.new self.new }
+        ensures made { RaisesMade (machine self.old (M.held mapper.old))
+            (Command.Destroy cache) (done_by result) (made self.old) (made self.new) }
+        ensures page { M.page_bytes mapper.new ≡ M.page_bytes mapper.old };
 
     /// Copies pages from one place to another, all at once. Refused as `NoCache`, `OutOfCache`, `Overlap`, `Locked` or
     /// `WriteDenied`, in this order.
@@ -58,9 +77,24 @@ pub trait Gmi<M: Mapper, C: Chooser> {
         requires made { made self.old ≤ 2 ^ 62 }
         requires fits { Fits (M.page_bytes mapper.old) (machine self.old (M.held mapper.old)) }
         ensures valid { valid self.new (M.held mapper.new) }
-        ensures answers { CallIs (M.counts mapper.old) (M.counts mapper.new) (state_of machine M.held self.old mapper.old)
-            (Command.Copy span) (answer_by (λ _. Reply.Done) result) (state_of machine M.held self.new mapper.new) }
-        ensures made { RaisesMade (machine self.old (M.held mapper.old)) (Command.Copy span) (answer_by (λ _. Reply.Done) result) (made self.old) (made self.new) }
+        ensures answers { Calls M.counts M.held (state_of machine forest) mapper.old self.old
+            (Command.Copy span) (done_by result) mapper.new self.new }
+        ensures made { RaisesMade (machine self.old (M.held mapper.old))
+            (Command.Copy span) (done_by result) (made self.old) (made self.new) }
+        ensures page { M.page_bytes mapper.new ≡ M.page_bytes mapper.old };
+
+    /// Moves pages from one place to another; zeros are left where they were. Refused as `NoCache`, `OutOfCache`, `NotTemp`,
+    /// `Overlap`, `Locked` or `WriteDenied`, in this order.
+    fn move_pages(&mut self, span: Span, mapper: &mut M, chooser: &mut C) -> Result<(), Trouble>
+        requires some { 1 ≤ span.pages }
+        requires valid { valid self.old (M.held mapper.old) }
+        requires made { made self.old ≤ 2 ^ 62 }
+        requires fits { Fits (M.page_bytes mapper.old) (machine self.old (M.held mapper.old)) }
+        ensures valid { valid self.new (M.held mapper.new) }
+        ensures answers { Calls M.counts M.held (state_of machine forest) mapper.old self.old
+            (Command.Move span) (done_by result) mapper.new self.new }
+        ensures made { RaisesMade (machine self.old (M.held mapper.old))
+            (Command.Move span) (done_by result) (made self.old) (made self.new) }
         ensures page { M.page_bytes mapper.new ≡ M.page_bytes mapper.old };
 
     /// Maps pages of a cache into an actor. Refused as `NoActor`, `NoCache`, `Unaligned`, `BadAddress`, `OutOfCache`,
@@ -69,11 +103,21 @@ pub trait Gmi<M: Mapper, C: Chooser> {
         requires some { 1 ≤ mapping.extent.pages }
         requires valid { (h : Option Held) × valid self.old h }
         requires made { made self.old ≤ 2 ^ 62 }
-        ensures valid { (h : Option Held) → valid self.old h → valid self.new h }
-        ensures outcome { (h : Option Held) → valid self.old h →
-            OutcomeAt (segments_of h) (machine self.old h) (Command.Map actor mapping) (answer_by Reply.Region result) (machine self.new h) no_counts }
-        ensures made { (h : Option Held) → valid self.old h →
-            RaisesMade (machine self.old h) (Command.Map actor mapping) (answer_by Reply.Region result) (made self.old) (made self.new) };
+        ensures valid { StaysValid valid self.old self.new }
+        ensures answers { Answers valid (state_of machine forest) self.old
+            (Command.Map actor mapping) (answer_by Reply.Region result) self.new }
+        ensures made { Numbers valid machine made self.old
+            (Command.Map actor mapping) (answer_by Reply.Region result) self.new };
+
+    /// Takes a region away. Refused as `NoRegion` or `Locked`, in this order.
+    fn unmap(&mut self, region: RegionId) -> Result<(), Trouble>
+        requires valid { (h : Option Held) × valid self.old h }
+        requires made { made self.old ≤ 2 ^ 62 }
+        ensures valid { StaysValid valid self.old self.new }
+        ensures answers { Answers valid (state_of machine forest) self.old
+            (Command.Unmap region) (done_by result) self.new }
+        ensures made { Numbers valid machine made self.old
+            (Command.Unmap region) (done_by result) self.new };
 
     /// Loads so many bytes, 1 to 64, at an address of an actor. Refused as `NoActor`, `Crosses` or `BadAddress`, in
     /// this order.
@@ -91,10 +135,12 @@ pub trait Gmi<M: Mapper, C: Chooser> {
         requires made { made self.old ≤ 2 ^ 62 }
         requires fits { Fits (M.page_bytes mapper.old) (machine self.old (M.held mapper.old)) }
         ensures valid { valid self.new (M.held mapper.new) }
-        ensures answers { CallIs (M.counts mapper.old) (M.counts mapper.new) (state_of machine M.held self.old mapper.old)
-            (Command.Load actor address bytes) (answer_by Reply.Bytes result) (state_of machine M.held self.new mapper.new) }
+        ensures answers { Calls M.counts M.held (state_of machine forest) mapper.old self.old
+            (Command.Load actor address bytes) (answer_by Reply.Bytes result) mapper.new self.new }
         ensures length { IfOk result (λ piece. length piece ≡ bytes) }
-        ensures made { RaisesMade (machine self.old (M.held mapper.old)) (Command.Load actor address bytes) (answer_by Reply.Bytes result) (made self.old) (made self.new) }
+        ensures made { RaisesMade (machine self.old (M.held mapper.old))
+            (Command.Load actor address bytes) (answer_by Reply.Bytes result)
+            (made self.old) (made self.new) }
         ensures page { M.page_bytes mapper.new ≡ M.page_bytes mapper.old };
 
     /// Stores bytes at an address of an actor. Refused as `NoActor`, `Crosses`, `BadAddress`, `Protection` or
@@ -111,8 +157,33 @@ pub trait Gmi<M: Mapper, C: Chooser> {
         requires made { made self.old ≤ 2 ^ 62 }
         requires fits { Fits (M.page_bytes mapper.old) (machine self.old (M.held mapper.old)) }
         ensures valid { valid self.new (M.held mapper.new) }
-        ensures answers { CallIs (M.counts mapper.old) (M.counts mapper.new) (state_of machine M.held self.old mapper.old)
-            (Command.Store actor address piece.now) (answer_by (λ _. Reply.Done) result) (state_of machine M.held self.new mapper.new) }
-        ensures made { RaisesMade (machine self.old (M.held mapper.old)) (Command.Store actor address piece.now) (answer_by (λ _. Reply.Done) result) (made self.old) (made self.new) }
+        ensures answers { Calls M.counts M.held (state_of machine forest) mapper.old self.old
+            (Command.Store actor address piece.now) (done_by result) mapper.new self.new }
+        ensures made { RaisesMade (machine self.old (M.held mapper.old))
+            (Command.Store actor address piece.now) (done_by result)
+            (made self.old) (made self.new) }
         ensures page { M.page_bytes mapper.new ≡ M.page_bytes mapper.old };
+
+    /// Evicts so many page frames, or as many as can be.
+    fn page_out(&mut self, count: u32, mapper: &mut M, chooser: &mut C) -> Result<(), Trouble>
+        requires some { 1 ≤ count }
+        requires valid { valid self.old (M.held mapper.old) }
+        requires made { made self.old ≤ 2 ^ 62 }
+        requires fits { Fits (M.page_bytes mapper.old) (machine self.old (M.held mapper.old)) }
+        ensures valid { valid self.new (M.held mapper.new) }
+        ensures answers { Calls M.counts M.held (state_of machine forest) mapper.old self.old
+            (Command.PageOut count) (done_by result) mapper.new self.new }
+        ensures made { RaisesMade (machine self.old (M.held mapper.old))
+            (Command.PageOut count) (done_by result) (made self.old) (made self.new) }
+        ensures page { M.page_bytes mapper.new ≡ M.page_bytes mapper.old };
+
+    /// The nodes from that of a page up to the one that has its bytes. Refused as `NoCache` or `OutOfCache`, in this order.
+    fn chain(&self, cache: CacheId, page: PageNo) -> Result<ChainList, Trouble>
+        ensures answers { Answers valid (state_of machine forest) self.now
+            (Command.Chain cache page) (answer_by Reply.Chain result) self.now };
+
+    /// How many live pages and working nodes there are, and how many pages were copied.
+    fn stat(&self) -> Counts
+        ensures answers { Answers valid (state_of machine forest) self.now
+            Command.Stat (Ok (Reply.Stat result)) self.now };
 }

@@ -1,4 +1,4 @@
-// Each call once on its happy path, through the interface, and refusals in their order.
+// Calls on their happy path, through the interface, and refusals in their order.
 ghost use Rattle.std.specs.Prelude.{◌≡◌, ◌≤◌, ◌+◌, ◌^◌, IfOk};
 ghost use Rattle.vm_model.specs.declared.limits.TheConstants.{LIVE_PAGES};
 ghost use Rattle.vm_model.specs.Asking.{IsWellFormed};
@@ -9,11 +9,11 @@ use crate::{Gmi, answer};
 use std::process::Abort;
 use std::test::Fail;
 use vm_ids::{
-    ActorId, Answer, CacheId, Command, Extent, Mapping, PageNo, Piece, Prot, Refusal, RegionId,
-    Reply, Span, Trouble,
+    ActorId, Answer, CacheId, Command, Counts, Extent, Mapping, PageNo, Piece, Prot, Refusal,
+    RegionId, Reply, Span, Trouble,
 };
 use vm_model::EagerMachine;
-use vm_port::{Chooser, Fifo, Mapper, NoMapper};
+use vm_port::{Chooser, Fifo, Mapper, MemoryMapper};
 
 // What an answer comes to.
 #[derive(Clone, Copy, Debug, PartialEq, Eq)]
@@ -23,6 +23,9 @@ enum Shown {
     Cache(u32),
     Region(u32),
     Two(u8, u8),
+    // How many nodes a chain has.
+    Chain(usize),
+    Stat(Counts),
     Refused(Refusal),
     Other,
 }
@@ -35,6 +38,8 @@ fn seen(answer: Answer) -> Shown {
         Ok(Reply::Region(RegionId(n))) => Shown::Region(n),
         Ok(Reply::Bytes(piece)) => two(piece.as_slice()),
         Err(Trouble::Refused(refusal)) => Shown::Refused(refusal),
+        Ok(Reply::Chain(chain)) => Shown::Chain(chain.as_slice().len()),
+        Ok(Reply::Stat(counts)) => Shown::Stat(counts),
         Err(_) => Shown::Other,
     }
 }
@@ -140,61 +145,15 @@ fn least_success<G: Gmi<M, C>, M: Mapper, C: Chooser>(
 #[test]
 fn the_plain_program_succeeds(rt: HostRuntime) -> Result<(), Fail> {
     let mut gmi = EagerMachine::new(rt.alloc(), 3, 4096);
-    least_success(&rt, &mut gmi, &mut NoMapper::new(), &mut Fifo::new())
-}
-
-// What a copy leaves of its source and its destination: page 1 of cache 1 keeps what page 0 held at the copy.
-#[test]
-fn a_copy_is_of_its_moment(rt: HostRuntime) -> Result<(), Fail> {
-    let mut gmi = EagerMachine::new(rt.alloc(), 3, 512);
-    let (mapper, chooser) = (&mut NoMapper::new(), &mut Fifo::new());
-    assert_eq!(rt;
-        seen(answer(&mut gmi, &Command::MakeActor, mapper, chooser)),
-        Shown::Actor(1)
-    );
-    assert_eq!(rt;
-        seen(answer(&mut gmi, &Command::MakeTemp(4), mapper, chooser)),
-        Shown::Cache(1)
-    );
-    assert_eq!(rt;
-        seen(answer(&mut gmi, &map(0, 0x200, true), mapper, chooser)),
-        Shown::Region(1)
-    );
-    assert_eq!(rt;
-        seen(answer(&mut gmi, &map(1, 0x400, true), mapper, chooser)),
-        Shown::Region(2)
-    );
-    assert_eq!(rt;
-        seen(answer(&mut gmi, &store(0x200)?, mapper, chooser)),
-        Shown::Done
-    );
-    assert_eq!(rt;
-        seen(answer(&mut gmi, &copy(1, 1, 1, 1), mapper, chooser)),
-        Shown::Done
-    );
-    assert_eq!(rt;
-        seen(answer(&mut gmi, &store(0x201)?, mapper, chooser)),
-        Shown::Done
-    );
-    assert_eq!(rt;
-        seen(answer(&mut gmi, &load(1, 0x200), mapper, chooser)),
-        Shown::Two(0x0a, 0x0a)
-    );
-    assert_eq!(rt;
-        seen(answer(&mut gmi, &load(1, 0x400), mapper, chooser)),
-        Shown::Two(0x0a, 0x0b)
-    );
-    assert_eq!(rt;
-        seen(answer(&mut gmi, &load(1, 0x5fe), mapper, chooser)),
-        Shown::Two(0, 0)
-    );
-    Ok(())
+    let mut mapper = MemoryMapper::new(rt.alloc(), &[], &[], 0, &[], 4096)?;
+    least_success(&rt, &mut gmi, &mut mapper, &mut Fifo::new())
 }
 
 #[test]
 fn a_map_is_refused_in_the_order_of_its_refusals(rt: HostRuntime) -> Result<(), Fail> {
     let mut gmi = EagerMachine::new(rt.alloc(), 3, 4096);
-    let (mapper, chooser) = (&mut NoMapper::new(), &mut Fifo::new());
+    let mut mapper = MemoryMapper::new(rt.alloc(), &[], &[], 0, &[], 4096)?;
+    let (mapper, chooser) = (&mut mapper, &mut Fifo::new());
     assert_eq!(rt;
         seen(answer(&mut gmi, &map(0, 0x10000, true), mapper, chooser)),
         Shown::Refused(Refusal::NoActor)
@@ -212,7 +171,7 @@ fn a_map_is_refused_in_the_order_of_its_refusals(rt: HostRuntime) -> Result<(), 
         Shown::Cache(1)
     );
     assert_eq!(rt;
-        seen(answer(&mut gmi, &Command::MakeTemp(1), mapper, chooser)),
+        seen(answer(&mut gmi, &Command::MakeTemp(4_194_241), mapper, chooser)),
         Shown::Refused(Refusal::TooMany)
     );
     assert_eq!(rt;
@@ -238,60 +197,56 @@ fn a_map_is_refused_in_the_order_of_its_refusals(rt: HostRuntime) -> Result<(), 
     Ok(())
 }
 
+// How caches and regions go, and what is told meanwhile.
 #[test]
-fn an_access_is_refused_in_the_order_of_its_refusals(rt: HostRuntime) -> Result<(), Fail> {
+fn caches_and_regions_go(rt: HostRuntime) -> Result<(), Fail> {
     let mut gmi = EagerMachine::new(rt.alloc(), 3, 4096);
-    let (mapper, chooser) = (&mut NoMapper::new(), &mut Fifo::new());
-    assert_eq!(rt;
-        seen(answer(&mut gmi, &load(1, 0x10000), mapper, chooser)),
-        Shown::Refused(Refusal::NoActor)
-    );
+    let mut mapper = MemoryMapper::new(rt.alloc(), &[], &[], 0, &[], 4096)?;
+    let (mapper, chooser) = (&mut mapper, &mut Fifo::new());
     assert_eq!(rt;
         seen(answer(&mut gmi, &Command::MakeActor, mapper, chooser)),
         Shown::Actor(1)
     );
     assert_eq!(rt;
-        seen(answer(&mut gmi, &Command::MakeTemp(64), mapper, chooser)),
+        seen(answer(&mut gmi, &Command::MakeTemp(2), mapper, chooser)),
         Shown::Cache(1)
     );
     assert_eq!(rt;
-        seen(answer(&mut gmi, &map(0, 0x10000, false), mapper, chooser)),
+        seen(answer(&mut gmi, &map(0, 0x10000, true), mapper, chooser)),
         Shown::Region(1)
     );
     assert_eq!(rt;
-        seen(answer(&mut gmi, &load(1, 0x10fff), mapper, chooser)),
-        Shown::Refused(Refusal::Crosses)
+        seen(answer(&mut gmi, &Command::Destroy(CacheId(1)), mapper, chooser)),
+        Shown::Refused(Refusal::InUse)
     );
     assert_eq!(rt;
-        seen(answer(&mut gmi, &load(1, 0x11000), mapper, chooser)),
-        Shown::Refused(Refusal::BadAddress)
+        seen(answer(&mut gmi, &Command::PageOut(3), mapper, chooser)),
+        Shown::Done
     );
     assert_eq!(rt;
-        seen(answer(&mut gmi, &store(0x10000)?, mapper, chooser)),
-        Shown::Refused(Refusal::Protection)
-    );
-    Ok(())
-}
-
-#[test]
-fn a_copy_is_refused_in_the_order_of_its_refusals(rt: HostRuntime) -> Result<(), Fail> {
-    let mut gmi = EagerMachine::new(rt.alloc(), 3, 4096);
-    let (mapper, chooser) = (&mut NoMapper::new(), &mut Fifo::new());
-    assert_eq!(rt;
-        seen(answer(&mut gmi, &Command::MakeTemp(64), mapper, chooser)),
-        Shown::Cache(1)
+        seen(answer(
+            &mut gmi,
+            &Command::Chain(CacheId(1), PageNo(1)),
+            mapper,
+            chooser
+        )),
+        Shown::Chain(1)
     );
     assert_eq!(rt;
-        seen(answer(&mut gmi, &copy(1, 2, 0, 1), mapper, chooser)),
-        Shown::Refused(Refusal::NoCache)
+        seen(answer(&mut gmi, &Command::Unmap(RegionId(1)), mapper, chooser)),
+        Shown::Done
     );
     assert_eq!(rt;
-        seen(answer(&mut gmi, &copy(1, 1, 63, 2), mapper, chooser)),
-        Shown::Refused(Refusal::OutOfCache)
+        seen(answer(&mut gmi, &Command::Destroy(CacheId(1)), mapper, chooser)),
+        Shown::Done
     );
     assert_eq!(rt;
-        seen(answer(&mut gmi, &copy(1, 1, 1, 2), mapper, chooser)),
-        Shown::Refused(Refusal::Overlap)
+        seen(answer(&mut gmi, &Command::Stat, mapper, chooser)),
+        Shown::Stat(Counts {
+            live: 0,
+            working: 0,
+            copies: 0
+        })
     );
     Ok(())
 }

@@ -1,7 +1,7 @@
 -- The machine's answer to a command, row by row: the first refusal that holds, or else the reply and the change.
-use Rattle.std.specs.Prelude.{◌==◌, ℕ, ◌+◌, ◌-◌, ◌*◌, ◌%◌, ◌^◌, ◌&&◌, ◌||◌, not, Bool, false, nat_lt, nat_le, List, [], ◌∷◌, ◌++◌, length, take, drop, replicate, Option, Some, None, option_and_then, slice_get, slice_set, Result, Ok, Err, if◌then◌else◌, unwrap_or}
+use Rattle.std.specs.Prelude.{◌==◌, ℕ, ◌+◌, ◌-◌, ◌*◌, ◌%◌, ◌^◌, ◌&&◌, ◌||◌, not, Bool, false, is_some, nat_lt, nat_le, List, [], ◌∷◌, ◌++◌, map, filter, length, take, drop, replicate, Option, Some, None, option_map, option_and_then, slice_get, slice_set, Result, Ok, Err, if◌then◌else◌, unwrap_or}
 use Rattle.std.specs.List.{list_any, range_with_len}
-use Rattle.std.specs.Option.{option_map_or}
+use Rattle.std.specs.Option.{option_map_or, option_or}
 use Rattle.vm_ids.specs.Denying.{denies}
 use Rattle.vm_ids.specs.Held.{Segments}
 use Rattle.vm_ids.specs.declared.command.Command.{Command}
@@ -14,8 +14,12 @@ use Rattle.vm_ids.specs.declared.reply.Trouble.{Trouble}
 use Rattle.vm_ids.specs.declared.reply.Trouble.TheVariants as troubles
 use Rattle.vm_ids.specs.declared.refusal.Refusal.{Refusal}
 use Rattle.vm_ids.specs.declared.refusal.Refusal.TheVariants as refusals
+use Rattle.vm_ids.specs.declared.numbers.CacheId.{CacheId}
+use Rattle.vm_ids.specs.Forest.Reading.{chain_of, counts_of}
+use Rattle.vm_ids.specs.Forest.Commands.{page_name}
 use Rattle.vm_model.specs.declared.limits.TheConstants.{LIVING_ACTORS, LIVE_PAGES, MADE}
 use Rattle.vm_model.specs.Machine.{Machine, Page, Cache, Region, Actor, zero_page, live_pages, living_actors, cache_of, actor_of, is_locked_page}
+use Rattle.vm_model.specs.PageForest.{PageForest}
 use Rattle.vm_model.specs.Place.{Place, place}
 
 -- what one command answers
@@ -60,17 +64,37 @@ overwrite at part whole = take at whole ++ part ++ drop (at + length part) whole
 -- actor: a new one without regions
 unfoldable pub make_actor_of : Machine → Answered
 make_actor_of m =
-    unless (nat_le LIVING_ACTORS (living_actors m) || nat_le MADE (length m.actors)) refusals.TooMany m
-    (reply (replies.Actor (record { 0 = length m.actors + 1 })) (record m { actors = m.actors ++ Some [] ∷ [] }))
+    unless (nat_le LIVING_ACTORS (living_actors m) || nat_le MADE (length m.actors))
+    refusals.TooMany m
+    (reply (replies.Actor (record { 0 = length m.actors + 1 }))
+    (record m { actors = m.actors ++ Some [] ∷ [] }))
 
 abbrev pub temporary : ℕ → ℕ → Cache
-temporary page_bytes pages = record { segment = None; pages = replicate pages (zero_page page_bytes) }
+temporary page_bytes pages =
+    record { segment = None; pages = replicate pages (zero_page page_bytes) }
 
 -- temp: a new temporary cache of zero pages
 unfoldable pub make_temp_of : Machine → ℕ → Answered
 make_temp_of m pages =
-    unless (nat_le MADE (length m.caches) || nat_lt LIVE_PAGES (live_pages m + pages)) refusals.TooMany m
-    (reply (replies.Cache (record { 0 = length m.caches + 1 })) (record m { caches = m.caches ++ Some (temporary m.page_bytes pages) ∷ [] }))
+    unless (nat_le MADE (length m.caches) || nat_lt LIVE_PAGES (live_pages m + pages))
+    refusals.TooMany m
+    (reply (replies.Cache (record { 0 = length m.caches + 1 }))
+    (record m { caches = m.caches ++ Some (temporary m.page_bytes pages) ∷ [] }))
+
+-- a region of a living actor maps the cache
+abbrev pub maps_in : ℕ → Option Actor → Bool
+maps_in cache None = false
+maps_in cache (Some regions) = list_any (λ (r : Region). r.cache == cache) regions
+
+abbrev pub is_mapped : Machine → ℕ → Bool
+is_mapped m cache = list_any (maps_in cache) m.actors
+
+-- destroy: the cache is gone
+unfoldable pub destroy_of : Machine → ℕ → Answered
+destroy_of m cache =
+    with_some (cache_of m cache) refusals.NoCache m (λ c.
+    unless (is_mapped m cache) refusals.InUse m
+    (reply replies.Done (record m { caches = slice_set m.caches (cache - 1) None })))
 
 -- these pages pass the end of the cache
 abbrev pub passes_end : Cache → ℕ → ℕ → Bool
@@ -78,11 +102,14 @@ passes_end c first pages = nat_lt (length c.pages) (first + pages)
 
 -- two ranges of so many pages or addresses each share one
 abbrev pub shares : ℕ → ℕ → ℕ → ℕ → Bool
-shares start size other other_size = nat_lt start (other + other_size) && nat_lt other (start + size)
+shares start size other other_size =
+    nat_lt start (other + other_size) && nat_lt other (start + size)
 
 -- the mapper denies writing to this page of the cache: only where a segment names the cache
 abbrev pub is_denied_page : Machine → Segments → ℕ → ℕ → Bool
-is_denied_page m h cache page = option_map_or (λ seg. denies h.denied seg page) (option_and_then (λ (c : Cache). c.segment) (cache_of m cache)) false
+is_denied_page m h cache page =
+    option_map_or (λ seg. denies h.denied seg page)
+    (option_and_then (λ (c : Cache). c.segment) (cache_of m cache)) false
 
 abbrev pub put_pages : ℕ → List Page → Cache → Cache
 put_pages first pages c = record c { pages = overwrite first pages c.pages }
@@ -90,20 +117,72 @@ put_pages first pages c = record c { pages = overwrite first pages c.pages }
 abbrev pub put_cache : Machine → ℕ → Cache → Machine
 put_cache m cache c = record m { caches = slice_set m.caches (cache - 1) (Some c) }
 
+-- the pages of a copy or a move pass the end of the source or of the destination
+abbrev pub passes_an_end : Span → Cache → Cache → Bool
+passes_an_end s source destination =
+    passes_end source s.from_page.0 s.pages || passes_end destination s.to_page.0 s.pages
+
+-- the source and the destination of a copy or a move share a page
+abbrev pub overlaps_itself : Span → Bool
+overlaps_itself s = s.from.0 == s.to.0 && shares s.from_page.0 s.pages s.to_page.0 s.pages
+
+-- one of so many pages of a cache is locked
+abbrev pub is_any_locked : Machine → CacheId → ℕ → ℕ → Bool
+is_any_locked m cache first pages =
+    list_any (is_locked_page m cache.0) (range_with_len first pages)
+
+-- the mapper denies writing to one of the pages that a copy or a move fills
+abbrev pub is_any_denied : Machine → Segments → Span → Bool
+is_any_denied m h s = list_any (is_denied_page m h s.to.0) (range_with_len s.to_page.0 s.pages)
+
+-- the destination's pages are what the source's pages are
+abbrev pub put_span : Machine → Span → Cache → Cache → Machine
+put_span m s source destination =
+    put_cache m s.to.0
+    (put_pages s.to_page.0 (take s.pages (drop s.from_page.0 source.pages)) destination)
+
 -- copy: the destination's pages become what the source's pages held before, all at once
 unfoldable pub copy_of : Machine → Span → Segments → Answered
 copy_of m s h =
     with_some (cache_of m s.from.0) refusals.NoCache m (λ source.
     with_some (cache_of m s.to.0) refusals.NoCache m (λ destination.
-    unless (passes_end source s.from_page.0 s.pages || passes_end destination s.to_page.0 s.pages) refusals.OutOfCache m
-    (unless (s.from.0 == s.to.0 && shares s.from_page.0 s.pages s.to_page.0 s.pages) refusals.Overlap m
-    (unless (list_any (is_locked_page m s.to.0) (range_with_len s.to_page.0 s.pages)) refusals.Locked m
-    (unless (list_any (is_denied_page m h s.to.0) (range_with_len s.to_page.0 s.pages)) refusals.WriteDenied m
-    (reply replies.Done (put_cache m s.to.0 (put_pages s.to_page.0 (take s.pages (drop s.from_page.0 source.pages)) destination))))))))
+    unless (passes_an_end s source destination) refusals.OutOfCache m
+    (unless (overlaps_itself s) refusals.Overlap m
+    (unless (is_any_locked m s.to s.to_page.0 s.pages) refusals.Locked m
+    (unless (is_any_denied m h s) refusals.WriteDenied m
+    (reply replies.Done (put_span m s source destination)))))))
+
+-- a segment names the cache
+abbrev pub is_named : Machine → ℕ → Bool
+is_named m cache = option_map_or (λ (c : Cache). is_some c.segment) (cache_of m cache) false
+
+-- the cache with this number becomes what `change` makes of it
+abbrev pub change_cache : Machine → ℕ → (Cache → Cache) → Machine
+change_cache m cache change = option_map_or (λ c. put_cache m cache (change c)) (cache_of m cache) m
+
+-- these pages of the source become zeros
+abbrev pub zero_source : Machine → Span → Machine
+zero_source m s =
+    change_cache m s.from.0 (put_pages s.from_page.0 (replicate s.pages (zero_page m.page_bytes)))
+
+-- move: as copy, and the source's pages become zeros
+unfoldable pub move_of : Machine → Span → Segments → Answered
+move_of m s h =
+    with_some (cache_of m s.from.0) refusals.NoCache m (λ source.
+    with_some (cache_of m s.to.0) refusals.NoCache m (λ destination.
+    unless (passes_an_end s source destination) refusals.OutOfCache m
+    (unless (is_some source.segment) refusals.NotTemp m
+    (unless (overlaps_itself s) refusals.Overlap m
+    (unless (is_any_locked m s.from s.from_page.0 s.pages
+    || is_any_locked m s.to s.to_page.0 s.pages)
+    refusals.Locked m
+    (unless (is_any_denied m h s) refusals.WriteDenied m
+    (reply replies.Done (zero_source (put_span m s source destination) s))))))))
 
 -- the region shares an address with so many pages at this address
 abbrev pub overlaps : ℕ → ℕ → ℕ → Region → Bool
-overlaps page_bytes address pages r = shares address (page_bytes * pages) r.start (page_bytes * r.pages)
+overlaps page_bytes address pages r =
+    shares address (page_bytes * pages) r.start (page_bytes * r.pages)
 
 -- in order of start address
 abbrev pub insert_region : Region → Actor → Actor
@@ -111,13 +190,25 @@ insert_region r [] = r ∷ []
 insert_region r (x ∷ xs) = if nat_lt r.start x.start then r ∷ x ∷ xs else x ∷ insert_region r xs
 
 abbrev pub region_of : ℕ → Mapping → Region
-region_of number p = record { number = number; start = p.address; pages = p.extent.pages; may_write = p.prot.write; cache = p.extent.cache.0; offset = p.extent.first.0; locked = false }
+region_of number p = record {
+  number = number;
+  start = p.address;
+  pages = p.extent.pages;
+  may_write = p.prot.write;
+  cache = p.extent.cache.0;
+  offset = p.extent.first.0;
+  locked = false;
+}
 
 abbrev pub put_actor : Machine → ℕ → Actor → Machine
 put_actor m actor regions = record m { actors = slice_set m.actors (actor - 1) (Some regions) }
 
+-- the actor with a new region, under the next number
 abbrev pub add_region : Machine → ℕ → Actor → Mapping → Machine
-add_region m actor regions p = record (put_actor m actor (insert_region (region_of (m.regions_made + 1) p) regions)) { regions_made = m.regions_made + 1 }
+add_region m actor regions p =
+    let number = m.regions_made + 1 in
+    record (put_actor m actor
+    (insert_region (region_of number p) regions)) { regions_made = number }
 
 -- map: a new region, unlocked
 unfoldable pub map_of : Machine → ℕ → Mapping → Answered
@@ -129,11 +220,36 @@ map_of m actor p =
     (unless (passes_end cache p.extent.first.0 p.extent.pages) refusals.OutOfCache m
     (unless (list_any (overlaps m.page_bytes p.address p.extent.pages) regions) refusals.Overlap m
     (unless (nat_le MADE m.regions_made) refusals.TooMany m
-    (reply (replies.Region (record { 0 = m.regions_made + 1 })) (add_region m actor regions p))))))))
+    (reply (replies.Region (record { 0 = m.regions_made + 1 }))
+    (add_region m actor regions p))))))))
+
+-- the first of these regions with this number
+abbrev pub region_among : ℕ → List Region → Option Region
+region_among number [] = None
+region_among number (r ∷ rs) = if r.number == number then Some r else region_among number rs
+
+-- the region with this number, of a living actor
+abbrev pub region_with : ℕ → List (Option Actor) → Option Region
+region_with number [] = None
+region_with number (None ∷ actors) = region_with number actors
+region_with number (Some regions ∷ actors) =
+    option_or (region_among number regions) (region_with number actors)
+
+abbrev pub without_region : ℕ → Actor → Actor
+without_region number regions = filter (λ (r : Region). not (r.number == number)) regions
+
+-- unmap: the region is gone
+unfoldable pub unmap_of : Machine → ℕ → Answered
+unmap_of m number =
+    with_some (region_with number m.actors) refusals.NoRegion m (λ r.
+    unless r.locked refusals.Locked m
+    (reply replies.Done (record m { actors = map (option_map (without_region number)) m.actors })))
 
 -- the page of a place, empty where there is none
 abbrev pub page_at : Machine → Place → Page
-page_at m p = option_map_or (λ (c : Cache). unwrap_or (slice_get c.pages p.page) []) (cache_of m p.region.cache) []
+page_at m p =
+    option_map_or (λ (c : Cache). unwrap_or (slice_get c.pages p.page) [])
+    (cache_of m p.region.cache) []
 
 abbrev pub bytes_at : Machine → Place → ℕ → List ℕ
 bytes_at m p length = take length (drop p.byte (page_at m p))
@@ -148,7 +264,10 @@ put_page page bytes c = record c { pages = slice_set c.pages page bytes }
 
 -- these bytes stand at the place
 abbrev pub write_at : Machine → Place → List ℕ → Machine
-write_at m p bytes = option_map_or (λ c. put_cache m p.region.cache (put_page p.page (overwrite p.byte bytes (page_at m p)) c)) (cache_of m p.region.cache) m
+write_at m p bytes =
+    option_map_or
+    (λ c. put_cache m p.region.cache (put_page p.page (overwrite p.byte bytes (page_at m p)) c))
+    (cache_of m p.region.cache) m
 
 -- store: the bytes at the place change
 unfoldable pub store_of : Machine → ℕ → ℕ → List ℕ → Segments → Answered
@@ -158,11 +277,24 @@ store_of m actor address bytes h =
     (unless (is_denied_page m h p.region.cache p.page) refusals.WriteDenied m
     (reply replies.Done (write_at m p bytes))))
 
--- the whole table
-abbrev pub answer_of : Machine → Command → Segments → Answered
-answer_of m commands.MakeActor h = make_actor_of m
-answer_of m (commands.MakeTemp pages) h = make_temp_of m pages
-answer_of m (commands.Copy span) h = copy_of m span h
-answer_of m (commands.Map actor mapping) h = map_of m actor.0 mapping
-answer_of m (commands.Load actor address length) h = load_of m actor.0 address length
-answer_of m (commands.Store actor address piece) h = store_of m actor.0 address piece h
+-- chain: the nodes from that of the page up to its owner
+unfoldable pub chain_answer : Machine → PageForest → CacheId → ℕ → Answered
+chain_answer m f cache page =
+    with_some (cache_of m cache.0) refusals.NoCache m (λ c.
+    unless (passes_end c page 1) refusals.OutOfCache m
+    (reply (replies.Chain (chain_of f (page_name cache page))) m))
+
+-- the whole table; the forest is what chain and stat tell
+abbrev pub answer_of : Machine → PageForest → Command → Segments → Answered
+answer_of m f commands.MakeActor h = make_actor_of m
+answer_of m f (commands.MakeTemp pages) h = make_temp_of m pages
+answer_of m f (commands.Destroy cache) h = destroy_of m cache.0
+answer_of m f (commands.Copy span) h = copy_of m span h
+answer_of m f (commands.Move span) h = move_of m span h
+answer_of m f (commands.Map actor mapping) h = map_of m actor.0 mapping
+answer_of m f (commands.Unmap region) h = unmap_of m region.0
+answer_of m f (commands.Load actor address length) h = load_of m actor.0 address length
+answer_of m f (commands.Store actor address piece) h = store_of m actor.0 address piece h
+answer_of m f (commands.PageOut count) h = reply replies.Done m
+answer_of m f (commands.Chain cache page) h = chain_answer m f cache page.0
+answer_of m f commands.Stat h = reply (replies.Stat (counts_of f)) m

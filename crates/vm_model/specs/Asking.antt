@@ -3,29 +3,41 @@ use Rattle.std.specs.Prelude.{◌≡◌, ◌≤◌, ℕ, ◌+◌}
 use Rattle.vm_ids.specs.Counting.{MapperCounts, no_counts}
 use Rattle.vm_ids.specs.declared.command.Command.{Command}
 use Rattle.vm_ids.specs.declared.command.Command.TheVariants as commands
+use Rattle.vm_ids.specs.declared.command.Span.{Span}
 use Rattle.vm_model.specs.Machine.{Machine, cache_of, pages_in}
 
 -- counts of pages are at least 1, and a load is of 1 to 64 bytes
 abbrev pub IsWellFormed : Command → Type 0
-IsWellFormed commands.MakeActor = Unit {0}
 IsWellFormed (commands.MakeTemp pages) = 1 ≤ pages
 IsWellFormed (commands.Copy span) = 1 ≤ span.pages
+IsWellFormed (commands.Move span) = 1 ≤ span.pages
 IsWellFormed (commands.Map actor mapping) = 1 ≤ mapping.extent.pages
 IsWellFormed (commands.Load actor address length) = (1 ≤ length) × (length ≤ 64)
-IsWellFormed (commands.Store actor address piece) = Unit {0}
+IsWellFormed (commands.PageOut count) = 1 ≤ count
+IsWellFormed command = Unit {0}
 
 -- these commands don't reach the mapper, so none of its counts rises in their answers
 abbrev pub ReachesMapper : Command → MapperCounts → Type 0
 ReachesMapper commands.MakeActor rises = rises ≡ no_counts
 ReachesMapper (commands.MakeTemp pages) rises = rises ≡ no_counts
 ReachesMapper (commands.Map actor mapping) rises = rises ≡ no_counts
+ReachesMapper (commands.Unmap region) rises = rises ≡ no_counts
+ReachesMapper (commands.Chain cache page) rises = rises ≡ no_counts
+ReachesMapper commands.Stat rises = rises ≡ no_counts
 ReachesMapper command rises = Unit {0}
 
--- The pages that a command names, and those of the caches and regions that it names or makes.
+-- the pages of two caches that a copy or move names, and those that it copies or moves
+abbrev pub pages_of_span : Machine → Span → ℕ
+pages_of_span m s = s.pages + pages_in (cache_of m s.from.0) + pages_in (cache_of m s.to.0)
+
+-- The pages that a command names, and those of the caches and regions that it names or makes, where it can number a node.
 abbrev pub pages_touched : Machine → Command → ℕ
-pages_touched m commands.MakeActor = 0
 pages_touched m (commands.MakeTemp pages) = pages
-pages_touched m (commands.Copy span) = span.pages + pages_in (cache_of m span.from.0) + pages_in (cache_of m span.to.0)
-pages_touched m (commands.Map actor mapping) = mapping.extent.pages + pages_in (cache_of m mapping.extent.cache.0)
+pages_touched m (commands.Destroy cache) = pages_in (cache_of m cache.0)
+pages_touched m (commands.Copy span) = pages_of_span m span
+pages_touched m (commands.Move span) = pages_of_span m span
+pages_touched m (commands.Map actor mapping) =
+    mapping.extent.pages + pages_in (cache_of m mapping.extent.cache.0)
 pages_touched m (commands.Load actor address length) = 1
 pages_touched m (commands.Store actor address piece) = 1
+pages_touched m command = 0

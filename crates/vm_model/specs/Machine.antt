@@ -39,7 +39,8 @@ pub record Machine : Type 0 where
 
 -- how a run begins
 abbrev pub start : ℕ → ℕ → Machine
-start frames page_bytes = record { page_bytes = page_bytes; frames = frames; caches = []; actors = []; regions_made = 0 }
+start frames page_bytes =
+    record { page_bytes = page_bytes; frames = frames; caches = []; actors = []; regions_made = 0 }
 
 -- the one with this number, where it is alive
 abbrev pub numbered : {A : Type 0} → List (Option A) → ℕ → Option A
@@ -65,7 +66,8 @@ live_pages m = sum_by pages_in m.caches
 
 -- a locked region that covers this page of this cache
 abbrev pub locks : ℕ → ℕ → Region → Bool
-locks cache page r = r.locked && r.cache == cache && nat_le r.offset page && nat_lt page (r.offset + r.pages)
+locks cache page r =
+    r.locked && r.cache == cache && nat_le r.offset page && nat_lt page (r.offset + r.pages)
 
 abbrev pub locks_any : ℕ → ℕ → Option Actor → Bool
 locks_any cache page None = false

@@ -17,7 +17,8 @@ cache_named (c ∷ cs) seg = if is_named_by seg c then c else cache_named cs seg
 
 -- its page, as the machine holds it
 abbrev pub page_named : Machine → ℕ → ℕ → Option Page
-page_named m seg page = option_and_then (λ (c : Cache). slice_get c.pages page) (cache_named m.caches seg)
+page_named m seg page =
+    option_and_then (λ (c : Cache). slice_get c.pages page) (cache_named m.caches seg)
 
 -- the page that is pushed to a segment: it is there, and the mapper doesn't deny it
 abbrev pub MayPush : Machine → Option Segments → ℕ × ℕ → Type 0
@@ -26,10 +27,13 @@ MayPush m (Some s) p = IsSome (page_named m p.0 p.1) × (denies s.denied p.0 p.1
 
 abbrev pub segments_after : Machine → List (ℕ × ℕ) → Option Segments → Option Segments
 segments_after m [] s = s
-segments_after m (p ∷ ps) s = segments_after m ps (option_map (put_segment_page p.0 p.1 (unwrap_or (page_named m p.0 p.1) [])) s)
+segments_after m (p ∷ ps) s =
+    segments_after m ps
+    (option_map (put_segment_page p.0 p.1 (unwrap_or (page_named m p.0 p.1) [])) s)
 
 -- Each push is of a page of a named cache, as the machine holds it before the answer, and nothing else changes a
 -- segment. A push is its segment and its page.
-pub record PushRule (m : Machine) (before : Option Segments) (pushes : List (ℕ × ℕ)) (after : Option Segments) : Type 0 where
+pub record PushRule (m : Machine) (before : Option Segments) (pushes : List (ℕ × ℕ))
+    (after : Option Segments) : Type 0 where
   pub may : AllByRecursion (MayPush m before) pushes
   pub pushed : after ≡ segments_after m pushes before

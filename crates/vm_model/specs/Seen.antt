@@ -10,7 +10,16 @@ use Rattle.vm_model.specs.declared.tables.Tables.{Tables}
 use Rattle.vm_model.specs.declared.place.Found.{Found}
 
 abbrev pub region_seen : Region → model.Region
-region_seen r = record { number = r.number.0; start = r.start; pages = r.pages; may_write = r.may_write; cache = r.cache.0; offset = r.offset; locked = false }
+region_seen r =
+    record {
+      number = r.number.0;
+      start = r.start;
+      pages = r.pages;
+      may_write = r.may_write;
+      cache = r.cache.0;
+      offset = r.offset;
+      locked = false;
+    }
 
 abbrev pub pages_seen : Cache → List (List ℕ)
 pages_seen c = map (λ p. p.items) c.pages.items
@@ -21,17 +30,23 @@ cache_seen c = record { segment = None; pages = pages_seen c }
 abbrev pub actor_seen : Actor → model.Actor
 actor_seen a = map region_seen a.regions.items
 
+abbrev pub actors_seen : List (Option Actor) → List (Option model.Actor)
+actors_seen actors = map (option_map actor_seen) actors
+
 abbrev pub machine_seen : Tables → model.Machine
 machine_seen t = record {
   page_bytes = t.page_bytes;
   frames = t.frames;
   caches = map (option_map cache_seen) t.caches.items;
-  actors = map (option_map actor_seen) t.actors.items;
+  actors = actors_seen t.actors.items;
   regions_made = t.regions_made;
 }
 
+abbrev pub place_seen : Found → model_place.Place
+place_seen f = record { region = region_seen f.region; page = f.page; byte = f.byte }
+
 abbrev pub found_seen : Result Found Refusal → Result model_place.Place Refusal
-found_seen (Ok f) = Ok (record { region = region_seen f.region; page = f.page; byte = f.byte })
+found_seen (Ok f) = Ok (place_seen f)
 found_seen (Err e) = Err e
 
 -- a region ends within the addresses, and its pages are those of a live cache

@@ -1,11 +1,9 @@
 // Bytes are loaded and stored.
-ghost use Rattle.std.specs.Prelude.{◌≡◌, ℕ, ◌+◌, ◌-◌, ◌≤◌, ◌<◌, List, [], map, length, Some, option_map, option_and_then, slice_get, slice_set, unwrap_or, IfOk, All};
-ghost use Rattle.vm_ids.specs.Counting.{no_counts};
-ghost use Rattle.vm_ids.specs.Held.{Segments};
+ghost use Rattle.std.specs.Prelude.{None, ◌≡◌, ℕ, ◌+◌, ◌-◌, ◌≤◌, ◌<◌, List, [], map, length, Some, option_map, option_and_then, slice_get, slice_set, unwrap_or, IfOk, All};
 ghost use Rattle.vm_model.specs.Answering.{answer_by, bytes_at, overwrite, page_at, write_at};
 ghost use Rattle.vm_model.specs.Machine.{numbered};
-ghost use Rattle.vm_model.specs.Outcome.{Outcome};
-ghost use Rattle.vm_model.specs.Seen.{machine_seen, pages_seen, region_seen, IsPlaced, IsSound};
+ghost use Rattle.vm_model.specs.Outcome.{PlainOutcome};
+ghost use Rattle.vm_model.specs.Seen.{IsPlaced, IsSound, machine_seen, pages_seen, place_seen};
 
 use crate::place::{Found, cache_at, place_of};
 use crate::tables::{Cache, Tables};
@@ -13,7 +11,9 @@ use vm_ids::{ActorId, Command, Piece, Refusal, Reply, Trouble};
 
 // A page of a cache, where it is there.
 fn page_in(caches: &[Option<Cache>], cache: u32, page: u64) -> Option<&[u8]>
-    ensures { option_map (λ p. p.now) result ≡ option_and_then (λ c. slice_get (map (λ p. p.items) c.pages.items) page) (numbered caches.now cache) }
+    ensures { option_map (λ p. p.now) result
+        ≡ option_and_then (λ c. slice_get (map (λ p. p.items) c.pages.items) page)
+        (numbered caches.now cache) }
 {
     match cache_at(caches, cache) {
         Some(cache) => match cache.pages.get(page as usize) {
@@ -29,7 +29,7 @@ fn page_of(tables: &Tables, found: Found) -> &[u8]
     requires sound { IsSound tables.now }
     requires placed { IsPlaced tables.now.page_bytes tables.now.caches.items found.region }
     requires within { found.page < found.region.offset + found.region.pages }
-    ensures page { result.now ≡ page_at (machine_seen tables.now) (record { region = region_seen found.region; page = found.page; byte = found.byte }) }
+    ensures page { result.now ≡ page_at (machine_seen tables.now) (place_seen found) }
     ensures length { length result.now ≡ tables.now.page_bytes }
 {
     match page_in(&tables.caches, found.region.cache.0, found.page) {
@@ -46,7 +46,7 @@ fn bytes_at(tables: &Tables, found: Found, bytes: u8) -> Piece
     requires byte { found.byte + bytes ≤ tables.now.page_bytes }
     requires some { 1 ≤ bytes }
     requires few { bytes ≤ 64 }
-    ensures bytes { result ≡ bytes_at (machine_seen tables.now) (record { region = region_seen found.region; page = found.page; byte = found.byte }) bytes }
+    ensures bytes { result ≡ bytes_at (machine_seen tables.now) (place_seen found) bytes }
     ensures length { length result ≡ bytes }
 {
     let page = page_of(tables, found);
@@ -67,7 +67,8 @@ pub(crate) fn load(
     requires sound { IsSound tables.now }
     requires some { 1 ≤ bytes }
     requires few { bytes ≤ 64 }
-    ensures outcome { (h : Segments) → Outcome (machine_seen tables.now) (Command.Load actor address bytes) h (answer_by Reply.Bytes result) (machine_seen tables.now) no_counts }
+    ensures outcome { PlainOutcome (machine_seen tables.now) (Command.Load actor address bytes)
+        (answer_by Reply.Bytes result) (machine_seen tables.now) }
     ensures length { IfOk result (λ piece. length piece ≡ bytes) }
 {
     match place_of(tables, actor, address, bytes) {
@@ -88,7 +89,9 @@ fn write_page(page: &mut Vec<u8>, at: usize, bytes: &[u8])
 fn write_cache(cache: &mut Cache, page: usize, at: usize, bytes: &[u8])
     requires there { page < length cache.old.pages.items }
     requires within { All (λ p. at + length bytes.now ≤ length p.items) cache.old.pages.items }
-    ensures { pages_seen cache.new ≡ slice_set (pages_seen cache.old) page (overwrite at bytes.now (unwrap_or (slice_get (pages_seen cache.old) page) [])) }
+    ensures { pages_seen cache.new
+        ≡ slice_set (pages_seen cache.old) page
+        (overwrite at bytes.now (unwrap_or (slice_get (pages_seen cache.old) page) [])) }
 {
     write_page(&mut cache.pages[page], at, bytes);
 }
@@ -100,7 +103,8 @@ fn write_place(tables: &mut Tables, found: Found, bytes: &[u8])
     requires within { found.page < found.region.offset + found.region.pages }
     requires byte { found.byte + length bytes.now ≤ tables.old.page_bytes }
     ensures sound { IsSound tables.new }
-    ensures machine { machine_seen tables.new ≡ write_at (machine_seen tables.old) (record { region = region_seen found.region; page = found.page; byte = found.byte }) bytes.now }
+    ensures machine { machine_seen tables.new
+        ≡ write_at (machine_seen tables.old) (place_seen found) bytes.now }
 {
     match &mut tables.caches[found.region.cache.0 as usize - 1] {
         Some(cache) => write_cache(cache, found.page as usize, found.byte as usize, bytes),
@@ -117,7 +121,8 @@ pub(crate) fn store(
 ) -> Result<(), Trouble>
     requires { IsSound tables.old }
     ensures sound { IsSound tables.new }
-    ensures outcome { (h : Segments) → Outcome (machine_seen tables.old) (Command.Store actor address piece.now) h (answer_by (λ _. Reply.Done) result) (machine_seen tables.new) no_counts }
+    ensures outcome { PlainOutcome (machine_seen tables.old) (Command.Store actor address piece.now)
+        (answer_by (λ _. Reply.Done) result) (machine_seen tables.new) }
 {
     let bytes = piece.as_slice();
     let found = match place_of(tables, actor, address, bytes.len() as u8) {

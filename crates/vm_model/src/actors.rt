@@ -1,9 +1,7 @@
 // Actors are made.
-ghost use Rattle.std.specs.Prelude.{◌≡◌, ℕ, ◌+◌, ◌≤◌, ◌<◌, ◌∷◌, ◌++◌, [], length};
-ghost use Rattle.vm_ids.specs.Counting.{no_counts};
-ghost use Rattle.vm_ids.specs.Held.{Segments};
+ghost use Rattle.std.specs.Prelude.{None, ◌≡◌, ℕ, ◌+◌, ◌≤◌, ◌<◌, ◌∷◌, ◌++◌, [], length};
 ghost use Rattle.vm_model.specs.Answering.{answer_by};
-ghost use Rattle.vm_model.specs.Outcome.{Outcome};
+ghost use Rattle.vm_model.specs.Outcome.{PlainOutcome};
 ghost use Rattle.vm_model.specs.Seen.{machine_seen, IsSound};
 
 use crate::tables::{Actor, Tables};
@@ -14,7 +12,8 @@ use vm_ids::{ActorId, Command, Refusal, Reply, Trouble};
 pub(crate) fn make_actor(tables: &mut Tables) -> Result<ActorId, Trouble>
     requires { IsSound tables.old }
     ensures sound { IsSound tables.new }
-    ensures outcome { (h : Segments) → Outcome (machine_seen tables.old) Command.MakeActor h (answer_by Reply.Actor result) (machine_seen tables.new) no_counts }
+    ensures outcome { PlainOutcome (machine_seen tables.old) Command.MakeActor
+        (answer_by Reply.Actor result) (machine_seen tables.new) }
 {
     if tables.living >= LIVING_ACTORS || tables.actors.len() >= MADE as usize {
         return Err(Trouble::Refused(Refusal::TooMany));

@@ -1,9 +1,10 @@
 //! The machine that the memory manager is measured by: it keeps each cache as plain bytes and copies at once.
 //!
 //! Its definitions are what a reader must believe, and are in specs/: the machine (`Machine`), the place of an access
-//! (`Place`), the answer to each command (`Answering`), what a manager may answer (`Outcome`), what a push writes
-//! (`Pushing`) and a whole run (`Run`). [`EagerMachine`] is the plain program that computes them; it is seen as the
-//! machine itself. The crate stands on the plain types alone; the interface, every manager and the replay stand on it.
+//! (`Place`), the answer to each command (`Answering`), what a manager may answer (`Outcome`), how the page forest
+//! follows (`PageForest`, `Following`), what a push writes (`Pushing`) and a whole run (`Run`). [`EagerMachine`] is the
+//! plain program that computes the answers; it is seen as the machine itself. [`laws`] has what holds of machine and
+//! forest together. The crate stands on the plain types alone; the interface, every manager and the replay stand on it.
 #![tactic(auto)]
 
 mod accesses;
@@ -11,10 +12,12 @@ mod actors;
 mod caches;
 mod copies;
 mod eager_machine;
+pub mod laws;
 mod limits;
 mod maps;
 mod place;
 mod tables;
+mod telling;
 #[cfg(test)]
 mod tests;
 

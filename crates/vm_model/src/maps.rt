@@ -1,12 +1,10 @@
-// Regions are mapped.
-ghost use Rattle.std.specs.Prelude.{◌≡◌, ℕ, ◌+◌, ◌-◌, ◌*◌, ◌^◌, ◌≤◌, ◌<◌, map, length, insert, nat_lt, All, OnOk, OnErr, IsSome, List, Option, option_map, slice_set};
+// Regions are mapped and taken away.
+ghost use Rattle.std.specs.Prelude.{None, ◌==◌, not, filter, is_some, ◌≡◌, ℕ, ◌+◌, ◌-◌, ◌*◌, ◌^◌, ◌≤◌, ◌<◌, map, length, insert, nat_lt, All, OnOk, OnErr, IsSome, List, Option, option_map, slice_set};
 ghost use Rattle.std.specs.List.{list_any};
-ghost use Rattle.vm_ids.specs.Counting.{no_counts};
-ghost use Rattle.vm_ids.specs.Held.{Segments};
-ghost use Rattle.vm_model.specs.Answering.{answer_by, insert_region, overlaps, region_of};
+ghost use Rattle.vm_model.specs.Answering.{answer_by, insert_region, overlaps, region_among, region_of, region_with, without_region};
 ghost use Rattle.vm_model.specs.Machine.{numbered};
-ghost use Rattle.vm_model.specs.Outcome.{Outcome};
-ghost use Rattle.vm_model.specs.Seen.{actor_seen, machine_seen, region_seen, ArePlaced, IsPlaced, IsSound};
+ghost use Rattle.vm_model.specs.Outcome.{PlainOutcome};
+ghost use Rattle.vm_model.specs.Seen.{ArePlaced, IsPlaced, IsSound, actor_seen, actors_seen, machine_seen, region_seen};
 
 use crate::MADE;
 use crate::place::{actor_at, cache_at, passes_end};
@@ -41,7 +39,8 @@ fn overlaps_any(regions: &[Region], page_bytes: u64, address: u64, pages: u32) -
 #[tactic(auto, using(crate::proofs::Regions::goes_on, crate::proofs::Regions::goes_here, crate::proofs::Regions::goes_last))]
 fn place_for(regions: &[Region], region: &Region) -> usize
     ensures within { result ≤ length regions.now }
-    ensures place { insert_region (region_seen region.now) (map region_seen regions.now) ≡ map region_seen (insert regions.now result region.now) }
+    ensures place { insert_region (region_seen region.now) (map region_seen regions.now)
+        ≡ map region_seen (insert regions.now result region.now) }
 {
     for (place, other) in regions.iter().enumerate() {
         if region.start < other.start {
@@ -53,7 +52,8 @@ fn place_for(regions: &[Region], region: &Region) -> usize
 
 fn region_for(number: u32, mapping: &Mapping) -> Region
     ensures region { region_seen result ≡ region_of number mapping.now }
-    ensures parts { (result.start ≡ mapping.now.address) × (result.pages ≡ mapping.now.extent.pages) × (result.cache ≡ mapping.now.extent.cache) × (result.offset ≡ mapping.now.extent.first.0) }
+    ensures parts { (result.start ≡ mapping.now.address) × (result.pages ≡ mapping.now.extent.pages)
+        × (result.cache ≡ mapping.now.extent.cache) × (result.offset ≡ mapping.now.extent.first.0) }
 {
     Region {
         number: RegionId(number),
@@ -67,8 +67,11 @@ fn region_for(number: u32, mapping: &Mapping) -> Region
 
 // A region is added in its place.
 fn add_region(regions: &mut Vec<Region>, region: Region) -> Result<(), NoMemory>
-    ensures seen { OnOk result (map region_seen regions.new.items ≡ insert_region (region_seen region) (map region_seen regions.old.items)) }
-    ensures all { OnOk result ((at : ℕ) × (regions.new.items ≡ insert regions.old.items at region)) }
+    ensures seen { OnOk result
+        (map region_seen regions.new.items
+        ≡ insert_region (region_seen region) (map region_seen regions.old.items)) }
+    ensures all { OnOk result
+        ((at : ℕ) × (regions.new.items ≡ insert regions.old.items at region)) }
     ensures err { OnErr result (regions.new.items ≡ regions.old.items) }
 {
     let at = place_for(regions, &region);
@@ -81,10 +84,12 @@ fn add_region(regions: &mut Vec<Region>, region: Region) -> Result<(), NoMemory>
 // The same in the actor with a number.
 fn place_region(actors: &mut Vec<Option<Actor>>, actor: u32, region: Region) -> Result<(), NoMemory>
     requires { IsSome (numbered actors.old.items actor) }
-    ensures seen { OnOk result (map (option_map actor_seen) actors.new.items ≡ slice_set (map (option_map actor_seen) actors.old.items) (actor - 1)
+    ensures seen { OnOk result
+        (actors_seen actors.new.items ≡ slice_set (actors_seen actors.old.items) (actor - 1)
         (option_map (λ a. insert_region (region_seen region) (actor_seen a)) (numbered actors.old.items actor))) }
-    ensures err { OnErr result (map (option_map actor_seen) actors.new.items ≡ map (option_map actor_seen) actors.old.items) }
-    ensures placed { (b : ℕ) (cs : List (Option Cache)) → IsPlaced b cs region → All (ArePlaced b cs) actors.old.items → All (ArePlaced b cs) actors.new.items }
+    ensures err { OnErr result (actors_seen actors.new.items ≡ actors_seen actors.old.items) }
+    ensures placed { (b : ℕ) (cs : List (Option Cache)) → IsPlaced b cs region
+        → All (ArePlaced b cs) actors.old.items → All (ArePlaced b cs) actors.new.items }
 {
     match &mut actors[actor as usize - 1] {
         Some(found) => add_region(&mut found.regions, region),
@@ -123,7 +128,8 @@ pub(crate) fn map(
 ) -> Result<RegionId, Trouble>
     requires { IsSound tables.old }
     ensures sound { IsSound tables.new }
-    ensures outcome { (h : Segments) → Outcome (machine_seen tables.old) (Command.Map actor mapping.now) h (answer_by Reply.Region result) (machine_seen tables.new) no_counts }
+    ensures outcome { PlainOutcome (machine_seen tables.old) (Command.Map actor mapping.now)
+        (answer_by Reply.Region result) (machine_seen tables.new) }
 {
     let Some(found) = actor_at(&tables.actors, actor.0) else {
         return Err(Trouble::Refused(Refusal::NoActor));
@@ -153,4 +159,77 @@ pub(crate) fn map(
         Ok(()) => Ok(RegionId(number)),
         Err(NoMemory) => Err(Trouble::Memory),
     }
+}
+
+// Whether one of these regions has the number.
+fn has_region(regions: &[Region], number: RegionId) -> bool
+    ensures { result ≡ is_some (region_among number.0 (map region_seen regions.now)) }
+{
+    for region in regions {
+        if region.number == number {
+            return true;
+        }
+    }
+    false
+}
+
+// Whether a region of a living actor has the number.
+fn is_region(actors: &[Option<Actor>], number: RegionId) -> bool
+    ensures { result ≡ is_some (region_with number.0 (actors_seen actors.now)) }
+{
+    for actor in actors {
+        if let Some(actor) = actor {
+            if has_region(&actor.regions, number) {
+                return true;
+            }
+        }
+    }
+    false
+}
+
+// The regions but for the one with the number.
+fn drop_from(regions: &mut Vec<Region>, number: RegionId)
+    ensures { regions.new.items
+        ≡ filter (λ (r : Region). not (r.number.0 == number.0)) regions.old.items }
+{
+    regions.retain(|region| region.number.0 != number.0);
+}
+
+// The same of an actor, if it is alive.
+fn drop_of(actor: &mut Option<Actor>, number: RegionId)
+    ensures seen { option_map actor_seen actor.new
+        ≡ option_map (without_region number.0) (option_map actor_seen actor.old) }
+    ensures placed { (b : ℕ) (cs : List (Option Cache)) → ArePlaced b cs actor.old
+        → ArePlaced b cs actor.new }
+{
+    match actor {
+        Some(actor) => drop_from(&mut actor.regions, number),
+        None => {}
+    }
+}
+
+// The same of each living actor.
+fn drop_region(actors: &mut [Option<Actor>], number: RegionId)
+    ensures seen { actors_seen actors.new
+        ≡ map (option_map (without_region number.0)) (actors_seen actors.old) }
+    ensures placed { (b : ℕ) (cs : List (Option Cache)) → All (ArePlaced b cs) actors.old
+        → All (ArePlaced b cs) actors.new }
+{
+    for actor in actors.iter_mut() {
+        drop_of(actor, number);
+    }
+}
+
+#[tactic(auto, unfolding(crate::specs::Answering::unmap_of, crate::specs::Answering::with_some, crate::specs::Answering::unless))]
+pub(crate) fn unmap(tables: &mut Tables, region: RegionId) -> Result<(), Trouble>
+    requires { IsSound tables.old }
+    ensures sound { IsSound tables.new }
+    ensures outcome { PlainOutcome (machine_seen tables.old) (Command.Unmap region)
+        (answer_by (λ _. Reply.Done) result) (machine_seen tables.new) }
+{
+    if !is_region(&tables.actors, region) {
+        return Err(Trouble::Refused(Refusal::NoRegion));
+    }
+    drop_region(&mut tables.actors, region);
+    Ok(())
 }

@@ -54,7 +54,8 @@ pub(crate) fn passes_end(cache: &Cache, first: u32, pages: u32) -> bool
 fn region_holding(regions: &[Region], page_bytes: u64, address: u64) -> Option<Region>
     requires bytes { page_bytes ≤ 2 ^ 16 }
     requires ends { All (λ r. r.start + page_bytes * r.pages ≤ 2 ^ 48) regions.now }
-    ensures found { option_map region_seen result ≡ region_at page_bytes address (map region_seen regions.now) }
+    ensures found { option_map region_seen result
+        ≡ region_at page_bytes address (map region_seen regions.now) }
     ensures one { IfSome result (λ r. Contains regions.now r) }
     ensures from { IfSome result (λ r. r.start ≤ address) }
     ensures below { IfSome result (λ r. address < r.start + page_bytes * r.pages) }
@@ -74,7 +75,8 @@ fn locate(regions: &[Region], page_bytes: u64, address: u64, bytes: u64) -> Resu
     requires most { page_bytes ≤ 2 ^ 16 }
     requires few { bytes ≤ 64 }
     requires ends { All (λ r. r.start + page_bytes * r.pages ≤ 2 ^ 48) regions.now }
-    ensures place { found_seen result ≡ place_among page_bytes (map region_seen regions.now) address bytes }
+    ensures place { found_seen result
+        ≡ place_among page_bytes (map region_seen regions.now) address bytes }
     ensures page { IfOk result (λ f. f.page < f.region.offset + f.region.pages) }
     ensures one { IfOk result (λ f. Contains regions.now f.region) }
     ensures byte { IfOk result (λ f. f.byte + bytes ≤ page_bytes) }
@@ -103,7 +105,8 @@ pub(crate) fn place_of(
     requires sound { IsSound tables.now }
     requires few { bytes ≤ 64 }
     ensures place { found_seen result ≡ place (machine_seen tables.now) actor.0 address bytes }
-    ensures page { IfOk result (λ f. IsPlaced tables.now.page_bytes tables.now.caches.items f.region) }
+    ensures page { IfOk result
+        (λ f. IsPlaced tables.now.page_bytes tables.now.caches.items f.region) }
     ensures within { IfOk result (λ f. f.page < f.region.offset + f.region.pages) }
     ensures byte { IfOk result (λ f. f.byte + bytes ≤ tables.now.page_bytes) }
 {

@@ -1,0 +1,51 @@
+-- How the page forest follows the answers.
+use Rattle.std.specs.Prelude.{ℕ, List, [], length, option_map, Result, Ok, Err, unwrap_or}
+use Rattle.vm_ids.specs.declared.command.Command.{Command}
+use Rattle.vm_ids.specs.declared.command.Command.TheVariants as commands
+use Rattle.vm_ids.specs.declared.node_name.NodeName.{NodeName}
+use Rattle.vm_ids.specs.declared.reply.FaultAt.TheVariants as faults
+use Rattle.vm_ids.specs.declared.reply.Trouble.TheVariants as troubles
+use Rattle.vm_ids.specs.declared.refusal.Refusal.{Refusal}
+use Rattle.vm_ids.specs.Forest.Rules.{write}
+use Rattle.vm_ids.specs.Forest.Saving.{saves}
+use Rattle.vm_ids.specs.Forest.Commands.{page_name, page_names, span_pairs, make, copy, move_, destroy}
+use Rattle.vm_model.specs.Machine.{Machine, cache_of, pages_in}
+use Rattle.vm_model.specs.Place.{Place, place}
+use Rattle.vm_model.specs.PageForest.{PageForest, told, nodes_of, page_in}
+use Rattle.vm_model.specs.Answering.{Answer, is_named, overwrite}
+
+-- The pages of which a command does the saves, where they are of a named cache: those that it replaces or takes away.
+abbrev pub pages_saved : Machine → Command → List NodeName
+pages_saved m (commands.Copy span) = page_names span.to span.to_page.0 span.pages
+pages_saved m (commands.Move span) = page_names span.to span.to_page.0 span.pages
+pages_saved m (commands.Destroy cache) = page_names cache 0 (pages_in (cache_of m cache.0))
+pages_saved m command = []
+
+-- these bytes are written at the place
+abbrev pub written_at : PageForest → Result Place Refusal → List ℕ → PageForest
+written_at f (Ok at) bytes =
+    write f (page_name (record { 0 = at.region.cache }) at.page)
+    (option_map (overwrite at.byte bytes))
+written_at f (Err r) bytes = f
+
+-- The rule of each command that was carried out, which led from machine m to next. New pages, and the zeros that a move
+-- leaves, are those that next has.
+abbrev pub followed : PageForest → Machine → Command → Machine → PageForest
+followed f m (commands.MakeTemp pages) next =
+    make (nodes_of (length next.caches) (cache_of next (length next.caches))) f
+followed f m (commands.Destroy cache) next =
+    destroy (is_named m cache.0) (pages_saved m (commands.Destroy cache)) f
+followed f m (commands.Copy span) next = copy (is_named m span.to.0) (span_pairs span) f
+followed f m (commands.Move span) next =
+    move_ (is_named m span.to.0) (told (unwrap_or (page_in next span.from.0 span.from_page.0) []))
+    (span_pairs span) f
+followed f m (commands.Store actor address piece) next =
+    written_at f (place m actor.0 address (length piece)) piece
+followed f m command next = f
+
+-- The forest after an answer: the command's rule, or the saves that were done before one failed, or the same forest.
+abbrev pub forest_after : PageForest → Machine → Command → Answer → Machine → PageForest
+forest_after f m command (Ok reply) next = followed f m command next
+forest_after f m command (Err (troubles.Mapper (faults.Save done))) next =
+    saves done (pages_saved m command) f
+forest_after f m command (Err trouble) next = f

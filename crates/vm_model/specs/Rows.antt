@@ -1,0 +1,203 @@
+-- Worked scripts, as runs of the machine and of the page forest that follows it: what each command answers, and whether
+-- the last forest has the last machine's pages. A page has two bytes here. The definitions compute each of them.
+use Rattle.std.specs.Prelude.{◌≡◌, ℕ, List, [], ◌∷◌, map, true, Some, Ok, Err}
+use Rattle.std.specs.FinMap.{empty}
+use Rattle.vm_ids.specs.Held.{Segments}
+use Rattle.vm_ids.specs.declared.chain.ChainItem.{ChainItem}
+use Rattle.vm_ids.specs.declared.command.Command.{Command}
+use Rattle.vm_ids.specs.declared.command.Command.TheVariants as commands
+use Rattle.vm_ids.specs.declared.command.Span.{Span}
+use Rattle.vm_ids.specs.declared.node_name.NodeName.{NodeName}
+use Rattle.vm_ids.specs.declared.refusal.Refusal.{Refusal}
+use Rattle.vm_ids.specs.declared.refusal.Refusal.TheVariants as refusals
+use Rattle.vm_ids.specs.declared.reply.Reply.TheVariants as replies
+use Rattle.vm_ids.specs.declared.reply.Trouble.TheVariants as troubles
+use Rattle.vm_ids.specs.declared.node_name.NodeName.TheVariants.{Working}
+use Rattle.vm_ids.specs.Forest.Nodes.{no_forest}
+use Rattle.vm_ids.specs.Forest.Reading.{value_of}
+use Rattle.vm_ids.specs.Forest.Commands.{page_name}
+use Rattle.vm_model.specs.Machine.{Machine, start}
+use Rattle.vm_model.specs.PageForest.{PageForest, nodes_from}
+use Rattle.vm_model.specs.Answering.{Answer, Answered, answer_of}
+use Rattle.vm_model.specs.Following.{forest_after}
+use Rattle.vm_model.specs.Outcome.{blank}
+
+-- A run: the answers, and what they leave.
+pub record Played : Type 0 where
+  pub answers : List Answer
+  pub machine : Machine
+  pub forest : PageForest
+
+-- no segments, and none of their pages denied
+abbrev pub no_segments : Segments
+no_segments = record { pages = empty; denied = [] }
+
+abbrev pub played_first : Answer → Played → Played
+played_first a p = record p { answers = a ∷ p.answers }
+
+-- a command was answered so; the forest follows the machines as they are seen, and the rest goes on from there
+abbrev pub played_on : (Machine → Machine) → Machine → PageForest → Command
+    → (Machine → PageForest → Played) → Answered → Played
+played_on seen m f command rest a =
+    played_first a.answer (rest a.next (forest_after f (seen m) command a.answer (seen a.next)))
+
+-- the commands, the first one first, over a machine and its forest
+abbrev pub play_from : (Machine → Machine) → List Command → Machine → PageForest → Played
+play_from seen [] m f = record { answers = []; machine = seen m; forest = f }
+play_from seen (c ∷ cs) m f = played_on seen m f c (play_from seen cs) (answer_of m f c no_segments)
+
+abbrev pub play : (Machine → Machine) → List Command → Played
+play seen cs = play_from seen cs (start 8 2) no_forest
+
+-- The commands answer this, and each page of the machine, as it is seen, is then the value of its node.
+abbrev pub AnswersAs : (Machine → Machine) → List Command → List Answer → Type 0
+AnswersAs seen cs answers =
+    ((play seen cs).answers ≡ answers)
+    × (map (λ e. value_of (play seen cs).forest e.0) (nodes_from 1 (play seen cs).machine.caches)
+    ≡ map (λ e. Some e.1) (nodes_from 1 (play seen cs).machine.caches))
+
+-- with bytes where the mapper tells what it holds, and without them where it doesn't
+abbrev pub Answers : List Command → List Answer → Type 0
+Answers cs answers = AnswersAs (λ m. m) cs answers × AnswersAs blank cs answers
+
+-- Commands and answers in short -----------------------------------------------------
+
+abbrev pub temp : ℕ → Command
+temp pages = commands.MakeTemp pages
+
+abbrev pub destroy : ℕ → Command
+destroy cache = commands.Destroy (record { 0 = cache })
+
+abbrev pub span : ℕ → ℕ → ℕ → ℕ → ℕ → Span
+span c o d q n =
+    record {
+      from = record { 0 = c };
+      from_page = record { 0 = o };
+      to = record { 0 = d };
+      to_page = record { 0 = q };
+      pages = n;
+    }
+
+abbrev pub copy : ℕ → ℕ → ℕ → ℕ → ℕ → Command
+copy c o d q n = commands.Copy (span c o d q n)
+
+abbrev pub move_ : ℕ → ℕ → ℕ → ℕ → ℕ → Command
+move_ c o d q n = commands.Move (span c o d q n)
+
+-- the first n pages of cache c, mapped for writing by the first actor
+abbrev pub map_ : ℕ → ℕ → ℕ → Command
+map_ c n address = commands.Map (record { 0 = 1 }) (record {
+  extent = record { cache = record { 0 = c }; first = record { 0 = 0 }; pages = n };
+  address = address;
+  prot = record { write = true };
+})
+
+abbrev pub unmap : ℕ → Command
+unmap region = commands.Unmap (record { 0 = region })
+
+-- one byte of the first actor
+abbrev pub store : ℕ → ℕ → Command
+store address byte = commands.Store (record { 0 = 1 }) address (byte ∷ [])
+
+abbrev pub load : ℕ → Command
+load address = commands.Load (record { 0 = 1 }) address 1
+
+abbrev pub chain : ℕ → ℕ → Command
+chain c p = commands.Chain (record { 0 = c }) (record { 0 = p })
+
+abbrev pub ok : Answer
+ok = Ok replies.Done
+
+abbrev pub ok_a : ℕ → Answer
+ok_a n = Ok (replies.Actor (record { 0 = n }))
+
+abbrev pub ok_c : ℕ → Answer
+ok_c n = Ok (replies.Cache (record { 0 = n }))
+
+abbrev pub ok_r : ℕ → Answer
+ok_r n = Ok (replies.Region (record { 0 = n }))
+
+abbrev pub ok_byte : ℕ → Answer
+ok_byte byte = Ok (replies.Bytes (byte ∷ []))
+
+abbrev pub ok_chain : List ChainItem → Answer
+ok_chain items = Ok (replies.Chain items)
+
+abbrev pub ok_stat : ℕ → ℕ → ℕ → Answer
+ok_stat live working copies =
+    Ok (replies.Stat (record { live = live; working = working; copies = copies }))
+
+abbrev pub no : Refusal → Answer
+no r = Err (troubles.Refused r)
+
+abbrev pub item : NodeName → ℕ → ChainItem
+item x n = record { name = x; children = n }
+
+abbrev pub page : ℕ → ℕ → NodeName
+page c p = page_name (record { 0 = c }) p
+
+-- The scripts -----------------------------------------------------------------------
+
+abbrev pub TreeCopyOfNinePages : Type 0
+TreeCopyOfNinePages = Answers
+    (commands.MakeActor ∷ temp 9 ∷ temp 9 ∷ map_ 1 9 65536 ∷ map_ 2 9 131072 ∷ store 65536 1
+    ∷ copy 1 0 2 0 9 ∷ chain 2 0
+    ∷ store 65536 2 ∷ load 131072 ∷ load 65536 ∷ chain 2 0 ∷ chain 1 0 ∷ commands.Stat ∷ [])
+    (ok_a 1 ∷ ok_c 1 ∷ ok_c 2 ∷ ok_r 1 ∷ ok_r 2 ∷ ok ∷ ok
+    ∷ ok_chain (item (page 2 0) 0 ∷ item (page 1 0) 1 ∷ [])
+    ∷ ok ∷ ok_byte 1 ∷ ok_byte 2 ∷ ok_chain (item (page 2 0) 0 ∷ [])
+    ∷ ok_chain (item (page 1 0) 1 ∷ []) ∷ ok_stat 18 0 1 ∷ [])
+
+abbrev pub Stubs : Type 0
+Stubs = Answers
+    (commands.MakeActor ∷ temp 8 ∷ temp 8 ∷ temp 8 ∷ map_ 1 8 65536 ∷ map_ 2 8 131072
+    ∷ map_ 3 8 196608 ∷ store 65536 1
+    ∷ copy 1 0 2 0 8 ∷ copy 1 0 3 0 8 ∷ chain 1 0 ∷ store 65536 2 ∷ chain 3 0 ∷ chain 1 0
+    ∷ store 131072 3
+    ∷ load 65536 ∷ load 131072 ∷ load 196608 ∷ commands.Stat ∷ [])
+    (ok_a 1 ∷ ok_c 1 ∷ ok_c 2 ∷ ok_c 3 ∷ ok_r 1 ∷ ok_r 2 ∷ ok_r 3 ∷ ok
+    ∷ ok ∷ ok ∷ ok_chain (item (page 1 0) 2 ∷ []) ∷ ok
+    ∷ ok_chain (item (page 3 0) 0 ∷ item (page 2 0) 1 ∷ []) ∷ ok_chain (item (page 1 0) 0 ∷ [])
+    ∷ ok
+    ∷ ok_byte 2 ∷ ok_byte 3 ∷ ok_byte 1 ∷ ok_stat 24 0 2 ∷ [])
+
+abbrev pub DeadSourceThenAMerge : Type 0
+DeadSourceThenAMerge = Answers
+    (commands.MakeActor ∷ temp 9 ∷ temp 9 ∷ temp 9 ∷ map_ 1 9 65536 ∷ map_ 2 9 131072
+    ∷ store 65536 1
+    ∷ copy 1 0 2 0 9 ∷ copy 1 0 3 0 9 ∷ destroy 1 ∷ unmap 1 ∷ destroy 1 ∷ chain 2 0 ∷ commands.Stat
+    ∷ destroy 3 ∷ chain 2 0 ∷ commands.Stat ∷ load 131072 ∷ [])
+    (ok_a 1 ∷ ok_c 1 ∷ ok_c 2 ∷ ok_c 3 ∷ ok_r 1 ∷ ok_r 2 ∷ ok
+    ∷ ok ∷ ok ∷ no refusals.InUse ∷ ok ∷ ok ∷ ok_chain (item (page 2 0) 0 ∷ item (Working 1) 2 ∷ [])
+    ∷ ok_stat 18 9 0
+    ∷ ok ∷ ok_chain (item (page 2 0) 0 ∷ []) ∷ ok_stat 9 0 0 ∷ ok_byte 1 ∷ [])
+
+abbrev pub MoveOfACopiedPage : Type 0
+MoveOfACopiedPage = Answers
+    (commands.MakeActor ∷ temp 1 ∷ temp 1 ∷ temp 1 ∷ map_ 1 1 65536 ∷ map_ 2 1 131072
+    ∷ map_ 3 1 196608 ∷ store 65536 9
+    ∷ copy 1 0 3 0 1 ∷ move_ 1 0 2 0 1 ∷ chain 3 0 ∷ load 65536 ∷ load 131072 ∷ store 131072 10
+    ∷ load 196608 ∷ commands.Stat ∷ [])
+    (ok_a 1 ∷ ok_c 1 ∷ ok_c 2 ∷ ok_c 3 ∷ ok_r 1 ∷ ok_r 2 ∷ ok_r 3 ∷ ok
+    ∷ ok ∷ ok ∷ ok_chain (item (page 3 0) 0 ∷ item (page 2 0) 1 ∷ []) ∷ ok_byte 0 ∷ ok_byte 9 ∷ ok
+    ∷ ok_byte 9 ∷ ok_stat 3 0 1 ∷ [])
+
+abbrev pub ThereAndBack : Type 0
+ThereAndBack = Answers
+    (commands.MakeActor ∷ temp 1 ∷ temp 1 ∷ map_ 1 1 65536 ∷ map_ 2 1 131072 ∷ store 65536 1
+    ∷ copy 1 0 2 0 1 ∷ copy 2 0 1 0 1
+    ∷ chain 1 0 ∷ store 65536 2 ∷ store 131072 3 ∷ load 65536 ∷ load 131072 ∷ commands.Stat ∷ [])
+    (ok_a 1 ∷ ok_c 1 ∷ ok_c 2 ∷ ok_r 1 ∷ ok_r 2 ∷ ok ∷ ok ∷ ok
+    ∷ ok_chain (item (page 1 0) 0 ∷ item (page 2 0) 1 ∷ []) ∷ ok ∷ ok ∷ ok_byte 2 ∷ ok_byte 3
+    ∷ ok_stat 2 0 1 ∷ [])
+
+-- Each command of these is refused by a rule of its own, in the order of its row.
+abbrev pub RefusedCommands : Type 0
+RefusedCommands = Answers
+    (temp 4 ∷ move_ 1 0 2 0 1 ∷ move_ 1 0 1 2 3 ∷ move_ 1 0 1 0 1 ∷ move_ 1 0 1 2 2 ∷ destroy 2
+    ∷ unmap 1 ∷ chain 2 0 ∷ chain 1 4
+    ∷ commands.PageOut 3 ∷ destroy 1 ∷ chain 1 0 ∷ commands.Stat ∷ [])
+    (ok_c 1 ∷ no refusals.NoCache ∷ no refusals.OutOfCache ∷ no refusals.Overlap ∷ ok
+    ∷ no refusals.NoCache ∷ no refusals.NoRegion
+    ∷ no refusals.NoCache ∷ no refusals.OutOfCache ∷ ok ∷ ok ∷ no refusals.NoCache ∷ ok_stat 0 0 0
+    ∷ [])
