@@ -16,7 +16,8 @@ refill old w = take (length old) (w ++ drop (length w) old)
 
 -- the pool ends with the last value behind r as the bytes of the frame
 abbrev pub LendsPage : MutBor Frames → ℕ → MutBor (List ℕ) → Fml
-LendsPage p frame r = Lends the_row (Array u8 0) p r (λ w. with_bytes p.now frame (refill (bytes_of p.now frame) w))
+LendsPage p frame r =
+    Lends the_row (Array u8 0) p r (λ w. with_bytes p.now frame (refill (bytes_of p.now frame) w))
 
 -- a `Vec<u8>`, as the logic names it
 abbrev pub bytes_row : RattleType
@@ -28,4 +29,6 @@ LendsRun bytes start r = Lends bytes_row (Array u8 0) bytes r (with_items_from b
 
 -- the vector ends with the last value behind r in place of its bytes from start up to end
 abbrev pub LendsPart : MutBor (Vec ℕ Global) → ℕ → ℕ → MutBor (List ℕ) → Fml
-LendsPart bytes start end r = Lends bytes_row (Array u8 0) bytes r (λ w. with_items_from bytes.now start (refill (slice_range bytes.now.items start end) w))
+LendsPart bytes start end r =
+    Lends bytes_row (Array u8 0) bytes r
+    (λ w. with_items_from bytes.now start (refill (slice_range bytes.now.items start end) w))

@@ -17,7 +17,13 @@ pub record IsSized (a : Inside) : Type 0 where
 
 -- frame k has the k-th page of the region
 abbrev pub frames_seen : Inside → Frames
-frames_seen a = record { page = a.page; held = a.held.items; pinned = a.pinned.items; bytes = first_chunks a.page (length a.held.items) a.region.items }
+frames_seen a =
+    record {
+      page = a.page;
+      held = a.held.items;
+      pinned = a.pinned.items;
+      bytes = first_chunks a.page (length a.held.items) a.region.items;
+    }
 
 abbrev pub is_held : Frames → ℕ → Bool
 is_held p frame = slice_index_or p.held frame false

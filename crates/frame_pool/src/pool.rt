@@ -34,7 +34,13 @@ impl FramePool {
     pub fn new(alloc: Global, frames: u32, page: u32) -> Result<FramePool, NoMemory>
         requires frames { frames ≤ 2 ^ 16 }
         requires page { page ≤ 2 ^ 16 }
-        ensures { IfOk result (λ p. p ≡ record { page = page; held = replicate frames false; pinned = replicate frames false; bytes = replicate frames (replicate page 0) }) }
+        ensures { IfOk result
+            (λ p. p ≡ record {
+              page = page;
+              held = replicate frames false;
+              pinned = replicate frames false;
+              bytes = replicate frames (replicate page 0);
+            }) }
     {
         let count = frames as usize;
         let page = page as usize;

@@ -64,7 +64,8 @@ impl GlobalMap {
 
     /// The frame to which a node is bound. `None` exactly where it is bound to none.
     pub fn get(&self, node: NodeId) -> Option<FrameId>
-        ensures found { MatchOption result (bound_times self.now node.0 ≡ 0) (λ frame. (frame.0 < length self.now) × (node_of self.now frame.0 ≡ Some node)) }
+        ensures found { MatchOption result (bound_times self.now node.0 ≡ 0)
+            (λ frame. (frame.0 < length self.now) × (node_of self.now frame.0 ≡ Some node)) }
         ensures once { bound_times self.now node.0 ≤ 1 }
     {
         match place_of(&self.nodes, node) {

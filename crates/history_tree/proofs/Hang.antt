@@ -1,5 +1,5 @@
 -- The steps of `link`, on the forest.
-use Rattle.std.proofs.Common.{◌≡◌, ◌≢◌, ◌+◌, ◌-◌, List, [], ◌∷◌, map, Bool, true, false, cond, Option, Some, None, refl, sym, ap, ◌∙◌, subst, inl, inr, arith}
+use Rattle.std.proofs.Common.{◌≡◌, ◌≢◌, ◌≤◌, ◌+◌, ◌-◌, List, [], ◌∷◌, map, Bool, true, false, cond, Option, Some, None, refl, sym, ap, ◌∙◌, subst, inl, inr, arith}
 use Rattle.vm_ids.specs.declared.node_name.NodeName.{NodeName}
 use Rattle.vm_ids.specs.declared.node_name.NodeName.TheVariants.{Working}
 use Rattle.vm_ids.specs.Forest.Names.{same}
@@ -24,6 +24,7 @@ use Rattle.local_cache.proofs.Reading.{node-forest_of, IsNode-forest_of, forest_
 use Rattle.local_cache.proofs.Fresh.{sound-fresh, forest-fresh, held_new, held_old, not_w, new_name, old_name, cell-new, cell-old}
 use Rattle.local_cache.proofs.Edit.{kept_of, IsNoStub, tree-forest, tree-kept, hang-forest, hang-kept}
 use Rattle.history_tree.proofs.Inheriting.{most_one}
+use Rattle.history_tree.proofs.OwnPages.{states-link}
 use Rattle.history_tree.specs.Hanging.{hung, set_one, set_two, IsGrown}
 
 -- what a step leaves
@@ -189,6 +190,18 @@ room-two : (a : Arena) (p x y : NodeId) → (set_two a p x y).room ≡ a.room
 unfolding put
 room-two a p x y = refl
 
+counters-one : (a : Arena) (p x : NodeId) → ((set_one a p x).made ≡ a.made) × ((set_one a p x).copies ≡ a.copies)
+unfolding put
+counters-one a p x = (refl, refl)
+
+counters-two : (a : Arena) (p x y : NodeId) → ((set_two a p x y).made ≡ a.made) × ((set_two a p x y).copies ≡ a.copies)
+unfolding put
+counters-two a p x y = (refl, refl)
+
+counters-fresh : (a : Arena) (w : NodeId) → ((with_working a w).made ≡ a.made + 1) × ((with_working a w).copies ≡ a.copies)
+unfolding with_new
+counters-fresh a w = (refl, refl)
+
 room-fresh : (a : Arena) (w : NodeId) → (with_working a w).room ≡ record a.room { nodes = a.room.nodes - 1 }
 unfolding with_new
 room-fresh a w = refl
@@ -206,18 +219,21 @@ links-first a d s can none =
     record {
       forest = is;
       sound = sound_by (set_one a s d) step.kept (subst IsLinked (sym is) (rule-linked a d s can));
-      grown = (let room = room-one a s d in let nodes : (set_one a s d).room.nodes ≡ a.room.nodes = ap (λ r. r.nodes) room in record {
+      grown = (let room = room-one a s d in let nodes : (set_one a s d).room.nodes ≡ a.room.nodes = ap (λ r. r.nodes) room in let count = counters-one a s d in record {
         held = λ n h. step.like.held n ∙ h;
         names = λ n h. step.like.name n;
+        own = λ n h. states-link a (set_one a s d) sound.named step.kept.named (name_of a d) (name_of a s) is n h (step.like.held n ∙ h) (step.like.name n);
         tables = step.like.caches;
+        made = (let same = count.0 in omega arith, let same = count.0 in omega arith);
+        copies = count.1;
         nodes = omega arith;
         caches = ap (λ r. r.caches) room;
         entries = ap (λ r. r.entries) room;
       });
     }
 
-pub links-more : (a : Arena) (d s w h : NodeId) (rest : List NodeId) → CanLink a d s → (cell a s).tree ≡ h ∷ rest → find a w ≡ None → Linked a (set_two (set_one (with_working a w) s w) w h d) d s
-links-more a d s w h rest can tree free =
+pub links-more : (a : Arena) (d s w h : NodeId) (rest : List NodeId) → CanLink a d s → (cell a s).tree ≡ h ∷ rest → find a w ≡ None → 1 ≤ a.room.nodes → Linked a (set_two (set_one (with_working a w) s w) w h d) d s
+links-more a d s w h rest can tree free roomy =
     let sound = can.sound in
     let f : Forest OwnState = forest_of a in
     let hh : IsHeld a h = sound.children s h can.held_s (subst (λ ts. h ∈ ts) (sym tree) (inl refl)) in
@@ -260,14 +276,20 @@ links-more a d s w h rest can tree free =
     record {
       forest = is;
       sound = sound_by (set_two a2 w h d) step2.kept (subst IsLinked (sym is) (rule-linked a d s can));
-      grown = (let room = room-two a2 w h d ∙ room-one a1 s w ∙ room-fresh a w in let nodes : (set_two a2 w h d).room.nodes ≡ a.room.nodes - 1 = ap (λ r. r.nodes) room in record {
-        held = λ n hn. step2.like.held n ∙ step1.like.held n ∙ held_old a sound w free n hn;
-        names = λ n hn. step2.like.name n ∙ name2 n hn;
-        tables = step2.like.caches ∙ step1.like.caches ∙ tables-fresh a w;
-        nodes = omega arith;
-        caches = ap (λ r. r.caches) room;
-        entries = ap (λ r. r.entries) room;
-      });
+      grown = (let room = room-two a2 w h d ∙ room-one a1 s w ∙ room-fresh a w in let nodes : (set_two a2 w h d).room.nodes ≡ a.room.nodes - 1 = ap (λ r. r.nodes) room in
+          let made : (set_two a2 w h d).made ≡ a.made + 1 = (counters-two a2 w h d).0 ∙ (counters-one a1 s w).0 ∙ (counters-fresh a w).0 in
+          let there : (n : NodeId) → IsHeld a n → IsHeld (set_two a2 w h d) n = λ n hn. step2.like.held n ∙ step1.like.held n ∙ held_old a sound w free n hn in
+          let called : (n : NodeId) → IsHeld a n → name_of (set_two a2 w h d) n ≡ name_of a n = λ n hn. step2.like.name n ∙ name2 n hn in record {
+            held = there;
+            names = called;
+            own = λ n hn. states-link a (set_two a2 w h d) sound.named step2.kept.named (name_of a d) (name_of a s) is n hn (there n hn) (called n hn);
+            made = (omega arith, omega arith);
+            copies = (counters-two a2 w h d).1 ∙ (counters-one a1 s w).1 ∙ (counters-fresh a w).1;
+            tables = step2.like.caches ∙ step1.like.caches ∙ tables-fresh a w;
+            nodes = omega arith;
+            caches = ap (λ r. r.caches) room;
+            entries = ap (λ r. r.entries) room;
+          });
     }
   where
     tree_no_stub : (a : Arena) (n : NodeId) (x : NodeName) → hang_by a (cell a n).links.parent (cell a n).links.by_stub ≡ TreeOf x → IsNoStub a n

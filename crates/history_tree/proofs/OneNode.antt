@@ -1,13 +1,9 @@
 -- Caches with one node, which has an own page.
-use Rattle.std.proofs.Common.{◌≡◌, ◌≤◌, ◌<◌, ◌+◌, [], ◌∷◌, Some, None, is_some, sym, ap, ◌∙◌, subst, inl, inr, arith}
-use Rattle.std.proofs.lemmas.List.{length-map}
+use Rattle.std.proofs.Common.{◌≡◌, ◌+◌, Some, None, is_some, sym, ap, ◌∙◌, subst, inl, inr}
 use Rattle.vm_ids.specs.declared.node_name.NodeName.TheVariants.{Working}
 use Rattle.vm_ids.specs.declared.numbers.NodeId.{NodeId}
-use Rattle.vm_ids.specs.Forest.NameMap.{len, keys}
 use Rattle.vm_ids.specs.Forest.Nodes.{node}
 use Rattle.vm_ids.specs.Forest.Shape.{IsWellShaped}
-use Rattle.vm_ids.proofs.Forest.Agreeing.{subset_le}
-use Rattle.vm_ids.proofs.Forest.Bound.{Once-keys, key-IsNode}
 use Rattle.local_cache.specs.declared.own_state.OwnState.TheVariants.{Absent, Zero}
 use Rattle.local_cache.specs.Arena.{Arena, cell, find, IsHeld, with_own, with_working}
 use Rattle.local_cache.specs.Reading.{name_of, forest_of, page_of}
@@ -19,13 +15,6 @@ use Rattle.local_cache.proofs.Edit.{kept_of, own-sound}
 use Rattle.local_cache.proofs.Empty.{no_held}
 use Rattle.local_cache.proofs.Fresh.{sound-fresh, held_new, cell-new}
 use Rattle.local_cache.proofs.Reading.{forest_of-IsNode, node-forest_of}
-
--- the only node of the forest is that of w
-len_one : (a : Arena) (w : NodeId) → ((n : NodeId) → IsHeld a n → n ≡ w) → len (forest_of a).nodes ≤ 1
-len_one a w only =
-    let fits = subset_le (keys (forest_of a).nodes) (name_of a w ∷ []) (Once-keys (forest_of a).nodes.list (forest_of a).nodes.sorted)
-    (λ x i. let f = forest_of-IsNode a x (key-IsNode (forest_of a) x i) in inl (sym f.2 ∙ ap (name_of a) (only f.0 f.1))) in
-    subst (λ k. k ≤ 1) (length-map (forest_of a).nodes.list _) fits
 
 module _ (a : Arena) (none : (n : NodeId) → find a n ≡ None) (sound : IsSound a) (w : NodeId) where
   abbrev one : Arena
@@ -62,16 +51,12 @@ module _ (a : Arena) (none : (n : NodeId) → find a n ≡ None) (sound : IsSoun
         let clash : Some Zero ≡ None = sym own ∙ bare in cc clash);
   }
 
-  pub few_own : len (forest_of (with_own (with_working a w) w Zero)).nodes < 4294967296
-  few_own = let one_at_most = len_one owning w only in omega arith
-
 -- what the calls want of such caches
 pub record IsReady (a : Arena) : Type 0 where
   pub sound : IsSound a
   pub shaped : IsWellShaped (forest_of a)
-  pub few : len (forest_of a).nodes < 4294967296
 
 pub ready : (new roomy made own : Arena) (w : NodeId) → ((n : NodeId) → find new n ≡ None) → IsSound roomy → roomy ≡ record new { room = roomy.room } → made ≡ with_working roomy w → own ≡ with_own made w Zero → IsReady own
 ready new roomy made own w none sound room is_made is_own =
     let no_node : (n : NodeId) → find roomy n ≡ None = λ n. ap (λ a. find a n) room ∙ none n in
-    subst IsReady (sym (is_own ∙ ap (λ a. with_own a w Zero) is_made)) (record { sound = sound_own roomy no_node sound w; shaped = shaped_own roomy no_node sound w; few = few_own roomy no_node sound w })
+    subst IsReady (sym (is_own ∙ ap (λ a. with_own a w Zero) is_made)) (record { sound = sound_own roomy no_node sound w; shaped = shaped_own roomy no_node sound w })

@@ -2,6 +2,7 @@
 use Rattle.std.specs.Prelude.{◌≡◌, ◌+◌, ◌≤◌, [], ◌∷◌, false, Some}
 use Rattle.vm_ids.specs.declared.numbers.NodeId.{NodeId}
 use Rattle.local_cache.specs.Arena.{Arena, cell, IsHeld, with_links, with_tree}
+use Rattle.local_cache.specs.Own.{own_of}
 use Rattle.local_cache.specs.Reading.{name_of}
 
 -- n hangs on p by a tree link
@@ -16,12 +17,15 @@ set_one a p x = hung (with_tree a p (x ∷ [])) x p
 abbrev pub set_two : Arena → NodeId → NodeId → NodeId → Arena
 set_two a p x y = hung (hung (with_tree a p (x ∷ y ∷ [])) y p) x p
 
--- All nodes that were there are there still under their numbers and names, and so are the tables. At most one node was
--- made.
+-- All nodes that were there are there still under their numbers and names, each with its own page where it was, and so
+-- are the tables. As many working nodes were made as there is room for fewer nodes, at most one.
 pub record IsGrown (a b : Arena) : Type 0 where
   pub held : (n : NodeId) → IsHeld a n → IsHeld b n
   pub names : (n : NodeId) → IsHeld a n → name_of b n ≡ name_of a n
+  pub own : (n : NodeId) → IsHeld a n → own_of b n ≡ own_of a n
   pub tables : b.caches ≡ a.caches
-  pub nodes : a.room.nodes ≤ b.room.nodes + 1
+  pub made : (a.made ≤ b.made) × (b.made ≤ a.made + 1)
+  pub copies : b.copies ≡ a.copies
+  pub nodes : b.room.nodes + b.made ≡ a.room.nodes + a.made
   pub caches : b.room.caches ≡ a.room.caches
   pub entries : b.room.entries ≡ a.room.entries

@@ -31,9 +31,10 @@ fn tree_children(caches: &Caches, node: NodeId) -> u32
 fn item_of(caches: &Caches, node: NodeId) -> ChainItem
     requires sound { IsSound caches.now }
     requires node { IsHeld caches.now node }
-    requires few { len (forest_of caches.now).nodes < 2 ^ 32 }
     ensures { result ≡ item_for (forest_of caches.now) (name_of caches.now node) }
 {
+    // the nodes are counted in 32 bits, and so are the children of one
+    let _all = caches.counts();
     ChainItem {
         name: caches.name(node),
         children: tree_children(caches, node) + caches.links(node).stubs,
@@ -46,8 +47,8 @@ pub fn chain(alloc: Global, caches: &Caches, node: NodeId) -> Result<ChainList, 
     requires sound { IsSound caches.now }
     requires shaped { IsWellShaped (forest_of caches.now) }
     requires node { IsHeld caches.now node }
-    requires few { len (forest_of caches.now).nodes < 2 ^ 32 }
-    ensures { IfOk result (λ list. list ≡ chain_of (forest_of caches.now) (name_of caches.now node)) }
+    ensures { IfOk result
+        (λ list. list ≡ chain_of (forest_of caches.now) (name_of caches.now node)) }
 {
     let mut items = Vec::new(alloc);
     let mut at = node;

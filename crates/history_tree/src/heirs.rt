@@ -15,7 +15,8 @@ pub fn heir(caches: &Caches, node: NodeId) -> Option<NodeId>
     requires sound { IsSound caches.now }
     requires node { IsHeld caches.now node }
     requires live { is_live (name_of caches.now node) ≡ true }
-    ensures heir { option_map (name_of caches.now) result ≡ forest.heir (forest_of caches.now) (name_of caches.now node) }
+    ensures heir { option_map (name_of caches.now) result
+        ≡ forest.heir (forest_of caches.now) (name_of caches.now node) }
     ensures held { IfSome result (λ h. IsHeld caches.now h) }
 {
     let stub = caches.links(node).first;

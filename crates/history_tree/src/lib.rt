@@ -6,8 +6,8 @@
 //! (Abrossimov, Rozier and Shapiro, SOSP 1989).
 //!
 //! The model is that of `local_cache`: the page forest that is read off the caches. `owner_of`, `heir` and `chain` read
-//! it, and `link` changes it by the rule of that name. The crate stands on `local_cache`; `arena_commands` and the paths
-//! of faults stand on it.
+//! it, and `link` changes it by the rule of that name. The crate stands on `local_cache`; `page_release`, the paths of
+//! faults and the manager stand on it.
 #![tactic(auto)]
 
 mod chains;

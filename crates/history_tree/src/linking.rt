@@ -4,7 +4,7 @@ ghost use Rattle.vm_ids.specs.declared.numbers.NodeId.{NodeId};
 ghost use Rattle.vm_ids.specs.Forest.Nodes.{node, childless, is_live};
 ghost use Rattle.vm_ids.specs.Forest.Nodes.Hang.{Root};
 ghost use Rattle.vm_ids.specs.Forest.Rules as forest;
-ghost use Rattle.local_cache.specs.Arena.{IsHeld, find, with_working};
+ghost use Rattle.local_cache.specs.Arena.{IsHeld, find, with_working, NodesStay};
 ghost use Rattle.local_cache.specs.Reading.{name_of, forest_of};
 ghost use Rattle.local_cache.specs.Sound.{IsSound};
 ghost use Rattle.history_tree.specs.Hanging.{hung, set_one, set_two, IsGrown};
@@ -15,7 +15,7 @@ use vm_ids::NodeId;
 // The node hangs on this parent by a tree link.
 fn set_parent(caches: &mut Caches, node: NodeId, parent: NodeId)
     requires { IsHeld caches.old node }
-    ensures stays { (n : NodeId) → IsHeld caches.old n → IsHeld caches.new n }
+    ensures stays { NodesStay caches.old caches.new }
     ensures changed { caches.new ≡ hung caches.old node parent }
 {
     let links = caches.links(node);
@@ -33,7 +33,7 @@ fn set_parent(caches: &mut Caches, node: NodeId, parent: NodeId)
 fn hang_one(caches: &mut Caches, p: NodeId, x: NodeId)
     requires p { IsHeld caches.old p }
     requires x { IsHeld caches.old x }
-    ensures stays { (n : NodeId) → IsHeld caches.old n → IsHeld caches.new n }
+    ensures stays { NodesStay caches.old caches.new }
     ensures changed { caches.new ≡ set_one caches.old p x }
 {
     caches.set_tree_children(p, &[x]);
@@ -45,7 +45,7 @@ fn hang_two(caches: &mut Caches, p: NodeId, x: NodeId, y: NodeId)
     requires p { IsHeld caches.old p }
     requires x { IsHeld caches.old x }
     requires y { IsHeld caches.old y }
-    ensures stays { (n : NodeId) → IsHeld caches.old n → IsHeld caches.new n }
+    ensures stays { NodesStay caches.old caches.new }
     ensures changed { caches.new ≡ set_two caches.old p x y }
 {
     caches.set_tree_children(p, &[x, y]);
@@ -61,7 +61,8 @@ fn put_between(caches: &mut Caches, d: NodeId, s: NodeId, h: NodeId) -> NodeId
     requires room { 1 ≤ caches.old.room.nodes }
     requires made { caches.old.made < 2 ^ 63 }
     ensures fresh { find caches.old result ≡ None }
-    ensures changed { caches.new ≡ set_two (set_one (with_working caches.old result) s result) result h d }
+    ensures changed { caches.new
+        ≡ set_two (set_one (with_working caches.old result) s result) result h d }
 {
     let w = caches.fresh_working();
     hang_one(caches, s, w);
@@ -81,7 +82,8 @@ pub fn link(caches: &mut Caches, d: NodeId, s: NodeId)
     requires apart { d ≢ s }
     requires room { 1 ≤ caches.old.room.nodes }
     requires made { caches.old.made < 2 ^ 63 }
-    ensures forest { forest_of caches.new ≡ forest.link (forest_of caches.old) (name_of caches.old d) (name_of caches.old s) }
+    ensures forest { forest_of caches.new
+        ≡ forest.link (forest_of caches.old) (name_of caches.old d) (name_of caches.old s) }
     ensures sound { IsSound caches.new }
     ensures grown { IsGrown caches.old caches.new }
 {

@@ -16,7 +16,8 @@ pub fn owner_of(caches: &Caches, node: NodeId) -> NodeId
     requires shaped { IsWellShaped (forest_of caches.now) }
     requires node { IsHeld caches.now node }
     ensures held { IsHeld caches.now result }
-    ensures owner { name_of caches.now result ≡ forest.owner_of (forest_of caches.now) (name_of caches.now node) }
+    ensures owner { name_of caches.now result
+        ≡ forest.owner_of (forest_of caches.now) (name_of caches.now node) }
     ensures own { IsSome (page_of (cell caches.now result).own) }
 {
     let mut at = node;

@@ -1,5 +1,7 @@
 pub mod Adding
 pub mod Alike
+pub mod Begun
+pub mod Carried
 pub mod Cells
 pub mod Changes
 pub mod Counts
@@ -14,13 +16,18 @@ pub mod Least
 pub mod Listing
 pub mod Made
 pub mod Making
+pub mod NewNode
 pub mod Noted
+pub mod OwnCount
 pub mod Pages
 pub mod Queued
 pub mod Reading
+pub mod ReadingBy
 pub mod Removed
+pub mod Renamed
 pub mod Renaming
 pub mod Rule
+pub mod Sizes
 pub mod SlotSums
 pub mod Slots
 pub mod States
@@ -28,3 +35,5 @@ pub mod Tables
 pub mod Thin
 pub mod Threads
 pub mod Vacated
+pub mod Values
+pub mod Wholes

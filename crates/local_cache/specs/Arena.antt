@@ -1,5 +1,5 @@
 -- What a contract sees of the caches: page nodes by number, and of each cache the table of its pages.
-use Rattle.std.specs.Prelude.{◌≡◌, ℕ, zero, suc, ◌+◌, ◌-◌, List, [], ◌∷◌, ◌++◌, length, map, false, Option, Some, None, unwrap_or, IsSome, option_and_then, option_map, slice_get, slice_index_or, slice_set}
+use Rattle.std.specs.Prelude.{◌≡◌, ℕ, zero, suc, ◌+◌, ◌-◌, ◌≤◌, ◌<◌, List, [], ◌∷◌, ◌++◌, length, map, false, Option, Some, None, unwrap_or, IsSome, option_and_then, option_map, slice_get, slice_index_or, slice_set}
 use Rattle.std.specs.Ordering.{nat_cmp}
 use Rattle.std.specs.FinMap.{FinMap}
 use Rattle.std.specs.FinMap as ids
@@ -42,7 +42,16 @@ pub record Arena : Type 0 where
 
 -- neither parent nor stubs
 abbrev pub no_links : Links
-no_links = record { parent = None; by_stub = false; first = None; last = None; stubs = 0; before = None; behind = None }
+no_links =
+    record {
+      parent = None;
+      by_stub = false;
+      first = None;
+      last = None;
+      stubs = 0;
+      before = None;
+      behind = None;
+    }
 
 -- a node without parent and children
 abbrev pub new_cell : NodeName → OwnState → Cell
@@ -82,7 +91,8 @@ table_with page o t = record t { pages = slice_set t.pages page (record { node =
 -- the tables with another node, or none, at a page of a cache, where there is a live cache with this page
 abbrev pub cache_with : List (Option Table) → ℕ → ℕ → Option NodeId → List (Option Table)
 cache_with tables zero page o = tables
-cache_with tables (suc k) page o = slice_set tables k (option_map (table_with page o) (slice_index_or tables k None))
+cache_with tables (suc k) page o =
+    slice_set tables k (option_map (table_with page o) (slice_index_or tables k None))
 
 -- the tables with another node, or none, at the page of this name
 abbrev pub tables_with : List (Option Table) → NodeName → Option NodeId → List (Option Table)
@@ -91,7 +101,11 @@ tables_with tables (Working k) o = tables
 
 -- the node under another name, in the tables too
 abbrev pub with_name : Arena → NodeId → NodeName → Arena
-with_name a n x = record (put a n (record (cell a n) { name = x })) { caches = tables_with (tables_with a.caches (cell a n).name None) x (Some n) }
+with_name a n x =
+    record (put a n (record (cell a n) { name = x })) {
+      caches = tables_with
+          (tables_with a.caches (cell a n).name None) x (Some n);
+    }
 
 -- the node under the next working name
 abbrev pub as_working : Arena → NodeId → Arena
@@ -131,7 +145,8 @@ table_of a cache = table_at a.caches cache
 
 -- the node of a page of a cache
 abbrev pub node_at : Arena → ℕ → ℕ → Option NodeId
-node_at a cache page = option_and_then (λ t. option_and_then (λ e. e.node) (slice_get t.pages page)) (table_of a cache)
+node_at a cache page =
+    option_and_then (λ t. option_and_then (λ e. e.node) (slice_get t.pages page)) (table_of a cache)
 
 -- a live cache has this page, which has no node
 abbrev pub IsVacant : Arena → CacheId → PageNo → Type 0
@@ -158,21 +173,59 @@ abbrev pub entry_for : NodeId → PageEntry
 entry_for n = record { node = Some n }
 
 -- the cells with a new node for each page of a cache from one page on, all of one own state
-abbrev pub IsFilled : FinMap nat_cmp Cell → CacheId → ℕ → OwnState → List NodeId → FinMap nat_cmp Cell → Type 0
+abbrev pub IsFilled : FinMap nat_cmp Cell → CacheId → ℕ → OwnState → List NodeId
+    → FinMap nat_cmp Cell → Type 0
 IsFilled cells cache page own [] after = after ≡ cells
-IsFilled cells cache page own (n ∷ ns) after = (ids.get cells n.0 ≡ None) × IsFilled (ids.insert cells n.0 (new_cell (Live cache (record { 0 = page })) own)) cache (page + 1) own ns after
+IsFilled cells cache page own (n ∷ ns) after =
+    (ids.get cells n.0 ≡ None)
+    × IsFilled (ids.insert cells n.0 (new_cell (Live cache (record { 0 = page })) own)) cache
+    (page + 1) own ns after
 
 -- a cache was made, whose pages have these nodes, each of one own state
-pub record IsMade (old new : Arena) (cache : CacheId) (segment : Option SegId) (own : OwnState) (nodes : List NodeId) : Type 0 where
+pub record IsMade (old new : Arena) (cache : CacheId) (segment : Option SegId) (own : OwnState)
+    (nodes : List NodeId) : Type 0 where
   pub number : cache.0 ≡ length old.caches + 1
   pub cells : IsFilled old.cells cache 0 own nodes new.cells
-  pub caches : new.caches ≡ old.caches ++ Some (record { segment = segment; pages = map entry_for nodes }) ∷ []
+  pub caches : new.caches
+      ≡ old.caches ++ Some (record { segment = segment; pages = map entry_for nodes }) ∷ []
   pub made : new.made ≡ old.made
   pub copies : new.copies ≡ old.copies
-  pub room : new.room ≡ record { nodes = old.room.nodes - length nodes; caches = old.room.caches - 1; entries = old.room.entries - length nodes }
+  pub room : new.room
+      ≡ record {
+        nodes = old.room.nodes - length nodes;
+        caches = old.room.caches - 1;
+        entries = old.room.entries - length nodes;
+      }
 
 -- a page of a cache has a node, which has this name and own state
 pub record HasPage (a : Arena) (cache : CacheId) (page : ℕ) (own : OwnState) : Type 0 where
   pub node : NodeId
   pub at : node_at a cache.0 page ≡ Some node
   pub is : find a node ≡ Some (new_cell (Live cache (record { 0 = page })) own)
+
+-- each page of a cache has a node of this own state
+abbrev pub HasPages : Arena → CacheId → ℕ → OwnState → Type 0
+HasPages a cache pages own = (page : ℕ) → page < pages → HasPage a cache page own
+
+-- a cache of so many pages was made
+abbrev pub MakesCache : Arena → Arena → CacheId → Option SegId → ℕ → OwnState → Type 0
+MakesCache old new cache segment pages own =
+    (nodes : List NodeId) × (length nodes ≡ pages) × IsMade old new cache segment own nodes
+
+-- the nodes that were there are there
+abbrev pub NodesStay : Arena → Arena → Type 0
+NodesStay old new = (n : NodeId) → IsHeld old n → IsHeld new n
+
+-- and they are as they were
+abbrev pub CellsStay : Arena → Arena → Type 0
+CellsStay old new = (n : NodeId) → IsHeld old n → find new n ≡ find old n
+
+-- the caches that were made are as they were
+abbrev pub TablesStay : Arena → Arena → Type 0
+TablesStay old new =
+    (other : ℕ) → other ≤ length old.caches → table_of new other ≡ table_of old other
+
+-- there is at least as much room
+abbrev pub HasNoLess : Room → Room → Type 0
+HasNoLess old new =
+    (old.nodes ≤ new.nodes) × (old.caches ≤ new.caches) × (old.entries ≤ new.entries)

@@ -72,27 +72,62 @@ abbrev pub id_code : Coded NodeId
 id_code = code_by ℕ coded_ℕ (λ n. n.0) (λ k. record { 0 = k }) (λ _. refl)
 
 abbrev pub links_code : Coded Links
-links_code = code_by (Option NodeId × (Bool × (Option NodeId × (Option NodeId × (ℕ × (Option NodeId × Option NodeId))))))
-    (coded× (coded_option id_code) (coded× coded_bool (coded× (coded_option id_code) (coded× (coded_option id_code) (coded× coded_ℕ (coded× (coded_option id_code) (coded_option id_code)))))))
+links_code =
+    code_by (Option NodeId
+    × (Bool × (Option NodeId × (Option NodeId × (ℕ × (Option NodeId × Option NodeId))))))
+    (coded× (coded_option id_code)
+    (coded× coded_bool
+    (coded× (coded_option id_code)
+    (coded× (coded_option id_code)
+    (coded× coded_ℕ (coded× (coded_option id_code) (coded_option id_code)))))))
     (λ l. (l.parent, (l.by_stub, (l.first, (l.last, (l.stubs, (l.before, l.behind)))))))
-    (λ t. record { parent = t.0; by_stub = t.1.0; first = t.1.1.0; last = t.1.1.1.0; stubs = t.1.1.1.1.0; before = t.1.1.1.1.1.0; behind = t.1.1.1.1.1.1 }) (λ _. refl)
+    (λ t. record {
+      parent = t.0;
+      by_stub = t.1.0;
+      first = t.1.1.0;
+      last = t.1.1.1.0;
+      stubs = t.1.1.1.1.0;
+      before = t.1.1.1.1.1.0;
+      behind = t.1.1.1.1.1.1;
+    }) (λ _. refl)
 
 abbrev pub cell_code : Coded Cell
-cell_code = code_by (NodeName × (OwnState × (Links × List NodeId))) (coded× name_code (coded× own_code (coded× links_code (coded_list id_code))))
-    (λ c. (c.name, (c.own, (c.links, c.tree)))) (λ t. record { name = t.0; own = t.1.0; links = t.1.1.0; tree = t.1.1.1 }) (λ _. refl)
+cell_code =
+    code_by (NodeName × (OwnState × (Links × List NodeId)))
+    (coded× name_code (coded× own_code (coded× links_code (coded_list id_code))))
+    (λ c. (c.name, (c.own, (c.links, c.tree))))
+    (λ t. record { name = t.0; own = t.1.0; links = t.1.1.0; tree = t.1.1.1 }) (λ _. refl)
 
 abbrev pub segment_code : Coded SegId
 segment_code = code_by ℕ coded_ℕ (λ n. n.0) (λ k. record { 0 = k }) (λ _. refl)
 
 abbrev pub entry_code : Coded PageEntry
-entry_code = code_by (Option NodeId) (coded_option id_code) (λ e. e.node) (λ n. record { node = n }) (λ _. refl)
+entry_code =
+    code_by (Option NodeId) (coded_option id_code) (λ e. e.node) (λ n. record { node = n })
+    (λ _. refl)
 
 abbrev pub table_code : Coded Table
-table_code = code_by (Option SegId × List PageEntry) (coded× (coded_option segment_code) (coded_list entry_code)) (λ t. (t.segment, t.pages)) (λ t. record { segment = t.0; pages = t.1 }) (λ _. refl)
+table_code =
+    code_by (Option SegId × List PageEntry)
+    (coded× (coded_option segment_code) (coded_list entry_code)) (λ t. (t.segment, t.pages))
+    (λ t. record { segment = t.0; pages = t.1 }) (λ _. refl)
 
 abbrev pub room_code : Coded Room
-room_code = code_by (ℕ × (ℕ × ℕ)) (coded× coded_ℕ (coded× coded_ℕ coded_ℕ)) (λ r. (r.nodes, (r.caches, r.entries))) (λ t. record { nodes = t.0; caches = t.1.0; entries = t.1.1 }) (λ _. refl)
+room_code =
+    code_by (ℕ × (ℕ × ℕ)) (coded× coded_ℕ (coded× coded_ℕ coded_ℕ))
+    (λ r. (r.nodes, (r.caches, r.entries)))
+    (λ t. record { nodes = t.0; caches = t.1.0; entries = t.1.1 }) (λ _. refl)
 
 abbrev pub arena_code : Coded Arena
-arena_code = code_by (FinMap nat_cmp Cell × (List (Option Table) × (ℕ × (ℕ × Room)))) (coded× (ids.code coded_ℕ cell_code) (coded× (coded_list (coded_option table_code)) (coded× coded_ℕ (coded× coded_ℕ room_code))))
-    (λ a. (a.cells, (a.caches, (a.made, (a.copies, a.room))))) (λ t. record { cells = t.0; caches = t.1.0; made = t.1.1.0; copies = t.1.1.1.0; room = t.1.1.1.1 }) (λ _. refl)
+arena_code =
+    code_by (FinMap nat_cmp Cell × (List (Option Table) × (ℕ × (ℕ × Room))))
+    (coded× (ids.code coded_ℕ cell_code)
+    (coded× (coded_list (coded_option table_code)) (coded× coded_ℕ (coded× coded_ℕ room_code))))
+    (λ a. (a.cells, (a.caches, (a.made, (a.copies, a.room)))))
+    (λ t. record {
+      cells = t.0;
+      caches = t.1.0;
+      made = t.1.1.0;
+      copies = t.1.1.1.0;
+      room = t.1.1.1.1;
+    }) (λ _. refl)

@@ -59,9 +59,12 @@ pub record IsHeap (xs : List Entry) (places : List (Option ℕ)) : Type 0 where
 -- the child with the least number, where that is lower than that of the entry at a place
 abbrev pub IsLowerChild : List Entry → ℕ → Option ℕ → Type 0
 IsLowerChild xs at None = (k : ℕ) → IsBelow at k → k < length xs → number xs at ≤ number xs k
-IsLowerChild xs at (Some c) = IsBelow at c × (c < length xs) × (number xs c < number xs at) × ((k : ℕ) → IsBelow at k → k < length xs → number xs c ≤ number xs k)
+IsLowerChild xs at (Some c) =
+    IsBelow at c × (c < length xs) × (number xs c < number xs at)
+    × ((k : ℕ) → IsBelow at k → k < length xs → number xs c ≤ number xs k)
 
 -- the entry with the least number, or none where there is no entry
 abbrev pub IsFirst : List Entry → Option Entry → Type 0
 IsFirst xs None = xs ≡ []
-IsFirst xs (Some e) = Contains xs e × ((other : Entry) → Contains xs other → e.number ≤ other.number)
+IsFirst xs (Some e) =
+    Contains xs e × ((other : Entry) → Contains xs other → e.number ≤ other.number)

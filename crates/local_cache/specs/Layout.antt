@@ -24,7 +24,8 @@ table_in entries e = record { segment = e.segment; pages = take e.pages (drop e.
 abbrev pub tables_in : List PageEntry → List (Option CacheEntry) → List (Option Table)
 tables_in entries caches = map (λ o. option_map (table_in entries) o) caches
 
-abbrev pub arena_of : Slab Cell → Vec (Option CacheEntry) Global → Vec PageEntry Global → ℕ → ℕ → ℕ → Arena
+abbrev pub arena_of : Slab Cell → Vec (Option CacheEntry) Global → Vec PageEntry Global → ℕ → ℕ → ℕ
+    → Arena
 arena_of nodes caches entries thin_room made copies = record {
   cells = cells_of nodes;
   caches = tables_in entries.items caches.items;
@@ -43,7 +44,8 @@ AreInRow from [] end = from ≤ end
 AreInRow from (None ∷ es) end = AreInRow from es end
 AreInRow from (Some e ∷ es) end = (from ≤ e.first) × AreInRow (e.first + e.pages) es end
 
-pub record IsLaidOut (nodes : Slab Cell) (caches : List (Option CacheEntry)) (entries : List PageEntry) : Type 0 where
+pub record IsLaidOut (nodes : Slab Cell) (caches : List (Option CacheEntry))
+    (entries : List PageEntry) : Type 0 where
   pub row : AreInRow 0 caches (length entries)
   pub few : length caches < 2 ^ 32
   pub fits : slab_len nodes ≤ nodes.capacity
@@ -74,7 +76,8 @@ pub record IsCounted (nodes : Slab Cell) (thin_room working : ℕ) : Type 0 wher
   pub few : thin_room < 2 ^ 32
 
 -- what holds of all fields
-pub record IsRight (nodes : Slab Cell) (caches : List (Option CacheEntry)) (entries : List PageEntry) (thin : Heap) (thin_room working : ℕ) : Type 0 where
+pub record IsRight (nodes : Slab Cell) (caches : List (Option CacheEntry))
+    (entries : List PageEntry) (thin : Heap) (thin_room working : ℕ) : Type 0 where
   pub laid : IsLaidOut nodes caches entries
   pub ready : IsReady nodes thin thin_room
   pub counted : IsCounted nodes thin_room working
@@ -96,4 +99,5 @@ lowered n e = record e { first = e.first - n }
 pub record AreLowered (from n : ℕ) (xs ys : List (Option CacheEntry)) : Type 0 where
   pub length : length ys ≡ length xs
   pub before : (k : ℕ) → k < from → slice_index_or ys k None ≡ slice_index_or xs k None
-  pub behind : (k : ℕ) → from ≤ k → slice_index_or ys k None ≡ option_map (lowered n) (slice_index_or xs k None)
+  pub behind : (k : ℕ) → from ≤ k
+      → slice_index_or ys k None ≡ option_map (lowered n) (slice_index_or xs k None)

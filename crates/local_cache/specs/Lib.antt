@@ -6,6 +6,8 @@ pub mod Layout
 pub mod Own
 pub mod Queue
 pub mod Reading
+pub mod ReadingBy
 pub mod Sound
 pub mod Thin
 pub mod Threads
+pub mod Whole

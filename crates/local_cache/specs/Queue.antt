@@ -39,7 +39,11 @@ pub record IsQueued (nodes : Slab Cell) (items : List Entry) : Type 0 where
   pub len : length items ≡ thin_len nodes
 
 -- the same but for the node at a key, which has the entry of the number that it was thin under before
-pub record IsQueuedBut (key : ℕ) (before : Option ℕ) (nodes : Slab Cell) (items : List Entry) : Type 0 where
-  pub others : (e : Entry) → e.key ≢ key → times e items ≡ times_for (number_at nodes e.key) e.number
-  pub here : (number : ℕ) → times (record { number = number; key = key }) items ≡ times_for before number
-  pub len : length items + cond (is_some (number_at nodes key)) 1 0 ≡ thin_len nodes + cond (is_some before) 1 0
+pub record IsQueuedBut (key : ℕ) (before : Option ℕ) (nodes : Slab Cell)
+    (items : List Entry) : Type 0 where
+  pub others : (e : Entry) → e.key ≢ key
+      → times e items ≡ times_for (number_at nodes e.key) e.number
+  pub here : (number : ℕ)
+      → times (record { number = number; key = key }) items ≡ times_for before number
+  pub len : length items + cond (is_some (number_at nodes key)) 1 0
+      ≡ thin_len nodes + cond (is_some before) 1 0

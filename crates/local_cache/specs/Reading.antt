@@ -48,7 +48,9 @@ at_key k = record { 0 = k }
 
 unfoldable pub forest_of : Arena → Forest OwnState
 forest_of a = record {
-  nodes = names.from_entries (map (λ k. (name_of a (at_key k), node_of a (at_key k))) (ids.keys a.cells));
+  nodes =
+      names.from_entries
+      (map (λ k. (name_of a (at_key k), node_of a (at_key k))) (ids.keys a.cells));
   made = a.made;
   copies = a.copies;
 }

@@ -1,8 +1,11 @@
 -- What the crates above need of the caches, and keep.
-use Rattle.std.specs.Prelude.{◌≡◌, ℕ, List, [], ◌∷◌, Some, ◌⊎◌}
+use Rattle.std.specs.Prelude.{◌≡◌, ℕ, List, [], ◌∷◌, map, Some, ◌⊎◌}
+use Rattle.vm_ids.specs.declared.numbers.CacheId.{CacheId}
+use Rattle.vm_ids.specs.Forest.Commands.{make, page_names}
 use Rattle.vm_ids.specs.Forest.Shape.{IsLinked}
 use Rattle.vm_ids.specs.declared.node_name.NodeName.TheVariants.{Live}
 use Rattle.vm_ids.specs.declared.numbers.NodeId.{NodeId}
+use Rattle.local_cache.specs.declared.own_state.OwnState.{OwnState}
 use Rattle.local_cache.specs.Arena.{Arena, cell, IsHeld, node_at}
 use Rattle.local_cache.specs.Reading.{name_of, forest_of, IsNamed}
 use Rattle.local_cache.specs.Threads.{AreThreaded}
@@ -15,8 +18,11 @@ x ∈ (y ∷ ys) = (x ≡ y) ⊎ (x ∈ ys)
 
 -- The tables have the node of each page that has one.
 pub record IsListed (a : Arena) : Type 0 where
-  pub nodes : (cache page : ℕ) (n : NodeId) → node_at a cache page ≡ Some n → IsHeld a n × (name_of a n ≡ Live (record { 0 = cache }) (record { 0 = page }))
-  pub pages : (cache page : ℕ) (n : NodeId) → IsHeld a n → name_of a n ≡ Live (record { 0 = cache }) (record { 0 = page }) → node_at a cache page ≡ Some n
+  pub nodes : (cache page : ℕ) (n : NodeId) → node_at a cache page ≡ Some n
+      → IsHeld a n × (name_of a n ≡ Live (record { 0 = cache }) (record { 0 = page }))
+  pub pages : (cache page : ℕ) (n : NodeId) → IsHeld a n
+      → name_of a n ≡ Live (record { 0 = cache }) (record { 0 = page })
+      → node_at a cache page ≡ Some n
 
 -- What holds between the steps of a rule: the names are apart and counted, the tables have them, parents and children
 -- are nodes, and the lists of stubs are threaded.
@@ -35,3 +41,8 @@ pub record IsSound (a : Arena) : Type 0 where
   pub children : (n m : NodeId) → IsHeld a n → m ∈ (cell a n).tree → IsHeld a m
   pub threaded : AreThreaded a
   pub linked : IsLinked (forest_of a)
+
+-- Where the caches were sound, the forest has the pages of a new cache, each of one own state.
+abbrev pub MakesPages : Arena → Arena → CacheId → ℕ → OwnState → Type 0
+MakesPages old new cache pages own = IsSound old
+    → forest_of new ≡ make (map (λ x. (x, own)) (page_names cache 0 pages)) (forest_of old)

@@ -17,4 +17,6 @@ pub record IsThin (a : Arena) (n : NodeId) (number : ℕ) : Type 0 where
 -- the thin node with the least number, or none exactly where no node is thin
 abbrev pub IsLeastThin : Arena → Option NodeId → Type 0
 IsLeastThin a None = (n : NodeId) (number : ℕ) → IsThin a n number → ⊥
-IsLeastThin a (Some n) = (number : ℕ) × IsThin a n number × ((m : NodeId) (other : ℕ) → IsThin a m other → number ≤ other)
+IsLeastThin a (Some n) =
+    (number : ℕ) × IsThin a n number
+    × ((m : NodeId) (other : ℕ) → IsThin a m other → number ≤ other)

@@ -13,7 +13,8 @@ last_or [] o = o
 last_or (y ∷ ys) o = last_or ys (Some y)
 
 -- y is a stub of x between two neighbours
-pub record IsStub (a : Arena) (x : NodeId) (before : Option NodeId) (y : NodeId) (behind : Option NodeId) : Type 0 where
+pub record IsStub (a : Arena) (x : NodeId) (before : Option NodeId) (y : NodeId)
+    (behind : Option NodeId) : Type 0 where
   pub held : IsHeld a y
   pub parent : (cell a y).links.parent ≡ Some x
   pub by_stub : (cell a y).links.by_stub ≡ true
@@ -23,7 +24,8 @@ pub record IsStub (a : Arena) (x : NodeId) (before : Option NodeId) (y : NodeId)
 -- ys are stubs of x in a row between two neighbours
 abbrev pub Row : Arena → NodeId → Option NodeId → List NodeId → Option NodeId → Type 0
 Row a x before [] behind = Unit {0}
-Row a x before (y ∷ ys) behind = IsStub a x before y (head_or ys behind) × Row a x (Some y) ys behind
+Row a x before (y ∷ ys) behind =
+    IsStub a x before y (head_or ys behind) × Row a x (Some y) ys behind
 
 -- ys is the list of stubs that the links of x and of the ys make
 pub record IsThreaded (a : Arena) (x : NodeId) (ys : List NodeId) : Type 0 where

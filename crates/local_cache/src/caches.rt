@@ -3,7 +3,7 @@ ghost use Rattle.std.specs.Prelude.{◌≡◌, ℕ, ◌+◌, ◌-◌, ◌<◌, �
 ghost use Rattle.std.specs.Vec.{vec_len, vec_capacity};
 ghost use Rattle.vm_ids.specs.declared.numbers.NodeId.{NodeId};
 ghost use Rattle.slab.specs.Slab.{HasRoomFor, slab_len};
-ghost use Rattle.local_cache.specs.Arena.{HasPage, IsFilled, IsHeld, IsMade, IsVacant, as_working, cell, entry_for, find, node_at, table_of, with_links, with_name, with_new, with_own, with_tree, with_working, without, without_cache};
+ghost use Rattle.local_cache.specs.Arena.{IsFilled, IsHeld, IsVacant, as_working, cell, entry_for, find, node_at, table_of, with_links, with_name, with_new, with_own, with_tree, with_working, without, without_cache, HasPages, MakesCache, NodesStay, CellsStay, TablesStay, HasNoLess};
 ghost use Rattle.vm_ids.specs.Forest.Changes.{count_copy};
 ghost use Rattle.vm_ids.specs.Forest.Commands.{make, page_names};
 ghost use Rattle.vm_ids.specs.Forest.NameMap.{len};
@@ -13,7 +13,7 @@ ghost use Rattle.local_cache.specs.declared.entry_heap.Entry.{Entry};
 ghost use Rattle.local_cache.specs.Layout.{cells_of, working_len};
 ghost use Rattle.local_cache.specs.Queue.{IsQueued};
 ghost use Rattle.local_cache.specs.Reading.{IsNamed, forest_of};
-ghost use Rattle.local_cache.specs.Sound.{IsSound};
+ghost use Rattle.local_cache.specs.Sound.{IsSound, MakesPages};
 ghost use Rattle.local_cache.specs.Thin.{IsLeastThin};
 
 use crate::entry_heap::EntryHeap;
@@ -43,7 +43,7 @@ pub struct Caches {
 }
 
 impl Model for Caches {
-    ghost use Rattle.local_cache.specs.Arena.{Arena};
+    ghost use Rattle.local_cache.specs.Arena.{Arena, HasPages, MakesCache, NodesStay, CellsStay, TablesStay, HasNoLess};
     ghost use Rattle.local_cache.specs.Codes.{arena_code};
 
     ghost Value = { Arena };
@@ -68,7 +68,9 @@ fn add_pages(
 )
     requires nodes { HasRoomFor nodes.old pages }
     requires entries { vec_len entries.old + pages ≤ vec_capacity entries.old }
-    ensures filled { (ns : List NodeId) × (length ns ≡ pages) × IsFilled (cells_of nodes.old) cache 0 own ns (cells_of nodes.new) × (entries.new.items ≡ entries.old.items ++ map entry_for ns) }
+    ensures filled { (ns : List NodeId) × (length ns ≡ pages)
+        × IsFilled (cells_of nodes.old) cache 0 own ns (cells_of nodes.new)
+        × (entries.new.items ≡ entries.old.items ++ map entry_for ns) }
     ensures queued { (items : List Entry) → IsQueued nodes.old items → IsQueued nodes.new items }
     ensures nodes_len { slab_len nodes.new ≡ slab_len nodes.old + pages }
     ensures nodes_capacity { nodes.new.capacity ≡ nodes.old.capacity }
@@ -108,15 +110,18 @@ impl Caches {
     }
 
     /// Takes memory for so many more caches and so many more pages. It can fail only where there is too little room, and
-    /// it does where the nodes could be 2^32 or more in all. After an error what was there is there still.
+    /// it does where there would be 2^32 nodes or more in all. After an error what was there is there still.
     #[tactic(auto, using(crate::proofs::Alike::roomier_forest))]
     pub fn reserve(&mut self, caches: u32, nodes: u32) -> Result<(), NoMemory>
         ensures nodes { OnOk result (nodes ≤ self.new.room.nodes) }
         ensures caches { OnOk result (caches ≤ self.new.room.caches) }
         ensures entries { OnOk result (nodes ≤ self.new.room.entries) }
         ensures kept { self.new ≡ record self.old { room = self.new.room } }
-        ensures no_less { (self.old.room.nodes ≤ self.new.room.nodes) × (self.old.room.caches ≤ self.new.room.caches) × (self.old.room.entries ≤ self.new.room.entries) }
-        ensures enough { caches ≤ self.old.room.caches → nodes ≤ self.old.room.nodes → nodes ≤ self.old.room.entries → IsOk result }
+        ensures no_less { HasNoLess self.old.room self.new.room }
+        ensures enough { caches ≤ self.old.room.caches → nodes ≤ self.old.room.nodes
+            → nodes ≤ self.old.room.entries → IsOk result }
+        ensures few { IsNamed self.old
+            → OnOk result (len (forest_of self.old).nodes + nodes < 2 ^ 32) }
         ensures forest { forest_of self.new ≡ forest_of self.old }
         ensures sound { IsSound self.old → IsSound self.new }
     {
@@ -149,12 +154,12 @@ impl Caches {
         requires caches { 1 ≤ self.old.room.caches }
         requires nodes { pages ≤ self.old.room.nodes }
         requires entries { pages ≤ self.old.room.entries }
-        ensures made { (nodes : List NodeId) × (length nodes ≡ pages) × IsMade self.old self.new result None OwnState.Zero nodes }
-        ensures pages { (page : ℕ) → page < pages → HasPage self.new result page OwnState.Zero }
-        ensures forest { IsSound self.old → forest_of self.new ≡ make (map (λ x. (x, OwnState.Zero)) (page_names result 0 pages)) (forest_of self.old) }
+        ensures made { MakesCache self.old self.new result None pages OwnState.Zero }
+        ensures pages { HasPages self.new result pages OwnState.Zero }
+        ensures forest { MakesPages self.old self.new result pages OwnState.Zero }
         ensures sound { IsSound self.old → IsSound self.new }
-        ensures stays { (n : NodeId) → IsHeld self.old n → find self.new n ≡ find self.old n }
-        ensures tables { (other : ℕ) → other ≤ length self.old.caches → table_of self.new other ≡ table_of self.old other }
+        ensures stays { CellsStay self.old self.new }
+        ensures tables { TablesStay self.old self.new }
     {
         self.make(None, OwnState::Zero, pages)
     }
@@ -166,12 +171,12 @@ impl Caches {
         requires caches { 1 ≤ self.old.room.caches }
         requires nodes { pages ≤ self.old.room.nodes }
         requires entries { pages ≤ self.old.room.entries }
-        ensures made { (nodes : List NodeId) × (length nodes ≡ pages) × IsMade self.old self.new result (Some seg) OwnState.OnSegment nodes }
-        ensures pages { (page : ℕ) → page < pages → HasPage self.new result page OwnState.OnSegment }
-        ensures forest { IsSound self.old → forest_of self.new ≡ make (map (λ x. (x, OwnState.OnSegment)) (page_names result 0 pages)) (forest_of self.old) }
+        ensures made { MakesCache self.old self.new result (Some seg) pages OwnState.OnSegment }
+        ensures pages { HasPages self.new result pages OwnState.OnSegment }
+        ensures forest { MakesPages self.old self.new result pages OwnState.OnSegment }
         ensures sound { IsSound self.old → IsSound self.new }
-        ensures stays { (n : NodeId) → IsHeld self.old n → find self.new n ≡ find self.old n }
-        ensures tables { (other : ℕ) → other ≤ length self.old.caches → table_of self.new other ≡ table_of self.old other }
+        ensures stays { CellsStay self.old self.new }
+        ensures tables { TablesStay self.old self.new }
     {
         self.make(Some(seg), OwnState::OnSegment, pages)
     }
@@ -275,7 +280,7 @@ impl Caches {
     pub fn set_state(&mut self, node: NodeId, state: OwnState)
         requires { IsHeld self.old node }
         ensures changed { self.new ≡ with_own self.old node state }
-        ensures stays { (n : NodeId) → IsHeld self.old n → IsHeld self.new n }
+        ensures stays { NodesStay self.old self.new }
     {
         match self.nodes.get_mut(node.0 as usize) {
             Some(held) => held.set_state(state),
@@ -298,7 +303,7 @@ impl Caches {
     pub fn set_links(&mut self, node: NodeId, links: Links)
         requires { IsHeld self.old node }
         ensures changed { self.new ≡ with_links self.old node links }
-        ensures stays { (n : NodeId) → IsHeld self.old n → IsHeld self.new n }
+        ensures stays { NodesStay self.old self.new }
     {
         let before = number_at(&self.nodes, node.0);
         match self.nodes.get_mut(node.0 as usize) {
@@ -324,7 +329,7 @@ impl Caches {
         requires held { IsHeld self.old node }
         requires few { length children.now ≤ 2 }
         ensures changed { self.new ≡ with_tree self.old node children.now }
-        ensures stays { (n : NodeId) → IsHeld self.old n → IsHeld self.new n }
+        ensures stays { NodesStay self.old self.new }
     {
         let before = number_at(&self.nodes, node.0);
         match self.nodes.get_mut(node.0 as usize) {
@@ -342,7 +347,7 @@ impl Caches {
         ensures new { find self.old result ≡ None }
         ensures changed { self.new ≡ with_new self.old result (NodeName.Live cache page) state }
         ensures held { IsHeld self.new result }
-        ensures stays { (n : NodeId) → IsHeld self.old n → IsHeld self.new n }
+        ensures stays { NodesStay self.old self.new }
     {
         self.insert(NodeName::Live(cache, page), state)
     }
@@ -355,7 +360,7 @@ impl Caches {
         ensures new { find self.old result ≡ None }
         ensures changed { self.new ≡ with_working self.old result }
         ensures held { IsHeld self.new result }
-        ensures stays { (n : NodeId) → IsHeld self.old n → IsHeld self.new n }
+        ensures stays { NodesStay self.old self.new }
     {
         self.made += 1;
         self.insert(NodeName::Working(self.made), OwnState::Absent)
@@ -366,7 +371,7 @@ impl Caches {
         requires held { IsHeld self.old node }
         requires made { self.old.made < 2 ^ 63 }
         ensures changed { self.new ≡ as_working self.old node }
-        ensures stays { (n : NodeId) → IsHeld self.old n → IsHeld self.new n }
+        ensures stays { NodesStay self.old self.new }
     {
         self.made += 1;
         self.set_name(node, NodeName::Working(self.made));
@@ -377,7 +382,7 @@ impl Caches {
         requires held { IsHeld self.old node }
         requires vacant { IsVacant self.old cache page }
         ensures changed { self.new ≡ with_name self.old node (NodeName.Live cache page) }
-        ensures stays { (n : NodeId) → IsHeld self.old n → IsHeld self.new n }
+        ensures stays { NodesStay self.old self.new }
     {
         self.set_name(node, NodeName::Live(cache, page));
     }
@@ -422,10 +427,10 @@ impl Caches {
         requires caches { 1 ≤ self.old.room.caches }
         requires nodes { pages ≤ self.old.room.nodes }
         requires entries { pages ≤ self.old.room.entries }
-        ensures made { (nodes : List NodeId) × (length nodes ≡ pages) × IsMade self.old self.new result segment own nodes }
-        ensures pages { (page : ℕ) → page < pages → HasPage self.new result page own }
-        ensures stays { (n : NodeId) → IsHeld self.old n → find self.new n ≡ find self.old n }
-        ensures tables { (other : ℕ) → other ≤ length self.old.caches → table_of self.new other ≡ table_of self.old other }
+        ensures made { MakesCache self.old self.new result segment pages own }
+        ensures pages { HasPages self.new result pages own }
+        ensures stays { CellsStay self.old self.new }
+        ensures tables { TablesStay self.old self.new }
     {
         let cache = CacheId(self.caches.len() as u32 + 1);
         let first = self.entries.len();
@@ -451,7 +456,7 @@ impl Caches {
         ensures new { find self.old result ≡ None }
         ensures changed { self.new ≡ with_new self.old result name own }
         ensures held { IsHeld self.new result }
-        ensures stays { (n : NodeId) → IsHeld self.old n → IsHeld self.new n }
+        ensures stays { NodesStay self.old self.new }
     {
         let place = self
             .nodes
@@ -467,7 +472,7 @@ impl Caches {
     fn set_name(&mut self, node: NodeId, name: NodeName)
         requires { IsHeld self.old node }
         ensures changed { self.new ≡ with_name self.old node name }
-        ensures stays { (n : NodeId) → IsHeld self.old n → IsHeld self.new n }
+        ensures stays { NodesStay self.old self.new }
     {
         let left = self.name(node);
         let before = number_at(&self.nodes, node.0);

@@ -41,7 +41,8 @@ pub(crate) fn set_node(
     node: Option<NodeId>,
 )
     requires { AreInRow 0 caches.now (length entries.old.items) }
-    ensures tables { tables_in entries.new.items caches.now ≡ tables_with (tables_in entries.old.items caches.now) name node }
+    ensures tables { tables_in entries.new.items caches.now
+        ≡ tables_with (tables_in entries.old.items caches.now) name node }
     ensures row { AreInRow 0 caches.now (length entries.new.items) }
     ensures len { vec_len entries.new ≡ vec_len entries.old }
     ensures capacity { vec_capacity entries.new ≡ vec_capacity entries.old }
@@ -74,7 +75,8 @@ pub(crate) fn close_gap(entries: &mut Vec<PageEntry>, first: usize, pages: usize
 
 // Says of the caches from an index on that their parts stand lower.
 pub(crate) fn lower(caches: &mut Vec<Option<CacheEntry>>, from: usize, pages: usize)
-    requires { (k : ℕ) (e : CacheEntry) → from ≤ k → slice_index_or caches.old.items k None ≡ Some e → pages ≤ e.first }
+    requires { (k : ℕ) (e : CacheEntry) → from ≤ k → slice_index_or caches.old.items k None ≡ Some e
+        → pages ≤ e.first }
     ensures lowered { AreLowered from pages caches.old.items caches.new.items }
     ensures len { vec_len caches.new ≡ vec_len caches.old }
     ensures capacity { vec_capacity caches.new ≡ vec_capacity caches.old }

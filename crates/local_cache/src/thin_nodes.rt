@@ -38,8 +38,10 @@ pub(crate) fn queue(nodes: &Slab<PageNode>, thin: &mut EntryHeap, key: u64, befo
 
 // Takes out the entry that a key has under a number, or nothing where there is no number.
 fn leave(thin: &mut EntryHeap, key: u64, number: Option<u64>)
-    requires { (n : ℕ) → number ≡ Some n → Contains thin.old.entries (record { number = n; key = key }) }
-    ensures left { (nodes : Slots Cell) → IsQueuedBut key number nodes thin.old.entries → IsQueuedBut key None nodes thin.new.entries }
+    requires { (n : ℕ) → number ≡ Some n
+        → Contains thin.old.entries (record { number = n; key = key }) }
+    ensures left { (nodes : Slots Cell) → IsQueuedBut key number nodes thin.old.entries
+        → IsQueuedBut key None nodes thin.new.entries }
     ensures room { thin.new.room ≡ thin.old.room }
 {
     if let Some(number) = number {

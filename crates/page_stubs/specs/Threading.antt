@@ -14,15 +14,26 @@ with_behind a (Some n) to = with_links a n (record (cell a n).links { behind = t
 
 -- the ends of the stubs of n, and how many they are
 abbrev pub with_ends : Arena → NodeId → Option NodeId → Option NodeId → ℕ → Arena
-with_ends a n first last stubs = with_links a n (record (cell a n).links { first = first; last = last; stubs = stubs })
+with_ends a n first last stubs =
+    with_links a n (record (cell a n).links { first = first; last = last; stubs = stubs })
 
 -- how n hangs, and its neighbours in its parent's list
-abbrev pub with_place : Arena → NodeId → Option NodeId → Bool → Option NodeId → Option NodeId → Arena
-with_place a n parent by_stub before behind = with_links a n (record (cell a n).links { parent = parent; by_stub = by_stub; before = before; behind = behind })
+abbrev pub with_place : Arena → NodeId → Option NodeId → Bool → Option NodeId → Option NodeId
+    → Arena
+with_place a n parent by_stub before behind =
+    with_links a n
+    (record (cell a n).links {
+      parent = parent;
+      by_stub = by_stub;
+      before = before;
+      behind = behind;
+    })
 
 -- d, without a parent, at the end of the stubs of s, behind `last`
 abbrev pub added : Arena → NodeId → NodeId → Option NodeId → Arena
-added a d s last = with_ends (with_behind (with_place a d (Some s) true last None) last (Some d)) s (option_or (cell a s).links.first (Some d)) (Some d) ((cell a s).links.stubs + 1)
+added a d s last =
+    with_ends (with_behind (with_place a d (Some s) true last None) last (Some d)) s
+    (option_or (cell a s).links.first (Some d)) (Some d) ((cell a s).links.stubs + 1)
 
 abbrev pub with_before : Arena → Option NodeId → Option NodeId → Arena
 with_before a None to = a

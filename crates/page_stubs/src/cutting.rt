@@ -55,10 +55,12 @@ fn take_out(
 /// The stub `node` is taken out of its parent's list, and has no parent.
 pub fn cut_stub(caches: &mut Caches, node: NodeId)
     requires kept { IsKept caches.old }
-    requires linked { IsLinked (edit (forest_of caches.old) (name_of caches.old node) (with_own None)) }
+    requires linked { IsLinked
+        (edit (forest_of caches.old) (name_of caches.old node) (with_own None)) }
     requires node { IsHeld caches.old node }
     requires stub { is_stub (node_of caches.old node).hang ≡ true }
-    ensures forest { forest_of caches.new ≡ rule_cut_stub (forest_of caches.old) (name_of caches.old node) }
+    ensures forest { forest_of caches.new
+        ≡ rule_cut_stub (forest_of caches.old) (name_of caches.old node) }
     ensures sound { IsSound caches.new }
     ensures links { Relinked caches.old caches.new }
     ensures room { caches.new.room ≡ caches.old.room }

@@ -74,13 +74,18 @@ pub fn hand_stubs(caches: &mut Caches, from: NodeId, to: NodeId)
     requires from { IsHeld caches.old from }
     requires to { IsHeld caches.old to }
     requires apart { to ≢ from }
-    requires clear { (y : NodeName) → y ∈ (node (forest_of caches.old) (name_of caches.old from)).stubs → IsUnder (forest_of caches.old) (name_of caches.old to) y → ⊥ }
-    requires few { len (forest_of caches.old).nodes < 2 ^ 32 }
-    ensures forest { forest_of caches.new ≡ forest.hand_stubs (forest_of caches.old) (name_of caches.old from) (name_of caches.old to) }
+    requires clear { (y : NodeName)
+        → y ∈ (node (forest_of caches.old) (name_of caches.old from)).stubs
+        → IsUnder (forest_of caches.old) (name_of caches.old to) y → ⊥ }
+    ensures forest { forest_of caches.new
+        ≡ forest.hand_stubs (forest_of caches.old) (name_of caches.old from)
+        (name_of caches.old to) }
     ensures sound { IsSound caches.new }
     ensures links { Relinked caches.old caches.new }
     ensures room { caches.new.room ≡ caches.old.room }
 {
+    // the nodes are counted in 32 bits, and so are two lists of some of them
+    let _all = caches.counts();
     reparent(caches, from, to);
     join(caches, from, to);
 }

@@ -8,7 +8,7 @@
 //! The model is that of `local_cache`: the page forest that is read off the caches. Each call changes links alone, and
 //! its contract names the rule of the forest that it follows. A list is threaded through its stubs, so that no call
 //! walks along one but `hand_stubs`, which walks along the stubs that it hands over. The crate stands on `local_cache`;
-//! `tree_merge` and the paths of faults stand on it.
+//! `tree_merge`, `page_release` and the paths of faults stand on it.
 #![tactic(auto)]
 
 mod adding;

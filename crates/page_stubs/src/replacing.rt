@@ -58,8 +58,10 @@ pub fn take_place_of(caches: &mut Caches, w: NodeId, y: NodeId)
     requires stub { is_stub (node (forest_of caches.old) (name_of caches.old w)).hang ≡ true }
     requires root { (node (forest_of caches.old) (name_of caches.old y)).hang ≡ Root }
     requires bare { (node (forest_of caches.old) (name_of caches.old y)).own ≡ None }
-    requires clear { IsUnder (forest_of caches.old) (name_of caches.old w) (name_of caches.old y) → ⊥ }
-    ensures forest { forest_of caches.new ≡ take_place (forest_of caches.old) (name_of caches.old w) (name_of caches.old y) }
+    requires clear { IsUnder (forest_of caches.old) (name_of caches.old w) (name_of caches.old y)
+        → ⊥ }
+    ensures forest { forest_of caches.new
+        ≡ take_place (forest_of caches.old) (name_of caches.old w) (name_of caches.old y) }
     ensures sound { IsSound caches.new }
     ensures links { Relinked caches.old caches.new }
     ensures room { caches.new.room ≡ caches.old.room }

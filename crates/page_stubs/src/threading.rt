@@ -1,7 +1,7 @@
 // The neighbours in a list of stubs.
 ghost use Rattle.std.specs.Prelude.{◌≡◌};
 ghost use Rattle.vm_ids.specs.declared.numbers.NodeId.{NodeId};
-ghost use Rattle.local_cache.specs.Arena.{IsHeld};
+ghost use Rattle.local_cache.specs.Arena.{IsHeld, NodesStay};
 ghost use Rattle.page_stubs.specs.Threading.{IsHeldIf, with_behind, with_before};
 ghost use Rattle.page_stubs.specs.Threading as spec;
 
@@ -12,7 +12,7 @@ use vm_ids::NodeId;
 pub(crate) fn set_behind(caches: &mut Caches, at: Option<NodeId>, to: Option<NodeId>)
     requires { IsHeldIf caches.old at }
     ensures changed { caches.new ≡ with_behind caches.old at to }
-    ensures stays { (n : NodeId) → IsHeld caches.old n → IsHeld caches.new n }
+    ensures stays { NodesStay caches.old caches.new }
 {
     if let Some(at) = at {
         let links = caches.links(at);
@@ -30,7 +30,7 @@ pub(crate) fn set_behind(caches: &mut Caches, at: Option<NodeId>, to: Option<Nod
 pub(crate) fn set_before(caches: &mut Caches, at: Option<NodeId>, to: Option<NodeId>)
     requires { IsHeldIf caches.old at }
     ensures changed { caches.new ≡ with_before caches.old at to }
-    ensures stays { (n : NodeId) → IsHeld caches.old n → IsHeld caches.new n }
+    ensures stays { NodesStay caches.old caches.new }
 {
     if let Some(at) = at {
         let links = caches.links(at);
@@ -54,7 +54,7 @@ pub(crate) fn set_ends(
 )
     requires { IsHeld caches.old node }
     ensures changed { caches.new ≡ spec.with_ends caches.old node first last stubs }
-    ensures stays { (n : NodeId) → IsHeld caches.old n → IsHeld caches.new n }
+    ensures stays { NodesStay caches.old caches.new }
 {
     let links = caches.links(node);
     caches.set_links(
@@ -79,7 +79,7 @@ pub(crate) fn set_place(
 )
     requires { IsHeld caches.old node }
     ensures changed { caches.new ≡ spec.with_place caches.old node parent by_stub before behind }
-    ensures stays { (n : NodeId) → IsHeld caches.old n → IsHeld caches.new n }
+    ensures stays { NodesStay caches.old caches.new }
 {
     let links = caches.links(node);
     caches.set_links(

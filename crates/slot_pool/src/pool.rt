@@ -49,7 +49,8 @@ impl SlotPool {
     /// Makes the capacity at least `total`. The slots that were there stay as they are, and the new ones are free.
     /// It can fail only where the capacity was less than `total`, and after an error the pool is as it was.
     pub fn reserve(&mut self, total: u32) -> Result<(), NoMemory>
-        ensures ok { OnOk result (self.new ≡ self.old ++ replicate (total - length self.old) false) }
+        ensures ok { OnOk result
+            (self.new ≡ self.old ++ replicate (total - length self.old) false) }
         ensures err { OnErr result (self.new ≡ self.old) }
         ensures enough { total ≤ length self.old → IsOk result }
     {
@@ -88,7 +89,8 @@ impl SlotPool {
 // The least free slot, if there is one.
 fn first_free(slots: &[bool]) -> Option<usize>
     ensures at { result ≡ position (λ held. not held) slots.now }
-    ensures free { IfSome result (λ at. (at < length slots.now) × (slice_index_or slots.now at false ≡ false)) }
+    ensures free { IfSome result
+        (λ at. (at < length slots.now) × (slice_index_or slots.now at false ≡ false)) }
 {
     slots.iter().position(|held| !*held)
 }

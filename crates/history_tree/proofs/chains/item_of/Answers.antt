@@ -8,7 +8,7 @@ tree_children-requires-clause-few c = at_most_two c.args.caches.now c.requires.s
 
 pub overflow_add-result : goal.overflow_add-result
 overflow_add-result c =
-    let f = fits c.args.caches.now c.requires.sound c.args.node c.requires.node c.requires.few in
+    let f = fits c.args.caches.now c.requires.sound c.args.node c.requires.node c.counts-all.ensures.few in
     omega (arith, f, c.tree_children.ensures, ap (λ l. l.stubs) c.links.ensures)
 
 pub returns : goal.returns

@@ -1,4 +1,4 @@
-use Rattle.std.proofs.Common.{◌≡◌, List, [], ◌∷◌, Some, None, sym, ap, subst, ◌∙◌, slice_get, refl, inl}
+use Rattle.std.proofs.Common.{◌≡◌, ◌≤◌, List, [], ◌∷◌, Some, None, sym, ap, subst, ◌∙◌, slice_get, refl, inl}
 use Rattle.vm_ids.specs.declared.numbers.NodeId.{NodeId}
 use Rattle.local_cache.specs.Arena.{Arena, IsHeld, cell, find, with_working}
 use Rattle.local_cache.specs.Reading.{forest_of}
@@ -33,20 +33,20 @@ returns-in-None-clause-sound c =
     let can : CanLink c.args.caches.now c.args.d c.args.s = record { sound = r.sound; held_d = r.d; held_s = r.s; bare = r.bare; live = r.live; apart = r.apart } in
     subst IsSound (sym c.hang_one.ensures.changed) (links-first c.args.caches.now c.args.d c.args.s can (none_there _ c.in-None.ensures)).sound
 
-more : (a b : Arena) (d s w h : NodeId) → CanLink a d s → Some h ≡ slice_get (cell a s).tree 0 → find a w ≡ None → b ≡ set_two (set_one (with_working a w) s w) w h d → Linked a b d s
-more a b d s w h can e free is = let r = rest_of (cell a s).tree h e in subst (λ x. Linked a x d s) (sym is) (links-more a d s w h r.0 can r.1 free)
+more : (a b : Arena) (d s w h : NodeId) → CanLink a d s → Some h ≡ slice_get (cell a s).tree 0 → find a w ≡ None → 1 ≤ a.room.nodes → b ≡ set_two (set_one (with_working a w) s w) w h d → Linked a b d s
+more a b d s w h can e free roomy is = let r = rest_of (cell a s).tree h e in subst (λ x. Linked a x d s) (sym is) (links-more a d s w h r.0 can r.1 free roomy)
 
 pub returns-in-Some-clause-forest : goal.returns-in-Some-clause-forest
 returns-in-Some-clause-forest c =
     let r = c.requires in
     let can : CanLink c.args.caches.now c.args.d c.args.s = record { sound = r.sound; held_d = r.d; held_s = r.s; bare = r.bare; live = r.live; apart = r.apart } in
-    (more c.args.caches.now _ c.args.d c.args.s _ c.in-Some.h can c.in-Some.ensures c.put_between.ensures.fresh c.put_between.ensures.changed).forest
+    (more c.args.caches.now _ c.args.d c.args.s _ c.in-Some.h can c.in-Some.ensures c.put_between.ensures.fresh r.room c.put_between.ensures.changed).forest
 
 pub returns-in-Some-clause-sound : goal.returns-in-Some-clause-sound
 returns-in-Some-clause-sound c =
     let r = c.requires in
     let can : CanLink c.args.caches.now c.args.d c.args.s = record { sound = r.sound; held_d = r.d; held_s = r.s; bare = r.bare; live = r.live; apart = r.apart } in
-    (more c.args.caches.now _ c.args.d c.args.s _ c.in-Some.h can c.in-Some.ensures c.put_between.ensures.fresh c.put_between.ensures.changed).sound
+    (more c.args.caches.now _ c.args.d c.args.s _ c.in-Some.h can c.in-Some.ensures c.put_between.ensures.fresh r.room c.put_between.ensures.changed).sound
 
 pub returns-in-None-clause-grown : goal.returns-in-None-clause-grown
 returns-in-None-clause-grown c =
@@ -58,4 +58,4 @@ pub returns-in-Some-clause-grown : goal.returns-in-Some-clause-grown
 returns-in-Some-clause-grown c =
     let r = c.requires in
     let can : CanLink c.args.caches.now c.args.d c.args.s = record { sound = r.sound; held_d = r.d; held_s = r.s; bare = r.bare; live = r.live; apart = r.apart } in
-    (more c.args.caches.now _ c.args.d c.args.s _ c.in-Some.h can c.in-Some.ensures c.put_between.ensures.fresh c.put_between.ensures.changed).grown
+    (more c.args.caches.now _ c.args.d c.args.s _ c.in-Some.h can c.in-Some.ensures c.put_between.ensures.fresh r.room c.put_between.ensures.changed).grown

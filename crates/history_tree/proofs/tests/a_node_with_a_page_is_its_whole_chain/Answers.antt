@@ -12,6 +12,3 @@ chain-requires-clause-sound g c = (ready c.new-caches.result c.reserve.new.self 
 
 pub chain-requires-clause-shaped : goal.chain-requires-clause-shaped
 chain-requires-clause-shaped g c = (ready c.new-caches.result c.reserve.new.self c.fresh_working-node.new.self c.set_state.new.self c.fresh_working-node.result c.new-caches.ensures.nodes (c.reserve.ensures.sound c.new-caches.ensures.sound) c.reserve.ensures.kept c.fresh_working-node.ensures.changed c.set_state.ensures.changed).shaped
-
-pub chain-requires-clause-few : goal.chain-requires-clause-few
-chain-requires-clause-few g c = (ready c.new-caches.result c.reserve.new.self c.fresh_working-node.new.self c.set_state.new.self c.fresh_working-node.result c.new-caches.ensures.nodes (c.reserve.ensures.sound c.new-caches.ensures.sound) c.reserve.ensures.kept c.fresh_working-node.ensures.changed c.set_state.ensures.changed).few

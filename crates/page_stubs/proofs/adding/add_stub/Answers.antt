@@ -28,7 +28,7 @@ thread_last-requires-clause-few c =
     let r = c.requires in
     let a = c.args.caches.now in
     let fits = one_more_fits (forest_of a) r.sound.linked (name_of a c.args.d) (name_of a c.args.s) (IsNode-forest_of a r.sound.named c.args.d r.d) (ap (λ n. n.hang) r.bare) in
-    omega (arith, count_is a (kept_of a r.sound) c.args.s r.s, fits, r.few)
+    omega (arith, count_is a (kept_of a r.sound) c.args.s r.s, fits, c.counts-all.ensures.few)
 
 pub returns-clause-links : goal.returns-clause-links
 returns-clause-links c =

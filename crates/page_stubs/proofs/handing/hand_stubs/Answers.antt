@@ -30,7 +30,7 @@ join-requires-clause-few c =
     let own = own_count a _ c.args.from c.args.to r.apart r.from r.to (stubs_of a c.args.from) (stubs_of a c.args.to) from_list to_list c.reparent.ensures in
     let given = given_count a _ c.args.from c.args.to r.apart r.from r.to (stubs_of a c.args.from) (stubs_of a c.args.to) from_list to_list c.reparent.ensures in
     let fit = both_fit (forest_of a) r.sound.linked (name_of a c.args.from) (name_of a c.args.to) (λ e. r.apart (r.sound.named.apart c.args.to c.args.from r.to r.from e)) in
-    omega (arith, own, given, fit, from_list.count, to_list.count, count_is a (kept_of a r.sound) c.args.from r.from, count_is a (kept_of a r.sound) c.args.to r.to, r.few)
+    omega (arith, own, given, fit, from_list.count, to_list.count, count_is a (kept_of a r.sound) c.args.from r.from, count_is a (kept_of a r.sound) c.args.to r.to, c.counts-all.ensures.few)
 
 pub returns-clause-forest : goal.returns-clause-forest
 returns-clause-forest c =
