@@ -41,4 +41,5 @@ module _ {P : Type 0} where
 
   -- y in the place of w, or w without a parent where y would be a stub with an own page
   abbrev pub placed : Forest P → NodeName → NodeName → Forest P
-  placed f w y = cond (is_stub (node f w).hang && is_some (node f y).own) (cut f w) (take_place f w y)
+  placed f w y =
+      cond (is_stub (node f w).hang && is_some (node f y).own) (cut f w) (take_place f w y)

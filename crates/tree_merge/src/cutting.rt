@@ -17,7 +17,8 @@ fn cut_from(caches: &mut Caches, node: NodeId, parent: NodeId, by_stub: bool)
     requires held { IsHeld caches.old node }
     requires parent { (cell caches.old node).links.parent ≡ Some parent }
     requires by_stub { (cell caches.old node).links.by_stub ≡ by_stub }
-    ensures forest { forest_of caches.new ≡ rule_cut (forest_of caches.old) (name_of caches.old node) }
+    ensures forest { forest_of caches.new ≡ rule_cut (forest_of caches.old)
+        (name_of caches.old node) }
     ensures sound { IsSound caches.new }
     ensures rehung { Rehung caches.old caches.new }
 {
@@ -32,7 +33,8 @@ fn cut_from(caches: &mut Caches, node: NodeId, parent: NodeId, by_stub: bool)
 pub(crate) fn cut(caches: &mut Caches, node: NodeId)
     requires sound { IsSound caches.old }
     requires held { IsHeld caches.old node }
-    ensures forest { forest_of caches.new ≡ rule_cut (forest_of caches.old) (name_of caches.old node) }
+    ensures forest { forest_of caches.new ≡ rule_cut (forest_of caches.old)
+        (name_of caches.old node) }
     ensures sound { IsSound caches.new }
     ensures rehung { Rehung caches.old caches.new }
 {

@@ -5,7 +5,7 @@ ghost use Rattle.vm_ids.specs.Forest.Rules.{detach as rule_detach, retire as rul
 ghost use Rattle.local_cache.specs.Arena.{IsVacant, node_at};
 ghost use Rattle.local_cache.specs.Reading.{forest_of, page_of};
 ghost use Rattle.local_cache.specs.Sound.{IsSound};
-ghost use Rattle.tree_merge.specs.Releasing.{IsDetached, IsRetired};
+ghost use Rattle.tree_merge.specs.Releasing.{IsDetached, IsReleased, IsRetired};
 
 use crate::Released;
 use crate::retiring::retire_node;
@@ -19,9 +19,12 @@ pub fn retire(caches: &mut Caches, cache: CacheId, page: PageNo) -> Released
     requires sound { IsSound caches.old }
     requires node { IsSome (node_at caches.old cache.0 page.0) }
     requires made { caches.old.made < 2 ^ 63 }
-    ensures forest { forest_of caches.new ≡ rule_retire (forest_of caches.old) (NodeName.Live cache page) }
+    ensures forest { forest_of caches.new ≡ rule_retire (forest_of caches.old)
+        (NodeName.Live cache page) }
     ensures sound { IsSound caches.new }
-    ensures retired { (n : NodeId) → node_at caches.old cache.0 page.0 ≡ Some n → IsRetired caches.old caches.new n result }
+    ensures retired { (n : NodeId) → node_at caches.old cache.0 page.0 ≡ Some n
+        → IsRetired caches.old caches.new n result }
+    ensures released { IsReleased caches.old caches.new result }
     ensures vacant { IsVacant caches.new cache page }
 {
     let node = caches.node_of(cache, page);
@@ -29,15 +32,18 @@ pub fn retire(caches: &mut Caches, cache: CacheId, page: PageNo) -> Released
 }
 
 /// Retires the node of a page and makes a fresh one for it, with this own state and without parent and children. It
-/// answers what retiring does, and takes no memory: there has to be room for a node.
+/// answers what retiring does, and takes no memory: there has to be room for a node. The fresh node may have the number
+/// of the node that is `Dropped`.
 pub fn detach(caches: &mut Caches, cache: CacheId, page: PageNo, state: OwnState) -> Released
     requires sound { IsSound caches.old }
     requires node { IsSome (node_at caches.old cache.0 page.0) }
     requires room { 1 ≤ caches.old.room.nodes }
     requires made { caches.old.made < 2 ^ 63 }
-    ensures forest { forest_of caches.new ≡ rule_detach (forest_of caches.old) (NodeName.Live cache page) (page_of state) }
+    ensures forest { forest_of caches.new ≡ rule_detach (forest_of caches.old)
+        (NodeName.Live cache page) (page_of state) }
     ensures sound { IsSound caches.new }
-    ensures detached { (n : NodeId) → node_at caches.old cache.0 page.0 ≡ Some n → IsDetached caches.old caches.new n (NodeName.Live cache page) state result }
+    ensures detached { (n : NodeId) → node_at caches.old cache.0 page.0 ≡ Some n
+        → IsDetached caches.old caches.new n (NodeName.Live cache page) state result }
 {
     let released = retire(caches, cache, page);
     caches.fresh(cache, page, state);

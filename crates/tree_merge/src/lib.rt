@@ -6,8 +6,8 @@
 //! larger than the copies that are there need.
 //!
 //! The model is that of the local caches: each call changes the page forest that is read off them by the rule of its
-//! name, and `Released` tells which node's frame or swap slot falls free or becomes another node's. This crate stands on
-//! `local_cache` and `page_stubs`, and `arena_commands` stands on it. It keeps no page itself.
+//! name, and `Released` tells which node's frame or swap slot falls free or becomes another node's. This crate stands
+//! on `local_cache` and `page_stubs`; `move_pages` and `page_release` stand on it. It keeps no page itself.
 #![tactic(auto)]
 
 mod children;

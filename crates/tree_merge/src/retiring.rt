@@ -21,7 +21,8 @@ pub(crate) fn drop_node(caches: &mut Caches, node: NodeId) -> Released
     requires sound { IsSound caches.old }
     requires held { IsHeld caches.old node }
     requires leaf { child_count (forest_of caches.old) (name_of caches.old node) ≡ 0 }
-    ensures forest { forest_of caches.new ≡ rule_free (rule_cut (forest_of caches.old) (name_of caches.old node)) (name_of caches.old node) }
+    ensures forest { forest_of caches.new ≡ rule_free
+        (rule_cut (forest_of caches.old) (name_of caches.old node)) (name_of caches.old node) }
     ensures sound { IsSound caches.new }
     ensures released { result ≡ Released.Dropped node (own_of caches.old node) }
     ensures gone { IsGone caches.old caches.new node }
@@ -39,7 +40,8 @@ pub(crate) fn retire_node(caches: &mut Caches, node: NodeId) -> Released
     requires held { IsHeld caches.old node }
     requires live { is_live (name_of caches.old node) ≡ true }
     requires made { caches.old.made < 2 ^ 63 }
-    ensures forest { forest_of caches.new ≡ rule_retire (forest_of caches.old) (name_of caches.old node) }
+    ensures forest { forest_of caches.new ≡ rule_retire (forest_of caches.old)
+        (name_of caches.old node) }
     ensures sound { IsSound caches.new }
     ensures retired { IsRetired caches.old caches.new node result }
 {

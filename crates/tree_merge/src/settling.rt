@@ -1,5 +1,5 @@
 // A working node with fewer than two children gives way.
-ghost use Rattle.std.specs.Prelude.{◌≡◌, ◌≢◌, ◌<◌, ◌&&◌, not, true, false, Some, MatchOption};
+ghost use Rattle.std.specs.Prelude.{◌≡◌, ◌≢◌, ◌<◌, ◌&&◌, not, true, false, Some, IfSome, MatchOption};
 ghost use Rattle.vm_ids.specs.declared.numbers.NodeId.{NodeId};
 ghost use Rattle.vm_ids.specs.Forest.Changes.{cut as rule_cut, free as rule_free};
 ghost use Rattle.vm_ids.specs.Forest.Nodes.{child_count, node as node_named, parent as parent_named};
@@ -11,7 +11,7 @@ ghost use Rattle.local_cache.specs.Changes.{Like};
 ghost use Rattle.local_cache.specs.Own.{is_absent, own_of};
 ghost use Rattle.local_cache.specs.Reading.{name_of, forest_of};
 ghost use Rattle.local_cache.specs.Sound.{IsSound};
-ghost use Rattle.tree_merge.specs.Releasing.{IsMerged, OwnsAfter, own_after, released_to};
+ghost use Rattle.tree_merge.specs.Releasing.{IsMerged, IsReleased, OwnsAfter, own_after, released_to};
 ghost use Rattle.tree_merge.specs.Releasing as spec;
 ghost use Rattle.tree_merge.specs.Staying.{HasNoChild, IsBelow, IsGone, Rehung, placed};
 
@@ -37,12 +37,14 @@ fn pass_page(caches: &mut Caches, node: NodeId, child: NodeId) -> Released
     requires held { IsHeld caches.old node }
     requires child { IsHeld caches.old child }
     requires root { (node_named (forest_of caches.old) (name_of caches.old child)).hang ≡ Root }
-    ensures forest { forest_of caches.new ≡ rule_pass_page (forest_of caches.old) (name_of caches.old node) (name_of caches.old child) }
+    ensures forest { forest_of caches.new ≡ rule_pass_page (forest_of caches.old)
+        (name_of caches.old node) (name_of caches.old child) }
     ensures sound { IsSound caches.new }
     ensures released { result ≡ released_to caches.old node (Some child) }
     ensures like { Like caches.old caches.new }
     ensures owns { (m : NodeId) → own_of caches.new m ≡ own_after caches.old result m }
-    ensures counters { (caches.new.made ≡ caches.old.made) × (caches.new.copies ≡ caches.old.copies) }
+    ensures counters { (caches.new.made ≡ caches.old.made)
+        × (caches.new.copies ≡ caches.old.copies) }
     ensures room { caches.new.room ≡ caches.old.room }
 {
     let state = caches.own_state(node);
@@ -64,8 +66,10 @@ fn put_for_stub(caches: &mut Caches, node: NodeId, child: NodeId, parent: NodeId
     requires parent { (cell caches.old node).links.parent ≡ Some parent }
     requires by_stub { (cell caches.old node).links.by_stub ≡ true }
     requires root { (node_named (forest_of caches.old) (name_of caches.old child)).hang ≡ Root }
-    requires below { IsBelow (forest_of caches.old) (name_of caches.old node) (name_of caches.old child) }
-    ensures forest { forest_of caches.new ≡ placed (forest_of caches.old) (name_of caches.old node) (name_of caches.old child) }
+    requires below { IsBelow (forest_of caches.old) (name_of caches.old node)
+        (name_of caches.old child) }
+    ensures forest { forest_of caches.new ≡ placed (forest_of caches.old)
+        (name_of caches.old node) (name_of caches.old child) }
     ensures sound { IsSound caches.new }
     ensures rehung { Rehung caches.old caches.new }
 {
@@ -84,8 +88,10 @@ fn put_on(caches: &mut Caches, node: NodeId, child: NodeId, parent: NodeId, by_s
     requires parent { (cell caches.old node).links.parent ≡ Some parent }
     requires by_stub { (cell caches.old node).links.by_stub ≡ by_stub }
     requires root { (node_named (forest_of caches.old) (name_of caches.old child)).hang ≡ Root }
-    requires below { IsBelow (forest_of caches.old) (name_of caches.old node) (name_of caches.old child) }
-    ensures forest { forest_of caches.new ≡ placed (forest_of caches.old) (name_of caches.old node) (name_of caches.old child) }
+    requires below { IsBelow (forest_of caches.old) (name_of caches.old node)
+        (name_of caches.old child) }
+    ensures forest { forest_of caches.new ≡ placed (forest_of caches.old)
+        (name_of caches.old node) (name_of caches.old child) }
     ensures sound { IsSound caches.new }
     ensures rehung { Rehung caches.old caches.new }
 {
@@ -102,8 +108,10 @@ fn put_instead(caches: &mut Caches, node: NodeId, child: NodeId)
     requires held { IsHeld caches.old node }
     requires child { IsHeld caches.old child }
     requires root { (node_named (forest_of caches.old) (name_of caches.old child)).hang ≡ Root }
-    requires below { IsBelow (forest_of caches.old) (name_of caches.old node) (name_of caches.old child) }
-    ensures forest { forest_of caches.new ≡ placed (forest_of caches.old) (name_of caches.old node) (name_of caches.old child) }
+    requires below { IsBelow (forest_of caches.old) (name_of caches.old node)
+        (name_of caches.old child) }
+    ensures forest { forest_of caches.new ≡ placed (forest_of caches.old)
+        (name_of caches.old node) (name_of caches.old child) }
     ensures sound { IsSound caches.new }
     ensures rehung { Rehung caches.old caches.new }
 {
@@ -120,9 +128,11 @@ fn give_way(caches: &mut Caches, node: NodeId, child: NodeId)
     requires held { IsHeld caches.old node }
     requires child { IsHeld caches.old child }
     requires root { (node_named (forest_of caches.old) (name_of caches.old child)).hang ≡ Root }
-    requires below { IsBelow (forest_of caches.old) (name_of caches.old node) (name_of caches.old child) }
+    requires below { IsBelow (forest_of caches.old) (name_of caches.old node)
+        (name_of caches.old child) }
     requires none { HasNoChild (forest_of caches.old) (name_of caches.old node) }
-    ensures forest { forest_of caches.new ≡ rule_give_way (forest_of caches.old) (name_of caches.old node) (name_of caches.old child) }
+    ensures forest { forest_of caches.new ≡ rule_give_way (forest_of caches.old)
+        (name_of caches.old node) (name_of caches.old child) }
     ensures sound { IsSound caches.new }
     ensures gone { IsGone caches.old caches.new node }
     ensures owns { (m : NodeId) → m ≢ node → own_of caches.new m ≡ own_of caches.old m }
@@ -136,9 +146,13 @@ fn give_to(caches: &mut Caches, node: NodeId, child: NodeId) -> Released
     requires sound { IsSound caches.old }
     requires held { IsHeld caches.old node }
     requires child { IsHeld caches.old child }
-    requires up { parent_named (forest_of caches.old) (name_of caches.old child) ≡ Some (name_of caches.old node) }
+    requires up { parent_named (forest_of caches.old) (name_of caches.old child)
+        ≡ Some (name_of caches.old node) }
     requires few { child_count (forest_of caches.old) (name_of caches.old node) < 2 }
-    ensures forest { forest_of caches.new ≡ rule_give_way (rule_pass_page (rule_cut (forest_of caches.old) (name_of caches.old child)) (name_of caches.old node) (name_of caches.old child)) (name_of caches.old node) (name_of caches.old child) }
+    ensures forest { forest_of caches.new ≡ rule_give_way
+        (rule_pass_page (rule_cut (forest_of caches.old) (name_of caches.old child))
+        (name_of caches.old node) (name_of caches.old child))
+        (name_of caches.old node) (name_of caches.old child) }
     ensures sound { IsSound caches.new }
     ensures released { result ≡ released_to caches.old node (Some child) }
     ensures gone { IsGone caches.old caches.new node }
@@ -155,7 +169,8 @@ pub(crate) fn merge(caches: &mut Caches, node: NodeId) -> Released
     requires sound { IsSound caches.old }
     requires held { IsHeld caches.old node }
     requires few { child_count (forest_of caches.old) (name_of caches.old node) < 2 }
-    ensures forest { forest_of caches.new ≡ rule_settle_step (forest_of caches.old) (name_of caches.old node) }
+    ensures forest { forest_of caches.new ≡ rule_settle_step (forest_of caches.old)
+        (name_of caches.old node) }
     ensures sound { IsSound caches.new }
     ensures released { result ≡ released_to caches.old node (spec.first_child caches.old node) }
     ensures gone { IsGone caches.old caches.new node }
@@ -173,7 +188,9 @@ pub(crate) fn merge(caches: &mut Caches, node: NodeId) -> Released
 pub fn settle_step(caches: &mut Caches) -> Option<Released>
     requires { IsSound caches.old }
     ensures sound { IsSound caches.new }
-    ensures step { MatchOption result (IsSettled (forest_of caches.old) × (caches.new ≡ caches.old)) (λ released. IsMerged caches.old caches.new released) }
+    ensures step { MatchOption result (IsSettled (forest_of caches.old) × (caches.new ≡ caches.old))
+        (λ released. IsMerged caches.old caches.new released) }
+    ensures released { IfSome result (λ released. IsReleased caches.old caches.new released) }
 {
     match caches.thin() {
         Some(node) => Some(merge(caches, node)),

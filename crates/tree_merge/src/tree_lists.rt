@@ -24,7 +24,8 @@ fn child_at(
     instead: Option<NodeId>,
 ) -> Option<NodeId>
     requires { IsHeld caches.now parent }
-    ensures { result ≡ option_and_then (in_place node instead) (slice_get (cell caches.now parent).tree place) }
+    ensures { result ≡ option_and_then (in_place node instead)
+        (slice_get (cell caches.now parent).tree place) }
 {
     match caches.tree_child(parent, place) {
         Some(child) => { if child == node { instead } else { Some(child) } }
@@ -35,7 +36,8 @@ fn child_at(
 // Sets the tree children of a parent, of which there are up to two.
 fn set_children(caches: &mut Caches, parent: NodeId, first: Option<NodeId>, second: Option<NodeId>)
     requires { IsHeld caches.old parent }
-    ensures changed { caches.new ≡ with_tree caches.old parent (cons_option first (cons_option second [])) }
+    ensures changed { caches.new ≡ with_tree caches.old parent
+        (cons_option first (cons_option second [])) }
     ensures stays { (n : NodeId) → IsHeld caches.old n → IsHeld caches.new n }
 {
     match (first, second) {
@@ -50,7 +52,8 @@ fn set_children(caches: &mut Caches, parent: NodeId, first: Option<NodeId>, seco
 fn exchange(caches: &mut Caches, parent: NodeId, node: NodeId, instead: Option<NodeId>)
     requires held { IsHeld caches.old parent }
     requires few { length (cell caches.old parent).tree ≤ 2 }
-    ensures changed { caches.new ≡ with_tree caches.old parent (exchanged node instead (cell caches.old parent).tree) }
+    ensures changed { caches.new ≡ with_tree caches.old parent
+        (exchanged node instead (cell caches.old parent).tree) }
     ensures stays { (n : NodeId) → IsHeld caches.old n → IsHeld caches.new n }
 {
     let first = child_at(caches, parent, 0, node, instead);
@@ -98,7 +101,8 @@ pub(crate) fn cut_tree(caches: &mut Caches, node: NodeId, parent: NodeId)
     requires held { IsHeld caches.old node }
     requires parent { (cell caches.old node).links.parent ≡ Some parent }
     requires by_tree { (cell caches.old node).links.by_stub ≡ false }
-    ensures forest { forest_of caches.new ≡ rule_cut (forest_of caches.old) (name_of caches.old node) }
+    ensures forest { forest_of caches.new ≡ rule_cut (forest_of caches.old)
+        (name_of caches.old node) }
     ensures sound { IsSound caches.new }
     ensures rehung { Rehung caches.old caches.new }
 {
@@ -114,8 +118,10 @@ pub(crate) fn take_tree_place(caches: &mut Caches, node: NodeId, instead: NodeId
     requires parent { (cell caches.old node).links.parent ≡ Some parent }
     requires by_tree { (cell caches.old node).links.by_stub ≡ false }
     requires loose { (node_named (forest_of caches.old) (name_of caches.old instead)).hang ≡ Root }
-    requires below { IsBelow (forest_of caches.old) (name_of caches.old node) (name_of caches.old instead) }
-    ensures forest { forest_of caches.new ≡ rule_take_place (forest_of caches.old) (name_of caches.old node) (name_of caches.old instead) }
+    requires below { IsBelow (forest_of caches.old) (name_of caches.old node)
+        (name_of caches.old instead) }
+    ensures forest { forest_of caches.new ≡ rule_take_place (forest_of caches.old)
+        (name_of caches.old node) (name_of caches.old instead) }
     ensures sound { IsSound caches.new }
     ensures rehung { Rehung caches.old caches.new }
 {

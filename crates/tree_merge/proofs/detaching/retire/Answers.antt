@@ -4,6 +4,7 @@ use Rattle.vm_ids.specs.Forest.Rules.{retire}
 use Rattle.local_cache.specs.Reading.{forest_of}
 use Rattle.tree_merge.specs.Releasing.{IsRetired}
 use Rattle.tree_merge.proofs.Detached.{page_held, page_name, retired_vacant}
+use Rattle.tree_merge.proofs.Releases.{retire_released}
 use Rattle.tree_merge.proofs.detaching.retire.Goals as goal
 
 pub retire_node-requires-clause-held : goal.retire_node-requires-clause-held
@@ -23,3 +24,6 @@ returns-clause-retired c = λ n is.
 
 pub returns-clause-vacant : goal.returns-clause-vacant
 returns-clause-vacant c = retired_vacant c.args.caches.now c.requires.sound c.args.cache c.args.page _ c.node_of-node.ensures _ _ c.retire_node.ensures.retired
+
+pub returns-clause-released : goal.returns-clause-released
+returns-clause-released c = retire_released c.args.caches.now c.retire_node.new.caches c.node_of-node.result (page_held c.args.caches.now c.requires.sound c.args.cache c.args.page _ c.node_of-node.ensures) c.retire_node.result c.retire_node.ensures.retired

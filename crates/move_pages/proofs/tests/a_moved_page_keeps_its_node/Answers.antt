@@ -1,0 +1,66 @@
+use Rattle.std.proofs.Common.{◌≡◌, ℕ, List, [], length, None, sym, subst, ap, ◌∙◌, refl, arith, lit<}
+use Rattle.vm_ids.specs.declared.node_name.NodeName.{NodeName}
+use Rattle.vm_ids.specs.declared.node_name.NodeName.TheVariants.{Live, Working}
+use Rattle.vm_ids.specs.declared.numbers.CacheId.{CacheId}
+use Rattle.vm_ids.specs.declared.numbers.NodeId.{NodeId}
+use Rattle.vm_ids.specs.Forest.Commands.{make, page_name}
+use Rattle.vm_ids.specs.Forest.Nodes.{IsNode, no_forest}
+use Rattle.vm_ids.specs.Forest.Laws.Linking.{ArePages}
+use Rattle.vm_ids.specs.Forest.Shape.{IsConsistent}
+use Rattle.vm_ids.proofs.Forest.Moving.{move_page_stays}
+use Rattle.local_cache.specs.declared.own_state.OwnState.TheVariants.{Zero}
+use Rattle.local_cache.specs.Arena.{Arena, HasPage, IsMade}
+use Rattle.local_cache.specs.Reading.{forest_of}
+use Rattle.local_cache.specs.Sound.{IsSound}
+use Rattle.local_cache.proofs.Begun.{none_len, none_whole, whole_begun, zero_pages}
+use Rattle.local_cache.proofs.Reading.{IsNode-forest_of}
+use Rattle.local_cache.proofs.Wholes.{page_there}
+use Rattle.move_pages.proofs.tests.a_moved_page_keeps_its_node.Goals as goal
+
+page_is : (a : Arena) → IsSound a → (cache : CacheId) (page : ℕ) → HasPage a cache page Zero → IsNode (forest_of a) (page_name cache page)
+page_is a sound cache page has =
+    let l = sound.listed.nodes cache.0 page has.node has.at in
+    subst (IsNode (forest_of a)) l.1 (IsNode-forest_of a sound.named has.node l.0)
+
+abbrev page_number : NodeName → ℕ
+page_number (Live cache page) = page.0
+page_number (Working k) = 0
+
+number : (cache : CacheId) (p q : ℕ) → page_name cache p ≡ page_name cache q → p ≡ q
+number cache p q e = ap page_number e
+
+two_pages : (a : Arena) → IsSound a → (cache : CacheId) → HasPage a cache 0 Zero → HasPage a cache 1 Zero → ArePages (forest_of a) (page_name cache 1) (page_name cache 0)
+two_pages a sound cache first second = record {
+  destination = page_is a sound cache 1 second;
+  source = page_is a sound cache 0 first;
+  apart = λ e. (let one = number cache 1 0 e in absurd (omega (arith, one)));
+  live_destination = refl;
+  live_source = refl;
+}
+
+begun : (a b : Arena) → a.caches ≡ [] → forest_of a ≡ no_forest → IsSound a → (cache : CacheId) (nodes : List NodeId) → length nodes ≡ 2 → IsMade a b cache None Zero nodes → forest_of b ≡ make (zero_pages cache 2) (forest_of a) → IsSound b → IsConsistent (forest_of b)
+begun a b none empty sound cache nodes size made forest sound_b = (whole_begun a b (none_whole a none empty sound) cache 2 nodes size made forest sound_b (omega (arith, none_len (forest_of a) empty))).consistent
+
+pub move_one-released-requires-clause-consistent : goal.move_one-released-requires-clause-consistent
+move_one-released-requires-clause-consistent g c =
+    let e = c.make_temp-cache.ensures in
+    let sound = c.reserve.ensures.sound c.new-caches.ensures.sound in
+    begun c.reserve.new.self c.make_temp-cache.new.self (ap (λ (k : Arena). k.caches) c.reserve.ensures.kept ∙ c.new-caches.ensures.caches) (c.reserve.ensures.forest ∙ c.new-caches.ensures.forest) sound c.make_temp-cache.result e.made.0 e.made.1 e.made.2 (e.forest sound) (e.sound sound)
+
+pub move_one-released-requires-clause-pages : goal.move_one-released-requires-clause-pages
+move_one-released-requires-clause-pages g c =
+    let e = c.make_temp-cache.ensures in
+    two_pages c.make_temp-cache.new.self (e.sound (c.reserve.ensures.sound c.new-caches.ensures.sound)) c.make_temp-cache.result (e.pages 0 (lit< tt)) (e.pages 1 (lit< tt))
+
+pub node_of-requires : goal.node_of-requires
+node_of-requires g c =
+    let a = c.make_temp-cache.new.self in
+    let cache = c.make_temp-cache.result in
+    let e = c.make_temp-cache.ensures in
+    let empty = c.reserve.ensures.sound c.new-caches.ensures.sound in
+    let sound = e.sound empty in
+    let consistent = begun c.reserve.new.self a (ap (λ (k : Arena). k.caches) c.reserve.ensures.kept ∙ c.new-caches.ensures.caches) (c.reserve.ensures.forest ∙ c.new-caches.ensures.forest) empty cache e.made.0 e.made.1 e.made.2 (e.forest empty) sound in
+    let pages = two_pages a sound cache (e.pages 0 (lit< tt)) (e.pages 1 (lit< tt)) in
+    page_there c.move_one-released.new.caches c.move_one-released.ensures.sound cache (record { 0 = 1 })
+    (subst (λ f. IsNode f (page_name cache 1)) (sym c.move_one-released.ensures.forest)
+    (move_page_stays (forest_of a) consistent (page_name cache 1) (page_name cache 0) pages Zero (page_name cache 1) pages.destination))
