@@ -38,10 +38,10 @@ page_there w n = has_page (option_map (λ _. zero_page w) w.told) (option_map (�
 
 -- who has an own page has one still, whatever a mapper tells
 pub absent_stays : (a b : World) → Still a b → (n : NodeId) → is_absent (own_of b.caches n) ≡ is_absent (own_of a.caches n)
-absent_stays a b s n = page_there b n ∙ ap (λ (o : Option (Option (List ℕ))). not (is_some o)) (s.pages n) ∙ sym (page_there a n)
+absent_stays a b s n = page_there b n ∙ ap (λ (o : Option (Option (List ℕ))). not (is_some o)) (s.stays.pages n) ∙ sym (page_there a n)
 
 pub own_page_stays : (a b : World) → Still a b → (n : NodeId) → HasOwnPage a.caches n → HasOwnPage b.caches n
-own_page_stays a b s n h = record { node = held_stays a.caches b.caches s.caches n h.node; own_page = absent_stays a b s n ∙ h.own_page }
+own_page_stays a b s n h = record { node = held_stays a.caches b.caches s.stays.caches n h.node; own_page = absent_stays a b s n ∙ h.own_page }
 
 abbrev pub pin_set : World → ℕ → Bool → World
 pin_set w f t = record w { frames = record w.frames { pinned = set w.frames.pinned f t } }
@@ -53,40 +53,44 @@ or_bound false p q e = absurd (cc)
 -- a bound frame may be pinned and unpinned
 pub pin_right : (w : World) (f : ℕ) (t : Bool) → IsStoreRight w → is_bound w f ≡ true → IsStoreRight (pin_set w f t)
 pin_right w f t right bound = record {
-  bound = right.bound;
-  held = λ g. elim (cases_eq g f) [
-    | inl e ↦ right.held g ∙ or_bound (is_bound w g) (is_pinned w.frames g) (get_or (set w.frames.pinned f t) g false) (ap (is_bound w) e ∙ bound)
-    | inr d ↦ right.held g ∙ ap (λ (b : Bool). is_bound w g || b) (sym (get_or-set_other w.frames.pinned f g t false d))
-  ];
-  slots = right.slots;
-  in_slots = right.in_slots;
+  tied = record {
+    bound = right.tied.bound;
+    held = λ g. elim (cases_eq g f) [
+      | inl e ↦ right.tied.held g ∙ or_bound (is_bound w g) (is_pinned w.frames g) (get_or (set w.frames.pinned f t) g false) (ap (is_bound w) e ∙ bound)
+      | inr d ↦ right.tied.held g ∙ ap (λ (b : Bool). is_bound w g || b) (sym (get_or-set_other w.frames.pinned f g t false d))
+    ];
+    slots = right.tied.slots;
+    in_slots = right.tied.in_slots;
+    there = right.tied.there;
+    temporary = right.tied.temporary;
+    map_frames = right.tied.map_frames;
+    bytes_frames = right.tied.bytes_frames;
+    pinned_frames = length-set w.frames.pinned f t ∙ right.tied.pinned_frames;
+    marks_frames = right.tied.marks_frames;
+    few = right.tied.few;
+    page = right.tied.page;
+  };
   capacity = right.capacity;
-  there = right.there;
-  temporary = right.temporary;
-  map_frames = right.map_frames;
-  bytes_frames = right.bytes_frames;
-  pinned_frames = length-set w.frames.pinned f t ∙ right.pinned_frames;
-  marks_frames = right.marks_frames;
-  few = right.few;
-  page = right.page;
 }
 
 -- the bytes of a frame may be written
 pub written_right : (w : World) (f : ℕ) (bytes : List ℕ) → IsStoreRight w → IsStoreRight (record w { frames = with_bytes w.frames f bytes })
 written_right w f bytes right = record {
-  bound = right.bound;
-  held = right.held;
-  slots = right.slots;
-  in_slots = right.in_slots;
+  tied = record {
+    bound = right.tied.bound;
+    held = right.tied.held;
+    slots = right.tied.slots;
+    in_slots = right.tied.in_slots;
+    there = right.tied.there;
+    temporary = right.tied.temporary;
+    map_frames = right.tied.map_frames;
+    bytes_frames = length-set w.frames.bytes f bytes ∙ right.tied.bytes_frames;
+    pinned_frames = right.tied.pinned_frames;
+    marks_frames = right.tied.marks_frames;
+    few = right.tied.few;
+    page = right.tied.page;
+  };
   capacity = right.capacity;
-  there = right.there;
-  temporary = right.temporary;
-  map_frames = right.map_frames;
-  bytes_frames = length-set w.frames.bytes f bytes ∙ right.bytes_frames;
-  pinned_frames = right.pinned_frames;
-  marks_frames = right.marks_frames;
-  few = right.few;
-  page = right.page;
 }
 
 more_false : (xs : List Bool) (n s : ℕ) → get_or (xs ++ replicate n false) s false ≡ get_or xs s false
@@ -98,19 +102,21 @@ more_false xs n s = elim (cases_lt s (length xs)) [
 -- there may be more slots
 pub slots_right : (w : World) (n : ℕ) → IsStoreRight w → IsStoreRight (record w { slots = w.slots ++ replicate n false })
 slots_right w n right = record {
-  bound = right.bound;
-  held = right.held;
-  slots = λ s. right.slots s ∙ sym (ap bit (more_false w.slots n s));
-  in_slots = sum_by-append (λ h. bit h) w.slots (replicate n false) ∙ ap (λ (k : ℕ). swap.held_count w.slots + k) (count-replicate_none (λ h. h) n false refl) ∙ omega (arith, right.in_slots);
+  tied = record {
+    bound = right.tied.bound;
+    held = right.tied.held;
+    slots = λ s. right.tied.slots s ∙ sym (ap bit (more_false w.slots n s));
+    in_slots = sum_by-append (λ h. bit h) w.slots (replicate n false) ∙ ap (λ (k : ℕ). swap.held_count w.slots + k) (count-replicate_none (λ h. h) n false refl) ∙ omega (arith, right.tied.in_slots);
+    there = λ s h. right.tied.there s (sym (more_false w.slots n s) ∙ h);
+    temporary = right.tied.temporary;
+    map_frames = right.tied.map_frames;
+    bytes_frames = right.tied.bytes_frames;
+    pinned_frames = right.tied.pinned_frames;
+    marks_frames = right.tied.marks_frames;
+    few = right.tied.few;
+    page = right.tied.page;
+  };
   capacity = omega (arith, length-append w.slots (replicate n false), right.capacity);
-  there = λ s h. right.there s (sym (more_false w.slots n s) ∙ h);
-  temporary = right.temporary;
-  map_frames = right.map_frames;
-  bytes_frames = right.bytes_frames;
-  pinned_frames = right.pinned_frames;
-  marks_frames = right.marks_frames;
-  few = right.few;
-  page = right.page;
 }
 
 own_alike : (a b : Arena) (cache : CacheId) (segment : Option SegId) (ns : List NodeId) → IsMade a b cache segment Zero ns → (f : OwnState → Bool) → f Zero ≡ f Absent → (n : NodeId) → f (own_of b n) ≡ f (own_of a n)
@@ -121,17 +127,19 @@ own_alike a b cache segment ns m f alike n = filled_own ns a.cells 0 b.cells cac
 pub made_right : (w : World) (b : Arena) (cache : CacheId) (segment : Option SegId) (ns : List NodeId) → IsStoreRight w → IsMade w.caches b cache segment Zero ns → length (own_states w.caches) + length ns ≤ length w.slots
     → IsStoreRight (record w { caches = b })
 made_right w b cache segment ns right m room = record {
-  bound = λ n. right.bound n ∙ sym (ap bit (own_alike w.caches b cache segment ns m is_resident refl n));
-  held = right.held;
-  slots = λ s. filled_count ns w.caches.cells 0 b.cells cache Zero (is_slot s) m.cells refl ∙ right.slots s;
-  in_slots = right.in_slots ∙ sym (filled_count ns w.caches.cells 0 b.cells cache Zero is_in_slot m.cells refl);
+  tied = record {
+    bound = λ n. right.tied.bound n ∙ sym (ap bit (own_alike w.caches b cache segment ns m is_resident refl n));
+    held = right.tied.held;
+    slots = λ s. filled_count ns w.caches.cells 0 b.cells cache Zero (is_slot s) m.cells refl ∙ right.tied.slots s;
+    in_slots = right.tied.in_slots ∙ sym (filled_count ns w.caches.cells 0 b.cells cache Zero is_in_slot m.cells refl);
+    there = right.tied.there;
+    temporary = λ n. own_alike w.caches b cache segment ns m is_on_segment refl n ∙ right.tied.temporary n;
+    map_frames = right.tied.map_frames;
+    bytes_frames = right.tied.bytes_frames;
+    pinned_frames = right.tied.pinned_frames;
+    marks_frames = right.tied.marks_frames;
+    few = right.tied.few;
+    page = right.tied.page;
+  };
   capacity = omega (arith, filled_length ns w.caches.cells 0 b.cells cache Zero m.cells);
-  there = right.there;
-  temporary = λ n. own_alike w.caches b cache segment ns m is_on_segment refl n ∙ right.temporary n;
-  map_frames = right.map_frames;
-  bytes_frames = right.bytes_frames;
-  pinned_frames = right.pinned_frames;
-  marks_frames = right.marks_frames;
-  few = right.few;
-  page = right.page;
 }

@@ -11,7 +11,8 @@ use Rattle.vm_ids.proofs.Places.{some_false, true_below}
 use Rattle.frame_pool.specs.Pool.{Frames, is_evictable, is_held, is_pinned}
 use Rattle.global_map.specs.Pairs.{node_of}
 use Rattle.residency.specs.Causes.{pushes_for}
-use Rattle.residency.specs.World.{World, HasUnpinned, IsMadeFree, IsStoreRight, PinnedStays, Still, is_bound}
+use Rattle.residency.specs.World.{World, HasUnpinned, IsMadeFree, IsStoreRight, OthersStay, PinnedStays, Still, StillBut, is_bound}
+use Rattle.residency.proofs.Evicted.{stays_then}
 use Rattle.residency.proofs.Nodes.{same}
 
 abbrev pub claimed : World → ℕ → World
@@ -24,7 +25,7 @@ neither None true e = absurd (cc)
 neither (Some n) p e = absurd (cc)
 
 free_frame : (w : World) (f : ℕ) → IsStoreRight w → is_held w.frames f ≡ false → (node_of w.map f ≡ None) × (is_pinned w.frames f ≡ false)
-free_frame w f right free = neither (node_of w.map f) (is_pinned w.frames f) (sym free ∙ right.held f)
+free_frame w f right free = neither (node_of w.map f) (is_pinned w.frames f) (sym free ∙ right.tied.held f)
 
 true_or : (b : Bool) → true ≡ (b || true)
 true_or true = refl
@@ -32,13 +33,13 @@ true_or false = refl
 
 held_after : (w : World) (f : ℕ) → IsStoreRight w → f < length w.frames.held → (g : ℕ) → get_or (set w.frames.held f true) g false ≡ (is_bound w g || get_or (set w.frames.pinned f true) g false)
 held_after w f right within g =
-    let pin : f < length w.frames.pinned = omega (arith, right.pinned_frames) in
+    let pin : f < length w.frames.pinned = omega (arith, right.tied.pinned_frames) in
     elim (cases_eq g f) [
       | inl e ↦ (
           let left : get_or (set w.frames.held f true) g false ≡ true = ap (λ (k : ℕ). get_or (set w.frames.held f true) k false) e ∙ get_or-set_same w.frames.held f true false within in
           let here : get_or (set w.frames.pinned f true) g false ≡ true = ap (λ (k : ℕ). get_or (set w.frames.pinned f true) k false) e ∙ get_or-set_same w.frames.pinned f true false pin in
           left ∙ true_or (is_bound w g) ∙ sym (ap (λ (b : Bool). is_bound w g || b) here))
-      | inr d ↦ get_or-set_other w.frames.held f g true false d ∙ right.held g ∙ ap (λ (b : Bool). is_bound w g || b) (sym (get_or-set_other w.frames.pinned f g true false d))
+      | inr d ↦ get_or-set_other w.frames.held f g true false d ∙ right.tied.held g ∙ ap (λ (b : Bool). is_bound w g || b) (sym (get_or-set_other w.frames.pinned f g true false d))
     ]
 
 pinned_after : (w : World) (f : ℕ) → is_pinned w.frames f ≡ false → (g : ℕ) → is_pinned w.frames g ≡ true → PinnedStays w (claimed w f) g
@@ -50,30 +51,38 @@ pinned_after w f loose g pinned = record {
 
 pub claimed_still : (w : World) (f : ℕ) → IsStoreRight w → f < length w.frames.held → is_held w.frames f ≡ false → Still w (claimed w f)
 claimed_still w f right within free = record {
-  right = record {
-    bound = right.bound;
-    held = held_after w f right within;
-    slots = right.slots;
-    in_slots = right.in_slots;
-    capacity = right.capacity;
-    there = right.there;
-    temporary = right.temporary;
-    map_frames = right.map_frames ∙ sym (length-set w.frames.held f true);
-    bytes_frames = right.bytes_frames ∙ sym (length-set w.frames.held f true);
-    pinned_frames = length-set w.frames.pinned f true ∙ right.pinned_frames ∙ sym (length-set w.frames.held f true);
-    marks_frames = right.marks_frames ∙ sym (length-set w.frames.held f true);
-    few = omega (arith, length-set w.frames.held f true, right.few);
-    page = right.page;
+  stays = record {
+    right = record {
+      tied = record {
+        bound = right.tied.bound;
+        held = held_after w f right within;
+        slots = right.tied.slots;
+        in_slots = right.tied.in_slots;
+        there = right.tied.there;
+        temporary = right.tied.temporary;
+        map_frames = right.tied.map_frames ∙ sym (length-set w.frames.held f true);
+        bytes_frames = right.tied.bytes_frames ∙ sym (length-set w.frames.held f true);
+        pinned_frames = length-set w.frames.pinned f true ∙ right.tied.pinned_frames ∙ sym (length-set w.frames.held f true);
+        marks_frames = right.tied.marks_frames ∙ sym (length-set w.frames.held f true);
+        few = omega (arith, length-set w.frames.held f true, right.tied.few);
+        page = right.tied.page;
+      };
+      capacity = right.capacity;
+    };
+    pages = λ n. refl;
+    caches = same w.caches;
+    told = record { segments = refl; page_bytes = refl };
+    frames = length-set w.frames.held f true;
+    page = refl;
+    slots = refl;
   };
-  pages = λ n. refl;
   pinned = pinned_after w f (free_frame w f right free).1;
-  caches = same w.caches;
-  frames = length-set w.frames.held f true;
-  page = refl;
-  page_bytes = refl;
 }
 
-pub claimed_free : (w : World) (f : ℕ) → IsStoreRight w → f < length w.frames.held → is_held w.frames f ≡ false → IsMadeFree w (claimed w f) f
+pub claimed_others : (w : World) (f : ℕ) → OthersStay w (claimed w f)
+claimed_others w f = record { frames = λ g _. record { bytes = refl; node = refl }; states = λ m. record { away = λ _. refl; here = λ _. refl } }
+
+pub claimed_free : (w : World) (f : ℕ) → IsStoreRight w → f < length w.frames.held → is_held w.frames f ≡ false → IsMadeFree f w (claimed w f)
 claimed_free w f right within free = record {
   within = within;
   loose = (free_frame w f right free).1;
@@ -83,13 +92,23 @@ claimed_free w f right within free = record {
 }
 
 -- after an eviction
-pub free_then : (a b c : World) (f : ℕ) → length b.frames.held ≡ length a.frames.held → b.frames.pinned ≡ a.frames.pinned → IsMadeFree b c f → IsMadeFree a c f
+pub free_then : (a b c : World) (f : ℕ) → length b.frames.held ≡ length a.frames.held → b.frames.pinned ≡ a.frames.pinned → IsMadeFree f b c → IsMadeFree f a c
 free_then a b c f frames pinned m = record {
   within = omega (arith, m.within);
   loose = ap (λ (xs : List Bool). get_or xs f false) (sym pinned) ∙ m.loose;
   pinned = m.pinned ∙ ap (λ (xs : List Bool). set xs f true) pinned;
   held = m.held;
   unbound = m.unbound;
+}
+
+-- and after its taker filled it or gave it up
+pub taken_then : (a b c : World) (f : ℕ) → Still a b → IsMadeFree f a b → StillBut f b c → Still a c
+taken_then a b c f p m q = record {
+  stays = stays_then a b c p.stays q.stays;
+  pinned = λ g h. (
+      let i = p.pinned g h in
+      let j = q.pinned g (λ e. absurd (let t : is_pinned a.frames g ≡ false = ap (is_pinned a.frames) e ∙ m.loose in cc)) i.pinned in
+      record { pinned = j.pinned; bytes = j.bytes ∙ i.bytes; node = j.node ∙ i.node });
 }
 
 -- where all frames are held, one may be evicted

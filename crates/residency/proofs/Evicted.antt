@@ -8,20 +8,20 @@ use Rattle.std.specs.Cmp.{nat_cmp_total, unsigned_tied}
 use Rattle.std.proofs.lemmas.Bool.{cases_eq}
 use Rattle.std.proofs.lemmas.List.{get_or-set_same, get_or-set_other}
 use Rattle.std.proofs.lemmas.List.Folds.{position_or_len-set}
-use Rattle.vm_ids.specs.Held.{Held, slot_of, with_slot}
+use Rattle.vm_ids.specs.Held.{Held, segments_of, slot_of, with_slot}
 use Rattle.vm_ids.specs.declared.numbers.NodeId.{NodeId}
 use Rattle.vm_ids.specs.declared.numbers.SlotId.{SlotId}
 use Rattle.vm_ids.proofs.Places.{same_number, other_number, bit, bit_true, bit_false, count-set}
-use Rattle.frame_pool.specs.Pool.{is_pinned, bytes_of}
+use Rattle.frame_pool.specs.Pool.{is_held, is_pinned, bytes_of}
 use Rattle.slot_pool.specs.Slots as swap
 use Rattle.global_map.specs.Pairs.{bound_times, frame_of, is_node, node_of}
 use Rattle.local_cache.specs.declared.own_state.OwnState.{OwnState}
 use Rattle.local_cache.specs.declared.own_state.OwnState.TheVariants.{Absent, Zero, Resident, Slot, OnSegment}
-use Rattle.local_cache.specs.Arena.{Arena, with_own}
+use Rattle.local_cache.specs.Arena.{with_own}
 use Rattle.local_cache.specs.Own.{is_in_slot, is_on_segment, is_resident, is_slot, own_of, own_states}
 use Rattle.local_cache.proofs.States.{id_cases, id_apart, own_count, own_length, own_none, own_other, own_same}
-use Rattle.residency.specs.World.{World, IsStoreRight, OthersStay, PinnedStays, Still, evicted, frame_page, is_slot_held, own_page, page_by, zero_page}
-use Rattle.residency.proofs.Homes.{IsHome, resident_not_in_slot, resident_not_slot}
+use Rattle.residency.specs.World.{World, IsEvicted, IsStoreRight, OthersStay, OthersStayBut, PagesStay, PinnedStays, StaysOrLeaves, Still, evicted, frame_page, is_slot_held, own_page, page_by, zero_page}
+use Rattle.residency.proofs.Homes.{IsHome, home_of_held, resident_not_in_slot, resident_not_slot}
 use Rattle.residency.proofs.Nodes.{same, same_then, with_own_same}
 
 -- another node stands where it stood
@@ -42,20 +42,20 @@ bound_after w f n x right h gone m =
       | inr d ↦ (
           let now : bit (is_resident (own_of (with_own w.caches n x) m)) ≡ bit (is_resident (own_of w.caches m)) = ap (λ (y : OwnState). bit (is_resident y)) (own_other w.caches n m x d) in
           let here : is_node m.0 (get_or w.map f None) ≡ false = sym (other_there w.map f n m h.node d) in
-          omega (arith, bit_false (is_node m.0 (get_or w.map f None)) here, right.bound m))
+          omega (arith, bit_false (is_node m.0 (get_or w.map f None)) here, right.tied.bound m))
     ]
 
 pub held_after : (w : World) (f : ℕ) (n : NodeId) → IsStoreRight w → IsHome w f n → is_pinned w.frames f ≡ false → (g : ℕ)
     → get_or (set w.frames.held f false) g false ≡ (is_some (get_or (set w.map f None) g None) || is_pinned w.frames g)
 held_after w f n right h loose g =
-    let within : f < length w.frames.held = omega (arith, h.frame, right.map_frames) in
+    let within : f < length w.frames.held = omega (arith, h.frame, right.tied.map_frames) in
     elim (cases_eq g f) [
       | inl e ↦ (
           let left : get_or (set w.frames.held f false) g false ≡ false = ap (λ (k : ℕ). get_or (set w.frames.held f false) k false) e ∙ get_or-set_same w.frames.held f false false within in
           let unbound : get_or (set w.map f None) g None ≡ None = ap (λ (k : ℕ). get_or (set w.map f None) k None) e ∙ get_or-set_same w.map f None None h.frame in
           let unpinned : is_pinned w.frames g ≡ false = ap (is_pinned w.frames) e ∙ loose in
           left ∙ sym (ap (λ (o : Option NodeId). is_some o || is_pinned w.frames g) unbound ∙ unpinned))
-      | inr d ↦ get_or-set_other w.frames.held f g false false d ∙ right.held g ∙ ap (λ (o : Option NodeId). is_some o || is_pinned w.frames g) (sym (get_or-set_other w.map f g None None d))
+      | inr d ↦ get_or-set_other w.frames.held f g false false d ∙ right.tied.held g ∙ ap (λ (o : Option NodeId). is_some o || is_pinned w.frames g) (sym (get_or-set_other w.map f g None None d))
     ]
 
 slots_after : (w : World) (f : ℕ) (n : NodeId) (s : SlotId) → IsStoreRight w → IsHome w f n → s.0 < length w.slots → is_slot_held w s.0 ≡ false → (k : ℕ)
@@ -68,11 +68,11 @@ slots_after w f n s right h below free k =
           let now : get_or (set w.slots s.0 true) k false ≡ true = ap (λ (j : ℕ). get_or (set w.slots s.0 true) j false) e ∙ get_or-set_same w.slots s.0 true false below in
           let this : (s.0 == k) ≡ true = ap (λ (j : ℕ). s.0 == j) e ∙ same_number s.0 in
           let was : is_slot_held w k ≡ false = ap (is_slot_held w) e ∙ free in
-          omega (arith, bit_false (is_slot k (own_of w.caches n)) before, bit_true (s.0 == k) this, bit_true (get_or (set w.slots s.0 true) k false) now, bit_false (is_slot_held w k) was, right.slots k))
+          omega (arith, bit_false (is_slot k (own_of w.caches n)) before, bit_true (s.0 == k) this, bit_true (get_or (set w.slots s.0 true) k false) now, bit_false (is_slot_held w k) was, right.tied.slots k))
       | inr d ↦ (
           let now : bit (get_or (set w.slots s.0 true) k false) ≡ bit (is_slot_held w k) = ap bit (get_or-set_other w.slots s.0 k true false d) in
           let this : (s.0 == k) ≡ false = other_number s.0 k (λ e. d (sym e)) in
-          omega (arith, bit_false (is_slot k (own_of w.caches n)) before, bit_false (s.0 == k) this, right.slots k))
+          omega (arith, bit_false (is_slot k (own_of w.caches n)) before, bit_false (s.0 == k) this, right.tied.slots k))
     ]
 
 in_slots_after : (w : World) (f : ℕ) (n : NodeId) (s : SlotId) → IsStoreRight w → IsHome w f n → s.0 < length w.slots → is_slot_held w s.0 ≡ false
@@ -80,7 +80,7 @@ in_slots_after : (w : World) (f : ℕ) (n : NodeId) (s : SlotId) → IsStoreRigh
 in_slots_after w f n s right h below free =
     let held : swap.held_count (set w.slots s.0 true) + bit (get_or w.slots s.0 false) ≡ swap.held_count w.slots + 1 = count-set (λ h. h) w.slots s.0 true false below in
     let nodes : count_by is_in_slot (own_states (with_own w.caches n (Slot s))) + bit (is_in_slot (own_of w.caches n)) ≡ count_by is_in_slot (own_states w.caches) + 1 = own_count is_in_slot w.caches n (Slot s) h.there in
-    omega (arith, bit_false (get_or w.slots s.0 false) free, bit_false (is_in_slot (own_of w.caches n)) (resident_not_in_slot (own_of w.caches n) h.resident), right.in_slots)
+    omega (arith, bit_false (get_or w.slots s.0 false) free, bit_false (is_in_slot (own_of w.caches n)) (resident_not_in_slot (own_of w.caches n) h.resident), right.tied.in_slots)
 
 -- what a mapper holds in a slot after a push
 pushed_here : (h : Held) (s : ℕ) (bytes : List ℕ) → slot_of (with_slot s bytes h) s ≡ Some bytes
@@ -99,31 +99,33 @@ there_told (Some h) s k bytes c = elim (cases_eq k s) [
 there_after : (w : World) (s : SlotId) (bytes : List ℕ) → IsStoreRight w → (k : ℕ) → get_or (set w.slots s.0 true) k false ≡ true → IfSome (option_map (with_slot s.0 bytes) w.told) (λ h. IsSome (slot_of h k))
 there_after w s bytes right k held = elim (cases_eq k s.0) [
   | inl e ↦ there_told w.told s.0 k bytes (inl e)
-  | inr d ↦ there_told w.told s.0 k bytes (inr (right.there k (sym (get_or-set_other w.slots s.0 k true false d) ∙ held)))
+  | inr d ↦ there_told w.told s.0 k bytes (inr (right.tied.there k (sym (get_or-set_other w.slots s.0 k true false d) ∙ held)))
 ]
 
 -- no page comes to be on a segment by another own state of one node
 pub temporary_after : (w : World) (n : NodeId) (x : OwnState) → IsStoreRight w → is_on_segment x ≡ false → (m : NodeId) → is_on_segment (own_of (with_own w.caches n x) m) ≡ false
 temporary_after w n x right out m = elim (id_cases m n) [
   | inl e ↦ ap is_on_segment (ap (own_of (with_own w.caches n x)) e ∙ own_same w.caches n x) ∙ out
-  | inr d ↦ ap is_on_segment (own_other w.caches n m x d) ∙ right.temporary m
+  | inr d ↦ ap is_on_segment (own_other w.caches n m x d) ∙ right.tied.temporary m
 ]
 
 evicted_right : (w : World) (f : ℕ) (n : NodeId) (s : SlotId) → IsStoreRight w → IsHome w f n → is_pinned w.frames f ≡ false → s.0 < length w.slots → is_slot_held w s.0 ≡ false → IsStoreRight (evicted w f n s)
 evicted_right w f n s right h loose below free = record {
-  bound = bound_after w f n (Slot s) right h refl;
-  held = held_after w f n right h loose;
-  slots = slots_after w f n s right h below free;
-  in_slots = in_slots_after w f n s right h below free;
+  tied = record {
+    bound = bound_after w f n (Slot s) right h refl;
+    held = held_after w f n right h loose;
+    slots = slots_after w f n s right h below free;
+    in_slots = in_slots_after w f n s right h below free;
+    there = there_after w s (bytes_of w.frames f) right;
+    temporary = temporary_after w n (Slot s) right refl;
+    map_frames = length-set w.map f None ∙ right.tied.map_frames ∙ sym (length-set w.frames.held f false);
+    bytes_frames = right.tied.bytes_frames ∙ sym (length-set w.frames.held f false);
+    pinned_frames = right.tied.pinned_frames ∙ sym (length-set w.frames.held f false);
+    marks_frames = right.tied.marks_frames ∙ sym (length-set w.frames.held f false);
+    few = omega (arith, length-set w.frames.held f false, right.tied.few);
+    page = right.tied.page;
+  };
   capacity = omega (arith, own_length w.caches n (Slot s) h.there, length-set w.slots s.0 true, right.capacity);
-  there = there_after w s (bytes_of w.frames f) right;
-  temporary = temporary_after w n (Slot s) right refl;
-  map_frames = length-set w.map f None ∙ right.map_frames ∙ sym (length-set w.frames.held f false);
-  bytes_frames = right.bytes_frames ∙ sym (length-set w.frames.held f false);
-  pinned_frames = right.pinned_frames ∙ sym (length-set w.frames.held f false);
-  marks_frames = right.marks_frames ∙ sym (length-set w.frames.held f false);
-  few = omega (arith, length-set w.frames.held f false, right.few);
-  page = right.page;
 }
 
 -- the page that a slot stands for, before and after a push to another
@@ -151,7 +153,7 @@ page_elsewhere w f n s m (Resident dirty) d node out =
 page_elsewhere w f n s m (Slot k) d node out = ap Some (slot_elsewhere w.told s.0 k.0 (bytes_of w.frames f) (λ e. absurd (let t : (k.0 == s.0) ≡ true = ap (λ (j : ℕ). j == s.0) e ∙ same_number s.0 in cc)))
 page_elsewhere w f n s m OnSegment d node out = refl
 
-page_here : (w : World) (f : ℕ) (n : NodeId) (x : OwnState) → is_resident x ≡ true → frame_of w.map n.0 ≡ f
+pub page_here : (w : World) (f : ℕ) (n : NodeId) (x : OwnState) → is_resident x ≡ true → frame_of w.map n.0 ≡ f
     → page_by (option_map (λ _. zero_page w) w.told) (option_map (λ _. frame_page w n) w.told) (λ k. option_and_then (λ h. slot_of h k) w.told) None x ≡ Some (option_map (λ _. bytes_of w.frames f) w.told)
 page_here w f n Absent r place = absurd (cc)
 page_here w f n Zero r place = absurd (cc)
@@ -161,7 +163,7 @@ page_here w f n OnSegment r place = absurd (cc)
 
 -- no node is in a slot that isn't held
 not_there : (w : World) (s : ℕ) (m : NodeId) → IsStoreRight w → is_slot_held w s ≡ false → is_slot s (own_of w.caches m) ≡ false
-not_there w s m right free = own_none (is_slot s) w.caches m refl (omega (arith, right.slots s, bit_false (is_slot_held w s) free))
+not_there w s m right free = own_none (is_slot s) w.caches m refl (omega (arith, right.tied.slots s, bit_false (is_slot_held w s) free))
 
 pages_after : (w : World) (f : ℕ) (n : NodeId) (s : SlotId) → IsStoreRight w → IsHome w f n → is_slot_held w s.0 ≡ false → (m : NodeId) → own_page (evicted w f n s) m ≡ own_page w m
 pages_after w f n s right h free m = elim (id_cases m n) [
@@ -181,37 +183,108 @@ pinned_after w f n s loose g pinned = record {
   node = get_or-set_other w.map f g None None (λ e. absurd (let t : is_pinned w.frames g ≡ false = ap (is_pinned w.frames) e ∙ loose in cc));
 }
 
+-- a pushed slot leaves the segments
+slot_leaves : (told : Option Held) (slot : ℕ) (bytes : List ℕ) → segments_of (option_map (with_slot slot bytes) told) ≡ segments_of told
+slot_leaves None slot bytes = refl
+slot_leaves (Some h) slot bytes = refl
+
 pub evicted_still : (w : World) (f : ℕ) (n : NodeId) (s : SlotId) → IsStoreRight w → IsHome w f n → is_pinned w.frames f ≡ false → s.0 < length w.slots → is_slot_held w s.0 ≡ false → Still w (evicted w f n s)
 evicted_still w f n s right h loose below free = record {
-  right = evicted_right w f n s right h loose below free;
-  pages = pages_after w f n s right h free;
+  stays = record {
+    right = evicted_right w f n s right h loose below free;
+    pages = pages_after w f n s right h free;
+    caches = with_own_same w.caches n (Slot s) h.there;
+    told = record { segments = slot_leaves w.told s.0 (bytes_of w.frames f); page_bytes = refl };
+    frames = length-set w.frames.held f false;
+    page = refl;
+    slots = length-set w.slots s.0 true;
+  };
   pinned = pinned_after w f n s loose;
-  caches = with_own_same w.caches n (Slot s) h.there;
-  frames = length-set w.frames.held f false;
-  page = refl;
-  page_bytes = refl;
 }
 
-pub evicted_others : (w : World) (f : ℕ) (n : NodeId) (s : SlotId) → IsHome w f n → OthersStay w.caches (evicted w f n s).caches
-evicted_others w f n s h m gone = own_other w.caches n m (Slot s) (λ e. absurd (let t : is_resident (own_of w.caches m) ≡ true = ap (λ (k : NodeId). is_resident (own_of w.caches k)) e ∙ h.resident in cc))
+pub evicted_others : (w : World) (f : ℕ) (n : NodeId) (s : SlotId) → IsHome w f n → OthersStay w (evicted w f n s)
+evicted_others w f n s h = record {
+  frames = λ g bound. record {
+    bytes = refl;
+    node = get_or-set_other w.map f g None None (λ e. absurd (
+        let unbound : is_some (get_or (set w.map f None) g None) ≡ false = ap is_some (ap (λ (k : ℕ). get_or (set w.map f None) k None) e ∙ get_or-set_same w.map f None None h.frame) in cc));
+  };
+  states = λ m. elim (id_cases m n) [
+    | inl e ↦ record {
+      away = λ gone. absurd (let t : is_resident (own_of w.caches m) ≡ true = ap (λ (k : NodeId). is_resident (own_of w.caches k)) e ∙ h.resident in cc);
+      here = λ out. absurd (let t : is_in_slot (own_of (with_own w.caches n (Slot s)) m) ≡ true = ap is_in_slot (ap (own_of (with_own w.caches n (Slot s))) e ∙ own_same w.caches n (Slot s)) in cc);
+    }
+    | inr d ↦ record { away = λ _. own_other w.caches n m (Slot s) d; here = λ _. own_other w.caches n m (Slot s) d }
+  ];
+}
+
+-- an eviction moves one page, and leaves each page and every other frame
+module _ (a b : World) (f : ℕ) (right : IsStoreRight a) (held : is_held a.frames f ≡ true) (e : IsEvicted f a b) where
+  its_home : IsHome a f e.node
+  its_home = home_of_held a f e.node right held e.was
+
+  pub eviction_still : is_pinned a.frames f ≡ false → Still a b
+  eviction_still loose = subst (Still a) (sym e.is) (evicted_still a f e.node e.slot right its_home loose e.within e.free)
+
+  pub eviction_others : OthersStay a b
+  eviction_others = subst (OthersStay a) (sym e.is) (evicted_others a f e.node e.slot its_home)
 
 pub still : (w : World) → IsStoreRight w → Still w w
-still w right = record { right = right; pages = λ n. refl; pinned = λ f p. record { pinned = p; bytes = refl; node = refl }; caches = same w.caches; frames = refl; page = refl; page_bytes = refl }
+still w right = record {
+  stays = record { right = right; pages = λ n. refl; caches = same w.caches; told = record { segments = refl; page_bytes = refl }; frames = refl; page = refl; slots = refl };
+  pinned = λ f p. record { pinned = p; bytes = refl; node = refl };
+}
+
+pub stays_then : (a b c : World) → PagesStay a b → PagesStay b c → PagesStay a c
+stays_then a b c p q = record {
+  right = q.right;
+  pages = λ n. q.pages n ∙ p.pages n;
+  caches = same_then a.caches b.caches c.caches p.caches q.caches;
+  told = record { segments = q.told.segments ∙ p.told.segments; page_bytes = q.told.page_bytes ∙ p.told.page_bytes };
+  frames = q.frames ∙ p.frames;
+  page = q.page ∙ p.page;
+  slots = q.slots ∙ p.slots;
+}
 
 pub still_then : (a b c : World) → Still a b → Still b c → Still a c
 still_then a b c p q = record {
-  right = q.right;
-  pages = λ n. q.pages n ∙ p.pages n;
+  stays = stays_then a b c p.stays q.stays;
   pinned = λ f h. let i = p.pinned f h in let j = q.pinned f i.pinned in record { pinned = j.pinned; bytes = j.bytes ∙ i.bytes; node = j.node ∙ i.node };
-  caches = same_then a.caches b.caches c.caches p.caches q.caches;
-  frames = q.frames ∙ p.frames;
-  page = q.page ∙ p.page;
-  page_bytes = q.page_bytes ∙ p.page_bytes;
 }
 
-pub others_then : (a b c : Arena) → OthersStay a b → OthersStay b c → OthersStay a c
-others_then a b c p q m gone = let same : own_of b m ≡ own_of a m = p m gone in q m (ap is_resident same ∙ gone) ∙ same
+leaves_then : (x y z : OwnState) → StaysOrLeaves x y → StaysOrLeaves y z → StaysOrLeaves x z
+leaves_then x y z p q = record {
+  away = λ gone. let first : y ≡ x = p.away gone in q.away (ap is_resident first ∙ gone) ∙ first;
+  here = λ out. let second : z ≡ y = q.here out in second ∙ p.here (ap is_in_slot (sym second) ∙ out);
+}
+
+pub others_same : (w : World) → OthersStay w w
+others_same w = record { frames = λ f _. record { bytes = refl; node = refl }; states = λ m. record { away = λ _. refl; here = λ _. refl } }
+
+pub others_then : (a b c : World) → OthersStay a b → OthersStay b c → OthersStay a c
+others_then a b c p q = record {
+  frames = λ f bound. (
+      let second = q.frames f bound in
+      let first = p.frames f (ap is_some (sym second.node) ∙ bound) in
+      record { bytes = second.bytes ∙ first.bytes; node = second.node ∙ first.node });
+  states = λ m. leaves_then (own_of a.caches m) (own_of b.caches m) (own_of c.caches m) (p.states m) (q.states m);
+}
+
+pub others_then_but : (n : NodeId) (a b c : World) → OthersStay a b → OthersStayBut n b c → OthersStayBut n a c
+others_then_but n a b c p q = record {
+  frames = λ f bound other. (
+      let second = q.frames f bound other in
+      let first = p.frames f (ap is_some (sym second.node) ∙ bound) in
+      record { bytes = second.bytes ∙ first.bytes; node = second.node ∙ first.node });
+  states = λ m d. leaves_then (own_of a.caches m) (own_of b.caches m) (own_of c.caches m) (p.states m) (q.states m d);
+}
+
+pub others_but : (n : NodeId) (a b : World) → OthersStay a b → OthersStayBut n a b
+others_but n a b h = record { frames = λ f bound _. h.frames f bound; states = λ m _. h.states m }
 
 -- a store with as many marks
 pub still_marks : (w v : World) (k : ℕ) → k ≡ w.marks → Still (record w { marks = k }) v → Still w v
 still_marks w v k e h = subst (λ (k : ℕ). Still (record w { marks = k }) v) e h
+
+pub others_marks : (w v : World) (k : ℕ) → OthersStay (record w { marks = k }) v → OthersStay w v
+others_marks w v k h = record { frames = λ f bound. let it = h.frames f bound in record { bytes = it.bytes; node = it.node }; states = h.states }

@@ -1,4 +1,5 @@
 pub mod After
+pub mod Arms
 pub mod Brought
 pub mod Claimed
 pub mod Counted
@@ -6,3 +7,6 @@ pub mod Evicted
 pub mod Homes
 pub mod New
 pub mod Nodes
+pub mod StillForest
+pub mod Telling
+pub mod WrittenForest

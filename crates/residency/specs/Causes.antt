@@ -45,6 +45,15 @@ is_victim (Err Victim) = true
 abbrev pub pulls_for : {T : Type 0} → Result T Miss → OwnState → ℕ
 pulls_for result own = if is_victim result then 0 else (if is_in_slot own then 1 else 0)
 
+-- frames that bringing a page in takes: none for a resident page
+abbrev pub frames_to_bring : OwnState → ℕ
+frames_to_bring own = if is_resident own then 0 else 1
+
 -- pushes that bringing a page in takes: none for a resident page
 abbrev pub pushes_to_bring : OwnState → List Bool → ℕ
 pushes_to_bring own held = if is_resident own then 0 else pushes_for held
+
+-- the push with which a call failed
+abbrev pub failed_pushes : {T E : Type 0} → Result T E → ℕ
+failed_pushes (Ok x) = 0
+failed_pushes (Err e) = 1

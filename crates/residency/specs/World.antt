@@ -1,6 +1,6 @@
 -- What a store, the caches and a mapper say together of each node's own page.
 use Rattle.std.specs.Prelude.{◌≡◌, ◌≢◌, ℕ, ◌<◌, ◌≤◌, ◌^◌, Bool, true, false, if◌then◌else◌, ◌||◌, List, length, replicate, Option, Some, None, option_map, option_and_then, is_some, IfSome, IsSome, slice_set, count_by}
-use Rattle.vm_ids.specs.Held.{Held, slot_of, with_slot}
+use Rattle.vm_ids.specs.Held.{Held, segments_of, slot_of, with_slot}
 use Rattle.vm_ids.specs.declared.numbers.NodeId.{NodeId}
 use Rattle.vm_ids.specs.declared.numbers.SlotId.{SlotId}
 use Rattle.frame_pool.specs.Pool.{Frames, bytes_of, is_held, is_pinned}
@@ -12,7 +12,8 @@ use Rattle.local_cache.specs.Arena.{Arena, Cell, IsHeld, find, with_own}
 use Rattle.local_cache.specs.Own.{is_absent, is_in_slot, is_on_segment, is_resident, is_slot, own_of, own_states}
 use Rattle.residency.specs.declared.store.Store.{Store}
 
--- what the mapper holds and the size of its pages, where it tells that; the caches; the parts of the store, of whose marks no more than how many there are
+-- What the mapper holds and the size of its pages, where it tells that; the caches; the parts of
+-- the store, of whose marks no more than how many there are.
 pub record World : Type 0 where
   pub told : Option Held
   pub page_bytes : Option ℕ
@@ -23,7 +24,15 @@ pub record World : Type 0 where
   pub marks : ℕ
 
 abbrev pub world : Option Held → Option ℕ → Arena → Store → World
-world told page_bytes caches s = record { told = told; page_bytes = page_bytes; caches = caches; frames = s.frames; slots = s.slots; map = s.map; marks = length s.marks }
+world told page_bytes caches s = record {
+  told = told;
+  page_bytes = page_bytes;
+  caches = caches;
+  frames = s.frames;
+  slots = s.slots;
+  map = s.map;
+  marks = length s.marks;
+}
 
 abbrev pub zero_page : World → List ℕ
 zero_page w = replicate w.frames.page 0
@@ -31,7 +40,8 @@ zero_page w = replicate w.frames.page 0
 abbrev pub frame_page : World → NodeId → List ℕ
 frame_page w n = bytes_of w.frames (frame_of w.map n.0)
 
--- the page that an own state stands for: none, the zero page, that of its frame, that of its slot, that of its segment
+-- the page that an own state stands for: none, or the zero page, or that of its frame, of its slot,
+-- of its segment
 abbrev pub page_by : {P : Type 0} → P → P → (ℕ → P) → P → OwnState → Option P
 page_by zero frame slot segment Absent = None
 page_by zero frame slot segment Zero = Some zero
@@ -39,9 +49,16 @@ page_by zero frame slot segment (Resident dirty) = Some frame
 page_by zero frame slot segment (Slot s) = Some (slot s.0)
 page_by zero frame slot segment OnSegment = Some segment
 
--- The own page of a node, or none; and where the mapper doesn't tell what it holds, no more than that there is one. Nor is the page told of a node that is on its segment: no page of a temporary cache is.
+-- The own page of a node, or none; and where the mapper doesn't tell what it holds, no more than
+-- that there is one. Nor is the page told of a node that is on its segment: no page of a temporary
+-- cache is.
 abbrev pub own_page : World → NodeId → Option (Option (List ℕ))
-own_page w n = page_by (option_map (λ _. zero_page w) w.told) (option_map (λ _. frame_page w n) w.told) (λ slot. option_and_then (λ h. slot_of h slot) w.told) None (own_of w.caches n)
+own_page w n = page_by
+    (option_map (λ _. zero_page w) w.told)
+    (option_map (λ _. frame_page w n) w.told)
+    (λ slot. option_and_then (λ h. slot_of h slot) w.told)
+    None
+    (own_of w.caches n)
 
 abbrev pub is_bound : World → ℕ → Bool
 is_bound w frame = is_some (node_of w.map frame)
@@ -49,16 +66,17 @@ is_bound w frame = is_some (node_of w.map frame)
 abbrev pub is_slot_held : World → ℕ → Bool
 is_slot_held w slot = swap.is_held w.slots slot
 
-pub record IsStoreRight (w : World) : Type 0 where
+-- how the frames, the slots, the map and the caches belong together, and with what the mapper holds
+pub record IsTied (w : World) : Type 0 where
   -- a node is bound, to one frame, exactly where it is resident
-  pub bound : (n : NodeId) → bound_times w.map n.0 ≡ (if is_resident (own_of w.caches n) then 1 else 0)
+  pub bound : (n : NodeId) →
+      bound_times w.map n.0 ≡ (if is_resident (own_of w.caches n) then 1 else 0)
   -- a frame is held exactly where it is bound or pinned
   pub held : (f : ℕ) → is_held w.frames f ≡ (is_bound w f || is_pinned w.frames f)
   -- a held slot is that of one node, and any other of none
-  pub slots : (s : ℕ) → count_by (is_slot s) (own_states w.caches) ≡ (if is_slot_held w s then 1 else 0)
+  pub slots : (s : ℕ) →
+      count_by (is_slot s) (own_states w.caches) ≡ (if is_slot_held w s then 1 else 0)
   pub in_slots : swap.held_count w.slots ≡ count_by is_in_slot (own_states w.caches)
-  -- there are slots enough
-  pub capacity : length (own_states w.caches) ≤ length w.slots
   -- the mapper holds a page in each held slot, where it tells
   pub there : (s : ℕ) → is_slot_held w s ≡ true → IfSome w.told (λ h. IsSome (slot_of h s))
   -- every cache is temporary, so that no page is on a segment
@@ -71,6 +89,16 @@ pub record IsStoreRight (w : World) : Type 0 where
   pub few : length w.frames.held ≤ 2 ^ 16
   pub page : IfSome w.page_bytes (λ n. n ≡ w.frames.page)
 
+-- and there are slots enough, so that each page can be evicted
+pub record IsStoreRight (w : World) : Type 0 where
+  pub tied : IsTied w
+  pub capacity : length (own_states w.caches) ≤ length w.slots
+
+-- a frame has the bytes that it had, and the node or none
+pub record FrameStays (f : ℕ) (old new : World) : Type 0 where
+  pub bytes : bytes_of new.frames f ≡ bytes_of old.frames f
+  pub node : node_of new.map f ≡ node_of old.map f
+
 -- a frame that was pinned is as it was: it is pinned, and has its bytes and its node or none
 pub record PinnedStays (old new : World) (f : ℕ) : Type 0 where
   pub pinned : is_pinned new.frames f ≡ true
@@ -82,26 +110,50 @@ without_own c = record c { own = Absent }
 
 -- the caches are the same but for where own pages are
 pub record SameNodes (old new : Arena) : Type 0 where
-  pub nodes : (n : NodeId) → option_map without_own (find new n) ≡ option_map without_own (find old n)
+  pub nodes : (n : NodeId) →
+      option_map without_own (find new n) ≡ option_map without_own (find old n)
   pub rest : record new { cells = old.cells } ≡ old
 
--- from one moment to the next the store is right still, and each node has its page
-pub record Still (old new : World) : Type 0 where
-  pub right : IsStoreRight new
-  pub pages : (n : NodeId) → own_page new n ≡ own_page old n
-  pub pinned : (f : ℕ) → is_pinned old.frames f ≡ true → PinnedStays old new f
-  pub caches : SameNodes old.caches new.caches
-  pub frames : length new.frames.held ≡ length old.frames.held
-  pub page : new.frames.page ≡ old.frames.page
+-- the mapper tells what it told, but for its slots: the pages of its segments, which of them it
+-- denies, and the size of its pages; or still nothing
+pub record TellsOn (old new : World) : Type 0 where
+  pub segments : segments_of new.told ≡ segments_of old.told
   pub page_bytes : new.page_bytes ≡ old.page_bytes
 
--- a node that isn't resident has its own state
-abbrev pub OthersStay : Arena → Arena → Type 0
-OthersStay old new = (m : NodeId) → is_resident (own_of old m) ≡ false → own_of new m ≡ own_of old m
+-- the store is right still, each node has its page, and the mapper tells on
+pub record PagesStay (old new : World) : Type 0 where
+  pub right : IsStoreRight new
+  pub pages : (n : NodeId) → own_page new n ≡ own_page old n
+  pub caches : SameNodes old.caches new.caches
+  pub told : TellsOn old new
+  pub frames : length new.frames.held ≡ length old.frames.held
+  pub page : new.frames.page ≡ old.frames.page
+  pub slots : length new.slots ≡ length old.slots
 
--- the same but for one node
-abbrev pub OthersStayBut : NodeId → Arena → Arena → Type 0
-OthersStayBut n old new = (m : NodeId) → m.0 ≢ n.0 → is_resident (own_of old m) ≡ false → own_of new m ≡ own_of old m
+-- from one moment to the next each page stays, and so does each frame that was pinned
+pub record Still (old new : World) : Type 0 where
+  pub stays : PagesStay old new
+  pub pinned : (f : ℕ) → is_pinned old.frames f ≡ true → PinnedStays old new f
+
+-- the same but for frame f, which its taker has
+pub record StillBut (f : ℕ) (old new : World) : Type 0 where
+  pub stays : PagesStay old new
+  pub pinned : (g : ℕ) → g ≢ f → is_pinned old.frames g ≡ true → PinnedStays old new g
+
+-- an own state stays, the mark of a dirty page included, or the page left its frame for a slot
+pub record StaysOrLeaves (old new : OwnState) : Type 0 where
+  pub away : is_resident old ≡ false → new ≡ old
+  pub here : is_in_slot new ≡ false → new ≡ old
+
+-- pages leave their frames for slots alone: each frame that has a node has kept it, and its bytes
+pub record OthersStay (old new : World) : Type 0 where
+  pub frames : (f : ℕ) → is_bound new f ≡ true → FrameStays f old new
+  pub states : (m : NodeId) → StaysOrLeaves (own_of old.caches m) (own_of new.caches m)
+
+-- the same but for node n, which may come to a frame
+pub record OthersStayBut (n : NodeId) (old new : World) : Type 0 where
+  pub frames : (f : ℕ) → is_bound new f ≡ true → node_of new.map f ≢ Some n → FrameStays f old new
+  pub states : (m : NodeId) → m.0 ≢ n.0 → StaysOrLeaves (own_of old.caches m) (own_of new.caches m)
 
 -- frame f of node n after its page was pushed to slot s
 abbrev pub evicted : World → ℕ → NodeId → SlotId → World
@@ -114,42 +166,40 @@ evicted w f n s = record w {
 }
 
 -- the page in frame f was moved to a slot that was free, and nothing else changed
-pub record IsEvicted (old new : World) (f : ℕ) : Type 0 where
+pub record IsEvicted (f : ℕ) (old new : World) : Type 0 where
   pub node : NodeId
   pub slot : SlotId
   pub was : node_of old.map f ≡ Some node
+  pub within : slot.0 < length old.slots
   pub free : is_slot_held old slot.0 ≡ false
   pub is : new ≡ evicted old f node slot
 
--- frame f, which was not pinned, is given to its taker: it is held, pinned and bound to no node, and no other frame is pinned or unpinned
-pub record IsMadeFree (old new : World) (f : ℕ) : Type 0 where
+-- frame f, which was not pinned, is given to its taker: it is held, pinned and bound to no node,
+-- and no other frame is pinned or unpinned
+pub record IsMadeFree (f : ℕ) (old new : World) : Type 0 where
   pub within : f < length old.frames.held
   pub loose : is_pinned old.frames f ≡ false
   pub pinned : new.frames.pinned ≡ slice_set old.frames.pinned f true
   pub held : is_held new.frames f ≡ true
   pub unbound : node_of new.map f ≡ None
 
+-- frame f is that of node n
+abbrev pub IsFrameOf : List (Option NodeId) → ℕ → NodeId → Type 0
+IsFrameOf map f n = (f < length map) × (node_of map f ≡ Some n)
+
 -- there is a frame that isn't pinned
 abbrev pub HasUnpinned : Frames → Type 0
 HasUnpinned p = count_by (λ pinned. pinned) p.pinned < length p.pinned
 
--- what frame f has after a page with this own state was brought in: zeros for a page of zeros, and for one in a slot the page that the mapper gave, where it tells that
-pub record HoldsPage (own : OwnState) (last : Option (List ℕ)) (frames : Frames) (f : ℕ) : Type 0 where
+-- what frame f has after a page with this own state was brought in: zeros for a page of zeros, and
+-- for one in a slot the page that the mapper gave last, where it tells that
+pub record HoldsPage (own : OwnState) (last : Option (List ℕ)) (frames : Frames) (f : ℕ)
+    : Type 0 where
   pub zeros : own ≡ Zero → bytes_of frames f ≡ replicate frames.page 0
   pub given : is_in_slot own ≡ true → IfSome last (λ page. bytes_of frames f ≡ page)
 
 abbrev pub HasNoNodes : Arena → Type 0
 HasNoNodes a = (n : NodeId) → find a n ≡ None
-
--- the same as Still but for frame f, which its taker has
-pub record StillBut (f : ℕ) (old new : World) : Type 0 where
-  pub right : IsStoreRight new
-  pub pages : (n : NodeId) → own_page new n ≡ own_page old n
-  pub pinned : (g : ℕ) → g ≢ f → is_pinned old.frames g ≡ true → PinnedStays old new g
-  pub caches : SameNodes old.caches new.caches
-  pub frames : length new.frames.held ≡ length old.frames.held
-  pub page : new.frames.page ≡ old.frames.page
-  pub page_bytes : new.page_bytes ≡ old.page_bytes
 
 -- frame f is a taker's: held, pinned and bound to no node
 pub record IsTaken (w : World) (f : ℕ) : Type 0 where

@@ -3,13 +3,15 @@
 //! A store has the page frames, the swap slots, the map from page nodes to frames, and the marks that a policy of
 //! eviction looks at. Whatever it moves, every node's own page stays what it is: the page in the node's frame, in its
 //! swap slot, or a page of zeros. A frame that is pinned is never evicted. A fault of the mapper is answered only
-//! where the mapper's count of faults rose, and it leaves every page where it was.
+//! where the mapper's count of faults rose, and it leaves every page where it was, or in a slot.
 //!
 //! A store is seen as the record of its parts, each by its own model; of the marks the calls that move pages say only
 //! how many there are, so that no promise of theirs rests on the policy. `IsStoreRight` of `specs` says how the parts,
-//! the caches and the mapper belong together, and `Still` what each call keeps. The crate stands on `frame_pool`,
-//! `slot_pool`, `global_map`, `local_cache` and the traits of the outside; the paths of faults, copies and segments
-//! stand on it. It serves the nodes of temporary caches.
+//! the caches and the mapper belong together, `Still` what each call keeps, and `OthersStay` how little an eviction
+//! changes: one page leaves its frame for a slot. `Between` says such a relation of the moments before and after a
+//! call. The crate stands on `frame_pool`, `slot_pool`, `global_map`, `local_cache` and the traits of the outside; the
+//! paths of faults, the copies and moves with frames, and the manager stand on it. It serves the nodes of temporary
+//! caches.
 #![tactic(auto)]
 
 mod marks;

@@ -1,6 +1,7 @@
 // What the chooser is shown: which frames may be evicted, and which were referenced.
 ghost use Rattle.std.specs.Prelude.{◌≡◌, ℕ, ◌<◌, ◌≤◌, ◌^◌, true, false, length, replicate, slice_set, slice_index_or, IfOk};
 ghost use Rattle.frame_pool.specs.Pool.{is_evictable};
+ghost use Rattle.residency.specs.Frames.{HasEvictable, HasNoEvictable};
 
 use frame_pool::FramePool;
 use std::alloc::Global;
@@ -29,7 +30,8 @@ impl Model for Marks {
 fn mark(may: &mut [bool], frames: &FramePool)
     requires length { length may.old ≡ length frames.now.held }
     requires few { length frames.now.held ≤ 2 ^ 16 }
-    ensures { (k : ℕ) → k < length may.new → slice_index_or may.new k false ≡ is_evictable frames.now k }
+    ensures { (k : ℕ) → k < length may.new →
+        slice_index_or may.new k false ≡ is_evictable frames.now k }
 {
     for at in 0..may.len() {
         may[at] = frames.is_evictable(FrameId(at as u32));
@@ -39,8 +41,8 @@ fn mark(may: &mut [bool], frames: &FramePool)
 // Whether some frame is held and not pinned.
 pub(crate) fn any_evictable(frames: &FramePool) -> bool
     requires { length frames.now.held ≤ 2 ^ 16 }
-    ensures some { result ≡ true → (f : ℕ) × (f < length frames.now.held) × (is_evictable frames.now f ≡ true) }
-    ensures none { result ≡ false → (f : ℕ) → f < length frames.now.held → is_evictable frames.now f ≡ false }
+    ensures some { result ≡ true → HasEvictable frames.now }
+    ensures none { result ≡ false → HasNoEvictable frames.now }
 {
     for at in 0..frames.count() {
         if frames.is_evictable(FrameId(at)) {
@@ -67,7 +69,7 @@ impl Marks {
     pub(crate) fn pick<C: Chooser>(&mut self, frames: &FramePool, chooser: &mut C) -> FrameId
         requires length { length self.old ≡ length frames.now.held }
         requires few { length frames.now.held ≤ 2 ^ 16 }
-        requires some { (f : ℕ) × (f < length frames.now.held) × (is_evictable frames.now f ≡ true) }
+        requires some { HasEvictable frames.now }
         ensures may { is_evictable frames.now result.0 ≡ true }
         ensures length { length self.new ≡ length self.old }
     {

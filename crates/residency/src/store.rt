@@ -1,16 +1,18 @@
 // Frames, slots and the map, and the calls that move pages between them.
 ghost use Rattle.std.specs.Prelude.{◌≡◌, ◌≢◌, ℕ, ◌+◌, ◌-◌, ◌<◌, ◌≤◌, ◌^◌, ◌++◌, List, [], length, replicate, slice_set, min, true, false, Option, Some, None, IfSome, All, IfOk, IfErr, OnOk, OnErr, IsOk};
 ghost use Rattle.std.specs.Borrow.{sem};
-ghost use Rattle.vm_ids.specs.Counting.{Counted, RoseBy};
+ghost use Rattle.vm_ids.specs.Counting.{Counted};
 ghost use Rattle.vm_ids.specs.Held.{Held};
-ghost use Rattle.frame_pool.specs.Pool.{bytes_of, held_count, is_held, is_pinned, pinned_count, with_bytes};
+ghost use Rattle.frame_pool.specs.Pool.{bytes_of, held_count, is_held, is_pinned, with_bytes};
 ghost use Rattle.slot_pool.specs.Slots as swap;
 ghost use Rattle.global_map.specs.Pairs.{bound_times, frame_of, node_of};
 ghost use Rattle.local_cache.specs.Arena.{Arena, IsHeld, with_own};
 ghost use Rattle.local_cache.specs.Own.{is_resident, own_of};
-ghost use Rattle.residency.specs.Causes.{HasMissCause, Later, Made, PushFailed, is_victim, pulls_for, pushes_for, pushes_to_bring};
+ghost use Rattle.residency.specs.Between.{Between, RightStore};
+ghost use Rattle.residency.specs.Causes.{HasMissCause, Later, Made, PushFailed, failed_pushes, frames_to_bring, is_victim, pulls_for, pushes_for, pushes_to_bring};
+ghost use Rattle.residency.specs.Frames.{evictable_count, free_frames, with_held, with_pinned};
 ghost use Rattle.residency.specs.Lending.{LendsFrame};
-ghost use Rattle.residency.specs.World.{HasNoNodes, HasOwnPage, HoldsPage, HasUnpinned, IsAway, IsEvicted, IsMadeFree, IsStoreRight, IsTaken, OthersStay, OthersStayBut, Still, StillBut, world};
+ghost use Rattle.residency.specs.World.{HasNoNodes, HasOwnPage, HoldsPage, HasUnpinned, IsAway, IsEvicted, IsFrameOf, IsMadeFree, IsStoreRight, IsTaken, OthersStay, OthersStayBut, Still, StillBut, world};
 
 use crate::Miss;
 use crate::marks::{Marks, any_evictable};
@@ -36,8 +38,15 @@ impl Store {
     pub fn new(alloc: Global, frames: u32, page: u32) -> Result<Store, NoMemory>
         requires frames { frames ≤ 2 ^ 16 }
         requires page { page ≤ 2 ^ 16 }
-        ensures is { IfOk result (λ s. s ≡ record { frames = record { page = page; held = replicate frames false; pinned = replicate frames false; bytes = replicate frames (replicate page 0) }; slots = []; map = replicate frames None; marks = replicate frames false }) }
-        ensures right { IfOk result (λ s. (told : Option Held) (size : Option ℕ) (caches : Arena) → HasNoNodes caches → IfSome size (λ n. n ≡ page) → IsStoreRight (world told size caches s)) }
+        ensures is { IfOk result (λ s. s ≡ record {
+          frames = free_frames frames page;
+          slots = [];
+          map = replicate frames None;
+          marks = replicate frames false;
+        }) }
+        ensures right { IfOk result (λ s. (told : Option Held) (size : Option ℕ) (caches : Arena) →
+            HasNoNodes caches → IfSome size (λ n. n ≡ page) →
+            IsStoreRight (world told size caches s)) }
     {
         let pool = FramePool::new(alloc, frames, page)?;
         let map = GlobalMap::new(alloc, frames)?;
@@ -86,7 +95,9 @@ impl Store {
         requires from { from.0 < length self.old.frames.held }
         requires to { to.0 < length self.old.frames.held }
         requires apart { from.0 ≢ to.0 }
-        ensures { self.new ≡ record self.old { frames = with_bytes self.old.frames to.0 (bytes_of self.old.frames from.0) } }
+        ensures { self.new ≡ record self.old {
+          frames = with_bytes self.old.frames to.0 (bytes_of self.old.frames from.0);
+        } }
     {
         self.frames.copy(from, to);
     }
@@ -94,7 +105,9 @@ impl Store {
     /// Makes the bytes of a frame zeros.
     pub fn zero(&mut self, frame: FrameId)
         requires { frame.0 < length self.old.frames.held }
-        ensures { self.new ≡ record self.old { frames = with_bytes self.old.frames frame.0 (replicate self.old.frames.page 0) } }
+        ensures { self.new ≡ record self.old {
+          frames = with_bytes self.old.frames frame.0 (replicate self.old.frames.page 0);
+        } }
     {
         self.frames.zero(frame);
     }
@@ -102,7 +115,7 @@ impl Store {
     /// Pins a frame, so that it is no victim of eviction.
     pub fn pin(&mut self, frame: FrameId)
         requires { frame.0 < length self.old.frames.held }
-        ensures { self.new ≡ record self.old { frames = record self.old.frames { pinned = slice_set self.old.frames.pinned frame.0 true } } }
+        ensures { self.new ≡ record self.old { frames = with_pinned self.old.frames frame.0 true } }
     {
         self.frames.pin(frame);
     }
@@ -110,7 +123,9 @@ impl Store {
     /// Unpins a frame.
     pub fn unpin(&mut self, frame: FrameId)
         requires { frame.0 < length self.old.frames.held }
-        ensures { self.new ≡ record self.old { frames = record self.old.frames { pinned = slice_set self.old.frames.pinned frame.0 false } } }
+        ensures { self.new ≡ record self.old {
+          frames = with_pinned self.old.frames frame.0 false;
+        } }
     {
         self.frames.unpin(frame);
     }
@@ -119,7 +134,7 @@ impl Store {
     pub fn give_back_frame(&mut self, frame: FrameId)
         requires held { is_held self.old.frames frame.0 ≡ true }
         requires unpinned { is_pinned self.old.frames frame.0 ≡ false }
-        ensures { self.new ≡ record self.old { frames = record self.old.frames { held = slice_set self.old.frames.held frame.0 false } } }
+        ensures { self.new ≡ record self.old { frames = with_held self.old.frames frame.0 false } }
     {
         self.frames.give_back(frame);
     }
@@ -137,7 +152,9 @@ impl Store {
     /// Unbinds a bound node from its frame.
     pub fn unbind(&mut self, node: NodeId)
         requires { bound_times self.old.map node.0 ≡ 1 }
-        ensures { self.new ≡ record self.old { map = slice_set self.old.map (frame_of self.old.map node.0) None } }
+        ensures { self.new ≡ record self.old {
+          map = slice_set self.old.map (frame_of self.old.map node.0) None;
+        } }
     {
         self.map.unbind(node);
     }
@@ -146,7 +163,9 @@ impl Store {
     pub fn rekey(&mut self, from: NodeId, to: NodeId)
         requires from { bound_times self.old.map from.0 ≡ 1 }
         requires to { bound_times self.old.map to.0 ≡ 0 }
-        ensures { self.new ≡ record self.old { map = slice_set self.old.map (frame_of self.old.map from.0) (Some to) } }
+        ensures { self.new ≡ record self.old {
+          map = slice_set self.old.map (frame_of self.old.map from.0) (Some to);
+        } }
     {
         self.map.rekey(from, to);
     }
@@ -159,10 +178,14 @@ impl Store {
         self.slots.give_back(slot);
     }
 
-    /// Makes the number of slots at least `total`, the new ones free. After an error the store is as it was.
+    /// Makes the number of slots at least `total`, the new ones free. It can fail only where there were fewer, and after
+    /// an error the store is as it was.
     pub fn reserve_slots(&mut self, total: u32) -> Result<(), NoMemory>
-        ensures ok { OnOk result (self.new ≡ record self.old { slots = self.old.slots ++ replicate (total - length self.old.slots) false }) }
+        ensures ok { OnOk result (self.new ≡ record self.old {
+          slots = self.old.slots ++ replicate (total - length self.old.slots) false;
+        }) }
         ensures err { OnErr result (self.new ≡ self.old) }
+        ensures enough { total ≤ length self.old.slots → IsOk result }
     {
         self.slots.reserve(total)
     }
@@ -183,16 +206,20 @@ impl Store {
         frame: FrameId,
         mapper: &mut M,
     ) -> Result<(), Failed>
-        requires right { IsStoreRight (world (M.held mapper.old) (M.page_bytes mapper.old) caches.old self.old) }
+        requires right { RightStore M.held M.page_bytes mapper.old caches.old self.old }
         requires held { is_held self.old.frames frame.0 ≡ true }
         requires unpinned { is_pinned self.old.frames frame.0 ≡ false }
-        ensures still { Still (world (M.held mapper.old) (M.page_bytes mapper.old) caches.old self.old) (world (M.held mapper.new) (M.page_bytes mapper.new) caches.new self.new) }
-        ensures evicted { OnOk result (IsEvicted (world (M.held mapper.old) (M.page_bytes mapper.old) caches.old self.old) (world (M.held mapper.new) (M.page_bytes mapper.new) caches.new self.new) frame.0) }
-        ensures free { OnOk result (self.new.frames.held ≡ slice_set self.old.frames.held frame.0 false) }
+        ensures still { Between Still M.held M.page_bytes
+            mapper.old caches.old self.old mapper.new caches.new self.new }
+        ensures evicted { OnOk result (Between (IsEvicted frame.0) M.held M.page_bytes
+            mapper.old caches.old self.old mapper.new caches.new self.new) }
+        ensures free { OnOk result (self.new.frames.held
+            ≡ slice_set self.old.frames.held frame.0 false) }
         ensures failed { OnErr result (self.new ≡ self.old) }
         ensures failed_caches { OnErr result (caches.new ≡ caches.old) }
         ensures pinned { self.new.frames.pinned ≡ self.old.frames.pinned }
-        ensures others { OthersStay caches.old caches.new }
+        ensures others { Between OthersStay M.held M.page_bytes
+            mapper.old caches.old self.old mapper.new caches.new self.new }
         ensures counts { Counted 0 1 (M.counts mapper.old) (M.counts mapper.new) result }
     {
         let node = self.map.node_at(frame).unwrap();
@@ -219,16 +246,24 @@ impl Store {
         mapper: &mut M,
         chooser: &mut C,
     ) -> Result<FrameId, Failed>
-        requires right { IsStoreRight (world (M.held mapper.old) (M.page_bytes mapper.old) caches.old self.old) }
+        requires right { RightStore M.held M.page_bytes mapper.old caches.old self.old }
         requires unpinned { HasUnpinned self.old.frames }
-        ensures still { Still (world (M.held mapper.old) (M.page_bytes mapper.old) caches.old self.old) (world (M.held mapper.new) (M.page_bytes mapper.new) caches.new self.new) }
-        ensures free { IfOk result (λ f. IsMadeFree (world (M.held mapper.old) (M.page_bytes mapper.old) caches.old self.old) (world (M.held mapper.new) (M.page_bytes mapper.new) caches.new self.new) f.0) }
+        ensures still { Between Still M.held M.page_bytes
+            mapper.old caches.old self.old mapper.new caches.new self.new }
+        ensures free { IfOk result (λ f. Between (IsMadeFree f.0) M.held M.page_bytes
+            mapper.old caches.old self.old mapper.new caches.new self.new) }
         ensures pinned { OnErr result (self.new.frames.pinned ≡ self.old.frames.pinned) }
-        ensures others { OthersStay caches.old caches.new }
+        ensures held { OnOk result (held_count self.new.frames + pushes_for self.old.frames.held
+            ≡ held_count self.old.frames + 1) }
+        ensures failed_held { OnErr result (
+            held_count self.new.frames ≡ held_count self.old.frames) }
+        ensures others { Between OthersStay M.held M.page_bytes
+            mapper.old caches.old self.old mapper.new caches.new self.new }
         ensures idle { pushes_for self.old.frames.held ≡ 0 → mapper.new ≡ mapper.old }
         ensures idle_caches { pushes_for self.old.frames.held ≡ 0 → caches.new ≡ caches.old }
         ensures later { Later (M.counts mapper.old) (M.counts mapper.new) }
-        ensures made { Made 0 (pushes_for self.old.frames.held) (M.counts mapper.old) (M.counts mapper.new) }
+        ensures made { Made 0 (pushes_for self.old.frames.held)
+            (M.counts mapper.old) (M.counts mapper.new) }
         ensures cause { OnErr result (PushFailed (M.counts mapper.old) (M.counts mapper.new)) }
     {
         match self.frames.take() {
@@ -247,13 +282,17 @@ impl Store {
         mapper: &mut M,
         chooser: &mut C,
     ) -> Result<FrameId, Failed>
-        requires right { IsStoreRight (world (M.held mapper.old) (M.page_bytes mapper.old) caches.old self.old) }
+        requires right { RightStore M.held M.page_bytes mapper.old caches.old self.old }
         requires unpinned { HasUnpinned self.old.frames }
         requires full { All (λ h. h ≡ true) self.old.frames.held }
-        ensures still { Still (world (M.held mapper.old) (M.page_bytes mapper.old) caches.old self.old) (world (M.held mapper.new) (M.page_bytes mapper.new) caches.new self.new) }
-        ensures free { IfOk result (λ f. IsMadeFree (world (M.held mapper.old) (M.page_bytes mapper.old) caches.old self.old) (world (M.held mapper.new) (M.page_bytes mapper.new) caches.new self.new) f.0) }
+        ensures still { Between Still M.held M.page_bytes
+            mapper.old caches.old self.old mapper.new caches.new self.new }
+        ensures free { IfOk result (λ f. Between (IsMadeFree f.0) M.held M.page_bytes
+            mapper.old caches.old self.old mapper.new caches.new self.new) }
         ensures pinned { OnErr result (self.new.frames.pinned ≡ self.old.frames.pinned) }
-        ensures others { OthersStay caches.old caches.new }
+        ensures held { held_count self.new.frames ≡ held_count self.old.frames }
+        ensures others { Between OthersStay M.held M.page_bytes
+            mapper.old caches.old self.old mapper.new caches.new self.new }
         ensures later { Later (M.counts mapper.old) (M.counts mapper.new) }
         ensures made { Made 0 1 (M.counts mapper.old) (M.counts mapper.new) }
         ensures cause { OnErr result (PushFailed (M.counts mapper.old) (M.counts mapper.new)) }
@@ -274,18 +313,30 @@ impl Store {
         mapper: &mut M,
         chooser: &mut C,
     ) -> Result<FrameId, Miss>
-        requires right { IsStoreRight (world (M.held mapper.old) (M.page_bytes mapper.old) caches.old self.old) }
+        requires right { RightStore M.held M.page_bytes mapper.old caches.old self.old }
         requires own { HasOwnPage caches.old node }
-        requires unpinned { is_resident (own_of caches.old node) ≡ false → HasUnpinned self.old.frames }
-        ensures still { Still (world (M.held mapper.old) (M.page_bytes mapper.old) caches.old self.old) (world (M.held mapper.new) (M.page_bytes mapper.new) caches.new self.new) }
-        ensures home { IfOk result (λ f. (f.0 < length self.new.map) × (node_of self.new.map f.0 ≡ Some node)) }
-        ensures page { IfOk result (λ f. HoldsPage (own_of caches.old node) (M.given mapper.new) self.new.frames f.0) }
-        ensures idle { is_resident (own_of caches.old node) ≡ true → IsOk result × (self.new ≡ self.old) × (caches.new ≡ caches.old) × (mapper.new ≡ mapper.old) }
-        ensures others { OthersStayBut node caches.old caches.new }
-        ensures failed { OnErr result (OthersStay caches.old caches.new) }
+        requires unpinned { is_resident (own_of caches.old node) ≡ false →
+            HasUnpinned self.old.frames }
+        ensures still { Between Still M.held M.page_bytes
+            mapper.old caches.old self.old mapper.new caches.new self.new }
+        ensures home { IfOk result (λ f. IsFrameOf self.new.map f.0 node) }
+        ensures page { IfOk result (λ f.
+            HoldsPage (own_of caches.old node) (M.given mapper.new) self.new.frames f.0) }
+        ensures idle { is_resident (own_of caches.old node) ≡ true →
+            IsOk result × (self.new ≡ self.old) × (caches.new ≡ caches.old)
+            × (mapper.new ≡ mapper.old) }
+        ensures others { Between (OthersStayBut node) M.held M.page_bytes
+            mapper.old caches.old self.old mapper.new caches.new self.new }
+        ensures failed { OnErr result (Between OthersStay M.held M.page_bytes
+            mapper.old caches.old self.old mapper.new caches.new self.new) }
         ensures pinned { self.new.frames.pinned ≡ self.old.frames.pinned }
         ensures later { Later (M.counts mapper.old) (M.counts mapper.new) }
-        ensures made { Made (pulls_for result (own_of caches.old node)) (pushes_to_bring (own_of caches.old node) self.old.frames.held) (M.counts mapper.old) (M.counts mapper.new) }
+        ensures held { OnOk result (held_count self.new.frames
+            + pushes_to_bring (own_of caches.old node) self.old.frames.held
+            ≡ held_count self.old.frames + frames_to_bring (own_of caches.old node)) }
+        ensures made { Made (pulls_for result (own_of caches.old node))
+            (pushes_to_bring (own_of caches.old node) self.old.frames.held)
+            (M.counts mapper.old) (M.counts mapper.new) }
         ensures cause { IfErr result (HasMissCause (M.counts mapper.old) (M.counts mapper.new)) }
     {
         match self.map.get(node) {
@@ -302,17 +353,25 @@ impl Store {
         mapper: &mut M,
         chooser: &mut C,
     ) -> Result<FrameId, Miss>
-        requires right { IsStoreRight (world (M.held mapper.old) (M.page_bytes mapper.old) caches.old self.old) }
+        requires right { RightStore M.held M.page_bytes mapper.old caches.old self.old }
         requires node { IsAway caches.old node }
         requires unpinned { HasUnpinned self.old.frames }
-        ensures still { Still (world (M.held mapper.old) (M.page_bytes mapper.old) caches.old self.old) (world (M.held mapper.new) (M.page_bytes mapper.new) caches.new self.new) }
-        ensures home { IfOk result (λ f. (f.0 < length self.new.map) × (node_of self.new.map f.0 ≡ Some node)) }
-        ensures page { IfOk result (λ f. HoldsPage (own_of caches.old node) (M.given mapper.new) self.new.frames f.0) }
-        ensures others { OthersStayBut node caches.old caches.new }
-        ensures failed { OnErr result (OthersStay caches.old caches.new) }
+        ensures still { Between Still M.held M.page_bytes
+            mapper.old caches.old self.old mapper.new caches.new self.new }
+        ensures home { IfOk result (λ f. IsFrameOf self.new.map f.0 node) }
+        ensures page { IfOk result (λ f.
+            HoldsPage (own_of caches.old node) (M.given mapper.new) self.new.frames f.0) }
+        ensures others { Between (OthersStayBut node) M.held M.page_bytes
+            mapper.old caches.old self.old mapper.new caches.new self.new }
+        ensures failed { OnErr result (Between OthersStay M.held M.page_bytes
+            mapper.old caches.old self.old mapper.new caches.new self.new) }
         ensures pinned { self.new.frames.pinned ≡ self.old.frames.pinned }
         ensures later { Later (M.counts mapper.old) (M.counts mapper.new) }
-        ensures made { Made (pulls_for result (own_of caches.old node)) (pushes_for self.old.frames.held) (M.counts mapper.old) (M.counts mapper.new) }
+        ensures held { OnOk result (held_count self.new.frames + pushes_for self.old.frames.held
+            ≡ held_count self.old.frames + 1) }
+        ensures made { Made
+            (pulls_for result (own_of caches.old node)) (pushes_for self.old.frames.held)
+            (M.counts mapper.old) (M.counts mapper.new) }
         ensures cause { IfErr result (HasMissCause (M.counts mapper.old) (M.counts mapper.new)) }
     {
         match self.make_free(caches, mapper, chooser) {
@@ -329,17 +388,25 @@ impl Store {
         frame: FrameId,
         mapper: &mut M,
     ) -> Result<FrameId, Miss>
-        requires right { IsStoreRight (world (M.held mapper.old) (M.page_bytes mapper.old) caches.old self.old) }
+        requires right { RightStore M.held M.page_bytes mapper.old caches.old self.old }
         requires node { IsAway caches.old node }
-        requires taken { IsTaken (world (M.held mapper.old) (M.page_bytes mapper.old) caches.old self.old) frame.0 }
-        ensures still { StillBut frame.0 (world (M.held mapper.old) (M.page_bytes mapper.old) caches.old self.old) (world (M.held mapper.new) (M.page_bytes mapper.new) caches.new self.new) }
-        ensures home { IfOk result (λ f. (f.0 < length self.new.map) × (node_of self.new.map f.0 ≡ Some node)) }
-        ensures page { IfOk result (λ f. HoldsPage (own_of caches.old node) (M.given mapper.new) self.new.frames f.0) }
-        ensures others { OthersStayBut node caches.old caches.new }
-        ensures failed { OnErr result (caches.new ≡ caches.old) }
+        requires taken { IsTaken
+            (world (M.held mapper.old) (M.page_bytes mapper.old) caches.old self.old)
+            frame.0 }
+        ensures still { Between (StillBut frame.0) M.held M.page_bytes
+            mapper.old caches.old self.old mapper.new caches.new self.new }
+        ensures home { IfOk result (λ f. IsFrameOf self.new.map f.0 node) }
+        ensures page { IfOk result (λ f.
+            HoldsPage (own_of caches.old node) (M.given mapper.new) self.new.frames f.0) }
+        ensures others { Between (OthersStayBut node) M.held M.page_bytes
+            mapper.old caches.old self.old mapper.new caches.new self.new }
+        ensures failed { OnErr result (Between OthersStay M.held M.page_bytes
+            mapper.old caches.old self.old mapper.new caches.new self.new) }
         ensures pinned { self.new.frames.pinned ≡ slice_set self.old.frames.pinned frame.0 false }
         ensures later { Later (M.counts mapper.old) (M.counts mapper.new) }
-        ensures made { Made (pulls_for result (own_of caches.old node)) 0 (M.counts mapper.old) (M.counts mapper.new) }
+        ensures held { OnOk result (self.new.frames.held ≡ self.old.frames.held) }
+        ensures made { Made (pulls_for result (own_of caches.old node)) 0
+            (M.counts mapper.old) (M.counts mapper.new) }
         ensures filled { is_victim result ≡ false }
         ensures cause { IfErr result (HasMissCause (M.counts mapper.old) (M.counts mapper.new)) }
     {
@@ -362,17 +429,24 @@ impl Store {
         frame: FrameId,
         mapper: &mut M,
     ) -> Result<FrameId, Miss>
-        requires right { IsStoreRight (world (M.held mapper.old) (M.page_bytes mapper.old) caches.old self.old) }
+        requires right { RightStore M.held M.page_bytes mapper.old caches.old self.old }
         requires node { IsHeld caches.old node }
         requires slot { own_of caches.old node ≡ OwnState.Slot slot }
-        requires taken { IsTaken (world (M.held mapper.old) (M.page_bytes mapper.old) caches.old self.old) frame.0 }
-        ensures still { StillBut frame.0 (world (M.held mapper.old) (M.page_bytes mapper.old) caches.old self.old) (world (M.held mapper.new) (M.page_bytes mapper.new) caches.new self.new) }
-        ensures home { IfOk result (λ f. (f.0 < length self.new.map) × (node_of self.new.map f.0 ≡ Some node)) }
-        ensures page { IfOk result (λ f. HoldsPage (own_of caches.old node) (M.given mapper.new) self.new.frames f.0) }
-        ensures others { OthersStayBut node caches.old caches.new }
-        ensures failed { OnErr result (caches.new ≡ caches.old) }
+        requires taken { IsTaken
+            (world (M.held mapper.old) (M.page_bytes mapper.old) caches.old self.old)
+            frame.0 }
+        ensures still { Between (StillBut frame.0) M.held M.page_bytes
+            mapper.old caches.old self.old mapper.new caches.new self.new }
+        ensures home { IfOk result (λ f. IsFrameOf self.new.map f.0 node) }
+        ensures page { IfOk result (λ f.
+            HoldsPage (own_of caches.old node) (M.given mapper.new) self.new.frames f.0) }
+        ensures others { Between (OthersStayBut node) M.held M.page_bytes
+            mapper.old caches.old self.old mapper.new caches.new self.new }
+        ensures failed { OnErr result (Between OthersStay M.held M.page_bytes
+            mapper.old caches.old self.old mapper.new caches.new self.new) }
         ensures pinned { self.new.frames.pinned ≡ slice_set self.old.frames.pinned frame.0 false }
         ensures later { Later (M.counts mapper.old) (M.counts mapper.new) }
+        ensures held { OnOk result (self.new.frames.held ≡ self.old.frames.held) }
         ensures made { Made 1 0 (M.counts mapper.old) (M.counts mapper.new) }
         ensures filled { is_victim result ≡ false }
         ensures cause { IfErr result (HasMissCause (M.counts mapper.old) (M.counts mapper.new)) }
@@ -399,7 +473,10 @@ impl Store {
         requires free { node_of self.old.map frame.0 ≡ None }
         requires away { bound_times self.old.map node.0 ≡ 0 }
         ensures caches { caches.new ≡ with_own caches.old node (OwnState.Resident true) }
-        ensures store { self.new ≡ record self.old { frames = record self.old.frames { pinned = slice_set self.old.frames.pinned frame.0 false }; map = slice_set self.old.map frame.0 (Some node) } }
+        ensures store { self.new ≡ record self.old {
+          frames = with_pinned self.old.frames frame.0 false;
+          map = slice_set self.old.map frame.0 (Some node);
+        } }
     {
         caches.set_state(node, OwnState::Resident { dirty: true });
         self.map.bind(node, frame);
@@ -407,6 +484,7 @@ impl Store {
     }
 
     /// Evicts so many pages, or all whose frames aren't pinned where they are fewer. It ends at the first push that fails.
+    /// It takes one push for each frame that falls free, and after a fault one more.
     pub fn page_out<M: Mapper, C: Chooser>(
         &mut self,
         caches: &mut Caches,
@@ -414,22 +492,30 @@ impl Store {
         mapper: &mut M,
         chooser: &mut C,
     ) -> Result<(), Failed>
-        requires right { IsStoreRight (world (M.held mapper.old) (M.page_bytes mapper.old) caches.old self.old) }
-        ensures still { Still (world (M.held mapper.old) (M.page_bytes mapper.old) caches.old self.old) (world (M.held mapper.new) (M.page_bytes mapper.new) caches.new self.new) }
-        ensures fewer { OnOk result (held_count self.new.frames + min count (held_count self.old.frames - pinned_count self.old.frames) ≡ held_count self.old.frames) }
+        requires right { RightStore M.held M.page_bytes mapper.old caches.old self.old }
+        ensures still { Between Still M.held M.page_bytes
+            mapper.old caches.old self.old mapper.new caches.new self.new }
+        ensures fewer { OnOk result (
+            held_count self.new.frames + min count (evictable_count self.old.frames)
+            ≡ held_count self.old.frames) }
+        ensures failed { OnErr result (
+            held_count self.old.frames
+            < held_count self.new.frames + min count (evictable_count self.old.frames)) }
         ensures pinned { self.new.frames.pinned ≡ self.old.frames.pinned }
-        ensures others { OthersStay caches.old caches.new }
+        ensures others { Between OthersStay M.held M.page_bytes
+            mapper.old caches.old self.old mapper.new caches.new self.new }
         ensures later { Later (M.counts mapper.old) (M.counts mapper.new) }
-        ensures pulls { RoseBy 0 (M.counts mapper.old).pulls (M.counts mapper.new).pulls }
-        ensures pushes { OnOk result (RoseBy (min count (held_count self.old.frames - pinned_count self.old.frames)) (M.counts mapper.old).pushes (M.counts mapper.new).pushes) }
+        ensures made { Made 0
+            (held_count self.old.frames - held_count self.new.frames + failed_pushes result)
+            (M.counts mapper.old) (M.counts mapper.new) }
         ensures cause { OnErr result (PushFailed (M.counts mapper.old) (M.counts mapper.new)) }
     {
         for done in 0..count {
             if !any_evictable(&self.frames) {
                 return Ok(());
             }
-            let victim = self.marks.pick(&self.frames, chooser);
-            self.evict(caches, victim, mapper)?;
+            let frame = self.marks.pick(&self.frames, chooser);
+            self.evict(caches, frame, mapper)?;
         }
         Ok(())
     }

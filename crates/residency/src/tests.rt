@@ -3,7 +3,8 @@ ghost use Rattle.std.specs.Prelude.{◌≡◌, ℕ, ◌<◌, ◌≤◌, All, IfO
 ghost use Rattle.frame_pool.specs.Pool.{bytes_of};
 ghost use Rattle.local_cache.specs.Arena.{HasPage};
 ghost use Rattle.vm_ids.specs.declared.numbers.NodeId.{NodeId};
-ghost use Rattle.residency.specs.World.{HasOwnPage, HasUnpinned, IsStoreRight, world};
+ghost use Rattle.residency.specs.Between.{RightStore};
+ghost use Rattle.residency.specs.World.{HasOwnPage, HasUnpinned};
 
 use crate::{Miss, Store};
 use local_cache::{Caches, OwnState};
@@ -36,7 +37,7 @@ fn nodes_of(
 // A store of three frames, and a cache of four pages of zeros of four bytes, with a swap slot for each.
 fn filled<M: Mapper>(alloc: Global, mapper: &M) -> Result<(Store, Caches, Vec<NodeId>), NoMemory>
     requires { IfSome (M.page_bytes mapper.now) (λ n. n ≡ 4) }
-    ensures right { IfOk result (λ r. IsStoreRight (world (M.held mapper.now) (M.page_bytes mapper.now) r.1 r.0)) }
+    ensures right { IfOk result (λ r. RightStore M.held M.page_bytes mapper.now r.1 r.0) }
     ensures ready { IfOk result (λ r. All (λ n. HasOwnPage r.1 n) r.2.items) }
     ensures loose { IfOk result (λ r. HasUnpinned r.0.frames) }
     ensures page { IfOk result (λ r. r.0.frames.page ≡ 4) }
@@ -59,11 +60,11 @@ fn write_first<M: Mapper, C: Chooser>(
     mapper: &mut M,
     chooser: &mut C,
 ) -> Result<(), Miss>
-    requires right { IsStoreRight (world (M.held mapper.old) (M.page_bytes mapper.old) caches.old store.old) }
+    requires right { RightStore M.held M.page_bytes mapper.old caches.old store.old }
     requires node { HasOwnPage caches.old node }
     requires loose { HasUnpinned store.old.frames }
     requires page { 1 ≤ store.old.frames.page }
-    ensures right { IsStoreRight (world (M.held mapper.new) (M.page_bytes mapper.new) caches.new store.new) }
+    ensures right { RightStore M.held M.page_bytes mapper.new caches.new store.new }
     ensures ready { (n : NodeId) → HasOwnPage caches.old n → HasOwnPage caches.new n }
     ensures pinned { store.new.frames.pinned ≡ store.old.frames.pinned }
     ensures page { store.new.frames.page ≡ store.old.frames.page }
@@ -82,11 +83,11 @@ fn read_first<M: Mapper, C: Chooser>(
     mapper: &mut M,
     chooser: &mut C,
 ) -> Result<u8, Miss>
-    requires right { IsStoreRight (world (M.held mapper.old) (M.page_bytes mapper.old) caches.old store.old) }
+    requires right { RightStore M.held M.page_bytes mapper.old caches.old store.old }
     requires node { HasOwnPage caches.old node }
     requires loose { HasUnpinned store.old.frames }
     requires page { 1 ≤ store.old.frames.page }
-    ensures right { IsStoreRight (world (M.held mapper.new) (M.page_bytes mapper.new) caches.new store.new) }
+    ensures right { RightStore M.held M.page_bytes mapper.new caches.new store.new }
     ensures ready { (n : NodeId) → HasOwnPage caches.old n → HasOwnPage caches.new n }
     ensures pinned { store.new.frames.pinned ≡ store.old.frames.pinned }
     ensures page { store.new.frames.page ≡ store.old.frames.page }
@@ -107,11 +108,11 @@ fn write_all<M: Mapper, C: Chooser>(
     mapper: &mut M,
     chooser: &mut C,
 ) -> Result<(), Miss>
-    requires right { IsStoreRight (world (M.held mapper.old) (M.page_bytes mapper.old) caches.old store.old) }
+    requires right { RightStore M.held M.page_bytes mapper.old caches.old store.old }
     requires nodes { All (λ n. HasOwnPage caches.old n) nodes.now }
     requires loose { HasUnpinned store.old.frames }
     requires page { 1 ≤ store.old.frames.page }
-    ensures right { IsStoreRight (world (M.held mapper.new) (M.page_bytes mapper.new) caches.new store.new) }
+    ensures right { RightStore M.held M.page_bytes mapper.new caches.new store.new }
     ensures ready { (n : NodeId) → HasOwnPage caches.old n → HasOwnPage caches.new n }
     ensures pinned { store.new.frames.pinned ≡ store.old.frames.pinned }
     ensures page { store.new.frames.page ≡ store.old.frames.page }
@@ -133,7 +134,7 @@ fn read_all<M: Mapper, C: Chooser>(
     mapper: &mut M,
     chooser: &mut C,
 ) -> Result<(), Miss>
-    requires right { IsStoreRight (world (M.held mapper.old) (M.page_bytes mapper.old) caches.old store.old) }
+    requires right { RightStore M.held M.page_bytes mapper.old caches.old store.old }
     requires nodes { All (λ n. HasOwnPage caches.old n) nodes.now }
     requires loose { HasUnpinned store.old.frames }
     requires page { 1 ≤ store.old.frames.page }

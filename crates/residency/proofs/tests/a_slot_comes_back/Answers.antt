@@ -11,11 +11,11 @@ pub own_state-requires : goal.own_state-requires
 own_state-requires g c =
     let some : 0 < length c.in_ok-store.nodes.items = omega (arith, c.in_ok-store.nodes.ok.0) in
     let first : HasOwnPage c.in_ok-store.caches c.index-node.result.now = subst (λ (n : NodeId). HasOwnPage c.in_ok-store.caches n) (sym c.index-node.ensures) (All-get_or (λ (n : NodeId). HasOwnPage c.in_ok-store.caches n) c.in_ok-store.nodes.items 0 c.index-node.result.now some c.in_ok-store.ensures.ready) in
-    held_stays c.bring_in.new.caches c.evict.new.caches c.evict.ensures.still.caches c.index-node.result.now (held_stays c.in_ok-store.caches c.bring_in.new.caches c.bring_in.ensures.still.caches c.index-node.result.now first.node)
+    held_stays c.bring_in.new.caches c.evict.new.caches c.evict.ensures.still.stays.caches c.index-node.result.now (held_stays c.in_ok-store.caches c.bring_in.new.caches c.bring_in.ensures.still.stays.caches c.index-node.result.now first.node)
 
 pub give_back_slot-requires : goal.give_back_slot-requires
 give_back_slot-requires g c =
     let some : 0 < length c.in_ok-store.nodes.items = omega (arith, c.in_ok-store.nodes.ok.0) in
     let first : HasOwnPage c.in_ok-store.caches c.index-node.result.now = subst (λ (n : NodeId). HasOwnPage c.in_ok-store.caches n) (sym c.index-node.ensures) (All-get_or (λ (n : NodeId). HasOwnPage c.in_ok-store.caches n) c.in_ok-store.nodes.items 0 c.index-node.result.now some c.in_ok-store.ensures.ready) in
-    let there : IsHeld c.evict.new.caches c.index-node.result.now = held_stays c.bring_in.new.caches c.evict.new.caches c.evict.ensures.still.caches c.index-node.result.now (held_stays c.in_ok-store.caches c.bring_in.new.caches c.bring_in.ensures.still.caches c.index-node.result.now first.node) in
-    slot_is_held _ c.index-node.result.now c.in-Slot.slot c.evict.ensures.still.right there (sym c.own_state.ensures ∙ c.in-Slot.is)
+    let there : IsHeld c.evict.new.caches c.index-node.result.now = held_stays c.bring_in.new.caches c.evict.new.caches c.evict.ensures.still.stays.caches c.index-node.result.now (held_stays c.in_ok-store.caches c.bring_in.new.caches c.bring_in.ensures.still.stays.caches c.index-node.result.now first.node) in
+    slot_is_held _ c.index-node.result.now c.in-Slot.slot c.evict.ensures.still.stays.right there (sym c.own_state.ensures ∙ c.in-Slot.is)

@@ -3,10 +3,9 @@ use Rattle.std.specs.Prelude.{option_map}
 use Rattle.vm_ids.specs.Held.{with_slot}
 use Rattle.vm_ids.specs.declared.numbers.NodeId.{NodeId}
 use Rattle.vm_ids.proofs.Places.{back}
-use Rattle.local_cache.specs.Arena.{Arena}
 use Rattle.residency.specs.World.{World, OthersStay, Still, evicted, world}
 use Rattle.residency.proofs.Homes.{IsHome, home_of_held, room, world_is}
-use Rattle.residency.proofs.Evicted.{evicted_still, evicted_others, still}
+use Rattle.residency.proofs.Evicted.{eviction_others, eviction_still, others_same, still}
 use Rattle.residency.proofs.store.Store.evict.Goals as goal
 
 pub take-slot-requires : goal.take-slot-requires
@@ -29,6 +28,7 @@ returns-in-Ok-clause-evicted g c =
       node = n;
       slot = c.take-slot.result;
       was = h.node;
+      within = c.take-slot.ensures.below;
       free = c.take-slot.ensures.fresh;
       is = world_is _ (evicted w f n c.take-slot.result)
           (c.in-Ok.ensures.ok ∙ ap (λ (b : List ℕ). option_map (with_slot c.take-slot.result.0 b) (g.M.Mapper.held c.args.mapper.now)) c.bytes.ensures.bytes)
@@ -43,25 +43,12 @@ returns-in-Ok-clause-evicted g c =
 pub returns-in-Ok-clause-still : goal.returns-in-Ok-clause-still
 returns-in-Ok-clause-still g c =
     let w : World = world (g.M.Mapper.held c.args.mapper.now) (g.M.Mapper.page_bytes c.args.mapper.now) c.args.caches.now c.args.self.now in
-    let n : NodeId = c.unwrap-node.result in
-    let f : ℕ = c.args.frame.0 in
-    let h : IsHome w f n = home_of_held w f n c.requires.right c.requires.held (sym c.node_at.ensures ∙ c.unwrap-node.ensures) in
-    let kept : Still w (evicted w f n c.take-slot.result) = evicted_still w f n c.take-slot.result c.requires.right h c.requires.unpinned c.take-slot.ensures.below c.take-slot.ensures.fresh in
-    subst (Still w) (sym (world_is _ (evicted w f n c.take-slot.result)
-    (c.in-Ok.ensures.ok ∙ ap (λ (b : List ℕ). option_map (with_slot c.take-slot.result.0 b) (g.M.Mapper.held c.args.mapper.now)) c.bytes.ensures.bytes)
-    c.swap_out.ensures.page
-    c.set_state.ensures.changed
-    c.give_back.ensures
-    c.take-slot.ensures.held
-    (c.unbind.ensures ∙ ap (λ (k : ℕ). slice_set c.args.self.now.map k None) h.place)
-    refl)) kept
+    eviction_still w _ c.args.frame.0 c.requires.right c.requires.held (returns-in-Ok-clause-evicted g c) c.requires.unpinned
 
 pub returns-in-Ok-clause-others : goal.returns-in-Ok-clause-others
 returns-in-Ok-clause-others g c =
     let w : World = world (g.M.Mapper.held c.args.mapper.now) (g.M.Mapper.page_bytes c.args.mapper.now) c.args.caches.now c.args.self.now in
-    let n : NodeId = c.unwrap-node.result in
-    let h : IsHome w c.args.frame.0 n = home_of_held w c.args.frame.0 n c.requires.right c.requires.held (sym c.node_at.ensures ∙ c.unwrap-node.ensures) in
-    subst (λ (a : Arena). OthersStay c.args.caches.now a) (sym c.set_state.ensures.changed) (evicted_others w c.args.frame.0 n c.take-slot.result h)
+    eviction_others w _ c.args.frame.0 c.requires.right c.requires.held (returns-in-Ok-clause-evicted g c)
 
 pub returns-in-Err-clause-still : goal.returns-in-Err-clause-still
 returns-in-Err-clause-still g c =
@@ -72,3 +59,9 @@ returns-in-Err-clause-still g c =
 pub returns-in-Err-clause-failed : goal.returns-in-Err-clause-failed
 returns-in-Err-clause-failed g c =
     let b = back c.args.self.now.slots c.take-slot.result.0 c.take-slot.ensures.fresh in search rules
+
+pub returns-in-Err-clause-others : goal.returns-in-Err-clause-others
+returns-in-Err-clause-others g c =
+    let w : World = world (g.M.Mapper.held c.args.mapper.now) (g.M.Mapper.page_bytes c.args.mapper.now) c.args.caches.now c.args.self.now in
+    subst (OthersStay w) (sym (world_is _ w c.in-Err.ensures.err c.swap_out.ensures.page refl refl
+    (c.give_back-in-Err.ensures ∙ ap (λ (xs : List Bool). slice_set xs c.take-slot.result.0 false) c.take-slot.ensures.held ∙ back c.args.self.now.slots c.take-slot.result.0 c.take-slot.ensures.fresh) refl refl)) (others_same w)

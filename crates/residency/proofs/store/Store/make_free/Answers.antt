@@ -1,5 +1,7 @@
-use Rattle.std.proofs.Common.{arith, ◌≡◌, ℕ, sym, subst}
+use Rattle.std.proofs.Common.{arith, ◌≡◌, ◌+◌, ℕ, ap, sym, subst}
+use Rattle.frame_pool.specs.Pool.{Frames, held_count}
 use Rattle.residency.specs.Causes.{Made, pushes_for}
+use Rattle.residency.proofs.Arms.{on_ok}
 use Rattle.residency.proofs.Claimed.{pushes_when_full}
 use Rattle.residency.proofs.store.Store.make_free.Goals as goal
 
@@ -13,3 +15,8 @@ returns-in-None-clause-idle g c = λ none. absurd (omega (arith, pushes_when_ful
 
 pub returns-in-None-clause-idle_caches : goal.returns-in-None-clause-idle_caches
 returns-in-None-clause-idle_caches g c = λ none. absurd (omega (arith, pushes_when_full c.args.self.now.frames.held c.in-None.ensures.1, none))
+
+pub returns-in-None-clause-held : goal.returns-in-None-clause-held
+returns-in-None-clause-held g c =
+    let once : pushes_for c.args.self.now.frames.held ≡ 1 = pushes_when_full c.args.self.now.frames.held c.in-None.ensures.1 in
+    on_ok (held_count c.make_room.new.self.frames + pushes_for c.args.self.now.frames.held ≡ held_count c.args.self.now.frames + 1) c.make_room.result (omega (arith, once, c.make_room.ensures.held, ap (λ (p : Frames). held_count p) c.in-None.ensures.0))

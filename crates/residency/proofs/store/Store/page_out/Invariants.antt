@@ -10,7 +10,7 @@ invariant-loop-done g l = record {
   still : Still (world (g.M.Mapper.held l.initial.mapper) (g.M.Mapper.page_bytes l.initial.mapper) l.initial.caches l.initial.self) (world (g.M.Mapper.held l.mapper) (g.M.Mapper.page_bytes l.mapper) l.caches l.self);
   pinned : l.self.frames.pinned ≡ l.initial.self.frames.pinned;
   fewer : held_count l.self.frames + l.done ≡ held_count l.initial.self.frames;
-  others : OthersStay l.initial.caches l.caches;
+  others : OthersStay (world (g.M.Mapper.held l.initial.mapper) (g.M.Mapper.page_bytes l.initial.mapper) l.initial.caches l.initial.self) (world (g.M.Mapper.held l.mapper) (g.M.Mapper.page_bytes l.mapper) l.caches l.self);
   later : Later (g.M.Mapper.counts l.initial.mapper) (g.M.Mapper.counts l.mapper);
   pulls : RoseBy 0 (g.M.Mapper.counts l.initial.mapper).pulls (g.M.Mapper.counts l.mapper).pulls;
   pushes : RoseBy l.done (g.M.Mapper.counts l.initial.mapper).pushes (g.M.Mapper.counts l.mapper).pushes;

@@ -2,17 +2,17 @@ use Rattle.std.proofs.Common.{sym, ap, subst, ◌∙◌, ◌≡◌, ℕ, List, B
 use Rattle.std.proofs.lemmas.List.{get_or-set_same}
 use Rattle.frame_pool.specs.Lending.{refill}
 use Rattle.frame_pool.specs.Pool.{Frames, bytes_of}
-use Rattle.local_cache.specs.Arena.{Arena}
-use Rattle.residency.specs.World.{OthersStayBut, StillBut, World, world}
+use Rattle.residency.specs.World.{OthersStay, OthersStayBut, StillBut, World, world}
 use Rattle.residency.specs.declared.store.Store.{Store}
 use Rattle.residency.proofs.Homes.{world_is}
-use Rattle.residency.proofs.Brought.{brought, brought_others, given_there, given_up, given_up_still, refill_same, slot_brought, slot_is_held}
+use Rattle.residency.proofs.Evicted.{others_but}
+use Rattle.residency.proofs.Brought.{brought, brought_others, given_there, given_up, given_up_others, given_up_still, refill_same, slot_brought, slot_is_held}
 use Rattle.residency.proofs.store.Store.pull_slot.Goals as goal
 
 pub swap_in-requires-clause-there : goal.swap_in-requires-clause-there
 swap_in-requires-clause-there g c =
     let w : World = world (g.M.Mapper.held c.args.mapper.now) (g.M.Mapper.page_bytes c.args.mapper.now) c.args.caches.now c.args.self.now in
-    c.requires.right.there c.args.slot.0 (slot_is_held w c.args.node c.args.slot c.requires.right c.requires.node c.requires.slot)
+    c.requires.right.tied.there c.args.slot.0 (slot_is_held w c.args.node c.args.slot c.requires.right c.requires.node c.requires.slot)
 
 pub give_back-requires : goal.give_back-requires
 give_back-requires g c =
@@ -39,14 +39,28 @@ returns-in-Ok-clause-still g c =
     kept
 
 pub returns-in-Ok-clause-others : goal.returns-in-Ok-clause-others
-returns-in-Ok-clause-others g c = subst (λ (a : Arena). OthersStayBut c.args.node c.args.caches.now a) (sym c.settle_in.ensures.caches) (brought_others c.args.caches.now c.args.node)
+returns-in-Ok-clause-others g c =
+    let w : World = world (g.M.Mapper.held c.args.mapper.now) (g.M.Mapper.page_bytes c.args.mapper.now) c.args.caches.now c.args.self.now in
+    let bytes : List ℕ = c.swap_in.new.into in
+    let full : refill (bytes_of c.args.self.now.frames c.args.frame.0) bytes ≡ bytes = refill_same (bytes_of c.args.self.now.frames c.args.frame.0) bytes (c.swap_in.auto.into ∙ ap (λ (b : List ℕ). length b) c.bytes_mut.ensures.bytes) in
+    let slots : List Bool = set c.args.self.now.slots c.args.slot.0 false in
+    subst (OthersStayBut c.args.node w)
+    (sym (world_is _ (brought w c.args.frame.0 c.args.node slots bytes)
+    c.swap_in.ensures.held
+    c.swap_in.ensures.page
+    c.settle_in.ensures.caches
+    (ap (λ (s : Store). s.frames) c.settle_in.ensures.store ∙ ap (λ (b : List ℕ). (brought w c.args.frame.0 c.args.node slots b).frames) full)
+    (ap (λ (s : Store). s.slots) c.settle_in.ensures.store ∙ c.give_back.ensures)
+    (ap (λ (s : Store). s.map) c.settle_in.ensures.store)
+    (ap (λ (s : Store). length s.marks) c.settle_in.ensures.store)))
+    (brought_others w c.args.frame.0 c.args.node slots bytes (omega (arith, c.requires.taken.within, c.requires.right.tied.map_frames)))
 
 pub returns-in-Ok-clause-page : goal.returns-in-Ok-clause-page
 returns-in-Ok-clause-page g c =
     let bytes : List ℕ = c.swap_in.new.into in
     let full : refill (bytes_of c.args.self.now.frames c.args.frame.0) bytes ≡ bytes = refill_same (bytes_of c.args.self.now.frames c.args.frame.0) bytes (c.swap_in.auto.into ∙ ap (λ (b : List ℕ). length b) c.bytes_mut.ensures.bytes) in
     given_there _ (g.M.Mapper.given c.args.mapper.now) (g.M.Mapper.given c.swap_in.new.self) bytes c.settle_in.new.self.frames c.args.frame.0 c.args.slot c.requires.slot c.in-Ok.ensures.given
-    (ap (λ (s : Store). bytes_of s.frames c.args.frame.0) c.settle_in.ensures.store ∙ get_or-set_same c.args.self.now.frames.bytes c.args.frame.0 _ [] (omega (arith, c.requires.taken.within, c.requires.right.bytes_frames)) ∙ full)
+    (ap (λ (s : Store). bytes_of s.frames c.args.frame.0) c.settle_in.ensures.store ∙ get_or-set_same c.args.self.now.frames.bytes c.args.frame.0 _ [] (omega (arith, c.requires.taken.within, c.requires.right.tied.bytes_frames)) ∙ full)
 
 pub returns-in-Err-clause-still : goal.returns-in-Err-clause-still
 returns-in-Err-clause-still g c =
@@ -58,3 +72,21 @@ returns-in-Err-clause-still g c =
     (c.give_back-in-Err.ensures ∙ ap (λ (p : Frames). record p { held = set p.held c.args.frame.0 false }) c.unpin.ensures)
     refl refl refl))
     kept
+
+pub returns-in-Err-clause-failed : goal.returns-in-Err-clause-failed
+returns-in-Err-clause-failed g c =
+    let w : World = world (g.M.Mapper.held c.args.mapper.now) (g.M.Mapper.page_bytes c.args.mapper.now) c.args.caches.now c.args.self.now in
+    let bytes : List ℕ = refill (bytes_of c.args.self.now.frames c.args.frame.0) c.swap_in.new.into in
+    let up : OthersStay w (given_up w c.args.frame.0 bytes) = given_up_others w c.args.frame.0 bytes c.requires.taken.unbound in
+    subst (OthersStay w) (sym (world_is _ (given_up w c.args.frame.0 bytes) c.swap_in.ensures.held c.swap_in.ensures.page refl
+    (c.give_back-in-Err.ensures ∙ ap (λ (p : Frames). record p { held = set p.held c.args.frame.0 false }) c.unpin.ensures)
+    refl refl refl)) up
+
+pub returns-in-Err-clause-others : goal.returns-in-Err-clause-others
+returns-in-Err-clause-others g c =
+    let w : World = world (g.M.Mapper.held c.args.mapper.now) (g.M.Mapper.page_bytes c.args.mapper.now) c.args.caches.now c.args.self.now in
+    let bytes : List ℕ = refill (bytes_of c.args.self.now.frames c.args.frame.0) c.swap_in.new.into in
+    let up : OthersStay w (given_up w c.args.frame.0 bytes) = given_up_others w c.args.frame.0 bytes c.requires.taken.unbound in
+    subst (OthersStayBut c.args.node w) (sym (world_is _ (given_up w c.args.frame.0 bytes) c.swap_in.ensures.held c.swap_in.ensures.page refl
+    (c.give_back-in-Err.ensures ∙ ap (λ (p : Frames). record p { held = set p.held c.args.frame.0 false }) c.unpin.ensures)
+    refl refl refl)) (others_but c.args.node w _ up)
