@@ -1,0 +1,125 @@
+-- Sums of pulls and pushes, one for each frame that isn't free.
+use Rattle.std.proofs.Common.{◌≡◌, ℕ, ◌+◌, ◌-◌, ◌<◌, ◌≤◌, Bool, true, false, cond, List, [], ◌∷◌, length, refl, arith}
+use Rattle.std.specs.List.{count_by, list_all}
+use Rattle.std.proofs.lemmas.List.Sums.{count_by-le-length}
+use Rattle.vm_ids.specs.Counting.{MapperCounts}
+use Rattle.vm_ids.proofs.Places.{count_cons}
+use Rattle.local_cache.specs.declared.own_state.OwnState.{OwnState}
+use Rattle.local_cache.specs.declared.own_state.OwnState.TheVariants.{Absent, Zero, Resident, Slot, OnSegment}
+use Rattle.local_cache.specs.Own.{is_absent, is_in_slot, is_on_segment, is_resident}
+use Rattle.residency.specs.Causes.{Later, Made, frames_to_bring, pushes_for, pushes_to_bring}
+use Rattle.fault_path.specs.Costs.{MadeAtMost, frames_to_copy, pulls_to_copy}
+
+count_most : (xs : List Bool) → count_by (λ h. h) xs ≤ length xs
+count_most xs = count_by-le-length (λ h. h) xs
+
+all_count : (xs : List Bool) → list_all (λ h. h) xs ≡ true → count_by (λ h. h) xs ≡ length xs
+all_count [] e = refl
+all_count (true ∷ xs) e = omega (arith, all_count xs e, count_cons (λ h. h) true xs)
+all_count (false ∷ xs) e = absurd (cc e)
+
+some_count : (xs : List Bool) → list_all (λ h. h) xs ≡ false → count_by (λ h. h) xs < length xs
+some_count [] e = absurd (cc e)
+some_count (true ∷ xs) e = omega (arith, some_count xs e, count_cons (λ h. h) true xs)
+some_count (false ∷ xs) e = omega (arith, count_most xs, count_cons (λ h. h) false xs)
+
+free_or_not : (xs : List Bool) (b : Bool) → list_all (λ h. h) xs ≡ b → cond {A = ℕ} b 1 0 ≡ 1 - (length xs - count_by (λ h. h) xs)
+free_or_not xs true e = omega (arith, all_count xs e)
+free_or_not xs false e = omega (arith, some_count xs e)
+
+-- a push for the one frame, unless one is free
+pub pushes_free : (held : List Bool) → pushes_for held ≡ 1 - (length held - count_by (λ h. h) held)
+pushes_free held = free_or_not held (list_all (λ h. h) held) refl
+
+bring_by : (b : Bool) (held : List Bool) → cond {A = ℕ} b 0 (pushes_for held) ≡ cond {A = ℕ} b 0 1 - (length held - count_by (λ h. h) held)
+bring_by true held = omega arith
+bring_by false held = pushes_free held
+
+pub pushes_bring : (own : OwnState) (held : List Bool) → pushes_to_bring own held ≡ frames_to_bring own - (length held - count_by (λ h. h) held)
+pushes_bring own held = bring_by (is_resident own) held
+
+-- so many are held after frames were taken for k
+abbrev pub Taken : ℕ → List Bool → List Bool → Type 0
+Taken k before now = count_by (λ h. h) now + (k - (length before - count_by (λ h. h) before)) ≡ count_by (λ h. h) before + k
+
+pub taken_to_bring : (own : OwnState) (before now : List Bool) → count_by (λ h. h) now + pushes_to_bring own before ≡ count_by (λ h. h) before + frames_to_bring own → Taken (frames_to_bring own) before now
+taken_to_bring own before now e = omega (arith, pushes_bring own before)
+
+-- and then one more is taken
+pub pushes_then : (k : ℕ) (before now : List Bool) → length now ≡ length before → Taken k before now
+    → (k - (length before - count_by (λ h. h) before)) + (1 - (length now - count_by (λ h. h) now)) ≡ k + 1 - (length before - count_by (λ h. h) before)
+pushes_then k before now same e = omega (arith, count_most before, count_most now)
+
+pub taken_then : (k : ℕ) (before now after : List Bool) → length now ≡ length before → Taken k before now → count_by (λ h. h) after + pushes_for now ≡ count_by (λ h. h) now + 1 → Taken (k + 1) before after
+taken_then k before now after same e f = omega (arith, count_most before, count_most now, pushes_free now)
+
+pub made_then : (p q r s pulls pushes : ℕ) (a b c : MapperCounts) → Made p q a b → Made r s b c → Later b c → p + r ≡ pulls → q + s ≡ pushes → Made pulls pushes a c
+made_then p q r s pulls pushes a b c one two later e f = record {
+  pulled = λ low. (let first : b.pulls ≡ a.pulls + p = one.pulled (omega (arith, later.pulls, low)) in let second : c.pulls ≡ b.pulls + r = two.pulled low in omega arith);
+  pushed = λ low. (let first : b.pushes ≡ a.pushes + q = one.pushed (omega (arith, later.pushes, low)) in let second : c.pushes ≡ b.pushes + s = two.pushed low in omega arith);
+}
+
+-- frames for k, and then one more
+pub made_more : (k p : ℕ) (before now : List Bool) (a b c : MapperCounts) → length now ≡ length before → Taken k before now → Made p (k - (length before - count_by (λ h. h) before)) a b → Made 0 (pushes_for now) b c → Later b c
+    → Made p (k + 1 - (length before - count_by (λ h. h) before)) a c
+made_more k p before now a b c same taken one two later =
+    made_then p (k - (length before - count_by (λ h. h) before)) 0 (pushes_for now) p (k + 1 - (length before - count_by (λ h. h) before)) a b c one two later (omega arith) (omega (arith, pushes_then k before now same taken, pushes_free now))
+
+pub made_is : (p q pulls pushes : ℕ) (a b : MapperCounts) → Made p q a b → p ≡ pulls → q ≡ pushes → Made pulls pushes a b
+made_is p q pulls pushes a b made e f = record {
+  pulled = λ low. (let it : b.pulls ≡ a.pulls + p = made.pulled low in omega arith);
+  pushed = λ low. (let it : b.pushes ≡ a.pushes + q = made.pushed low in omega arith);
+}
+
+pub most_then : (p q r s pulls pushes : ℕ) (a b c : MapperCounts) → Made p q a b → MadeAtMost r s b c → Later b c → p + r ≤ pulls → q + s ≤ pushes → MadeAtMost pulls pushes a c
+most_then p q r s pulls pushes a b c one two later e f = record {
+  pulled = λ low. (let first : b.pulls ≡ a.pulls + p = one.pulled (omega (arith, later.pulls, low)) in let second : c.pulls ≤ b.pulls + r = two.pulled low in omega arith);
+  pushed = λ low. (let first : b.pushes ≡ a.pushes + q = one.pushed (omega (arith, later.pushes, low)) in let second : c.pushes ≤ b.pushes + s = two.pushed low in omega arith);
+}
+
+pub made_most : (p q pulls pushes : ℕ) (a b : MapperCounts) → Made p q a b → p ≤ pulls → q ≤ pushes → MadeAtMost pulls pushes a b
+made_most p q pulls pushes a b made e f = record {
+  pulled = λ low. (let it : b.pulls ≡ a.pulls + p = made.pulled low in omega arith);
+  pushed = λ low. (let it : b.pushes ≡ a.pushes + q = made.pushed low in omega arith);
+}
+
+pub most_more : (p q pulls pushes : ℕ) (a b : MapperCounts) → MadeAtMost p q a b → p ≤ pulls → q ≤ pushes → MadeAtMost pulls pushes a b
+most_more p q pulls pushes a b made e f = record {
+  pulled = λ low. (let it : b.pulls ≤ a.pulls + p = made.pulled low in omega arith);
+  pushed = λ low. (let it : b.pushes ≤ a.pushes + q = made.pushed low in omega arith);
+}
+
+-- a pull fails or was not tried
+pub pulls_most : (b : Bool) (own : OwnState) → cond {A = ℕ} b 0 (cond {A = ℕ} (is_in_slot own) 1 0) ≤ pulls_to_copy own
+pulls_most true own = omega arith
+pulls_most false own = omega arith
+
+by_most : (b : Bool) → (cond {A = ℕ} b 1 0 ≤ 1) × (cond {A = ℕ} b 2 1 ≤ 2)
+by_most true = (omega arith, omega arith)
+by_most false = (omega arith, omega arith)
+
+pub copy_most : (own : OwnState) → (pulls_to_copy own ≤ 1) × (frames_to_copy own ≤ 2)
+copy_most own = by_most (is_in_slot own)
+
+-- what is in a frame or in a slot is brought in and copied
+pub bring_copies : (own : OwnState) → is_absent own ≡ false → (own ≡ Zero → ⊥) → is_on_segment own ≡ false → frames_to_bring own + 1 ≡ frames_to_copy own
+bring_copies Absent some zero out = absurd (cc some)
+bring_copies Zero some zero out = absurd (zero refl)
+bring_copies (Resident d) some zero out = refl
+bring_copies (Slot s) some zero out = refl
+bring_copies OnSegment some zero out = absurd (cc out)
+
+-- a resident page is copied to one frame
+pub resident_copies : (own : OwnState) → is_resident own ≡ true → (pulls_to_copy own ≡ 0) × (frames_to_copy own ≡ 1)
+resident_copies Absent e = absurd (cc e)
+resident_copies Zero e = absurd (cc e)
+resident_copies (Resident d) e = (refl, refl)
+resident_copies (Slot s) e = absurd (cc e)
+resident_copies OnSegment e = absurd (cc e)
+
+bring_by_most : (b : Bool) → cond {A = ℕ} b 0 1 ≤ 1
+bring_by_most true = omega arith
+bring_by_most false = omega arith
+
+pub bring_most : (own : OwnState) → frames_to_bring own ≤ 1
+bring_most own = bring_by_most (is_resident own)

@@ -1,0 +1,14 @@
+pub mod Costs
+pub mod DirtyPage
+pub mod ForestSize
+pub mod FoundPage
+pub mod GatheredFrames
+pub mod Heirs
+pub mod Kept
+pub mod OneFrame
+pub mod OneFrameForest
+pub mod OwnPage
+pub mod OwningRules
+pub mod ReadyForest
+pub mod SettledFrame
+pub mod TwoFrames

@@ -1,0 +1,4 @@
+pub mod Costs
+pub mod Faults
+pub mod Gathering
+pub mod Giving
