@@ -1,0 +1,207 @@
+-- The store is right and each page is still, once what was released was followed.
+use Rattle.std.proofs.Common.{◌≡◌, ◌≢◌, ℕ, ◌+◌, ◌<◌, ◌≤◌, ◌==◌, ◌||◌, Bool, true, false, List, length, get_or, set, Option, Some, None, is_some, unwrap_or, refl, sym, ap, ◌∙◌, arith, inl, inr, length-set}
+use Rattle.std.specs.Prelude.{option_map, option_and_then}
+use Rattle.std.specs.List.{count_by}
+use Rattle.std.proofs.lemmas.Bool.{cases_eq}
+use Rattle.std.proofs.lemmas.List.{get_or-set_same, get_or-set_other}
+use Rattle.std.proofs.lemmas.List.Folds.{position_or_len-set}
+use Rattle.std.proofs.lemmas.List.Sums.{passes_at_first}
+use Rattle.vm_ids.specs.Held.{slot_of}
+use Rattle.vm_ids.specs.declared.numbers.NodeId.{NodeId}
+use Rattle.vm_ids.proofs.Places.{bit, bit_false, bit_true, count-set, only_place, other_number, same_number, some_place}
+use Rattle.frame_pool.specs.Pool.{bytes_of, is_pinned}
+use Rattle.global_map.specs.Pairs.{bound_times, frame_of, is_node}
+use Rattle.local_cache.specs.declared.own_state.OwnState.{OwnState}
+use Rattle.local_cache.specs.declared.own_state.OwnState.TheVariants.{Absent, Zero, Resident, Slot, OnSegment}
+use Rattle.local_cache.specs.Arena.{Arena, Cell, IsHeld, blank, cell, find, with_own}
+use Rattle.local_cache.specs.Own.{is_in_slot, is_on_segment, is_resident, is_slot, own_of, own_states}
+use Rattle.local_cache.proofs.Changes.{like-put}
+use Rattle.local_cache.proofs.States.{id_apart, id_cases, own_count, own_length, own_other, own_same}
+use Rattle.residency.specs.World.{IsTied, World, frame_page, is_bound, own_page, page_by, zero_page}
+use Rattle.residency.proofs.Homes.{IsHome}
+use Rattle.tree_merge.specs.Releasing.{Went}
+use Rattle.page_release.proofs.Tied.{home}
+use Rattle.page_release.proofs.Counting.{went_count, went_length}
+
+-- what is not there has no own page
+pub gone_own : (b : Arena) (n : NodeId) → find b n ≡ None → own_of b n ≡ Absent
+unfolding cell
+gone_own b n e = ap (λ (o : Option Cell). (unwrap_or o blank).own) e
+
+-- which node stands in a place
+number : (k n : NodeId) → (k.0 == n.0) ≡ true → k ≡ n
+number k n e = elim (id_cases k n) [ inl q ↦ q | inr d ↦ absurd (let t : (k.0 == n.0) ≡ false = other_number k.0 n.0 (λ q. id_apart k n d q) in cc) ]
+
+pub node_is : (n : NodeId) (o : Option NodeId) → is_node n.0 o ≡ true → o ≡ Some n
+node_is n None e = absurd (cc e)
+node_is n (Some k) e = ap Some (number k n e)
+
+-- a resident node stands at its frame
+pub resident_home : (w : World) (n : NodeId) → IsTied w → is_resident (own_of w.caches n) ≡ true → IsHome w (frame_of w.map n.0) n
+resident_home w n right resident =
+    let some : 1 ≤ bound_times w.map n.0 = omega (arith, right.bound n, bit_true (is_resident (own_of w.caches n)) resident) in
+    let within : frame_of w.map n.0 < length w.map = some_place (is_node n.0) w.map some in
+    let here : is_node n.0 (get_or w.map (frame_of w.map n.0) None) ≡ true = passes_at_first (is_node n.0) w.map None (some_place (is_node n.0) w.map some) in
+    home w (frame_of w.map n.0) n right within (node_is n (get_or w.map (frame_of w.map n.0) None) here)
+
+-- The page of `from`, which went, is that of `to`, which had none.
+module _ (w : World) (b : Arena) (from to : NodeId) (right : IsTied w) (went : Went w.caches b from) (ne : from ≢ to) (there : IsHeld w.caches to) (absent : own_of w.caches to ≡ Absent)
+    (moved : own_of b to ≡ own_of w.caches from) (others : (m : NodeId) → m ≢ from → m ≢ to → own_of b m ≡ own_of w.caches m) where
+  abbrev a1 : Arena
+  a1 = with_own w.caches to (own_of w.caches from)
+
+  went1 : Went (with_own w.caches to (own_of w.caches from)) b from
+  went1 =
+      let like = like-put w.caches to (record (cell w.caches to) { own = own_of w.caches from }) there refl in
+      record { was = like.held from ∙ went.was; gone = went.gone; held = λ m d. went.held m d ∙ sym (like.held m) }
+
+  owns1 : (m : NodeId) → m ≢ from → own_of b m ≡ own_of (with_own w.caches to (own_of w.caches from)) m
+  owns1 m d = elim (id_cases m to) [
+    | inl e ↦ ap (own_of b) e ∙ moved ∙ sym (ap (own_of a1) e ∙ own_same w.caches to (own_of w.caches from))
+    | inr other ↦ others m d other ∙ sym (own_other w.caches to m (own_of w.caches from) other)
+  ]
+
+  -- as many nodes have each kind of own state as had it
+  pub moved_count : (p : OwnState → Bool) → p Absent ≡ false → count_by p (own_states b) ≡ count_by p (own_states w.caches)
+  moved_count p out =
+      let first : count_by p (own_states a1) ≡ bit (p (own_of a1 from)) + count_by p (own_states b) = went_count p a1 b from went1 owns1 in
+      let second : count_by p (own_states a1) + bit (p (own_of w.caches to)) ≡ count_by p (own_states w.caches) + bit (p (own_of w.caches from)) = own_count p w.caches to (own_of w.caches from) there in
+      let same : bit (p (own_of a1 from)) ≡ bit (p (own_of w.caches from)) = ap (λ (x : OwnState). bit (p x)) (own_other w.caches to from (own_of w.caches from) ne) in
+      let none : bit (p (own_of w.caches to)) ≡ 0 = ap (λ (x : OwnState). bit (p x)) absent ∙ ap bit out in
+      omega arith
+
+  pub passed_fewer : length (own_states b) ≤ length (own_states w.caches)
+  passed_fewer = omega (arith, went_length a1 b from went1 owns1, own_length w.caches to (own_of w.caches from) there)
+
+  temporary : (m : NodeId) → is_on_segment (own_of b m) ≡ false
+  temporary m = elim (id_cases m from) [
+    | inl e ↦ ap is_on_segment (ap (own_of b) e ∙ gone_own b from went.gone)
+    | inr d ↦ elim (id_cases m to) [
+      | inl e ↦ ap is_on_segment (ap (own_of b) e ∙ moved) ∙ right.temporary from
+      | inr other ↦ ap is_on_segment (others m d other) ∙ right.temporary m
+    ]
+  ]
+
+  -- a page in a frame
+  module _ (resident : is_resident (own_of w.caches from) ≡ true) where
+    abbrev f : ℕ
+    f = frame_of w.map from.0
+
+    at : IsHome w (frame_of w.map from.0) from
+    at = resident_home w from right resident
+
+    abbrev rekeyed : World
+    rekeyed = record w { caches = b; map = set w.map (frame_of w.map from.0) (Some to) }
+
+    none_to : bound_times w.map to.0 ≡ 0
+    none_to = right.bound to ∙ ap (λ (x : OwnState). bit (is_resident x)) absent
+
+    times : (m : NodeId) → bound_times (set w.map (frame_of w.map from.0) (Some to)) m.0 + bit (is_node m.0 (get_or w.map (frame_of w.map from.0) None)) ≡ bound_times w.map m.0 + bit (to.0 == m.0)
+    times m = count-set (is_node m.0) w.map f (Some to) None at.frame
+
+    bound : (m : NodeId) → bound_times (set w.map (frame_of w.map from.0) (Some to)) m.0 ≡ bit (is_resident (own_of b m))
+    bound m = elim (id_cases m from) [
+      | inl e ↦ (
+          let here : is_node m.0 (get_or w.map f None) ≡ true = ap (is_node m.0) at.node ∙ ap (λ (k : NodeId). from.0 == k.0) e ∙ same_number from.0 in
+          let this : (to.0 == m.0) ≡ false = ap (λ (k : NodeId). to.0 == k.0) e ∙ other_number to.0 from.0 (λ q. id_apart from to ne (sym q)) in
+          let once : bound_times w.map m.0 ≡ 1 = ap (λ (k : NodeId). bound_times w.map k.0) e ∙ at.once in
+          let now : bit (is_resident (own_of b m)) ≡ 0 = ap (λ (x : OwnState). bit (is_resident x)) (ap (own_of b) e ∙ gone_own b from went.gone) in
+          omega (arith, times m, bit_true (is_node m.0 (get_or w.map f None)) here, bit_false (to.0 == m.0) this))
+      | inr d ↦ (
+          let here : is_node m.0 (get_or w.map f None) ≡ false = ap (is_node m.0) at.node ∙ other_number from.0 m.0 (λ q. id_apart m from d (sym q)) in
+          elim (id_cases m to) [
+            | inl e ↦ (
+                let this : (to.0 == m.0) ≡ true = ap (λ (k : NodeId). to.0 == k.0) e ∙ same_number to.0 in
+                let was : bound_times w.map m.0 ≡ 0 = ap (λ (k : NodeId). bound_times w.map k.0) e ∙ none_to in
+                let now : bit (is_resident (own_of b m)) ≡ 1 = ap (λ (x : OwnState). bit (is_resident x)) (ap (own_of b) e ∙ moved) ∙ ap bit resident in
+                omega (arith, times m, bit_false (is_node m.0 (get_or w.map f None)) here, bit_true (to.0 == m.0) this))
+            | inr other ↦ (
+                let this : (to.0 == m.0) ≡ false = other_number to.0 m.0 (λ q. id_apart m to other (sym q)) in
+                let now : bit (is_resident (own_of b m)) ≡ bit (is_resident (own_of w.caches m)) = ap (λ (x : OwnState). bit (is_resident x)) (others m d other) in
+                omega (arith, times m, bit_false (is_node m.0 (get_or w.map f None)) here, bit_false (to.0 == m.0) this, right.bound m))
+          ])
+    ]
+
+    pub rekeyed_right : IsTied (record w { caches = b; map = set w.map (frame_of w.map from.0) (Some to) })
+    rekeyed_right = record {
+      bound = bound;
+      held = λ g. right.held g ∙ ap (λ (t : Bool). t || is_pinned w.frames g) (elim (cases_eq g f) [
+        | inl e ↦ ap (λ (k : ℕ). is_bound w k) e ∙ ap is_some at.node ∙ sym (ap (λ (k : ℕ). is_some (get_or (set w.map f (Some to)) k None)) e ∙ ap is_some (get_or-set_same w.map f (Some to) None at.frame))
+        | inr d ↦ ap is_some (sym (get_or-set_other w.map f g (Some to) None d))
+      ]);
+      slots = λ s. moved_count (is_slot s) refl ∙ right.slots s;
+      in_slots = right.in_slots ∙ sym (moved_count is_in_slot refl);
+      there = right.there;
+      temporary = temporary;
+      map_frames = length-set w.map f (Some to) ∙ right.map_frames;
+      bytes_frames = right.bytes_frames;
+      pinned_frames = right.pinned_frames;
+      marks_frames = right.marks_frames;
+      few = right.few;
+      page = right.page;
+    }
+
+    -- the page goes with it, and every other one stays
+    place_to : frame_of (set w.map (frame_of w.map from.0) (Some to)) to.0 ≡ frame_of w.map from.0
+    place_to = only_place (is_node to.0) (set w.map f (Some to)) f None (bound to ∙ ap (λ (x : OwnState). bit (is_resident x)) moved ∙ ap bit resident) (omega (arith, length-set w.map f (Some to), at.frame))
+        (ap (is_node to.0) (get_or-set_same w.map f (Some to) None at.frame) ∙ same_number to.0)
+
+    page_by_state : (z k : Option (List ℕ)) (s : ℕ → Option (List ℕ)) (g : Option (List ℕ)) (x : OwnState) → is_resident x ≡ true → page_by z k s g x ≡ Some k
+    page_by_state z k f g Absent e = absurd (cc e)
+    page_by_state z k f g Zero e = absurd (cc e)
+    page_by_state z k f g (Resident d) e = refl
+    page_by_state z k f g (Slot s) e = absurd (cc e)
+    page_by_state z k f g OnSegment e = absurd (cc e)
+
+    pub rekeyed_to : own_page (record w { caches = b; map = set w.map (frame_of w.map from.0) (Some to) }) to ≡ own_page w from
+    rekeyed_to = page_by_state (option_map (λ _. zero_page w) w.told) (option_map (λ _. bytes_of w.frames (frame_of (set w.map f (Some to)) to.0)) w.told) (λ k. option_and_then (λ h. slot_of h k) w.told) None (own_of b to) (ap is_resident moved ∙ resident) ∙ ap (λ (k : ℕ). Some (option_map (λ _. bytes_of w.frames k) w.told)) place_to ∙ sym (page_by_state (option_map (λ _. zero_page w) w.told) (option_map (λ _. frame_page w from) w.told) (λ k. option_and_then (λ h. slot_of h k) w.told) None (own_of w.caches from) resident)
+
+    page_same : (m : NodeId) (x : OwnState) → m ≢ from → m ≢ to
+        → page_by (option_map (λ _. zero_page w) w.told) (option_map (λ _. bytes_of w.frames (frame_of (set w.map (frame_of w.map from.0) (Some to)) m.0)) w.told) (λ k. option_and_then (λ h. slot_of h k) w.told) None x
+        ≡ page_by (option_map (λ _. zero_page w) w.told) (option_map (λ _. frame_page w m) w.told) (λ k. option_and_then (λ h. slot_of h k) w.told) None x
+    page_same m Absent d e = refl
+    page_same m Zero d e = refl
+    page_same m (Slot k) d e = refl
+    page_same m OnSegment d e = refl
+    page_same m (Resident t) d e = ap (λ (k : ℕ). Some (option_map (λ _. bytes_of w.frames k) w.told))
+        (position_or_len-set (is_node m.0) w.map f (Some to) None (other_number to.0 m.0 (λ q. id_apart m to e (sym q)) ∙ sym (ap (is_node m.0) at.node ∙ other_number from.0 m.0 (λ q. id_apart m from d (sym q)))))
+
+    pub rekeyed_other : (m : NodeId) → m ≢ from → m ≢ to → own_page (record w { caches = b; map = set w.map (frame_of w.map from.0) (Some to) }) m ≡ own_page w m
+    rekeyed_other m d e = ap (page_by (option_map (λ _. zero_page w) w.told) (option_map (λ _. bytes_of w.frames (frame_of (set w.map f (Some to)) m.0)) w.told) (λ k. option_and_then (λ h. slot_of h k) w.told) None) (others m d e) ∙ page_same m (own_of w.caches m) d e
+
+  -- a page in no frame
+  module _ (away : is_resident (own_of w.caches from) ≡ false) where
+    pub moved_right : IsTied (record w { caches = b })
+    moved_right = record {
+      bound = λ m. right.bound m ∙ elim (id_cases m from) [
+        | inl e ↦ ap (λ (k : NodeId). bit (is_resident (own_of w.caches k))) e ∙ ap bit away ∙ sym (ap (λ (x : OwnState). bit (is_resident x)) (ap (own_of b) e ∙ gone_own b from went.gone))
+        | inr d ↦ elim (id_cases m to) [
+          | inl e ↦ ap (λ (k : NodeId). bit (is_resident (own_of w.caches k))) e ∙ ap (λ (x : OwnState). bit (is_resident x)) absent ∙ sym (ap (λ (x : OwnState). bit (is_resident x)) (ap (own_of b) e ∙ moved) ∙ ap bit away)
+          | inr other ↦ ap (λ (x : OwnState). bit (is_resident x)) (sym (others m d other))
+        ]
+      ];
+      held = right.held;
+      slots = λ s. moved_count (is_slot s) refl ∙ right.slots s;
+      in_slots = right.in_slots ∙ sym (moved_count is_in_slot refl);
+      there = right.there;
+      temporary = temporary;
+      map_frames = right.map_frames;
+      bytes_frames = right.bytes_frames;
+      pinned_frames = right.pinned_frames;
+      marks_frames = right.marks_frames;
+      few = right.few;
+      page = right.page;
+    }
+
+    away_page : (z k l : Option (List ℕ)) (s : ℕ → Option (List ℕ)) (g : Option (List ℕ)) (x : OwnState) → is_resident x ≡ false → page_by z k s g x ≡ page_by z l s g x
+    away_page z k l f g Absent e = refl
+    away_page z k l f g Zero e = refl
+    away_page z k l f g (Resident d) e = absurd (cc e)
+    away_page z k l f g (Slot s) e = refl
+    away_page z k l f g OnSegment e = refl
+
+    pub moved_to : own_page (record w { caches = b }) to ≡ own_page w from
+    moved_to = ap (page_by (option_map (λ _. zero_page w) w.told) (option_map (λ _. frame_page w to) w.told) (λ k. option_and_then (λ h. slot_of h k) w.told) None) moved ∙ away_page (option_map (λ _. zero_page w) w.told) (option_map (λ _. frame_page w to) w.told) (option_map (λ _. frame_page w from) w.told) (λ k. option_and_then (λ h. slot_of h k) w.told) None (own_of w.caches from) away
+
+    pub moved_other : (m : NodeId) → m ≢ from → m ≢ to → own_page (record w { caches = b }) m ≡ own_page w m
+    moved_other m d e = ap (page_by (option_map (λ _. zero_page w) w.told) (option_map (λ _. frame_page w m) w.told) (λ k. option_and_then (λ h. slot_of h k) w.told) None) (others m d e)

@@ -1,0 +1,196 @@
+-- Links were changed, and maybe a working node without a page was made: the store is as it was.
+use Rattle.std.proofs.Common.{◌≡◌, ◌≢◌, ◌+◌, ◌<◌, ◌⊎◌, Bool, true, false, length, Option, Some, None, is_some, unwrap_or, refl, sym, ap, ◌∙◌, subst, arith, inl, inr}
+use Rattle.std.specs.List.{count_by}
+use Rattle.std.specs.Prelude.{option_map, option_and_then}
+use Rattle.std.proofs.lemmas.Bool.{false≢true}
+use Rattle.vm_ids.specs.Held.{slot_of}
+use Rattle.vm_ids.specs.declared.node_name.NodeName.{NodeName}
+use Rattle.vm_ids.specs.declared.node_name.NodeName.TheVariants.{Working}
+use Rattle.vm_ids.specs.declared.numbers.NodeId.{NodeId}
+use Rattle.vm_ids.specs.Forest.NameMap.{contains_key, get}
+use Rattle.vm_ids.specs.Forest.Nodes.{IsNode, Node, childless, node}
+use Rattle.vm_ids.specs.Forest.Nodes.Hang.{Root}
+use Rattle.vm_ids.specs.Forest.Rules.{link, stub}
+use Rattle.vm_ids.proofs.Places.{bit, bit_false, true_below}
+use Rattle.history_tree.specs.Hanging.{IsGrown}
+use Rattle.history_tree.proofs.OtherPages.{link-by}
+use Rattle.history_tree.proofs.OwnPages.{link-own}
+use Rattle.local_cache.specs.declared.own_state.OwnState.{OwnState}
+use Rattle.local_cache.specs.declared.own_state.OwnState.TheVariants.{Absent, Zero, Resident, Slot, OnSegment}
+use Rattle.local_cache.specs.Arena.{Arena, Cell, IsHeld, find}
+use Rattle.local_cache.specs.Changes.{Relinked}
+use Rattle.local_cache.specs.Own.{is_in_slot, is_on_segment, is_resident, is_slot, own_of, own_states}
+use Rattle.local_cache.specs.Reading.{forest_of, name_of, page_of}
+use Rattle.local_cache.specs.ReadingBy.{forest_by}
+use Rattle.local_cache.specs.Sound.{IsSound}
+use Rattle.local_cache.proofs.Reading.{IsNode-forest_of, forest_of-IsNode, node-forest_of}
+use Rattle.local_cache.proofs.Values.{same_own_states}
+use Rattle.page_stubs.proofs.OtherPages.{stub-by}
+use Rattle.residency.specs.declared.store.Store.{Store}
+use Rattle.residency.specs.StoreForest.{store_forest}
+use Rattle.residency.specs.World.{IsTied, World, frame_page, own_page, page_by, world, zero_page}
+use Rattle.residency.proofs.Telling.{tells}
+use Rattle.tree_merge.specs.Releasing.{Went}
+use Rattle.page_release.specs.Steps.{ForAnyMapper, GivesBack, IsStoreTied, PinnedStayNamed}
+use Rattle.page_release.proofs.Counting.{went_count}
+use Rattle.page_release.proofs.Followed.{gone_own}
+use Rattle.page_release.proofs.Tied.{home}
+
+-- each node has its own state, and as many have one of each kind but none
+pub record SameStates (a b : Arena) : Type 0 where
+  pub own : (n : NodeId) → own_of b n ≡ own_of a n
+  pub count : (p : OwnState → Bool) → p Absent ≡ false → count_by p (own_states b) ≡ count_by p (own_states a)
+
+module _ (w : World) (b : Arena) (same : SameStates w.caches b) where
+  states_tied : IsTied w → IsTied (record w { caches = b })
+  states_tied fit = record {
+    bound = λ n. fit.bound n ∙ ap (λ (x : OwnState). bit (is_resident x)) (sym (same.own n));
+    held = fit.held;
+    slots = λ s. same.count (is_slot s) refl ∙ fit.slots s;
+    in_slots = fit.in_slots ∙ sym (same.count is_in_slot refl);
+    there = fit.there;
+    temporary = λ n. ap is_on_segment (same.own n) ∙ fit.temporary n;
+    map_frames = fit.map_frames;
+    bytes_frames = fit.bytes_frames;
+    pinned_frames = fit.pinned_frames;
+    marks_frames = fit.marks_frames;
+    few = fit.few;
+    page = fit.page;
+  }
+
+  pub states_gives : IsTied w → GivesBack w (record w { caches = b })
+  states_gives fit = record {
+    tied = states_tied fit;
+    held = λ f h. h;
+    bytes = refl;
+    pinned = λ f pin. record { pinned = pin; bytes = refl; node = refl };
+    pins = refl;
+    slots = λ k h. h;
+    capacity = refl;
+    frames = refl;
+    page = refl;
+  }
+
+  pub states_page : (m : NodeId) → own_page (record w { caches = b }) m ≡ own_page w m
+  states_page m = ap (page_by (option_map (λ _. zero_page w) w.told) (option_map (λ _. frame_page w m) w.told) (λ k. option_and_then (λ h. slot_of h k) w.told) None) (same.own m)
+
+pub states_back : (s : Store) (a b : Arena) → SameStates a b → ForAnyMapper s a s b GivesBack
+states_back s a b same told size fit = states_gives (world told size a s) b same fit
+
+-- A page that hangs by a stub link --------------------------------------------------------
+module _ (a b : Arena) (links : Relinked a b) where
+  pub relinked_states : SameStates a b
+  relinked_states = record {
+    own = links.own;
+    count = λ p out. ap (λ xs. count_by p xs) (same_own_states a b links.like.held links.own);
+  }
+
+  pub relinked_named : (s : Store) → PinnedStayNamed s a b
+  relinked_named s f n pin at = links.like.name n
+
+  pub stubbed_forest : (s : Store) → IsSound a → (d o : NodeName) → forest_of b ≡ stub (forest_of a) d o → ForAnyMapper s a s b (λ old new. store_forest new ≡ stub (store_forest old) d o)
+  unfolding store_forest
+  stubbed_forest s sound d o forest told size fit =
+      let w = world told size a s in
+      (λ i. forest_by (λ m. states_page w b relinked_states m i) b) ∙ stub-by (own_page w) a b sound.named (tells w) links d o forest
+
+-- A page that hangs by a tree link --------------------------------------------------------
+module _ (a b : Arena) (sound : IsSound a) (after : IsSound b) (grown : IsGrown a b) (d o : NodeName) (forest : forest_of b ≡ link (forest_of a) d o) (few : (y : NodeName) → IsNode (link (forest_of a) d o) y → IsNode (forest_of a) y ⊎ (y ≡ Working (a.made + 1))) where
+  both : (s t : Bool) → (s ≡ true → t ≡ true) → (t ≡ true → s ≡ true) → s ≡ t
+  both true t f g = sym (f refl)
+  both false true f g = g refl
+  both false false f g = refl
+
+  -- a node that is there and isn't the new one was there
+  was_there : (m : NodeId) → IsHeld b m → name_of b m ≢ Working (a.made + 1) → IsHeld a m
+  was_there m h ne = elim (few (name_of b m) (subst (λ g. IsNode g (name_of b m)) forest (IsNode-forest_of b after.named m h))) [
+    | inl old ↦
+        let k = forest_of-IsNode a (name_of b m) old in
+        let one : k.0 ≡ m = after.named.apart k.0 m (grown.held k.0 k.1) h (grown.names k.0 k.1 ∙ k.2) in
+        subst (IsHeld a) one k.1
+    | inr e ↦ absurd (ne e)
+  ]
+
+  none_new : (w : NodeId) → IsHeld b w → name_of b w ≡ Working (a.made + 1) → find a w ≡ None
+  none_new w h e = go (find a w) refl
+    where
+      go : (c : Option Cell) → find a w ≡ c → find a w ≡ None
+      go None q = q
+      go (Some c) q =
+          let there : IsHeld a w = ap is_some q in
+          absurd (let low = sound.named.counted w (a.made + 1) there (sym (grown.names w there) ∙ e) in omega arith)
+
+  absent_of : (x : OwnState) → page_of x ≡ None → x ≡ Absent
+  absent_of Absent e = refl
+  absent_of Zero e = absurd (cc e)
+  absent_of (Resident t) e = absurd (cc e)
+  absent_of (Slot k) e = absurd (cc e)
+  absent_of OnSegment e = absurd (cc e)
+
+  not_there : (x : NodeName) → (IsNode (forest_of a) x → ⊥) → (node (forest_of a) x).own ≡ None
+  unfolding node
+  not_there x none = go (get (forest_of a).nodes x) refl
+    where
+      go : (o : Option (Node OwnState)) → get (forest_of a).nodes x ≡ o → (unwrap_or (get (forest_of a).nodes x) (childless None Root)).own ≡ None
+      go None e = ap (λ (o : Option (Node OwnState)). (unwrap_or o (childless None Root)).own) e
+      go (Some n) e = absurd (none (ap is_some e))
+
+  unnamed : IsNode (forest_of a) (Working (a.made + 1)) → ⊥
+  unnamed is = let k = forest_of-IsNode a (Working (a.made + 1)) is in let low = sound.named.counted k.0 (a.made + 1) k.1 k.2 in absurd (omega (arith, low))
+
+  new_absent : (m : NodeId) → IsHeld b m → name_of b m ≡ Working (a.made + 1) → own_of b m ≡ Absent
+  new_absent m h e = absent_of (own_of b m) (
+      sym (ap (λ k. k.own) (node-forest_of b after.named m h)) ∙ ap (λ f. (node f (name_of b m)).own) forest ∙ link-own (forest_of a) d o (name_of b m)
+      ∙ ap (λ y. (node (forest_of a) y).own) e ∙ not_there (Working (a.made + 1)) unnamed)
+
+  none_of : (c : Option Cell) → is_some c ≡ false → c ≡ None
+  none_of None e = refl
+  none_of (Some c) e = absurd (cc e)
+
+  grown_own : (m : NodeId) → own_of b m ≡ own_of a m
+  grown_own m = go (is_some (find a m)) (is_some (find b m)) refl refl
+    where
+      go : (s t : Bool) → is_some (find a m) ≡ s → is_some (find b m) ≡ t → own_of b m ≡ own_of a m
+      go true t p q = grown.own m p
+      go false false p q = gone_own b m (none_of (find b m) q) ∙ sym (gone_own a m (none_of (find a m) p))
+      go false true p q = new_absent m q (new_name m q p) ∙ sym (gone_own a m (none_of (find a m) p))
+        where
+          new_name : (m : NodeId) → IsHeld b m → is_some (find a m) ≡ false → name_of b m ≡ Working (a.made + 1)
+          new_name m h out = elim (few (name_of b m) (subst (λ g. IsNode g (name_of b m)) forest (IsNode-forest_of b after.named m h))) [
+            | inl old ↦
+                let k = forest_of-IsNode a (name_of b m) old in
+                let one : k.0 ≡ m = after.named.apart k.0 m (grown.held k.0 k.1) h (grown.names k.0 k.1 ∙ k.2) in
+                absurd (false≢true (sym out ∙ subst (IsHeld a) one k.1))
+            | inr e ↦ e
+          ]
+
+  grown_count : (p : OwnState → Bool) → p Absent ≡ false → count_by p (own_states b) ≡ count_by p (own_states a)
+  grown_count p out = go (contains_key (forest_of b).nodes (Working (a.made + 1))) refl
+    where
+      go : (t : Bool) → contains_key (forest_of b).nodes (Working (a.made + 1)) ≡ t → count_by p (own_states b) ≡ count_by p (own_states a)
+      go false none = ap (λ xs. count_by p xs) (same_own_states a b
+          (λ m. both (is_some (find b m)) (is_some (find a m)) (λ h. was_there m h (λ e. false≢true (sym none ∙ subst (IsNode (forest_of b)) e (IsNode-forest_of b after.named m h)))) (grown.held m)) grown_own)
+      go true is =
+          let w = forest_of-IsNode b (Working (a.made + 1)) is in
+          let went : Went b a w.0 = record {
+            was = w.1;
+            gone = none_new w.0 w.1 w.2;
+            held = λ m ne. sym (both (is_some (find b m)) (is_some (find a m)) (λ h. was_there m h (λ e. ne (after.named.apart m w.0 h w.1 (e ∙ sym w.2)))) (grown.held m));
+          } in
+          let out_w : p (own_of b w.0) ≡ false = ap p (new_absent w.0 w.1 w.2) ∙ out in
+          omega (arith, went_count p b a w.0 went (λ m ne. sym (grown_own m)), bit_false (p (own_of b w.0)) out_w)
+
+  pub grown_states : SameStates a b
+  grown_states = record { own = grown_own; count = grown_count }
+
+  pub grown_named : (s : Store) → IsStoreTied s a → PinnedStayNamed s a b
+  grown_named s tied f n pin at =
+      let within : f < length s.map = omega (arith, true_below s.frames.pinned f pin, tied.pinned_frames, tied.map_frames) in
+      grown.names n (home (world None None a s) f n tied within at).there
+
+  pub linked_forest : (s : Store) → ForAnyMapper s a s b (λ old new. store_forest new ≡ link (store_forest old) d o)
+  unfolding store_forest
+  linked_forest s told size fit =
+      let w = world told size a s in
+      let v = world told size b s in
+      link-by a b sound.named after.named grown d o forest (own_page w) (own_page v) (tells w) (tells v) (λ n h. states_page w b grown_states n)

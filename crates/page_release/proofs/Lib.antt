@@ -1,0 +1,20 @@
+pub mod Copied
+pub mod Counting
+pub mod Detach
+pub mod Dropped
+pub mod Follow
+pub mod Followed
+pub mod FreshPage
+pub mod Grown
+pub mod Loops
+pub mod Merged
+pub mod MoveOne
+pub mod Ranges
+pub mod Renamed
+pub mod Retiring
+pub mod Sized
+pub mod Stepped
+pub mod StoreShape
+pub mod Tied
+mod Tried
+pub mod Wholly

@@ -1,0 +1,83 @@
+-- A settled store is right where there are twice as many slots as live pages.
+use Rattle.std.proofs.Common.{◌≡◌, ◌+◌, ◌*◌, ◌≤◌, true, filter, List, length, None, sym, ap, ◌∙◌, inl, inr, arith}
+use Rattle.std.proofs.lemmas.Bool.{false≢true}
+use Rattle.std.proofs.lemmas.List.{length-map}
+use Rattle.vm_ids.specs.declared.node_name.NodeName.{NodeName}
+use Rattle.vm_ids.specs.declared.node_name.NodeName.TheVariants.{Live, Working}
+use Rattle.vm_ids.specs.Forest.NameMap.{keys}
+use Rattle.vm_ids.specs.Forest.Nodes.{IsNode, is_live}
+use Rattle.vm_ids.specs.Forest.Reading.{live_count}
+use Rattle.vm_ids.specs.Forest.Shape.{IsBounded}
+use Rattle.vm_ids.proofs.Forest.Agreeing.{subset_le}
+use Rattle.vm_ids.proofs.Forest.Bound.{IsNode-key, Once-keys, key-IsNode, split_length}
+use Rattle.vm_ids.proofs.Forest.NameLists.{Once-filter, filter_in, in_filter}
+use Rattle.local_cache.specs.Arena.{Arena}
+use Rattle.local_cache.specs.Own.{own_states}
+use Rattle.local_cache.specs.Reading.{IsNamed, forest_of}
+use Rattle.local_cache.proofs.Slots.{tied}
+use Rattle.local_cache.specs.declared.own_state.OwnState.{OwnState}
+use Rattle.local_cache.proofs.OwnCount.{states_most}
+use Rattle.local_cache.proofs.Values.{same_own_states}
+use Rattle.residency.specs.declared.store.Store.{Store}
+use Rattle.residency.specs.World.{IsStoreRight, World, world}
+use Rattle.tree_merge.specs.declared.released.Released.{Released}
+use Rattle.tree_merge.specs.declared.released.Released.TheVariants.{Nothing, Dropped, Moved}
+use Rattle.tree_merge.specs.Releasing.{IsReleased}
+use Rattle.local_cache.specs.Whole.{IsWhole, SameCaches}
+use Rattle.local_cache.proofs.Wholes.{node_page}
+use Rattle.page_release.specs.Steps.{ForAnyMapper, GivesBack, IsStoreTied, StaysRight}
+use Rattle.page_release.proofs.Counting.{went_length}
+use Rattle.page_release.proofs.Followed.{passed_fewer}
+use Rattle.page_release.proofs.Tied.{right_of, tied_of}
+
+module _ (a : Arena) (named : IsNamed a) where
+  pub states_bound : IsBounded (forest_of a) → length (own_states a) ≤ 2 * live_count (forest_of a)
+  states_bound bounded =
+      let all = split_length is_live (keys (forest_of a).nodes) in
+      let list = length-map (forest_of a).nodes.list (λ e. e.0) in
+      elim bounded [
+        | inl fewer ↦ omega (arith, states_most a named, all, list, fewer)
+        | inr none ↦ omega (arith, states_most a named, all, list, none.0, none.1)
+      ]
+
+-- a right store that gave back, whose working nodes are bound
+pub right_settled : (old new : World) → GivesBack old new → IsNamed new.caches → IsBounded (forest_of new.caches) → 2 * live_count (forest_of new.caches) ≤ length old.slots → IsStoreRight new
+right_settled old new gives named bounded enough = right_of new gives.tied (omega (arith, states_bound new.caches named bounded, gives.capacity, enough))
+
+-- a store that gave back, where there are no more nodes
+pub right_fewer : (s : Store) (a : Arena) (t : Store) (b : Arena) → ForAnyMapper s a t b GivesBack → length (own_states b) ≤ length (own_states a) → StaysRight s a t b
+right_fewer s a t b back fewer told size right =
+    let gives = back told size (tied_of (world told size a s) right) in
+    right_of (world told size b t) gives.tied (omega (arith, fewer, right.capacity, gives.capacity))
+
+-- and where there may be one more, and a slot for it
+pub right_more : (s : Store) (a : Arena) (t : Store) (b : Arena) → ForAnyMapper s a t b GivesBack → length (own_states b) ≤ length (own_states a) + 1 → length (own_states a) + 1 ≤ length s.slots → StaysRight s a t b
+right_more s a t b back more enough told size right =
+    let gives = back told size (tied_of (world told size a s) right) in
+    right_of (world told size b t) gives.tied (omega (arith, more, enough, gives.capacity))
+
+-- and where the working nodes are bound
+pub right_bounded : (s : Store) (a : Arena) (t : Store) (b : Arena) → ForAnyMapper s a t b GivesBack → IsNamed b → IsBounded (forest_of b) → 2 * live_count (forest_of b) ≤ length s.slots → StaysRight s a t b
+right_bounded s a t b back named bounded enough told size right =
+    right_settled (world told size a s) (world told size b t) (back told size (tied_of (world told size a s) right)) named bounded enough
+
+-- what was released leaves no more nodes
+pub released_fewer : (s : Store) (a b : Arena) → IsStoreTied s a → (r : Released) → IsReleased a b r → length (own_states b) ≤ length (own_states a)
+released_fewer s a b tied Nothing still = let same = ap (λ (xs : List OwnState). length xs) (same_own_states a b still.held still.own) in omega (arith, same)
+released_fewer s a b tied (Dropped n state) drop = omega (arith, went_length a b n drop.went drop.others)
+released_fewer s a b tied (Moved from to) pass = passed_fewer (world None None a s) b from to tied pass.went pass.apart pass.there pass.absent pass.passed pass.others
+
+-- Caches of the same sizes have as many live pages ------------------------------------------
+live_there : (a b : Arena) → IsWhole a → IsWhole b → SameCaches a b → (x : NodeName) → is_live x ≡ true → IsNode (forest_of a) x → IsNode (forest_of b) x
+live_there a b wa wb same (Live cache page) live is = let n = node_page a wa.sound cache page.0 is in wb.pages cache page.0 n.0 (same.sizes cache.0 ∙ n.1) n.2
+live_there a b wa wb same (Working k) live is = absurd (false≢true live)
+
+live_less : (a b : Arena) → IsWhole a → IsWhole b → SameCaches a b → live_count (forest_of a) ≤ live_count (forest_of b)
+live_less a b wa wb same =
+    let from : List NodeName = keys (forest_of a).nodes in
+    let to : List NodeName = keys (forest_of b).nodes in
+    subset_le (filter is_live from) (filter is_live to) (Once-filter is_live from (Once-keys (forest_of a).nodes.list (forest_of a).nodes.sorted))
+    (λ x i. (let p = in_filter is_live from x i in filter_in is_live to x (IsNode-key (forest_of b) x (live_there a b wa wb same x p.1 (key-IsNode (forest_of a) x p.0))) p.1))
+
+pub same_live : (a b : Arena) → IsWhole a → IsWhole b → SameCaches a b → live_count (forest_of b) ≡ live_count (forest_of a)
+same_live a b wa wb same = omega (arith, live_less a b wa wb same, live_less b a wb wa (record { made = sym same.made; sizes = λ cache. sym (same.sizes cache); segments = λ cache. sym (same.segments cache) }))

@@ -1,0 +1,85 @@
+use Rattle.std.proofs.Common.{refl, sym, ap, ◌∙◌, ◌-◌, subst, arith}
+use Rattle.vm_ids.specs.Forest.Commands.{page_name, page_names, retire_all}
+use Rattle.vm_ids.specs.Forest.Laws.Commands.{ArePagesOnce}
+use Rattle.vm_ids.specs.Forest.NameMap.{len}
+use Rattle.vm_ids.specs.Forest.Shape.{IsConsistent}
+use Rattle.vm_ids.proofs.Forest.Pages.{retire-consistent}
+use Rattle.local_cache.specs.Reading.{forest_of}
+use Rattle.local_cache.proofs.Changes.{forest_of-made}
+use Rattle.residency.specs.StoreForest.{store_forest}
+use Rattle.residency.specs.World.{world}
+use Rattle.vm_ids.proofs.Forest.Made.{retire-made}
+use Rattle.vm_ids.proofs.Forest.Lengths.{retire_len}
+use Rattle.vm_ids.proofs.Forest.CachePages.{names_start, page_now, pages_by, retired_by}
+use Rattle.local_cache.proofs.Wholes.{pages_once}
+use Rattle.local_cache.proofs.Wholes.{page_there}
+use Rattle.local_cache.proofs.Sizes.{sizes_same, sizes_then}
+use Rattle.page_release.proofs.StoreShape.{store_consistent, store_pages}
+use Rattle.page_release.proofs.Detach.{back_then, named_then}
+use Rattle.page_release.proofs.Loops.{gives_none, unpinned_then}
+use Rattle.page_release.proofs.Sized.{right_fewer}
+use Rattle.page_release.proofs.destroying.retire_pages.Goals as goal
+
+pub loop-page-init : goal.loop-page-init
+loop-page-init c =
+    let a = c.args.caches.now in
+    let all = names_start c.args.cache c.args.pages in
+    record {
+      nodes = ap (λ xs. retire_all xs (forest_of a)) (sym all);
+      forest = λ told size fit. ap (λ xs. retire_all xs (store_forest (world told size a c.args.store.now))) (sym all);
+      back = λ told size fit. gives_none (world told size a c.args.store.now) fit;
+      sound = c.requires.whole.sound;
+      tied = c.requires.tied;
+      pinned = λ f n pin at. refl;
+      unpinned = c.requires.unpinned;
+      consistent = c.requires.whole.consistent;
+      pages = subst (ArePagesOnce (forest_of a)) all (pages_once a c.requires.whole c.args.cache c.args.pages c.requires.pages);
+      sizes = sizes_same a a refl;
+      few = omega arith;
+      made = omega arith;
+      room = omega arith;
+      fewer = omega arith;
+    }
+
+pub retire_page-requires-clause-node : goal.retire_page-requires-clause-node
+retire_page-requires-clause-node c =
+    let i = c.loop-page.invariant in
+    page_there c.loop-page.caches i.sound c.args.cache (record { 0 = c.loop-page.page }) (page_now (forest_of c.loop-page.caches) i.consistent c.args.cache c.args.pages c.loop-page.page c.loop-page-test.true i.pages)
+
+pub loop-page-preserved : goal.loop-page-preserved
+loop-page-preserved c =
+    let i = c.loop-page.invariant in
+    let s = c.args.store.now in
+    let o = c.args.caches.now in
+    let t = c.loop-page.store in
+    let a = c.loop-page.caches in
+    let u = c.retire_page.new.store in
+    let b = c.retire_page.new.caches in
+    let k = c.loop-page.page in
+    let low = c.loop-page-test.true in
+    let x = page_name c.args.cache k in
+    let e = c.retire_page.ensures in
+    let is = page_now (forest_of a) i.consistent c.args.cache c.args.pages k low i.pages in
+    record {
+      nodes = retired_by (forest_of a) i.consistent c.args.cache c.args.pages k low i.pages (forest_of b) e.nodes ∙ i.nodes;
+      forest = λ told size fit.
+          let w = world told size a t in
+          let now = (i.back told size fit).tied in
+          retired_by (store_forest w) (store_consistent w i.sound i.consistent) c.args.cache c.args.pages k low (store_pages w i.sound (page_names c.args.cache k (c.args.pages - k)) i.pages) (store_forest (world told size b u)) (e.forest told size now)
+          ∙ i.forest told size fit;
+      back = back_then s o t a u b i.back e.gives_back;
+      sound = e.sound;
+      tied = e.tied;
+      pinned = named_then s o t a b i.back c.requires.tied i.pinned e.pinned;
+      unpinned = λ page. unpinned_then t a u b (page_name c.args.cache page) i.tied e.gives_back e.pinned (i.unpinned page);
+      consistent = subst IsConsistent (sym e.nodes) (retire-consistent (forest_of a) i.consistent x is refl);
+      pages = pages_by (forest_of a) i.consistent c.args.cache c.args.pages k low i.pages (forest_of b) e.nodes;
+      sizes = sizes_then o a b i.sizes e.sizes;
+      few = omega (arith, i.few, retire_len (forest_of a) i.consistent x is refl, ap (λ g. len g.nodes) e.nodes);
+      made = omega (arith, i.made, retire-made (forest_of a) x, forest_of-made a, forest_of-made b, ap (λ g. g.made) e.nodes);
+      room = omega (arith, i.room, e.room);
+      fewer = omega (arith, i.fewer, e.fewer);
+    }
+
+pub returns-clause-right : goal.returns-clause-right
+returns-clause-right c = right_fewer c.args.store.now c.args.caches.now c.loop-page.store c.loop-page.caches c.loop-page.invariant.back c.loop-page.invariant.fewer

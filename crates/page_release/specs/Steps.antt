@@ -1,0 +1,81 @@
+-- What a step keeps of a store that gives frames and slots back and takes none.
+use Rattle.std.specs.Prelude.{◌≡◌, ◌≢◌, ℕ, Bool, true, false, List, length, Option, Some, None, option_map}
+use Rattle.vm_ids.specs.Held.{Held}
+use Rattle.vm_ids.specs.declared.node_name.NodeName.{NodeName}
+use Rattle.vm_ids.specs.declared.numbers.NodeId.{NodeId}
+use Rattle.vm_ids.specs.declared.node_name.NodeName.TheVariants.{Working}
+use Rattle.frame_pool.specs.Pool.{is_held, is_pinned}
+use Rattle.global_map.specs.Pairs.{node_of}
+use Rattle.local_cache.specs.declared.own_state.OwnState.{OwnState}
+use Rattle.local_cache.specs.declared.own_state.OwnState.TheVariants.{Absent, Zero, Resident, Slot, OnSegment}
+use Rattle.local_cache.specs.Arena.{Arena}
+use Rattle.local_cache.specs.Reading.{name_of}
+use Rattle.residency.specs.declared.store.Store.{Store}
+use Rattle.vm_ids.specs.Forest.Settling.{settle_step}
+use Rattle.tree_merge.specs.declared.released.Released.{Released}
+use Rattle.tree_merge.specs.Releasing.{IsMerged}
+use Rattle.residency.specs.StoreForest.{store_forest}
+use Rattle.residency.specs.World.{IsStoreRight, IsTied, PinnedStays, World, is_slot_held, page_by, world, zero_page}
+
+-- the store is tied to its caches, whatever a mapper holds
+abbrev pub IsStoreTied : Store → Arena → Type 0
+IsStoreTied s a = IsTied (world None None a s)
+
+-- From old to new frames and slots fell free, and none was taken. Each frame has its bytes, and a pinned one its node.
+pub record GivesBack (old new : World) : Type 0 where
+  pub tied : IsTied new
+  pub held : (f : ℕ) → is_held new.frames f ≡ true → is_held old.frames f ≡ true
+  pub bytes : new.frames.bytes ≡ old.frames.bytes
+  pub pinned : (f : ℕ) → is_pinned old.frames f ≡ true → PinnedStays old new f
+  pub pins : new.frames.pinned ≡ old.frames.pinned
+  pub slots : (s : ℕ) → is_slot_held new s ≡ true → is_slot_held old s ≡ true
+  pub capacity : length new.slots ≡ length old.slots
+  pub frames : length new.frames.held ≡ length old.frames.held
+  pub page : new.frames.page ≡ old.frames.page
+
+-- Whatever a mapper holds for which the store was tied to its caches, this holds from before to after.
+abbrev pub ForAnyMapper : Store → Arena → Store → Arena → (World → World → Type 0) → Type 0
+ForAnyMapper s a t b holds = (told : Option Held) (size : Option ℕ) → IsTied (world told size a s)
+    → holds (world told size a s) (world told size b t)
+
+-- no pinned frame is that of the node of this name
+abbrev pub IsUnpinned : Store → Arena → NodeName → Type 0
+IsUnpinned s a x = (f : ℕ) (n : NodeId) → is_pinned s.frames f ≡ true → node_of s.map f ≡ Some n
+    → name_of a n ≢ x
+
+-- no pinned frame is that of a working node
+abbrev pub IsWorkingUnpinned : Store → Arena → Type 0
+IsWorkingUnpinned s a = (k : ℕ) → IsUnpinned s a (Working k)
+
+-- the node of each pinned frame has its name still
+abbrev pub PinnedStayNamed : Store → Arena → Arena → Type 0
+PinnedStayNamed s a b = (f : ℕ) (n : NodeId) → is_pinned s.frames f ≡ true
+    → node_of s.map f ≡ Some n → name_of b n ≡ name_of a n
+
+-- One step of settle was done, in the nodes and in the store.
+pub record IsSettleStep (s : Store) (a : Arena) (t : Store) (b : Arena) : Type 0 where
+  pub released : Released
+  pub merged : IsMerged a b released
+  pub forest : ForAnyMapper s a t b
+      (λ old new. store_forest new ≡ settle_step (store_forest old) (name_of a merged.node))
+
+-- a page that is in no frame, no slot and on no segment: none at all, or zeros
+abbrev pub is_unstored : OwnState → Bool
+is_unstored Absent = true
+is_unstored Zero = true
+is_unstored (Resident dirty) = false
+is_unstored (Slot s) = false
+is_unstored OnSegment = false
+
+-- the own page of a fresh node that has it in no frame and in no slot
+abbrev pub fresh_page : World → OwnState → Option (Option (List ℕ))
+fresh_page w state = page_by (option_map (λ _. zero_page w) w.told) None (λ slot. None) None state
+
+-- a page of zeros, where the mapper tells what pages hold
+abbrev pub zeros_told : World → Option (List ℕ)
+zeros_told w = option_map (λ _. zero_page w) w.told
+
+-- a store that was right is right still, whatever the mapper holds
+abbrev pub StaysRight : Store → Arena → Store → Arena → Type 0
+StaysRight s a t b = (told : Option Held) (size : Option ℕ) → IsStoreRight (world told size a s)
+    → IsStoreRight (world told size b t)

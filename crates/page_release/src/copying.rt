@@ -1,0 +1,147 @@
+// The pages of a copy, and the store follows.
+ghost use Rattle.std.specs.Prelude.{◌≡◌, ℕ, ◌+◌, ◌*◌, ◌<◌, ◌≤◌, ◌^◌, false, leb, length};
+ghost use Rattle.vm_ids.specs.declared.node_name.NodeName.{NodeName};
+ghost use Rattle.vm_ids.specs.Forest.Commands.{copy as rule_copy, copy_pages as rule_copy_pages, firsts, small_copy, span_pairs};
+ghost use Rattle.vm_ids.specs.Forest.NameLists.{◌∈◌};
+ghost use Rattle.vm_ids.specs.Forest.Laws.Commands.{CanCopy};
+ghost use Rattle.vm_ids.specs.Forest.Laws.Linking.{ArePages};
+ghost use Rattle.vm_ids.specs.Forest.Laws.Settling.{IsSettled};
+ghost use Rattle.vm_ids.specs.Forest.NameMap.{len};
+ghost use Rattle.vm_ids.specs.Forest.Nodes.{IsNode};
+ghost use Rattle.vm_ids.specs.Forest.Rules as forest;
+ghost use Rattle.vm_ids.specs.Forest.Shape.{IsBounded, IsConsistent};
+ghost use Rattle.vm_ids.specs.Forest.Reading.{live_count};
+ghost use Rattle.local_cache.specs.Reading.{forest_of};
+ghost use Rattle.local_cache.specs.Sound.{IsSound};
+ghost use Rattle.residency.specs.StoreForest.{store_forest};
+ghost use Rattle.local_cache.specs.Whole.{IsWhole, SameCaches};
+ghost use Rattle.page_release.specs.Steps.{ForAnyMapper, GivesBack, IsStoreTied, IsUnpinned, IsWorkingUnpinned, PinnedStayNamed, StaysRight};
+
+use crate::settling::settle;
+use crate::steps::detach_page;
+use history_tree::link;
+use local_cache::{Caches, OwnState};
+use page_stubs::add_stub;
+use residency::Store;
+use vm_ids::{CacheId, NodeName, PageNo, SMALL_COPY, Span};
+
+// One page becomes a copy of another: by a stub link, or else by a tree link.
+fn copy_page(
+    store: &mut Store,
+    caches: &mut Caches,
+    is_small: bool,
+    to: CacheId,
+    to_page: PageNo,
+    from: CacheId,
+    from_page: PageNo,
+)
+    requires tied { IsStoreTied store.old caches.old }
+    requires sound { IsSound caches.old }
+    requires consistent { IsConsistent (forest_of caches.old) }
+    requires pages { ArePages (forest_of caches.old) (NodeName.Live to to_page)
+        (NodeName.Live from from_page) }
+    requires unpinned { IsUnpinned store.old caches.old (NodeName.Live to to_page) }
+    requires room { 2 ≤ caches.old.room.nodes }
+    requires made { caches.old.made + 1 < 2 ^ 63 }
+    requires few { len (forest_of caches.old).nodes + 1 < 2 ^ 32 }
+    ensures nodes { forest_of caches.new ≡ forest.copy_page is_small (forest_of caches.old)
+        (NodeName.Live to to_page) (NodeName.Live from from_page) }
+    ensures forest { ForAnyMapper store.old caches.old store.new caches.new
+        (λ old new. store_forest new ≡ forest.copy_page is_small (store_forest old)
+        (NodeName.Live to to_page) (NodeName.Live from from_page)) }
+    ensures gives_back { ForAnyMapper store.old caches.old store.new caches.new GivesBack }
+    ensures sound { IsSound caches.new }
+    ensures tied { IsStoreTied store.new caches.new }
+    ensures pinned { PinnedStayNamed store.old caches.old caches.new }
+    ensures sizes { SameCaches caches.old caches.new }
+    ensures room { caches.old.room.nodes ≤ caches.new.room.nodes + 2 }
+{
+    detach_page(store, caches, to, to_page, OwnState::Absent);
+    let fresh = caches.node_of(to, to_page);
+    let origin = caches.node_of(from, from_page);
+    if is_small {
+        add_stub(caches, fresh, origin);
+    } else {
+        link(caches, fresh, origin);
+    }
+}
+
+// Each page of the destination becomes a copy of its source, in rising order.
+fn copy_each(store: &mut Store, caches: &mut Caches, span: Span)
+    requires tied { IsStoreTied store.old caches.old }
+    requires whole { IsWhole caches.old }
+    requires can { CanCopy (forest_of caches.old) (span_pairs span) }
+    requires unpinned { (x : NodeName) → x ∈ firsts (span_pairs span)
+        → IsUnpinned store.old caches.old x }
+    requires room { 2 * span.pages ≤ caches.old.room.nodes }
+    requires made { caches.old.made + 2 * span.pages < 2 ^ 63 }
+    requires few { len (forest_of caches.old).nodes + 2 * span.pages < 2 ^ 32 }
+    requires within { (span.from_page.0 + span.pages < 2 ^ 32)
+        × (span.to_page.0 + span.pages < 2 ^ 32) }
+    ensures nodes { forest_of caches.new ≡ rule_copy_pages (leb span.pages small_copy)
+        (span_pairs span) (forest_of caches.old) }
+    ensures forest { ForAnyMapper store.old caches.old store.new caches.new
+        (λ old new. store_forest new ≡ rule_copy_pages (leb span.pages small_copy) (span_pairs span)
+        (store_forest old)) }
+    ensures gives_back { ForAnyMapper store.old caches.old store.new caches.new GivesBack }
+    ensures sound { IsSound caches.new }
+    ensures tied { IsStoreTied store.new caches.new }
+    ensures pinned { PinnedStayNamed store.old caches.old caches.new }
+    ensures consistent { IsConsistent (forest_of caches.new) }
+    ensures stays { (x : NodeName) → IsNode (forest_of caches.old) x
+        → IsNode (forest_of caches.new) x }
+    ensures sizes { SameCaches caches.old caches.new }
+    ensures made { caches.new.made ≤ caches.old.made + 2 * span.pages }
+    ensures room { caches.old.room.nodes ≤ caches.new.room.nodes + 2 * span.pages }
+    ensures few { len (forest_of caches.new).nodes
+        ≤ len (forest_of caches.old).nodes + 2 * span.pages }
+{
+    let is_small = span.pages <= SMALL_COPY;
+    for page in 0..span.pages {
+        copy_page(
+            store,
+            caches,
+            is_small,
+            span.to,
+            PageNo(span.to_page.0 + page),
+            span.from,
+            PageNo(span.from_page.0 + page),
+        );
+    }
+}
+
+/// Each page of the destination, none of which is pinned, becomes a copy of its source: by stub links where they are few,
+/// and else by tree links. No page is copied, and none is brought in.
+pub fn copy_pages(store: &mut Store, caches: &mut Caches, span: Span)
+    requires tied { IsStoreTied store.old caches.old }
+    requires whole { IsWhole caches.old }
+    requires can { CanCopy (forest_of caches.old) (span_pairs span) }
+    requires unpinned { (x : NodeName) → x ∈ firsts (span_pairs span)
+        → IsUnpinned store.old caches.old x }
+    requires working { IsWorkingUnpinned store.old caches.old }
+    requires room { 2 * span.pages ≤ caches.old.room.nodes }
+    requires made { caches.old.made + 2 * span.pages < 2 ^ 63 }
+    requires few { len (forest_of caches.old).nodes + 2 * span.pages < 2 ^ 32 }
+    requires within { (span.from_page.0 + span.pages < 2 ^ 32)
+        × (span.to_page.0 + span.pages < 2 ^ 32) }
+    ensures nodes { forest_of caches.new ≡ rule_copy false (span_pairs span)
+        (forest_of caches.old) }
+    ensures forest { ForAnyMapper store.old caches.old store.new caches.new
+        (λ old new. store_forest new ≡ rule_copy false (span_pairs span) (store_forest old)) }
+    ensures gives_back { ForAnyMapper store.old caches.old store.new caches.new GivesBack }
+    ensures whole { IsWhole caches.new }
+    ensures tied { IsStoreTied store.new caches.new }
+    ensures pinned { PinnedStayNamed store.old caches.old caches.new }
+    ensures live { live_count (forest_of caches.new) ≡ live_count (forest_of caches.old) }
+    ensures right { 2 * live_count (forest_of caches.old) ≤ length store.old.slots
+        → StaysRight store.old caches.old store.new caches.new }
+    ensures settled { IsSettled (forest_of caches.new) }
+    ensures bounded { IsBounded (forest_of caches.new) }
+    ensures sizes { SameCaches caches.old caches.new }
+    ensures made { caches.new.made ≤ caches.old.made + 2 * span.pages }
+    ensures copies { caches.new.copies ≡ caches.old.copies }
+    ensures room { caches.old.room.nodes ≤ caches.new.room.nodes + 2 * span.pages }
+{
+    copy_each(store, caches, span);
+    settle(store, caches);
+}

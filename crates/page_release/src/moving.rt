@@ -1,0 +1,139 @@
+// The pages of a move, and the store follows.
+ghost use Rattle.std.specs.Prelude.{◌≡◌, ◌+◌, ◌<◌, ◌≤◌, ◌^◌, false, length, ◌*◌};
+ghost use Rattle.vm_ids.specs.declared.node_name.NodeName.{NodeName};
+ghost use Rattle.vm_ids.specs.Forest.Commands.{firsts, move_, move_pages as rule_move_pages, seconds, span_pairs};
+ghost use Rattle.vm_ids.specs.Forest.NameLists.{◌∈◌};
+ghost use Rattle.vm_ids.specs.Forest.Laws.Commands.{CanCopy};
+ghost use Rattle.vm_ids.specs.Forest.Laws.Linking.{ArePages};
+ghost use Rattle.vm_ids.specs.Forest.Laws.Settling.{IsSettled};
+ghost use Rattle.vm_ids.specs.Forest.NameMap.{len};
+ghost use Rattle.vm_ids.specs.Forest.Nodes.{IsNode};
+ghost use Rattle.vm_ids.specs.Forest.Rules as forest;
+ghost use Rattle.vm_ids.specs.Forest.Shape.{IsBounded, IsConsistent};
+ghost use Rattle.vm_ids.specs.Forest.Reading.{live_count};
+ghost use Rattle.local_cache.specs.Reading.{forest_of};
+ghost use Rattle.local_cache.specs.Sound.{IsSound};
+ghost use Rattle.residency.specs.StoreForest.{store_forest};
+ghost use Rattle.local_cache.specs.Whole.{IsWhole, SameCaches};
+ghost use Rattle.page_release.specs.Steps.{ForAnyMapper, GivesBack, IsStoreTied, IsUnpinned, IsWorkingUnpinned, PinnedStayNamed, zeros_told, StaysRight};
+
+use crate::following::follow;
+use crate::settling::settle;
+use local_cache::{Caches, OwnState};
+use residency::Store;
+use vm_ids::{CacheId, NodeName, PageNo, Span};
+
+// One page is moved, and what became of the destination's old node is followed.
+fn move_one(
+    store: &mut Store,
+    caches: &mut Caches,
+    to: CacheId,
+    to_page: PageNo,
+    from: CacheId,
+    from_page: PageNo,
+)
+    requires tied { IsStoreTied store.old caches.old }
+    requires sound { IsSound caches.old }
+    requires consistent { IsConsistent (forest_of caches.old) }
+    requires pages { ArePages (forest_of caches.old) (NodeName.Live to to_page)
+        (NodeName.Live from from_page) }
+    requires unpinned { IsUnpinned store.old caches.old (NodeName.Live to to_page) }
+    requires source { IsUnpinned store.old caches.old (NodeName.Live from from_page) }
+    requires room { 1 ≤ caches.old.room.nodes }
+    requires made { caches.old.made < 2 ^ 63 }
+    ensures nodes { forest_of caches.new ≡ forest.move_page (forest_of caches.old)
+        (NodeName.Live to to_page) (NodeName.Live from from_page) OwnState.Zero }
+    ensures forest { ForAnyMapper store.old caches.old store.new caches.new
+        (λ old new. store_forest new ≡ forest.move_page (store_forest old)
+        (NodeName.Live to to_page) (NodeName.Live from from_page) (zeros_told old)) }
+    ensures gives_back { ForAnyMapper store.old caches.old store.new caches.new GivesBack }
+    ensures sound { IsSound caches.new }
+    ensures tied { IsStoreTied store.new caches.new }
+    ensures pinned { PinnedStayNamed store.old caches.old caches.new }
+    ensures sizes { SameCaches caches.old caches.new }
+    ensures room { caches.old.room.nodes ≤ caches.new.room.nodes + 1 }
+{
+    let released = move_pages::move_one(caches, from, from_page, to, to_page);
+    follow(store, caches, released);
+}
+
+// Each page of the source is moved to the destination, in rising order.
+fn move_each(store: &mut Store, caches: &mut Caches, span: Span)
+    requires tied { IsStoreTied store.old caches.old }
+    requires whole { IsWhole caches.old }
+    requires can { CanCopy (forest_of caches.old) (span_pairs span) }
+    requires unpinned { (x : NodeName) → x ∈ firsts (span_pairs span)
+        → IsUnpinned store.old caches.old x }
+    requires sources { (x : NodeName) → x ∈ seconds (span_pairs span)
+        → IsUnpinned store.old caches.old x }
+    requires room { span.pages ≤ caches.old.room.nodes }
+    requires made { caches.old.made + span.pages < 2 ^ 63 }
+    requires within { (span.from_page.0 + span.pages < 2 ^ 32)
+        × (span.to_page.0 + span.pages < 2 ^ 32) }
+    ensures nodes { forest_of caches.new ≡ rule_move_pages OwnState.Zero (span_pairs span)
+        (forest_of caches.old) }
+    ensures forest { ForAnyMapper store.old caches.old store.new caches.new
+        (λ old new. store_forest new ≡ rule_move_pages (zeros_told old) (span_pairs span)
+        (store_forest old)) }
+    ensures gives_back { ForAnyMapper store.old caches.old store.new caches.new GivesBack }
+    ensures sound { IsSound caches.new }
+    ensures tied { IsStoreTied store.new caches.new }
+    ensures pinned { PinnedStayNamed store.old caches.old caches.new }
+    ensures consistent { IsConsistent (forest_of caches.new) }
+    ensures stays { (x : NodeName) → IsNode (forest_of caches.old) x
+        → IsNode (forest_of caches.new) x }
+    ensures sizes { SameCaches caches.old caches.new }
+    ensures made { caches.new.made ≤ caches.old.made + span.pages }
+    ensures room { caches.old.room.nodes ≤ caches.new.room.nodes + span.pages }
+    ensures few { len (forest_of caches.new).nodes ≤ len (forest_of caches.old).nodes + span.pages }
+{
+    for page in 0..span.pages {
+        move_one(
+            store,
+            caches,
+            span.to,
+            PageNo(span.to_page.0 + page),
+            span.from,
+            PageNo(span.from_page.0 + page),
+        );
+    }
+}
+
+/// Each page of the source, none of which is pinned, becomes that of the destination, none of which is pinned, with its
+/// frame or its slot and all that it has, and is a page of zeros then. No page is copied, and none is brought in.
+pub fn move_pages(store: &mut Store, caches: &mut Caches, span: Span)
+    requires tied { IsStoreTied store.old caches.old }
+    requires whole { IsWhole caches.old }
+    requires can { CanCopy (forest_of caches.old) (span_pairs span) }
+    requires unpinned { (x : NodeName) → x ∈ firsts (span_pairs span)
+        → IsUnpinned store.old caches.old x }
+    requires sources { (x : NodeName) → x ∈ seconds (span_pairs span)
+        → IsUnpinned store.old caches.old x }
+    requires working { IsWorkingUnpinned store.old caches.old }
+    requires room { span.pages ≤ caches.old.room.nodes }
+    requires made { caches.old.made + span.pages < 2 ^ 63 }
+    requires few { len (forest_of caches.old).nodes + span.pages < 2 ^ 32 }
+    requires within { (span.from_page.0 + span.pages < 2 ^ 32)
+        × (span.to_page.0 + span.pages < 2 ^ 32) }
+    ensures nodes { forest_of caches.new ≡ move_ false OwnState.Zero (span_pairs span)
+        (forest_of caches.old) }
+    ensures forest { ForAnyMapper store.old caches.old store.new caches.new
+        (λ old new. store_forest new ≡ move_ false (zeros_told old) (span_pairs span)
+        (store_forest old)) }
+    ensures gives_back { ForAnyMapper store.old caches.old store.new caches.new GivesBack }
+    ensures whole { IsWhole caches.new }
+    ensures tied { IsStoreTied store.new caches.new }
+    ensures pinned { PinnedStayNamed store.old caches.old caches.new }
+    ensures live { live_count (forest_of caches.new) ≡ live_count (forest_of caches.old) }
+    ensures right { 2 * live_count (forest_of caches.old) ≤ length store.old.slots
+        → StaysRight store.old caches.old store.new caches.new }
+    ensures settled { IsSettled (forest_of caches.new) }
+    ensures bounded { IsBounded (forest_of caches.new) }
+    ensures sizes { SameCaches caches.old caches.new }
+    ensures made { caches.new.made ≤ caches.old.made + span.pages }
+    ensures copies { caches.new.copies ≡ caches.old.copies }
+    ensures room { caches.old.room.nodes ≤ caches.new.room.nodes + span.pages }
+{
+    move_each(store, caches, span);
+    settle(store, caches);
+}
