@@ -1,0 +1,74 @@
+-- A manager without caches.
+use Rattle.std.proofs.Common.{◌≡◌, ℕ, zero, suc, ◌≤◌, ◌^◌, ◌+◌, List, [], length, Option, Some, None, is_some, refl, sym, ap, ◌∙◌, subst, arith, Vec, Global, replicate, false, map}
+use Rattle.std.specs.Prelude.{IfSome, count_by, sum_by, option_map}
+use Rattle.std.specs.List.{All, slice_index_or}
+use Rattle.std.proofs.lemmas.Bool.{false≢true}
+use Rattle.std.proofs.lemmas.List.{length-replicate}
+use Rattle.std.proofs.lemmas.List.Elements.{All-nil, All-same}
+use Rattle.vm_ids.specs.Held.{Held}
+use Rattle.vm_ids.specs.Forest.Nodes.{no_forest}
+use Rattle.vm_ids.specs.Forest.Shape.{IsBounded, IsConsistent}
+use Rattle.vm_ids.proofs.Forest.Laws.Commands.{no_forest_is_bounded, no_forest_is_consistent}
+use Rattle.vm_ids.proofs.Forest.NameMap.{get-empty}
+use Rattle.vm_ids.proofs.Forest.PageMap.{same_forest}
+use Rattle.vm_ids.proofs.Places.{count-replicate_none}
+use Rattle.local_cache.specs.declared.own_state.OwnState.{OwnState}
+use Rattle.local_cache.specs.Arena.{Arena, Table, page_count}
+use Rattle.local_cache.specs.Reading.{forest_of}
+use Rattle.local_cache.specs.ReadingBy.{forest_by}
+use Rattle.local_cache.specs.Sound.{IsSound}
+use Rattle.local_cache.proofs.Reading.{get-forest_by_none}
+use Rattle.local_cache.proofs.ReadingBy.{forest_by-copies, forest_by-made}
+use Rattle.residency.specs.declared.store.Store.{Store}
+use Rattle.residency.specs.StoreForest.{store_forest}
+use Rattle.residency.specs.World.{HasNoNodes, own_page, world}
+use Rattle.local_cache.specs.Whole.{size_of}
+use Rattle.local_cache.proofs.Wholes.{no_caches, no_nodes}
+use Rattle.vm_model.specs.Outcome.{IsWhole}
+use Rattle.pvm_core.specs.declared.actors.Actor.{Actor}
+use Rattle.pvm_core.specs.Seen.{ArePlaced}
+use Rattle.pvm_core.specs.Manager as manager
+use Rattle.pvm_core.specs.Manager.{caches_shown}
+
+none_pinned : (n f : ℕ) → slice_index_or (replicate n false) f false ≡ false
+none_pinned zero f = refl
+none_pinned (suc n) zero = refl
+none_pinned (suc n) (suc f) = none_pinned n f
+
+pub none_sound : (alloc : Global) (frames page : ℕ) (a : Arena) (s : Store) (list : Vec (Option Actor) Global) → 3 ≤ frames → 1 ≤ page → page ≤ 2 ^ 16 → HasNoNodes a → a.caches ≡ [] → forest_of a ≡ no_forest → IsSound a
+    → s ≡ record { frames = record { page = page; held = replicate frames false; pinned = replicate frames false; bytes = replicate frames (replicate page 0) }; slots = []; map = replicate frames None; marks = replicate frames false }
+    → list.items ≡ [] → manager.IsSound a s (record { alloc = alloc; page_bytes = page; list = list; regions_made = 0; living = 0 }) 0
+none_sound alloc frames page a s list three some most none tables forest sound is items = record {
+  nodes = record {
+    sound = sound;
+    consistent = subst IsConsistent (sym forest) (no_forest_is_consistent OwnState);
+    pages = λ cache page count size. absurd (no_caches a tables cache.0 count size);
+    few = no_nodes (forest_of a) forest;
+  };
+  temporary = All-same manager.IsTemporary a.caches [] tables (All-nil manager.IsTemporary);
+  bounded = subst IsBounded (sym forest) (no_forest_is_bounded OwnState);
+  slots = omega arith;
+  counted = sym (ap (sum_by page_count) tables);
+  few = omega arith;
+  loose = subst (λ (s : Store). count_by (λ p. p) s.frames.pinned + 3 ≤ length s.frames.pinned) (sym is) (omega (arith, three, length-replicate frames false, count-replicate_none (λ h. h) frames false refl));
+  unpinned = λ f. ap (λ (s : Store). slice_index_or s.frames.pinned f false) is ∙ none_pinned frames f;
+  actors = record {
+    some = some;
+    most = most;
+    living = sym (ap (λ (xs : List (Option Actor)). count_by is_some (map (option_map Rattle.pvm_core.specs.Seen.actor_seen) xs)) items);
+    placed = All-same (ArePlaced page (size_of a)) list.items [] items (All-nil (ArePlaced page (size_of a)));
+  };
+  page = sym (ap (λ (s : Store). s.frames.page) is);
+}
+
+pub none_forest : (h : Option Held) (a : Arena) (s : Store) → HasNoNodes a → (a.made ≡ 0) × (a.copies ≡ 0) → store_forest (world h None a s) ≡ no_forest
+unfolding store_forest
+none_forest h a s none counters =
+    same_forest (forest_by (own_page (world h None a s)) a) no_forest
+    (λ x. get-forest_by_none a (own_page (world h None a s)) x (λ n k. absurd (false≢true (sym (ap is_some (none n)) ∙ k))) ∙ sym (get-empty x))
+    (forest_by-made (own_page (world h None a s)) a ∙ counters.0)
+    (forest_by-copies (own_page (world h None a s)) a ∙ counters.1)
+
+pub none_whole : (h : Option Held) (page : ℕ) (a : Arena) (s : Store) → a.caches ≡ [] → IfSome h (λ _. All (IsWhole page) (caches_shown (store_forest (world h None a s)) 1 a.caches))
+none_whole None page a s tables = tt
+none_whole (Some h) page a s tables = subst (λ (ts : List (Option Table)). All (IsWhole page) (caches_shown (store_forest (world (Some h) None a s)) 1 ts)) (sym tables) (All-nil (IsWhole page))

@@ -1,0 +1,68 @@
+use Rattle.std.proofs.Common.{◌+◌, ◌≤◌, List, [], length, refl, sym, ap, subst, ◌∙◌, arith}
+use Rattle.std.specs.Prelude.{Ok, Err}
+use Rattle.vm_ids.specs.Counting.{no_counts}
+use Rattle.vm_ids.specs.declared.chain.ChainItem.{ChainItem}
+use Rattle.vm_ids.specs.declared.command.Command.TheVariants as commands
+use Rattle.vm_ids.specs.declared.reply.Reply.TheVariants as replies
+use Rattle.vm_ids.specs.declared.reply.Trouble.TheVariants as troubles
+use Rattle.vm_ids.specs.declared.refusal.Refusal.TheVariants as refusals
+use Rattle.vm_ids.specs.Forest.Reading.{chain_of, live_count, working_count}
+use Rattle.local_cache.specs.Reading as arena
+use Rattle.vm_model.specs.Answering.{Answer, reply}
+use Rattle.vm_model.specs.Run.{AnswerIs}
+use Rattle.vm_ids.proofs.Forest.Laws.Reading.{chains_are_short}
+use Rattle.local_cache.specs.Reading.{name_of}
+use Rattle.pvm_core.specs.Manager.{nodes_of, Manager, forest_of, machine_by, state_at}
+use Rattle.pvm_core.specs.contracts.pvm.Pvm.{the_view}
+use Rattle.pvm_core.proofs.Answered.{seated}
+use Rattle.pvm_core.proofs.Chains.{chain_no_cache, chain_out, chain_row, chains_of}
+use Rattle.pvm_core.proofs.Listed.{sized, unsized}
+use Rattle.pvm_core.proofs.Shown.{shown_size}
+use Rattle.pvm_core.proofs.pvm.Pvm.chain.Goals as goal
+
+pub returns-in_default-clause-answers : goal.returns-in_default-clause-answers
+returns-in_default-clause-answers c = λ h v.
+    let p : Manager = the_view c.self.inside in
+    let command = commands.Chain c.args.cache c.args.page in
+    let answer : Answer = Err (troubles.Refused refusals.NoCache) in
+    subst (λ (p : Manager). AnswerIs (state_at p h) command answer [] no_counts (state_at p h)) c.self.view_is
+    (seated p p h command answer c.self.invariant.nodes refl refl (λ done m f s none. none) refl (λ f. refl)
+    (λ f s. chain_no_cache (machine_by p f) (forest_of p h) c.args.cache c.args.page.0 (unsized _ (shown_size f p.caches.caches c.args.cache.0 ∙ sym c.pages.ensures ∙ c.in_default.is))))
+
+pub returns-then-page-count-clause-answers : goal.returns-then-page-count-clause-answers
+returns-then-page-count-clause-answers c = λ h v.
+    let p : Manager = the_view c.self.inside in
+    let command = commands.Chain c.args.cache c.args.page in
+    let answer : Answer = Err (troubles.Refused refusals.OutOfCache) in
+    subst (λ (p : Manager). AnswerIs (state_at p h) command answer [] no_counts (state_at p h)) c.self.view_is
+    (seated p p h command answer c.self.invariant.nodes refl refl (λ done m f s none. none) refl (λ f. refl)
+    (λ f s. let k = sized _ c.in-Some.count (shown_size f p.caches.caches c.args.cache.0 ∙ sym c.pages.ensures ∙ c.in-Some.is) in
+    chain_out (machine_by p f) (forest_of p h) c.args.cache c.args.page.0 k.0 k.1 (omega (arith, k.2, c.if-page-count.true))))
+
+pub returns-in-Ok-clause-answers : goal.returns-in-Ok-clause-answers
+returns-in-Ok-clause-answers c = λ h v.
+    let p : Manager = the_view c.self.inside in
+    let command = commands.Chain c.args.cache c.args.page in
+    let answer : Answer = Ok (replies.Chain c.in-Ok.list) in
+    subst (λ (p : Manager). AnswerIs (state_at p h) command answer [] no_counts (state_at p h)) c.self.view_is
+    (seated p p h command answer c.self.invariant.nodes refl refl (λ done m f s none. none) refl (λ f. refl)
+    (λ f s. let k = sized _ c.in-Some.count (shown_size f p.caches.caches c.args.cache.0 ∙ sym c.pages.ensures ∙ c.in-Some.is) in
+    chain_row (machine_by p f) (forest_of p h) c.args.cache c.args.page.0 k.0 k.1 (omega (arith, k.2, c.if-page-count.false))
+    ∙ ap (λ (items : List ChainItem). reply (replies.Chain items) (machine_by p f)) (chains_of p h c.self.invariant.nodes _ ∙ ap (chain_of (arena.forest_of p.caches)) (sym c.node_of-node.ensures.name) ∙ sym c.in-Ok.ensures)))
+
+pub returns-in-Err-clause-answers : goal.returns-in-Err-clause-answers
+returns-in-Err-clause-answers c = λ h v.
+    let p : Manager = the_view c.self.inside in
+    let command = commands.Chain c.args.cache c.args.page in
+    let answer : Answer = Err troubles.Memory in
+    subst (λ (p : Manager). AnswerIs (state_at p h) command answer [] no_counts (state_at p h)) c.self.view_is
+    (seated p p h command answer c.self.invariant.nodes refl refl (λ done m f s none. none) refl (λ f. refl)
+    (λ f s. let k = sized _ c.in-Some.count (shown_size f p.caches.caches c.args.cache.0 ∙ sym c.pages.ensures ∙ c.in-Some.is) in
+    let row = chain_row (machine_by p f) (forest_of p h) c.args.cache c.args.page.0 k.0 k.1 (omega (arith, k.2, c.if-page-count.false)) in
+    (refl, tt, rw row tt)))
+
+pub returns-in-Ok-clause-short : goal.returns-in-Ok-clause-short
+returns-in-Ok-clause-short c =
+    let f = arena.forest_of c.self.inside.caches in
+    subst (λ (p : Manager). length c.in-Ok.list ≤ live_count (nodes_of p) + working_count (nodes_of p)) c.self.view_is
+    (subst (λ (xs : List ChainItem). length xs ≤ live_count f + working_count f) (sym c.in-Ok.ensures) (chains_are_short f (name_of c.self.inside.caches c.node_of-node.result)))

@@ -1,0 +1,43 @@
+use Rattle.std.proofs.Common.{refl, sym, subst, ◌∙◌}
+use Rattle.vm_ids.specs.Counting.{no_counts}
+use Rattle.vm_ids.specs.declared.command.Command.TheVariants as commands
+use Rattle.vm_ids.specs.declared.reply.Reply.TheVariants as replies
+use Rattle.vm_model.specs.Answering.{answer_by}
+use Rattle.vm_model.specs.Run.{AnswerIs}
+use Rattle.local_cache.specs.Whole.{size_of}
+use Rattle.pvm_core.specs.Manager.{IsValid, Manager, state_at}
+use Rattle.pvm_core.specs.contracts.pvm.Pvm.{the_view}
+use Rattle.pvm_core.proofs.Answered.{seated}
+use Rattle.pvm_core.proofs.Kept.{on_err, seated_same, seated_sound, seated_valid}
+use Rattle.std.specs.Prelude.{OnErr}
+use Rattle.std.proofs.Common.{◌≡◌}
+use Rattle.std.proofs.Common.{length, Some, []}
+use Rattle.pvm_core.specs.Manager.{caches_shown, forest_of}
+use Rattle.pvm_core.proofs.Shown.{shown_size}
+use Rattle.pvm_core.proofs.pvm.Pvm.map.Goals as goal
+
+pub invariant_of-self : goal.invariant_of-self
+invariant_of-self c =
+    let i = c.self.invariant in
+    let e = c.map.ensures in
+    seated_sound c.self.inside.caches c.self.inside.store c.self.inside.actors c.map.new.actors c.self.inside.live e.page (e.sound (size_of c.self.inside.caches) (sym c.pages-count.ensures) i.actors) i
+
+pub returns-clause-valid : goal.returns-clause-valid
+returns-clause-valid c = λ h v.
+    let q : Manager = the_view (record c.self.inside { actors = c.map.new.actors }) in
+    seated_valid (the_view c.self.inside) q h refl refl c.map.ensures.page (subst (λ (p : Manager). IsValid p h) (sym c.self.view_is) v)
+
+pub returns-clause-answers : goal.returns-clause-answers
+returns-clause-answers c = λ h v.
+    let q : Manager = the_view (record c.self.inside { actors = c.map.new.actors }) in
+    let command = commands.Map c.args.actor c.args.mapping in
+    let answer = answer_by replies.Region c.map.result in
+    subst (λ (p : Manager). AnswerIs (state_at p h) command answer [] no_counts (state_at q h)) c.self.view_is
+    (seated (the_view c.self.inside) q h command answer c.self.invariant.nodes refl refl (λ done m f s none. none) refl (λ f. refl) (λ f s. c.map.ensures.outcome (caches_shown f 1 c.self.inside.caches.caches) (length c.self.inside.store.frames.held) (Some (forest_of (the_view c.self.inside) h)) s (shown_size f c.self.inside.caches.caches c.args.mapping.extent.cache.0 ∙ sym c.pages-count.ensures)))
+
+pub returns-clause-err : goal.returns-clause-err
+returns-clause-err c =
+    let i = c.self.inside in
+    let q : Manager = the_view (record c.self.inside { actors = c.map.new.actors }) in
+    subst (λ (p : Manager). OnErr c.map.result (q ≡ p)) c.self.view_is
+    (on_err c.map.result (seated_same i.caches i.store i.actors c.map.new.actors) c.map.ensures.err)

@@ -1,0 +1,44 @@
+use Rattle.std.specs.Prelude.{◌||◌, is_some}
+use Rattle.frame_pool.specs.Pool.{is_pinned}
+use Rattle.global_map.specs.Pairs.{node_of}
+use Rattle.std.proofs.Common.{◌≡◌, Bool, true, false, [], refl, sym, ap, subst, ◌∙◌}
+use Rattle.std.specs.Prelude.{Ok}
+use Rattle.vm_ids.specs.Counting.{no_counts}
+use Rattle.vm_ids.specs.declared.command.Command.TheVariants as commands
+use Rattle.vm_ids.specs.declared.reply.Counts.{Counts}
+use Rattle.vm_ids.specs.declared.reply.Reply.TheVariants as replies
+use Rattle.vm_model.specs.Answering.{reply}
+use Rattle.vm_model.specs.Run.{AnswerIs}
+use Rattle.pvm_core.specs.Keeping.{HasFewWorking, HoldsEachOnce}
+use Rattle.pvm_core.specs.Manager.{IsValid, Manager, machine_by, state_at}
+use Rattle.pvm_core.specs.contracts.pvm.Pvm.{the_view}
+use Rattle.pvm_core.proofs.Answered.{seated}
+use Rattle.pvm_core.proofs.Kept.{seen}
+use Rattle.pvm_core.proofs.Chains.{counts_are}
+use Rattle.pvm_core.proofs.pvm.Pvm.stat.Goals as goal
+
+unpinned_or : (a b : Bool) → b ≡ false → (a || b) ≡ a
+unpinned_or true b e = refl
+unpinned_or false b e = e
+
+pub returns-clause-answers : goal.returns-clause-answers
+returns-clause-answers c = λ h v.
+    let p : Manager = the_view c.self.inside in
+    let answer = Ok (replies.Stat c.counts.result) in
+    subst (λ (p : Manager). AnswerIs (state_at p h) commands.Stat answer [] no_counts (state_at p h)) c.self.view_is
+    (seated p p h commands.Stat answer c.self.invariant.nodes refl refl (λ done m f s none. none) refl (λ f. refl)
+    (λ f s. ap (λ (k : Counts). reply (replies.Stat k) (machine_by p f)) (counts_are p h c.self.invariant.nodes ∙ sym c.counts.ensures.counts)))
+
+pub returns-clause-bounded : goal.returns-clause-bounded
+returns-clause-bounded c = subst HasFewWorking (sym c.counts.ensures.counts) c.self.invariant.bounded
+
+pub returns-clause-once : goal.returns-clause-once
+returns-clause-once c = λ h v.
+    let i = c.self.inside in
+    let p : Manager = seen i.caches i.store i.actors in
+    let w = subst (λ (p : Manager). IsValid p h) (sym c.self.view_is) v in
+    subst HoldsEachOnce c.self.view_is (record {
+      bound = w.right.tied.bound;
+      held = λ f. w.right.tied.held f ∙ unpinned_or (is_some (node_of i.store.map f)) (is_pinned i.store.frames f) (c.self.invariant.unpinned f);
+      slots = w.right.tied.slots;
+    })

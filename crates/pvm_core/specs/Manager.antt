@@ -1,0 +1,130 @@
+-- What a manager keeps, the page forest and the machine that it stands for, and what holds of it between two calls.
+use Rattle.std.specs.Prelude.{◌≡◌, ℕ, zero, suc, ◌+◌, ◌*◌, ◌≤◌, false, List, [], ◌∷◌, length, sum_by, All, Option, Some, None, option_map, IfSome}
+use Rattle.vm_ids.specs.Held.{Held, segments_of}
+use Rattle.vm_ids.specs.Forest.Commands.{page_name}
+use Rattle.vm_ids.specs.Forest.Nodes.{Forest}
+use Rattle.vm_ids.specs.Forest.Reading.{value_of}
+use Rattle.vm_ids.specs.Forest.Shape.{IsBounded}
+use Rattle.frame_pool.specs.Pool.{is_pinned}
+use Rattle.local_cache.specs.declared.own_state.OwnState.{OwnState}
+use Rattle.local_cache.specs.Arena.{Arena, Table, page_count}
+use Rattle.local_cache.specs.Reading as arena
+use Rattle.residency.specs.declared.store.Store.{Store}
+use Rattle.residency.specs.StoreForest.{store_forest}
+use Rattle.residency.specs.World.{IsStoreRight, World, world}
+use Rattle.fault_path.specs.Faults.{HasLoose}
+use Rattle.local_cache.specs.Whole.{IsWhole, size_of}
+use Rattle.vm_model.specs.Machine.{Actor, Cache, Machine, Page}
+use Rattle.vm_model.specs.Outcome.{HasWholePages}
+use Rattle.vm_model.specs.PageForest.{PageForest}
+use Rattle.vm_model.specs.Run.{State}
+use Rattle.vm_model.specs.declared.limits.TheConstants.{LIVE_PAGES}
+use Rattle.pvm_core.specs.declared.actors.Actors.{Actors}
+use Rattle.pvm_core.specs.Seen.{AreRight}
+
+-- the caches with their page nodes, the store of frames and slots, the size of a page, and the actors with their regions
+pub record Manager : Type 0 where
+  pub caches : Arena
+  pub store : Store
+  pub page_bytes : ℕ
+  pub actors : List (Option Actor)
+  pub regions_made : ℕ
+
+-- its page nodes as a forest, where each own page is no more than the state that tells where it is
+abbrev pub nodes_of : Manager → Forest OwnState
+nodes_of p = arena.forest_of p.caches
+
+-- a manager over a mapper that takes pages of any size
+abbrev pub world_of : Manager → Option Held → World
+world_of p told = world told None p.caches p.store
+
+-- the page forest that a manager keeps
+abbrev pub forest_of : Manager → Option Held → PageForest
+forest_of p told = store_forest (world_of p told)
+
+-- the bytes of a page, or none where they aren't told
+abbrev pub shown : Option (Option Page) → Page
+shown None = []
+shown (Some None) = []
+shown (Some (Some bytes)) = bytes
+
+-- so many pages of a cache from one page on, each the value of its node
+abbrev pub pages_shown : PageForest → ℕ → ℕ → ℕ → List Page
+pages_shown f cache page zero = []
+pages_shown f cache page (suc n) =
+    shown (value_of f (page_name (record { 0 = cache }) page)) ∷ pages_shown f cache (page + 1) n
+
+-- a cache by its table
+abbrev pub cache_shown : PageForest → ℕ → Table → Cache
+cache_shown f cache t = record {
+  segment = option_map (λ s. s.0) t.segment;
+  pages = pages_shown f cache 0 (length t.pages);
+}
+
+-- the caches of these tables, the first of which has this number
+abbrev pub caches_shown : PageForest → ℕ → List (Option Table) → List (Option Cache)
+caches_shown f cache [] = []
+caches_shown f cache (t ∷ ts) = option_map (cache_shown f cache) t ∷ caches_shown f (cache + 1) ts
+
+-- a manager's regions and counts, over the pages of this forest
+abbrev pub machine_by : Manager → PageForest → Machine
+machine_by p f = record {
+  page_bytes = p.page_bytes;
+  frames = length p.store.frames.held;
+  caches = caches_shown f 1 p.caches.caches;
+  actors = p.actors;
+  regions_made = p.regions_made;
+}
+
+-- the machine that a manager stands for: each page is the value of its node
+abbrev pub machine_of : Manager → Option Held → Machine
+machine_of p told = machine_by p (forest_of p told)
+
+-- how many pages the live caches have
+abbrev pub live_in : Arena → ℕ
+live_in a = sum_by page_count a.caches
+
+-- no segment names the cache
+abbrev pub IsTemporary : Option Table → Type 0
+IsTemporary None = Unit {0}
+IsTemporary (Some t) = t.segment ≡ None
+
+-- What holds of a manager's fields, whatever the mapper holds:
+--     nodes      the caches are sound, their forest is consistent, and each page of a live cache has a node
+--     temporary  no segment names a cache
+--     bounded    the working nodes are fewer than the live ones, or there are none of either
+--     slots      there are slots for the nodes of twice the live pages
+--     counted    the live pages are counted, and are at most the limit
+--     loose      there are three frames
+--     unpinned   and no frame is pinned, since no command locks a region
+--     actors     each region is of pages that a live cache has
+--     page       the actors and the frames have one page size
+pub record IsSound (a : Arena) (s : Store) (t : Actors) (live : ℕ) : Type 0 where
+  pub nodes : IsWhole a
+  pub temporary : All IsTemporary a.caches
+  pub bounded : IsBounded (arena.forest_of a)
+  pub slots : 2 * live ≤ length s.slots
+  pub counted : live ≡ live_in a
+  pub few : live ≤ LIVE_PAGES
+  pub loose : HasLoose 3 s.frames
+  pub unpinned : (frame : ℕ) → is_pinned s.frames frame ≡ false
+  pub actors : AreRight (size_of a) t
+  pub page : t.page_bytes ≡ s.frames.page
+
+-- What each call needs and keeps beside, which speaks of what the mapper holds: the store is right, and where the mapper
+-- tells what it holds, each page of the machine has all its bytes.
+pub record IsValid (p : Manager) (told : Option Held) : Type 0 where
+  pub right : IsStoreRight (world_of p told)
+  pub whole : IfSome told (λ _. HasWholePages (machine_of p told))
+
+-- the working nodes made and the pages copied
+abbrev pub numbered : Manager → ℕ
+numbered p = p.caches.made + p.caches.copies
+
+-- what a manager stands for between two answers
+abbrev pub state_at : Manager → Option Held → State
+state_at p told = record {
+  machine = machine_of p told;
+  forest = Some (forest_of p told);
+  segments = segments_of told;
+}

@@ -1,0 +1,412 @@
+// The manager.
+ghost use Rattle.std.specs.Prelude.{◌≡◌, ℕ, ◌+◌, ◌≤◌, ◌^◌, min, Option, length, Ok, Err, IfOk, IsOk, OnErr, OnOk};
+ghost use Rattle.vm_ids.specs.Held.{Held};
+ghost use Rattle.vm_ids.specs.Forest.Laws.Settling.{IsSettled};
+ghost use Rattle.vm_ids.specs.Forest.Nodes.{no_forest};
+ghost use Rattle.vm_ids.specs.Forest.Reading.{live_count, working_count};
+ghost use Rattle.frame_pool.specs.Pool.{held_count};
+ghost use Rattle.vm_model.specs.Answering.{answer_by};
+ghost use Rattle.vm_model.specs.Machine.{start};
+ghost use Rattle.gmi_calls.specs.Calling.{Answers, Calls, Fits, Numbers, RaisesMade, StaysValid, done_by};
+ghost use Rattle.pvm_core.specs.Access.{IsAtHand, IsLoaded};
+ghost use Rattle.pvm_core.specs.Keeping.{CopiesNothing, HasFewWorking, HasMoreRoom, HoldsEachOnce};
+ghost use Rattle.pvm_core.specs.Manager.{IsValid, forest_of, machine_of, nodes_of, numbered, state_at};
+
+use crate::actors::{Actors, make_actor};
+use crate::maps::{map, unmap};
+use crate::nodes::{node_of, reserve};
+use crate::pieces::{fault_of, part_of, write_frame};
+use crate::place::place_of;
+use crate::spans::span_refusal;
+use crate::taking::is_mapped;
+use fault_path::{read_fault, write_fault};
+use history_tree::chain;
+use local_cache::Caches;
+use page_release::{copy_pages, destroy_pages, move_pages};
+use residency::Store;
+use std::alloc::Global;
+use std::marker::Model;
+use vm_ids::{
+    ActorId, CacheId, ChainList, Command, Counts, FaultAt, Mapping, NoMemory, PageNo, Piece,
+    Refusal, RegionId, Reply, Span, Trouble,
+};
+use vm_model::{LIVE_PAGES, MADE};
+use vm_port::{Chooser, Mapper};
+
+/// The caches of a machine, whose pages are in frames, in swap slots, or zeros that are nowhere.
+#[derive(Drop)]
+pub struct Pvm {
+    pub(crate) alloc: Global,
+    pub(crate) caches: Caches,
+    pub(crate) store: Store,
+    pub(crate) actors: Actors,
+    // the pages of the live caches
+    pub(crate) live: u32,
+}
+
+impl Model for Pvm {
+    ghost use Rattle.std.specs.Prelude.{map, option_map};
+    ghost use Rattle.pvm_core.specs.Manager.{Manager, IsSound};
+    ghost use Rattle.pvm_core.specs.Codes.{manager_code};
+
+    ghost Value = { Manager };
+
+    ghost coded = { manager_code };
+
+    ghost use Rattle.pvm_core.specs.Seen.{actor_seen};
+
+    ghost view = { λ p. record {
+      caches = p.caches;
+      store = p.store;
+      page_bytes = p.actors.page_bytes;
+      actors = map (option_map actor_seen) p.actors.list.items;
+      regions_made = p.actors.regions_made;
+    } };
+
+    ghost invariant = { λ p. IsSound p.caches p.store p.actors p.live };
+}
+
+impl Pvm {
+    /// A manager without caches and actors, of so many frames, at least three and all free, whose pages have `page` bytes.
+    pub fn new(alloc: Global, frames: u32, page: u32) -> Result<Pvm, NoMemory>
+        requires few { 3 ≤ frames }
+        requires frames { frames ≤ 2 ^ 16 }
+        requires some { 1 ≤ page }
+        requires page { page ≤ 2 ^ 16 }
+        ensures machine { IfOk result
+            (λ p. (h : Option Held) → machine_of p h ≡ start frames page) }
+        ensures forest { IfOk result (λ p. (h : Option Held) → forest_of p h ≡ no_forest) }
+        ensures valid { IfOk result (λ p. (h : Option Held) → IsValid p h) }
+        ensures free { IfOk result (λ p. held_count p.store.frames ≡ 0) }
+        ensures made { IfOk result (λ p. numbered p ≡ 0) }
+    {
+        let store = Store::new(alloc, frames, page)?;
+        Ok(Pvm {
+            alloc,
+            caches: Caches::new(alloc),
+            store,
+            actors: Actors {
+                alloc,
+                page_bytes: page as usize,
+                list: Vec::new(alloc),
+                regions_made: 0,
+                living: 0,
+            },
+            live: 0,
+        })
+    }
+
+    /// Makes an actor without regions. Refused as `TooMany` exactly where 256 actors are alive or 65,535 were made.
+    pub fn make_actor(&mut self) -> Result<ActorId, Trouble>
+        ensures valid { StaysValid IsValid self.old self.new }
+        ensures answers { Answers IsValid state_at self.old
+            Command.MakeActor (answer_by Reply.Actor result) self.new }
+        ensures made { Numbers IsValid machine_of numbered self.old
+            Command.MakeActor (answer_by Reply.Actor result) self.new }
+        ensures err { OnErr result (self.new ≡ self.old) }
+    {
+        make_actor(&mut self.actors)
+    }
+
+    /// Makes a temporary cache of so many zero pages. Refused as `TooMany` exactly where 65,535 caches were made or
+    /// the live pages would be too many.
+    pub fn make_temp(&mut self, pages: u32) -> Result<CacheId, Trouble>
+        ensures valid { StaysValid IsValid self.old self.new }
+        ensures answers { Answers IsValid state_at self.old
+            (Command.MakeTemp pages) (answer_by Reply.Cache result) self.new }
+        ensures made { Numbers IsValid machine_of numbered self.old
+            (Command.MakeTemp pages) (answer_by Reply.Cache result) self.new }
+        ensures err { OnErr result (HasMoreRoom self.old self.new) }
+    {
+        if self.caches.caches_made() >= MADE
+            || self.live as u64 + pages as u64 > LIVE_PAGES as u64
+        {
+            return Err(Trouble::Refused(Refusal::TooMany));
+        }
+        let live = self.live + pages;
+        if reserve(&mut self.caches, &mut self.store, live).is_err() {
+            return Err(Trouble::Memory);
+        }
+        self.live = live;
+        Ok(self.caches.make_temp(pages))
+    }
+
+    /// Takes a cache away, with all its pages. Refused as `NoCache` or `InUse`, in this order.
+    pub fn destroy<M: Mapper, C: Chooser>(
+        &mut self,
+        cache: CacheId,
+        mapper: &mut M,
+        chooser: &mut C,
+    ) -> Result<(), Trouble>
+        requires valid { IsValid self.old (M.held mapper.old) }
+        requires made { numbered self.old ≤ 2 ^ 62 }
+        requires fits { Fits (M.page_bytes mapper.old) (machine_of self.old (M.held mapper.old)) }
+        ensures valid { IsValid self.new (M.held mapper.new) }
+        ensures answers { Calls M.counts M.held state_at mapper.old self.old
+            (Command.Destroy cache) (done_by result) mapper.new self.new }
+        ensures made { RaisesMade (machine_of self.old (M.held mapper.old))
+            (Command.Destroy cache) (done_by result) (numbered self.old) (numbered self.new) }
+        ensures page { M.page_bytes mapper.new ≡ M.page_bytes mapper.old }
+        // No page is pulled, pushed or copied, and frames are given back alone.
+        ensures mapper { mapper.new ≡ mapper.old }
+        ensures chooser { chooser.new ≡ chooser.old }
+        ensures frames { CopiesNothing self.old self.new }
+        ensures settled { OnOk result (IsSettled (nodes_of self.new)) }
+        ensures err { OnErr result (self.new ≡ self.old) }
+    {
+        let Some(count) = self.caches.pages(cache) else {
+            return Err(Trouble::Refused(Refusal::NoCache));
+        };
+        if is_mapped(&self.actors.list, cache) {
+            return Err(Trouble::Refused(Refusal::InUse));
+        }
+        destroy_pages(&mut self.store, &mut self.caches, cache, count);
+        self.caches.remove(cache);
+        self.live -= count;
+        Ok(())
+    }
+
+    /// Copies pages from one place to another, all at once. Refused as `NoCache`, `OutOfCache`, `Overlap`, `Locked` or
+    /// `WriteDenied`, in this order.
+    pub fn copy_pages<M: Mapper, C: Chooser>(
+        &mut self,
+        span: Span,
+        mapper: &mut M,
+        chooser: &mut C,
+    ) -> Result<(), Trouble>
+        requires some { 1 ≤ span.pages }
+        requires valid { IsValid self.old (M.held mapper.old) }
+        requires made { numbered self.old ≤ 2 ^ 62 }
+        requires fits { Fits (M.page_bytes mapper.old) (machine_of self.old (M.held mapper.old)) }
+        ensures valid { IsValid self.new (M.held mapper.new) }
+        ensures answers { Calls M.counts M.held state_at mapper.old self.old
+            (Command.Copy span) (done_by result) mapper.new self.new }
+        ensures made { RaisesMade (machine_of self.old (M.held mapper.old))
+            (Command.Copy span) (done_by result) (numbered self.old) (numbered self.new) }
+        ensures page { M.page_bytes mapper.new ≡ M.page_bytes mapper.old }
+        // No page is pulled, pushed or copied, and frames are given back alone.
+        ensures mapper { mapper.new ≡ mapper.old }
+        ensures chooser { chooser.new ≡ chooser.old }
+        ensures frames { CopiesNothing self.old self.new }
+        ensures settled { OnOk result (IsSettled (nodes_of self.new)) }
+        ensures err { OnErr result (HasMoreRoom self.old self.new) }
+    {
+        if let Some(refusal) = span_refusal(&self.caches, span) {
+            return Err(Trouble::Refused(refusal));
+        }
+        if self.caches.reserve(0, 2 * span.pages).is_err() {
+            return Err(Trouble::Memory);
+        }
+        copy_pages(&mut self.store, &mut self.caches, span);
+        Ok(())
+    }
+
+    /// Moves pages from one place to another; zeros are left where they were. Refused as `NoCache`, `OutOfCache`, `NotTemp`,
+    /// `Overlap`, `Locked` or `WriteDenied`, in this order.
+    pub fn move_pages<M: Mapper, C: Chooser>(
+        &mut self,
+        span: Span,
+        mapper: &mut M,
+        chooser: &mut C,
+    ) -> Result<(), Trouble>
+        requires some { 1 ≤ span.pages }
+        requires valid { IsValid self.old (M.held mapper.old) }
+        requires made { numbered self.old ≤ 2 ^ 62 }
+        requires fits { Fits (M.page_bytes mapper.old) (machine_of self.old (M.held mapper.old)) }
+        ensures valid { IsValid self.new (M.held mapper.new) }
+        ensures answers { Calls M.counts M.held state_at mapper.old self.old
+            (Command.Move span) (done_by result) mapper.new self.new }
+        ensures made { RaisesMade (machine_of self.old (M.held mapper.old))
+            (Command.Move span) (done_by result) (numbered self.old) (numbered self.new) }
+        ensures page { M.page_bytes mapper.new ≡ M.page_bytes mapper.old }
+        // No page is pulled, pushed or copied, and frames are given back alone.
+        ensures mapper { mapper.new ≡ mapper.old }
+        ensures chooser { chooser.new ≡ chooser.old }
+        ensures frames { CopiesNothing self.old self.new }
+        ensures settled { OnOk result (IsSettled (nodes_of self.new)) }
+        ensures err { OnErr result (HasMoreRoom self.old self.new) }
+    {
+        if let Some(refusal) = span_refusal(&self.caches, span) {
+            return Err(Trouble::Refused(refusal));
+        }
+        if self.caches.reserve(0, span.pages).is_err() {
+            return Err(Trouble::Memory);
+        }
+        move_pages(&mut self.store, &mut self.caches, span);
+        Ok(())
+    }
+
+    /// Maps pages of a cache into an actor. Refused as `NoActor`, `NoCache`, `Unaligned`, `BadAddress`, `OutOfCache`,
+    /// `Overlap` or `TooMany`, in this order.
+    pub fn map(&mut self, actor: ActorId, mapping: Mapping) -> Result<RegionId, Trouble>
+        ensures valid { StaysValid IsValid self.old self.new }
+        ensures answers { Answers IsValid state_at self.old
+            (Command.Map actor mapping) (answer_by Reply.Region result) self.new }
+        ensures made { Numbers IsValid machine_of numbered self.old
+            (Command.Map actor mapping) (answer_by Reply.Region result) self.new }
+        ensures err { OnErr result (self.new ≡ self.old) }
+    {
+        let count = self.caches.pages(mapping.extent.cache);
+        map(&mut self.actors, actor, &mapping, count)
+    }
+
+    /// Takes a region away. Refused as `NoRegion` or `Locked`, in this order.
+    pub fn unmap(&mut self, region: RegionId) -> Result<(), Trouble>
+        ensures valid { StaysValid IsValid self.old self.new }
+        ensures answers { Answers IsValid state_at self.old
+            (Command.Unmap region) (done_by result) self.new }
+        ensures made { Numbers IsValid machine_of numbered self.old
+            (Command.Unmap region) (done_by result) self.new }
+        ensures err { OnErr result (self.new ≡ self.old) }
+    {
+        unmap(&mut self.actors, region)
+    }
+
+    /// Loads so many bytes, 1 to 64, at an address of an actor. Refused as `NoActor`, `Crosses` or `BadAddress`, in
+    /// this order.
+    pub fn load<M: Mapper, C: Chooser>(
+        &mut self,
+        actor: ActorId,
+        address: u64,
+        bytes: u8,
+        mapper: &mut M,
+        chooser: &mut C,
+    ) -> Result<Piece, Trouble>
+        requires some { 1 ≤ bytes }
+        requires few { bytes ≤ 64 }
+        requires valid { IsValid self.old (M.held mapper.old) }
+        requires fits { Fits (M.page_bytes mapper.old) (machine_of self.old (M.held mapper.old)) }
+        ensures valid { IsValid self.new (M.held mapper.new) }
+        ensures answers { Calls M.counts M.held state_at mapper.old self.old
+            (Command.Load actor address bytes) (answer_by Reply.Bytes result) mapper.new self.new }
+        ensures length { IfOk result (λ piece. length piece ≡ bytes) }
+        ensures made { RaisesMade (machine_of self.old (M.held mapper.old))
+            (Command.Load actor address bytes) (answer_by Reply.Bytes result)
+            (numbered self.old) (numbered self.new) }
+        ensures page { M.page_bytes mapper.new ≡ M.page_bytes mapper.old }
+        ensures copies { self.new.caches.copies ≡ self.old.caches.copies }
+        ensures refused { (r : Refusal) → result ≡ Err (Trouble.Refused r)
+            → (self.new ≡ self.old) × (mapper.new ≡ mapper.old) }
+        // No page is pulled or pushed where the page is in a frame, or is zeros.
+        ensures idle { IsAtHand self.old actor.0 address bytes
+            → IsOk result × (self.new ≡ self.old) × (mapper.new ≡ mapper.old) }
+        ensures loaded { IfOk result (IsLoaded (M.counts mapper.old) (M.counts mapper.new)
+            (M.given mapper.new) self.old self.new actor.0 address bytes) }
+    {
+        let place = match place_of(&self.actors, actor, address, bytes) {
+            Ok(place) => place,
+            Err(refusal) => return Err(Trouble::Refused(refusal)),
+        };
+        let page = PageNo(place.page as u32);
+        let node = node_of(&self.caches, place.region.cache, page);
+        match read_fault(&mut self.store, &mut self.caches, node, mapper, chooser) {
+            Ok(found) => Ok(part_of(&self.store, found, place.byte, bytes)),
+            Err(miss) => Err(Trouble::Mapper(fault_of(miss, page))),
+        }
+    }
+
+    /// Stores bytes at an address of an actor. Refused as `NoActor`, `Crosses`, `BadAddress`, `Protection` or
+    /// `WriteDenied`, in this order.
+    pub fn store<M: Mapper, C: Chooser>(
+        &mut self,
+        actor: ActorId,
+        address: u64,
+        piece: &Piece,
+        mapper: &mut M,
+        chooser: &mut C,
+    ) -> Result<(), Trouble>
+        requires valid { IsValid self.old (M.held mapper.old) }
+        requires made { numbered self.old ≤ 2 ^ 62 }
+        requires fits { Fits (M.page_bytes mapper.old) (machine_of self.old (M.held mapper.old)) }
+        ensures valid { IsValid self.new (M.held mapper.new) }
+        ensures answers { Calls M.counts M.held state_at mapper.old self.old
+            (Command.Store actor address piece.now) (done_by result) mapper.new self.new }
+        ensures made { RaisesMade (machine_of self.old (M.held mapper.old))
+            (Command.Store actor address piece.now) (done_by result)
+            (numbered self.old) (numbered self.new) }
+        ensures page { M.page_bytes mapper.new ≡ M.page_bytes mapper.old }
+        ensures copies { self.new.caches.copies ≤ self.old.caches.copies + 2 }
+        ensures refused { (r : Refusal) → result ≡ Err (Trouble.Refused r)
+            → (self.new ≡ self.old) × (mapper.new ≡ mapper.old) }
+    {
+        let bytes = piece.as_slice();
+        let place = match place_of(&self.actors, actor, address, bytes.len() as u8) {
+            Ok(place) => place,
+            Err(refusal) => return Err(Trouble::Refused(refusal)),
+        };
+        if !place.region.may_write {
+            return Err(Trouble::Refused(Refusal::Protection));
+        }
+        let page = PageNo(place.page as u32);
+        let node = node_of(&self.caches, place.region.cache, page);
+        match write_fault(&mut self.store, &mut self.caches, node, mapper, chooser) {
+            Ok(frame) => {
+                write_frame(&mut self.store, frame, place.byte, bytes);
+                Ok(())
+            }
+            Err(miss) => Err(Trouble::Mapper(fault_of(miss, page))),
+        }
+    }
+
+    /// Evicts so many page frames, or as many as can be.
+    pub fn page_out<M: Mapper, C: Chooser>(
+        &mut self,
+        count: u32,
+        mapper: &mut M,
+        chooser: &mut C,
+    ) -> Result<(), Trouble>
+        requires valid { IsValid self.old (M.held mapper.old) }
+        requires fits { Fits (M.page_bytes mapper.old) (machine_of self.old (M.held mapper.old)) }
+        ensures valid { IsValid self.new (M.held mapper.new) }
+        ensures answers { Calls M.counts M.held state_at mapper.old self.old
+            (Command.PageOut count) (done_by result) mapper.new self.new }
+        ensures made { RaisesMade (machine_of self.old (M.held mapper.old))
+            (Command.PageOut count) (done_by result) (numbered self.old) (numbered self.new) }
+        ensures page { M.page_bytes mapper.new ≡ M.page_bytes mapper.old }
+        ensures copies { self.new.caches.copies ≡ self.old.caches.copies }
+        ensures machine { machine_of self.new (M.held mapper.new)
+            ≡ machine_of self.old (M.held mapper.old) }
+        ensures forest { forest_of self.new (M.held mapper.new)
+            ≡ forest_of self.old (M.held mapper.old) }
+        ensures fewer { OnOk result (held_count self.new.store.frames
+            + min count (held_count self.old.store.frames) ≡ held_count self.old.store.frames) }
+    {
+        match self
+            .store
+            .page_out(&mut self.caches, count, mapper, chooser)
+        {
+            Ok(()) => Ok(()),
+            Err(_) => Err(Trouble::Mapper(FaultAt::Victim)),
+        }
+    }
+
+    /// The nodes from that of a page up to the one that has its bytes. Refused as `NoCache` or `OutOfCache`, in this order.
+    pub fn chain(&self, cache: CacheId, page: PageNo) -> Result<ChainList, Trouble>
+        ensures answers { Answers IsValid state_at self.now
+            (Command.Chain cache page) (answer_by Reply.Chain result) self.now }
+        ensures short { IfOk result (λ items.
+            length items ≤ live_count (nodes_of self.now) + working_count (nodes_of self.now)) }
+    {
+        let Some(count) = self.caches.pages(cache) else {
+            return Err(Trouble::Refused(Refusal::NoCache));
+        };
+        if page.0 >= count {
+            return Err(Trouble::Refused(Refusal::OutOfCache));
+        }
+        let node = node_of(&self.caches, cache, page);
+        match chain(self.alloc, &self.caches, node) {
+            Ok(list) => Ok(list),
+            Err(NoMemory) => Err(Trouble::Memory),
+        }
+    }
+
+    /// How many live pages and working nodes there are, and how many pages were copied.
+    pub fn stat(&self) -> Counts
+        ensures answers { Answers IsValid state_at self.now
+            Command.Stat (Ok (Reply.Stat result)) self.now }
+        ensures bounded { HasFewWorking result }
+        ensures once { (h : Option Held) → IsValid self.now h → HoldsEachOnce self.now }
+    {
+        self.caches.counts()
+    }
+}
