@@ -1,0 +1,128 @@
+-- Lines of many words.
+use Rattle.std.proofs.Common.{◌≡◌, ◌<◌, ℕ, List, [], ◌∷◌, length, Option, None, Bool, true, false, nat_lt, refl, ap, arith}
+use Rattle.std.specs.Prelude.{bytes_eq, codes, if◌then◌else◌, option_map, ok_or, Err}
+use Rattle.vm_ids.specs.declared.refusal.Refusal.TheVariants.{BadLine}
+use Rattle.vm_model.specs.Run.{Read}
+use Rattle.actor_script.specs.Words.{words_of}
+use Rattle.vm_ids.specs.declared.command.Command.{Command}
+use Rattle.vm_ids.specs.declared.command.Command.TheVariants as commands
+use Rattle.actor_script.specs.Forms.{command_of, form_of, verb_form, actor_form, temp_form, destroy_form, span_of, copy_form, move_form, map_form, unmap_form, load_form, store_form, pageout_form, chain_form, stat_form}
+
+neither : (b : Bool) (o p : Option Command) → o ≡ None → p ≡ None → (if b then o else p) ≡ None
+neither true o p e f = e
+neither false o p e f = f
+
+no_actor : (xs : List (List ℕ)) → 6 < length xs → actor_form xs ≡ None
+unfolding actor_form
+no_actor [] h = absurd (omega arith)
+no_actor (a ∷ xs) h = refl
+
+no_temp : (xs : List (List ℕ)) → 6 < length xs → temp_form xs ≡ None
+unfolding temp_form
+no_temp [] h = absurd (omega arith)
+no_temp (a ∷ []) h = absurd (omega arith)
+no_temp (a ∷ b ∷ xs) h = refl
+
+no_destroy : (xs : List (List ℕ)) → 6 < length xs → destroy_form xs ≡ None
+unfolding destroy_form
+no_destroy [] h = absurd (omega arith)
+no_destroy (a ∷ []) h = absurd (omega arith)
+no_destroy (a ∷ b ∷ xs) h = refl
+
+no_span : (xs : List (List ℕ)) → 6 < length xs → span_of xs ≡ None
+unfolding span_of
+no_span [] h = absurd (omega arith)
+no_span (a ∷ []) h = absurd (omega arith)
+no_span (a ∷ b ∷ []) h = absurd (omega arith)
+no_span (a ∷ b ∷ c ∷ []) h = absurd (omega arith)
+no_span (a ∷ b ∷ c ∷ d ∷ []) h = absurd (omega arith)
+no_span (a ∷ b ∷ c ∷ d ∷ e ∷ []) h = absurd (omega arith)
+no_span (a ∷ b ∷ c ∷ d ∷ e ∷ f ∷ xs) h = refl
+
+no_copy : (xs : List (List ℕ)) → 6 < length xs → copy_form xs ≡ None
+unfolding copy_form
+no_copy xs h = ap (option_map commands.Copy) (no_span xs h)
+
+no_move : (xs : List (List ℕ)) → 6 < length xs → move_form xs ≡ None
+unfolding move_form
+no_move xs h = ap (option_map commands.Move) (no_span xs h)
+
+no_map : (xs : List (List ℕ)) → 6 < length xs → map_form xs ≡ None
+unfolding map_form
+no_map [] h = absurd (omega arith)
+no_map (a ∷ []) h = absurd (omega arith)
+no_map (a ∷ b ∷ []) h = absurd (omega arith)
+no_map (a ∷ b ∷ c ∷ []) h = absurd (omega arith)
+no_map (a ∷ b ∷ c ∷ d ∷ []) h = absurd (omega arith)
+no_map (a ∷ b ∷ c ∷ d ∷ e ∷ []) h = absurd (omega arith)
+no_map (a ∷ b ∷ c ∷ d ∷ e ∷ f ∷ []) h = absurd (omega arith)
+no_map (a ∷ b ∷ c ∷ d ∷ e ∷ f ∷ g ∷ xs) h = refl
+
+no_unmap : (xs : List (List ℕ)) → 6 < length xs → unmap_form xs ≡ None
+unfolding unmap_form
+no_unmap [] h = absurd (omega arith)
+no_unmap (a ∷ []) h = absurd (omega arith)
+no_unmap (a ∷ b ∷ xs) h = refl
+
+no_load : (xs : List (List ℕ)) → 6 < length xs → load_form xs ≡ None
+unfolding load_form
+no_load [] h = absurd (omega arith)
+no_load (a ∷ []) h = absurd (omega arith)
+no_load (a ∷ b ∷ []) h = absurd (omega arith)
+no_load (a ∷ b ∷ c ∷ []) h = absurd (omega arith)
+no_load (a ∷ b ∷ c ∷ d ∷ xs) h = refl
+
+no_store : (xs : List (List ℕ)) → 6 < length xs → store_form xs ≡ None
+unfolding store_form
+no_store [] h = absurd (omega arith)
+no_store (a ∷ []) h = absurd (omega arith)
+no_store (a ∷ b ∷ []) h = absurd (omega arith)
+no_store (a ∷ b ∷ c ∷ []) h = absurd (omega arith)
+no_store (a ∷ b ∷ c ∷ d ∷ xs) h = refl
+
+no_pageout : (xs : List (List ℕ)) → 6 < length xs → pageout_form xs ≡ None
+unfolding pageout_form
+no_pageout [] h = absurd (omega arith)
+no_pageout (a ∷ []) h = absurd (omega arith)
+no_pageout (a ∷ b ∷ xs) h = refl
+
+no_chain : (xs : List (List ℕ)) → 6 < length xs → chain_form xs ≡ None
+unfolding chain_form
+no_chain [] h = absurd (omega arith)
+no_chain (a ∷ []) h = absurd (omega arith)
+no_chain (a ∷ b ∷ []) h = absurd (omega arith)
+no_chain (a ∷ b ∷ c ∷ xs) h = refl
+
+no_stat : (xs : List (List ℕ)) → 6 < length xs → stat_form xs ≡ None
+unfolding stat_form
+no_stat [] h = absurd (omega arith)
+no_stat (a ∷ xs) h = refl
+
+-- No form has more than six operands.
+no_verb : (verb : List ℕ) (xs : List (List ℕ)) → 6 < length xs → verb_form verb xs ≡ None
+unfolding verb_form
+no_verb verb xs h =
+    neither (bytes_eq verb (codes "actor")) _ _ (no_actor xs h) (
+    neither (bytes_eq verb (codes "temp")) _ _ (no_temp xs h) (
+    neither (bytes_eq verb (codes "destroy")) _ _ (no_destroy xs h) (
+    neither (bytes_eq verb (codes "copy")) _ _ (no_copy xs h) (
+    neither (bytes_eq verb (codes "move")) _ _ (no_move xs h) (
+    neither (bytes_eq verb (codes "map")) _ _ (no_map xs h) (
+    neither (bytes_eq verb (codes "unmap")) _ _ (no_unmap xs h) (
+    neither (bytes_eq verb (codes "load")) _ _ (no_load xs h) (
+    neither (bytes_eq verb (codes "store")) _ _ (no_store xs h) (
+    neither (bytes_eq verb (codes "pageout")) _ _ (no_pageout xs h) (
+    neither (bytes_eq verb (codes "chain")) _ _ (no_chain xs h) (
+    neither (bytes_eq verb (codes "stat")) _ _ (no_stat xs h) refl)))))))))))
+
+no_longer_form : (words : List (List ℕ)) → 7 < length words → form_of words ≡ None
+no_longer_form [] h = absurd (omega arith)
+no_longer_form (v ∷ xs) h = no_verb v xs (omega arith)
+
+bad : (b : Bool) (o : Option Command) → o ≡ None → (let r : Read = if b then Err BadLine else ok_or o BadLine in r) ≡ Err BadLine
+bad true o e = refl
+bad false o e = ap (λ (x : Option Command). ok_or x BadLine) e
+
+pub too_many_words : (line : List ℕ) → 7 < length (words_of line) → command_of line ≡ Err BadLine
+unfolding command_of
+too_many_words line h = bad (nat_lt 256 (length line)) (form_of (words_of line)) (no_longer_form (words_of line) h)

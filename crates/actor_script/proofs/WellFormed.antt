@@ -1,0 +1,179 @@
+-- Lines ask only well-formed commands.
+use Rattle.std.proofs.Common.{◌≡◌, ◌==◌, ◌≤◌, ℕ, Bool, true, false, List, [], ◌∷◌, Option, Some, None, refl, arith, nat_le, nat_lt, length}
+use Rattle.std.specs.Prelude.{option_and_then, option_map, IfSome, IfOk, bytes_eq, codes, if◌then◌else◌}
+use Rattle.std.specs.Option.{ok_or}
+use Rattle.vm_ids.specs.declared.command.Command.{Command}
+use Rattle.vm_ids.specs.declared.command.Command.TheVariants as commands
+use Rattle.vm_ids.specs.declared.command.Span.{Span}
+use Rattle.vm_ids.specs.declared.refusal.Refusal.TheVariants.{BadLine}
+use Rattle.vm_model.specs.Asking.{IsWellFormed}
+use Rattle.std.proofs.lemmas.Bool.{leb-true, eqb-false}
+use Rattle.actor_script.specs.Words.{words_of}
+use Rattle.actor_script.specs.Operands.{number_of, count_of, unless_zero, length_of, if_few, lettered, address_of, bytes_of, mode_of}
+use Rattle.actor_script.specs.Forms.{form_of, command_of, verb_form, actor_form, temp_form, destroy_form, span_of, copy_form, move_form, map_form, unmap_form, load_form, store_form, pageout_form, chain_form, stat_form}
+
+-- what holds of all that a step gives, whatever it is given
+any_then : {A B : Type 0} (o : Option A) (f : A → Option B) (P : B → Type 0) → ((x : A) → IfSome (f x) P) → IfSome (option_and_then f o) P
+any_then None f P h = tt
+any_then (Some x) f P h = h x
+
+-- or where it is given something that Q holds of
+such_then : {A B : Type 0} (o : Option A) (f : A → Option B) (Q : A → Type 0) (P : B → Type 0) → IfSome o Q → ((x : A) → Q x → IfSome (f x) P) → IfSome (option_and_then f o) P
+such_then None f Q P q h = tt
+such_then (Some x) f Q P q h = h x q
+
+if_true : {A : Type 0} (b : Bool) (o p : Option A) (P : A → Type 0) → (b ≡ true → IfSome o P) → (b ≡ false → IfSome p P) → IfSome (if b then o else p) P
+if_true true o p P h k = h refl
+if_true false o p P h k = k refl
+
+IsCount : ℕ → Type 0
+IsCount n = 1 ≤ n
+
+counts : (word : List ℕ) → IfSome (count_of word) (λ n. 1 ≤ n)
+unfolding count_of
+counts word = any_then (number_of word) unless_zero (λ n. 1 ≤ n) (λ n. if_true (n == 0) None (Some n) (λ n. 1 ≤ n) (λ e. tt) (λ e. grind (arith, eqb-false n 0 e)))
+
+lengths : (word : List ℕ) → IfSome (length_of word) (λ n. (1 ≤ n) × (n ≤ 64))
+unfolding length_of
+lengths word = such_then (count_of word) if_few (λ n. 1 ≤ n) (λ n. (1 ≤ n) × (n ≤ 64)) (counts word)
+    (λ n some. if_true (nat_le n 64) (Some n) None (λ n. (1 ≤ n) × (n ≤ 64)) (λ e. (some, leb-true n 64 e)) (λ e. tt))
+
+actor_is : (xs : List (List ℕ)) → IfSome (actor_form xs) IsWellFormed
+unfolding actor_form
+actor_is [] = tt
+actor_is (a ∷ xs) = tt
+
+temp_is : (xs : List (List ℕ)) → IfSome (temp_form xs) IsWellFormed
+unfolding temp_form
+temp_is [] = tt
+temp_is (a ∷ []) = such_then (count_of a) _ (λ n. 1 ≤ n) IsWellFormed (counts a) (λ n some. some)
+temp_is (a ∷ b ∷ xs) = tt
+
+destroy_is : (xs : List (List ℕ)) → IfSome (destroy_form xs) IsWellFormed
+unfolding destroy_form
+destroy_is [] = tt
+destroy_is (a ∷ []) = any_then (lettered 99 a) _ IsWellFormed (λ n. tt)
+destroy_is (a ∷ b ∷ xs) = tt
+
+span_is : (xs : List (List ℕ)) → IfSome (span_of xs) (λ s. 1 ≤ s.pages)
+unfolding span_of
+span_is [] = tt
+span_is (a ∷ []) = tt
+span_is (a ∷ b ∷ []) = tt
+span_is (a ∷ b ∷ c ∷ []) = tt
+span_is (a ∷ b ∷ c ∷ d ∷ []) = tt
+span_is (a ∷ b ∷ c ∷ d ∷ e ∷ []) =
+    let P : Span → Type 0 = λ s. 1 ≤ s.pages in
+    any_then (lettered 99 a) _ P (λ n.
+    any_then (number_of b) _ P (λ n.
+    any_then (lettered 99 c) _ P (λ n.
+    any_then (number_of d) _ P (λ n.
+    such_then (count_of e) _ (λ n. 1 ≤ n) P (counts e) (λ n some. some)))))
+span_is (a ∷ b ∷ c ∷ d ∷ e ∷ f ∷ xs) = tt
+
+as_command : (o : Option Span) (f : Span → Command) → ((s : Span) → 1 ≤ s.pages → IsWellFormed (f s)) → IfSome o (λ s. 1 ≤ s.pages) → IfSome (option_map f o) IsWellFormed
+as_command None f h some = tt
+as_command (Some s) f h some = h s some
+
+copy_is : (xs : List (List ℕ)) → IfSome (copy_form xs) IsWellFormed
+unfolding copy_form
+copy_is xs = as_command (span_of xs) commands.Copy (λ s some. some) (span_is xs)
+
+move_is : (xs : List (List ℕ)) → IfSome (move_form xs) IsWellFormed
+unfolding move_form
+move_is xs = as_command (span_of xs) commands.Move (λ s some. some) (span_is xs)
+
+map_is : (xs : List (List ℕ)) → IfSome (map_form xs) IsWellFormed
+unfolding map_form
+map_is [] = tt
+map_is (a ∷ []) = tt
+map_is (a ∷ b ∷ []) = tt
+map_is (a ∷ b ∷ c ∷ []) = tt
+map_is (a ∷ b ∷ c ∷ d ∷ []) = tt
+map_is (a ∷ b ∷ c ∷ d ∷ e ∷ []) = tt
+map_is (a ∷ b ∷ c ∷ d ∷ e ∷ f ∷ []) =
+    any_then (lettered 97 a) _ IsWellFormed (λ n.
+    any_then (lettered 99 b) _ IsWellFormed (λ n.
+    any_then (number_of c) _ IsWellFormed (λ n.
+    such_then (count_of d) _ (λ n. 1 ≤ n) IsWellFormed (counts d) (λ n some.
+    any_then (address_of e) _ IsWellFormed (λ n.
+    any_then (mode_of f) _ IsWellFormed (λ n. some))))))
+map_is (a ∷ b ∷ c ∷ d ∷ e ∷ f ∷ g ∷ xs) = tt
+
+unmap_is : (xs : List (List ℕ)) → IfSome (unmap_form xs) IsWellFormed
+unfolding unmap_form
+unmap_is [] = tt
+unmap_is (a ∷ []) = any_then (lettered 114 a) _ IsWellFormed (λ n. tt)
+unmap_is (a ∷ b ∷ xs) = tt
+
+load_is : (xs : List (List ℕ)) → IfSome (load_form xs) IsWellFormed
+unfolding load_form
+load_is [] = tt
+load_is (a ∷ []) = tt
+load_is (a ∷ b ∷ []) = tt
+load_is (a ∷ b ∷ c ∷ []) =
+    any_then (lettered 97 a) _ IsWellFormed (λ n.
+    any_then (address_of b) _ IsWellFormed (λ n.
+    such_then (length_of c) _ (λ n. (1 ≤ n) × (n ≤ 64)) IsWellFormed (lengths c) (λ n few. few)))
+load_is (a ∷ b ∷ c ∷ d ∷ xs) = tt
+
+store_is : (xs : List (List ℕ)) → IfSome (store_form xs) IsWellFormed
+unfolding store_form
+store_is [] = tt
+store_is (a ∷ []) = tt
+store_is (a ∷ b ∷ []) = tt
+store_is (a ∷ b ∷ c ∷ []) =
+    any_then (lettered 97 a) _ IsWellFormed (λ n.
+    any_then (address_of b) _ IsWellFormed (λ n.
+    any_then (bytes_of c) _ IsWellFormed (λ n. tt)))
+store_is (a ∷ b ∷ c ∷ d ∷ xs) = tt
+
+pageout_is : (xs : List (List ℕ)) → IfSome (pageout_form xs) IsWellFormed
+unfolding pageout_form
+pageout_is [] = tt
+pageout_is (a ∷ []) = such_then (count_of a) _ (λ n. 1 ≤ n) IsWellFormed (counts a) (λ n some. some)
+pageout_is (a ∷ b ∷ xs) = tt
+
+chain_is : (xs : List (List ℕ)) → IfSome (chain_form xs) IsWellFormed
+unfolding chain_form
+chain_is [] = tt
+chain_is (a ∷ []) = tt
+chain_is (a ∷ b ∷ []) = any_then (lettered 99 a) _ IsWellFormed (λ n. any_then (number_of b) _ IsWellFormed (λ n. tt))
+chain_is (a ∷ b ∷ c ∷ xs) = tt
+
+stat_is : (xs : List (List ℕ)) → IfSome (stat_form xs) IsWellFormed
+unfolding stat_form
+stat_is [] = tt
+stat_is (a ∷ xs) = tt
+
+verb_is : (verb : List ℕ) (xs : List (List ℕ)) → IfSome (verb_form verb xs) IsWellFormed
+unfolding verb_form
+verb_is verb xs =
+    if_true (bytes_eq verb (codes "actor")) _ _ IsWellFormed (λ e. actor_is xs) (λ e.
+    if_true (bytes_eq verb (codes "temp")) _ _ IsWellFormed (λ e. temp_is xs) (λ e.
+    if_true (bytes_eq verb (codes "destroy")) _ _ IsWellFormed (λ e. destroy_is xs) (λ e.
+    if_true (bytes_eq verb (codes "copy")) _ _ IsWellFormed (λ e. copy_is xs) (λ e.
+    if_true (bytes_eq verb (codes "move")) _ _ IsWellFormed (λ e. move_is xs) (λ e.
+    if_true (bytes_eq verb (codes "map")) _ _ IsWellFormed (λ e. map_is xs) (λ e.
+    if_true (bytes_eq verb (codes "unmap")) _ _ IsWellFormed (λ e. unmap_is xs) (λ e.
+    if_true (bytes_eq verb (codes "load")) _ _ IsWellFormed (λ e. load_is xs) (λ e.
+    if_true (bytes_eq verb (codes "store")) _ _ IsWellFormed (λ e. store_is xs) (λ e.
+    if_true (bytes_eq verb (codes "pageout")) _ _ IsWellFormed (λ e. pageout_is xs) (λ e.
+    if_true (bytes_eq verb (codes "chain")) _ _ IsWellFormed (λ e. chain_is xs) (λ e.
+    if_true (bytes_eq verb (codes "stat")) _ _ IsWellFormed (λ e. stat_is xs) (λ e. tt))))))))))))
+
+pub form : (words : List (List ℕ)) → IfSome (form_of words) IsWellFormed
+form [] = tt
+form (verb ∷ operands) = verb_is verb operands
+
+pub read_form : (o : Option Command) → IfSome o IsWellFormed → IfOk (ok_or o BadLine) IsWellFormed
+read_form None h = tt
+read_form (Some command) h = h
+
+read_long : (b : Bool) (o : Option Command) → IfSome o IsWellFormed → IfOk (if b then ok_or None BadLine else ok_or o BadLine) IsWellFormed
+read_long true o h = tt
+read_long false o h = read_form o h
+
+pub well_formed : (line : List ℕ) → IfOk (command_of line) IsWellFormed
+unfolding command_of
+well_formed line = read_long (nat_lt 256 (length line)) (form_of (words_of line)) (form (words_of line))

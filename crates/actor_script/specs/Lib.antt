@@ -1,0 +1,5 @@
+pub mod Forms
+pub mod Operands
+pub mod Text
+pub mod Words
+pub mod Writing

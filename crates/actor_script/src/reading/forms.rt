@@ -1,0 +1,271 @@
+// The forms of lines.
+ghost use Rattle.std.specs.Prelude.{◌≡◌, map, IfOk};
+ghost use Rattle.vm_model.specs.Asking.{IsWellFormed};
+ghost use Rattle.actor_script.specs.Forms.{command_of, form_of, verb_form, actor_form, temp_form, destroy_form, span_of, copy_form, move_form, map_form, unmap_form, load_form, store_form, pageout_form, chain_form, stat_form};
+ghost use Rattle.actor_script.specs.Operands.{mode_of};
+
+use super::hexadecimal::{read_address, read_bytes};
+use super::numbers::{read_count, read_length, read_lettered, read_number};
+use super::words::split_words;
+use vm_ids::{ActorId, CacheId, Command, Extent, Mapping, PageNo, Prot, Refusal, RegionId, Span};
+
+// A longer line is no command.
+const LONGEST_LINE: usize = 256;
+
+// `actor`
+#[tactic(auto, unfolding(crate::specs::Forms::actor_form))]
+fn read_actor(operands: &[&[u8]]) -> Option<Command>
+    ensures { result ≡ actor_form (map (λ w. w.now) operands.now) }
+{
+    match operands {
+        [] => Some(Command::MakeActor),
+        _ => None,
+    }
+}
+
+// `temp N`
+#[tactic(auto, unfolding(crate::specs::Forms::temp_form))]
+fn read_temp(operands: &[&[u8]]) -> Option<Command>
+    ensures { result ≡ temp_form (map (λ w. w.now) operands.now) }
+{
+    match operands {
+        [pages] => Some(Command::MakeTemp(read_count(pages)?)),
+        _ => None,
+    }
+}
+
+// `destroy C`
+#[tactic(auto, unfolding(crate::specs::Forms::destroy_form))]
+fn read_destroy(operands: &[&[u8]]) -> Option<Command>
+    ensures { result ≡ destroy_form (map (λ w. w.now) operands.now) }
+{
+    match operands {
+        [cache] => Some(Command::Destroy(CacheId(read_lettered(b'c', cache)?))),
+        _ => None,
+    }
+}
+
+// `C O D Q N`
+#[tactic(auto, unfolding(crate::specs::Forms::span_of))]
+fn read_span(operands: &[&[u8]]) -> Option<Span>
+    ensures { result ≡ span_of (map (λ w. w.now) operands.now) }
+{
+    match operands {
+        [from, from_page, to, to_page, pages] => {
+            let from = CacheId(read_lettered(b'c', from)?);
+            let from_page = PageNo(read_number(from_page)?);
+            let to = CacheId(read_lettered(b'c', to)?);
+            let to_page = PageNo(read_number(to_page)?);
+            let pages = read_count(pages)?;
+            Some(Span {
+                from,
+                from_page,
+                to,
+                to_page,
+                pages,
+            })
+        }
+        _ => None,
+    }
+}
+
+// `copy C O D Q N`
+#[tactic(auto, unfolding(crate::specs::Forms::copy_form))]
+fn read_copy(operands: &[&[u8]]) -> Option<Command>
+    ensures { result ≡ copy_form (map (λ w. w.now) operands.now) }
+{
+    Some(Command::Copy(read_span(operands)?))
+}
+
+// `move C O D Q N`
+#[tactic(auto, unfolding(crate::specs::Forms::move_form))]
+fn read_move(operands: &[&[u8]]) -> Option<Command>
+    ensures { result ≡ move_form (map (λ w. w.now) operands.now) }
+{
+    Some(Command::Move(read_span(operands)?))
+}
+
+// `r` or `rw`
+#[tactic(auto, unfolding(crate::specs::Operands::mode_of))]
+fn read_mode(word: &[u8]) -> Option<Prot>
+    ensures { result ≡ mode_of word.now }
+{
+    if word == b"r".as_slice() {
+        Some(Prot { write: false })
+    } else if word == b"rw".as_slice() {
+        Some(Prot { write: true })
+    } else {
+        None
+    }
+}
+
+// `map A C O N ADDR MODE`
+#[tactic(auto, unfolding(crate::specs::Forms::map_form))]
+fn read_map(operands: &[&[u8]]) -> Option<Command>
+    ensures { result ≡ map_form (map (λ w. w.now) operands.now) }
+{
+    match operands {
+        [actor, cache, first, pages, address, mode] => {
+            let actor = ActorId(read_lettered(b'a', actor)?);
+            let cache = CacheId(read_lettered(b'c', cache)?);
+            let first = PageNo(read_number(first)?);
+            let pages = read_count(pages)?;
+            let address = read_address(address)?;
+            let prot = read_mode(mode)?;
+            let extent = Extent {
+                cache,
+                first,
+                pages,
+            };
+            Some(Command::Map(
+                actor,
+                Mapping {
+                    extent,
+                    address,
+                    prot,
+                },
+            ))
+        }
+        _ => None,
+    }
+}
+
+// `unmap R`
+#[tactic(auto, unfolding(crate::specs::Forms::unmap_form))]
+fn read_unmap(operands: &[&[u8]]) -> Option<Command>
+    ensures { result ≡ unmap_form (map (λ w. w.now) operands.now) }
+{
+    match operands {
+        [region] => Some(Command::Unmap(RegionId(read_lettered(b'r', region)?))),
+        _ => None,
+    }
+}
+
+// `load A ADDR LEN`
+#[tactic(auto, unfolding(crate::specs::Forms::load_form))]
+fn read_load(operands: &[&[u8]]) -> Option<Command>
+    ensures { result ≡ load_form (map (λ w. w.now) operands.now) }
+{
+    match operands {
+        [actor, address, length] => {
+            let actor = ActorId(read_lettered(b'a', actor)?);
+            let address = read_address(address)?;
+            let length = read_length(length)?;
+            Some(Command::Load(actor, address, length))
+        }
+        _ => None,
+    }
+}
+
+// `store A ADDR BYTES`
+#[tactic(auto, unfolding(crate::specs::Forms::store_form))]
+fn read_store(operands: &[&[u8]]) -> Option<Command>
+    ensures { result ≡ store_form (map (λ w. w.now) operands.now) }
+{
+    match operands {
+        [actor, address, bytes] => {
+            let actor = ActorId(read_lettered(b'a', actor)?);
+            let address = read_address(address)?;
+            let piece = read_bytes(bytes)?;
+            Some(Command::Store(actor, address, piece))
+        }
+        _ => None,
+    }
+}
+
+// `pageout N`
+#[tactic(auto, unfolding(crate::specs::Forms::pageout_form))]
+fn read_pageout(operands: &[&[u8]]) -> Option<Command>
+    ensures { result ≡ pageout_form (map (λ w. w.now) operands.now) }
+{
+    match operands {
+        [pages] => Some(Command::PageOut(read_count(pages)?)),
+        _ => None,
+    }
+}
+
+// `chain C P`
+#[tactic(auto, unfolding(crate::specs::Forms::chain_form))]
+fn read_chain(operands: &[&[u8]]) -> Option<Command>
+    ensures { result ≡ chain_form (map (λ w. w.now) operands.now) }
+{
+    match operands {
+        [cache, page] => {
+            let cache = CacheId(read_lettered(b'c', cache)?);
+            let page = PageNo(read_number(page)?);
+            Some(Command::Chain(cache, page))
+        }
+        _ => None,
+    }
+}
+
+// `stat`
+#[tactic(auto, unfolding(crate::specs::Forms::stat_form))]
+fn read_stat(operands: &[&[u8]]) -> Option<Command>
+    ensures { result ≡ stat_form (map (λ w. w.now) operands.now) }
+{
+    match operands {
+        [] => Some(Command::Stat),
+        _ => None,
+    }
+}
+
+// The form of a verb.
+#[tactic(auto, unfolding(crate::specs::Forms::verb_form))]
+fn read_verb(verb: &[u8], operands: &[&[u8]]) -> Option<Command>
+    ensures { result ≡ verb_form verb.now (map (λ w. w.now) operands.now) }
+{
+    if verb == b"actor".as_slice() {
+        read_actor(operands)
+    } else if verb == b"temp".as_slice() {
+        read_temp(operands)
+    } else if verb == b"destroy".as_slice() {
+        read_destroy(operands)
+    } else if verb == b"copy".as_slice() {
+        read_copy(operands)
+    } else if verb == b"move".as_slice() {
+        read_move(operands)
+    } else if verb == b"map".as_slice() {
+        read_map(operands)
+    } else if verb == b"unmap".as_slice() {
+        read_unmap(operands)
+    } else if verb == b"load".as_slice() {
+        read_load(operands)
+    } else if verb == b"store".as_slice() {
+        read_store(operands)
+    } else if verb == b"pageout".as_slice() {
+        read_pageout(operands)
+    } else if verb == b"chain".as_slice() {
+        read_chain(operands)
+    } else if verb == b"stat".as_slice() {
+        read_stat(operands)
+    } else {
+        None
+    }
+}
+
+fn read_form(words: &[&[u8]]) -> Option<Command>
+    ensures { result ≡ form_of (map (λ w. w.now) words.now) }
+{
+    match words {
+        [verb, operands @ ..] => read_verb(verb, operands),
+        [] => None,
+    }
+}
+
+/// Reads a line, which has no line feed, as a command.
+///
+/// `BadLine` exactly where the line has more than 256 bytes or none of the forms of the script language.
+#[tactic(auto, unfolding(crate::specs::Forms::command_of))]
+pub fn read_line(line: &[u8]) -> Result<Command, Refusal>
+    ensures command { result ≡ command_of line.now }
+    ensures well_formed { IfOk result IsWellFormed }
+{
+    if line.len() > LONGEST_LINE {
+        return Err(Refusal::BadLine);
+    }
+    match split_words(line) {
+        Some(words) => read_form(words.as_slice()).ok_or(Refusal::BadLine),
+        None => Err(Refusal::BadLine),
+    }
+}

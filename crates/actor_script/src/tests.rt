@@ -1,0 +1,113 @@
+// The language by values from outside: lines that are none of its forms, and the text of each kind of answer.
+use crate::{read_line, write_reply};
+use vm_ids::{
+    ActorId, Answer, CacheId, Counts, FaultAt, NoMemory, PageNo, Refusal, RegionId, Reply, Trouble,
+};
+use vm_port::MemorySink;
+
+#[test]
+fn lines_outside_the_grammar_are_refused(rt: HostRuntime) {
+    for line in [
+        b" actor".as_slice(),
+        b"actor ",
+        b"actor  ",
+        b"load  a1 10000 1",
+        b"actor\t",
+        b"\tactor",
+        b"load\ta1 10000 1",
+        b"actor\r",
+        b"actor 1",
+        b"temp",
+        b"temp 0",
+        b"temp 01",
+        b"temp +1",
+        b"temp -1",
+        b"temp 4294967296",
+        b"temp 99999999999",
+        b"load a1 10000 0",
+        b"load a1 10000 65",
+        b"load a1 10000 01",
+        b"load a1 1000000000000 1",
+        b"load a1 1000g 1",
+        b"load a1  1",
+        b"load 1 10000 1",
+        b"load c1 10000 1",
+        b"load a01 10000 1",
+        b"load a1 10000",
+        b"store a1 10000 0",
+        b"store a1 10000 001",
+        b"store a1 10000 0g",
+        b"store a1 10000 0000000000000000000000000000000000000000000000000000000000000000000000000000000000000000000000000000000000000000000000000000000000",
+        b"map a1 c1 0 1 10000 w",
+        b"map a1 c1 0 1 10000 RW",
+        b"map a1 c1 0 0 10000 rw",
+        b"map a1 c1 0 1 10000 rw rw",
+        b"copy c1 0 c2 0 0",
+        b"copy c1 0 c2 0 1 1",
+        b"Actor",
+        b"ACTOR",
+        b"status r1",
+        b"stat 1",
+        b"chain c1",
+        b"chain c1 0 1",
+        b"destroy 1",
+        b"unmap c1",
+        b"pageout 0",
+        b"move c1 0 c2 0 0",
+        b"act\xc3\xb6r",
+        b"temp \xff",
+        b"#",
+    ] {
+        match read_line(line) {
+            Ok(_) => panic!(&rt; "a command"),
+            Err(refusal) => assert_eq!(&rt; refusal, Refusal::BadLine),
+        }
+    }
+}
+
+#[test]
+fn answers_have_their_texts(rt: HostRuntime) -> Result<(), NoMemory> {
+    let answers: [(Answer, &str); 12] = [
+        (Ok(Reply::Done), "7 ok\n"),
+        (Ok(Reply::Actor(ActorId(1))), "7 ok a1\n"),
+        (Ok(Reply::Cache(CacheId(12))), "7 ok c12\n"),
+        (Ok(Reply::Region(RegionId(65535))), "7 ok r65535\n"),
+        (
+            Ok(Reply::Stat(Counts {
+                live: 3,
+                working: 2,
+                copies: 1,
+            })),
+            "7 stat live 3 working 2 copies 1\n",
+        ),
+        (Err(Trouble::Refused(Refusal::NoCache)), "7 no NoCache\n"),
+        (
+            Err(Trouble::Mapper(FaultAt::Opening)),
+            "7 fault mapper open\n",
+        ),
+        (
+            Err(Trouble::Mapper(FaultAt::Access(PageNo(2)))),
+            "7 fault mapper access 2\n",
+        ),
+        (
+            Err(Trouble::Mapper(FaultAt::Save(1))),
+            "7 fault mapper save 1\n",
+        ),
+        (
+            Err(Trouble::Mapper(FaultAt::Page(PageNo(3)))),
+            "7 fault mapper page 3\n",
+        ),
+        (
+            Err(Trouble::Mapper(FaultAt::Victim)),
+            "7 fault mapper victim\n",
+        ),
+        (Err(Trouble::Memory), "7 fault memory\n"),
+    ];
+    for (answer, text) in answers {
+        let mut sink = MemorySink::new(rt.alloc(), 64, &[])?;
+        let written = write_reply(7, &answer, &mut sink);
+        assert!(&rt; written.is_ok());
+        assert_eq!(&rt; sink.written(), text.as_bytes());
+    }
+    Ok(())
+}
