@@ -1,23 +1,28 @@
 //! The program `chorusvm`: it replays a script of actors on standard input, and writes the replies to standard output.
 //!
 //! It is the top of the layers, and has no model of its own: what it answers is said by the contract of the one call
-//! that it makes, `replay::run`. Here stand only the adapters over the real streams, and the exit statuses with their
-//! messages on standard error.
+//! that it makes, `replay::run`. Here stand only the adapters over the real streams and over the files of the working
+//! folder, and the messages on standard error. In that folder `swap` is the swap area, and `seg.N` would be segment N,
+//! which no command names yet.
 #![tactic(auto)]
 
 mod fault;
+mod file_mapper;
+mod folder;
 mod sink;
 mod source;
 #[cfg(test)]
 mod tests;
 
 use fault::Fault;
+use file_mapper::FileMapper;
 use replay::{Status, run};
 use sink::StreamSink;
 use source::StreamSource;
 use std::env;
 use std::process::ExitCode;
-use vm_port::{Fifo, NoMapper};
+use vm_ids::PAGE;
+use vm_port::Clock;
 
 // The words behind the program's name. Words that can't be had as text are those of no run.
 fn words_given(rt: &HostRuntime) -> Result<Vec<String>, Status> {
@@ -43,8 +48,10 @@ fn run_words(rt: &HostRuntime, words: &[String]) -> Status {
     }
     let mut source = StreamSource::new(rt.stdin());
     let mut sink = StreamSink::new(rt.stdout());
-    let mut mapper = NoMapper::new();
-    let mut chooser = Fifo::new();
+    let Ok(mut mapper) = FileMapper::new(rt, rt.alloc(), ".", PAGE as u32) else {
+        return Status::NoMemory;
+    };
+    let mut chooser = Clock::new();
     run(
         rt.alloc(),
         &texts,

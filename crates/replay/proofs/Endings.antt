@@ -2,10 +2,10 @@
 use Rattle.std.proofs.Common.{◌≡◌, ◌≤◌, ◌<◌, ◌+◌, ℕ, List, [], ◌∷◌, ◌++◌, length, take, Option, Some, None, Result, refl, sym, ap, subst, ◌∙◌, append_assoc, arith}
 use Rattle.std.specs.Prelude.{option_map, IfSome}
 use Rattle.std.proofs.lemmas.List.{append-nil, length-append, length-take, take_all, take-append-le}
-use Rattle.replay.specs.Forms.{command_of}
+use Rattle.actor_script.specs.Forms.{command_of}
 use Rattle.replay.specs.Script.{commands_of, ended_commands_of, unended_of, most_bytes, IsFront}
-use Rattle.replay.specs.Ending.{Scene, Answered, CutOff, Took, Finished, Interrupted}
-use Rattle.replay.specs.Going.{Going, Broken, Reached, LineDone, AnsweredOr, Ends, front_of_line}
+use Rattle.replay.specs.Ending.{Scene, Answered, CutOff, Ends, Took, Finished, Interrupted}
+use Rattle.replay.specs.Going.{Going, Broken, Reached, LineDone, AnsweredOr, front_of_line}
 use Rattle.replay.specs.declared.status.Status.TheVariants as statuses
 use Rattle.replay.proofs.Lines.{front_same, front_trans, front_commands, no_last_line, last_line}
 use Rattle.replay.proofs.OneByte.{going_start, answered_line}

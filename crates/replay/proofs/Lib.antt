@@ -1,10 +1,4 @@
 pub mod Lines
-pub mod Forms
-pub mod Hexadecimal
-pub mod Numbers
-pub mod Splitting
-pub mod Written
-pub mod WellFormed
 pub mod Fronts
 pub mod Running
 pub mod OneByte

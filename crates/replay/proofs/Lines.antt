@@ -4,7 +4,7 @@ use Rattle.std.specs.List.{onto_first}
 use Rattle.std.proofs.lemmas.Bool.{cases_lt, cond_below, eqb-true}
 use Rattle.std.proofs.lemmas.List.{append-nil, map-append, take_all, length-take}
 use Rattle.vm_ids.specs.declared.refusal.Refusal.TheVariants.{BadLine}
-use Rattle.replay.specs.Forms.{command_of, read_of}
+use Rattle.actor_script.specs.Forms.{command_of, read_of}
 use Rattle.replay.specs.Script.{parts_of, all_but_last, last_part, ended_lines_of, unended_of, lines_of, unless_empty, commands_of, ended_commands_of, IsFront}
 
 -- there is a part

@@ -3,7 +3,7 @@ use Rattle.std.proofs.Common.{◌≡◌, ◌≢◌, ◌<◌, ◌≤◌, ◌+◌,
 use Rattle.std.proofs.lemmas.Bool.{ne_eqb}
 use Rattle.std.proofs.lemmas.List.{map-append, length-append, take_more, take_all, take-append-drop}
 use Rattle.vm_model.specs.Run.{Read}
-use Rattle.replay.specs.Forms.{command_of}
+use Rattle.actor_script.specs.Forms.{command_of}
 use Rattle.replay.specs.Script.{ended_lines_of, unended_of, ended_commands_of}
 use Rattle.replay.specs.Ending.{Scene, Answered}
 use Rattle.replay.specs.Going.{Going, Broken, GoingOr, LineDone, AnsweredOr, front_of_line}

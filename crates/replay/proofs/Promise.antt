@@ -1,42 +1,81 @@
 -- What a run promises, from how its replay ends.
-use Rattle.std.proofs.Common.{◌≡◌, ◌≤◌, ◌<◌, ◌+◌, ℕ, List, ◌++◌, length, Option, Some, None, refl, sym, ap, subst, arith, inl}
-use Rattle.std.specs.Prelude.{◌⊎◌, ◌↔◌, IfSome, IsSomeAnd}
+use Rattle.std.proofs.Common.{◌≡◌, ◌≤◌, ◌<◌, ◌+◌, ℕ, List, [], ◌∷◌, ◌++◌, length, Option, Some, None, refl, sym, ap, subst, arith, inl}
+use Rattle.std.specs.Prelude.{◌⊎◌, ◌↔◌, map, IfOk, IfSome, IsSomeAnd}
+use Rattle.std.specs.List.{AllByRecursion}
 use Rattle.std.proofs.lemmas.List.{length-append}
 use Rattle.vm_ids.specs.Counting.{Rose, last_count}
+use Rattle.vm_ids.specs.Held.{Segments}
+use Rattle.vm_ids.specs.Forest.Nodes.{no_forest}
+use Rattle.vm_model.specs.Asking.{IsWellFormed}
+use Rattle.vm_model.specs.Laws.{IsFollowed}
 use Rattle.vm_model.specs.Machine.{Machine, start}
-use Rattle.replay.specs.Script.{most_bytes}
-use Rattle.replay.specs.Ending.{Scene, Took, Finished, Stopped, Interrupted}
-use Rattle.vm_model.specs.Outcome.{blank, seen_at}
+use Rattle.vm_model.specs.PageForest.{PageForest}
+use Rattle.vm_model.specs.Run.{Read, Step, State, RunOf, lines_answered, numbered_from}
+use Rattle.vm_model.proofs.Runs.{runs_are_followed}
+use Rattle.actor_script.specs.Forms.{command_of}
+use Rattle.replay.specs.Script.{most_bytes, lines_of}
+use Rattle.replay.specs.Ending.{Scene, Took, Ends, RunEnds, page_size}
 use Rattle.gmi_calls.specs.Calling.{Fits}
-use Rattle.replay.specs.Going.{Ends, IsReady}
+use Rattle.replay.specs.Going.{IsReady}
 use Rattle.replay.specs.declared.status.Status.{Status}
 use Rattle.replay.specs.declared.status.Status.TheVariants as statuses
+use Rattle.actor_script.proofs.WellFormed.{well_formed}
 
-module _ (status : Status) (old now : Machine → Scene) (l k : Option (List ℕ)) (frames : ℕ) (asked : Option ℕ) (is : Some frames ≡ asked) (first last : Machine) (begins : first ≡ start frames 4096) (ends : Ends status (old first) (now last) l k) where
-  from_start : Ends status (old (start frames 4096)) (now last) l k
-  from_start = subst (λ (m : Machine). Ends status (old m) (now last) l k) begins ends
+-- the page forest at the end
 
-  as_asked : (P : ℕ → Type 0) → P frames → IfSome asked P
-  as_asked P h = subst (λ (o : Option ℕ). IfSome o P) is h
+abbrev AreWellFormed : List Read → Type 0
+AreWellFormed reads = AllByRecursion (λ (r : Read). IfOk r IsWellFormed) reads
 
-  ends_as : (s : Status) → status ≡ s → Ends s (old (start frames 4096)) (now last) l k
-  ends_as s e = subst (λ (t : Status). Ends t (old (start frames 4096)) (now last) l k) e from_start
+lines_formed : (lines : List (List ℕ)) → AreWellFormed (map command_of lines)
+lines_formed [] = tt
+lines_formed (line ∷ lines) = (well_formed line, lines_formed lines)
 
-  pub done : status ≡ statuses.Done → IfSome asked (λ f. (m : Machine) × Finished (old (start f 4096)) (now m) l k)
-  done e = as_asked (λ f. (m : Machine) × Finished (old (start f 4096)) (now m) l k) (last, ends_as statuses.Done e)
+front_formed : (front back : List Read) → AreWellFormed (front ++ back) → AreWellFormed front
+front_formed [] back h = tt
+front_formed (r ∷ front) back h = (h.0, front_formed front back h.1)
 
-  pub source_fault : status ≡ statuses.SourceFault → IfSome asked (λ f. (m : Machine) × (script : List ℕ) × (length script ≤ most_bytes) × Stopped (old (start f 4096)) (now m) l k script)
-  source_fault e =
-      let s = ends_as statuses.SourceFault e in
-      as_asked (λ f. (m : Machine) × (script : List ℕ) × (length script ≤ most_bytes) × Stopped (old (start f 4096)) (now m) l k script) (last, s.0, s.1, s.2)
+steps_formed : (first : ℕ) (reads : List Read) (steps : List Step) → lines_answered steps ≡ numbered_from first reads → AreWellFormed reads → AllByRecursion (λ (step : Step). IfOk step.read IsWellFormed) steps
+steps_formed first reads [] e h = tt
+steps_formed first [] (step ∷ steps) e h = absurd (cc)
+steps_formed first (r ∷ reads) (step ∷ steps) e h =
+    let both : (step.number, step.read) ≡ (first, r) = cc in
+    let same : step.read ≡ r = ap (λ (p : ℕ × Read). p.1) both in
+    let rest : lines_answered steps ≡ numbered_from (first + 1) reads = cc in
+    (subst (λ (read : Read). IfOk read IsWellFormed) (sym same) h.0, steps_formed (first + 1) reads steps rest h.1)
 
-  pub too_long : status ≡ statuses.TooLong → IfSome asked (λ f. (m : Machine) × (script : List ℕ) × (length script ≡ most_bytes + 1) × Stopped (old (start f 4096)) (now m) l k script)
-  too_long e =
-      let s = ends_as statuses.TooLong e in
-      as_asked (λ f. (m : Machine) × (script : List ℕ) × (length script ≡ most_bytes + 1) × Stopped (old (start f 4096)) (now m) l k script) (last, s.0, s.1, s.2)
+module _ (a : Scene) (frames : ℕ) (told : Option Segments) (begins : a.state ≡ record { machine = start frames page_size; forest = Some no_forest; segments = told }) where
+  run_followed : (reads : List Read) (steps : List Step) (after : State) → AreWellFormed reads → RunOf a.state reads steps after → IsSomeAnd after.forest (IsFollowed after.machine)
+  run_followed reads steps after h run =
+      runs_are_followed frames page_size told reads steps after (omega arith) (steps_formed 1 reads steps run.order h) (subst (λ (s : State). RunOf s reads steps after) begins run)
 
-  pub sink_fault : status ≡ statuses.SinkFault → IfSome asked (λ f. (m : Machine) × Interrupted (old (start f 4096)) (now m) l k)
-  sink_fault e = as_asked (λ f. (m : Machine) × Interrupted (old (start f 4096)) (now m) l k) (last, ends_as statuses.SinkFault e)
+  pub ends_followed : (status : Status) (b : Scene) (l k : Option (List ℕ)) → Ends status a b l k → IsSomeAnd b.state.forest (IsFollowed b.state.machine)
+  ends_followed statuses.Done b l k h = run_followed _ h.answered.steps b.state (lines_formed (lines_of h.script)) h.answered.runs
+  ends_followed statuses.SourceFault b l k h = run_followed _ h.2.answered.steps b.state (lines_formed _) h.2.answered.runs
+  ends_followed statuses.SinkFault b l k h =
+      run_followed h.reads h.cut.steps b.state (front_formed h.reads h.of_taken.back (subst AreWellFormed h.of_taken.parts (lines_formed (lines_of h.script)))) h.cut.runs
+  ends_followed statuses.TooLong b l k h = run_followed _ h.2.answered.steps b.state (lines_formed _) h.2.answered.runs
+  ends_followed statuses.Usage b l k h = absurd h
+  ends_followed statuses.NoMemory b l k h = absurd h
+
+-- the promise, from a replay that began with some machine and some forest, which were those of the start
+pub run_ends : (status : Status) (frames : ℕ) (old now : Machine → PageForest → Scene) (l k : Option (List ℕ)) (told : Option Segments) (m last : Machine) (f forest : PageForest)
+    → ((m : Machine) (f : PageForest) → (old m f).state ≡ record { machine = m; forest = Some f; segments = told })
+    → ((m : Machine) (f : PageForest) → ((now m f).state.machine ≡ m) × ((now m f).state.forest ≡ Some f))
+    → m ≡ start frames page_size → f ≡ no_forest → Ends status (old m f) (now last forest) l k → RunEnds status frames old now l k
+run_ends status frames old now l k told m last f forest old_is now_is machine_is forest_is ends =
+    let from : Ends status (old (start frames page_size) no_forest) (now last forest) l k =
+    subst (λ (x : Machine). Ends status (old x no_forest) (now last forest) l k) machine_is (subst (λ (x : PageForest). Ends status (old m x) (now last forest) l k) forest_is ends) in
+    let followed : IsSomeAnd (now last forest).state.forest (IsFollowed (now last forest).state.machine) = ends_followed (old (start frames page_size) no_forest) frames told (old_is _ _) status (now last forest) l k from in
+    let by_forest : IsSomeAnd (Some forest) (IsFollowed (now last forest).state.machine) = subst (λ (o : Option PageForest). IsSomeAnd o (IsFollowed (now last forest).state.machine)) (now_is last forest).1 followed in
+    record {
+      last = last;
+      forest = forest;
+      ends = from;
+      followed = subst (λ (x : Machine). IsFollowed x forest) (now_is last forest).0 by_forest;
+    }
+
+pub as_asked : (frames : ℕ) (asked : Option ℕ) (P : ℕ → Type 0) → Some frames ≡ asked → P frames → IfSome asked P
+as_asked frames asked P is h = subst (λ (o : Option ℕ). IfSome o P) is h
 
 -- how many bytes were taken
 taken : (l k : Option (List ℕ)) (script : List ℕ) → Took l k script → IfSome l (λ all. IfSome k (λ rest. length all ≡ length script + length rest))
@@ -46,7 +85,7 @@ taken (Some all) (Some rest) script t = let same : Some all ≡ Some (script ++ 
 
 -- not all of the script and one byte more
 abbrev Limited : Option (List ℕ) → Option (List ℕ) → Type 0 → Type 0
-Limited l k P = IfSome l (λ all. IfSome k (λ rest. P ↔ (length all ≡ length rest + 67108865)))
+Limited l k P = IfSome l (λ all. IfSome k (λ rest. P ↔ (length all ≡ length rest + (most_bytes + 1))))
 
 limited_no : (l k : Option (List ℕ)) (P : Type 0) (script : List ℕ) → (P → ⊥) → length script ≤ most_bytes → Took l k script → Limited l k P
 limited_no None k P script never few t = tt
@@ -75,14 +114,14 @@ limited_same None P never = tt
 limited_same (Some all) P never = (λ p. absurd (never p), λ e. absurd (omega arith))
 
 -- a script that is too long isn't within the limit
-too_many : (l k : Option (List ℕ)) (script : List ℕ) → length script ≡ most_bytes + 1 → Took l k script → IsSomeAnd l (λ all. length all ≤ 67108864) → ⊥
+too_many : (l k : Option (List ℕ)) (script : List ℕ) → length script ≡ most_bytes + 1 → Took l k script → IsSomeAnd l (λ all. length all ≤ most_bytes) → ⊥
 too_many None k script size t h = absurd h
 too_many (Some all) None script size t h = absurd (cc)
 too_many (Some all) (Some rest) script size t h = let n = taken (Some all) (Some rest) script t in absurd (omega (arith, n, size, h))
 
 -- where nothing fails the run is done
 pub complete : (status : Status) (a b : Scene) (l k : Option (List ℕ)) (reads reads_now writes writes_now : ℕ) → Ends status a b l k → (status ≡ statuses.SourceFault → Rose reads reads_now) → (status ≡ statuses.SinkFault → Rose writes writes_now)
-    → IsSomeAnd l (λ all. length all ≤ 67108864) → reads_now ≡ reads → reads_now < last_count → writes_now ≡ writes → writes_now < last_count → (status ≡ statuses.Done) ⊎ (status ≡ statuses.NoMemory)
+    → IsSomeAnd l (λ all. length all ≤ most_bytes) → reads_now ≡ reads → reads_now < last_count → writes_now ≡ writes → writes_now < last_count → (status ≡ statuses.Done) ⊎ (status ≡ statuses.NoMemory)
 complete statuses.Done a b l k reads reads_now writes writes_now h sr kr few r rl w wl = inl refl
 complete statuses.SourceFault a b l k reads reads_now writes writes_now h sr kr few r rl w wl = absurd (omega (arith, sr refl rl))
 complete statuses.SinkFault a b l k reads reads_now writes writes_now h sr kr few r rl w wl = absurd (omega (arith, kr refl wl))
@@ -91,14 +130,9 @@ complete statuses.Usage a b l k reads reads_now writes writes_now h sr kr few r 
 complete statuses.NoMemory a b l k reads reads_now writes writes_now h sr kr few r rl w wl = absurd h
 
 -- what calls need is there at the start
-fits_start : (told : Option ℕ) (frames : ℕ) → IfSome told (λ bytes. bytes ≡ 4096) → Fits told (start frames 4096)
+fits_start : (told : Option ℕ) (frames : ℕ) → IfSome told (λ bytes. bytes ≡ page_size) → Fits told (start frames page_size)
 fits_start None frames h = tt
 fits_start (Some bytes) frames h = h
 
-pub ready_start : (told : Option ℕ) (frames : ℕ) (m : Machine) → IfSome told (λ bytes. bytes ≡ 4096) → m ≡ start frames 4096 → IsReady told m
+pub ready_start : (told : Option ℕ) (frames : ℕ) (m : Machine) → IfSome told (λ bytes. bytes ≡ page_size) → m ≡ start frames page_size → IsReady told m
 ready_start told frames m h e = subst (IsReady told) (sym e) (record { fits = fits_start told frames h; few = omega arith })
-
--- at the start there are no bytes, told or not
-pub start_seen : {H : Type 0} (told : Option H) (frames : ℕ) (m : Machine) → m ≡ start frames 4096 → seen_at told m ≡ start frames 4096
-start_seen None frames m e = ap blank e
-start_seen (Some h) frames m e = e

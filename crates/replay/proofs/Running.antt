@@ -6,12 +6,12 @@ use Rattle.vm_ids.specs.Counting.{MapperCounts, Rise, no_counts, counts_sum}
 use Rattle.vm_ids.specs.declared.refusal.Refusal.{Refusal}
 use Rattle.vm_ids.specs.declared.reply.Trouble.TheVariants.{Refused}
 use Rattle.vm_model.specs.Run.{Read, Step, State, StepIs, Chain, RunOf, numbered_from, rises_of}
-use Rattle.replay.specs.Forms.{command_of}
-use Rattle.replay.specs.Text.{text_of, texts_of}
-use Rattle.replay.specs.Writing.{Writes, WritesFront}
-use Rattle.replay.specs.Ending.{Scene, Answered}
+use Rattle.actor_script.specs.Forms.{command_of}
+use Rattle.actor_script.specs.Text.{text_of}
+use Rattle.actor_script.specs.Writing.{Writes, WritesFront}
+use Rattle.replay.specs.Ending.{Scene, Answered, texts_of}
 use Rattle.replay.specs.Going.{Replied, LineDone, AnsweredOr}
-use Rattle.replay.proofs.Written.{writes_none, writes_then, front_then}
+use Rattle.actor_script.proofs.Written.{writes_none, writes_then, front_then}
 
 -- runs
 

@@ -1,6 +1,6 @@
 -- The words of a command line, and the exit statuses.
 use Rattle.std.specs.Prelude.{◌&&◌, ℕ, nat_le, List, [], ◌∷◌, bytes_eq, codes, Option, Some, None, option_and_then, if◌then◌else◌}
-use Rattle.replay.specs.Operands.{number_of}
+use Rattle.actor_script.specs.Operands.{number_of}
 use Rattle.replay.specs.declared.status.Status.{Status}
 use Rattle.replay.specs.declared.status.Status.TheVariants as statuses
 
@@ -10,7 +10,10 @@ if_frames n = if nat_le 3 n && nat_le n 65536 then Some n else None
 
 -- The number of frames of the words `run --frames F`; no other words ask a run.
 unfoldable pub frames_of : List (List ℕ) → Option ℕ
-frames_of (command ∷ option ∷ frames ∷ []) = if bytes_eq command (codes "run") && bytes_eq option (codes "--frames") then option_and_then if_frames (number_of frames) else None
+frames_of (command ∷ option ∷ frames ∷ []) =
+    if bytes_eq command (codes "run") && bytes_eq option (codes "--frames")
+    then option_and_then if_frames (number_of frames)
+    else None
 frames_of words = None
 
 abbrev pub status_code : Status → ℕ

@@ -1,22 +1,48 @@
 -- What was answered and written when a replay ends.
-use Rattle.std.specs.Prelude.{◌≡◌, ◌≤◌, ℕ, List, [], ◌++◌, length, take, Option, option_map, IfSome}
+use Rattle.std.specs.Prelude.{◌≡◌, ◌≤◌, ℕ, ◌+◌, List, [], ◌++◌, length, take, Option, Some, option_map, IfSome}
+use Rattle.std.specs.List.{flat_map}
 use Rattle.vm_ids.specs.Counting.{MapperCounts, Rise}
 use Rattle.vm_ids.specs.Held.{Held, segments_of}
-use Rattle.vm_model.specs.Machine.{Machine}
-use Rattle.vm_model.specs.Run.{Read, Step, State, RunOf, rises_of}
+use Rattle.vm_ids.specs.Forest.Nodes.{no_forest}
+use Rattle.vm_model.specs.Laws.{IsFollowed}
+use Rattle.vm_model.specs.Machine.{Machine, start}
+use Rattle.vm_model.specs.PageForest.{PageForest}
+use Rattle.vm_model.specs.Run.{Read, Step, State, RunOf, rises_of, state_of}
 use Rattle.replay.specs.Script.{commands_of, ended_commands_of, most_bytes, IsFront}
-use Rattle.replay.specs.Text.{texts_of}
-use Rattle.replay.specs.Writing.{Writes, WritesFront}
+use Rattle.actor_script.specs.Text.{text_of}
+use Rattle.actor_script.specs.Writing.{Writes, WritesFront}
+use Rattle.replay.specs.declared.status.Status.{Status}
+use Rattle.replay.specs.declared.status.Status.TheVariants as statuses
 
--- What there is between two lines: the machine and the mapper's segments, the mapper's counts, and what was written.
+-- What there is between two lines: the machine, its page forest and the mapper's segments, the mapper's counts, and
+-- what was written.
 pub record Scene : Type 0 where
   pub state : State
   pub counts : MapperCounts
   pub written : Option (List ℕ)
 
--- The scene of a machine, a mapper and a sink.
-abbrev pub scene_of : {M K : Type 0} → (M → Option Held) → (M → MapperCounts) → (K → Option (List ℕ)) → Machine → M → K → Scene
-scene_of held counts written machine mapper sink = record { state = record { machine = machine; segments = segments_of (held mapper) }; counts = counts mapper; written = written sink }
+-- the scene of a manager, its mapper and a sink
+abbrev pub scene_of : {G M K : Type 0} → (G → Option Held → Machine)
+    → (G → Option Held → Option PageForest) → (M → Option Held) → (M → MapperCounts)
+    → (K → Option (List ℕ)) → G → M → K → Scene
+scene_of machine forest held counts written gmi mapper sink = record {
+  state = state_of machine forest gmi (held mapper);
+  counts = counts mapper;
+  written = written sink;
+}
+
+-- the scene of a machine and the page forest that is kept for it
+abbrev pub scene_with : {M K : Type 0} → (M → Option Held) → (M → MapperCounts)
+    → (K → Option (List ℕ)) → M → K → Machine → PageForest → Scene
+scene_with held counts written mapper sink m forest = record {
+  state = record { machine = m; forest = Some forest; segments = segments_of (held mapper) };
+  counts = counts mapper;
+  written = written sink;
+}
+
+-- the lines of the replies, in the order of the steps
+abbrev pub texts_of : List Step → List ℕ
+texts_of steps = flat_map (λ (step : Step). text_of step.number step.answer) steps
 
 -- These lines were answered, each once and in order, and the texts of the answers were written. The mapper's counts
 -- rose by what the answers say: its faults by at least that, its pulls and pushes by exactly that.
@@ -46,7 +72,8 @@ pub record Finished (before after : Scene) (left left_now : Option (List ℕ)) :
   pub answered : Answered before after (commands_of script)
 
 -- These bytes were taken, and each line that ends within the limit is answered.
-pub record Stopped (before after : Scene) (left left_now : Option (List ℕ)) (script : List ℕ) : Type 0 where
+pub record Stopped (before after : Scene) (left left_now : Option (List ℕ))
+    (script : List ℕ) : Type 0 where
   pub took : Took left left_now script
   pub answered : Answered before after (ended_commands_of (take most_bytes script))
 
@@ -59,3 +86,28 @@ pub record Interrupted (before after : Scene) (left left_now : Option (List ℕ)
   pub of_taken : IsFront reads (commands_of script)
   pub of_whole : IfSome left (λ whole. IsFront reads (commands_of whole))
   pub cut : CutOff before after reads
+
+-- How a replay of what the source had left ends.
+abbrev pub Ends : Status → Scene → Scene → Option (List ℕ) → Option (List ℕ) → Type 0
+Ends statuses.Done before now left left_now = Finished before now left left_now
+Ends statuses.SourceFault before now left left_now =
+    (script : List ℕ) × (length script ≤ most_bytes) × Stopped before now left left_now script
+Ends statuses.SinkFault before now left left_now = Interrupted before now left left_now
+Ends statuses.TooLong before now left left_now =
+    (script : List ℕ) × (length script ≡ most_bytes + 1) × Stopped before now left left_now script
+Ends statuses.Usage before now left left_now = ⊥
+Ends statuses.NoMemory before now left left_now = ⊥
+
+-- the bytes of a page
+abbrev pub page_size : ℕ
+page_size = 4096
+
+-- How a run over so many page frames ends, where the scenes at its begin and now are those of a machine and a forest: it
+-- began with the empty machine and the empty page forest, and the last forest has its shape and agrees with the last
+-- machine.
+pub record RunEnds (status : Status) (frames : ℕ) (before now : Machine → PageForest → Scene)
+    (left left_now : Option (List ℕ)) : Type 0 where
+  pub last : Machine
+  pub forest : PageForest
+  pub ends : Ends status (before (start frames page_size) no_forest) (now last forest) left left_now
+  pub followed : IsFollowed last forest

@@ -6,22 +6,22 @@ use Rattle.vm_model.specs.Machine.{Machine, live_pages}
 use Rattle.vm_model.specs.Run.{Read, State, StepIs}
 use Rattle.vm_model.specs.declared.limits.TheConstants.{LIVE_PAGES}
 use Rattle.gmi_calls.specs.Calling.{Fits}
-use Rattle.replay.specs.Ending.{Scene, Answered, CutOff, Took, Finished, Stopped, Interrupted}
-use Rattle.replay.specs.Script.{ended_commands_of, unended_of, most_bytes, IsFront}
-use Rattle.replay.specs.Text.{text_of}
-use Rattle.replay.specs.Writing.{Wrote}
-use Rattle.replay.specs.declared.status.Status.{Status}
-use Rattle.replay.specs.declared.status.Status.TheVariants as statuses
+use Rattle.replay.specs.Ending.{Scene, Answered, CutOff, Took}
+use Rattle.replay.specs.Script.{ended_commands_of, unended_of, IsFront}
+use Rattle.actor_script.specs.Text.{text_of}
+use Rattle.actor_script.specs.Writing.{Wrote}
 
 -- A line is answered.
-pub record Replied (before : State) (read : Read) (answer : Answer) (after : State) (counts counts_now : MapperCounts) : Type 0 where
+pub record Replied (before : State) (read : Read) (answer : Answer) (after : State)
+    (counts counts_now : MapperCounts) : Type 0 where
   pub pushes : List (ℕ × ℕ)
   pub rises : MapperCounts
   pub rose : Rise counts counts_now rises
   pub is : StepIs before read answer pushes rises after
 
 -- A line is answered, and its reply was written, or a front of it.
-pub record LineDone {T E : Type 0} (result : Result T E) (number : ℕ) (read : Read) (before after : Scene) : Type 0 where
+pub record LineDone {T E : Type 0} (result : Result T E) (number : ℕ) (read : Read)
+    (before after : Scene) : Type 0 where
   pub answer : Answer
   pub replied : Replied before.state read answer after.state before.counts after.counts
   pub wrote : Wrote result before.written after.written (text_of number answer)
@@ -51,16 +51,7 @@ abbrev pub AnsweredOr : {T E : Type 0} → Result T E → Scene → Scene → Li
 AnsweredOr (Ok x) before now reads = Answered before now reads
 AnsweredOr (Err e) before now reads = CutOff before now reads
 
--- How a replay of what the source had left ends.
-abbrev pub Ends : Status → Scene → Scene → Option (List ℕ) → Option (List ℕ) → Type 0
-Ends statuses.Done before now left left_now = Finished before now left left_now
-Ends statuses.SourceFault before now left left_now = (script : List ℕ) × (length script ≤ most_bytes) × Stopped before now left left_now script
-Ends statuses.SinkFault before now left left_now = Interrupted before now left left_now
-Ends statuses.TooLong before now left left_now = (script : List ℕ) × (length script ≡ most_bytes + 1) × Stopped before now left left_now script
-Ends statuses.Usage before now left left_now = ⊥
-Ends statuses.NoMemory before now left left_now = ⊥
-
--- A line raises the number that bounds all that a manager numbers by no more than this.
+-- A line raises the number that bounds a manager's counters by no more than this.
 abbrev pub line_budget : ℕ
 line_budget = 2 ^ 30
 
@@ -70,7 +61,8 @@ pub record IsReady (page_bytes : Option ℕ) (m : Machine) : Type 0 where
   pub few : live_pages m ≤ LIVE_PAGES
 
 -- So many bytes were taken, and each line that they end is answered.
-pub record Reached (before now : Scene) (left left_now : Option (List ℕ)) (number : ℕ) (line : List ℕ) (taken : ℕ) : Type 0 where
+pub record Reached (before now : Scene) (left left_now : Option (List ℕ)) (number : ℕ)
+    (line : List ℕ) (taken : ℕ) : Type 0 where
   pub script : List ℕ
   pub size : length script ≡ taken
   pub took : Took left left_now script

@@ -1,9 +1,4 @@
 pub mod Commanding
 pub mod Ending
-pub mod Forms
 pub mod Going
-pub mod Operands
 pub mod Script
-pub mod Text
-pub mod Words
-pub mod Writing

@@ -2,7 +2,7 @@
 use Rattle.std.specs.Prelude.{◌≡◌, ◌==◌, ℕ, List, [], ◌∷◌, ◌++◌, map}
 use Rattle.std.specs.List.{slice_split}
 use Rattle.vm_model.specs.Run.{Read}
-use Rattle.replay.specs.Forms.{command_of}
+use Rattle.actor_script.specs.Forms.{command_of}
 
 -- A script has at most this many bytes.
 abbrev pub most_bytes : ℕ

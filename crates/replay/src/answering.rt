@@ -2,11 +2,11 @@
 ghost use Rattle.std.specs.Prelude.{◌≡◌, ◌≤◌, ◌+◌, ◌^◌};
 ghost use Rattle.vm_ids.specs.Counting.{HasCause};
 ghost use Rattle.vm_model.specs.Run.{state_of};
-ghost use Rattle.replay.specs.Forms.{command_of};
+ghost use Rattle.actor_script.specs.Forms.{command_of};
 ghost use Rattle.replay.specs.Ending.{scene_of};
 ghost use Rattle.replay.specs.Going.{IsReady, LineDone, Replied, line_budget};
 
-use crate::{read_line, write_reply};
+use actor_script::{read_line, write_reply};
 use gmi_calls::{Gmi, answer};
 use vm_ids::{Answer, Trouble};
 use vm_port::{Chooser, Failed, Mapper, Sink};
@@ -24,8 +24,10 @@ fn reply_to<G: Gmi<M, C>, M: Mapper, C: Chooser>(
     ensures valid { G.valid gmi.new (M.held mapper.new) }
     ensures ready { IsReady (M.page_bytes mapper.new) (G.machine gmi.new (M.held mapper.new)) }
     ensures made { G.made gmi.new ≤ G.made gmi.old + line_budget }
-    ensures replied { Replied (state_of G.machine M.held gmi.old mapper.old) (command_of line.now) result
-        (state_of G.machine M.held gmi.new mapper.new) (M.counts mapper.old) (M.counts mapper.new) }
+    ensures replied { Replied
+        (state_of G.machine G.forest gmi.old (M.held mapper.old)) (command_of line.now) result
+        (state_of G.machine G.forest gmi.new (M.held mapper.new))
+        (M.counts mapper.old) (M.counts mapper.new) }
 {
     match read_line(line) {
         Ok(command) => answer(gmi, &command, mapper, chooser),
@@ -49,8 +51,8 @@ pub fn answer_line<G: Gmi<M, C>, M: Mapper, C: Chooser, K: Sink>(
     ensures ready { IsReady (M.page_bytes mapper.new) (G.machine gmi.new (M.held mapper.new)) }
     ensures made { G.made gmi.new ≤ G.made gmi.old + line_budget }
     ensures done { LineDone result number (command_of line.now)
-        (scene_of M.held M.counts K.written (G.machine gmi.old (M.held mapper.old)) mapper.old sink.old)
-        (scene_of M.held M.counts K.written (G.machine gmi.new (M.held mapper.new)) mapper.new sink.new) }
+        (scene_of G.machine G.forest M.held M.counts K.written gmi.old mapper.old sink.old)
+        (scene_of G.machine G.forest M.held M.counts K.written gmi.new mapper.new sink.new) }
     ensures cause { HasCause (K.faults sink.old) (K.faults sink.new) result }
 {
     let reply = reply_to(gmi, mapper, chooser, line);

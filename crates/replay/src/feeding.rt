@@ -3,6 +3,7 @@ ghost use Rattle.std.specs.Prelude.{◌≡◌, ℕ, List, [], ◌∷◌, ◌++�
 ghost use Rattle.vm_ids.specs.Counting.{HasCause};
 ghost use Rattle.replay.specs.Ending.{Scene, scene_of};
 ghost use Rattle.replay.specs.Going.{Going, GoingOr, IsReady, line_budget};
+ghost use Rattle.replay.specs.Script.{most_bytes};
 
 use crate::answering::answer_line;
 use crate::progress::Progress;
@@ -21,15 +22,17 @@ fn feed_byte<G: Gmi<M, C>, M: Mapper, C: Chooser, K: Sink>(
     requires valid { G.valid gmi.old (M.held mapper.old) }
     requires ready { IsReady (M.page_bytes mapper.old) (G.machine gmi.old (M.held mapper.old)) }
     requires made { G.made gmi.old ≤ line_budget * progress.old.number }
-    requires few { progress.old.number ≤ 67108864 }
+    requires few { progress.old.number ≤ most_bytes }
     ensures valid { G.valid gmi.new (M.held mapper.new) }
     ensures ready { IsReady (M.page_bytes mapper.new) (G.machine gmi.new (M.held mapper.new)) }
     ensures made { G.made gmi.new ≤ line_budget * progress.new.number }
     ensures few { progress.new.number ≤ progress.old.number + 1 }
     ensures going { (before : Scene) (script : List ℕ) →
-        Going before (scene_of M.held M.counts K.written (G.machine gmi.old (M.held mapper.old)) mapper.old sink.old)
+        Going before
+        (scene_of G.machine G.forest M.held M.counts K.written gmi.old mapper.old sink.old)
         progress.old.number progress.old.line.items script →
-        GoingOr result before (scene_of M.held M.counts K.written (G.machine gmi.new (M.held mapper.new)) mapper.new sink.new)
+        GoingOr result before
+        (scene_of G.machine G.forest M.held M.counts K.written gmi.new mapper.new sink.new)
         progress.new.number progress.new.line.items (script ++ byte ∷ []) }
     ensures cause { HasCause (K.faults sink.old) (K.faults sink.new) result }
 {
@@ -61,15 +64,17 @@ pub fn feed<G: Gmi<M, C>, M: Mapper, C: Chooser, K: Sink>(
     requires valid { G.valid gmi.old (M.held mapper.old) }
     requires ready { IsReady (M.page_bytes mapper.old) (G.machine gmi.old (M.held mapper.old)) }
     requires made { G.made gmi.old ≤ line_budget * progress.old.number }
-    requires few { progress.old.number + length bytes.now ≤ 67108865 }
+    requires few { progress.old.number + length bytes.now ≤ most_bytes + 1 }
     ensures valid { G.valid gmi.new (M.held mapper.new) }
     ensures ready { IsReady (M.page_bytes mapper.new) (G.machine gmi.new (M.held mapper.new)) }
     ensures made { G.made gmi.new ≤ line_budget * progress.new.number }
     ensures few { progress.new.number ≤ progress.old.number + length bytes.now }
     ensures going { (before : Scene) (script : List ℕ) →
-        Going before (scene_of M.held M.counts K.written (G.machine gmi.old (M.held mapper.old)) mapper.old sink.old)
+        Going before
+        (scene_of G.machine G.forest M.held M.counts K.written gmi.old mapper.old sink.old)
         progress.old.number progress.old.line.items script →
-        GoingOr result before (scene_of M.held M.counts K.written (G.machine gmi.new (M.held mapper.new)) mapper.new sink.new)
+        GoingOr result before
+        (scene_of G.machine G.forest M.held M.counts K.written gmi.new mapper.new sink.new)
         progress.new.number progress.new.line.items (script ++ bytes.now) }
     ensures cause { HasCause (K.faults sink.old) (K.faults sink.new) result }
 {

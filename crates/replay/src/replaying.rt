@@ -1,8 +1,8 @@
 // A whole script, read in pieces.
 ghost use Rattle.std.specs.Prelude.{◌≡◌, ℕ, List, [], ◌≤◌, ◌<◌, ◌+◌, ◌^◌, length, take, IfOk, IfSome, OnErr};
 ghost use Rattle.vm_ids.specs.Counting.{HasCause, Rose};
-ghost use Rattle.replay.specs.Ending.{Scene, scene_of, Took};
-ghost use Rattle.replay.specs.Going.{AnsweredOr, Ends, Going, IsReady, line_budget};
+ghost use Rattle.replay.specs.Ending.{Ends, Scene, scene_of, Took};
+ghost use Rattle.replay.specs.Going.{AnsweredOr, Going, IsReady, line_budget};
 ghost use Rattle.replay.specs.Script.{commands_of};
 
 use crate::Status;
@@ -28,7 +28,8 @@ fn next_piece<S: Source>(
     ensures most { IfOk result (λ n. n ≤ PIECE) }
     ensures within { IfOk result (λ n. taken < MOST_BYTES → taken + n ≤ MOST_BYTES) }
     ensures one { IfOk result (λ n. taken ≡ MOST_BYTES → n ≤ 1) }
-    ensures took { IfOk result (λ n. Took (S.left source.old) (S.left source.new) (take n piece.new)) }
+    ensures took { IfOk result (λ n.
+        Took (S.left source.old) (S.left source.new) (take n piece.new)) }
     ensures end { IfOk result (λ n. n ≡ 0 → IfSome (S.left source.old) (λ rest. rest ≡ [])) }
     ensures same { OnErr result (S.left source.new ≡ S.left source.old) }
     ensures cause { HasCause (S.faults source.old) (S.faults source.new) result }
@@ -50,9 +51,11 @@ fn finish<G: Gmi<M, C>, M: Mapper, C: Chooser, K: Sink>(
     requires made { G.made gmi.old ≤ 2 ^ 62 }
     ensures valid { G.valid gmi.new (M.held mapper.new) }
     ensures answered { (before : Scene) (script : List ℕ) →
-        Going before (scene_of M.held M.counts K.written (G.machine gmi.old (M.held mapper.old)) mapper.old sink.old)
+        Going before
+        (scene_of G.machine G.forest M.held M.counts K.written gmi.old mapper.old sink.old)
         progress.now.number progress.now.line.items script →
-        AnsweredOr result before (scene_of M.held M.counts K.written (G.machine gmi.new (M.held mapper.new)) mapper.new sink.new)
+        AnsweredOr result before
+        (scene_of G.machine G.forest M.held M.counts K.written gmi.new mapper.new sink.new)
         (commands_of script) }
     ensures cause { HasCause (K.faults sink.old) (K.faults sink.new) result }
 {
@@ -76,11 +79,13 @@ pub fn replay<G: Gmi<M, C>, M: Mapper, C: Chooser, S: Source, K: Sink>(
     requires made { G.made gmi.old ≤ line_budget }
     ensures valid { G.valid gmi.new (M.held mapper.new) }
     ensures ends { Ends result
-        (scene_of M.held M.counts K.written (G.machine gmi.old (M.held mapper.old)) mapper.old sink.old)
-        (scene_of M.held M.counts K.written (G.machine gmi.new (M.held mapper.new)) mapper.new sink.new)
+        (scene_of G.machine G.forest M.held M.counts K.written gmi.old mapper.old sink.old)
+        (scene_of G.machine G.forest M.held M.counts K.written gmi.new mapper.new sink.new)
         (S.left source.old) (S.left source.new) }
-    ensures source_fault { result ≡ Status.SourceFault → Rose (S.faults source.old) (S.faults source.new) }
-    ensures sink_fault { result ≡ Status.SinkFault → Rose (K.faults sink.old) (K.faults sink.new) }
+    ensures source_fault { result ≡ Status.SourceFault →
+        Rose (S.faults source.old) (S.faults source.new) }
+    ensures sink_fault { result ≡ Status.SinkFault →
+        Rose (K.faults sink.old) (K.faults sink.new) }
 {
     let mut piece = [0u8; PIECE];
     let mut progress = Progress::new();

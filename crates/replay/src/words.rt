@@ -1,13 +1,14 @@
 // The words of a command line.
-ghost use Rattle.std.specs.Prelude.{◌≡◌, map};
+ghost use Rattle.std.specs.Prelude.{◌≡◌, ◌≤◌, ◌^◌, map, IfSome};
 ghost use Rattle.replay.specs.Commanding.{frames_of};
 
-use crate::reading::read_number;
+use actor_script::read_number;
 
 /// The number of page frames that the words `run --frames F` ask for, 3 to 65,536. `None` exactly for other words.
 #[tactic(auto, unfolding(crate::specs::Commanding::frames_of))]
 pub fn frames_asked(words: &[&str]) -> Option<u32>
-    ensures { result ≡ frames_of (map (λ w. w.now) words.now) }
+    ensures frames { result ≡ frames_of (map (λ w. w.now) words.now) }
+    ensures few { IfSome result (λ frames. (3 ≤ frames) × (frames ≤ 2 ^ 16)) }
 {
     match words {
         [command, option, frames] => {

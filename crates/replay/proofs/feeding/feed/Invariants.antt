@@ -15,6 +15,6 @@ invariant-loop-byte g l =
       few : l.progress.number ≤ l.fn.progress.number + l.byte-index;
       faults : K.faults l.fn.sink ≤ K.faults l.sink;
       going : (before : Scene) (script : List ℕ) →
-          Going before (scene_of M.held M.counts K.written (G.machine l.fn.gmi (M.held l.fn.mapper)) l.fn.mapper l.fn.sink) l.fn.progress.number l.fn.progress.line.items script →
-          Going before (scene_of M.held M.counts K.written (G.machine l.gmi (M.held l.mapper)) l.mapper l.sink) l.progress.number l.progress.line.items (script ++ take l.byte-index l.bytes);
+          Going before (scene_of G.machine G.forest M.held M.counts K.written l.fn.gmi l.fn.mapper l.fn.sink) l.fn.progress.number l.fn.progress.line.items script →
+          Going before (scene_of G.machine G.forest M.held M.counts K.written l.gmi l.mapper l.sink) l.progress.number l.progress.line.items (script ++ take l.byte-index l.bytes);
     }

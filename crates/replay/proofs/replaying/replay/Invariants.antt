@@ -18,8 +18,8 @@ invariant-pieces g l =
       limit : l.taken ≤ 67108864;
       sources : S.faults l.fn.source ≤ S.faults l.source;
       sinks : K.faults l.fn.sink ≤ K.faults l.sink;
-      reached : Reached (scene_of M.held M.counts K.written (G.machine l.fn.gmi (M.held l.fn.mapper)) l.fn.mapper l.fn.sink)
-          (scene_of M.held M.counts K.written (G.machine l.gmi (M.held l.mapper)) l.mapper l.sink)
+      reached : Reached (scene_of G.machine G.forest M.held M.counts K.written l.fn.gmi l.fn.mapper l.fn.sink)
+          (scene_of G.machine G.forest M.held M.counts K.written l.gmi l.mapper l.sink)
           (S.left l.fn.source) (S.left l.source) l.progress.number l.progress.line.items l.taken;
     }
 

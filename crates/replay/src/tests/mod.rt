@@ -1,0 +1,290 @@
+// Whole runs over a mapper in memory, by values from outside.
+ghost use Rattle.std.specs.Prelude.{◌≡◌, ◌≤◌, None, IfOk};
+ghost use Rattle.replay.specs.Ending.{page_size};
+
+mod rows;
+
+use crate::{Status, run};
+use std::alloc::Global;
+use std::process::Abort;
+use vm_ids::{NoMemory, PAGE};
+use vm_port::{
+    CallKind, CallNo, Clock, Failed, MemoryMapper, MemorySink, MemorySource, Sink, Source,
+};
+
+// Slots enough for each script here.
+const SLOTS: u32 = 512;
+
+// A mapper without segments, which fails at these calls.
+fn swap_area(alloc: Global, fails: &[CallNo]) -> Result<MemoryMapper, NoMemory>
+    ensures { IfOk result (λ m. m.page_bytes ≡ page_size) }
+{
+    MemoryMapper::new(alloc, &[], &[], SLOTS, fails, PAGE as u32)
+}
+
+// Runs these words over a source, with a swap area that never fails.
+fn replay_source<S: Source, K: Sink>(
+    alloc: Global,
+    words: &[&str],
+    source: &mut S,
+    sink: &mut K,
+) -> Result<Status, NoMemory> {
+    let mut mapper = swap_area(alloc, &[])?;
+    let mut chooser = Clock::new();
+    Ok(run(alloc, words, source, sink, &mut mapper, &mut chooser))
+}
+
+// Runs a script at so many frames, where each read gives at most so many bytes.
+fn replay_cut(
+    alloc: Global,
+    frames: &str,
+    script: &[u8],
+    most: usize,
+    sink: &mut MemorySink,
+) -> Result<Status, NoMemory>
+    requires { 1 ≤ most }
+{
+    let mut source = MemorySource::new(script, &[]);
+    source.chunk(most);
+    let words = ["run", "--frames", frames];
+    replay_source(alloc, &words, &mut source, sink)
+}
+
+// A script at so many frames has these replies, however its reads are cut.
+fn has_its_replies(
+    rt: &impl Abort,
+    alloc: Global,
+    frames: &str,
+    script: &str,
+    replies: &str,
+) -> Result<(), NoMemory> {
+    for most in [1, 7, 4096] {
+        let mut sink = MemorySink::new(alloc, 4096, &[])?;
+        let status = replay_cut(alloc, frames, script.as_bytes(), most, &mut sink)?;
+        assert_eq!(rt; status, Status::Done, "{script}");
+        assert_eq!(rt; sink.written(), replies.as_bytes(), "{script}");
+    }
+    Ok(())
+}
+
+#[test]
+fn scripts_have_their_replies_however_they_are_cut(rt: HostRuntime) -> Result<(), NoMemory> {
+    for (frames, script, replies) in [
+        ("3", rows::LEAST_SUCCESS, rows::LEAST_SUCCESS_REPLIES),
+        ("8", rows::EMPTY_SCRIPT, rows::EMPTY_SCRIPT_REPLIES),
+        ("8", rows::ZEROS, rows::ZEROS_REPLIES),
+        ("8", rows::BORDERS, rows::BORDERS_REPLIES),
+        (
+            "8",
+            rows::TREE_COPY_OF_NINE_PAGES,
+            rows::TREE_COPY_OF_NINE_PAGES_REPLIES,
+        ),
+        (
+            "8",
+            rows::COPIED_THREE_TIMES,
+            rows::COPIED_THREE_TIMES_REPLIES,
+        ),
+        ("8", rows::STUBS, rows::STUBS_REPLIES),
+        ("8", rows::THERE_AND_BACK, rows::THERE_AND_BACK_REPLIES),
+        ("8", rows::COPY_OF_A_COPY, rows::COPY_OF_A_COPY_REPLIES),
+        (
+            "8",
+            rows::DEAD_SOURCE_THEN_A_MERGE,
+            rows::DEAD_SOURCE_THEN_A_MERGE_REPLIES,
+        ),
+        ("3", rows::THREE_FRAMES, rows::THREE_FRAMES_REPLIES),
+        (
+            "8",
+            rows::MOVE_OF_A_COPIED_PAGE,
+            rows::MOVE_OF_A_COPIED_PAGE_REPLIES,
+        ),
+        (
+            "8",
+            rows::TREE_CHILD_BEFORE_STUBS,
+            rows::TREE_CHILD_BEFORE_STUBS_REPLIES,
+        ),
+        (
+            "8",
+            rows::MOVE_INSIDE_ONE_CACHE,
+            rows::MOVE_INSIDE_ONE_CACHE_REPLIES,
+        ),
+        ("8", rows::OVERLAP, rows::OVERLAP_REPLIES),
+        ("3", rows::COPY_EXAMPLE, rows::COPY_EXAMPLE_REPLIES),
+        ("3", rows::FORK_EXAMPLE, rows::FORK_EXAMPLE_REPLIES),
+        ("3", rows::MESSAGES_EXAMPLE, rows::MESSAGES_EXAMPLE_REPLIES),
+        (
+            "8",
+            "actor\nstat",
+            "1 ok a1\n2 stat live 0 working 0 copies 0\n",
+        ),
+    ] {
+        has_its_replies(&rt, rt.alloc(), frames, script, replies)?;
+    }
+    Ok(())
+}
+
+#[test]
+fn a_victim_whose_push_fails_stays(rt: HostRuntime) -> Result<(), NoMemory> {
+    let fails = [CallNo {
+        kind: CallKind::SwapOut,
+        nth: 1,
+    }];
+    let mut mapper = swap_area(rt.alloc(), &fails)?;
+    let mut source = MemorySource::new(rows::VICTIMS_PUSH_FAILS.as_bytes(), &[]);
+    let mut sink = MemorySink::new(rt.alloc(), 4096, &[])?;
+    let words = ["run", "--frames", "3"];
+    let mut chooser = Clock::new();
+    let status = run(
+        rt.alloc(),
+        &words,
+        &mut source,
+        &mut sink,
+        &mut mapper,
+        &mut chooser,
+    );
+    assert_eq!(&rt; status, Status::Done);
+    assert_eq!(&rt; sink.written(), rows::VICTIMS_PUSH_FAILS_REPLIES.as_bytes());
+    Ok(())
+}
+
+// Before the copy and behind it the mapper has had 96 pushes and no pull.
+#[test]
+fn a_copy_moves_no_bytes(rt: HostRuntime) -> Result<(), NoMemory> {
+    let words = ["run", "--frames", "4"];
+    for behind in ["copy", "load"] {
+        let Some((front, _)) = rows::COPY_MOVES_NO_BYTES.split_once(behind) else {
+            panic!(&rt; "no such line");
+        };
+        let mut mapper = swap_area(rt.alloc(), &[])?;
+        let mut source = MemorySource::new(front.as_bytes(), &[]);
+        let mut sink = MemorySink::new(rt.alloc(), 4096, &[])?;
+        let mut chooser = Clock::new();
+        let status = run(
+            rt.alloc(),
+            &words,
+            &mut source,
+            &mut sink,
+            &mut mapper,
+            &mut chooser,
+        );
+        assert_eq!(&rt; status, Status::Done);
+        assert_eq!(&rt; (mapper.pulls(), mapper.pushes()), (0, 96));
+    }
+    let script = rows::COPY_MOVES_NO_BYTES.as_bytes();
+    let mut sink = MemorySink::new(rt.alloc(), 4096, &[])?;
+    let status = replay_cut(rt.alloc(), "4", script, 4096, &mut sink)?;
+    assert_eq!(&rt; status, Status::Done);
+    assert_eq!(&rt;
+        sink.written(),
+        rows::COPY_MOVES_NO_BYTES_REPLIES.as_bytes()
+    );
+    Ok(())
+}
+
+#[test]
+fn a_line_of_257_bytes_is_one_bad_line(rt: HostRuntime) -> Result<(), NoMemory> {
+    for most in [1, 7, 4096] {
+        let mut sink = MemorySink::new(rt.alloc(), 4096, &[])?;
+        let status = replay_cut(rt.alloc(), "8", &[b'x'; 257], most, &mut sink)?;
+        assert_eq!(&rt; status, Status::Done);
+        assert_eq!(&rt; sink.written(), b"1 no BadLine\n".as_slice());
+    }
+    Ok(())
+}
+
+#[test]
+fn a_failed_read_ends_the_run_behind_the_lines_that_ended(rt: HostRuntime) -> Result<(), NoMemory> {
+    for (failing, replies) in [
+        (1, ""),
+        (2, "1 ok a1\n"),
+        (3, "1 ok a1\n2 ok a2\n"),
+        (4, "1 ok a1\n2 ok a2\n3 ok c1\n"),
+    ] {
+        let fails = [failing];
+        let mut source = MemorySource::new(b"actor\nactor\ntemp 1\n", &fails);
+        source.chunk(7);
+        let mut sink = MemorySink::new(rt.alloc(), 4096, &[])?;
+        let words = ["run", "--frames", "8"];
+        let status = replay_source(rt.alloc(), &words, &mut source, &mut sink)?;
+        assert_eq!(&rt; status, Status::SourceFault, "{failing}");
+        assert_eq!(&rt; sink.written(), replies.as_bytes(), "{failing}");
+    }
+    Ok(())
+}
+
+#[test]
+fn a_failed_write_ends_the_run(rt: HostRuntime) -> Result<(), NoMemory> {
+    for (failing, replies) in [(1, ""), (2, "1 ok a1\n"), (3, "1 ok a1\n2 ok a2\n")] {
+        let mut sink = MemorySink::new(rt.alloc(), 4096, &[failing])?;
+        let status = replay_cut(rt.alloc(), "8", b"actor\nactor\ntemp 1", 4096, &mut sink)?;
+        assert_eq!(&rt; status, Status::SinkFault, "{failing}");
+        assert_eq!(&rt; sink.written(), replies.as_bytes(), "{failing}");
+    }
+    Ok(())
+}
+
+#[test]
+fn other_words_read_and_write_nothing(rt: HostRuntime) -> Result<(), NoMemory> {
+    let mut source = MemorySource::new(rows::ZEROS.as_bytes(), &[]);
+    let mut sink = MemorySink::new(rt.alloc(), 4096, &[])?;
+    for words in [
+        [].as_slice(),
+        &["run"],
+        &["run", "--frames"],
+        &["run", "--frames", "2"],
+        &["run", "--frames", "65537"],
+        &["run", "--frames", "03"],
+        &["run", "--frames", "+3"],
+        &["run", "--frames", ""],
+        &["run", "--frames=3"],
+        &["--frames", "3", "run"],
+        &["run", "--frames", "3", "3"],
+        &["run", "--pages", "3"],
+        &["Run", "--frames", "3"],
+    ] {
+        let status = replay_source(rt.alloc(), words, &mut source, &mut sink)?;
+        assert_eq!(&rt; status, Status::Usage);
+    }
+    assert_eq!(&rt; sink.written(), b"".as_slice());
+    let words = ["run", "--frames", "65536"];
+    let status = replay_source(rt.alloc(), &words, &mut source, &mut sink)?;
+    assert_eq!(&rt; status, Status::Done);
+    assert_eq!(&rt; sink.written(), rows::ZEROS_REPLIES.as_bytes());
+    Ok(())
+}
+
+// A source of one letter, so many times.
+#[derive(Drop)]
+struct Repeated {
+    letter: u8,
+    left: usize,
+}
+
+impl Source for Repeated {
+    ghost left = { λ _. None };
+
+    ghost faults = { λ _. 0 };
+
+    fn read(&mut self, into: &mut [u8]) -> Result<usize, Failed> {
+        let count = self.left.min(into.len());
+        into[..count].fill(self.letter);
+        self.left -= count;
+        Ok(count)
+    }
+}
+
+#[test]
+fn the_longest_script_has_67108864_bytes(rt: HostRuntime) -> Result<(), NoMemory> {
+    for (left, status, replies) in [
+        (67108864, Status::Done, "1 no BadLine\n"),
+        (67108865, Status::TooLong, ""),
+    ] {
+        let mut source = Repeated { letter: b'x', left };
+        let mut sink = MemorySink::new(rt.alloc(), 4096, &[])?;
+        let words = ["run", "--frames", "8"];
+        let found = replay_source(rt.alloc(), &words, &mut source, &mut sink)?;
+        assert_eq!(&rt; found, status);
+        assert_eq!(&rt; sink.written(), replies.as_bytes());
+    }
+    Ok(())
+}
