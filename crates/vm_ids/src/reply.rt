@@ -1,5 +1,9 @@
 // What commands answer.
+ghost use Rattle.std.specs.Prelude.{◌≡◌};
+ghost use Rattle.vm_ids.specs.declared.reply.Trouble.TheVariants.{Memory, Refused};
+
 use crate::{ActorId, CacheId, ChainList, Mapping, PageNo, Piece, Refusal, RegionId};
+use std::alloc::{AllocError, AllocFailed};
 
 /// What there is to tell of a region: its actor, its mapping, and whether it is locked. No reply tells it yet.
 #[derive(Clone, Copy, Debug, PartialEq, Eq)]
@@ -40,12 +44,41 @@ pub enum FaultAt {
 #[derive(Clone, Copy, Debug, PartialEq, Eq)]
 pub struct NoMemory;
 
+// So that `?` carries want of memory, whatever wanted it.
+impl From<AllocError> for NoMemory {
+    fn from(_error: AllocError) -> NoMemory {
+        NoMemory
+    }
+}
+
+impl<T: Drop> From<AllocFailed<T>> for NoMemory {
+    fn from(_error: AllocFailed<T>) -> NoMemory {
+        NoMemory
+    }
+}
+
 /// Why a command wasn't carried out. The machine is then as it was before.
 #[derive(Clone, Copy, Debug, PartialEq, Eq)]
 pub enum Trouble {
     Refused(Refusal),
     Mapper(FaultAt),
     Memory,
+}
+
+impl From<NoMemory> for Trouble {
+    ghost from_gives = { λ _ trouble. trouble ≡ Memory };
+
+    fn from(_error: NoMemory) -> Trouble {
+        Trouble::Memory
+    }
+}
+
+impl From<Refusal> for Trouble {
+    ghost from_gives = { λ refusal trouble. trouble ≡ Refused refusal };
+
+    fn from(refusal: Refusal) -> Trouble {
+        Trouble::Refused(refusal)
+    }
 }
 
 /// What one command answers.
