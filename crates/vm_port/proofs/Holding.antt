@@ -11,8 +11,8 @@ use Rattle.std.proofs.lemmas.List.Elements.{All-head, All-tail, All-map}
 use Rattle.vm_ids.specs.Held.{page_of, slot_of, with_page, with_slot}
 use Rattle.vm_port.specs.Mapping.{MapperInMemory, held_of, cut, filled, pages_seen, slot_seen, page_in, put_page_in}
 use Rattle.vm_port.specs.Rows.{from_row}
-use Rattle.vm_port.specs.declared.memory_mapper.Segment.{Segment}
-use Rattle.vm_port.specs.declared.memory_mapper.Slot.{Slot}
+use Rattle.vm_port.specs.declared.memory.pages.Segment.{Segment}
+use Rattle.vm_port.specs.declared.memory.pages.Slot.{Slot}
 use Rattle.vm_port.proofs.Finding.{at_below, at_from, flat, get_row, set_row}
 
 within_at : {A B : Type 0} (f : A → Option B) (xs : List A) (i : ℕ) (o : Option A) → slice_get xs i ≡ o → IsSome (option_and_then f o) → i < length xs

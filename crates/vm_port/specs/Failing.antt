@@ -2,10 +2,10 @@
 use Rattle.std.specs.Prelude.{ℕ, ◌==◌, ◌&&◌, Bool, true, false, List}
 use Rattle.std.specs.List.{list_any}
 use Rattle.vm_port.specs.Calls.{next_call}
-use Rattle.vm_port.specs.declared.call_no.CallKind.{CallKind}
-use Rattle.vm_port.specs.declared.call_no.CallKind.TheVariants.{Size, PullIn, PushOut, Access, SwapIn, SwapOut}
-use Rattle.vm_port.specs.declared.call_no.CallNo.{CallNo}
-use Rattle.vm_port.specs.declared.call_no.Calls.{Calls}
+use Rattle.vm_port.specs.declared.memory.calls.CallKind.{CallKind}
+use Rattle.vm_port.specs.declared.memory.calls.CallKind.TheVariants.{Size, PullIn, PushOut, Access, SwapIn, SwapOut}
+use Rattle.vm_port.specs.declared.memory.calls.CallNo.{CallNo}
+use Rattle.vm_port.specs.declared.memory.calls.Calls.{Calls}
 
 abbrev pub is_kind : CallKind → CallKind → Bool
 is_kind Size Size = true

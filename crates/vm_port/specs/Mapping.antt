@@ -7,11 +7,11 @@ use Rattle.vm_ids.specs.declared.numbers.PageNo.{PageNo}
 use Rattle.vm_port.specs.Calls.{fault_more}
 use Rattle.vm_port.specs.Failing.{count_of, counted, is_failing_call}
 use Rattle.vm_port.specs.Rows.{from_row}
-use Rattle.vm_port.specs.declared.call_no.CallKind.{CallKind}
-use Rattle.vm_port.specs.declared.call_no.CallNo.{CallNo}
-use Rattle.vm_port.specs.declared.call_no.Calls.{Calls}
-use Rattle.vm_port.specs.declared.memory_mapper.Segment.{Segment}
-use Rattle.vm_port.specs.declared.memory_mapper.Slot.{Slot}
+use Rattle.vm_port.specs.declared.memory.calls.CallKind.{CallKind}
+use Rattle.vm_port.specs.declared.memory.calls.CallNo.{CallNo}
+use Rattle.vm_port.specs.declared.memory.calls.Calls.{Calls}
+use Rattle.vm_port.specs.declared.memory.pages.Segment.{Segment}
+use Rattle.vm_port.specs.declared.memory.pages.Slot.{Slot}
 
 abbrev pub pages_seen : Segment → List (List ℕ)
 pages_seen s = map (λ p. p.items) s.pages.items

@@ -9,30 +9,12 @@
 //! at 2^64 - 1 and stay there.
 #![tactic(auto)]
 
-mod call_no;
-mod chooser;
-mod clock;
-mod failed;
-mod fifo;
-mod listed;
-mod mapper;
-mod memory_mapper;
-mod memory_sink;
-mod memory_source;
-mod sink;
-mod source;
+mod memory;
+mod policies;
 #[cfg(test)]
 mod tests;
+mod traits;
 
-pub use call_no::{CallKind, CallNo};
-pub use chooser::Chooser;
-pub use clock::Clock;
-pub use failed::Failed;
-pub use fifo::Fifo;
-pub use listed::Listed;
-pub use mapper::Mapper;
-pub use memory_mapper::MemoryMapper;
-pub use memory_sink::MemorySink;
-pub use memory_source::MemorySource;
-pub use sink::Sink;
-pub use source::Source;
+pub use memory::{CallKind, CallNo, MemoryMapper, MemorySink, MemorySource};
+pub use policies::{Clock, Fifo, Listed};
+pub use traits::{Chooser, Failed, Mapper, Sink, Source};
