@@ -1,2 +1,3 @@
+pub mod Evictable
 pub mod Pages
 pub mod Views

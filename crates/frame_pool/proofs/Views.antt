@@ -14,36 +14,36 @@ use Rattle.frame_pool.proofs.Pages.{page_at, page_written, zero_pages}
 abbrev pub part : Inside → ℕ → List ℕ
 part a k = slice_range a.region.items (k * a.page) (k * a.page + a.page)
 
-within : (a : Inside) (k : ℕ) → IsSized a → k < length a.held.items → k * a.page + a.page ≤ length a.region.items
+within : (a : Inside) (k : ℕ) → IsSized a → k < length a.held → k * a.page + a.page ≤ length a.region.items
 within a k sized h =
-    let room : suc k * a.page ≤ length a.held.items * a.page = mul-le-mul_right a.page (omega (arith, h)) in
+    let room : suc k * a.page ≤ length a.held * a.page = mul-le-mul_right a.page (omega (arith, h)) in
     omega (arith, suc-mul k a.page, sized.region)
 
 part_is : (a : Inside) (k : ℕ) → part a k ≡ take a.page (drop (k * a.page) a.region.items)
 part_is a k = ap (λ (n : ℕ). take n (drop (k * a.page) a.region.items)) (omega arith)
 
-part_long : (a : Inside) (k : ℕ) → IsSized a → k < length a.held.items → length (part a k) ≡ a.page
+part_long : (a : Inside) (k : ℕ) → IsSized a → k < length a.held → length (part a k) ≡ a.page
 part_long a k sized h =
     let room = within a k sized h in let left = length-drop (k * a.page) a.region.items in
     ap (λ (xs : List ℕ). length xs) (part_is a k) ∙ length-take-le a.page (drop (k * a.page) a.region.items) (omega arith)
 
-held_inside : (a : Inside) (p : Frames) (k : ℕ) → frames_seen a ≡ p → k < length p.held → k < length a.held.items
+pub held_inside : (a : Inside) (p : Frames) (k : ℕ) → frames_seen a ≡ p → k < length p.held → k < length a.held
 held_inside a p k seen h = let same = ap (λ (q : Frames). length q.held) seen in omega (arith, h)
 
 pub bytes_seen : (a : Inside) (p : Frames) (k : ℕ) → frames_seen a ≡ p → k < length p.held → part a k ≡ bytes_of p k
 bytes_seen a p k seen h =
-    part_is a k ∙ sym (page_at a.page (length a.held.items) k a.region.items (held_inside a p k seen h)) ∙ ap (λ (q : Frames). bytes_of q k) seen
+    part_is a k ∙ sym (page_at a.page (length a.held) k a.region.items (held_inside a p k seen h)) ∙ ap (λ (q : Frames). bytes_of q k) seen
 
 pub page_long : (a : Inside) (p : Frames) (k : ℕ) → frames_seen a ≡ p → IsSized a → k < length p.held → length (part a k) ≡ p.page
 page_long a p k seen sized h = part_long a k sized (held_inside a p k seen h) ∙ ap (λ (q : Frames). q.page) seen
 
 -- the region with w in place of a frame's part
-written : (a : Inside) (k : ℕ) (v : Vec ℕ Global) (w : List ℕ) → IsSized a → k < length a.held.items → length w ≡ a.page
+written : (a : Inside) (k : ℕ) (v : Vec ℕ Global) (w : List ℕ) → IsSized a → k < length a.held → length w ≡ a.page
     → v.items ≡ take (k * a.page) a.region.items ++ (w ++ drop a.page (drop (k * a.page) a.region.items))
     → frames_seen (record a { region = v }) ≡ with_bytes (frames_seen a) k w
 written a k v w sized h long e =
-    ap (λ (bs : List (List ℕ)). record { page = a.page; held = a.held.items; pinned = a.pinned.items; bytes = bs })
-    (ap (first_chunks a.page (length a.held.items)) e ∙ page_written a.page (length a.held.items) k a.region.items w h sized.region long)
+    ap (λ (bs : List (List ℕ)). record { page = a.page; held = a.held; pinned = a.pinned.items; bytes = bs })
+    (ap (first_chunks a.page (length a.held)) e ∙ page_written a.page (length a.held) k a.region.items w h sized.region long)
 
 pub lent_page : (a : Inside) (p : Frames) (k : ℕ) (w : List ℕ) → frames_seen a ≡ p → IsSized a → k < length p.held
     → frames_seen (record a { region = with_items_from a.region (k * a.page) (refill (part a k) w) }) ≡ with_bytes p k (refill (bytes_of p k) w)
@@ -72,10 +72,10 @@ copied_page a p from to v seen sized there here e =
     ∙ ap (λ (q : Frames). with_bytes q to (part a from)) seen
     ∙ ap (λ (bytes : List ℕ). with_bytes p to bytes) (bytes_seen a p from seen there)
 
-pub opened : (a : Inside) (count : ℕ) → a.held.items ≡ replicate count false → a.pinned.items ≡ replicate count false → a.region.items ≡ replicate {A = ℕ} (count * a.page) 0
+pub opened : (a : Inside) (count : ℕ) → a.held ≡ replicate count false → a.pinned.items ≡ replicate count false → a.region.items ≡ replicate {A = ℕ} (count * a.page) 0
     → frames_seen a ≡ record { page = a.page; held = replicate count false; pinned = replicate count false; bytes = replicate count (replicate {A = ℕ} a.page 0) }
 opened a count held pinned region =
-    let long : length a.held.items ≡ count = ap (λ (hs : List Bool). length hs) held ∙ length-replicate count false in
-    let bytes : first_chunks a.page (length a.held.items) a.region.items ≡ replicate count (replicate {A = ℕ} a.page 0) =
+    let long : length a.held ≡ count = ap (λ (hs : List Bool). length hs) held ∙ length-replicate count false in
+    let bytes : first_chunks a.page (length a.held) a.region.items ≡ replicate count (replicate {A = ℕ} a.page 0) =
     ap (λ (k : ℕ). first_chunks a.page k a.region.items) long ∙ ap (first_chunks a.page count) region ∙ zero_pages a.page count in
     λ i. record { page = a.page; held = held i; pinned = pinned i; bytes = bytes i }

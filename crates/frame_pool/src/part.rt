@@ -4,8 +4,8 @@ ghost use Rattle.std.specs.Borrow.{sem};
 ghost use Rattle.std.specs.Vec.{vec_len};
 ghost use Rattle.frame_pool.specs.Lending.{LendsPart, LendsRun};
 
-// The bytes from `start` up to `end`. Its clause says what the vector ends as for a list of any length, and so says
-// nothing of the bytes behind `end`.
+// The bytes from `start` up to `end`. Its clause says what the vector ends as for a list of any
+// length, and so says nothing of the bytes behind `end`.
 fn run_mut(bytes: &mut Vec<u8>, start: usize, end: usize) -> &mut [u8]
     requires order { start ≤ end }
     requires within { end ≤ vec_len bytes.old }
@@ -15,8 +15,9 @@ fn run_mut(bytes: &mut Vec<u8>, start: usize, end: usize) -> &mut [u8]
     bytes.slice_mut(start..end)
 }
 
-// The same, where the clause counts on the length: what is lent as a slice comes back as long as it was, and the other
-// bytes are as before. The borrow checker shows no such clause, so its proof is written by hand.
+// The same, where the clause counts on the length: what is lent as a slice comes back as long as it
+// was, and the other bytes are as before. The borrow checker shows no such clause, so its proof is
+// written by hand.
 pub(crate) fn part_mut(bytes: &mut Vec<u8>, start: usize, end: usize) -> &mut [u8]
     requires order { start ≤ end }
     requires within { end ≤ vec_len bytes.old }

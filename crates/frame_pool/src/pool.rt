@@ -2,9 +2,11 @@
 ghost use Rattle.std.specs.Prelude.{◌≡◌, ◌≢◌, ℕ, ◌<◌, ◌≤◌, ◌^◌, true, false, not, length, replicate, slice_set, count_by, All, IfOk, MatchOption};
 ghost use Rattle.std.specs.Borrow.{sem};
 ghost use Rattle.frame_pool.specs.Lending.{LendsPage};
-ghost use Rattle.frame_pool.specs.Pool.{bytes_of, is_evictable, is_held, is_pinned, with_bytes};
+ghost use Rattle.frame_pool.specs.Pool.{bytes_of, evictable_count, evictable_frames, is_evictable, is_held, is_pinned, with_bytes};
 
+use crate::marks::Marks;
 use crate::part::part_mut;
+use number_pool::NumberPool;
 use std::alloc::Global;
 use std::marker::Model;
 use vm_ids::{FrameId, NoMemory};
@@ -13,20 +15,23 @@ use vm_ids::{FrameId, NoMemory};
 #[derive(Drop)]
 pub struct FramePool {
     page: usize,
-    held: Vec<bool>,
+    // The numbers of the frames. Those of held frames are taken.
+    held: NumberPool,
     pinned: Vec<bool>,
+    // The frames that are held and not pinned.
+    evictable: Marks,
     // The bytes of frame 0, then those of frame 1, and so on.
     region: Vec<u8>,
 }
 
 impl Model for FramePool {
-    ghost use Rattle.frame_pool.specs.Pool.{Frames, frames_seen, IsSized};
+    ghost use Rattle.frame_pool.specs.Pool.{Frames, frames_seen, IsSound};
 
     ghost Value = { Frames };
 
     ghost view = { frames_seen };
 
-    ghost invariant = { IsSized };
+    ghost invariant = { IsSound };
 }
 
 impl FramePool {
@@ -44,20 +49,14 @@ impl FramePool {
     {
         let count = frames as usize;
         let page = page as usize;
-        let Ok(held) = vec![in alloc; false; count] else {
-            return Err(NoMemory)
-        };
-        let Ok(pinned) = vec![in alloc; false; count] else {
-            return Err(NoMemory)
-        };
-        let Ok(region) = vec![in alloc; 0u8; count * page] else {
-            return Err(NoMemory)
-        };
+        let mut held = NumberPool::new(alloc);
+        held.reserve(frames)?;
         Ok(FramePool {
             page,
             held,
-            pinned,
-            region,
+            pinned: vec![in alloc; false; count]?,
+            evictable: Marks::new(alloc, count)?,
+            region: vec![in alloc; 0u8; count * page]?,
         })
     }
 
@@ -65,25 +64,28 @@ impl FramePool {
     pub fn count(&self) -> u32
         ensures { result ≡ length self.now.held }
     {
-        self.held.len() as u32
+        self.held.bound()
     }
 
     /// How many frames are free.
     pub fn free_count(&self) -> u32
         ensures { result ≡ count_by (λ held. not held) self.now.held }
     {
-        self.held.iter().filter(|held| !**held).count() as u32
+        self.held.bound() - self.held.taken()
     }
 
-    /// A free frame, which is then held with whatever bytes it had. `None` exactly where no frame is free.
+    /// A free frame, which is then held with whatever bytes it had. `None` exactly where no frame
+    /// is free.
     pub fn take(&mut self) -> Option<FrameId>
         ensures { MatchOption result
             ((self.new ≡ self.old) × All (λ held. held ≡ true) self.old.held)
-            (λ frame. (frame.0 < length self.old.held) × (is_held self.old frame.0 ≡ false) × (self.new ≡ record self.old { held = slice_set self.old.held frame.0 true })) }
+            (λ frame. (frame.0 < length self.old.held) × (is_held self.old frame.0 ≡ false)
+            × (self.new ≡ record self.old { held = slice_set self.old.held frame.0 true })) }
     {
-        let at = self.held.iter().position(|held| !*held)?;
-        self.held[at] = true;
-        Some(FrameId(at as u32))
+        let number = self.held.take()?;
+        let at = number as usize;
+        self.evictable.put(at, !self.pinned[at]);
+        Some(FrameId(number))
     }
 
     /// Gives a held frame back that isn't pinned. It is then free.
@@ -92,7 +94,8 @@ impl FramePool {
         requires unpinned { is_pinned self.old frame.0 ≡ false }
         ensures { self.new ≡ record self.old { held = slice_set self.old.held frame.0 false } }
     {
-        self.held[frame.0 as usize] = false;
+        self.held.give_back(frame.0);
+        self.evictable.put(frame.0 as usize, false);
     }
 
     /// Whether a frame is held.
@@ -100,7 +103,7 @@ impl FramePool {
         requires { frame.0 < length self.now.held }
         ensures { result ≡ is_held self.now frame.0 }
     {
-        self.held[frame.0 as usize]
+        self.held.is_taken(frame.0)
     }
 
     /// Whether a frame is pinned.
@@ -116,8 +119,21 @@ impl FramePool {
         requires { frame.0 < length self.now.held }
         ensures { result ≡ is_evictable self.now frame.0 }
     {
-        let at = frame.0 as usize;
-        self.held[at] && !self.pinned[at]
+        self.held.is_taken(frame.0) && !self.pinned[frame.0 as usize]
+    }
+
+    /// Of each frame whether it is held and not pinned.
+    pub fn evictable(&self) -> &[bool]
+        ensures { result.now ≡ evictable_frames self.now }
+    {
+        self.evictable.as_slice()
+    }
+
+    /// How many frames are held and not pinned.
+    pub fn evictable_count(&self) -> u32
+        ensures { result ≡ evictable_count self.now }
+    {
+        self.evictable.count() as u32
     }
 
     /// Pins a frame, so that it is no victim of eviction.
@@ -126,6 +142,7 @@ impl FramePool {
         ensures { self.new ≡ record self.old { pinned = slice_set self.old.pinned frame.0 true } }
     {
         self.pinned[frame.0 as usize] = true;
+        self.evictable.put(frame.0 as usize, false);
     }
 
     /// Unpins a frame.
@@ -134,6 +151,8 @@ impl FramePool {
         ensures { self.new ≡ record self.old { pinned = slice_set self.old.pinned frame.0 false } }
     {
         self.pinned[frame.0 as usize] = false;
+        let held = self.held.is_taken(frame.0);
+        self.evictable.put(frame.0 as usize, held);
     }
 
     /// The bytes of a frame, as many as a page has.

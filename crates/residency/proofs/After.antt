@@ -15,7 +15,7 @@ use Rattle.local_cache.specs.declared.own_state.OwnState.{OwnState}
 use Rattle.local_cache.specs.declared.own_state.OwnState.TheVariants.{Absent, Zero, Resident, Slot, OnSegment}
 use Rattle.local_cache.specs.Arena.{Arena, Cell, IsHeld, IsMade, cell, find}
 use Rattle.local_cache.specs.Own.{is_absent, is_in_slot, is_on_segment, is_resident, is_slot, own_of, own_states}
-use Rattle.local_cache.proofs.States.{filled_count, filled_length, filled_own}
+use Rattle.local_cache.proofs.Nodes.OwnStates.{filled_count, filled_length, filled_own}
 use Rattle.residency.specs.World.{World, HasOwnPage, IsStoreRight, SameNodes, Still, frame_page, is_bound, own_page, page_by, without_own, zero_page}
 
 -- who is a node stays one

@@ -19,7 +19,7 @@ use Rattle.local_cache.specs.declared.own_state.OwnState.{OwnState}
 use Rattle.local_cache.specs.declared.own_state.OwnState.TheVariants.{Absent, Zero, Resident, Slot, OnSegment}
 use Rattle.local_cache.specs.Arena.{Arena, IsHeld, with_own}
 use Rattle.local_cache.specs.Own.{is_absent, is_in_slot, is_on_segment, is_resident, is_slot, own_of, own_states}
-use Rattle.local_cache.proofs.States.{id_cases, id_apart, own_count, own_length, own_other, own_same, own_some}
+use Rattle.local_cache.proofs.Nodes.OwnStates.{id_cases, id_apart, own_count, own_length, own_other, own_same, own_some}
 use Rattle.residency.specs.World.{World, HoldsPage, IsAway, IsStoreRight, IsTaken, OthersStay, OthersStayBut, StillBut, frame_page, is_bound, is_slot_held, own_page, page_by, zero_page}
 use Rattle.residency.proofs.Evicted.{temporary_after}
 use Rattle.residency.proofs.Nodes.{same, with_own_same}

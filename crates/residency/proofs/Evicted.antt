@@ -19,7 +19,7 @@ use Rattle.local_cache.specs.declared.own_state.OwnState.{OwnState}
 use Rattle.local_cache.specs.declared.own_state.OwnState.TheVariants.{Absent, Zero, Resident, Slot, OnSegment}
 use Rattle.local_cache.specs.Arena.{with_own}
 use Rattle.local_cache.specs.Own.{is_in_slot, is_on_segment, is_resident, is_slot, own_of, own_states}
-use Rattle.local_cache.proofs.States.{id_cases, id_apart, own_count, own_length, own_none, own_other, own_same}
+use Rattle.local_cache.proofs.Nodes.OwnStates.{id_cases, id_apart, own_count, own_length, own_none, own_other, own_same}
 use Rattle.residency.specs.World.{World, IsEvicted, IsStoreRight, OthersStay, OthersStayBut, PagesStay, PinnedStays, StaysOrLeaves, Still, evicted, frame_page, is_slot_held, own_page, page_by, zero_page}
 use Rattle.residency.proofs.Homes.{IsHome, home_of_held, resident_not_in_slot, resident_not_slot}
 use Rattle.residency.proofs.Nodes.{same, same_then, with_own_same}

@@ -10,7 +10,7 @@ use Rattle.local_cache.specs.declared.own_state.OwnState.{OwnState}
 use Rattle.local_cache.specs.declared.own_state.OwnState.TheVariants.{Absent, Zero, Resident, Slot, OnSegment}
 use Rattle.local_cache.specs.Arena.{IsHeld}
 use Rattle.local_cache.specs.Own.{is_in_slot, is_resident, is_slot, own_of, own_states}
-use Rattle.local_cache.proofs.States.{own_held, own_not_all}
+use Rattle.local_cache.proofs.Nodes.OwnStates.{own_held, own_not_all}
 use Rattle.residency.specs.World.{World, IsStoreRight}
 
 pub resident_not_in_slot : (x : OwnState) → is_resident x ≡ true → is_in_slot x ≡ false

@@ -7,6 +7,7 @@ pub mod Evicted
 pub mod Homes
 pub mod New
 pub mod Nodes
+pub mod Picked
 pub mod StillForest
 pub mod Telling
 pub mod WrittenForest

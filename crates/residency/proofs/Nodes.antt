@@ -5,8 +5,8 @@ use Rattle.vm_ids.specs.declared.numbers.NodeId.{NodeId}
 use Rattle.local_cache.specs.declared.own_state.OwnState.{OwnState}
 use Rattle.local_cache.specs.Arena as arena
 use Rattle.local_cache.specs.Arena.{Arena, Cell, IsHeld, blank, cell, find, with_own}
-use Rattle.local_cache.proofs.Cells.{find-put, find-put_other}
-use Rattle.local_cache.proofs.States.{id_cases}
+use Rattle.local_cache.proofs.Nodes.Cells.{find-put, find-put_other}
+use Rattle.local_cache.proofs.Nodes.OwnStates.{id_cases}
 use Rattle.residency.specs.World.{SameNodes, without_own}
 
 whole : (o : Option Cell) → IsSome o → Some (without_own (unwrap_or o blank)) ≡ option_map without_own o

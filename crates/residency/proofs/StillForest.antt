@@ -11,12 +11,12 @@ use Rattle.local_cache.specs.Reading.{IsNamed, at_key, forest_of, hang_by, name_
 use Rattle.local_cache.specs.ReadingBy.{Tells, forest_by, node_with, state_page}
 use Rattle.local_cache.specs.Sound.{IsSound, ◌∈◌}
 use Rattle.local_cache.specs.Threads.{IsThreaded}
-use Rattle.local_cache.proofs.Adding.{hang-names}
-use Rattle.local_cache.proofs.Changes.{listed-like, named-like, same_node}
-use Rattle.local_cache.proofs.Reading.{forest_of-by}
-use Rattle.local_cache.proofs.ReadingBy.{bare-by}
-use Rattle.local_cache.proofs.Threads.{keeps_links, threaded-kept}
-use Rattle.local_cache.proofs.Values.{same_keys}
+use Rattle.local_cache.proofs.NewNode.Addition.{hang-names}
+use Rattle.local_cache.proofs.Changes.SameNodes.{listed-like, named-like, same_node}
+use Rattle.local_cache.proofs.Forest.Reading.{forest_of-by}
+use Rattle.local_cache.proofs.Forest.ReadingBy.{bare-by}
+use Rattle.local_cache.proofs.Forest.StubRows.{keeps_links, threaded-kept}
+use Rattle.local_cache.proofs.Nodes.Values.{same_keys}
 use Rattle.residency.specs.StoreForest.{store_forest}
 use Rattle.residency.specs.World.{SameNodes, Still, World, own_page, without_own}
 use Rattle.residency.proofs.Telling.{tells}
@@ -89,14 +89,16 @@ module _ (a b : Arena) (same : SameNodes a b) where
 
   pub still_sound : IsSound a → Tells (state_page a) b → IsSound b
   still_sound sound alike = record {
-    named = still_named sound.named;
-    listed = listed-like a b sound.listed still_like;
-    parents = λ n p h up. still_like.held p ∙ sound.parents n p (sym (still_like.held n) ∙ h) (ap (λ l. l.parent) (sym (read_same (λ c. c.links) (λ c. refl) n)) ∙ up);
-    children = λ n m h i. still_like.held m ∙ sound.children n m (sym (still_like.held n) ∙ h) (subst (λ ns. m ∈ ns) (read_same (λ c. c.tree) (λ c. refl) n) i);
-    threaded = λ x h. subst (IsThreaded b x) (sym (stubs_same x))
-        (threaded-kept a b x (stubs_of a x) (λ y i. keeps_links a b y (λ h. still_like.held y ∙ h) (read_same (λ c. c.links) (λ c. refl) y))
-        (ap (λ l. l.first) (read_same (λ c. c.links) (λ c. refl) x)) (ap (λ l. l.last) (read_same (λ c. c.links) (λ c. refl) x)) (ap (λ l. l.stubs) (read_same (λ c. c.links) (λ c. refl) x)) (sound.threaded x (sym (still_like.held x) ∙ h)));
-    linked = bare-linked (forest_of a) (forest_of b) (still_bare sound.named alike) sound.linked;
+    kept = record {
+      named = still_named sound.kept.named;
+      listed = listed-like a b sound.kept.listed still_like;
+      parents = λ n p h up. still_like.held p ∙ sound.kept.parents n p (sym (still_like.held n) ∙ h) (ap (λ l. l.parent) (sym (read_same (λ c. c.links) (λ c. refl) n)) ∙ up);
+      children = λ n m h i. still_like.held m ∙ sound.kept.children n m (sym (still_like.held n) ∙ h) (subst (λ ns. m ∈ ns) (read_same (λ c. c.tree) (λ c. refl) n) i);
+      threaded = λ x h. subst (IsThreaded b x) (sym (stubs_same x))
+          (threaded-kept a b x (stubs_of a x) (λ y i. keeps_links a b y (λ h. still_like.held y ∙ h) (read_same (λ c. c.links) (λ c. refl) y))
+          (ap (λ l. l.first) (read_same (λ c. c.links) (λ c. refl) x)) (ap (λ l. l.last) (read_same (λ c. c.links) (λ c. refl) x)) (ap (λ l. l.stubs) (read_same (λ c. c.links) (λ c. refl) x)) (sound.kept.threaded x (sym (still_like.held x) ∙ h)));
+    };
+    linked = bare-linked (forest_of a) (forest_of b) (still_bare sound.kept.named alike) sound.linked;
   }
 
 module _ (a b : World) (s : Still a b) where

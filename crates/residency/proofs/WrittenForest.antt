@@ -23,9 +23,9 @@ use Rattle.local_cache.specs.Own.{is_resident, own_of}
 use Rattle.local_cache.specs.Reading.{name_of}
 use Rattle.local_cache.specs.ReadingBy.{forest_by, node_with}
 use Rattle.local_cache.specs.Sound.{IsSound}
-use Rattle.local_cache.proofs.Reading.{get-forest_by, get-forest_by_none, held_or_not}
-use Rattle.local_cache.proofs.ReadingBy.{bare-by, forest_by-copies, forest_by-made, page-at}
-use Rattle.local_cache.proofs.States.{id_apart, id_cases}
+use Rattle.local_cache.proofs.Forest.Reading.{get-forest_by, get-forest_by_none, held_or_not}
+use Rattle.local_cache.proofs.Forest.ReadingBy.{bare-by, forest_by-copies, forest_by-made, page-at}
+use Rattle.local_cache.proofs.Nodes.OwnStates.{id_apart, id_cases}
 use Rattle.residency.specs.StoreForest.{store_forest}
 use Rattle.residency.specs.World.{IsStoreRight, World, own_page}
 use Rattle.residency.proofs.Brought.{given_page}
@@ -84,7 +84,7 @@ module _ (w : World) (f : ℕ) (n : NodeId) (bytes : List ℕ) (right : IsStoreR
   pub written_forest : store_forest (record w { frames = with_bytes w.frames f bytes }) ≡ edit (store_forest w) (name_of w.caches n) (with_page (Some (option_map (λ _. bytes) w.told)))
   unfolding store_forest
   written_forest = equal_by_pages (forest_by (own_page then) w.caches) (edit (forest_by (own_page w) w.caches) (name_of w.caches n) (with_page v))
-      (bare-by (own_page then) (own_page w) w.caches sound.named (λ m. tells then m ∙ sym (tells w m)) ∙ sym same_edit)
+      (bare-by (own_page then) (own_page w) w.caches sound.kept.named (λ m. tells then m ∙ sym (tells w m)) ∙ sym same_edit)
       (λ x. by_name x (held_or_not w.caches x))
     where
       v : Option (Option (List ℕ))
@@ -92,15 +92,15 @@ module _ (w : World) (f : ℕ) (n : NodeId) (bytes : List ℕ) (right : IsStoreR
 
       -- the node had a page, so that without pages nothing changes
       same_edit : bare (edit (forest_by (own_page w) w.caches) (name_of w.caches n) (with_page (Some (option_map (λ _. bytes) w.told)))) ≡ bare (forest_by (own_page w) w.caches)
-      same_edit = same_put (forest_by (own_page w) w.caches) (name_of w.caches n) (node_with w.caches n (own_page w n)) (option_map (λ _. bytes) w.told) (get-forest_by w.caches (own_page w) sound.named n home.there)
+      same_edit = same_put (forest_by (own_page w) w.caches) (name_of w.caches n) (node_with w.caches n (own_page w n)) (option_map (λ _. bytes) w.told) (get-forest_by w.caches (own_page w) sound.kept.named n home.there)
           (page_here w f n (own_of w.caches n) home.resident home.place)
 
       by_name : (x : NodeName) → ((m : NodeId) × IsHeld w.caches m × (name_of w.caches m ≡ x)) ⊎ ((m : NodeId) → IsHeld w.caches m → name_of w.caches m ≢ x)
           → (node (forest_by (own_page then) w.caches) x).own ≡ (node (edit (forest_by (own_page w) w.caches) (name_of w.caches n) (with_page (Some (option_map (λ _. bytes) w.told)))) x).own
-      by_name x (inl k) = subst (λ y. (node (forest_by (own_page then) w.caches) y).own ≡ (node (edit (forest_by (own_page w) w.caches) (name_of w.caches n) (with_page v)) y).own) k.2 (page-at (own_page then) w.caches sound.named k.0 k.1 ∙ elim (id_cases k.0 n) [
+      by_name x (inl k) = subst (λ y. (node (forest_by (own_page then) w.caches) y).own ≡ (node (edit (forest_by (own_page w) w.caches) (name_of w.caches n) (with_page v)) y).own) k.2 (page-at (own_page then) w.caches sound.kept.named k.0 k.1 ∙ elim (id_cases k.0 n) [
         | inl e ↦ ap (own_page then) e ∙ written_here ∙ sym (ap (λ j. j.own) (node-put (forest_by (own_page w) w.caches) (name_of w.caches n) _)) ∙ ap (λ m. (node (edit (forest_by (own_page w) w.caches) (name_of w.caches n) (with_page v)) (name_of w.caches m)).own) (sym e)
-        | inr d ↦ written_page k.0 d ∙ sym (page-at (own_page w) w.caches sound.named k.0 k.1)
-            ∙ sym (ap (λ j. j.own) (node-put_other (forest_by (own_page w) w.caches) (name_of w.caches n) (name_of w.caches k.0) _ (λ e. d (sound.named.apart k.0 n k.1 home.there e))))
+        | inr d ↦ written_page k.0 d ∙ sym (page-at (own_page w) w.caches sound.kept.named k.0 k.1)
+            ∙ sym (ap (λ j. j.own) (node-put_other (forest_by (own_page w) w.caches) (name_of w.caches n) (name_of w.caches k.0) _ (λ e. d (sound.kept.named.apart k.0 n k.1 home.there e))))
       ])
       by_name x (inr none) =
           let ne : x ≢ name_of w.caches n = λ e. none n home.there (sym e) in

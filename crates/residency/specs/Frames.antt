@@ -21,9 +21,6 @@ with_pinned p frame pinned = record p { pinned = slice_set p.pinned frame pinned
 abbrev pub HasEvictable : Frames → Type 0
 HasEvictable p = (f : ℕ) × (f < length p.held) × (is_evictable p f ≡ true)
 
-abbrev pub HasNoEvictable : Frames → Type 0
-HasNoEvictable p = (f : ℕ) → f < length p.held → is_evictable p f ≡ false
-
 -- how many may be evicted, where each pinned frame is held
 abbrev pub evictable_count : Frames → ℕ
 evictable_count p = held_count p - pinned_count p

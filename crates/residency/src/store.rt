@@ -15,7 +15,7 @@ ghost use Rattle.residency.specs.Lending.{LendsFrame};
 ghost use Rattle.residency.specs.World.{HasNoNodes, HasOwnPage, HoldsPage, HasUnpinned, IsAway, IsEvicted, IsFrameOf, IsMadeFree, IsStoreRight, IsTaken, OthersStay, OthersStayBut, Still, StillBut, world};
 
 use crate::Miss;
-use crate::marks::{Marks, any_evictable};
+use crate::marks::Marks;
 use frame_pool::FramePool;
 use global_map::GlobalMap;
 use local_cache::{Caches, OwnState};
@@ -511,7 +511,7 @@ impl Store {
         ensures cause { OnErr result (PushFailed (M.counts mapper.old) (M.counts mapper.new)) }
     {
         for done in 0..count {
-            if !any_evictable(&self.frames) {
+            if self.frames.evictable_count() == 0 {
                 return Ok(());
             }
             let frame = self.marks.pick(&self.frames, chooser);

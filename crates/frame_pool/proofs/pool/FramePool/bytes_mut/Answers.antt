@@ -4,10 +4,10 @@ use Rattle.frame_pool.proofs.pool.FramePool.bytes_mut.Goals as goal
 
 pub returns : goal.returns
 returns c = (
-  (refl, λ w. lent_page c.self.inside c.args.self.now c.args.frame.0 w c.self.view_is c.self.invariant c.requires),
+  (refl, λ w. lent_page c.self.inside c.args.self.now c.args.frame.0 w c.self.view_is c.self.invariant.sized c.requires),
   record {
     writes_back = tt;
     bytes = c.part_mut.ensures.bytes ∙ bytes_seen c.self.inside c.args.self.now c.args.frame.0 c.self.view_is c.requires;
-    page = ap (λ (xs : List ℕ). length xs) c.part_mut.ensures.bytes ∙ page_long c.self.inside c.args.self.now c.args.frame.0 c.self.view_is c.self.invariant c.requires;
+    page = ap (λ (xs : List ℕ). length xs) c.part_mut.ensures.bytes ∙ page_long c.self.inside c.args.self.now c.args.frame.0 c.self.view_is c.self.invariant.sized c.requires;
   },
 )

@@ -1,20 +1,26 @@
-use Rattle.std.proofs.Common.{rules, arith, ◌≡◌, ◌≤◌, ◌<◌, ◌+◌, ap, ◌∙◌, refl, List, Bool, ◌-◌, min, length}
+use Rattle.std.proofs.Common.{rules, arith, ◌≡◌, ◌≤◌, ◌<◌, ◌+◌, ap, ◌∙◌, sym, List, Bool, ◌-◌, min, length}
 use Rattle.std.specs.List.{count_by}
 use Rattle.frame_pool.specs.Pool.{held_count, pinned_count}
 use Rattle.residency.specs.World.{World, world}
 use Rattle.residency.specs.declared.store.Store.{Store}
 use Rattle.residency.proofs.Arms.{on_err}
 use Rattle.residency.proofs.Counted.{one_fewer, pinned_held, none_left, some_left}
+use Rattle.residency.proofs.Picked.{none_counted, some_counted}
 use Rattle.residency.proofs.Evicted.{others_marks, others_then, still_marks, still_then}
 use Rattle.residency.proofs.store.Store.page_out.Goals as goal
 
-pub returns-then-not-any_evictable-clause-fewer : goal.returns-then-not-any_evictable-clause-fewer
-returns-then-not-any_evictable-clause-fewer g c =
+pub returns-then-evictable_count-eq0-clause-fewer : goal.returns-then-evictable_count-eq0-clause-fewer
+returns-then-evictable_count-eq0-clause-fewer g c =
     let w : World = world (g.M.Mapper.held c.loop-done.mapper) (g.M.Mapper.page_bytes c.loop-done.mapper) c.loop-done.caches c.loop-done.self in
-    let most : held_count c.loop-done.self.frames ≤ pinned_count c.loop-done.self.frames = none_left w c.loop-done.invariant.still.stays.right (c.if-not-any_evictable.ensures.none refl) in
+    let most : held_count c.loop-done.self.frames ≤ pinned_count c.loop-done.self.frames = none_left w c.loop-done.invariant.still.stays.right (none_counted c.loop-done.self.frames (sym c.evictable_count.ensures ∙ c.if-evictable_count-eq0.true)) in
     let least : pinned_count c.loop-done.self.frames ≤ held_count c.loop-done.self.frames = pinned_held w c.loop-done.invariant.still.stays.right in
     let same : pinned_count c.loop-done.self.frames ≡ pinned_count c.args.self.now.frames = ap (λ (xs : List Bool). count_by (λ h. h) xs) c.loop-done.invariant.pinned in
     omega (arith, c.loop-done.invariant.fewer, c.loop-done-test.true)
+
+pub pick-frame-requires-clause-some : goal.pick-frame-requires-clause-some
+pick-frame-requires-clause-some g c =
+    let some : c.evictable_count.result ≡ 0 → ⊥ = c.if-evictable_count-eq0.false in
+    some_counted c.loop-done.self.frames (omega (arith, c.evictable_count.ensures))
 
 pub loop-done-preserved : goal.loop-done-preserved
 loop-done-preserved g c =
