@@ -1,6 +1,7 @@
 -- A map from nodes to frames, as the node of each frame.
-use Rattle.std.specs.Prelude.{ℕ, ◌≤◌, ◌^◌, ◌==◌, Bool, false, List, length, Option, Some, None, slice_index_or, count_by}
+use Rattle.std.specs.Prelude.{◌≡◌, ℕ, ◌≤◌, ◌^◌, ◌==◌, Bool, false, List, length, Option, Some, None, slice_index_or, count_by, map}
 use Rattle.std.specs.List.{position_or_len}
+use Rattle.probe_table.specs.Hashes.{hash_of_key}
 use Rattle.vm_ids.specs.declared.numbers.NodeId.{NodeId}
 
 -- what is bound is this node
@@ -24,3 +25,17 @@ bound_times map node = count_by (is_node node) map
 pub record IsOneToOne (map : List (Option NodeId)) : Type 0 where
   pub few : length map ≤ 2 ^ 16
   pub once : (node : ℕ) → bound_times map node ≤ 1
+
+-- the hash under which a frame is entered in the table, if a node is bound to it
+abbrev pub hash_at : Option NodeId → Option ℕ
+hash_at None = None
+hash_at (Some node) = Some (hash_of_key node.0)
+
+-- the table that belongs to a map
+abbrev pub hashes_of : List (Option NodeId) → List (Option ℕ)
+hashes_of nodes = map hash_at nodes
+
+-- each node stands at one frame at most, and the table is the one that belongs to the map
+pub record IsIndexed (nodes : List (Option NodeId)) (table : List (Option ℕ)) : Type 0 where
+  pub one_to_one : IsOneToOne nodes
+  pub hashes : table ≡ hashes_of nodes

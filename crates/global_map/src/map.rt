@@ -1,7 +1,8 @@
 // A one-to-one map between page nodes and page frames.
 ghost use Rattle.std.specs.Prelude.{◌≡◌, ◌≤◌, ◌<◌, ◌^◌, length, None, Some, replicate, slice_set, position, IfOk, MatchOption};
-ghost use Rattle.global_map.specs.Pairs.{bound_times, frame_of, is_node, node_of};
+ghost use Rattle.global_map.specs.Pairs.{bound_times, frame_of, hashes_of, is_node, node_of};
 
+use probe_table::{ProbeTable, hash};
 use std::alloc::Global;
 use std::marker::Model;
 use vm_ids::{FrameId, NoMemory, NodeId};
@@ -10,6 +11,8 @@ use vm_ids::{FrameId, NoMemory, NodeId};
 #[derive(Drop)]
 pub struct GlobalMap {
     nodes: Vec<Option<NodeId>>,
+    // The number of each frame to which a node is bound, under the hash of the node.
+    table: ProbeTable,
 }
 
 impl Model for GlobalMap {
@@ -18,11 +21,11 @@ impl Model for GlobalMap {
 
     ghost Value = { List (Option NodeId) };
 
-    ghost use Rattle.global_map.specs.Pairs.{IsOneToOne};
+    ghost use Rattle.global_map.specs.Pairs.{IsIndexed};
 
     ghost view = { λ m. m.nodes.items };
 
-    ghost invariant = { λ m. IsOneToOne m.nodes.items };
+    ghost invariant = { λ m. IsIndexed m.nodes.items m.table };
 }
 
 fn is_at(entry: &Option<NodeId>, node: NodeId) -> bool
@@ -35,10 +38,13 @@ fn is_at(entry: &Option<NodeId>, node: NodeId) -> bool
 }
 
 // Where a node stands.
-fn place_of(nodes: &[Option<NodeId>], node: NodeId) -> Option<usize>
+fn place_of(nodes: &[Option<NodeId>], table: &ProbeTable, node: NodeId) -> Option<usize>
+    requires table { table.now ≡ hashes_of nodes.now }
+    requires once { bound_times nodes.now node.0 ≤ 1 }
     ensures { result ≡ position (is_node node.0) nodes.now }
 {
-    nodes.iter().position(|entry| is_at(entry, node))
+    let frame = table.find(hash(node.0), |frame| is_at(&nodes[frame as usize], node))?;
+    Some(frame as usize)
 }
 
 impl GlobalMap {
@@ -47,11 +53,10 @@ impl GlobalMap {
         requires { frames ≤ 2 ^ 16 }
         ensures { IfOk result (λ m. m ≡ replicate frames None) }
     {
+        let table = ProbeTable::new(alloc, frames)?;
         let mut nodes = Vec::new(alloc);
-        match nodes.resize(frames as usize, None) {
-            Ok(()) => Ok(GlobalMap { nodes }),
-            Err(_) => Err(NoMemory),
-        }
+        nodes.resize(frames as usize, None)?;
+        Ok(GlobalMap { nodes, table })
     }
 
     /// The node that is bound to a frame. `None` exactly where none is.
@@ -68,7 +73,7 @@ impl GlobalMap {
             (λ frame. (frame.0 < length self.now) × (node_of self.now frame.0 ≡ Some node)) }
         ensures once { bound_times self.now node.0 ≤ 1 }
     {
-        match place_of(&self.nodes, node) {
+        match place_of(&self.nodes, &self.table, node) {
             Some(at) => Some(FrameId(at as u32)),
             None => None,
         }
@@ -82,6 +87,7 @@ impl GlobalMap {
         ensures { self.new ≡ slice_set self.old frame.0 (Some node) }
     {
         self.nodes[frame.0 as usize] = Some(node);
+        self.table.enter(frame.0, hash(node.0));
     }
 
     /// Unbinds a bound node from its frame.
@@ -89,8 +95,9 @@ impl GlobalMap {
         requires { bound_times self.old node.0 ≡ 1 }
         ensures { self.new ≡ slice_set self.old (frame_of self.old node.0) None }
     {
-        let at = place_of(&self.nodes, node).unwrap();
+        let at = place_of(&self.nodes, &self.table, node).unwrap();
         self.nodes[at] = None;
+        self.table.remove(at as u32);
     }
 
     /// Binds the unbound node `to` in place of the bound node `from`.
@@ -99,7 +106,10 @@ impl GlobalMap {
         requires to { bound_times self.old to.0 ≡ 0 }
         ensures { self.new ≡ slice_set self.old (frame_of self.old from.0) (Some to) }
     {
-        let at = place_of(&self.nodes, from).unwrap();
+        let at = place_of(&self.nodes, &self.table, from).unwrap();
         self.nodes[at] = Some(to);
+        let frame = at as u32;
+        self.table.remove(frame);
+        self.table.enter(frame, hash(to.0));
     }
 }

@@ -1,0 +1,6 @@
+-- A table, as the hash under which each number is entered.
+use Rattle.std.specs.Prelude.{ℕ, List, Option, None, slice_index_or}
+
+-- the hash under which a number is entered; a number past the last isn't
+abbrev pub hash_of : List (Option ℕ) → ℕ → Option ℕ
+hash_of table number = slice_index_or table number None
