@@ -1,0 +1,7 @@
+pub mod Entries
+pub mod Indexes
+pub mod Links
+pub mod Membership
+pub mod Rows
+pub mod Threads
+pub mod Translations
