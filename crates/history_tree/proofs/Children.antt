@@ -14,7 +14,7 @@ use Rattle.vm_ids.proofs.Forest.NameLists.{in_append, Once-append}
 use Rattle.local_cache.specs.Arena.{Arena, cell, IsHeld}
 use Rattle.local_cache.specs.Reading.{name_of, page_of, forest_of, stubs_of}
 use Rattle.local_cache.specs.Sound.{IsSound}
-use Rattle.local_cache.proofs.Reading.{node-forest_of, IsNode-forest_of}
+use Rattle.local_cache.proofs.Forest.Reading.{node-forest_of, IsNode-forest_of}
 use Rattle.history_tree.specs.Items.{item_for}
 use Rattle.history_tree.proofs.Upward.{path_up, path_end}
 
@@ -42,15 +42,15 @@ most_two (Working k) = omega arith
 
 module _ (a : Arena) (sound : IsSound a) (n : NodeId) (h : IsHeld a n) where
   pub at_most_two : length (cell a n).tree ≤ 2
-  at_most_two = let most = sound.linked.few (name_of a n) in omega (arith, ap (λ m. length m.tree) (node-forest_of a sound.named n h), length-map (cell a n).tree (name_of a), most_two (name_of a n))
+  at_most_two = let most = sound.linked.few (name_of a n) in omega (arith, ap (λ m. length m.tree) (node-forest_of a sound.kept.named n h), length-map (cell a n).tree (name_of a), most_two (name_of a n))
 
   pub count_is : child_count (forest_of a) (name_of a n) ≡ length (cell a n).tree + (cell a n).links.stubs
   count_is =
-      let is = node-forest_of a sound.named n h in
-      omega (arith, ap (λ m. length m.tree) is, length-map (cell a n).tree (name_of a), ap (λ m. length m.stubs) is, length-map (stubs_of a n) (name_of a), (sound.threaded n h).count)
+      let is = node-forest_of a sound.kept.named n h in
+      omega (arith, ap (λ m. length m.tree) is, length-map (cell a n).tree (name_of a), ap (λ m. length m.stubs) is, length-map (stubs_of a n) (name_of a), (sound.kept.threaded n h).count)
 
   pub fits : len (forest_of a).nodes < 4294967296 → length (cell a n).tree + (cell a n).links.stubs < 4294967296
-  fits few = omega (arith, children_fit (forest_of a) sound.linked (name_of a n) (IsNode-forest_of a sound.named n h), count_is)
+  fits few = omega (arith, children_fit (forest_of a) sound.linked (name_of a n) (IsNode-forest_of a sound.kept.named n h), count_is)
 
 -- The chain ------------------------------------------------------------------------
 

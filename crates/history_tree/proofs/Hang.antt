@@ -16,22 +16,16 @@ use Rattle.vm_ids.specs.Forest.Changes.{edit, with_hang, set_tree, count_working
 use Rattle.vm_ids.specs.Forest.Nodes.Hang.{Root, TreeOf}
 use Rattle.vm_ids.specs.declared.numbers.NodeId.{NodeId}
 use Rattle.local_cache.specs.declared.own_state.OwnState.{OwnState}
-use Rattle.local_cache.specs.Arena.{Arena, cell, find, put, IsHeld, with_tree, with_new, with_working}
+use Rattle.local_cache.specs.Arena.{Arena, cell, find, IsHeld, hung, with_tree, with_new, with_working}
 use Rattle.local_cache.specs.Reading.{name_of, forest_of, hang_by}
 use Rattle.local_cache.specs.Sound.{IsSound, IsKept, ◌∈◌}
-use Rattle.local_cache.proofs.Changes.{Like, like_then, reshaped_links, reshaped_tree, links-with_tree, links-with_links_other, hang_root, forest_of-made}
-use Rattle.local_cache.proofs.Reading.{node-forest_of, IsNode-forest_of, forest_of-IsNode}
-use Rattle.local_cache.proofs.Fresh.{sound-fresh, forest-fresh, held_new, held_old, not_w, new_name, old_name, cell-new, cell-old}
-use Rattle.local_cache.proofs.Edit.{kept_of, IsNoStub, tree-forest, tree-kept, hang-forest, hang-kept}
+use Rattle.local_cache.proofs.Changes.SameNodes.{Like, rehung_then, hang_root, forest_of-made}
+use Rattle.local_cache.proofs.Forest.Reading.{node-forest_of, IsNode-forest_of, forest_of-IsNode}
+use Rattle.local_cache.proofs.NewNode.FreshNode.{sound-fresh, forest-fresh, held_new, held_old, not_w, new_name, old_name, cell-new, cell-old}
+use Rattle.local_cache.proofs.Changes.OneNode.{Edited, IsNoStub, tree-edited, hang-edited, no_stub-tree, no_stub-hung, root_no_stub}
 use Rattle.history_tree.proofs.Inheriting.{most_one}
 use Rattle.history_tree.proofs.OwnPages.{states-link}
-use Rattle.history_tree.specs.Hanging.{hung, set_one, set_two, IsGrown}
-
--- what a step leaves
-pub record Step (a b : Arena) (g : Forest OwnState) : Type 0 where
-  pub like : Like a b
-  pub kept : IsKept b
-  pub forest : forest_of b ≡ g
+use Rattle.history_tree.specs.Hanging.{set_one, set_two, IsGrown}
 
 held : (a b : Arena) → Like a b → (n : NodeId) → IsHeld a n → IsHeld b n
 held a b like n h = like.held n ∙ h
@@ -44,60 +38,49 @@ all_two : (a : Arena) (x y : NodeId) → IsHeld a x → IsHeld a y → (m : Node
 all_two a x y hx hy m (inl e) = subst (IsHeld a) (sym e) hx
 all_two a x y hx hy m (inr i) = all_one a y hy m i
 
-tree-step : (a : Arena) → IsKept a → (p : NodeId) → IsHeld a p → (ts : List NodeId) → ((m : NodeId) → m ∈ ts → IsHeld a m)
-    → Step a (with_tree a p ts) (edit (forest_of a) (name_of a p) (forest.with_tree (map (name_of a) ts)))
-tree-step a kept p hp ts all = record { like = (reshaped_tree a p ts hp).like; kept = tree-kept a kept p hp ts all; forest = tree-forest a kept p hp ts all }
-
 hang-step : (a : Arena) → IsKept a → (n p : NodeId) → IsHeld a n → IsHeld a p → IsNoStub a n
-    → Step a (hung a n p) (edit (forest_of a) (name_of a n) (with_hang (TreeOf (name_of a p))))
-hang-step a kept n p hn hp none =
-    let all : (q : NodeId) → Some p ≡ Some q → IsHeld a q = λ q e. subst (IsHeld a) (cc e) hp in
-    record { like = (reshaped_links a n _ hn).like; kept = hang-kept a kept n hn none (Some p) all; forest = hang-forest a kept n hn none (Some p) all }
-
-no_stub-tree : (a : Arena) (p : NodeId) (ts : List NodeId) (n : NodeId) → IsNoStub a n → IsNoStub (with_tree a p ts) n
-no_stub-tree a p ts n none q e = let l = links-with_tree a p ts n in ap (λ k. k.by_stub) l ∙ none q (sym (ap (λ k. k.parent) l) ∙ e)
-
-no_stub-hung : (a : Arena) (x p n : NodeId) → x ≢ n → IsNoStub a n → IsNoStub (hung a x p) n
-no_stub-hung a x p n ne none q e = let l = links-with_links_other a x n _ (λ e. ne (sym e)) in ap (λ k. k.by_stub) l ∙ none q (sym (ap (λ k. k.parent) l) ∙ e)
+    → Edited a (hung a n (Some p)) (edit (forest_of a) (name_of a n) (with_hang (TreeOf (name_of a p))))
+hang-step a kept n p hn hp none = hang-edited a kept n hn none (Some p) (λ q e. subst (IsHeld a) (cc e) hp)
 
 pub one-step : (a : Arena) → IsKept a → (p x : NodeId) → IsHeld a p → IsHeld a x → IsNoStub a x
-    → Step a (set_one a p x) (set_tree (forest_of a) (name_of a p) (name_of a x ∷ []))
+    → Edited a (set_one a p x) (set_tree (forest_of a) (name_of a p) (name_of a x ∷ []))
 unfolding set_tree forest.hang_all
 one-step a kept p x hp hx none =
     let ts : List NodeId = x ∷ [] in
     let a1 : Arena = with_tree a p ts in
-    let s1 = tree-step a kept p hp ts (all_one a x hx) in
-    let s2 = hang-step a1 s1.kept x p (held a a1 s1.like x hx) (held a a1 s1.like p hp) (no_stub-tree a p ts x none) in
+    let s1 = tree-edited a kept p hp ts (all_one a x hx) in
+    let s2 = hang-step a1 s1.kept x p (held a a1 s1.rehung.like x hx) (held a a1 s1.rehung.like p hp) (no_stub-tree a p ts x none) in
     record {
-      like = like_then a a1 (hung a1 x p) s1.like s2.like;
+      rehung = rehung_then a a1 (hung a1 x (Some p)) s1.rehung s2.rehung;
       kept = s2.kept;
       forest = s2.forest
-          ∙ ap (λ k. edit (forest_of a1) k (with_hang (TreeOf (name_of a1 p)))) (s1.like.name x)
-          ∙ ap (λ k. edit (forest_of a1) (name_of a x) (with_hang (TreeOf k))) (s1.like.name p)
+          ∙ ap (λ k. edit (forest_of a1) k (with_hang (TreeOf (name_of a1 p)))) (s1.rehung.like.name x)
+          ∙ ap (λ k. edit (forest_of a1) (name_of a x) (with_hang (TreeOf k))) (s1.rehung.like.name p)
           ∙ ap (λ (f : Forest OwnState). edit f (name_of a x) (with_hang (TreeOf (name_of a p)))) s1.forest;
     }
 
 pub two-step : (a : Arena) → IsKept a → (p x y : NodeId) → IsHeld a p → IsHeld a x → IsHeld a y → IsNoStub a x → IsNoStub a y → y ≢ x
-    → Step a (set_two a p x y) (set_tree (forest_of a) (name_of a p) (name_of a x ∷ name_of a y ∷ []))
+    → Edited a (set_two a p x y) (set_tree (forest_of a) (name_of a p) (name_of a x ∷ name_of a y ∷ []))
 unfolding set_tree forest.hang_all
 two-step a kept p x y hp hx hy none_x none_y y_x =
     let ts : List NodeId = x ∷ y ∷ [] in
     let a1 : Arena = with_tree a p ts in
-    let s1 = tree-step a kept p hp ts (all_two a x y hx hy) in
-    let s2 = hang-step a1 s1.kept y p (held a a1 s1.like y hy) (held a a1 s1.like p hp) (no_stub-tree a p ts y none_y) in
-    let a2 : Arena = hung a1 y p in
-    let like2 = like_then a a1 a2 s1.like s2.like in
-    let s3 = hang-step a2 s2.kept x p (held a a2 like2 x hx) (held a a2 like2 p hp) (no_stub-hung a1 y p x y_x (no_stub-tree a p ts x none_x)) in
+    let s1 = tree-edited a kept p hp ts (all_two a x y hx hy) in
+    let s2 = hang-step a1 s1.kept y p (held a a1 s1.rehung.like y hy) (held a a1 s1.rehung.like p hp) (no_stub-tree a p ts y none_y) in
+    let a2 : Arena = hung a1 y (Some p) in
+    let rehung2 = rehung_then a a1 a2 s1.rehung s2.rehung in
+    let like2 = rehung2.like in
+    let s3 = hang-step a2 s2.kept x p (held a a2 like2 x hx) (held a a2 like2 p hp) (no_stub-hung a1 y (Some p) x (λ e. y_x (sym e)) (no_stub-tree a p ts x none_x)) in
     record {
-      like = like_then a a2 (hung a2 x p) like2 s3.like;
+      rehung = rehung_then a a2 (hung a2 x (Some p)) rehung2 s3.rehung;
       kept = s3.kept;
       forest = s3.forest
           ∙ ap (λ k. edit (forest_of a2) k (with_hang (TreeOf (name_of a2 p)))) (like2.name x)
           ∙ ap (λ k. edit (forest_of a2) (name_of a x) (with_hang (TreeOf k))) (like2.name p)
           ∙ ap (λ (f : Forest OwnState). edit f (name_of a x) (with_hang (TreeOf (name_of a p))))
           (s2.forest
-          ∙ ap (λ k. edit (forest_of a1) k (with_hang (TreeOf (name_of a1 p)))) (s1.like.name y)
-          ∙ ap (λ k. edit (forest_of a1) (name_of a y) (with_hang (TreeOf k))) (s1.like.name p)
+          ∙ ap (λ k. edit (forest_of a1) k (with_hang (TreeOf (name_of a1 p)))) (s1.rehung.like.name y)
+          ∙ ap (λ k. edit (forest_of a1) (name_of a y) (with_hang (TreeOf k))) (s1.rehung.like.name p)
           ∙ ap (λ (f : Forest OwnState). edit f (name_of a y) (with_hang (TreeOf (name_of a p)))) s1.forest);
     }
 
@@ -158,45 +141,23 @@ pub record CanLink (a : Arena) (d s : NodeId) : Type 0 where
   pub apart : d ≢ s
 
 not_counted : (a : Arena) → IsSound a → IsNode (forest_of a) (Working (a.made + 1)) → ⊥
-not_counted a sound is = let f = forest_of-IsNode a (Working (a.made + 1)) is in (let low = sound.named.counted f.0 (a.made + 1) f.1 f.2 in omega arith)
-
-root_no_stub : (a : Arena) (n : NodeId) → (cell a n).links.parent ≡ None → IsNoStub a n
-root_no_stub a n e p up = absurd (let clash : Some p ≡ None = sym up ∙ e in cc clash)
+not_counted a sound is = let f = forest_of-IsNode a (Working (a.made + 1)) is in (let low = sound.kept.named.counted f.0 (a.made + 1) f.1 f.2 in omega arith)
 
 bare_parent : (a : Arena) → IsSound a → (d : NodeId) → IsHeld a d → node (forest_of a) (name_of a d) ≡ childless None Root → (cell a d).links.parent ≡ None
-bare_parent a sound d hd bare = hang_root a (cell a d).links.parent (cell a d).links.by_stub (ap (λ n. n.hang) (sym (node-forest_of a sound.named d hd) ∙ bare))
+bare_parent a sound d hd bare = hang_root a (cell a d).links.parent (cell a d).links.by_stub (ap (λ n. n.hang) (sym (node-forest_of a sound.kept.named d hd) ∙ bare))
 
 rule-linked : (a : Arena) (d s : NodeId) → CanLink a d s → IsLinked (rules.link (forest_of a) (name_of a d) (name_of a s))
 rule-linked a d s can =
     let sound = can.sound in
-    (link-Links (forest_of a) sound.linked (name_of a d) (name_of a s) can.bare (IsNode-forest_of a sound.named d can.held_d)
-    (λ e. can.apart (sound.named.apart d s can.held_d can.held_s e)) (IsNode-forest_of a sound.named s can.held_s)
+    (link-Links (forest_of a) sound.linked (name_of a d) (name_of a s) can.bare (IsNode-forest_of a sound.kept.named d can.held_d)
+    (λ e. can.apart (sound.kept.named.apart d s can.held_d can.held_s e)) (IsNode-forest_of a sound.kept.named s can.held_s)
     (subst (λ k. IsNode (forest_of a) (Working (k + 1)) → ⊥) (sym (forest_of-made a)) (not_counted a sound))
     (most_one (name_of a s) can.live)).shape
-
-sound_by : (b : Arena) → IsKept b → IsLinked (forest_of b) → IsSound b
-sound_by b k l = record { named = k.named; listed = k.listed; parents = k.parents; children = k.children; threaded = k.threaded; linked = l }
 
 pub record Linked (a b : Arena) (d s : NodeId) : Type 0 where
   pub forest : forest_of b ≡ rules.link (forest_of a) (name_of a d) (name_of a s)
   pub sound : IsSound b
   pub grown : IsGrown a b
-
-room-one : (a : Arena) (p x : NodeId) → (set_one a p x).room ≡ a.room
-unfolding put
-room-one a p x = refl
-
-room-two : (a : Arena) (p x y : NodeId) → (set_two a p x y).room ≡ a.room
-unfolding put
-room-two a p x y = refl
-
-counters-one : (a : Arena) (p x : NodeId) → ((set_one a p x).made ≡ a.made) × ((set_one a p x).copies ≡ a.copies)
-unfolding put
-counters-one a p x = (refl, refl)
-
-counters-two : (a : Arena) (p x y : NodeId) → ((set_two a p x y).made ≡ a.made) × ((set_two a p x y).copies ≡ a.copies)
-unfolding put
-counters-two a p x y = (refl, refl)
 
 counters-fresh : (a : Arena) (w : NodeId) → ((with_working a w).made ≡ a.made + 1) × ((with_working a w).copies ≡ a.copies)
 unfolding with_new
@@ -213,19 +174,19 @@ tables-fresh a w = refl
 pub links-first : (a : Arena) (d s : NodeId) → CanLink a d s → (cell a s).tree ≡ [] → Linked a (set_one a s d) d s
 links-first a d s can none =
     let sound = can.sound in
-    let step = one-step a (kept_of a sound) s d can.held_s can.held_d (root_no_stub a d (bare_parent a sound d can.held_d can.bare)) in
-    let tree_is : (node (forest_of a) (name_of a s)).tree ≡ [] = ap (λ n. n.tree) (node-forest_of a sound.named s can.held_s) ∙ ap (map (name_of a)) none in
+    let step = one-step a sound.kept s d can.held_s can.held_d (root_no_stub a d (bare_parent a sound d can.held_d can.bare)) in
+    let tree_is : (node (forest_of a) (name_of a s)).tree ≡ [] = ap (λ n. n.tree) (node-forest_of a sound.kept.named s can.held_s) ∙ ap (map (name_of a)) none in
     let is : forest_of (set_one a s d) ≡ rules.link (forest_of a) (name_of a d) (name_of a s) = step.forest ∙ sym (link_none (forest_of a) (name_of a d) (name_of a s) tree_is) in
     record {
       forest = is;
-      sound = sound_by (set_one a s d) step.kept (subst IsLinked (sym is) (rule-linked a d s can));
-      grown = (let room = room-one a s d in let nodes : (set_one a s d).room.nodes ≡ a.room.nodes = ap (λ r. r.nodes) room in let count = counters-one a s d in record {
-        held = λ n h. step.like.held n ∙ h;
-        names = λ n h. step.like.name n;
-        own = λ n h. states-link a (set_one a s d) sound.named step.kept.named (name_of a d) (name_of a s) is n h (step.like.held n ∙ h) (step.like.name n);
-        tables = step.like.caches;
-        made = (let same = count.0 in omega arith, let same = count.0 in omega arith);
-        copies = count.1;
+      sound = record { kept = step.kept; linked = subst IsLinked (sym is) (rule-linked a d s can) };
+      grown = (let room = step.rehung.room in let nodes : (set_one a s d).room.nodes ≡ a.room.nodes = ap (λ r. r.nodes) room in record {
+        held = λ n h. step.rehung.like.held n ∙ h;
+        names = λ n h. step.rehung.like.name n;
+        own = λ n h. states-link a (set_one a s d) sound.kept.named step.kept.named (name_of a d) (name_of a s) is n h (step.rehung.like.held n ∙ h) (step.rehung.like.name n);
+        tables = step.rehung.like.caches;
+        made = (let same = step.rehung.made in omega arith, let same = step.rehung.made in omega arith);
+        copies = step.rehung.copies;
         nodes = omega arith;
         caches = ap (λ r. r.caches) room;
         entries = ap (λ r. r.entries) room;
@@ -236,35 +197,35 @@ pub links-more : (a : Arena) (d s w h : NodeId) (rest : List NodeId) → CanLink
 links-more a d s w h rest can tree free roomy =
     let sound = can.sound in
     let f : Forest OwnState = forest_of a in
-    let hh : IsHeld a h = sound.children s h can.held_s (subst (λ ts. h ∈ ts) (sym tree) (inl refl)) in
+    let hh : IsHeld a h = sound.kept.children s h can.held_s (subst (λ ts. h ∈ ts) (sym tree) (inl refl)) in
     let a1 : Arena = with_working a w in
     let sound1 = sound-fresh a sound w free in
     let w1 = held_new a sound w free in
     let s1 = held_old a sound w free s can.held_s in
     let no_w : IsNoStub a1 w = root_no_stub a1 w (ap (λ c. c.links.parent) (cell-new a w free)) in
-    let step1 = one-step a1 (kept_of a1 sound1) s w s1 w1 no_w in
+    let step1 = one-step a1 sound1.kept s w s1 w1 no_w in
     let a2 : Arena = set_one a1 s w in
     let h_w : h ≢ w = not_w a sound w free h hh in
     let d_w : d ≢ w = not_w a sound w free d can.held_d in
-    let tree_is : (node f (name_of a s)).tree ≡ name_of a h ∷ map (name_of a) rest = ap (λ n. n.tree) (node-forest_of a sound.named s can.held_s) ∙ ap (map (name_of a)) tree in
+    let tree_is : (node f (name_of a s)).tree ≡ name_of a h ∷ map (name_of a) rest = ap (λ n. n.tree) (node-forest_of a sound.kept.named s can.held_s) ∙ ap (map (name_of a)) tree in
     let h_hangs : (node f (name_of a h)).hang ≡ TreeOf (name_of a s) = (sound.linked.tree_links (name_of a h) (name_of a s)).0 (subst (λ xs. names.◌∈◌ (name_of a h) xs) (sym tree_is) (inl refl)) in
-    let h_tree : IsNoStub a h = tree_no_stub a h (name_of a s) (sym (ap (λ n. n.hang) (node-forest_of a sound.named h hh)) ∙ h_hangs) in
+    let h_tree : IsNoStub a h = tree_no_stub a h (name_of a s) (sym (ap (λ n. n.hang) (node-forest_of a sound.kept.named h hh)) ∙ h_hangs) in
     let d_root : IsNoStub a d = root_no_stub a d (bare_parent a sound d can.held_d can.bare) in
-    let later : (n : NodeId) → n ≢ w → IsHeld a n → IsNoStub a n → IsNoStub a2 n = λ n ne hn none. no_stub-hung (with_tree a1 s (w ∷ [])) w s n (λ e. ne (sym e)) (no_stub-tree a1 s (w ∷ []) n (no_stub-old a w free n ne none)) in
+    let later : (n : NodeId) → n ≢ w → IsHeld a n → IsNoStub a n → IsNoStub a2 n = λ n ne hn none. no_stub-hung (with_tree a1 s (w ∷ [])) w (Some s) n ne (no_stub-tree a1 s (w ∷ []) n (no_stub-old a w free n ne none)) in
     let d_h : d ≢ h = λ e. (let up : (node f (name_of a d)).hang ≡ TreeOf (name_of a s) = ap (λ n. (node f (name_of a n)).hang) e ∙ h_hangs in let root = ap (λ n. n.hang) can.bare in cc (up, root)) in
-    let step2 = two-step a2 step1.kept w h d (held a1 a2 step1.like w w1) (held a1 a2 step1.like h (held_old a sound w free h hh)) (held a1 a2 step1.like d (held_old a sound w free d can.held_d)) (later h h_w hh h_tree) (later d d_w can.held_d d_root) d_h in
+    let step2 = two-step a2 step1.kept w h d (held a1 a2 step1.rehung.like w w1) (held a1 a2 step1.rehung.like h (held_old a sound w free h hh)) (held a1 a2 step1.rehung.like d (held_old a sound w free d can.held_d)) (later h h_w hh h_tree) (later d d_w can.held_d d_root) d_h in
     let wn : NodeName = Working (a.made + 1) in
     let name_w : name_of a1 w ≡ wn = new_name a sound w free in
-    let name2 : (n : NodeId) → IsHeld a n → name_of a2 n ≡ name_of a n = λ n hn. step1.like.name n ∙ old_name a sound w free n hn in
+    let name2 : (n : NodeId) → IsHeld a n → name_of a2 n ≡ name_of a n = λ n hn. step1.rehung.like.name n ∙ old_name a sound w free n hn in
     let first : forest_of a2 ≡ count_working (set_tree f (name_of a s) (wn ∷ [])) =
     step1.forest
     ∙ ap (λ k. set_tree (forest_of a1) k (name_of a1 w ∷ [])) (old_name a sound w free s can.held_s)
     ∙ ap (λ k. set_tree (forest_of a1) (name_of a s) (k ∷ [])) name_w
     ∙ ap (λ (g : Forest OwnState). set_tree g (name_of a s) (wn ∷ [])) (forest-fresh a sound w free)
-    ∙ between f wn (name_of a s) (not_counted a sound) (λ e. not_counted a sound (subst (IsNode f) e (IsNode-forest_of a sound.named s can.held_s))) in
+    ∙ between f wn (name_of a s) (not_counted a sound) (λ e. not_counted a sound (subst (IsNode f) e (IsNode-forest_of a sound.kept.named s can.held_s))) in
     let all : forest_of (set_two a2 w h d) ≡ count_working (set_tree (set_tree f (name_of a s) (wn ∷ [])) wn (name_of a h ∷ name_of a d ∷ [])) =
     step2.forest
-    ∙ ap (λ k. set_tree (forest_of a2) k (name_of a2 h ∷ name_of a2 d ∷ [])) (step1.like.name w ∙ name_w)
+    ∙ ap (λ k. set_tree (forest_of a2) k (name_of a2 h ∷ name_of a2 d ∷ [])) (step1.rehung.like.name w ∙ name_w)
     ∙ ap (λ k. set_tree (forest_of a2) wn (k ∷ name_of a2 d ∷ [])) (name2 h hh)
     ∙ ap (λ k. set_tree (forest_of a2) wn (name_of a h ∷ k ∷ [])) (name2 d can.held_d)
     ∙ ap (λ (g : Forest OwnState). set_tree g wn (name_of a h ∷ name_of a d ∷ [])) first
@@ -275,17 +236,17 @@ links-more a d s w h rest can tree free roomy =
     let is : forest_of (set_two a2 w h d) ≡ rules.link f (name_of a d) (name_of a s) = all ∙ sym rule in
     record {
       forest = is;
-      sound = sound_by (set_two a2 w h d) step2.kept (subst IsLinked (sym is) (rule-linked a d s can));
-      grown = (let room = room-two a2 w h d ∙ room-one a1 s w ∙ room-fresh a w in let nodes : (set_two a2 w h d).room.nodes ≡ a.room.nodes - 1 = ap (λ r. r.nodes) room in
-          let made : (set_two a2 w h d).made ≡ a.made + 1 = (counters-two a2 w h d).0 ∙ (counters-one a1 s w).0 ∙ (counters-fresh a w).0 in
-          let there : (n : NodeId) → IsHeld a n → IsHeld (set_two a2 w h d) n = λ n hn. step2.like.held n ∙ step1.like.held n ∙ held_old a sound w free n hn in
-          let called : (n : NodeId) → IsHeld a n → name_of (set_two a2 w h d) n ≡ name_of a n = λ n hn. step2.like.name n ∙ name2 n hn in record {
+      sound = record { kept = step2.kept; linked = subst IsLinked (sym is) (rule-linked a d s can) };
+      grown = (let room = step2.rehung.room ∙ step1.rehung.room ∙ room-fresh a w in let nodes : (set_two a2 w h d).room.nodes ≡ a.room.nodes - 1 = ap (λ r. r.nodes) room in
+          let made : (set_two a2 w h d).made ≡ a.made + 1 = step2.rehung.made ∙ step1.rehung.made ∙ (counters-fresh a w).0 in
+          let there : (n : NodeId) → IsHeld a n → IsHeld (set_two a2 w h d) n = λ n hn. step2.rehung.like.held n ∙ step1.rehung.like.held n ∙ held_old a sound w free n hn in
+          let called : (n : NodeId) → IsHeld a n → name_of (set_two a2 w h d) n ≡ name_of a n = λ n hn. step2.rehung.like.name n ∙ name2 n hn in record {
             held = there;
             names = called;
-            own = λ n hn. states-link a (set_two a2 w h d) sound.named step2.kept.named (name_of a d) (name_of a s) is n hn (there n hn) (called n hn);
+            own = λ n hn. states-link a (set_two a2 w h d) sound.kept.named step2.kept.named (name_of a d) (name_of a s) is n hn (there n hn) (called n hn);
             made = (omega arith, omega arith);
-            copies = (counters-two a2 w h d).1 ∙ (counters-one a1 s w).1 ∙ (counters-fresh a w).1;
-            tables = step2.like.caches ∙ step1.like.caches ∙ tables-fresh a w;
+            copies = step2.rehung.copies ∙ step1.rehung.copies ∙ (counters-fresh a w).1;
+            tables = step2.rehung.like.caches ∙ step1.rehung.like.caches ∙ tables-fresh a w;
             nodes = omega arith;
             caches = ap (λ r. r.caches) room;
             entries = ap (λ r. r.entries) room;

@@ -13,7 +13,7 @@ use Rattle.local_cache.specs.Arena.{Arena, cell, IsHeld}
 use Rattle.local_cache.specs.Reading.{name_of, page_of, forest_of, stubs_of}
 use Rattle.local_cache.specs.Threads.{head_or}
 use Rattle.local_cache.specs.Sound.{IsSound, ◌∈◌}
-use Rattle.local_cache.proofs.Reading.{node-forest_of}
+use Rattle.local_cache.proofs.Forest.Reading.{node-forest_of}
 
 -- a live node has at most one tree child
 pub most_one : (x : NodeName) → is_live x ≡ true → most_tree_children x ≡ 1
@@ -38,10 +38,10 @@ module _ (a : Arena) (sound : IsSound a) (n : NodeId) (h : IsHeld a n) where
   f = forest_of a
 
   stub_is : first (node (forest_of a) (name_of a n)).stubs ≡ option_map (name_of a) (cell a n).links.first
-  stub_is = ap (λ m. first m.stubs) (node-forest_of a sound.named n h) ∙ first_name a (stubs_of a n) ∙ ap (option_map (name_of a)) (sym (sound.threaded n h).first)
+  stub_is = ap (λ m. first m.stubs) (node-forest_of a sound.kept.named n h) ∙ first_name a (stubs_of a n) ∙ ap (option_map (name_of a)) (sym (sound.kept.threaded n h).first)
 
   tree_is : (node (forest_of a) (name_of a n)).tree ≡ map (name_of a) (cell a n).tree
-  tree_is = ap (λ m. m.tree) (node-forest_of a sound.named n h)
+  tree_is = ap (λ m. m.tree) (node-forest_of a sound.kept.named n h)
 
   bare : List NodeName → List NodeName
   bare = filter (λ t. is_none (node (forest_of a) t).own)
@@ -61,11 +61,11 @@ module _ (a : Arena) (sound : IsSound a) (n : NodeId) (h : IsHeld a n) where
     ids = only_child _ t few there
 
     pub child_held : IsHeld a t
-    child_held = sound.children n t h (subst (λ ts. t ∈ ts) (sym ids) (inl refl))
+    child_held = sound.kept.children n t h (subst (λ ts. t ∈ ts) (sym ids) (inl refl))
 
     by_child : heir (forest_of a) (name_of a n) ≡ first (cond (is_none (page_of (cell a t).own)) (name_of a t ∷ []) [] ++ (node (forest_of a) (name_of a n)).stubs)
     by_child = heir_is (name_of a t ∷ []) (tree_is ∙ ap (map (name_of a)) ids)
-        ∙ ap (λ m. first (cond (is_none m.own) (name_of a t ∷ []) [] ++ (node (forest_of a) (name_of a n)).stubs)) (node-forest_of a sound.named t child_held)
+        ∙ ap (λ m. first (cond (is_none m.own) (name_of a t ∷ []) [] ++ (node (forest_of a) (name_of a n)).stubs)) (node-forest_of a sound.kept.named t child_held)
 
     pub heir_child : is_none (page_of (cell a t).own) ≡ true → heir (forest_of a) (name_of a n) ≡ Some (name_of a t)
     heir_child e = by_child ∙ ap (λ b. first (cond b (name_of a t ∷ []) [] ++ (node (forest_of a) (name_of a n)).stubs)) e

@@ -8,13 +8,13 @@ use Rattle.local_cache.specs.declared.own_state.OwnState.TheVariants.{Absent, Ze
 use Rattle.local_cache.specs.Arena.{Arena, cell, find, IsHeld, with_own, with_working}
 use Rattle.local_cache.specs.Reading.{name_of, forest_of, page_of}
 use Rattle.local_cache.specs.Sound.{IsSound}
-use Rattle.local_cache.proofs.Adding.{was_held}
-use Rattle.local_cache.proofs.Cells.{cell-put, find-put, find-put_other}
-use Rattle.local_cache.proofs.Changes.{id_cases}
-use Rattle.local_cache.proofs.Edit.{kept_of, own-sound}
-use Rattle.local_cache.proofs.Empty.{no_held}
-use Rattle.local_cache.proofs.Fresh.{sound-fresh, held_new, cell-new}
-use Rattle.local_cache.proofs.Reading.{forest_of-IsNode, node-forest_of}
+use Rattle.local_cache.proofs.NewNode.Addition.{was_held}
+use Rattle.local_cache.proofs.Nodes.Cells.{cell-put, find-put, find-put_other}
+use Rattle.local_cache.proofs.Changes.SameNodes.{id_cases}
+use Rattle.local_cache.proofs.Changes.OneNode.{own-sound}
+use Rattle.local_cache.proofs.Whole.Empty.{no_held}
+use Rattle.local_cache.proofs.NewNode.FreshNode.{sound-fresh, held_new, cell-new}
+use Rattle.local_cache.proofs.Forest.Reading.{forest_of-IsNode, node-forest_of}
 
 module _ (a : Arena) (none : (n : NodeId) → find a n ≡ None) (sound : IsSound a) (w : NodeId) where
   abbrev one : Arena
@@ -39,7 +39,7 @@ module _ (a : Arena) (none : (n : NodeId) → find a n ≡ None) (sound : IsSoun
   ]
 
   pub sound_own : IsSound (with_own (with_working a w) w Zero)
-  sound_own = own-sound one (kept_of one sound_one) w held_one sound_one.linked (ap (λ c. c.links.parent) (cell-new a w (none w))) Zero
+  sound_own = own-sound one sound_one.kept w held_one sound_one.linked (ap (λ c. c.links.parent) (cell-new a w (none w))) Zero
 
   pub shaped_own : IsWellShaped (forest_of (with_own (with_working a w) w Zero))
   shaped_own = record {
@@ -47,7 +47,7 @@ module _ (a : Arena) (none : (n : NodeId) → find a n ≡ None) (sound : IsSoun
     inherits = λ x is bare. absurd (let f = forest_of-IsNode owning x is in
         let page : page_of (cell owning w).own ≡ Some Zero = ap (λ c. page_of c.own) (cell-put one w _) in
         let own : (node (forest_of owning) x).own ≡ Some Zero =
-        ap (λ y. (node (forest_of owning) y).own) (sym f.2 ∙ ap (name_of owning) (only f.0 f.1)) ∙ ap (λ m. m.own) (node-forest_of owning sound_own.named w held_own) ∙ page in
+        ap (λ y. (node (forest_of owning) y).own) (sym f.2 ∙ ap (name_of owning) (only f.0 f.1)) ∙ ap (λ m. m.own) (node-forest_of owning sound_own.kept.named w held_own) ∙ page in
         let clash : Some Zero ≡ None = sym own ∙ bare in cc clash);
   }
 

@@ -6,9 +6,9 @@ use Rattle.vm_ids.specs.Forest.Rules.{link}
 use Rattle.vm_ids.proofs.Forest.PageMap.{link-map}
 use Rattle.vm_ids.specs.declared.numbers.NodeId.{NodeId}
 use Rattle.local_cache.specs.Arena.{Arena, IsHeld}
-use Rattle.local_cache.specs.Reading.{IsNamed, forest_of, name_of}
+use Rattle.local_cache.specs.Reading.{IsNamed, forest_of}
 use Rattle.local_cache.specs.ReadingBy.{Tells, forest_by}
-use Rattle.local_cache.proofs.ReadingBy.{bare-rule, lifted-kept}
+use Rattle.local_cache.proofs.Forest.ReadingBy.{bare-rule, lifted-kept}
 use Rattle.history_tree.specs.Hanging.{IsGrown}
 use Rattle.history_tree.proofs.OwnPages.{link-own}
 

@@ -11,8 +11,8 @@ use Rattle.vm_ids.specs.declared.numbers.NodeId.{NodeId}
 use Rattle.local_cache.specs.Arena.{Arena, IsHeld}
 use Rattle.local_cache.specs.Own.{own_of}
 use Rattle.local_cache.specs.Reading.{IsNamed, forest_of, name_of}
-use Rattle.local_cache.proofs.Reading.{node-forest_of}
-use Rattle.local_cache.proofs.ReadingBy.{same_own}
+use Rattle.local_cache.proofs.Forest.Reading.{node-forest_of}
+use Rattle.local_cache.proofs.Forest.ReadingBy.{same_own}
 
 module _ {P : Type 0} where
   set_tree-own : (f : Forest P) (p : NodeName) (xs : List NodeName) (y : NodeName) → (node (set_tree f p xs) y).own ≡ (node f y).own

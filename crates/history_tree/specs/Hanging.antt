@@ -1,21 +1,17 @@
 -- What the steps of `link` do to the caches, node by node.
-use Rattle.std.specs.Prelude.{◌≡◌, ◌+◌, ◌≤◌, [], ◌∷◌, false, Some}
+use Rattle.std.specs.Prelude.{◌≡◌, ◌+◌, ◌≤◌, [], ◌∷◌, Some}
 use Rattle.vm_ids.specs.declared.numbers.NodeId.{NodeId}
-use Rattle.local_cache.specs.Arena.{Arena, cell, IsHeld, with_links, with_tree}
+use Rattle.local_cache.specs.Arena.{Arena, IsHeld, hung, with_tree}
 use Rattle.local_cache.specs.Own.{own_of}
 use Rattle.local_cache.specs.Reading.{name_of}
 
--- n hangs on p by a tree link
-abbrev pub hung : Arena → NodeId → NodeId → Arena
-hung a n p = with_links a n (record (cell a n).links { parent = Some p; by_stub = false })
-
 -- x is the only tree child of p
 abbrev pub set_one : Arena → NodeId → NodeId → Arena
-set_one a p x = hung (with_tree a p (x ∷ [])) x p
+set_one a p x = hung (with_tree a p (x ∷ [])) x (Some p)
 
 -- x and y are the tree children of p
 abbrev pub set_two : Arena → NodeId → NodeId → NodeId → Arena
-set_two a p x y = hung (hung (with_tree a p (x ∷ y ∷ [])) y p) x p
+set_two a p x y = hung (hung (with_tree a p (x ∷ y ∷ [])) y (Some p)) x (Some p)
 
 -- All nodes that were there are there still under their numbers and names, each with its own page where it was, and so
 -- are the tables. As many working nodes were made as there is room for fewer nodes, at most one.

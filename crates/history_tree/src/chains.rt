@@ -53,16 +53,9 @@ pub fn chain(alloc: Global, caches: &Caches, node: NodeId) -> Result<ChainList, 
     let mut items = Vec::new(alloc);
     let mut at = node;
     while caches.own_state(at).is_absent() {
-        if items.push(item_of(caches, at)).is_err() {
-            return Err(NoMemory);
-        }
-        match caches.links(at).parent {
-            Some(parent) => at = parent,
-            None => unreachable!(),
-        }
+        items.push(item_of(caches, at))?;
+        at = caches.links(at).parent.unwrap();
     }
-    if items.push(item_of(caches, at)).is_err() {
-        return Err(NoMemory);
-    }
+    items.push(item_of(caches, at))?;
     Ok(ChainList::new(items))
 }

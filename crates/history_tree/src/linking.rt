@@ -7,27 +7,10 @@ ghost use Rattle.vm_ids.specs.Forest.Rules as forest;
 ghost use Rattle.local_cache.specs.Arena.{IsHeld, find, with_working, NodesStay};
 ghost use Rattle.local_cache.specs.Reading.{name_of, forest_of};
 ghost use Rattle.local_cache.specs.Sound.{IsSound};
-ghost use Rattle.history_tree.specs.Hanging.{hung, set_one, set_two, IsGrown};
+ghost use Rattle.history_tree.specs.Hanging.{set_one, set_two, IsGrown};
 
-use local_cache::{Caches, Links};
+use local_cache::Caches;
 use vm_ids::NodeId;
-
-// The node hangs on this parent by a tree link.
-fn set_parent(caches: &mut Caches, node: NodeId, parent: NodeId)
-    requires { IsHeld caches.old node }
-    ensures stays { NodesStay caches.old caches.new }
-    ensures changed { caches.new ≡ hung caches.old node parent }
-{
-    let links = caches.links(node);
-    caches.set_links(
-        node,
-        Links {
-            parent: Some(parent),
-            by_stub: false,
-            ..links
-        },
-    );
-}
 
 // x becomes the only tree child of p.
 fn hang_one(caches: &mut Caches, p: NodeId, x: NodeId)
@@ -37,7 +20,7 @@ fn hang_one(caches: &mut Caches, p: NodeId, x: NodeId)
     ensures changed { caches.new ≡ set_one caches.old p x }
 {
     caches.set_tree_children(p, &[x]);
-    set_parent(caches, x, p);
+    caches.hang(x, Some(p));
 }
 
 // x and y become the tree children of p.
@@ -49,8 +32,8 @@ fn hang_two(caches: &mut Caches, p: NodeId, x: NodeId, y: NodeId)
     ensures changed { caches.new ≡ set_two caches.old p x y }
 {
     caches.set_tree_children(p, &[x, y]);
-    set_parent(caches, y, p);
-    set_parent(caches, x, p);
+    caches.hang(y, Some(p));
+    caches.hang(x, Some(p));
 }
 
 // A working node comes between s and its tree child h, and d becomes its second child.

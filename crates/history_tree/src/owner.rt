@@ -22,10 +22,7 @@ pub fn owner_of(caches: &Caches, node: NodeId) -> NodeId
 {
     let mut at = node;
     while caches.own_state(at).is_absent() {
-        match caches.links(at).parent {
-            Some(parent) => at = parent,
-            None => unreachable!(),
-        }
+        at = caches.links(at).parent.unwrap();
     }
     at
 }

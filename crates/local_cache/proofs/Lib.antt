@@ -1,39 +1,18 @@
-pub mod Adding
-pub mod Alike
-pub mod Begun
-pub mod Carried
-pub mod Cells
+-- The page nodes in their slab: look-ups, changes of a slot, sums over all.
+pub mod Nodes
+-- The page forest that is read off the caches.
+pub mod Forest
+-- Changes of single nodes, and what they leave.
 pub mod Changes
-pub mod Counts
-pub mod Edit
-pub mod Empty
-pub mod Filled
-pub mod Freeing
-pub mod Fresh
-pub mod Gaps
-pub mod InOrder
-pub mod Least
-pub mod Listing
-pub mod Made
-pub mod Making
+-- A node comes, and a node goes.
 pub mod NewNode
-pub mod Noted
-pub mod OwnCount
-pub mod Pages
-pub mod Queued
-pub mod Reading
-pub mod ReadingBy
-pub mod Removed
-pub mod Renamed
-pub mod Renaming
-pub mod Rule
-pub mod Sizes
-pub mod SlotSums
-pub mod Slots
-pub mod States
+-- A node gets another name.
+pub mod Names
+-- The tables of the caches.
 pub mod Tables
-pub mod Thin
-pub mod Threads
-pub mod Vacated
-pub mod Values
-pub mod Wholes
+-- The heap of the thin nodes.
+pub mod Queue
+-- A cache is made.
+pub mod NewCache
+-- What holds between two commands.
+pub mod Whole

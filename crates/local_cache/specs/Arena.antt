@@ -81,6 +81,10 @@ with_own a n s = put a n (record (cell a n) { own = s })
 abbrev pub with_links : Arena → NodeId → Links → Arena
 with_links a n l = put a n (record (cell a n) { links = l })
 
+-- the node on this parent by a tree link, or on none
+abbrev pub hung : Arena → NodeId → Option NodeId → Arena
+hung a n parent = with_links a n (record (cell a n).links { parent = parent; by_stub = false })
+
 abbrev pub with_tree : Arena → NodeId → List NodeId → Arena
 with_tree a n ts = put a n (record (cell a n) { tree = ts })
 

@@ -52,7 +52,7 @@ pub record IsLaidOut (nodes : Slab Cell) (caches : List (Option CacheEntry))
 
 -- The heap has room for an entry of each node that there is room for, and has the entries of the thin nodes.
 pub record IsReady (nodes : Slab Cell) (thin : Heap) (thin_room : ℕ) : Type 0 where
-  pub held : slab_len nodes ≤ thin_room
+  pub fits : slab_len nodes ≤ thin_room
   pub room : thin_room ≤ thin.room
   pub queued : IsQueued nodes thin.entries
 

@@ -35,11 +35,7 @@ pub record IsKept (a : Arena) : Type 0 where
 
 -- What holds before and after each rule: that, and the shape of the forest's links.
 pub record IsSound (a : Arena) : Type 0 where
-  pub named : IsNamed a
-  pub listed : IsListed a
-  pub parents : (n p : NodeId) → IsHeld a n → (cell a n).links.parent ≡ Some p → IsHeld a p
-  pub children : (n m : NodeId) → IsHeld a n → m ∈ (cell a n).tree → IsHeld a m
-  pub threaded : AreThreaded a
+  pub kept : IsKept a
   pub linked : IsLinked (forest_of a)
 
 -- Where the caches were sound, the forest has the pages of a new cache, each of one own state.

@@ -20,7 +20,7 @@ segment_of a cache = option_map (λ t. t.segment) (table_of a cache)
 
 -- as many caches were made, and the same ones are live, with as many pages and of the same segments
 pub record SameCaches (a b : Arena) : Type 0 where
-  pub made : length b.caches ≡ length a.caches
+  pub count : length b.caches ≡ length a.caches
   pub sizes : (cache : ℕ) → size_of b cache ≡ size_of a cache
   pub segments : (cache : ℕ) → segment_of b cache ≡ segment_of a cache
 

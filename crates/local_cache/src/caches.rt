@@ -3,7 +3,7 @@ ghost use Rattle.std.specs.Prelude.{◌≡◌, ℕ, ◌+◌, ◌-◌, ◌<◌, �
 ghost use Rattle.std.specs.Vec.{vec_len, vec_capacity};
 ghost use Rattle.vm_ids.specs.declared.numbers.NodeId.{NodeId};
 ghost use Rattle.slab.specs.Slab.{HasRoomFor, slab_len};
-ghost use Rattle.local_cache.specs.Arena.{IsFilled, IsHeld, IsVacant, as_working, cell, entry_for, find, node_at, table_of, with_links, with_name, with_new, with_own, with_tree, with_working, without, without_cache, HasPages, MakesCache, NodesStay, CellsStay, TablesStay, HasNoLess};
+ghost use Rattle.local_cache.specs.Arena.{IsFilled, IsHeld, IsVacant, as_working, cell, entry_for, find, hung, node_at, table_of, with_links, with_name, with_new, with_own, with_tree, with_working, without, without_cache, HasPages, MakesCache, NodesStay, CellsStay, TablesStay, HasNoLess};
 ghost use Rattle.vm_ids.specs.Forest.Changes.{count_copy};
 ghost use Rattle.vm_ids.specs.Forest.Commands.{make, page_names};
 ghost use Rattle.vm_ids.specs.Forest.NameMap.{len};
@@ -111,7 +111,7 @@ impl Caches {
 
     /// Takes memory for so many more caches and so many more pages. It can fail only where there is too little room, and
     /// it does where there would be 2^32 nodes or more in all. After an error what was there is there still.
-    #[tactic(auto, using(crate::proofs::Alike::roomier_forest))]
+    #[tactic(auto, using(crate::proofs::Changes::SameCells::roomier_forest))]
     pub fn reserve(&mut self, caches: u32, nodes: u32) -> Result<(), NoMemory>
         ensures nodes { OnOk result (nodes ≤ self.new.room.nodes) }
         ensures caches { OnOk result (caches ≤ self.new.room.caches) }
@@ -129,19 +129,11 @@ impl Caches {
         if room > u32::MAX as usize {
             return Err(NoMemory);
         }
-        if self.nodes.reserve(nodes as usize).is_err() {
-            return Err(NoMemory);
-        }
-        if self.caches.reserve(caches as usize).is_err() {
-            return Err(NoMemory);
-        }
-        if self.entries.reserve(nodes as usize).is_err() {
-            return Err(NoMemory);
-        }
+        self.nodes.reserve(nodes as usize)?;
+        self.caches.reserve(caches as usize)?;
+        self.entries.reserve(nodes as usize)?;
         if self.thin_room < room {
-            if self.thin.reserve(room, self.nodes.capacity()).is_err() {
-                return Err(NoMemory);
-            }
+            self.thin.reserve(room, self.nodes.capacity())?;
             self.thin_room = room;
         }
         Ok(())
@@ -229,20 +221,14 @@ impl Caches {
     pub fn pages(&self, cache: CacheId) -> Option<u32>
         ensures { result ≡ option_map (λ table. length table.pages) (table_of self.now cache.0) }
     {
-        match entry_of(&self.caches, cache) {
-            Some(entry) => Some(entry.pages),
-            None => None,
-        }
+        Some(entry_of(&self.caches, cache)?.pages)
     }
 
     /// The segment that names a cache, or `None` exactly where none does or no live cache has this number.
     pub fn segment(&self, cache: CacheId) -> Option<SegId>
         ensures { result ≡ option_and_then (λ table. table.segment) (table_of self.now cache.0) }
     {
-        match entry_of(&self.caches, cache) {
-            Some(entry) => entry.segment,
-            None => None,
-        }
+        entry_of(&self.caches, cache)?.segment
     }
 
     /// The node of a page that has one.
@@ -259,10 +245,7 @@ impl Caches {
         requires { IsHeld self.now node }
         ensures { result ≡ (cell self.now node).name }
     {
-        match self.nodes.get(node.0 as usize) {
-            Some(held) => held.name(),
-            None => unreachable!(),
-        }
+        self.nodes[node.0 as usize].name()
     }
 
     /// Where a node's own page is.
@@ -270,10 +253,7 @@ impl Caches {
         requires { IsHeld self.now node }
         ensures { result ≡ (cell self.now node).own }
     {
-        match self.nodes.get(node.0 as usize) {
-            Some(held) => held.own_state(),
-            None => unreachable!(),
-        }
+        self.nodes[node.0 as usize].own_state()
     }
 
     /// Sets where a node's own page is.
@@ -282,10 +262,7 @@ impl Caches {
         ensures changed { self.new ≡ with_own self.old node state }
         ensures stays { NodesStay self.old self.new }
     {
-        match self.nodes.get_mut(node.0 as usize) {
-            Some(held) => held.set_state(state),
-            None => unreachable!(),
-        }
+        self.nodes[node.0 as usize].set_state(state);
     }
 
     /// How a node hangs, and the ends of its list of stubs.
@@ -293,10 +270,7 @@ impl Caches {
         requires { IsHeld self.now node }
         ensures { result ≡ (cell self.now node).links }
     {
-        match self.nodes.get(node.0 as usize) {
-            Some(held) => held.links(),
-            None => unreachable!(),
-        }
+        self.nodes[node.0 as usize].links()
     }
 
     /// Sets how a node hangs, and the ends of its list of stubs.
@@ -306,11 +280,25 @@ impl Caches {
         ensures stays { NodesStay self.old self.new }
     {
         let before = number_at(&self.nodes, node.0);
-        match self.nodes.get_mut(node.0 as usize) {
-            Some(held) => held.set_links(links),
-            None => unreachable!(),
-        }
+        self.nodes[node.0 as usize].set_links(links);
         queue(&self.nodes, &mut self.thin, node.0, before);
+    }
+
+    /// Hangs a node on this parent by a tree link, or on none. Nothing is done to the children of its old and new parent.
+    pub fn hang(&mut self, node: NodeId, parent: Option<NodeId>)
+        requires { IsHeld self.old node }
+        ensures changed { self.new ≡ hung self.old node parent }
+        ensures stays { NodesStay self.old self.new }
+    {
+        let links = self.links(node);
+        self.set_links(
+            node,
+            Links {
+                parent,
+                by_stub: false,
+                ..links
+            },
+        );
     }
 
     /// The tree child of a node at a place counted from 0, or `None` exactly where there are no more.
@@ -318,10 +306,7 @@ impl Caches {
         requires { IsHeld self.now node }
         ensures { result ≡ slice_get (cell self.now node).tree place }
     {
-        match self.nodes.get(node.0 as usize) {
-            Some(held) => held.tree_child(place),
-            None => unreachable!(),
-        }
+        self.nodes[node.0 as usize].tree_child(place)
     }
 
     /// Sets the tree children of a node, of which there are at most two.
@@ -332,10 +317,7 @@ impl Caches {
         ensures stays { NodesStay self.old self.new }
     {
         let before = number_at(&self.nodes, node.0);
-        match self.nodes.get_mut(node.0 as usize) {
-            Some(held) => held.set_tree_children(children),
-            None => unreachable!(),
-        }
+        self.nodes[node.0 as usize].set_tree_children(children);
         queue(&self.nodes, &mut self.thin, node.0, before);
     }
 
@@ -415,10 +397,7 @@ impl Caches {
     pub fn thin(&self) -> Option<NodeId>
         ensures { IsLeastThin self.now result }
     {
-        match self.thin.first() {
-            Some(entry) => Some(NodeId(entry.key)),
-            None => None,
-        }
+        Some(NodeId(self.thin.first()?.key))
     }
 
     // Makes a cache of so many pages, each of one own state.
@@ -476,10 +455,7 @@ impl Caches {
     {
         let left = self.name(node);
         let before = number_at(&self.nodes, node.0);
-        match self.nodes.get_mut(node.0 as usize) {
-            Some(held) => held.set_name(name),
-            None => unreachable!(),
-        }
+        self.nodes[node.0 as usize].set_name(name);
         self.working = self.working - working_of(left) + working_of(name);
         queue(&self.nodes, &mut self.thin, node.0, before);
         set_node(&self.caches, &mut self.entries, left, None);

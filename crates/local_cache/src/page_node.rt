@@ -88,10 +88,7 @@ impl PageNode {
     pub(crate) fn tree_child(&self, place: u32) -> Option<NodeId>
         ensures { result ≡ slice_get self.now.tree place }
     {
-        match self.tree.as_slice().get(place as usize) {
-            Some(child) => Some(child.node),
-            None => None,
-        }
+        Some(self.tree.as_slice().get(place as usize)?.node)
     }
 
     // Its number, where it is a working node with fewer than two children.

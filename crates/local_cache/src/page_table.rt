@@ -27,10 +27,7 @@ pub(crate) fn entry_of(caches: &[Option<CacheEntry>], cache: CacheId) -> Option<
     if cache.0 == 0 {
         return None;
     }
-    match caches.get(cache.0 as usize - 1) {
-        Some(entry) => *entry,
-        None => None,
-    }
+    *caches.get(cache.0 as usize - 1)?
 }
 
 // Sets the node of the page of this name, where a live cache has such a page.

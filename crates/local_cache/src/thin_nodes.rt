@@ -13,10 +13,7 @@ use slab::Slab;
 pub(crate) fn number_at(nodes: &Slab<PageNode>, key: u64) -> Option<u64>
     ensures { result ≡ number_at nodes.now key }
 {
-    match nodes.get(key as usize) {
-        Some(node) => node.thin_number(),
-        None => None,
-    }
+    nodes.get(key as usize)?.thin_number()
 }
 
 // Queues the node at a key under the number that it is thin under now, in place of the one before.

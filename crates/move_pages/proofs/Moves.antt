@@ -18,12 +18,11 @@ use Rattle.local_cache.specs.Own.{own_of}
 use Rattle.local_cache.specs.Reading.{forest_of, name_of}
 use Rattle.local_cache.specs.Sound.{IsKept, IsSound}
 use Rattle.local_cache.specs.Whole.{SameCaches}
-use Rattle.local_cache.proofs.Edit.{kept_of, sound_of}
-use Rattle.local_cache.proofs.Fresh.{page-forest, page-kept}
-use Rattle.local_cache.proofs.NewNode.{fresh_own, fresh_own_other}
-use Rattle.local_cache.proofs.Renamed.{renamed_forest, renamed_kept, renamed_own, renamed_room, renamed_sizes, renamed_vacant}
-use Rattle.local_cache.proofs.Sizes.{sizes_by, sizes_then}
-use Rattle.local_cache.proofs.Vacated.{room-with_new}
+use Rattle.local_cache.proofs.NewNode.FreshNode.{page-forest, page-kept}
+use Rattle.local_cache.proofs.NewNode.States.{fresh_own, fresh_own_other}
+use Rattle.local_cache.proofs.Names.PageName.{renamed_forest, renamed_kept, renamed_own, renamed_room, renamed_sizes, renamed_vacant}
+use Rattle.local_cache.proofs.Tables.Sizes.{sizes_by, sizes_then}
+use Rattle.local_cache.proofs.Names.WorkingName.{room-with_new}
 
 module _ (b : Arena) (sound : IsSound b) (to : CacheId) (to_page : PageNo) (vacant : IsVacant b to to_page) (from : CacheId) (from_page : PageNo) (n : NodeId) (at : node_at b from.0 from_page.0 ≡ Some n) (c : Arena) (is : c ≡ with_name b n (Live to to_page)) where
   abbrev x : NodeName
@@ -33,44 +32,44 @@ module _ (b : Arena) (sound : IsSound b) (to : CacheId) (to_page : PageNo) (vaca
   y = Live from from_page
 
   pub origin_held : IsHeld b n
-  origin_held = (sound.listed.nodes from.0 from_page.0 n at).0
+  origin_held = (sound.kept.listed.nodes from.0 from_page.0 n at).0
 
   pub origin_name : name_of b n ≡ Live from from_page
-  origin_name = (sound.listed.nodes from.0 from_page.0 n at).1
+  origin_name = (sound.kept.listed.nodes from.0 from_page.0 n at).1
 
   pub moved_kept : IsKept c
-  moved_kept = renamed_kept b (kept_of b sound) n origin_held y origin_name to to_page vacant c is
+  moved_kept = renamed_kept b sound.kept n origin_held y origin_name to to_page vacant c is
 
   pub moved_vacant : IsVacant c from from_page
-  moved_vacant = renamed_vacant b (kept_of b sound) n origin_held y origin_name to to_page vacant c is from from_page refl at
+  moved_vacant = renamed_vacant b sound.kept n origin_held y origin_name to to_page vacant c is from from_page refl at
 
   pub moved_room : c.room.nodes ≡ b.room.nodes
-  moved_room = renamed_room b (kept_of b sound) n origin_held y origin_name to to_page vacant c is
+  moved_room = renamed_room b sound.kept n origin_held y origin_name to to_page vacant c is
 
   module _ (e : NodeId) (free : find c e ≡ None) (d : Arena) (new : d ≡ with_new c e (Live from from_page) Zero) where
     module _ (a : Arena) (consistent : IsConsistent (forest_of a)) (pages : ArePages (forest_of a) (Live to to_page) (Live from from_page)) (nodes : forest_of b ≡ retire (forest_of a) (Live to to_page)) where
       pub move_nodes : forest_of d ≡ move_page (forest_of a) (Live to to_page) (Live from from_page) Zero
       move_nodes = ap forest_of new ∙ page-forest c moved_kept e free from from_page moved_vacant Zero
-          ∙ ap (λ f. put f y (childless (Some Zero) Root)) (renamed_forest b (kept_of b sound) n origin_held y origin_name to to_page vacant c is ∙ ap (λ f. rename f y x) nodes)
+          ∙ ap (λ f. put f y (childless (Some Zero) Root)) (renamed_forest b sound.kept n origin_held y origin_name to to_page vacant c is ∙ ap (λ f. rename f y x) nodes)
 
       pub move_consistent : IsConsistent (forest_of d)
       move_consistent = subst IsConsistent (sym move_nodes) (move_page-consistent (forest_of a) consistent x y pages Zero)
 
       pub move_sound : IsSound d
-      move_sound = sound_of d (subst IsKept (sym new) (page-kept c moved_kept e free from from_page moved_vacant Zero)) move_consistent.shaped.linked
+      move_sound = record { kept = subst IsKept (sym new) (page-kept c moved_kept e free from from_page moved_vacant Zero); linked = move_consistent.shaped.linked }
 
     pub move_zero : own_of d e ≡ Zero
     move_zero = ap (λ (k : Arena). own_of k e) new ∙ fresh_own c e free y Zero
 
     pub move_others : (m : NodeId) → m ≢ e → own_of d m ≡ own_of b m
-    move_others m ne = ap (λ (k : Arena). own_of k m) new ∙ fresh_own_other c e free y Zero m ne ∙ renamed_own b (kept_of b sound) n origin_held y origin_name to to_page vacant c is m
+    move_others m ne = ap (λ (k : Arena). own_of k m) new ∙ fresh_own_other c e free y Zero m ne ∙ renamed_own b sound.kept n origin_held y origin_name to to_page vacant c is m
 
     new_tables : (with_new c e (Live from from_page) Zero).caches ≡ tables_with c.caches (Live from from_page) (Some e)
     unfolding with_new
     new_tables = refl
 
     pub move_sizes : (a : Arena) → SameCaches a b → SameCaches a d
-    move_sizes a same = sizes_then a b d same (sizes_then b c d (renamed_sizes b (kept_of b sound) n origin_held y origin_name to to_page vacant c is) (sizes_by c d y (Some e) (ap (λ (k : Arena). k.caches) new ∙ new_tables)))
+    move_sizes a same = sizes_then a b d same (sizes_then b c d (renamed_sizes b sound.kept n origin_held y origin_name to to_page vacant c is) (sizes_by c d y (Some e) (ap (λ (k : Arena). k.caches) new ∙ new_tables)))
 
     pub move_room : (a : Arena) → a.room.nodes ≤ b.room.nodes → a.room.nodes ≤ d.room.nodes + 1
     move_room a less =

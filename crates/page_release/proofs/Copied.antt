@@ -21,8 +21,8 @@ use Rattle.local_cache.specs.declared.own_state.OwnState.{OwnState}
 use Rattle.local_cache.specs.Arena.{Arena, IsHeld, node_at}
 use Rattle.local_cache.specs.Reading.{forest_of, name_of}
 use Rattle.local_cache.specs.Sound.{IsSound}
-use Rattle.local_cache.proofs.Changes.{forest_of-made}
-use Rattle.local_cache.proofs.Wholes.{page_there}
+use Rattle.local_cache.proofs.Changes.SameNodes.{forest_of-made}
+use Rattle.local_cache.proofs.Whole.Pages.{page_there}
 
 -- two nodes whose names differ
 apart_by_name : (a : Arena) (n m : NodeId) (x y : NodeName) → name_of a n ≡ x → name_of a m ≡ y → x ≢ y → n ≢ m
@@ -54,16 +54,16 @@ module _ (a b : Arena) (consistent : IsConsistent (forest_of a)) (to from : Cach
   -- the nodes of the two pages
   module _ (d s : NodeId) (at_d : node_at b to.0 to_page.0 ≡ Some d) (at_s : node_at b from.0 from_page.0 ≡ Some s) where
     pub fresh_held : IsHeld b d
-    fresh_held = (sound.listed.nodes to.0 to_page.0 d at_d).0
+    fresh_held = (sound.kept.listed.nodes to.0 to_page.0 d at_d).0
 
     pub fresh_name : name_of b d ≡ Live to to_page
-    fresh_name = (sound.listed.nodes to.0 to_page.0 d at_d).1
+    fresh_name = (sound.kept.listed.nodes to.0 to_page.0 d at_d).1
 
     pub origin_held : IsHeld b s
-    origin_held = (sound.listed.nodes from.0 from_page.0 s at_s).0
+    origin_held = (sound.kept.listed.nodes from.0 from_page.0 s at_s).0
 
     pub origin_name : name_of b s ≡ Live from from_page
-    origin_name = (sound.listed.nodes from.0 from_page.0 s at_s).1
+    origin_name = (sound.kept.listed.nodes from.0 from_page.0 s at_s).1
 
     pub fresh_bare : node (forest_of b) (name_of b d) ≡ childless None Root
     fresh_bare = ap (node (forest_of b)) fresh_name ∙ bare_named

@@ -8,9 +8,9 @@ use Rattle.vm_ids.proofs.Places.{bit, count_cons}
 use Rattle.local_cache.specs.declared.own_state.OwnState.{OwnState}
 use Rattle.local_cache.specs.Arena.{Arena, Cell, cell, find, put}
 use Rattle.local_cache.specs.Own.{own_of, own_states}
-use Rattle.local_cache.proofs.Cells.{cell-put, cell-put_other, find-put, find-put_other}
-use Rattle.local_cache.proofs.States.{fresh, id_cases}
-use Rattle.local_cache.proofs.Values.{same_own_states}
+use Rattle.local_cache.proofs.Nodes.Cells.{cell-put, cell-put_other, find-put, find-put_other}
+use Rattle.local_cache.proofs.Nodes.OwnStates.{fresh, id_cases}
+use Rattle.local_cache.proofs.Nodes.Values.{same_own_states}
 use Rattle.tree_merge.specs.Releasing.{Went}
 
 map_count : (p : OwnState → Bool) (cs : List Cell) → count_by p (map (λ c. c.own) cs) ≡ count_by (λ c. p c.own) cs

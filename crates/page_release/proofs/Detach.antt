@@ -15,14 +15,13 @@ use Rattle.local_cache.specs.Arena.{Arena, IsHeld, IsVacant, find, with_new}
 use Rattle.local_cache.specs.Reading.{IsNamed, name_of}
 use Rattle.local_cache.specs.ReadingBy.{forest_by}
 use Rattle.local_cache.specs.Sound.{IsKept, IsSound}
-use Rattle.local_cache.proofs.Edit.{kept_of}
 use Rattle.residency.specs.declared.store.Store.{Store}
 use Rattle.residency.specs.StoreForest.{store_forest}
 use Rattle.residency.specs.World.{World, own_page, page_by, world}
 use Rattle.residency.proofs.Telling.{tells}
 use Rattle.vm_ids.proofs.Places.{true_below}
 use Rattle.page_release.specs.Steps.{ForAnyMapper, GivesBack, IsStoreTied, PinnedStayNamed, fresh_page, is_unstored}
-use Rattle.local_cache.proofs.NewNode.{fresh_name_other, other_node}
+use Rattle.local_cache.proofs.NewNode.States.{fresh_name_other, other_node}
 use Rattle.page_release.proofs.FreshPage.{fresh-by, fresh_gives, fresh_page_is, fresh_page_other}
 use Rattle.page_release.proofs.Tied.{home}
 
@@ -82,6 +81,6 @@ module _ (s : Store) (a : Arena) (t : Store) (b c : Arena) (cache : CacheId) (no
   unfolding detach
   detach_forest sound_b sound_c vacant forest told size fit =
       let zeros : (world told size b t).frames.page ≡ (world told size a s).frames.page = (back told size fit).page in
-      fresh_forest t b d free cache no state unstored c is (kept_of b sound_b) sound_c.named vacant told size
+      fresh_forest t b d free cache no state unstored c is sound_b.kept sound_c.kept.named vacant told size
       ∙ ap (λ f. put f (Live cache no) (childless (fresh_page (world told size b t) state) Root)) (forest told size fit)
       ∙ ap (λ (k : ℕ). put (retire (store_forest (world told size a s)) (Live cache no)) (Live cache no) (childless (page_by (option_map (λ _. replicate k 0) told) None (λ slot. None) None state) Root)) zeros

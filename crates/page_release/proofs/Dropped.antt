@@ -17,7 +17,7 @@ use Rattle.local_cache.specs.declared.own_state.OwnState.{OwnState}
 use Rattle.local_cache.specs.declared.own_state.OwnState.TheVariants.{Absent, Zero, Resident, Slot, OnSegment}
 use Rattle.local_cache.specs.Arena.{Arena}
 use Rattle.local_cache.specs.Own.{is_in_slot, is_on_segment, is_resident, is_slot, own_of, own_states}
-use Rattle.local_cache.proofs.States.{id_apart, id_cases}
+use Rattle.local_cache.proofs.Nodes.OwnStates.{id_apart, id_cases}
 use Rattle.residency.specs.World.{IsTied, World, frame_page, is_slot_held, own_page, page_by, zero_page}
 use Rattle.page_release.proofs.Tied.{held_after, slot_is_held}
 use Rattle.residency.proofs.Homes.{IsHome, resident_not_in_slot, resident_not_slot}

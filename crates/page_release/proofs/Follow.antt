@@ -14,8 +14,8 @@ use Rattle.local_cache.specs.declared.own_state.OwnState.{OwnState}
 use Rattle.local_cache.specs.declared.own_state.OwnState.TheVariants.{Absent, Zero, Resident, Slot, OnSegment}
 use Rattle.local_cache.specs.Arena.{Arena, IsHeld}
 use Rattle.local_cache.specs.Own.{is_in_slot, is_on_segment, is_resident, is_slot, own_of, own_states}
-use Rattle.local_cache.proofs.States.{id_apart, id_cases}
-use Rattle.local_cache.proofs.Values.{same_own_states}
+use Rattle.local_cache.proofs.Nodes.OwnStates.{id_apart, id_cases}
+use Rattle.local_cache.proofs.Nodes.Values.{same_own_states}
 use Rattle.residency.specs.declared.store.Store.{Store}
 use Rattle.residency.specs.World.{IsTied, World, frame_page, is_bound, own_page, page_by, world, zero_page}
 use Rattle.residency.proofs.Homes.{IsHome}

@@ -15,8 +15,8 @@ use Rattle.local_cache.specs.declared.own_state.OwnState.{OwnState}
 use Rattle.local_cache.specs.declared.own_state.OwnState.TheVariants.{Absent, Zero, Resident, Slot, OnSegment}
 use Rattle.local_cache.specs.Arena.{Arena, Cell, IsHeld, blank, cell, find, with_own}
 use Rattle.local_cache.specs.Own.{is_in_slot, is_on_segment, is_resident, is_slot, own_of, own_states}
-use Rattle.local_cache.proofs.Changes.{like-put}
-use Rattle.local_cache.proofs.States.{id_apart, id_cases, own_count, own_length, own_other, own_same}
+use Rattle.local_cache.proofs.Changes.SameNodes.{like-put}
+use Rattle.local_cache.proofs.Nodes.OwnStates.{id_apart, id_cases, own_count, own_length, own_other, own_same}
 use Rattle.residency.specs.World.{IsTied, World, frame_page, is_bound, own_page, page_by, zero_page}
 use Rattle.residency.proofs.Homes.{IsHome}
 use Rattle.tree_merge.specs.Releasing.{Went}

@@ -23,10 +23,10 @@ use Rattle.local_cache.specs.Own.{is_in_slot, is_on_segment, is_resident, is_slo
 use Rattle.local_cache.specs.Reading.{IsNamed, forest_of, name_of, page_of}
 use Rattle.local_cache.specs.ReadingBy.{Tells, forest_by}
 use Rattle.local_cache.specs.Sound.{IsKept}
-use Rattle.local_cache.proofs.Fresh.{page-forest}
-use Rattle.local_cache.proofs.NewNode.{found_other, fresh_found, fresh_name, fresh_name_other, fresh_own, fresh_own_other}
-use Rattle.local_cache.proofs.ReadingBy.{bare-of, lifted, page-at, same_bare}
-use Rattle.local_cache.proofs.States.{id_cases}
+use Rattle.local_cache.proofs.NewNode.FreshNode.{page-forest}
+use Rattle.local_cache.proofs.NewNode.States.{found_other, fresh_found, fresh_name, fresh_name_other, fresh_own, fresh_own_other}
+use Rattle.local_cache.proofs.Forest.ReadingBy.{bare-of, lifted, page-at, same_bare}
+use Rattle.local_cache.proofs.Nodes.OwnStates.{id_cases}
 use Rattle.residency.specs.World.{IsTied, World, frame_page, own_page, page_by, zero_page}
 use Rattle.page_release.specs.Steps.{GivesBack, fresh_page, is_unstored}
 use Rattle.page_release.proofs.Counting.{all_count, put_count}

@@ -23,9 +23,9 @@ use Rattle.local_cache.specs.Own.{is_in_slot, is_on_segment, is_resident, is_slo
 use Rattle.local_cache.specs.Reading.{forest_of, name_of, page_of}
 use Rattle.local_cache.specs.ReadingBy.{forest_by}
 use Rattle.local_cache.specs.Sound.{IsSound}
-use Rattle.local_cache.proofs.Reading.{IsNode-forest_of, forest_of-IsNode, node-forest_of}
-use Rattle.local_cache.proofs.Values.{same_own_states}
-use Rattle.page_stubs.proofs.OtherPages.{stub-by}
+use Rattle.local_cache.proofs.Forest.Reading.{IsNode-forest_of, forest_of-IsNode, node-forest_of}
+use Rattle.local_cache.proofs.Nodes.Values.{same_own_states}
+use Rattle.page_stubs.proofs.Rules.OtherPages.{stub-by}
 use Rattle.residency.specs.declared.store.Store.{Store}
 use Rattle.residency.specs.StoreForest.{store_forest}
 use Rattle.residency.specs.World.{IsTied, World, frame_page, own_page, page_by, world, zero_page}
@@ -92,7 +92,7 @@ module _ (a b : Arena) (links : Relinked a b) where
   unfolding store_forest
   stubbed_forest s sound d o forest told size fit =
       let w = world told size a s in
-      (λ i. forest_by (λ m. states_page w b relinked_states m i) b) ∙ stub-by (own_page w) a b sound.named (tells w) links d o forest
+      (λ i. forest_by (λ m. states_page w b relinked_states m i) b) ∙ stub-by (own_page w) a b sound.kept.named (tells w) links d o forest
 
 -- A page that hangs by a tree link --------------------------------------------------------
 module _ (a b : Arena) (sound : IsSound a) (after : IsSound b) (grown : IsGrown a b) (d o : NodeName) (forest : forest_of b ≡ link (forest_of a) d o) (few : (y : NodeName) → IsNode (link (forest_of a) d o) y → IsNode (forest_of a) y ⊎ (y ≡ Working (a.made + 1))) where
@@ -103,10 +103,10 @@ module _ (a b : Arena) (sound : IsSound a) (after : IsSound b) (grown : IsGrown 
 
   -- a node that is there and isn't the new one was there
   was_there : (m : NodeId) → IsHeld b m → name_of b m ≢ Working (a.made + 1) → IsHeld a m
-  was_there m h ne = elim (few (name_of b m) (subst (λ g. IsNode g (name_of b m)) forest (IsNode-forest_of b after.named m h))) [
+  was_there m h ne = elim (few (name_of b m) (subst (λ g. IsNode g (name_of b m)) forest (IsNode-forest_of b after.kept.named m h))) [
     | inl old ↦
         let k = forest_of-IsNode a (name_of b m) old in
-        let one : k.0 ≡ m = after.named.apart k.0 m (grown.held k.0 k.1) h (grown.names k.0 k.1 ∙ k.2) in
+        let one : k.0 ≡ m = after.kept.named.apart k.0 m (grown.held k.0 k.1) h (grown.names k.0 k.1 ∙ k.2) in
         subst (IsHeld a) one k.1
     | inr e ↦ absurd (ne e)
   ]
@@ -118,7 +118,7 @@ module _ (a b : Arena) (sound : IsSound a) (after : IsSound b) (grown : IsGrown 
       go None q = q
       go (Some c) q =
           let there : IsHeld a w = ap is_some q in
-          absurd (let low = sound.named.counted w (a.made + 1) there (sym (grown.names w there) ∙ e) in omega arith)
+          absurd (let low = sound.kept.named.counted w (a.made + 1) there (sym (grown.names w there) ∙ e) in omega arith)
 
   absent_of : (x : OwnState) → page_of x ≡ None → x ≡ Absent
   absent_of Absent e = refl
@@ -136,11 +136,11 @@ module _ (a b : Arena) (sound : IsSound a) (after : IsSound b) (grown : IsGrown 
       go (Some n) e = absurd (none (ap is_some e))
 
   unnamed : IsNode (forest_of a) (Working (a.made + 1)) → ⊥
-  unnamed is = let k = forest_of-IsNode a (Working (a.made + 1)) is in let low = sound.named.counted k.0 (a.made + 1) k.1 k.2 in absurd (omega (arith, low))
+  unnamed is = let k = forest_of-IsNode a (Working (a.made + 1)) is in let low = sound.kept.named.counted k.0 (a.made + 1) k.1 k.2 in absurd (omega (arith, low))
 
   new_absent : (m : NodeId) → IsHeld b m → name_of b m ≡ Working (a.made + 1) → own_of b m ≡ Absent
   new_absent m h e = absent_of (own_of b m) (
-      sym (ap (λ k. k.own) (node-forest_of b after.named m h)) ∙ ap (λ f. (node f (name_of b m)).own) forest ∙ link-own (forest_of a) d o (name_of b m)
+      sym (ap (λ k. k.own) (node-forest_of b after.kept.named m h)) ∙ ap (λ f. (node f (name_of b m)).own) forest ∙ link-own (forest_of a) d o (name_of b m)
       ∙ ap (λ y. (node (forest_of a) y).own) e ∙ not_there (Working (a.made + 1)) unnamed)
 
   none_of : (c : Option Cell) → is_some c ≡ false → c ≡ None
@@ -156,10 +156,10 @@ module _ (a b : Arena) (sound : IsSound a) (after : IsSound b) (grown : IsGrown 
       go false true p q = new_absent m q (new_name m q p) ∙ sym (gone_own a m (none_of (find a m) p))
         where
           new_name : (m : NodeId) → IsHeld b m → is_some (find a m) ≡ false → name_of b m ≡ Working (a.made + 1)
-          new_name m h out = elim (few (name_of b m) (subst (λ g. IsNode g (name_of b m)) forest (IsNode-forest_of b after.named m h))) [
+          new_name m h out = elim (few (name_of b m) (subst (λ g. IsNode g (name_of b m)) forest (IsNode-forest_of b after.kept.named m h))) [
             | inl old ↦
                 let k = forest_of-IsNode a (name_of b m) old in
-                let one : k.0 ≡ m = after.named.apart k.0 m (grown.held k.0 k.1) h (grown.names k.0 k.1 ∙ k.2) in
+                let one : k.0 ≡ m = after.kept.named.apart k.0 m (grown.held k.0 k.1) h (grown.names k.0 k.1 ∙ k.2) in
                 absurd (false≢true (sym out ∙ subst (IsHeld a) one k.1))
             | inr e ↦ e
           ]
@@ -169,13 +169,13 @@ module _ (a b : Arena) (sound : IsSound a) (after : IsSound b) (grown : IsGrown 
     where
       go : (t : Bool) → contains_key (forest_of b).nodes (Working (a.made + 1)) ≡ t → count_by p (own_states b) ≡ count_by p (own_states a)
       go false none = ap (λ xs. count_by p xs) (same_own_states a b
-          (λ m. both (is_some (find b m)) (is_some (find a m)) (λ h. was_there m h (λ e. false≢true (sym none ∙ subst (IsNode (forest_of b)) e (IsNode-forest_of b after.named m h)))) (grown.held m)) grown_own)
+          (λ m. both (is_some (find b m)) (is_some (find a m)) (λ h. was_there m h (λ e. false≢true (sym none ∙ subst (IsNode (forest_of b)) e (IsNode-forest_of b after.kept.named m h)))) (grown.held m)) grown_own)
       go true is =
           let w = forest_of-IsNode b (Working (a.made + 1)) is in
           let went : Went b a w.0 = record {
             was = w.1;
             gone = none_new w.0 w.1 w.2;
-            held = λ m ne. sym (both (is_some (find b m)) (is_some (find a m)) (λ h. was_there m h (λ e. ne (after.named.apart m w.0 h w.1 (e ∙ sym w.2)))) (grown.held m));
+            held = λ m ne. sym (both (is_some (find b m)) (is_some (find a m)) (λ h. was_there m h (λ e. ne (after.kept.named.apart m w.0 h w.1 (e ∙ sym w.2)))) (grown.held m));
           } in
           let out_w : p (own_of b w.0) ≡ false = ap p (new_absent w.0 w.1 w.2) ∙ out in
           omega (arith, went_count p b a w.0 went (λ m ne. sym (grown_own m)), bit_false (p (own_of b w.0)) out_w)
@@ -193,4 +193,4 @@ module _ (a b : Arena) (sound : IsSound a) (after : IsSound b) (grown : IsGrown 
   linked_forest s told size fit =
       let w = world told size a s in
       let v = world told size b s in
-      link-by a b sound.named after.named grown d o forest (own_page w) (own_page v) (tells w) (tells v) (λ n h. states_page w b grown_states n)
+      link-by a b sound.kept.named after.kept.named grown d o forest (own_page w) (own_page v) (tells w) (tells v) (λ n h. states_page w b grown_states n)

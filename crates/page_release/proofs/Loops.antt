@@ -16,7 +16,7 @@ use Rattle.residency.specs.declared.store.Store.{Store}
 use Rattle.residency.specs.StoreForest.{store_forest}
 use Rattle.residency.specs.World.{IsTied, World, world}
 use Rattle.local_cache.specs.Whole.{SameCaches}
-use Rattle.local_cache.proofs.Sizes.{sizes_by}
+use Rattle.local_cache.proofs.Tables.Sizes.{sizes_by}
 use Rattle.page_release.specs.Steps.{ForAnyMapper, GivesBack, IsSettleStep, IsStoreTied, IsUnpinned, PinnedStayNamed}
 use Rattle.page_release.proofs.StoreShape.{store_consistent, store_thin}
 

@@ -11,7 +11,7 @@ use Rattle.global_map.specs.Pairs.{frame_of}
 use Rattle.local_cache.specs.Arena.{Arena}
 use Rattle.local_cache.specs.Reading.{forest_of, name_of}
 use Rattle.local_cache.specs.Sound.{IsSound}
-use Rattle.local_cache.proofs.States.{id_cases}
+use Rattle.local_cache.proofs.Nodes.OwnStates.{id_cases}
 use Rattle.residency.specs.declared.store.Store.{Store}
 use Rattle.residency.specs.StoreForest.{store_forest}
 use Rattle.residency.specs.World.{own_page, world}
@@ -62,6 +62,6 @@ module _ (a b : Arena) (sound : IsSound a) (r : Released) (is : IsMerged a b r) 
       merged_step = record {
         released = r;
         merged = is;
-        forest = λ told size fit. settle_step-by (own_page (world told size a s)) a sound (tells (world told size a s)) b r is (own_page (world told size b t)) sound_b.named (tells (world told size b t))
+        forest = λ told size fit. settle_step-by (own_page (world told size a s)) a sound (tells (world told size a s)) b r is (own_page (world told size b t)) sound_b.kept.named (tells (world told size b t))
             (steps_page s a t b r rel merged_loose after told size fit);
       }

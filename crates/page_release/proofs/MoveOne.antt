@@ -14,7 +14,6 @@ use Rattle.local_cache.specs.declared.own_state.OwnState.TheVariants.{Absent, Ze
 use Rattle.local_cache.specs.Arena.{Arena, IsHeld, with_name}
 use Rattle.local_cache.specs.Reading.{forest_of, name_of}
 use Rattle.local_cache.specs.Sound.{IsSound}
-use Rattle.local_cache.proofs.Edit.{kept_of}
 use Rattle.residency.specs.declared.store.Store.{Store}
 use Rattle.residency.specs.StoreForest.{store_forest}
 use Rattle.residency.specs.World.{World, world}
@@ -66,10 +65,10 @@ module _ (s : Store) (a : Arena) (sound : IsSound a) (tied : IsStoreTied s a) (f
   c = with_name m.between m.origin (Live to to_page)
 
   was : IsHeld a m.cleared.node
-  was = (sound.listed.nodes to.0 to_page.0 m.cleared.node m.cleared.at).0
+  was = (sound.kept.listed.nodes to.0 to_page.0 m.cleared.node m.cleared.at).0
 
   was_named : name_of a m.cleared.node ≡ Live to to_page
-  was_named = (sound.listed.nodes to.0 to_page.0 m.cleared.node m.cleared.at).1
+  was_named = (sound.kept.listed.nodes to.0 to_page.0 m.cleared.node m.cleared.at).1
 
   put_still : StaysPut r
   put_still = go (child_count (forest_of a) (name_of a m.cleared.node)) refl
@@ -95,7 +94,7 @@ module _ (s : Store) (a : Arena) (sound : IsSound a) (tied : IsStoreTied s a) (f
     cleared_named = retire_named s a b m.cleared.node x was was_named r m.cleared.retired m.cleared.told tied unpinned
 
     renamed_back : ForAnyMapper t b t c GivesBack
-    renamed_back = states_back t b c (renamed_states b (kept_of b m.cleared.sound) m.origin (origin_held b m.cleared.sound to to_page m.cleared.vacant from from_page m.origin m.source c refl) y (origin_name b m.cleared.sound to to_page m.cleared.vacant from from_page m.origin m.source c refl) to to_page m.cleared.vacant c refl)
+    renamed_back = states_back t b c (renamed_states b m.cleared.sound.kept m.origin (origin_held b m.cleared.sound to to_page m.cleared.vacant from from_page m.origin m.source c refl) y (origin_name b m.cleared.sound to to_page m.cleared.vacant from from_page m.origin m.source c refl) to to_page m.cleared.vacant c refl)
 
     new_back : ForAnyMapper t c t d GivesBack
     new_back = fresh_back t c m.fresh m.free from from_page Zero refl d m.is
@@ -107,8 +106,8 @@ module _ (s : Store) (a : Arena) (sound : IsSound a) (tied : IsStoreTied s a) (f
     move_forest sound_d told size fit =
         let w = world told size a s in
         let one = cleared_back told size fit in
-        fresh_forest t c m.fresh m.free from from_page Zero refl d m.is (moved_kept b m.cleared.sound to to_page m.cleared.vacant from from_page m.origin m.source c refl) sound_d.named (moved_vacant b m.cleared.sound to to_page m.cleared.vacant from from_page m.origin m.source c refl) told size
-        ∙ ap (λ f. put f y (childless (Some (zeros_told (world told size b t))) Root)) (renamed_bytes b (kept_of b m.cleared.sound) m.origin (origin_held b m.cleared.sound to to_page m.cleared.vacant from from_page m.origin m.source c refl) y (origin_name b m.cleared.sound to to_page m.cleared.vacant from from_page m.origin m.source c refl) to to_page m.cleared.vacant c refl t told size one.tied ∙ ap (λ f. rename f y x) (cleared_forest told size fit))
+        fresh_forest t c m.fresh m.free from from_page Zero refl d m.is (moved_kept b m.cleared.sound to to_page m.cleared.vacant from from_page m.origin m.source c refl) sound_d.kept.named (moved_vacant b m.cleared.sound to to_page m.cleared.vacant from from_page m.origin m.source c refl) told size
+        ∙ ap (λ f. put f y (childless (Some (zeros_told (world told size b t))) Root)) (renamed_bytes b m.cleared.sound.kept m.origin (origin_held b m.cleared.sound to to_page m.cleared.vacant from from_page m.origin m.source c refl) y (origin_name b m.cleared.sound to to_page m.cleared.vacant from from_page m.origin m.source c refl) to to_page m.cleared.vacant c refl t told size one.tied ∙ ap (λ f. rename f y x) (cleared_forest told size fit))
         ∙ ap (λ (k : ℕ). put (rename (retire (store_forest w) x) y x) y (childless (Some (option_map (λ _. replicate k 0) told)) Root)) one.page
 
     pub move_named : IsUnpinned s a (Live from from_page) → PinnedStayNamed s a d
@@ -116,5 +115,5 @@ module _ (s : Store) (a : Arena) (sound : IsSound a) (tied : IsStoreTied s a) (f
         let tied_b = (cleared_back None None tied).tied in
         let tied_c = (renamed_back None None tied_b).tied in
         named_then s a t b d cleared_back tied cleared_named
-        (named_then t b t c d renamed_back tied_b (renamed_pinned b (kept_of b m.cleared.sound) m.origin (origin_held b m.cleared.sound to to_page m.cleared.vacant from from_page m.origin m.source c refl) y (origin_name b m.cleared.sound to to_page m.cleared.vacant from from_page m.origin m.source c refl) to to_page m.cleared.vacant c refl t (unpinned_then s a t b y tied cleared_back cleared_named out))
+        (named_then t b t c d renamed_back tied_b (renamed_pinned b m.cleared.sound.kept m.origin (origin_held b m.cleared.sound to to_page m.cleared.vacant from from_page m.origin m.source c refl) y (origin_name b m.cleared.sound to to_page m.cleared.vacant from from_page m.origin m.source c refl) to to_page m.cleared.vacant c refl t (unpinned_then s a t b y tied cleared_back cleared_named out))
         (fresh_named t c m.fresh m.free from from_page Zero refl d m.is tied_c))

@@ -11,9 +11,9 @@ use Rattle.local_cache.specs.Arena.{Arena, IsHeld, IsVacant, with_name}
 use Rattle.local_cache.specs.Reading.{name_of}
 use Rattle.local_cache.specs.ReadingBy.{forest_by}
 use Rattle.local_cache.specs.Sound.{IsKept}
-use Rattle.local_cache.proofs.Renamed.{name_other, renamed-by, renamed_held, renamed_own}
-use Rattle.local_cache.proofs.States.{id_cases}
-use Rattle.local_cache.proofs.Values.{same_own_states}
+use Rattle.local_cache.proofs.Names.PageName.{name_other, renamed-by, renamed_held, renamed_own}
+use Rattle.local_cache.proofs.Nodes.OwnStates.{id_cases}
+use Rattle.local_cache.proofs.Nodes.Values.{same_own_states}
 use Rattle.residency.specs.declared.store.Store.{Store}
 use Rattle.residency.specs.StoreForest.{store_forest}
 use Rattle.residency.specs.World.{own_page, world}

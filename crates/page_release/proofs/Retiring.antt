@@ -6,10 +6,10 @@ use Rattle.local_cache.specs.declared.own_state.OwnState.{OwnState}
 use Rattle.local_cache.specs.Arena.{Arena, tables_with, with_new}
 use Rattle.tree_merge.specs.declared.released.Released.{Released}
 use Rattle.tree_merge.specs.Releasing.{IsRetired}
-use Rattle.tree_merge.proofs.Detached.{retired_room}
+use Rattle.tree_merge.proofs.Leaving.Detached.{retired_room}
 use Rattle.local_cache.specs.Whole.{SameCaches}
-use Rattle.local_cache.proofs.Sizes.{sizes_by, sizes_then}
-use Rattle.tree_merge.proofs.Sizes.{sizes_retired}
+use Rattle.local_cache.proofs.Tables.Sizes.{sizes_by, sizes_then}
+use Rattle.tree_merge.proofs.Leaving.Sizes.{sizes_retired}
 
 -- of the node of a page
 pub sizes_left : (a b : Arena) (o : Option NodeId) → IsSome o → ((n : NodeId) → o ≡ Some n → (released : Released) × IsRetired a b n released) → SameCaches a b

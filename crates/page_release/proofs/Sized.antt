@@ -14,17 +14,17 @@ use Rattle.vm_ids.proofs.Forest.NameLists.{Once-filter, filter_in, in_filter}
 use Rattle.local_cache.specs.Arena.{Arena}
 use Rattle.local_cache.specs.Own.{own_states}
 use Rattle.local_cache.specs.Reading.{IsNamed, forest_of}
-use Rattle.local_cache.proofs.Slots.{tied}
+use Rattle.local_cache.proofs.Nodes.Slots.{tied}
 use Rattle.local_cache.specs.declared.own_state.OwnState.{OwnState}
-use Rattle.local_cache.proofs.OwnCount.{states_most}
-use Rattle.local_cache.proofs.Values.{same_own_states}
+use Rattle.local_cache.proofs.Nodes.Count.{states_most}
+use Rattle.local_cache.proofs.Nodes.Values.{same_own_states}
 use Rattle.residency.specs.declared.store.Store.{Store}
 use Rattle.residency.specs.World.{IsStoreRight, World, world}
 use Rattle.tree_merge.specs.declared.released.Released.{Released}
 use Rattle.tree_merge.specs.declared.released.Released.TheVariants.{Nothing, Dropped, Moved}
 use Rattle.tree_merge.specs.Releasing.{IsReleased}
 use Rattle.local_cache.specs.Whole.{IsWhole, SameCaches}
-use Rattle.local_cache.proofs.Wholes.{node_page}
+use Rattle.local_cache.proofs.Whole.Pages.{node_page}
 use Rattle.page_release.specs.Steps.{ForAnyMapper, GivesBack, IsStoreTied, StaysRight}
 use Rattle.page_release.proofs.Counting.{went_length}
 use Rattle.page_release.proofs.Followed.{passed_fewer}
@@ -80,4 +80,4 @@ live_less a b wa wb same =
     (λ x i. (let p = in_filter is_live from x i in filter_in is_live to x (IsNode-key (forest_of b) x (live_there a b wa wb same x p.1 (key-IsNode (forest_of a) x p.0))) p.1))
 
 pub same_live : (a b : Arena) → IsWhole a → IsWhole b → SameCaches a b → live_count (forest_of b) ≡ live_count (forest_of a)
-same_live a b wa wb same = omega (arith, live_less a b wa wb same, live_less b a wb wa (record { made = sym same.made; sizes = λ cache. sym (same.sizes cache); segments = λ cache. sym (same.segments cache) }))
+same_live a b wa wb same = omega (arith, live_less a b wa wb same, live_less b a wb wa (record { count = sym same.count; sizes = λ cache. sym (same.sizes cache); segments = λ cache. sym (same.segments cache) }))

@@ -12,7 +12,7 @@ use Rattle.global_map.specs.Pairs.{frame_of, is_node, node_of}
 use Rattle.local_cache.specs.Arena.{Arena, IsHeld}
 use Rattle.local_cache.specs.Reading.{forest_of, name_of}
 use Rattle.local_cache.specs.Sound.{IsSound}
-use Rattle.local_cache.proofs.States.{id_cases}
+use Rattle.local_cache.proofs.Nodes.OwnStates.{id_cases}
 use Rattle.residency.specs.declared.store.Store.{Store}
 use Rattle.residency.specs.StoreForest.{store_forest}
 use Rattle.residency.specs.World.{IsTied, own_page, world}
@@ -92,7 +92,7 @@ module _ (s : Store) (a b : Arena) (n : NodeId) (x : NodeName) (there : IsHeld a
     retire_forest sound sound_b forest told size fit =
         let w = world told size a s in
         let v = world told size b t in
-        retire-by (own_page w) a sound.named (tells w) b n there r is (own_page v) sound_b.named (tells v)
+        retire-by (own_page w) a sound.kept.named (tells w) b n there r is (own_page v) sound_b.kept.named (tells v)
         (λ m h. steps_page s a t b r rel (retire_loose a b n r is s retire_frame) after told size fit m h ∙ retire_pages a b n r is (own_page w) m)
         (forest ∙ ap (retire (forest_of a)) (sym named))
         ∙ ap (retire (store_forest w)) named

@@ -11,7 +11,7 @@ use Rattle.vm_ids.specs.Forest.Shape.{IsConsistent}
 use Rattle.vm_ids.proofs.Forest.BareThin.{bare-IsNode, bare-consistent, bare-thin}
 use Rattle.local_cache.specs.Reading.{forest_of}
 use Rattle.local_cache.specs.Sound.{IsSound}
-use Rattle.local_cache.proofs.ReadingBy.{bare-of}
+use Rattle.local_cache.proofs.Forest.ReadingBy.{bare-of}
 use Rattle.residency.specs.StoreForest.{store_forest}
 use Rattle.residency.specs.World.{World, own_page}
 use Rattle.residency.proofs.Telling.{tells}
@@ -19,7 +19,7 @@ use Rattle.residency.proofs.Telling.{tells}
 -- without its pages the forest of a store is that of the own states
 pub store_bare : (w : World) → IsSound w.caches → bare (forest_of w.caches) ≡ bare (store_forest w)
 unfolding store_forest
-store_bare w sound = sym (bare-of (own_page w) w.caches sound.named (tells w))
+store_bare w sound = sym (bare-of (own_page w) w.caches sound.kept.named (tells w))
 
 pub store_consistent : (w : World) → IsSound w.caches → IsConsistent (forest_of w.caches) → IsConsistent (store_forest w)
 store_consistent w sound c = bare-consistent (forest_of w.caches) (store_forest w) (store_bare w sound) c

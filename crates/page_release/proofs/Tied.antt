@@ -12,7 +12,7 @@ use Rattle.vm_ids.specs.Held.{Held}
 use Rattle.residency.specs.declared.store.Store.{Store}
 use Rattle.local_cache.specs.Arena.{Arena, IsHeld}
 use Rattle.local_cache.specs.Own.{is_resident, is_slot, own_of, own_states}
-use Rattle.local_cache.proofs.States.{own_held, own_some}
+use Rattle.local_cache.proofs.Nodes.OwnStates.{own_held, own_some}
 use Rattle.residency.specs.World.{IsStoreRight, IsTied, World, is_slot_held, world}
 use Rattle.residency.proofs.Homes.{IsHome}
 use Rattle.page_release.specs.Steps.{IsStoreTied}

@@ -66,8 +66,6 @@ pub fn cut_stub(caches: &mut Caches, node: NodeId)
     ensures room { caches.new.room ≡ caches.old.room }
 {
     let own = caches.links(node);
-    match own.parent {
-        Some(p) => take_out(caches, node, p, own.before, own.behind),
-        None => unreachable!(),
-    }
+    let p = own.parent.unwrap();
+    take_out(caches, node, p, own.before, own.behind);
 }

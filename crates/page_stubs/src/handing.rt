@@ -27,20 +27,16 @@ fn reparent(caches: &mut Caches, from: NodeId, to: NodeId)
     let ends = caches.links(from);
     let mut at = ends.first;
     for i in 0..ends.stubs {
-        match at {
-            Some(y) => {
-                let links = caches.links(y);
-                caches.set_links(
-                    y,
-                    Links {
-                        parent: Some(to),
-                        ..links
-                    },
-                );
-                at = links.behind;
-            }
-            None => unreachable!(),
-        }
+        let y = at.unwrap();
+        let links = caches.links(y);
+        caches.set_links(
+            y,
+            Links {
+                parent: Some(to),
+                ..links
+            },
+        );
+        at = links.behind;
     }
 }
 

@@ -66,8 +66,6 @@ pub fn take_place_of(caches: &mut Caches, w: NodeId, y: NodeId)
     ensures links { Relinked caches.old caches.new }
     ensures room { caches.new.room ≡ caches.old.room }
 {
-    match caches.links(w).parent {
-        Some(p) => replace(caches, w, y, p),
-        None => unreachable!(),
-    }
+    let p = caches.links(w).parent.unwrap();
+    replace(caches, w, y, p);
 }

@@ -1,15 +1,12 @@
-mod Staying
-mod Lists
-mod CutTree
-mod TreePlace
-mod Cut
-pub mod ChildNames
-mod Gone
-mod Retired
-pub mod Detached
-mod Pass
-mod Placing
-mod Settle
+-- The children of a node.
+pub mod ChildLists
+-- A node in its place: it is cut off, or another one comes there.
+mod Place
+-- The node of a page leaves: it is freed, retired or detached.
+pub mod Leaving
+-- A node gives way to its only child.
+mod Merge
+-- The rules retire, detach and settle_step are followed with any pages, as they are with own states.
 pub mod OtherPages
-pub mod Sizes
+-- What a call says that it released is what became of the nodes and their own states.
 pub mod Releases

@@ -12,13 +12,13 @@ use Rattle.local_cache.specs.Arena.{Arena, IsHeld, as_working, cell, find}
 use Rattle.local_cache.specs.Own.{is_absent, own_of}
 use Rattle.local_cache.specs.Reading.{forest_of, name_of}
 use Rattle.local_cache.specs.Sound.{IsSound}
-use Rattle.local_cache.proofs.Cells.{cell-put, cell-put_other, find-put, find-put_other}
-use Rattle.local_cache.proofs.States.{id_apart, id_cases}
+use Rattle.local_cache.proofs.Nodes.Cells.{cell-put, cell-put_other, find-put, find-put_other}
+use Rattle.local_cache.proofs.Nodes.OwnStates.{id_apart, id_cases}
 use Rattle.tree_merge.specs.declared.released.Released.{Released}
 use Rattle.tree_merge.specs.declared.released.Released.TheVariants.{Nothing, Dropped, Moved}
 use Rattle.tree_merge.specs.Releasing.{IsDropped, IsMerged, IsReleased, IsRetired, IsStill, Went, first_child, own_after, released_to}
 use Rattle.tree_merge.specs.Staying.{IsGone}
-use Rattle.tree_merge.proofs.ChildNames.{first_child_up}
+use Rattle.tree_merge.proofs.ChildLists.Names.{first_child_up}
 
 -- A page was retired ------------------------------------------------------------------------
 

@@ -7,17 +7,7 @@ use Rattle.vm_ids.specs.Forest.Shape.{IsRanked}
 use Rattle.vm_ids.specs.Forest.Changes.{cut}
 use Rattle.vm_ids.specs.Forest.Settling.{take_place}
 use Rattle.local_cache.specs.Arena.{Arena, find, tables_with}
-use Rattle.local_cache.specs.Changes.{Like}
-use Rattle.local_cache.specs.Own.{own_of}
 use Rattle.local_cache.specs.Reading.{name_of}
-
--- Links and lists alone were changed: nodes, names, tables, own states, counters and the spare room stay.
-pub record Rehung (a b : Arena) : Type 0 where
-  pub like : Like a b
-  pub own : (n : NodeId) → own_of b n ≡ own_of a n
-  pub made : b.made ≡ a.made
-  pub copies : b.copies ≡ a.copies
-  pub room : b.room ≡ a.room
 
 -- The node n is gone, from the tables too, and leaves its place. All other nodes keep their numbers and names, no number
 -- is new, and the counters stay.

@@ -7,13 +7,13 @@ ghost use Rattle.vm_ids.specs.Forest.Nodes.Hang.{Root};
 ghost use Rattle.vm_ids.specs.Forest.Laws.Settling.{IsSettled};
 ghost use Rattle.vm_ids.specs.Forest.Settling.{give_way as rule_give_way, pass_page as rule_pass_page, settle_step as rule_settle_step};
 ghost use Rattle.local_cache.specs.Arena.{IsHeld, cell};
-ghost use Rattle.local_cache.specs.Changes.{Like};
+ghost use Rattle.local_cache.specs.Changes.{Like, Rehung};
 ghost use Rattle.local_cache.specs.Own.{is_absent, own_of};
 ghost use Rattle.local_cache.specs.Reading.{name_of, forest_of};
 ghost use Rattle.local_cache.specs.Sound.{IsSound};
 ghost use Rattle.tree_merge.specs.Releasing.{IsMerged, IsReleased, OwnsAfter, own_after, released_to};
 ghost use Rattle.tree_merge.specs.Releasing as spec;
-ghost use Rattle.tree_merge.specs.Staying.{HasNoChild, IsBelow, IsGone, Rehung, placed};
+ghost use Rattle.tree_merge.specs.Staying.{HasNoChild, IsBelow, IsGone, placed};
 
 use crate::Released;
 use crate::children::first_child;
@@ -57,52 +57,8 @@ fn pass_page(caches: &mut Caches, node: NodeId, child: NodeId) -> Released
     }
 }
 
-// The child, which has no parent, comes in the place of the stub `node`. Where it has an own page it stays without a
-// parent, and the node is cut off.
-fn put_for_stub(caches: &mut Caches, node: NodeId, child: NodeId, parent: NodeId)
-    requires sound { IsSound caches.old }
-    requires held { IsHeld caches.old node }
-    requires child { IsHeld caches.old child }
-    requires parent { (cell caches.old node).links.parent ≡ Some parent }
-    requires by_stub { (cell caches.old node).links.by_stub ≡ true }
-    requires root { (node_named (forest_of caches.old) (name_of caches.old child)).hang ≡ Root }
-    requires below { IsBelow (forest_of caches.old) (name_of caches.old node)
-        (name_of caches.old child) }
-    ensures forest { forest_of caches.new ≡ placed (forest_of caches.old)
-        (name_of caches.old node) (name_of caches.old child) }
-    ensures sound { IsSound caches.new }
-    ensures rehung { Rehung caches.old caches.new }
-{
-    if caches.own_state(child).is_absent() {
-        take_place_of(caches, node, child);
-    } else {
-        cut_stub(caches, node);
-    }
-}
-
-// The same where the node hangs on this parent by a stub link or by a tree link.
-fn put_on(caches: &mut Caches, node: NodeId, child: NodeId, parent: NodeId, by_stub: bool)
-    requires sound { IsSound caches.old }
-    requires held { IsHeld caches.old node }
-    requires child { IsHeld caches.old child }
-    requires parent { (cell caches.old node).links.parent ≡ Some parent }
-    requires by_stub { (cell caches.old node).links.by_stub ≡ by_stub }
-    requires root { (node_named (forest_of caches.old) (name_of caches.old child)).hang ≡ Root }
-    requires below { IsBelow (forest_of caches.old) (name_of caches.old node)
-        (name_of caches.old child) }
-    ensures forest { forest_of caches.new ≡ placed (forest_of caches.old)
-        (name_of caches.old node) (name_of caches.old child) }
-    ensures sound { IsSound caches.new }
-    ensures rehung { Rehung caches.old caches.new }
-{
-    if by_stub {
-        put_for_stub(caches, node, child, parent);
-    } else {
-        take_tree_place(caches, node, child, parent);
-    }
-}
-
-// The same where the node may have no parent either.
+// The child, which has no parent, comes in the place of the node, where that hangs on a parent. Where it would be a stub
+// with an own page it stays without a parent, and the node is cut off.
 fn put_instead(caches: &mut Caches, node: NodeId, child: NodeId)
     requires sound { IsSound caches.old }
     requires held { IsHeld caches.old node }
@@ -117,8 +73,10 @@ fn put_instead(caches: &mut Caches, node: NodeId, child: NodeId)
 {
     let links = caches.links(node);
     match links.parent {
-        Some(parent) => put_on(caches, node, child, parent, links.by_stub),
         None => {}
+        Some(parent) if !links.by_stub => take_tree_place(caches, node, child, parent),
+        Some(_) if caches.own_state(child).is_absent() => take_place_of(caches, node, child),
+        Some(_) => cut_stub(caches, node),
     }
 }
 
@@ -192,8 +150,6 @@ pub fn settle_step(caches: &mut Caches) -> Option<Released>
         (λ released. IsMerged caches.old caches.new released) }
     ensures released { IfSome result (λ released. IsReleased caches.old caches.new released) }
 {
-    match caches.thin() {
-        Some(node) => Some(merge(caches, node)),
-        None => None,
-    }
+    let node = caches.thin()?;
+    Some(merge(caches, node))
 }

@@ -7,12 +7,13 @@ ghost use Rattle.vm_ids.specs.Forest.Nodes.Hang.{Root};
 ghost use Rattle.vm_ids.specs.Forest.Changes.{cut as rule_cut};
 ghost use Rattle.vm_ids.specs.Forest.Settling.{take_place as rule_take_place};
 ghost use Rattle.local_cache.specs.Arena.{IsHeld, cell, with_tree};
+ghost use Rattle.local_cache.specs.Changes.{Rehung};
 ghost use Rattle.local_cache.specs.Reading.{name_of, forest_of};
 ghost use Rattle.local_cache.specs.Sound.{IsSound};
-ghost use Rattle.tree_merge.specs.TreeLists.{exchanged, hung, in_place};
-ghost use Rattle.tree_merge.specs.Staying.{IsBelow, Rehung};
+ghost use Rattle.tree_merge.specs.TreeLists.{exchanged, in_place};
+ghost use Rattle.tree_merge.specs.Staying.{IsBelow};
 
-use local_cache::{Caches, Links};
+use local_cache::Caches;
 use vm_ids::NodeId;
 
 // The tree child at this place, with another one, or none, in the place of a node.
@@ -27,10 +28,8 @@ fn child_at(
     ensures { result ≡ option_and_then (in_place node instead)
         (slice_get (cell caches.now parent).tree place) }
 {
-    match caches.tree_child(parent, place) {
-        Some(child) => { if child == node { instead } else { Some(child) } }
-        None => None,
-    }
+    let child = caches.tree_child(parent, place)?;
+    if child == node { instead } else { Some(child) }
 }
 
 // Sets the tree children of a parent, of which there are up to two.
@@ -61,40 +60,6 @@ fn exchange(caches: &mut Caches, parent: NodeId, node: NodeId, instead: Option<N
     set_children(caches, parent, first, second);
 }
 
-// The node hangs on this parent by a tree link, and its parent's list isn't touched.
-fn hang(caches: &mut Caches, node: NodeId, parent: NodeId)
-    requires { IsHeld caches.old node }
-    ensures changed { caches.new ≡ hung caches.old node (Some parent) }
-    ensures stays { (n : NodeId) → IsHeld caches.old n → IsHeld caches.new n }
-{
-    let links = caches.links(node);
-    caches.set_links(
-        node,
-        Links {
-            parent: Some(parent),
-            by_stub: false,
-            ..links
-        },
-    );
-}
-
-// The node has no parent, and its parent's list isn't touched.
-fn unhang(caches: &mut Caches, node: NodeId)
-    requires { IsHeld caches.old node }
-    ensures changed { caches.new ≡ hung caches.old node None }
-    ensures stays { (n : NodeId) → IsHeld caches.old n → IsHeld caches.new n }
-{
-    let links = caches.links(node);
-    caches.set_links(
-        node,
-        Links {
-            parent: None,
-            by_stub: false,
-            ..links
-        },
-    );
-}
-
 // The node is taken out of the tree children of its parent, and has no parent.
 pub(crate) fn cut_tree(caches: &mut Caches, node: NodeId, parent: NodeId)
     requires sound { IsSound caches.old }
@@ -107,7 +72,7 @@ pub(crate) fn cut_tree(caches: &mut Caches, node: NodeId, parent: NodeId)
     ensures rehung { Rehung caches.old caches.new }
 {
     exchange(caches, parent, node, None);
-    unhang(caches, node);
+    caches.hang(node, None);
 }
 
 // A node without a parent comes in the place of another one among the tree children of a parent.
@@ -126,6 +91,6 @@ pub(crate) fn take_tree_place(caches: &mut Caches, node: NodeId, instead: NodeId
     ensures rehung { Rehung caches.old caches.new }
 {
     exchange(caches, parent, node, Some(instead));
-    hang(caches, instead, parent);
-    unhang(caches, node);
+    caches.hang(instead, Some(parent));
+    caches.hang(node, None);
 }

@@ -1,4 +1,4 @@
-use Rattle.std.proofs.Common.{◌≡◌, List, [], ◌∷◌, ◌++◌, Bool, true, false, not, is_none, is_ok, sym, ap, ◌∙◌, append_assoc}
+use Rattle.std.proofs.Common.{◌≡◌, List, [], ◌∷◌, ◌++◌, Bool, true, false, is_none, is_ok, IsSome, sym, ap, ◌∙◌, subst, append_assoc}
 use Rattle.std.specs.Prelude.{if◌then◌else◌}
 use Rattle.vm_ids.specs.declared.chain.ChainItem.{ChainItem}
 use Rattle.local_cache.specs.Arena.{cell}
@@ -24,30 +24,30 @@ pub loop-items-smaller : goal.loop-items-smaller
 loop-items-smaller c =
     let a = c.args.caches.now in
     let bare : is_none (page_of (cell a c.loop-items.at).own) ≡ true = ap (λ s. is_none (page_of s)) (sym c.own_state.ensures) ∙ sym c.is_absent.ensures.page ∙ c.loop-items-test.true in
-    shorter a c.requires.sound c.requires.shaped c.loop-items.at c.loop-items.invariant.held c.in-Some.parent bare (ap (λ l. l.parent) (sym c.links.ensures) ∙ c.in-Some.is)
+    shorter a c.requires.sound c.requires.shaped c.loop-items.at c.loop-items.invariant.held c.unwrap-at.result bare (ap (λ l. l.parent) (sym c.links.ensures) ∙ c.unwrap-at.ensures)
 
 pub loop-items-preserved : goal.loop-items-preserved
 loop-items-preserved c =
     let a = c.args.caches.now in
     let bare : is_none (page_of (cell a c.loop-items.at).own) ≡ true = ap (λ s. is_none (page_of s)) (sym c.own_state.ensures) ∙ sym c.is_absent.ensures.page ∙ c.loop-items-test.true in
-    let up : (cell a c.loop-items.at).links.parent ≡ _ = ap (λ l. l.parent) (sym c.links.ensures) ∙ c.in-Some.is in
-    let ok : is_ok c.push.result ≡ true = c.is_err.ensures.negation ∙ ap not c.if-is_err.false in
+    let up : (cell a c.loop-items.at).links.parent ≡ _ = ap (λ l. l.parent) (sym c.links.ensures) ∙ c.unwrap-at.ensures in
+    let ok : is_ok c.push.result ≡ true = ap is_ok c.in_ok-push.was in
     let items = ◌∙◌ {A = List ChainItem} c.push.ensures.items (pushed _ c.loop-items.items.items c.item_of.result (item_for (forest_of a) (name_of a c.loop-items.at)) ok c.item_of.ensures) in
     record {
-      held = held_up a c.requires.sound c.requires.shaped c.loop-items.at c.loop-items.invariant.held c.in-Some.parent bare up;
-      so_far = one_more c.loop-items.items.items _ _ _ _ _ items (chain_up a c.requires.sound c.requires.shaped c.loop-items.at c.loop-items.invariant.held c.in-Some.parent bare up) c.loop-items.invariant.so_far;
+      held = held_up a c.requires.sound c.requires.shaped c.loop-items.at c.loop-items.invariant.held c.unwrap-at.result bare up;
+      so_far = one_more c.loop-items.items.items _ _ _ _ _ items (chain_up a c.requires.sound c.requires.shaped c.loop-items.at c.loop-items.invariant.held c.unwrap-at.result bare up) c.loop-items.invariant.so_far;
     }
 
-pub unreachable-requires : goal.unreachable-requires
-unreachable-requires c =
+pub unwrap-at-requires : goal.unwrap-at-requires
+unwrap-at-requires c =
     let a = c.args.caches.now in
     let bare : is_none (page_of (cell a c.loop-items.at).own) ≡ true = ap (λ s. is_none (page_of s)) (sym c.own_state.ensures) ∙ sym c.is_absent.ensures.page ∙ c.loop-items-test.true in
-    has_parent a c.requires.sound c.requires.shaped c.loop-items.at c.loop-items.invariant.held bare (ap (λ l. l.parent) (sym c.links.ensures) ∙ c.in-None.is)
+    subst IsSome (ap (λ l. l.parent) (sym c.links.ensures)) (has_parent a c.requires.sound c.requires.shaped c.loop-items.at c.loop-items.invariant.held bare)
 
 pub returns : goal.returns
 returns c =
     let a = c.args.caches.now in
     let full : is_none (page_of (cell a c.loop-items.at).own) ≡ false = ap (λ s. is_none (page_of s)) (sym c.own_state.ensures) ∙ sym c.is_absent.ensures.page ∙ c.loop-items-test.false in
-    let ok : is_ok c.push-2.result ≡ true = c.is_err-2.ensures.negation ∙ ap not c.if-is_err-2.false in
+    let ok : is_ok c.push-2.result ≡ true = ap is_ok c.in_ok-push-2.was in
     let items = ◌∙◌ {A = List ChainItem} c.push-2.ensures.items (pushed _ c.loop-items.items.items c.item_of-2.result (item_for (forest_of a) (name_of a c.loop-items.at)) ok c.item_of-2.ensures) in
     c.new.ensures ∙ the_last c.loop-items.items.items _ _ _ _ items (chain_end a c.requires.sound c.requires.shaped c.loop-items.at c.loop-items.invariant.held full) c.loop-items.invariant.so_far

@@ -16,7 +16,7 @@ rest_of [] h e = absurd (cc e)
 rest_of (t ∷ ts) h e = (ts, let same : h ≡ t = cc e in ap (λ k. k ∷ ts) (sym same))
 
 first_child : (a : Arena) (s : NodeId) (h : NodeId) → IsSound a → IsHeld a s → Some h ≡ slice_get (cell a s).tree 0 → IsHeld a h
-first_child a s h sound hs e = let r = rest_of (cell a s).tree h e in sound.children s h hs (subst (λ ts. h ∈ ts) (sym r.1) (inl refl))
+first_child a s h sound hs e = let r = rest_of (cell a s).tree h e in sound.kept.children s h hs (subst (λ ts. h ∈ ts) (sym r.1) (inl refl))
 
 pub put_between-requires-clause-h : goal.put_between-requires-clause-h
 put_between-requires-clause-h c = first_child c.args.caches.now c.args.s c.in-Some.h c.requires.sound c.requires.s c.in-Some.ensures

@@ -1,8 +1,8 @@
 use Rattle.std.proofs.Common.{Some, ap, arith}
 use Rattle.local_cache.specs.Queue.{thin_number}
-use Rattle.local_cache.proofs.Counts.{working_more}
-use Rattle.local_cache.proofs.Queued.{queued_more}
-use Rattle.local_cache.proofs.Filled.{filled_step}
+use Rattle.local_cache.proofs.Nodes.WorkingCount.{working_more}
+use Rattle.local_cache.proofs.Queue.Entries.{queued_more}
+use Rattle.local_cache.proofs.NewCache.Cells.{filled_step}
 use Rattle.local_cache.proofs.caches.add_pages.Goals as goal
 
 pub loop-page-preserved : goal.loop-page-preserved

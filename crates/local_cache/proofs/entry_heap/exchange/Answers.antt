@@ -1,5 +1,5 @@
 use Rattle.std.proofs.Common.{arith}
-use Rattle.local_cache.proofs.Noted.{noted_exchanged}
+use Rattle.local_cache.proofs.Queue.Places.{noted_exchanged}
 use Rattle.local_cache.proofs.entry_heap.exchange.Goals as goal
 
 pub returns-clause-noted : goal.returns-clause-noted

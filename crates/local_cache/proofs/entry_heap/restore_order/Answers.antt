@@ -1,5 +1,5 @@
 use Rattle.std.proofs.lemmas.List.Sorted.{IsPermutation-trans}
-use Rattle.local_cache.proofs.Noted.{noted_all}
+use Rattle.local_cache.proofs.Queue.Places.{noted_all}
 use Rattle.local_cache.proofs.entry_heap.restore_order.Goals as goal
 
 pub rise-at-requires-clause-noted : goal.rise-at-requires-clause-noted

@@ -1,6 +1,6 @@
 use Rattle.std.proofs.Common.{arith}
 use Rattle.std.proofs.lemmas.List.Sorted.{IsPermutation-trans}
-use Rattle.local_cache.proofs.InOrder.{risen}
+use Rattle.local_cache.proofs.Queue.Order.{risen}
 use Rattle.local_cache.proofs.entry_heap.rise.Goals as goal
 
 pub loop-at-preserved : goal.loop-at-preserved

@@ -1,6 +1,6 @@
 use Rattle.std.proofs.Common.{arith}
 use Rattle.std.proofs.lemmas.List.Sorted.{IsPermutation-trans}
-use Rattle.local_cache.proofs.InOrder.{sunk}
+use Rattle.local_cache.proofs.Queue.Order.{sunk}
 use Rattle.local_cache.proofs.entry_heap.sink.Goals as goal
 
 pub loop-child-preserved : goal.loop-child-preserved

@@ -1,6 +1,6 @@
 use Rattle.std.proofs.Common.{◌≡◌}
 use Rattle.std.specs.Vec.{vec_len, vec_capacity}
-use Rattle.local_cache.proofs.Gaps.{IsClosing}
+use Rattle.local_cache.proofs.Tables.Gaps.{IsClosing}
 use Rattle.local_cache.proofs.page_table.close_gap.Given as goal
 
 abbrev pub invariant-loop-at : goal.invariant-loop-at

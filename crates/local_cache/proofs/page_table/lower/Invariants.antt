@@ -1,6 +1,6 @@
 use Rattle.std.proofs.Common.{◌≡◌}
 use Rattle.std.specs.Vec.{vec_len, vec_capacity}
-use Rattle.local_cache.proofs.Gaps.{AreLowering}
+use Rattle.local_cache.proofs.Tables.Gaps.{AreLowering}
 use Rattle.local_cache.proofs.page_table.lower.Given as goal
 
 abbrev pub invariant-loop-index : goal.invariant-loop-index

@@ -1,7 +1,7 @@
 use Rattle.std.proofs.Common.{◌≡◌, ◌≤◌, Some, sym, ap, ◌∙◌, arith}
 use Rattle.local_cache.specs.Arena.{tables_with}
 use Rattle.local_cache.specs.Layout.{entry_at, tables_in}
-use Rattle.local_cache.proofs.Tables.{entry_within, tables_past, tables_set}
+use Rattle.local_cache.proofs.Tables.Entries.{entry_within, tables_past, tables_set}
 use Rattle.local_cache.proofs.page_table.set_node.Goals as goal
 
 pub overflow_add-entry : goal.overflow_add-entry

@@ -1,6 +1,6 @@
 use Rattle.std.proofs.Common.{lit<}
 use Rattle.local_cache.specs.declared.own_state.OwnState.TheVariants.{OnSegment}
-use Rattle.local_cache.proofs.Pages.{page_held}
+use Rattle.local_cache.proofs.NewCache.Pages.{page_held}
 use Rattle.local_cache.proofs.tests.nodes_hang_on_one_another.Goals as goal
 
 pub tree_child-requires : goal.tree_child-requires

@@ -1,4 +1,4 @@
-use Rattle.local_cache.proofs.Queued.{left}
+use Rattle.local_cache.proofs.Queue.Entries.{left}
 use Rattle.local_cache.proofs.thin_nodes.leave.Goals as goal
 
 pub returns-in-Some-clause-left : goal.returns-in-Some-clause-left

@@ -1,5 +1,5 @@
 use Rattle.std.proofs.Common.{None, Some, ◌∙◌, sym, arith}
-use Rattle.local_cache.proofs.Queued.{entered, has_entry, has_room, is_fresh, up_to_date}
+use Rattle.local_cache.proofs.Queue.Entries.{entered, has_entry, has_room, is_fresh, up_to_date}
 use Rattle.local_cache.proofs.thin_nodes.queue.Goals as goal
 
 pub leave-requires : goal.leave-requires

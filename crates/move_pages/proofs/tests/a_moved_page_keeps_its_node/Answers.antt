@@ -12,15 +12,15 @@ use Rattle.local_cache.specs.declared.own_state.OwnState.TheVariants.{Zero}
 use Rattle.local_cache.specs.Arena.{Arena, HasPage, IsMade}
 use Rattle.local_cache.specs.Reading.{forest_of}
 use Rattle.local_cache.specs.Sound.{IsSound}
-use Rattle.local_cache.proofs.Begun.{none_len, none_whole, whole_begun, zero_pages}
-use Rattle.local_cache.proofs.Reading.{IsNode-forest_of}
-use Rattle.local_cache.proofs.Wholes.{page_there}
+use Rattle.local_cache.proofs.NewCache.Whole.{none_len, none_whole, whole_begun, zero_pages}
+use Rattle.local_cache.proofs.Forest.Reading.{IsNode-forest_of}
+use Rattle.local_cache.proofs.Whole.Pages.{page_there}
 use Rattle.move_pages.proofs.tests.a_moved_page_keeps_its_node.Goals as goal
 
 page_is : (a : Arena) → IsSound a → (cache : CacheId) (page : ℕ) → HasPage a cache page Zero → IsNode (forest_of a) (page_name cache page)
 page_is a sound cache page has =
-    let l = sound.listed.nodes cache.0 page has.node has.at in
-    subst (IsNode (forest_of a)) l.1 (IsNode-forest_of a sound.named has.node l.0)
+    let l = sound.kept.listed.nodes cache.0 page has.node has.at in
+    subst (IsNode (forest_of a)) l.1 (IsNode-forest_of a sound.kept.named has.node l.0)
 
 abbrev page_number : NodeName → ℕ
 page_number (Live cache page) = page.0

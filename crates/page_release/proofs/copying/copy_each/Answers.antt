@@ -6,13 +6,13 @@ use Rattle.vm_ids.specs.Forest.Nodes.{IsNode}
 use Rattle.vm_ids.specs.Forest.Shape.{IsConsistent}
 use Rattle.vm_ids.proofs.Forest.Pages.{copy_page-consistent}
 use Rattle.local_cache.specs.Reading.{forest_of}
-use Rattle.local_cache.proofs.Changes.{forest_of-made}
+use Rattle.local_cache.proofs.Changes.SameNodes.{forest_of-made}
 use Rattle.residency.specs.StoreForest.{store_forest}
 use Rattle.residency.specs.World.{world}
 use Rattle.vm_ids.proofs.Forest.Lengths.{copy_page_len, copy_page_stays}
 use Rattle.vm_ids.proofs.Forest.Made.{copy_page-made}
 use Rattle.vm_ids.proofs.Forest.Pairs.{can_by, copied_by, pages_now, pairs_start}
-use Rattle.local_cache.proofs.Sizes.{sizes_same, sizes_then}
+use Rattle.local_cache.proofs.Tables.Sizes.{sizes_same, sizes_then}
 use Rattle.page_release.proofs.StoreShape.{store_can, store_consistent}
 use Rattle.page_release.proofs.Detach.{back_then, named_then}
 use Rattle.page_release.proofs.Loops.{gives_none, unpinned_then}

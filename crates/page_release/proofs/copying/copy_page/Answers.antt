@@ -1,8 +1,8 @@
 use Rattle.std.proofs.Common.{None, cond, sym, ap, ◌∙◌, arith}
 use Rattle.vm_ids.specs.declared.node_name.NodeName.TheVariants.{Live}
 use Rattle.vm_ids.specs.Forest.Rules.{detach, link, stub}
-use Rattle.local_cache.proofs.Wholes.{page_there}
-use Rattle.local_cache.proofs.Sizes.{sizes_same, sizes_then}
+use Rattle.local_cache.proofs.Whole.Pages.{page_there}
+use Rattle.local_cache.proofs.Tables.Sizes.{sizes_same, sizes_then}
 use Rattle.local_cache.specs.Reading.{forest_of}
 use Rattle.residency.specs.StoreForest.{store_forest}
 use Rattle.residency.specs.World.{world}

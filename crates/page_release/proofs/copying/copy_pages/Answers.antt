@@ -2,15 +2,15 @@ use Rattle.std.proofs.Common.{◌*◌, arith, false, sym, ap, ◌∙◌}
 use Rattle.vm_ids.proofs.Forest.Laws.Commands.{copy_counts_saves}
 use Rattle.vm_ids.specs.Forest.Nodes.{Forest}
 use Rattle.local_cache.specs.declared.own_state.OwnState.{OwnState}
-use Rattle.local_cache.proofs.Changes.{forest_of-copies}
+use Rattle.local_cache.proofs.Changes.SameNodes.{forest_of-copies}
 use Rattle.vm_ids.specs.Forest.Commands.{span_pairs}
 use Rattle.vm_ids.specs.declared.node_name.NodeName.TheVariants.{Working}
 use Rattle.local_cache.specs.Reading.{forest_of}
 use Rattle.residency.specs.StoreForest.{store_forest}
 use Rattle.residency.specs.World.{world}
 use Rattle.vm_ids.proofs.Forest.Pairs.{copied}
-use Rattle.local_cache.proofs.Carried.{whole_copied}
-use Rattle.local_cache.proofs.Sizes.{sizes_then}
+use Rattle.local_cache.proofs.Whole.Commands.{whole_copied}
+use Rattle.local_cache.proofs.Tables.Sizes.{sizes_then}
 use Rattle.page_release.proofs.Detach.{back_then, named_then}
 use Rattle.page_release.proofs.Loops.{unpinned_then}
 use Rattle.page_release.proofs.Sized.{right_bounded, same_live}
@@ -55,7 +55,7 @@ returns-clause-live c = same_live c.args.caches.now c.settle.new.caches c.requir
 
 pub returns-clause-right : goal.returns-clause-right
 returns-clause-right c enough =
-    right_bounded c.args.store.now c.args.caches.now c.settle.new.store c.settle.new.caches (returns-clause-gives_back c) c.settle.ensures.sound.named c.settle.ensures.bounded
+    right_bounded c.args.store.now c.args.caches.now c.settle.new.store c.settle.new.caches (returns-clause-gives_back c) c.settle.ensures.sound.kept.named c.settle.ensures.bounded
     (omega (arith, enough, returns-clause-live c))
 
 pub returns-clause-copies : goal.returns-clause-copies

@@ -2,13 +2,13 @@ use Rattle.std.proofs.Common.{ap, ◌∙◌, arith, false, sym}
 use Rattle.vm_ids.proofs.Forest.Laws.Commands.{destroy_counts_saves}
 use Rattle.vm_ids.specs.Forest.Nodes.{Forest}
 use Rattle.local_cache.specs.declared.own_state.OwnState.{OwnState}
-use Rattle.local_cache.proofs.Changes.{forest_of-copies}
+use Rattle.local_cache.proofs.Changes.SameNodes.{forest_of-copies}
 use Rattle.local_cache.specs.Reading.{forest_of}
 use Rattle.vm_ids.specs.Forest.Commands.{page_names}
 use Rattle.vm_ids.specs.declared.node_name.NodeName.TheVariants.{Working}
 use Rattle.vm_ids.specs.Forest.Settling.{settle}
-use Rattle.local_cache.proofs.Carried.{emptied, whole_emptied}
-use Rattle.local_cache.proofs.Sizes.{sizes_then}
+use Rattle.local_cache.proofs.Whole.Commands.{emptied, whole_emptied}
+use Rattle.local_cache.proofs.Tables.Sizes.{sizes_then}
 use Rattle.page_release.proofs.Detach.{back_then, named_then}
 use Rattle.page_release.proofs.Loops.{unpinned_then}
 use Rattle.page_release.proofs.destroying.destroy_pages.Goals as goal

@@ -5,15 +5,15 @@ use Rattle.vm_ids.specs.Forest.NameMap.{len}
 use Rattle.vm_ids.specs.Forest.Shape.{IsConsistent}
 use Rattle.vm_ids.proofs.Forest.Pages.{retire-consistent}
 use Rattle.local_cache.specs.Reading.{forest_of}
-use Rattle.local_cache.proofs.Changes.{forest_of-made}
+use Rattle.local_cache.proofs.Changes.SameNodes.{forest_of-made}
 use Rattle.residency.specs.StoreForest.{store_forest}
 use Rattle.residency.specs.World.{world}
 use Rattle.vm_ids.proofs.Forest.Made.{retire-made}
 use Rattle.vm_ids.proofs.Forest.Lengths.{retire_len}
 use Rattle.vm_ids.proofs.Forest.CachePages.{names_start, page_now, pages_by, retired_by}
-use Rattle.local_cache.proofs.Wholes.{pages_once}
-use Rattle.local_cache.proofs.Wholes.{page_there}
-use Rattle.local_cache.proofs.Sizes.{sizes_same, sizes_then}
+use Rattle.local_cache.proofs.Whole.Pages.{pages_once}
+use Rattle.local_cache.proofs.Whole.Pages.{page_there}
+use Rattle.local_cache.proofs.Tables.Sizes.{sizes_same, sizes_then}
 use Rattle.page_release.proofs.StoreShape.{store_consistent, store_pages}
 use Rattle.page_release.proofs.Detach.{back_then, named_then}
 use Rattle.page_release.proofs.Loops.{gives_none, unpinned_then}

@@ -9,11 +9,11 @@ use Rattle.vm_ids.specs.Forest.Shape.{IsConsistent}
 use Rattle.vm_ids.proofs.Forest.Pages.{move_page-consistent}
 use Rattle.local_cache.specs.declared.own_state.OwnState.TheVariants.{Zero}
 use Rattle.local_cache.specs.Reading.{forest_of}
-use Rattle.local_cache.proofs.Changes.{forest_of-made}
+use Rattle.local_cache.proofs.Changes.SameNodes.{forest_of-made}
 use Rattle.residency.specs.StoreForest.{store_forest}
 use Rattle.residency.specs.World.{world}
 use Rattle.vm_ids.proofs.Forest.Pairs.{can_move_by, move_now, moved_by, pairs_start}
-use Rattle.local_cache.proofs.Sizes.{sizes_same, sizes_then}
+use Rattle.local_cache.proofs.Tables.Sizes.{sizes_same, sizes_then}
 use Rattle.page_release.specs.Steps.{zeros_told}
 use Rattle.page_release.proofs.Detach.{back_then, named_then}
 use Rattle.page_release.proofs.Loops.{gives_none, unpinned_then}

@@ -4,7 +4,7 @@ use Rattle.vm_ids.specs.Forest.Shape.{IsBounded}
 use Rattle.local_cache.specs.Reading.{forest_of}
 use Rattle.residency.specs.StoreForest.{store_forest}
 use Rattle.residency.specs.World.{world}
-use Rattle.local_cache.proofs.Sizes.{sizes_then}
+use Rattle.local_cache.proofs.Tables.Sizes.{sizes_then}
 use Rattle.page_release.proofs.Detach.{back_then, named_then}
 use Rattle.page_release.proofs.Loops.{end_forest, end_nodes, step_consistent, step_fewer, step_forest, step_nodes, step_room, step_sizes, unpinned_then}
 use Rattle.vm_ids.specs.declared.node_name.NodeName.TheVariants.{Working}

@@ -14,8 +14,8 @@ use Rattle.residency.specs.World.{HasNoNodes, IsStoreRight, world}
 use Rattle.residency.specs.declared.store.Store.{Store}
 use Rattle.residency.proofs.After.{made_right, slots_right}
 use Rattle.residency.proofs.New.{no_states}
-use Rattle.local_cache.proofs.Begun.{none_len, none_whole, whole_begun, zero_pages}
-use Rattle.local_cache.proofs.OwnCount.{states_most}
+use Rattle.local_cache.proofs.NewCache.Whole.{none_len, none_whole, whole_begun, zero_pages}
+use Rattle.local_cache.proofs.Nodes.Count.{states_most}
 use Rattle.vm_ids.proofs.Forest.Lengths.{put_len}
 use Rattle.page_release.proofs.Tied.{tied_right}
 use Rattle.page_release.proofs.tests.two_caches.Goals as goal
@@ -59,7 +59,7 @@ returns-clause-tied c =
     let old : length c.in_ok-store.store.slots ≡ 0 = ap (λ (s : Store). length s.slots) c.in_ok-store.ensures.is in
     let slots : length c.reserve_slots.new.self.slots ≡ 2 = ap (λ (s : Store). length s.slots) c.in_ok-reserve_slots.ensures.ok ∙ omega (arith, length-append c.in_ok-store.store.slots (replicate more false), length-replicate more false) in
     let third : IsStoreRight (world None None c.make_temp-from.new.self c.reserve_slots.new.self) = made_right (world None None a c.reserve_slots.new.self) c.make_temp-from.new.self c.make_temp-from.result None one.made.0 second one.made.2 (omega (arith, one.made.1)) in
-    let most = states_most c.make_temp-from.new.self (one.sound sound).named in
+    let most = states_most c.make_temp-from.new.self (one.sound sound).kept.named in
     let few = page_len a c.make_temp-from.new.self c.make_temp-from.result (one.forest sound) in
     let begin = none_len (forest_of a) (c.reserve.ensures.forest ∙ c.new-caches.ensures.forest) in
     tied_right None None c.make_temp-to.new.self c.reserve_slots.new.self

@@ -2,22 +2,21 @@ use Rattle.std.proofs.Common.{sym, ap, ◌∙◌, subst, arith}
 use Rattle.local_cache.specs.Reading.{stubs_of, name_of, forest_of}
 use Rattle.local_cache.specs.Changes.{Relinked}
 use Rattle.local_cache.specs.Sound.{IsSound}
-use Rattle.local_cache.proofs.Edit.{kept_of}
 use Rattle.page_stubs.specs.Threading.{IsHeldIf}
-use Rattle.page_stubs.proofs.Room.{both_fit, count_is, room-joined}
-use Rattle.page_stubs.proofs.Joining.{joins, last_held, own_last, own_count, given_count}
-use Rattle.page_stubs.proofs.HandRule.{hands, once_stubs}
+use Rattle.page_stubs.proofs.Lists.Room.{both_fit, count_is, room-joined}
+use Rattle.page_stubs.proofs.Lists.Joining.{joins, last_held, own_last, own_count, given_count}
+use Rattle.page_stubs.proofs.Rules.Handing.{hands, once_stubs}
 use Rattle.page_stubs.proofs.handing.hand_stubs.Goals as goal
 
 pub reparent-requires-clause-once : goal.reparent-requires-clause-once
-reparent-requires-clause-once c = let r = c.requires in once_stubs c.args.caches.now (kept_of c.args.caches.now r.sound) r.sound.linked c.args.from r.from
+reparent-requires-clause-once c = let r = c.requires in once_stubs c.args.caches.now r.sound.kept r.sound.linked c.args.from r.from
 
 pub join-requires-clause-last : goal.join-requires-clause-last
 join-requires-clause-last c =
     let r = c.requires in
     let a = c.args.caches.now in
-    let from_list = r.sound.threaded c.args.from r.from in
-    let to_list = r.sound.threaded c.args.to r.to in
+    let from_list = r.sound.kept.threaded c.args.from r.from in
+    let to_list = r.sound.kept.threaded c.args.to r.to in
     subst (IsHeldIf c.reparent.new.caches) (sym (own_last a _ c.args.from c.args.to r.apart r.from r.to (stubs_of a c.args.from) (stubs_of a c.args.to) from_list to_list c.reparent.ensures))
     (last_held a _ c.args.from c.args.to r.apart r.from r.to (stubs_of a c.args.from) (stubs_of a c.args.to) from_list to_list c.reparent.ensures)
 
@@ -25,33 +24,33 @@ pub join-requires-clause-few : goal.join-requires-clause-few
 join-requires-clause-few c =
     let r = c.requires in
     let a = c.args.caches.now in
-    let from_list = r.sound.threaded c.args.from r.from in
-    let to_list = r.sound.threaded c.args.to r.to in
+    let from_list = r.sound.kept.threaded c.args.from r.from in
+    let to_list = r.sound.kept.threaded c.args.to r.to in
     let own = own_count a _ c.args.from c.args.to r.apart r.from r.to (stubs_of a c.args.from) (stubs_of a c.args.to) from_list to_list c.reparent.ensures in
     let given = given_count a _ c.args.from c.args.to r.apart r.from r.to (stubs_of a c.args.from) (stubs_of a c.args.to) from_list to_list c.reparent.ensures in
-    let fit = both_fit (forest_of a) r.sound.linked (name_of a c.args.from) (name_of a c.args.to) (λ e. r.apart (r.sound.named.apart c.args.to c.args.from r.to r.from e)) in
-    omega (arith, own, given, fit, from_list.count, to_list.count, count_is a (kept_of a r.sound) c.args.from r.from, count_is a (kept_of a r.sound) c.args.to r.to, c.counts-all.ensures.few)
+    let fit = both_fit (forest_of a) r.sound.linked (name_of a c.args.from) (name_of a c.args.to) (λ e. r.apart (r.sound.kept.named.apart c.args.to c.args.from r.to r.from e)) in
+    omega (arith, own, given, fit, from_list.count, to_list.count, count_is a r.sound.kept c.args.from r.from, count_is a r.sound.kept c.args.to r.to, c.counts-all.ensures.few)
 
 pub returns-clause-forest : goal.returns-clause-forest
 returns-clause-forest c =
     let r = c.requires in
     let a = c.args.caches.now in
     ap forest_of c.join.ensures ∙ (hands a _ r.sound c.args.from c.args.to r.from r.to r.apart r.clear
-    (joins a _ c.args.from c.args.to r.apart r.from r.to (stubs_of a c.args.from) (stubs_of a c.args.to) (r.sound.threaded c.args.from r.from) (r.sound.threaded c.args.to r.to) c.reparent.ensures)).forest
+    (joins a _ c.args.from c.args.to r.apart r.from r.to (stubs_of a c.args.from) (stubs_of a c.args.to) (r.sound.kept.threaded c.args.from r.from) (r.sound.kept.threaded c.args.to r.to) c.reparent.ensures)).forest
 
 pub returns-clause-sound : goal.returns-clause-sound
 returns-clause-sound c =
     let r = c.requires in
     let a = c.args.caches.now in
     subst IsSound (sym c.join.ensures) (hands a _ r.sound c.args.from c.args.to r.from r.to r.apart r.clear
-    (joins a _ c.args.from c.args.to r.apart r.from r.to (stubs_of a c.args.from) (stubs_of a c.args.to) (r.sound.threaded c.args.from r.from) (r.sound.threaded c.args.to r.to) c.reparent.ensures)).sound
+    (joins a _ c.args.from c.args.to r.apart r.from r.to (stubs_of a c.args.from) (stubs_of a c.args.to) (r.sound.kept.threaded c.args.from r.from) (r.sound.kept.threaded c.args.to r.to) c.reparent.ensures)).sound
 
 pub returns-clause-links : goal.returns-clause-links
 returns-clause-links c =
     let r = c.requires in
     let a = c.args.caches.now in
     subst (Relinked a) (sym c.join.ensures)
-    (joins a _ c.args.from c.args.to r.apart r.from r.to (stubs_of a c.args.from) (stubs_of a c.args.to) (r.sound.threaded c.args.from r.from) (r.sound.threaded c.args.to r.to) c.reparent.ensures).links
+    (joins a _ c.args.from c.args.to r.apart r.from r.to (stubs_of a c.args.from) (stubs_of a c.args.to) (r.sound.kept.threaded c.args.from r.from) (r.sound.kept.threaded c.args.to r.to) c.reparent.ensures).links
 
 pub returns-clause-room : goal.returns-clause-room
 returns-clause-room c = ap (λ b. b.room) c.join.ensures ∙ room-joined _ c.args.from c.args.to ∙ c.reparent.ensures.room

@@ -1,56 +1,59 @@
-use Rattle.std.proofs.Common.{◌≡◌, true, None, sym, ap, ◌∙◌, subst}
-use Rattle.std.proofs.lemmas.Bool.{false≢true}
+use Rattle.std.proofs.Common.{◌≡◌, Bool, true, Option, Some, None, IsSome, refl, sym, ap, ◌∙◌, subst}
 use Rattle.vm_ids.specs.declared.numbers.NodeId.{NodeId}
 use Rattle.vm_ids.specs.Forest.Nodes.{node, is_stub}
 use Rattle.local_cache.specs.Arena.{Arena, cell, IsHeld}
 use Rattle.local_cache.specs.Reading.{forest_of, name_of, hang_by}
 use Rattle.local_cache.specs.Sound.{IsSound}
 use Rattle.local_cache.specs.Changes.{Relinked}
-use Rattle.local_cache.proofs.Reading.{node-forest_of}
-use Rattle.page_stubs.proofs.CutRule.{by_stub}
-use Rattle.page_stubs.proofs.Room.{room-replaced}
-use Rattle.page_stubs.proofs.ExchangeRule.{places, neighbours_held}
+use Rattle.local_cache.proofs.Forest.Reading.{node-forest_of}
+use Rattle.page_stubs.proofs.Rules.Cut.{by_stub}
+use Rattle.page_stubs.proofs.Lists.Room.{room-replaced}
+use Rattle.page_stubs.proofs.Rules.Exchange.{places, neighbours_held}
 use Rattle.page_stubs.proofs.replacing.take_place_of.Goals as goal
 
 stub_read : (a : Arena) → IsSound a → (w : NodeId) → IsHeld a w → is_stub (node (forest_of a) (name_of a w)).hang ≡ true → is_stub (hang_by a (cell a w).links.parent (cell a w).links.by_stub) ≡ true
-stub_read a sound w h e = sym (ap (λ m. is_stub m.hang) (node-forest_of a sound.named w h)) ∙ e
+stub_read a sound w h e = sym (ap (λ m. is_stub m.hang) (node-forest_of a sound.kept.named w h)) ∙ e
+
+-- a stub has a parent
+has_parent : (a : Arena) (up : Option NodeId) (t : Bool) → is_stub (hang_by a up t) ≡ true → IsSome up
+has_parent a None t e = e
+has_parent a (Some p) t e = refl
 
 pub replace-requires-clause-before : goal.replace-requires-clause-before
 replace-requires-clause-before c =
     let r = c.requires in
     let a = c.args.caches.now in
-    (neighbours_held a r.sound c.args.w c.args.y c.in-Some.p r.w r.y r.root r.bare r.clear (ap (λ l. l.parent) (sym c.links.ensures) ∙ c.in-Some.is) (by_stub a _ _ (stub_read a r.sound c.args.w r.w r.stub))).0
+    (neighbours_held a r.sound c.args.w c.args.y c.unwrap-p.result r.w r.y r.root r.bare r.clear (ap (λ l. l.parent) (sym c.links.ensures) ∙ c.unwrap-p.ensures) (by_stub a _ _ (stub_read a r.sound c.args.w r.w r.stub))).0
 
 pub replace-requires-clause-behind : goal.replace-requires-clause-behind
 replace-requires-clause-behind c =
     let r = c.requires in
     let a = c.args.caches.now in
-    (neighbours_held a r.sound c.args.w c.args.y c.in-Some.p r.w r.y r.root r.bare r.clear (ap (λ l. l.parent) (sym c.links.ensures) ∙ c.in-Some.is) (by_stub a _ _ (stub_read a r.sound c.args.w r.w r.stub))).1
+    (neighbours_held a r.sound c.args.w c.args.y c.unwrap-p.result r.w r.y r.root r.bare r.clear (ap (λ l. l.parent) (sym c.links.ensures) ∙ c.unwrap-p.ensures) (by_stub a _ _ (stub_read a r.sound c.args.w r.w r.stub))).1
 
-pub unreachable-requires : goal.unreachable-requires
-unreachable-requires c =
+pub unwrap-p-requires : goal.unwrap-p-requires
+unwrap-p-requires c =
     let r = c.requires in
     let a = c.args.caches.now in
-    let none : (cell a c.args.w).links.parent ≡ None = ap (λ l. l.parent) (sym c.links.ensures) ∙ c.in-None.is in
-    false≢true (sym (ap (λ o. is_stub (hang_by a o (cell a c.args.w).links.by_stub)) none) ∙ stub_read a r.sound c.args.w r.w r.stub)
+    subst IsSome (ap (λ l. l.parent) (sym c.links.ensures)) (has_parent a (cell a c.args.w).links.parent _ (stub_read a r.sound c.args.w r.w r.stub))
 
 pub returns-clause-forest : goal.returns-clause-forest
 returns-clause-forest c =
     let r = c.requires in
     let a = c.args.caches.now in
-    ap forest_of c.replace.ensures ∙ (places a r.sound c.args.w c.args.y c.in-Some.p r.w r.y r.root r.bare r.clear (ap (λ l. l.parent) (sym c.links.ensures) ∙ c.in-Some.is) (by_stub a _ _ (stub_read a r.sound c.args.w r.w r.stub))).forest
+    ap forest_of c.replace.ensures ∙ (places a r.sound c.args.w c.args.y c.unwrap-p.result r.w r.y r.root r.bare r.clear (ap (λ l. l.parent) (sym c.links.ensures) ∙ c.unwrap-p.ensures) (by_stub a _ _ (stub_read a r.sound c.args.w r.w r.stub))).forest
 
 pub returns-clause-sound : goal.returns-clause-sound
 returns-clause-sound c =
     let r = c.requires in
     let a = c.args.caches.now in
-    subst IsSound (sym c.replace.ensures) (places a r.sound c.args.w c.args.y c.in-Some.p r.w r.y r.root r.bare r.clear (ap (λ l. l.parent) (sym c.links.ensures) ∙ c.in-Some.is) (by_stub a _ _ (stub_read a r.sound c.args.w r.w r.stub))).sound
+    subst IsSound (sym c.replace.ensures) (places a r.sound c.args.w c.args.y c.unwrap-p.result r.w r.y r.root r.bare r.clear (ap (λ l. l.parent) (sym c.links.ensures) ∙ c.unwrap-p.ensures) (by_stub a _ _ (stub_read a r.sound c.args.w r.w r.stub))).sound
 
 pub returns-clause-links : goal.returns-clause-links
 returns-clause-links c =
     let r = c.requires in
     let a = c.args.caches.now in
-    subst (Relinked a) (sym c.replace.ensures) (places a r.sound c.args.w c.args.y c.in-Some.p r.w r.y r.root r.bare r.clear (ap (λ l. l.parent) (sym c.links.ensures) ∙ c.in-Some.is) (by_stub a _ _ (stub_read a r.sound c.args.w r.w r.stub))).links
+    subst (Relinked a) (sym c.replace.ensures) (places a r.sound c.args.w c.args.y c.unwrap-p.result r.w r.y r.root r.bare r.clear (ap (λ l. l.parent) (sym c.links.ensures) ∙ c.unwrap-p.ensures) (by_stub a _ _ (stub_read a r.sound c.args.w r.w r.stub))).links
 
 pub returns-clause-room : goal.returns-clause-room
-returns-clause-room c = ap (λ b. b.room) c.replace.ensures ∙ room-replaced c.args.caches.now c.args.w c.args.y c.in-Some.p
+returns-clause-room c = ap (λ b. b.room) c.replace.ensures ∙ room-replaced c.args.caches.now c.args.w c.args.y c.unwrap-p.result

@@ -3,7 +3,7 @@ use Rattle.vm_ids.specs.declared.numbers.NodeId.{NodeId}
 use Rattle.local_cache.specs.Arena.{Arena, node_at}
 use Rattle.tree_merge.specs.declared.released.Released.{Released}
 use Rattle.tree_merge.specs.Releasing.{IsRetired}
-use Rattle.tree_merge.proofs.Detached.{retired_room, detached-forest, detached-sound}
+use Rattle.tree_merge.proofs.Leaving.Detached.{retired_room, detached-forest, detached-sound}
 use Rattle.tree_merge.proofs.detaching.detach.Goals as goal
 
 room : (a b : Arena) (o : Option NodeId) (released : Released) → IsSome o → ((n : NodeId) → o ≡ Some n → IsRetired a b n released) → 1 ≤ a.room.nodes → 1 ≤ b.room.nodes

@@ -3,7 +3,7 @@ use Rattle.vm_ids.specs.Forest.Nodes.{is_live}
 use Rattle.vm_ids.specs.Forest.Rules.{retire}
 use Rattle.local_cache.specs.Reading.{forest_of}
 use Rattle.tree_merge.specs.Releasing.{IsRetired}
-use Rattle.tree_merge.proofs.Detached.{page_held, page_name, retired_vacant}
+use Rattle.tree_merge.proofs.Leaving.Detached.{page_held, page_name, retired_vacant}
 use Rattle.tree_merge.proofs.Releases.{retire_released}
 use Rattle.tree_merge.proofs.detaching.retire.Goals as goal
 

@@ -1,8 +1,8 @@
 use Rattle.std.proofs.Common.{sym, ap, ◌∙◌, subst}
 use Rattle.local_cache.specs.Reading.{forest_of}
 use Rattle.local_cache.specs.Sound.{IsSound}
-use Rattle.tree_merge.proofs.ChildNames.{first_none, first_some}
-use Rattle.tree_merge.proofs.Retired.{retire_none, retired-forest, retired-sound, retired_parent, retired_leaf}
+use Rattle.tree_merge.proofs.ChildLists.Names.{first_none, first_some}
+use Rattle.tree_merge.proofs.Leaving.Retired.{retire_none, retired-forest, retired-sound, retired_parent, retired_leaf}
 use Rattle.tree_merge.proofs.retiring.retire_node.Goals as goal
 
 pub drop_node-requires-clause-leaf : goal.drop_node-requires-clause-leaf

@@ -1,4 +1,4 @@
-use Rattle.tree_merge.proofs.Settle.{cut_root, passed_root, passed_below, passed_none, given_forest, given_gone, given_released, given_owns}
+use Rattle.tree_merge.proofs.Merge.Step.{cut_root, passed_root, passed_below, passed_none, given_forest, given_gone, given_released, given_owns}
 use Rattle.tree_merge.proofs.settling.give_to.Goals as goal
 
 pub pass_page-released-requires-clause-root : goal.pass_page-released-requires-clause-root

@@ -1,7 +1,7 @@
 use Rattle.std.proofs.Common.{option_map, sym, ap, ◌∙◌}
 use Rattle.local_cache.specs.Reading.{name_of, forest_of}
-use Rattle.tree_merge.proofs.ChildNames.{first_child_up, first_is, first_none}
-use Rattle.tree_merge.proofs.Settle.{settle_none, settle_some}
+use Rattle.tree_merge.proofs.ChildLists.Names.{first_child_up, first_is, first_none}
+use Rattle.tree_merge.proofs.Merge.Step.{settle_none, settle_some}
 use Rattle.tree_merge.proofs.settling.merge.Goals as goal
 
 pub give_to-requires-clause-child : goal.give_to-requires-clause-child

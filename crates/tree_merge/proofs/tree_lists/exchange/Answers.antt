@@ -1,7 +1,7 @@
 use Rattle.std.proofs.Common.{[], ap, ap₂, ◌∙◌}
 use Rattle.std.specs.List.{cons_option}
 use Rattle.local_cache.specs.Arena.{cell, with_tree}
-use Rattle.tree_merge.proofs.Lists.{two_places}
+use Rattle.tree_merge.proofs.ChildLists.TreeLists.{two_places}
 use Rattle.tree_merge.proofs.tree_lists.exchange.Goals as goal
 
 pub returns-clause-changed : goal.returns-clause-changed

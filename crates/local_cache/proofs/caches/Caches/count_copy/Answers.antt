@@ -1,6 +1,6 @@
 use Rattle.std.proofs.Common.{◌+◌, ap}
 use Rattle.local_cache.specs.Arena.{Arena}
-use Rattle.local_cache.proofs.Alike.{copied_forest, copied_sound}
+use Rattle.local_cache.proofs.Changes.SameCells.{copied_forest, copied_sound}
 use Rattle.local_cache.proofs.caches.Caches.count_copy.Goals as goal
 
 pub returns-clause-forest : goal.returns-clause-forest

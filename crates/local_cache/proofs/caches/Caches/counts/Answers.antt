@@ -1,6 +1,6 @@
 use Rattle.std.proofs.Common.{ℕ, ◌-◌, ap, ◌∙◌, arith}
 use Rattle.vm_ids.specs.declared.reply.Counts.{Counts}
-use Rattle.local_cache.proofs.Counts.{forest-counts, forest-len, working_len-le}
+use Rattle.local_cache.proofs.Nodes.WorkingCount.{forest-counts, forest-len, working_len-le}
 use Rattle.local_cache.proofs.caches.Caches.counts.Goals as goal
 
 pub overflow_sub-result : goal.overflow_sub-result
@@ -17,4 +17,4 @@ returns-clause-counts c =
 pub returns-clause-few : goal.returns-clause-few
 returns-clause-few c =
     let i = c.self.inside in
-    omega (arith, forest-len i c.args.self.now c.self.view_is c.requires, c.self.invariant.ready.held, c.self.invariant.counted.few)
+    omega (arith, forest-len i c.args.self.now c.self.view_is c.requires, c.self.invariant.ready.fits, c.self.invariant.counted.few)

@@ -1,10 +1,10 @@
 use Rattle.std.proofs.Common.{rules, ◌-◌, None, ap, ◌∙◌, arith}
 use Rattle.local_cache.specs.Arena.{tables_with}
 use Rattle.local_cache.specs.Layout.{tables_in, working_of}
-use Rattle.local_cache.proofs.Counts.{counted_less, taken_fits}
-use Rattle.local_cache.proofs.Slots.{some_at, taken}
-use Rattle.local_cache.proofs.Tables.{through}
-use Rattle.local_cache.proofs.Queued.{queued_but}
+use Rattle.local_cache.proofs.Nodes.WorkingCount.{counted_less, taken_fits}
+use Rattle.local_cache.proofs.Nodes.Slots.{some_at, taken}
+use Rattle.local_cache.proofs.Tables.Entries.{through}
+use Rattle.local_cache.proofs.Queue.Entries.{queued_but}
 use Rattle.local_cache.proofs.caches.Caches.free.Goals as goal
 
 pub remove-freed-requires : goal.remove-freed-requires
@@ -18,7 +18,7 @@ queue-requires-clause-queued c =
 pub returns : goal.returns
 returns c =
     let i = c.self.inside in
-    taken i c.args.self.now _ c.args.node _ c.set_node.new.entries c.self.view_is c.remove-freed.ensures.value c.remove-freed.ensures.updates c.remove-freed.ensures.len c.remove-freed.ensures.capacity c.self.invariant.laid.fits c.self.invariant.ready.held
+    taken i c.args.self.now _ c.args.node _ c.set_node.new.entries c.self.view_is c.remove-freed.ensures.value c.remove-freed.ensures.updates c.remove-freed.ensures.len c.remove-freed.ensures.capacity c.self.invariant.laid.fits c.self.invariant.ready.fits
     (through _ i.caches.items i.entries.items _ _ None c.deref.ensures.value c.set_node.ensures.tables ∙ ap (λ x. tables_with (tables_in i.entries.items i.caches.items) x None) c.name-2.ensures)
     c.set_node.ensures.len c.set_node.ensures.capacity
 

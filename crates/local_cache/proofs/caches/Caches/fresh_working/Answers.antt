@@ -3,7 +3,7 @@ use Rattle.vm_ids.specs.declared.node_name.NodeName.TheVariants.{Working}
 use Rattle.vm_ids.specs.declared.numbers.NodeId.{NodeId}
 use Rattle.local_cache.specs.declared.own_state.OwnState.TheVariants.{Absent}
 use Rattle.local_cache.specs.Arena.{Arena, with_new, with_working}
-use Rattle.local_cache.proofs.Slots.{seen}
+use Rattle.local_cache.proofs.Nodes.Slots.{seen}
 use Rattle.local_cache.proofs.caches.Caches.fresh_working.Goals as goal
 
 -- the count first, and then the node

@@ -5,11 +5,11 @@ use Rattle.slab.specs.Slab.{slab_len}
 use Rattle.local_cache.specs.Queue.{thin_number}
 use Rattle.vm_ids.specs.declared.numbers.NodeId.{NodeId}
 use Rattle.local_cache.specs.Arena.{Arena}
-use Rattle.local_cache.proofs.Cells.{held-new, stays-new}
-use Rattle.local_cache.proofs.Counts.{added_fits, counted_more}
-use Rattle.local_cache.proofs.Slots.{added, none_at}
-use Rattle.local_cache.proofs.Tables.{through}
-use Rattle.local_cache.proofs.Queued.{queued_but}
+use Rattle.local_cache.proofs.Nodes.Cells.{held-new, stays-new}
+use Rattle.local_cache.proofs.Nodes.WorkingCount.{added_fits, counted_more}
+use Rattle.local_cache.proofs.Nodes.Slots.{added, none_at}
+use Rattle.local_cache.proofs.Tables.Entries.{through}
+use Rattle.local_cache.proofs.Queue.Entries.{queued_but}
 use Rattle.local_cache.proofs.caches.Caches.insert.Goals as goal
 
 pub queue-requires-clause-queued : goal.queue-requires-clause-queued

@@ -4,8 +4,8 @@ use Rattle.vm_ids.specs.declared.numbers.CacheId.{CacheId}
 use Rattle.local_cache.specs.declared.caches.Caches.TheInside.{Inside}
 use Rattle.local_cache.specs.declared.page_table.CacheEntry.{CacheEntry}
 use Rattle.local_cache.specs.Arena.{Arena}
-use Rattle.local_cache.proofs.Pages.{made_pages, made_stays, made_tables}
-use Rattle.local_cache.proofs.Made.{After, made, right_after}
+use Rattle.local_cache.proofs.NewCache.Pages.{made_pages, made_stays, made_tables}
+use Rattle.local_cache.proofs.NewCache.Arena.{After, made, right_after}
 use Rattle.local_cache.proofs.caches.Caches.make.Goals as goal
 
 -- the fields, the cache's number and its entry after the call

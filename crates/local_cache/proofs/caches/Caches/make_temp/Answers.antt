@@ -2,7 +2,7 @@ use Rattle.std.proofs.Common.{None, refl, ap, ◌∙◌, map}
 use Rattle.vm_ids.specs.Forest.Commands.{make, page_names}
 use Rattle.local_cache.specs.declared.own_state.OwnState.TheVariants.{Zero}
 use Rattle.local_cache.specs.Reading.{forest_of}
-use Rattle.local_cache.proofs.Making.{made-forest, made-sound}
+use Rattle.local_cache.proofs.NewCache.Forest.{made-forest, made-sound}
 use Rattle.local_cache.proofs.caches.Caches.make_temp.Goals as goal
 
 pub returns-clause-forest : goal.returns-clause-forest

@@ -1,7 +1,7 @@
 use Rattle.std.proofs.Common.{refl, ap, ◌∙◌, get_or, None}
 use Rattle.local_cache.specs.Layout.{tables_in}
-use Rattle.local_cache.proofs.Empty.{empty_forest, empty_sound}
-use Rattle.local_cache.proofs.Slots.{get-entries}
+use Rattle.local_cache.proofs.Whole.Empty.{empty_forest, empty_sound}
+use Rattle.local_cache.proofs.Nodes.Slots.{get-entries}
 use Rattle.local_cache.proofs.caches.Caches.new.Goals as goal
 
 pub returns-clause-nodes : goal.returns-clause-nodes

@@ -3,7 +3,7 @@ use Rattle.local_cache.specs.declared.page_table.CacheEntry.{CacheEntry}
 use Rattle.local_cache.specs.declared.page_table.PageEntry.{PageEntry}
 use Rattle.local_cache.specs.Arena.{Arena}
 use Rattle.local_cache.specs.Layout.{entry_at}
-use Rattle.local_cache.proofs.Tables.{stands}
+use Rattle.local_cache.proofs.Tables.Entries.{stands}
 use Rattle.local_cache.proofs.caches.Caches.node_of.Goals as goal
 
 pub index-requires : goal.index-requires

@@ -1,10 +1,10 @@
 use Rattle.std.proofs.Common.{◌≡◌, List, Option, Some, ◌-◌, length, refl, sym, ap, ◌∙◌, arith}
 use Rattle.local_cache.specs.declared.page_table.CacheEntry.{CacheEntry}
 use Rattle.local_cache.specs.Layout.{entry_at}
-use Rattle.local_cache.proofs.Alike.{removed_forest, removed_sound}
-use Rattle.local_cache.proofs.Gaps.{row_behind_gap}
-use Rattle.local_cache.proofs.Removed.{Left, at_index, removed, right_left}
-use Rattle.local_cache.proofs.Tables.{entry_within}
+use Rattle.local_cache.proofs.Changes.SameCells.{removed_forest, removed_sound}
+use Rattle.local_cache.proofs.Tables.Gaps.{row_behind_gap}
+use Rattle.local_cache.proofs.Tables.Removal.{Left, at_index, removed, right_left}
+use Rattle.local_cache.proofs.Tables.Entries.{entry_within}
 use Rattle.local_cache.proofs.caches.Caches.remove.Goals as goal
 
 pub close_gap-requires : goal.close_gap-requires

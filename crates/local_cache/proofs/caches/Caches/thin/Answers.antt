@@ -1,13 +1,14 @@
-use Rattle.std.proofs.Common.{None, Some}
-use Rattle.local_cache.proofs.Least.{least_thin}
+use Rattle.std.proofs.Common.{None, Some, sym, subst}
+use Rattle.local_cache.specs.Thin.{IsLeastThin}
+use Rattle.local_cache.proofs.Queue.Least.{least_thin}
 use Rattle.local_cache.proofs.caches.Caches.thin.Goals as goal
 
-pub returns-in-Some : goal.returns-in-Some
-returns-in-Some c =
+pub returns : goal.returns
+returns c =
     let i = c.self.inside in
-    least_thin i c.args.self.now c.self.view_is i.thin.entries (Some c.in-Some.entry) c.self.invariant.ready.queued c.in-Some.ensures
+    least_thin i c.args.self.now c.self.view_is i.thin.entries (Some c.in_ok-first.field-0) c.self.invariant.ready.queued c.in_ok-first.ensures
 
-pub returns-in-None : goal.returns-in-None
-returns-in-None c =
+pub returns-in_err-first : goal.returns-in_err-first
+returns-in_err-first c =
     let i = c.self.inside in
-    least_thin i c.args.self.now c.self.view_is i.thin.entries None c.self.invariant.ready.queued c.in-None.ensures
+    subst (IsLeastThin c.args.self.now) (sym c.from_residual.ensures) (least_thin i c.args.self.now c.self.view_is i.thin.entries None c.self.invariant.ready.queued c.in_err-first.ensures)

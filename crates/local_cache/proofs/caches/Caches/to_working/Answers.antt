@@ -2,7 +2,7 @@ use Rattle.std.proofs.Common.{◌≡◌, ◌+◌, ℕ, ap, ◌∙◌}
 use Rattle.vm_ids.specs.declared.node_name.NodeName.TheVariants.{Working}
 use Rattle.vm_ids.specs.declared.numbers.NodeId.{NodeId}
 use Rattle.local_cache.specs.Arena.{Arena, as_working, cell, put, with_name}
-use Rattle.local_cache.proofs.Slots.{seen}
+use Rattle.local_cache.proofs.Nodes.Slots.{seen}
 use Rattle.local_cache.proofs.caches.Caches.to_working.Goals as goal
 
 -- the count first, and then the name

@@ -1,6 +1,6 @@
 use Rattle.std.proofs.Common.{sym, ap, ◌∙◌, slice_get, subst}
 use Rattle.local_cache.specs.Heap.{Heap, IsFirst}
-use Rattle.local_cache.proofs.InOrder.{first_is}
+use Rattle.local_cache.proofs.Queue.Order.{first_is}
 use Rattle.local_cache.proofs.entry_heap.EntryHeap.first.Goals as goal
 
 pub returns : goal.returns

@@ -1,6 +1,6 @@
 use Rattle.std.proofs.Common.{◌∙◌, arith}
-use Rattle.local_cache.proofs.InOrder.{came_in}
-use Rattle.local_cache.proofs.Noted.{noted_appended}
+use Rattle.local_cache.proofs.Queue.Order.{came_in}
+use Rattle.local_cache.proofs.Queue.Places.{noted_appended}
 use Rattle.local_cache.proofs.entry_heap.EntryHeap.insert.Goals as goal
 
 pub restore_order-requires-clause-noted : goal.restore_order-requires-clause-noted

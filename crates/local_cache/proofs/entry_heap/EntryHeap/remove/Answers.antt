@@ -1,7 +1,7 @@
 use Rattle.std.proofs.Common.{arith}
 use Rattle.std.proofs.lemmas.Grind.{common_steps}
-use Rattle.local_cache.proofs.InOrder.{went_out, went_out_moved}
-use Rattle.local_cache.proofs.Noted.{noted_moved_down, noted_whole}
+use Rattle.local_cache.proofs.Queue.Order.{went_out, went_out_moved}
+use Rattle.local_cache.proofs.Queue.Places.{noted_moved_down, noted_whole}
 use Rattle.local_cache.proofs.entry_heap.EntryHeap.remove.Goals as goal
 
 pub restore_order-requires-clause-noted : goal.restore_order-requires-clause-noted

@@ -1,5 +1,5 @@
 use Rattle.std.proofs.Common.{arith}
-use Rattle.local_cache.proofs.Noted.{noted_longer}
+use Rattle.local_cache.proofs.Queue.Places.{noted_longer}
 use Rattle.local_cache.proofs.entry_heap.EntryHeap.reserve.Goals as goal
 
 pub invariant_of-self-2 : goal.invariant_of-self-2

@@ -1,0 +1,12 @@
+-- A cache is made.
+
+-- The nodes of a cache that is made.
+pub mod Cells
+-- The arena after a cache was made.
+pub mod Arena
+-- What is found after a cache was made.
+pub mod Pages
+-- A cache that is made: the caches stay sound, and the forest has its pages more.
+pub mod Forest
+-- A cache that is made leaves the caches whole.
+pub mod Whole

@@ -1,0 +1,93 @@
+-- What is found after a cache was made.
+use Rattle.std.proofs.Common.{◌≡◌, ℕ, zero, suc, ◌+◌, ◌<◌, ◌≤◌, Bool, cond, List, [], ◌∷◌, length, get_or, map, Option, Some, None, IsSome, unwrap_or, refl, sym, ap, ◌∙◌, inl, inr, arith, add-one, zero-add}
+use Rattle.std.specs.Prelude.{option_and_then, slice_get, is_some}
+use Rattle.std.specs.Ordering.{nat_cmp}
+use Rattle.std.specs.Cmp.{nat_cmp_total}
+use Rattle.std.specs.FinMap.{FinMap, get-insert}
+use Rattle.std.specs.FinMap as ids
+use Rattle.std.proofs.Math.Seq.{get_or-append_seam}
+use Rattle.std.proofs.lemmas.Bool.{cases_eq, false≢true}
+use Rattle.std.proofs.lemmas.List.{get_or-map, get_or_append_left, length-map}
+use Rattle.std.proofs.lemmas.Option.{slice_get-get_or}
+use Rattle.vm_ids.specs.declared.node_name.NodeName.TheVariants.{Live}
+use Rattle.vm_ids.specs.declared.numbers.CacheId.{CacheId}
+use Rattle.vm_ids.specs.declared.numbers.NodeId.{NodeId}
+use Rattle.vm_ids.specs.declared.numbers.SegId.{SegId}
+use Rattle.local_cache.specs.declared.own_state.OwnState.{OwnState}
+use Rattle.local_cache.specs.declared.page_table.PageEntry.{PageEntry}
+use Rattle.local_cache.specs.Arena.{Arena, Cell, HasPage, IsFilled, IsHeld, IsMade, Table, blank, cell, entry_for, find, new_cell, node_at, table_of}
+use Rattle.local_cache.specs.Own.{own_of}
+use Rattle.local_cache.proofs.Nodes.Slots.{tied, apart}
+
+abbrev named : CacheId → ℕ → OwnState → Cell
+named cache page own = new_cell (Live cache (record { 0 = page })) own
+
+-- what was found at a number is found there still
+filled_stays : (ns : List NodeId) (cells : FinMap nat_cmp Cell) (page : ℕ) (after : FinMap nat_cmp Cell) (cache : CacheId) (own : OwnState) (k : ℕ) (c : Cell) → IsFilled cells cache page own ns after → ids.get cells k ≡ Some c → ids.get after k ≡ Some c
+filled_stays [] cells page after cache own k c f is = ap (λ (m : FinMap nat_cmp Cell). ids.get m k) f ∙ is
+filled_stays (n ∷ ns) cells page after cache own k c f is =
+    filled_stays ns (ids.insert cells n.0 (named cache page own)) (page + 1) after cache own k c f.1
+    (get-insert nat_cmp_total cells n.0 (named cache page own) k ∙ elim (cases_eq k n.0) [
+      | inl e ↦ (let clash : Some c ≡ None = sym is ∙ ap (ids.get cells) e ∙ f.0 in absurd (cc))
+      | inr d ↦ ap (λ (b : Bool). cond b (Some (named cache page own)) (ids.get cells k)) (apart k n.0 d) ∙ is
+    ])
+
+-- each page's node is there
+filled_page : (ns : List NodeId) (cells : FinMap nat_cmp Cell) (page : ℕ) (after : FinMap nat_cmp Cell) (cache : CacheId) (own : OwnState) (k : ℕ) (d : NodeId) → IsFilled cells cache page own ns after → k < length ns
+    → ids.get after (get_or ns k d).0 ≡ Some (named cache (page + k) own)
+filled_page [] cells page after cache own k d f h = absurd (omega arith)
+filled_page (n ∷ ns) cells page after cache own zero d f h =
+    let at : page ≡ page + 0 = omega arith in
+    filled_stays ns (ids.insert cells n.0 (named cache page own)) (page + 1) after cache own n.0 (named cache page own) f.1
+    (get-insert nat_cmp_total cells n.0 (named cache page own) n.0 ∙ ap (λ (b : Bool). cond b (Some (named cache page own)) (ids.get cells n.0)) (tied n.0 n.0 refl))
+    ∙ ap (λ (p : ℕ). Some (named cache p own)) at
+filled_page (n ∷ ns) cells page after cache own (suc k) d f h =
+    let at : page + 1 + k ≡ page + suc k = omega arith in
+    filled_page ns (ids.insert cells n.0 (named cache page own)) (page + 1) after cache own k d f.1 (omega arith) ∙ ap (λ (p : ℕ). Some (named cache p own)) at
+
+last_table : (old new : Arena) (cache : CacheId) (segment : Option SegId) (own : OwnState) (ns : List NodeId) → IsMade old new cache segment own ns → table_of new cache.0 ≡ Some (record { segment = segment; pages = map entry_for ns })
+last_table old new cache segment own ns m =
+    let t : Table = record { segment = segment; pages = map entry_for ns } in
+    ap (table_of new) (m.number ∙ add-one (length old.caches))
+    ∙ ap (λ (ts : List (Option Table)). get_or ts (length old.caches) None) m.caches
+    ∙ get_or-append_seam old.caches (Some t) [] None
+
+pub made_pages : (old new : Arena) (cache : CacheId) (segment : Option SegId) (own : OwnState) (ns : List NodeId) (page : ℕ) → IsMade old new cache segment own ns → page < length ns → HasPage new cache page own
+made_pages old new cache segment own ns page m h =
+    let d : NodeId = record { 0 = 0 } in
+    let listed : length (map entry_for ns) ≡ length ns = length-map ns entry_for in
+    record {
+      node = get_or ns page d;
+      at = ap (option_and_then (λ (t : Table). option_and_then (λ (e : PageEntry). e.node) (slice_get t.pages page))) (last_table old new cache segment own ns m)
+          ∙ ap (option_and_then (λ (e : PageEntry). e.node)) (slice_get-get_or (map entry_for ns) page (entry_for d) (omega arith))
+          ∙ ap (λ (e : PageEntry). e.node) (get_or-map entry_for ns page d (entry_for d) h);
+      is = filled_page ns old.cells 0 new.cells cache own page d m.cells h ∙ ap (λ (p : ℕ). Some (named cache p own)) (zero-add page);
+    }
+
+pub some_of : {A : Type 0} (o : Option A) → IsSome o → (x : A) × (o ≡ Some x)
+some_of None h = absurd (false≢true h)
+some_of (Some x) h = (x, refl)
+
+pub made_stays : (old new : Arena) (cache : CacheId) (segment : Option SegId) (own : OwnState) (ns : List NodeId) → IsMade old new cache segment own ns → (n : NodeId) → IsHeld old n → find new n ≡ find old n
+made_stays old new cache segment own ns m n held =
+    let w : (c : Cell) × (find old n ≡ Some c) = some_of (find old n) held in
+    filled_stays ns old.cells 0 new.cells cache own n.0 w.0 m.cells w.1 ∙ sym w.1
+
+pub made_tables : (old new : Arena) (cache : CacheId) (segment : Option SegId) (own : OwnState) (ns : List NodeId) → IsMade old new cache segment own ns → (other : ℕ) → other ≤ length old.caches → table_of new other ≡ table_of old other
+made_tables old new cache segment own ns m zero h = refl
+made_tables old new cache segment own ns m (suc k) h =
+    ap (λ (ts : List (Option Table)). get_or ts k None) m.caches ∙ get_or_append_left old.caches (Some (record { segment = segment; pages = map entry_for ns }) ∷ []) None k (omega arith)
+
+-- the node of a page is that node
+pub page_node : (a : Arena) (cache : CacheId) (page : ℕ) (own : OwnState) (n : NodeId) → HasPage a cache page own → node_at a cache.0 page ≡ Some n → find a n ≡ Some (named cache page own)
+page_node a cache page own n p e =
+    let two : Some p.node ≡ Some n = sym p.at ∙ e in
+    let same : p.node ≡ n = cc in
+    ap (find a) (sym same) ∙ p.is
+
+pub page_held : (a : Arena) (cache : CacheId) (page : ℕ) (own : OwnState) (n : NodeId) → HasPage a cache page own → node_at a cache.0 page ≡ Some n → IsHeld a n
+page_held a cache page own n p e = ap is_some (page_node a cache page own n p e)
+
+pub page_own : (a : Arena) (cache : CacheId) (page : ℕ) (own : OwnState) (n : NodeId) → HasPage a cache page own → node_at a cache.0 page ≡ Some n → own_of a n ≡ own
+unfolding cell
+page_own a cache page own n p e = ap (λ (o : Option Cell). (unwrap_or o blank).own) (page_node a cache page own n p e)

@@ -1,0 +1,6 @@
+-- A node gives way to its only child.
+
+-- A child gets the own page of a node, where the node has one and the child has none.
+pub mod Page
+-- One step of settle: the node goes, and its only child takes its page and its place.
+pub mod Step
