@@ -4,11 +4,12 @@ use Rattle.std.specs.List.{count_by, list_all}
 use Rattle.std.proofs.lemmas.List.Sums.{count_by-le-length}
 use Rattle.vm_ids.specs.Counting.{MapperCounts}
 use Rattle.vm_ids.proofs.Places.{count_cons}
+use Rattle.frame_pool.specs.Pool.{Frames, held_count}
 use Rattle.local_cache.specs.declared.own_state.OwnState.{OwnState}
 use Rattle.local_cache.specs.declared.own_state.OwnState.TheVariants.{Absent, Zero, Resident, Slot, OnSegment}
 use Rattle.local_cache.specs.Own.{is_absent, is_in_slot, is_on_segment, is_resident}
 use Rattle.residency.specs.Causes.{Later, Made, frames_to_bring, pushes_for, pushes_to_bring}
-use Rattle.fault_path.specs.Costs.{MadeAtMost, frames_to_copy, pulls_to_copy}
+use Rattle.fault_path.specs.Costs.{MadeAtMost, Takes, frames_to_copy, pulls_to_copy}
 
 count_most : (xs : List Bool) → count_by (λ h. h) xs ≤ length xs
 count_most xs = count_by-le-length (λ h. h) xs
@@ -123,3 +124,19 @@ bring_by_most false = omega arith
 
 pub bring_most : (own : OwnState) → frames_to_bring own ≤ 1
 bring_most own = bring_by_most (is_resident own)
+
+-- A page in this state was brought in: the frames that that took, and the one that is taken then.
+module _ (own : OwnState) (before now : Frames) (x y : MapperCounts) (same : length now.held ≡ length before.held)
+    (held : held_count now + pushes_to_bring own before.held ≡ held_count before + frames_to_bring own) (brought : Made (pulls_to_copy own) (pushes_to_bring own before.held) x y) where
+  pub brought_taken : Taken (frames_to_bring own) before.held now.held
+  brought_taken = taken_to_bring own before.held now.held held
+
+  pub brought_made : Takes (pulls_to_copy own) (frames_to_bring own) before x y
+  brought_made = made_is _ _ _ _ _ _ brought refl (pushes_bring own before.held)
+
+  pub brought_more : (z : MapperCounts) → Made 0 (pushes_for now.held) y z → Later y z → Takes (pulls_to_copy own) (frames_to_bring own + 1) before x z
+  brought_more z one later = made_more (frames_to_bring own) (pulls_to_copy own) before.held now.held x y z same brought_taken brought_made one later
+
+-- a copy of a resident page takes the one frame
+pub resident_takes : (own : OwnState) (now : Frames) (y z : MapperCounts) → is_resident own ≡ true → Takes (pulls_to_copy own) (frames_to_copy own) now y z → Made 0 (pushes_for now.held) y z
+resident_takes own now y z e made = let one = resident_copies own e in made_is _ _ _ _ _ _ made one.0 (omega (arith, one.1, pushes_free now.held))

@@ -11,7 +11,7 @@ use Rattle.local_cache.specs.declared.own_state.OwnState.{OwnState}
 use Rattle.local_cache.specs.declared.own_state.OwnState.TheVariants.{Absent, Zero, Resident, Slot, OnSegment}
 use Rattle.local_cache.specs.Arena.{IsHeld, with_own}
 use Rattle.local_cache.specs.Own.{is_in_slot, is_on_segment, is_resident, is_slot, own_of, own_states}
-use Rattle.local_cache.proofs.States.{id_cases, own_count, own_length, own_other, own_same}
+use Rattle.local_cache.proofs.Nodes.OwnStates.{id_cases, own_count, own_length, own_other, own_same}
 use Rattle.residency.specs.World.{IsStoreRight, Still, World, frame_page, own_page, page_by, zero_page}
 use Rattle.residency.proofs.Brought.{slot_is_held}
 use Rattle.residency.proofs.Evicted.{temporary_after}

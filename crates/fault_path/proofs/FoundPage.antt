@@ -22,7 +22,7 @@ use Rattle.fault_path.proofs.Kept.{still_owner, still_shaped, value_at}
 use Rattle.std.specs.Option.{IsSome}
 
 pub owner_same : (a : Arena) → IsSound a → (n o p : NodeId) → IsOwner a n o → IsOwner a n p → o ≡ p
-owner_same a sound n o p x y = sound.named.apart o p x.held y.held (x.name ∙ sym y.name)
+owner_same a sound n o p x y = sound.kept.named.apart o p x.held y.held (x.name ∙ sym y.name)
 
 pub zero_is : (x : OwnState) → is_zero x ≡ true → x ≡ Zero
 zero_is Absent e = absurd (cc e)

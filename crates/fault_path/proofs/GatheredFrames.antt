@@ -11,7 +11,7 @@ use Rattle.local_cache.specs.Own.{own_of}
 use Rattle.residency.specs.World.{IsMadeFree, IsStoreRight, PinnedStays, Still, World, is_bound}
 use Rattle.residency.proofs.After.{pin_right, pin_set, written_right}
 use Rattle.residency.proofs.Brought.{given_page, place_other}
-use Rattle.residency.proofs.Evicted.{page_here}
+use Rattle.residency.proofs.Evicted.{page_here, still_then}
 use Rattle.residency.proofs.Homes.{IsHome, home}
 use Rattle.fault_path.specs.Gathering.{HasPageOf, IsGathered, NoneGathered}
 
@@ -132,3 +132,12 @@ same_home w k h n right a b =
     let x = home w k n right (bound_below w.map k n a) a in
     let y = home w h n right (bound_below w.map h n b) b in
     sym x.place ∙ y.place
+
+-- a frame that is gathered where every page was still before
+pub then_gathered : (a b c : World) (f : ℕ) → Still a b → b.frames.pinned ≡ a.frames.pinned → IsGathered f b c → IsGathered f a c
+then_gathered a b c f first pins gathered = record {
+  still = still_then a b c first gathered.still;
+  taken = gathered.taken;
+  loose = ap (λ ps. get_or ps f false) (sym pins) ∙ gathered.loose;
+  pinned = gathered.pinned ∙ ap (λ ps. set ps f true) pins;
+}

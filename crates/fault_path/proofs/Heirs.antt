@@ -15,7 +15,7 @@ use Rattle.local_cache.specs.Arena.{Arena, IsHeld}
 use Rattle.local_cache.specs.Own.{is_absent, is_resident, own_of}
 use Rattle.local_cache.specs.Reading.{forest_of, name_of, page_of}
 use Rattle.local_cache.specs.Sound.{IsSound}
-use Rattle.local_cache.proofs.Reading.{node-forest_of}
+use Rattle.local_cache.proofs.Forest.Reading.{node-forest_of}
 use Rattle.residency.specs.StoreForest.{store_forest}
 use Rattle.residency.specs.World.{IsStoreRight, Still, World, own_page}
 use Rattle.residency.proofs.StillForest.{still_bare, still_like, still_tells}
@@ -39,7 +39,7 @@ some_page OnSegment e = refl
 
 -- an heir has no own page
 pub heir_absent : (a : Arena) → IsSound a → (x : NodeName) (h : NodeId) → IsHeld a h → heir (forest_of a) x ≡ Some (name_of a h) → own_of a h ≡ Absent
-heir_absent a sound x h held is = absent_page (own_of a h) (sym (ap (λ k. k.own) (node-forest_of a sound.named h held)) ∙ (heir_hangs (forest_of a) sound.linked x (name_of a h) is).0)
+heir_absent a sound x h held is = absent_page (own_of a h) (sym (ap (λ k. k.own) (node-forest_of a sound.kept.named h held)) ∙ (heir_hangs (forest_of a) sound.linked x (name_of a h) is).0)
 
 -- who has no own page is bound to no frame
 pub unbound : (w : World) → IsStoreRight w → (n : NodeId) → own_of w.caches n ≡ Absent → bound_times w.map n.0 ≡ 0
@@ -53,7 +53,7 @@ no_heir w sound x none = without_heir (store_forest w) x (store_heir w sound x �
 
 module _ (old new : World) (still : Still old new) (sound : IsSound old.caches) where
   bare_is : bare (forest_of old.caches) ≡ bare (forest_of new.caches)
-  bare_is = still_bare old.caches new.caches still.stays.caches sound.named (still_tells old new still)
+  bare_is = still_bare old.caches new.caches still.stays.caches sound.kept.named (still_tells old new still)
 
   pub same_heir : (x : NodeName) → heir (forest_of new.caches) x ≡ heir (forest_of old.caches) x
   same_heir x = sym (heir-map no_page (forest_of new.caches) x) ∙ ap (λ f. heir f x) (sym bare_is) ∙ heir-map no_page (forest_of old.caches) x

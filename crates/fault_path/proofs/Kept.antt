@@ -16,8 +16,8 @@ use Rattle.local_cache.specs.Arena.{IsHeld}
 use Rattle.local_cache.specs.Own.{is_absent, own_of}
 use Rattle.local_cache.specs.Reading.{forest_of, name_of}
 use Rattle.local_cache.specs.Sound.{IsSound}
-use Rattle.local_cache.proofs.Reading.{IsNode-forest_by}
-use Rattle.local_cache.proofs.ReadingBy.{bare-of, page-at}
+use Rattle.local_cache.proofs.Forest.Reading.{IsNode-forest_by}
+use Rattle.local_cache.proofs.Forest.ReadingBy.{bare-of, page-at}
 use Rattle.residency.specs.StoreForest.{store_forest}
 use Rattle.residency.specs.World.{Still, World, own_page}
 use Rattle.residency.proofs.After.{absent_stays}
@@ -35,7 +35,7 @@ absent_is OnSegment e = absurd (cc e)
 -- without its pages the forest of a store is that of the own states
 pub store_bare : (w : World) → IsSound w.caches → bare (store_forest w) ≡ bare (forest_of w.caches)
 unfolding store_forest
-store_bare w sound = bare-of (own_page w) w.caches sound.named (tells w)
+store_bare w sound = bare-of (own_page w) w.caches sound.kept.named (tells w)
 
 pub store_shaped : (w : World) → IsSound w.caches → IsWellShaped (forest_of w.caches) → IsWellShaped (store_forest w)
 store_shaped w sound shaped = bare-shaped (forest_of w.caches) (store_forest w) (sym (store_bare w sound)) shaped
@@ -48,11 +48,11 @@ store_heir w sound x = sym (heir-map no_page (store_forest w) x) ∙ ap (λ f. h
 
 pub store_node : (w : World) → IsSound w.caches → (n : NodeId) → IsHeld w.caches n → IsNode (store_forest w) (name_of w.caches n)
 unfolding store_forest
-store_node w sound n there = IsNode-forest_by w.caches (own_page w) sound.named n there
+store_node w sound n there = IsNode-forest_by w.caches (own_page w) sound.kept.named n there
 
 pub store_page : (w : World) → IsSound w.caches → (n : NodeId) → IsHeld w.caches n → (node (store_forest w) (name_of w.caches n)).own ≡ own_page w n
 unfolding store_forest
-store_page w sound n there = page-at (own_page w) w.caches sound.named n there
+store_page w sound n there = page-at (own_page w) w.caches sound.kept.named n there
 
 -- a node reads the own page of its owner
 pub value_at : (w : World) → IsSound w.caches → IsWellShaped (forest_of w.caches) → (n o : NodeId) → IsHeld w.caches n → IsOwner w.caches n o → value_of (store_forest w) (name_of w.caches n) ≡ own_page w o
@@ -64,7 +64,7 @@ value_at w sound shaped n o there owner =
 
 module _ (old new : World) (still : Still old new) (sound : IsSound old.caches) where
   pub still_shaped : IsWellShaped (forest_of old.caches) → IsWellShaped (forest_of new.caches)
-  still_shaped shaped = bare-shaped (forest_of old.caches) (forest_of new.caches) (still_bare old.caches new.caches still.stays.caches sound.named (still_tells old new still)) shaped
+  still_shaped shaped = bare-shaped (forest_of old.caches) (forest_of new.caches) (still_bare old.caches new.caches still.stays.caches sound.kept.named (still_tells old new still)) shaped
 
   pub still_kept : IsWellShaped (forest_of old.caches) → new.frames.pinned ≡ old.frames.pinned → Kept old new
   still_kept shaped pins = record {
@@ -89,7 +89,7 @@ module _ (old new : World) (still : Still old new) (sound : IsSound old.caches) 
   pub still_owner : (n o : NodeId) → IsOwner old.caches n o → IsOwner new.caches n o
   still_owner n o owner =
       let like = still_like old.caches new.caches still.stays.caches in
-      let bare_is = still_bare old.caches new.caches still.stays.caches sound.named (still_tells old new still) in
+      let bare_is = still_bare old.caches new.caches still.stays.caches sound.kept.named (still_tells old new still) in
       record {
         held = like.held o ∙ owner.held;
         name = like.name o ∙ owner.name ∙ sym (owner_of-map no_page (forest_of old.caches) (name_of old.caches n)) ∙ ap (λ f. owner_of f (name_of old.caches n)) bare_is

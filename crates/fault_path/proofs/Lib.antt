@@ -1,3 +1,4 @@
+pub mod Answered
 pub mod Costs
 pub mod DirtyPage
 pub mod ForestSize

@@ -15,11 +15,10 @@ use Rattle.local_cache.specs.Own.{own_of}
 use Rattle.local_cache.specs.Reading.{IsNamed, name_of, page_of}
 use Rattle.local_cache.specs.ReadingBy.{Tells, forest_by}
 use Rattle.local_cache.specs.Sound.{IsSound}
-use Rattle.local_cache.proofs.Changes.{like_then, named-like}
-use Rattle.local_cache.proofs.Edit.{kept_of}
-use Rattle.local_cache.proofs.ReadingBy.{counted-by, counted-cell, own-forest_by}
-use Rattle.local_cache.proofs.States.{own_other, own_same}
-use Rattle.page_stubs.proofs.OtherPages.{cut_stub-by, hand_stubs-by}
+use Rattle.local_cache.proofs.Changes.SameNodes.{like_then, named-like}
+use Rattle.local_cache.proofs.Forest.ReadingBy.{counted-by, counted-cell, own-forest_by}
+use Rattle.local_cache.proofs.Nodes.OwnStates.{own_other, own_same}
+use Rattle.page_stubs.proofs.Rules.OtherPages.{cut_stub-by, hand_stubs-by}
 use Rattle.residency.specs.StoreForest.{store_forest}
 use Rattle.residency.specs.World.{IsStoreRight, IsTaken, PinnedStays, World, own_page}
 use Rattle.residency.proofs.Telling.{tells}
@@ -84,7 +83,7 @@ module _ (w : World) (f : ℕ) (n : NodeId) (right : IsStoreRight w) (taken : Is
     gets_by : forest_by now given ≡ gets (store_forest w) (name_of w.caches n) (now n)
     unfolding gets store_forest
     gets_by = cut_stub-by now (with_own w.caches n (Resident true)) given (kept w.caches sound n there).named told is.links (name_of w.caches n) is.forest
-        ∙ ap (λ g. cut_stub g (name_of w.caches n)) (own-forest_by (own_page w) now w.caches (kept_of w.caches sound) n there (Resident true) (tells w) some others told)
+        ∙ ap (λ g. cut_stub g (name_of w.caches n)) (own-forest_by (own_page w) now w.caches sound.kept n there (Resident true) (tells w) some others told)
 
     told_given : Tells now given
     told_given m = told m ∙ ap (λ (s : OwnState). is_some (page_of s)) (sym (is.links.own m))
@@ -121,7 +120,7 @@ module _ (w : World) (f : ℕ) (n : NodeId) (right : IsStoreRight w) (taken : Is
     owned_forest =
         let now : NodeId → Option (Option (List ℕ)) = own_page (homed w f n b) in
         let told : Tells now (with_own w.caches n (Resident true)) = λ m. tells (homed w f n b) m ∙ ap (λ (s : OwnState). is_some (page_of s)) (in_owned.own m) in
-        counted-by now is.given b is.is_given.sound.named (told_given is.given is.is_given now (ap is_some owned_gives.here) owned_gives.elsewhere told) is.is
+        counted-by now is.given b is.is_given.sound.kept.named (told_given is.given is.is_given now (ap is_some owned_gives.here) owned_gives.elsewhere told) is.is
         ∙ ap count_copy (gets_by is.given is.is_given now (ap is_some owned_gives.here) owned_gives.elsewhere told)
 
   -- the heir gets a page and stubs
@@ -147,8 +146,8 @@ module _ (w : World) (f : ℕ) (n : NodeId) (right : IsStoreRight w) (taken : Is
         let first = told_given is.given is.is_given now (ap is_some handed_gives.here) handed_gives.elsewhere told in
         let second : Tells now is.handed = λ m. first m ∙ ap (λ (s : OwnState). is_some (page_of s)) (sym (is.links.own m)) in
         let like : Like w.caches is.given = given_like w.caches sound n there is.given is.is_given in
-        let named : IsNamed is.handed = handed_named is.given is.handed is.is_given.sound.named is.links in
+        let named : IsNamed is.handed = handed_named is.given is.handed is.is_given.sound.kept.named is.links in
         counted-by now is.handed b named second is.is
-        ∙ ap count_copy (hand_stubs-by now is.given is.handed is.is_given.sound.named first is.links (name_of is.given from) (name_of is.given n) is.forest
+        ∙ ap count_copy (hand_stubs-by now is.given is.handed is.is_given.sound.kept.named first is.links (name_of is.given from) (name_of is.given n) is.forest
         ∙ ap (λ x. hand_stubs (forest_by now is.given) x (name_of is.given n)) (like.name from) ∙ ap (hand_stubs (forest_by now is.given) (name_of w.caches from)) (like.name n)
         ∙ ap (λ g. hand_stubs g (name_of w.caches from) (name_of w.caches n)) (gets_by is.given is.is_given now (ap is_some handed_gives.here) handed_gives.elsewhere told))

@@ -17,7 +17,7 @@ use Rattle.local_cache.specs.Arena.{Arena, IsHeld}
 use Rattle.local_cache.specs.Own.{own_of}
 use Rattle.local_cache.specs.Reading.{forest_of, name_of}
 use Rattle.local_cache.specs.Sound.{IsSound}
-use Rattle.local_cache.proofs.Changes.{like_then}
+use Rattle.local_cache.proofs.Changes.SameNodes.{like_then}
 use Rattle.residency.specs.StoreForest.{store_forest}
 use Rattle.residency.specs.World.{IsTaken, Still, World, own_page}
 use Rattle.residency.proofs.StillForest.{still_caches_sound, still_copies, still_forest, still_like, still_made, still_room}

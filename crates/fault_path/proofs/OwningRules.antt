@@ -26,21 +26,21 @@ use Rattle.local_cache.specs.Arena.{Arena, cell, IsHeld}
 use Rattle.local_cache.specs.Changes.{Like}
 use Rattle.local_cache.specs.Reading.{forest_of, name_of, page_of}
 use Rattle.local_cache.specs.Sound.{IsSound}
-use Rattle.local_cache.proofs.Changes.{forest_of-copies, like_then}
-use Rattle.local_cache.proofs.Reading.{IsNode-forest_of, node-forest_of}
+use Rattle.local_cache.proofs.Changes.SameNodes.{forest_of-copies, like_then}
+use Rattle.local_cache.proofs.Forest.Reading.{IsNode-forest_of, node-forest_of}
 use Rattle.page_stubs.specs.Under.{IsUnder}
 use Rattle.page_stubs.specs.Under.IsUnder.{itself as the_same, below as lower}
-use Rattle.page_stubs.proofs.Ranks.{under_ranked}
+use Rattle.page_stubs.proofs.Rules.Ranks.{under_ranked}
 use Rattle.fault_path.proofs.ForestSize.{more_names}
 
 -- the own state of the owner is the page that a node reads
 pub owner_page : (a : Arena) → IsSound a → IsWellShaped (forest_of a) → (n o : NodeId) → IsHeld a n → IsHeld a o → name_of a o ≡ owner_of (forest_of a) (name_of a n) → (s : OwnState) → s ≡ (cell a o).own → page_of s ≡ value_of (forest_of a) (name_of a n)
 owner_page a sound shaped n o hn ho named s is =
-    ap page_of is ∙ sym (ap (λ m. m.own) (node-forest_of a sound.named o ho)) ∙ ap (λ x. (node (forest_of a) x).own) named ∙ owners_own_values (forest_of a) shaped (name_of a n) (IsNode-forest_of a sound.named n hn)
+    ap page_of is ∙ sym (ap (λ m. m.own) (node-forest_of a sound.kept.named o ho)) ∙ ap (λ x. (node (forest_of a) x).own) named ∙ owners_own_values (forest_of a) shaped (name_of a n) (IsNode-forest_of a sound.kept.named n hn)
 
 -- an own page is the page that a node reads
 pub own_page : (a : Arena) → IsSound a → (n : NodeId) → IsHeld a n → IsSome (node (forest_of a) (name_of a n)).own → (s : OwnState) → s ≡ (cell a n).own → page_of s ≡ value_of (forest_of a) (name_of a n)
-own_page a sound n hn some s is = ap page_of is ∙ sym (ap (λ m. m.own) (node-forest_of a sound.named n hn)) ∙ go (node (forest_of a) (name_of a n)).own refl some
+own_page a sound n hn some s is = ap page_of is ∙ sym (ap (λ m. m.own) (node-forest_of a sound.kept.named n hn)) ∙ go (node (forest_of a) (name_of a n)).own refl some
   where
     go : (o : Option OwnState) → (node (forest_of a) (name_of a n)).own ≡ o → IsSome o → (node (forest_of a) (name_of a n)).own ≡ value_of (forest_of a) (name_of a n)
     go None e some = absurd (false≢true some)
@@ -110,7 +110,7 @@ module _ (a b : Arena) (sound : IsSound a) (n h : NodeId) (hn : IsHeld a n) (hh 
       (subst (λ g. IsUnder g (name_of a h) y) forest (subst (λ x. IsUnder (forest_of b) x y) (like.name h) u))
 
   pub few : len (forest_of b).nodes ≤ len (forest_of a).nodes
-  few = subst (λ g. len g.nodes ≤ len (forest_of a).nodes) (sym forest) (gets_len (forest_of a) sound.linked (name_of a h) (page_of s) (IsNode-forest_of a sound.named h hh))
+  few = subst (λ g. len g.nodes ≤ len (forest_of a).nodes) (sym forest) (gets_len (forest_of a) sound.linked (name_of a h) (page_of s) (IsNode-forest_of a sound.kept.named h hh))
 
   -- the other stubs handed over, and the copy counted
   pub handed_forest : IsSome (node (forest_of a) (name_of a n)).own → s ≡ (cell a n).own → (c : Forest OwnState) → c ≡ hand_stubs (forest_of b) (name_of b n) (name_of b h) → count_copy c ≡ heir_gets (forest_of a) (name_of a n)

@@ -10,7 +10,7 @@ use Rattle.local_cache.specs.declared.own_state.OwnState.{OwnState}
 use Rattle.local_cache.specs.declared.own_state.OwnState.TheVariants.{Absent, Resident}
 use Rattle.local_cache.specs.Arena.{Arena, IsHeld, find, with_own}
 use Rattle.local_cache.specs.Own.{is_in_slot, is_on_segment, is_resident, is_slot, own_of, own_states}
-use Rattle.local_cache.proofs.Values.{same_own_states}
+use Rattle.local_cache.proofs.Nodes.Values.{same_own_states}
 use Rattle.residency.specs.World.{IsStoreRight, IsTaken, PinnedStays, World, frame_page, own_page, page_by, zero_page}
 use Rattle.residency.proofs.Brought.{brought, brought_right, page_here, pages_elsewhere, slots_same}
 use Rattle.vm_ids.proofs.Places.{bit}

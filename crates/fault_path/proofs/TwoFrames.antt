@@ -27,14 +27,15 @@ use Rattle.local_cache.specs.Arena.{Arena, IsHeld}
 use Rattle.local_cache.specs.Own.{own_of}
 use Rattle.local_cache.specs.Reading.{forest_of, name_of}
 use Rattle.local_cache.specs.Sound.{IsSound}
-use Rattle.local_cache.proofs.Changes.{like_then}
+use Rattle.local_cache.proofs.Changes.SameNodes.{like_then}
 use Rattle.residency.specs.StoreForest.{store_forest}
-use Rattle.residency.specs.World.{FrameStays, IsTaken, PinnedStays, Still, World, frame_page, own_page, page_by, zero_page}
+use Rattle.residency.specs.World.{IsTaken, PinnedStays, Still, World, frame_page, own_page, page_by, zero_page}
 use Rattle.residency.proofs.Brought.{given_up, given_up_still}
 use Rattle.residency.proofs.Evicted.{stays_then, still, still_then}
 use Rattle.residency.proofs.StillForest.{still_copies, still_like, still_made, still_room}
+use Rattle.fault_path.specs.Answers.{IsForestRight}
 use Rattle.fault_path.specs.Faults.{IsOwner, Kept, readied}
-use Rattle.fault_path.specs.Gathering.{HasPageOf, IsGathered, NoneGathered}
+use Rattle.fault_path.specs.Gathering.{HasPageOf, IsCopiedOut, IsDoubled, IsGathered, NoneGathered}
 use Rattle.fault_path.specs.Giving.{IsHanded, IsOwned}
 use Rattle.fault_path.proofs.DirtyPage.{page_moves}
 use Rattle.fault_path.proofs.GatheredFrames.{set_comm}
@@ -134,16 +135,32 @@ module _ (old w v : World) (f : ℕ) (gathered : IsGathered f old w) (none : Non
   pub released_pins : set v.frames.pinned f false ≡ old.frames.pinned
   released_pins = ap (λ ps. set ps f false) (none.pinned ∙ gathered.pinned) ∙ back old.frames.pinned f gathered.loose
 
-module _ (old w v : World) (f g : ℕ) (one : IsGathered f old w) (two : IsGathered g w v) (apart : g ≢ f) (stays : FrameStays f w v) (same : bytes_of v.frames g ≡ bytes_of v.frames f)
-    (sound : IsSound old.caches) (shaped : IsWellShaped (forest_of old.caches)) (n o : NodeId) (there : IsHeld old.caches n) (absent : own_of old.caches n ≡ Absent) (owner : IsOwner old.caches n o) (page : HasPageOf w f o) (b : Arena) (is : IsOwned v.caches b n) where
+-- The page of o, which n reads, was copied out and doubled, and n owns it.
+module _ {old w v : World} {f g : ℕ} {n o : NodeId} {b : Arena} (right : IsForestRight old) (copied : IsCopiedOut o f old w) (doubled : IsDoubled f g w v)
+    (there : IsHeld old.caches n) (absent : own_of old.caches n ≡ Absent) (owner : IsOwner old.caches n o) (is : IsOwned v.caches b n) where
+  sound : IsSound old.caches
+  sound = right.sound
+
+  shaped : IsWellShaped (forest_of old.caches)
+  shaped = right.shaped
+
+  one : IsGathered f old w
+  one = copied.gathered
+
+  two : IsGathered g w v
+  two = doubled.gathered
+
+  apart : g ≢ f
+  apart = doubled.apart
+
   whole : Still old v
   whole = still_then old w v one.still two.still
 
   taken_f : IsTaken v f
-  taken_f = let k = two.still.pinned f one.taken.pinned in record { within = omega (arith, one.taken.within, two.still.stays.frames); pinned = k.pinned; unbound = stays.node ∙ one.taken.unbound }
+  taken_f = let k = two.still.pinned f one.taken.pinned in record { within = omega (arith, one.taken.within, two.still.stays.frames); pinned = k.pinned; unbound = doubled.stays.node ∙ one.taken.unbound }
 
   page_f : HasPageOf v f o
-  page_f = page_moves w v f o two.still (there_w old v f whole taken_f sound shaped o owner.held) page stays.bytes
+  page_f = page_moves w v f o two.still (there_w old v f whole taken_f sound shaped o owner.held) copied.page doubled.stays.bytes
 
   -- the node owns its page
   abbrev u : World
@@ -187,13 +204,13 @@ module _ (old w v : World) (f g : ℕ) (one : IsGathered f old w) (two : IsGathe
   }
 
   page_g : HasPageOf (homed v f n b) g n
-  page_g = step_gives.here ∙ ap (λ (x : List ℕ). Some (option_map (λ _. x) v.told)) (sym same)
+  page_g = step_gives.here ∙ ap (λ (x : List ℕ). Some (option_map (λ _. x) v.told)) (sym doubled.bytes)
 
   still_u : Still (homed v f n b) (homed v f n b)
   still_u = still (homed v f n b) step_gives.right
 
   -- and its heir the page as it is
-  module _ (h : NodeId) (held : IsHeld old.caches h) (heir_is : heir (forest_of old.caches) (name_of old.caches n) ≡ Some (name_of old.caches h)) (d : Arena) (handed : IsHanded b d n h) where
+  module _ {h : NodeId} (held : IsHeld old.caches h) (heir_is : heir (forest_of old.caches) (name_of old.caches n) ≡ Some (name_of old.caches h)) {d : Arena} (handed : IsHanded b d n h) where
     absent_h : own_of b h ≡ Absent
     absent_h = heir_absent b step_gives.sound (name_of b n) h (step_there h held) (step_heir h heir_is)
 

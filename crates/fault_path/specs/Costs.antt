@@ -1,5 +1,5 @@
 -- How many frames, pulls and pushes a call takes: a push for each frame that isn't free.
-use Rattle.std.specs.Prelude.{ℕ, ◌+◌, ◌-◌, ◌<◌, ◌≤◌, is_some, if◌then◌else◌, length}
+use Rattle.std.specs.Prelude.{◌≡◌, ℕ, ◌+◌, ◌-◌, ◌<◌, ◌≤◌, is_some, if◌then◌else◌, length}
 use Rattle.vm_ids.specs.Counting.{MapperCounts, last_count}
 use Rattle.vm_ids.specs.declared.numbers.NodeId.{NodeId}
 use Rattle.vm_ids.specs.Forest.Rules.{heir}
@@ -8,7 +8,7 @@ use Rattle.local_cache.specs.declared.own_state.OwnState.{OwnState}
 use Rattle.local_cache.specs.Arena.{Arena}
 use Rattle.local_cache.specs.Own.{is_absent, is_in_slot, own_of}
 use Rattle.local_cache.specs.Reading.{forest_of, name_of}
-use Rattle.residency.specs.Causes.{frames_to_bring}
+use Rattle.residency.specs.Causes.{Made, frames_to_bring}
 
 -- the count rose by no more than this, where it is below the last number
 abbrev pub RoseAtMost : ℕ → ℕ → ℕ → Type 0
@@ -21,6 +21,20 @@ pub record MadeAtMost (pulls pushes : ℕ) (before now : MapperCounts) : Type 0 
 
 abbrev pub free_count : Frames → ℕ
 free_count p = length p.held - held_count p
+
+-- so many more frames are held than were, each of which was free or made free
+abbrev pub HoldsMore : ℕ → Frames → Frames → Type 0
+HoldsMore frames old new =
+    held_count new + (frames - free_count old) ≡ held_count old + frames
+
+-- From before to now there were so many pulls, and a push for each of so many frames that wasn't
+-- free.
+abbrev pub Takes : ℕ → ℕ → Frames → MapperCounts → MapperCounts → Type 0
+Takes pulls frames p before now = Made pulls (frames - free_count p) before now
+
+-- there were no more than these
+abbrev pub TakesAtMost : ℕ → ℕ → Frames → MapperCounts → MapperCounts → Type 0
+TakesAtMost pulls frames p before now = MadeAtMost pulls (frames - free_count p) before now
 
 -- A copy of a page takes a pull and two frames where the page is in a slot, and else the frame of
 -- the copy alone: a page of zeros needs no other.

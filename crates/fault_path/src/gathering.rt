@@ -1,15 +1,15 @@
 // Frames are gathered, with the bytes that they need, before anything changes.
-ghost use Rattle.std.specs.Prelude.{◌≡◌, ◌≢◌, ℕ, ◌+◌, ◌-◌, ◌<◌, ◌≤◌, true, false, length, Some, IfErr, IfOk, OnErr, OnOk, slice_set};
-ghost use Rattle.frame_pool.specs.Pool.{bytes_of, held_count, is_held};
+ghost use Rattle.std.specs.Prelude.{◌≡◌, ◌≢◌, ℕ, ◌+◌, ◌<◌, ◌≤◌, true, false, length, Some, IfErr, IfOk, OnErr, OnOk, slice_set};
+ghost use Rattle.frame_pool.specs.Pool.{held_count, is_held};
 ghost use Rattle.global_map.specs.Pairs.{node_of};
 ghost use Rattle.local_cache.specs.Own.{own_of};
 ghost use Rattle.residency.specs.Causes.{HasMissCause, Later, Made, PushFailed, frames_to_bring, pushes_for};
 ghost use Rattle.residency.specs.Between.{Between, RightStore};
 ghost use Rattle.residency.specs.Frames.{with_held, with_pinned};
-ghost use Rattle.residency.specs.World.{FrameStays, HasOwnPage, world};
-ghost use Rattle.fault_path.specs.Costs.{MadeAtMost, frames_to_copy, free_count, pulls_to_copy};
-ghost use Rattle.fault_path.specs.Faults.{HasLoose, StaysHome};
-ghost use Rattle.fault_path.specs.Gathering.{HasPageOf, IsGathered, NoneGathered};
+ghost use Rattle.residency.specs.World.{FrameStays, HasOwnPage};
+ghost use Rattle.fault_path.specs.Costs.{HoldsMore, Takes, TakesAtMost, frames_to_copy, pulls_to_copy};
+ghost use Rattle.fault_path.specs.Faults.{HasLoose};
+ghost use Rattle.fault_path.specs.Gathering.{IsCopiedOut, IsDoubled, IsGathered, NoneGathered};
 
 use local_cache::{Caches, OwnState};
 use residency::{Miss, Store};
@@ -61,12 +61,7 @@ pub(crate) fn double<M: Mapper, C: Chooser>(
     requires right { RightStore M.held M.page_bytes mapper.old caches.old store.old }
     requires held { is_held store.old.frames frame.0 ≡ true }
     requires loose { HasLoose 2 store.old.frames }
-    ensures gathered { IfOk result (λ f. Between (IsGathered f.0) M.held M.page_bytes
-        mapper.old caches.old store.old mapper.new caches.new store.new) }
-    ensures apart { IfOk result (λ f. f.0 ≢ frame.0) }
-    ensures bytes { IfOk result (λ f.
-        bytes_of store.new.frames f.0 ≡ bytes_of store.new.frames frame.0) }
-    ensures stays { OnOk result (Between (FrameStays frame.0) M.held M.page_bytes
+    ensures doubled { IfOk result (λ f. Between (IsDoubled frame.0 f.0) M.held M.page_bytes
         mapper.old caches.old store.old mapper.new caches.new store.new) }
     ensures none { OnErr result (Between NoneGathered M.held M.page_bytes
         mapper.old caches.old store.old mapper.new caches.new store.new) }
@@ -93,11 +88,8 @@ fn zeroed<M: Mapper, C: Chooser>(
     requires right { RightStore M.held M.page_bytes mapper.old caches.old store.old }
     requires zero { own_of caches.old node ≡ OwnState.Zero }
     requires loose { HasLoose 2 store.old.frames }
-    ensures gathered { IfOk result (λ f. Between (IsGathered f.0) M.held M.page_bytes
+    ensures copied { IfOk result (λ f. Between (IsCopiedOut node f.0) M.held M.page_bytes
         mapper.old caches.old store.old mapper.new caches.new store.new) }
-    ensures page { IfOk result (λ f. HasPageOf
-        (world (M.held mapper.new) (M.page_bytes mapper.new) caches.new store.new) f.0 node) }
-    ensures home { OnOk result (StaysHome node store.old.map store.new.map) }
     ensures none { OnErr result (Between NoneGathered M.held M.page_bytes
         mapper.old caches.old store.old mapper.new caches.new store.new) }
     ensures later { Later (M.counts mapper.old) (M.counts mapper.new) }
@@ -125,26 +117,19 @@ fn brought_out<M: Mapper, C: Chooser>(
     requires right { RightStore M.held M.page_bytes mapper.old caches.old store.old }
     requires own { HasOwnPage caches.old node }
     requires loose { HasLoose 2 store.old.frames }
-    ensures gathered { IfOk result (λ f. Between (IsGathered f.0) M.held M.page_bytes
+    ensures copied { IfOk result (λ f. Between (IsCopiedOut node f.0) M.held M.page_bytes
         mapper.old caches.old store.old mapper.new caches.new store.new) }
-    ensures page { IfOk result (λ f. HasPageOf
-        (world (M.held mapper.new) (M.page_bytes mapper.new) caches.new store.new) f.0 node) }
-    ensures home { OnOk result (StaysHome node store.old.map store.new.map) }
     ensures none { OnErr result (Between NoneGathered M.held M.page_bytes
         mapper.old caches.old store.old mapper.new caches.new store.new) }
     ensures later { Later (M.counts mapper.old) (M.counts mapper.new) }
-    ensures held { OnOk result (
-        held_count store.new.frames
-        + (frames_to_bring (own_of caches.old node) + 1 - free_count store.old.frames)
-        ≡ held_count store.old.frames + (frames_to_bring (own_of caches.old node) + 1)) }
-    ensures made { OnOk result (Made
-        (pulls_to_copy (own_of caches.old node))
-        (frames_to_bring (own_of caches.old node) + 1 - free_count store.old.frames)
-        (M.counts mapper.old) (M.counts mapper.new)) }
-    ensures most { MadeAtMost
-        (pulls_to_copy (own_of caches.old node))
-        (frames_to_bring (own_of caches.old node) + 1 - free_count store.old.frames)
-        (M.counts mapper.old) (M.counts mapper.new) }
+    ensures held { OnOk result (HoldsMore (frames_to_bring (own_of caches.old node) + 1)
+        store.old.frames store.new.frames) }
+    ensures made { OnOk result (Takes
+        (pulls_to_copy (own_of caches.old node)) (frames_to_bring (own_of caches.old node) + 1)
+        store.old.frames (M.counts mapper.old) (M.counts mapper.new)) }
+    ensures most { TakesAtMost
+        (pulls_to_copy (own_of caches.old node)) (frames_to_bring (own_of caches.old node) + 1)
+        store.old.frames (M.counts mapper.old) (M.counts mapper.new) }
     ensures cause { IfErr result (HasMissCause (M.counts mapper.old) (M.counts mapper.new)) }
 {
     let home = store.bring_in(caches, node, mapper, chooser)?;
@@ -165,26 +150,19 @@ pub(crate) fn copy_out<M: Mapper, C: Chooser>(
     requires right { RightStore M.held M.page_bytes mapper.old caches.old store.old }
     requires own { HasOwnPage caches.old node }
     requires loose { HasLoose 2 store.old.frames }
-    ensures gathered { IfOk result (λ f. Between (IsGathered f.0) M.held M.page_bytes
+    ensures copied { IfOk result (λ f. Between (IsCopiedOut node f.0) M.held M.page_bytes
         mapper.old caches.old store.old mapper.new caches.new store.new) }
-    ensures page { IfOk result (λ f. HasPageOf
-        (world (M.held mapper.new) (M.page_bytes mapper.new) caches.new store.new) f.0 node) }
-    ensures home { OnOk result (StaysHome node store.old.map store.new.map) }
     ensures none { OnErr result (Between NoneGathered M.held M.page_bytes
         mapper.old caches.old store.old mapper.new caches.new store.new) }
     ensures later { Later (M.counts mapper.old) (M.counts mapper.new) }
-    ensures held { OnOk result (
-        held_count store.new.frames
-        + (frames_to_copy (own_of caches.old node) - free_count store.old.frames)
-        ≡ held_count store.old.frames + (frames_to_copy (own_of caches.old node))) }
-    ensures made { OnOk result (Made
-        (pulls_to_copy (own_of caches.old node))
-        (frames_to_copy (own_of caches.old node) - free_count store.old.frames)
-        (M.counts mapper.old) (M.counts mapper.new)) }
-    ensures most { MadeAtMost
-        (pulls_to_copy (own_of caches.old node))
-        (frames_to_copy (own_of caches.old node) - free_count store.old.frames)
-        (M.counts mapper.old) (M.counts mapper.new) }
+    ensures held { OnOk result (HoldsMore (frames_to_copy (own_of caches.old node))
+        store.old.frames store.new.frames) }
+    ensures made { OnOk result (Takes
+        (pulls_to_copy (own_of caches.old node)) (frames_to_copy (own_of caches.old node))
+        store.old.frames (M.counts mapper.old) (M.counts mapper.new)) }
+    ensures most { TakesAtMost
+        (pulls_to_copy (own_of caches.old node)) (frames_to_copy (own_of caches.old node))
+        store.old.frames (M.counts mapper.old) (M.counts mapper.new) }
     ensures cause { IfErr result (HasMissCause (M.counts mapper.old) (M.counts mapper.new)) }
 {
     match caches.own_state(node) {

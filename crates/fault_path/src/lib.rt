@@ -1,13 +1,15 @@
 //! The paths of faults: how a page is read, owned, and made ready for a write.
 //!
-//! A read goes to the owner of a page and brings that in. A write first gives the page an own copy, where it has none, and
-//! the page as it was to its heir; then the bytes of one frame change. All frames that a call needs are gathered before
-//! anything changes, so that a failed pull or push leaves the page forest and every page as they were.
+//! A read goes to the owner of a page and brings that in. A write first gives the page an own copy,
+//! where it has none, and the page as it was to its heir; then the bytes of one frame change. All
+//! frames that a call needs are gathered before anything changes, so that a failed pull or push
+//! leaves the page forest and every page as they were.
 //!
-//! The model is that of `residency`, and above it the page forest of a store, `store_forest` of its `specs`: what the four
-//! calls do to it is the rule of the forest that each names. `Costs` of `specs` says how many pulls and pushes that
-//! takes: a push for each frame that isn't free. The crate stands on `residency`, `history_tree` and `page_stubs`; the
-//! manager stands on it. It serves the nodes of temporary caches.
+//! The model is that of `residency`, and above it the page forest of a store, `store_forest` of its
+//! `specs`: what the four calls do to it is the rule of the forest that each names. `Costs` of
+//! `specs` says how many pulls and pushes that takes: a push for each frame that isn't free. The
+//! crate stands on `residency`, `history_tree` and `page_stubs`; the manager stands on it. It
+//! serves the nodes of temporary caches.
 #![tactic(auto)]
 
 mod gathering;

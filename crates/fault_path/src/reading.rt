@@ -2,15 +2,14 @@
 ghost use Rattle.std.specs.Prelude.{◌≡◌, ◌<◌, true, false, Some, IfErr, IfOk, IfSome, IsOk, length};
 ghost use Rattle.vm_ids.specs.declared.numbers.NodeId.{NodeId};
 ghost use Rattle.vm_ids.specs.Forest.Reading.{value_of};
-ghost use Rattle.vm_ids.specs.Forest.Shape.{IsWellShaped};
 ghost use Rattle.local_cache.specs.Arena.{IsHeld};
 ghost use Rattle.local_cache.specs.Own.{own_of};
 ghost use Rattle.local_cache.specs.Reading.{forest_of, name_of};
-ghost use Rattle.local_cache.specs.Sound.{IsSound};
-ghost use Rattle.residency.specs.Causes.{HasMissCause, Later, Made, pulls_for, pushes_to_bring};
-ghost use Rattle.residency.specs.Between.{Between, RightStore};
+ghost use Rattle.residency.specs.Causes.{HasMissCause, Made, pulls_for, pushes_to_bring};
+ghost use Rattle.residency.specs.Between.{Between};
 ghost use Rattle.residency.specs.World.{HasUnpinned, HoldsPage, Still, world};
-ghost use Rattle.fault_path.specs.Faults.{IsFound, IsOwner, IsValueFound, Kept, SameForest, is_at_hand};
+ghost use Rattle.fault_path.specs.Answers.{Across, IsAnswered, RightForest};
+ghost use Rattle.fault_path.specs.Faults.{IsFound, IsOwner, IsValueFound, SameForest, is_at_hand};
 ghost use Rattle.fault_path.specs.Faults as faults;
 
 use history_tree::owner_of;
@@ -27,8 +26,8 @@ fn is_zero(caches: &Caches, node: NodeId) -> bool
     matches!(caches.own_state(node), OwnState::Zero)
 }
 
-/// The frame of the page that a node reads, which is brought in where it is in none. `None` exactly where that is a zeroed
-/// page. After a fault every page is where it was, or in a slot.
+/// The frame of the page that a node reads, which is brought in where it is in none. `None` exactly
+/// where that is a zeroed page. After a fault every page is where it was, or in a slot.
 pub fn read_fault<M: Mapper, C: Chooser>(
     store: &mut Store,
     caches: &mut Caches,
@@ -36,15 +35,13 @@ pub fn read_fault<M: Mapper, C: Chooser>(
     mapper: &mut M,
     chooser: &mut C,
 ) -> Result<Option<FrameId>, Miss>
-    requires right { RightStore M.held M.page_bytes mapper.old caches.old store.old }
-    requires sound { IsSound caches.old }
-    requires shaped { IsWellShaped (forest_of caches.old) }
+    requires right { RightForest M.held M.page_bytes mapper.old caches.old store.old }
     requires node { IsHeld caches.old node }
     requires unpinned { (o : NodeId) → IsOwner caches.old node o →
         is_at_hand (own_of caches.old o) ≡ false → HasUnpinned store.old.frames }
-    ensures still { Between Still M.held M.page_bytes
+    ensures answered { Across IsAnswered M.held M.page_bytes M.counts
         mapper.old caches.old store.old mapper.new caches.new store.new }
-    ensures kept { Between Kept M.held M.page_bytes
+    ensures still { Between Still M.held M.page_bytes
         mapper.old caches.old store.old mapper.new caches.new store.new }
     ensures forest { Between SameForest M.held M.page_bytes
         mapper.old caches.old store.old mapper.new caches.new store.new }
@@ -63,7 +60,6 @@ pub fn read_fault<M: Mapper, C: Chooser>(
         is_at_hand (own_of caches.old o) ≡ true →
         IsOk result × (store.new ≡ store.old) × (caches.new ≡ caches.old)
         × (mapper.new ≡ mapper.old) }
-    ensures later { Later (M.counts mapper.old) (M.counts mapper.new) }
     ensures made { (o : NodeId) → IsOwner caches.old node o →
         faults.is_zero (own_of caches.old o) ≡ false → Made
         (pulls_for result (own_of caches.old o))

@@ -1,4 +1,4 @@
-use Rattle.std.proofs.Common.{sym, subst}
+use Rattle.std.proofs.Common.{sym, subst, rules}
 use Rattle.frame_pool.specs.Pool.{bytes_of}
 use Rattle.residency.specs.declared.store.Store.{Store}
 use Rattle.residency.specs.World.{World, world}
@@ -6,11 +6,16 @@ use Rattle.fault_path.specs.Gathering.{IsGathered}
 use Rattle.fault_path.proofs.GatheredFrames.{filled_gathered}
 use Rattle.fault_path.proofs.gathering.double.Goals as goal
 
-pub returns-clause-gathered : goal.returns-clause-gathered
-returns-clause-gathered g c =
+pub returns-clause-doubled : goal.returns-clause-doubled
+returns-clause-doubled g c =
     let old : World = world (g.M.Mapper.held c.args.mapper.now) (g.M.Mapper.page_bytes c.args.mapper.now) c.args.caches.now c.args.store.now in
     let told = g.M.Mapper.held c.make_free_beside.new.mapper in
     let size = g.M.Mapper.page_bytes c.make_free_beside.new.mapper in
     let w : World = world told size c.make_free_beside.new.caches c.make_free_beside.new.store in
-    subst (λ (s : Store). IsGathered c.in_ok-fresh.fresh.0 old (world told size c.make_free_beside.new.caches s)) (sym c.copy.ensures)
-    (filled_gathered old w c.in_ok-fresh.fresh.0 (bytes_of w.frames c.args.frame.0) c.in_ok-fresh.ensures.gathered)
+    record {
+      gathered = subst (λ (s : Store). IsGathered c.in_ok-fresh.fresh.0 old (world told size c.make_free_beside.new.caches s)) (sym c.copy.ensures)
+          (filled_gathered old w c.in_ok-fresh.fresh.0 (bytes_of w.frames c.args.frame.0) c.in_ok-fresh.ensures.gathered);
+      apart = c.in_ok-fresh.ensures.apart;
+      stays = search rules;
+      bytes = search rules;
+    }

@@ -1,15 +1,24 @@
-use Rattle.std.proofs.Common.{sym, subst, replicate}
+use Rattle.std.proofs.Common.{sym, ap, subst, ◌∙◌, ◌≡◌, true, false, replicate, rules}
+use Rattle.local_cache.specs.Own.{is_resident}
 use Rattle.residency.specs.declared.store.Store.{Store}
 use Rattle.residency.specs.World.{World, world}
+use Rattle.residency.proofs.Homes.{home}
 use Rattle.fault_path.specs.Gathering.{IsGathered}
-use Rattle.fault_path.proofs.GatheredFrames.{filled_gathered, free_gathered}
+use Rattle.fault_path.proofs.GatheredFrames.{bound_below, filled_gathered, free_gathered}
 use Rattle.fault_path.proofs.gathering.zeroed.Goals as goal
 
-pub returns-clause-gathered : goal.returns-clause-gathered
-returns-clause-gathered g c =
+pub returns-clause-copied : goal.returns-clause-copied
+returns-clause-copied g c =
     let old : World = world (g.M.Mapper.held c.args.mapper.now) (g.M.Mapper.page_bytes c.args.mapper.now) c.args.caches.now c.args.store.now in
     let told = g.M.Mapper.held c.make_free.new.mapper in
     let size = g.M.Mapper.page_bytes c.make_free.new.mapper in
     let w : World = world told size c.make_free.new.caches c.make_free.new.self in
-    subst (λ (s : Store). IsGathered c.in-Ok.fresh.0 old (world told size c.make_free.new.caches s)) (sym c.zero.ensures)
-    (filled_gathered old w c.in-Ok.fresh.0 (replicate w.frames.page 0) (free_gathered old w c.in-Ok.fresh.0 c.requires.right c.in-Ok.ensures.still c.in-Ok.ensures.free))
+    record {
+      gathered = subst (λ (s : Store). IsGathered c.in-Ok.fresh.0 old (world told size c.make_free.new.caches s)) (sym c.zero.ensures)
+          (filled_gathered old w c.in-Ok.fresh.0 (replicate w.frames.page 0) (free_gathered old w c.in-Ok.fresh.0 c.requires.right c.in-Ok.ensures.still c.in-Ok.ensures.free));
+      page = search rules;
+      home = λ f at. absurd (
+          let here = home old f c.args.node c.requires.right (bound_below c.args.store.now.map f c.args.node at) at in
+          let no : true ≡ false = sym here.resident ∙ ap is_resident c.requires.zero in
+          cc no);
+    }

@@ -6,8 +6,8 @@ use Rattle.residency.specs.Causes.{Made, pulls_for, pushes_to_bring}
 use Rattle.residency.specs.World.{HoldsPage, World, world}
 use Rattle.residency.proofs.StillForest.{still_forest}
 use Rattle.fault_path.specs.Faults.{IsOwner, is_at_hand, is_zero}
+use Rattle.fault_path.proofs.Answered.{still_answered}
 use Rattle.fault_path.proofs.FoundPage.{found_frame, found_zero, owner_same, resident_is, zero_is}
-use Rattle.fault_path.proofs.Kept.{still_kept}
 use Rattle.fault_path.proofs.reading.read_fault.Goals as goal
 
 pub returns-then-is_zero-clause-frame : goal.returns-then-is_zero-clause-frame
@@ -15,7 +15,7 @@ returns-then-is_zero-clause-frame g c =
     let it : NodeId = c.owner_of-owner.result in
     let owner : IsOwner c.args.caches.now c.args.node it = record { held = c.owner_of-owner.ensures.held; name = c.owner_of-owner.ensures.owner } in
     let zero : is_zero (own_of c.args.caches.now it) ≡ true = sym c.is_zero.ensures ∙ c.if-is_zero.true in
-    λ o is. record { zero = sym (ap (λ (m : NodeId). is_zero (own_of c.args.caches.now m)) (owner_same c.args.caches.now c.requires.sound c.args.node o it is owner) ∙ zero); bound = tt }
+    λ o is. record { zero = sym (ap (λ (m : NodeId). is_zero (own_of c.args.caches.now m)) (owner_same c.args.caches.now c.requires.right.sound c.args.node o it is owner) ∙ zero); bound = tt }
 
 pub returns-then-is_zero-clause-value : goal.returns-then-is_zero-clause-value
 returns-then-is_zero-clause-value g c =
@@ -23,11 +23,14 @@ returns-then-is_zero-clause-value g c =
     let owner : IsOwner c.args.caches.now c.args.node it = record { held = c.owner_of-owner.ensures.held; name = c.owner_of-owner.ensures.owner } in
     let zero : is_zero (own_of c.args.caches.now it) ≡ true = sym c.is_zero.ensures ∙ c.if-is_zero.true in
     let old : World = world (g.M.Mapper.held c.args.mapper.now) (g.M.Mapper.page_bytes c.args.mapper.now) c.args.caches.now c.args.store.now in
-    found_zero old c.requires.sound c.requires.shaped c.args.node it c.requires.node owner (zero_is (own_of c.args.caches.now it) zero)
+    found_zero old c.requires.right.sound c.requires.right.shaped c.args.node it c.requires.node owner (zero_is (own_of c.args.caches.now it) zero)
 
-pub returns-in-Ok-clause-kept : goal.returns-in-Ok-clause-kept
-returns-in-Ok-clause-kept g c =
-    let e = c.in-Ok.ensures in still_kept _ _ e.still c.requires.sound c.requires.shaped e.pinned
+pub returns-in-Ok-clause-answered : goal.returns-in-Ok-clause-answered
+returns-in-Ok-clause-answered g c =
+    let old : World = world (g.M.Mapper.held c.args.mapper.now) (g.M.Mapper.page_bytes c.args.mapper.now) c.args.caches.now c.args.store.now in
+    let w : World = world (g.M.Mapper.held c.bring_in.new.mapper) (g.M.Mapper.page_bytes c.bring_in.new.mapper) c.bring_in.new.caches c.bring_in.new.self in
+    let e = c.in-Ok.ensures in
+    still_answered old w e.still _ _ c.requires.right.sound c.requires.right.shaped e.pinned e.later
 
 pub returns-in-Ok-clause-forest : goal.returns-in-Ok-clause-forest
 returns-in-Ok-clause-forest g c =
@@ -35,9 +38,12 @@ returns-in-Ok-clause-forest g c =
     let w : World = world (g.M.Mapper.held c.bring_in.new.mapper) (g.M.Mapper.page_bytes c.bring_in.new.mapper) c.bring_in.new.caches c.bring_in.new.self in
     let e = c.in-Ok.ensures in still_forest old w e.still
 
-pub returns-in-Err-clause-kept : goal.returns-in-Err-clause-kept
-returns-in-Err-clause-kept g c =
-    let e = c.in-Err.ensures in still_kept _ _ e.still c.requires.sound c.requires.shaped e.pinned
+pub returns-in-Err-clause-answered : goal.returns-in-Err-clause-answered
+returns-in-Err-clause-answered g c =
+    let old : World = world (g.M.Mapper.held c.args.mapper.now) (g.M.Mapper.page_bytes c.args.mapper.now) c.args.caches.now c.args.store.now in
+    let w : World = world (g.M.Mapper.held c.bring_in.new.mapper) (g.M.Mapper.page_bytes c.bring_in.new.mapper) c.bring_in.new.caches c.bring_in.new.self in
+    let e = c.in-Err.ensures in
+    still_answered old w e.still _ _ c.requires.right.sound c.requires.right.shaped e.pinned e.later
 
 pub returns-in-Err-clause-forest : goal.returns-in-Err-clause-forest
 returns-in-Err-clause-forest g c =
@@ -52,7 +58,7 @@ returns-in-Ok-clause-frame g c =
     let zero : is_zero (own_of c.args.caches.now it) ≡ false = sym c.is_zero.ensures ∙ c.if-is_zero.false in
     let e = c.in-Ok.ensures in
     λ o is. (
-    let same : o ≡ it = owner_same c.args.caches.now c.requires.sound c.args.node o it is owner in
+    let same : o ≡ it = owner_same c.args.caches.now c.requires.right.sound c.args.node o it is owner in
     record { zero = sym (ap (λ (m : NodeId). is_zero (own_of c.args.caches.now m)) same ∙ zero); bound = (e.home.0, e.home.1 ∙ ap Some (sym same)) })
 
 pub returns-in-Ok-clause-value : goal.returns-in-Ok-clause-value
@@ -63,7 +69,7 @@ returns-in-Ok-clause-value g c =
     let owner : IsOwner c.args.caches.now c.args.node it = record { held = c.owner_of-owner.ensures.held; name = c.owner_of-owner.ensures.owner } in
     let zero : is_zero (own_of c.args.caches.now it) ≡ false = sym c.is_zero.ensures ∙ c.if-is_zero.false in
     let e = c.in-Ok.ensures in
-    found_frame old c.requires.sound c.requires.shaped c.args.node it c.requires.node owner w e.still c.in-Ok.frame.0 e.home.0 e.home.1
+    found_frame old c.requires.right.sound c.requires.right.shaped c.args.node it c.requires.node owner w e.still c.in-Ok.frame.0 e.home.0 e.home.1
 
 pub returns-in-Ok-clause-given : goal.returns-in-Ok-clause-given
 returns-in-Ok-clause-given g c =
@@ -71,7 +77,7 @@ returns-in-Ok-clause-given g c =
     let owner : IsOwner c.args.caches.now c.args.node it = record { held = c.owner_of-owner.ensures.held; name = c.owner_of-owner.ensures.owner } in
     let zero : is_zero (own_of c.args.caches.now it) ≡ false = sym c.is_zero.ensures ∙ c.if-is_zero.false in
     let e = c.in-Ok.ensures in
-    λ o is. subst (λ (m : NodeId). HoldsPage (own_of c.args.caches.now m) (g.M.Mapper.given c.bring_in.new.mapper) c.bring_in.new.self.frames c.in-Ok.frame.0) (sym (owner_same c.args.caches.now c.requires.sound c.args.node o it is owner)) e.page
+    λ o is. subst (λ (m : NodeId). HoldsPage (own_of c.args.caches.now m) (g.M.Mapper.given c.bring_in.new.mapper) c.bring_in.new.self.frames c.in-Ok.frame.0) (sym (owner_same c.args.caches.now c.requires.right.sound c.args.node o it is owner)) e.page
 
 pub returns-in-Ok-clause-idle : goal.returns-in-Ok-clause-idle
 returns-in-Ok-clause-idle g c =
@@ -80,7 +86,7 @@ returns-in-Ok-clause-idle g c =
     let zero : is_zero (own_of c.args.caches.now it) ≡ false = sym c.is_zero.ensures ∙ c.if-is_zero.false in
     let e = c.in-Ok.ensures in
     λ o is hand. (
-    let same : o ≡ it = owner_same c.args.caches.now c.requires.sound c.args.node o it is owner in
+    let same : o ≡ it = owner_same c.args.caches.now c.requires.right.sound c.args.node o it is owner in
     let resident : is_resident (own_of c.args.caches.now it) ≡ true = resident_is (own_of c.args.caches.now it) (ap (λ (m : NodeId). is_at_hand (own_of c.args.caches.now m)) (sym same) ∙ hand) zero in
     let idle = e.idle resident in
     idle)
@@ -92,7 +98,7 @@ returns-in-Err-clause-idle g c =
     let zero : is_zero (own_of c.args.caches.now it) ≡ false = sym c.is_zero.ensures ∙ c.if-is_zero.false in
     let e = c.in-Err.ensures in
     λ o is hand. (
-    let same : o ≡ it = owner_same c.args.caches.now c.requires.sound c.args.node o it is owner in
+    let same : o ≡ it = owner_same c.args.caches.now c.requires.right.sound c.args.node o it is owner in
     let resident : is_resident (own_of c.args.caches.now it) ≡ true = resident_is (own_of c.args.caches.now it) (ap (λ (m : NodeId). is_at_hand (own_of c.args.caches.now m)) (sym same) ∙ hand) zero in
     let idle = e.idle resident in
     idle)
@@ -104,7 +110,7 @@ returns-in-Ok-clause-made g c =
     let zero : is_zero (own_of c.args.caches.now it) ≡ false = sym c.is_zero.ensures ∙ c.if-is_zero.false in
     let e = c.in-Ok.ensures in
     λ o is out. subst (λ (m : NodeId). Made (pulls_for {T = FrameId} (Ok c.in-Ok.frame) (own_of c.args.caches.now m)) (pushes_to_bring (own_of c.args.caches.now m) c.args.store.now.frames.held) (g.M.Mapper.counts c.args.mapper.now) (g.M.Mapper.counts c.bring_in.new.mapper))
-    (sym (owner_same c.args.caches.now c.requires.sound c.args.node o it is owner)) e.made
+    (sym (owner_same c.args.caches.now c.requires.right.sound c.args.node o it is owner)) e.made
 
 pub returns-in-Err-clause-made : goal.returns-in-Err-clause-made
 returns-in-Err-clause-made g c =
@@ -113,4 +119,4 @@ returns-in-Err-clause-made g c =
     let zero : is_zero (own_of c.args.caches.now it) ≡ false = sym c.is_zero.ensures ∙ c.if-is_zero.false in
     let e = c.in-Err.ensures in
     λ o is out. subst (λ (m : NodeId). Made (pulls_for {T = FrameId} (Err c.in-Err.miss) (own_of c.args.caches.now m)) (pushes_to_bring (own_of c.args.caches.now m) c.args.store.now.frames.held) (g.M.Mapper.counts c.args.mapper.now) (g.M.Mapper.counts c.bring_in.new.mapper))
-    (sym (owner_same c.args.caches.now c.requires.sound c.args.node o it is owner)) e.made
+    (sym (owner_same c.args.caches.now c.requires.right.sound c.args.node o it is owner)) e.made

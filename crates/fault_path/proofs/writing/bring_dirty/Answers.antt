@@ -1,7 +1,7 @@
-use Rattle.std.proofs.Common.{sym, ap, subst, ◌∙◌, ◌-◌, refl, arith}
+use Rattle.std.proofs.Common.{sym, ap, subst, ◌∙◌, ◌-◌, refl, arith, rules}
 use Rattle.local_cache.specs.Arena.{Arena, IsHeld}
 use Rattle.local_cache.specs.Own.{own_of}
-use Rattle.local_cache.proofs.States.{own_same}
+use Rattle.local_cache.proofs.Nodes.OwnStates.{own_same}
 use Rattle.local_cache.specs.declared.own_state.OwnState.TheVariants.{Resident}
 use Rattle.residency.specs.StoreForest.{store_forest}
 use Rattle.residency.specs.World.{Still, World, world}
@@ -13,19 +13,35 @@ use Rattle.fault_path.specs.Faults.{Kept}
 use Rattle.fault_path.proofs.DirtyPage.{dirtied, dirty_still}
 use Rattle.fault_path.proofs.Kept.{still_kept}
 use Rattle.fault_path.proofs.ReadyForest.{kept_ready}
-use Rattle.local_cache.proofs.Changes.{copies-put}
+use Rattle.local_cache.proofs.Changes.SameNodes.{copies-put}
 use Rattle.residency.proofs.StillForest.{still_copies}
 use Rattle.local_cache.specs.declared.own_state.OwnState.{OwnState}
 use Rattle.residency.specs.Causes.{frames_to_bring}
 use Rattle.fault_path.specs.Costs.{free_count, pulls_to_copy}
 use Rattle.fault_path.proofs.Costs.{bring_most, copy_most, made_is, made_most, most_more, pulls_most, pushes_bring}
+use Rattle.fault_path.proofs.Answered.{still_answered, still_missed_by}
 use Rattle.fault_path.proofs.writing.bring_dirty.Goals as goal
 
-pub returns-in_err-frame-clause-kept : goal.returns-in_err-frame-clause-kept
-returns-in_err-frame-clause-kept g c = still_kept _ _ c.in_err-frame.ensures.still c.requires.sound c.requires.shaped c.in_err-frame.ensures.pinned
+pub returns-in_err-frame-clause-answered : goal.returns-in_err-frame-clause-answered
+returns-in_err-frame-clause-answered g c =
+    let told = g.M.Mapper.held c.bring_in.new.mapper in
+    let size = g.M.Mapper.page_bytes c.bring_in.new.mapper in
+    let old : World = world (g.M.Mapper.held c.args.mapper.now) (g.M.Mapper.page_bytes c.args.mapper.now) c.args.caches.now c.args.store.now in
+    let w : World = world told size c.bring_in.new.caches c.bring_in.new.self in
+    let e = c.in_err-frame.ensures in
+    still_answered old w e.still _ _ c.requires.right.sound c.requires.right.shaped e.pinned e.later
 
-pub returns-clause-kept : goal.returns-clause-kept
-returns-clause-kept g c =
+pub returns-in_err-frame-clause-missed : goal.returns-in_err-frame-clause-missed
+returns-in_err-frame-clause-missed g c =
+    let told = g.M.Mapper.held c.bring_in.new.mapper in
+    let size = g.M.Mapper.page_bytes c.bring_in.new.mapper in
+    let old : World = world (g.M.Mapper.held c.args.mapper.now) (g.M.Mapper.page_bytes c.args.mapper.now) c.args.caches.now c.args.store.now in
+    let w : World = world told size c.bring_in.new.caches c.bring_in.new.self in
+    let e = c.in_err-frame.ensures in
+    still_missed_by old w e.still (g.M.Mapper.counts c.args.mapper.now) (g.M.Mapper.counts c.bring_in.new.mapper) c.from_residual.result (search rules)
+
+pub returns-clause-answered : goal.returns-clause-answered
+returns-clause-answered g c =
     let told = g.M.Mapper.held c.bring_in.new.mapper in
     let size = g.M.Mapper.page_bytes c.bring_in.new.mapper in
     let old : World = world (g.M.Mapper.held c.args.mapper.now) (g.M.Mapper.page_bytes c.args.mapper.now) c.args.caches.now c.args.store.now in
@@ -35,11 +51,11 @@ returns-clause-kept g c =
     let there : IsHeld w.caches c.args.node = held_stays old.caches w.caches first.stays.caches c.args.node c.requires.own.node in
     let at = home w c.in_ok-frame.frame.0 c.args.node first.stays.right b.home.0 b.home.1 in
     let whole : Still old (dirtied w c.args.node) = still_then old w (dirtied w c.args.node) first (dirty_still w c.args.node first.stays.right there at.resident) in
-    subst (λ (a : Arena). Kept old (world told size a c.bring_in.new.self)) (sym c.set_state.ensures.changed)
-    (still_kept old (dirtied w c.args.node) whole c.requires.sound c.requires.shaped b.pinned)
+    let kept : Kept old (dirtied w c.args.node) = still_kept old (dirtied w c.args.node) whole c.requires.right.sound c.requires.right.shaped b.pinned in
+    record { kept = subst (λ (a : Arena). Kept old (world told size a c.bring_in.new.self)) (sym c.set_state.ensures.changed) kept; later = b.later }
 
-pub returns-clause-forest : goal.returns-clause-forest
-returns-clause-forest g c =
+pub returns-clause-ready : goal.returns-clause-ready
+returns-clause-ready g c =
     let told = g.M.Mapper.held c.bring_in.new.mapper in
     let size = g.M.Mapper.page_bytes c.bring_in.new.mapper in
     let old : World = world (g.M.Mapper.held c.args.mapper.now) (g.M.Mapper.page_bytes c.args.mapper.now) c.args.caches.now c.args.store.now in
@@ -49,11 +65,12 @@ returns-clause-forest g c =
     let there : IsHeld w.caches c.args.node = held_stays old.caches w.caches first.stays.caches c.args.node c.requires.own.node in
     let at = home w c.in_ok-frame.frame.0 c.args.node first.stays.right b.home.0 b.home.1 in
     let whole : Still old (dirtied w c.args.node) = still_then old w (dirtied w c.args.node) first (dirty_still w c.args.node first.stays.right there at.resident) in
-    ap (λ (a : Arena). store_forest (world told size a c.bring_in.new.self)) c.set_state.ensures.changed
-    ∙ still_forest old (dirtied w c.args.node) whole ∙ kept_ready old c.requires.sound c.requires.shaped c.args.node c.requires.own.node c.requires.own c.requires.none
-
-pub returns-clause-resident : goal.returns-clause-resident
-returns-clause-resident g c = ap (λ (a : Arena). own_of a c.args.node) c.set_state.ensures.changed ∙ own_same c.bring_in.new.caches c.args.node (Resident _)
+    record {
+      forest = ap (λ (a : Arena). store_forest (world told size a c.bring_in.new.self)) c.set_state.ensures.changed
+          ∙ still_forest old (dirtied w c.args.node) whole ∙ kept_ready old c.requires.right.sound c.requires.right.shaped c.args.node c.requires.own.node c.requires.own c.requires.none;
+      bound = b.home;
+      resident = ap (λ (a : Arena). own_of a c.args.node) c.set_state.ensures.changed ∙ own_same c.bring_in.new.caches c.args.node (Resident _);
+    }
 
 pub returns-clause-copies : goal.returns-clause-copies
 returns-clause-copies g c = let b = c.in_ok-frame.ensures in let first = b.still in ap (λ (a : Arena). a.copies) c.set_state.ensures.changed ∙ copies-put c.bring_in.new.caches c.args.node _ ∙ still_copies c.args.caches.now c.bring_in.new.caches first.stays.caches

@@ -1,33 +1,39 @@
-use Rattle.std.proofs.Common.{sym, ap, subst, ◌∙◌, ◌≡◌}
+use Rattle.std.proofs.Common.{sym, ap, subst, ◌∙◌, rules}
 use Rattle.residency.specs.declared.store.Store.{Store}
 use Rattle.residency.specs.StoreForest.{store_forest}
 use Rattle.residency.specs.World.{World, world}
-use Rattle.residency.proofs.StillForest.{still_caches_sound, still_forest}
+use Rattle.residency.proofs.StillForest.{still_caches_sound}
 use Rattle.fault_path.specs.Faults.{Kept}
-use Rattle.residency.proofs.Arms.{on_err}
-use Rattle.fault_path.proofs.Kept.{still_absent, still_kept}
+use Rattle.fault_path.proofs.Kept.{still_absent}
 use Rattle.fault_path.proofs.Heirs.{has_own, heir_absent, still_heir, unbound}
 use Rattle.fault_path.proofs.OneFrameForest.{hand_forest, hand_kept}
 use Rattle.fault_path.proofs.OneFrameForest.{hand_copies}
+use Rattle.fault_path.proofs.Answered.{still_answered, still_missed_by}
 use Rattle.fault_path.proofs.writing.hand_over.Goals as goal
 
-pub returns-in_err-frame-clause-kept : goal.returns-in_err-frame-clause-kept
-returns-in_err-frame-clause-kept g c = let n = c.in_err-frame.ensures.none in still_kept _ _ n.still c.requires.sound c.requires.shaped n.pinned
-
-pub returns-in_err-frame-clause-failed_forest : goal.returns-in_err-frame-clause-failed_forest
-returns-in_err-frame-clause-failed_forest g c =
+pub returns-in_err-frame-clause-answered : goal.returns-in_err-frame-clause-answered
+returns-in_err-frame-clause-answered g c =
     let told = g.M.Mapper.held c.copy_out.new.mapper in
     let size = g.M.Mapper.page_bytes c.copy_out.new.mapper in
     let old : World = world (g.M.Mapper.held c.args.mapper.now) (g.M.Mapper.page_bytes c.args.mapper.now) c.args.caches.now c.args.store.now in
     let w : World = world told size c.copy_out.new.caches c.copy_out.new.store in
     let n = c.in_err-frame.ensures.none in
-    on_err (store_forest w ≡ store_forest old) c.from_residual.result (still_forest old w n.still)
+    still_answered old w n.still _ _ c.requires.right.sound c.requires.right.shaped n.pinned c.in_err-frame.ensures.later
+
+pub returns-in_err-frame-clause-missed : goal.returns-in_err-frame-clause-missed
+returns-in_err-frame-clause-missed g c =
+    let told = g.M.Mapper.held c.copy_out.new.mapper in
+    let size = g.M.Mapper.page_bytes c.copy_out.new.mapper in
+    let old : World = world (g.M.Mapper.held c.args.mapper.now) (g.M.Mapper.page_bytes c.args.mapper.now) c.args.caches.now c.args.store.now in
+    let w : World = world told size c.copy_out.new.caches c.copy_out.new.store in
+    let n = c.in_err-frame.ensures.none in
+    still_missed_by old w n.still (g.M.Mapper.counts c.args.mapper.now) (g.M.Mapper.counts c.copy_out.new.mapper) c.from_residual.result (search rules)
 
 pub hand_page-requires-clause-sound : goal.hand_page-requires-clause-sound
-hand_page-requires-clause-sound g c = let k = c.in_ok-frame.ensures.gathered in still_caches_sound _ _ k.still c.requires.sound
+hand_page-requires-clause-sound g c = let k = c.in_ok-frame.ensures.copied.gathered in still_caches_sound _ _ k.still c.requires.right.sound
 
 pub hand_page-requires-clause-is : goal.hand_page-requires-clause-is
-hand_page-requires-clause-is g c = let k = c.in_ok-frame.ensures.gathered in still_heir _ _ k.still c.requires.sound c.args.node c.args.next c.requires.is
+hand_page-requires-clause-is g c = let k = c.in_ok-frame.ensures.copied.gathered in still_heir _ _ k.still c.requires.right.sound c.args.node c.args.next c.requires.is
 
 pub settle_in-requires-clause-away : goal.settle_in-requires-clause-away
 settle_in-requires-clause-away g c =
@@ -35,18 +41,21 @@ settle_in-requires-clause-away g c =
     let size = g.M.Mapper.page_bytes c.copy_out.new.mapper in
     let old : World = world (g.M.Mapper.held c.args.mapper.now) (g.M.Mapper.page_bytes c.args.mapper.now) c.args.caches.now c.args.store.now in
     let w : World = world told size c.copy_out.new.caches c.copy_out.new.store in
-    let k = c.in_ok-frame.ensures.gathered in
-    unbound w k.still.stays.right c.args.next (still_absent old w k.still c.requires.sound c.args.next (heir_absent c.args.caches.now c.requires.sound _ c.args.next c.requires.next c.requires.is))
+    let k = c.in_ok-frame.ensures.copied.gathered in
+    unbound w k.still.stays.right c.args.next (still_absent old w k.still c.requires.right.sound c.args.next (heir_absent c.args.caches.now c.requires.right.sound _ c.args.next c.requires.next c.requires.is))
 
-pub returns-clause-kept : goal.returns-clause-kept
-returns-clause-kept g c =
+pub returns-clause-answered : goal.returns-clause-answered
+returns-clause-answered g c =
     let told = g.M.Mapper.held c.copy_out.new.mapper in
     let size = g.M.Mapper.page_bytes c.copy_out.new.mapper in
     let old : World = world (g.M.Mapper.held c.args.mapper.now) (g.M.Mapper.page_bytes c.args.mapper.now) c.args.caches.now c.args.store.now in
     let w : World = world told size c.copy_out.new.caches c.copy_out.new.store in
-    let k = c.in_ok-frame.ensures.gathered in
-    subst (Kept old) (sym (ap (λ (s : Store). world told size c.hand_page.new.caches s) c.settle_in.ensures)) (hand_kept old w c.in_ok-frame.frame.0 k.still k.taken c.requires.sound c.requires.shaped c.args.node c.args.next c.requires.own.node (has_own old c.args.node c.requires.own.own_page) c.requires.next c.requires.is
-    (heir_absent c.args.caches.now c.requires.sound _ c.args.next c.requires.next c.requires.is) c.in_ok-frame.ensures.page c.hand_page.new.caches c.hand_page.ensures k)
+    let k = c.in_ok-frame.ensures.copied.gathered in
+    record {
+      kept = subst (Kept old) (sym (ap (λ (s : Store). world told size c.hand_page.new.caches s) c.settle_in.ensures)) (hand_kept old w c.in_ok-frame.frame.0 k.still k.taken c.requires.right.sound c.requires.right.shaped c.args.node c.args.next c.requires.own.node (has_own old c.args.node c.requires.own.own_page) c.requires.next c.requires.is
+          (heir_absent c.args.caches.now c.requires.right.sound _ c.args.next c.requires.next c.requires.is) c.in_ok-frame.ensures.copied.page c.hand_page.new.caches c.hand_page.ensures k);
+      later = c.in_ok-frame.ensures.later;
+    }
 
 pub returns-clause-forest : goal.returns-clause-forest
 returns-clause-forest g c =
@@ -54,9 +63,9 @@ returns-clause-forest g c =
     let size = g.M.Mapper.page_bytes c.copy_out.new.mapper in
     let old : World = world (g.M.Mapper.held c.args.mapper.now) (g.M.Mapper.page_bytes c.args.mapper.now) c.args.caches.now c.args.store.now in
     let w : World = world told size c.copy_out.new.caches c.copy_out.new.store in
-    let k = c.in_ok-frame.ensures.gathered in
-    ap (λ (s : Store). store_forest (world told size c.hand_page.new.caches s)) c.settle_in.ensures ∙ (hand_forest old w c.in_ok-frame.frame.0 k.still k.taken c.requires.sound c.requires.shaped c.args.node c.args.next c.requires.own.node (has_own old c.args.node c.requires.own.own_page) c.requires.next c.requires.is
-    (heir_absent c.args.caches.now c.requires.sound _ c.args.next c.requires.next c.requires.is) c.in_ok-frame.ensures.page c.hand_page.new.caches c.hand_page.ensures)
+    let k = c.in_ok-frame.ensures.copied.gathered in
+    ap (λ (s : Store). store_forest (world told size c.hand_page.new.caches s)) c.settle_in.ensures ∙ (hand_forest old w c.in_ok-frame.frame.0 k.still k.taken c.requires.right.sound c.requires.right.shaped c.args.node c.args.next c.requires.own.node (has_own old c.args.node c.requires.own.own_page) c.requires.next c.requires.is
+    (heir_absent c.args.caches.now c.requires.right.sound _ c.args.next c.requires.next c.requires.is) c.in_ok-frame.ensures.copied.page c.hand_page.new.caches c.hand_page.ensures)
 
 pub returns-clause-copies : goal.returns-clause-copies
 returns-clause-copies g c =
@@ -64,6 +73,6 @@ returns-clause-copies g c =
     let size = g.M.Mapper.page_bytes c.copy_out.new.mapper in
     let old : World = world (g.M.Mapper.held c.args.mapper.now) (g.M.Mapper.page_bytes c.args.mapper.now) c.args.caches.now c.args.store.now in
     let w : World = world told size c.copy_out.new.caches c.copy_out.new.store in
-    let k = c.in_ok-frame.ensures.gathered in
-    hand_copies old w c.in_ok-frame.frame.0 k.still k.taken c.requires.sound c.requires.shaped c.args.node c.args.next c.requires.own.node (has_own old c.args.node c.requires.own.own_page) c.requires.next c.requires.is
-    (heir_absent c.args.caches.now c.requires.sound _ c.args.next c.requires.next c.requires.is) c.in_ok-frame.ensures.page c.hand_page.new.caches c.hand_page.ensures
+    let k = c.in_ok-frame.ensures.copied.gathered in
+    hand_copies old w c.in_ok-frame.frame.0 k.still k.taken c.requires.right.sound c.requires.right.shaped c.args.node c.args.next c.requires.own.node (has_own old c.args.node c.requires.own.own_page) c.requires.next c.requires.is
+    (heir_absent c.args.caches.now c.requires.right.sound _ c.args.next c.requires.next c.requires.is) c.in_ok-frame.ensures.copied.page c.hand_page.new.caches c.hand_page.ensures

@@ -1,7 +1,7 @@
-use Rattle.std.proofs.Common.{sym, ap, subst, ◌∙◌, ◌≡◌, ◌+◌, arith, Some, refl, ◌-◌, List, Bool}
+use Rattle.std.proofs.Common.{sym, ap, subst, ◌∙◌, ◌≡◌, ◌+◌, arith, Some, refl, ◌-◌, rules}
 use Rattle.local_cache.specs.Arena.{Arena, IsHeld}
 use Rattle.local_cache.specs.Own.{own_of}
-use Rattle.local_cache.proofs.States.{own_same}
+use Rattle.local_cache.proofs.Nodes.OwnStates.{own_same}
 use Rattle.local_cache.specs.declared.own_state.OwnState.TheVariants.{Resident}
 use Rattle.residency.specs.StoreForest.{store_forest}
 use Rattle.residency.specs.World.{Still, World, world}
@@ -18,28 +18,44 @@ use Rattle.fault_path.proofs.ReadyForest.{handed_ready}
 use Rattle.fault_path.proofs.GatheredFrames.{bound_below}
 use Rattle.fault_path.proofs.Heirs.{still_heir}
 use Rattle.fault_path.proofs.TwoFrames.{kept_then}
-use Rattle.local_cache.proofs.Changes.{copies-put}
+use Rattle.local_cache.proofs.Changes.SameNodes.{copies-put}
 use Rattle.residency.proofs.StillForest.{still_copies}
 use Rattle.local_cache.specs.declared.own_state.OwnState.{OwnState}
-use Rattle.residency.specs.Causes.{Made, frames_to_bring, pushes_for}
+use Rattle.residency.specs.Causes.{HasMissCause, frames_to_bring}
 use Rattle.fault_path.specs.Costs.{free_count, pulls_to_copy}
-use Rattle.fault_path.proofs.Costs.{Taken, bring_most, copy_most, made_is, made_more, made_most, most_more, most_then, pulls_most, pushes_bring, pushes_free, pushes_then, resident_copies, taken_to_bring}
+use Rattle.fault_path.proofs.Costs.{bring_most, brought_made, brought_more, brought_taken, copy_most, made_most, most_more, most_then, pulls_most, pushes_bring, pushes_then, resident_copies, resident_takes}
+use Rattle.residency.proofs.Evicted.{still_then}
+use Rattle.fault_path.proofs.Answered.{answered_then, cause_then, later_then, still_answered, still_missed_by}
 use Rattle.fault_path.proofs.writing.hand_own.Goals as goal
 
-pub returns-in_err-frame-clause-kept : goal.returns-in_err-frame-clause-kept
-returns-in_err-frame-clause-kept g c = still_kept _ _ c.in_err-frame.ensures.still c.requires.sound c.requires.shaped c.in_err-frame.ensures.pinned
+pub returns-in_err-frame-clause-answered : goal.returns-in_err-frame-clause-answered
+returns-in_err-frame-clause-answered g c =
+    let told = g.M.Mapper.held c.bring_in.new.mapper in
+    let size = g.M.Mapper.page_bytes c.bring_in.new.mapper in
+    let old : World = world (g.M.Mapper.held c.args.mapper.now) (g.M.Mapper.page_bytes c.args.mapper.now) c.args.caches.now c.args.store.now in
+    let w : World = world told size c.bring_in.new.caches c.bring_in.new.self in
+    let e = c.in_err-frame.ensures in
+    still_answered old w e.still _ _ c.requires.right.sound c.requires.right.shaped e.pinned e.later
 
-pub hand_over-requires-clause-sound : goal.hand_over-requires-clause-sound
-hand_over-requires-clause-sound g c = still_caches_sound _ _ c.in_ok-frame.ensures.still c.requires.sound
+pub returns-in_err-frame-clause-missed : goal.returns-in_err-frame-clause-missed
+returns-in_err-frame-clause-missed g c =
+    let told = g.M.Mapper.held c.bring_in.new.mapper in
+    let size = g.M.Mapper.page_bytes c.bring_in.new.mapper in
+    let old : World = world (g.M.Mapper.held c.args.mapper.now) (g.M.Mapper.page_bytes c.args.mapper.now) c.args.caches.now c.args.store.now in
+    let w : World = world told size c.bring_in.new.caches c.bring_in.new.self in
+    let e = c.in_err-frame.ensures in
+    still_missed_by old w e.still (g.M.Mapper.counts c.args.mapper.now) (g.M.Mapper.counts c.bring_in.new.mapper) c.from_residual.result (search rules)
 
-pub hand_over-requires-clause-shaped : goal.hand_over-requires-clause-shaped
-hand_over-requires-clause-shaped g c = still_shaped _ _ c.in_ok-frame.ensures.still c.requires.sound c.requires.shaped
+pub hand_over-requires-clause-right : goal.hand_over-requires-clause-right
+hand_over-requires-clause-right g c =
+    let first = c.in_ok-frame.ensures.still in
+    record { store = first.stays.right; sound = still_caches_sound _ _ first c.requires.right.sound; shaped = still_shaped _ _ first c.requires.right.sound c.requires.right.shaped }
 
 pub hand_over-requires-clause-is : goal.hand_over-requires-clause-is
-hand_over-requires-clause-is g c = still_heir _ _ c.in_ok-frame.ensures.still c.requires.sound c.args.node c.args.next c.requires.is
+hand_over-requires-clause-is g c = still_heir _ _ c.in_ok-frame.ensures.still c.requires.right.sound c.args.node c.args.next c.requires.is
 
-pub returns-in_err-hand_over-clause-kept : goal.returns-in_err-hand_over-clause-kept
-returns-in_err-hand_over-clause-kept g c =
+pub returns-in_err-hand_over-clause-answered : goal.returns-in_err-hand_over-clause-answered
+returns-in_err-hand_over-clause-answered g c =
     let told = g.M.Mapper.held c.bring_in.new.mapper in
     let size = g.M.Mapper.page_bytes c.bring_in.new.mapper in
     let old : World = world (g.M.Mapper.held c.args.mapper.now) (g.M.Mapper.page_bytes c.args.mapper.now) c.args.caches.now c.args.store.now in
@@ -49,10 +65,24 @@ returns-in_err-hand_over-clause-kept g c =
     let v : World = world told2 size2 c.hand_over.new.caches c.hand_over.new.store in
     let b = c.in_ok-frame.ensures in
     let e = c.in_err-hand_over.ensures in
-    kept_then old w v (still_kept old w b.still c.requires.sound c.requires.shaped b.pinned) e.kept
+    answered_then old w v _ _ _ (still_answered old w b.still _ _ c.requires.right.sound c.requires.right.shaped b.pinned b.later) e.answered
 
-pub returns-clause-kept : goal.returns-clause-kept
-returns-clause-kept g c =
+pub returns-in_err-hand_over-clause-missed : goal.returns-in_err-hand_over-clause-missed
+returns-in_err-hand_over-clause-missed g c =
+    let told = g.M.Mapper.held c.bring_in.new.mapper in
+    let size = g.M.Mapper.page_bytes c.bring_in.new.mapper in
+    let old : World = world (g.M.Mapper.held c.args.mapper.now) (g.M.Mapper.page_bytes c.args.mapper.now) c.args.caches.now c.args.store.now in
+    let w : World = world told size c.bring_in.new.caches c.bring_in.new.self in
+    let told2 = g.M.Mapper.held c.hand_over.new.mapper in
+    let size2 = g.M.Mapper.page_bytes c.hand_over.new.mapper in
+    let v : World = world told2 size2 c.hand_over.new.caches c.hand_over.new.store in
+    let b = c.in_ok-frame.ensures in
+    let e = c.in_err-hand_over.ensures in
+    let cause : HasMissCause (g.M.Mapper.counts c.args.mapper.now) (g.M.Mapper.counts c.hand_over.new.mapper) c.in_err-hand_over.field-0.0 = cause_then _ _ _ _ b.later e.missed.cause in
+    still_missed_by old v (still_then old w v b.still e.missed.still) (g.M.Mapper.counts c.args.mapper.now) (g.M.Mapper.counts c.hand_over.new.mapper) c.from_residual-in_err-hand_over.result (search rules)
+
+pub returns-clause-answered : goal.returns-clause-answered
+returns-clause-answered g c =
     let told = g.M.Mapper.held c.bring_in.new.mapper in
     let size = g.M.Mapper.page_bytes c.bring_in.new.mapper in
     let old : World = world (g.M.Mapper.held c.args.mapper.now) (g.M.Mapper.page_bytes c.args.mapper.now) c.args.caches.now c.args.store.now in
@@ -63,17 +93,21 @@ returns-clause-kept g c =
     let b = c.in_ok-frame.ensures in
     let first = b.still in
     let h = c.in_ok-hand_over.ensures in
-    let k = h.kept in
+    let k = h.answered.kept in
     let there : IsHeld v.caches c.args.node = k.nodes.held c.args.node ∙ held_stays old.caches w.caches first.stays.caches c.args.node c.requires.own.node in
     let bound : node_of v.map c.in_ok-frame.frame.0 ≡ Some c.args.node = h.home c.in_ok-frame.frame.0 b.home.1 in
-    let at = home v c.in_ok-frame.frame.0 c.args.node k.right (bound_below v.map c.in_ok-frame.frame.0 c.args.node bound) bound in
+    let below = bound_below v.map c.in_ok-frame.frame.0 c.args.node bound in
+    let at = home v c.in_ok-frame.frame.0 c.args.node k.right below bound in
     let dirty : Still v (dirtied v c.args.node) = dirty_still v c.args.node k.right there at.resident in
-    subst (λ (a : Arena). Kept old (world told2 size2 a c.hand_over.new.store)) (sym c.set_state.ensures.changed)
-    (kept_then old w (dirtied v c.args.node) (still_kept old w b.still c.requires.sound c.requires.shaped b.pinned)
-    (kept_then w v (dirtied v c.args.node) k (still_kept v (dirtied v c.args.node) dirty k.sound k.shaped refl)))
+    let kept : Kept old (dirtied v c.args.node) = kept_then old w (dirtied v c.args.node) (still_kept old w first c.requires.right.sound c.requires.right.shaped b.pinned)
+    (kept_then w v (dirtied v c.args.node) k (still_kept v (dirtied v c.args.node) dirty k.sound k.shaped refl)) in
+    record {
+      kept = subst (λ (a : Arena). Kept old (world told2 size2 a c.hand_over.new.store)) (sym c.set_state.ensures.changed) kept;
+      later = later_then _ _ _ b.later h.answered.later;
+    }
 
-pub returns-clause-forest : goal.returns-clause-forest
-returns-clause-forest g c =
+pub returns-clause-ready : goal.returns-clause-ready
+returns-clause-ready g c =
     let told = g.M.Mapper.held c.bring_in.new.mapper in
     let size = g.M.Mapper.page_bytes c.bring_in.new.mapper in
     let old : World = world (g.M.Mapper.held c.args.mapper.now) (g.M.Mapper.page_bytes c.args.mapper.now) c.args.caches.now c.args.store.now in
@@ -84,19 +118,21 @@ returns-clause-forest g c =
     let b = c.in_ok-frame.ensures in
     let first = b.still in
     let h = c.in_ok-hand_over.ensures in
-    let k = h.kept in
+    let k = h.answered.kept in
     let there : IsHeld v.caches c.args.node = k.nodes.held c.args.node ∙ held_stays old.caches w.caches first.stays.caches c.args.node c.requires.own.node in
     let bound : node_of v.map c.in_ok-frame.frame.0 ≡ Some c.args.node = h.home c.in_ok-frame.frame.0 b.home.1 in
-    let at = home v c.in_ok-frame.frame.0 c.args.node k.right (bound_below v.map c.in_ok-frame.frame.0 c.args.node bound) bound in
+    let below = bound_below v.map c.in_ok-frame.frame.0 c.args.node bound in
+    let at = home v c.in_ok-frame.frame.0 c.args.node k.right below bound in
     let dirty : Still v (dirtied v c.args.node) = dirty_still v c.args.node k.right there at.resident in
     let like = still_like old.caches w.caches first.stays.caches in
-    ap (λ (a : Arena). store_forest (world told2 size2 a c.hand_over.new.store)) c.set_state.ensures.changed
-    ∙ still_forest v (dirtied v c.args.node) dirty ∙ h.forest
-    ∙ ap (λ f. heir_gets f (name_of w.caches c.args.node)) (still_forest old w first) ∙ ap (heir_gets (store_forest old)) (like.name c.args.node)
-    ∙ handed_ready old c.requires.sound c.requires.shaped c.args.node c.requires.own.node c.requires.own
-
-pub returns-clause-resident : goal.returns-clause-resident
-returns-clause-resident g c = ap (λ (a : Arena). own_of a c.args.node) c.set_state.ensures.changed ∙ own_same c.hand_over.new.caches c.args.node (Resident _)
+    record {
+      forest = ap (λ (a : Arena). store_forest (world told2 size2 a c.hand_over.new.store)) c.set_state.ensures.changed
+          ∙ still_forest v (dirtied v c.args.node) dirty ∙ h.forest
+          ∙ ap (λ f. heir_gets f (name_of w.caches c.args.node)) (still_forest old w first) ∙ ap (heir_gets (store_forest old)) (like.name c.args.node)
+          ∙ handed_ready old c.requires.right.sound c.requires.right.shaped c.args.node c.requires.own.node c.requires.own;
+      bound = (below, bound);
+      resident = ap (λ (a : Arena). own_of a c.args.node) c.set_state.ensures.changed ∙ own_same c.hand_over.new.caches c.args.node (Resident _);
+    }
 
 pub returns-clause-copies : goal.returns-clause-copies
 returns-clause-copies g c =
@@ -109,52 +145,41 @@ pub returns-clause-made : goal.returns-clause-made
 returns-clause-made g c =
     let own : OwnState = own_of c.args.caches.now c.args.node in
     let then : OwnState = own_of c.bring_in.new.caches c.args.node in
-    let before : List Bool = c.args.store.now.frames.held in
-    let now : List Bool = c.bring_in.new.self.frames.held in
     let w : World = world (g.M.Mapper.held c.bring_in.new.mapper) (g.M.Mapper.page_bytes c.bring_in.new.mapper) c.bring_in.new.caches c.bring_in.new.self in
     let b = c.in_ok-frame.ensures in
     let first = b.still in
     let at = home w c.in_ok-frame.frame.0 c.args.node first.stays.right b.home.0 b.home.1 in
-    let one = resident_copies then at.resident in
-    let taken : Taken (frames_to_bring own) before now = taken_to_bring own before now b.held in
-    let brought : Made (pulls_to_copy own) (frames_to_bring own - free_count c.args.store.now.frames) (g.M.Mapper.counts c.args.mapper.now) (g.M.Mapper.counts c.bring_in.new.mapper) = made_is _ _ _ _ _ _ b.made refl (pushes_bring own before) in
-    let over : Made 0 (pushes_for now) (g.M.Mapper.counts c.bring_in.new.mapper) (g.M.Mapper.counts c.hand_over.new.mapper) = made_is _ _ _ _ _ _ c.in_ok-hand_over.ensures.made one.0 (omega (arith, one.1, pushes_free now)) in
-    let sum : Made (pulls_to_copy own) (frames_to_bring own + 1 - free_count c.args.store.now.frames) (g.M.Mapper.counts c.args.mapper.now) (g.M.Mapper.counts c.hand_over.new.mapper) = made_more (frames_to_bring own) (pulls_to_copy own) before now _ _ _ first.stays.frames taken brought over c.in_ok-hand_over.ensures.later in
-    sum
+    let h = c.in_ok-hand_over.ensures in
+    let over = resident_takes then c.bring_in.new.self.frames _ _ at.resident h.made in
+    brought_more own c.args.store.now.frames c.bring_in.new.self.frames _ _ first.stays.frames b.held b.made _ over h.answered.later
 
 pub returns-clause-most : goal.returns-clause-most
 returns-clause-most g c =
     let own : OwnState = own_of c.args.caches.now c.args.node in
     let then : OwnState = own_of c.bring_in.new.caches c.args.node in
-    let before : List Bool = c.args.store.now.frames.held in
-    let now : List Bool = c.bring_in.new.self.frames.held in
     let w : World = world (g.M.Mapper.held c.bring_in.new.mapper) (g.M.Mapper.page_bytes c.bring_in.new.mapper) c.bring_in.new.caches c.bring_in.new.self in
     let b = c.in_ok-frame.ensures in
     let first = b.still in
     let at = home w c.in_ok-frame.frame.0 c.args.node first.stays.right b.home.0 b.home.1 in
-    let one = resident_copies then at.resident in
-    let taken : Taken (frames_to_bring own) before now = taken_to_bring own before now b.held in
-    let brought : Made (pulls_to_copy own) (frames_to_bring own - free_count c.args.store.now.frames) (g.M.Mapper.counts c.args.mapper.now) (g.M.Mapper.counts c.bring_in.new.mapper) = made_is _ _ _ _ _ _ b.made refl (pushes_bring own before) in
-    let over : Made 0 (pushes_for now) (g.M.Mapper.counts c.bring_in.new.mapper) (g.M.Mapper.counts c.hand_over.new.mapper) = made_is _ _ _ _ _ _ c.in_ok-hand_over.ensures.made one.0 (omega (arith, one.1, pushes_free now)) in
-    let sum : Made (pulls_to_copy own) (frames_to_bring own + 1 - free_count c.args.store.now.frames) (g.M.Mapper.counts c.args.mapper.now) (g.M.Mapper.counts c.hand_over.new.mapper) = made_more (frames_to_bring own) (pulls_to_copy own) before now _ _ _ first.stays.frames taken brought over c.in_ok-hand_over.ensures.later in
+    let h = c.in_ok-hand_over.ensures in
+    let over = resident_takes then c.bring_in.new.self.frames _ _ at.resident h.made in
     let bounds = copy_most own in
-    made_most _ _ _ _ _ _ sum bounds.0 (omega (arith, bring_most own))
+    made_most _ _ _ _ _ _ (brought_more own c.args.store.now.frames c.bring_in.new.self.frames _ _ first.stays.frames b.held b.made _ over h.answered.later) bounds.0 (omega (arith, bring_most own))
 
 pub returns-in_err-hand_over-clause-most : goal.returns-in_err-hand_over-clause-most
 returns-in_err-hand_over-clause-most g c =
     let own : OwnState = own_of c.args.caches.now c.args.node in
     let then : OwnState = own_of c.bring_in.new.caches c.args.node in
-    let before : List Bool = c.args.store.now.frames.held in
-    let now : List Bool = c.bring_in.new.self.frames.held in
     let w : World = world (g.M.Mapper.held c.bring_in.new.mapper) (g.M.Mapper.page_bytes c.bring_in.new.mapper) c.bring_in.new.caches c.bring_in.new.self in
     let b = c.in_ok-frame.ensures in
     let first = b.still in
     let at = home w c.in_ok-frame.frame.0 c.args.node first.stays.right b.home.0 b.home.1 in
+    let e = c.in_err-hand_over.ensures in
     let one = resident_copies then at.resident in
-    let taken : Taken (frames_to_bring own) before now = taken_to_bring own before now b.held in
-    let brought : Made (pulls_to_copy own) (frames_to_bring own - free_count c.args.store.now.frames) (g.M.Mapper.counts c.args.mapper.now) (g.M.Mapper.counts c.bring_in.new.mapper) = made_is _ _ _ _ _ _ b.made refl (pushes_bring own before) in
+    let taken = brought_taken own c.args.store.now.frames c.bring_in.new.self.frames _ _ first.stays.frames b.held b.made in
+    let brought = brought_made own c.args.store.now.frames c.bring_in.new.self.frames _ _ first.stays.frames b.held b.made in
     let bounds = copy_most own in
-    most_then _ _ _ _ _ _ _ _ _ brought c.in_err-hand_over.ensures.most c.in_err-hand_over.ensures.later (omega (arith, one.0, bounds.0)) (omega (arith, one.1, bring_most own, pushes_then (frames_to_bring own) before now first.stays.frames taken))
+    most_then _ _ _ _ _ _ _ _ _ brought e.most e.answered.later (omega (arith, one.0, bounds.0)) (omega (arith, one.1, bring_most own, pushes_then (frames_to_bring own) c.args.store.now.frames.held c.bring_in.new.self.frames.held first.stays.frames taken))
 
 pub returns-in_err-frame-clause-most : goal.returns-in_err-frame-clause-most
 returns-in_err-frame-clause-most g c =

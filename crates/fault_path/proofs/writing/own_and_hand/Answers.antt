@@ -1,18 +1,18 @@
-use Rattle.std.proofs.Common.{sym, ap, subst, ◌∙◌, ◌≡◌, arith, Some, set, false, ◌+◌, ◌-◌}
+use Rattle.std.proofs.Common.{sym, ap, subst, ◌∙◌, ◌≡◌, arith, Some, set, false, ◌+◌, ◌-◌, rules}
 use Rattle.vm_ids.proofs.Forest.Owning.{apart_of_heir}
 use Rattle.global_map.specs.Pairs.{bound_times}
 use Rattle.local_cache.specs.Reading.{forest_of, name_of}
 use Rattle.residency.specs.declared.store.Store.{Store}
 use Rattle.residency.specs.StoreForest.{store_forest}
-use Rattle.residency.specs.World.{Still, World, world}
+use Rattle.residency.specs.World.{World, world}
 use Rattle.residency.proofs.Evicted.{still_then}
 use Rattle.residency.proofs.StillForest.{still_caches_sound}
 use Rattle.fault_path.specs.Faults.{IsOwner, Kept}
 use Rattle.fault_path.proofs.Heirs.{heir_absent, unbound}
-use Rattle.fault_path.proofs.SettledFrame.{homed}
-use Rattle.fault_path.proofs.Kept.{still_kept}
-use Rattle.fault_path.proofs.TwoFrames.{released_pins, released_still, step_copies, step_gives, step_heir, step_there, two_forest, two_kept, two_resident}
-use Rattle.fault_path.proofs.TwoFrames.{two_copies}
+use Rattle.fault_path.proofs.TwoFrames.{released_pins, released_still, step_copies, step_gives, step_heir, step_there, two_bound, two_copies, two_forest, two_kept, two_resident}
+use Rattle.fault_path.specs.Answers.{IsAnswered, IsMissed}
+use Rattle.residency.specs.declared.miss.Miss.TheVariants.{Victim}
+use Rattle.fault_path.proofs.Answered.{cause_then, later_then, still_answered, still_missed, still_missed_by}
 use Rattle.vm_ids.specs.declared.numbers.NodeId.{NodeId}
 use Rattle.local_cache.specs.Own.{own_of}
 use Rattle.residency.specs.Causes.{Made}
@@ -22,11 +22,26 @@ use Rattle.local_cache.specs.declared.own_state.OwnState.{OwnState}
 use Rattle.fault_path.proofs.Costs.{copy_most, made_more, made_most}
 use Rattle.fault_path.proofs.writing.own_and_hand.Goals as goal
 
-pub returns-in_err-frame-clause-kept : goal.returns-in_err-frame-clause-kept
-returns-in_err-frame-clause-kept g c = let n = c.in_err-frame.ensures.none in still_kept _ _ n.still c.requires.sound c.requires.shaped n.pinned
+pub returns-in_err-frame-clause-answered : goal.returns-in_err-frame-clause-answered
+returns-in_err-frame-clause-answered g c =
+    let told = g.M.Mapper.held c.copy_out.new.mapper in
+    let size = g.M.Mapper.page_bytes c.copy_out.new.mapper in
+    let old : World = world (g.M.Mapper.held c.args.mapper.now) (g.M.Mapper.page_bytes c.args.mapper.now) c.args.caches.now c.args.store.now in
+    let w : World = world told size c.copy_out.new.caches c.copy_out.new.store in
+    let n = c.in_err-frame.ensures.none in
+    still_answered old w n.still _ _ c.requires.right.sound c.requires.right.shaped n.pinned c.in_err-frame.ensures.later
 
-pub returns-in_default-clause-kept : goal.returns-in_default-clause-kept
-returns-in_default-clause-kept g c =
+pub returns-in_err-frame-clause-missed : goal.returns-in_err-frame-clause-missed
+returns-in_err-frame-clause-missed g c =
+    let told = g.M.Mapper.held c.copy_out.new.mapper in
+    let size = g.M.Mapper.page_bytes c.copy_out.new.mapper in
+    let old : World = world (g.M.Mapper.held c.args.mapper.now) (g.M.Mapper.page_bytes c.args.mapper.now) c.args.caches.now c.args.store.now in
+    let w : World = world told size c.copy_out.new.caches c.copy_out.new.store in
+    let n = c.in_err-frame.ensures.none in
+    still_missed_by old w n.still (g.M.Mapper.counts c.args.mapper.now) (g.M.Mapper.counts c.copy_out.new.mapper) c.from_residual.result (search rules)
+
+pub returns-in_default-clause-answered : goal.returns-in_default-clause-answered
+returns-in_default-clause-answered g c =
     let told = g.M.Mapper.held c.copy_out.new.mapper in
     let size = g.M.Mapper.page_bytes c.copy_out.new.mapper in
     let told2 = g.M.Mapper.held c.double.new.mapper in
@@ -34,12 +49,14 @@ returns-in_default-clause-kept g c =
     let old : World = world (g.M.Mapper.held c.args.mapper.now) (g.M.Mapper.page_bytes c.args.mapper.now) c.args.caches.now c.args.store.now in
     let w : World = world told size c.copy_out.new.caches c.copy_out.new.store in
     let v : World = world told2 size2 c.double.new.caches c.double.new.store in
+    let one = c.in_ok-frame.ensures.copied.gathered in
     let n = c.in_default.ensures.none in
-    subst (λ (s : Store). Kept old (world told2 size2 c.double.new.caches s)) (sym c.release.ensures)
-    (still_kept old _ (released_still old w v c.in_ok-frame.frame.0 c.in_ok-frame.ensures.gathered n) c.requires.sound c.requires.shaped (released_pins old w v c.in_ok-frame.frame.0 c.in_ok-frame.ensures.gathered n))
+    let later = later_then _ _ _ c.in_ok-frame.ensures.later c.in_default.ensures.later in
+    subst (λ (s : Store). IsAnswered old (world told2 size2 c.double.new.caches s) (g.M.Mapper.counts c.args.mapper.now) (g.M.Mapper.counts c.double.new.mapper)) (sym c.release.ensures)
+    (still_answered old _ (released_still old w v c.in_ok-frame.frame.0 one n) _ _ c.requires.right.sound c.requires.right.shaped (released_pins old w v c.in_ok-frame.frame.0 one n) later)
 
-pub returns-in_default-clause-failed : goal.returns-in_default-clause-failed
-returns-in_default-clause-failed g c =
+pub returns-in_default-clause-missed : goal.returns-in_default-clause-missed
+returns-in_default-clause-missed g c =
     let told = g.M.Mapper.held c.copy_out.new.mapper in
     let size = g.M.Mapper.page_bytes c.copy_out.new.mapper in
     let told2 = g.M.Mapper.held c.double.new.mapper in
@@ -47,150 +64,79 @@ returns-in_default-clause-failed g c =
     let old : World = world (g.M.Mapper.held c.args.mapper.now) (g.M.Mapper.page_bytes c.args.mapper.now) c.args.caches.now c.args.store.now in
     let w : World = world told size c.copy_out.new.caches c.copy_out.new.store in
     let v : World = world told2 size2 c.double.new.caches c.double.new.store in
+    let one = c.in_ok-frame.ensures.copied.gathered in
     let n = c.in_default.ensures.none in
-    subst (λ (s : Store). Still old (world told2 size2 c.double.new.caches s)) (sym c.release.ensures)
-    (released_still old w v c.in_ok-frame.frame.0 c.in_ok-frame.ensures.gathered n)
+    subst (λ (s : Store). IsMissed Victim old (world told2 size2 c.double.new.caches s) (g.M.Mapper.counts c.args.mapper.now) (g.M.Mapper.counts c.double.new.mapper)) (sym c.release.ensures)
+    (still_missed old _ (released_still old w v c.in_ok-frame.frame.0 one n) _ _ Victim (cause_then _ _ _ Victim c.in_ok-frame.ensures.later c.in_default.ensures.cause))
 
 pub own_page-requires-clause-sound : goal.own_page-requires-clause-sound
 own_page-requires-clause-sound g c =
-    let told = g.M.Mapper.held c.copy_out.new.mapper in
-    let size = g.M.Mapper.page_bytes c.copy_out.new.mapper in
-    let told2 = g.M.Mapper.held c.double.new.mapper in
-    let size2 = g.M.Mapper.page_bytes c.double.new.mapper in
-    let old : World = world (g.M.Mapper.held c.args.mapper.now) (g.M.Mapper.page_bytes c.args.mapper.now) c.args.caches.now c.args.store.now in
-    let w : World = world told size c.copy_out.new.caches c.copy_out.new.store in
-    let v : World = world told2 size2 c.double.new.caches c.double.new.store in
-    let one = c.in_ok-frame.ensures.gathered in
-    let two = c.in-Ok.ensures.gathered in
-    still_caches_sound old v (still_then old w v one.still two.still) c.requires.sound
+    let one = c.in_ok-frame.ensures.copied in
+    let two = c.in-Ok.ensures.doubled in
+    still_caches_sound _ _ (still_then _ _ _ one.gathered.still two.gathered.still) c.requires.right.sound
 
 pub hand_page-requires-clause-node : goal.hand_page-requires-clause-node
 hand_page-requires-clause-node g c =
-    let told = g.M.Mapper.held c.copy_out.new.mapper in
-    let size = g.M.Mapper.page_bytes c.copy_out.new.mapper in
-    let told2 = g.M.Mapper.held c.double.new.mapper in
-    let size2 = g.M.Mapper.page_bytes c.double.new.mapper in
-    let old : World = world (g.M.Mapper.held c.args.mapper.now) (g.M.Mapper.page_bytes c.args.mapper.now) c.args.caches.now c.args.store.now in
-    let w : World = world told size c.copy_out.new.caches c.copy_out.new.store in
-    let v : World = world told2 size2 c.double.new.caches c.double.new.store in
-    let e = c.in-Ok.ensures in
     let owner : IsOwner c.args.caches.now c.args.node c.owner_of-owner.result = record { held = c.owner_of-owner.ensures.held; name = c.owner_of-owner.ensures.owner } in
-    step_there old w v c.in_ok-frame.frame.0 c.in-Ok.second.0 c.in_ok-frame.ensures.gathered e.gathered e.apart e.stays e.bytes c.requires.sound c.requires.shaped c.args.node c.owner_of-owner.result c.requires.node c.requires.bare owner c.in_ok-frame.ensures.page c.own_page.new.caches c.own_page.ensures c.args.node c.requires.node
+    step_there c.requires.right c.in_ok-frame.ensures.copied c.in-Ok.ensures.doubled c.requires.node c.requires.bare owner c.own_page.ensures c.args.node c.requires.node
 
 pub hand_page-requires-clause-heir : goal.hand_page-requires-clause-heir
 hand_page-requires-clause-heir g c =
-    let told = g.M.Mapper.held c.copy_out.new.mapper in
-    let size = g.M.Mapper.page_bytes c.copy_out.new.mapper in
-    let told2 = g.M.Mapper.held c.double.new.mapper in
-    let size2 = g.M.Mapper.page_bytes c.double.new.mapper in
-    let old : World = world (g.M.Mapper.held c.args.mapper.now) (g.M.Mapper.page_bytes c.args.mapper.now) c.args.caches.now c.args.store.now in
-    let w : World = world told size c.copy_out.new.caches c.copy_out.new.store in
-    let v : World = world told2 size2 c.double.new.caches c.double.new.store in
-    let e = c.in-Ok.ensures in
     let owner : IsOwner c.args.caches.now c.args.node c.owner_of-owner.result = record { held = c.owner_of-owner.ensures.held; name = c.owner_of-owner.ensures.owner } in
-    step_there old w v c.in_ok-frame.frame.0 c.in-Ok.second.0 c.in_ok-frame.ensures.gathered e.gathered e.apart e.stays e.bytes c.requires.sound c.requires.shaped c.args.node c.owner_of-owner.result c.requires.node c.requires.bare owner c.in_ok-frame.ensures.page c.own_page.new.caches c.own_page.ensures c.args.next c.requires.next
+    step_there c.requires.right c.in_ok-frame.ensures.copied c.in-Ok.ensures.doubled c.requires.node c.requires.bare owner c.own_page.ensures c.args.next c.requires.next
 
 pub hand_page-requires-clause-is : goal.hand_page-requires-clause-is
 hand_page-requires-clause-is g c =
-    let told = g.M.Mapper.held c.copy_out.new.mapper in
-    let size = g.M.Mapper.page_bytes c.copy_out.new.mapper in
-    let told2 = g.M.Mapper.held c.double.new.mapper in
-    let size2 = g.M.Mapper.page_bytes c.double.new.mapper in
-    let old : World = world (g.M.Mapper.held c.args.mapper.now) (g.M.Mapper.page_bytes c.args.mapper.now) c.args.caches.now c.args.store.now in
-    let w : World = world told size c.copy_out.new.caches c.copy_out.new.store in
-    let v : World = world told2 size2 c.double.new.caches c.double.new.store in
-    let e = c.in-Ok.ensures in
     let owner : IsOwner c.args.caches.now c.args.node c.owner_of-owner.result = record { held = c.owner_of-owner.ensures.held; name = c.owner_of-owner.ensures.owner } in
-    step_heir old w v c.in_ok-frame.frame.0 c.in-Ok.second.0 c.in_ok-frame.ensures.gathered e.gathered e.apart e.stays e.bytes c.requires.sound c.requires.shaped c.args.node c.owner_of-owner.result c.requires.node c.requires.bare owner c.in_ok-frame.ensures.page c.own_page.new.caches c.own_page.ensures c.args.next c.requires.is
+    step_heir c.requires.right c.in_ok-frame.ensures.copied c.in-Ok.ensures.doubled c.requires.node c.requires.bare owner c.own_page.ensures c.args.next c.requires.is
 
 pub hand_page-requires-clause-copies : goal.hand_page-requires-clause-copies
 hand_page-requires-clause-copies g c =
-    let told = g.M.Mapper.held c.copy_out.new.mapper in
-    let size = g.M.Mapper.page_bytes c.copy_out.new.mapper in
-    let told2 = g.M.Mapper.held c.double.new.mapper in
-    let size2 = g.M.Mapper.page_bytes c.double.new.mapper in
-    let old : World = world (g.M.Mapper.held c.args.mapper.now) (g.M.Mapper.page_bytes c.args.mapper.now) c.args.caches.now c.args.store.now in
-    let w : World = world told size c.copy_out.new.caches c.copy_out.new.store in
-    let v : World = world told2 size2 c.double.new.caches c.double.new.store in
-    let e = c.in-Ok.ensures in
     let owner : IsOwner c.args.caches.now c.args.node c.owner_of-owner.result = record { held = c.owner_of-owner.ensures.held; name = c.owner_of-owner.ensures.owner } in
-    let more = step_copies old w v c.in_ok-frame.frame.0 c.in-Ok.second.0 c.in_ok-frame.ensures.gathered e.gathered e.apart e.stays e.bytes c.requires.sound c.requires.shaped c.args.node c.owner_of-owner.result c.requires.node c.requires.bare owner c.in_ok-frame.ensures.page c.own_page.new.caches c.own_page.ensures in
+    let more = step_copies c.requires.right c.in_ok-frame.ensures.copied c.in-Ok.ensures.doubled c.requires.node c.requires.bare owner c.own_page.ensures in
     omega (arith, more, c.requires.copies)
 
 pub settle_in-requires-2-clause-away : goal.settle_in-requires-2-clause-away
 settle_in-requires-2-clause-away g c =
-    let told = g.M.Mapper.held c.copy_out.new.mapper in
-    let size = g.M.Mapper.page_bytes c.copy_out.new.mapper in
-    let told2 = g.M.Mapper.held c.double.new.mapper in
-    let size2 = g.M.Mapper.page_bytes c.double.new.mapper in
-    let old : World = world (g.M.Mapper.held c.args.mapper.now) (g.M.Mapper.page_bytes c.args.mapper.now) c.args.caches.now c.args.store.now in
-    let w : World = world told size c.copy_out.new.caches c.copy_out.new.store in
-    let v : World = world told2 size2 c.double.new.caches c.double.new.store in
-    let e = c.in-Ok.ensures in
     let owner : IsOwner c.args.caches.now c.args.node c.owner_of-owner.result = record { held = c.owner_of-owner.ensures.held; name = c.owner_of-owner.ensures.owner } in
-    let step = step_gives old w v c.in_ok-frame.frame.0 c.in-Ok.second.0 c.in_ok-frame.ensures.gathered e.gathered e.apart e.stays e.bytes c.requires.sound c.requires.shaped c.args.node c.owner_of-owner.result c.requires.node c.requires.bare owner c.in_ok-frame.ensures.page c.own_page.new.caches c.own_page.ensures in
-    let next_there = step_there old w v c.in_ok-frame.frame.0 c.in-Ok.second.0 c.in_ok-frame.ensures.gathered e.gathered e.apart e.stays e.bytes c.requires.sound c.requires.shaped c.args.node c.owner_of-owner.result c.requires.node c.requires.bare owner c.in_ok-frame.ensures.page c.own_page.new.caches c.own_page.ensures c.args.next c.requires.next in
-    let next_is = step_heir old w v c.in_ok-frame.frame.0 c.in-Ok.second.0 c.in_ok-frame.ensures.gathered e.gathered e.apart e.stays e.bytes c.requires.sound c.requires.shaped c.args.node c.owner_of-owner.result c.requires.node c.requires.bare owner c.in_ok-frame.ensures.page c.own_page.new.caches c.own_page.ensures c.args.next c.requires.is in
-    ap (λ (s : Store). bound_times s.map c.args.next.0) c.settle_in.ensures
-    ∙ unbound (homed v c.in_ok-frame.frame.0 c.args.node c.own_page.new.caches) step.right c.args.next (heir_absent c.own_page.new.caches step.sound _ c.args.next next_there next_is)
+    let step = step_gives c.requires.right c.in_ok-frame.ensures.copied c.in-Ok.ensures.doubled c.requires.node c.requires.bare owner c.own_page.ensures in
+    let next_there = step_there c.requires.right c.in_ok-frame.ensures.copied c.in-Ok.ensures.doubled c.requires.node c.requires.bare owner c.own_page.ensures c.args.next c.requires.next in
+    let next_is = step_heir c.requires.right c.in_ok-frame.ensures.copied c.in-Ok.ensures.doubled c.requires.node c.requires.bare owner c.own_page.ensures c.args.next c.requires.is in
+    ap (λ (s : Store). bound_times s.map c.args.next.0) c.settle_in.ensures ∙ unbound _ step.right c.args.next (heir_absent c.own_page.new.caches step.sound _ c.args.next next_there next_is)
 
-pub returns-clause-kept : goal.returns-clause-kept
-returns-clause-kept g c =
-    let told = g.M.Mapper.held c.copy_out.new.mapper in
-    let size = g.M.Mapper.page_bytes c.copy_out.new.mapper in
-    let told2 = g.M.Mapper.held c.double.new.mapper in
-    let size2 = g.M.Mapper.page_bytes c.double.new.mapper in
+pub returns-clause-answered : goal.returns-clause-answered
+returns-clause-answered g c =
+    let told = g.M.Mapper.held c.double.new.mapper in
+    let size = g.M.Mapper.page_bytes c.double.new.mapper in
     let old : World = world (g.M.Mapper.held c.args.mapper.now) (g.M.Mapper.page_bytes c.args.mapper.now) c.args.caches.now c.args.store.now in
-    let w : World = world told size c.copy_out.new.caches c.copy_out.new.store in
-    let v : World = world told2 size2 c.double.new.caches c.double.new.store in
-    let e = c.in-Ok.ensures in
     let owner : IsOwner c.args.caches.now c.args.node c.owner_of-owner.result = record { held = c.owner_of-owner.ensures.held; name = c.owner_of-owner.ensures.owner } in
     let store : c.settle_in-2.new.store ≡ record c.double.new.store { frames = record c.double.new.store.frames { pinned = set (set c.double.new.store.frames.pinned c.in_ok-frame.frame.0 false) c.in-Ok.second.0 false }; map = set (set c.double.new.store.map c.in_ok-frame.frame.0 (Some c.args.node)) c.in-Ok.second.0 (Some c.args.next) }
     = c.settle_in-2.ensures ∙ ap (λ (s : Store). record s { frames = record s.frames { pinned = set s.frames.pinned c.in-Ok.second.0 false }; map = set s.map c.in-Ok.second.0 (Some c.args.next) }) c.settle_in.ensures in
-    subst (λ (s : Store). Kept old (world told2 size2 c.hand_page.new.caches s)) (sym store)
-    (two_kept old w v c.in_ok-frame.frame.0 c.in-Ok.second.0 c.in_ok-frame.ensures.gathered e.gathered e.apart e.stays e.bytes c.requires.sound c.requires.shaped c.args.node c.owner_of-owner.result c.requires.node c.requires.bare owner c.in_ok-frame.ensures.page c.own_page.new.caches c.own_page.ensures c.args.next c.requires.next c.requires.is c.hand_page.new.caches c.hand_page.ensures)
+    let kept = two_kept c.requires.right c.in_ok-frame.ensures.copied c.in-Ok.ensures.doubled c.requires.node c.requires.bare owner c.own_page.ensures c.requires.next c.requires.is c.hand_page.ensures in
+    record {
+      kept = subst (λ (s : Store). Kept old (world told size c.hand_page.new.caches s)) (sym store) kept;
+      later = later_then _ _ _ c.in_ok-frame.ensures.later c.in-Ok.ensures.later;
+    }
 
-pub returns-clause-forest : goal.returns-clause-forest
-returns-clause-forest g c =
-    let told = g.M.Mapper.held c.copy_out.new.mapper in
-    let size = g.M.Mapper.page_bytes c.copy_out.new.mapper in
-    let told2 = g.M.Mapper.held c.double.new.mapper in
-    let size2 = g.M.Mapper.page_bytes c.double.new.mapper in
+pub returns-clause-ready : goal.returns-clause-ready
+returns-clause-ready g c =
+    let told = g.M.Mapper.held c.double.new.mapper in
+    let size = g.M.Mapper.page_bytes c.double.new.mapper in
     let old : World = world (g.M.Mapper.held c.args.mapper.now) (g.M.Mapper.page_bytes c.args.mapper.now) c.args.caches.now c.args.store.now in
-    let w : World = world told size c.copy_out.new.caches c.copy_out.new.store in
-    let v : World = world told2 size2 c.double.new.caches c.double.new.store in
-    let e = c.in-Ok.ensures in
     let owner : IsOwner c.args.caches.now c.args.node c.owner_of-owner.result = record { held = c.owner_of-owner.ensures.held; name = c.owner_of-owner.ensures.owner } in
     let store : c.settle_in-2.new.store ≡ record c.double.new.store { frames = record c.double.new.store.frames { pinned = set (set c.double.new.store.frames.pinned c.in_ok-frame.frame.0 false) c.in-Ok.second.0 false }; map = set (set c.double.new.store.map c.in_ok-frame.frame.0 (Some c.args.node)) c.in-Ok.second.0 (Some c.args.next) }
     = c.settle_in-2.ensures ∙ ap (λ (s : Store). record s { frames = record s.frames { pinned = set s.frames.pinned c.in-Ok.second.0 false }; map = set s.map c.in-Ok.second.0 (Some c.args.next) }) c.settle_in.ensures in
-    ap (λ (s : Store). store_forest (world told2 size2 c.hand_page.new.caches s)) store
-    ∙ two_forest old w v c.in_ok-frame.frame.0 c.in-Ok.second.0 c.in_ok-frame.ensures.gathered e.gathered e.apart e.stays e.bytes c.requires.sound c.requires.shaped c.args.node c.owner_of-owner.result c.requires.node c.requires.bare owner c.in_ok-frame.ensures.page c.own_page.new.caches c.own_page.ensures c.args.next c.requires.next c.requires.is c.hand_page.new.caches c.hand_page.ensures
-
-pub returns-clause-resident : goal.returns-clause-resident
-returns-clause-resident g c =
-    let told = g.M.Mapper.held c.copy_out.new.mapper in
-    let size = g.M.Mapper.page_bytes c.copy_out.new.mapper in
-    let told2 = g.M.Mapper.held c.double.new.mapper in
-    let size2 = g.M.Mapper.page_bytes c.double.new.mapper in
-    let old : World = world (g.M.Mapper.held c.args.mapper.now) (g.M.Mapper.page_bytes c.args.mapper.now) c.args.caches.now c.args.store.now in
-    let w : World = world told size c.copy_out.new.caches c.copy_out.new.store in
-    let v : World = world told2 size2 c.double.new.caches c.double.new.store in
-    let e = c.in-Ok.ensures in
-    let owner : IsOwner c.args.caches.now c.args.node c.owner_of-owner.result = record { held = c.owner_of-owner.ensures.held; name = c.owner_of-owner.ensures.owner } in
-    two_resident old w v c.in_ok-frame.frame.0 c.in-Ok.second.0 c.in_ok-frame.ensures.gathered e.gathered e.apart e.stays e.bytes c.requires.sound c.requires.shaped c.args.node c.owner_of-owner.result c.requires.node c.requires.bare owner c.in_ok-frame.ensures.page c.own_page.new.caches c.own_page.ensures c.args.next c.requires.next c.requires.is c.hand_page.new.caches c.hand_page.ensures (λ e. apart_of_heir (forest_of c.args.caches.now) c.requires.sound.linked (name_of c.args.caches.now c.args.node) (name_of c.args.caches.now c.args.next) c.requires.is (ap (name_of c.args.caches.now) (sym e)))
+    let bound = two_bound c.requires.right c.in_ok-frame.ensures.copied c.in-Ok.ensures.doubled c.requires.node c.requires.bare owner c.own_page.ensures c.requires.next c.requires.is c.hand_page.ensures in
+    record {
+      forest = ap (λ (s : Store). store_forest (world told size c.hand_page.new.caches s)) store ∙ two_forest c.requires.right c.in_ok-frame.ensures.copied c.in-Ok.ensures.doubled c.requires.node c.requires.bare owner c.own_page.ensures c.requires.next c.requires.is c.hand_page.ensures;
+      bound = search rules;
+      resident = two_resident c.requires.right c.in_ok-frame.ensures.copied c.in-Ok.ensures.doubled c.requires.node c.requires.bare owner c.own_page.ensures c.requires.next c.requires.is c.hand_page.ensures (λ e. apart_of_heir (forest_of c.args.caches.now) c.requires.right.sound.linked (name_of c.args.caches.now c.args.node) (name_of c.args.caches.now c.args.next) c.requires.is (ap (name_of c.args.caches.now) (sym e)));
+    }
 
 pub returns-clause-copies : goal.returns-clause-copies
 returns-clause-copies g c =
-    let told = g.M.Mapper.held c.copy_out.new.mapper in
-    let size = g.M.Mapper.page_bytes c.copy_out.new.mapper in
-    let told2 = g.M.Mapper.held c.double.new.mapper in
-    let size2 = g.M.Mapper.page_bytes c.double.new.mapper in
-    let old : World = world (g.M.Mapper.held c.args.mapper.now) (g.M.Mapper.page_bytes c.args.mapper.now) c.args.caches.now c.args.store.now in
-    let w : World = world told size c.copy_out.new.caches c.copy_out.new.store in
-    let v : World = world told2 size2 c.double.new.caches c.double.new.store in
-    let e = c.in-Ok.ensures in
     let owner : IsOwner c.args.caches.now c.args.node c.owner_of-owner.result = record { held = c.owner_of-owner.ensures.held; name = c.owner_of-owner.ensures.owner } in
-    two_copies old w v c.in_ok-frame.frame.0 c.in-Ok.second.0 c.in_ok-frame.ensures.gathered e.gathered e.apart e.stays e.bytes c.requires.sound c.requires.shaped c.args.node c.owner_of-owner.result c.requires.node c.requires.bare owner c.in_ok-frame.ensures.page c.own_page.new.caches c.own_page.ensures c.args.next c.requires.next c.requires.is c.hand_page.new.caches c.hand_page.ensures
+    two_copies c.requires.right c.in_ok-frame.ensures.copied c.in-Ok.ensures.doubled c.requires.node c.requires.bare owner c.own_page.ensures c.requires.next c.requires.is c.hand_page.ensures
 
 pub returns-clause-made : goal.returns-clause-made
 returns-clause-made g c = λ o is. (
@@ -198,17 +144,17 @@ returns-clause-made g c = λ o is. (
     let owner : IsOwner c.args.caches.now c.args.node it = record { held = c.owner_of-owner.ensures.held; name = c.owner_of-owner.ensures.owner } in
     let own : OwnState = own_of c.args.caches.now it in
     let first = c.in_ok-frame.ensures in
-    let gathered = first.gathered in
+    let gathered = first.copied.gathered in
     let whole = gathered.still in
     let sum : Made (pulls_to_copy own) (frames_to_copy own + 1 - free_count c.args.store.now.frames) (g.M.Mapper.counts c.args.mapper.now) (g.M.Mapper.counts c.double.new.mapper) = made_more (frames_to_copy own) (pulls_to_copy own) c.args.store.now.frames.held c.copy_out.new.store.frames.held _ _ _ whole.stays.frames first.held first.made c.double.ensures.made c.double.ensures.later in
-    subst (λ (m : NodeId). Made (pulls_to_copy (own_of c.args.caches.now m)) (frames_to_copy (own_of c.args.caches.now m) + 1 - free_count c.args.store.now.frames) (g.M.Mapper.counts c.args.mapper.now) (g.M.Mapper.counts c.double.new.mapper)) (sym (owner_same c.args.caches.now c.requires.sound c.args.node o it is owner)) sum)
+    subst (λ (m : NodeId). Made (pulls_to_copy (own_of c.args.caches.now m)) (frames_to_copy (own_of c.args.caches.now m) + 1 - free_count c.args.store.now.frames) (g.M.Mapper.counts c.args.mapper.now) (g.M.Mapper.counts c.double.new.mapper)) (sym (owner_same c.args.caches.now c.requires.right.sound c.args.node o it is owner)) sum)
 
 pub returns-clause-most : goal.returns-clause-most
 returns-clause-most g c =
     let it : NodeId = c.owner_of-owner.result in
     let own : OwnState = own_of c.args.caches.now it in
     let first = c.in_ok-frame.ensures in
-    let gathered = first.gathered in
+    let gathered = first.copied.gathered in
     let whole = gathered.still in
     let sum : Made (pulls_to_copy own) (frames_to_copy own + 1 - free_count c.args.store.now.frames) (g.M.Mapper.counts c.args.mapper.now) (g.M.Mapper.counts c.double.new.mapper) = made_more (frames_to_copy own) (pulls_to_copy own) c.args.store.now.frames.held c.copy_out.new.store.frames.held _ _ _ whole.stays.frames first.held first.made c.double.ensures.made c.double.ensures.later in
     let bounds = copy_most own in
@@ -219,7 +165,7 @@ returns-in_default-clause-most g c =
     let it : NodeId = c.owner_of-owner.result in
     let own : OwnState = own_of c.args.caches.now it in
     let first = c.in_ok-frame.ensures in
-    let gathered = first.gathered in
+    let gathered = first.copied.gathered in
     let whole = gathered.still in
     let sum : Made (pulls_to_copy own) (frames_to_copy own + 1 - free_count c.args.store.now.frames) (g.M.Mapper.counts c.args.mapper.now) (g.M.Mapper.counts c.double.new.mapper) = made_more (frames_to_copy own) (pulls_to_copy own) c.args.store.now.frames.held c.copy_out.new.store.frames.held _ _ _ whole.stays.frames first.held first.made c.double.ensures.made c.double.ensures.later in
     let bounds = copy_most own in

@@ -1,18 +1,19 @@
-use Rattle.std.proofs.Common.{◌≡◌}
-use Rattle.residency.specs.StoreForest.{store_forest}
-use Rattle.residency.specs.World.{Still, World, world}
-use Rattle.residency.proofs.StillForest.{still_forest}
-use Rattle.residency.proofs.Arms.{on_err_then}
+use Rattle.std.proofs.Common.{sym, ap, ◌∙◌, ◌≡◌, true}
+use Rattle.vm_ids.specs.Forest.Rules as forest
+use Rattle.local_cache.specs.Own.{is_absent, own_of}
+use Rattle.residency.specs.World.{World, world}
+use Rattle.residency.proofs.Arms.{if_ok}
+use Rattle.fault_path.specs.Answers.{IsFramed}
+use Rattle.fault_path.specs.Faults.{readied}
+use Rattle.fault_path.proofs.Kept.{absent_is}
+use Rattle.fault_path.proofs.ReadyForest.{own_ready}
 use Rattle.fault_path.proofs.writing.write_fault.Goals as goal
 
-pub returns-then-is_absent-clause-failed_forest : goal.returns-then-is_absent-clause-failed_forest
-returns-then-is_absent-clause-failed_forest g c =
+pub returns-in-None-clause-ready : goal.returns-in-None-clause-ready
+returns-in-None-clause-ready g c =
     let old : World = world (g.M.Mapper.held c.args.mapper.now) (g.M.Mapper.page_bytes c.args.mapper.now) c.args.caches.now c.args.store.now in
-    let w : World = world (g.M.Mapper.held c.write_copy.new.mapper) (g.M.Mapper.page_bytes c.write_copy.new.mapper) c.write_copy.new.caches c.write_copy.new.store in
-    on_err_then (Still old w) (store_forest w ≡ store_forest old) c.write_copy.result (still_forest old w) c.write_copy.ensures.failed
-
-pub returns-else-is_absent-clause-failed_forest : goal.returns-else-is_absent-clause-failed_forest
-returns-else-is_absent-clause-failed_forest g c =
-    let old : World = world (g.M.Mapper.held c.args.mapper.now) (g.M.Mapper.page_bytes c.args.mapper.now) c.args.caches.now c.args.store.now in
-    let w : World = world (g.M.Mapper.held c.write_own.new.mapper) (g.M.Mapper.page_bytes c.write_own.new.mapper) c.write_own.new.caches c.write_own.new.store in
-    on_err_then (Still old w) (store_forest w ≡ store_forest old) c.write_own.result (still_forest old w) c.write_own.ensures.failed
+    let w : World = world (g.M.Mapper.held c.own_framed.new.mapper) (g.M.Mapper.page_bytes c.own_framed.new.mapper) c.own_framed.new.caches c.own_framed.new.store in
+    let absent : is_absent (own_of c.args.caches.now c.args.node) ≡ true = sym (c.is_absent.ensures.absent ∙ ap is_absent c.own_state.ensures) ∙ c.if-is_absent.true in
+    let ready = own_ready old c.requires.right.sound c.requires.right.shaped c.args.node c.requires.node (absent_is _ absent) (sym c.in-None.ensures.heir) in
+    if_ok (λ f. IsFramed forest.own c.args.node f.0 old w) (λ f. IsFramed readied c.args.node f.0 old w) c.own_framed.result
+    (λ f owned. record { forest = owned.forest ∙ ready; bound = owned.bound; resident = owned.resident }) c.own_framed.ensures.owned
