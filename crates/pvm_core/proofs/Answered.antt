@@ -10,7 +10,7 @@ use Rattle.vm_ids.specs.declared.reply.Reply.TheVariants as replies
 use Rattle.vm_ids.specs.declared.reply.FaultAt.TheVariants as faults
 use Rattle.vm_ids.specs.declared.reply.Trouble.{Trouble}
 use Rattle.vm_ids.specs.declared.reply.Trouble.TheVariants as troubles
-use Rattle.vm_port.specs.declared.failed.Failed.{Failed}
+use Rattle.vm_port.specs.declared.traits.failed.Failed.{Failed}
 use Rattle.vm_model.specs.Answering.{Answer, answer_by, reply}
 use Rattle.vm_model.specs.Asking.{ReachesMapper}
 use Rattle.vm_model.specs.Following.{forest_after, followed}

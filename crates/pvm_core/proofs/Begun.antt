@@ -17,11 +17,11 @@ use Rattle.residency.specs.declared.store.Store.{Store}
 use Rattle.residency.specs.StoreForest.{store_forest}
 use Rattle.residency.specs.World.{IsStoreRight, World, world}
 use Rattle.residency.proofs.After.{made_right, slots_right}
-use Rattle.local_cache.proofs.Begun.{zero_pages}
+use Rattle.local_cache.proofs.NewCache.Whole.{zero_pages}
 use Rattle.local_cache.specs.Whole.{size_of}
-use Rattle.local_cache.proofs.Begun.{whole_begun}
-use Rattle.local_cache.proofs.Sizes.{sizes_same}
-use Rattle.local_cache.proofs.Wholes.{whole_same}
+use Rattle.local_cache.proofs.NewCache.Whole.{whole_begun}
+use Rattle.local_cache.proofs.Tables.Sizes.{sizes_same}
+use Rattle.local_cache.proofs.Whole.Pages.{whole_same}
 use Rattle.vm_ids.specs.Forest.Commands.{make}
 use Rattle.vm_ids.specs.Forest.Shape.{IsBounded}
 use Rattle.vm_ids.proofs.Forest.Laws.Commands.{make_keeps_bound}
@@ -33,7 +33,7 @@ use Rattle.pvm_core.specs.declared.actors.Actors.{Actors}
 use Rattle.pvm_core.specs.declared.actors.Region.{Region}
 use Rattle.pvm_core.specs.Seen.{ArePlaced, AreRight, IsPlaced, actor_seen}
 use Rattle.pvm_core.specs.Manager.{IsSound, IsTemporary, IsValid, caches_shown, forest_of, live_in, machine_by, machine_of}
-use Rattle.local_cache.proofs.OwnCount.{forest_len}
+use Rattle.local_cache.proofs.Nodes.Count.{forest_len}
 use Rattle.pvm_core.proofs.Kept.{seen}
 use Rattle.pvm_core.proofs.Live.{nodes_most}
 use Rattle.pvm_core.proofs.Making.{roomier_store}

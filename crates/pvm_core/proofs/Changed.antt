@@ -95,7 +95,7 @@ module _ (b d : Arena) (s u : Store) (t : Actors) (live : ℕ) (i : IsSound b s 
     machine_is F = λ j. record {
       page_bytes = t.page_bytes;
       frames = gives.frames j;
-      caches = followed_is (record (machine_of (seen b s t) h) { caches = cs }) (forest_of (seen d u t) h) F d.caches (many ∙ sym same.made) (λ k low. shapes_now k) j;
+      caches = followed_is (record (machine_of (seen b s t) h) { caches = cs }) (forest_of (seen d u t) h) F d.caches (many ∙ sym same.count) (λ k low. shapes_now k) j;
       actors = map (option_map actor_seen) t.list.items;
       regions_made = t.regions_made;
     }
@@ -104,7 +104,7 @@ module _ (b d : Arena) (s u : Store) (t : Actors) (live : ℕ) (i : IsSound b s 
     blank_is f e = ap (machine_of (seen d u t)) e ∙ blank_of (seen d u t) f whole ∙ (λ j. record {
       page_bytes = t.page_bytes;
       frames = gives.frames j;
-      caches = blanks_same (caches_shown f 1 d.caches) cs d.caches (shown_made f 1 d.caches) (many ∙ sym same.made) (shown_shaped f 1 d.caches) shapes_now j;
+      caches = blanks_same (caches_shown f 1 d.caches) cs d.caches (shown_made f 1 d.caches) (many ∙ sym same.count) (shown_shaped f 1 d.caches) shapes_now j;
       actors = map (option_map actor_seen) t.list.items;
       regions_made = t.regions_made;
     })

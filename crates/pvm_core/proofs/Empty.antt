@@ -17,13 +17,13 @@ use Rattle.local_cache.specs.Arena.{Arena, Table, page_count}
 use Rattle.local_cache.specs.Reading.{forest_of}
 use Rattle.local_cache.specs.ReadingBy.{forest_by}
 use Rattle.local_cache.specs.Sound.{IsSound}
-use Rattle.local_cache.proofs.Reading.{get-forest_by_none}
-use Rattle.local_cache.proofs.ReadingBy.{forest_by-copies, forest_by-made}
+use Rattle.local_cache.proofs.Forest.Reading.{get-forest_by_none}
+use Rattle.local_cache.proofs.Forest.ReadingBy.{forest_by-copies, forest_by-made}
 use Rattle.residency.specs.declared.store.Store.{Store}
 use Rattle.residency.specs.StoreForest.{store_forest}
 use Rattle.residency.specs.World.{HasNoNodes, own_page, world}
 use Rattle.local_cache.specs.Whole.{size_of}
-use Rattle.local_cache.proofs.Wholes.{no_caches, no_nodes}
+use Rattle.local_cache.proofs.Whole.Pages.{no_caches, no_nodes}
 use Rattle.vm_model.specs.Outcome.{IsWhole}
 use Rattle.pvm_core.specs.declared.actors.Actor.{Actor}
 use Rattle.pvm_core.specs.Seen.{ArePlaced}

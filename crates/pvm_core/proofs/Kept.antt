@@ -9,8 +9,7 @@ use Rattle.vm_ids.specs.declared.node_name.NodeName.{NodeName}
 use Rattle.vm_ids.specs.declared.node_name.NodeName.TheVariants.{Working}
 use Rattle.vm_ids.specs.Forest.Commands.{page_name}
 use Rattle.vm_ids.specs.Forest.NameMap.{contains_key, from_entries, insert, len}
-use Rattle.vm_ids.specs.Forest.Nodes.{IsNode, Node}
-use Rattle.local_cache.specs.declared.own_state.OwnState.{OwnState}
+use Rattle.vm_ids.specs.Forest.Nodes.{IsNode}
 use Rattle.vm_ids.proofs.Forest.Agreeing.{bounded_from, live_count-le, working_count-le}
 use Rattle.vm_ids.proofs.Forest.NameMap.{len-insert}
 use Rattle.local_cache.specs.Arena.{Arena, Cell, Table, page_count, table_at}
@@ -19,15 +18,15 @@ use Rattle.local_cache.specs.Changes.{Like}
 use Rattle.local_cache.specs.Own.{own_states}
 use Rattle.local_cache.specs.Reading as arena
 use Rattle.local_cache.specs.Reading.{name_of}
-use Rattle.local_cache.proofs.Reading.{IsNode-forest_of, forest_of-IsNode}
-use Rattle.local_cache.proofs.Values.{same_keys}
+use Rattle.local_cache.proofs.Forest.Reading.{IsNode-forest_of, forest_of-IsNode}
+use Rattle.local_cache.proofs.Nodes.Values.{same_keys}
 use Rattle.residency.specs.declared.store.Store.{Store}
 use Rattle.residency.specs.StoreForest.{store_forest}
 use Rattle.residency.specs.World.{IsStoreRight, Still, world}
 use Rattle.residency.proofs.StillForest.{still_forest}
 use Rattle.fault_path.specs.Faults.{Kept}
 use Rattle.fault_path.proofs.Kept.{still_kept}
-use Rattle.local_cache.proofs.OwnCount.{forest_len}
+use Rattle.local_cache.proofs.Nodes.Count.{forest_len}
 use Rattle.local_cache.specs.Whole.{size_of}
 use Rattle.vm_model.specs.Machine.{Machine}
 use Rattle.vm_model.specs.Outcome.{HasWholePages}
@@ -137,13 +136,13 @@ module _ (a b : Arena) (s t : Store) (h g : Option Held) (i j : Option ℕ) (k :
   kept_node : (x : NodeName) → IsNode (arena.forest_of a) x → IsNode (arena.forest_of b) x
   kept_node x is =
       let f = forest_of-IsNode a x is in
-      subst (IsNode (arena.forest_of b)) (k.nodes.name f.0 ∙ f.2) (IsNode-forest_of b k.sound.named f.0 (k.nodes.held f.0 ∙ f.1))
+      subst (IsNode (arena.forest_of b)) (k.nodes.name f.0 ∙ f.2) (IsNode-forest_of b k.sound.kept.named f.0 (k.nodes.held f.0 ∙ f.1))
 
   node_kept : (x : NodeName) → IsNode (arena.forest_of b) x → IsNode (arena.forest_of a) x
   node_kept x is =
       let f = forest_of-IsNode b x is in
       let there = sym (k.nodes.held f.0) ∙ f.1 in
-      subst (IsNode (arena.forest_of a)) (sym (k.nodes.name f.0) ∙ f.2) (IsNode-forest_of a sound.nodes.sound.named f.0 there)
+      subst (IsNode (arena.forest_of a)) (sym (k.nodes.name f.0) ∙ f.2) (IsNode-forest_of a sound.nodes.sound.kept.named f.0 there)
 
   made_of : (arena.forest_of b).made ≡ b.made
   unfolding arena.forest_of
@@ -156,7 +155,7 @@ module _ (a b : Arena) (s t : Store) (h g : Option Held) (i j : Option ℕ) (k :
       sound = k.sound;
       consistent = record {
         shaped = k.shaped;
-        counted = λ n is. (let f = forest_of-IsNode b (Working n) is in let low = k.sound.named.counted f.0 n f.1 f.2 in omega (arith, low, made_of));
+        counted = λ n is. (let f = forest_of-IsNode b (Working n) is in let low = k.sound.kept.named.counted f.0 n f.1 f.2 in omega (arith, low, made_of));
       };
       pages = λ cache page count size less. kept_node (page_name cache page) (sound.nodes.pages cache page count (ap (λ (ts : List (Option Table)). option_map (λ (t : Table). length t.pages) (table_at ts cache.0)) (sym k.nodes.caches) ∙ size) less);
       few = omega (arith, forest_len b, like_count a b k.nodes, nodes_most sound, sound.few);

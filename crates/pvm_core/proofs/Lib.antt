@@ -23,3 +23,4 @@ mod Changed
 mod SpanRows
 mod Transfers
 mod Spanned
+mod Reserved

@@ -21,7 +21,7 @@ use Rattle.local_cache.specs.Arena.{Arena, Table, page_count}
 use Rattle.local_cache.specs.Own.{own_states}
 use Rattle.local_cache.specs.Reading.{forest_of}
 use Rattle.local_cache.specs.Whole.{IsWhole, size_of}
-use Rattle.local_cache.proofs.Wholes.{node_page}
+use Rattle.local_cache.proofs.Whole.Pages.{node_page}
 use Rattle.page_release.proofs.Sized.{states_bound}
 use Rattle.residency.specs.declared.store.Store.{Store}
 use Rattle.pvm_core.specs.declared.actors.Actors.{Actors}
@@ -78,7 +78,7 @@ live_most a w =
 
 -- where working nodes are bound, there are no more nodes than twice the live pages
 pub states_live : (a : Arena) → IsWhole a → IsBounded (forest_of a) → length (own_states a) ≤ 2 * live_in a
-states_live a w b = omega (arith, states_bound a w.sound.named b, live_most a w)
+states_live a w b = omega (arith, states_bound a w.sound.kept.named b, live_most a w)
 
 pub nodes_most : {a : Arena} {s : Store} {t : Actors} {live : ℕ} → IsSound a s t live → length (own_states a) ≤ 2 * live
 nodes_most {a} i = omega (arith, states_live a i.nodes i.bounded, i.counted)

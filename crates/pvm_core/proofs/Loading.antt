@@ -25,7 +25,7 @@ use Rattle.vm_ids.specs.Forest.Nodes.Hang.{Root}
 use Rattle.vm_ids.proofs.Forest.Laws.Reading.{nodes_have_values, owners_own_values}
 use Rattle.local_cache.specs.Reading as arena
 use Rattle.local_cache.specs.Reading.{name_of}
-use Rattle.local_cache.proofs.Reading.{IsNode-forest_of, forest_of-IsNode}
+use Rattle.local_cache.proofs.Forest.Reading.{IsNode-forest_of, forest_of-IsNode}
 use Rattle.fault_path.specs.Faults.{IsOwner}
 use Rattle.vm_ids.proofs.Forest.PageMap.{value_of-map}
 use Rattle.local_cache.specs.Arena.{Arena, IsHeld, Table, page_count, table_at, table_of}
@@ -165,7 +165,7 @@ pub owner_there : (a : Arena) → IsWhole a → (n : NodeId) → IsHeld a n → 
 owner_there a w n held =
     let f = arena.forest_of a in
     let x = name_of a n in
-    let is = IsNode-forest_of a w.sound.named n held in
+    let is = IsNode-forest_of a w.sound.kept.named n held in
     let some = subst IsSome (sym (owners_own_values f w.consistent.shaped x is)) ((nodes_have_values f w.consistent.shaped x).0 is) in
     let at = forest_of-IsNode a (owner_of f x) (own_node f (owner_of f x) some) in
     (at.0, record { held = at.1; name = at.2 })

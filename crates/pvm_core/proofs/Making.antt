@@ -20,8 +20,8 @@ use Rattle.local_cache.specs.Own.{own_of}
 use Rattle.local_cache.specs.Reading as arena
 use Rattle.local_cache.specs.Reading.{name_of}
 use Rattle.local_cache.specs.Sound.{IsSound}
-use Rattle.local_cache.proofs.Reading.{IsNode-forest_of, forest_of-IsNode}
-use Rattle.local_cache.proofs.ReadingBy.{lifted}
+use Rattle.local_cache.proofs.Forest.Reading.{IsNode-forest_of, forest_of-IsNode}
+use Rattle.local_cache.proofs.Forest.ReadingBy.{lifted}
 use Rattle.residency.specs.declared.store.Store.{Store}
 use Rattle.residency.specs.StoreForest.{store_forest}
 use Rattle.residency.specs.World.{frame_page, own_page, page_by, world}
@@ -71,7 +71,7 @@ module _ (h : Option Held) (a : Arena) (s : Store) (r : Room) (slots : List Bool
   -- room and slots are no part of the forest
   pub roomier_store : store_forest (world h None (record a { room = r }) (record s { slots = slots })) ≡ store_forest (world h None a s)
   unfolding store_forest cell
-  roomier_store = lifted (own_page (world h None (record a { room = r }) (record s { slots = slots }))) (record a { room = r }) then.named (tells (world h None (record a { room = r }) (record s { slots = slots }))) (store_forest (world h None a s))
+  roomier_store = lifted (own_page (world h None (record a { room = r }) (record s { slots = slots }))) (record a { room = r }) then.kept.named (tells (world h None (record a { room = r }) (record s { slots = slots }))) (store_forest (world h None a s))
       (ap bare same ∙ sym (store_bare (world h None a s) sound)) (λ n held. sym (store_page (world h None a s) sound n held))
 
 -- The nodes of a new cache ----------------------------------------------------------------------
@@ -103,14 +103,14 @@ module _ (h : Option Held) (a b : Arena) (s : Store) (cache : CacheId) (n : ℕ)
       let at = (ranges_hold_their_pages cache 0 n (name_of b m)).0 i in
       let p = has (0 + at.0) (omega (arith, at.1)) in
       let c = of_cell p.node (page_name cache (0 + at.0)) p.is in
-      subst (λ (m : NodeId). own_of b m ≡ Zero) (then.named.apart p.node m (ap is_some p.is) k (c.1 ∙ sym at.2)) c.0
+      subst (λ (m : NodeId). own_of b m ≡ Zero) (then.kept.named.apart p.node m (ap is_some p.is) k (c.1 ∙ sym at.2)) c.0
 
   own_made : (m : NodeId) → IsHeld b m → own_page (world h None b s) m ≡ (node (make (all_with zeros (page_names cache 0 n)) (store_forest (world h None a s))) (name_of b m)).own
-  own_made m k = elim (make_cases Zero (arena.forest_of a) (page_names cache 0 n) (name_of b m) (subst (λ f. IsNode f (name_of b m)) forest (IsNode-forest_of b then.named m k))) [
+  own_made m k = elim (make_cases Zero (arena.forest_of a) (page_names cache 0 n) (name_of b m) (subst (λ f. IsNode f (name_of b m)) forest (IsNode-forest_of b then.kept.named m k))) [
     | inl i ↦ zero_is m (new_zero m k i) ∙ sym (make_here zeros (store_forest (world h None a s)) (page_names cache 0 n) (name_of b m) i)
     | inr is ↦ (
         let f = forest_of-IsNode a (name_of b m) is in
-        let same : f.0 ≡ m = then.named.apart f.0 m (held_stays f.0 f.1) k (ap (λ c. c.name) (cell_stays f.0 f.1) ∙ f.2) in
+        let same : f.0 ≡ m = then.kept.named.apart f.0 m (held_stays f.0 f.1) k (ap (λ c. c.name) (cell_stays f.0 f.1) ∙ f.2) in
         let was : IsHeld a m = subst (IsHeld a) same f.1 in
         page_stays m was ∙ sym (store_page (world h None a s) sound m was) ∙ ap (λ x. (node (store_forest (world h None a s)) x).own) (sym (ap (λ c. c.name) (cell_stays m was)))
         ∙ sym (ap (λ k. k.own) (make_other zeros (store_forest (world h None a s)) (page_names cache 0 n) (name_of b m) (λ i. fresh (name_of b m) i is))))
@@ -119,7 +119,7 @@ module _ (h : Option Held) (a b : Arena) (s : Store) (cache : CacheId) (n : ℕ)
   -- the forest of the store gets a page of zeros for each page of the cache
   pub made_store : store_forest (world h None b s) ≡ make (all_with (option_map (λ _. replicate s.frames.page 0) h) (page_names cache 0 n)) (store_forest (world h None a s))
   unfolding store_forest
-  made_store = lifted (own_page (world h None b s)) b then.named (tells (world h None b s)) (make (all_with zeros (page_names cache 0 n)) (store_forest (world h None a s)))
+  made_store = lifted (own_page (world h None b s)) b then.kept.named (tells (world h None b s)) (make (all_with zeros (page_names cache 0 n)) (store_forest (world h None a s)))
       (ap bare forest ∙ bare_make Zero (page_names cache 0 n) (arena.forest_of a) ∙ ap (make (all_with tt (page_names cache 0 n))) (sym (store_bare (world h None a s) sound)) ∙ sym (bare_make zeros (page_names cache 0 n) (store_forest (world h None a s))))
       own_made
 

@@ -1,6 +1,6 @@
 -- The answers of making a cache.
 use Rattle.std.proofs.Common.{◌≡◌, ℕ, zero, suc, ◌+◌, ◌<◌, ◌≤◌, Bool, true, false, List, [], ◌∷◌, ◌++◌, length, get_or, map, replicate, Option, Some, None, refl, sym, ap, ◌∙◌, subst, arith}
-use Rattle.std.specs.Prelude.{◌||◌, Ok, Err, IfSome, Result, OnOk, is_err, nat_le, nat_lt, option_map, sum_by}
+use Rattle.std.specs.Prelude.{◌||◌, Ok, IfSome, nat_le, nat_lt, option_map, sum_by}
 use Rattle.std.proofs.lemmas.Bool.Decides.{nat_tests}
 use Rattle.std.proofs.lemmas.List.{length-append, length-map, length-replicate, map_push}
 use Rattle.std.proofs.lemmas.List.Elements.{All-append, All-cons, All-nil, All-replicate}
@@ -10,7 +10,6 @@ use Rattle.vm_ids.specs.declared.command.Command.TheVariants as commands
 use Rattle.vm_ids.specs.declared.numbers.CacheId.{CacheId}
 use Rattle.vm_ids.specs.declared.numbers.NodeId.{NodeId}
 use Rattle.vm_ids.specs.declared.refusal.Refusal.TheVariants as refusals
-use Rattle.vm_ids.specs.declared.reply.NoMemory.{NoMemory}
 use Rattle.vm_ids.specs.declared.reply.Reply.TheVariants as replies
 use Rattle.vm_ids.specs.Forest.Commands.{firsts, make, page_names, pages_at}
 use Rattle.local_cache.specs.Arena.{Arena, IsMade, Table, entry_for, page_count}
@@ -30,19 +29,15 @@ use Rattle.pvm_core.proofs.Determined.{IsShaped, followed_is}
 use Rattle.pvm_core.proofs.Making.{all_with, equal_pages}
 use Rattle.pvm_core.proofs.Shown.{shown_live, shown_made}
 use Rattle.pvm_core.proofs.Values.{blank_of, zeroed, zeroed_whole}
-use Rattle.local_cache.proofs.Begun.{zero_pages}
+use Rattle.local_cache.proofs.NewCache.Whole.{zero_pages}
 use Rattle.local_cache.specs.Whole as whole
-use Rattle.local_cache.proofs.Wholes.{node_page}
+use Rattle.local_cache.proofs.Whole.Pages.{node_page}
 use Rattle.local_cache.specs.Reading as arena
 use Rattle.vm_ids.specs.declared.node_name.NodeName.{NodeName}
 use Rattle.vm_ids.specs.Forest.NameLists.{◌∈◌, Once}
 use Rattle.vm_ids.specs.Forest.Laws.Commands.{AreFresh}
 use Rattle.vm_ids.specs.Forest.Nodes.{IsNode, is_live}
 use Rattle.vm_ids.proofs.Forest.Laws.Ranges.{ranges_hold_pages_once, ranges_hold_their_pages}
-
-pub from_ok : {A : Type 0} (r : Result (Unit {0}) NoMemory) → is_err r ≡ false → OnOk r A → A
-from_ok (Ok x) e a = a
-from_ok (Err e) n a = absurd (cc n)
 
 or_true : (b : Bool) → (b || true) ≡ true
 or_true true = refl

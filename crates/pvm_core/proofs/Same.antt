@@ -78,7 +78,7 @@ module _ (a b : Arena) (same : SameCaches a b) where
   segment_at k = same.segments (suc k)
 
   pub live_same : live_in b ≡ live_in a
-  live_same = total a.caches b.caches same.made size_at
+  live_same = total a.caches b.caches same.count size_at
 
   pub temporary_same : All IsTemporary a.caches → All IsTemporary b.caches
   temporary_same = all_temporary a.caches b.caches segment_at

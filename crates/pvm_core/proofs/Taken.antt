@@ -218,7 +218,7 @@ module _ (a b d : Arena) (s u : Store) (t : Actors) (live : ℕ) (cache : CacheI
           (destroyed_followed m (forest_of (seen a s t) h) false cache (cache_shown (forest_of (seen a s t) h) cache.0 table) (here (forest_of (seen a s t) h)) followed)
 
       count : length (caches_shown (forest_of (seen a s t) h) 1 a.caches) ≡ length b.caches
-      count = shown_made (forest_of (seen a s t) h) 1 a.caches ∙ sym same.made
+      count = shown_made (forest_of (seen a s t) h) 1 a.caches ∙ sym same.count
 
       caches_now : caches_shown (forest_of (seen d u t) h) 1 (set b.caches (cache.0 - 1) None) ≡ set m.caches (cache.0 - 1) None
       caches_now = followed_is (record m { caches = set m.caches (cache.0 - 1) None }) (forest_of (seen d u t) h) now (set b.caches (cache.0 - 1) None)

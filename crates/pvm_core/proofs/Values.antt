@@ -28,14 +28,14 @@ use Rattle.local_cache.specs.Reading as arena
 use Rattle.local_cache.specs.Reading.{name_of}
 use Rattle.local_cache.specs.ReadingBy.{forest_by}
 use Rattle.local_cache.specs.Sound as arena_sound
-use Rattle.local_cache.proofs.Reading.{get-forest_by_none, held_or_not}
-use Rattle.local_cache.proofs.ReadingBy.{page-at}
+use Rattle.local_cache.proofs.Forest.Reading.{get-forest_by_none, held_or_not}
+use Rattle.local_cache.proofs.Forest.ReadingBy.{page-at}
 use Rattle.residency.specs.StoreForest.{store_forest}
 use Rattle.residency.specs.World.{World, frame_page, own_page, page_by, zero_page}
 use Rattle.residency.proofs.WrittenForest.{store_made}
 use Rattle.fault_path.proofs.Kept.{store_bare, store_shaped}
 use Rattle.local_cache.specs.Whole.{IsWhole, size_of}
-use Rattle.local_cache.proofs.Wholes.{no_node}
+use Rattle.local_cache.proofs.Whole.Pages.{no_node}
 use Rattle.vm_model.specs.Machine.{Cache, Machine, Page, cache_of}
 use Rattle.vm_model.specs.Outcome as outcome
 use Rattle.vm_model.specs.Outcome.{HasWholePages, blank}
@@ -59,7 +59,7 @@ module _ (w : World) (sound : arena_sound.IsSound w.caches) (P : Option (Option 
   each_own x = at (held_or_not w.caches x)
     where
       at : ((n : NodeId) × IsHeld w.caches n × (name_of w.caches n ≡ x)) ⊎ ((n : NodeId) → IsHeld w.caches n → name_of w.caches n ≢ x) → P (node (forest_by (own_page w) w.caches) x).own
-      at (inl f) = subst P (sym (page-at (own_page w) w.caches sound.named f.0 f.1) ∙ ap (λ y. (node (forest_by (own_page w) w.caches) y).own) f.2) (each f.0)
+      at (inl f) = subst P (sym (page-at (own_page w) w.caches sound.kept.named f.0 f.1) ∙ ap (λ y. (node (forest_by (own_page w) w.caches) y).own) f.2) (each f.0)
       at (inr out) = subst P (sym (ap (λ k. k.own) (node_at_none (forest_by (own_page w) w.caches) x (get-forest_by_none w.caches (own_page w) x out)))) none
 
   -- and of each value

@@ -80,10 +80,8 @@ fn add_region(regions: &mut Vec<Region>, region: Region) -> Result<(), NoMemory>
     ensures err { OnErr result (regions.new.items ≡ regions.old.items) }
 {
     let at = place_for(regions, &region);
-    match regions.insert(at, region) {
-        Ok(()) => Ok(()),
-        Err(_) => Err(NoMemory),
-    }
+    regions.insert(at, region)?;
+    Ok(())
 }
 
 // The same in the actor with a number.

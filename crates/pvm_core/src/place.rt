@@ -21,13 +21,7 @@ pub(crate) struct Found {
 pub(crate) fn actor_at(actors: &[Option<Actor>], n: u32) -> Option<&Actor>
     ensures { option_map (λ a. a.now) result ≡ numbered actors.now n }
 {
-    if n == 0 {
-        return None;
-    }
-    match actors.get(n as usize - 1) {
-        Some(actor) => actor.as_ref(),
-        None => None,
-    }
+    vm_model::numbered(actors, n)
 }
 
 // The region that holds the address.

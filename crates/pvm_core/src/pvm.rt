@@ -124,9 +124,7 @@ impl Pvm {
             return Err(Trouble::Refused(Refusal::TooMany));
         }
         let live = self.live + pages;
-        if reserve(&mut self.caches, &mut self.store, live).is_err() {
-            return Err(Trouble::Memory);
-        }
+        reserve(&mut self.caches, &mut self.store, live)?;
         self.live = live;
         Ok(self.caches.make_temp(pages))
     }
@@ -194,9 +192,7 @@ impl Pvm {
         if let Some(refusal) = span_refusal(&self.caches, span) {
             return Err(Trouble::Refused(refusal));
         }
-        if self.caches.reserve(0, 2 * span.pages).is_err() {
-            return Err(Trouble::Memory);
-        }
+        self.caches.reserve(0, 2 * span.pages)?;
         copy_pages(&mut self.store, &mut self.caches, span);
         Ok(())
     }
@@ -229,9 +225,7 @@ impl Pvm {
         if let Some(refusal) = span_refusal(&self.caches, span) {
             return Err(Trouble::Refused(refusal));
         }
-        if self.caches.reserve(0, span.pages).is_err() {
-            return Err(Trouble::Memory);
-        }
+        self.caches.reserve(0, span.pages)?;
         move_pages(&mut self.store, &mut self.caches, span);
         Ok(())
     }
@@ -293,10 +287,7 @@ impl Pvm {
         ensures loaded { IfOk result (IsLoaded (M.counts mapper.old) (M.counts mapper.new)
             (M.given mapper.new) self.old self.new actor.0 address bytes) }
     {
-        let place = match place_of(&self.actors, actor, address, bytes) {
-            Ok(place) => place,
-            Err(refusal) => return Err(Trouble::Refused(refusal)),
-        };
+        let place = place_of(&self.actors, actor, address, bytes)?;
         let page = PageNo(place.page as u32);
         let node = node_of(&self.caches, place.region.cache, page);
         match read_fault(&mut self.store, &mut self.caches, node, mapper, chooser) {
@@ -330,10 +321,7 @@ impl Pvm {
             → (self.new ≡ self.old) × (mapper.new ≡ mapper.old) }
     {
         let bytes = piece.as_slice();
-        let place = match place_of(&self.actors, actor, address, bytes.len() as u8) {
-            Ok(place) => place,
-            Err(refusal) => return Err(Trouble::Refused(refusal)),
-        };
+        let place = place_of(&self.actors, actor, address, bytes.len() as u8)?;
         if !place.region.may_write {
             return Err(Trouble::Refused(Refusal::Protection));
         }

@@ -1,4 +1,4 @@
-// Random commands to the manager, each beside the plain program, and what memory that is there suffices for.
+// Random commands to the manager, each beside the eager machine, and what memory that is there suffices for.
 ghost use Rattle.std.specs.Prelude.{◌≡◌, ℕ, ◌+◌, ◌*◌, ◌<◌, ◌≤◌, ◌^◌, Some, IfOk};
 ghost use Rattle.vm_model.specs.declared.limits.TheConstants.{LIVE_PAGES};
 ghost use Rattle.vm_model.specs.Asking.{IsWellFormed};
@@ -21,26 +21,42 @@ const PAGES: u32 = 12;
 
 const PAGE: u32 = 4;
 
-// Four caches can be mapped, side by side.
+// Four caches can be mapped, side by side, and behind them the one whose pages are looked at.
 const PLACES: u32 = 4;
 
 const MAPPED: u32 = PLACES * PAGES * PAGE;
 
-// Each round of steps first loads all that is mapped, page by page: before each random command, or less often, so that
-// pages are in frames and slots as the commands left them.
-const EACH: u32 = PLACES * PAGES + 1;
+// So long is a history.
+const STEPS: u32 = 15_000;
 
-const ROUND: u32 = 160;
-
-const STEPS: u32 = 147_000;
-
-// A linear congruential generator.
+// Commands by a linear congruential generator. Now and then all pages of all caches are looked at: each cache is mapped,
+// loaded page by page, and unmapped.
 #[derive(Drop)]
-struct Numbers {
+struct Script {
     state: u64,
+    caches: u32,
+    regions: u32,
+    // So many commands come between two looks, and so many are left before the next.
+    apart: u32,
+    left: u32,
+    // The cache that is looked at, with those below it still to come, and the step of the look at it.
+    seen: u32,
+    step: u32,
 }
 
-impl Numbers {
+impl Script {
+    fn new(seed: u64, apart: u32) -> Script {
+        Script {
+            state: seed,
+            caches: 0,
+            regions: 0,
+            apart,
+            left: apart,
+            seen: 0,
+            step: 0,
+        }
+    }
+
     // A number below this one.
     fn below(&mut self, limit: u32) -> u32
         requires { 0 < limit }
@@ -60,35 +76,21 @@ impl Numbers {
         made.saturating_sub(self.below(last))
     }
 
+    fn cache(&mut self) -> CacheId {
+        CacheId(self.recent(4, self.caches))
+    }
+
     // Pages of two caches.
-    fn span(&mut self, caches: u32) -> Span
+    fn span(&mut self) -> Span
         ensures { 1 ≤ result.pages }
     {
         let pages = 1 + self.below(PAGES);
         Span {
-            from: CacheId(self.recent(4, caches)),
+            from: self.cache(),
             from_page: PageNo(self.below(PAGES + 1 - pages)),
-            to: CacheId(self.recent(4, caches)),
+            to: self.cache(),
             to_page: PageNo(self.below(PAGES + 1 - pages)),
             pages,
-        }
-    }
-
-    // A whole cache at its place.
-    fn mapping(&mut self, caches: u32) -> Mapping
-        ensures { 1 ≤ result.extent.pages }
-    {
-        let cache = self.recent(4, caches);
-        Mapping {
-            extent: Extent {
-                cache: CacheId(cache),
-                first: PageNo(0),
-                pages: PAGES,
-            },
-            address: (cache % PLACES * PAGES * PAGE) as u64,
-            prot: Prot {
-                write: self.below(8) > 0,
-            },
         }
     }
 
@@ -96,32 +98,23 @@ impl Numbers {
         self.below(MAPPED) as u64
     }
 
-    // The command of a step, in rounds of so many, where so many caches and regions were made.
-    fn next(&mut self, step: u32, round: u32, caches: u32, regions: u32) -> Result<Command, Fail>
-        requires { 0 < round }
-        ensures { IfOk result (λ c. IsWellFormed c) }
-    {
-        if step == 0 {
-            return Ok(Command::MakeActor);
-        }
-        let page = step % round;
-        if page < PLACES * PAGES {
-            return Ok(Command::Load(ActorId(1), (page * PAGE) as u64, PAGE as u8));
-        }
-        self.command(caches, regions)
-    }
-
-    // A command, where so many caches and regions were made.
-    fn command(&mut self, caches: u32, regions: u32) -> Result<Command, Fail>
+    // A command.
+    fn command(&mut self) -> Result<Command, Fail>
         ensures { IfOk result (λ c. IsWellFormed c) }
     {
         Ok(match self.below(24) {
             0..=2 => Command::MakeTemp(PAGES),
-            3..=4 => Command::Destroy(CacheId(self.recent(8, caches))),
-            5..=7 => Command::Copy(self.span(caches)),
-            8..=9 => Command::Move(self.span(caches)),
-            10..=11 => Command::Map(ActorId(1), self.mapping(caches)),
-            12..=13 => Command::Unmap(RegionId(self.recent(6, regions))),
+            3..=4 => Command::Destroy(CacheId(self.recent(8, self.caches))),
+            5..=7 => Command::Copy(self.span()),
+            8..=9 => Command::Move(self.span()),
+            10..=11 => {
+                let cache = self.cache();
+                let prot = Prot {
+                    write: self.below(8) > 0,
+                };
+                Command::Map(ActorId(1), whole(cache, cache.0 % PLACES, prot))
+            }
+            12..=13 => Command::Unmap(RegionId(self.recent(6, self.regions))),
             14..=18 => {
                 let bytes = [self.below(256) as u8, self.below(256) as u8];
                 let piece = Piece::new(&bytes).ok_or("no piece")?;
@@ -130,6 +123,69 @@ impl Numbers {
             19..=22 => Command::Load(ActorId(1), self.address(), 1),
             _ => Command::PageOut(1 + self.below(3)),
         })
+    }
+
+    // The next step of the look at a cache.
+    fn look(&mut self) -> Command
+        ensures { IsWellFormed result }
+    {
+        let step = self.step;
+        self.step = step.saturating_add(1);
+        if step == 0 {
+            let prot = Prot { write: false };
+            return Command::Map(ActorId(1), whole(CacheId(self.seen), PLACES, prot));
+        }
+        if step <= PAGES {
+            let address = MAPPED + (step - 1) * PAGE;
+            return Command::Load(ActorId(1), address as u64, PAGE as u8);
+        }
+        self.seen = self.seen.saturating_sub(1);
+        self.step = 0;
+        Command::Unmap(RegionId(self.regions))
+    }
+
+    fn next(&mut self) -> Result<Command, Fail>
+        ensures { IfOk result (λ c. IsWellFormed c) }
+    {
+        if self.seen > 0 {
+            return Ok(self.look());
+        }
+        if self.left > 0 {
+            self.left -= 1;
+            return self.command();
+        }
+        self.left = self.apart;
+        self.seen = self.caches;
+        Ok(Command::Stat)
+    }
+
+    // What was made; and there is no look at a cache that isn't there.
+    fn hear(&mut self, answer: &Answer) {
+        match answer {
+            Ok(Reply::Cache(cache)) => self.caches = cache.0,
+            Ok(Reply::Region(region)) => self.regions = region.0,
+            Err(_) if self.step > 0 => {
+                self.seen = self.seen.saturating_sub(1);
+                self.step = 0;
+            }
+            _ => {}
+        }
+    }
+}
+
+// A whole cache at a place.
+fn whole(cache: CacheId, place: u32, prot: Prot) -> Mapping
+    requires { place ≤ 4 }
+    ensures { 1 ≤ result.extent.pages }
+{
+    Mapping {
+        extent: Extent {
+            cache,
+            first: PageNo(0),
+            pages: PAGES,
+        },
+        address: (place * PAGES * PAGE) as u64,
+        prot,
     }
 }
 
@@ -141,12 +197,13 @@ fn same(one: &Answer, other: &Answer) -> bool {
         (Ok(Reply::Cache(a)), Ok(Reply::Cache(b))) => a == b,
         (Ok(Reply::Region(a)), Ok(Reply::Region(b))) => a == b,
         (Ok(Reply::Bytes(a)), Ok(Reply::Bytes(b))) => a.as_slice() == b.as_slice(),
+        (Ok(Reply::Stat(a)), Ok(Reply::Stat(b))) => a.live == b.live,
         (Err(a), Err(b)) => a == b,
         _ => false,
     }
 }
 
-// The plain program's answer to a command.
+// The eager machine's answer to a command.
 fn plain_answer(plain: &mut EagerMachine, command: &Command) -> Answer
     requires { IsWellFormed command.now }
 {
@@ -170,45 +227,41 @@ fn plain_answer(plain: &mut EagerMachine, command: &Command) -> Answer
     }
 }
 
-// Commands, each to the manager and to the plain program, which answer the same.
+// Commands, each to the manager and to the eager machine, which answer the same.
 fn answer_both<G: Gmi<M, C>, M: Mapper, C: Chooser>(
     rt: &impl Abort,
     gmi: &mut G,
     mapper: &mut M,
     chooser: &mut C,
     plain: &mut EagerMachine,
-    round: u32,
+    script: &mut Script,
+    steps: u32,
 ) -> Result<(), Fail>
-    requires round { 0 < round }
     requires valid { G.valid gmi.old (M.held mapper.old) }
     requires made { G.made gmi.old ≤ 2 ^ 61 }
     requires fits { Fits (M.page_bytes mapper.old) (G.machine gmi.old (M.held mapper.old)) }
     requires live { live_pages (G.machine gmi.old (M.held mapper.old)) ≤ LIVE_PAGES }
 {
-    let mut numbers = Numbers { state: 1 };
-    let (mut caches, mut regions) = (0, 0);
-    for step in 0..STEPS {
-        let command = numbers.next(step, round, caches, regions)?;
+    assert!(rt; answer(gmi, &Command::MakeActor, mapper, chooser).is_ok());
+    assert!(rt; plain.make_actor().is_ok());
+    for step in 0..steps {
+        let command = script.next()?;
         let given = answer(gmi, &command, mapper, chooser);
         let wanted = plain_answer(plain, &command);
         assert!(rt; same(&given, &wanted), "at {step}");
-        match given {
-            Ok(Reply::Cache(cache)) => caches = cache.0,
-            Ok(Reply::Region(region)) => regions = region.0,
-            _ => {}
-        }
+        script.hear(&given);
     }
     Ok(())
 }
 
-// Over so many frames, in rounds of so many steps.
+// Over so many frames, with looks so many commands apart.
 fn answers_as_plain_pages(
     rt: &impl Abort,
     alloc: Global,
     frames: u32,
-    round: u32,
+    seed: u64,
+    apart: u32,
 ) -> Result<(), Fail>
-    requires round { 0 < round }
     requires some { 3 ≤ frames }
     requires few { frames ≤ 8 }
 {
@@ -221,20 +274,31 @@ fn answers_as_plain_pages(
         &mut mapper,
         &mut Clock::new(),
         &mut plain,
-        round,
+        &mut Script::new(seed, apart),
+        STEPS,
     )
+}
+
+// Histories of some hundred and fifty commands, with a look after each, and a long one with few looks, in which pages are
+// in frames and slots as the commands left them.
+fn answer_as_plain_pages(rt: &impl Abort, alloc: Global, frames: u32) -> Result<(), Fail>
+    requires some { 3 ≤ frames }
+    requires few { frames ≤ 8 }
+{
+    for seed in 0..20 {
+        answers_as_plain_pages(rt, alloc, frames, seed, 1)?;
+    }
+    answers_as_plain_pages(rt, alloc, frames, 20, 400)
 }
 
 #[test]
 fn three_frames_answer_as_plain_pages(rt: HostRuntime) -> Result<(), Fail> {
-    answers_as_plain_pages(&rt, rt.alloc(), 3, EACH)?;
-    answers_as_plain_pages(&rt, rt.alloc(), 3, ROUND)
+    answer_as_plain_pages(&rt, rt.alloc(), 3)
 }
 
 #[test]
 fn eight_frames_answer_as_plain_pages(rt: HostRuntime) -> Result<(), Fail> {
-    answers_as_plain_pages(&rt, rt.alloc(), 8, EACH)?;
-    answers_as_plain_pages(&rt, rt.alloc(), 8, ROUND)
+    answer_as_plain_pages(&rt, rt.alloc(), 8)
 }
 
 // Each call that takes memory, where there is memory.

@@ -1,4 +1,4 @@
--- The machine that the plain program's tables are, and what holds of them.
+-- The machine that the tables of the eager machine are, and what holds of them.
 use Rattle.std.specs.Prelude.{◌≡◌, ℕ, ◌+◌, ◌*◌, ◌≤◌, ◌^◌, false, List, map, length, All, Option, Some, None, option_map, Result, Ok, Err}
 use Rattle.vm_ids.specs.declared.refusal.Refusal.{Refusal}
 use Rattle.vm_model.specs.Machine as model

@@ -15,13 +15,8 @@ fn page_in(caches: &[Option<Cache>], cache: u32, page: u64) -> Option<&[u8]>
         ≡ option_and_then (λ c. slice_get (map (λ p. p.items) c.pages.items) page)
         (numbered caches.now cache) }
 {
-    match cache_at(caches, cache) {
-        Some(cache) => match cache.pages.get(page as usize) {
-            Some(page) => Some(page.as_slice()),
-            None => None,
-        },
-        None => None,
-    }
+    let page = cache_at(caches, cache)?.pages.get(page as usize)?;
+    Some(page)
 }
 
 // The page of a place.

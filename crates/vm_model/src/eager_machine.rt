@@ -1,4 +1,4 @@
-// The plain program.
+// The eager machine: the plain one, computed.
 ghost use Rattle.std.specs.Prelude.{None, Ok, ◌≡◌, ◌≤◌, ◌^◌, length, IfOk};
 ghost use Rattle.vm_model.specs.Answering.{answer_by};
 ghost use Rattle.vm_model.specs.Machine.{Machine, start};

@@ -2,8 +2,8 @@
 //!
 //! Its definitions are what a reader must believe, and are in specs/: the machine (`Machine`), the place of an access
 //! (`Place`), the answer to each command (`Answering`), what a manager may answer (`Outcome`), how the page forest
-//! follows (`PageForest`, `Following`), what a push writes (`Pushing`) and a whole run (`Run`). [`EagerMachine`] is the
-//! plain program that computes the answers; it is seen as the machine itself. [`laws`] has what holds of machine and
+//! follows (`PageForest`, `Following`), what a push writes (`Pushing`) and a whole run (`Run`). [`EagerMachine`]
+//! computes the answers; it is seen as the machine itself. [`laws`] has what holds of machine and
 //! forest together. The crate stands on the plain types alone; the interface, every manager and the replay stand on it.
 #![tactic(auto)]
 
@@ -15,6 +15,7 @@ mod eager_machine;
 pub mod laws;
 mod limits;
 mod maps;
+mod numbering;
 mod place;
 mod tables;
 mod telling;
@@ -23,3 +24,4 @@ mod tests;
 
 pub use eager_machine::EagerMachine;
 pub use limits::{LIVE_PAGES, LIVING_ACTORS, MADE};
+pub use numbering::numbered;

@@ -75,10 +75,8 @@ fn add_region(regions: &mut Vec<Region>, region: Region) -> Result<(), NoMemory>
     ensures err { OnErr result (regions.new.items ≡ regions.old.items) }
 {
     let at = place_for(regions, &region);
-    match regions.insert(at, region) {
-        Ok(()) => Ok(()),
-        Err(_) => Err(NoMemory),
-    }
+    regions.insert(at, region)?;
+    Ok(())
 }
 
 // The same in the actor with a number.
@@ -111,13 +109,9 @@ fn put_region(tables: &mut Tables, actor: u32, region: Region) -> Result<(), NoM
     }) }
     ensures err { OnErr result (machine_seen tables.new ≡ machine_seen tables.old) }
 {
-    match place_region(&mut tables.actors, actor, region) {
-        Ok(()) => {
-            tables.regions_made += 1;
-            Ok(())
-        }
-        Err(NoMemory) => Err(NoMemory),
-    }
+    place_region(&mut tables.actors, actor, region)?;
+    tables.regions_made += 1;
+    Ok(())
 }
 
 #[tactic(auto, unfolding(crate::specs::Answering::map_of, crate::specs::Answering::with_some, crate::specs::Answering::unless))]

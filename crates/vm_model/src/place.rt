@@ -6,6 +6,7 @@ ghost use Rattle.vm_model.specs.Machine.{numbered};
 ghost use Rattle.vm_model.specs.Place.{place, place_among, region_at};
 ghost use Rattle.vm_model.specs.Seen.{cache_seen, region_seen, found_seen, machine_seen, IsPlaced, IsSound};
 
+use crate::numbering::numbered;
 use crate::tables::{Actor, Cache, Region, Tables};
 use vm_ids::{ActorId, Refusal};
 
@@ -21,26 +22,14 @@ pub(crate) struct Found {
 pub(crate) fn cache_at(caches: &[Option<Cache>], n: u32) -> Option<&Cache>
     ensures { option_map (λ c. c.now) result ≡ numbered caches.now n }
 {
-    if n == 0 {
-        return None;
-    }
-    match caches.get(n as usize - 1) {
-        Some(cache) => cache.as_ref(),
-        None => None,
-    }
+    numbered(caches, n)
 }
 
 // The actor with this number, where it is alive.
 pub(crate) fn actor_at(actors: &[Option<Actor>], n: u32) -> Option<&Actor>
     ensures { option_map (λ a. a.now) result ≡ numbered actors.now n }
 {
-    if n == 0 {
-        return None;
-    }
-    match actors.get(n as usize - 1) {
-        Some(actor) => actor.as_ref(),
-        None => None,
-    }
+    numbered(actors, n)
 }
 
 // Whether these pages pass the end of the cache.

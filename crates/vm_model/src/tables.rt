@@ -1,4 +1,4 @@
-// What the plain program keeps.
+// What the eager machine keeps.
 use std::alloc::Global;
 use vm_ids::{CacheId, RegionId};
 

@@ -10,7 +10,7 @@ invariant-loop-step g l =
     let M = g.M.Mapper in
     record {
       valid : G.valid l.gmi (M.held l.mapper);
-      made : G.made l.gmi ≤ G.made l.fn.gmi + l.step-counter * 134217728;
+      made : G.made l.gmi ≤ G.made l.fn.gmi + (l.step-counter + 1) * 134217728;
       fits : Fits (M.page_bytes l.mapper) (G.machine l.gmi (M.held l.mapper));
       live : live_pages (G.machine l.gmi (M.held l.mapper)) ≤ LIVE_PAGES;
     }

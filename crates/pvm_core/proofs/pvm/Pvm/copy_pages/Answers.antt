@@ -1,15 +1,11 @@
-use Rattle.std.proofs.Common.{◌≡◌, ℕ, ◌++◌, false, replicate, Some, None, refl, sym, ap, subst, ◌∙◌, arith}
-use Rattle.std.specs.Prelude.{Ok, Err}
-use Rattle.std.proofs.lemmas.List.{append-nil}
-use Rattle.vm_ids.specs.Held.{segments_of}
+use Rattle.std.proofs.Common.{◌≡◌, None, refl, sym, ap, subst, ◌∙◌, arith}
+use Rattle.std.specs.Prelude.{Result, Ok, Err}
+use Rattle.std.proofs.lemmas.Result.{err_from_is_err_and}
+use Rattle.gmi_calls.specs.Calling.{done_by}
 use Rattle.vm_ids.specs.declared.command.Command.TheVariants as commands
 use Rattle.vm_ids.specs.declared.reply.Reply.TheVariants as replies
 use Rattle.vm_ids.specs.declared.reply.Trouble.TheVariants as troubles
-use Rattle.vm_ids.proofs.Forest.Laws.Ranges.{spans_can_be_copied}
-use Rattle.local_cache.specs.Reading as arena
 use Rattle.local_cache.specs.Whole.{size_of}
-use Rattle.local_cache.proofs.Wholes.{range_there}
-use Rattle.page_release.proofs.Tied.{tied_right}
 use Rattle.vm_model.specs.Answering.{Answer}
 use Rattle.vm_model.specs.Machine.{cache_of}
 use Rattle.vm_model.specs.Run.{CallIs, State}
@@ -17,16 +13,16 @@ use Rattle.pvm_core.specs.Manager.{IsValid, Manager, machine_by, machine_of, sta
 use Rattle.pvm_core.specs.Keeping.{CopiesNothing}
 use Rattle.pvm_core.specs.Spans.{span_refusal}
 use Rattle.pvm_core.specs.contracts.pvm.Pvm.{the_view}
-use Rattle.pvm_core.proofs.Begun.{roomy_by, roomy_forest, roomy_machine, roomy_sound, roomy_valid}
 use Rattle.pvm_core.proofs.Changed.{changed_sound, slots_enough}
+use Rattle.pvm_core.proofs.Reserved.{can_copy, reserved}
 use Rattle.pvm_core.proofs.Transfers.{copied_outcome, copied_row, copied_valid, copy_follows}
-use Rattle.local_cache.proofs.OwnCount.{forest_len}
+use Rattle.local_cache.proofs.Nodes.Count.{forest_len}
 use Rattle.pvm_core.proofs.Kept.{seen}
 use Rattle.pvm_core.proofs.Live.{nodes_most}
 use Rattle.pvm_core.proofs.Loading.{call_is, no_later, size_le, sized_table}
 use Rattle.pvm_core.proofs.Shown.{shown_size}
 use Rattle.pvm_core.proofs.SpanRows.{IsOpen, copy_refused, is_open, unlocked_actors}
-use Rattle.pvm_core.proofs.Spanned.{apart_of, none_of_option, undenied_any}
+use Rattle.pvm_core.proofs.Spanned.{none_of_option, undenied_any}
 use Rattle.pvm_core.proofs.Stored.{failed}
 use Rattle.pvm_core.proofs.pvm.Pvm.copy_pages.Goals as goal
 
@@ -47,28 +43,32 @@ pub invariant_of-self : goal.invariant_of-self
 invariant_of-self g c =
     let i = c.self.inside in
     let r = c.reserve.ensures in
-    roomy_sound i.caches c.reserve.new.self i.store i.store i.actors i.live r.kept refl (0, sym (append-nil i.store.slots)) r.no_less.0 r.forest (r.sound c.self.invariant.nodes.sound) c.self.invariant
+    let roomy = reserved i.caches c.reserve.new.self i.store i.actors i.live r.kept r.no_less.0 r.forest (r.sound c.self.invariant.nodes.sound) c.self.invariant in
+    roomy.sound
 
-pub returns-then-is_err-clause-valid : goal.returns-then-is_err-clause-valid
-returns-then-is_err-clause-valid g c =
+pub returns-in_err-reserve-clause-valid : goal.returns-in_err-reserve-clause-valid
+returns-in_err-reserve-clause-valid g c =
     let h = g.M.Mapper.held c.args.mapper.now in
     let i = c.self.inside in
     let r = c.reserve.ensures in
-    roomy_valid i.caches c.reserve.new.self i.store i.store i.actors i.live r.kept refl (0, sym (append-nil i.store.slots)) r.no_less.0 r.forest (r.sound c.self.invariant.nodes.sound) c.self.invariant h (subst (λ (p : Manager). IsValid p h) (sym c.self.view_is) c.requires.valid)
+    let roomy = reserved i.caches c.reserve.new.self i.store i.actors i.live r.kept r.no_less.0 r.forest (r.sound c.self.invariant.nodes.sound) c.self.invariant in
+    roomy.valid h (subst (λ (p : Manager). IsValid p h) (sym c.self.view_is) c.requires.valid)
 
 pub copy_pages-requires-clause-tied : goal.copy_pages-requires-clause-tied
 copy_pages-requires-clause-tied g c =
     let h = g.M.Mapper.held c.args.mapper.now in
     let i = c.self.inside in
     let r = c.reserve.ensures in
-    let v = roomy_valid i.caches c.reserve.new.self i.store i.store i.actors i.live r.kept refl (0, sym (append-nil i.store.slots)) r.no_less.0 r.forest (r.sound c.self.invariant.nodes.sound) c.self.invariant h (subst (λ (p : Manager). IsValid p h) (sym c.self.view_is) c.requires.valid) in
-    tied_right h None c.reserve.new.self i.store v.right
+    let roomy = reserved i.caches c.reserve.new.self i.store i.actors i.live r.kept r.no_less.0 r.forest (r.sound c.self.invariant.nodes.sound) c.self.invariant in
+    let valid = subst (λ (p : Manager). IsValid p h) (sym c.self.view_is) c.requires.valid in
+    roomy.tied h valid
 
 pub copy_pages-requires-clause-whole : goal.copy_pages-requires-clause-whole
 copy_pages-requires-clause-whole g c =
     let i = c.self.inside in
     let r = c.reserve.ensures in
-    let k = roomy_sound i.caches c.reserve.new.self i.store i.store i.actors i.live r.kept refl (0, sym (append-nil i.store.slots)) r.no_less.0 r.forest (r.sound c.self.invariant.nodes.sound) c.self.invariant in
+    let roomy = reserved i.caches c.reserve.new.self i.store i.actors i.live r.kept r.no_less.0 r.forest (r.sound c.self.invariant.nodes.sound) c.self.invariant in
+    let k = roomy.sound in
     k.nodes
 
 pub copy_pages-requires-clause-can : goal.copy_pages-requires-clause-can
@@ -77,9 +77,10 @@ copy_pages-requires-clause-can g c =
     let r = c.reserve.ensures in
     let s = c.args.span in
     let b = c.reserve.new.self in
-    let k = roomy_sound i.caches b i.store i.store i.actors i.live r.kept refl (0, sym (append-nil i.store.slots)) r.no_less.0 r.forest (r.sound c.self.invariant.nodes.sound) c.self.invariant in
+    let roomy = reserved i.caches b i.store i.actors i.live r.kept r.no_less.0 r.forest (r.sound c.self.invariant.nodes.sound) c.self.invariant in
+    let k = roomy.sound in
     let out = subst (λ a. IsOpen (size_of a s.from.0) (size_of a s.to.0) s) (sym r.kept) (is_open (size_of i.caches s.from.0) (size_of i.caches s.to.0) s (sym c.span_refusal.ensures ∙ none_of_option c.span_refusal.result c.in_default.not-Some)) in
-    spans_can_be_copied (arena.forest_of b) s (range_there b k.nodes s.from s.from_page.0 s.pages out.from out.from_is out.from_ends) (range_there b k.nodes s.to s.to_page.0 s.pages out.to out.to_is out.to_ends) (apart_of s out.apart)
+    can_copy b k.nodes s out
 
 pub copy_pages-requires-clause-few : goal.copy_pages-requires-clause-few
 copy_pages-requires-clause-few g c =
@@ -89,16 +90,16 @@ copy_pages-requires-clause-few g c =
     let out = is_open (size_of i.caches s.from.0) (size_of i.caches s.to.0) s (sym c.span_refusal.ensures ∙ none_of_option c.span_refusal.result c.in_default.not-Some) in
     omega (arith, ap (λ f. Rattle.vm_ids.specs.Forest.NameMap.len f.nodes) r.forest, forest_len i.caches, nodes_most c.self.invariant, c.self.invariant.few, c.self.invariant.counted, size_le i.caches s.from.0 out.from out.from_is, out.from_ends)
 
-pub returns-then-is_err-clause-answers : goal.returns-then-is_err-clause-answers
-returns-then-is_err-clause-answers g c =
+pub returns-in_err-reserve-clause-answers : goal.returns-in_err-reserve-clause-answers
+returns-in_err-reserve-clause-answers g c =
     let h = g.M.Mapper.held c.args.mapper.now in
     let counts = g.M.Mapper.counts c.args.mapper.now in
     let i = c.self.inside in
     let r = c.reserve.ensures in
     let s = c.args.span in
     let b = c.reserve.new.self in
-    let more : (k : ℕ) × (i.store.slots ≡ i.store.slots ++ replicate k false) = (0, sym (append-nil i.store.slots)) in
-    let k = roomy_sound i.caches b i.store i.store i.actors i.live r.kept refl more r.no_less.0 r.forest (r.sound c.self.invariant.nodes.sound) c.self.invariant in
+    let roomy = reserved i.caches b i.store i.actors i.live r.kept r.no_less.0 r.forest (r.sound c.self.invariant.nodes.sound) c.self.invariant in
+    let k = roomy.sound in
     let p : Manager = seen i.caches i.store i.actors in
     let q : Manager = seen b i.store i.actors in
     let command = commands.Copy s in
@@ -106,13 +107,16 @@ returns-then-is_err-clause-answers g c =
     let out = is_open (size_of i.caches s.from.0) (size_of i.caches s.to.0) s (sym c.span_refusal.ensures ∙ none_of_option c.span_refusal.result c.in_default.not-Some) in
     let from = sized_table _ out.from out.from_is in
     let to = sized_table _ out.to out.to_is in
-    subst (λ (p : Manager). CallIs counts counts (state_at p h) command answer (state_at q h)) c.self.view_is
-    (failed counts counts (no_later counts) p q h h command answer c.self.invariant.nodes k.nodes refl (roomy_forest i.caches b i.store i.store i.actors i.live r.kept refl more r.no_less.0 r.forest (r.sound c.self.invariant.nodes.sound) c.self.invariant h) refl tt
+    let gave = err_from_is_err_and c.from_residual.result c.from_residual.ensures.1 in
+    let is : c.from_residual.result ≡ Err troubles.Memory = gave.1 ∙ ap (λ t. Err t) gave.2 in
+    subst (λ (p : Manager). CallIs counts counts (state_at p h) command (done_by c.from_residual.result) (state_at q h)) c.self.view_is
+    (subst (λ (r : Result _ _). CallIs counts counts (state_at p h) command (done_by r) (state_at q h)) (sym is)
+    (failed counts counts (no_later counts) p q h h command answer c.self.invariant.nodes k.nodes refl (roomy.forest h) refl tt
     (λ f sg. (
-      roomy_by i.caches b i.store i.store i.actors i.live r.kept refl more r.no_less.0 r.forest (r.sound c.self.invariant.nodes.sound) c.self.invariant f,
+      roomy.by f,
       tt,
       (let line = copied_row i.caches i.store i.actors i.live c.self.invariant s out from.0 to.0 from.1 to.1 from.2 to.2 f sg in rw line tt),
-    )))
+    ))))
 
 pub invariant_of-self-2 : goal.invariant_of-self-2
 invariant_of-self-2 g c =
@@ -122,13 +126,13 @@ invariant_of-self-2 g c =
     let r = c.reserve.ensures in
     let s = c.args.span in
     let b = c.reserve.new.self in
-    let more : (k : ℕ) × (i.store.slots ≡ i.store.slots ++ replicate k false) = (0, sym (append-nil i.store.slots)) in
-    let k = roomy_sound i.caches b i.store i.store i.actors i.live r.kept refl more r.no_less.0 r.forest (r.sound c.self.invariant.nodes.sound) c.self.invariant in
+    let roomy = reserved i.caches b i.store i.actors i.live r.kept r.no_less.0 r.forest (r.sound c.self.invariant.nodes.sound) c.self.invariant in
+    let k = roomy.sound in
     let e = c.copy_pages.ensures in
     let d = c.copy_pages.new.caches in
     let u = c.copy_pages.new.store in
-    let v = roomy_valid i.caches b i.store i.store i.actors i.live r.kept refl more r.no_less.0 r.forest (r.sound c.self.invariant.nodes.sound) c.self.invariant h (subst (λ (p : Manager). IsValid p h) (sym c.self.view_is) c.requires.valid) in
-    let tied = tied_right h None b i.store v.right in
+    let valid = subst (λ (p : Manager). IsValid p h) (sym c.self.view_is) c.requires.valid in
+    let tied = roomy.tied h valid in
     changed_sound b d i.store u i.actors i.live k e.sizes e.gives_back tied e.whole e.bounded
 
 pub returns-clause-valid : goal.returns-clause-valid
@@ -139,13 +143,14 @@ returns-clause-valid g c =
     let r = c.reserve.ensures in
     let s = c.args.span in
     let b = c.reserve.new.self in
-    let more : (k : ℕ) × (i.store.slots ≡ i.store.slots ++ replicate k false) = (0, sym (append-nil i.store.slots)) in
-    let k = roomy_sound i.caches b i.store i.store i.actors i.live r.kept refl more r.no_less.0 r.forest (r.sound c.self.invariant.nodes.sound) c.self.invariant in
+    let roomy = reserved i.caches b i.store i.actors i.live r.kept r.no_less.0 r.forest (r.sound c.self.invariant.nodes.sound) c.self.invariant in
+    let k = roomy.sound in
     let e = c.copy_pages.ensures in
     let d = c.copy_pages.new.caches in
     let u = c.copy_pages.new.store in
-    let v = roomy_valid i.caches b i.store i.store i.actors i.live r.kept refl more r.no_less.0 r.forest (r.sound c.self.invariant.nodes.sound) c.self.invariant h (subst (λ (p : Manager). IsValid p h) (sym c.self.view_is) c.requires.valid) in
-    let tied = tied_right h None b i.store v.right in
+    let valid = subst (λ (p : Manager). IsValid p h) (sym c.self.view_is) c.requires.valid in
+    let v = roomy.valid h valid in
+    let tied = roomy.tied h valid in
     let out = subst (λ a. IsOpen (size_of a s.from.0) (size_of a s.to.0) s) (sym r.kept) (is_open (size_of i.caches s.from.0) (size_of i.caches s.to.0) s (sym c.span_refusal.ensures ∙ none_of_option c.span_refusal.result c.in_default.not-Some)) in
     let from = sized_table _ out.from out.from_is in
     let to = sized_table _ out.to out.to_is in
@@ -160,13 +165,14 @@ returns-clause-answers g c =
     let r = c.reserve.ensures in
     let s = c.args.span in
     let b = c.reserve.new.self in
-    let more : (k : ℕ) × (i.store.slots ≡ i.store.slots ++ replicate k false) = (0, sym (append-nil i.store.slots)) in
-    let k = roomy_sound i.caches b i.store i.store i.actors i.live r.kept refl more r.no_less.0 r.forest (r.sound c.self.invariant.nodes.sound) c.self.invariant in
+    let roomy = reserved i.caches b i.store i.actors i.live r.kept r.no_less.0 r.forest (r.sound c.self.invariant.nodes.sound) c.self.invariant in
+    let k = roomy.sound in
     let e = c.copy_pages.ensures in
     let d = c.copy_pages.new.caches in
     let u = c.copy_pages.new.store in
-    let v = roomy_valid i.caches b i.store i.store i.actors i.live r.kept refl more r.no_less.0 r.forest (r.sound c.self.invariant.nodes.sound) c.self.invariant h (subst (λ (p : Manager). IsValid p h) (sym c.self.view_is) c.requires.valid) in
-    let tied = tied_right h None b i.store v.right in
+    let valid = subst (λ (p : Manager). IsValid p h) (sym c.self.view_is) c.requires.valid in
+    let v = roomy.valid h valid in
+    let tied = roomy.tied h valid in
     let out = subst (λ a. IsOpen (size_of a s.from.0) (size_of a s.to.0) s) (sym r.kept) (is_open (size_of i.caches s.from.0) (size_of i.caches s.to.0) s (sym c.span_refusal.ensures ∙ none_of_option c.span_refusal.result c.in_default.not-Some)) in
     let from = sized_table _ out.from out.from_is in
     let to = sized_table _ out.to out.to_is in
@@ -176,11 +182,7 @@ returns-clause-answers g c =
     let q : Manager = seen d u i.actors in
     let command = commands.Copy s in
     let answer : Answer = Ok replies.Done in
-    let same : state_at p h ≡ state_at o h = λ j. record {
-      machine = roomy_machine i.caches b i.store i.store i.actors i.live r.kept refl more r.no_less.0 r.forest (r.sound c.self.invariant.nodes.sound) c.self.invariant h j;
-      forest = Some (roomy_forest i.caches b i.store i.store i.actors i.live r.kept refl more r.no_less.0 r.forest (r.sound c.self.invariant.nodes.sound) c.self.invariant h j);
-      segments = segments_of h;
-    } in
+    let same : state_at p h ≡ state_at o h = roomy.state h in
     subst (λ (p : Manager). CallIs counts counts (state_at p h) command answer (state_at q h)) c.self.view_is
     (subst (λ (x : State). CallIs counts counts x command answer (state_at q h)) same
     (call_is counts counts (no_later counts) p q h h command answer refl tt
@@ -193,10 +195,11 @@ returns-clause-frames g c =
     let i = c.self.inside in
     let r = c.reserve.ensures in
     let b = c.reserve.new.self in
-    let v = roomy_valid i.caches b i.store i.store i.actors i.live r.kept refl (0, sym (append-nil i.store.slots)) r.no_less.0 r.forest (r.sound c.self.invariant.nodes.sound) c.self.invariant h (subst (λ (p : Manager). IsValid p h) (sym c.self.view_is) c.requires.valid) in
+    let roomy = reserved i.caches b i.store i.actors i.live r.kept r.no_less.0 r.forest (r.sound c.self.invariant.nodes.sound) c.self.invariant in
+    let valid = subst (λ (p : Manager). IsValid p h) (sym c.self.view_is) c.requires.valid in
     let e = c.copy_pages.ensures in
     let n = c.copy_pages.new in
-    let gives = e.gives_back None None (tied_right h None b i.store v.right) in
+    let gives = e.gives_back None None (roomy.tied h valid) in
     let q : Manager = seen n.caches n.store i.actors in
     subst (λ (p : Manager). CopiesNothing p q) c.self.view_is
     (record { copies = e.copies ∙ ap (λ k. k.copies) r.kept; held = gives.held; bytes = gives.bytes })

@@ -1,5 +1,6 @@
-use Rattle.std.proofs.Common.{◌≡◌, ℕ, ◌+◌, ◌≤◌, [], Some, length, replicate, refl, sym, ap, subst, arith}
-use Rattle.std.specs.Prelude.{Ok, Err, option_map}
+use Rattle.std.proofs.Common.{◌≡◌, ℕ, ◌+◌, ◌≤◌, [], Some, length, replicate, refl, sym, ap, subst, ◌∙◌, arith}
+use Rattle.std.specs.Prelude.{Result, Ok, Err, option_map}
+use Rattle.std.proofs.lemmas.Result.{err_from_is_err_and}
 use Rattle.vm_ids.specs.Counting.{no_counts}
 use Rattle.vm_ids.specs.Held.{segments_of}
 use Rattle.vm_ids.specs.declared.command.Command.TheVariants as commands
@@ -7,7 +8,7 @@ use Rattle.vm_ids.specs.declared.refusal.Refusal.TheVariants as refusals
 use Rattle.vm_ids.specs.declared.reply.Reply.TheVariants as replies
 use Rattle.vm_ids.specs.declared.reply.Trouble.TheVariants as troubles
 use Rattle.vm_ids.specs.Forest.Commands.{make, page_names}
-use Rattle.vm_model.specs.Answering.{Answer}
+use Rattle.vm_model.specs.Answering.{Answer, answer_by}
 use Rattle.vm_model.specs.Run.{AnswerIs, State}
 use Rattle.pvm_core.specs.Manager.{IsValid, Manager, forest_of, state_at}
 use Rattle.pvm_core.specs.contracts.pvm.Pvm.{the_view}
@@ -15,7 +16,7 @@ use Rattle.pvm_core.proofs.Answered.{answered}
 use Rattle.pvm_core.proofs.Begun.{begun_right, begun_sound, roomy_by, roomy_forest, roomy_machine, roomy_sound, roomy_valid}
 use Rattle.pvm_core.proofs.Kept.{seen}
 use Rattle.pvm_core.proofs.Making.{all_with, made_store}
-use Rattle.pvm_core.proofs.NewCache.{answer_more, fresh_pages, from_ok, many_live, many_made, temp_row, whole_more}
+use Rattle.pvm_core.proofs.NewCache.{answer_more, fresh_pages, many_live, many_made, temp_row, whole_more}
 use Rattle.pvm_core.proofs.Values.{followed_of}
 use Rattle.pvm_core.proofs.pvm.Pvm.make_temp.Goals as goal
 use Rattle.pvm_core.proofs.pvm.Pvm.make_temp.Goals.{then-caches_made-ge-MADE-via-then-caches_made-ge-MADE, then-caches_made-ge-MADE-via-else-caches_made-ge-MADE+then-self-pages}
@@ -38,15 +39,15 @@ invariant_of-self c =
     let e = c.reserve.ensures in
     roomy_sound i.caches r.caches i.store r.store i.actors i.live e.caches e.store e.slots e.no_less e.forest e.sound c.self.invariant
 
-pub returns-then-is_err-clause-valid : goal.returns-then-is_err-clause-valid
-returns-then-is_err-clause-valid c = λ h v.
+pub returns-in_err-reserve-clause-valid : goal.returns-in_err-reserve-clause-valid
+returns-in_err-reserve-clause-valid c = λ h v.
     let i = c.self.inside in
     let r = c.reserve.new in
     let e = c.reserve.ensures in
     roomy_valid i.caches r.caches i.store r.store i.actors i.live e.caches e.store e.slots e.no_less e.forest e.sound c.self.invariant h (subst (λ (p : Manager). IsValid p h) (sym c.self.view_is) v)
 
-pub returns-then-is_err-clause-answers : goal.returns-then-is_err-clause-answers
-returns-then-is_err-clause-answers c = λ h v.
+pub returns-in_err-reserve-clause-answers : goal.returns-in_err-reserve-clause-answers
+returns-in_err-reserve-clause-answers c = λ h v.
     let i = c.self.inside in
     let r = c.reserve.new in
     let e = c.reserve.ensures in
@@ -54,12 +55,15 @@ returns-then-is_err-clause-answers c = λ h v.
     let q : Manager = seen r.caches r.store i.actors in
     let k = roomy_sound i.caches r.caches i.store r.store i.actors i.live e.caches e.store e.slots e.no_less e.forest e.sound c.self.invariant in
     let answer : Answer = Err troubles.Memory in
-    subst (λ (p : Manager). AnswerIs (state_at p h) (commands.MakeTemp c.args.pages) answer [] no_counts (state_at q h)) c.self.view_is
+    let gave = err_from_is_err_and c.from_residual.result c.from_residual.ensures.1 in
+    let is : c.from_residual.result ≡ Err troubles.Memory = gave.1 ∙ ap (λ t. Err t) gave.2 in
+    subst (λ (p : Manager). AnswerIs (state_at p h) (commands.MakeTemp c.args.pages) (answer_by replies.Cache c.from_residual.result) [] no_counts (state_at q h)) c.self.view_is
+    (subst (λ (r : Result _ _). AnswerIs (state_at p h) (commands.MakeTemp c.args.pages) (answer_by replies.Cache r) [] no_counts (state_at q h)) (sym is)
     (answered p q h (commands.MakeTemp c.args.pages) answer c.self.invariant.nodes k.nodes (roomy_forest i.caches r.caches i.store r.store i.actors i.live e.caches e.store e.slots e.no_less e.forest e.sound c.self.invariant h) refl refl (λ f s. (
       roomy_by i.caches r.caches i.store r.store i.actors i.live e.caches e.store e.slots e.no_less e.forest e.sound c.self.invariant f,
       tt,
       (let row = temp_row p f c.args.pages i.live c.self.invariant.counted (omega (arith, c.if-caches_made-ge-MADE.false, c.caches_made.ensures)) (omega (arith, c.if-self-pages.false)) in rw row tt),
-    )))
+    ))))
 
 pub invariant_of-self-2 : goal.invariant_of-self-2
 invariant_of-self-2 c =
@@ -69,7 +73,7 @@ invariant_of-self-2 c =
     let m = c.make_temp.ensures in
     let k = roomy_sound i.caches r.caches i.store r.store i.actors i.live e.caches e.store e.slots e.no_less e.forest e.sound c.self.invariant in
     begun_sound r.caches c.make_temp.new.self r.store i.actors i.live c.args.pages c.make_temp.result m.made.0 m.made.1 m.made.2 (m.forest e.sound) (m.sound e.sound) k (omega (arith, c.if-self-pages.false))
-    (from_ok c.reserve.result (sym c.if-is_err.ensures.value) e.nodes) (from_ok c.reserve.result (sym c.if-is_err.ensures.value) e.capacity)
+    c.in_ok-reserve.ensures.nodes c.in_ok-reserve.ensures.capacity
 
 pub returns-clause-valid : goal.returns-clause-valid
 returns-clause-valid c = λ h v.
@@ -85,7 +89,7 @@ returns-clause-valid c = λ h v.
     let low : i.live + c.args.pages ≤ Rattle.vm_model.specs.declared.limits.TheConstants.LIVE_PAGES = omega (arith, c.if-self-pages.false) in
     let forest = made_store h r.caches d r.store c.make_temp.result c.args.pages m.pages m.stays (m.forest e.sound) e.sound (m.sound e.sound) (fresh_pages r.caches d c.make_temp.result c.args.pages m.made.0 k.nodes m.made.2) in
     record {
-      right = begun_right r.caches d r.store i.actors i.live c.args.pages c.make_temp.result m.made.0 m.made.1 m.made.2 (m.forest e.sound) (m.sound e.sound) k low (from_ok c.reserve.result (sym c.if-is_err.ensures.value) e.nodes) (from_ok c.reserve.result (sym c.if-is_err.ensures.value) e.capacity) h w.right;
+      right = begun_right r.caches d r.store i.actors i.live c.args.pages c.make_temp.result m.made.0 m.made.1 m.made.2 (m.forest e.sound) (m.sound e.sound) k low c.in_ok-reserve.ensures.nodes c.in_ok-reserve.ensures.capacity h w.right;
       whole = whole_more p q h c.make_temp.result c.args.pages m.made.0 m.made.1 m.made.2 k.actors.some (followed_of p h k.nodes k.actors.some w.whole)
           (subst (λ (b : ℕ). forest_of q h ≡ make (all_with (option_map (λ _. replicate b 0) h) (page_names c.make_temp.result 0 c.args.pages)) (forest_of p h)) (sym k.page) forest) (refl, refl, refl, refl) w.whole;
     }
