@@ -57,7 +57,8 @@ module _ (a : Scene) (frames : ℕ) (told : Option Segments) (begins : a.state �
   ends_followed statuses.Usage b l k h = absurd h
   ends_followed statuses.NoMemory b l k h = absurd h
 
--- the promise, from a replay that began with some machine and some forest, which were those of the start
+-- the promise, from a replay that began with some machine and some forest, which were those of the
+-- start
 pub run_ends : (status : Status) (frames : ℕ) (old now : Machine → PageForest → Scene) (l k : Option (List ℕ)) (told : Option Segments) (m last : Machine) (f forest : PageForest)
     → ((m : Machine) (f : PageForest) → (old m f).state ≡ record { machine = m; forest = Some f; segments = told })
     → ((m : Machine) (f : PageForest) → ((now m f).state.machine ≡ m) × ((now m f).state.forest ≡ Some f))

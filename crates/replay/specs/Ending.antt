@@ -14,8 +14,8 @@ use Rattle.actor_script.specs.Writing.{Writes, WritesFront}
 use Rattle.replay.specs.declared.status.Status.{Status}
 use Rattle.replay.specs.declared.status.Status.TheVariants as statuses
 
--- What there is between two lines: the machine, its page forest and the mapper's segments, the mapper's counts, and
--- what was written.
+-- What there is between two lines: the machine, its page forest and the mapper's segments, the
+-- mapper's counts, and what was written.
 pub record Scene : Type 0 where
   pub state : State
   pub counts : MapperCounts
@@ -44,8 +44,9 @@ scene_with held counts written mapper sink m forest = record {
 abbrev pub texts_of : List Step → List ℕ
 texts_of steps = flat_map (λ (step : Step). text_of step.number step.answer) steps
 
--- These lines were answered, each once and in order, and the texts of the answers were written. The mapper's counts
--- rose by what the answers say: its faults by at least that, its pulls and pushes by exactly that.
+-- These lines were answered, each once and in order, and the texts of the answers were written. The
+-- mapper's counts rose by what the answers say: its faults by at least that, its pulls and pushes
+-- by exactly that.
 pub record Answered (before after : Scene) (reads : List Read) : Type 0 where
   pub steps : List Step
   pub runs : RunOf before.state reads steps after.state
@@ -77,7 +78,8 @@ pub record Stopped (before after : Scene) (left left_now : Option (List ℕ))
   pub took : Took left left_now script
   pub answered : Answered before after (ended_commands_of (take most_bytes script))
 
--- A write failed. The lines answered till then begin the lines of the bytes taken, and of the whole script.
+-- A write failed. The lines answered till then begin the lines of the bytes taken, and of the whole
+-- script.
 pub record Interrupted (before after : Scene) (left left_now : Option (List ℕ)) : Type 0 where
   pub script : List ℕ
   pub took : Took left left_now script
@@ -102,9 +104,9 @@ Ends statuses.NoMemory before now left left_now = ⊥
 abbrev pub page_size : ℕ
 page_size = 4096
 
--- How a run over so many page frames ends, where the scenes at its begin and now are those of a machine and a forest: it
--- began with the empty machine and the empty page forest, and the last forest has its shape and agrees with the last
--- machine.
+-- How a run over so many page frames ends, where the scenes at its begin and now are those of a
+-- machine and a forest: it began with the empty machine and the empty page forest, and the last
+-- forest has its shape and agrees with the last machine.
 pub record RunEnds (status : Status) (frames : ℕ) (before now : Machine → PageForest → Scene)
     (left left_now : Option (List ℕ)) : Type 0 where
   pub last : Machine

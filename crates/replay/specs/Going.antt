@@ -1,5 +1,5 @@
 -- How far a replay has come, for the contracts of its parts.
-use Rattle.std.specs.Prelude.{◌≡◌, ◌≤◌, ℕ, ◌+◌, ◌^◌, List, length, take, Option, Result, Ok, Err}
+use Rattle.std.specs.Prelude.{◌≡◌, ◌≤◌, ℕ, ◌+◌, ◌^◌, List, ◌++◌, length, take, Option, option_map, Result, Ok, Err}
 use Rattle.vm_ids.specs.Counting.{MapperCounts, Rise}
 use Rattle.vm_model.specs.Answering.{Answer}
 use Rattle.vm_model.specs.Machine.{Machine, live_pages}
@@ -9,7 +9,7 @@ use Rattle.gmi_calls.specs.Calling.{Fits}
 use Rattle.replay.specs.Ending.{Scene, Answered, CutOff, Took}
 use Rattle.replay.specs.Script.{ended_commands_of, unended_of, IsFront}
 use Rattle.actor_script.specs.Text.{text_of}
-use Rattle.actor_script.specs.Writing.{Wrote}
+use Rattle.actor_script.specs.Writing.{Writes, Wrote}
 
 -- A line is answered.
 pub record Replied (before : State) (read : Read) (answer : Answer) (after : State)
@@ -26,11 +26,20 @@ pub record LineDone {T E : Type 0} (result : Result T E) (number : ℕ) (read : 
   pub replied : Replied before.state read answer after.state before.counts after.counts
   pub wrote : Wrote result before.written after.written (text_of number answer)
 
+-- What a sink was given, and behind it the bytes that are gathered for it.
+abbrev pub with_gathered : {K : Type 0} → (K → Option (List ℕ)) → K × List ℕ → Option (List ℕ)
+with_gathered written both = option_map (λ given. given ++ both.1) (written both.0)
+
+-- What a sink was given only grew.
+abbrev pub Grew : Option (List ℕ) → Option (List ℕ) → Type 0
+Grew before after = (more : List ℕ) × Writes before after more
+
 -- The first 257 bytes of a line: enough to tell that it has more than 256.
 abbrev pub front_of_line : List ℕ → List ℕ
 front_of_line line = take 257 line
 
--- These bytes were taken, each line that they end is answered, and the next line has this number and begins so.
+-- These bytes were taken, each line that they end is answered, and the next line has this number
+-- and begins so.
 pub record Going (before now : Scene) (number : ℕ) (line script : List ℕ) : Type 0 where
   pub answered : Answered before now (ended_commands_of script)
   pub number_is : number ≡ length (ended_commands_of script) + 1
@@ -55,7 +64,8 @@ AnsweredOr (Err e) before now reads = CutOff before now reads
 abbrev pub line_budget : ℕ
 line_budget = 2 ^ 30
 
--- What calls need of a machine and of the mapper's page size: pages of one size, and no more of them than may be live.
+-- What calls need of a machine and of the mapper's page size: pages of one size, and no more of
+-- them than may be live.
 pub record IsReady (page_bytes : Option ℕ) (m : Machine) : Type 0 where
   pub fits : Fits page_bytes m
   pub few : live_pages m ≤ LIVE_PAGES

@@ -34,7 +34,8 @@ abbrev pub unless_empty : List ℕ → List (List ℕ)
 unless_empty [] = []
 unless_empty (b ∷ bs) = (b ∷ bs) ∷ []
 
--- The lines of a script: a line feed ends a line, and what stands behind the last one is a line unless it is empty.
+-- The lines of a script: a line feed ends a line, and what stands behind the last one is a line
+-- unless it is empty.
 unfoldable pub lines_of : List ℕ → List (List ℕ)
 lines_of bytes = ended_lines_of bytes ++ unless_empty (unended_of bytes)
 

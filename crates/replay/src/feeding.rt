@@ -2,10 +2,11 @@
 ghost use Rattle.std.specs.Prelude.{◌≡◌, ℕ, List, [], ◌∷◌, ◌++◌, ◌≤◌, ◌+◌, ◌*◌, length};
 ghost use Rattle.vm_ids.specs.Counting.{HasCause};
 ghost use Rattle.replay.specs.Ending.{Scene, scene_of};
-ghost use Rattle.replay.specs.Going.{Going, GoingOr, IsReady, line_budget};
+ghost use Rattle.replay.specs.Going.{Going, GoingOr, Grew, IsReady, line_budget, with_gathered};
 ghost use Rattle.replay.specs.Script.{most_bytes};
 
 use crate::answering::answer_line;
+use crate::gathered::Gathered;
 use crate::progress::Progress;
 use gmi_calls::Gmi;
 use vm_port::{Chooser, Failed, Mapper, Sink};
@@ -15,6 +16,7 @@ fn feed_byte<G: Gmi<M, C>, M: Mapper, C: Chooser, K: Sink>(
     gmi: &mut G,
     mapper: &mut M,
     chooser: &mut C,
+    gathered: &mut Gathered,
     sink: &mut K,
     progress: &mut Progress,
     byte: u8,
@@ -29,11 +31,14 @@ fn feed_byte<G: Gmi<M, C>, M: Mapper, C: Chooser, K: Sink>(
     ensures few { progress.new.number ≤ progress.old.number + 1 }
     ensures going { (before : Scene) (script : List ℕ) →
         Going before
-        (scene_of G.machine G.forest M.held M.counts K.written gmi.old mapper.old sink.old)
+        (scene_of G.machine G.forest M.held M.counts (with_gathered K.written)
+        gmi.old mapper.old (sink.old, gathered.old))
         progress.old.number progress.old.line.items script →
         GoingOr result before
-        (scene_of G.machine G.forest M.held M.counts K.written gmi.new mapper.new sink.new)
+        (scene_of G.machine G.forest M.held M.counts (with_gathered K.written)
+        gmi.new mapper.new (sink.new, gathered.new))
         progress.new.number progress.new.line.items (script ++ byte ∷ []) }
+    ensures grew { Grew (K.written sink.old) (K.written sink.new) }
     ensures cause { HasCause (K.faults sink.old) (K.faults sink.new) result }
 {
     if byte != b'\n' {
@@ -44,6 +49,7 @@ fn feed_byte<G: Gmi<M, C>, M: Mapper, C: Chooser, K: Sink>(
         gmi,
         mapper,
         chooser,
+        gathered,
         sink,
         progress.number,
         progress.line.as_slice(),
@@ -52,7 +58,7 @@ fn feed_byte<G: Gmi<M, C>, M: Mapper, C: Chooser, K: Sink>(
     result
 }
 
-/// More bytes of the script: each line that they end is answered.
+/// More bytes of the script: each line that they end is answered, and the replies are written.
 pub fn feed<G: Gmi<M, C>, M: Mapper, C: Chooser, K: Sink>(
     gmi: &mut G,
     mapper: &mut M,
@@ -78,8 +84,9 @@ pub fn feed<G: Gmi<M, C>, M: Mapper, C: Chooser, K: Sink>(
         progress.new.number progress.new.line.items (script ++ bytes.now) }
     ensures cause { HasCause (K.faults sink.old) (K.faults sink.new) result }
 {
+    let mut gathered = Gathered::new();
     for byte in bytes {
-        feed_byte(gmi, mapper, chooser, sink, progress, *byte)?;
+        feed_byte(gmi, mapper, chooser, &mut gathered, sink, progress, *byte)?;
     }
-    Ok(())
+    gathered.flush(sink)
 }

@@ -1,16 +1,20 @@
-//! A script from bytes to bytes: each line is read as a command, a memory manager answers it, and the reply is written
-//! as a line.
+//! A script from bytes to bytes: each line is read as a command, a memory manager answers it, and
+//! the reply is written as a line.
 //!
-//! Its model is in specs/. What a reader must believe: the lines of a script (`Script`), the words of a command line
-//! (`Commanding`), and how a run ends (`Ending`). `Going` serves the contracts of the parts alone.
+//! Its model is in specs/. What a reader must believe: the lines of a script (`Script`), the words
+//! of a command line (`Commanding`), and how a run ends (`Ending`). `Going` serves the contracts of
+//! the parts alone.
 //!
-//! It stands on the script language, which says the command of a line and the line of a reply, on the interface of a
-//! manager and on the traits of the outside; only [`run`] names the manager, which is the demand-paged one. The program
-//! stands on it. The way of a byte: `replaying` reads pieces, `feeding` finds lines, `answering` answers one line.
+//! It stands on the script language, which says the command of a line and the line of a reply, on
+//! the interface of a manager and on the traits of the outside; only [`run`] names the manager,
+//! which is the demand-paged one. The program stands on it. The way of a byte: `replaying` reads
+//! pieces, `feeding` finds lines, `answering` answers one line, `gathered` keeps its reply. The
+//! replies to one piece go out together, and before the next piece is read.
 #![tactic(auto)]
 
 mod answering;
 mod feeding;
+mod gathered;
 mod progress;
 mod replaying;
 mod status;

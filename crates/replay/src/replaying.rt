@@ -8,6 +8,7 @@ ghost use Rattle.replay.specs.Script.{commands_of};
 use crate::Status;
 use crate::answering::answer_line;
 use crate::feeding::feed;
+use crate::gathered::Gathered;
 use crate::progress::Progress;
 use gmi_calls::Gmi;
 use vm_port::{Chooser, Failed, Mapper, Sink, Source};
@@ -63,7 +64,17 @@ fn finish<G: Gmi<M, C>, M: Mapper, C: Chooser, K: Sink>(
     if line.is_empty() {
         return Ok(());
     }
-    answer_line(gmi, mapper, chooser, sink, progress.number, line)
+    let mut gathered = Gathered::new();
+    answer_line(
+        gmi,
+        mapper,
+        chooser,
+        &mut gathered,
+        sink,
+        progress.number,
+        line,
+    )?;
+    gathered.flush(sink)
 }
 
 /// Answers each line of what the source has left, and writes the replies.

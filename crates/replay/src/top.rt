@@ -13,21 +13,25 @@ use std::alloc::Global;
 use vm_ids::PAGE;
 use vm_port::{Chooser, Mapper, Sink, Source};
 
-/// Runs the program for the words of a command line: for `run --frames F` it replays the script that the source has
-/// left, over a demand-paged manager of F page frames of 4,096 bytes, and writes a reply for each line.
+/// Runs the program for the words of a command line: for `run --frames F` it replays the script
+/// that the source has left, over a demand-paged manager of F page frames of 4,096 bytes, and
+/// writes a reply for each line.
 ///
-/// Whatever the source, the sink, the mapper and the chooser: the lines written are the replies of a machine that keeps
-/// each cache as plain bytes and copies at once, a line once and in order, and each page pushed to a segment is what
-/// that machine holds for it. Chains and counts are those of the page forest, which follows each answer by its
-/// command's rule and agrees with that machine at the end. However reads cut the script, it is the same script.
+/// Whatever the source, the sink, the mapper and the chooser: the lines written are the replies of
+/// a machine that keeps each cache as plain bytes and copies at once, a line once and in order, and
+/// each page pushed to a segment is what that machine holds for it. Chains and counts are those of
+/// the page forest, which follows each answer by its command's rule and agrees with that machine at
+/// the end. However reads cut the script, it is the same script.
 ///
 /// - `Done`: the source has nothing left, and each line is answered.
-/// - `Usage` exactly where the words aren't `run --frames F` with F from 3 to 65,536, decimal with no leading zero.
-///   Nothing was read or written.
-/// - `SourceFault` only where the source's count of faults rose; each line that ended before is answered.
+/// - `Usage` exactly where the words aren't `run --frames F` with F from 3 to 65,536, decimal with
+///   no leading zero. Nothing was read or written.
+/// - `SourceFault` only where the source's count of faults rose; each line that ended before is
+///   answered.
 /// - `SinkFault` only where the sink's count of faults rose; a front of the replies was written.
 /// - `NoMemory` where there is none for the frames. Nothing was read or written.
-/// - `TooLong` exactly where byte 67,108,865 of the script was taken; each line that ended before is answered.
+/// - `TooLong` exactly where byte 67,108,865 of the script was taken; each line that ended before
+///   is answered.
 pub fn run<S: Source, K: Sink, M: Mapper, C: Chooser>(
     alloc: Global,
     words: &[&str],
@@ -37,8 +41,9 @@ pub fn run<S: Source, K: Sink, M: Mapper, C: Chooser>(
     chooser: &mut C,
 ) -> Status
     requires { IfSome (M.page_bytes mapper.old) (λ bytes. bytes ≡ page_size) }
-    // However it ends, but for want of memory at the start: from the empty machine and the empty page forest on, each line
-    // that the status says is answered once and in order, and the replies are written.
+    // However it ends, but for want of memory at the start: from the empty machine and the empty
+    // page forest on, each line that the status says is answered once and in order, and the replies
+    // are written.
     ensures ends { result ≢ Status.NoMemory →
         IfSome (frames_of (map (λ w. w.now) words.now)) (λ frames. RunEnds result frames
         (scene_with M.held M.counts K.written mapper.old sink.old)
@@ -59,7 +64,8 @@ pub fn run<S: Source, K: Sink, M: Mapper, C: Chooser>(
     ensures untouched { (result ≡ Status.Usage) ⊎ (result ≡ Status.NoMemory) →
         (source.new ≡ source.old) × (sink.new ≡ sink.old)
         × (mapper.new ≡ mapper.old) × (chooser.new ≡ chooser.old) }
-    // Right words, a script within the limit, and no fault of source and sink: it is done, but for want of memory.
+    // Right words, a script within the limit, and no fault of source and sink: it is done, but for
+    // want of memory.
     ensures complete { IsSome (frames_of (map (λ w. w.now) words.now)) →
         IsSomeAnd (S.left source.old) (λ all. length all ≤ most_bytes) →
         S.faults source.new ≡ S.faults source.old → S.faults source.new < last_count →

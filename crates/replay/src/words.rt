@@ -4,7 +4,8 @@ ghost use Rattle.replay.specs.Commanding.{frames_of};
 
 use actor_script::read_number;
 
-/// The number of page frames that the words `run --frames F` ask for, 3 to 65,536. `None` exactly for other words.
+/// The number of page frames that the words `run --frames F` ask for, 3 to 65,536. `None` exactly
+/// for other words.
 #[tactic(auto, unfolding(crate::specs::Commanding::frames_of))]
 pub fn frames_asked(words: &[&str]) -> Option<u32>
     ensures frames { result ≡ frames_of (map (λ w. w.now) words.now) }

@@ -6,6 +6,7 @@ mod rows;
 
 use crate::{Status, run};
 use std::alloc::Global;
+use std::cell::Cell;
 use std::process::Abort;
 use vm_ids::{NoMemory, PAGE};
 use vm_port::{
@@ -212,14 +213,136 @@ fn a_failed_read_ends_the_run_behind_the_lines_that_ended(rt: HostRuntime) -> Re
     Ok(())
 }
 
+// Reads of 6 bytes give a line each, and one read gives the two lines that end; the last line is
+// answered behind the last read.
 #[test]
 fn a_failed_write_ends_the_run(rt: HostRuntime) -> Result<(), NoMemory> {
-    for (failing, replies) in [(1, ""), (2, "1 ok a1\n"), (3, "1 ok a1\n2 ok a2\n")] {
+    for (most, failing, replies) in [
+        (6, 1, ""),
+        (6, 2, "1 ok a1\n"),
+        (6, 3, "1 ok a1\n2 ok a2\n"),
+        (4096, 1, ""),
+        (4096, 2, "1 ok a1\n2 ok a2\n"),
+    ] {
         let mut sink = MemorySink::new(rt.alloc(), 4096, &[failing])?;
-        let status = replay_cut(rt.alloc(), "8", b"actor\nactor\ntemp 1", 4096, &mut sink)?;
+        let status = replay_cut(rt.alloc(), "8", b"actor\nactor\ntemp 1", most, &mut sink)?;
         assert_eq!(&rt; status, Status::SinkFault, "{failing}");
         assert_eq!(&rt; sink.written(), replies.as_bytes(), "{failing}");
     }
+    Ok(())
+}
+
+#[test]
+fn a_sink_without_room_has_a_front_of_the_replies(rt: HostRuntime) -> Result<(), NoMemory> {
+    for most in [1, 6, 4096] {
+        let mut sink = MemorySink::new(rt.alloc(), 11, &[])?;
+        let status = replay_cut(rt.alloc(), "8", b"actor\nactor\ntemp 1", most, &mut sink)?;
+        assert_eq!(&rt; status, Status::SinkFault);
+        assert_eq!(&rt; sink.written(), b"1 ok a1\n2 o".as_slice());
+    }
+    Ok(())
+}
+
+// What went out of a run: how many writes, and how many lines.
+#[derive(Drop)]
+struct Seen {
+    writes: Cell<u32>,
+    lines: Cell<u32>,
+}
+
+impl Seen {
+    fn new() -> Seen {
+        Seen {
+            writes: Cell::new(0),
+            lines: Cell::new(0),
+        }
+    }
+}
+
+// A sink that counts its writes and their lines.
+#[derive(Drop)]
+struct Counting<'a> {
+    seen: &'a Seen,
+}
+
+impl Sink for Counting<'_> {
+    ghost written = { λ _. None };
+
+    ghost faults = { λ _. 0 };
+
+    fn write(&mut self, from: &[u8]) -> Result<usize, Failed> {
+        self.seen
+            .writes
+            .set(self.seen.writes.get().saturating_add(1));
+        for byte in from {
+            if *byte == b'\n' {
+                self.seen.lines.set(self.seen.lines.get().saturating_add(1));
+            }
+        }
+        Ok(from.len())
+    }
+}
+
+// A source that gives so many lines `stat`, one a read, and counts the reads at which a reply to an
+// earlier line wasn't out.
+#[derive(Drop)]
+struct Asking<'a> {
+    seen: &'a Seen,
+    given: u32,
+    most: u32,
+    late: u32,
+}
+
+impl Source for Asking<'_> {
+    ghost left = { λ _. None };
+
+    ghost faults = { λ _. 0 };
+
+    fn read(&mut self, into: &mut [u8]) -> Result<usize, Failed> {
+        if self.seen.lines.get() != self.given {
+            self.late = self.late.saturating_add(1);
+        }
+        if self.given >= self.most || into.len() < 5 {
+            return Ok(0);
+        }
+        into[..5].copy_from_slice(b"stat\n");
+        self.given += 1;
+        Ok(5)
+    }
+}
+
+#[test]
+fn each_reply_is_out_before_the_next_read(rt: HostRuntime) -> Result<(), NoMemory> {
+    let seen = Seen::new();
+    let mut source = Asking {
+        seen: &seen,
+        given: 0,
+        most: 20,
+        late: 0,
+    };
+    let mut sink = Counting { seen: &seen };
+    let words = ["run", "--frames", "3"];
+    let status = replay_source(rt.alloc(), &words, &mut source, &mut sink)?;
+    assert_eq!(&rt; status, Status::Done);
+    assert_eq!(&rt; source.late, 0);
+    assert_eq!(&rt; (seen.writes.get(), seen.lines.get()), (20, 20));
+    Ok(())
+}
+
+// The 200 replies have 6,892 bytes.
+#[test]
+fn the_replies_of_one_read_take_few_writes(rt: HostRuntime) -> Result<(), NoMemory> {
+    let mut script = Vec::new(rt.alloc());
+    for _ in 0..200 {
+        script.extend_from_slice(b"stat\n")?;
+    }
+    let seen = Seen::new();
+    let mut source = MemorySource::new(&script, &[]);
+    let mut sink = Counting { seen: &seen };
+    let words = ["run", "--frames", "3"];
+    let status = replay_source(rt.alloc(), &words, &mut source, &mut sink)?;
+    assert_eq!(&rt; status, Status::Done);
+    assert_eq!(&rt; (seen.writes.get(), seen.lines.get()), (2, 200));
     Ok(())
 }
 
