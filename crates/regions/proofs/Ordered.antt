@@ -1,0 +1,257 @@
+-- Regions in order: which one holds an address, and where a new one goes.
+use Rattle.std.proofs.Common.{◌≡◌, ◌≢◌, ℕ, zero, suc, ◌+◌, ◌-◌, ◌*◌, ◌%◌, ◌==◌, ◌<◌, ◌≤◌, Bool, true, false, cond, not, filter, List, [], ◌∷◌, ◌++◌, length, get_or, map, Option, Some, None, refl, sym, ap, ◌∙◌, subst, arith, rules}
+use Rattle.std.specs.Prelude.{nat_lt, insert, ◌||◌}
+use Rattle.std.specs.List.{list_any}
+use Rattle.std.specs.List.Sorted.{IsNonDecreasingBy}
+use Rattle.std.proofs.Math.Nat.{add-mul-mod_self_left, mul-add, mul-le-mul_left}
+use borrow.Author.Tests.{ltb-true, ltb-false}
+use Rattle.std.proofs.lemmas.Bool.Decides.{nat_tests}
+use Rattle.vm_ids.specs.declared.command.Prot.{Prot}
+use Rattle.vm_model.specs.Machine as model
+use Rattle.vm_model.specs.Answering.{insert_region, overlaps, region_among, shares, without_region}
+use Rattle.vm_model.specs.Place.{holds, region_at}
+use Rattle.regions.specs.AddressSpace.{AreInOrder, IsWellFormed, back_of, end_of, replace_region, split_at, with_lock, with_prot}
+use Rattle.regions.specs.Seen.{region_seen, start_at, IsCountUpTo}
+use Rattle.regions.specs.declared.region.Region.{Region}
+
+-- Starts rise -----------------------------------------------------------------------------
+
+-- each region starts at or behind the address that the order begins at
+start_from : (b from : ℕ) (rs : List Region) → AreInOrder b from (map region_seen rs) → (k : ℕ) (d : Region) → k < length rs → from ≤ start_at rs k d
+start_from b from [] o k d within = absurd (omega (arith, within))
+start_from b from (r ∷ rs) o zero d within = o.0
+start_from b from (r ∷ rs) o (suc k) d within =
+    let next = start_from b (end_of b (region_seen r)) rs o.2 k d (omega (arith, within)) in
+    let here = o.0 in
+    omega (arith, next, here)
+
+pub starts_rise : (b from : ℕ) (rs : List Region) → AreInOrder b from (map region_seen rs) → IsNonDecreasingBy (λ (r : Region). (region_seen r).start) rs
+starts_rise b from [] o i j d le within = absurd (omega (arith, within))
+starts_rise b from (r ∷ rs) o zero zero d le within = omega arith
+starts_rise b from (r ∷ rs) o zero (suc j) d le within =
+    omega (arith, start_from b (end_of b (region_seen r)) rs o.2 j d (omega (arith, within)))
+starts_rise b from (r ∷ rs) o (suc i) zero d le within = absurd (omega (arith, le))
+starts_rise b from (r ∷ rs) o (suc i) (suc j) d le within =
+    starts_rise b (end_of b (region_seen r)) rs o.2 i j d (omega (arith, le)) (omega (arith, within))
+
+-- Which one holds an address ---------------------------------------------------------------
+
+not_yet : (b a : ℕ) (r : model.Region) → a < r.start → holds b a r ≡ false
+not_yet b a r below = grind (arith, nat_tests)
+
+passed : (b a : ℕ) (r : model.Region) → end_of b r ≤ a → holds b a r ≡ false
+passed b a r above = grind (arith, nat_tests)
+
+held : (b a : ℕ) (r : model.Region) → r.start ≤ a → a < end_of b r → holds b a r ≡ true
+held b a r from below = grind (arith, nat_tests)
+
+tail_count : (a : ℕ) (r : Region) (rs : List Region) (k : ℕ) → IsCountUpTo a (r ∷ rs) (suc k) → IsCountUpTo a rs k
+tail_count a r rs k c = record {
+  within = omega (arith, c.within);
+  before = λ j d h. c.before (suc j) d (omega (arith, h));
+  behind = λ j d h w. c.behind (suc j) d (omega (arith, h)) (omega (arith, w));
+}
+
+tail_none : (a : ℕ) (r : Region) (rs : List Region) → IsCountUpTo a (r ∷ rs) 0 → IsCountUpTo a rs 0
+tail_none a r rs c = record {
+  within = omega arith;
+  before = λ j d h. absurd (omega (arith, h));
+  behind = λ j d h w. c.behind (suc j) d (omega arith) (omega (arith, w));
+}
+
+goes_on : (b a : ℕ) (r : model.Region) (rs : model.Actor) → holds b a r ≡ false → region_at b a (r ∷ rs) ≡ region_at b a rs
+goes_on b a r rs e = ap (λ (c : Bool). cond c (Some r) (region_at b a rs)) e
+
+-- where each starts behind the address, none holds it
+pub none_holds : (b a : ℕ) (rs : List Region) → IsCountUpTo a rs 0 → region_at b a (map region_seen rs) ≡ None
+none_holds b a [] c = refl
+none_holds b a (r ∷ rs) c =
+    goes_on b a (region_seen r) (map region_seen rs) (not_yet b a (region_seen r) (c.behind 0 r (omega arith) (omega arith)))
+    ∙ none_holds b a rs (tail_none a r rs c)
+
+-- else the last that doesn't start behind it holds it, or none
+pub last_holds : (b a from : ℕ) (rs : List Region) (k : ℕ) (d : Region) → AreInOrder b from (map region_seen rs) → IsCountUpTo a rs (suc k)
+    → region_at b a (map region_seen rs) ≡ cond (holds b a (region_seen (get_or rs k d))) (Some (region_seen (get_or rs k d))) None
+last_holds b a from [] k d o c = absurd (omega (arith, c.within))
+last_holds b a from (r ∷ rs) zero d o c =
+    ap (λ (x : Option model.Region). cond (holds b a (region_seen r)) (Some (region_seen r)) x) (none_holds b a rs (tail_count a r rs 0 c))
+last_holds b a from (r ∷ []) (suc k) d o c = absurd (omega (arith, c.within))
+last_holds b a from (r ∷ s ∷ rs) (suc k) d o c =
+    let behind : end_of b (region_seen r) ≤ (region_seen s).start = o.2.0 in
+    let before : (region_seen s).start ≤ a = c.before 1 s (omega arith) in
+    goes_on b a (region_seen r) (map region_seen (s ∷ rs)) (passed b a (region_seen r) (omega (arith, behind, before)))
+    ∙ last_holds b a (end_of b (region_seen r)) (s ∷ rs) k d o.2 (tail_count a r (s ∷ rs) (suc k) c)
+
+pub holder : (b a from : ℕ) (rs : List Region) (n : ℕ) (d : Region) → AreInOrder b from (map region_seen rs) → IsCountUpTo a rs n → n ≢ 0
+    → a < end_of b (region_seen (get_or rs (n - 1) d)) → region_at b a (map region_seen rs) ≡ Some (region_seen (get_or rs (n - 1) d))
+holder b a from rs n d o c some below =
+    let r = region_seen (get_or rs (n - 1) d) in
+    let next : n ≡ suc (n - 1) = omega arith in
+    let started : r.start ≤ a = c.before (n - 1) d (omega arith) in
+    last_holds b a from rs (n - 1) d o (subst (IsCountUpTo a rs) next c)
+    ∙ ap (λ (x : Bool). cond x (Some r) None) (held b a r started below)
+
+pub no_holder : (b a from : ℕ) (rs : List Region) (n : ℕ) (d : Region) → AreInOrder b from (map region_seen rs) → IsCountUpTo a rs n → n ≢ 0
+    → end_of b (region_seen (get_or rs (n - 1) d)) ≤ a → region_at b a (map region_seen rs) ≡ None
+no_holder b a from rs n d o c some above =
+    let r = region_seen (get_or rs (n - 1) d) in
+    let next : n ≡ suc (n - 1) = omega arith in
+    last_holds b a from rs (n - 1) d o (subst (IsCountUpTo a rs) next c)
+    ∙ ap (λ (x : Bool). cond x (Some r) None) (passed b a r above)
+
+-- each is well-formed
+pub formed_at : (b from : ℕ) (rs : List Region) (k : ℕ) (d : Region) → AreInOrder b from (map region_seen rs) → k < length rs → IsWellFormed b (region_seen (get_or rs k d))
+formed_at b from [] k d o within = absurd (omega (arith, within))
+formed_at b from (r ∷ rs) zero d o within = o.1
+formed_at b from (r ∷ rs) (suc k) d o within = formed_at b (end_of b (region_seen r)) rs k d o.2 (omega (arith, within))
+
+-- Where a new one goes ---------------------------------------------------------------------
+
+step : (b : Bool) (r x : model.Region) (xs : model.Actor) → b ≡ false → cond b (r ∷ x ∷ xs) (x ∷ insert_region r xs) ≡ x ∷ insert_region r xs
+step b r x xs e = ap (λ (c : Bool). cond c (r ∷ x ∷ xs) (x ∷ insert_region r xs)) e
+
+stop : (b : Bool) (r x : model.Region) (xs : model.Actor) → b ≡ true → cond b (r ∷ x ∷ xs) (x ∷ insert_region r xs) ≡ r ∷ x ∷ xs
+stop b r x xs e = ap (λ (c : Bool). cond c (r ∷ x ∷ xs) (x ∷ insert_region r xs)) e
+
+less : (x y : ℕ) → x < y → nat_lt x y ≡ true
+less x y h = grind (arith, nat_tests)
+
+not_less : (x y : ℕ) → y ≤ x → nat_lt x y ≡ false
+not_less x y h = grind (arith, nat_tests)
+
+pub goes_there : (r : Region) (rs : List Region) (k : ℕ) → IsCountUpTo (region_seen r).start rs k → insert_region (region_seen r) (map region_seen rs) ≡ map region_seen (insert rs k r)
+goes_there r [] zero c = refl
+goes_there r [] (suc k) c = absurd (omega (arith, c.within))
+goes_there r (x ∷ rs) zero c =
+    stop (nat_lt (region_seen r).start (region_seen x).start) (region_seen r) (region_seen x) (map region_seen rs)
+    (less _ _ (c.behind 0 x (omega arith) (omega arith)))
+goes_there r (x ∷ rs) (suc k) c =
+    step (nat_lt (region_seen r).start (region_seen x).start) (region_seen r) (region_seen x) (map region_seen rs)
+    (not_less _ _ (c.before 0 x (omega arith)))
+    ∙ ap (λ (ys : model.Actor). region_seen x ∷ ys) (goes_there r rs k (tail_count (region_seen r).start x rs k c))
+
+neither : (a b : Bool) → (a || b) ≡ false → (a ≡ false) × (b ≡ false)
+neither true b e = absurd (search rules)
+neither false b e = (refl, e)
+
+before_it : (s z o q : ℕ) → shares s z o q ≡ false → s < o → s + z ≤ o
+before_it s z o q e below = grind (arith, nat_tests)
+
+behind_it : (s z o q : ℕ) → shares s z o q ≡ false → o ≤ s → 1 ≤ z → o + q ≤ s
+behind_it s z o q e above some = grind (arith, nat_tests)
+
+some_bytes : (b p : ℕ) → 1 ≤ b → 1 ≤ p → 1 ≤ b * p
+some_bytes b p h some = omega (arith, mul-le-mul_left b some)
+
+insert_here : (b from : ℕ) (c : Bool) (r x : model.Region) (xs ys : model.Actor) → nat_lt r.start x.start ≡ c → 1 ≤ b → from ≤ r.start → IsWellFormed b r
+    → overlaps b r.start r.pages x ≡ false → AreInOrder b from (x ∷ xs) → (end_of b x ≤ r.start → AreInOrder b (end_of b x) ys)
+    → AreInOrder b from (cond c (r ∷ x ∷ xs) (x ∷ ys))
+insert_here b from true r x xs ys e one low f apart o next =
+    let below : r.start < x.start = ltb-true _ _ e in
+    (low, f, (before_it r.start (b * r.pages) x.start (b * x.pages) apart below, o.1, o.2))
+insert_here b from false r x xs ys e one low f apart o next =
+    let above : x.start ≤ r.start = ltb-false _ _ e in
+    (o.0, o.1, next (behind_it r.start (b * r.pages) x.start (b * x.pages) apart above (some_bytes b r.pages one f.some)))
+
+pub insert_keeps : (b from : ℕ) (r : model.Region) (rs : model.Actor) → 1 ≤ b → from ≤ r.start → IsWellFormed b r
+    → list_any (overlaps b r.start r.pages) rs ≡ false → AreInOrder b from rs → AreInOrder b from (insert_region r rs)
+insert_keeps b from r [] one low f apart o = (low, f, tt)
+insert_keeps b from r (x ∷ xs) one low f apart o =
+    let each = neither (overlaps b r.start r.pages x) (list_any (overlaps b r.start r.pages) xs) apart in
+    insert_here b from (nat_lt r.start x.start) r x xs (insert_region r xs) refl one low f each.0 o
+    (λ above. insert_keeps b (end_of b x) r xs one above f each.1 o.2)
+
+-- a region is put in its place
+pub put_there : (r : Region) (x : model.Region) (rs : List Region) (k : ℕ) → region_seen r ≡ x → IsCountUpTo x.start rs k
+    → map region_seen (insert rs k r) ≡ insert_region x (map region_seen rs)
+put_there r x rs k is count =
+    sym (goes_there r rs k (subst (λ (y : model.Region). IsCountUpTo y.start rs k) (sym is) count))
+    ∙ ap (λ (y : model.Region). insert_region y (map region_seen rs)) is
+
+-- and where it fits, the order stays
+pub created : (b : ℕ) (r : Region) (x : model.Region) (rs : List Region) (k : ℕ) → 1 ≤ b → region_seen r ≡ x → IsCountUpTo x.start rs k → IsWellFormed b x
+    → list_any (overlaps b x.start x.pages) (map region_seen rs) ≡ false → AreInOrder b 0 (map region_seen rs)
+    → AreInOrder b 0 (map region_seen (insert rs k r))
+created b r x rs k one is count formed fits o =
+    subst (AreInOrder b 0) (sym (put_there r x rs k is count)) (insert_keeps b 0 x (map region_seen rs) one (omega arith) formed fits o)
+
+-- What goes, and what becomes something else -------------------------------------------------
+
+lower : (b from low : ℕ) (rs : model.Actor) → low ≤ from → AreInOrder b from rs → AreInOrder b low rs
+lower b from low [] le o = tt
+lower b from low (r ∷ rs) le o = let h = o.0 in (omega (arith, h), o.1, o.2)
+
+drop_here : (b from : ℕ) (c : Bool) (r : model.Region) (rs : model.Actor) → from ≤ r.start → IsWellFormed b r → AreInOrder b (end_of b r) rs
+    → AreInOrder b from (cond c (r ∷ rs) rs)
+drop_here b from true r rs low f o = (low, f, o)
+drop_here b from false r rs low f o = lower b (end_of b r) from rs (omega (arith, low)) o
+
+drop_seen : (n : ℕ) (c : Bool) (r : Region) (rs ys : List Region) → map region_seen ys ≡ without_region n (map region_seen rs)
+    → map region_seen (cond c (r ∷ ys) ys) ≡ cond c (region_seen r ∷ without_region n (map region_seen rs)) (without_region n (map region_seen rs))
+drop_seen n true r rs ys e = ap (λ (xs : model.Actor). region_seen r ∷ xs) e
+drop_seen n false r rs ys e = e
+
+pub without_seen : (n : ℕ) (rs : List Region) → map region_seen (filter (λ (r : Region). not (r.number.0 == n)) rs) ≡ without_region n (map region_seen rs)
+without_seen n [] = refl
+without_seen n (r ∷ rs) = drop_seen n (not (r.number.0 == n)) r rs (filter (λ (s : Region). not (s.number.0 == n)) rs) (without_seen n rs)
+
+pub without_keeps : (n b from : ℕ) (rs : model.Actor) → AreInOrder b from rs → AreInOrder b from (without_region n rs)
+without_keeps n b from [] o = tt
+without_keeps n b from (r ∷ rs) o = drop_here b from (not (r.number == n)) r (without_region n rs) o.0 o.1 (without_keeps n b (end_of b r) rs o.2)
+
+-- where a region is in order, so are those that it becomes
+abbrev pub KeepsOrder : ℕ → model.Region → List model.Region → Type 0
+KeepsOrder b x xs = (from : ℕ) (rest : model.Actor) → AreInOrder b from (x ∷ rest) → AreInOrder b from (xs ++ rest)
+
+replace_here : (n b from : ℕ) (by : model.Region → List model.Region) (c : Bool) (r x : model.Region) (rs ys : model.Actor) → cond c (Some r) (region_among n rs) ≡ Some x
+    → KeepsOrder b x (by x) → AreInOrder b from (r ∷ rs) → (region_among n rs ≡ Some x → AreInOrder b (end_of b r) ys)
+    → AreInOrder b from (cond c (by r ++ rs) (r ∷ ys))
+replace_here n b from by true r x rs ys e k o next =
+    let same : x ≡ r = cc in
+    subst (λ (y : model.Region). AreInOrder b from (by y ++ rs)) same (k from rs (subst (λ (y : model.Region). AreInOrder b from (y ∷ rs)) (sym same) o))
+replace_here n b from by false r x rs ys e k o next = (o.0, o.1, next e)
+
+pub replace_keeps : (n b from : ℕ) (by : model.Region → List model.Region) (x : model.Region) (rs : model.Actor) → region_among n rs ≡ Some x
+    → KeepsOrder b x (by x) → AreInOrder b from rs → AreInOrder b from (replace_region n by rs)
+replace_keeps n b from by x [] e k o = tt
+replace_keeps n b from by x (r ∷ rs) e k o =
+    replace_here n b from by (r.number == n) r x rs (replace_region n by rs) e k o
+    (λ found. replace_keeps n b (end_of b r) by x rs found k o.2)
+
+pub prot_keeps : (b : ℕ) (prot : Prot) (x : model.Region) → KeepsOrder b x (with_prot prot x)
+prot_keeps b prot x from rest o =
+    let f = o.1 in
+    (o.0, record { aligned = f.aligned; some = f.some; ends = f.ends; numbered = f.numbered }, o.2)
+
+pub lock_keeps : (b : ℕ) (locked : Bool) (x : model.Region) → KeepsOrder b x (with_lock locked x)
+lock_keeps b locked x from rest o =
+    let f = o.1 in
+    (o.0, record { aligned = f.aligned; some = f.some; ends = f.ends; numbered = f.numbered }, o.2)
+
+-- the bytes of the first pages and those of the others are those of all
+cut_bytes : (b p q : ℕ) → p ≤ q → b * p + b * (q - p) ≡ b * q
+cut_bytes b p q le = let e : p + (q - p) ≡ q = omega arith in sym (mul-add b p (q - p)) ∙ ap (λ (k : ℕ). b * k) e
+
+still_aligned : (b s p : ℕ) → s % b ≡ 0 → (s + b * p) % b ≡ 0
+still_aligned b s p e = add-mul-mod_self_left s b p ∙ e
+
+pub split_keeps : (b pages number : ℕ) (x : model.Region) → 1 ≤ pages → pages < x.pages → KeepsOrder b x (split_at b pages number x)
+split_keeps b pages number x some fewer from rest o =
+    let f = o.1 in
+    let whole = cut_bytes b pages x.pages (omega arith) in
+    let ends = f.ends in
+    let numbered = f.numbered in
+    let same : end_of b (back_of b pages number x) ≡ end_of b x = omega (arith, whole) in (
+      o.0,
+      record { aligned = f.aligned; some = some; ends = omega (arith, whole, ends); numbered = omega (arith, numbered) },
+      (
+        omega arith,
+        record {
+          aligned = still_aligned b x.start pages f.aligned;
+          some = omega arith;
+          ends = omega (arith, whole, ends);
+          numbered = omega (arith, numbered);
+        },
+        subst (λ (e : ℕ). AreInOrder b e rest) (sym same) o.2,
+      ),
+    )

@@ -1,0 +1,3 @@
+pub mod AddressSpace
+pub mod Layout
+pub mod Seen

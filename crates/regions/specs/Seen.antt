@@ -1,0 +1,34 @@
+-- How regions are seen, and what searches among them find.
+use Rattle.std.specs.Prelude.{◌≡◌, ◌≢◌, ℕ, ◌<◌, ◌≤◌, List, length, slice_index_or}
+use Rattle.vm_model.specs.Machine as model
+use Rattle.regions.specs.declared.region.Region.{Region}
+
+abbrev pub region_seen : Region → model.Region
+region_seen r = record {
+  number = r.number.0;
+  start = r.view.mapping.address;
+  pages = r.view.mapping.extent.pages;
+  may_write = r.view.mapping.prot.write;
+  cache = r.view.mapping.extent.cache.0;
+  offset = r.view.mapping.extent.first.0;
+  locked = r.view.locked;
+}
+
+abbrev pub start_at : List Region → ℕ → Region → ℕ
+start_at regions k default = (region_seen (slice_index_or regions k default)).start
+
+-- so many regions start at the address or before it, and the others behind it
+pub record IsCountUpTo (address : ℕ) (regions : List Region) (count : ℕ) : Type 0 where
+  pub within : count ≤ length regions
+  pub before : (k : ℕ) (d : Region) → k < count → start_at regions k d ≤ address
+  pub behind : (k : ℕ) (d : Region) → count ≤ k → k < length regions
+      → address < start_at regions k d
+
+abbrev pub number_at : List Region → ℕ → Region → ℕ
+number_at regions k default = (region_seen (slice_index_or regions k default)).number
+
+-- the first region with the number stands at this place
+pub record IsPlaceOf (number : ℕ) (regions : List Region) (place : ℕ) : Type 0 where
+  pub within : place < length regions
+  pub here : (d : Region) → number_at regions place d ≡ number
+  pub first : (k : ℕ) (d : Region) → k < place → number_at regions k d ≢ number

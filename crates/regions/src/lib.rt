@@ -1,0 +1,24 @@
+//! The regions of one actor: which pages of which caches stand at which addresses.
+//!
+//! A region is a row of pages of a cache, mapped at an address, with what is allowed there and
+//! whether it is locked. An actor's regions stand in order of start address, and no two of them
+//! share an address, so the one that holds an address is found by a search in halves. Regions by
+//! number are looked for one after another. Only `reserve` takes memory, and it makes room for one
+//! region more.
+//!
+//! The model is an address space: the bytes of a page, the spare room, and the list of regions as
+//! the plain machine has it (`vm_model`), in whose words every call says what it does. Of each
+//! [`RegionMap`] it holds that its regions are whole pages within the addresses, in order and
+//! apart. This crate stands on `vm_ids` and on the definitions of `vm_model`; `contexts` stands on
+//! it and has one for each living actor.
+#![tactic(auto)]
+
+mod map;
+mod region;
+mod search;
+
+pub use map::RegionMap;
+pub use region::{Place, RegionView};
+
+#[cfg(test)]
+mod tests;
