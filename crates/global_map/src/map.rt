@@ -73,10 +73,8 @@ impl GlobalMap {
             (λ frame. (frame.0 < length self.now) × (node_of self.now frame.0 ≡ Some node)) }
         ensures once { bound_times self.now node.0 ≤ 1 }
     {
-        match place_of(&self.nodes, &self.table, node) {
-            Some(at) => Some(FrameId(at as u32)),
-            None => None,
-        }
+        let at = place_of(&self.nodes, &self.table, node)?;
+        Some(FrameId(at as u32))
     }
 
     /// Binds an unbound node to an unbound frame.

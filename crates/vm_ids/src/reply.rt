@@ -73,6 +73,22 @@ impl From<NoMemory> for Trouble {
     }
 }
 
+impl From<AllocError> for Trouble {
+    ghost from_gives = { λ _ trouble. trouble ≡ Memory };
+
+    fn from(_error: AllocError) -> Trouble {
+        Trouble::Memory
+    }
+}
+
+impl<T: Drop> From<AllocFailed<T>> for Trouble {
+    ghost from_gives = { λ _ trouble. trouble ≡ Memory };
+
+    fn from(_error: AllocFailed<T>) -> Trouble {
+        Trouble::Memory
+    }
+}
+
 impl From<Refusal> for Trouble {
     ghost from_gives = { λ refusal trouble. trouble ≡ Refused refusal };
 

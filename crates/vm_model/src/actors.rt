@@ -21,9 +21,7 @@ pub(crate) fn make_actor(tables: &mut Tables) -> Result<ActorId, Trouble>
     let actor = Actor {
         regions: Vec::new(tables.alloc),
     };
-    if tables.actors.push(Some(actor)).is_err() {
-        return Err(Trouble::Memory);
-    }
+    tables.actors.push(Some(actor))?;
     tables.living += 1;
     Ok(ActorId(tables.actors.len() as u32))
 }

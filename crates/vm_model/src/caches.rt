@@ -40,17 +40,8 @@ pub(crate) fn make_temp(tables: &mut Tables, pages: u32) -> Result<CacheId, Trou
     {
         return Err(Trouble::Refused(Refusal::TooMany));
     }
-    let pages_made = match zero_pages(tables.alloc, pages, tables.page_bytes) {
-        Ok(pages_made) => pages_made,
-        Err(_) => return Err(Trouble::Memory),
-    };
-    if tables
-        .caches
-        .push(Some(Cache { pages: pages_made }))
-        .is_err()
-    {
-        return Err(Trouble::Memory);
-    }
+    let pages_made = zero_pages(tables.alloc, pages, tables.page_bytes)?;
+    tables.caches.push(Some(Cache { pages: pages_made }))?;
     tables.live += pages;
     Ok(CacheId(tables.caches.len() as u32))
 }
