@@ -34,4 +34,7 @@ pub mod Moving
 pub mod Pairs
 pub mod CachePages
 pub mod Saving
+pub mod LostPages
+pub mod Unseen
+pub mod Going
 pub mod Rows

@@ -25,7 +25,7 @@ shorter test (x ∷ xs) = go (test x) (shorter test xs)
     go true h = omega arith
     go false h = omega arith
 
-left_shorter : (x : NodeName) (h : Hang) (p : NodeName) (xs : List NodeName) → length (left_stubs x h p xs) ≤ length xs
+pub left_shorter : (x : NodeName) (h : Hang) (p : NodeName) (xs : List NodeName) → length (left_stubs x h p xs) ≤ length xs
 left_shorter x Root p xs = omega arith
 left_shorter x (TreeOf q) p xs = omega arith
 left_shorter x (StubOf q) p xs = go (same q p)

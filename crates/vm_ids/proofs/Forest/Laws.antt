@@ -5,6 +5,7 @@ pub mod Writing
 pub mod Linking
 pub mod Settling
 pub mod Commands
+pub mod Forgetting
 pub mod Ranges
 pub mod Made
 pub mod PageMap

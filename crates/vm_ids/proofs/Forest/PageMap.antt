@@ -14,6 +14,7 @@ use Rattle.vm_ids.specs.Forest.PageMap.{map_entries, map_node, map_pages, map_va
 use Rattle.vm_ids.specs.Forest.Reading.{page_or, value_within, value_of, names_above, path_within, path_of, owner_of}
 use Rattle.vm_ids.specs.Forest.Changes.{put, free, edit, with_own, with_hang, with_tree, with_stubs, swapped_node, count_copy, count_working, relist, cut, cut_stub, hang_all, set_tree, rename}
 use Rattle.vm_ids.specs.Forest.Rules.{gets, own, heir, hand_stubs, heir_gets, retire, detach, link, stub}
+use Rattle.vm_ids.specs.Forest.Forgetting.{forget, forgotten}
 use Rattle.vm_ids.specs.Forest.Settling.{is_thin, take_place, pass_page, give_way, settle_step, thin}
 use Rattle.vm_ids.proofs.Forest.NameMap.{get-insert, get-remove, get-from_entries, same_map}
 use Rattle.vm_ids.proofs.Forest.Renaming.{find_across}
@@ -262,6 +263,18 @@ module _ {P Q : Type 0} (h : P → Q) where
   unfolding stub
   stub-map f d s = edit-map _ d _ (with_hang (StubOf s)) (λ n. refl) ∙ ap (λ g. edit g d (with_hang (StubOf s))) (edit-map f s _ (λ n. with_stubs (n.stubs ++ d ∷ []) n) (λ n. refl))
 
+  pub forget-map : (f : Forest P) (x : NodeName) (p : P) → map_pages h (forget f x p) ≡ forget (map_pages h f) x (h p)
+  unfolding forget
+  forget-map f x p = go (node f x).own ∙ ap (λ o. elim o [ None ↦ map_pages h f | Some v ↦ edit (map_pages h f) x (with_own (Some (h p))) ]) (sym (own-map f x))
+    where
+      go : (o : Option P) → map_pages h (elim o [ None ↦ f | Some v ↦ edit f x (with_own (Some p)) ]) ≡ elim (option_map h o) [ None ↦ map_pages h f | Some v ↦ edit (map_pages h f) x (with_own (Some (h p))) ]
+      go None = refl
+      go (Some v) = put-map f x _ ∙ ap (λ n. put (map_pages h f) x (with_own (Some (h p)) n)) (sym (node-map f x))
+
+  pub forgotten-map : (xs : List NodeName) (p : P) (f : Forest P) → map_pages h (forgotten xs p f) ≡ forgotten xs (h p) (map_pages h f)
+  forgotten-map [] p f = refl
+  forgotten-map (x ∷ xs) p f = forgotten-map xs p (forget f x p) ∙ ap (forgotten xs (h p)) (forget-map f x p)
+
   -- A step of settle -----------------------------------------------------------------
 
   option_or-map : (o p : Option P) → option_map h (option_or o p) ≡ option_or (option_map h o) (option_map h p)
@@ -299,7 +312,7 @@ module _ {P Q : Type 0} (h : P → Q) where
 
 -- What is said of two forests by their bare forms ------------------------------------
 
-node_at : {P : Type 0} (k : Forest P) (x : NodeName) (n : Node P) → get k.nodes x ≡ Some n → node k x ≡ n
+pub node_at : {P : Type 0} (k : Forest P) (x : NodeName) (n : Node P) → get k.nodes x ≡ Some n → node k x ≡ n
 unfolding node
 node_at k x n e = ap (λ o. unwrap_or o (childless None Root)) e
 

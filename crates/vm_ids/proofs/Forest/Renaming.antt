@@ -69,7 +69,7 @@ module _ (a b : NodeName) where
   hang_across (TreeOf p) = ap TreeOf (back p)
   hang_across (StubOf p) = ap StubOf (back p)
 
-  parent_across : (h : Hang) → parent_of (swapped_hang a b h) ≡ option_map (swapped a b) (parent_of h)
+  pub parent_across : (h : Hang) → parent_of (swapped_hang a b h) ≡ option_map (swapped a b) (parent_of h)
   parent_across Root = refl
   parent_across (TreeOf p) = refl
   parent_across (StubOf p) = refl

@@ -8,11 +8,12 @@ use Rattle.vm_ids.specs.Forest.Changes.{put, free, relist, cut, cut_stub, hang_a
 use Rattle.vm_ids.specs.Forest.Rules.{gets, own, heir, hand_stubs, heir_gets, write, retire, detach, link, stub}
 use Rattle.vm_ids.specs.Forest.Settling.{thin, take_place, pass_page, give_way, settle_step, settle_within, settle}
 use Rattle.vm_ids.specs.Forest.Saving.{unsaved, saves, save_range}
-use Rattle.vm_ids.specs.Forest.Rows.{TreeCopyOfNinePages, CopiedThreeTimes, SmallCopies, ThereAndBack, CopyOfACopy, DeadSourceThenAMerge, LockedCopies, MoveOfACopiedPage, ForkedThreeTimes, Invalidated, ASaveFails, TreeChildBeforeStubs, MoveInsideOneCache, MergeUnderAStub, WorkingNodeKeepsThePlace, SettledChildTakesThePlace}
+use Rattle.vm_ids.specs.Forest.Forgetting.{forget}
+use Rattle.vm_ids.specs.Forest.Rows.{TreeCopyOfNinePages, CopiedThreeTimes, SmallCopies, ThereAndBack, CopyOfACopy, DeadSourceThenAMerge, LockedCopies, MoveOfACopiedPage, ForkedThreeTimes, Invalidated, ASaveFails, ForgottenPage, TreeChildBeforeStubs, MoveInsideOneCache, MergeUnderAStub, WorkingNodeKeepsThePlace, SettledChildTakesThePlace}
 
 -- A proof that unfolds this unfolds the whole forest.
 computes : Unit {0}
-unfolding node value_within value_of path_within path_of chain_of put free relist cut cut_stub hang_all set_tree rename gets own heir hand_stubs heir_gets write retire detach link stub thin take_place pass_page give_way settle_step settle_within settle unsaved saves save_range get insert remove from_entries empty same
+unfolding node value_within value_of path_within path_of chain_of put free relist cut cut_stub hang_all set_tree rename gets own heir hand_stubs heir_gets write retire detach link stub thin take_place pass_page give_way settle_step settle_within settle unsaved saves save_range forget get insert remove from_entries empty same
 computes = tt
 
 pub tree_copy_of_nine_pages : TreeCopyOfNinePages
@@ -58,6 +59,10 @@ invalidated = (refl, refl, refl)
 pub a_save_fails : ASaveFails
 unfolding computes
 a_save_fails = (refl, refl)
+
+pub forgotten_page : ForgottenPage
+unfolding computes
+forgotten_page = (refl, refl, refl, refl, refl)
 
 pub tree_child_before_stubs : TreeChildBeforeStubs
 unfolding computes

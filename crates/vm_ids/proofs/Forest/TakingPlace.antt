@@ -84,7 +84,7 @@ module _ (w y : NodeName) (p : NodeName) (xs : List NodeName) where
       go true = Once-map w y xs out once
       go false = once
 
-  length-subbed : (h : Hang) → length (subbed w y h p xs) ≡ length xs
+  pub length-subbed : (h : Hang) → length (subbed w y h p xs) ≡ length xs
   length-subbed Root = refl
   length-subbed (TreeOf q) = refl
   length-subbed (StubOf q) = go (same q p)

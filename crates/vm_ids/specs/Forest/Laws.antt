@@ -6,6 +6,7 @@ pub mod Writing
 pub mod Linking
 pub mod Settling
 pub mod Saving
+pub mod Forgetting
 pub mod Commands
 pub mod Ranges
 pub mod Made

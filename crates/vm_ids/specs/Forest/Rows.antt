@@ -5,11 +5,14 @@ use Rattle.vm_ids.specs.declared.node_name.NodeName.{NodeName}
 use Rattle.vm_ids.specs.declared.chain.ChainItem.{ChainItem}
 use Rattle.vm_ids.specs.declared.reply.Counts.{Counts}
 use Rattle.vm_ids.specs.Forest.Names.{Working}
-use Rattle.vm_ids.specs.Forest.Nodes.{Forest, no_forest}
+use Rattle.vm_ids.specs.Forest.NameMap.{entries}
+use Rattle.vm_ids.specs.Forest.Nodes.{Node, Forest, no_forest, childless}
+use Rattle.vm_ids.specs.Forest.Nodes.Hang.{Root}
 use Rattle.vm_ids.specs.Forest.Reading.{value_of, chain_of, counts_of}
 use Rattle.vm_ids.specs.Forest.Rules.{write}
-use Rattle.vm_ids.specs.Forest.Saving.{saves}
-use Rattle.vm_ids.specs.Forest.Commands.{page_name, page_names, pages_at, page_pairs, make, copy, move_, invalidate, destroy, lock}
+use Rattle.vm_ids.specs.Forest.Saving.{saves, save_range}
+use Rattle.vm_ids.specs.Forest.Forgetting.{forgotten}
+use Rattle.vm_ids.specs.Forest.Commands.{page_name, page_names, pages_at, page_pairs, make, copy_pages, copy, move_, invalidate, destroy, lock}
 
 -- Commands, as changes of the forest ---------------------------------------------
 
@@ -265,6 +268,28 @@ abbrev pub ASaveFails : Type 0
 ASaveFails =
     (counts_of save_failed ≡ counts 4 0 1)
     × (counts_of (after (destroy_named 1 2 ∷ []) save_failed) ≡ counts 2 0 2)
+
+-- A page of a named cache is saved to its tree child, and then forgotten: the cache is destroyed as
+-- if it wasn't.
+abbrev pub saved_page : Forest ℕ
+saved_page =
+    script (open_pages 1 (65 ∷ []) ∷ temp 2 1
+    ∷ copy_pages false (page_pairs (record { 0 = 1 }) 0 (record { 0 = 2 }) 0 1) ∷
+    save_range (page 1 0 ∷ []) ∷ [])
+
+abbrev pub forgotten_page : Forest ℕ
+forgotten_page = after (forgotten (page 1 0 ∷ []) 0 ∷ []) saved_page
+
+abbrev pub the_child : List (NodeName × Node ℕ)
+the_child = (page 2 0, childless (Some 65) Root) ∷ []
+
+abbrev pub ForgottenPage : Type 0
+ForgottenPage =
+    Loads saved_page 1 0 65
+    × Loads forgotten_page 1 0 0
+    × Loads forgotten_page 2 0 65
+    × (entries (after (destroy_named 1 1 ∷ []) saved_page).nodes ≡ the_child)
+    × (entries (after (destroy_temp 1 1 ∷ []) forgotten_page).nodes ≡ the_child)
 
 -- A page with a tree child and a stub: the tree child is the heir.
 abbrev pub mixed : Forest ℕ

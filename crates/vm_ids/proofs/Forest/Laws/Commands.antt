@@ -173,7 +173,7 @@ module _ {P : Type 0} where
       ]
 
   -- the saves first
-  saved_stays : (named : Bool) (xs : List NodeName) (f : Forest P) → IsConsistent f → (x : NodeName) → IsNode f x → IsNode (saved named xs f) x
+  pub saved_stays : (named : Bool) (xs : List NodeName) (f : Forest P) → IsConsistent f → (x : NodeName) → IsNode f x → IsNode (saved named xs f) x
   saved_stays named xs f c x is = IsNode-equal f (saved named xs f) c.shaped x x (saved-values named xs f c x) is
 
   module _ (named : Bool) (pairs : List (NodeName × NodeName)) (f : Forest P) (c : IsConsistent f) (can : CanCopy f pairs) (is_small : Bool) where

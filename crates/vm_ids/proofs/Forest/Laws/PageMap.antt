@@ -93,7 +93,7 @@ module _ {P Q : Type 0} where
 
   -- Saves ----------------------------------------------------------------------------
 
-  is_unsaved-map : (h : P → Q) (f : Forest P) (x : NodeName) → is_unsaved (map_pages h f) x ≡ is_unsaved f x
+  pub is_unsaved-map : (h : P → Q) (f : Forest P) (x : NodeName) → is_unsaved (map_pages h f) x ≡ is_unsaved f x
   is_unsaved-map h f x = ap (λ o. is_some o && is_some (heir (map_pages h f) x)) (own-map h f x) ∙ ap (λ b. b && is_some (heir (map_pages h f) x)) (is_some-map h (node f x).own) ∙ ap (λ o. is_some (node f x).own && is_some o) (heir-map h f x)
 
   unsaved-map : (h : P → Q) (f : Forest P) (xs : List NodeName) → unsaved (map_pages h f) xs ≡ unsaved f xs
@@ -138,7 +138,7 @@ module _ {P Q : Type 0} where
   move_goes_with_pages h named zeros pairs f =
       settle_goes_with_pages h (move_pages zeros pairs (saved named (firsts pairs) f)) ∙ ap settle (move_pages-map h zeros pairs (saved named (firsts pairs) f) ∙ ap (move_pages (h zeros) pairs) (saved-map h named (firsts pairs) f))
 
-  replace_pages-map : (h : P → Q) (pages : List (NodeName × P)) (f : Forest P) → map_pages h (replace_pages pages f) ≡ replace_pages (map_entries h pages) (map_pages h f)
+  pub replace_pages-map : (h : P → Q) (pages : List (NodeName × P)) (f : Forest P) → map_pages h (replace_pages pages f) ≡ replace_pages (map_entries h pages) (map_pages h f)
   replace_pages-map h [] f = refl
   replace_pages-map h (e ∷ es) f = replace_pages-map h es (detach f e.0 (Some e.1)) ∙ ap (replace_pages (map_entries h es)) (detach-map h f e.0 (Some e.1))
 

@@ -1,5 +1,5 @@
 -- Each row as it is computed.
-use Rattle.vm_ids.proofs.Forest.Rows.{tree_copy_of_nine_pages, copied_three_times, small_copies, there_and_back, copy_of_a_copy, dead_source_then_a_merge, locked_copies, move_of_a_copied_page, forked_three_times, invalidated, a_save_fails, tree_child_before_stubs, move_inside_one_cache, merge_under_a_stub, working_node_keeps_the_place, settled_child_takes_the_place}
+use Rattle.vm_ids.proofs.Forest.Rows.{tree_copy_of_nine_pages, copied_three_times, small_copies, there_and_back, copy_of_a_copy, dead_source_then_a_merge, locked_copies, move_of_a_copied_page, forked_three_times, invalidated, a_save_fails, forgotten_page, tree_child_before_stubs, move_inside_one_cache, merge_under_a_stub, working_node_keeps_the_place, settled_child_takes_the_place}
 use Rattle.vm_ids.proofs.forest_laws.worked_rows.Goals as goal
 
 pub returns-clause-tree_copy_of_nine_pages : goal.returns-clause-tree_copy_of_nine_pages
@@ -34,6 +34,9 @@ returns-clause-invalidated c = invalidated
 
 pub returns-clause-a_save_fails : goal.returns-clause-a_save_fails
 returns-clause-a_save_fails c = a_save_fails
+
+pub returns-clause-forgotten_page : goal.returns-clause-forgotten_page
+returns-clause-forgotten_page c = forgotten_page
 
 pub returns-clause-tree_child_before_stubs : goal.returns-clause-tree_child_before_stubs
 returns-clause-tree_child_before_stubs c = tree_child_before_stubs
