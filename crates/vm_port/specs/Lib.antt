@@ -3,4 +3,5 @@ pub mod Choosing
 pub mod Failing
 pub mod Mapping
 pub mod Rows
+pub mod Sizes
 pub mod Streams

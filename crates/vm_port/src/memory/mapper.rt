@@ -4,6 +4,7 @@ ghost use Rattle.std.specs.FinMap as FinMap;
 ghost use Rattle.vm_ids.specs.Counting.{Counted, no_counts};
 ghost use Rattle.vm_ids.specs.Denying.{denies};
 ghost use Rattle.vm_ids.specs.Held.{page_of, slot_of, with_page, with_slot};
+ghost use Rattle.vm_port.specs.Sizes.{HasPagesOf};
 ghost use Rattle.vm_port.specs.Mapping.{pages_seen, slot_seen, denied_seen, held_of, page_in, put_page_in, filled, cut, pages_of, called, fails_next, MapperInMemory, IsWholeMapper};
 
 use super::calls::{Calls, fails_now};
@@ -183,6 +184,7 @@ impl Mapper for MemoryMapper {
     fn size(&mut self, seg: SegId) -> Result<Option<u32>, Failed>
         ensures pages { IfOk result
             (λ pages. pages ≡ option_map length (FinMap.get (held_of self.old).segments seg.0)) }
+        ensures whole { OnOk result (HasPagesOf (held_of self.old) self.old.page_bytes) }
         ensures counts { Counted 0 0 self.old.counts self.new.counts result }
         ensures failing { is_err result ≡ fails_next CallKind.Size self.old }
         ensures after { self.new ≡ called CallKind.Size 0 0 (is_err result) self.old }

@@ -1,9 +1,10 @@
 // Who keeps segments and swap slots.
-ghost use Rattle.std.specs.Prelude.{◌≡◌, ℕ, not, List, length, Option, option_map, IfOk, IfSome, OnOk, OnErr, IsSome};
+ghost use Rattle.std.specs.Prelude.{◌≡◌, ℕ, not, List, length, Option, option_map, IfOk, IfSome, IsSomeAnd, OnOk, OnErr, IsSome};
 ghost use Rattle.std.specs.FinMap as FinMap;
 ghost use Rattle.vm_ids.specs.Counting.{Counted, MapperCounts};
 ghost use Rattle.vm_ids.specs.Denying.{denies};
 ghost use Rattle.vm_ids.specs.Held.{Held, page_of, slot_of, with_page, with_slot};
+ghost use Rattle.vm_port.specs.Sizes.{HasPagesOf};
 
 use crate::Failed;
 use vm_ids::{PageNo, SegId, SlotId};
@@ -27,11 +28,14 @@ pub trait Mapper {
     /// How many bytes its pages have, where that is told. Where it isn't, it takes slices of any length.
     ghost page_bytes: { Self → Option ℕ };
 
-    /// The number of pages of a segment, or `None` exactly where there is no such segment.
+    /// The number of pages of a segment, or `None` exactly where there is no such segment. A mapper that tells what it
+    /// holds tells how many bytes its pages have, and every page of its segments has so many.
     fn size(&mut self, seg: SegId) -> Result<Option<u32>, Failed>
         ensures pages { IfOk result
             (λ pages. IfSome (held self.old)
             (λ h. pages ≡ option_map length (FinMap.get h.segments seg.0))) }
+        ensures whole { OnOk result (IfSome (held self.old)
+            (λ h. IsSomeAnd (page_bytes self.old) (HasPagesOf h))) }
         ensures held { held self.new ≡ held self.old }
         ensures given { given self.new ≡ given self.old }
         ensures counts { Counted 0 0 (counts self.old) (counts self.new) result }
