@@ -6,3 +6,5 @@ pub mod SameNodes
 pub mod SameCells
 -- A change of one node that leaves all lists of stubs is a change of one node of the forest.
 pub mod OneNode
+-- It was granted to write a page.
+pub mod Granted

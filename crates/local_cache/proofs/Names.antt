@@ -6,3 +6,5 @@ pub mod Renaming
 pub mod PageName
 -- A page whose node became a working node, and the room that is left.
 pub mod WorkingName
+-- The homes of nodes, and what leaves them.
+pub mod Homes

@@ -1,5 +1,5 @@
 -- What a contract sees of the caches: page nodes by number, and of each cache the table of its pages.
-use Rattle.std.specs.Prelude.{◌≡◌, ℕ, zero, suc, ◌+◌, ◌-◌, ◌≤◌, ◌<◌, List, [], ◌∷◌, ◌++◌, length, map, false, Option, Some, None, unwrap_or, IsSome, option_and_then, option_map, slice_get, slice_index_or, slice_set}
+use Rattle.std.specs.Prelude.{◌≡◌, ℕ, zero, suc, ◌+◌, ◌-◌, ◌≤◌, ◌<◌, List, [], ◌∷◌, ◌++◌, length, map, replicate, Bool, true, false, Option, Some, None, unwrap_or, IsSome, option_and_then, option_map, slice_get, slice_index_or, slice_set}
 use Rattle.std.specs.Ordering.{nat_cmp}
 use Rattle.std.specs.FinMap.{FinMap}
 use Rattle.std.specs.FinMap as ids
@@ -21,10 +21,12 @@ pub record Cell : Type 0 where
   pub links : Links
   pub tree : List NodeId
 
--- a live cache: the segment that names it, or none, and the entry of each of its pages
+-- a live cache: the segment that names it, or none, and for each of its pages an entry, and whether
+-- the mapper granted that it is written
 pub record Table : Type 0 where
   pub segment : Option SegId
   pub pages : List PageEntry
+  pub grants : List Bool
 
 -- how many more nodes, caches and entries of tables fit before memory is taken
 pub record Room : Type 0 where
@@ -92,11 +94,15 @@ with_tree a n ts = put a n (record (cell a n) { tree = ts })
 abbrev pub table_with : ℕ → Option NodeId → Table → Table
 table_with page o t = record t { pages = slice_set t.pages page (record { node = o }) }
 
+-- the tables with that of one cache changed, where it is live
+abbrev pub changed_at : List (Option Table) → ℕ → (Table → Table) → List (Option Table)
+changed_at tables zero change = tables
+changed_at tables (suc k) change =
+    slice_set tables k (option_map change (slice_index_or tables k None))
+
 -- the tables with another node, or none, at a page of a cache, where there is a live cache with this page
 abbrev pub cache_with : List (Option Table) → ℕ → ℕ → Option NodeId → List (Option Table)
-cache_with tables zero page o = tables
-cache_with tables (suc k) page o =
-    slice_set tables k (option_map (table_with page o) (slice_index_or tables k None))
+cache_with tables cache page o = changed_at tables cache (table_with page o)
 
 -- the tables with another node, or none, at the page of this name
 abbrev pub tables_with : List (Option Table) → NodeName → Option NodeId → List (Option Table)
@@ -152,6 +158,24 @@ abbrev pub node_at : Arena → ℕ → ℕ → Option NodeId
 node_at a cache page =
     option_and_then (λ t. option_and_then (λ e. e.node) (slice_get t.pages page)) (table_of a cache)
 
+-- the table with a page granted, where it has this page
+abbrev pub table_granting : ℕ → Table → Table
+table_granting page t = record t { grants = slice_set t.grants page true }
+
+-- the arena with a page granted, where there is a live cache with this page
+abbrev pub with_grant : Arena → ℕ → ℕ → Arena
+with_grant a cache page =
+    record a { caches = changed_at a.caches cache (table_granting page) }
+
+-- whether a page is granted; false where there is no live cache with this page
+abbrev pub is_granted : Arena → ℕ → ℕ → Bool
+is_granted a cache page =
+    unwrap_or (option_and_then (λ t. slice_get t.grants page) (table_of a cache)) false
+
+-- a live cache has this page
+abbrev pub HasPlace : Arena → CacheId → PageNo → Type 0
+HasPlace a cache page = IsSome (entry_at a.caches cache.0 page.0)
+
 -- a live cache has this page, which has no node
 abbrev pub IsVacant : Arena → CacheId → PageNo → Type 0
 IsVacant a cache page = entry_at a.caches cache.0 page.0 ≡ Some (record { node = None })
@@ -176,6 +200,15 @@ without_cache a cache = record a {
 abbrev pub entry_for : NodeId → PageEntry
 entry_for n = record { node = Some n }
 
+-- a table whose pages have these nodes, none of them granted
+abbrev pub new_table : Option SegId → List NodeId → Table
+new_table segment nodes =
+    record {
+      segment = segment;
+      pages = map entry_for nodes;
+      grants = replicate (length nodes) false;
+    }
+
 -- the cells with a new node for each page of a cache from one page on, all of one own state
 abbrev pub IsFilled : FinMap nat_cmp Cell → CacheId → ℕ → OwnState → List NodeId
     → FinMap nat_cmp Cell → Type 0
@@ -185,13 +218,12 @@ IsFilled cells cache page own (n ∷ ns) after =
     × IsFilled (ids.insert cells n.0 (new_cell (Live cache (record { 0 = page })) own)) cache
     (page + 1) own ns after
 
--- a cache was made, whose pages have these nodes, each of one own state
+-- a cache was made, whose pages have these nodes, each of one own state, and none of them granted
 pub record IsMade (old new : Arena) (cache : CacheId) (segment : Option SegId) (own : OwnState)
     (nodes : List NodeId) : Type 0 where
   pub number : cache.0 ≡ length old.caches + 1
   pub cells : IsFilled old.cells cache 0 own nodes new.cells
-  pub caches : new.caches
-      ≡ old.caches ++ Some (record { segment = segment; pages = map entry_for nodes }) ∷ []
+  pub caches : new.caches ≡ old.caches ++ Some (new_table segment nodes) ∷ []
   pub made : new.made ≡ old.made
   pub copies : new.copies ≡ old.copies
   pub room : new.room

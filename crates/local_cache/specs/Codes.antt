@@ -108,9 +108,10 @@ entry_code =
 
 abbrev pub table_code : Coded Table
 table_code =
-    code_by (Option SegId × List PageEntry)
-    (coded× (coded_option segment_code) (coded_list entry_code)) (λ t. (t.segment, t.pages))
-    (λ t. record { segment = t.0; pages = t.1 }) (λ _. refl)
+    code_by (Option SegId × (List PageEntry × List Bool))
+    (coded× (coded_option segment_code) (coded× (coded_list entry_code) (coded_list coded_bool)))
+    (λ t. (t.segment, (t.pages, t.grants)))
+    (λ t. record { segment = t.0; pages = t.1.0; grants = t.1.1 }) (λ _. refl)
 
 abbrev pub room_code : Coded Room
 room_code =

@@ -9,32 +9,40 @@ use Rattle.slab.specs.Slab.{Slab, entries, slab_len}
 use Rattle.vm_ids.specs.declared.node_name.NodeName.{NodeName}
 use Rattle.vm_ids.specs.declared.node_name.NodeName.TheVariants.{Live, Working}
 use Rattle.local_cache.specs.declared.page_table.CacheEntry.{CacheEntry}
-use Rattle.local_cache.specs.declared.page_table.PageEntry.{PageEntry}
 use Rattle.local_cache.specs.Heap.{Heap}
+use Rattle.local_cache.specs.Lists.{Lists}
 use Rattle.local_cache.specs.Queue.{IsQueued}
 use Rattle.local_cache.specs.Arena.{Arena, Cell, Table}
 
 abbrev pub cells_of : Slab Cell → FinMap nat_cmp Cell
 cells_of s = ids.from_entries (entries s)
 
--- a cache's part of the table of all pages
-abbrev pub table_in : List PageEntry → CacheEntry → Table
-table_in entries e = record { segment = e.segment; pages = take e.pages (drop e.first entries) }
+-- a cache's part of a list of all pages
+abbrev pub part_of : {X : Type 0} → CacheEntry → List X → List X
+part_of e xs = take e.pages (drop e.first xs)
 
-abbrev pub tables_in : List PageEntry → List (Option CacheEntry) → List (Option Table)
-tables_in entries caches = map (λ o. option_map (table_in entries) o) caches
+-- a cache's part of the lists of all pages
+abbrev pub table_in : Lists → CacheEntry → Table
+table_in lists e =
+    record {
+      segment = e.segment;
+      pages = part_of e lists.entries;
+      grants = part_of e lists.grants;
+    }
 
-abbrev pub arena_of : Slab Cell → Vec (Option CacheEntry) Global → Vec PageEntry Global → ℕ → ℕ → ℕ
-    → Arena
-arena_of nodes caches entries thin_room made copies = record {
+abbrev pub tables_in : Lists → List (Option CacheEntry) → List (Option Table)
+tables_in lists caches = map (λ o. option_map (table_in lists) o) caches
+
+abbrev pub arena_of : Slab Cell → Vec (Option CacheEntry) Global → Lists → ℕ → ℕ → ℕ → Arena
+arena_of nodes caches lists thin_room made copies = record {
   cells = cells_of nodes;
-  caches = tables_in entries.items caches.items;
+  caches = tables_in lists caches.items;
   made = made;
   copies = copies;
   room = record {
     nodes = min nodes.capacity thin_room - slab_len nodes;
     caches = vec_capacity caches - vec_len caches;
-    entries = vec_capacity entries - vec_len entries;
+    entries = lists.room;
   };
 }
 
@@ -44,9 +52,11 @@ AreInRow from [] end = from ≤ end
 AreInRow from (None ∷ es) end = AreInRow from es end
 AreInRow from (Some e ∷ es) end = (from ≤ e.first) × AreInRow (e.first + e.pages) es end
 
+-- The lists have a place for each page of a live cache, and are of one length.
 pub record IsLaidOut (nodes : Slab Cell) (caches : List (Option CacheEntry))
-    (entries : List PageEntry) : Type 0 where
-  pub row : AreInRow 0 caches (length entries)
+    (lists : Lists) : Type 0 where
+  pub row : AreInRow 0 caches (length lists.entries)
+  pub grants : length lists.grants ≡ length lists.entries
   pub few : length caches < 2 ^ 32
   pub fits : slab_len nodes ≤ nodes.capacity
 
@@ -77,8 +87,8 @@ pub record IsCounted (nodes : Slab Cell) (thin_room working : ℕ) : Type 0 wher
 
 -- what holds of all fields
 pub record IsRight (nodes : Slab Cell) (caches : List (Option CacheEntry))
-    (entries : List PageEntry) (thin : Heap) (thin_room working : ℕ) : Type 0 where
-  pub laid : IsLaidOut nodes caches entries
+    (lists : Lists) (thin : Heap) (thin_room working : ℕ) : Type 0 where
+  pub laid : IsLaidOut nodes caches lists
   pub ready : IsReady nodes thin thin_room
   pub counted : IsCounted nodes thin_room working
 
@@ -86,11 +96,6 @@ pub record IsRight (nodes : Slab Cell) (caches : List (Option CacheEntry))
 abbrev pub entry_at : List (Option CacheEntry) → ℕ → Option CacheEntry
 entry_at caches zero = None
 entry_at caches (suc k) = slice_index_or caches k None
-
--- n elements from one place on are taken out of the list xs
-pub record HasClosed {X : Type 0} (from n : ℕ) (xs ys : List X) : Type 0 where
-  pub before : (k : ℕ) (d : X) → k < from → slice_index_or ys k d ≡ slice_index_or xs k d
-  pub behind : (k : ℕ) (d : X) → from ≤ k → slice_index_or ys k d ≡ slice_index_or xs (k + n) d
 
 abbrev pub lowered : ℕ → CacheEntry → CacheEntry
 lowered n e = record e { first = e.first - n }

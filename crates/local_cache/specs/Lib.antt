@@ -2,7 +2,9 @@ pub mod Arena
 pub mod Changes
 pub mod Codes
 pub mod Heap
+pub mod Home
 pub mod Layout
+pub mod Lists
 pub mod Own
 pub mod Queue
 pub mod Reading

@@ -1,26 +1,28 @@
 // The page nodes and the tables of the caches.
-ghost use Rattle.std.specs.Prelude.{◌≡◌, ℕ, ◌+◌, ◌-◌, ◌<◌, ◌≤◌, ◌^◌, ◌++◌, [], List, length, map, None, Some, option_and_then, option_map, IsOk, OnOk, OnErr, IsSome, slice_get};
-ghost use Rattle.std.specs.Vec.{vec_len, vec_capacity};
+ghost use Rattle.std.specs.Prelude.{◌≡◌, ℕ, ◌+◌, ◌-◌, ◌<◌, ◌≤◌, ◌^◌, [], List, length, true, None, Some, option_and_then, option_map, IsOk, OnOk, OnErr, IsSome, slice_get};
 ghost use Rattle.vm_ids.specs.declared.numbers.NodeId.{NodeId};
 ghost use Rattle.slab.specs.Slab.{HasRoomFor, slab_len};
-ghost use Rattle.local_cache.specs.Arena.{IsFilled, IsHeld, IsVacant, as_working, cell, entry_for, find, hung, node_at, table_of, with_links, with_name, with_new, with_own, with_tree, with_working, without, without_cache, HasPages, MakesCache, NodesStay, CellsStay, TablesStay, HasNoLess};
+ghost use Rattle.local_cache.specs.Arena.{HasPlace, IsFilled, IsHeld, IsVacant, as_working, cell, find, hung, is_granted, node_at, table_of, with_grant, with_links, with_name, with_new, with_own, with_tree, with_working, without, without_cache, HasPages, MakesCache, NodesStay, CellsStay, TablesStay, HasNoLess};
 ghost use Rattle.vm_ids.specs.Forest.Changes.{count_copy};
 ghost use Rattle.vm_ids.specs.Forest.Commands.{make, page_names};
 ghost use Rattle.vm_ids.specs.Forest.NameMap.{len};
 ghost use Rattle.vm_ids.specs.Forest.Nodes.{no_forest};
 ghost use Rattle.vm_ids.specs.Forest.Reading.{counts_of};
 ghost use Rattle.local_cache.specs.declared.entry_heap.Entry.{Entry};
+ghost use Rattle.local_cache.specs.Home.{home_of};
 ghost use Rattle.local_cache.specs.Layout.{cells_of, working_len};
+ghost use Rattle.local_cache.specs.Lists.{with_pages};
 ghost use Rattle.local_cache.specs.Queue.{IsQueued};
 ghost use Rattle.local_cache.specs.Reading.{IsNamed, forest_of};
 ghost use Rattle.local_cache.specs.Sound.{IsSound, MakesPages};
 ghost use Rattle.local_cache.specs.Thin.{IsLeastThin};
 
 use crate::entry_heap::EntryHeap;
+use crate::page_lists::PageLists;
 use crate::page_node::{PageNode, working_of};
-use crate::page_table::{CacheEntry, close_gap, entry_of, lower, set_node};
+use crate::page_table::{CacheEntry, entry_of, lower, set_node};
 use crate::thin_nodes::{number_at, queue};
-use crate::{Links, OwnState, PageEntry};
+use crate::{Home, Links, OwnState};
 use slab::Slab;
 use std::alloc::Global;
 use std::marker::Model;
@@ -31,7 +33,7 @@ use vm_ids::{CacheId, Counts, NoMemory, NodeId, NodeName, PageNo, SegId};
 pub struct Caches {
     nodes: Slab<PageNode>,
     caches: Vec<Option<CacheEntry>>,
-    entries: Vec<PageEntry>,
+    lists: PageLists,
     thin: EntryHeap,
     // for how many nodes `thin` has room
     thin_room: usize,
@@ -52,38 +54,34 @@ impl Model for Caches {
 
     ghost use Rattle.local_cache.specs.Layout.{arena_of, IsRight};
 
-    ghost view = { λ a. arena_of a.nodes a.caches a.entries a.thin_room a.made a.copies };
+    ghost view = { λ a. arena_of a.nodes a.caches a.lists a.thin_room a.made a.copies };
 
-    ghost invariant = { λ a. IsRight a.nodes a.caches.items a.entries.items a.thin a.thin_room a.working };
+    ghost invariant = { λ a. IsRight a.nodes a.caches.items a.lists a.thin a.thin_room a.working };
 }
 
-// Makes a node for each page of a cache, and appends an entry for each to the table of all pages.
+// Makes a node for each page of a cache, and appends each to the lists of all pages.
 fn add_pages(
     alloc: Global,
     nodes: &mut Slab<PageNode>,
-    entries: &mut Vec<PageEntry>,
+    lists: &mut PageLists,
     cache: CacheId,
     own: OwnState,
     pages: u32,
 )
     requires nodes { HasRoomFor nodes.old pages }
-    requires entries { vec_len entries.old + pages ≤ vec_capacity entries.old }
+    requires lists { pages ≤ lists.old.room }
     ensures filled { (ns : List NodeId) × (length ns ≡ pages)
         × IsFilled (cells_of nodes.old) cache 0 own ns (cells_of nodes.new)
-        × (entries.new.items ≡ entries.old.items ++ map entry_for ns) }
+        × (lists.new ≡ with_pages lists.old ns) }
     ensures queued { (items : List Entry) → IsQueued nodes.old items → IsQueued nodes.new items }
     ensures nodes_len { slab_len nodes.new ≡ slab_len nodes.old + pages }
     ensures nodes_capacity { nodes.new.capacity ≡ nodes.old.capacity }
     ensures working { working_len nodes.new ≡ working_len nodes.old }
-    ensures entries_len { vec_len entries.new ≡ vec_len entries.old + pages }
-    ensures entries_capacity { vec_capacity entries.new ≡ vec_capacity entries.old }
 {
     for page in 0..pages {
         let name = NodeName::Live(cache, PageNo(page));
         let node = nodes.insert_reserved(PageNode::new(alloc, name, own));
-        entries.push_reserved(PageEntry {
-            node: Some(NodeId(node as u64)),
-        });
+        lists.push_reserved(NodeId(node as u64));
     }
 }
 
@@ -99,7 +97,7 @@ impl Caches {
         Caches {
             nodes: Slab::new(alloc),
             caches: Vec::new(alloc),
-            entries: Vec::new(alloc),
+            lists: PageLists::new(alloc),
             thin: EntryHeap::new(alloc),
             thin_room: 0,
             alloc,
@@ -131,7 +129,7 @@ impl Caches {
         }
         self.nodes.reserve(nodes as usize)?;
         self.caches.reserve(caches as usize)?;
-        self.entries.reserve(nodes as usize)?;
+        self.lists.reserve(nodes as usize)?;
         if self.thin_room < room {
             self.thin.reserve(room, self.nodes.capacity())?;
             self.thin_room = room;
@@ -185,7 +183,7 @@ impl Caches {
         let gap = entry_of(&self.caches, cache).unwrap();
         let index = cache.0 as usize - 1;
         self.caches[index] = None;
-        close_gap(&mut self.entries, gap.first, gap.pages as usize);
+        self.lists.close_gap(gap);
         lower(&mut self.caches, index + 1, gap.pages as usize);
     }
 
@@ -237,7 +235,31 @@ impl Caches {
         ensures { node_at self.now cache.0 page.0 ≡ Some result }
     {
         let entry = entry_of(&self.caches, cache).unwrap();
-        self.entries[entry.first + page.0 as usize].node.unwrap()
+        self.lists.node(entry, page).unwrap()
+    }
+
+    /// Keeps that the mapper granted a page of a live cache to be written. That is its answer to
+    /// getWriteAccess (Abrossimov, Rozier and Shapiro, SOSP 1989), which is asked once for a page: the
+    /// grant is kept until the cache goes.
+    pub fn grant(&mut self, cache: CacheId, page: PageNo)
+        requires { HasPlace self.old cache page }
+        ensures changed { self.new ≡ with_grant self.old cache.0 page.0 }
+        ensures granted { is_granted self.new cache.0 page.0 ≡ true }
+        ensures forest { forest_of self.new ≡ forest_of self.old }
+        ensures sound { IsSound self.old → IsSound self.new }
+        ensures stays { CellsStay self.old self.new }
+    {
+        let entry = entry_of(&self.caches, cache).unwrap();
+        self.lists.grant(entry, page);
+    }
+
+    /// Whether a page of a live cache is granted. A cache is made with no page granted.
+    pub fn granted(&self, cache: CacheId, page: PageNo) -> bool
+        requires { HasPlace self.now cache page }
+        ensures { result ≡ is_granted self.now cache.0 page.0 }
+    {
+        let entry = entry_of(&self.caches, cache).unwrap();
+        self.lists.granted(entry, page)
     }
 
     /// The name of a node.
@@ -246,6 +268,21 @@ impl Caches {
         ensures { result ≡ (cell self.now node).name }
     {
         self.nodes[node.0 as usize].name()
+    }
+
+    /// The page of a segment that a node stands for, or `None` exactly for a working node and a node
+    /// of a temporary cache.
+    pub fn home(&self, node: NodeId) -> Option<Home>
+        requires { IsHeld self.now node }
+        ensures { result ≡ home_of self.now node }
+    {
+        match self.name(node) {
+            NodeName::Live(cache, page) => Some(Home {
+                segment: self.segment(cache)?,
+                page,
+            }),
+            NodeName::Working(_) => None,
+        }
     }
 
     /// Where a node's own page is.
@@ -378,7 +415,7 @@ impl Caches {
         let freed = self.nodes.remove(node.0 as usize);
         self.working -= working_of(freed.name());
         queue(&self.nodes, &mut self.thin, node.0, before);
-        set_node(&self.caches, &mut self.entries, freed.name(), None);
+        set_node(&self.caches, &mut self.lists, freed.name(), None);
     }
 
     /// Counts one copied page more.
@@ -412,11 +449,11 @@ impl Caches {
         ensures tables { TablesStay self.old self.new }
     {
         let cache = CacheId(self.caches.len() as u32 + 1);
-        let first = self.entries.len();
+        let first = self.lists.len();
         add_pages(
             self.alloc,
             &mut self.nodes,
-            &mut self.entries,
+            &mut self.lists,
             cache,
             own,
             pages,
@@ -443,7 +480,7 @@ impl Caches {
         let node = NodeId(place as u64);
         self.working += working_of(name);
         queue(&self.nodes, &mut self.thin, node.0, None);
-        set_node(&self.caches, &mut self.entries, name, Some(node));
+        set_node(&self.caches, &mut self.lists, name, Some(node));
         node
     }
 
@@ -458,7 +495,7 @@ impl Caches {
         self.nodes[node.0 as usize].set_name(name);
         self.working = self.working - working_of(left) + working_of(name);
         queue(&self.nodes, &mut self.thin, node.0, before);
-        set_node(&self.caches, &mut self.entries, left, None);
-        set_node(&self.caches, &mut self.entries, name, Some(node));
+        set_node(&self.caches, &mut self.lists, left, None);
+        set_node(&self.caches, &mut self.lists, name, Some(node));
     }
 }

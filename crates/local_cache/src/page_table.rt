@@ -1,9 +1,10 @@
 // The tables of the caches, one behind the other.
-ghost use Rattle.std.specs.Prelude.{◌≡◌, ℕ, ◌+◌, ◌≤◌, length, None, Some, slice_index_or};
+ghost use Rattle.std.specs.Prelude.{◌≡◌, ℕ, ◌≤◌, length, None, Some, slice_index_or};
 ghost use Rattle.std.specs.Vec.{vec_len, vec_capacity};
 ghost use Rattle.local_cache.specs.Arena.{tables_with};
-ghost use Rattle.local_cache.specs.Layout.{AreInRow, AreLowered, HasClosed, entry_at, tables_in};
+ghost use Rattle.local_cache.specs.Layout.{AreInRow, AreLowered, entry_at, tables_in};
 
+use crate::page_lists::PageLists;
 use vm_ids::{CacheId, NodeId, NodeName, SegId};
 
 /// What the table of a cache has for one page: the page's node, or none between two steps of a call.
@@ -12,7 +13,7 @@ pub struct PageEntry {
     pub node: Option<NodeId>,
 }
 
-/// A live cache: its segment, if it is named by one, and where its pages stand in the table of all pages.
+/// A live cache: its segment, if it is named by one, and where its pages stand in the lists of all pages.
 #[derive(Clone, Copy, Debug, PartialEq, Eq)]
 pub(crate) struct CacheEntry {
     pub segment: Option<SegId>,
@@ -33,41 +34,27 @@ pub(crate) fn entry_of(caches: &[Option<CacheEntry>], cache: CacheId) -> Option<
 // Sets the node of the page of this name, where a live cache has such a page.
 pub(crate) fn set_node(
     caches: &[Option<CacheEntry>],
-    entries: &mut Vec<PageEntry>,
+    lists: &mut PageLists,
     name: NodeName,
     node: Option<NodeId>,
 )
-    requires { AreInRow 0 caches.now (length entries.old.items) }
-    ensures tables { tables_in entries.new.items caches.now
-        ≡ tables_with (tables_in entries.old.items caches.now) name node }
-    ensures row { AreInRow 0 caches.now (length entries.new.items) }
-    ensures len { vec_len entries.new ≡ vec_len entries.old }
-    ensures capacity { vec_capacity entries.new ≡ vec_capacity entries.old }
+    requires { AreInRow 0 caches.now (length lists.old.entries) }
+    ensures tables { tables_in lists.new caches.now
+        ≡ tables_with (tables_in lists.old caches.now) name node }
+    ensures row { AreInRow 0 caches.now (length lists.new.entries) }
+    ensures len { length lists.new.entries ≡ length lists.old.entries }
+    ensures kept { lists.new ≡ record lists.old { entries = lists.new.entries } }
 {
     match name {
         NodeName::Live(cache, page) => {
             if let Some(entry) = entry_of(caches, cache) {
                 if page.0 < entry.pages {
-                    entries[entry.first + page.0 as usize] = PageEntry { node };
+                    lists.set_node(entry, page, node);
                 }
             }
         }
         NodeName::Working(_) => {}
     }
-}
-
-// Takes a part out of the table of all pages, and moves down what stands behind it.
-pub(crate) fn close_gap(entries: &mut Vec<PageEntry>, first: usize, pages: usize)
-    requires { first + pages ≤ vec_len entries.old }
-    ensures closed { HasClosed first pages entries.old.items entries.new.items }
-    ensures len { vec_len entries.new + pages ≡ vec_len entries.old }
-    ensures capacity { vec_capacity entries.new ≡ vec_capacity entries.old }
-{
-    let len = entries.len();
-    for at in first + pages..len {
-        entries[at - pages] = entries[at];
-    }
-    entries.truncate(len - pages);
 }
 
 // Says of the caches from an index on that their parts stand lower.

@@ -1,5 +1,5 @@
 // Each call once, with memory at hand.
-use crate::{Caches, Links, OwnState};
+use crate::{Caches, Home, Links, OwnState};
 use std::test::Fail;
 use vm_ids::{CacheId, Counts, NodeId, NodeName, PageNo, SegId, SlotId};
 
@@ -73,6 +73,37 @@ fn a_node_is_named_by_a_page(rt: HostRuntime) -> Result<(), Fail> {
     caches.to_working(node);
     caches.rename(node, cache, PageNo(0));
     assert_eq!(rt; caches.name(node), NodeName::Live(cache, PageNo(0)));
+    Ok(())
+}
+
+#[test]
+fn a_page_of_a_segment_is_granted(rt: HostRuntime) -> Result<(), Fail> {
+    let mut caches = Caches::new(rt.alloc());
+    caches.reserve(1, 2)?;
+    let cache = caches.make_named(SegId(7), 2);
+    let granted = caches.granted(cache, PageNo(1));
+    assert!(rt; !granted);
+    caches.grant(cache, PageNo(1));
+    let granted = caches.granted(cache, PageNo(1));
+    assert!(rt; granted);
+    let other = caches.granted(cache, PageNo(0));
+    assert!(rt; !other);
+    Ok(())
+}
+
+#[test]
+fn a_node_has_a_home(rt: HostRuntime) -> Result<(), Fail> {
+    let mut caches = Caches::new(rt.alloc());
+    caches.reserve(1, 2)?;
+    let cache = caches.make_named(SegId(7), 2);
+    let node = caches.node_of(cache, PageNo(1));
+    let home = Home {
+        segment: SegId(7),
+        page: PageNo(1),
+    };
+    assert_eq!(rt; caches.home(node), Some(home));
+    caches.to_working(node);
+    assert_eq!(rt; caches.home(node), None);
     Ok(())
 }
 

@@ -1,7 +1,7 @@
 -- The arena after a cache was made.
-use Rattle.std.proofs.Common.{◌≡◌, ℕ, ◌+◌, ◌-◌, ◌<◌, ◌≤◌, ◌^◌, List, [], ◌∷◌, ◌++◌, length, map, Option, Some, option_map, sym, ap, ◌∙◌, subst, arith, length-append}
+use Rattle.std.proofs.Common.{◌≡◌, ℕ, ◌+◌, ◌-◌, ◌<◌, ◌≤◌, ◌^◌, List, [], ◌∷◌, ◌++◌, length, map, replicate, false, Option, Some, option_map, sym, ap, ◌∙◌, subst, arith, length-append}
 use Rattle.std.specs.Vec.{vec_len, vec_capacity}
-use Rattle.std.proofs.lemmas.List.{length-map}
+use Rattle.std.proofs.lemmas.List.{length-map, length-replicate}
 use Rattle.slab.specs.Slab.{slab_len}
 use Rattle.vm_ids.specs.declared.numbers.CacheId.{CacheId}
 use Rattle.vm_ids.specs.declared.numbers.NodeId.{NodeId}
@@ -9,11 +9,11 @@ use Rattle.vm_ids.specs.declared.numbers.SegId.{SegId}
 use Rattle.local_cache.specs.declared.caches.Caches.TheInside.{Inside}
 use Rattle.local_cache.specs.declared.own_state.OwnState.{OwnState}
 use Rattle.local_cache.specs.declared.page_table.CacheEntry.{CacheEntry}
-use Rattle.local_cache.specs.declared.page_table.PageEntry.{PageEntry}
-use Rattle.local_cache.specs.Arena.{Arena, IsMade, Room, entry_for}
+use Rattle.local_cache.specs.Arena.{Arena, IsMade, Room, entry_for, new_table}
 use Rattle.local_cache.specs.Layout.{AreInRow, IsRight, table_in, tables_in, working_len}
 use Rattle.local_cache.specs.declared.entry_heap.Entry.{Entry}
 use Rattle.local_cache.specs.Heap.{Heap}
+use Rattle.local_cache.specs.Lists.{Lists}
 use Rattle.local_cache.specs.Queue.{IsQueued}
 use Rattle.local_cache.proofs.Nodes.Slots.{seen}
 use Rattle.std.proofs.Common.{min}
@@ -23,18 +23,16 @@ use Rattle.local_cache.proofs.Tables.Entries.{row_more, tables_made}
 
 -- the fields after it
 pub record After (i j : Inside) (cache : CacheId) (segment : Option SegId) (own : OwnState) (count : ℕ) (e : CacheEntry) : Type 0 where
-  pub filled : Filled i.nodes i.entries.items cache own j.nodes j.entries.items count
+  pub filled : Filled i.nodes i.lists cache own j.nodes j.lists count
   pub nodes_len : slab_len j.nodes ≡ slab_len i.nodes + count
   pub nodes_capacity : j.nodes.capacity ≡ i.nodes.capacity
   pub thin : j.thin ≡ i.thin
   pub thin_room : j.thin_room ≡ i.thin_room
   pub queued : (items : List Entry) → IsQueued i.nodes items → IsQueued j.nodes items
-  pub entries_len : vec_len j.entries ≡ vec_len i.entries + count
-  pub entries_capacity : vec_capacity j.entries ≡ vec_capacity i.entries
   pub caches : j.caches.items ≡ i.caches.items ++ Some e ∷ []
   pub caches_len : vec_len j.caches ≡ vec_len i.caches + 1
   pub caches_capacity : vec_capacity j.caches ≡ vec_capacity i.caches
-  pub first : e.first ≡ vec_len i.entries
+  pub first : e.first ≡ length i.lists.entries
   pub pages : e.pages ≡ count
   pub named : e.segment ≡ segment
   pub made : j.made ≡ i.made
@@ -42,14 +40,24 @@ pub record After (i j : Inside) (cache : CacheId) (segment : Option SegId) (own 
   pub working : j.working ≡ i.working
   pub working_len : working_len j.nodes ≡ working_len i.nodes
 
-pub right_after : (i j : Inside) (cache : CacheId) (segment : Option SegId) (own : OwnState) (pages : ℕ) (e : CacheEntry) → IsRight i.nodes i.caches.items i.entries.items i.thin i.thin_room i.working → After i j cache segment own pages e → length i.caches.items + 1 < 2 ^ 32 → pages ≤ min i.nodes.capacity i.thin_room - slab_len i.nodes
-    → IsRight j.nodes j.caches.items j.entries.items j.thin j.thin_room j.working
+-- the lists are longer, and of one length
+longer : (i j : Inside) (cache : CacheId) (segment : Option SegId) (own : OwnState) (count : ℕ) (e : CacheEntry) → After i j cache segment own count e → length i.lists.grants ≡ length i.lists.entries
+    → (length j.lists.entries ≡ length i.lists.entries + count) × (length j.lists.grants ≡ length j.lists.entries)
+longer i j cache segment own count e after long =
+    let ns : List NodeId = after.filled.0 in
+    let entries = ap (λ (ls : Lists). length ls.entries) after.filled.3 ∙ length-append i.lists.entries (map entry_for ns) in
+    let grants = ap (λ (ls : Lists). length ls.grants) after.filled.3 ∙ length-append i.lists.grants (replicate (length ns) false) in
+    (omega (arith, entries, length-map ns entry_for, after.filled.1), omega (arith, entries, grants, long, length-map ns entry_for, length-replicate (length ns) false))
+
+pub right_after : (i j : Inside) (cache : CacheId) (segment : Option SegId) (own : OwnState) (pages : ℕ) (e : CacheEntry) → IsRight i.nodes i.caches.items i.lists i.thin i.thin_room i.working → After i j cache segment own pages e → length i.caches.items + 1 < 2 ^ 32 → pages ≤ min i.nodes.capacity i.thin_room - slab_len i.nodes
+    → IsRight j.nodes j.caches.items j.lists j.thin j.thin_room j.working
 right_after i j cache segment own pages e right after few room =
-    let first : e.first ≡ length i.entries.items = after.first ∙ i.entries.ok.0 in
-    let whole : e.first + e.pages ≡ length j.entries.items = omega (arith, after.first, after.pages, after.entries_len, j.entries.ok.0) in
+    let more = longer i j cache segment own pages e after right.laid.grants in
+    let whole : e.first + e.pages ≡ length j.lists.entries = omega (arith, after.first, after.pages, more.0) in
     record {
       laid = record {
-        row = subst (λ (es : List (Option CacheEntry)). AreInRow 0 es (length j.entries.items)) (sym after.caches) (row_more 0 i.caches.items (length i.entries.items) e (length j.entries.items) right.laid.row first whole);
+        row = subst (λ (es : List (Option CacheEntry)). AreInRow 0 es (length j.lists.entries)) (sym after.caches) (row_more 0 i.caches.items (length i.lists.entries) e (length j.lists.entries) right.laid.row after.first whole);
+        grants = more.1;
         few = omega (arith, ap (λ (es : List (Option CacheEntry)). length es) after.caches, length-append i.caches.items (Some e ∷ []));
         fits = omega (arith, after.nodes_len, after.nodes_capacity, right.laid.fits, min-le_left i.nodes.capacity i.thin_room);
       };
@@ -67,30 +75,29 @@ right_after i j cache segment own pages e right after few room =
 same_room : (a b : Room) → a.nodes ≡ b.nodes → a.caches ≡ b.caches → a.entries ≡ b.entries → a ≡ b
 same_room a b nodes caches entries = λ i. record { nodes = nodes i; caches = caches i; entries = entries i }
 
-made_from : (i j : Inside) (cache : CacheId) (segment : Option SegId) (own : OwnState) (pages : ℕ) (e : CacheEntry) → IsRight i.nodes i.caches.items i.entries.items i.thin i.thin_room i.working → After i j cache segment own pages e → cache.0 ≡ vec_len i.caches + 1
+made_from : (i j : Inside) (cache : CacheId) (segment : Option SegId) (own : OwnState) (pages : ℕ) (e : CacheEntry) → IsRight i.nodes i.caches.items i.lists i.thin i.thin_room i.working → After i j cache segment own pages e → cache.0 ≡ vec_len i.caches + 1
     → (ns : List NodeId) × (length ns ≡ pages) × IsMade (seen i) (seen j) cache segment own ns
 made_from i j cache segment own pages e right after number =
     let ns : List NodeId = after.filled.0 in
     let size : length ns ≡ pages = after.filled.1 in
-    let count : length (tables_in i.entries.items i.caches.items) ≡ length i.caches.items = length-map i.caches.items (λ o. option_map (table_in i.entries.items) o) in
-    let most : min j.nodes.capacity j.thin_room ≡ min i.nodes.capacity i.thin_room = λ k. min (after.nodes_capacity k) (after.thin_room k) in
-    let listed : length (map entry_for ns) ≡ length ns = length-map ns entry_for in (
+    let count : length (tables_in i.lists i.caches.items) ≡ length i.caches.items = length-map i.caches.items (λ o. option_map (table_in i.lists) o) in
+    let most : min j.nodes.capacity j.thin_room ≡ min i.nodes.capacity i.thin_room = λ k. min (after.nodes_capacity k) (after.thin_room k) in (
       ns,
       size,
       record {
         number = omega (arith, i.caches.ok.0);
         cells = after.filled.2;
         caches = (
-            ap (tables_in j.entries.items) after.caches
-            ∙ ap (λ (xs : List PageEntry). tables_in xs (i.caches.items ++ Some e ∷ [])) after.filled.3
-            ∙ tables_made i.caches.items i.entries.items (map entry_for ns) e right.laid.row (after.first ∙ i.entries.ok.0) (after.pages ∙ sym size ∙ sym listed)
-            ∙ ap (λ (s : Option SegId). tables_in i.entries.items i.caches.items ++ Some (record { segment = s; pages = map entry_for ns }) ∷ []) after.named);
+            ap (tables_in j.lists) after.caches
+            ∙ ap (λ (ls : Lists). tables_in ls (i.caches.items ++ Some e ∷ [])) after.filled.3
+            ∙ tables_made i.lists ns right.laid.grants i.caches.items e right.laid.row after.first (after.pages ∙ sym size)
+            ∙ ap (λ (s : Option SegId). tables_in i.lists i.caches.items ++ Some (new_table s ns) ∷ []) after.named);
         made = after.made;
         copies = after.copies;
-        room = same_room _ _ (omega (arith, after.nodes_len, most)) (omega (arith, after.caches_len, after.caches_capacity)) (omega (arith, after.entries_len, after.entries_capacity));
+        room = same_room _ _ (omega (arith, after.nodes_len, most)) (omega (arith, after.caches_len, after.caches_capacity)) (ap (λ (ls : Lists). ls.room) after.filled.3);
       },
     )
 
-pub made : (i j : Inside) (a : Arena) (cache : CacheId) (segment : Option SegId) (own : OwnState) (pages : ℕ) (e : CacheEntry) → seen i ≡ a → IsRight i.nodes i.caches.items i.entries.items i.thin i.thin_room i.working → After i j cache segment own pages e → cache.0 ≡ vec_len i.caches + 1
+pub made : (i j : Inside) (a : Arena) (cache : CacheId) (segment : Option SegId) (own : OwnState) (pages : ℕ) (e : CacheEntry) → seen i ≡ a → IsRight i.nodes i.caches.items i.lists i.thin i.thin_room i.working → After i j cache segment own pages e → cache.0 ≡ vec_len i.caches + 1
     → (ns : List NodeId) × (length ns ≡ pages) × IsMade a (seen j) cache segment own ns
 made i j a cache segment own pages e v right after number = subst (λ (a : Arena). (ns : List NodeId) × (length ns ≡ pages) × IsMade a (seen j) cache segment own ns) v (made_from i j cache segment own pages e right after number)

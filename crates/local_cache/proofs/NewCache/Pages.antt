@@ -1,5 +1,5 @@
 -- What is found after a cache was made.
-use Rattle.std.proofs.Common.{◌≡◌, ℕ, zero, suc, ◌+◌, ◌<◌, ◌≤◌, Bool, cond, List, [], ◌∷◌, length, get_or, map, Option, Some, None, IsSome, unwrap_or, refl, sym, ap, ◌∙◌, inl, inr, arith, add-one, zero-add}
+use Rattle.std.proofs.Common.{◌≡◌, ℕ, zero, suc, ◌+◌, ◌<◌, ◌≤◌, Bool, false, cond, replicate, option_map, List, [], ◌∷◌, length, get_or, map, Option, Some, None, IsSome, unwrap_or, refl, sym, ap, ◌∙◌, inl, inr, arith, add-one, zero-add}
 use Rattle.std.specs.Prelude.{option_and_then, slice_get, is_some}
 use Rattle.std.specs.Ordering.{nat_cmp}
 use Rattle.std.specs.Cmp.{nat_cmp_total}
@@ -15,8 +15,9 @@ use Rattle.vm_ids.specs.declared.numbers.NodeId.{NodeId}
 use Rattle.vm_ids.specs.declared.numbers.SegId.{SegId}
 use Rattle.local_cache.specs.declared.own_state.OwnState.{OwnState}
 use Rattle.local_cache.specs.declared.page_table.PageEntry.{PageEntry}
-use Rattle.local_cache.specs.Arena.{Arena, Cell, HasPage, IsFilled, IsHeld, IsMade, Table, blank, cell, entry_for, find, new_cell, node_at, table_of}
+use Rattle.local_cache.specs.Arena.{Arena, Cell, HasPage, IsFilled, IsHeld, IsMade, Table, blank, cell, entry_for, find, is_granted, new_cell, new_table, node_at, table_of}
 use Rattle.local_cache.specs.Own.{own_of}
+use Rattle.local_cache.specs.Whole.{segment_of}
 use Rattle.local_cache.proofs.Nodes.Slots.{tied, apart}
 
 abbrev named : CacheId → ℕ → OwnState → Cell
@@ -45,12 +46,26 @@ filled_page (n ∷ ns) cells page after cache own (suc k) d f h =
     let at : page + 1 + k ≡ page + suc k = omega arith in
     filled_page ns (ids.insert cells n.0 (named cache page own)) (page + 1) after cache own k d f.1 (omega arith) ∙ ap (λ (p : ℕ). Some (named cache p own)) at
 
-last_table : (old new : Arena) (cache : CacheId) (segment : Option SegId) (own : OwnState) (ns : List NodeId) → IsMade old new cache segment own ns → table_of new cache.0 ≡ Some (record { segment = segment; pages = map entry_for ns })
+last_table : (old new : Arena) (cache : CacheId) (segment : Option SegId) (own : OwnState) (ns : List NodeId) → IsMade old new cache segment own ns → table_of new cache.0 ≡ Some (new_table segment ns)
 last_table old new cache segment own ns m =
-    let t : Table = record { segment = segment; pages = map entry_for ns } in
+    let t : Table = new_table segment ns in
     ap (table_of new) (m.number ∙ add-one (length old.caches))
     ∙ ap (λ (ts : List (Option Table)). get_or ts (length old.caches) None) m.caches
     ∙ get_or-append_seam old.caches (Some t) [] None
+
+-- no page of it is granted
+none_granted : (n page : ℕ) → unwrap_or (slice_get (replicate n false) page) false ≡ false
+none_granted zero page = refl
+none_granted (suc n) zero = refl
+none_granted (suc n) (suc page) = none_granted n page
+
+pub made_ungranted : (old new : Arena) (cache : CacheId) (segment : Option SegId) (own : OwnState) (ns : List NodeId) (page : ℕ) → IsMade old new cache segment own ns → is_granted new cache.0 page ≡ false
+made_ungranted old new cache segment own ns page m =
+    ap (λ (o : Option Table). unwrap_or (option_and_then (λ (t : Table). slice_get t.grants page) o) false) (last_table old new cache segment own ns m) ∙ none_granted (length ns) page
+
+-- its segment
+pub made_segment : (old new : Arena) (cache : CacheId) (segment : Option SegId) (own : OwnState) (ns : List NodeId) → IsMade old new cache segment own ns → segment_of new cache.0 ≡ Some segment
+made_segment old new cache segment own ns m = ap (option_map (λ (t : Table). t.segment)) (last_table old new cache segment own ns m)
 
 pub made_pages : (old new : Arena) (cache : CacheId) (segment : Option SegId) (own : OwnState) (ns : List NodeId) (page : ℕ) → IsMade old new cache segment own ns → page < length ns → HasPage new cache page own
 made_pages old new cache segment own ns page m h =
@@ -76,7 +91,7 @@ made_stays old new cache segment own ns m n held =
 pub made_tables : (old new : Arena) (cache : CacheId) (segment : Option SegId) (own : OwnState) (ns : List NodeId) → IsMade old new cache segment own ns → (other : ℕ) → other ≤ length old.caches → table_of new other ≡ table_of old other
 made_tables old new cache segment own ns m zero h = refl
 made_tables old new cache segment own ns m (suc k) h =
-    ap (λ (ts : List (Option Table)). get_or ts k None) m.caches ∙ get_or_append_left old.caches (Some (record { segment = segment; pages = map entry_for ns }) ∷ []) None k (omega arith)
+    ap (λ (ts : List (Option Table)). get_or ts k None) m.caches ∙ get_or_append_left old.caches (Some (new_table segment ns) ∷ []) None k (omega arith)
 
 -- the node of a page is that node
 pub page_node : (a : Arena) (cache : CacheId) (page : ℕ) (own : OwnState) (n : NodeId) → HasPage a cache page own → node_at a cache.0 page ≡ Some n → find a n ≡ Some (named cache page own)

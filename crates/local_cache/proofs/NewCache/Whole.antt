@@ -16,7 +16,7 @@ use Rattle.vm_ids.proofs.Forest.Laws.Ranges.{ranges_hold_pages_once, ranges_hold
 use Rattle.vm_ids.proofs.Forest.NodesAfter.{IsNode-put, put-IsNode}
 use Rattle.local_cache.specs.declared.own_state.OwnState.{OwnState}
 use Rattle.local_cache.specs.declared.own_state.OwnState.TheVariants.{Zero}
-use Rattle.local_cache.specs.Arena.{Arena, IsMade, Table, entry_for}
+use Rattle.local_cache.specs.Arena.{Arena, IsMade, Table, entry_for, new_table}
 use Rattle.local_cache.specs.Reading.{forest_of}
 use Rattle.local_cache.specs.Sound.{IsSound}
 use Rattle.local_cache.specs.Whole.{IsWhole, size_of}
@@ -87,7 +87,7 @@ module _ (a b : Arena) (whole : IsWhole a) (cache : CacheId) (n : ℕ) (nodes : 
   size_cases : (other : ℕ) → (size_of b other ≡ size_of a other) ⊎ ((other ≡ cache.0) × (size_of b other ≡ Some n))
   size_cases zero = inl refl
   size_cases (suc k) =
-      let table : Table = record { segment = None; pages = map entry_for nodes } in
+      let table : Table = new_table None nodes in
       let at : get_or b.caches k None ≡ get_or (a.caches ++ Some table ∷ []) k None = ap (λ (ts : List (Option Table)). get_or ts k None) made.caches in
       elim (at_place a.caches table k) [
         | inl e ↦ inl (ap (λ (o : Option Table). option_map (λ (t : Table). length t.pages) o) (at ∙ e))

@@ -14,9 +14,7 @@ use Rattle.vm_ids.specs.declared.numbers.NodeId.{NodeId}
 use Rattle.local_cache.specs.declared.caches.Caches.TheInside.{Inside}
 use Rattle.vm_ids.specs.declared.node_name.NodeName.{NodeName}
 use Rattle.local_cache.specs.declared.own_state.OwnState.{OwnState}
-use Rattle.local_cache.specs.declared.page_table.PageEntry.{PageEntry}
-use Rattle.std.proofs.Common.{Vec, Global}
-use Rattle.std.specs.Vec.{vec_len, vec_capacity}
+use Rattle.local_cache.specs.Lists.{Lists}
 use Rattle.local_cache.specs.Arena.{Arena, Cell, Table, blank, cell, find, new_cell, put, tables_with, with_name, with_new, without}
 use Rattle.local_cache.specs.Layout.{arena_of, tables_in}
 
@@ -72,7 +70,7 @@ len-with_value {T} s key old new e =
     omega (arith, sum_by-set one s.slots key (Some new) None (ContainsKey-within s key has), ap one e)
 
 abbrev pub seen : Inside → Arena
-seen i = arena_of i.nodes i.caches i.entries i.thin_room i.made i.copies
+seen i = arena_of i.nodes i.caches i.lists i.thin_room i.made i.copies
 
 pub find-seen : (i : Inside) (n : NodeId) → find (seen i) n ≡ slab.get i.nodes n.0
 find-seen i n = get-entries i.nodes n.0
@@ -107,48 +105,46 @@ pub some_at : (i : Inside) (a : Arena) (n : NodeId) → seen i ≡ a → IsSome 
 some_at i a n v h = subst IsSome (ap (λ b. find b n) (sym v) ∙ find-seen i n) h
 
 -- other entries of the tables
-pub seen-entries : (i : Inside) (es : Vec PageEntry Global) (ts : List (Option Table)) → tables_in es.items i.caches.items ≡ ts → vec_len es ≡ vec_len i.entries → vec_capacity es ≡ vec_capacity i.entries → seen (record i { entries = es }) ≡ record (seen i) { caches = ts }
-seen-entries i es ts tables len capacity =
-    let room : vec_capacity es - vec_len es ≡ vec_capacity i.entries - vec_len i.entries = omega arith in
-    λ j. record (seen i) { caches = tables j; room = record ((seen i).room) { entries = room j } }
+pub seen-lists : (i : Inside) (ls : Lists) (ts : List (Option Table)) → tables_in ls i.caches.items ≡ ts → ls.room ≡ i.lists.room → seen (record i { lists = ls }) ≡ record (seen i) { caches = ts }
+seen-lists i ls ts tables room = λ j. record (seen i) { caches = tables j; room = record ((seen i).room) { entries = room j } }
 
 -- another name
-pub named : (i : Inside) (a : Arena) (n : NodeId) (old new : Cell) (x left : NodeName) (mid es : Vec PageEntry Global) → seen i ≡ a → slab.get i.nodes n.0 ≡ Some old → new ≡ record old { name = x } → left ≡ (cell a n).name
-    → tables_in mid.items i.caches.items ≡ tables_with (tables_in i.entries.items i.caches.items) left None → tables_in es.items i.caches.items ≡ tables_with (tables_in mid.items i.caches.items) x (Some n)
-    → vec_len es ≡ vec_len i.entries → vec_capacity es ≡ vec_capacity i.entries → seen (record i { nodes = with_value i.nodes n.0 new; entries = es }) ≡ with_name a n x
+pub named : (i : Inside) (a : Arena) (n : NodeId) (old new : Cell) (x left : NodeName) (mid ls : Lists) → seen i ≡ a → slab.get i.nodes n.0 ≡ Some old → new ≡ record old { name = x } → left ≡ (cell a n).name
+    → tables_in mid i.caches.items ≡ tables_with (tables_in i.lists i.caches.items) left None → tables_in ls i.caches.items ≡ tables_with (tables_in mid i.caches.items) x (Some n)
+    → ls.room ≡ i.lists.room → seen (record i { nodes = with_value i.nodes n.0 new; lists = ls }) ≡ with_name a n x
 unfolding put
-named i a n old new x left mid es v e is was first second len capacity =
+named i a n old new x left mid ls v e is was first second room =
     let change : Cell → Cell = λ c. record c { name = x } in
     let j : Inside = record i { nodes = with_value i.nodes n.0 new } in
-    let ts : List (Option Table) = tables_with (tables_with (tables_in i.entries.items i.caches.items) left None) x (Some n) in
-    seen-entries j es ts (second ∙ ap (λ us. tables_with us x (Some n)) first) len capacity
+    let ts : List (Option Table) = tables_with (tables_with (tables_in i.lists i.caches.items) left None) x (Some n) in
+    seen-lists j ls ts (second ∙ ap (λ us. tables_with us x (Some n)) first) room
     ∙ ap (λ (b : Arena). record b { caches = tables_with (tables_with b.caches left None) x (Some n) }) (writes i a n old new change v e is)
     ∙ ap (λ (y : NodeName). record (put a n (change (cell a n))) { caches = tables_with (tables_with a.caches y None) x (Some n) }) was
 
 -- a node more
-pub added : (i : Inside) (a : Arena) (after : Slab Cell) (n : NodeId) (c : Cell) (x : NodeName) (s : OwnState) (es : Vec PageEntry Global) → seen i ≡ a → Updates i.nodes after n.0 (Some c) → slab_len after ≡ slab_len i.nodes + 1 → after.capacity ≡ i.nodes.capacity → c ≡ new_cell x s
-    → tables_in es.items i.caches.items ≡ tables_with (tables_in i.entries.items i.caches.items) x (Some n) → vec_len es ≡ vec_len i.entries → vec_capacity es ≡ vec_capacity i.entries
-    → seen (record i { nodes = after; entries = es }) ≡ with_new a n x s
+pub added : (i : Inside) (a : Arena) (after : Slab Cell) (n : NodeId) (c : Cell) (x : NodeName) (s : OwnState) (ls : Lists) → seen i ≡ a → Updates i.nodes after n.0 (Some c) → slab_len after ≡ slab_len i.nodes + 1 → after.capacity ≡ i.nodes.capacity → c ≡ new_cell x s
+    → tables_in ls i.caches.items ≡ tables_with (tables_in i.lists i.caches.items) x (Some n) → ls.room ≡ i.lists.room
+    → seen (record i { nodes = after; lists = ls }) ≡ with_new a n x s
 unfolding with_new
-added i a after n c x s es v up len same is tables entries_len capacity =
+added i a after n c x s ls v up len same is tables lists_room =
     let cells = updated i.nodes after n.0 c up in
     let most : min after.capacity i.thin_room ≡ min i.nodes.capacity i.thin_room = ap (λ k. min k i.thin_room) same in
     let room : min after.capacity i.thin_room - slab_len after ≡ min i.nodes.capacity i.thin_room - slab_len i.nodes - 1 = omega arith in
-    seen-entries (record i { nodes = after }) es (tables_with (tables_in i.entries.items i.caches.items) x (Some n)) tables entries_len capacity
-    ∙ (λ j. record (seen i) { cells = cells j; caches = tables_with (tables_in i.entries.items i.caches.items) x (Some n); room = record ((seen i).room) { nodes = room j } })
+    seen-lists (record i { nodes = after }) ls (tables_with (tables_in i.lists i.caches.items) x (Some n)) tables lists_room
+    ∙ (λ j. record (seen i) { cells = cells j; caches = tables_with (tables_in i.lists i.caches.items) x (Some n); room = record ((seen i).room) { nodes = room j } })
     ∙ ap (λ d. record (seen i) { cells = ids.insert ((seen i).cells) n.0 d; caches = tables_with ((seen i).caches) x (Some n); room = record ((seen i).room) { nodes = min i.nodes.capacity i.thin_room - slab_len i.nodes - 1 } }) is
     ∙ ap (λ b. with_new b n x s) v
 
 -- a node less
-pub taken : (i : Inside) (a : Arena) (after : Slab Cell) (n : NodeId) (c : Cell) (es : Vec PageEntry Global) → seen i ≡ a → slab.get i.nodes n.0 ≡ Some c → Updates i.nodes after n.0 None → slab_len after + 1 ≡ slab_len i.nodes → after.capacity ≡ i.nodes.capacity → slab_len i.nodes ≤ i.nodes.capacity → slab_len i.nodes ≤ i.thin_room
-    → tables_in es.items i.caches.items ≡ tables_with (tables_in i.entries.items i.caches.items) c.name None → vec_len es ≡ vec_len i.entries → vec_capacity es ≡ vec_capacity i.entries
-    → seen (record i { nodes = after; entries = es }) ≡ without a n
+pub taken : (i : Inside) (a : Arena) (after : Slab Cell) (n : NodeId) (c : Cell) (ls : Lists) → seen i ≡ a → slab.get i.nodes n.0 ≡ Some c → Updates i.nodes after n.0 None → slab_len after + 1 ≡ slab_len i.nodes → after.capacity ≡ i.nodes.capacity → slab_len i.nodes ≤ i.nodes.capacity → slab_len i.nodes ≤ i.thin_room
+    → tables_in ls i.caches.items ≡ tables_with (tables_in i.lists i.caches.items) c.name None → ls.room ≡ i.lists.room
+    → seen (record i { nodes = after; lists = ls }) ≡ without a n
 unfolding without
-taken i a after n c es v got up len same fits held tables entries_len capacity =
+taken i a after n c ls v got up len same fits held tables lists_room =
     let cells = dropped i.nodes after n.0 up in
     let most : min after.capacity i.thin_room ≡ min i.nodes.capacity i.thin_room = ap (λ k. min k i.thin_room) same in
     let room : min after.capacity i.thin_room - slab_len after ≡ min i.nodes.capacity i.thin_room - slab_len i.nodes + 1 = omega arith in
-    seen-entries (record i { nodes = after }) es (tables_with (tables_in i.entries.items i.caches.items) c.name None) tables entries_len capacity
+    seen-lists (record i { nodes = after }) ls (tables_with (tables_in i.lists i.caches.items) c.name None) tables lists_room
     ∙ (λ j. record (seen i) { cells = cells j; caches = tables_with ((seen i).caches) c.name None; room = record ((seen i).room) { nodes = room j } })
     ∙ ap (λ (d : Cell). record (seen i) { cells = ids.remove ((seen i).cells) n.0; caches = tables_with ((seen i).caches) d.name None; room = record ((seen i).room) { nodes = (seen i).room.nodes + 1 } }) (sym (cell-seen i n c got))
     ∙ ap (λ b. without b n) v

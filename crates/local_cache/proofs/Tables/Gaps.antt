@@ -1,24 +1,11 @@
 -- A part is taken out of the table of all pages, and the parts behind it stand lower.
-use Rattle.std.proofs.Common.{◌≡◌, ◌⊎◌, ℕ, zero, suc, ◌+◌, ◌-◌, ◌<◌, ◌≤◌, List, [], ◌∷◌, length, get_or, set, take, drop, Option, Some, None, option_map, refl, sym, ap, ◌∙◌, subst, inl, inr, arith, length-set}
-use Rattle.std.proofs.lemmas.List.{get_or-drop, get_or-set_other, get_or-set_same, get_or-take, get_or_past, ext_get_or}
+use Rattle.std.proofs.Common.{◌≡◌, ◌⊎◌, ℕ, zero, suc, ◌+◌, ◌-◌, ◌<◌, ◌≤◌, List, [], ◌∷◌, length, get_or, set, Option, Some, None, option_map, refl, sym, ap, ◌∙◌, subst, inl, inr, arith, length-set}
+use Rattle.std.proofs.lemmas.List.{get_or-set_other, get_or-set_same, get_or_past, ext_get_or}
 use Rattle.local_cache.specs.declared.page_table.CacheEntry.{CacheEntry}
-use Rattle.local_cache.specs.declared.page_table.PageEntry.{PageEntry}
 use Rattle.std.proofs.lemmas.List.{length-map}
-use Rattle.local_cache.proofs.Tables.Entries.{part_len, row_end, row_from, row_within, table_get}
-use Rattle.local_cache.specs.Layout.{AreInRow, AreLowered, HasClosed, lowered, table_in, tables_in}
-
--- what the default is doesn't matter within a list
-pub any_default : {X : Type 0} (xs : List X) (k : ℕ) (d e : X) → k < length xs → get_or xs k d ≡ get_or xs k e
-any_default [] k d e h = absurd (omega arith)
-any_default (x ∷ xs) zero d e h = refl
-any_default (x ∷ xs) (suc k) d e h = any_default xs k d e (omega arith)
-
--- the elements from one place up to another stand lower by n
-pub record IsClosing {X : Type 0} (from n at : ℕ) (xs ys : List X) : Type 0 where
-  pub len : length ys ≡ length xs
-  pub front : (k : ℕ) (d : X) → k < from → get_or ys k d ≡ get_or xs k d
-  pub done : (k : ℕ) (d : X) → from ≤ k → k + n < at → get_or ys k d ≡ get_or xs (k + n) d
-  pub rest : (k : ℕ) (d : X) → from ≤ k → at ≤ k + n → get_or ys k d ≡ get_or xs k d
+use Rattle.local_cache.proofs.Tables.Entries.{part-get, part_len, row_end, row_from, row_within, table_get}
+use Rattle.local_cache.specs.Layout.{AreInRow, AreLowered, lowered, part_of, table_in, tables_in}
+use Rattle.local_cache.specs.Lists.{AreClosed, HasClosed, Lists}
 
 -- the caches from one index up to another stand lower by n
 pub record AreLowering (from n at : ℕ) (xs ys : List (Option CacheEntry)) : Type 0 where
@@ -68,16 +55,43 @@ less_equal_more zero (suc b) = inl (omega arith)
 less_equal_more (suc a) zero = inr (inr (omega arith))
 less_equal_more (suc a) (suc b) = elim (less_equal_more a b) [ inl h ↦ inl (omega arith) | inr r ↦ elim r [ inl e ↦ inr (inl (ap suc e)) | inr h ↦ inr (inr (omega arith)) ] ]
 
+-- lists that are equal element by element
+ext_parts : {X : Type 0} (xs ys : List X) → length xs ≡ length ys → ((i : ℕ) (d : X) → i < length xs → get_or xs i d ≡ get_or ys i d) → xs ≡ ys
+ext_parts [] [] len same = refl
+ext_parts [] (y ∷ ys) len same = absurd (omega (arith, len))
+ext_parts (x ∷ xs) [] len same = absurd (omega (arith, len))
+ext_parts (x ∷ xs) (y ∷ ys) len same = (let first = same 0 x (omega arith) in let rest = ext_parts xs ys (omega (arith, len)) (λ i d h. same (suc i) d (omega (arith, h))) in λ i. first i ∷ rest i)
+
+-- the parts of a list out of which a part was taken
+module _ {X : Type 0} (gap : CacheEntry) (xs ys : List X) (fits : gap.first + gap.pages ≤ length xs) (closed : HasClosed gap.first gap.pages xs ys) where
+  list_front : (e : CacheEntry) → e.first + e.pages ≤ gap.first → part_of e ys ≡ part_of e xs
+  list_front e h =
+      let now = part_len ys e (omega (arith, fits, closed.len, h)) in
+      let was = part_len xs e (omega (arith, fits, h)) in
+      ext_parts (part_of e ys) (part_of e xs) (now ∙ sym was)
+      (λ i d less.
+      let within : i < e.pages = omega (arith, less, now) in
+      part-get ys e i d within ∙ closed.before (e.first + i) d (omega (arith, within, h)) ∙ sym (part-get xs e i d within))
+
+  list_behind : (e : CacheEntry) → gap.first + gap.pages ≤ e.first → e.first + e.pages ≤ length xs → part_of (lowered gap.pages e) ys ≡ part_of e xs
+  list_behind e h end =
+      let now = part_len ys (lowered gap.pages e) (omega (arith, closed.len, h, end)) in
+      ext_parts (part_of (lowered gap.pages e) ys) (part_of e xs) (now ∙ sym (part_len xs e end))
+      (λ i d less.
+      let within : i < e.pages = omega (arith, less, now) in
+      let place : e.first - gap.pages + i + gap.pages ≡ e.first + i = omega (arith, h) in
+      part-get ys (lowered gap.pages e) i d within ∙ closed.behind (e.first - gap.pages + i) d (omega (arith, h)) ∙ ap (λ k. get_or xs k d) place ∙ sym (part-get xs e i d within))
+
 -- where the entry of one cache went
-module _ (es after : List (Option CacheEntry)) (xs ys : List PageEntry) (index : ℕ) (gap : CacheEntry) (row : AreInRow 0 es (length xs)) (found : get_or es index None ≡ Some gap)
-    (closed : HasClosed gap.first gap.pages xs ys) (len : length ys + gap.pages ≡ length xs) (low : AreLowered (index + 1) gap.pages (set es index None) after) where
+module _ (es after : List (Option CacheEntry)) (old new : Lists) (index : ℕ) (gap : CacheEntry) (row : AreInRow 0 es (length old.entries)) (long : length old.grants ≡ length old.entries) (found : get_or es index None ≡ Some gap)
+    (closed : AreClosed gap.first gap.pages old new) (low : AreLowered (index + 1) gap.pages (set es index None) after) where
   abbrev n : ℕ
   n = gap.pages
 
-  p : IsRow 0 es (length xs)
-  p = points 0 es (length xs) row
+  p : IsRow 0 es (length old.entries)
+  p = points 0 es (length old.entries) row
 
-  fits : gap.first + gap.pages ≤ length xs
+  fits : gap.first + gap.pages ≤ length old.entries
   fits = (p.inside index gap found).1
 
   there : index < length es
@@ -86,23 +100,11 @@ module _ (es after : List (Option CacheEntry)) (xs ys : List PageEntry) (index :
     | inr r ↦ absurd (let past : get_or es index None ≡ None = get_or_past es index None (elim r [ inl e ↦ omega arith | inr h ↦ omega arith ]) in cc)
   ]
 
-  part_front : (e : CacheEntry) → e.first + e.pages ≤ gap.first → take e.pages (drop e.first ys) ≡ take e.pages (drop e.first xs)
-  part_front e h = ext_get_or (record { node = None }) _ _ (part_len ys e (omega (arith, fits)) ∙ sym (part_len xs e (omega (arith, fits))))
-      (λ i less.
-      let within : i < e.pages = omega (arith, part_len ys e (omega (arith, fits))) in
-      get_or-take e.pages (drop e.first ys) i _ within ∙ get_or-drop e.first ys i _ ∙ closed.before (e.first + i) _ (omega arith)
-      ∙ sym (get_or-take e.pages (drop e.first xs) i _ within ∙ get_or-drop e.first xs i _))
+  grants_fit : gap.first + gap.pages ≤ length old.grants
+  grants_fit = omega (arith, fits, long)
 
-  part_behind : (e : CacheEntry) → gap.first + gap.pages ≤ e.first → e.first + e.pages ≤ length xs → take e.pages (drop (e.first - n) ys) ≡ take e.pages (drop e.first xs)
-  part_behind e h end =
-      let back : e.first - n + n ≡ e.first = omega arith in
-      let size : length (take e.pages (drop (e.first - n) ys)) ≡ e.pages = part_len ys (lowered n e) (omega (arith, back)) in
-      ext_get_or (record { node = None }) _ _ (size ∙ sym (part_len xs e end))
-      (λ i less.
-      let within : i < e.pages = omega (arith, size) in
-      let place : e.first - n + i + n ≡ e.first + i = omega arith in
-      get_or-take e.pages (drop (e.first - n) ys) i _ within ∙ get_or-drop (e.first - n) ys i _ ∙ closed.behind (e.first - n + i) _ (omega arith) ∙ ap (λ k. get_or xs k (record { node = None })) place
-      ∙ sym (get_or-take e.pages (drop e.first xs) i _ within ∙ get_or-drop e.first xs i _))
+  len : length new.entries + gap.pages ≡ length old.entries
+  len = closed.entries.len
 
   front_is : (k : ℕ) → k < index → get_or after k None ≡ get_or es k None
   front_is k h = low.before k (omega arith) ∙ get_or-set_other es index k None None (λ e. omega arith)
@@ -113,27 +115,36 @@ module _ (es after : List (Option CacheEntry)) (xs ys : List PageEntry) (index :
   behind_is : (k : ℕ) → index < k → get_or after k None ≡ option_map (lowered n) (get_or es k None)
   behind_is k h = low.behind k (omega arith) ∙ ap (option_map (lowered n)) (get_or-set_other es index k None None (λ e. omega arith))
 
-  table_front : (k : ℕ) → k < index → (o : Option CacheEntry) → get_or es k None ≡ o → option_map (table_in ys) o ≡ option_map (table_in xs) o
+  table_front : (k : ℕ) → k < index → (o : Option CacheEntry) → get_or es k None ≡ o → option_map (table_in new) o ≡ option_map (table_in old) o
   table_front k h None is = refl
-  table_front k h (Some e) is = ap (λ (ps : List PageEntry). Some (record { segment = e.segment; pages = ps })) (part_front e (p.apart k index e gap h is found))
+  table_front k h (Some e) is =
+      (let before = p.apart k index e gap h is found in
+      let entries = list_front gap old.entries new.entries fits closed.entries e before in
+      let grants = list_front gap old.grants new.grants grants_fit closed.grants e before in
+      λ i. Some (record { segment = e.segment; pages = entries i; grants = grants i }))
 
-  table_behind : (k : ℕ) → index < k → (o : Option CacheEntry) → get_or es k None ≡ o → option_map (table_in ys) (option_map (lowered n) o) ≡ option_map (table_in xs) o
+  table_behind : (k : ℕ) → index < k → (o : Option CacheEntry) → get_or es k None ≡ o → option_map (table_in new) (option_map (lowered n) o) ≡ option_map (table_in old) o
   table_behind k h None is = refl
-  table_behind k h (Some e) is = ap (λ (ps : List PageEntry). Some (record { segment = e.segment; pages = ps })) (part_behind e (p.apart index k gap e h found is) (p.inside k e is).1)
+  table_behind k h (Some e) is =
+      (let behind = p.apart index k gap e h found is in
+      let end = (p.inside k e is).1 in
+      let entries = list_behind gap old.entries new.entries fits closed.entries e behind end in
+      let grants = list_behind gap old.grants new.grants grants_fit closed.grants e behind (omega (arith, end, long)) in
+      λ i. Some (record { segment = e.segment; pages = entries i; grants = grants i }))
 
-  pub tables_closed : tables_in ys after ≡ set (tables_in xs es) index None
-  tables_closed = ext_get_or None (tables_in ys after) (set (tables_in xs es) index None) sizes (λ k less. each k)
+  pub tables_closed : tables_in new after ≡ set (tables_in old es) index None
+  tables_closed = ext_get_or None (tables_in new after) (set (tables_in old es) index None) sizes (λ k less. each k)
     where
-      sizes : length (tables_in ys after) ≡ length (set (tables_in xs es) index None)
-      sizes = length-map after (λ o. option_map (table_in ys) o) ∙ low.length ∙ length-set es index None ∙ sym (length-set (tables_in xs es) index None ∙ length-map es (λ o. option_map (table_in xs) o))
+      sizes : length (tables_in new after) ≡ length (set (tables_in old es) index None)
+      sizes = length-map after (λ o. option_map (table_in new) o) ∙ low.length ∙ length-set es index None ∙ sym (length-set (tables_in old es) index None ∙ length-map es (λ o. option_map (table_in old) o))
 
-      each : (k : ℕ) → get_or (tables_in ys after) k None ≡ get_or (set (tables_in xs es) index None) k None
-      each k = table_get ys after k ∙ elim (less_equal_more k index) [
-        | inl h ↦ ap (option_map (table_in ys)) (front_is k h) ∙ table_front k h (get_or es k None) refl ∙ sym (table_get xs es k) ∙ sym (get_or-set_other (tables_in xs es) index k None None (λ e. omega arith))
+      each : (k : ℕ) → get_or (tables_in new after) k None ≡ get_or (set (tables_in old es) index None) k None
+      each k = table_get new after k ∙ elim (less_equal_more k index) [
+        | inl h ↦ ap (option_map (table_in new)) (front_is k h) ∙ table_front k h (get_or es k None) refl ∙ sym (table_get old es k) ∙ sym (get_or-set_other (tables_in old es) index k None None (λ e. omega arith))
         | inr r ↦ elim r [
-          | inl e ↦ ap (λ j. option_map (table_in ys) (get_or after j None)) e ∙ ap (option_map (table_in ys)) gone
-              ∙ sym (ap (λ j. get_or (set (tables_in xs es) index None) j None) e ∙ get_or-set_same (tables_in xs es) index None None (omega (arith, there, length-map es (λ o. option_map (table_in xs) o))))
-          | inr h ↦ ap (option_map (table_in ys)) (behind_is k h) ∙ table_behind k h (get_or es k None) refl ∙ sym (table_get xs es k) ∙ sym (get_or-set_other (tables_in xs es) index k None None (λ e. omega arith))
+          | inl e ↦ ap (λ j. option_map (table_in new) (get_or after j None)) e ∙ ap (option_map (table_in new)) gone
+              ∙ sym (ap (λ j. get_or (set (tables_in old es) index None) j None) e ∙ get_or-set_same (tables_in old es) index None None (omega (arith, there, length-map es (λ o. option_map (table_in old) o))))
+          | inr h ↦ ap (option_map (table_in new)) (behind_is k h) ∙ table_behind k h (get_or es k None) refl ∙ sym (table_get old es k) ∙ sym (get_or-set_other (tables_in old es) index k None None (λ e. omega arith))
         ]
       ]
 
@@ -151,15 +162,15 @@ module _ (es after : List (Option CacheEntry)) (xs ys : List PageEntry) (index :
       of_map None q = absurd (cc q)
       of_map (Some d) q = (d, refl, (let same : lowered n d ≡ e = cc q in sym same))
 
-  pub row_closed : AreInRow 0 after (length ys)
-  row_closed = in_row 0 after (length ys) (record {
+  pub row_closed : AreInRow 0 after (length new.entries)
+  row_closed = in_row 0 after (length new.entries) (record {
     base = omega arith;
     inside = λ k e is. elim (left k e is) [
-      | inl f ↦ (omega arith, (let h = p.apart k index e gap f.0 f.1 found in omega (arith, fits)))
+      | inl f ↦ (omega arith, (let h = p.apart k index e gap f.0 f.1 found in omega (arith, fits, len)))
       | inr b ↦ (
         omega arith,
         (let h = p.apart index k gap b.1.0 b.0 found b.1.1 in let end = (p.inside k b.1.0 b.1.1).1 in
-            subst (λ (e : CacheEntry). e.first + e.pages ≤ length ys) (sym b.1.2) (omega arith)),
+            subst (λ (e : CacheEntry). e.first + e.pages ≤ length new.entries) (sym b.1.2) (omega arith)),
       )
     ];
     apart = λ j k e f less is at. elim (left j e is) [

@@ -14,19 +14,19 @@ module _ {X : Type 0} where
   get_set_same (x ∷ xs) zero v = refl
   get_set_same (x ∷ xs) (suc k) v = get_set_same xs k v
 
-  get_set_other : (xs : List X) (k j : ℕ) (v : X) → j ≢ k → slice_get (set xs k v) j ≡ slice_get xs j
+  pub get_set_other : (xs : List X) (k j : ℕ) (v : X) → j ≢ k → slice_get (set xs k v) j ≡ slice_get xs j
   get_set_other [] k j v ne = refl
   get_set_other (x ∷ xs) zero zero v ne = absurd (ne refl)
   get_set_other (x ∷ xs) zero (suc j) v ne = refl
   get_set_other (x ∷ xs) (suc k) zero v ne = refl
   get_set_other (x ∷ xs) (suc k) (suc j) v ne = get_set_other xs k j v (λ e. ne (ap suc e))
 
-  read_set : (ts : List (Option X)) (k : ℕ) (f : X → X) → get_or (set ts k (option_map f (get_or ts k None))) k None ≡ option_map f (get_or ts k None)
+  pub read_set : (ts : List (Option X)) (k : ℕ) (f : X → X) → get_or (set ts k (option_map f (get_or ts k None))) k None ≡ option_map f (get_or ts k None)
   read_set [] k f = refl
   read_set (t ∷ ts) zero f = refl
   read_set (t ∷ ts) (suc k) f = read_set ts k f
 
-  read_other : (ts : List (Option X)) (k j : ℕ) (v : Option X) → j ≢ k → get_or (set ts k v) j None ≡ get_or ts j None
+  pub read_other : (ts : List (Option X)) (k j : ℕ) (v : Option X) → j ≢ k → get_or (set ts k v) j None ≡ get_or ts j None
   read_other [] k j v ne = refl
   read_other (t ∷ ts) zero zero v ne = absurd (ne refl)
   read_other (t ∷ ts) zero (suc j) v ne = refl

@@ -4,30 +4,32 @@ use Rattle.vm_ids.specs.declared.node_name.NodeName.{NodeName}
 use Rattle.vm_ids.specs.declared.node_name.NodeName.TheVariants.{Live, Working}
 use Rattle.vm_ids.specs.declared.numbers.NodeId.{NodeId}
 use Rattle.vm_ids.specs.declared.numbers.SegId.{SegId}
-use Rattle.local_cache.specs.Arena.{Arena, Table, table_at, table_with, tables_with}
+use Rattle.local_cache.specs.Arena.{Arena, Table, changed_at, table_at, table_granting, table_with, tables_with, with_grant}
 use Rattle.local_cache.specs.Whole.{SameCaches}
 
--- what each table keeps when the node of a page is another one
-module _ {A : Type 0} (of : Table → A) (same : (page : ℕ) (n : Option NodeId) (t : Table) → of (table_with page n t) ≡ of t) where
-  one_table : (page : ℕ) (n : Option NodeId) (o : Option Table) → option_map of (option_map (table_with page n) o) ≡ option_map of o
-  one_table page n None = refl
-  one_table page n (Some t) = ap Some (same page n t)
+-- what each table keeps that a change of one leaves
+module _ {A : Type 0} (of : Table → A) (change : Table → Table) (same : (t : Table) → of (change t) ≡ of t) where
+  one_table : (o : Option Table) → option_map of (option_map change o) ≡ option_map of o
+  one_table None = refl
+  one_table (Some t) = ap Some (same t)
 
-  one_of_all : (page : ℕ) (n : Option NodeId) (ts : List (Option Table)) (k j : ℕ) → option_map of (get_or (set ts k (option_map (table_with page n) (get_or ts k None))) j None) ≡ option_map of (get_or ts j None)
-  one_of_all page n [] k j = refl
-  one_of_all page n (t ∷ ts) zero zero = one_table page n t
-  one_of_all page n (t ∷ ts) zero (suc j) = refl
-  one_of_all page n (t ∷ ts) (suc k) zero = refl
-  one_of_all page n (t ∷ ts) (suc k) (suc j) = one_of_all page n ts k j
+  one_of_all : (ts : List (Option Table)) (k j : ℕ) → option_map of (get_or (set ts k (option_map change (get_or ts k None))) j None) ≡ option_map of (get_or ts j None)
+  one_of_all [] k j = refl
+  one_of_all (t ∷ ts) zero zero = one_table t
+  one_of_all (t ∷ ts) zero (suc j) = refl
+  one_of_all (t ∷ ts) (suc k) zero = refl
+  one_of_all (t ∷ ts) (suc k) (suc j) = one_of_all ts k j
 
-  each_table : (ts : List (Option Table)) (x : NodeName) (n : Option NodeId) (cache : ℕ) → option_map of (table_at (tables_with ts x n) cache) ≡ option_map of (table_at ts cache)
-  each_table ts (Working k) n cache = refl
-  each_table ts (Live c page) n zero = refl
-  each_table ts (Live c page) n (suc j) = go c.0
-    where
-      go : (k : ℕ) → option_map of (table_at (tables_with ts (Live (record { 0 = k }) page) n) (suc j)) ≡ option_map of (table_at ts (suc j))
-      go zero = refl
-      go (suc k) = one_of_all page.0 n ts k j
+  pub each_changed : (ts : List (Option Table)) (c cache : ℕ) → option_map of (table_at (changed_at ts c change) cache) ≡ option_map of (table_at ts cache)
+  each_changed ts zero cache = refl
+  each_changed ts (suc k) zero = refl
+  each_changed ts (suc k) (suc j) = one_of_all ts k j
+
+-- when the node of a page is another one
+pub each_table : {A : Type 0} (of : Table → A) → ((page : ℕ) (n : Option NodeId) (t : Table) → of (table_with page n t) ≡ of t) → (ts : List (Option Table)) (x : NodeName) (n : Option NodeId) (cache : ℕ)
+    → option_map of (table_at (tables_with ts x n) cache) ≡ option_map of (table_at ts cache)
+each_table of same ts (Working k) n cache = refl
+each_table of same ts (Live c page) n cache = each_changed of (table_with page.0 n) (same page.0 n) ts c.0 cache
 
 abbrev size : Table → ℕ
 size t = length t.pages
@@ -36,13 +38,13 @@ abbrev segment : Table → Option SegId
 segment t = t.segment
 
 -- there are as many tables
+changed_count : (ts : List (Option Table)) (c : ℕ) (change : Table → Table) → length (changed_at ts c change) ≡ length ts
+changed_count ts zero change = refl
+changed_count ts (suc k) change = length-set ts k (option_map change (get_or ts k None))
+
 table_count : (ts : List (Option Table)) (x : NodeName) (n : Option NodeId) → length (tables_with ts x n) ≡ length ts
 table_count ts (Working k) n = refl
-table_count ts (Live c page) n = go c.0
-  where
-    go : (k : ℕ) → length (tables_with ts (Live (record { 0 = k }) page) n) ≡ length ts
-    go zero = refl
-    go (suc k) = length-set ts k (option_map (table_with page.0 n) (get_or ts k None))
+table_count ts (Live c page) n = changed_count ts c.0 (table_with page.0 n)
 
 pub sizes_by : (a b : Arena) (x : NodeName) (n : Option NodeId) → b.caches ≡ tables_with a.caches x n → SameCaches a b
 sizes_by a b x n e = record {
@@ -57,6 +59,16 @@ sizes_same a b e = record {
   sizes = λ cache. ap (λ (ts : List (Option Table)). option_map size (table_at ts cache)) e;
   segments = λ cache. ap (λ (ts : List (Option Table)). option_map segment (table_at ts cache)) e;
 }
+
+-- after the grant of a page
+pub sizes_granted : (a b : Arena) (cache page : ℕ) → b ≡ with_grant a cache page → SameCaches a b
+sizes_granted a b cache page e =
+    let granted = ap (λ (x : Arena). x.caches) e in
+    record {
+      count = ap length granted ∙ changed_count a.caches cache (table_granting page);
+      sizes = λ other. ap (λ (ts : List (Option Table)). option_map size (table_at ts other)) granted ∙ each_changed size (table_granting page) (λ t. refl) a.caches cache other;
+      segments = λ other. ap (λ (ts : List (Option Table)). option_map segment (table_at ts other)) granted ∙ each_changed segment (table_granting page) (λ t. refl) a.caches cache other;
+    }
 
 pub sizes_then : (a b c : Arena) → SameCaches a b → SameCaches b c → SameCaches a c
 sizes_then a b c f g = record {

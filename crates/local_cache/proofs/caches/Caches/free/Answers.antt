@@ -1,6 +1,7 @@
 use Rattle.std.proofs.Common.{rules, ◌-◌, None, ap, ◌∙◌, arith}
 use Rattle.local_cache.specs.Arena.{tables_with}
 use Rattle.local_cache.specs.Layout.{tables_in, working_of}
+use Rattle.local_cache.specs.Lists.{Lists}
 use Rattle.local_cache.proofs.Nodes.WorkingCount.{counted_less, taken_fits}
 use Rattle.local_cache.proofs.Nodes.Slots.{some_at, taken}
 use Rattle.local_cache.proofs.Tables.Entries.{through}
@@ -18,9 +19,9 @@ queue-requires-clause-queued c =
 pub returns : goal.returns
 returns c =
     let i = c.self.inside in
-    taken i c.args.self.now _ c.args.node _ c.set_node.new.entries c.self.view_is c.remove-freed.ensures.value c.remove-freed.ensures.updates c.remove-freed.ensures.len c.remove-freed.ensures.capacity c.self.invariant.laid.fits c.self.invariant.ready.fits
-    (through _ i.caches.items i.entries.items _ _ None c.deref.ensures.value c.set_node.ensures.tables ∙ ap (λ x. tables_with (tables_in i.entries.items i.caches.items) x None) c.name-2.ensures)
-    c.set_node.ensures.len c.set_node.ensures.capacity
+    taken i c.args.self.now _ c.args.node _ c.set_node.new.lists c.self.view_is c.remove-freed.ensures.value c.remove-freed.ensures.updates c.remove-freed.ensures.len c.remove-freed.ensures.capacity c.self.invariant.laid.fits c.self.invariant.ready.fits
+    (through _ i.caches.items i.lists c.set_node.new.lists _ None c.deref.ensures.value c.set_node.ensures.tables ∙ ap (λ x. tables_with (tables_in i.lists i.caches.items) x None) c.name-2.ensures)
+    (ap (λ (ls : Lists). ls.room) c.set_node.ensures.kept)
 
 pub overflow_sub-self : goal.overflow_sub-self
 overflow_sub-self c =

@@ -5,6 +5,7 @@ use Rattle.slab.specs.Slab.{slab_len}
 use Rattle.local_cache.specs.Queue.{thin_number}
 use Rattle.vm_ids.specs.declared.numbers.NodeId.{NodeId}
 use Rattle.local_cache.specs.Arena.{Arena}
+use Rattle.local_cache.specs.Lists.{Lists}
 use Rattle.local_cache.proofs.Nodes.Cells.{held-new, stays-new}
 use Rattle.local_cache.proofs.Nodes.WorkingCount.{added_fits, counted_more}
 use Rattle.local_cache.proofs.Nodes.Slots.{added, none_at}
@@ -39,8 +40,8 @@ pub returns-clause-changed : goal.returns-clause-changed
 returns-clause-changed c =
     let i = c.self.inside in
     let n : NodeId = record { 0 = c.insert_reserved-place.result } in
-    added i c.args.self.now _ n _ c.args.name c.args.own c.set_node.new.entries c.self.view_is c.insert_reserved-place.ensures.updates c.insert_reserved-place.ensures.len c.insert_reserved-place.ensures.capacity c.new.ensures
-    (through _ i.caches.items i.entries.items _ c.args.name (Some n) c.deref.ensures.value c.set_node.ensures.tables) c.set_node.ensures.len c.set_node.ensures.capacity
+    added i c.args.self.now _ n _ c.args.name c.args.own c.set_node.new.lists c.self.view_is c.insert_reserved-place.ensures.updates c.insert_reserved-place.ensures.len c.insert_reserved-place.ensures.capacity c.new.ensures
+    (through _ i.caches.items i.lists c.set_node.new.lists c.args.name (Some n) c.deref.ensures.value c.set_node.ensures.tables) (ap (λ (ls : Lists). ls.room) c.set_node.ensures.kept)
 
 pub returns-clause-held : goal.returns-clause-held
 returns-clause-held c = held-new c.args.self.now _ (record { 0 = c.insert_reserved-place.result }) c.args.name c.args.own (returns-clause-changed c)

@@ -10,7 +10,7 @@ use Rattle.local_cache.proofs.caches.Caches.make.Goals as goal
 
 -- the fields, the cache's number and its entry after the call
 abbrev fields : goal.After-push_reserved → Inside
-fields c = record c.self.inside { nodes = c.add_pages.new.nodes; caches = c.push_reserved.new.self; entries = c.add_pages.new.entries }
+fields c = record c.self.inside { nodes = c.add_pages.new.nodes; caches = c.push_reserved.new.self; lists = c.add_pages.new.lists }
 
 abbrev number : goal.After-push_reserved → CacheId
 number c = record { 0 = c.len.result + 1 }
@@ -26,8 +26,6 @@ after c = record {
   thin = refl;
   thin_room = refl;
   queued = c.add_pages.ensures.queued;
-  entries_len = c.add_pages.ensures.entries_len;
-  entries_capacity = c.add_pages.ensures.entries_capacity;
   caches = c.push_reserved.ensures.items;
   caches_len = c.push_reserved.ensures.len;
   caches_capacity = c.push_reserved.ensures.capacity;

@@ -11,4 +11,4 @@ pub returns-clause-forest : goal.returns-clause-forest
 returns-clause-forest c = empty_forest _ (returns-clause-nodes c) refl refl
 
 pub returns-clause-sound : goal.returns-clause-sound
-returns-clause-sound c = empty_sound _ (returns-clause-nodes c) (ap (tables_in c.new-3.result.items) c.new-2.ensures.items)
+returns-clause-sound c = empty_sound _ (returns-clause-nodes c) (ap (tables_in c.new-3.result) c.new-2.ensures.items)

@@ -10,4 +10,4 @@ returns c =
     let entry = c.in_ok-entry_of.field-0 in
     let found : entry_at i.caches.items c.args.cache.0 ≡ Some entry
     = ap (λ es. entry_at es c.args.cache.0) (sym c.deref.ensures.value) ∙ sym c.entry_of.ensures ∙ c.in_ok-entry_of.was in
-    sym (pages_are c.args.self.now i.entries.items i.caches.items c.args.cache.0 entry (ap (λ (a : Arena). a.caches) c.self.view_is) c.self.invariant.laid.row found)
+    sym (pages_are c.args.self.now i.lists i.caches.items c.args.cache.0 entry (ap (λ (a : Arena). a.caches) c.self.view_is) c.self.invariant.laid.row found)

@@ -11,7 +11,7 @@ pub close_gap-requires : goal.close_gap-requires
 close_gap-requires c =
     let i = c.self.inside in
     let found : entry_at i.caches.items c.args.cache.0 ≡ Some c.unwrap-gap.result = ap (λ (es : List (Option CacheEntry)). entry_at es c.args.cache.0) (sym c.deref.ensures.value) ∙ sym c.entry_of.ensures ∙ c.unwrap-gap.ensures in
-    omega (arith, entry_within i.caches.items (length i.entries.items) c.args.cache.0 c.unwrap-gap.result c.self.invariant.laid.row found, i.entries.ok.0)
+    omega (arith, entry_within i.caches.items (length i.lists.entries) c.args.cache.0 c.unwrap-gap.result c.self.invariant.laid.row found)
 
 pub lower-requires : goal.lower-requires
 lower-requires c =
@@ -19,22 +19,20 @@ lower-requires c =
     let found : entry_at i.caches.items c.args.cache.0 ≡ Some c.unwrap-gap.result = ap (λ (es : List (Option CacheEntry)). entry_at es c.args.cache.0) (sym c.deref.ensures.value) ∙ sym c.entry_of.ensures ∙ c.unwrap-gap.ensures in
     row_behind_gap i.caches.items _ (c.args.cache.0 - 1) c.unwrap-gap.result c.self.invariant.laid.row (at_index i.caches.items c.args.cache.0 c.unwrap-gap.result found).0
 
-left : (c : goal.After-lower) → Left c.self.inside c.args.cache.0 c.unwrap-gap.result c.lower.new.caches c.close_gap.new.entries
+left : (c : goal.After-lower) → Left c.self.inside c.args.cache.0 c.unwrap-gap.result c.lower.new.caches c.close_gap.new.self
 left c = record {
   found = ap (λ (es : List (Option CacheEntry)). entry_at es c.args.cache.0) (sym c.deref.ensures.value) ∙ sym c.entry_of.ensures ∙ c.unwrap-gap.ensures;
-  closed = c.close_gap.ensures.closed;
-  closed_len = c.close_gap.ensures.len;
-  closed_capacity = c.close_gap.ensures.capacity;
+  closed = c.close_gap.ensures;
   lowered = c.lower.ensures.lowered;
   lowered_len = c.lower.ensures.len;
   lowered_capacity = c.lower.ensures.capacity;
 }
 
 pub invariant_of-self : goal.invariant_of-self
-invariant_of-self c = right_left c.self.inside c.args.cache.0 c.unwrap-gap.result c.lower.new.caches c.close_gap.new.entries c.self.invariant (left c)
+invariant_of-self c = right_left c.self.inside c.args.cache.0 c.unwrap-gap.result c.lower.new.caches c.close_gap.new.self c.self.invariant (left c)
 
 pub returns-clause-changed : goal.returns-clause-changed
-returns-clause-changed c = removed c.self.inside c.args.cache.0 c.unwrap-gap.result c.lower.new.caches c.close_gap.new.entries c.self.invariant (left c) c.args.self.now c.args.cache refl c.self.view_is
+returns-clause-changed c = removed c.self.inside c.args.cache.0 c.unwrap-gap.result c.lower.new.caches c.close_gap.new.self c.self.invariant (left c) c.args.self.now c.args.cache refl c.self.view_is
 
 pub returns-clause-forest : goal.returns-clause-forest
 returns-clause-forest c = removed_forest c.args.self.now _ c.args.cache (returns-clause-changed c)

@@ -1,6 +1,7 @@
 use Rattle.std.proofs.Common.{None, Some, sym, ap, ◌∙◌, arith}
 use Rattle.std.proofs.lemmas.Grind.{common_steps}
 use Rattle.local_cache.specs.Layout.{working_of}
+use Rattle.local_cache.specs.Lists.{Lists}
 use Rattle.local_cache.proofs.Nodes.Cells.{stays-named}
 use Rattle.local_cache.proofs.Nodes.WorkingCount.{counted_named, named_fits, taken_fits, was_counted}
 use Rattle.local_cache.proofs.Nodes.Slots.{named, some_at}
@@ -46,10 +47,10 @@ invariant_of-self c =
 pub returns-clause-changed : goal.returns-clause-changed
 returns-clause-changed c =
     let i = c.self.inside in
-    named i c.args.self.now c.args.node _ _ c.args.name c.name-left.result c.set_node.new.entries c.set_node-2.new.entries c.self.view_is c.index_mut.ensures.value c.set_name.ensures c.name-left.ensures
-    (through _ i.caches.items i.entries.items _ c.name-left.result None c.deref.ensures.value c.set_node.ensures.tables)
-    (through _ i.caches.items _ _ c.args.name (Some c.args.node) c.deref-2.ensures.value c.set_node-2.ensures.tables)
-    (c.set_node-2.ensures.len ∙ c.set_node.ensures.len) (c.set_node-2.ensures.capacity ∙ c.set_node.ensures.capacity)
+    named i c.args.self.now c.args.node _ _ c.args.name c.name-left.result c.set_node.new.lists c.set_node-2.new.lists c.self.view_is c.index_mut.ensures.value c.set_name.ensures c.name-left.ensures
+    (through _ i.caches.items i.lists c.set_node.new.lists c.name-left.result None c.deref.ensures.value c.set_node.ensures.tables)
+    (through _ i.caches.items c.set_node.new.lists c.set_node-2.new.lists c.args.name (Some c.args.node) c.deref-2.ensures.value c.set_node-2.ensures.tables)
+    (ap (λ (ls : Lists). ls.room) c.set_node-2.ensures.kept ∙ ap (λ (ls : Lists). ls.room) c.set_node.ensures.kept)
 
 pub returns-clause-stays : goal.returns-clause-stays
 returns-clause-stays c = stays-named c.args.self.now _ c.args.node c.args.name (returns-clause-changed c)
