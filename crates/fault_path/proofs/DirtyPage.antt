@@ -34,25 +34,24 @@ dirty_still w n right there resident = record {
   stays = record {
     right = record {
       tied = record {
-        bound = λ m. elim (id_cases m n) [
-          | inl e ↦ right.tied.bound m ∙ ap (λ (x : Bool). bit x) (ap (λ (k : NodeId). is_resident (own_of w.caches k)) e ∙ resident ∙ sym (ap is_resident (ap (own_of (with_own w.caches n (Resident true))) e ∙ own_same w.caches n (Resident true))))
-          | inr d ↦ right.tied.bound m ∙ ap (λ (x : OwnState). bit (is_resident x)) (sym (own_other w.caches n m (Resident true) d))
-        ];
-        held = right.tied.held;
-        slots = λ s. (
-            let counts : count_by (is_slot s) (own_states (with_own w.caches n (Resident true))) + bit (is_slot s (own_of w.caches n)) ≡ count_by (is_slot s) (own_states w.caches) + 0 = own_count (is_slot s) w.caches n (Resident true) there in
-            omega (arith, bit_false (is_slot s (own_of w.caches n)) (resident_not_slot s (own_of w.caches n) resident), right.tied.slots s));
-        in_slots = (
-            let counts : count_by is_in_slot (own_states (with_own w.caches n (Resident true))) + bit (is_in_slot (own_of w.caches n)) ≡ count_by is_in_slot (own_states w.caches) + 0 = own_count is_in_slot w.caches n (Resident true) there in
-            omega (arith, bit_false (is_in_slot (own_of w.caches n)) (resident_not_in_slot (own_of w.caches n) resident), right.tied.in_slots));
-        there = right.tied.there;
-        temporary = temporary_after w n (Resident true) right refl;
-        map_frames = right.tied.map_frames;
-        bytes_frames = right.tied.bytes_frames;
-        pinned_frames = right.tied.pinned_frames;
-        marks_frames = right.tied.marks_frames;
-        few = right.tied.few;
-        page = right.tied.page;
+        placed = record {
+          bound = λ m. elim (id_cases m n) [
+            | inl e ↦ right.tied.placed.bound m ∙ ap (λ (x : Bool). bit x) (ap (λ (k : NodeId). is_resident (own_of w.caches k)) e ∙ resident ∙ sym (ap is_resident (ap (own_of (with_own w.caches n (Resident true))) e ∙ own_same w.caches n (Resident true))))
+            | inr d ↦ right.tied.placed.bound m ∙ ap (λ (x : OwnState). bit (is_resident x)) (sym (own_other w.caches n m (Resident true) d))
+          ];
+          held = right.tied.placed.held;
+          slots = λ s. (
+              let counts : count_by (is_slot s) (own_states (with_own w.caches n (Resident true))) + bit (is_slot s (own_of w.caches n)) ≡ count_by (is_slot s) (own_states w.caches) + 0 = own_count (is_slot s) w.caches n (Resident true) there in
+              omega (arith, bit_false (is_slot s (own_of w.caches n)) (resident_not_slot s (own_of w.caches n) resident), right.tied.placed.slots s));
+          in_slots = (
+              let counts : count_by is_in_slot (own_states (with_own w.caches n (Resident true))) + bit (is_in_slot (own_of w.caches n)) ≡ count_by is_in_slot (own_states w.caches) + 0 = own_count is_in_slot w.caches n (Resident true) there in
+              omega (arith, bit_false (is_in_slot (own_of w.caches n)) (resident_not_in_slot (own_of w.caches n) resident), right.tied.placed.in_slots));
+        };
+        backed = record {
+          there = right.tied.backed.there;
+          temporary = temporary_after w n (Resident true) right refl;
+        };
+        fitted = right.tied.fitted;
       };
       capacity = omega (arith, own_length w.caches n (Resident true) there, right.capacity);
     };
@@ -87,8 +86,8 @@ told_by w n right there Zero e q is = let same : option_map (λ _. zero_page w) 
 told_by w n right there (Resident d) e q is = let same : option_map (λ _. frame_page w n) w.told ≡ q = cc is in ap is_some (sym same) ∙ some_told w.told (frame_page w n)
 told_by w n right there (Slot s) e q is =
     let same : option_and_then (λ h. slot_of h s.0) w.told ≡ q = cc is in
-    ap is_some (sym same) ∙ slot_told w.told s.0 (right.tied.there s.0 (slot_is_held w n s right there e))
-told_by w n right there OnSegment e q is = absurd (let out : is_on_segment (own_of w.caches n) ≡ true = ap is_on_segment e in let no = right.tied.temporary n in cc)
+    ap is_some (sym same) ∙ slot_told w.told s.0 (right.tied.backed.there s.0 (slot_is_held w n s right there e))
+told_by w n right there OnSegment e q is = absurd (let out : is_on_segment (own_of w.caches n) ≡ true = ap is_on_segment e in let no = right.tied.backed.temporary n in cc)
 
 told_alike : (a b : Option Held) (x : List ℕ) → is_some (option_map (λ _. x) a) ≡ is_some b → option_map (λ _. x) a ≡ option_map (λ _. x) b
 told_alike None None x e = refl

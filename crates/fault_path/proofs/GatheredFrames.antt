@@ -29,10 +29,10 @@ bound_of false p e h = absurd (cc)
 -- Frame h, which no one pinned, was pinned for the time in which another was made free.
 module _ (old w : World) (h : ℕ) (right : IsStoreRight old) (held : is_held old.frames h ≡ true) (loose : is_pinned old.frames h ≡ false) (still : Still (pin_set old h true) w) where
   within : h < length old.frames.pinned
-  within = omega (arith, true_below old.frames.held h held, right.tied.pinned_frames)
+  within = omega (arith, true_below old.frames.held h held, right.tied.fitted.pinned_frames)
 
   is_bound_h : is_bound old h ≡ true
-  is_bound_h = bound_of (is_bound old h) (is_pinned old.frames h) loose (sym held ∙ right.tied.held h)
+  is_bound_h = bound_of (is_bound old h) (is_pinned old.frames h) loose (sym held ∙ right.tied.placed.held h)
 
   pinned_h : get_or (set old.frames.pinned h true) h false ≡ true
   pinned_h = get_or-set_same old.frames.pinned h true false within
@@ -72,7 +72,7 @@ module _ (old w : World) (h : ℕ) (right : IsStoreRight old) (held : is_held ol
       taken = record {
         within = omega (arith, free.within, still.stays.frames);
         pinned = get_or-set_other w.frames.pinned h f false false apart ∙ ap (λ ps. get_or ps f false) free.pinned
-            ∙ get_or-set_same (set old.frames.pinned h true) f true false (omega (arith, free.within, right.tied.pinned_frames, length-set old.frames.pinned h true));
+            ∙ get_or-set_same (set old.frames.pinned h true) f true false (omega (arith, free.within, right.tied.fitted.pinned_frames, length-set old.frames.pinned h true));
         unbound = free.unbound;
       };
       loose = sym (get_or-set_other old.frames.pinned h f true false apart) ∙ free.loose;
@@ -85,7 +85,7 @@ free_gathered old w f right still free = record {
   still = still;
   taken = record {
     within = omega (arith, free.within, still.stays.frames);
-    pinned = ap (λ ps. get_or ps f false) free.pinned ∙ get_or-set_same old.frames.pinned f true false (omega (arith, free.within, right.tied.pinned_frames));
+    pinned = ap (λ ps. get_or ps f false) free.pinned ∙ get_or-set_same old.frames.pinned f true false (omega (arith, free.within, right.tied.fitted.pinned_frames));
     unbound = free.unbound;
   };
   loose = free.loose;

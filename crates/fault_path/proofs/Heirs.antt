@@ -43,7 +43,7 @@ heir_absent a sound x h held is = absent_page (own_of a h) (sym (ap (λ k. k.own
 
 -- who has no own page is bound to no frame
 pub unbound : (w : World) → IsStoreRight w → (n : NodeId) → own_of w.caches n ≡ Absent → bound_times w.map n.0 ≡ 0
-unbound w right n absent = right.tied.bound n ∙ ap (λ (x : OwnState). bit (is_resident x)) absent
+unbound w right n absent = right.tied.placed.bound n ∙ ap (λ (x : OwnState). bit (is_resident x)) absent
 
 pub has_own : (w : World) (n : NodeId) → is_absent (own_of w.caches n) ≡ false → is_some (own_page w n) ≡ true
 has_own w n e = tells w n ∙ some_page (own_of w.caches n) e

@@ -66,7 +66,7 @@ module _ (w : World) (f : ℕ) (n : NodeId) (right : IsStoreRight w) (taken : Is
       elsewhere = homed_other w f n right taken there absent b in_b;
       resident = in_b.own n ∙ own_same w.caches n (Resident true);
       others = λ m d. in_b.own m ∙ own_other w.caches n m (Resident true) d;
-      node = get_or-set_same w.map f (Some n) None (omega (arith, taken.within, right.tied.map_frames));
+      node = get_or-set_same w.map f (Some n) None (omega (arith, taken.within, right.tied.fitted.map_frames));
       nodes = λ g d. get_or-set_other w.map f g (Some n) None d;
       pinned = homed_pinned w f n right taken there absent b in_b;
       pins = refl;

@@ -19,18 +19,17 @@ use Rattle.vm_ids.proofs.Places.{bit}
 pub caches_right : (w : World) (b : Arena) → IsStoreRight w → ((n : NodeId) → own_of b n ≡ own_of w.caches n) → own_states b ≡ own_states w.caches → IsStoreRight (record w { caches = b })
 caches_right w b right owns states = record {
   tied = record {
-    bound = λ n. right.tied.bound n ∙ ap (λ (x : OwnState). bit (is_resident x)) (sym (owns n));
-    held = right.tied.held;
-    slots = λ s. ap (λ (xs : List OwnState). count_by (is_slot s) xs) states ∙ right.tied.slots s;
-    in_slots = right.tied.in_slots ∙ ap (λ (xs : List OwnState). count_by is_in_slot xs) (sym states);
-    there = right.tied.there;
-    temporary = λ n. ap is_on_segment (owns n) ∙ right.tied.temporary n;
-    map_frames = right.tied.map_frames;
-    bytes_frames = right.tied.bytes_frames;
-    pinned_frames = right.tied.pinned_frames;
-    marks_frames = right.tied.marks_frames;
-    few = right.tied.few;
-    page = right.tied.page;
+    placed = record {
+      bound = λ n. right.tied.placed.bound n ∙ ap (λ (x : OwnState). bit (is_resident x)) (sym (owns n));
+      held = right.tied.placed.held;
+      slots = λ s. ap (λ (xs : List OwnState). count_by (is_slot s) xs) states ∙ right.tied.placed.slots s;
+      in_slots = right.tied.placed.in_slots ∙ ap (λ (xs : List OwnState). count_by is_in_slot xs) (sym states);
+    };
+    backed = record {
+      there = right.tied.backed.there;
+      temporary = λ n. ap is_on_segment (owns n) ∙ right.tied.backed.temporary n;
+    };
+    fitted = right.tied.fitted;
   };
   capacity = omega (arith, right.capacity, ap (λ (xs : List OwnState). length xs) states);
 }

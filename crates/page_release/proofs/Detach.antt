@@ -58,7 +58,7 @@ module _ (s : Store) (a : Arena) (d : NodeId) (free : find a d ≡ None) (cache 
 
   pub fresh_named : IsStoreTied s a → PinnedStayNamed s a c
   fresh_named tied f n pin at =
-      let within : f < length s.map = omega (arith, true_below s.frames.pinned f pin, tied.pinned_frames, tied.map_frames) in
+      let within : f < length s.map = omega (arith, true_below s.frames.pinned f pin, tied.fitted.pinned_frames, tied.fitted.map_frames) in
       let there : IsHeld a n = (home (world None None a s) f n tied within at).there in
       ap (λ k. name_of k n) is ∙ fresh_name_other a d free (Live cache no) state n (other_node a d free (Live cache no) state n there)
 

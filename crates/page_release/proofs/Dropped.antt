@@ -29,14 +29,14 @@ module _ (w : World) (b : Arena) (n : NodeId) (right : IsTied w) (went : Went w.
   temporary : (m : NodeId) → is_on_segment (own_of b m) ≡ false
   temporary m = elim (id_cases m n) [
     | inl e ↦ ap is_on_segment (ap (own_of b) e ∙ gone_own b n went.gone)
-    | inr d ↦ ap is_on_segment (others m d) ∙ right.temporary m
+    | inr d ↦ ap is_on_segment (others m d) ∙ right.backed.temporary m
   ]
 
   gone_bit : (m : NodeId) → m ≡ n → bit (is_resident (own_of b m)) ≡ 0
   gone_bit m e = ap (λ (x : OwnState). bit (is_resident x)) (ap (own_of b) e ∙ gone_own b n went.gone)
 
   unbound : is_resident (own_of w.caches n) ≡ false → (m : NodeId) → bound_times w.map m.0 ≡ bit (is_resident (own_of b m))
-  unbound away m = right.bound m ∙ elim (id_cases m n) [
+  unbound away m = right.placed.bound m ∙ elim (id_cases m n) [
     | inl e ↦ ap (λ (k : NodeId). bit (is_resident (own_of w.caches k))) e ∙ ap bit away ∙ sym (gone_bit m e)
     | inr d ↦ ap (λ (x : OwnState). bit (is_resident x)) (sym (others m d))
   ]
@@ -63,7 +63,7 @@ module _ (w : World) (b : Arena) (n : NodeId) (right : IsTied w) (went : Went w.
           | inr d ↦ (
               let now : bit (is_resident (own_of b m)) ≡ bit (is_resident (own_of w.caches m)) = ap (λ (x : OwnState). bit (is_resident x)) (others m d) in
               let here : is_node m.0 (get_or w.map f None) ≡ false = sym (other_there m d) in
-              omega (arith, bit_false (is_node m.0 (get_or w.map f None)) here, right.bound m))
+              omega (arith, bit_false (is_node m.0 (get_or w.map f None)) here, right.placed.bound m))
         ]
 
     same_count : (p : OwnState → Bool) → p (own_of w.caches n) ≡ false → count_by p (own_states b) ≡ count_by p (own_states w.caches)
@@ -71,18 +71,24 @@ module _ (w : World) (b : Arena) (n : NodeId) (right : IsTied w) (went : Went w.
 
     pub framed_right : IsTied (record w { caches = b; map = set w.map (frame_of w.map n.0) None; frames = record w.frames { held = set w.frames.held (frame_of w.map n.0) false } })
     framed_right = record {
-      bound = bound;
-      held = held_after w f n right at loose;
-      slots = λ s. same_count (is_slot s) (resident_not_slot s (own_of w.caches n) resident) ∙ right.slots s;
-      in_slots = right.in_slots ∙ sym (same_count is_in_slot (resident_not_in_slot (own_of w.caches n) resident));
-      there = right.there;
-      temporary = temporary;
-      map_frames = length-set w.map f None ∙ right.map_frames ∙ sym (length-set w.frames.held f false);
-      bytes_frames = right.bytes_frames ∙ sym (length-set w.frames.held f false);
-      pinned_frames = right.pinned_frames ∙ sym (length-set w.frames.held f false);
-      marks_frames = right.marks_frames ∙ sym (length-set w.frames.held f false);
-      few = omega (arith, length-set w.frames.held f false, right.few);
-      page = right.page;
+      placed = record {
+        bound = bound;
+        held = held_after w f n right at loose;
+        slots = λ s. same_count (is_slot s) (resident_not_slot s (own_of w.caches n) resident) ∙ right.placed.slots s;
+        in_slots = right.placed.in_slots ∙ sym (same_count is_in_slot (resident_not_in_slot (own_of w.caches n) resident));
+      };
+      backed = record {
+        there = right.backed.there;
+        temporary = temporary;
+      };
+      fitted = record {
+        map_frames = length-set w.map f None ∙ right.fitted.map_frames ∙ sym (length-set w.frames.held f false);
+        bytes_frames = right.fitted.bytes_frames ∙ sym (length-set w.frames.held f false);
+        pinned_frames = right.fitted.pinned_frames ∙ sym (length-set w.frames.held f false);
+        marks_frames = right.fitted.marks_frames ∙ sym (length-set w.frames.held f false);
+        few = omega (arith, length-set w.frames.held f false, right.fitted.few);
+        page = right.fitted.page;
+      };
     }
 
     page_same : (m : NodeId) (x : OwnState) → m ≢ n
@@ -111,34 +117,33 @@ module _ (w : World) (b : Arena) (n : NodeId) (right : IsTied w) (went : Went w.
               let now : get_or (set w.slots s.0 false) k false ≡ false = ap (λ (j : ℕ). get_or (set w.slots s.0 false) j false) q ∙ get_or-set_same w.slots s.0 false false (true_below w.slots s.0 held) in
               let this : is_slot k (own_of w.caches n) ≡ true = was ∙ ap (λ (j : ℕ). s.0 == j) q ∙ same_number s.0 in
               let before : is_slot_held w k ≡ true = ap (is_slot_held w) q ∙ held in
-              omega (arith, bit_true (is_slot k (own_of w.caches n)) this, bit_false (get_or (set w.slots s.0 false) k false) now, bit_true (is_slot_held w k) before, right.slots k))
+              omega (arith, bit_true (is_slot k (own_of w.caches n)) this, bit_false (get_or (set w.slots s.0 false) k false) now, bit_true (is_slot_held w k) before, right.placed.slots k))
           | inr d ↦ (
               let now : bit (get_or (set w.slots s.0 false) k false) ≡ bit (is_slot_held w k) = ap bit (get_or-set_other w.slots s.0 k false false d) in
               let this : is_slot k (own_of w.caches n) ≡ false = was ∙ other_number s.0 k (λ e. d (sym e)) in
-              omega (arith, bit_false (is_slot k (own_of w.caches n)) this, right.slots k))
+              omega (arith, bit_false (is_slot k (own_of w.caches n)) this, right.placed.slots k))
         ]
 
     pub slotted_right : IsTied (record w { caches = b; slots = set w.slots s.0 false })
     slotted_right = record {
-      bound = unbound (ap is_resident in_slot);
-      held = right.held;
-      slots = slots_after;
-      in_slots = (
-          let counts : count_by is_in_slot (own_states w.caches) ≡ bit (is_in_slot (own_of w.caches n)) + count_by is_in_slot (own_states b) = went_count is_in_slot w.caches b n went others in
-          let was : is_in_slot (own_of w.caches n) ≡ true = ap is_in_slot in_slot in
-          let given : swap.held_count (set w.slots s.0 false) + bit (get_or w.slots s.0 false) ≡ swap.held_count w.slots + 0 = count-set (λ h. h) w.slots s.0 false false (true_below w.slots s.0 held) in
-          omega (arith, bit_true (is_in_slot (own_of w.caches n)) was, bit_true (get_or w.slots s.0 false) held, right.in_slots));
-      there = λ k h. right.there k (elim (cases_eq k s.0) [
-        | inl q ↦ ap (is_slot_held w) q ∙ held
-        | inr d ↦ sym (get_or-set_other w.slots s.0 k false false d) ∙ h
-      ]);
-      temporary = temporary;
-      map_frames = right.map_frames;
-      bytes_frames = right.bytes_frames;
-      pinned_frames = right.pinned_frames;
-      marks_frames = right.marks_frames;
-      few = right.few;
-      page = right.page;
+      placed = record {
+        bound = unbound (ap is_resident in_slot);
+        held = right.placed.held;
+        slots = slots_after;
+        in_slots = (
+            let counts : count_by is_in_slot (own_states w.caches) ≡ bit (is_in_slot (own_of w.caches n)) + count_by is_in_slot (own_states b) = went_count is_in_slot w.caches b n went others in
+            let was : is_in_slot (own_of w.caches n) ≡ true = ap is_in_slot in_slot in
+            let given : swap.held_count (set w.slots s.0 false) + bit (get_or w.slots s.0 false) ≡ swap.held_count w.slots + 0 = count-set (λ h. h) w.slots s.0 false false (true_below w.slots s.0 held) in
+            omega (arith, bit_true (is_in_slot (own_of w.caches n)) was, bit_true (get_or w.slots s.0 false) held, right.placed.in_slots));
+      };
+      backed = record {
+        there = λ k h. right.backed.there k (elim (cases_eq k s.0) [
+          | inl q ↦ ap (is_slot_held w) q ∙ held
+          | inr d ↦ sym (get_or-set_other w.slots s.0 k false false d) ∙ h
+        ]);
+        temporary = temporary;
+      };
+      fitted = right.fitted;
     }
 
   -- a page in neither, or no page
@@ -152,18 +157,17 @@ module _ (w : World) (b : Arena) (n : NodeId) (right : IsTied w) (went : Went w.
 
     pub plain_right : IsTied (record w { caches = b })
     plain_right = record {
-      bound = unbound away;
-      held = right.held;
-      slots = λ s. omega (arith, went_count (is_slot s) w.caches b n went others, bit_false (is_slot s (own_of w.caches n)) (no_slot s (own_of w.caches n) out), right.slots s);
-      in_slots = omega (arith, went_count is_in_slot w.caches b n went others, bit_false (is_in_slot (own_of w.caches n)) out, right.in_slots);
-      there = right.there;
-      temporary = temporary;
-      map_frames = right.map_frames;
-      bytes_frames = right.bytes_frames;
-      pinned_frames = right.pinned_frames;
-      marks_frames = right.marks_frames;
-      few = right.few;
-      page = right.page;
+      placed = record {
+        bound = unbound away;
+        held = right.placed.held;
+        slots = λ s. omega (arith, went_count (is_slot s) w.caches b n went others, bit_false (is_slot s (own_of w.caches n)) (no_slot s (own_of w.caches n) out), right.placed.slots s);
+        in_slots = omega (arith, went_count is_in_slot w.caches b n went others, bit_false (is_in_slot (own_of w.caches n)) out, right.placed.in_slots);
+      };
+      backed = record {
+        there = right.backed.there;
+        temporary = temporary;
+      };
+      fitted = right.fitted;
     }
 
   -- all other pages stay, where frames do

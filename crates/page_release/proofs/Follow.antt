@@ -40,18 +40,17 @@ module _ (w : World) (b : Arena) (tied : IsTied w) where
   module _ (still : IsStill w.caches b) where
     still_tied : IsTied (record w { caches = b })
     still_tied = record {
-      bound = λ n. tied.bound n ∙ ap (λ (x : OwnState). bit (is_resident x)) (sym (still.own n));
-      held = tied.held;
-      slots = λ s. ap (λ (xs : List OwnState). count_by (is_slot s) xs) states ∙ tied.slots s;
-      in_slots = tied.in_slots ∙ ap (λ (xs : List OwnState). count_by is_in_slot xs) (sym states);
-      there = tied.there;
-      temporary = λ n. ap is_on_segment (still.own n) ∙ tied.temporary n;
-      map_frames = tied.map_frames;
-      bytes_frames = tied.bytes_frames;
-      pinned_frames = tied.pinned_frames;
-      marks_frames = tied.marks_frames;
-      few = tied.few;
-      page = tied.page;
+      placed = record {
+        bound = λ n. tied.placed.bound n ∙ ap (λ (x : OwnState). bit (is_resident x)) (sym (still.own n));
+        held = tied.placed.held;
+        slots = λ s. ap (λ (xs : List OwnState). count_by (is_slot s) xs) states ∙ tied.placed.slots s;
+        in_slots = tied.placed.in_slots ∙ ap (λ (xs : List OwnState). count_by is_in_slot xs) (sym states);
+      };
+      backed = record {
+        there = tied.backed.there;
+        temporary = λ n. ap is_on_segment (still.own n) ∙ tied.backed.temporary n;
+      };
+      fitted = tied.fitted;
     }
       where
         states : own_states b ≡ own_states w.caches
@@ -205,14 +204,14 @@ module _ (s : Store) (a b : Arena) (tied : IsTied (world None None a s)) where
   can_leave n (Resident t) was e loose =
       let at : IsHome w (frame_of s.map n.0) n = resident_home w n tied (ap is_resident e) in
       let bound : is_bound w (frame_of s.map n.0) ≡ true = ap is_some at.node in
-      (at.once, tied.held (frame_of s.map n.0) ∙ ap (λ (t : Bool). t || is_pinned s.frames (frame_of s.map n.0)) bound, loose)
+      (at.once, tied.placed.held (frame_of s.map n.0) ∙ ap (λ (t : Bool). t || is_pinned s.frames (frame_of s.map n.0)) bound, loose)
   can_leave n (Slot k) was e loose = slot_is_held w n k tied was e
   can_leave n OnSegment was e loose = tt
 
   can_move : (from to : NodeId) (x : OwnState) → own_of a from ≡ x → own_of a to ≡ Absent → CanMove s from to x
   can_move from to Absent e absent = tt
   can_move from to Zero e absent = tt
-  can_move from to (Resident t) e absent = ((resident_home w from tied (ap is_resident e)).once, tied.bound to ∙ ap (λ (x : OwnState). bit (is_resident x)) absent)
+  can_move from to (Resident t) e absent = ((resident_home w from tied (ap is_resident e)).once, tied.placed.bound to ∙ ap (λ (x : OwnState). bit (is_resident x)) absent)
   can_move from to (Slot k) e absent = tt
   can_move from to OnSegment e absent = tt
 

@@ -39,7 +39,7 @@ node_is n (Some k) e = ap Some (number k n e)
 -- a resident node stands at its frame
 pub resident_home : (w : World) (n : NodeId) → IsTied w → is_resident (own_of w.caches n) ≡ true → IsHome w (frame_of w.map n.0) n
 resident_home w n right resident =
-    let some : 1 ≤ bound_times w.map n.0 = omega (arith, right.bound n, bit_true (is_resident (own_of w.caches n)) resident) in
+    let some : 1 ≤ bound_times w.map n.0 = omega (arith, right.placed.bound n, bit_true (is_resident (own_of w.caches n)) resident) in
     let within : frame_of w.map n.0 < length w.map = some_place (is_node n.0) w.map some in
     let here : is_node n.0 (get_or w.map (frame_of w.map n.0) None) ≡ true = passes_at_first (is_node n.0) w.map None (some_place (is_node n.0) w.map some) in
     home w (frame_of w.map n.0) n right within (node_is n (get_or w.map (frame_of w.map n.0) None) here)
@@ -77,8 +77,8 @@ module _ (w : World) (b : Arena) (from to : NodeId) (right : IsTied w) (went : W
   temporary m = elim (id_cases m from) [
     | inl e ↦ ap is_on_segment (ap (own_of b) e ∙ gone_own b from went.gone)
     | inr d ↦ elim (id_cases m to) [
-      | inl e ↦ ap is_on_segment (ap (own_of b) e ∙ moved) ∙ right.temporary from
-      | inr other ↦ ap is_on_segment (others m d other) ∙ right.temporary m
+      | inl e ↦ ap is_on_segment (ap (own_of b) e ∙ moved) ∙ right.backed.temporary from
+      | inr other ↦ ap is_on_segment (others m d other) ∙ right.backed.temporary m
     ]
   ]
 
@@ -94,7 +94,7 @@ module _ (w : World) (b : Arena) (from to : NodeId) (right : IsTied w) (went : W
     rekeyed = record w { caches = b; map = set w.map (frame_of w.map from.0) (Some to) }
 
     none_to : bound_times w.map to.0 ≡ 0
-    none_to = right.bound to ∙ ap (λ (x : OwnState). bit (is_resident x)) absent
+    none_to = right.placed.bound to ∙ ap (λ (x : OwnState). bit (is_resident x)) absent
 
     times : (m : NodeId) → bound_times (set w.map (frame_of w.map from.0) (Some to)) m.0 + bit (is_node m.0 (get_or w.map (frame_of w.map from.0) None)) ≡ bound_times w.map m.0 + bit (to.0 == m.0)
     times m = count-set (is_node m.0) w.map f (Some to) None at.frame
@@ -118,27 +118,33 @@ module _ (w : World) (b : Arena) (from to : NodeId) (right : IsTied w) (went : W
             | inr other ↦ (
                 let this : (to.0 == m.0) ≡ false = other_number to.0 m.0 (λ q. id_apart m to other (sym q)) in
                 let now : bit (is_resident (own_of b m)) ≡ bit (is_resident (own_of w.caches m)) = ap (λ (x : OwnState). bit (is_resident x)) (others m d other) in
-                omega (arith, times m, bit_false (is_node m.0 (get_or w.map f None)) here, bit_false (to.0 == m.0) this, right.bound m))
+                omega (arith, times m, bit_false (is_node m.0 (get_or w.map f None)) here, bit_false (to.0 == m.0) this, right.placed.bound m))
           ])
     ]
 
     pub rekeyed_right : IsTied (record w { caches = b; map = set w.map (frame_of w.map from.0) (Some to) })
     rekeyed_right = record {
-      bound = bound;
-      held = λ g. right.held g ∙ ap (λ (t : Bool). t || is_pinned w.frames g) (elim (cases_eq g f) [
-        | inl e ↦ ap (λ (k : ℕ). is_bound w k) e ∙ ap is_some at.node ∙ sym (ap (λ (k : ℕ). is_some (get_or (set w.map f (Some to)) k None)) e ∙ ap is_some (get_or-set_same w.map f (Some to) None at.frame))
-        | inr d ↦ ap is_some (sym (get_or-set_other w.map f g (Some to) None d))
-      ]);
-      slots = λ s. moved_count (is_slot s) refl ∙ right.slots s;
-      in_slots = right.in_slots ∙ sym (moved_count is_in_slot refl);
-      there = right.there;
-      temporary = temporary;
-      map_frames = length-set w.map f (Some to) ∙ right.map_frames;
-      bytes_frames = right.bytes_frames;
-      pinned_frames = right.pinned_frames;
-      marks_frames = right.marks_frames;
-      few = right.few;
-      page = right.page;
+      placed = record {
+        bound = bound;
+        held = λ g. right.placed.held g ∙ ap (λ (t : Bool). t || is_pinned w.frames g) (elim (cases_eq g f) [
+          | inl e ↦ ap (λ (k : ℕ). is_bound w k) e ∙ ap is_some at.node ∙ sym (ap (λ (k : ℕ). is_some (get_or (set w.map f (Some to)) k None)) e ∙ ap is_some (get_or-set_same w.map f (Some to) None at.frame))
+          | inr d ↦ ap is_some (sym (get_or-set_other w.map f g (Some to) None d))
+        ]);
+        slots = λ s. moved_count (is_slot s) refl ∙ right.placed.slots s;
+        in_slots = right.placed.in_slots ∙ sym (moved_count is_in_slot refl);
+      };
+      backed = record {
+        there = right.backed.there;
+        temporary = temporary;
+      };
+      fitted = record {
+        map_frames = length-set w.map f (Some to) ∙ right.fitted.map_frames;
+        bytes_frames = right.fitted.bytes_frames;
+        pinned_frames = right.fitted.pinned_frames;
+        marks_frames = right.fitted.marks_frames;
+        few = right.fitted.few;
+        page = right.fitted.page;
+      };
     }
 
     -- the page goes with it, and every other one stays
@@ -173,24 +179,23 @@ module _ (w : World) (b : Arena) (from to : NodeId) (right : IsTied w) (went : W
   module _ (away : is_resident (own_of w.caches from) ≡ false) where
     pub moved_right : IsTied (record w { caches = b })
     moved_right = record {
-      bound = λ m. right.bound m ∙ elim (id_cases m from) [
-        | inl e ↦ ap (λ (k : NodeId). bit (is_resident (own_of w.caches k))) e ∙ ap bit away ∙ sym (ap (λ (x : OwnState). bit (is_resident x)) (ap (own_of b) e ∙ gone_own b from went.gone))
-        | inr d ↦ elim (id_cases m to) [
-          | inl e ↦ ap (λ (k : NodeId). bit (is_resident (own_of w.caches k))) e ∙ ap (λ (x : OwnState). bit (is_resident x)) absent ∙ sym (ap (λ (x : OwnState). bit (is_resident x)) (ap (own_of b) e ∙ moved) ∙ ap bit away)
-          | inr other ↦ ap (λ (x : OwnState). bit (is_resident x)) (sym (others m d other))
-        ]
-      ];
-      held = right.held;
-      slots = λ s. moved_count (is_slot s) refl ∙ right.slots s;
-      in_slots = right.in_slots ∙ sym (moved_count is_in_slot refl);
-      there = right.there;
-      temporary = temporary;
-      map_frames = right.map_frames;
-      bytes_frames = right.bytes_frames;
-      pinned_frames = right.pinned_frames;
-      marks_frames = right.marks_frames;
-      few = right.few;
-      page = right.page;
+      placed = record {
+        bound = λ m. right.placed.bound m ∙ elim (id_cases m from) [
+          | inl e ↦ ap (λ (k : NodeId). bit (is_resident (own_of w.caches k))) e ∙ ap bit away ∙ sym (ap (λ (x : OwnState). bit (is_resident x)) (ap (own_of b) e ∙ gone_own b from went.gone))
+          | inr d ↦ elim (id_cases m to) [
+            | inl e ↦ ap (λ (k : NodeId). bit (is_resident (own_of w.caches k))) e ∙ ap (λ (x : OwnState). bit (is_resident x)) absent ∙ sym (ap (λ (x : OwnState). bit (is_resident x)) (ap (own_of b) e ∙ moved) ∙ ap bit away)
+            | inr other ↦ ap (λ (x : OwnState). bit (is_resident x)) (sym (others m d other))
+          ]
+        ];
+        held = right.placed.held;
+        slots = λ s. moved_count (is_slot s) refl ∙ right.placed.slots s;
+        in_slots = right.placed.in_slots ∙ sym (moved_count is_in_slot refl);
+      };
+      backed = record {
+        there = right.backed.there;
+        temporary = temporary;
+      };
+      fitted = right.fitted;
     }
 
     away_page : (z k l : Option (List ℕ)) (s : ℕ → Option (List ℕ)) (g : Option (List ℕ)) (x : OwnState) → is_resident x ≡ false → page_by z k s g x ≡ page_by z l s g x

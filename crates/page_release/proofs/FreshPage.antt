@@ -77,24 +77,23 @@ module _ (a : Arena) (d : NodeId) (free : find a d ≡ None) (x : NodeName) (s :
 
     fresh_tied : IsTied w → IsTied (record w { caches = with_new a d x s })
     fresh_tied fit = record {
-      bound = λ m. fit.bound m ∙ ap (λ (t : OwnState). bit (is_resident t)) (was m) ∙ elim (id_cases m d) [
-        | inl e ↦ ap (λ (k : NodeId). bit (is_resident (own_of a k))) e ∙ ap (λ (t : OwnState). bit (is_resident t)) (gone_own a d free) ∙ sym (ap (λ (k : NodeId). bit (is_resident (own_of b k))) e ∙ ap (λ (t : OwnState). bit (is_resident t)) (fresh_own a d free x s) ∙ ap bit (not_resident s unstored))
-        | inr ne ↦ ap (λ (t : OwnState). bit (is_resident t)) (sym (fresh_own_other a d free x s m ne))
-      ];
-      held = fit.held;
-      slots = λ k. same_count (is_slot k) (not_slot k s unstored) ∙ fit.slots k;
-      in_slots = fit.in_slots ∙ sym (same_count is_in_slot (not_in_slot s unstored));
-      there = fit.there;
-      temporary = λ m. elim (id_cases m d) [
-        | inl e ↦ ap (λ (k : NodeId). is_on_segment (own_of b k)) e ∙ ap is_on_segment (fresh_own a d free x s) ∙ not_on_segment s unstored
-        | inr ne ↦ ap is_on_segment (fresh_own_other a d free x s m ne ∙ sym (was m)) ∙ fit.temporary m
-      ];
-      map_frames = fit.map_frames;
-      bytes_frames = fit.bytes_frames;
-      pinned_frames = fit.pinned_frames;
-      marks_frames = fit.marks_frames;
-      few = fit.few;
-      page = fit.page;
+      placed = record {
+        bound = λ m. fit.placed.bound m ∙ ap (λ (t : OwnState). bit (is_resident t)) (was m) ∙ elim (id_cases m d) [
+          | inl e ↦ ap (λ (k : NodeId). bit (is_resident (own_of a k))) e ∙ ap (λ (t : OwnState). bit (is_resident t)) (gone_own a d free) ∙ sym (ap (λ (k : NodeId). bit (is_resident (own_of b k))) e ∙ ap (λ (t : OwnState). bit (is_resident t)) (fresh_own a d free x s) ∙ ap bit (not_resident s unstored))
+          | inr ne ↦ ap (λ (t : OwnState). bit (is_resident t)) (sym (fresh_own_other a d free x s m ne))
+        ];
+        held = fit.placed.held;
+        slots = λ k. same_count (is_slot k) (not_slot k s unstored) ∙ fit.placed.slots k;
+        in_slots = fit.placed.in_slots ∙ sym (same_count is_in_slot (not_in_slot s unstored));
+      };
+      backed = record {
+        there = fit.backed.there;
+        temporary = λ m. elim (id_cases m d) [
+          | inl e ↦ ap (λ (k : NodeId). is_on_segment (own_of b k)) e ∙ ap is_on_segment (fresh_own a d free x s) ∙ not_on_segment s unstored
+          | inr ne ↦ ap is_on_segment (fresh_own_other a d free x s m ne ∙ sym (was m)) ∙ fit.backed.temporary m
+        ];
+      };
+      fitted = fit.fitted;
     }
 
     pub fresh_gives : IsTied w → GivesBack w (record w { caches = with_new a d x s })

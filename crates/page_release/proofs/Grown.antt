@@ -44,18 +44,17 @@ pub record SameStates (a b : Arena) : Type 0 where
 module _ (w : World) (b : Arena) (same : SameStates w.caches b) where
   states_tied : IsTied w → IsTied (record w { caches = b })
   states_tied fit = record {
-    bound = λ n. fit.bound n ∙ ap (λ (x : OwnState). bit (is_resident x)) (sym (same.own n));
-    held = fit.held;
-    slots = λ s. same.count (is_slot s) refl ∙ fit.slots s;
-    in_slots = fit.in_slots ∙ sym (same.count is_in_slot refl);
-    there = fit.there;
-    temporary = λ n. ap is_on_segment (same.own n) ∙ fit.temporary n;
-    map_frames = fit.map_frames;
-    bytes_frames = fit.bytes_frames;
-    pinned_frames = fit.pinned_frames;
-    marks_frames = fit.marks_frames;
-    few = fit.few;
-    page = fit.page;
+    placed = record {
+      bound = λ n. fit.placed.bound n ∙ ap (λ (x : OwnState). bit (is_resident x)) (sym (same.own n));
+      held = fit.placed.held;
+      slots = λ s. same.count (is_slot s) refl ∙ fit.placed.slots s;
+      in_slots = fit.placed.in_slots ∙ sym (same.count is_in_slot refl);
+    };
+    backed = record {
+      there = fit.backed.there;
+      temporary = λ n. ap is_on_segment (same.own n) ∙ fit.backed.temporary n;
+    };
+    fitted = fit.fitted;
   }
 
   pub states_gives : IsTied w → GivesBack w (record w { caches = b })
@@ -185,7 +184,7 @@ module _ (a b : Arena) (sound : IsSound a) (after : IsSound b) (grown : IsGrown 
 
   pub grown_named : (s : Store) → IsStoreTied s a → PinnedStayNamed s a b
   grown_named s tied f n pin at =
-      let within : f < length s.map = omega (arith, true_below s.frames.pinned f pin, tied.pinned_frames, tied.map_frames) in
+      let within : f < length s.map = omega (arith, true_below s.frames.pinned f pin, tied.fitted.pinned_frames, tied.fitted.map_frames) in
       grown.names n (home (world None None a s) f n tied within at).there
 
   pub linked_forest : (s : Store) → ForAnyMapper s a s b (λ old new. store_forest new ≡ link (store_forest old) d o)

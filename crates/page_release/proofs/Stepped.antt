@@ -33,7 +33,7 @@ loose_frame s a n tied none = go (is_pinned s.frames (frame_of s.map n.0)) refl
     go : (t : Bool) → is_pinned s.frames (frame_of s.map n.0) ≡ t → is_pinned s.frames (frame_of s.map n.0) ≡ false
     go false e = e
     go true e =
-        let within : frame_of s.map n.0 < length s.map = omega (arith, true_below s.frames.pinned (frame_of s.map n.0) e, tied.pinned_frames, tied.map_frames) in
+        let within : frame_of s.map n.0 < length s.map = omega (arith, true_below s.frames.pinned (frame_of s.map n.0) e, tied.fitted.pinned_frames, tied.fitted.map_frames) in
         let here : is_node n.0 (get_or s.map (frame_of s.map n.0) None) ≡ true = passes_at_first (is_node n.0) s.map None within in
         absurd (none (frame_of s.map n.0) e (node_is n (get_or s.map (frame_of s.map n.0) None) here))
 

@@ -27,7 +27,7 @@ pub home : (w : World) (f : ℕ) (n : NodeId) → IsTied w → f < length w.map 
 home w f n tied frame node =
     let here : is_node n.0 (node_of w.map f) ≡ true = ap (is_node n.0) node ∙ same_number n.0 in
     let some : 1 ≤ bound_times w.map n.0 = count_some (is_node n.0) w.map f None frame here in
-    let times : bound_times w.map n.0 ≡ bit (is_resident (own_of w.caches n)) = tied.bound n in
+    let times : bound_times w.map n.0 ≡ bit (is_resident (own_of w.caches n)) = tied.placed.bound n in
     let resident : is_resident (own_of w.caches n) ≡ true = bit_from (is_resident (own_of w.caches n)) (omega arith) in
     let once : bound_times w.map n.0 ≡ 1 = omega (arith, bit-le (is_resident (own_of w.caches n))) in
     record {
@@ -42,36 +42,37 @@ home w f n tied frame node =
 pub slot_is_held : (w : World) (n : NodeId) (s : SlotId) → IsTied w → IsHeld w.caches n → own_of w.caches n ≡ Slot s → is_slot_held w s.0 ≡ true
 slot_is_held w n s tied there e =
     let here : is_slot s.0 (own_of w.caches n) ≡ true = ap (is_slot s.0) e ∙ same_number s.0 in
-    bit_from (is_slot_held w s.0) (omega (arith, own_some (is_slot s.0) w.caches n there here, tied.slots s.0))
+    bit_from (is_slot_held w s.0) (omega (arith, own_some (is_slot s.0) w.caches n there here, tied.placed.slots s.0))
 
 pub held_after : (w : World) (f : ℕ) (n : NodeId) → IsTied w → IsHome w f n → is_pinned w.frames f ≡ false → (g : ℕ)
     → get_or (set w.frames.held f false) g false ≡ (is_some (get_or (set w.map f None) g None) || is_pinned w.frames g)
 held_after w f n tied h loose g =
-    let within : f < length w.frames.held = omega (arith, h.frame, tied.map_frames) in
+    let within : f < length w.frames.held = omega (arith, h.frame, tied.fitted.map_frames) in
     elim (cases_eq g f) [
       | inl e ↦ (
           let left : get_or (set w.frames.held f false) g false ≡ false = ap (λ (k : ℕ). get_or (set w.frames.held f false) k false) e ∙ get_or-set_same w.frames.held f false false within in
           let unbound : get_or (set w.map f None) g None ≡ None = ap (λ (k : ℕ). get_or (set w.map f None) k None) e ∙ get_or-set_same w.map f None None h.frame in
           let unpinned : is_pinned w.frames g ≡ false = ap (is_pinned w.frames) e ∙ loose in
           left ∙ sym (ap (λ (o : Option NodeId). is_some o || is_pinned w.frames g) unbound ∙ unpinned))
-      | inr d ↦ get_or-set_other w.frames.held f g false false d ∙ tied.held g ∙ ap (λ (o : Option NodeId). is_some o || is_pinned w.frames g) (sym (get_or-set_other w.map f g None None d))
+      | inr d ↦ get_or-set_other w.frames.held f g false false d ∙ tied.placed.held g ∙ ap (λ (o : Option NodeId). is_some o || is_pinned w.frames g) (sym (get_or-set_other w.map f g None None d))
     ]
 
 -- what a mapper holds is no part of it
 pub untold : (told : Option Held) (size : Option ℕ) (a : Arena) (s : Store) → IsTied (world told size a s) → IsStoreTied s a
 untold told size a s tied = record {
-  bound = tied.bound;
-  held = tied.held;
-  slots = tied.slots;
-  in_slots = tied.in_slots;
-  there = λ k h. tt;
-  temporary = tied.temporary;
-  map_frames = tied.map_frames;
-  bytes_frames = tied.bytes_frames;
-  pinned_frames = tied.pinned_frames;
-  marks_frames = tied.marks_frames;
-  few = tied.few;
-  page = tt;
+  placed = tied.placed;
+  backed = record {
+    there = λ k h. tt;
+    temporary = tied.backed.temporary;
+  };
+  fitted = record {
+    map_frames = tied.fitted.map_frames;
+    bytes_frames = tied.fitted.bytes_frames;
+    pinned_frames = tied.fitted.pinned_frames;
+    marks_frames = tied.fitted.marks_frames;
+    few = tied.fitted.few;
+    page = tt;
+  };
 }
 
 -- what the calls of this crate ask of a right store

@@ -54,21 +54,27 @@ or_bound false p q e = absurd (cc)
 pub pin_right : (w : World) (f : ℕ) (t : Bool) → IsStoreRight w → is_bound w f ≡ true → IsStoreRight (pin_set w f t)
 pin_right w f t right bound = record {
   tied = record {
-    bound = right.tied.bound;
-    held = λ g. elim (cases_eq g f) [
-      | inl e ↦ right.tied.held g ∙ or_bound (is_bound w g) (is_pinned w.frames g) (get_or (set w.frames.pinned f t) g false) (ap (is_bound w) e ∙ bound)
-      | inr d ↦ right.tied.held g ∙ ap (λ (b : Bool). is_bound w g || b) (sym (get_or-set_other w.frames.pinned f g t false d))
-    ];
-    slots = right.tied.slots;
-    in_slots = right.tied.in_slots;
-    there = right.tied.there;
-    temporary = right.tied.temporary;
-    map_frames = right.tied.map_frames;
-    bytes_frames = right.tied.bytes_frames;
-    pinned_frames = length-set w.frames.pinned f t ∙ right.tied.pinned_frames;
-    marks_frames = right.tied.marks_frames;
-    few = right.tied.few;
-    page = right.tied.page;
+    placed = record {
+      bound = right.tied.placed.bound;
+      held = λ g. elim (cases_eq g f) [
+        | inl e ↦ right.tied.placed.held g ∙ or_bound (is_bound w g) (is_pinned w.frames g) (get_or (set w.frames.pinned f t) g false) (ap (is_bound w) e ∙ bound)
+        | inr d ↦ right.tied.placed.held g ∙ ap (λ (b : Bool). is_bound w g || b) (sym (get_or-set_other w.frames.pinned f g t false d))
+      ];
+      slots = right.tied.placed.slots;
+      in_slots = right.tied.placed.in_slots;
+    };
+    backed = record {
+      there = right.tied.backed.there;
+      temporary = right.tied.backed.temporary;
+    };
+    fitted = record {
+      map_frames = right.tied.fitted.map_frames;
+      bytes_frames = right.tied.fitted.bytes_frames;
+      pinned_frames = length-set w.frames.pinned f t ∙ right.tied.fitted.pinned_frames;
+      marks_frames = right.tied.fitted.marks_frames;
+      few = right.tied.fitted.few;
+      page = right.tied.fitted.page;
+    };
   };
   capacity = right.capacity;
 }
@@ -77,18 +83,24 @@ pin_right w f t right bound = record {
 pub written_right : (w : World) (f : ℕ) (bytes : List ℕ) → IsStoreRight w → IsStoreRight (record w { frames = with_bytes w.frames f bytes })
 written_right w f bytes right = record {
   tied = record {
-    bound = right.tied.bound;
-    held = right.tied.held;
-    slots = right.tied.slots;
-    in_slots = right.tied.in_slots;
-    there = right.tied.there;
-    temporary = right.tied.temporary;
-    map_frames = right.tied.map_frames;
-    bytes_frames = length-set w.frames.bytes f bytes ∙ right.tied.bytes_frames;
-    pinned_frames = right.tied.pinned_frames;
-    marks_frames = right.tied.marks_frames;
-    few = right.tied.few;
-    page = right.tied.page;
+    placed = record {
+      bound = right.tied.placed.bound;
+      held = right.tied.placed.held;
+      slots = right.tied.placed.slots;
+      in_slots = right.tied.placed.in_slots;
+    };
+    backed = record {
+      there = right.tied.backed.there;
+      temporary = right.tied.backed.temporary;
+    };
+    fitted = record {
+      map_frames = right.tied.fitted.map_frames;
+      bytes_frames = length-set w.frames.bytes f bytes ∙ right.tied.fitted.bytes_frames;
+      pinned_frames = right.tied.fitted.pinned_frames;
+      marks_frames = right.tied.fitted.marks_frames;
+      few = right.tied.fitted.few;
+      page = right.tied.fitted.page;
+    };
   };
   capacity = right.capacity;
 }
@@ -103,18 +115,17 @@ more_false xs n s = elim (cases_lt s (length xs)) [
 pub slots_right : (w : World) (n : ℕ) → IsStoreRight w → IsStoreRight (record w { slots = w.slots ++ replicate n false })
 slots_right w n right = record {
   tied = record {
-    bound = right.tied.bound;
-    held = right.tied.held;
-    slots = λ s. right.tied.slots s ∙ sym (ap bit (more_false w.slots n s));
-    in_slots = sum_by-append (λ h. bit h) w.slots (replicate n false) ∙ ap (λ (k : ℕ). swap.held_count w.slots + k) (count-replicate_none (λ h. h) n false refl) ∙ omega (arith, right.tied.in_slots);
-    there = λ s h. right.tied.there s (sym (more_false w.slots n s) ∙ h);
-    temporary = right.tied.temporary;
-    map_frames = right.tied.map_frames;
-    bytes_frames = right.tied.bytes_frames;
-    pinned_frames = right.tied.pinned_frames;
-    marks_frames = right.tied.marks_frames;
-    few = right.tied.few;
-    page = right.tied.page;
+    placed = record {
+      bound = right.tied.placed.bound;
+      held = right.tied.placed.held;
+      slots = λ s. right.tied.placed.slots s ∙ sym (ap bit (more_false w.slots n s));
+      in_slots = sum_by-append (λ h. bit h) w.slots (replicate n false) ∙ ap (λ (k : ℕ). swap.held_count w.slots + k) (count-replicate_none (λ h. h) n false refl) ∙ omega (arith, right.tied.placed.in_slots);
+    };
+    backed = record {
+      there = λ s h. right.tied.backed.there s (sym (more_false w.slots n s) ∙ h);
+      temporary = right.tied.backed.temporary;
+    };
+    fitted = right.tied.fitted;
   };
   capacity = omega (arith, length-append w.slots (replicate n false), right.capacity);
 }
@@ -128,18 +139,17 @@ pub made_right : (w : World) (b : Arena) (cache : CacheId) (segment : Option Seg
     → IsStoreRight (record w { caches = b })
 made_right w b cache segment ns right m room = record {
   tied = record {
-    bound = λ n. right.tied.bound n ∙ sym (ap bit (own_alike w.caches b cache segment ns m is_resident refl n));
-    held = right.tied.held;
-    slots = λ s. filled_count ns w.caches.cells 0 b.cells cache Zero (is_slot s) m.cells refl ∙ right.tied.slots s;
-    in_slots = right.tied.in_slots ∙ sym (filled_count ns w.caches.cells 0 b.cells cache Zero is_in_slot m.cells refl);
-    there = right.tied.there;
-    temporary = λ n. own_alike w.caches b cache segment ns m is_on_segment refl n ∙ right.tied.temporary n;
-    map_frames = right.tied.map_frames;
-    bytes_frames = right.tied.bytes_frames;
-    pinned_frames = right.tied.pinned_frames;
-    marks_frames = right.tied.marks_frames;
-    few = right.tied.few;
-    page = right.tied.page;
+    placed = record {
+      bound = λ n. right.tied.placed.bound n ∙ sym (ap bit (own_alike w.caches b cache segment ns m is_resident refl n));
+      held = right.tied.placed.held;
+      slots = λ s. filled_count ns w.caches.cells 0 b.cells cache Zero (is_slot s) m.cells refl ∙ right.tied.placed.slots s;
+      in_slots = right.tied.placed.in_slots ∙ sym (filled_count ns w.caches.cells 0 b.cells cache Zero is_in_slot m.cells refl);
+    };
+    backed = record {
+      there = right.tied.backed.there;
+      temporary = λ n. own_alike w.caches b cache segment ns m is_on_segment refl n ∙ right.tied.backed.temporary n;
+    };
+    fitted = right.tied.fitted;
   };
   capacity = omega (arith, filled_length ns w.caches.cells 0 b.cells cache Zero m.cells);
 }

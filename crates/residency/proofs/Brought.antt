@@ -46,11 +46,11 @@ slots_same w n x right there e out none = record {
   slots = λ k. (
       let counts : count_by (is_slot k) (own_states (with_own w.caches n (Resident true))) + bit (is_slot k (own_of w.caches n)) ≡ count_by (is_slot k) (own_states w.caches) + 0 = own_count (is_slot k) w.caches n (Resident true) there in
       let was : is_slot k (own_of w.caches n) ≡ false = ap (is_slot k) e ∙ out k in
-      omega (arith, bit_false (is_slot k (own_of w.caches n)) was, right.tied.slots k));
+      omega (arith, bit_false (is_slot k (own_of w.caches n)) was, right.tied.placed.slots k));
   in_slots = (
       let counts : count_by is_in_slot (own_states (with_own w.caches n (Resident true))) + bit (is_in_slot (own_of w.caches n)) ≡ count_by is_in_slot (own_states w.caches) + 0 = own_count is_in_slot w.caches n (Resident true) there in
       let was : is_in_slot (own_of w.caches n) ≡ false = ap is_in_slot e ∙ none in
-      omega (arith, bit_false (is_in_slot (own_of w.caches n)) was, right.tied.in_slots));
+      omega (arith, bit_false (is_in_slot (own_of w.caches n)) was, right.tied.placed.in_slots));
   same = refl;
   kept = λ k h. h;
 }
@@ -59,7 +59,7 @@ slots_same w n x right there e out none = record {
 pub slot_is_held : (w : World) (n : NodeId) (s : SlotId) → IsStoreRight w → IsHeld w.caches n → own_of w.caches n ≡ Slot s → is_slot_held w s.0 ≡ true
 slot_is_held w n s right there e =
     let here : is_slot s.0 (own_of w.caches n) ≡ true = ap (is_slot s.0) e ∙ same_number s.0 in
-    bit_from (is_slot_held w s.0) (omega (arith, own_some (is_slot s.0) w.caches n there here, right.tied.slots s.0))
+    bit_from (is_slot_held w s.0) (omega (arith, own_some (is_slot s.0) w.caches n there here, right.tied.placed.slots s.0))
 
 slots_slot : (w : World) (n : NodeId) (s : SlotId) → IsStoreRight w → IsHeld w.caches n → own_of w.caches n ≡ Slot s → SlotsAfter w n (set w.slots s.0 false)
 slots_slot w n s right there e =
@@ -74,17 +74,17 @@ slots_slot w n s right there e =
                 let now : get_or (set w.slots s.0 false) k false ≡ false = ap (λ (j : ℕ). get_or (set w.slots s.0 false) j false) q ∙ get_or-set_same w.slots s.0 false false within in
                 let this : is_slot k (own_of w.caches n) ≡ true = was ∙ ap (λ (j : ℕ). s.0 == j) q ∙ same_number s.0 in
                 let before : is_slot_held w k ≡ true = ap (is_slot_held w) q ∙ held in
-                omega (arith, bit_true (is_slot k (own_of w.caches n)) this, bit_false (get_or (set w.slots s.0 false) k false) now, bit_true (is_slot_held w k) before, right.tied.slots k))
+                omega (arith, bit_true (is_slot k (own_of w.caches n)) this, bit_false (get_or (set w.slots s.0 false) k false) now, bit_true (is_slot_held w k) before, right.tied.placed.slots k))
             | inr d ↦ (
                 let now : bit (get_or (set w.slots s.0 false) k false) ≡ bit (is_slot_held w k) = ap bit (get_or-set_other w.slots s.0 k false false d) in
                 let this : is_slot k (own_of w.caches n) ≡ false = was ∙ other_number s.0 k (λ e. d (sym e)) in
-                omega (arith, bit_false (is_slot k (own_of w.caches n)) this, right.tied.slots k))
+                omega (arith, bit_false (is_slot k (own_of w.caches n)) this, right.tied.placed.slots k))
           ]);
       in_slots = (
           let counts : count_by is_in_slot (own_states (with_own w.caches n (Resident true))) + bit (is_in_slot (own_of w.caches n)) ≡ count_by is_in_slot (own_states w.caches) + 0 = own_count is_in_slot w.caches n (Resident true) there in
           let was : is_in_slot (own_of w.caches n) ≡ true = ap is_in_slot e in
           let given : swap.held_count (set w.slots s.0 false) + bit (get_or w.slots s.0 false) ≡ swap.held_count w.slots + 0 = count-set (λ h. h) w.slots s.0 false false within in
-          omega (arith, bit_true (is_in_slot (own_of w.caches n)) was, bit_true (get_or w.slots s.0 false) held, right.tied.in_slots));
+          omega (arith, bit_true (is_in_slot (own_of w.caches n)) was, bit_true (get_or w.slots s.0 false) held, right.tied.placed.in_slots));
       same = length-set w.slots s.0 false;
       kept = λ k h. elim (cases_eq k s.0) [
         | inl q ↦ ap (is_slot_held w) q ∙ held
@@ -102,11 +102,11 @@ bound_after w f n right within unbound away m =
           let now : is_resident (own_of (with_own w.caches n (Resident true)) m) ≡ true = ap is_resident (ap (own_of (with_own w.caches n (Resident true))) e ∙ own_same w.caches n (Resident true)) in
           let this : (n.0 == m.0) ≡ true = ap (λ (k : NodeId). n.0 == k.0) e ∙ same_number n.0 in
           let before : is_resident (own_of w.caches m) ≡ false = ap (λ (k : NodeId). is_resident (own_of w.caches k)) e ∙ away in
-          omega (arith, bit_false (is_node m.0 (get_or w.map f None)) was, bit_true (n.0 == m.0) this, bit_true (is_resident (own_of (with_own w.caches n (Resident true)) m)) now, bit_false (is_resident (own_of w.caches m)) before, right.tied.bound m))
+          omega (arith, bit_false (is_node m.0 (get_or w.map f None)) was, bit_true (n.0 == m.0) this, bit_true (is_resident (own_of (with_own w.caches n (Resident true)) m)) now, bit_false (is_resident (own_of w.caches m)) before, right.tied.placed.bound m))
       | inr d ↦ (
           let now : bit (is_resident (own_of (with_own w.caches n (Resident true)) m)) ≡ bit (is_resident (own_of w.caches m)) = ap (λ (y : OwnState). bit (is_resident y)) (own_other w.caches n m (Resident true) d) in
           let this : (n.0 == m.0) ≡ false = other_number n.0 m.0 (λ e. id_apart m n d (sym e)) in
-          omega (arith, bit_false (is_node m.0 (get_or w.map f None)) was, bit_false (n.0 == m.0) this, right.tied.bound m))
+          omega (arith, bit_false (is_node m.0 (get_or w.map f None)) was, bit_false (n.0 == m.0) this, right.tied.placed.bound m))
     ]
 
 or_true : (b : Bool) → (b || true) ≡ true
@@ -116,31 +116,37 @@ or_true false = refl
 held_after : (w : World) (f : ℕ) (n : NodeId) → IsStoreRight w → IsTaken w f → (g : ℕ)
     → get_or w.frames.held g false ≡ (is_some (get_or (set w.map f (Some n)) g None) || get_or (set w.frames.pinned f false) g false)
 held_after w f n right taken g =
-    let within : f < length w.map = omega (arith, taken.within, right.tied.map_frames) in
+    let within : f < length w.map = omega (arith, taken.within, right.tied.fitted.map_frames) in
     elim (cases_eq g f) [
       | inl e ↦ (
-          let held : is_held w.frames g ≡ true = ap (is_held w.frames) e ∙ right.tied.held f ∙ ap (λ (b : Bool). is_bound w f || b) taken.pinned ∙ or_true (is_bound w f) in
+          let held : is_held w.frames g ≡ true = ap (is_held w.frames) e ∙ right.tied.placed.held f ∙ ap (λ (b : Bool). is_bound w f || b) taken.pinned ∙ or_true (is_bound w f) in
           let bound : get_or (set w.map f (Some n)) g None ≡ Some n = ap (λ (k : ℕ). get_or (set w.map f (Some n)) k None) e ∙ get_or-set_same w.map f (Some n) None within in
           held ∙ sym (ap (λ (o : Option NodeId). is_some o || get_or (set w.frames.pinned f false) g false) bound))
-      | inr d ↦ right.tied.held g ∙ ap (λ (b : Bool). is_bound w g || b) (sym (get_or-set_other w.frames.pinned f g false false d))
+      | inr d ↦ right.tied.placed.held g ∙ ap (λ (b : Bool). is_bound w g || b) (sym (get_or-set_other w.frames.pinned f g false false d))
           ∙ ap (λ (o : Option NodeId). is_some o || get_or (set w.frames.pinned f false) g false) (sym (get_or-set_other w.map f g (Some n) None d))
     ]
 
 pub brought_right : (w : World) (f : ℕ) (n : NodeId) (after : List Bool) (bytes : List ℕ) → IsStoreRight w → IsTaken w f → IsHeld w.caches n → is_resident (own_of w.caches n) ≡ false → SlotsAfter w n after → IsStoreRight (brought w f n after bytes)
 brought_right w f n after bytes right taken there away slots = record {
   tied = record {
-    bound = bound_after w f n right (omega (arith, taken.within, right.tied.map_frames)) taken.unbound away;
-    held = held_after w f n right taken;
-    slots = slots.slots;
-    in_slots = slots.in_slots;
-    there = λ k h. right.tied.there k (slots.kept k h);
-    temporary = temporary_after w n (Resident true) right refl;
-    map_frames = length-set w.map f (Some n) ∙ right.tied.map_frames;
-    bytes_frames = length-set w.frames.bytes f bytes ∙ right.tied.bytes_frames;
-    pinned_frames = length-set w.frames.pinned f false ∙ right.tied.pinned_frames;
-    marks_frames = right.tied.marks_frames;
-    few = right.tied.few;
-    page = right.tied.page;
+    placed = record {
+      bound = bound_after w f n right (omega (arith, taken.within, right.tied.fitted.map_frames)) taken.unbound away;
+      held = held_after w f n right taken;
+      slots = slots.slots;
+      in_slots = slots.in_slots;
+    };
+    backed = record {
+      there = λ k h. right.tied.backed.there k (slots.kept k h);
+      temporary = temporary_after w n (Resident true) right refl;
+    };
+    fitted = record {
+      map_frames = length-set w.map f (Some n) ∙ right.tied.fitted.map_frames;
+      bytes_frames = length-set w.frames.bytes f bytes ∙ right.tied.fitted.bytes_frames;
+      pinned_frames = length-set w.frames.pinned f false ∙ right.tied.fitted.pinned_frames;
+      marks_frames = right.tied.fitted.marks_frames;
+      few = right.tied.fitted.few;
+      page = right.tied.fitted.page;
+    };
   };
   capacity = omega (arith, own_length w.caches n (Resident true) there, slots.same, right.capacity);
 }
@@ -148,7 +154,7 @@ brought_right w f n after bytes right taken there away slots = record {
 -- another resident node isn't at frame f
 pub place_other : (w : World) (f : ℕ) (m : NodeId) → IsStoreRight w → node_of w.map f ≡ None → is_resident (own_of w.caches m) ≡ true → frame_of w.map m.0 ≢ f
 place_other w f m right unbound resident e =
-    let some : 1 ≤ bound_times w.map m.0 = omega (arith, right.tied.bound m, bit_true (is_resident (own_of w.caches m)) resident) in
+    let some : 1 ≤ bound_times w.map m.0 = omega (arith, right.tied.placed.bound m, bit_true (is_resident (own_of w.caches m)) resident) in
     let here : is_node m.0 (get_or w.map (frame_of w.map m.0) None) ≡ true = passes_at_first (is_node m.0) w.map None (some_place (is_node m.0) w.map some) in
     let none : is_node m.0 (get_or w.map (frame_of w.map m.0) None) ≡ false = ap (λ (k : ℕ). is_node m.0 (get_or w.map k None)) e ∙ ap (is_node m.0) unbound in
     absurd (cc)
@@ -167,13 +173,13 @@ page_elsewhere w f n after bytes m (Resident dirty) d unbound other =
 -- the node has the page that its frame has
 pub page_here : (w : World) (f : ℕ) (n : NodeId) (after : List Bool) (bytes : List ℕ) → IsStoreRight w → IsTaken w f → IsStoreRight (brought w f n after bytes) → own_page (brought w f n after bytes) n ≡ Some (option_map (λ _. bytes) w.told)
 page_here w f n after bytes right taken now =
-    let within : f < length w.map = omega (arith, taken.within, right.tied.map_frames) in
+    let within : f < length w.map = omega (arith, taken.within, right.tied.fitted.map_frames) in
     let resident : own_of (with_own w.caches n (Resident true)) n ≡ Resident true = own_same w.caches n (Resident true) in
     let bound : get_or (set w.map f (Some n)) f None ≡ Some n = get_or-set_same w.map f (Some n) None within in
     let here : is_node n.0 (get_or (set w.map f (Some n)) f None) ≡ true = ap (is_node n.0) bound ∙ same_number n.0 in
-    let once : bound_times (set w.map f (Some n)) n.0 ≡ 1 = now.tied.bound n ∙ ap (λ (y : OwnState). bit (is_resident y)) resident in
+    let once : bound_times (set w.map f (Some n)) n.0 ≡ 1 = now.tied.placed.bound n ∙ ap (λ (y : OwnState). bit (is_resident y)) resident in
     let place : frame_of (set w.map f (Some n)) n.0 ≡ f = only_place (is_node n.0) (set w.map f (Some n)) f None once (omega (arith, length-set w.map f (Some n))) here in
-    let got : frame_page (brought w f n after bytes) n ≡ bytes = ap (λ (k : ℕ). get_or (set w.frames.bytes f bytes) k []) place ∙ get_or-set_same w.frames.bytes f bytes [] (omega (arith, taken.within, right.tied.bytes_frames)) in
+    let got : frame_page (brought w f n after bytes) n ≡ bytes = ap (λ (k : ℕ). get_or (set w.frames.bytes f bytes) k []) place ∙ get_or-set_same w.frames.bytes f bytes [] (omega (arith, taken.within, right.tied.fitted.bytes_frames)) in
     ap (page_by (option_map (λ _. zero_page w) w.told) (option_map (λ _. frame_page (brought w f n after bytes) n) w.told) (λ k. option_and_then (λ h. slot_of h k) w.told) None) resident
     ∙ ap (λ (b : List ℕ). Some (option_map (λ _. b) w.told)) got
 
@@ -250,10 +256,10 @@ given_held : (w : World) (f : ℕ) → IsStoreRight w → IsTaken w f → (g : �
 given_held w f right taken g = elim (cases_eq g f) [
   | inl e ↦ (
       let left : get_or (set w.frames.held f false) g false ≡ false = ap (λ (k : ℕ). get_or (set w.frames.held f false) k false) e ∙ get_or-set_same w.frames.held f false false taken.within in
-      let pin : get_or (set w.frames.pinned f false) g false ≡ false = ap (λ (k : ℕ). get_or (set w.frames.pinned f false) k false) e ∙ get_or-set_same w.frames.pinned f false false (omega (arith, taken.within, right.tied.pinned_frames)) in
+      let pin : get_or (set w.frames.pinned f false) g false ≡ false = ap (λ (k : ℕ). get_or (set w.frames.pinned f false) k false) e ∙ get_or-set_same w.frames.pinned f false false (omega (arith, taken.within, right.tied.fitted.pinned_frames)) in
       let bound : is_bound w g ≡ false = ap (is_bound w) e ∙ ap is_some taken.unbound in
       left ∙ sym (ap (λ (b : Bool). b || get_or (set w.frames.pinned f false) g false) bound ∙ pin))
-  | inr d ↦ get_or-set_other w.frames.held f g false false d ∙ right.tied.held g ∙ ap (λ (b : Bool). is_bound w g || b) (sym (get_or-set_other w.frames.pinned f g false false d))
+  | inr d ↦ get_or-set_other w.frames.held f g false false d ∙ right.tied.placed.held g ∙ ap (λ (b : Bool). is_bound w g || b) (sym (get_or-set_other w.frames.pinned f g false false d))
 ]
 
 pub given_page : (w : World) (f : ℕ) (bytes : List ℕ) (m : NodeId) (x : OwnState) → (is_resident x ≡ true → frame_of w.map m.0 ≢ f)
@@ -270,18 +276,24 @@ given_up_still w f bytes right taken = record {
   stays = record {
     right = record {
       tied = record {
-        bound = right.tied.bound;
-        held = given_held w f right taken;
-        slots = right.tied.slots;
-        in_slots = right.tied.in_slots;
-        there = right.tied.there;
-        temporary = right.tied.temporary;
-        map_frames = right.tied.map_frames ∙ sym (length-set w.frames.held f false);
-        bytes_frames = length-set w.frames.bytes f bytes ∙ right.tied.bytes_frames ∙ sym (length-set w.frames.held f false);
-        pinned_frames = length-set w.frames.pinned f false ∙ right.tied.pinned_frames ∙ sym (length-set w.frames.held f false);
-        marks_frames = right.tied.marks_frames ∙ sym (length-set w.frames.held f false);
-        few = omega (arith, length-set w.frames.held f false, right.tied.few);
-        page = right.tied.page;
+        placed = record {
+          bound = right.tied.placed.bound;
+          held = given_held w f right taken;
+          slots = right.tied.placed.slots;
+          in_slots = right.tied.placed.in_slots;
+        };
+        backed = record {
+          there = right.tied.backed.there;
+          temporary = right.tied.backed.temporary;
+        };
+        fitted = record {
+          map_frames = right.tied.fitted.map_frames ∙ sym (length-set w.frames.held f false);
+          bytes_frames = length-set w.frames.bytes f bytes ∙ right.tied.fitted.bytes_frames ∙ sym (length-set w.frames.held f false);
+          pinned_frames = length-set w.frames.pinned f false ∙ right.tied.fitted.pinned_frames ∙ sym (length-set w.frames.held f false);
+          marks_frames = right.tied.fitted.marks_frames ∙ sym (length-set w.frames.held f false);
+          few = omega (arith, length-set w.frames.held f false, right.tied.fitted.few);
+          page = right.tied.fitted.page;
+        };
       };
       capacity = right.capacity;
     };

@@ -25,7 +25,7 @@ neither None true e = absurd (cc)
 neither (Some n) p e = absurd (cc)
 
 free_frame : (w : World) (f : ℕ) → IsStoreRight w → is_held w.frames f ≡ false → (node_of w.map f ≡ None) × (is_pinned w.frames f ≡ false)
-free_frame w f right free = neither (node_of w.map f) (is_pinned w.frames f) (sym free ∙ right.tied.held f)
+free_frame w f right free = neither (node_of w.map f) (is_pinned w.frames f) (sym free ∙ right.tied.placed.held f)
 
 true_or : (b : Bool) → true ≡ (b || true)
 true_or true = refl
@@ -33,13 +33,13 @@ true_or false = refl
 
 held_after : (w : World) (f : ℕ) → IsStoreRight w → f < length w.frames.held → (g : ℕ) → get_or (set w.frames.held f true) g false ≡ (is_bound w g || get_or (set w.frames.pinned f true) g false)
 held_after w f right within g =
-    let pin : f < length w.frames.pinned = omega (arith, right.tied.pinned_frames) in
+    let pin : f < length w.frames.pinned = omega (arith, right.tied.fitted.pinned_frames) in
     elim (cases_eq g f) [
       | inl e ↦ (
           let left : get_or (set w.frames.held f true) g false ≡ true = ap (λ (k : ℕ). get_or (set w.frames.held f true) k false) e ∙ get_or-set_same w.frames.held f true false within in
           let here : get_or (set w.frames.pinned f true) g false ≡ true = ap (λ (k : ℕ). get_or (set w.frames.pinned f true) k false) e ∙ get_or-set_same w.frames.pinned f true false pin in
           left ∙ true_or (is_bound w g) ∙ sym (ap (λ (b : Bool). is_bound w g || b) here))
-      | inr d ↦ get_or-set_other w.frames.held f g true false d ∙ right.tied.held g ∙ ap (λ (b : Bool). is_bound w g || b) (sym (get_or-set_other w.frames.pinned f g true false d))
+      | inr d ↦ get_or-set_other w.frames.held f g true false d ∙ right.tied.placed.held g ∙ ap (λ (b : Bool). is_bound w g || b) (sym (get_or-set_other w.frames.pinned f g true false d))
     ]
 
 pinned_after : (w : World) (f : ℕ) → is_pinned w.frames f ≡ false → (g : ℕ) → is_pinned w.frames g ≡ true → PinnedStays w (claimed w f) g
@@ -54,18 +54,24 @@ claimed_still w f right within free = record {
   stays = record {
     right = record {
       tied = record {
-        bound = right.tied.bound;
-        held = held_after w f right within;
-        slots = right.tied.slots;
-        in_slots = right.tied.in_slots;
-        there = right.tied.there;
-        temporary = right.tied.temporary;
-        map_frames = right.tied.map_frames ∙ sym (length-set w.frames.held f true);
-        bytes_frames = right.tied.bytes_frames ∙ sym (length-set w.frames.held f true);
-        pinned_frames = length-set w.frames.pinned f true ∙ right.tied.pinned_frames ∙ sym (length-set w.frames.held f true);
-        marks_frames = right.tied.marks_frames ∙ sym (length-set w.frames.held f true);
-        few = omega (arith, length-set w.frames.held f true, right.tied.few);
-        page = right.tied.page;
+        placed = record {
+          bound = right.tied.placed.bound;
+          held = held_after w f right within;
+          slots = right.tied.placed.slots;
+          in_slots = right.tied.placed.in_slots;
+        };
+        backed = record {
+          there = right.tied.backed.there;
+          temporary = right.tied.backed.temporary;
+        };
+        fitted = record {
+          map_frames = right.tied.fitted.map_frames ∙ sym (length-set w.frames.held f true);
+          bytes_frames = right.tied.fitted.bytes_frames ∙ sym (length-set w.frames.held f true);
+          pinned_frames = length-set w.frames.pinned f true ∙ right.tied.fitted.pinned_frames ∙ sym (length-set w.frames.held f true);
+          marks_frames = right.tied.fitted.marks_frames ∙ sym (length-set w.frames.held f true);
+          few = omega (arith, length-set w.frames.held f true, right.tied.fitted.few);
+          page = right.tied.fitted.page;
+        };
       };
       capacity = right.capacity;
     };

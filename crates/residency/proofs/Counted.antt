@@ -18,16 +18,16 @@ or_right true b h = refl
 or_right false b h = h
 
 pub pinned_held : (w : World) → IsStoreRight w → pinned_count w.frames ≤ held_count w.frames
-pinned_held w right = count_le w.frames.pinned w.frames.held right.tied.pinned_frames (λ i h. right.tied.held i ∙ or_right (is_bound w i) (is_pinned w.frames i) h)
+pinned_held w right = count_le w.frames.pinned w.frames.held right.tied.fitted.pinned_frames (λ i h. right.tied.placed.held i ∙ or_right (is_bound w i) (is_pinned w.frames i) h)
 
 -- more are held than pinned, where one may be evicted
 pub some_left : (w : World) (v : ℕ) → IsStoreRight w → is_evictable w.frames v ≡ true → pinned_count w.frames < held_count w.frames
 some_left w v right e =
     let loose : is_pinned w.frames v ≡ false = (evictable w.frames v e).1 in
     let fewer : count_by (λ h. h) (set w.frames.held v false) + 1 ≡ held_count w.frames = one_fewer w.frames v (set w.frames.held v false) e refl in
-    let below : pinned_count w.frames ≤ count_by (λ h. h) (set w.frames.held v false) = count_le w.frames.pinned (set w.frames.held v false) (right.tied.pinned_frames ∙ sym (length-set w.frames.held v false)) (λ i h.
+    let below : pinned_count w.frames ≤ count_by (λ h. h) (set w.frames.held v false) = count_le w.frames.pinned (set w.frames.held v false) (right.tied.fitted.pinned_frames ∙ sym (length-set w.frames.held v false)) (λ i h.
     get_or-set_other w.frames.held v i false false (λ q. absurd (let t : is_pinned w.frames i ≡ false = ap (is_pinned w.frames) q ∙ loose in cc))
-    ∙ right.tied.held i ∙ or_right (is_bound w i) (is_pinned w.frames i) h) in
+    ∙ right.tied.placed.held i ∙ or_right (is_bound w i) (is_pinned w.frames i) h) in
     omega (arith, fewer, below)
 
 must_pin : (a b : Bool) → (a && not b) ≡ false → a ≡ true → b ≡ true
@@ -36,4 +36,4 @@ must_pin true false e h = absurd (cc)
 must_pin false b e h = absurd (cc)
 
 pub none_left : (w : World) → IsStoreRight w → ((f : ℕ) → f < length w.frames.held → is_evictable w.frames f ≡ false) → held_count w.frames ≤ pinned_count w.frames
-none_left w right none = count_le w.frames.held w.frames.pinned (sym right.tied.pinned_frames) (λ i h. must_pin (is_held w.frames i) (is_pinned w.frames i) (none i (true_below w.frames.held i h)) h)
+none_left w right none = count_le w.frames.held w.frames.pinned (sym right.tied.fitted.pinned_frames) (λ i h. must_pin (is_held w.frames i) (is_pinned w.frames i) (none i (true_below w.frames.held i h)) h)

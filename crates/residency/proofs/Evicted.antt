@@ -42,20 +42,20 @@ bound_after w f n x right h gone m =
       | inr d ↦ (
           let now : bit (is_resident (own_of (with_own w.caches n x) m)) ≡ bit (is_resident (own_of w.caches m)) = ap (λ (y : OwnState). bit (is_resident y)) (own_other w.caches n m x d) in
           let here : is_node m.0 (get_or w.map f None) ≡ false = sym (other_there w.map f n m h.node d) in
-          omega (arith, bit_false (is_node m.0 (get_or w.map f None)) here, right.tied.bound m))
+          omega (arith, bit_false (is_node m.0 (get_or w.map f None)) here, right.tied.placed.bound m))
     ]
 
 pub held_after : (w : World) (f : ℕ) (n : NodeId) → IsStoreRight w → IsHome w f n → is_pinned w.frames f ≡ false → (g : ℕ)
     → get_or (set w.frames.held f false) g false ≡ (is_some (get_or (set w.map f None) g None) || is_pinned w.frames g)
 held_after w f n right h loose g =
-    let within : f < length w.frames.held = omega (arith, h.frame, right.tied.map_frames) in
+    let within : f < length w.frames.held = omega (arith, h.frame, right.tied.fitted.map_frames) in
     elim (cases_eq g f) [
       | inl e ↦ (
           let left : get_or (set w.frames.held f false) g false ≡ false = ap (λ (k : ℕ). get_or (set w.frames.held f false) k false) e ∙ get_or-set_same w.frames.held f false false within in
           let unbound : get_or (set w.map f None) g None ≡ None = ap (λ (k : ℕ). get_or (set w.map f None) k None) e ∙ get_or-set_same w.map f None None h.frame in
           let unpinned : is_pinned w.frames g ≡ false = ap (is_pinned w.frames) e ∙ loose in
           left ∙ sym (ap (λ (o : Option NodeId). is_some o || is_pinned w.frames g) unbound ∙ unpinned))
-      | inr d ↦ get_or-set_other w.frames.held f g false false d ∙ right.tied.held g ∙ ap (λ (o : Option NodeId). is_some o || is_pinned w.frames g) (sym (get_or-set_other w.map f g None None d))
+      | inr d ↦ get_or-set_other w.frames.held f g false false d ∙ right.tied.placed.held g ∙ ap (λ (o : Option NodeId). is_some o || is_pinned w.frames g) (sym (get_or-set_other w.map f g None None d))
     ]
 
 slots_after : (w : World) (f : ℕ) (n : NodeId) (s : SlotId) → IsStoreRight w → IsHome w f n → s.0 < length w.slots → is_slot_held w s.0 ≡ false → (k : ℕ)
@@ -68,11 +68,11 @@ slots_after w f n s right h below free k =
           let now : get_or (set w.slots s.0 true) k false ≡ true = ap (λ (j : ℕ). get_or (set w.slots s.0 true) j false) e ∙ get_or-set_same w.slots s.0 true false below in
           let this : (s.0 == k) ≡ true = ap (λ (j : ℕ). s.0 == j) e ∙ same_number s.0 in
           let was : is_slot_held w k ≡ false = ap (is_slot_held w) e ∙ free in
-          omega (arith, bit_false (is_slot k (own_of w.caches n)) before, bit_true (s.0 == k) this, bit_true (get_or (set w.slots s.0 true) k false) now, bit_false (is_slot_held w k) was, right.tied.slots k))
+          omega (arith, bit_false (is_slot k (own_of w.caches n)) before, bit_true (s.0 == k) this, bit_true (get_or (set w.slots s.0 true) k false) now, bit_false (is_slot_held w k) was, right.tied.placed.slots k))
       | inr d ↦ (
           let now : bit (get_or (set w.slots s.0 true) k false) ≡ bit (is_slot_held w k) = ap bit (get_or-set_other w.slots s.0 k true false d) in
           let this : (s.0 == k) ≡ false = other_number s.0 k (λ e. d (sym e)) in
-          omega (arith, bit_false (is_slot k (own_of w.caches n)) before, bit_false (s.0 == k) this, right.tied.slots k))
+          omega (arith, bit_false (is_slot k (own_of w.caches n)) before, bit_false (s.0 == k) this, right.tied.placed.slots k))
     ]
 
 in_slots_after : (w : World) (f : ℕ) (n : NodeId) (s : SlotId) → IsStoreRight w → IsHome w f n → s.0 < length w.slots → is_slot_held w s.0 ≡ false
@@ -80,7 +80,7 @@ in_slots_after : (w : World) (f : ℕ) (n : NodeId) (s : SlotId) → IsStoreRigh
 in_slots_after w f n s right h below free =
     let held : swap.held_count (set w.slots s.0 true) + bit (get_or w.slots s.0 false) ≡ swap.held_count w.slots + 1 = count-set (λ h. h) w.slots s.0 true false below in
     let nodes : count_by is_in_slot (own_states (with_own w.caches n (Slot s))) + bit (is_in_slot (own_of w.caches n)) ≡ count_by is_in_slot (own_states w.caches) + 1 = own_count is_in_slot w.caches n (Slot s) h.there in
-    omega (arith, bit_false (get_or w.slots s.0 false) free, bit_false (is_in_slot (own_of w.caches n)) (resident_not_in_slot (own_of w.caches n) h.resident), right.tied.in_slots)
+    omega (arith, bit_false (get_or w.slots s.0 false) free, bit_false (is_in_slot (own_of w.caches n)) (resident_not_in_slot (own_of w.caches n) h.resident), right.tied.placed.in_slots)
 
 -- what a mapper holds in a slot after a push
 pushed_here : (h : Held) (s : ℕ) (bytes : List ℕ) → slot_of (with_slot s bytes h) s ≡ Some bytes
@@ -99,31 +99,37 @@ there_told (Some h) s k bytes c = elim (cases_eq k s) [
 there_after : (w : World) (s : SlotId) (bytes : List ℕ) → IsStoreRight w → (k : ℕ) → get_or (set w.slots s.0 true) k false ≡ true → IfSome (option_map (with_slot s.0 bytes) w.told) (λ h. IsSome (slot_of h k))
 there_after w s bytes right k held = elim (cases_eq k s.0) [
   | inl e ↦ there_told w.told s.0 k bytes (inl e)
-  | inr d ↦ there_told w.told s.0 k bytes (inr (right.tied.there k (sym (get_or-set_other w.slots s.0 k true false d) ∙ held)))
+  | inr d ↦ there_told w.told s.0 k bytes (inr (right.tied.backed.there k (sym (get_or-set_other w.slots s.0 k true false d) ∙ held)))
 ]
 
 -- no page comes to be on a segment by another own state of one node
 pub temporary_after : (w : World) (n : NodeId) (x : OwnState) → IsStoreRight w → is_on_segment x ≡ false → (m : NodeId) → is_on_segment (own_of (with_own w.caches n x) m) ≡ false
 temporary_after w n x right out m = elim (id_cases m n) [
   | inl e ↦ ap is_on_segment (ap (own_of (with_own w.caches n x)) e ∙ own_same w.caches n x) ∙ out
-  | inr d ↦ ap is_on_segment (own_other w.caches n m x d) ∙ right.tied.temporary m
+  | inr d ↦ ap is_on_segment (own_other w.caches n m x d) ∙ right.tied.backed.temporary m
 ]
 
 evicted_right : (w : World) (f : ℕ) (n : NodeId) (s : SlotId) → IsStoreRight w → IsHome w f n → is_pinned w.frames f ≡ false → s.0 < length w.slots → is_slot_held w s.0 ≡ false → IsStoreRight (evicted w f n s)
 evicted_right w f n s right h loose below free = record {
   tied = record {
-    bound = bound_after w f n (Slot s) right h refl;
-    held = held_after w f n right h loose;
-    slots = slots_after w f n s right h below free;
-    in_slots = in_slots_after w f n s right h below free;
-    there = there_after w s (bytes_of w.frames f) right;
-    temporary = temporary_after w n (Slot s) right refl;
-    map_frames = length-set w.map f None ∙ right.tied.map_frames ∙ sym (length-set w.frames.held f false);
-    bytes_frames = right.tied.bytes_frames ∙ sym (length-set w.frames.held f false);
-    pinned_frames = right.tied.pinned_frames ∙ sym (length-set w.frames.held f false);
-    marks_frames = right.tied.marks_frames ∙ sym (length-set w.frames.held f false);
-    few = omega (arith, length-set w.frames.held f false, right.tied.few);
-    page = right.tied.page;
+    placed = record {
+      bound = bound_after w f n (Slot s) right h refl;
+      held = held_after w f n right h loose;
+      slots = slots_after w f n s right h below free;
+      in_slots = in_slots_after w f n s right h below free;
+    };
+    backed = record {
+      there = there_after w s (bytes_of w.frames f) right;
+      temporary = temporary_after w n (Slot s) right refl;
+    };
+    fitted = record {
+      map_frames = length-set w.map f None ∙ right.tied.fitted.map_frames ∙ sym (length-set w.frames.held f false);
+      bytes_frames = right.tied.fitted.bytes_frames ∙ sym (length-set w.frames.held f false);
+      pinned_frames = right.tied.fitted.pinned_frames ∙ sym (length-set w.frames.held f false);
+      marks_frames = right.tied.fitted.marks_frames ∙ sym (length-set w.frames.held f false);
+      few = omega (arith, length-set w.frames.held f false, right.tied.fitted.few);
+      page = right.tied.fitted.page;
+    };
   };
   capacity = omega (arith, own_length w.caches n (Slot s) h.there, length-set w.slots s.0 true, right.capacity);
 }
@@ -163,7 +169,7 @@ page_here w f n OnSegment r place = absurd (cc)
 
 -- no node is in a slot that isn't held
 not_there : (w : World) (s : ℕ) (m : NodeId) → IsStoreRight w → is_slot_held w s ≡ false → is_slot s (own_of w.caches m) ≡ false
-not_there w s m right free = own_none (is_slot s) w.caches m refl (omega (arith, right.tied.slots s, bit_false (is_slot_held w s) free))
+not_there w s m right free = own_none (is_slot s) w.caches m refl (omega (arith, right.tied.placed.slots s, bit_false (is_slot_held w s) free))
 
 pages_after : (w : World) (f : ℕ) (n : NodeId) (s : SlotId) → IsStoreRight w → IsHome w f n → is_slot_held w s.0 ≡ false → (m : NodeId) → own_page (evicted w f n s) m ≡ own_page w m
 pages_after w f n s right h free m = elim (id_cases m n) [

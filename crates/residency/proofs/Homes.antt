@@ -43,7 +43,7 @@ pub home : (w : World) (f : ℕ) (n : NodeId) → IsStoreRight w → f < length 
 home w f n right frame node =
     let here : is_node n.0 (node_of w.map f) ≡ true = at_home n (node_of w.map f) node in
     let some : 1 ≤ bound_times w.map n.0 = count_some (is_node n.0) w.map f None frame here in
-    let times : bound_times w.map n.0 ≡ bit (is_resident (own_of w.caches n)) = right.tied.bound n in
+    let times : bound_times w.map n.0 ≡ bit (is_resident (own_of w.caches n)) = right.tied.placed.bound n in
     let resident : is_resident (own_of w.caches n) ≡ true = bit_from (is_resident (own_of w.caches n)) (omega arith) in
     let once : bound_times w.map n.0 ≡ 1 = omega (arith, bit-le (is_resident (own_of w.caches n))) in
     record {
@@ -57,13 +57,13 @@ home w f n right frame node =
 
 -- the node of a held frame
 pub home_of_held : (w : World) (f : ℕ) (n : NodeId) → IsStoreRight w → is_held w.frames f ≡ true → node_of w.map f ≡ Some n → IsHome w f n
-home_of_held w f n right held node = home w f n right (omega (arith, true_below w.frames.held f held, right.tied.map_frames)) node
+home_of_held w f n right held node = home w f n right (omega (arith, true_below w.frames.held f held, right.tied.fitted.map_frames)) node
 
 -- where a node is resident there is a slot left
 pub room : (w : World) (f : ℕ) (n : NodeId) → IsStoreRight w → IsHome w f n → swap.held_count w.slots < length w.slots
 room w f n right h =
     let few : count_by is_in_slot (own_states w.caches) < length (own_states w.caches) = own_not_all is_in_slot w.caches n h.there (resident_not_in_slot (own_of w.caches n) h.resident) in
-    omega (arith, right.tied.in_slots, right.capacity)
+    omega (arith, right.tied.placed.in_slots, right.capacity)
 
 pub world_is : (a b : World) → a.told ≡ b.told → a.page_bytes ≡ b.page_bytes → a.caches ≡ b.caches → a.frames ≡ b.frames → a.slots ≡ b.slots → a.map ≡ b.map → a.marks ≡ b.marks → a ≡ b
 world_is a b told size caches frames slots map marks = λ i. record { told = told i; page_bytes = size i; caches = caches i; frames = frames i; slots = slots i; map = map i; marks = marks i }

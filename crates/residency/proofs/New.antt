@@ -40,18 +40,24 @@ new_right n page told size a few none fits =
     let states : own_states a ≡ [] = no_states a none in
     record {
       tied = record {
-        bound = λ m. count-replicate_none (is_node m.0) n None refl ∙ sym (ap (λ (x : OwnState). bit (is_resident x)) (absent a none m));
-        held = none_held n;
-        slots = λ s. ap (count_by (is_slot s)) states;
-        in_slots = sym (ap (count_by is_in_slot) states);
-        there = λ s h. absurd (cc);
-        temporary = λ m. ap is_on_segment (absent a none m);
-        map_frames = length-replicate n None ∙ sym (length-replicate n false);
-        bytes_frames = length-replicate n (replicate page 0) ∙ sym (length-replicate n false);
-        pinned_frames = refl;
-        marks_frames = sym (length-replicate n false);
-        few = omega (arith, length-replicate n false);
-        page = fits;
+        placed = record {
+          bound = λ m. count-replicate_none (is_node m.0) n None refl ∙ sym (ap (λ (x : OwnState). bit (is_resident x)) (absent a none m));
+          held = none_held n;
+          slots = λ s. ap (count_by (is_slot s)) states;
+          in_slots = sym (ap (count_by is_in_slot) states);
+        };
+        backed = record {
+          there = λ s h. absurd (cc);
+          temporary = λ m. ap is_on_segment (absent a none m);
+        };
+        fitted = record {
+          map_frames = length-replicate n None ∙ sym (length-replicate n false);
+          bytes_frames = length-replicate n (replicate page 0) ∙ sym (length-replicate n false);
+          pinned_frames = refl;
+          marks_frames = sym (length-replicate n false);
+          few = omega (arith, length-replicate n false);
+          page = fits;
+        };
       };
       capacity = omega (arith, ap (λ (xs : List OwnState). length xs) states);
     }

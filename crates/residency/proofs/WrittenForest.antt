@@ -70,7 +70,7 @@ module _ (w : World) (f : ℕ) (n : NodeId) (bytes : List ℕ) (right : IsStoreR
   -- another resident node is at another frame
   elsewhere : (m : NodeId) → m ≢ n → is_resident (own_of w.caches m) ≡ true → frame_of w.map m.0 ≢ f
   elsewhere m d resident e =
-      let some = some_place (is_node m.0) w.map (omega (arith, right.tied.bound m, bit_true (is_resident (own_of w.caches m)) resident)) in
+      let some = some_place (is_node m.0) w.map (omega (arith, right.tied.placed.bound m, bit_true (is_resident (own_of w.caches m)) resident)) in
       let here : is_node m.0 (get_or w.map (frame_of w.map m.0) None) ≡ true = passes_at_first (is_node m.0) w.map None some in
       let none : is_node m.0 (get_or w.map (frame_of w.map m.0) None) ≡ false = ap (λ (k : ℕ). is_node m.0 (get_or w.map k None)) e ∙ ap (is_node m.0) home.node ∙ other_number n.0 m.0 (λ q. id_apart m n d (sym q)) in
       absurd (cc)
@@ -79,7 +79,7 @@ module _ (w : World) (f : ℕ) (n : NodeId) (bytes : List ℕ) (right : IsStoreR
   written_page m d = given_page w f bytes m (own_of w.caches m) (elsewhere m d)
 
   pub written_here : own_page (record w { frames = with_bytes w.frames f bytes }) n ≡ Some (option_map (λ _. bytes) w.told)
-  written_here = page_here then f n (own_of w.caches n) home.resident home.place ∙ ap (λ (x : List ℕ). Some (option_map (λ _. x) w.told)) (get_or-set_same w.frames.bytes f bytes [] (omega (arith, home.frame, right.tied.map_frames, right.tied.bytes_frames)))
+  written_here = page_here then f n (own_of w.caches n) home.resident home.place ∙ ap (λ (x : List ℕ). Some (option_map (λ _. x) w.told)) (get_or-set_same w.frames.bytes f bytes [] (omega (arith, home.frame, right.tied.fitted.map_frames, right.tied.fitted.bytes_frames)))
 
   pub written_forest : store_forest (record w { frames = with_bytes w.frames f bytes }) ≡ edit (store_forest w) (name_of w.caches n) (with_page (Some (option_map (λ _. bytes) w.told)))
   unfolding store_forest

@@ -66,28 +66,42 @@ is_bound w frame = is_some (node_of w.map frame)
 abbrev pub is_slot_held : World → ℕ → Bool
 is_slot_held w slot = swap.is_held w.slots slot
 
--- how the frames, the slots, the map and the caches belong together, and with what the mapper holds
-pub record IsTied (w : World) : Type 0 where
+-- Each page is in one place. A node is bound to a frame where it is resident, and else it may have a
+-- slot to itself.
+pub record ArePlaced (caches : Arena) (frames : Frames) (slot_marks : List Bool)
+    (map : List (Option NodeId)) : Type 0 where
   -- a node is bound, to one frame, exactly where it is resident
   pub bound : (n : NodeId) →
-      bound_times w.map n.0 ≡ (if is_resident (own_of w.caches n) then 1 else 0)
+      bound_times map n.0 ≡ (if is_resident (own_of caches n) then 1 else 0)
   -- a frame is held exactly where it is bound or pinned
-  pub held : (f : ℕ) → is_held w.frames f ≡ (is_bound w f || is_pinned w.frames f)
+  pub held : (f : ℕ) → is_held frames f ≡ (is_some (node_of map f) || is_pinned frames f)
   -- a held slot is that of one node, and any other of none
   pub slots : (s : ℕ) →
-      count_by (is_slot s) (own_states w.caches) ≡ (if is_slot_held w s then 1 else 0)
-  pub in_slots : swap.held_count w.slots ≡ count_by is_in_slot (own_states w.caches)
+      count_by (is_slot s) (own_states caches) ≡ (if swap.is_held slot_marks s then 1 else 0)
+  pub in_slots : swap.held_count slot_marks ≡ count_by is_in_slot (own_states caches)
+
+-- what lies outside of the frames is there
+pub record IsBacked (w : World) : Type 0 where
   -- the mapper holds a page in each held slot, where it tells
   pub there : (s : ℕ) → is_slot_held w s ≡ true → IfSome w.told (λ h. IsSome (slot_of h s))
   -- every cache is temporary, so that no page is on a segment
   pub temporary : (n : NodeId) → is_on_segment (own_of w.caches n) ≡ false
-  -- the tables have an entry for each frame, and the mapper takes pages of this size
-  pub map_frames : length w.map ≡ length w.frames.held
-  pub bytes_frames : length w.frames.bytes ≡ length w.frames.held
-  pub pinned_frames : length w.frames.pinned ≡ length w.frames.held
-  pub marks_frames : w.marks ≡ length w.frames.held
-  pub few : length w.frames.held ≤ 2 ^ 16
-  pub page : IfSome w.page_bytes (λ n. n ≡ w.frames.page)
+
+-- the tables have an entry for each frame, and the mapper takes pages of this size
+pub record AreFitted (frames : Frames) (map : List (Option NodeId)) (marks : ℕ)
+    (page_bytes : Option ℕ) : Type 0 where
+  pub map_frames : length map ≡ length frames.held
+  pub bytes_frames : length frames.bytes ≡ length frames.held
+  pub pinned_frames : length frames.pinned ≡ length frames.held
+  pub marks_frames : marks ≡ length frames.held
+  pub few : length frames.held ≤ 2 ^ 16
+  pub page : IfSome page_bytes (λ n. n ≡ frames.page)
+
+-- how the frames, the slots, the map and the caches belong together, and with what the mapper holds
+pub record IsTied (w : World) : Type 0 where
+  pub placed : ArePlaced w.caches w.frames w.slots w.map
+  pub backed : IsBacked w
+  pub fitted : AreFitted w.frames w.map w.marks w.page_bytes
 
 -- and there are slots enough, so that each page can be evicted
 pub record IsStoreRight (w : World) : Type 0 where

@@ -19,7 +19,7 @@ returns-clause-copied g c =
     let k = e.gathered in
     let b = c.in_ok-home.ensures in
     let first = b.still in
-    let within : c.in_ok-home.home.0 < length w.map = omega (arith, b.home.0, first.stays.right.tied.map_frames, k.still.stays.right.tied.map_frames, k.still.stays.frames) in
+    let within : c.in_ok-home.home.0 < length w.map = omega (arith, b.home.0, first.stays.right.tied.fitted.map_frames, k.still.stays.right.tied.fitted.map_frames, k.still.stays.frames) in
     record {
       gathered = then_gathered old v w c.in-Ok.fresh.0 first b.pinned k;
       page = doubled_page w c.in-Ok.fresh.0 c.in_ok-home.home.0 c.args.node k.still.stays.right within (e.stays.node ∙ b.home.1) e.bytes;

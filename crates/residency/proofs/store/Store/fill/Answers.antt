@@ -12,7 +12,7 @@ use Rattle.residency.proofs.store.Store.fill.Goals as goal
 pub returns-in_default-clause-still : goal.returns-in_default-clause-still
 returns-in_default-clause-still g c =
     let w : World = world (g.M.Mapper.held c.args.mapper.now) (g.M.Mapper.page_bytes c.args.mapper.now) c.args.caches.now c.args.self.now in
-    let zero : own_of c.args.caches.now c.args.node ≡ Zero = zero_left (own_of c.args.caches.now c.args.node) c.requires.node.own_page c.requires.node.away (c.requires.right.tied.temporary c.args.node) (λ s e. c.in_default.not-Slot s (c.own_state.ensures ∙ e)) in
+    let zero : own_of c.args.caches.now c.args.node ≡ Zero = zero_left (own_of c.args.caches.now c.args.node) c.requires.node.own_page c.requires.node.away (c.requires.right.tied.backed.temporary c.args.node) (λ s e. c.in_default.not-Slot s (c.own_state.ensures ∙ e)) in
     let then : World = brought w c.args.frame.0 c.args.node c.args.self.now.slots (replicate c.args.self.now.frames.page 0) in
     let kept : StillBut c.args.frame.0 w then = zero_brought w c.args.frame.0 c.args.node c.requires.right c.requires.taken c.requires.node.node zero in
     subst (StillBut c.args.frame.0 w)
@@ -25,13 +25,13 @@ returns-in_default-clause-others g c =
     let then : World = brought w c.args.frame.0 c.args.node c.args.self.now.slots (replicate c.args.self.now.frames.page 0) in
     subst (OthersStayBut c.args.node w)
     (sym (world_is _ then refl refl c.settle_in.ensures.caches (ap (λ (s : Store). s.frames) c.settle_in.ensures.store ∙ ap (λ (p : Frames). record p { pinned = set p.pinned c.args.frame.0 false }) c.zero.ensures) (ap (λ (s : Store). s.slots) c.settle_in.ensures.store) (ap (λ (s : Store). s.map) c.settle_in.ensures.store) (ap (λ (s : Store). length s.marks) c.settle_in.ensures.store)))
-    (brought_others w c.args.frame.0 c.args.node c.args.self.now.slots (replicate c.args.self.now.frames.page 0) (omega (arith, c.requires.taken.within, c.requires.right.tied.map_frames)))
+    (brought_others w c.args.frame.0 c.args.node c.args.self.now.slots (replicate c.args.self.now.frames.page 0) (omega (arith, c.requires.taken.within, c.requires.right.tied.fitted.map_frames)))
 
 pub returns-in_default-clause-page : goal.returns-in_default-clause-page
 returns-in_default-clause-page g c =
-    let zero : own_of c.args.caches.now c.args.node ≡ Zero = zero_left (own_of c.args.caches.now c.args.node) c.requires.node.own_page c.requires.node.away (c.requires.right.tied.temporary c.args.node) (λ s e. c.in_default.not-Slot s (c.own_state.ensures ∙ e)) in
+    let zero : own_of c.args.caches.now c.args.node ≡ Zero = zero_left (own_of c.args.caches.now c.args.node) c.requires.node.own_page c.requires.node.away (c.requires.right.tied.backed.temporary c.args.node) (λ s e. c.in_default.not-Slot s (c.own_state.ensures ∙ e)) in
     let page : c.settle_in.new.self.frames.page ≡ c.args.self.now.frames.page = ap (λ (s : Store). s.frames.page) c.settle_in.ensures.store ∙ ap (λ (p : Frames). p.page) c.zero.ensures in
     zeros_there _ (g.M.Mapper.given c.args.mapper.now) c.settle_in.new.self.frames c.args.frame.0 zero
     (ap (λ (s : Store). bytes_of s.frames c.args.frame.0) c.settle_in.ensures.store ∙ ap (λ (p : Frames). bytes_of p c.args.frame.0) c.zero.ensures
-    ∙ get_or-set_same c.args.self.now.frames.bytes c.args.frame.0 (replicate c.args.self.now.frames.page 0) [] (omega (arith, c.requires.taken.within, c.requires.right.tied.bytes_frames))
+    ∙ get_or-set_same c.args.self.now.frames.bytes c.args.frame.0 (replicate c.args.self.now.frames.page 0) [] (omega (arith, c.requires.taken.within, c.requires.right.tied.fitted.bytes_frames))
     ∙ ap (λ (n : ℕ). replicate n 0) (sym page))

@@ -3,7 +3,7 @@ use Rattle.residency.proofs.Claimed.{may_evict, took, freed}
 use Rattle.residency.proofs.store.Store.make_room.Goals as goal
 
 pub pick-victim-requires-clause-some : goal.pick-victim-requires-clause-some
-pick-victim-requires-clause-some g c = may_evict c.args.self.now.frames c.requires.right.tied.pinned_frames c.requires.full c.requires.unpinned
+pick-victim-requires-clause-some g c = may_evict c.args.self.now.frames c.requires.right.tied.fitted.pinned_frames c.requires.full c.requires.unpinned
 
 pub unwrap-frame-requires : goal.unwrap-frame-requires
 unwrap-frame-requires g c =

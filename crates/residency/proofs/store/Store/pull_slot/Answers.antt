@@ -12,7 +12,7 @@ use Rattle.residency.proofs.store.Store.pull_slot.Goals as goal
 pub swap_in-requires-clause-there : goal.swap_in-requires-clause-there
 swap_in-requires-clause-there g c =
     let w : World = world (g.M.Mapper.held c.args.mapper.now) (g.M.Mapper.page_bytes c.args.mapper.now) c.args.caches.now c.args.self.now in
-    c.requires.right.tied.there c.args.slot.0 (slot_is_held w c.args.node c.args.slot c.requires.right c.requires.node c.requires.slot)
+    c.requires.right.tied.backed.there c.args.slot.0 (slot_is_held w c.args.node c.args.slot c.requires.right c.requires.node c.requires.slot)
 
 pub give_back-requires : goal.give_back-requires
 give_back-requires g c =
@@ -53,14 +53,14 @@ returns-in-Ok-clause-others g c =
     (ap (λ (s : Store). s.slots) c.settle_in.ensures.store ∙ c.give_back.ensures)
     (ap (λ (s : Store). s.map) c.settle_in.ensures.store)
     (ap (λ (s : Store). length s.marks) c.settle_in.ensures.store)))
-    (brought_others w c.args.frame.0 c.args.node slots bytes (omega (arith, c.requires.taken.within, c.requires.right.tied.map_frames)))
+    (brought_others w c.args.frame.0 c.args.node slots bytes (omega (arith, c.requires.taken.within, c.requires.right.tied.fitted.map_frames)))
 
 pub returns-in-Ok-clause-page : goal.returns-in-Ok-clause-page
 returns-in-Ok-clause-page g c =
     let bytes : List ℕ = c.swap_in.new.into in
     let full : refill (bytes_of c.args.self.now.frames c.args.frame.0) bytes ≡ bytes = refill_same (bytes_of c.args.self.now.frames c.args.frame.0) bytes (c.swap_in.auto.into ∙ ap (λ (b : List ℕ). length b) c.bytes_mut.ensures.bytes) in
     given_there _ (g.M.Mapper.given c.args.mapper.now) (g.M.Mapper.given c.swap_in.new.self) bytes c.settle_in.new.self.frames c.args.frame.0 c.args.slot c.requires.slot c.in-Ok.ensures.given
-    (ap (λ (s : Store). bytes_of s.frames c.args.frame.0) c.settle_in.ensures.store ∙ get_or-set_same c.args.self.now.frames.bytes c.args.frame.0 _ [] (omega (arith, c.requires.taken.within, c.requires.right.tied.bytes_frames)) ∙ full)
+    (ap (λ (s : Store). bytes_of s.frames c.args.frame.0) c.settle_in.ensures.store ∙ get_or-set_same c.args.self.now.frames.bytes c.args.frame.0 _ [] (omega (arith, c.requires.taken.within, c.requires.right.tied.fitted.bytes_frames)) ∙ full)
 
 pub returns-in-Err-clause-still : goal.returns-in-Err-clause-still
 returns-in-Err-clause-still g c =
