@@ -1,2 +1,5 @@
 pub mod Living
-pub mod Answered
+pub mod Places
+pub mod Owners
+pub mod Kept
+pub mod Gone

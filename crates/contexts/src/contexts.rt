@@ -1,19 +1,31 @@
 // Actors under their numbers.
-ghost use Rattle.std.specs.Prelude.{◌≡◌, ℕ, ◌+◌, ◌-◌, ◌≤◌, ◌<◌, ◌^◌, [], ◌∷◌, ◌++◌, true, false, None, Some, Err, length, slice_set, option_map, IsOk, IsSome, OnErr, OnOk, MatchOption, MatchResult};
-ghost use Rattle.std.specs.Borrow.{sem};
+ghost use Rattle.std.specs.Prelude.{◌≡◌, ℕ, ◌+◌, ◌-◌, ◌≤◌, ◌<◌, ◌^◌, [], ◌∷◌, ◌++◌, true, false, is_some, map, None, Some, Err, length, slice_set, option_map, All, IfOk, IfSome, IsSome, IsSomeAnd, OnErr, OnOk, MatchOption, MatchResult};
+ghost use Rattle.std.specs.List.{list_any};
 ghost use Rattle.vm_ids.specs.declared.refusal.Refusal.TheVariants.{TooMany};
 ghost use Rattle.vm_ids.specs.declared.reply.Trouble.TheVariants.{Memory, Refused};
-ghost use Rattle.regions.specs.AddressSpace.{place_told};
-ghost use Rattle.vm_model.specs.Machine.{Machine, numbered};
-ghost use Rattle.vm_model.specs.Place.{place};
-ghost use Rattle.contexts.specs.Actors.{actor_with, has_region, is_full, owner_of, place_in_space, AreNumbered, AreOf, WithActor};
-ghost use Rattle.contexts.specs.Lending.{LendsRegions};
+ghost use Rattle.regions.specs.AddressSpace.{place_told, IsWellFormed};
+ghost use Rattle.vm_model.specs.Answering.{maps_in, overlaps, region_with, without_region};
+ghost use Rattle.vm_model.specs.Machine.{numbered};
+ghost use Rattle.vm_model.specs.Place.{place_of_actor};
+ghost use Rattle.contexts.specs.Actors.{has_region, is_full, next_region, with_region};
+ghost use Rattle.contexts.specs.Layout.{owner_of};
 
+use crate::spaces::{add_region, maps_any, remove_region};
 use regions::{Place, RegionMap};
 use std::alloc::Global;
 use std::marker::Model;
-use vm_ids::{ActorId, NoMemory, Refusal, RegionId, Trouble};
-use vm_model::{LIVING_ACTORS, MADE};
+use vm_ids::{ActorId, CacheId, Mapping, NoMemory, Refusal, RegionId, Trouble};
+use vm_model::{LIVING_ACTORS, MADE, numbered};
+
+// The actor for which a region was made.
+fn owner_in(owners: &[ActorId], region: RegionId) -> Option<ActorId>
+    ensures { result ≡ owner_of owners.now region.0 }
+{
+    if region.0 == 0 {
+        return None;
+    }
+    owners.get(region.0 as usize - 1).copied()
+}
 
 /// The actors made so far, each with its regions while it is alive.
 #[derive(Drop)]
@@ -46,7 +58,7 @@ impl Contexts {
         requires most { page ≤ 2 ^ 16 }
         ensures page { result.page_bytes ≡ page }
         ensures actors { result.actors ≡ [] }
-        ensures owners { result.owners ≡ [] }
+        ensures made { result.regions_made ≡ 0 }
     {
         Contexts {
             alloc,
@@ -57,28 +69,30 @@ impl Contexts {
         }
     }
 
-    /// The regions of an actor. `None` exactly where it isn't alive.
-    pub fn regions(&self, actor: ActorId) -> Option<&RegionMap>
-        ensures { option_map (λ r. r.now) result ≡ numbered self.now.actors actor.0 }
+    /// The bytes of a page, from 1 to 65,536.
+    pub fn page_bytes(&self) -> u32
+        ensures page { result ≡ self.now.page_bytes }
+        ensures some { 1 ≤ result }
+        ensures most { result ≤ 2 ^ 16 }
     {
-        if actor.0 == 0 {
-            return None;
-        }
-        match self.actors.get(actor.0 as usize - 1) {
-            Some(regions) => regions.as_ref(),
-            None => None,
-        }
+        self.page
     }
 
-    /// The same, to be changed.
-    pub fn regions_mut(&mut self, actor: ActorId) -> Option<&mut RegionMap>
-        ensures* writes_back { sem 𝓛 (LendsRegions self.entry actor.0 result) }
-        ensures value { option_map (λ r. r.now) result ≡ numbered self.old.actors actor.0 }
+    /// How many regions were made, at most 65,535.
+    pub fn regions_made(&self) -> u32
+        ensures made { result ≡ self.now.regions_made }
+        ensures most { result ≤ MADE }
     {
-        if self.regions(actor).is_none() {
-            return None;
-        }
-        self.actors[actor.0 as usize - 1].as_mut()
+        self.owners.len() as u32
+    }
+
+    /// The regions of an actor. `None` exactly where it isn't alive.
+    pub fn regions(&self, actor: ActorId) -> Option<&RegionMap>
+        ensures regions { option_map (λ r. r.now.regions) result
+            ≡ numbered self.now.actors actor.0 }
+        ensures page { IfSome result (λ r. r.now.page_bytes ≡ self.now.page_bytes) }
+    {
+        numbered(&self.actors, actor.0)
     }
 
     /// Makes an actor without regions. `TooMany` exactly where 256 actors are alive or 65,535 were
@@ -87,7 +101,8 @@ impl Contexts {
         ensures refused { is_full self.old ≡ true → result ≡ Err (Refused TooMany) }
         ensures made { is_full self.old ≡ false
             → MatchResult result (λ a. a.0 ≡ length self.old.actors + 1) (λ e. e ≡ Memory) }
-        ensures ok { OnOk result (WithActor self.old self.new) }
+        ensures ok { OnOk result
+            (self.new ≡ record self.old { actors = self.old.actors ++ Some [] ∷ [] }) }
         ensures err { OnErr result (self.new ≡ self.old) }
     {
         if self.living >= LIVING_ACTORS || self.actors.len() >= MADE as usize {
@@ -115,58 +130,48 @@ impl Contexts {
         self.living -= 1;
     }
 
-    /// How many regions were numbered.
-    pub fn regions_made(&self) -> u32
-        ensures { result ≡ length self.now.owners }
-    {
-        self.owners.len() as u32
-    }
-
-    /// Makes room to number one region at least. It can fail only where there was none, and after
-    /// an error everything is as it was.
-    pub fn reserve_region(&mut self) -> Result<(), NoMemory>
-        ensures ok { OnOk result (1 ≤ self.new.spare) }
-        ensures same { self.new ≡ record self.old { spare = self.new.spare } }
+    /// Maps pages into a living actor, as the next region, unlocked. They fit where they are
+    /// mapped, and fewer than 65,535 regions were made. After an error everything is as it was.
+    pub fn map(&mut self, actor: ActorId, mapping: Mapping) -> Result<RegionId, NoMemory>
+        requires few { self.old.regions_made < MADE }
+        requires formed { IsWellFormed self.old.page_bytes (next_region self.old mapping) }
+        requires fits { IsSomeAnd (numbered self.old.actors actor.0) (λ rs.
+            list_any (overlaps self.old.page_bytes mapping.address mapping.extent.pages) rs
+            ≡ false) }
+        ensures number { IfOk result (λ region. region.0 ≡ self.old.regions_made + 1) }
+        ensures ok { OnOk result (self.new ≡ with_region self.old actor.0 mapping) }
         ensures err { OnErr result (self.new ≡ self.old) }
-        ensures enough { 1 ≤ self.old.spare → IsOk result }
     {
         self.owners.reserve(1)?;
-        Ok(())
-    }
-
-    /// The next number for a region, which this actor is to have. At most 65,535 are numbered.
-    pub fn number_region(&mut self, actor: ActorId) -> RegionId
-        requires spare { 1 ≤ self.old.spare }
-        requires few { length self.old.owners < MADE }
-        ensures number { result.0 ≡ length self.old.owners + 1 }
-        ensures noted { self.new ≡ record self.old {
-          spare = self.old.spare - 1;
-          owners = self.old.owners ++ actor ∷ [];
-        } }
-    {
+        let region = RegionId(self.owners.len() as u32 + 1);
+        add_region(&mut self.actors, actor, region, mapping)?;
         self.owners.push_reserved(actor);
-        RegionId(self.owners.len() as u32)
+        Ok(region)
     }
 
-    // The actor for which a region was numbered.
-    fn owner_of(&self, region: RegionId) -> Option<ActorId>
-        ensures { result ≡ owner_of self.now.owners region.0 }
+    /// Takes a region away. `false` exactly where no living actor has it, and then everything is as
+    /// it was.
+    pub fn unmap(&mut self, region: RegionId) -> bool
+        ensures found { result ≡ is_some (region_with region.0 self.old.actors) }
+        ensures gone { result ≡ true → self.new ≡ record self.old {
+          actors = map (option_map (without_region region.0)) self.old.actors;
+        } }
+        ensures none { result ≡ false → self.new ≡ self.old }
     {
-        if region.0 == 0 {
-            return None;
-        }
-        self.owners.get(region.0 as usize - 1).copied()
+        let Some(actor) = self.actor_of(region) else {
+            return false;
+        };
+        remove_region(&mut self.actors, actor, region);
+        true
     }
 
-    /// The living actor that has a region, where each region was numbered for the actor that has
-    /// it. `None` exactly where none has it.
+    /// The living actor that has a region. `None` exactly where none has it.
     pub fn actor_of(&self, region: RegionId) -> Option<ActorId>
-        ensures noted { result ≡ actor_with self.now region.0 }
-        ensures exact { AreNumbered self.now → MatchOption result
+        ensures { MatchOption result
             ((a : ℕ) → has_region region.0 (numbered self.now.actors a) ≡ false)
             (λ a. has_region region.0 (numbered self.now.actors a.0) ≡ true) }
     {
-        let Some(owner) = self.owner_of(region) else {
+        let Some(owner) = owner_in(&self.owners, region) else {
             return None;
         };
         let Some(regions) = self.regions(owner) else {
@@ -178,14 +183,19 @@ impl Contexts {
         }
     }
 
+    /// Whether a region of a living actor maps the cache.
+    pub fn maps(&self, cache: CacheId) -> bool
+        ensures { result ≡ list_any (maps_in cache.0) self.now.actors }
+    {
+        maps_any(&self.actors, cache)
+    }
+
     /// The place of an access of `length` bytes of an actor. `NoActor` where it isn't alive, else
     /// `Crosses` where the access passes the end of a page, and else `BadAddress` where no region
     /// of the actor holds the address.
     pub fn locate(&self, actor: ActorId, address: u64, length: u8) -> Result<Place, Refusal>
-        ensures place { result
-            ≡ place_in_space (numbered self.now.actors actor.0) address length }
-        ensures machine { (m : Machine) → AreOf m self.now
-            → result ≡ place_told (place m actor.0 address length) }
+        ensures { result ≡ place_told (place_of_actor self.now.page_bytes
+            (numbered self.now.actors actor.0) address length) }
     {
         match self.regions(actor) {
             Some(regions) => regions.locate(address, length),

@@ -2,17 +2,17 @@
 //!
 //! Actors are numbered from 1 in the order of making, and so are regions; no number comes again. A
 //! list from the numbers of regions to their actors finds the actor of a region without a search
-//! among the actors. Only `make` and `reserve_region` take memory, for one actor or one region
-//! number more.
+//! among the actors. Only `make` and `map` take memory, for one actor or one region more, and where
+//! there is none everything stays as it was.
 //!
-//! The model is the list of actors, each with its address space (`regions`) or dead, and the actor
-//! of each region that was numbered. `locate` and `actor_of` say in the words of the plain machine
-//! (`vm_model`) what they answer. That each region is numbered for the actor that has it is what
-//! the caller keeps, who makes the regions. This crate stands on `vm_ids`, `vm_model` and
-//! `regions`; the manager stands on it.
+//! The model is what the plain machine (`vm_model`) has of actors: the regions of each, or none
+//! where it is dead, and how many regions were made. The calls say in its words what they do and
+//! answer. Of the fields it holds that each region was made for the actor that has it. This crate
+//! stands on `vm_ids`, `vm_model` and `regions`; the manager (`pvm_core`) stands on it.
 #![tactic(auto)]
 
 mod contexts;
+mod spaces;
 
 pub use contexts::Contexts;
 

@@ -10,7 +10,7 @@ use Rattle.vm_ids.specs.declared.numbers.CacheId.{CacheId}
 use Rattle.vm_ids.specs.declared.numbers.NodeId.{NodeId}
 use Rattle.frame_pool.specs.Pool.{is_pinned}
 use Rattle.local_cache.specs.declared.own_state.OwnState.TheVariants.{Zero}
-use Rattle.local_cache.specs.Arena.{Arena, IsMade, Room, Table, cell, entry_for, page_count, table_at}
+use Rattle.local_cache.specs.Arena.{Arena, IsMade, Room, Table, cell, entry_for, new_table, page_count, table_at}
 use Rattle.local_cache.specs.Reading as arena
 use Rattle.local_cache.specs.Sound as arena_sound
 use Rattle.residency.specs.declared.store.Store.{Store}
@@ -25,13 +25,11 @@ use Rattle.local_cache.proofs.Whole.Pages.{whole_same}
 use Rattle.vm_ids.specs.Forest.Commands.{make}
 use Rattle.vm_ids.specs.Forest.Shape.{IsBounded}
 use Rattle.vm_ids.proofs.Forest.Laws.Commands.{make_keeps_bound}
-use Rattle.vm_model.specs.Machine.{Machine}
+use Rattle.vm_model.specs.Machine.{Actor, Machine, Region}
 use Rattle.vm_model.specs.Outcome.{HasWholePages}
 use Rattle.vm_model.specs.PageForest.{PageForest}
-use Rattle.pvm_core.specs.declared.actors.Actor.{Actor}
-use Rattle.pvm_core.specs.declared.actors.Actors.{Actors}
-use Rattle.pvm_core.specs.declared.actors.Region.{Region}
-use Rattle.pvm_core.specs.Seen.{ArePlaced, AreRight, IsPlaced, actor_seen}
+use Rattle.contexts.specs.Actors.{Actors}
+use Rattle.pvm_core.specs.Placed.{ArePlaced, AreRight, IsPlaced}
 use Rattle.pvm_core.specs.Manager.{IsSound, IsTemporary, IsValid, caches_shown, forest_of, live_in, machine_by, machine_of}
 use Rattle.local_cache.proofs.Nodes.Count.{forest_len}
 use Rattle.pvm_core.proofs.Kept.{seen}
@@ -45,18 +43,17 @@ room_right : (w : World) (r : Room) → IsStoreRight w → IsStoreRight (record 
 unfolding cell
 room_right w r right = record {
   tied = record {
-    bound = right.tied.bound;
-    held = right.tied.held;
-    slots = right.tied.slots;
-    in_slots = right.tied.in_slots;
-    there = right.tied.there;
-    temporary = right.tied.temporary;
-    map_frames = right.tied.map_frames;
-    bytes_frames = right.tied.bytes_frames;
-    pinned_frames = right.tied.pinned_frames;
-    marks_frames = right.tied.marks_frames;
-    few = right.tied.few;
-    page = right.tied.page;
+    placed = record {
+      bound = right.tied.placed.bound;
+      held = right.tied.placed.held;
+      slots = right.tied.placed.slots;
+      in_slots = right.tied.placed.in_slots;
+    };
+    backed = record {
+      there = right.tied.backed.there;
+      temporary = right.tied.backed.temporary;
+    };
+    fitted = right.tied.fitted;
   };
   capacity = right.capacity;
 }
@@ -90,7 +87,7 @@ module _ (a b : Arena) (s u : Store) (t : Actors) (live : ℕ) (room : b ≡ rec
     page_bytes = t.page_bytes;
     frames = ap (λ (s : Store). length s.frames.held) slots j;
     caches = caches_shown (roomy_forest h j) 1 (tables j);
-    actors = map (option_map actor_seen) t.list.items;
+    actors = t.actors;
     regions_made = t.regions_made;
   }
 
@@ -99,7 +96,7 @@ module _ (a b : Arena) (s u : Store) (t : Actors) (live : ℕ) (room : b ≡ rec
     page_bytes = t.page_bytes;
     frames = ap (λ (s : Store). length s.frames.held) slots j;
     caches = caches_shown f 1 (tables j);
-    actors = map (option_map actor_seen) t.list.items;
+    actors = t.actors;
     regions_made = t.regions_made;
   }
 
@@ -112,15 +109,15 @@ module _ (a b : Arena) (s u : Store) (t : Actors) (live : ℕ) (room : b ≡ rec
 
 -- Regions stay placed where a cache is added ----------------------------------------------------
 
-placed_more : (b : ℕ) (f g : ℕ → Option ℕ) → ((n k : ℕ) → f n ≡ Some k → g n ≡ Some k) → (r : Region) → IsPlaced b f r → IsPlaced b g r
-placed_more b f g up r p = record { ends = p.ends; count = p.count; there = up r.cache.0 p.count p.there; within = p.within }
+placed_more : (f g : ℕ → Option ℕ) → ((n k : ℕ) → f n ≡ Some k → g n ≡ Some k) → (r : Region) → IsPlaced f r → IsPlaced g r
+placed_more f g up r p = record { unlocked = p.unlocked; count = p.count; there = up r.cache p.count p.there; within = p.within }
 
-actor_more : (b : ℕ) (f g : ℕ → Option ℕ) → ((n k : ℕ) → f n ≡ Some k → g n ≡ Some k) → (a : Option Actor) → ArePlaced b f a → ArePlaced b g a
-actor_more b f g up None p = tt
-actor_more b f g up (Some a) p = All-weaker (IsPlaced b f) (IsPlaced b g) (placed_more b f g up) a.regions.items p
+actor_more : (f g : ℕ → Option ℕ) → ((n k : ℕ) → f n ≡ Some k → g n ≡ Some k) → (a : Option Actor) → ArePlaced f a → ArePlaced g a
+actor_more f g up None p = tt
+actor_more f g up (Some rs) p = All-weaker (IsPlaced f) (IsPlaced g) (placed_more f g up) rs p
 
 pub right_with : (f g : ℕ → Option ℕ) → ((n k : ℕ) → f n ≡ Some k → g n ≡ Some k) → (t : Actors) → AreRight f t → AreRight g t
-right_with f g up t r = record { some = r.some; most = r.most; living = r.living; placed = All-weaker (ArePlaced t.page_bytes f) (ArePlaced t.page_bytes g) (actor_more t.page_bytes f g up) t.list.items r.placed }
+right_with f g up t r = record { some = r.some; placed = All-weaker (ArePlaced f) (ArePlaced g) (actor_more f g up) t.actors r.placed }
 
 size : Option Table → Option ℕ
 size o = option_map (λ (t : Table). length t.pages) o
@@ -139,7 +136,7 @@ size_more ts x (suc k) n e = get_more ts x k n e
 module _ (b d : Arena) (u : Store) (t : Actors) (live n : ℕ) (cache : CacheId) (nodes : List NodeId) (size : length nodes ≡ n) (made : IsMade b d cache None Zero nodes) (forest : arena.forest_of d ≡ make (zero_pages cache n) (arena.forest_of b)) (sound : arena_sound.IsSound d)
     (i : IsSound b u t live) (few : live + n ≤ Rattle.vm_model.specs.declared.limits.TheConstants.LIVE_PAGES) (room : 2 * (live + n) ≤ b.room.nodes) (slots : 2 * (live + n) ≤ length u.slots) where
   abbrev table : Table
-  table = record { segment = None; pages = map entry_for nodes }
+  table = new_table None nodes
 
   pub begun_sound : IsSound d u t (live + n)
   begun_sound = record {

@@ -15,8 +15,7 @@ use Rattle.vm_model.specs.Machine.{Cache, Page}
 use Rattle.vm_model.specs.Outcome.{blank, blank_cache}
 use Rattle.vm_model.specs.PageForest.{PageForest}
 use Rattle.vm_model.specs.Laws.{IsFollowed}
-use Rattle.pvm_core.specs.declared.actors.Actors.{Actors}
-use Rattle.pvm_core.specs.Seen.{actor_seen}
+use Rattle.contexts.specs.Actors.{Actors}
 use Rattle.pvm_core.specs.Manager.{IsSound, caches_shown, forest_of, machine_by, machine_of}
 use Rattle.pvm_core.proofs.Begun.{right_with}
 use Rattle.pvm_core.proofs.Determined.{IsShaped, followed_is}
@@ -96,7 +95,7 @@ module _ (b d : Arena) (s u : Store) (t : Actors) (live : ℕ) (i : IsSound b s 
       page_bytes = t.page_bytes;
       frames = gives.frames j;
       caches = followed_is (record (machine_of (seen b s t) h) { caches = cs }) (forest_of (seen d u t) h) F d.caches (many ∙ sym same.count) (λ k low. shapes_now k) j;
-      actors = map (option_map actor_seen) t.list.items;
+      actors = t.actors;
       regions_made = t.regions_made;
     }
 
@@ -105,6 +104,6 @@ module _ (b d : Arena) (s u : Store) (t : Actors) (live : ℕ) (i : IsSound b s 
       page_bytes = t.page_bytes;
       frames = gives.frames j;
       caches = blanks_same (caches_shown f 1 d.caches) cs d.caches (shown_made f 1 d.caches) (many ∙ sym same.count) (shown_shaped f 1 d.caches) shapes_now j;
-      actors = map (option_map actor_seen) t.list.items;
+      actors = t.actors;
       regions_made = t.regions_made;
     })

@@ -1,6 +1,6 @@
 -- A manager without caches.
-use Rattle.std.proofs.Common.{◌≡◌, ℕ, zero, suc, ◌≤◌, ◌^◌, ◌+◌, List, [], length, Option, Some, None, is_some, refl, sym, ap, ◌∙◌, subst, arith, Vec, Global, replicate, false, map}
-use Rattle.std.specs.Prelude.{IfSome, count_by, sum_by, option_map}
+use Rattle.std.proofs.Common.{◌≡◌, ℕ, zero, suc, ◌≤◌, ◌^◌, ◌+◌, List, [], length, Option, Some, None, is_some, refl, sym, ap, ◌∙◌, subst, arith, replicate, false}
+use Rattle.std.specs.Prelude.{IfSome, count_by, sum_by}
 use Rattle.std.specs.List.{All, slice_index_or}
 use Rattle.std.proofs.lemmas.Bool.{false≢true}
 use Rattle.std.proofs.lemmas.List.{length-replicate}
@@ -25,8 +25,8 @@ use Rattle.residency.specs.World.{HasNoNodes, own_page, world}
 use Rattle.local_cache.specs.Whole.{size_of}
 use Rattle.local_cache.proofs.Whole.Pages.{no_caches, no_nodes}
 use Rattle.vm_model.specs.Outcome.{IsWhole}
-use Rattle.pvm_core.specs.declared.actors.Actor.{Actor}
-use Rattle.pvm_core.specs.Seen.{ArePlaced}
+use Rattle.contexts.specs.Actors.{Actors}
+use Rattle.pvm_core.specs.Placed.{ArePlaced}
 use Rattle.pvm_core.specs.Manager as manager
 use Rattle.pvm_core.specs.Manager.{caches_shown}
 
@@ -35,10 +35,10 @@ none_pinned zero f = refl
 none_pinned (suc n) zero = refl
 none_pinned (suc n) (suc f) = none_pinned n f
 
-pub none_sound : (alloc : Global) (frames page : ℕ) (a : Arena) (s : Store) (list : Vec (Option Actor) Global) → 3 ≤ frames → 1 ≤ page → page ≤ 2 ^ 16 → HasNoNodes a → a.caches ≡ [] → forest_of a ≡ no_forest → IsSound a
+pub none_sound : (frames page : ℕ) (a : Arena) (s : Store) (t : Actors) → 3 ≤ frames → 1 ≤ page → page ≤ 2 ^ 16 → HasNoNodes a → a.caches ≡ [] → forest_of a ≡ no_forest → IsSound a
     → s ≡ record { frames = record { page = page; held = replicate frames false; pinned = replicate frames false; bytes = replicate frames (replicate page 0) }; slots = []; map = replicate frames None; marks = replicate frames false }
-    → list.items ≡ [] → manager.IsSound a s (record { alloc = alloc; page_bytes = page; list = list; regions_made = 0; living = 0 }) 0
-none_sound alloc frames page a s list three some most none tables forest sound is items = record {
+    → t.page_bytes ≡ page → t.actors ≡ [] → manager.IsSound a s t 0
+none_sound frames page a s t three some most none tables forest sound is size items = record {
   nodes = record {
     sound = sound;
     consistent = subst IsConsistent (sym forest) (no_forest_is_consistent OwnState);
@@ -53,12 +53,10 @@ none_sound alloc frames page a s list three some most none tables forest sound i
   loose = subst (λ (s : Store). count_by (λ p. p) s.frames.pinned + 3 ≤ length s.frames.pinned) (sym is) (omega (arith, three, length-replicate frames false, count-replicate_none (λ h. h) frames false refl));
   unpinned = λ f. ap (λ (s : Store). slice_index_or s.frames.pinned f false) is ∙ none_pinned frames f;
   actors = record {
-    some = some;
-    most = most;
-    living = sym (ap (λ (xs : List (Option Actor)). count_by is_some (map (option_map Rattle.pvm_core.specs.Seen.actor_seen) xs)) items);
-    placed = All-same (ArePlaced page (size_of a)) list.items [] items (All-nil (ArePlaced page (size_of a)));
+    some = subst (λ (n : ℕ). 1 ≤ n) (sym size) some;
+    placed = All-same (ArePlaced (size_of a)) t.actors [] items (All-nil (ArePlaced (size_of a)));
   };
-  page = sym (ap (λ (s : Store). s.frames.page) is);
+  page = size ∙ sym (ap (λ (s : Store). s.frames.page) is);
 }
 
 pub none_forest : (h : Option Held) (a : Arena) (s : Store) → HasNoNodes a → (a.made ≡ 0) × (a.copies ≡ 0) → store_forest (world h None a s) ≡ no_forest

@@ -14,7 +14,7 @@ use Rattle.residency.specs.Causes.{Made, pulls_for}
 use Rattle.residency.specs.World.{HoldsPage, IsStoreRight, world}
 use Rattle.residency.proofs.Homes.{home}
 use Rattle.fault_path.specs.Faults.{IsFound, is_at_hand, is_zero}
-use Rattle.pvm_core.specs.declared.actors.Actors.{Actors}
+use Rattle.contexts.specs.Actors.{Actors}
 use Rattle.pvm_core.specs.Access.{IsFoundIn}
 use Rattle.pvm_core.specs.Pieces.{bytes_found}
 use Rattle.pvm_core.proofs.Kept.{seen}

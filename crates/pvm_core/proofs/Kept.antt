@@ -1,5 +1,5 @@
 -- What stays where actors alone change, and where pages are moved about.
-use Rattle.std.proofs.Common.{◌≡◌, ℕ, suc, ◌+◌, ◌≤◌, Bool, true, false, cond, List, [], ◌∷◌, length, map, Option, Some, None, is_some, refl, sym, ap, ◌∙◌, subst, arith}
+use Rattle.std.proofs.Common.{◌≡◌, ℕ, suc, ◌+◌, ◌≤◌, Bool, true, false, cond, List, [], ◌∷◌, length, Option, Some, None, is_some, refl, sym, ap, ◌∙◌, subst, arith}
 use Rattle.std.specs.Prelude.{IfSome, OnErr, Result, Ok, Err, option_map, sum_by, count_by}
 use Rattle.std.specs.List.{All, slice_index_or}
 use Rattle.std.specs.FinMap as ids
@@ -31,8 +31,8 @@ use Rattle.local_cache.specs.Whole.{size_of}
 use Rattle.vm_model.specs.Machine.{Machine}
 use Rattle.vm_model.specs.Outcome.{HasWholePages}
 use Rattle.vm_model.specs.PageForest.{PageForest}
-use Rattle.pvm_core.specs.declared.actors.Actors.{Actors}
-use Rattle.pvm_core.specs.Seen.{machine_with, AreRight, actor_seen}
+use Rattle.contexts.specs.Actors.{Actors}
+use Rattle.pvm_core.specs.Placed.{AreRight}
 use Rattle.pvm_core.proofs.Live.{nodes_most}
 use Rattle.pvm_core.specs.Manager.{IsSound, IsTemporary, IsValid, Manager, caches_shown, forest_of, machine_by, machine_of}
 
@@ -97,18 +97,19 @@ sizeless h i a s = refl
 pub unsized_right : (h : Option Held) (i : Option ℕ) (a : Arena) (s : Store) → IsStoreRight (world h i a s) → IsStoreRight (world h None a s)
 unsized_right h i a s r = record {
   tied = record {
-    bound = r.tied.bound;
-    held = r.tied.held;
-    slots = r.tied.slots;
-    in_slots = r.tied.in_slots;
-    there = r.tied.there;
-    temporary = r.tied.temporary;
-    map_frames = r.tied.map_frames;
-    bytes_frames = r.tied.bytes_frames;
-    pinned_frames = r.tied.pinned_frames;
-    marks_frames = r.tied.marks_frames;
-    few = r.tied.few;
-    page = tt;
+    placed = r.tied.placed;
+    backed = record {
+      there = r.tied.backed.there;
+      temporary = r.tied.backed.temporary;
+    };
+    fitted = record {
+      map_frames = r.tied.fitted.map_frames;
+      bytes_frames = r.tied.fitted.bytes_frames;
+      pinned_frames = r.tied.fitted.pinned_frames;
+      marks_frames = r.tied.fitted.marks_frames;
+      few = r.tied.fitted.few;
+      page = tt;
+    };
   };
   capacity = r.capacity;
 }
@@ -116,18 +117,19 @@ unsized_right h i a s r = record {
 pub sized_right : (h : Option Held) (i : Option ℕ) (a : Arena) (s : Store) → IfSome i (λ n. n ≡ s.frames.page) → IsStoreRight (world h None a s) → IsStoreRight (world h i a s)
 sized_right h i a s fits r = record {
   tied = record {
-    bound = r.tied.bound;
-    held = r.tied.held;
-    slots = r.tied.slots;
-    in_slots = r.tied.in_slots;
-    there = r.tied.there;
-    temporary = r.tied.temporary;
-    map_frames = r.tied.map_frames;
-    bytes_frames = r.tied.bytes_frames;
-    pinned_frames = r.tied.pinned_frames;
-    marks_frames = r.tied.marks_frames;
-    few = r.tied.few;
-    page = fits;
+    placed = r.tied.placed;
+    backed = record {
+      there = r.tied.backed.there;
+      temporary = r.tied.backed.temporary;
+    };
+    fitted = record {
+      map_frames = r.tied.fitted.map_frames;
+      bytes_frames = r.tied.fitted.bytes_frames;
+      pinned_frames = r.tied.fitted.pinned_frames;
+      marks_frames = r.tied.fitted.marks_frames;
+      few = r.tied.fitted.few;
+      page = fits;
+    };
   };
   capacity = r.capacity;
 }
@@ -172,7 +174,7 @@ module _ (a b : Arena) (s t : Store) (h g : Option Held) (i j : Option ℕ) (k :
   }
 
 abbrev pub seen : Arena → Store → Actors → Manager
-seen a s t = record { caches = a; store = s; page_bytes = t.page_bytes; actors = map (option_map actor_seen) t.list.items; regions_made = t.regions_made }
+seen a s t = record { caches = a; store = s; page_bytes = t.page_bytes; actors = t.actors; regions_made = t.regions_made }
 
 module _ (a b : Arena) (s t : Store) (h g : Option Held) (i j : Option ℕ) (k : Kept (world h i a s) (world g j b t)) (actors : Actors) where
   -- the machine is the same, with the pages of any forest
@@ -181,7 +183,7 @@ module _ (a b : Arena) (s t : Store) (h g : Option Held) (i j : Option ℕ) (k :
     page_bytes = actors.page_bytes;
     frames = k.frames n;
     caches = caches_shown f 1 (k.nodes.caches n);
-    actors = map (option_map actor_seen) actors.list.items;
+    actors = actors.actors;
     regions_made = actors.regions_made;
   }
 
@@ -222,8 +224,8 @@ module _ (a b : Arena) (s t : Store) (h g : Option Held) (i j : Option ℕ) (sti
   stilled_machine = kept_machine a b s t h g i j stilled actors (still_forest (world h i a s) (world g j b t) still)
 
 -- actors that look the same
-pub seated_same : (a : Arena) (s : Store) (t u : Actors) → machine_with [] 0 u ≡ machine_with [] 0 t → seen a s u ≡ seen a s t
-seated_same a s t u e = λ j. record { caches = a; store = s; page_bytes = (e j).page_bytes; actors = (e j).actors; regions_made = (e j).regions_made }
+pub seated_same : (a : Arena) (s : Store) (t u : Actors) → u ≡ t → seen a s u ≡ seen a s t
+seated_same a s t u e = ap (seen a s) e
 
 -- no frame is pinned
 pub pinned_none : (ps : List Bool) → ((f : ℕ) → slice_index_or ps f false ≡ false) → count_by (λ p. p) ps ≡ 0

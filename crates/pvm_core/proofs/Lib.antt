@@ -1,6 +1,5 @@
 mod Found
 mod Listed
-mod Regions
 mod Shown
 mod Empty
 mod Values

@@ -1,77 +1,34 @@
--- Actors and their regions, before and after a change.
-use Rattle.std.proofs.Common.{◌≡◌, ◌==◌, ℕ, ◌+◌, ◌-◌, ◌*◌, ◌%◌, ◌^◌, Bool, true, false, cond, not, List, [], ◌∷◌, ◌++◌, length, set, take, drop, map, filter, Option, Some, None, refl, sym, ap, ◌∙◌, rules, Vec, Global}
-use Rattle.std.specs.Prelude.{option_map, count_by, is_some, insert, IsSome, Result, Ok, Err, OnOk, OnErr, nat_le, nat_lt}
+-- Actors and their regions: the rows of their commands, where regions lie after them, and the place of an access.
+use Rattle.std.proofs.Common.{◌≡◌, ◌==◌, ℕ, ◌+◌, ◌-◌, ◌*◌, ◌/◌, ◌%◌, ◌^◌, ◌<◌, ◌≤◌, Bool, true, false, cond, not, List, [], ◌∷◌, ◌++◌, length, map, Option, Some, None, refl, sym, ap, subst, ◌∙◌, arith, rules, div-lt_iff_lt-mul, mul_comm}
+use Rattle.std.specs.Prelude.{option_map, is_some, MatchResult, OnErr, OnOk, Result, Ok, Err, nat_le, nat_lt, ◌&&◌}
 use Rattle.std.specs.List.{All, list_any}
 use Rattle.std.specs.Option.{option_or}
-use Rattle.std.proofs.lemmas.Option.{slice_get-map}
-use Rattle.std.proofs.lemmas.List.{map_push}
-use Rattle.std.proofs.lemmas.List.Elements.{All-append, All-take, All-drop, All-set, All-cons, All-nil, All-same}
-use Rattle.std.proofs.lemmas.List.Sums.{sum_by-cons, sum_by_push}
+use Rattle.std.proofs.lemmas.Bool.Decides.{nat_tests}
+use Rattle.std.proofs.lemmas.List.Elements.{All-append, All-cons, All-filter, All-head, All-nil, All-set, All-tail}
+use Rattle.vm_ids.specs.Counting.{no_counts}
+use Rattle.vm_ids.specs.Held.{Segments}
+use Rattle.vm_ids.specs.declared.command.Command.TheVariants as commands
 use Rattle.vm_ids.specs.declared.command.Mapping.{Mapping}
-use Rattle.vm_ids.specs.declared.reply.NoMemory.{NoMemory}
-use Rattle.vm_ids.specs.declared.reply.Reply.TheVariants as replies
+use Rattle.vm_ids.specs.declared.numbers.ActorId.{ActorId}
+use Rattle.vm_ids.specs.declared.refusal.Refusal.{Refusal}
 use Rattle.vm_ids.specs.declared.refusal.Refusal.TheVariants as refusals
+use Rattle.vm_ids.specs.declared.reply.Reply.TheVariants as replies
+use Rattle.vm_ids.specs.declared.reply.Trouble.{Trouble}
+use Rattle.vm_ids.specs.declared.reply.Trouble.TheVariants as troubles
 use Rattle.vm_model.specs.declared.limits.TheConstants.{MADE}
 use Rattle.vm_model.specs.Machine as model
 use Rattle.vm_model.specs.Machine.{numbered}
-use Rattle.vm_model.specs.Answering.{add_region, insert_region, map_of, unmap_of, overlaps, passes_end, refuse, region_among, region_of, region_with, reply, unless, with_some, without_region}
-use Rattle.vm_model.proofs.Lists.{at_number, is_there, numbered-map, sum_by_same}
-use Rattle.pvm_core.specs.declared.actors.Actor.{Actor}
-use Rattle.pvm_core.specs.declared.actors.Actors.{Actors}
-use Rattle.pvm_core.specs.declared.actors.Region.{Region}
-use Rattle.pvm_core.specs.Seen.{actor_seen, region_seen, machine_with, IsPlaced, ArePlaced, AreRight}
-
--- one actor more
-pub living-push : (xs : List (Option Actor)) (a : Actor) → count_by is_some (map (option_map actor_seen) (xs ++ Some a ∷ [])) ≡ count_by is_some (map (option_map actor_seen) xs) + 1
-living-push xs a = ap (count_by is_some) (map_push (option_map actor_seen) xs (Some a)) ∙ sum_by_push (λ o. cond (is_some o) 1 0) (map (option_map actor_seen) xs) (Some (actor_seen a))
-
--- a new actor has no regions
-pub right_more : (sizes : ℕ → Option ℕ) (t : Actors) (list : Vec (Option Actor) Global) (a : Actor) (n : ℕ) → list.items ≡ t.list.items ++ Some a ∷ [] → a.regions.items ≡ [] → n ≡ t.living + 1 → AreRight sizes t → AreRight sizes (record t { list = list; living = n })
-right_more sizes t list a n items none more s = record {
-  some = s.some;
-  most = s.most;
-  living = more ∙ ap (λ k. k + 1) s.living ∙ sym (ap (λ xs. count_by is_some (map (option_map actor_seen) xs)) items ∙ living-push t.list.items a);
-  placed = All-same (ArePlaced t.page_bytes sizes) _ _ items (All-append (ArePlaced t.page_bytes sizes) t.list.items (Some a ∷ []) s.placed
-      (All-cons (ArePlaced t.page_bytes sizes) (Some a) [] (All-same (IsPlaced t.page_bytes sizes) _ _ none (All-nil (IsPlaced t.page_bytes sizes))) (All-nil (ArePlaced t.page_bytes sizes))));
-}
-
--- an actor whose regions are replaced by placed ones
-pub placed-set : (b : ℕ) (sizes : ℕ → Option ℕ) (xs : List (Option Actor)) (i : ℕ) (a : Actor) → All (IsPlaced b sizes) a.regions.items → All (ArePlaced b sizes) xs → All (ArePlaced b sizes) (set xs i (Some a))
-placed-set b sizes xs i a p h = All-set (ArePlaced b sizes) xs i (Some a) p h
-
--- a placed region among placed ones
-placed-insert : (b : ℕ) (sizes : ℕ → Option ℕ) (rs : List Region) (at : ℕ) (r : Region) → IsPlaced b sizes r → All (IsPlaced b sizes) rs → All (IsPlaced b sizes) (insert rs at r)
-placed-insert b sizes rs at r p h = All-append (IsPlaced b sizes) (take at rs) (r ∷ drop at rs) (All-take (IsPlaced b sizes) at rs h) (All-cons (IsPlaced b sizes) r (drop at rs) p (All-drop (IsPlaced b sizes) at rs h))
-
--- regions after one was to be added
-pub placed-added : (b : ℕ) (sizes : ℕ → Option ℕ) (r : Region) (before after : List Region) (result : Result (Unit {0}) NoMemory) → OnOk result ((at : ℕ) × (after ≡ insert before at r)) → OnErr result (after ≡ before) → IsPlaced b sizes r → All (IsPlaced b sizes) before → All (IsPlaced b sizes) after
-placed-added b sizes r before after (Ok x) ok err p h = All-same (IsPlaced b sizes) after (insert before ok.0 r) ok.1 (placed-insert b sizes before ok.0 r p h)
-placed-added b sizes r before after (Err e) ok err p h = All-same (IsPlaced b sizes) after before err h
-
--- as many actors live where a living one is replaced
-living-set : (xs : List (Option Actor)) (n : ℕ) (a : Actor) (regions : model.Actor) → numbered xs n ≡ Some a → count_by is_some (set (map (option_map actor_seen) xs) (n - 1) (Some regions)) ≡ count_by is_some (map (option_map actor_seen) xs)
-living-set xs n a regions there = sum_by_same (λ o. cond (is_some o) 1 0) (map (option_map actor_seen) xs) (n - 1) (Some (actor_seen a)) (Some regions)
-    (slice_get-map (option_map actor_seen) xs (n - 1) ∙ ap (option_map (option_map actor_seen)) (at_number xs n a there)) refl
-
--- the actors stay right where the list changes, if as many live and all their regions are placed
-pub right-list : (sizes : ℕ → Option ℕ) (t : Actors) (list : Vec (Option Actor) Global) (made : ℕ) → count_by is_some (map (option_map actor_seen) list.items) ≡ count_by is_some (map (option_map actor_seen) t.list.items) → All (ArePlaced t.page_bytes sizes) list.items → AreRight sizes t → AreRight sizes (record t { list = list; regions_made = made })
-right-list sizes t list made living placed s = record {
-  some = s.some;
-  most = s.most;
-  living = s.living ∙ sym living;
-  placed = placed;
-}
-
--- as many actors live after a region was to be added to one
-pub living-added : (t : Actors) (actors : List (Option Actor)) (n : ℕ) (r : Region) (result : Result (Unit {0}) NoMemory) → IsSome (numbered t.list.items n)
-    → OnOk result (map (option_map actor_seen) actors ≡ set (map (option_map actor_seen) t.list.items) (n - 1) (option_map (λ a. insert_region (region_seen r) (actor_seen a)) (numbered t.list.items n)))
-    → OnErr result (map (option_map actor_seen) actors ≡ map (option_map actor_seen) t.list.items)
-    → count_by is_some (map (option_map actor_seen) actors) ≡ count_by is_some (map (option_map actor_seen) t.list.items)
-living-added t actors n r (Ok x) there ok err =
-    let a = is_there (numbered t.list.items n) there in
-    ap (count_by is_some) (ok ∙ ap (λ (o : Option Actor). set (map (option_map actor_seen) t.list.items) (n - 1) (option_map (λ a. insert_region (region_seen r) (actor_seen a)) o)) a.1)
-    ∙ living-set t.list.items n a.0 (insert_region (region_seen r) (actor_seen a.0)) a.1
-living-added t actors n r (Err e) there ok err = ap (count_by is_some) err
+use Rattle.vm_model.specs.Answering.{answer_by, insert_region, make_actor_of, map_of, unmap_of, overlaps, passes_end, refuse, region_among, region_with, reply, unless, with_some, without_region}
+use Rattle.vm_model.specs.Outcome.{Outcome}
+use Rattle.vm_model.specs.PageForest.{PageForest}
+use Rattle.vm_model.specs.Place.{Place, holds, place_in, place_of_actor, placed, region_at}
+use Rattle.vm_model.proofs.Sound.{numbered-all}
+use Rattle.regions.specs.AddressSpace.{access_to, place_told}
+use Rattle.regions.specs.declared.region.Place as regions
+use Rattle.contexts.specs.Actors.{Actors, is_full, next_region, with_region}
+use Rattle.contexts.proofs.Owners.{all_insert}
+use Rattle.pvm_core.specs.Maps.{map_refusal}
+use Rattle.pvm_core.specs.Placed.{ArePlaced, AreRight, IsPlaced}
 
 -- a cache with so many pages
 pub sized : (o : Option model.Cache) (n : ℕ) → option_map (λ (c : model.Cache). length c.pages) o ≡ Some n → (c : model.Cache) × (o ≡ Some c) × (length c.pages ≡ n)
@@ -82,117 +39,277 @@ pub unsized : (o : Option model.Cache) → option_map (λ (c : model.Cache). len
 unsized None e = refl
 unsized (Some c) e = absurd (search rules)
 
-module _ (caches : List (Option model.Cache)) (frames : ℕ) (t : Actors) where
-  abbrev m : model.Machine
-  m = machine_with caches frames t
+abbrev pub size_in : Option model.Cache → Option ℕ
+size_in o = option_map (λ (c : model.Cache). length c.pages) o
 
-  -- the machine after a mapping
-  pub seen_added : (n : ℕ) (p : Mapping) (a : Actor) (r : Region) → numbered t.list.items n ≡ Some a → region_seen r ≡ region_of (t.regions_made + 1) p
-      → record (machine_with caches frames t) { regions_made = t.regions_made + 1; actors = set (machine_with caches frames t).actors (n - 1) (option_map (λ a. insert_region (region_seen r) (actor_seen a)) (numbered t.list.items n)) } ≡ add_region (machine_with caches frames t) n (actor_seen a) p
-  seen_added n p a r here e =
-      ap (λ (o : Option Actor). record m { regions_made = t.regions_made + 1; actors = set m.actors (n - 1) (option_map (λ a. insert_region (region_seen r) (actor_seen a)) o) }) here
-      ∙ ap (λ (x : model.Region). record m { regions_made = t.regions_made + 1; actors = set m.actors (n - 1) (Some (insert_region x (actor_seen a))) }) e
+-- the machine with these caches and frames, and with these actors
+abbrev pub machine_with : List (Option model.Cache) → ℕ → Actors → model.Machine
+machine_with caches frames t = record { page_bytes = t.page_bytes; frames = frames; caches = caches; actors = t.actors; regions_made = t.regions_made }
 
-  no_actor : (actor : ℕ) → None ≡ numbered t.list.items actor → model.actor_of (machine_with caches frames t) actor ≡ None
-  no_actor actor none = numbered-map actor_seen t.list.items actor ∙ ap (option_map actor_seen) (sym none)
+-- A mapping ---------------------------------------------------------------------------------
 
-  some_actor : (actor : ℕ) (a : Actor) → numbered t.list.items actor ≡ Some a → model.actor_of (machine_with caches frames t) actor ≡ Some (actor_seen a)
-  some_actor actor a here = numbered-map actor_seen t.list.items actor ∙ ap (option_map actor_seen) here
+-- nothing refuses it
+pub record IsMappable (t : Actors) (o : Option model.Actor) (q : Option ℕ) (p : Mapping) : Type 0 where
+  pub regions : model.Actor
+  pub count : ℕ
+  pub here : o ≡ Some regions
+  pub there : q ≡ Some count
+  pub aligned : (p.address % t.page_bytes == 0) ≡ true
+  pub low : nat_lt (2 ^ 48) (p.address + t.page_bytes * p.extent.pages) ≡ false
+  pub inside : nat_lt count (p.extent.first.0 + p.extent.pages) ≡ false
+  pub apart : list_any (overlaps t.page_bytes p.address p.extent.pages) regions ≡ false
+  pub few : nat_le MADE t.regions_made ≡ false
 
-  module _ (actor : ℕ) (p : Mapping) where
-    pub map_no_actor : None ≡ numbered t.list.items actor → map_of (machine_with caches frames t) actor p ≡ refuse (machine_with caches frames t) refusals.NoActor
-    unfolding map_of with_some
-    map_no_actor none = let e = no_actor actor none in rw e refl
+module _ (t : Actors) (p : Mapping) where
+  abbrev aligned_at : Bool
+  aligned_at = p.address % t.page_bytes == 0
 
-    module _ (a : Actor) (here : numbered t.list.items actor ≡ Some a) where
-      pub map_no_cache : numbered caches p.extent.cache.0 ≡ None → map_of (machine_with caches frames t) actor p ≡ refuse (machine_with caches frames t) refusals.NoCache
-      unfolding map_of with_some
-      map_no_cache none = let e = some_actor actor a here in rw (e, none) refl
+  abbrev high : Bool
+  high = nat_lt (2 ^ 48) (p.address + t.page_bytes * p.extent.pages)
 
-      module _ (c : model.Cache) (there : numbered caches p.extent.cache.0 ≡ Some c) where
-        pub map_unaligned : (p.address % t.page_bytes == 0) ≡ false → map_of (machine_with caches frames t) actor p ≡ refuse (machine_with caches frames t) refusals.Unaligned
-        unfolding map_of with_some unless
-        map_unaligned off = let e = some_actor actor a here in rw (e, there, off) refl
+  abbrev past : ℕ → Bool
+  past n = nat_lt n (p.extent.first.0 + p.extent.pages)
 
-        module _ (aligned : (p.address % t.page_bytes == 0) ≡ true) where
-          pub map_bad : nat_lt (2 ^ 48) (p.address + t.page_bytes * p.extent.pages) ≡ true → map_of (machine_with caches frames t) actor p ≡ refuse (machine_with caches frames t) refusals.BadAddress
-          unfolding map_of with_some unless
-          map_bad on = let e = some_actor actor a here in rw (e, there, aligned, on) refl
+  abbrev meets : model.Actor → Bool
+  meets regions = list_any (overlaps t.page_bytes p.address p.extent.pages) regions
 
-          module _ (below : nat_lt (2 ^ 48) (p.address + t.page_bytes * p.extent.pages) ≡ false) where
-            pub map_out : passes_end c p.extent.first.0 p.extent.pages ≡ true → map_of (machine_with caches frames t) actor p ≡ refuse (machine_with caches frames t) refusals.OutOfCache
-            unfolding map_of with_some unless
-            map_out on = let e = some_actor actor a here in rw (e, there, aligned, below, on) refl
+  abbrev many : Bool
+  many = nat_le MADE t.regions_made
 
-            module _ (inside : passes_end c p.extent.first.0 p.extent.pages ≡ false) where
-              pub map_overlap : list_any (overlaps t.page_bytes p.address p.extent.pages) (actor_seen a) ≡ true → map_of (machine_with caches frames t) actor p ≡ refuse (machine_with caches frames t) refusals.Overlap
-              unfolding map_of with_some unless
-              map_overlap on = let e = some_actor actor a here in rw (e, there, aligned, below, inside, on) refl
+  pub is_mappable : (o : Option model.Actor) (q : Option ℕ) → map_refusal t o q p ≡ None → IsMappable t o q p
+  is_mappable None q e = absurd (cc e)
+  is_mappable (Some rs) None e = absurd (cc e)
+  is_mappable (Some rs) (Some n) e = go aligned_at high (past n) (meets rs) many refl refl refl refl refl
+    where
+      go : (v w x y z : Bool) → aligned_at ≡ v → high ≡ w → past n ≡ x → meets rs ≡ y → many ≡ z → IsMappable t (Some rs) (Some n) p
+      go false w x y z a b c d f = absurd (cc (e, a))
+      go true true x y z a b c d f = absurd (cc (e, a, b))
+      go true false true y z a b c d f = absurd (cc (e, a, b, c))
+      go true false false true z a b c d f = absurd (cc (e, a, b, c, d))
+      go true false false false true a b c d f = absurd (cc (e, a, b, c, d, f))
+      go true false false false false a b c d f = record { regions = rs; count = n; here = refl; there = refl; aligned = a; low = b; inside = c; apart = d; few = f }
 
-              module _ (apart : list_any (overlaps t.page_bytes p.address p.extent.pages) (actor_seen a) ≡ false) where
-                pub map_many : nat_le MADE t.regions_made ≡ true → map_of (machine_with caches frames t) actor p ≡ refuse (machine_with caches frames t) refusals.TooMany
-                unfolding map_of with_some unless
-                map_many on = let e = some_actor actor a here in rw (e, there, aligned, below, inside, apart, on) refl
+  module _ (caches : List (Option model.Cache)) (frames : ℕ) (actor : ℕ) where
+    abbrev m : model.Machine
+    m = machine_with caches frames t
 
-                -- a mapping that nothing refuses
-                pub map_row : nat_le MADE t.regions_made ≡ false → map_of (machine_with caches frames t) actor p ≡ reply (replies.Region (record { 0 = t.regions_made + 1 })) (add_region (machine_with caches frames t) actor (actor_seen a) p)
-                unfolding map_of with_some unless
-                map_row fewer = let e = some_actor actor a here in rw (e, there, aligned, below, inside, apart, fewer) refl
+    pub map_refused : (r : Refusal) (o : Option model.Actor) (q : Option model.Cache) → numbered t.actors actor ≡ o → numbered caches p.extent.cache.0 ≡ q → map_refusal t o (size_in q) p ≡ Some r
+        → map_of (machine_with caches frames t) actor p ≡ refuse (machine_with caches frames t) r
+    unfolding map_of with_some unless
+    map_refused r None q here there is = let e : refusals.NoActor ≡ r = cc is in rw here (ap (refuse m) e)
+    map_refused r (Some rs) None here there is = let e : refusals.NoCache ≡ r = cc is in rw (here, there) (ap (refuse m) e)
+    map_refused r (Some rs) (Some c) here there is = go aligned_at high (past (length c.pages)) (meets rs) many refl refl refl refl refl
+      where
+        go : (v w x y z : Bool) → aligned_at ≡ v → high ≡ w → past (length c.pages) ≡ x → meets rs ≡ y → many ≡ z → map_of (machine_with caches frames t) actor p ≡ refuse (machine_with caches frames t) r
+        go false w x y z a b d e f = let same : refusals.Unaligned ≡ r = cc (is, a) in rw (here, there, a) (ap (refuse m) same)
+        go true true x y z a b d e f = let same : refusals.BadAddress ≡ r = cc (is, a, b) in rw (here, there, a, b) (ap (refuse m) same)
+        go true false true y z a b d e f = let same : refusals.OutOfCache ≡ r = cc (is, a, b, d) in rw (here, there, a, b, d) (ap (refuse m) same)
+        go true false false true z a b d e f = let same : refusals.Overlap ≡ r = cc (is, a, b, d, e) in rw (here, there, a, b, d, e) (ap (refuse m) same)
+        go true false false false true a b d e f = let same : refusals.TooMany ≡ r = cc (is, a, b, d, e, f) in rw (here, there, a, b, d, e, f) (ap (refuse m) same)
+        go true false false false false a b d e f = absurd (cc (is, a, b, d, e, f))
+
+    -- the row of a mapping that nothing refuses, and the machine after it
+    pub map_row : (k : IsMappable t (numbered t.actors actor) (size_in (numbered caches p.extent.cache.0)) p)
+        → map_of (machine_with caches frames t) actor p ≡ reply (replies.Region (record { 0 = t.regions_made + 1 })) (machine_with caches frames (with_region t actor p))
+    unfolding map_of with_some unless
+    map_row k =
+        let c = sized (numbered caches p.extent.cache.0) k.count k.there in
+        let here = k.here in
+        let there = c.1 in
+        let aligned = k.aligned in
+        let low = k.low in
+        let inside : passes_end c.0 p.extent.first.0 p.extent.pages ≡ false = ap (λ (n : ℕ). nat_lt n (p.extent.first.0 + p.extent.pages)) c.2 ∙ k.inside in
+        let apart = k.apart in
+        let few = k.few in
+        row c.0 k.regions here there aligned low inside apart few
+      where
+        row : (c : model.Cache) (rs : model.Actor) → numbered t.actors actor ≡ Some rs → numbered caches p.extent.cache.0 ≡ Some c → aligned_at ≡ true → high ≡ false → passes_end c p.extent.first.0 p.extent.pages ≡ false → meets rs ≡ false → many ≡ false
+            → map_of (machine_with caches frames t) actor p ≡ reply (replies.Region (record { 0 = t.regions_made + 1 })) (machine_with caches frames (with_region t actor p))
+        row c rs here there aligned low inside apart few = rw (here, there, aligned, low, inside, apart, few) refl
+
+  -- its region lies in the cache
+  pub next_placed : (sizes : ℕ → Option ℕ) (o : Option model.Actor) (q : Option ℕ) → sizes p.extent.cache.0 ≡ q → IsMappable t o q p → IsPlaced sizes (next_region t p)
+  next_placed sizes o q size k = record {
+    unlocked = refl;
+    count = k.count;
+    there = size ∙ k.there;
+    within = (let inside = k.inside in grind (arith, nat_tests));
+  }
+
+-- Where regions lie -------------------------------------------------------------------------
+
+module _ (sizes : ℕ → Option ℕ) where
+  -- those of an actor
+  pub placed_at : (xs : List (Option model.Actor)) (n : ℕ) → All (ArePlaced sizes) xs → ArePlaced sizes (numbered xs n)
+  placed_at xs n h = go (numbered xs n) refl
+    where
+      go : (o : Option model.Actor) → numbered xs n ≡ o → ArePlaced sizes o
+      go None e = tt
+      go (Some rs) e = numbered-all (ArePlaced sizes) xs n rs e h
+
+  pub right_mapped : (t : Actors) (actor : ℕ) (p : Mapping) → IsPlaced sizes (next_region t p) → AreRight sizes t → AreRight sizes (with_region t actor p)
+  right_mapped t actor p r k = record {
+    some = k.some;
+    placed = All-set (ArePlaced sizes) t.actors (actor - 1) (option_map (insert_region (next_region t p)) (numbered t.actors actor)) (put (numbered t.actors actor) (placed_at t.actors actor k.placed)) k.placed;
+  }
+    where
+      put : (o : Option model.Actor) → ArePlaced sizes o → ArePlaced sizes (option_map (insert_region (next_region t p)) o)
+      put None h = tt
+      put (Some rs) h = all_insert (IsPlaced sizes) (next_region t p) rs r h
+
+  pub right_made : (t : Actors) → AreRight sizes t → AreRight sizes (record t { actors = t.actors ++ Some [] ∷ [] })
+  right_made t k = record {
+    some = k.some;
+    placed = All-append (ArePlaced sizes) t.actors (Some [] ∷ []) k.placed (All-cons (ArePlaced sizes) (Some []) [] (All-nil (IsPlaced sizes)) (All-nil (ArePlaced sizes)));
+  }
+
+  placed_without : (n : ℕ) (xs : List (Option model.Actor)) → All (ArePlaced sizes) xs → All (ArePlaced sizes) (map (option_map (without_region n)) xs)
+  placed_without n [] h = All-nil (ArePlaced sizes)
+  placed_without n (x ∷ xs) h =
+      All-cons (ArePlaced sizes) (option_map (without_region n) x) (map (option_map (without_region n)) xs) (one x (All-head (ArePlaced sizes) x xs h)) (placed_without n xs (All-tail (ArePlaced sizes) x xs h))
+    where
+      one : (o : Option model.Actor) → ArePlaced sizes o → ArePlaced sizes (option_map (without_region n) o)
+      one None h = tt
+      one (Some rs) h = All-filter (λ (r : model.Region). not (r.number == n)) (IsPlaced sizes) rs h
+
+  pub right_without : (n : ℕ) (t : Actors) → AreRight sizes t → AreRight sizes (record t { actors = map (option_map (without_region n)) t.actors })
+  right_without n t k = record { some = k.some; placed = placed_without n t.actors k.placed }
 
   -- A region that goes ----------------------------------------------------------------------
 
-  unlocked_if : (b : Bool) (r : Region) (o : Option model.Region) (x : model.Region) → ((y : model.Region) → o ≡ Some y → y.locked ≡ false) → cond b (Some (region_seen r)) o ≡ Some x → x.locked ≡ false
-  unlocked_if true r o x rest e = let same : region_seen r ≡ x = cc in sym (ap (λ (y : model.Region). y.locked) same)
-  unlocked_if false r o x rest e = rest x e
+  open_here : (b : Bool) (r : model.Region) (o : Option model.Region) (x : model.Region) → r.locked ≡ false → ((y : model.Region) → o ≡ Some y → y.locked ≡ false) → cond b (Some r) o ≡ Some x → x.locked ≡ false
+  open_here true r o x here rest e = let same : r ≡ x = cc in sym (ap (λ (y : model.Region). y.locked) same) ∙ here
+  open_here false r o x here rest e = rest x e
 
-  unlocked_among : (n : ℕ) (rs : List Region) (x : model.Region) → region_among n (map region_seen rs) ≡ Some x → x.locked ≡ false
-  unlocked_among n [] x e = absurd (search rules)
-  unlocked_among n (r ∷ rs) x e = unlocked_if (r.number.0 == n) r (region_among n (map region_seen rs)) x (unlocked_among n rs) e
+  open_among : (n : ℕ) (rs : model.Actor) → All (IsPlaced sizes) rs → (x : model.Region) → region_among n rs ≡ Some x → x.locked ≡ false
+  open_among n [] h x e = absurd (search rules)
+  open_among n (r ∷ rs) h x e = open_here (r.number == n) r (region_among n rs) x (All-head (IsPlaced sizes) r rs h).unlocked (open_among n rs (All-tail (IsPlaced sizes) r rs h)) e
 
-  unlocked_or : (o p : Option model.Region) (x : model.Region) → ((y : model.Region) → o ≡ Some y → y.locked ≡ false) → ((y : model.Region) → p ≡ Some y → y.locked ≡ false) → option_or o p ≡ Some x → x.locked ≡ false
-  unlocked_or None p x a b e = b x e
-  unlocked_or (Some y) p x a b e = a x e
+  open_or : (o p : Option model.Region) (x : model.Region) → ((y : model.Region) → o ≡ Some y → y.locked ≡ false) → ((y : model.Region) → p ≡ Some y → y.locked ≡ false) → option_or o p ≡ Some x → x.locked ≡ false
+  open_or None p x a b e = b x e
+  open_or (Some y) p x a b e = a x e
 
-  unlocked_with : (n : ℕ) (xs : List (Option Actor)) (x : model.Region) → region_with n (map (option_map actor_seen) xs) ≡ Some x → x.locked ≡ false
-  unlocked_with n [] x e = absurd (search rules)
-  unlocked_with n (None ∷ xs) x e = unlocked_with n xs x e
-  unlocked_with n (Some a ∷ xs) x e = unlocked_or (region_among n (actor_seen a)) (region_with n (map (option_map actor_seen) xs)) x (unlocked_among n a.regions.items) (unlocked_with n xs) e
+  open_with : (n : ℕ) (xs : List (Option model.Actor)) → All (ArePlaced sizes) xs → (x : model.Region) → region_with n xs ≡ Some x → x.locked ≡ false
+  open_with n [] h x e = absurd (search rules)
+  open_with n (None ∷ xs) h x e = open_with n xs (All-tail (ArePlaced sizes) None xs h) x e
+  open_with n (Some rs ∷ xs) h x e =
+      open_or (region_among n rs) (region_with n xs) x (open_among n rs (All-head (ArePlaced sizes) (Some rs) xs h)) (open_with n xs (All-tail (ArePlaced sizes) (Some rs) xs h)) e
 
-  unmapped : (n : ℕ) (o : Option model.Region) → region_with n m.actors ≡ o → is_some o ≡ true → unmap_of m n ≡ reply replies.Done (record m { actors = map (option_map (without_region n)) m.actors })
-  unfolding unmap_of with_some unless
-  unmapped n None e some = absurd (search rules)
-  unmapped n (Some r) e some = let open' = unlocked_with n t.list.items r e in rw (e, open') refl
+  module _ (caches : List (Option model.Cache)) (frames : ℕ) (t : Actors) (n : ℕ) where
+    unmapped : (o : Option model.Region) → All (ArePlaced sizes) t.actors → region_with n t.actors ≡ o → is_some o ≡ true
+        → unmap_of (machine_with caches frames t) n ≡ reply replies.Done (machine_with caches frames (record t { actors = map (option_map (without_region n)) t.actors }))
+    unfolding unmap_of with_some unless
+    unmapped None h e some = absurd (search rules)
+    unmapped (Some r) h e some = let free = open_with n t.actors h r e in rw (e, free) refl
 
-  -- an unmap that nothing refuses, and one of no region
-  pub unmap_row : (n : ℕ) → is_some (region_with n (map (option_map actor_seen) t.list.items)) ≡ true → unmap_of (machine_with caches frames t) n ≡ reply replies.Done (record (machine_with caches frames t) { actors = map (option_map (without_region n)) (machine_with caches frames t).actors })
-  unmap_row n some = unmapped n (region_with n m.actors) refl some
+    pub unmap_row : All (ArePlaced sizes) t.actors → is_some (region_with n t.actors) ≡ true
+        → unmap_of (machine_with caches frames t) n ≡ reply replies.Done (machine_with caches frames (record t { actors = map (option_map (without_region n)) t.actors }))
+    unmap_row h some = unmapped (region_with n t.actors) h refl some
 
-  no_region : (n : ℕ) (o : Option model.Region) → region_with n m.actors ≡ o → is_some o ≡ false → unmap_of m n ≡ refuse m refusals.NoRegion
-  unfolding unmap_of with_some unless
-  no_region n None e none = rw e refl
-  no_region n (Some r) e none = absurd (search rules)
+    no_region : (o : Option model.Region) → region_with n t.actors ≡ o → is_some o ≡ false → unmap_of (machine_with caches frames t) n ≡ refuse (machine_with caches frames t) refusals.NoRegion
+    unfolding unmap_of with_some
+    no_region None e none = rw e refl
+    no_region (Some r) e none = absurd (search rules)
 
-  pub unmap_none : (n : ℕ) → is_some (region_with n (map (option_map actor_seen) t.list.items)) ≡ false → unmap_of (machine_with caches frames t) n ≡ refuse (machine_with caches frames t) refusals.NoRegion
-  unmap_none n none = no_region n (region_with n m.actors) refl none
+    pub unmap_none : is_some (region_with n t.actors) ≡ false → unmap_of (machine_with caches frames t) n ≡ refuse (machine_with caches frames t) refusals.NoRegion
+    unmap_none none = no_region (region_with n t.actors) refl none
 
--- the regions of an actor but for one
-pub seen_filter : (n : ℕ) (rs : List Region) → map region_seen (filter (λ (r : Region). not (r.number.0 == n)) rs) ≡ without_region n (map region_seen rs)
-seen_filter n [] = refl
-seen_filter n (r ∷ rs) = go (not (r.number.0 == n)) (seen_filter n rs)
+-- A new actor -------------------------------------------------------------------------------
+
+module _ (caches : List (Option model.Cache)) (frames : ℕ) (t u : Actors) (f : Option PageForest) (h : Segments) where
+  actor_row : is_full t ≡ false → make_actor_of (machine_with caches frames t) ≡ reply (replies.Actor (record { 0 = length t.actors + 1 })) (machine_with caches frames (record t { actors = t.actors ++ Some [] ∷ [] }))
+  unfolding make_actor_of unless
+  actor_row e = rw e refl
+
+  actor_refused : is_full t ≡ true → make_actor_of (machine_with caches frames t) ≡ refuse (machine_with caches frames t) refusals.TooMany
+  unfolding make_actor_of unless
+  actor_refused e = rw e refl
+
+  pub actor_outcome : (b : Bool) (result : Result ActorId Trouble) → is_full t ≡ b → (is_full t ≡ true → result ≡ Err (troubles.Refused refusals.TooMany))
+      → (is_full t ≡ false → MatchResult result (λ a. a.0 ≡ length t.actors + 1) (λ e. e ≡ troubles.Memory)) → OnOk result (u ≡ record t { actors = t.actors ++ Some [] ∷ [] }) → OnErr result (u ≡ t)
+      → Outcome (machine_with caches frames t) f commands.MakeActor h (answer_by replies.Actor result) (machine_with caches frames u) no_counts
+  actor_outcome false (Ok a) full refused made ok err =
+      let number : a.0 ≡ length t.actors + 1 = made full in
+      actor_row full ∙ (λ j. reply (replies.Actor (record { 0 = sym number j })) (machine_with caches frames (sym ok j)))
+  actor_outcome false (Err (troubles.Refused r)) full refused made ok err = absurd (cc (made full))
+  actor_outcome false (Err (troubles.Mapper at)) full refused made ok err = absurd (cc (made full))
+  actor_outcome false (Err troubles.Memory) full refused made ok err = (ap (machine_with caches frames) err, tt, (let row = actor_row full in rw row tt))
+  actor_outcome true (Ok a) full refused made ok err = absurd (cc (refused full))
+  actor_outcome true (Err (troubles.Refused r)) full refused made ok err =
+      let e = refused full in
+      let same : refusals.TooMany ≡ r = cc e in
+      actor_refused full ∙ (λ j. record { answer = Err (troubles.Refused (same j)); next = machine_with caches frames (sym err j) })
+  actor_outcome true (Err (troubles.Mapper at)) full refused made ok err = absurd (cc (refused full))
+  actor_outcome true (Err troubles.Memory) full refused made ok err = absurd (cc (refused full))
+
+-- what is so of the actors before a call that may fail, and of those that it makes, is so after it
+pub after_either : {T E : Type 0} (P : Actors → Type 0) (t u v : Actors) (result : Result T E) → OnOk result (u ≡ v) → OnErr result (u ≡ t) → P v → P t → P u
+after_either P t u v (Ok x) ok err new old = subst P (sym ok) new
+after_either P t u v (Err e) ok err new old = subst P (sym err) old
+
+-- The place of an access --------------------------------------------------------------------
+
+-- the plain machine's place, of which this much is told
+abbrev pub found_at : model.Region → regions.Place → Place
+found_at r p = record { region = record r { cache = p.cache.0; may_write = p.prot.write }; page = p.page.0; byte = p.at }
+
+-- a place that was found is the plain machine's, and a page of a live cache
+pub record IsFoundAt (sizes : ℕ → Option ℕ) (b : ℕ) (o : Option model.Actor) (address n : ℕ) (p : regions.Place) : Type 0 where
+  pub region : model.Region
+  pub is : Ok (found_at region p) ≡ place_of_actor b o address n
+  pub count : ℕ
+  pub there : sizes p.cache.0 ≡ Some count
+  pub less : p.page.0 < count
+  pub fits : p.at + n ≤ b
+
+pub refused_at : (x : Result Place Refusal) (r : Refusal) → Err r ≡ place_told x → Err r ≡ x
+refused_at (Ok p) r e = absurd (cc e)
+refused_at (Err s) r e = (let same : r ≡ s = cc e in ap (λ (q : Refusal). Err q) same)
+
+held_in : (b address : ℕ) (r : model.Region) → holds b address r ≡ true → (r.start ≤ address) × (address < r.start + b * r.pages)
+held_in b address r e = go (nat_le r.start address) (nat_lt address (r.start + b * r.pages)) refl refl e
   where
-    go : (b : Bool) → map region_seen (filter (λ (r : Region). not (r.number.0 == n)) rs) ≡ without_region n (map region_seen rs) → map region_seen (cond b (r ∷ filter (λ (r : Region). not (r.number.0 == n)) rs) (filter (λ (r : Region). not (r.number.0 == n)) rs)) ≡ cond b (region_seen r ∷ without_region n (map region_seen rs)) (without_region n (map region_seen rs))
-    go true rest = ap (λ ys. region_seen r ∷ ys) rest
-    go false rest = rest
+    go : (c d : Bool) → nat_le r.start address ≡ c → nat_lt address (r.start + b * r.pages) ≡ d → (c && d) ≡ true → (r.start ≤ address) × (address < r.start + b * r.pages)
+    go true true p q k = (grind (arith, nat_tests), grind (arith, nat_tests))
+    go true false p q k = absurd (cc k)
+    go false d p q k = absurd (cc k)
 
--- as many actors live
-living_still : (f : model.Actor → model.Actor) (xs : List (Option model.Actor)) → count_by is_some (map (option_map f) xs) ≡ count_by is_some xs
-living_still f [] = refl
-living_still f (x ∷ xs) =
-    sum_by-cons (λ o. cond (is_some o) 1 0) (option_map f x) (map (option_map f) xs) ∙ ap (λ k. cond (is_some (option_map f x)) 1 0 + k) (living_still f xs) ∙ ap (λ b. cond b 1 0 + count_by is_some xs) (as_there x) ∙ sym (sum_by-cons (λ o. cond (is_some o) 1 0) x xs)
-  where
-    as_there : (o : Option model.Actor) → is_some (option_map f o) ≡ is_some o
-    as_there None = refl
-    as_there (Some a) = refl
+module _ (sizes : ℕ → Option ℕ) (b address : ℕ) where
+  region_there : (rs : model.Actor) (r : model.Region) → All (IsPlaced sizes) rs → region_at b address rs ≡ Some r → (holds b address r ≡ true) × IsPlaced sizes r
+  region_there [] r h e = absurd (cc e)
+  region_there (x ∷ rs) r h e = go (region_there rs r (All-tail (IsPlaced sizes) x rs h)) (holds b address x) refl e
+    where
+      go : (region_at b address rs ≡ Some r → (holds b address r ≡ true) × IsPlaced sizes r) → (c : Bool) → holds b address x ≡ c → cond c (Some x) (region_at b address rs) ≡ Some r → (holds b address r ≡ true) × IsPlaced sizes r
+      go rest true k f = let same : x ≡ r = cc f in (subst (λ (y : model.Region). holds b address y ≡ true) same k, subst (IsPlaced sizes) same (All-head (IsPlaced sizes) x rs h))
+      go rest false k f = rest f
 
-pub living_without : (n : ℕ) (before after : List (Option Actor)) → map (option_map actor_seen) after ≡ map (option_map (without_region n)) (map (option_map actor_seen) before) → count_by is_some (map (option_map actor_seen) after) ≡ count_by is_some (map (option_map actor_seen) before)
-living_without n before after e = ap (count_by is_some) e ∙ living_still (without_region n) (map (option_map actor_seen) before)
+  ahead : (r : model.Region) → 1 ≤ b → r.start ≤ address → address < r.start + b * r.pages → (address - r.start) / b < r.pages
+  ahead r some from below = (div-lt_iff_lt-mul some).1 (omega (arith, from, below, mul_comm b r.pages))
+
+  pub found_place : (n : ℕ) (o : Option model.Actor) (p : regions.Place) → 1 ≤ b → ArePlaced sizes o → Ok p ≡ place_told (place_of_actor b o address n) → IsFoundAt sizes b o address n p
+  found_place n None p some h e = absurd (cc e)
+  found_place n (Some rs) p some h e = go (nat_lt b (address % b + n)) (region_at b address rs) refl refl e
+    where
+      go : (c : Bool) (o : Option model.Region) → nat_lt b (address % b + n) ≡ c → region_at b address rs ≡ o → Ok p ≡ place_told (cond c (Err refusals.Crosses) (placed b address o)) → IsFoundAt sizes b (Some rs) address n p
+      go true o k l f = absurd (cc f)
+      go false None k l f = absurd (cc f)
+      go false (Some r) k l f =
+          let told : p ≡ access_to (place_in b address r) = cc f in
+          let there = region_there rs r h l in
+          let held = held_in b address r there.0 in
+          let far = ahead r some held.0 held.1 in
+          let lies = there.1 in
+          let short : address % b + n ≤ b = grind (arith, nat_tests) in
+          let row : place_of_actor b (Some rs) address n ≡ Ok (place_in b address r) = rw (k, l) refl in
+          record {
+            region = r;
+            is = ap (λ (q : regions.Place). Ok (found_at r q)) told ∙ sym row;
+            count = lies.count;
+            there = ap (λ (q : regions.Place). sizes q.cache.0) told ∙ lies.there;
+            less = (let page = ap (λ (q : regions.Place). q.page.0) told in let within = lies.within in omega (arith, page, far, within));
+            fits = (let byte = ap (λ (q : regions.Place). q.at) told in omega (arith, byte, short));
+          }
+
+pub spot : (sizes : ℕ → Option ℕ) (t : Actors) (actor address n : ℕ) (p : regions.Place) → AreRight sizes t → Ok p ≡ place_told (place_of_actor t.page_bytes (numbered t.actors actor) address n)
+    → IsFoundAt sizes t.page_bytes (numbered t.actors actor) address n p
+spot sizes t actor address n p k e = found_place sizes t.page_bytes address n (numbered t.actors actor) p k.some (placed_at sizes t.actors actor k.placed) e

@@ -12,7 +12,7 @@ use Rattle.vm_ids.specs.declared.numbers.NodeId.{NodeId}
 use Rattle.vm_ids.specs.declared.refusal.Refusal.TheVariants as refusals
 use Rattle.vm_ids.specs.declared.reply.Reply.TheVariants as replies
 use Rattle.vm_ids.specs.Forest.Commands.{firsts, make, page_names, pages_at}
-use Rattle.local_cache.specs.Arena.{Arena, IsMade, Table, entry_for, page_count}
+use Rattle.local_cache.specs.Arena.{Arena, IsMade, Table, entry_for, new_table, page_count}
 use Rattle.local_cache.specs.declared.own_state.OwnState.TheVariants.{Zero}
 use Rattle.vm_model.specs.declared.limits.TheConstants.{LIVE_PAGES, MADE}
 use Rattle.vm_model.specs.Answering.{make_temp_of, refuse, reply, temporary, unless}
@@ -124,13 +124,13 @@ module _ (p q : Manager) (h : Option Held) (cache : CacheId) (n : ℕ) (nodes : 
   then : IsFollowed (record m { caches = m.caches ++ Some (cache_for h p.page_bytes n) ∷ [] }) (forest_of q h)
   then = subst (IsFollowed (record m { caches = m.caches ++ Some (cache_for h p.page_bytes n) ∷ [] })) (sym rule) (made_followed m (forest_of p h) cache.0 (cache_for h p.page_bytes n) number followed)
 
-  tables : q.caches.caches ≡ p.caches.caches ++ Some (record { segment = None; pages = map entry_for nodes }) ∷ []
+  tables : q.caches.caches ≡ p.caches.caches ++ Some (new_table None nodes) ∷ []
   tables = made.caches
 
-  caches_are : caches_shown (forest_of q h) 1 (p.caches.caches ++ Some (record { segment = None; pages = map entry_for nodes }) ∷ []) ≡ m.caches ++ Some (cache_for h p.page_bytes n) ∷ []
-  caches_are = followed_is (record m { caches = m.caches ++ Some (cache_for h p.page_bytes n) ∷ [] }) (forest_of q h) then (p.caches.caches ++ Some (record { segment = None; pages = map entry_for nodes }) ∷ [])
-      (omega (arith, length-append m.caches (Some (cache_for h p.page_bytes n) ∷ []), length-append p.caches.caches (Some (record { segment = None; pages = map entry_for nodes }) ∷ []), shown_made (forest_of p h) 1 p.caches.caches))
-      (λ k low. shape_at (forest_of p h) 1 p.caches.caches (Some (cache_for h p.page_bytes n)) (Some (record { segment = None; pages = map entry_for nodes })) (refl, omega (arith, length-replicate n (zeros_for h p.page_bytes), length-map nodes entry_for, size)) k)
+  caches_are : caches_shown (forest_of q h) 1 (p.caches.caches ++ Some (new_table None nodes) ∷ []) ≡ m.caches ++ Some (cache_for h p.page_bytes n) ∷ []
+  caches_are = followed_is (record m { caches = m.caches ++ Some (cache_for h p.page_bytes n) ∷ [] }) (forest_of q h) then (p.caches.caches ++ Some (new_table None nodes) ∷ [])
+      (omega (arith, length-append m.caches (Some (cache_for h p.page_bytes n) ∷ []), length-append p.caches.caches (Some (new_table None nodes) ∷ []), shown_made (forest_of p h) 1 p.caches.caches))
+      (λ k low. shape_at (forest_of p h) 1 p.caches.caches (Some (cache_for h p.page_bytes n)) (Some (new_table None nodes)) (refl, omega (arith, length-replicate n (zeros_for h p.page_bytes), length-map nodes entry_for, size)) k)
 
   -- the machine has one cache of zeros more
   pub machine_more : machine_of q h ≡ record (machine_of p h) { caches = (machine_of p h).caches ++ Some (cache_for h p.page_bytes n) ∷ [] }

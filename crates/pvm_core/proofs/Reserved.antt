@@ -15,7 +15,7 @@ use Rattle.residency.specs.declared.store.Store.{Store}
 use Rattle.page_release.specs.Steps.{IsStoreTied}
 use Rattle.page_release.proofs.Tied.{tied_right}
 use Rattle.vm_model.specs.PageForest.{PageForest}
-use Rattle.pvm_core.specs.declared.actors.Actors.{Actors}
+use Rattle.contexts.specs.Actors.{Actors}
 use Rattle.pvm_core.specs.Manager.{IsSound, IsValid, forest_of, machine_by, state_at}
 use Rattle.pvm_core.proofs.Begun.{roomy_by, roomy_forest, roomy_machine, roomy_sound, roomy_valid}
 use Rattle.pvm_core.proofs.Kept.{seen}

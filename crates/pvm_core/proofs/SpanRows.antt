@@ -1,6 +1,7 @@
 -- The rows of a copy and a move, where no cache is named and no page is locked.
-use Rattle.std.proofs.Common.{◌≡◌, ◌==◌, ℕ, ◌+◌, ◌≤◌, Bool, true, false, List, [], ◌∷◌, length, map, take, drop, replicate, Option, Some, None, is_some, option_map, refl, ap, ◌∙◌, arith}
-use Rattle.std.specs.Prelude.{◌||◌, ◌&&◌, nat_lt}
+use Rattle.std.proofs.Common.{◌≡◌, ◌==◌, ℕ, ◌+◌, ◌≤◌, Bool, true, false, List, [], ◌∷◌, length, take, drop, replicate, Option, Some, None, is_some, option_map, refl, ap, ◌∙◌, arith}
+use Rattle.std.specs.Prelude.{◌||◌, ◌&&◌, nat_le, nat_lt, All}
+use Rattle.std.proofs.lemmas.List.Elements.{All-head, All-tail}
 use Rattle.std.specs.List.{list_any, range_with_len}
 use Rattle.std.proofs.lemmas.Bool.Decides.{nat_tests}
 use Rattle.vm_ids.specs.Held.{Segments}
@@ -12,22 +13,28 @@ use Rattle.vm_model.specs.Answering.{change_cache, copy_of, is_denied_page, move
 use Rattle.vm_model.specs.Machine as model
 use Rattle.vm_model.specs.Machine.{Cache, Machine, cache_of, is_locked_page, zero_page}
 use Rattle.vm_model.proofs.Following.{IsAllowed}
-use Rattle.pvm_core.specs.declared.actors.Actor.{Actor}
-use Rattle.pvm_core.specs.declared.actors.Region.{Region}
-use Rattle.pvm_core.specs.Seen.{actor_seen, region_seen}
+use Rattle.pvm_core.specs.Placed.{ArePlaced, IsPlaced}
 use Rattle.pvm_core.specs.Spans.{span_refusal}
 
-unlocked_regions : (rs : List Region) (cache page : ℕ) → list_any (model.locks cache page) (map region_seen rs) ≡ false
-unlocked_regions [] cache page = refl
-unlocked_regions (r ∷ rs) cache page = unlocked_regions rs cache page
+module _ (sizes : ℕ → Option ℕ) (cache page : ℕ) where
+  unlocked_region : (r : model.Region) → r.locked ≡ false → model.locks cache page r ≡ false
+  unlocked_region r e = ap (λ (b : Bool). b && (r.cache == cache) && nat_le r.offset page && nat_lt page (r.offset + r.pages)) e
 
-unlocked_actor : (a : Option Actor) (cache page : ℕ) → model.locks_any cache page (option_map actor_seen a) ≡ false
-unlocked_actor None cache page = refl
-unlocked_actor (Some a) cache page = unlocked_regions a.regions.items cache page
+  unlocked_regions : (rs : model.Actor) → All (IsPlaced sizes) rs → list_any (model.locks cache page) rs ≡ false
+  unlocked_regions [] h = refl
+  unlocked_regions (r ∷ rs) h =
+      ap (λ b. b || list_any (model.locks cache page) rs) (unlocked_region r (All-head (IsPlaced sizes) r rs h).unlocked)
+      ∙ unlocked_regions rs (All-tail (IsPlaced sizes) r rs h)
 
-pub unlocked_actors : (xs : List (Option Actor)) (cache page : ℕ) → list_any (model.locks_any cache page) (map (option_map actor_seen) xs) ≡ false
-unlocked_actors [] cache page = refl
-unlocked_actors (x ∷ xs) cache page = ap (λ b. b || list_any (model.locks_any cache page) (map (option_map actor_seen) xs)) (unlocked_actor x cache page) ∙ unlocked_actors xs cache page
+  unlocked_actor : (a : Option model.Actor) → ArePlaced sizes a → model.locks_any cache page a ≡ false
+  unlocked_actor None h = refl
+  unlocked_actor (Some rs) h = unlocked_regions rs h
+
+  pub unlocked_actors : (xs : List (Option model.Actor)) → All (ArePlaced sizes) xs → list_any (model.locks_any cache page) xs ≡ false
+  unlocked_actors [] h = refl
+  unlocked_actors (x ∷ xs) h =
+      ap (λ b. b || list_any (model.locks_any cache page) xs) (unlocked_actor x (All-head (ArePlaced sizes) x xs h))
+      ∙ unlocked_actors xs (All-tail (ArePlaced sizes) x xs h)
 
 none_of : (p : ℕ → Bool) → ((n : ℕ) → p n ≡ false) → (xs : List ℕ) → list_any p xs ≡ false
 none_of p h [] = refl

@@ -47,7 +47,7 @@ use Rattle.vm_model.proofs.Sound.{numbered-all}
 use Rattle.vm_model.specs.Outcome.{HasWholePages, Outcome, OutcomeAt, blank}
 use Rattle.vm_model.specs.PageForest.{PageForest}
 use Rattle.vm_model.specs.Place.{Place, place}
-use Rattle.pvm_core.specs.declared.actors.Actors.{Actors}
+use Rattle.contexts.specs.Actors.{Actors}
 use Rattle.pvm_core.specs.Manager.{IsSound, IsTemporary, Manager, cache_shown, forest_of, machine_by, machine_of, shown}
 use Rattle.pvm_core.specs.Pieces.{fault_at}
 use Rattle.pvm_core.proofs.Answered.{no_segments, outcome_at}

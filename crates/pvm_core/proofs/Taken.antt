@@ -1,5 +1,5 @@
 -- A cache that goes.
-use Rattle.std.proofs.Common.{◌≡◌, ◌≢◌, ◌==◌, ℕ, zero, suc, ◌+◌, ◌-◌, ◌≤◌, Bool, true, false, List, [], ◌∷◌, get_or, set, length, map, length-set, Option, Some, None, is_some, option_map, refl, sym, ap, ◌∙◌, subst, arith, rules}
+use Rattle.std.proofs.Common.{◌≡◌, ◌≢◌, ◌==◌, ℕ, zero, suc, ◌+◌, ◌-◌, ◌≤◌, Bool, true, false, List, [], ◌∷◌, get_or, set, length, length-set, Option, Some, None, is_some, option_map, refl, sym, ap, ◌∙◌, subst, arith, rules}
 use Rattle.std.specs.Prelude.{◌||◌, Ok, IfSome, sum_by, count_by}
 use Rattle.std.specs.List.{All, list_any, slice_index_or}
 use Rattle.std.specs.Option.{option_map_or}
@@ -33,10 +33,8 @@ use Rattle.vm_model.specs.Following.{forest_after}
 use Rattle.vm_model.specs.PageForest.{PageForest}
 use Rattle.vm_model.specs.Laws.{IsFollowed}
 use Rattle.vm_model.proofs.Following.{destroyed_followed}
-use Rattle.pvm_core.specs.declared.actors.Actor.{Actor}
-use Rattle.pvm_core.specs.declared.actors.Actors.{Actors}
-use Rattle.pvm_core.specs.declared.actors.Region.{Region}
-use Rattle.pvm_core.specs.Seen.{ArePlaced, IsPlaced, actor_seen, region_seen}
+use Rattle.contexts.specs.Actors.{Actors}
+use Rattle.pvm_core.specs.Placed.{ArePlaced, IsPlaced}
 use Rattle.pvm_core.specs.Manager.{IsSound, IsTemporary, IsValid, Manager, cache_shown, caches_shown, forest_of, live_in, machine_by, machine_of}
 use Rattle.pvm_core.proofs.Answered.{no_segments}
 use Rattle.pvm_core.proofs.Determined.{followed_is}
@@ -94,25 +92,25 @@ neither false b e = (refl, e)
 other_number : (n k : ℕ) → (k == n) ≡ false → k ≢ n
 other_number n k e same = grind (arith, nat_tests)
 
-module _ (b n : ℕ) (f g : ℕ → Option ℕ) (others : (k : ℕ) → k ≢ n → g k ≡ f k) where
-  placed_region : (r : Region) → (r.cache.0 == n) ≡ false → IsPlaced b f r → IsPlaced b g r
-  placed_region r apart p = record { ends = p.ends; count = p.count; there = others r.cache.0 (other_number n r.cache.0 apart) ∙ p.there; within = p.within }
+module _ (n : ℕ) (f g : ℕ → Option ℕ) (others : (k : ℕ) → k ≢ n → g k ≡ f k) where
+  placed_region : (r : model.Region) → (r.cache == n) ≡ false → IsPlaced f r → IsPlaced g r
+  placed_region r apart p = record { unlocked = p.unlocked; count = p.count; there = others r.cache (other_number n r.cache apart) ∙ p.there; within = p.within }
 
-  placed_regions : (rs : List Region) → list_any (λ (r : model.Region). r.cache == n) (map region_seen rs) ≡ false → All (IsPlaced b f) rs → All (IsPlaced b g) rs
-  placed_regions [] none p = All-nil (IsPlaced b g)
+  placed_regions : (rs : model.Actor) → list_any (λ (r : model.Region). r.cache == n) rs ≡ false → All (IsPlaced f) rs → All (IsPlaced g) rs
+  placed_regions [] none p = All-nil (IsPlaced g)
   placed_regions (r ∷ rs) none p =
-      let each = neither (r.cache.0 == n) (list_any (λ (r : model.Region). r.cache == n) (map region_seen rs)) none in
-      All-cons (IsPlaced b g) r rs (placed_region r each.0 (All-head (IsPlaced b f) r rs p)) (placed_regions rs each.1 (All-tail (IsPlaced b f) r rs p))
+      let each = neither (r.cache == n) (list_any (λ (r : model.Region). r.cache == n) rs) none in
+      All-cons (IsPlaced g) r rs (placed_region r each.0 (All-head (IsPlaced f) r rs p)) (placed_regions rs each.1 (All-tail (IsPlaced f) r rs p))
 
-  placed_actor : (a : Option Actor) → maps_in n (option_map actor_seen a) ≡ false → ArePlaced b f a → ArePlaced b g a
+  placed_actor : (a : Option model.Actor) → maps_in n a ≡ false → ArePlaced f a → ArePlaced g a
   placed_actor None none p = tt
-  placed_actor (Some a) none p = placed_regions a.regions.items none p
+  placed_actor (Some rs) none p = placed_regions rs none p
 
-  placed_actors : (xs : List (Option Actor)) → list_any (maps_in n) (map (option_map actor_seen) xs) ≡ false → All (ArePlaced b f) xs → All (ArePlaced b g) xs
-  placed_actors [] none p = All-nil (ArePlaced b g)
+  placed_actors : (xs : List (Option model.Actor)) → list_any (maps_in n) xs ≡ false → All (ArePlaced f) xs → All (ArePlaced g) xs
+  placed_actors [] none p = All-nil (ArePlaced g)
   placed_actors (x ∷ xs) none p =
-      let each = neither (maps_in n (option_map actor_seen x)) (list_any (maps_in n) (map (option_map actor_seen) xs)) none in
-      All-cons (ArePlaced b g) x xs (placed_actor x each.0 (All-head (ArePlaced b f) x xs p)) (placed_actors xs each.1 (All-tail (ArePlaced b f) x xs p))
+      let each = neither (maps_in n x) (list_any (maps_in n) xs) none in
+      All-cons (ArePlaced g) x xs (placed_actor x each.0 (All-head (ArePlaced f) x xs p)) (placed_actors xs each.1 (All-tail (ArePlaced f) x xs p))
 
 -- Rows -------------------------------------------------------------------------------------
 
@@ -136,18 +134,17 @@ without_right : (w : World) (c : CacheId) → IsStoreRight w → IsStoreRight (r
 unfolding cell
 without_right w c right = record {
   tied = record {
-    bound = right.tied.bound;
-    held = right.tied.held;
-    slots = right.tied.slots;
-    in_slots = right.tied.in_slots;
-    there = right.tied.there;
-    temporary = right.tied.temporary;
-    map_frames = right.tied.map_frames;
-    bytes_frames = right.tied.bytes_frames;
-    pinned_frames = right.tied.pinned_frames;
-    marks_frames = right.tied.marks_frames;
-    few = right.tied.few;
-    page = right.tied.page;
+    placed = record {
+      bound = right.tied.placed.bound;
+      held = right.tied.placed.held;
+      slots = right.tied.placed.slots;
+      in_slots = right.tied.placed.in_slots;
+    };
+    backed = record {
+      there = right.tied.backed.there;
+      temporary = right.tied.backed.temporary;
+    };
+    fitted = right.tied.fitted;
   };
   capacity = right.capacity;
 }
@@ -156,7 +153,7 @@ without_store : (h : Option Held) (b : Arena) (u : Store) (c : CacheId) → stor
 unfolding store_forest forest_by cell arena.stubs_of
 without_store h b u c = refl
 
-module _ (a b d : Arena) (s u : Store) (t : Actors) (live : ℕ) (cache : CacheId) (n : ℕ) (i : IsSound a s t live) (size : size_of a cache.0 ≡ Some n) (free : list_any (maps_in cache.0) (map (option_map actor_seen) t.list.items) ≡ false)
+module _ (a b d : Arena) (s u : Store) (t : Actors) (live : ℕ) (cache : CacheId) (n : ℕ) (i : IsSound a s t live) (size : size_of a cache.0 ≡ Some n) (free : list_any (maps_in cache.0) t.actors ≡ false)
     (same : SameCaches a b) (back : ForAnyMapper s a u b GivesBack) (tied : IsStoreTied s a) (is : d ≡ without_cache b cache) (whole : IsWhole d) (bounded : IsBounded (arena.forest_of d)) where
   gives : GivesBack (world None None a s) (world None None b u)
   gives = back None None tied
@@ -186,7 +183,7 @@ module _ (a b d : Arena) (s u : Store) (t : Actors) (live : ℕ) (cache : CacheI
     few = omega (arith, i.few);
     loose = subst (λ (ps : List Bool). count_by (λ p. p) ps + 3 ≤ length ps) (sym gives.pins) i.loose;
     unpinned = λ f. subst (λ (ps : List Bool). slice_index_or ps f false ≡ false) (sym gives.pins) (i.unpinned f);
-    actors = record { some = i.actors.some; most = i.actors.most; living = i.actors.living; placed = placed_actors t.page_bytes cache.0 (size_of a) (size_of d) others t.list.items free i.actors.placed };
+    actors = record { some = i.actors.some; placed = placed_actors cache.0 (size_of a) (size_of d) others t.actors free i.actors.placed };
     page = i.page ∙ sym gives.page;
   }
 
@@ -230,7 +227,7 @@ module _ (a b d : Arena) (s u : Store) (t : Actors) (live : ℕ) (cache : CacheI
         page_bytes = t.page_bytes;
         frames = gives.frames j;
         caches = (ap (caches_shown (forest_of (seen d u t) h) 1) (tables ∙ without_at b.caches cache.0 n there_b) ∙ caches_now) j;
-        actors = map (option_map actor_seen) t.list.items;
+        actors = t.actors;
         regions_made = t.regions_made;
       }
 

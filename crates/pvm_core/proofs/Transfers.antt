@@ -26,7 +26,7 @@ use Rattle.vm_model.specs.Laws.{IsFollowed}
 use Rattle.vm_model.proofs.Following.{IsAllowed, copied_followed, moved_followed, source_left, zero_left}
 use Rattle.vm_model.proofs.Lists.{length-overwrite, at_number, numbered-set}
 use Rattle.vm_model.proofs.Sound.{numbered-all}
-use Rattle.pvm_core.specs.declared.actors.Actors.{Actors}
+use Rattle.contexts.specs.Actors.{Actors}
 use Rattle.pvm_core.specs.Manager.{IsSound, IsValid, cache_shown, caches_shown, forest_of, machine_by, machine_of}
 use Rattle.pvm_core.proofs.Answered.{no_segments}
 use Rattle.pvm_core.proofs.Changed.{blank_is, machine_is, put_shaped}
@@ -85,7 +85,7 @@ module _ (b : Arena) (s : Store) (t : Actors) (live : ℕ) (k : IsSound b s t li
   allowed f = record { from = source_there f; to = destination_there f; source_ends = omega (arith, source_long f, out.from_ends); destination_ends = omega (arith, destination_long f, out.to_ends); apart = out.apart }
 
   pub copied_row : (f : PageForest) (sg : Segments) → copy_of (machine_by (seen b s t) f) span sg ≡ reply replies.Done (record (machine_by (seen b s t) f) { caches = next f })
-  copied_row f sg = copy_row (machine_by (seen b s t) f) span sg (λ cache page. unlocked_actors t.list.items cache page) (λ page. undenied (seen b s t) f sg span.to.0 page to k.temporary to_is) (cache_shown f span.from.0 from) (cache_shown f span.to.0 to) (source_there f) (destination_there f)
+  copied_row f sg = copy_row (machine_by (seen b s t) f) span sg (λ cache page. unlocked_actors (size_of b) cache page t.actors k.actors.placed) (λ page. undenied (seen b s t) f sg span.to.0 page to k.temporary to_is) (cache_shown f span.from.0 from) (cache_shown f span.to.0 to) (source_there f) (destination_there f)
       (both (nat_lt (length (cache_shown f span.from.0 from).pages) (span.from_page.0 + span.pages)) (nat_lt (length (cache_shown f span.to.0 to).pages) (span.to_page.0 + span.pages))
       (inside (length (cache_shown f span.from.0 from).pages) (span.from_page.0 + span.pages) (omega (arith, source_long f, out.from_ends))) (inside (length (cache_shown f span.to.0 to).pages) (span.to_page.0 + span.pages) (omega (arith, destination_long f, out.to_ends)))) out.apart
 
@@ -169,7 +169,7 @@ module _ (b : Arena) (s : Store) (t : Actors) (live : ℕ) (k : IsSound b s t li
   unnamed_source f = ap (λ o. is_some (option_map (λ s. s.0) o)) (unnamed_at b.caches span.from.0 from k.temporary from_is)
 
   pub moved_row : (f : PageForest) (sg : Segments) → move_of (machine_by (seen b s t) f) span sg ≡ reply replies.Done (record (machine_by (seen b s t) f) { caches = moved f (replicate t.page_bytes 0) })
-  moved_row f sg = move_row (machine_by (seen b s t) f) span sg (λ cache page. unlocked_actors t.list.items cache page) (λ page. undenied (seen b s t) f sg span.to.0 page to k.temporary to_is) (cache_shown f span.from.0 from) (cache_shown f span.to.0 to) (source_there f) (destination_there f) (unnamed_source f)
+  moved_row f sg = move_row (machine_by (seen b s t) f) span sg (λ cache page. unlocked_actors (size_of b) cache page t.actors k.actors.placed) (λ page. undenied (seen b s t) f sg span.to.0 page to k.temporary to_is) (cache_shown f span.from.0 from) (cache_shown f span.to.0 to) (source_there f) (destination_there f) (unnamed_source f)
       (both (nat_lt (length (cache_shown f span.from.0 from).pages) (span.from_page.0 + span.pages)) (nat_lt (length (cache_shown f span.to.0 to).pages) (span.to_page.0 + span.pages))
       (inside (length (cache_shown f span.from.0 from).pages) (span.from_page.0 + span.pages) (omega (arith, source_long f, out.from_ends))) (inside (length (cache_shown f span.to.0 to).pages) (span.to_page.0 + span.pages) (omega (arith, destination_long f, out.to_ends)))) out.apart
       ∙ ap (λ (o : Option Cache). reply replies.Done (option_map_or (λ (c : Cache). put_cache (record (machine_by (seen b s t) f) { caches = next f }) span.from.0 (put_pages span.from_page.0 (replicate span.pages (replicate t.page_bytes 0)) c)) o (record (machine_by (seen b s t) f) { caches = next f }))) (copied_there f).1

@@ -1,4 +1,5 @@
-pub mod Seen
+pub mod Placed
+pub mod Maps
 pub mod Manager
 pub mod Codes
 pub mod Pieces

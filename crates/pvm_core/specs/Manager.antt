@@ -19,8 +19,8 @@ use Rattle.vm_model.specs.Outcome.{HasWholePages}
 use Rattle.vm_model.specs.PageForest.{PageForest}
 use Rattle.vm_model.specs.Run.{State}
 use Rattle.vm_model.specs.declared.limits.TheConstants.{LIVE_PAGES}
-use Rattle.pvm_core.specs.declared.actors.Actors.{Actors}
-use Rattle.pvm_core.specs.Seen.{AreRight}
+use Rattle.contexts.specs.Actors.{Actors}
+use Rattle.pvm_core.specs.Placed.{AreRight}
 
 -- the caches with their page nodes, the store of frames and slots, the size of a page, and the actors with their regions
 pub record Manager : Type 0 where
@@ -97,7 +97,7 @@ IsTemporary (Some t) = t.segment ≡ None
 --     counted    the live pages are counted, and are at most the limit
 --     loose      there are three frames
 --     unpinned   and no frame is pinned, since no command locks a region
---     actors     each region is of pages that a live cache has
+--     actors     each region is unlocked, and of pages that a live cache has
 --     page       the actors and the frames have one page size
 pub record IsSound (a : Arena) (s : Store) (t : Actors) (live : ℕ) : Type 0 where
   pub nodes : IsWhole a

@@ -1,20 +1,19 @@
-//! The demand-paged manager: caches whose pages move between frames and swap slots, seen as the machine of plain bytes.
+//! The demand-paged manager: caches whose pages move between frames and swap slots, seen as the
+//! machine of plain bytes.
 //!
-//! [`Pvm`] keeps the page nodes of all caches, the store of frames and slots, and the actors with their regions. What
-//! it stands for is said by two readings: the page forest of its store, and the machine whose pages are that forest's
-//! values. It is one manager of `gmi_calls`, and the replay makes it and knows it by that alone. The crate stands on
-//! `fault_path`, `page_release` and the crates below them.
+//! [`Pvm`] keeps the page nodes of all caches, the store of frames and slots, and the actors with
+//! their regions. What it stands for is said by two readings: the page forest of its store, and the
+//! machine whose pages are that forest's values. It is one manager of `gmi_calls`, and the replay
+//! makes it and knows it by that alone. The crate stands on `fault_path`, `page_release`,
+//! `contexts` and the crates below them.
 #![tactic(auto)]
 
-mod actors;
 mod gmi;
 mod maps;
 mod nodes;
 mod pieces;
-mod place;
 mod pvm;
 mod spans;
-mod taking;
 #[cfg(test)]
 mod tests;
 

@@ -22,7 +22,7 @@ fn part(page: &[u8], byte: usize, bytes: u8) -> Piece
 
 // The same of the page that a read fault found.
 #[tactic(auto, using(crate::proofs::Zeros::zeros_part, crate::proofs::Zeros::part_long))]
-pub(crate) fn part_of(store: &Store, found: Option<FrameId>, byte: u64, bytes: u8) -> Piece
+pub(crate) fn part_of(store: &Store, found: Option<FrameId>, byte: u16, bytes: u8) -> Piece
     requires some { 1 ≤ bytes }
     requires few { bytes ≤ 64 }
     requires within { byte + bytes ≤ store.now.frames.page }
@@ -55,7 +55,7 @@ fn write_page(page: &mut [u8], byte: usize, bytes: &[u8])
 }
 
 // The same in the page of a frame.
-pub(crate) fn write_frame(store: &mut Store, frame: FrameId, byte: u64, bytes: &[u8])
+pub(crate) fn write_frame(store: &mut Store, frame: FrameId, byte: u16, bytes: &[u8])
     requires frame { frame.0 < length store.old.frames.held }
     requires within { byte + length bytes.now ≤ store.old.frames.page }
     ensures { store.new ≡ record store.old {

@@ -12,13 +12,11 @@ ghost use Rattle.pvm_core.specs.Access.{IsAtHand, IsLoaded};
 ghost use Rattle.pvm_core.specs.Keeping.{CopiesNothing, HasFewWorking, HasMoreRoom, HoldsEachOnce};
 ghost use Rattle.pvm_core.specs.Manager.{IsValid, forest_of, machine_of, nodes_of, numbered, state_at};
 
-use crate::actors::{Actors, make_actor};
-use crate::maps::{map, unmap};
+use crate::maps::map_refusal;
 use crate::nodes::{node_of, reserve};
 use crate::pieces::{fault_of, part_of, write_frame};
-use crate::place::place_of;
 use crate::spans::span_refusal;
-use crate::taking::is_mapped;
+use contexts::Contexts;
 use fault_path::{read_fault, write_fault};
 use history_tree::chain;
 use local_cache::Caches;
@@ -39,13 +37,12 @@ pub struct Pvm {
     pub(crate) alloc: Global,
     pub(crate) caches: Caches,
     pub(crate) store: Store,
-    pub(crate) actors: Actors,
+    pub(crate) contexts: Contexts,
     // the pages of the live caches
     pub(crate) live: u32,
 }
 
 impl Model for Pvm {
-    ghost use Rattle.std.specs.Prelude.{map, option_map};
     ghost use Rattle.pvm_core.specs.Manager.{Manager, IsSound};
     ghost use Rattle.pvm_core.specs.Codes.{manager_code};
 
@@ -53,17 +50,15 @@ impl Model for Pvm {
 
     ghost coded = { manager_code };
 
-    ghost use Rattle.pvm_core.specs.Seen.{actor_seen};
-
     ghost view = { λ p. record {
       caches = p.caches;
       store = p.store;
-      page_bytes = p.actors.page_bytes;
-      actors = map (option_map actor_seen) p.actors.list.items;
-      regions_made = p.actors.regions_made;
+      page_bytes = p.contexts.page_bytes;
+      actors = p.contexts.actors;
+      regions_made = p.contexts.regions_made;
     } };
 
-    ghost invariant = { λ p. IsSound p.caches p.store p.actors p.live };
+    ghost invariant = { λ p. IsSound p.caches p.store p.contexts p.live };
 }
 
 impl Pvm {
@@ -85,13 +80,7 @@ impl Pvm {
             alloc,
             caches: Caches::new(alloc),
             store,
-            actors: Actors {
-                alloc,
-                page_bytes: page as usize,
-                list: Vec::new(alloc),
-                regions_made: 0,
-                living: 0,
-            },
+            contexts: Contexts::new(alloc, page),
             live: 0,
         })
     }
@@ -105,7 +94,7 @@ impl Pvm {
             Command.MakeActor (answer_by Reply.Actor result) self.new }
         ensures err { OnErr result (self.new ≡ self.old) }
     {
-        make_actor(&mut self.actors)
+        self.contexts.make()
     }
 
     /// Makes a temporary cache of so many zero pages. Refused as `TooMany` exactly where 65,535 caches were made or
@@ -155,7 +144,7 @@ impl Pvm {
         let Some(count) = self.caches.pages(cache) else {
             return Err(Trouble::Refused(Refusal::NoCache));
         };
-        if is_mapped(&self.actors.list, cache) {
+        if self.contexts.maps(cache) {
             return Err(Trouble::Refused(Refusal::InUse));
         }
         destroy_pages(&mut self.store, &mut self.caches, cache, count);
@@ -233,6 +222,7 @@ impl Pvm {
     /// Maps pages of a cache into an actor. Refused as `NoActor`, `NoCache`, `Unaligned`, `BadAddress`, `OutOfCache`,
     /// `Overlap` or `TooMany`, in this order.
     pub fn map(&mut self, actor: ActorId, mapping: Mapping) -> Result<RegionId, Trouble>
+        requires some { 1 ≤ mapping.extent.pages }
         ensures valid { StaysValid IsValid self.old self.new }
         ensures answers { Answers IsValid state_at self.old
             (Command.Map actor mapping) (answer_by Reply.Region result) self.new }
@@ -241,7 +231,13 @@ impl Pvm {
         ensures err { OnErr result (self.new ≡ self.old) }
     {
         let count = self.caches.pages(mapping.extent.cache);
-        map(&mut self.actors, actor, &mapping, count)
+        if let Some(refusal) = map_refusal(&self.contexts, actor, &mapping, count) {
+            return Err(Trouble::Refused(refusal));
+        }
+        match self.contexts.map(actor, mapping) {
+            Ok(region) => Ok(region),
+            Err(NoMemory) => Err(Trouble::Memory),
+        }
     }
 
     /// Takes a region away. Refused as `NoRegion` or `Locked`, in this order.
@@ -253,7 +249,10 @@ impl Pvm {
             (Command.Unmap region) (done_by result) self.new }
         ensures err { OnErr result (self.new ≡ self.old) }
     {
-        unmap(&mut self.actors, region)
+        if !self.contexts.unmap(region) {
+            return Err(Trouble::Refused(Refusal::NoRegion));
+        }
+        Ok(())
     }
 
     /// Loads so many bytes, 1 to 64, at an address of an actor. Refused as `NoActor`, `Crosses` or `BadAddress`, in
@@ -287,12 +286,11 @@ impl Pvm {
         ensures loaded { IfOk result (IsLoaded (M.counts mapper.old) (M.counts mapper.new)
             (M.given mapper.new) self.old self.new actor.0 address bytes) }
     {
-        let place = place_of(&self.actors, actor, address, bytes)?;
-        let page = PageNo(place.page as u32);
-        let node = node_of(&self.caches, place.region.cache, page);
+        let place = self.contexts.locate(actor, address, bytes)?;
+        let node = node_of(&self.caches, place.cache, place.page);
         match read_fault(&mut self.store, &mut self.caches, node, mapper, chooser) {
-            Ok(found) => Ok(part_of(&self.store, found, place.byte, bytes)),
-            Err(miss) => Err(Trouble::Mapper(fault_of(miss, page))),
+            Ok(found) => Ok(part_of(&self.store, found, place.at, bytes)),
+            Err(miss) => Err(Trouble::Mapper(fault_of(miss, place.page))),
         }
     }
 
@@ -321,18 +319,17 @@ impl Pvm {
             → (self.new ≡ self.old) × (mapper.new ≡ mapper.old) }
     {
         let bytes = piece.as_slice();
-        let place = place_of(&self.actors, actor, address, bytes.len() as u8)?;
-        if !place.region.may_write {
+        let place = self.contexts.locate(actor, address, bytes.len() as u8)?;
+        if !place.prot.write {
             return Err(Trouble::Refused(Refusal::Protection));
         }
-        let page = PageNo(place.page as u32);
-        let node = node_of(&self.caches, place.region.cache, page);
+        let node = node_of(&self.caches, place.cache, place.page);
         match write_fault(&mut self.store, &mut self.caches, node, mapper, chooser) {
             Ok(frame) => {
-                write_frame(&mut self.store, frame, place.byte, bytes);
+                write_frame(&mut self.store, frame, place.at, bytes);
                 Ok(())
             }
-            Err(miss) => Err(Trouble::Mapper(fault_of(miss, page))),
+            Err(miss) => Err(Trouble::Mapper(fault_of(miss, place.page))),
         }
     }
 

@@ -32,6 +32,8 @@ fn regions_are_made_cut_and_taken_away(rt: HostRuntime) -> Result<(), Fail> {
     map.create(one, three_pages(0x5000));
     assert!(rt; map.fits(0x2000, 3));
     assert!(rt; !map.fits(0x7000, 1));
+    assert!(rt; map.maps(CacheId(7)));
+    assert!(rt; !map.maps(CacheId(8)));
     map.reserve()?;
     map.create(two, three_pages(0x2000));
     map.set_locked(one, true);

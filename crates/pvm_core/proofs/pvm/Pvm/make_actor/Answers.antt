@@ -1,42 +1,55 @@
-use Rattle.std.proofs.Common.{refl, sym, subst}
+use Rattle.std.proofs.Common.{◌≡◌, [], ◌∷◌, ◌++◌, Some, length, refl, sym, subst}
+use Rattle.std.specs.Prelude.{OnErr}
 use Rattle.vm_ids.specs.Counting.{no_counts}
 use Rattle.vm_ids.specs.declared.command.Command.TheVariants as commands
 use Rattle.vm_ids.specs.declared.reply.Reply.TheVariants as replies
 use Rattle.vm_model.specs.Answering.{answer_by}
 use Rattle.vm_model.specs.Run.{AnswerIs}
 use Rattle.local_cache.specs.Whole.{size_of}
-use Rattle.pvm_core.specs.Manager.{IsValid, Manager, state_at}
+use Rattle.contexts.specs.Actors.{Actors, is_full}
+use Rattle.pvm_core.specs.Placed.{AreRight}
+use Rattle.pvm_core.specs.Manager.{IsValid, Manager, caches_shown, forest_of, state_at}
 use Rattle.pvm_core.specs.contracts.pvm.Pvm.{the_view}
 use Rattle.pvm_core.proofs.Answered.{seated}
 use Rattle.pvm_core.proofs.Kept.{on_err, seated_same, seated_sound, seated_valid}
-use Rattle.std.specs.Prelude.{OnErr}
-use Rattle.std.proofs.Common.{◌≡◌}
-use Rattle.std.proofs.Common.{length, Some, []}
-use Rattle.pvm_core.specs.Manager.{caches_shown, forest_of}
+use Rattle.pvm_core.proofs.Listed.{actor_outcome, after_either, right_made}
 use Rattle.pvm_core.proofs.pvm.Pvm.make_actor.Goals as goal
+
+abbrev more : Actors → Actors
+more t = record t { actors = t.actors ++ Some [] ∷ [] }
 
 pub invariant_of-self : goal.invariant_of-self
 invariant_of-self c =
-    let i = c.self.invariant in
-    let e = c.make_actor.ensures in
-    seated_sound c.self.inside.caches c.self.inside.store c.self.inside.actors c.make_actor.new.actors c.self.inside.live e.page (e.sound (size_of c.self.inside.caches) i.actors) i
+    let i = c.self.inside in
+    let e = c.make.ensures in
+    let u = c.make.new.self in
+    seated_sound i.caches i.store i.contexts u i.live (after_either (λ (t : Actors). t.page_bytes ≡ i.contexts.page_bytes) i.contexts u (more i.contexts) c.make.result e.ok e.err refl refl)
+    (after_either (AreRight (size_of i.caches)) i.contexts u (more i.contexts) c.make.result e.ok e.err (right_made (size_of i.caches) i.contexts c.self.invariant.actors) c.self.invariant.actors) c.self.invariant
 
 pub returns-clause-valid : goal.returns-clause-valid
 returns-clause-valid c = λ h v.
-    let q : Manager = the_view (record c.self.inside { actors = c.make_actor.new.actors }) in
-    seated_valid (the_view c.self.inside) q h refl refl c.make_actor.ensures.page (subst (λ (p : Manager). IsValid p h) (sym c.self.view_is) v)
+    let i = c.self.inside in
+    let e = c.make.ensures in
+    let u = c.make.new.self in
+    let q : Manager = the_view (record i { contexts = u }) in
+    seated_valid (the_view i) q h refl refl (after_either (λ (t : Actors). t.page_bytes ≡ i.contexts.page_bytes) i.contexts u (more i.contexts) c.make.result e.ok e.err refl refl) (subst (λ (p : Manager). IsValid p h) (sym c.self.view_is) v)
 
 pub returns-clause-answers : goal.returns-clause-answers
 returns-clause-answers c = λ h v.
-    let q : Manager = the_view (record c.self.inside { actors = c.make_actor.new.actors }) in
+    let i = c.self.inside in
+    let e = c.make.ensures in
+    let u = c.make.new.self in
+    let q : Manager = the_view (record i { contexts = u }) in
     let command = commands.MakeActor in
-    let answer = answer_by replies.Actor c.make_actor.result in
+    let answer = answer_by replies.Actor c.make.result in
     subst (λ (p : Manager). AnswerIs (state_at p h) command answer [] no_counts (state_at q h)) c.self.view_is
-    (seated (the_view c.self.inside) q h command answer c.self.invariant.nodes refl refl (λ done m f s none. none) refl (λ f. refl) (λ f s. c.make_actor.ensures.outcome (caches_shown f 1 c.self.inside.caches.caches) (length c.self.inside.store.frames.held) (Some (forest_of (the_view c.self.inside) h)) s))
+    (seated (the_view i) q h command answer c.self.invariant.nodes refl refl (λ done m f s none. none) refl (λ f. refl)
+    (λ f s. actor_outcome (caches_shown f 1 i.caches.caches) (length i.store.frames.held) i.contexts u (Some (forest_of (the_view i) h)) s (is_full i.contexts) c.make.result refl e.refused e.made e.ok e.err))
 
 pub returns-clause-err : goal.returns-clause-err
 returns-clause-err c =
     let i = c.self.inside in
-    let q : Manager = the_view (record c.self.inside { actors = c.make_actor.new.actors }) in
-    subst (λ (p : Manager). OnErr c.make_actor.result (q ≡ p)) c.self.view_is
-    (on_err c.make_actor.result (seated_same i.caches i.store i.actors c.make_actor.new.actors) c.make_actor.ensures.err)
+    let u = c.make.new.self in
+    let q : Manager = the_view (record i { contexts = u }) in
+    subst (λ (p : Manager). OnErr c.make.result (q ≡ p)) c.self.view_is
+    (on_err c.make.result (seated_same i.caches i.store i.contexts u) c.make.ensures.err)

@@ -37,30 +37,30 @@ invariant_of-self c =
     let i = c.self.inside in
     let r = c.reserve.new in
     let e = c.reserve.ensures in
-    roomy_sound i.caches r.caches i.store r.store i.actors i.live e.caches e.store e.slots e.no_less e.forest e.sound c.self.invariant
+    roomy_sound i.caches r.caches i.store r.store i.contexts i.live e.caches e.store e.slots e.no_less e.forest e.sound c.self.invariant
 
 pub returns-in_err-reserve-clause-valid : goal.returns-in_err-reserve-clause-valid
 returns-in_err-reserve-clause-valid c = λ h v.
     let i = c.self.inside in
     let r = c.reserve.new in
     let e = c.reserve.ensures in
-    roomy_valid i.caches r.caches i.store r.store i.actors i.live e.caches e.store e.slots e.no_less e.forest e.sound c.self.invariant h (subst (λ (p : Manager). IsValid p h) (sym c.self.view_is) v)
+    roomy_valid i.caches r.caches i.store r.store i.contexts i.live e.caches e.store e.slots e.no_less e.forest e.sound c.self.invariant h (subst (λ (p : Manager). IsValid p h) (sym c.self.view_is) v)
 
 pub returns-in_err-reserve-clause-answers : goal.returns-in_err-reserve-clause-answers
 returns-in_err-reserve-clause-answers c = λ h v.
     let i = c.self.inside in
     let r = c.reserve.new in
     let e = c.reserve.ensures in
-    let p : Manager = seen i.caches i.store i.actors in
-    let q : Manager = seen r.caches r.store i.actors in
-    let k = roomy_sound i.caches r.caches i.store r.store i.actors i.live e.caches e.store e.slots e.no_less e.forest e.sound c.self.invariant in
+    let p : Manager = seen i.caches i.store i.contexts in
+    let q : Manager = seen r.caches r.store i.contexts in
+    let k = roomy_sound i.caches r.caches i.store r.store i.contexts i.live e.caches e.store e.slots e.no_less e.forest e.sound c.self.invariant in
     let answer : Answer = Err troubles.Memory in
     let gave = err_from_is_err_and c.from_residual.result c.from_residual.ensures.1 in
     let is : c.from_residual.result ≡ Err troubles.Memory = gave.1 ∙ ap (λ t. Err t) gave.2 in
     subst (λ (p : Manager). AnswerIs (state_at p h) (commands.MakeTemp c.args.pages) (answer_by replies.Cache c.from_residual.result) [] no_counts (state_at q h)) c.self.view_is
     (subst (λ (r : Result _ _). AnswerIs (state_at p h) (commands.MakeTemp c.args.pages) (answer_by replies.Cache r) [] no_counts (state_at q h)) (sym is)
-    (answered p q h (commands.MakeTemp c.args.pages) answer c.self.invariant.nodes k.nodes (roomy_forest i.caches r.caches i.store r.store i.actors i.live e.caches e.store e.slots e.no_less e.forest e.sound c.self.invariant h) refl refl (λ f s. (
-      roomy_by i.caches r.caches i.store r.store i.actors i.live e.caches e.store e.slots e.no_less e.forest e.sound c.self.invariant f,
+    (answered p q h (commands.MakeTemp c.args.pages) answer c.self.invariant.nodes k.nodes (roomy_forest i.caches r.caches i.store r.store i.contexts i.live e.caches e.store e.slots e.no_less e.forest e.sound c.self.invariant h) refl refl (λ f s. (
+      roomy_by i.caches r.caches i.store r.store i.contexts i.live e.caches e.store e.slots e.no_less e.forest e.sound c.self.invariant f,
       tt,
       (let row = temp_row p f c.args.pages i.live c.self.invariant.counted (omega (arith, c.if-caches_made-ge-MADE.false, c.caches_made.ensures)) (omega (arith, c.if-self-pages.false)) in rw row tt),
     ))))
@@ -71,8 +71,8 @@ invariant_of-self-2 c =
     let r = c.reserve.new in
     let e = c.reserve.ensures in
     let m = c.make_temp.ensures in
-    let k = roomy_sound i.caches r.caches i.store r.store i.actors i.live e.caches e.store e.slots e.no_less e.forest e.sound c.self.invariant in
-    begun_sound r.caches c.make_temp.new.self r.store i.actors i.live c.args.pages c.make_temp.result m.made.0 m.made.1 m.made.2 (m.forest e.sound) (m.sound e.sound) k (omega (arith, c.if-self-pages.false))
+    let k = roomy_sound i.caches r.caches i.store r.store i.contexts i.live e.caches e.store e.slots e.no_less e.forest e.sound c.self.invariant in
+    begun_sound r.caches c.make_temp.new.self r.store i.contexts i.live c.args.pages c.make_temp.result m.made.0 m.made.1 m.made.2 (m.forest e.sound) (m.sound e.sound) k (omega (arith, c.if-self-pages.false))
     c.in_ok-reserve.ensures.nodes c.in_ok-reserve.ensures.capacity
 
 pub returns-clause-valid : goal.returns-clause-valid
@@ -82,14 +82,14 @@ returns-clause-valid c = λ h v.
     let e = c.reserve.ensures in
     let m = c.make_temp.ensures in
     let d = c.make_temp.new.self in
-    let k = roomy_sound i.caches r.caches i.store r.store i.actors i.live e.caches e.store e.slots e.no_less e.forest e.sound c.self.invariant in
-    let p : Manager = seen r.caches r.store i.actors in
-    let q : Manager = seen d r.store i.actors in
-    let w = roomy_valid i.caches r.caches i.store r.store i.actors i.live e.caches e.store e.slots e.no_less e.forest e.sound c.self.invariant h (subst (λ (p : Manager). IsValid p h) (sym c.self.view_is) v) in
+    let k = roomy_sound i.caches r.caches i.store r.store i.contexts i.live e.caches e.store e.slots e.no_less e.forest e.sound c.self.invariant in
+    let p : Manager = seen r.caches r.store i.contexts in
+    let q : Manager = seen d r.store i.contexts in
+    let w = roomy_valid i.caches r.caches i.store r.store i.contexts i.live e.caches e.store e.slots e.no_less e.forest e.sound c.self.invariant h (subst (λ (p : Manager). IsValid p h) (sym c.self.view_is) v) in
     let low : i.live + c.args.pages ≤ Rattle.vm_model.specs.declared.limits.TheConstants.LIVE_PAGES = omega (arith, c.if-self-pages.false) in
     let forest = made_store h r.caches d r.store c.make_temp.result c.args.pages m.pages m.stays (m.forest e.sound) e.sound (m.sound e.sound) (fresh_pages r.caches d c.make_temp.result c.args.pages m.made.0 k.nodes m.made.2) in
     record {
-      right = begun_right r.caches d r.store i.actors i.live c.args.pages c.make_temp.result m.made.0 m.made.1 m.made.2 (m.forest e.sound) (m.sound e.sound) k low c.in_ok-reserve.ensures.nodes c.in_ok-reserve.ensures.capacity h w.right;
+      right = begun_right r.caches d r.store i.contexts i.live c.args.pages c.make_temp.result m.made.0 m.made.1 m.made.2 (m.forest e.sound) (m.sound e.sound) k low c.in_ok-reserve.ensures.nodes c.in_ok-reserve.ensures.capacity h w.right;
       whole = whole_more p q h c.make_temp.result c.args.pages m.made.0 m.made.1 m.made.2 k.actors.some (followed_of p h k.nodes k.actors.some w.whole)
           (subst (λ (b : ℕ). forest_of q h ≡ make (all_with (option_map (λ _. replicate b 0) h) (page_names c.make_temp.result 0 c.args.pages)) (forest_of p h)) (sym k.page) forest) (refl, refl, refl, refl) w.whole;
     }
@@ -101,16 +101,16 @@ returns-clause-answers c = λ h v.
     let e = c.reserve.ensures in
     let m = c.make_temp.ensures in
     let d = c.make_temp.new.self in
-    let k = roomy_sound i.caches r.caches i.store r.store i.actors i.live e.caches e.store e.slots e.no_less e.forest e.sound c.self.invariant in
-    let o : Manager = seen i.caches i.store i.actors in
-    let p : Manager = seen r.caches r.store i.actors in
-    let q : Manager = seen d r.store i.actors in
-    let w = roomy_valid i.caches r.caches i.store r.store i.actors i.live e.caches e.store e.slots e.no_less e.forest e.sound c.self.invariant h (subst (λ (p : Manager). IsValid p h) (sym c.self.view_is) v) in
+    let k = roomy_sound i.caches r.caches i.store r.store i.contexts i.live e.caches e.store e.slots e.no_less e.forest e.sound c.self.invariant in
+    let o : Manager = seen i.caches i.store i.contexts in
+    let p : Manager = seen r.caches r.store i.contexts in
+    let q : Manager = seen d r.store i.contexts in
+    let w = roomy_valid i.caches r.caches i.store r.store i.contexts i.live e.caches e.store e.slots e.no_less e.forest e.sound c.self.invariant h (subst (λ (p : Manager). IsValid p h) (sym c.self.view_is) v) in
     let forest = made_store h r.caches d r.store c.make_temp.result c.args.pages m.pages m.stays (m.forest e.sound) e.sound (m.sound e.sound) (fresh_pages r.caches d c.make_temp.result c.args.pages m.made.0 k.nodes m.made.2) in
     let answer : Answer = Ok (replies.Cache c.make_temp.result) in
     let same : state_at p h ≡ state_at o h = λ j. record {
-      machine = roomy_machine i.caches r.caches i.store r.store i.actors i.live e.caches e.store e.slots e.no_less e.forest e.sound c.self.invariant h j;
-      forest = Some (roomy_forest i.caches r.caches i.store r.store i.actors i.live e.caches e.store e.slots e.no_less e.forest e.sound c.self.invariant h j);
+      machine = roomy_machine i.caches r.caches i.store r.store i.contexts i.live e.caches e.store e.slots e.no_less e.forest e.sound c.self.invariant h j;
+      forest = Some (roomy_forest i.caches r.caches i.store r.store i.contexts i.live e.caches e.store e.slots e.no_less e.forest e.sound c.self.invariant h j);
       segments = segments_of h;
     } in
     subst (λ (p : Manager). AnswerIs (state_at p h) (commands.MakeTemp c.args.pages) answer [] no_counts (state_at q h)) c.self.view_is

@@ -1,43 +1,84 @@
-use Rattle.std.proofs.Common.{refl, sym, subst, ◌∙◌}
+use Rattle.std.proofs.Common.{◌≡◌, ℕ, [], Option, length, refl, sym, subst, ap, ◌∙◌}
+use Rattle.std.specs.Prelude.{Ok, Err, Result}
 use Rattle.vm_ids.specs.Counting.{no_counts}
 use Rattle.vm_ids.specs.declared.command.Command.TheVariants as commands
+use Rattle.vm_ids.specs.declared.numbers.RegionId.{RegionId}
 use Rattle.vm_ids.specs.declared.reply.Reply.TheVariants as replies
-use Rattle.vm_model.specs.Answering.{answer_by}
+use Rattle.vm_ids.specs.declared.reply.Trouble.{Trouble}
+use Rattle.vm_ids.specs.declared.reply.Trouble.TheVariants as troubles
+use Rattle.vm_model.specs.Answering.{Answer, answer_by, reply}
+use Rattle.vm_model.specs.Machine.{numbered}
+use Rattle.vm_model.specs.PageForest.{PageForest}
 use Rattle.vm_model.specs.Run.{AnswerIs}
 use Rattle.local_cache.specs.Whole.{size_of}
-use Rattle.pvm_core.specs.Manager.{IsValid, Manager, state_at}
+use Rattle.contexts.specs.Actors.{Actors, with_region}
+use Rattle.pvm_core.specs.Manager.{Manager, caches_shown, state_at}
+use Rattle.pvm_core.specs.Maps.{map_refusal}
+use Rattle.pvm_core.specs.Placed.{AreRight}
 use Rattle.pvm_core.specs.contracts.pvm.Pvm.{the_view}
 use Rattle.pvm_core.proofs.Answered.{seated}
-use Rattle.pvm_core.proofs.Kept.{on_err, seated_same, seated_sound, seated_valid}
-use Rattle.std.specs.Prelude.{OnErr}
-use Rattle.std.proofs.Common.{◌≡◌}
-use Rattle.std.proofs.Common.{length, Some, []}
-use Rattle.pvm_core.specs.Manager.{caches_shown, forest_of}
+use Rattle.pvm_core.proofs.Kept.{seated_sound}
+use Rattle.pvm_core.proofs.Listed.{IsMappable, after_either, is_mappable, machine_with, map_refused, map_row, next_placed, right_mapped, size_in}
 use Rattle.pvm_core.proofs.Shown.{shown_size}
 use Rattle.pvm_core.proofs.pvm.Pvm.map.Goals as goal
+use Rattle.pvm_core.proofs.pvm.Pvm.map.Goals.{in-Ok, in-Err}
+
+pub returns-in-Some-clause-answers : goal.returns-in-Some-clause-answers
+returns-in-Some-clause-answers c = λ h v.
+    let i = c.self.inside in
+    let p : Manager = the_view i in
+    let t : Actors = i.contexts in
+    let x = c.args.mapping in
+    let actor = c.args.actor.0 in
+    let answer : Answer = Err (troubles.Refused c.in-Some.refusal) in
+    subst (λ (p : Manager). AnswerIs (state_at p h) (commands.Map c.args.actor x) answer [] no_counts (state_at p h)) c.self.view_is
+    (seated p p h (commands.Map c.args.actor x) answer c.self.invariant.nodes refl refl (λ done m f s none. none) refl (λ f. refl)
+    (λ f s. let caches = caches_shown f 1 i.caches.caches in
+    let size : size_in (numbered caches x.extent.cache.0) ≡ c.pages-count.result = shown_size f i.caches.caches x.extent.cache.0 ∙ sym c.pages-count.ensures in
+    map_refused t x caches (length i.store.frames.held) actor c.in-Some.refusal (numbered t.actors actor) (numbered caches x.extent.cache.0) refl refl
+    (ap (λ (q : Option ℕ). map_refusal t (numbered t.actors actor) q x) size ∙ sym c.map_refusal.ensures ∙ c.in-Some.is)))
 
 pub invariant_of-self : goal.invariant_of-self
 invariant_of-self c =
-    let i = c.self.invariant in
+    let i = c.self.inside in
+    let t : Actors = i.contexts in
+    let u : Actors = c.map.new.self in
+    let x = c.args.mapping in
+    let actor = c.args.actor.0 in
     let e = c.map.ensures in
-    seated_sound c.self.inside.caches c.self.inside.store c.self.inside.actors c.map.new.actors c.self.inside.live e.page (e.sound (size_of c.self.inside.caches) (sym c.pages-count.ensures) i.actors) i
-
-pub returns-clause-valid : goal.returns-clause-valid
-returns-clause-valid c = λ h v.
-    let q : Manager = the_view (record c.self.inside { actors = c.map.new.actors }) in
-    seated_valid (the_view c.self.inside) q h refl refl c.map.ensures.page (subst (λ (p : Manager). IsValid p h) (sym c.self.view_is) v)
+    let sizes = size_of i.caches in
+    let k = is_mappable t x (numbered t.actors actor) c.pages-count.result (sym c.map_refusal.ensures ∙ c.in_default.is) in
+    let new = next_placed t x sizes (numbered t.actors actor) c.pages-count.result (sym c.pages-count.ensures) k in
+    seated_sound i.caches i.store t u i.live
+    (after_either (λ (w : Actors). w.page_bytes ≡ t.page_bytes) t u (with_region t actor x) c.map.result e.ok e.err refl refl)
+    (after_either (AreRight sizes) t u (with_region t actor x) c.map.result e.ok e.err (right_mapped sizes t actor x new c.self.invariant.actors) c.self.invariant.actors)
+    c.self.invariant
 
 pub returns-clause-answers : goal.returns-clause-answers
 returns-clause-answers c = λ h v.
-    let q : Manager = the_view (record c.self.inside { actors = c.map.new.actors }) in
-    let command = commands.Map c.args.actor c.args.mapping in
-    let answer = answer_by replies.Region c.map.result in
-    subst (λ (p : Manager). AnswerIs (state_at p h) command answer [] no_counts (state_at q h)) c.self.view_is
-    (seated (the_view c.self.inside) q h command answer c.self.invariant.nodes refl refl (λ done m f s none. none) refl (λ f. refl) (λ f s. c.map.ensures.outcome (caches_shown f 1 c.self.inside.caches.caches) (length c.self.inside.store.frames.held) (Some (forest_of (the_view c.self.inside) h)) s (shown_size f c.self.inside.caches.caches c.args.mapping.extent.cache.0 ∙ sym c.pages-count.ensures)))
-
-pub returns-clause-err : goal.returns-clause-err
-returns-clause-err c =
     let i = c.self.inside in
-    let q : Manager = the_view (record c.self.inside { actors = c.map.new.actors }) in
-    subst (λ (p : Manager). OnErr c.map.result (q ≡ p)) c.self.view_is
-    (on_err c.map.result (seated_same i.caches i.store i.actors c.map.new.actors) c.map.ensures.err)
+    let t : Actors = i.contexts in
+    let u : Actors = c.map.new.self in
+    let p : Manager = the_view i in
+    let q : Manager = the_view (record i { contexts = u }) in
+    let x = c.args.mapping in
+    let actor = c.args.actor.0 in
+    let e = c.map.ensures in
+    let command = commands.Map c.args.actor x in
+    let frames = length i.store.frames.held in
+    let size : (f : PageForest) → size_in (numbered (caches_shown f 1 i.caches.caches) x.extent.cache.0) ≡ c.pages-count.result
+    = λ f. shown_size f i.caches.caches x.extent.cache.0 ∙ sym c.pages-count.ensures in
+    let k : (f : PageForest) → IsMappable t (numbered t.actors actor) (size_in (numbered (caches_shown f 1 i.caches.caches) x.extent.cache.0)) x
+    = λ f. is_mappable t x (numbered t.actors actor) (size_in (numbered (caches_shown f 1 i.caches.caches) x.extent.cache.0))
+    (ap (λ (n : Option ℕ). map_refusal t (numbered t.actors actor) n x) (size f) ∙ sym c.map_refusal.ensures ∙ c.in_default.is) in
+    let row = λ (f : PageForest). map_row t x (caches_shown f 1 i.caches.caches) frames actor (k f) in
+    let at : Result RegionId Trouble → Type 0 = λ r. AnswerIs (state_at p h) command (answer_by replies.Region r) [] no_counts (state_at q h) in
+    subst (λ (p : Manager). AnswerIs (state_at p h) command (answer_by replies.Region c.match-map.result) [] no_counts (state_at q h)) c.self.view_is
+    (elim c.match-map.branch [
+      | in-Ok w ↦ subst at (sym w.result-is)
+          (seated p q h command (Ok (replies.Region w.in-Ok.region)) c.self.invariant.nodes refl refl (λ done m f s none. none) refl (λ f. refl)
+          (λ f s. row f ∙ (λ j. reply (replies.Region (record { 0 = sym w.in-Ok.ensures.number j })) (machine_with (caches_shown f 1 i.caches.caches) frames (sym w.in-Ok.ensures.ok j)))))
+      | in-Err w ↦ subst at (sym w.result-is)
+          (seated p q h command (Err troubles.Memory) c.self.invariant.nodes refl refl (λ done m f s none. none) refl (λ f. refl)
+          (λ f s. (ap (machine_with (caches_shown f 1 i.caches.caches) frames) w.in-Err.ensures.err, tt, (let line = row f in rw line tt))))
+    ])

@@ -36,14 +36,14 @@ returns-in-Some-clause-answers g c =
     let answer : Answer = Err (troubles.Refused c.in-Some.refusal) in
     subst (λ (p : Manager). CallIs counts counts (state_at p h) command answer (state_at p h)) c.self.view_is
     (failed counts counts (no_later counts) p p h h command answer c.self.invariant.nodes c.self.invariant.nodes refl refl refl tt
-    (λ f sg. move_refused (machine_by p f) s sg (λ cache page. unlocked_actors c.self.inside.actors.list.items cache page) (undenied_any p f sg s.to.0 c.self.invariant.temporary) c.in-Some.refusal (cache_of (machine_by p f) s.from.0) (cache_of (machine_by p f) s.to.0) refl (unnamed_any p f s.from.0 c.self.invariant.temporary) refl
+    (λ f sg. move_refused (machine_by p f) s sg (λ cache page. unlocked_actors (size_of c.self.inside.caches) cache page c.self.inside.contexts.actors c.self.invariant.actors.placed) (undenied_any p f sg s.to.0 c.self.invariant.temporary) c.in-Some.refusal (cache_of (machine_by p f) s.from.0) (cache_of (machine_by p f) s.to.0) refl (unnamed_any p f s.from.0 c.self.invariant.temporary) refl
     ((λ j. span_refusal (shown_size f p.caches.caches s.from.0 j) (shown_size f p.caches.caches s.to.0 j) s) ∙ sym c.span_refusal.ensures ∙ c.in-Some.is)))
 
 pub invariant_of-self : goal.invariant_of-self
 invariant_of-self g c =
     let i = c.self.inside in
     let r = c.reserve.ensures in
-    let roomy = reserved i.caches c.reserve.new.self i.store i.actors i.live r.kept r.no_less.0 r.forest (r.sound c.self.invariant.nodes.sound) c.self.invariant in
+    let roomy = reserved i.caches c.reserve.new.self i.store i.contexts i.live r.kept r.no_less.0 r.forest (r.sound c.self.invariant.nodes.sound) c.self.invariant in
     roomy.sound
 
 pub returns-in_err-reserve-clause-valid : goal.returns-in_err-reserve-clause-valid
@@ -51,7 +51,7 @@ returns-in_err-reserve-clause-valid g c =
     let h = g.M.Mapper.held c.args.mapper.now in
     let i = c.self.inside in
     let r = c.reserve.ensures in
-    let roomy = reserved i.caches c.reserve.new.self i.store i.actors i.live r.kept r.no_less.0 r.forest (r.sound c.self.invariant.nodes.sound) c.self.invariant in
+    let roomy = reserved i.caches c.reserve.new.self i.store i.contexts i.live r.kept r.no_less.0 r.forest (r.sound c.self.invariant.nodes.sound) c.self.invariant in
     roomy.valid h (subst (λ (p : Manager). IsValid p h) (sym c.self.view_is) c.requires.valid)
 
 pub move_pages-requires-clause-tied : goal.move_pages-requires-clause-tied
@@ -59,7 +59,7 @@ move_pages-requires-clause-tied g c =
     let h = g.M.Mapper.held c.args.mapper.now in
     let i = c.self.inside in
     let r = c.reserve.ensures in
-    let roomy = reserved i.caches c.reserve.new.self i.store i.actors i.live r.kept r.no_less.0 r.forest (r.sound c.self.invariant.nodes.sound) c.self.invariant in
+    let roomy = reserved i.caches c.reserve.new.self i.store i.contexts i.live r.kept r.no_less.0 r.forest (r.sound c.self.invariant.nodes.sound) c.self.invariant in
     let valid = subst (λ (p : Manager). IsValid p h) (sym c.self.view_is) c.requires.valid in
     roomy.tied h valid
 
@@ -67,7 +67,7 @@ pub move_pages-requires-clause-whole : goal.move_pages-requires-clause-whole
 move_pages-requires-clause-whole g c =
     let i = c.self.inside in
     let r = c.reserve.ensures in
-    let roomy = reserved i.caches c.reserve.new.self i.store i.actors i.live r.kept r.no_less.0 r.forest (r.sound c.self.invariant.nodes.sound) c.self.invariant in
+    let roomy = reserved i.caches c.reserve.new.self i.store i.contexts i.live r.kept r.no_less.0 r.forest (r.sound c.self.invariant.nodes.sound) c.self.invariant in
     let k = roomy.sound in
     k.nodes
 
@@ -77,7 +77,7 @@ move_pages-requires-clause-can g c =
     let r = c.reserve.ensures in
     let s = c.args.span in
     let b = c.reserve.new.self in
-    let roomy = reserved i.caches b i.store i.actors i.live r.kept r.no_less.0 r.forest (r.sound c.self.invariant.nodes.sound) c.self.invariant in
+    let roomy = reserved i.caches b i.store i.contexts i.live r.kept r.no_less.0 r.forest (r.sound c.self.invariant.nodes.sound) c.self.invariant in
     let k = roomy.sound in
     let out = subst (λ a. IsOpen (size_of a s.from.0) (size_of a s.to.0) s) (sym r.kept) (is_open (size_of i.caches s.from.0) (size_of i.caches s.to.0) s (sym c.span_refusal.ensures ∙ none_of_option c.span_refusal.result c.in_default.not-Some)) in
     can_copy b k.nodes s out
@@ -98,10 +98,10 @@ returns-in_err-reserve-clause-answers g c =
     let r = c.reserve.ensures in
     let s = c.args.span in
     let b = c.reserve.new.self in
-    let roomy = reserved i.caches b i.store i.actors i.live r.kept r.no_less.0 r.forest (r.sound c.self.invariant.nodes.sound) c.self.invariant in
+    let roomy = reserved i.caches b i.store i.contexts i.live r.kept r.no_less.0 r.forest (r.sound c.self.invariant.nodes.sound) c.self.invariant in
     let k = roomy.sound in
-    let p : Manager = seen i.caches i.store i.actors in
-    let q : Manager = seen b i.store i.actors in
+    let p : Manager = seen i.caches i.store i.contexts in
+    let q : Manager = seen b i.store i.contexts in
     let command = commands.Move s in
     let answer : Answer = Err troubles.Memory in
     let out = is_open (size_of i.caches s.from.0) (size_of i.caches s.to.0) s (sym c.span_refusal.ensures ∙ none_of_option c.span_refusal.result c.in_default.not-Some) in
@@ -115,7 +115,7 @@ returns-in_err-reserve-clause-answers g c =
     (λ f sg. (
       roomy.by f,
       tt,
-      (let line = moved_row i.caches i.store i.actors i.live c.self.invariant s out from.0 to.0 from.1 to.1 from.2 to.2 f sg in rw line tt),
+      (let line = moved_row i.caches i.store i.contexts i.live c.self.invariant s out from.0 to.0 from.1 to.1 from.2 to.2 f sg in rw line tt),
     ))))
 
 pub invariant_of-self-2 : goal.invariant_of-self-2
@@ -126,14 +126,14 @@ invariant_of-self-2 g c =
     let r = c.reserve.ensures in
     let s = c.args.span in
     let b = c.reserve.new.self in
-    let roomy = reserved i.caches b i.store i.actors i.live r.kept r.no_less.0 r.forest (r.sound c.self.invariant.nodes.sound) c.self.invariant in
+    let roomy = reserved i.caches b i.store i.contexts i.live r.kept r.no_less.0 r.forest (r.sound c.self.invariant.nodes.sound) c.self.invariant in
     let k = roomy.sound in
     let e = c.move_pages.ensures in
     let d = c.move_pages.new.caches in
     let u = c.move_pages.new.store in
     let valid = subst (λ (p : Manager). IsValid p h) (sym c.self.view_is) c.requires.valid in
     let tied = roomy.tied h valid in
-    changed_sound b d i.store u i.actors i.live k e.sizes e.gives_back tied e.whole e.bounded
+    changed_sound b d i.store u i.contexts i.live k e.sizes e.gives_back tied e.whole e.bounded
 
 pub returns-clause-valid : goal.returns-clause-valid
 returns-clause-valid g c =
@@ -143,7 +143,7 @@ returns-clause-valid g c =
     let r = c.reserve.ensures in
     let s = c.args.span in
     let b = c.reserve.new.self in
-    let roomy = reserved i.caches b i.store i.actors i.live r.kept r.no_less.0 r.forest (r.sound c.self.invariant.nodes.sound) c.self.invariant in
+    let roomy = reserved i.caches b i.store i.contexts i.live r.kept r.no_less.0 r.forest (r.sound c.self.invariant.nodes.sound) c.self.invariant in
     let k = roomy.sound in
     let e = c.move_pages.ensures in
     let d = c.move_pages.new.caches in
@@ -154,8 +154,8 @@ returns-clause-valid g c =
     let out = subst (λ a. IsOpen (size_of a s.from.0) (size_of a s.to.0) s) (sym r.kept) (is_open (size_of i.caches s.from.0) (size_of i.caches s.to.0) s (sym c.span_refusal.ensures ∙ none_of_option c.span_refusal.result c.in_default.not-Some)) in
     let from = sized_table _ out.from out.from_is in
     let to = sized_table _ out.to out.to_is in
-    let right = e.right (slots_enough b d i.store u i.actors i.live k e.sizes e.gives_back tied e.whole) in
-    moved_valid b i.store i.actors i.live k s out from.0 to.0 from.1 to.1 from.2 to.2 d u e.sizes e.gives_back tied e.whole h v right e.forest
+    let right = e.right (slots_enough b d i.store u i.contexts i.live k e.sizes e.gives_back tied e.whole) in
+    moved_valid b i.store i.contexts i.live k s out from.0 to.0 from.1 to.1 from.2 to.2 d u e.sizes e.gives_back tied e.whole h v right e.forest
 
 pub returns-clause-answers : goal.returns-clause-answers
 returns-clause-answers g c =
@@ -165,7 +165,7 @@ returns-clause-answers g c =
     let r = c.reserve.ensures in
     let s = c.args.span in
     let b = c.reserve.new.self in
-    let roomy = reserved i.caches b i.store i.actors i.live r.kept r.no_less.0 r.forest (r.sound c.self.invariant.nodes.sound) c.self.invariant in
+    let roomy = reserved i.caches b i.store i.contexts i.live r.kept r.no_less.0 r.forest (r.sound c.self.invariant.nodes.sound) c.self.invariant in
     let k = roomy.sound in
     let e = c.move_pages.ensures in
     let d = c.move_pages.new.caches in
@@ -176,18 +176,18 @@ returns-clause-answers g c =
     let out = subst (λ a. IsOpen (size_of a s.from.0) (size_of a s.to.0) s) (sym r.kept) (is_open (size_of i.caches s.from.0) (size_of i.caches s.to.0) s (sym c.span_refusal.ensures ∙ none_of_option c.span_refusal.result c.in_default.not-Some)) in
     let from = sized_table _ out.from out.from_is in
     let to = sized_table _ out.to out.to_is in
-    let right = e.right (slots_enough b d i.store u i.actors i.live k e.sizes e.gives_back tied e.whole) in
-    let o : Manager = seen i.caches i.store i.actors in
-    let p : Manager = seen b i.store i.actors in
-    let q : Manager = seen d u i.actors in
+    let right = e.right (slots_enough b d i.store u i.contexts i.live k e.sizes e.gives_back tied e.whole) in
+    let o : Manager = seen i.caches i.store i.contexts in
+    let p : Manager = seen b i.store i.contexts in
+    let q : Manager = seen d u i.contexts in
     let command = commands.Move s in
     let answer : Answer = Ok replies.Done in
     let same : state_at p h ≡ state_at o h = roomy.state h in
     subst (λ (p : Manager). CallIs counts counts (state_at p h) command answer (state_at q h)) c.self.view_is
     (subst (λ (x : State). CallIs counts counts x command answer (state_at q h)) same
     (call_is counts counts (no_later counts) p q h h command answer refl tt
-    (move_follows b i.store i.actors i.live k s out from.0 to.0 from.1 to.1 from.2 to.2 d u e.sizes e.gives_back tied e.whole h v right e.forest c.requires.some)
-    (moved_outcome b i.store i.actors i.live k s out from.0 to.0 from.1 to.1 from.2 to.2 d u e.sizes e.gives_back tied e.whole h v right e.forest _)))
+    (move_follows b i.store i.contexts i.live k s out from.0 to.0 from.1 to.1 from.2 to.2 d u e.sizes e.gives_back tied e.whole h v right e.forest c.requires.some)
+    (moved_outcome b i.store i.contexts i.live k s out from.0 to.0 from.1 to.1 from.2 to.2 d u e.sizes e.gives_back tied e.whole h v right e.forest _)))
 
 pub returns-clause-frames : goal.returns-clause-frames
 returns-clause-frames g c =
@@ -195,11 +195,11 @@ returns-clause-frames g c =
     let i = c.self.inside in
     let r = c.reserve.ensures in
     let b = c.reserve.new.self in
-    let roomy = reserved i.caches b i.store i.actors i.live r.kept r.no_less.0 r.forest (r.sound c.self.invariant.nodes.sound) c.self.invariant in
+    let roomy = reserved i.caches b i.store i.contexts i.live r.kept r.no_less.0 r.forest (r.sound c.self.invariant.nodes.sound) c.self.invariant in
     let valid = subst (λ (p : Manager). IsValid p h) (sym c.self.view_is) c.requires.valid in
     let e = c.move_pages.ensures in
     let n = c.move_pages.new in
     let gives = e.gives_back None None (roomy.tied h valid) in
-    let q : Manager = seen n.caches n.store i.actors in
+    let q : Manager = seen n.caches n.store i.contexts in
     subst (λ (p : Manager). CopiesNothing p q) c.self.view_is
     (record { copies = e.copies ∙ ap (λ k. k.copies) r.kept; held = gives.held; bytes = gives.bytes })

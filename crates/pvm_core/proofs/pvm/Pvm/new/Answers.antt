@@ -3,7 +3,7 @@ use Rattle.pvm_core.proofs.Empty.{none_sound, none_forest, none_whole}
 use Rattle.pvm_core.proofs.pvm.Pvm.new.Goals as goal
 
 pub invariant_of-result : goal.invariant_of-result
-invariant_of-result c = none_sound c.args.alloc c.args.frames c.args.page c.new-2.result c.in_ok-store.store c.new-3.result c.requires.few c.requires.some c.requires.page c.new-2.ensures.nodes c.new-2.ensures.caches c.new-2.ensures.forest c.new-2.ensures.sound c.in_ok-store.ensures.is c.new-3.ensures.items
+invariant_of-result c = none_sound c.args.frames c.args.page c.new-2.result c.in_ok-store.store c.new-3.result c.requires.few c.requires.some c.requires.page c.new-2.ensures.nodes c.new-2.ensures.caches c.new-2.ensures.forest c.new-2.ensures.sound c.in_ok-store.ensures.is c.new-3.ensures.page c.new-3.ensures.actors
 
 pub returns-clause-forest : goal.returns-clause-forest
 returns-clause-forest c = λ h. none_forest h c.new-2.result c.in_ok-store.store c.new-2.ensures.nodes c.new-2.ensures.counters
@@ -11,5 +11,5 @@ returns-clause-forest c = λ h. none_forest h c.new-2.result c.in_ok-store.store
 pub returns-clause-valid : goal.returns-clause-valid
 returns-clause-valid c = λ h. record {
   right = c.in_ok-store.ensures.right h None c.new-2.result c.new-2.ensures.nodes tt;
-  whole = none_whole h c.args.page c.new-2.result c.in_ok-store.store c.new-2.ensures.caches;
+  whole = none_whole h c.new-3.result.page_bytes c.new-2.result c.in_ok-store.store c.new-2.ensures.caches;
 }

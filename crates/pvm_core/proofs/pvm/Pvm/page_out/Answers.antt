@@ -17,14 +17,14 @@ invariant_of-self g c =
     let i = c.self.inside in
     let n = c.page_out.new in
     let e = c.page_out.ensures in
-    stilled_sound i.caches n.caches i.store n.self (g.M.Mapper.held c.args.mapper.now) (g.M.Mapper.held n.mapper) (g.M.Mapper.page_bytes c.args.mapper.now) (g.M.Mapper.page_bytes n.mapper) e.still e.pinned i.actors i.live c.self.invariant
+    stilled_sound i.caches n.caches i.store n.self (g.M.Mapper.held c.args.mapper.now) (g.M.Mapper.held n.mapper) (g.M.Mapper.page_bytes c.args.mapper.now) (g.M.Mapper.page_bytes n.mapper) e.still e.pinned i.contexts i.live c.self.invariant
 
 pub returns-clause-valid : goal.returns-clause-valid
 returns-clause-valid g c =
     let i = c.self.inside in
     let n = c.page_out.new in
     let e = c.page_out.ensures in
-    stilled_valid i.caches n.caches i.store n.self (g.M.Mapper.held c.args.mapper.now) (g.M.Mapper.held n.mapper) (g.M.Mapper.page_bytes c.args.mapper.now) (g.M.Mapper.page_bytes n.mapper) e.still e.pinned i.actors i.live c.self.invariant
+    stilled_valid i.caches n.caches i.store n.self (g.M.Mapper.held c.args.mapper.now) (g.M.Mapper.held n.mapper) (g.M.Mapper.page_bytes c.args.mapper.now) (g.M.Mapper.page_bytes n.mapper) e.still e.pinned i.contexts i.live c.self.invariant
     (subst (λ (p : Manager). IsValid p (g.M.Mapper.held c.args.mapper.now)) (sym c.self.view_is) c.requires.valid)
 
 pub returns-clause-answers : goal.returns-clause-answers
@@ -36,12 +36,12 @@ returns-clause-answers g c =
     let k = g.M.Mapper.held n.mapper in
     let before = g.M.Mapper.counts c.args.mapper.now in
     let after = g.M.Mapper.counts n.mapper in
-    let p : Manager = seen i.caches i.store i.actors in
-    let q : Manager = seen n.caches n.self i.actors in
+    let p : Manager = seen i.caches i.store i.contexts in
+    let q : Manager = seen n.caches n.self i.contexts in
     let command = commands.PageOut c.args.count in
-    let kept = stilled i.caches n.caches i.store n.self h k (g.M.Mapper.page_bytes c.args.mapper.now) (g.M.Mapper.page_bytes n.mapper) e.still e.pinned i.actors i.live c.self.invariant in
-    let then = stilled_sound i.caches n.caches i.store n.self h k (g.M.Mapper.page_bytes c.args.mapper.now) (g.M.Mapper.page_bytes n.mapper) e.still e.pinned i.actors i.live c.self.invariant in
-    let forest = stilled_forest i.caches n.caches i.store n.self h k (g.M.Mapper.page_bytes c.args.mapper.now) (g.M.Mapper.page_bytes n.mapper) e.still e.pinned i.actors i.live c.self.invariant in
+    let kept = stilled i.caches n.caches i.store n.self h k (g.M.Mapper.page_bytes c.args.mapper.now) (g.M.Mapper.page_bytes n.mapper) e.still e.pinned i.contexts i.live c.self.invariant in
+    let then = stilled_sound i.caches n.caches i.store n.self h k (g.M.Mapper.page_bytes c.args.mapper.now) (g.M.Mapper.page_bytes n.mapper) e.still e.pinned i.contexts i.live c.self.invariant in
+    let forest = stilled_forest i.caches n.caches i.store n.self h k (g.M.Mapper.page_bytes c.args.mapper.now) (g.M.Mapper.page_bytes n.mapper) e.still e.pinned i.contexts i.live c.self.invariant in
     let turned : victim c.page_out.result ≡ c.match-page_out.result = elim c.match-page_out.branch [
       | in-Ok w ↦ ap victim w.in-Ok.is ∙ sym w.result-is
       | in-Err w ↦ ap victim w.in-Err.is ∙ sym w.result-is
@@ -49,7 +49,7 @@ returns-clause-answers g c =
     subst (λ (p : Manager). CallIs before after (state_at p h) command (answer_by (λ _. replies.Done) c.match-page_out.result) (state_at q k)) c.self.view_is
     (subst (λ (r : Result (Unit {0}) Trouble). CallIs before after (state_at p h) command (answer_by (λ _. replies.Done) r) (state_at q k)) turned
     (called before after e.later p q h k command (answer_by (λ _. replies.Done) (victim c.page_out.result)) c.self.invariant.nodes then.nodes kept.segments forest (λ done m f s none. none) tt (λ f. refl)
-    (λ f s. paged_out (machine_by p f) (machine_by q f) (forest_of p h) c.args.count s before after c.page_out.result (kept_by i.caches n.caches i.store n.self h k (g.M.Mapper.page_bytes c.args.mapper.now) (g.M.Mapper.page_bytes n.mapper) kept i.actors f) e.cause)))
+    (λ f s. paged_out (machine_by p f) (machine_by q f) (forest_of p h) c.args.count s before after c.page_out.result (kept_by i.caches n.caches i.store n.self h k (g.M.Mapper.page_bytes c.args.mapper.now) (g.M.Mapper.page_bytes n.mapper) kept i.contexts f) e.cause)))
 
 pub returns-clause-machine : goal.returns-clause-machine
 returns-clause-machine g c =
@@ -58,9 +58,9 @@ returns-clause-machine g c =
     let e = c.page_out.ensures in
     let h = g.M.Mapper.held c.args.mapper.now in
     let k = g.M.Mapper.held n.mapper in
-    let q : Manager = seen n.caches n.self i.actors in
+    let q : Manager = seen n.caches n.self i.contexts in
     subst (λ (p : Manager). machine_of q k ≡ machine_of p h) c.self.view_is
-    (stilled_machine i.caches n.caches i.store n.self h k (g.M.Mapper.page_bytes c.args.mapper.now) (g.M.Mapper.page_bytes n.mapper) e.still e.pinned i.actors i.live c.self.invariant)
+    (stilled_machine i.caches n.caches i.store n.self h k (g.M.Mapper.page_bytes c.args.mapper.now) (g.M.Mapper.page_bytes n.mapper) e.still e.pinned i.contexts i.live c.self.invariant)
 
 pub returns-clause-forest : goal.returns-clause-forest
 returns-clause-forest g c =
@@ -69,9 +69,9 @@ returns-clause-forest g c =
     let e = c.page_out.ensures in
     let h = g.M.Mapper.held c.args.mapper.now in
     let k = g.M.Mapper.held n.mapper in
-    let q : Manager = seen n.caches n.self i.actors in
+    let q : Manager = seen n.caches n.self i.contexts in
     subst (λ (p : Manager). forest_of q k ≡ forest_of p h) c.self.view_is
-    (stilled_forest i.caches n.caches i.store n.self h k (g.M.Mapper.page_bytes c.args.mapper.now) (g.M.Mapper.page_bytes n.mapper) e.still e.pinned i.actors i.live c.self.invariant)
+    (stilled_forest i.caches n.caches i.store n.self h k (g.M.Mapper.page_bytes c.args.mapper.now) (g.M.Mapper.page_bytes n.mapper) e.still e.pinned i.contexts i.live c.self.invariant)
 
 pub returns-clause-fewer : goal.returns-clause-fewer
 returns-clause-fewer g c =

@@ -35,10 +35,10 @@ returns-clause-bounded c = subst HasFewWorking (sym c.counts.ensures.counts) c.s
 pub returns-clause-once : goal.returns-clause-once
 returns-clause-once c = λ h v.
     let i = c.self.inside in
-    let p : Manager = seen i.caches i.store i.actors in
+    let p : Manager = seen i.caches i.store i.contexts in
     let w = subst (λ (p : Manager). IsValid p h) (sym c.self.view_is) v in
     subst HoldsEachOnce c.self.view_is (record {
-      bound = w.right.tied.bound;
-      held = λ f. w.right.tied.held f ∙ unpinned_or (is_some (node_of i.store.map f)) (is_pinned i.store.frames f) (c.self.invariant.unpinned f);
-      slots = w.right.tied.slots;
+      bound = w.right.tied.placed.bound;
+      held = λ f. w.right.tied.placed.held f ∙ unpinned_or (is_some (node_of i.store.map f)) (is_pinned i.store.frames f) (c.self.invariant.unpinned f);
+      slots = w.right.tied.placed.slots;
     })

@@ -1,42 +1,63 @@
-use Rattle.std.proofs.Common.{refl, sym, subst}
+use Rattle.std.proofs.Common.{[], length, refl, sym, subst, ap, ◌∙◌}
 use Rattle.vm_ids.specs.Counting.{no_counts}
 use Rattle.vm_ids.specs.declared.command.Command.TheVariants as commands
+use Rattle.vm_ids.specs.declared.refusal.Refusal.TheVariants as refusals
 use Rattle.vm_ids.specs.declared.reply.Reply.TheVariants as replies
-use Rattle.vm_model.specs.Answering.{answer_by}
+use Rattle.vm_ids.specs.declared.reply.Trouble.TheVariants as troubles
+use Rattle.std.specs.Prelude.{Ok, Err}
+use Rattle.vm_model.specs.Answering.{Answer, reply}
 use Rattle.vm_model.specs.Run.{AnswerIs}
 use Rattle.local_cache.specs.Whole.{size_of}
-use Rattle.pvm_core.specs.Manager.{IsValid, Manager, state_at}
+use Rattle.contexts.specs.Actors.{Actors}
+use Rattle.pvm_core.specs.Manager.{Manager, caches_shown, state_at}
+use Rattle.pvm_core.specs.Placed.{AreRight}
 use Rattle.pvm_core.specs.contracts.pvm.Pvm.{the_view}
 use Rattle.pvm_core.proofs.Answered.{seated}
-use Rattle.pvm_core.proofs.Kept.{on_err, seated_same, seated_sound, seated_valid}
-use Rattle.std.specs.Prelude.{OnErr}
-use Rattle.std.proofs.Common.{◌≡◌}
-use Rattle.std.proofs.Common.{length, Some, []}
-use Rattle.pvm_core.specs.Manager.{caches_shown, forest_of}
+use Rattle.pvm_core.proofs.Kept.{seated_sound}
+use Rattle.pvm_core.proofs.Listed.{machine_with, right_without, unmap_none, unmap_row}
 use Rattle.pvm_core.proofs.pvm.Pvm.unmap.Goals as goal
 
-pub invariant_of-self : goal.invariant_of-self
-invariant_of-self c =
-    let i = c.self.invariant in
+pub returns-then-not-unmap-clause-answers : goal.returns-then-not-unmap-clause-answers
+returns-then-not-unmap-clause-answers c = λ h v.
+    let i = c.self.inside in
+    let u = c.unmap.new.self in
     let e = c.unmap.ensures in
-    seated_sound c.self.inside.caches c.self.inside.store c.self.inside.actors c.unmap.new.actors c.self.inside.live e.page (e.sound (size_of c.self.inside.caches) i.actors) i
+    let p : Manager = the_view i in
+    let q : Manager = the_view (record i { contexts = u }) in
+    let n = c.args.region.0 in
+    let not_there = c.if-not-unmap.true in
+    let same = e.none not_there in
+    let answer : Answer = Err (troubles.Refused refusals.NoRegion) in
+    subst (λ (p : Manager). AnswerIs (state_at p h) (commands.Unmap c.args.region) answer [] no_counts (state_at q h)) c.self.view_is
+    (seated p q h (commands.Unmap c.args.region) answer c.self.invariant.nodes refl refl (λ done m f s none. none) refl (λ f. refl)
+    (λ f s. let caches = caches_shown f 1 i.caches.caches in
+    let frames = length i.store.frames.held in
+    unmap_none (size_of i.caches) caches frames i.contexts n (sym e.found ∙ not_there)
+    ∙ ap (λ (t : Actors). record { answer = answer; next = machine_with caches frames t }) (sym same)))
 
-pub returns-clause-valid : goal.returns-clause-valid
-returns-clause-valid c = λ h v.
-    let q : Manager = the_view (record c.self.inside { actors = c.unmap.new.actors }) in
-    seated_valid (the_view c.self.inside) q h refl refl c.unmap.ensures.page (subst (λ (p : Manager). IsValid p h) (sym c.self.view_is) v)
+pub invariant_of-self-2 : goal.invariant_of-self-2
+invariant_of-self-2 c =
+    let i = c.self.inside in
+    let u = c.unmap.new.self in
+    let e = c.unmap.ensures in
+    let gone = e.gone c.if-not-unmap.false in
+    seated_sound i.caches i.store i.contexts u i.live (ap (λ (t : Actors). t.page_bytes) gone)
+    (subst (AreRight (size_of i.caches)) (sym gone) (right_without (size_of i.caches) c.args.region.0 i.contexts c.self.invariant.actors)) c.self.invariant
 
 pub returns-clause-answers : goal.returns-clause-answers
 returns-clause-answers c = λ h v.
-    let q : Manager = the_view (record c.self.inside { actors = c.unmap.new.actors }) in
-    let command = commands.Unmap c.args.region in
-    let answer = answer_by (λ _. replies.Done) c.unmap.result in
-    subst (λ (p : Manager). AnswerIs (state_at p h) command answer [] no_counts (state_at q h)) c.self.view_is
-    (seated (the_view c.self.inside) q h command answer c.self.invariant.nodes refl refl (λ done m f s none. none) refl (λ f. refl) (λ f s. c.unmap.ensures.outcome (caches_shown f 1 c.self.inside.caches.caches) (length c.self.inside.store.frames.held) (Some (forest_of (the_view c.self.inside) h)) s))
-
-pub returns-clause-err : goal.returns-clause-err
-returns-clause-err c =
     let i = c.self.inside in
-    let q : Manager = the_view (record c.self.inside { actors = c.unmap.new.actors }) in
-    subst (λ (p : Manager). OnErr c.unmap.result (q ≡ p)) c.self.view_is
-    (on_err c.unmap.result (seated_same i.caches i.store i.actors c.unmap.new.actors) c.unmap.ensures.err)
+    let u = c.unmap.new.self in
+    let e = c.unmap.ensures in
+    let p : Manager = the_view i in
+    let q : Manager = the_view (record i { contexts = u }) in
+    let n = c.args.region.0 in
+    let there = c.if-not-unmap.false in
+    let gone = e.gone there in
+    let answer : Answer = Ok replies.Done in
+    subst (λ (p : Manager). AnswerIs (state_at p h) (commands.Unmap c.args.region) answer [] no_counts (state_at q h)) c.self.view_is
+    (seated p q h (commands.Unmap c.args.region) answer c.self.invariant.nodes refl refl (λ done m f s none. none) refl (λ f. refl)
+    (λ f s. let caches = caches_shown f 1 i.caches.caches in
+    let frames = length i.store.frames.held in
+    unmap_row (size_of i.caches) caches frames i.contexts n c.self.invariant.actors.placed (sym e.found ∙ there)
+    ∙ ap (λ (t : Actors). reply replies.Done (machine_with caches frames t)) (sym gone)))

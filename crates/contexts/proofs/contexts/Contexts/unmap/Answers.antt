@@ -1,0 +1,63 @@
+use Rattle.std.proofs.Common.{◌≡◌, List, Option, true, length, map, sym, ap, subst, ◌∙◌, arith}
+use Rattle.std.specs.Prelude.{IsSome, count_by, is_some, option_map}
+use Rattle.std.proofs.lemmas.List.{with_items_is}
+use Rattle.vm_model.specs.Answering.{without_region}
+use Rattle.vm_model.specs.Machine.{Actor, numbered}
+use Rattle.regions.specs.AddressSpace.{AddressSpace}
+use Rattle.contexts.specs.Actors.{Actors, has_region}
+use Rattle.contexts.specs.Layout.{IsChanged, IsKept, regions_in}
+use Rattle.contexts.proofs.Owners.{IsFor}
+use Rattle.contexts.proofs.Places.{Numbered}
+use Rattle.contexts.proofs.Gone.{alive_has, goes, not_at, with_actor, with_none}
+use Rattle.contexts.proofs.Kept.{alive_in, all_without, changed_kept, changed_living}
+use Rattle.contexts.proofs.contexts.Contexts.unmap.Goals as goal
+
+pub returns-in_default-clause-found : goal.returns-in_default-clause-found
+returns-in_default-clause-found c =
+    let n = c.args.region.0 in
+    sym (with_none n c.args.self.now.actors (not_at n c.args.self.now.actors c.in_default.ensures))
+
+pub remove_region-requires : goal.remove_region-requires
+remove_region-requires c =
+    let n = c.args.region.0 in
+    let a = c.in-Some.actor.0 in
+    let h = subst (λ (t : Actors). has_region n (numbered t.actors a) ≡ true) (sym c.self.view_is) c.in-Some.ensures in
+    subst (λ (xs : List (Option AddressSpace)). IsSome (numbered xs a)) (sym c.deref_mut.ensures.value)
+    (alive_in c.self.inside.actors.items a (alive_has n (numbered (regions_in c.self.inside.actors.items) a) h))
+
+pub invariant_of-self : goal.invariant_of-self
+invariant_of-self c =
+    let i = c.self.inside in
+    let k = c.self.invariant in
+    let n = c.args.region.0 in
+    let a = c.in-Some.actor.0 in
+    let ys = c.remove_region.new.spaces in
+    let owners = i.owners.items in
+    let e : IsChanged a (without_region n) i.actors.items ys =
+    subst (λ (xs : List (Option AddressSpace)). IsChanged a (without_region n) xs ys) c.deref_mut.ensures.value c.remove_region.ensures in
+    let items = with_items_is i.actors ys (omega (arith, c.remove_region.auto.spaces, c.deref_mut.ensures.len)) in
+    record {
+      some = k.some;
+      most = k.most;
+      living = k.living ∙ sym (changed_living a (without_region n) i.actors.items ys e) ∙ sym (ap (count_by is_some) items);
+      few = k.few;
+      kept = subst (Numbered (IsKept i.page owners)) (sym items)
+          (changed_kept a (without_region n) i.actors.items ys e i.page owners owners (λ j s h. h) (all_without (IsFor owners a) n e.space.regions) k.kept);
+    }
+
+pub returns-clause-found : goal.returns-clause-found
+returns-clause-found c = sym (with_actor c.args.region.0 c.args.self.now.actors c.in-Some.actor.0 c.in-Some.ensures)
+
+pub returns-clause-gone : goal.returns-clause-gone
+returns-clause-gone c = λ _.
+    let i = c.self.inside in
+    let n = c.args.region.0 in
+    let a = c.in-Some.actor.0 in
+    let ys = c.remove_region.new.spaces in
+    let h = subst (λ (t : Actors). has_region n (numbered t.actors a) ≡ true) (sym c.self.view_is) c.in-Some.ensures in
+    let e : IsChanged a (without_region n) i.actors.items ys =
+    subst (λ (xs : List (Option AddressSpace)). IsChanged a (without_region n) xs ys) c.deref_mut.ensures.value c.remove_region.ensures in
+    let items = with_items_is i.actors ys (omega (arith, c.remove_region.auto.spaces, c.deref_mut.ensures.len)) in
+    let seen = ap regions_in items ∙ goes i.page i.owners.items n a i.actors.items ys e c.self.invariant.kept h in
+    subst (λ (t : Actors). (record { page_bytes = i.page; actors = regions_in (Rattle.std.specs.Vec.with_items i.actors ys).items; regions_made = length i.owners.items }) ≡ record t { actors = map (option_map (without_region n)) t.actors }) c.self.view_is
+    (ap (λ (xs : List (Option Actor)). record { page_bytes = i.page; actors = xs; regions_made = length i.owners.items }) seen)

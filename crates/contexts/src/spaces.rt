@@ -1,0 +1,61 @@
+// The address spaces of actors, of which a dead one has none.
+ghost use Rattle.std.specs.Prelude.{◌≡◌, false, IsSome, OnErr, OnOk};
+ghost use Rattle.std.specs.List.{list_any};
+ghost use Rattle.vm_model.specs.Answering.{insert_region, maps_in, overlaps, region_of, without_region};
+ghost use Rattle.vm_model.specs.Machine.{numbered};
+ghost use Rattle.regions.specs.AddressSpace.{AddressSpace, IsWellFormed};
+ghost use Rattle.contexts.specs.Layout.{regions_in, IsChanged};
+
+use regions::RegionMap;
+use vm_ids::{ActorId, CacheId, Mapping, NoMemory, RegionId};
+
+// Adds a region to an actor.
+pub(crate) fn add_region(
+    spaces: &mut [Option<RegionMap>],
+    actor: ActorId,
+    region: RegionId,
+    mapping: Mapping,
+) -> Result<(), NoMemory>
+    requires alive { IsSome (numbered spaces.old actor.0) }
+    requires formed { (s : AddressSpace) → numbered spaces.old actor.0 ≡ Some s
+        → IsWellFormed s.page_bytes (region_of region.0 mapping) }
+    requires fits { (s : AddressSpace) → numbered spaces.old actor.0 ≡ Some s
+        → list_any (overlaps s.page_bytes mapping.address mapping.extent.pages) s.regions ≡ false }
+    ensures ok { OnOk result (IsChanged actor.0 (insert_region (region_of region.0 mapping))
+        spaces.old spaces.new) }
+    ensures err { OnErr result (IsChanged actor.0 (λ rs. rs) spaces.old spaces.new) }
+{
+    match &mut spaces[actor.0 as usize - 1] {
+        Some(regions) => {
+            regions.reserve()?;
+            regions.create(region, mapping);
+            Ok(())
+        }
+        None => unreachable!(),
+    }
+}
+
+// Takes a region away from an actor.
+pub(crate) fn remove_region(spaces: &mut [Option<RegionMap>], actor: ActorId, region: RegionId)
+    requires { IsSome (numbered spaces.old actor.0) }
+    ensures { IsChanged actor.0 (without_region region.0) spaces.old spaces.new }
+{
+    match &mut spaces[actor.0 as usize - 1] {
+        Some(regions) => regions.destroy(region),
+        None => unreachable!(),
+    }
+}
+
+// Whether a region of a living actor maps the cache.
+pub(crate) fn maps_any(spaces: &[Option<RegionMap>], cache: CacheId) -> bool
+    ensures { result ≡ list_any (maps_in cache.0) (regions_in spaces.now) }
+{
+    for space in spaces {
+        if let Some(regions) = space {
+            if regions.maps(cache) {
+                return true;
+            }
+        }
+    }
+    false
+}

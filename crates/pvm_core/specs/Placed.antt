@@ -1,0 +1,21 @@
+-- Where the regions of the actors lie.
+use Rattle.std.specs.Prelude.{◌≡◌, ℕ, ◌+◌, ◌≤◌, false, All, Option, Some, None}
+use Rattle.vm_model.specs.Machine.{Actor, Region}
+use Rattle.contexts.specs.Actors.{Actors}
+
+-- a region isn't locked, since no command locks one, and its pages are those of a live cache, of
+-- which `sizes` tells how many pages it has
+pub record IsPlaced (sizes : ℕ → Option ℕ) (r : Region) : Type 0 where
+  pub unlocked : r.locked ≡ false
+  pub count : ℕ
+  pub there : sizes r.cache ≡ Some count
+  pub within : r.offset + r.pages ≤ count
+
+abbrev pub ArePlaced : (ℕ → Option ℕ) → Option Actor → Type 0
+ArePlaced sizes None = Unit {0}
+ArePlaced sizes (Some regions) = All (IsPlaced sizes) regions
+
+-- a page has a byte, and each region of a living actor is placed
+pub record AreRight (sizes : ℕ → Option ℕ) (t : Actors) : Type 0 where
+  pub some : 1 ≤ t.page_bytes
+  pub placed : All (ArePlaced sizes) t.actors
