@@ -16,7 +16,7 @@ mod tests;
 
 use fault::Fault;
 use file_mapper::FileMapper;
-use replay::{Status, run};
+use replay::{Status, folder, run};
 use sink::StreamSink;
 use source::StreamSource;
 use std::env;
@@ -48,7 +48,7 @@ fn run_words(rt: &HostRuntime, words: &[String]) -> Status {
     }
     let mut source = StreamSource::new(rt.stdin());
     let mut sink = StreamSink::new(rt.stdout());
-    let Ok(mut mapper) = FileMapper::new(rt, rt.alloc(), ".", PAGE as u32) else {
+    let Ok(mut mapper) = FileMapper::new(rt, rt.alloc(), folder(&texts), PAGE as u32) else {
         return Status::NoMemory;
     };
     let mut chooser = Clock::new();

@@ -38,7 +38,11 @@ fn streams_are_sources_and_sinks(rt: HostRuntime) -> io::Result<()> {
 #[test]
 fn faults_have_a_message(rt: HostRuntime) -> Result<(), std::alloc::AllocError> {
     for (status, code, message) in [
-        (Status::Usage, 1, "usage: chorusvm run --frames F"),
+        (
+            Status::Usage,
+            1,
+            "usage: chorusvm run --frames F [--segments DIR]",
+        ),
         (Status::SourceFault, 2, "source fault"),
         (Status::SinkFault, 3, "sink fault"),
         (Status::NoMemory, 4, "no memory"),

@@ -3,9 +3,11 @@ use Rattle.std.proofs.Common.{◌≡◌, ◌≤◌, ◌<◌, ◌+◌, ℕ, List,
 use Rattle.std.specs.Prelude.{option_map, IfSome}
 use Rattle.std.proofs.lemmas.List.{append-nil, length-append, length-take, take_all, take-append-le}
 use Rattle.actor_script.specs.Forms.{command_of}
+use Rattle.replay.specs.declared.progress.Progress.{Progress}
 use Rattle.replay.specs.Script.{commands_of, ended_commands_of, unended_of, most_bytes, IsFront}
 use Rattle.replay.specs.Ending.{Scene, Answered, CutOff, Ends, Took, Finished, Interrupted}
-use Rattle.replay.specs.Going.{Going, Broken, Reached, LineDone, AnsweredOr, front_of_line}
+use Rattle.replay.specs.Going.{Going, Broken, AnsweredOr, front_of_line}
+use Rattle.replay.specs.OneLine.{LineDone}
 use Rattle.replay.specs.declared.status.Status.TheVariants as statuses
 use Rattle.replay.proofs.Lines.{front_same, front_trans, front_commands, no_last_line, last_line}
 use Rattle.replay.proofs.OneByte.{going_start, answered_line}
@@ -37,14 +39,22 @@ of_end None k x P p e h = tt
 of_end (Some l) None x P p e h = absurd (cc)
 of_end (Some l) (Some r) x P p e h = let same : Some l ≡ Some (x ++ r) = p in let is : l ≡ x ++ r = cc in subst P (sym (is ∙ ap (λ (y : List ℕ). x ++ y) e ∙ append-nil x)) h
 
+-- So many bytes were taken, and each line that they end is answered.
+pub record Reached (before now : Scene) (left left_now : Option (List ℕ)) (progress : Progress)
+    (taken : ℕ) : Type 0 where
+  pub script : List ℕ
+  pub size : length script ≡ taken
+  pub took : Took left left_now script
+  pub going : Going before now progress script
+
 -- the loop
 
-pub reached_start : (a : Scene) (l : Option (List ℕ)) (number : ℕ) (line : List ℕ) → number ≡ 1 → line ≡ [] → Reached a a l l number line 0
-reached_start a l number line n e = record { script = []; size = refl; took = took_none l; going = going_start a number line n e }
+pub reached_start : (a : Scene) (l : Option (List ℕ)) (p : Progress) → p.number ≡ 1 → p.line.items ≡ [] → Reached a a l l p 0
+reached_start a l p n e = record { script = []; size = refl; took = took_none l; going = going_start a p n e }
 
-module _ (a b : Scene) (l k j : Option (List ℕ)) (number : ℕ) (line : List ℕ) (taken : ℕ) (h : Reached a b l k number line taken) where
-  pub reached_more : (c : Scene) (number_now : ℕ) (line_now bytes : List ℕ) (count : ℕ) → Took k j bytes → length bytes ≡ count → ((before : Scene) (script : List ℕ) → Going before b number line script → Going before c number_now line_now (script ++ bytes)) → Reached a c l j number_now line_now (taken + count)
-  reached_more c number_now line_now bytes count took size goes = record {
+module _ (a b : Scene) (l k j : Option (List ℕ)) (p : Progress) (taken : ℕ) (h : Reached a b l k p taken) where
+  pub reached_more : (c : Scene) (q : Progress) (bytes : List ℕ) (count : ℕ) → Took k j bytes → length bytes ≡ count → ((before : Scene) (script : List ℕ) → Going before b p script → Going before c q (script ++ bytes)) → Reached a c l j q (taken + count)
+  reached_more c q bytes count took size goes = record {
     script = h.script ++ bytes;
     size = omega (arith, h.size, size, length-append h.script bytes);
     took = took_then l k j h.script bytes h.took took;
@@ -77,7 +87,7 @@ module _ (a b : Scene) (l k j : Option (List ℕ)) (number : ℕ) (line : List �
       )
 
   -- a write failed
-  pub sink_fault : (c : Scene) (bytes : List ℕ) (count : ℕ) → Took k j bytes → length bytes ≡ count → taken + count ≤ most_bytes → ((before : Scene) (script : List ℕ) → Going before b number line script → Broken before c (script ++ bytes)) → Interrupted a c l j
+  pub sink_fault : (c : Scene) (bytes : List ℕ) (count : ℕ) → Took k j bytes → length bytes ≡ count → taken + count ≤ most_bytes → ((before : Scene) (script : List ℕ) → Going before b p script → Broken before c (script ++ bytes)) → Interrupted a c l j
   sink_fault c bytes count took size within goes =
       let broken = goes a h.script h.going in
       let script = h.script ++ bytes in
@@ -97,7 +107,7 @@ module _ (a b : Scene) (l k j : Option (List ℕ)) (number : ℕ) (line : List �
   took_script took = subst (λ (x : List ℕ). Took l j x) (append-nil h.script) (took_then l k j h.script [] h.took took)
 
   -- the script has ended
-  pub finished : (c : Scene) → taken ≤ most_bytes → Took k j [] → IfSome k (λ rest. rest ≡ []) → ((before : Scene) (script : List ℕ) → Going before b number line script → Answered before c (commands_of script)) → Finished a c l j
+  pub finished : (c : Scene) → taken ≤ most_bytes → Took k j [] → IfSome k (λ rest. rest ≡ []) → ((before : Scene) (script : List ℕ) → Going before b p script → Answered before c (commands_of script)) → Finished a c l j
   finished c within took end answers = record {
     script = h.script;
     took = took_script took;
@@ -107,7 +117,7 @@ module _ (a b : Scene) (l k j : Option (List ℕ)) (number : ℕ) (line : List �
   }
 
   -- a write failed at the last line
-  pub last_failed : (c : Scene) → taken ≤ most_bytes → Took k j [] → IfSome k (λ rest. rest ≡ []) → ((before : Scene) (script : List ℕ) → Going before b number line script → CutOff before c (commands_of script)) → Interrupted a c l j
+  pub last_failed : (c : Scene) → taken ≤ most_bytes → Took k j [] → IfSome k (λ rest. rest ≡ []) → ((before : Scene) (script : List ℕ) → Going before b p script → CutOff before c (commands_of script)) → Interrupted a c l j
   last_failed c within took end cuts = record {
     script = h.script;
     took = took_script took;
@@ -128,10 +138,10 @@ nothing : (line : List ℕ) → length line ≡ 0 → line ≡ []
 nothing [] e = refl
 nothing (b ∷ bs) e = absurd (omega arith)
 
-pub no_more_lines : (a b : Scene) (number : ℕ) (line script : List ℕ) → length line ≡ 0 → Going a b number line script → Answered a b (commands_of script)
-no_more_lines a b number line script empty g =
-    subst (Answered a b) (sym (no_last_line script (front_empty (unended_of script) (sym g.line_is ∙ nothing line empty)))) g.answered
+pub no_more_lines : (a b : Scene) (p : Progress) (script : List ℕ) → length p.line.items ≡ 0 → Going a b p script → Answered a b (commands_of script)
+no_more_lines a b p script empty g =
+    subst (Answered a b) (sym (no_last_line script (front_empty (unended_of script) (sym g.line_is ∙ nothing p.line.items empty)))) g.answered
 
-pub last_answered : {T E : Type 0} (r : Result T E) (a b c : Scene) (number : ℕ) (line script : List ℕ) → 0 < length line → LineDone r number (command_of line) b c → Going a b number line script → AnsweredOr r a c (commands_of script)
-last_answered r a b c number line script some done g =
-    subst (AnsweredOr r a c) (sym (last_line script (omega (arith, some, ap length g.line_is, length-take 257 (unended_of script))))) (answered_line r a b c number line script g done)
+pub last_answered : {T E : Type 0} (r : Result T E) (a b c : Scene) (p : Progress) (script : List ℕ) → 0 < length p.line.items → LineDone r p.number (command_of p.line.items) b c → Going a b p script → AnsweredOr r a c (commands_of script)
+last_answered r a b c p script some done g =
+    subst (AnsweredOr r a c) (sym (last_line script (omega (arith, some, ap length g.line_is, length-take 257 (unended_of script))))) (answered_line r a b c p script g done)

@@ -5,8 +5,10 @@ use Rattle.std.proofs.lemmas.List.{append-nil, append_cancel_left, take-append-d
 use Rattle.vm_ids.specs.Counting.{MapperCounts}
 use Rattle.vm_model.specs.Run.{Read, State}
 use Rattle.actor_script.specs.Writing.{Writes, WritesFront, Wrote}
+use Rattle.replay.specs.declared.progress.Progress.{Progress}
 use Rattle.replay.specs.Ending.{Scene, Answered, CutOff, texts_of}
-use Rattle.replay.specs.Going.{AnsweredOr, Broken, Going, GoingOr, Grew}
+use Rattle.replay.specs.Going.{AnsweredOr, Broken, Going, GoingOr}
+use Rattle.replay.specs.Waiting.{Grew}
 use Rattle.replay.specs.Script.{ended_commands_of}
 use Rattle.actor_script.proofs.Written.{writes_none, writes_then}
 use Rattle.replay.proofs.Lines.{front_same}
@@ -59,11 +61,11 @@ module _ (before : Scene) (state : State) (counts : MapperCounts) where
   abbrev scene : Option (List ℕ) → Scene
   scene written = record { state = state; counts = counts; written = written }
 
-  pub going_at : (w v : Option (List ℕ)) (number : ℕ) (line script : List ℕ) → v ≡ w → Going before (scene w) number line script → Going before (scene v) number line script
-  going_at w v number line script same g = subst (λ (x : Option (List ℕ)). Going before (scene x) number line script) (sym same) g
+  pub going_at : (w v : Option (List ℕ)) (p : Progress) (script : List ℕ) → v ≡ w → Going before (scene w) p script → Going before (scene v) p script
+  going_at w v p script same g = subst (λ (x : Option (List ℕ)). Going before (scene x) p script) (sym same) g
 
-  pub grew_since : (w : Option (List ℕ)) (number : ℕ) (line script : List ℕ) → Going before (scene w) number line script → Grew before.written w
-  grew_since w number line script g = (texts_of g.answered.steps, g.answered.writes)
+  pub grew_since : (w : Option (List ℕ)) (p : Progress) (script : List ℕ) → Going before (scene w) p script → Grew before.written w
+  grew_since w p script g = (texts_of g.answered.steps, g.answered.writes)
 
   -- a write failed
   pub cut_short : (v : Option (List ℕ)) (left : List ℕ) (reads : List Read) → Grew before.written v → CutOff before (scene (option_map (λ given. given ++ left) v)) reads → CutOff before (scene v) reads
@@ -90,13 +92,13 @@ module _ (before : Scene) (state : State) (counts : MapperCounts) where
         (record { front = texts_of h.steps; back = []; parts = sym (append-nil (texts_of h.steps)); writes = kept ∙ h.writes });
   }
 
-  pub going_out : {T E : Type 0} (r : Result T E) (w v : Option (List ℕ)) (left : List ℕ) (number : ℕ) (line script : List ℕ) → OnOk r (left ≡ []) → option_map (λ given. given ++ left) v ≡ w → Grew before.written v → Going before (scene w) number line script → GoingOr r before (scene v) number line script
-  going_out {T} {E} (Ok x) w v left number line script empty kept grew g = record {
+  pub going_out : {T E : Type 0} (r : Result T E) (w v : Option (List ℕ)) (left : List ℕ) (p : Progress) (script : List ℕ) → OnOk r (left ≡ []) → option_map (λ given. given ++ left) v ≡ w → Grew before.written v → Going before (scene w) p script → GoingOr r before (scene v) p script
+  going_out {T} {E} (Ok x) w v left p script empty kept grew g = record {
     answered = answered_out {E = E} (Ok x) w v left (ended_commands_of script) empty kept grew g.answered;
     number_is = g.number_is;
     line_is = g.line_is;
   }
-  going_out {T} {E} (Err e) w v left number line script empty kept grew g = record {
+  going_out {T} {E} (Err e) w v left p script empty kept grew g = record {
     reads = ended_commands_of script;
     front = front_same _ _ refl;
     cut = answered_out {T = T} (Err e) w v left (ended_commands_of script) empty kept grew g.answered;

@@ -1,7 +1,14 @@
+-- The lines of some bytes, and of one byte more.
 pub mod Lines
+-- The front of a line, and a byte more.
 pub mod Fronts
+-- What a sink was given, and what is gathered for it.
 pub mod Gathering
+-- A run, and one line more.
 pub mod Running
+-- How far a replay has come, and a byte more.
 pub mod OneByte
+-- The bytes taken so far, and one more piece or the end.
 pub mod Endings
+-- What a run promises, from how its replay ends.
 pub mod Promise

@@ -8,15 +8,15 @@ use Rattle.vm_ids.specs.Held.{Segments}
 use Rattle.vm_ids.specs.Forest.Nodes.{no_forest}
 use Rattle.vm_model.specs.Asking.{IsWellFormed}
 use Rattle.vm_model.specs.Laws.{IsFollowed}
-use Rattle.vm_model.specs.Machine.{Machine, start}
+use Rattle.vm_model.specs.Machine.{Machine, live_pages, start}
 use Rattle.vm_model.specs.PageForest.{PageForest}
 use Rattle.vm_model.specs.Run.{Read, Step, State, RunOf, lines_answered, numbered_from}
+use Rattle.vm_model.specs.declared.limits.TheConstants.{LIVE_PAGES}
 use Rattle.vm_model.proofs.Runs.{runs_are_followed}
 use Rattle.actor_script.specs.Forms.{command_of}
 use Rattle.replay.specs.Script.{most_bytes, lines_of}
 use Rattle.replay.specs.Ending.{Scene, Took, Ends, RunEnds, page_size}
 use Rattle.gmi_calls.specs.Calling.{Fits}
-use Rattle.replay.specs.Going.{IsReady}
 use Rattle.replay.specs.declared.status.Status.{Status}
 use Rattle.replay.specs.declared.status.Status.TheVariants as statuses
 use Rattle.actor_script.proofs.WellFormed.{well_formed}
@@ -130,10 +130,14 @@ complete statuses.TooLong a b l k reads reads_now writes writes_now h sr kr few 
 complete statuses.Usage a b l k reads reads_now writes writes_now h sr kr few r rl w wl = absurd h
 complete statuses.NoMemory a b l k reads reads_now writes writes_now h sr kr few r rl w wl = absurd h
 
--- what calls need is there at the start
-fits_start : (told : Option ℕ) (frames : ℕ) → IfSome told (λ bytes. bytes ≡ page_size) → Fits told (start frames page_size)
-fits_start None frames h = tt
-fits_start (Some bytes) frames h = h
+-- what it takes to answer the first line
 
-pub ready_start : (told : Option ℕ) (frames : ℕ) (m : Machine) → IfSome told (λ bytes. bytes ≡ page_size) → m ≡ start frames page_size → IsReady told m
-ready_start told frames m h e = subst (IsReady told) (sym e) (record { fits = fits_start told frames h; few = omega arith })
+fits_told : (told : Option ℕ) (frames : ℕ) → IfSome told (λ bytes. bytes ≡ page_size) → Fits told (start frames page_size)
+fits_told None frames h = tt
+fits_told (Some bytes) frames h = h
+
+pub fits_start : (told : Option ℕ) (frames : ℕ) (m : Machine) → IfSome told (λ bytes. bytes ≡ page_size) → m ≡ start frames page_size → Fits told m
+fits_start told frames m h e = subst (Fits told) (sym e) (fits_told told frames h)
+
+pub live_start : (frames : ℕ) (m : Machine) → m ≡ start frames page_size → live_pages m ≤ LIVE_PAGES
+live_start frames m e = subst (λ (x : Machine). live_pages x ≤ LIVE_PAGES) (sym e) (omega arith)

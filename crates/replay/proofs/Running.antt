@@ -1,16 +1,20 @@
 -- A run, and one line more.
+use Rattle.std.specs.Prelude.{Option}
 use Rattle.std.proofs.Common.{◌≡◌, ◌+◌, ℕ, List, [], ◌∷◌, ◌++◌, length, Result, Ok, Err, refl, sym, ap, subst, ◌∙◌, arith, add-zero, zero-add, add_assoc}
 use Rattle.std.proofs.lemmas.List.{append-nil, map-append}
 use Rattle.std.proofs.lemmas.List.Concat.{flat_map-append}
 use Rattle.vm_ids.specs.Counting.{MapperCounts, Rise, no_counts, counts_sum}
+use Rattle.vm_ids.specs.declared.command.Command.{Command}
 use Rattle.vm_ids.specs.declared.refusal.Refusal.{Refusal}
 use Rattle.vm_ids.specs.declared.reply.Trouble.TheVariants.{Refused}
-use Rattle.vm_model.specs.Run.{Read, Step, State, StepIs, Chain, RunOf, numbered_from, rises_of}
+use Rattle.vm_model.specs.Answering.{Answer}
+use Rattle.vm_model.specs.Run.{CallIs, Read, Step, State, StepIs, Chain, RunOf, numbered_from, rises_of}
 use Rattle.actor_script.specs.Forms.{command_of}
 use Rattle.actor_script.specs.Text.{text_of}
-use Rattle.actor_script.specs.Writing.{Writes, WritesFront}
+use Rattle.actor_script.specs.Writing.{Writes, WritesFront, Wrote}
 use Rattle.replay.specs.Ending.{Scene, Answered, texts_of}
-use Rattle.replay.specs.Going.{Replied, LineDone, AnsweredOr}
+use Rattle.replay.specs.Going.{AnsweredOr}
+use Rattle.replay.specs.OneLine.{LineDone}
 use Rattle.actor_script.proofs.Written.{writes_none, writes_then, front_then}
 
 -- runs
@@ -87,27 +91,40 @@ answered_none s = record {
 -- a line more
 pub answered_more : {T E : Type 0} (r : Result T E) (a b c : Scene) (reads : List Read) (number : ℕ) (read : Read) → Answered a b reads → number ≡ 1 + length reads → LineDone r number read b c → AnsweredOr r a c (reads ++ read ∷ [])
 answered_more (Ok x) a b c reads number read h at line =
-    let step : Step = record { number = number; read = read; answer = line.answer; pushes = line.replied.pushes; rises = line.replied.rises } in
+    let step : Step = record { number = number; read = read; answer = line.answer; pushes = line.pushes; rises = line.rises } in
     record {
       steps = h.steps ++ step ∷ [];
-      runs = run_push a.state reads h.steps b.state step c.state h.runs at line.replied.is;
-      rose = subst (Rise a.counts c.counts) (rises-push h.steps step) (rise_then a.counts b.counts c.counts (rises_of h.steps) step.rises h.rose line.replied.rose);
+      runs = run_push a.state reads h.steps b.state step c.state h.runs at line.is;
+      rose = subst (Rise a.counts c.counts) (rises-push h.steps step) (rise_then a.counts b.counts c.counts (rises_of h.steps) step.rises h.rose line.rose);
       writes = subst (Writes a.written c.written) (texts-push h.steps step) (writes_then a.written b.written c.written (texts_of h.steps) (text_of number line.answer) h.writes line.wrote);
     }
 answered_more (Err x) a b c reads number read h at line =
-    let step : Step = record { number = number; read = read; answer = line.answer; pushes = line.replied.pushes; rises = line.replied.rises } in
+    let step : Step = record { number = number; read = read; answer = line.answer; pushes = line.pushes; rises = line.rises } in
     record {
       steps = h.steps ++ step ∷ [];
-      runs = run_push a.state reads h.steps b.state step c.state h.runs at line.replied.is;
-      rose = subst (Rise a.counts c.counts) (rises-push h.steps step) (rise_then a.counts b.counts c.counts (rises_of h.steps) step.rises h.rose line.replied.rose);
+      runs = run_push a.state reads h.steps b.state step c.state h.runs at line.is;
+      rose = subst (Rise a.counts c.counts) (rises-push h.steps step) (rise_then a.counts b.counts c.counts (rises_of h.steps) step.rises h.rose line.rose);
       writes = subst (WritesFront a.written c.written) (texts-push h.steps step) (front_then a.written b.written c.written (texts_of h.steps) (text_of number line.answer) h.writes line.wrote);
     }
 
+-- the call of a command
+pub line_called : {T E : Type 0} (r : Result T E) (number : ℕ) (line : List ℕ) (command : Command) (answer : Answer) (a b : Scene) → Ok command ≡ command_of line → CallIs a.counts b.counts a.state command answer b.state → Wrote r a.written b.written (text_of number answer) → LineDone r number (command_of line) a b
+line_called r number line command answer a b is call wrote = record {
+  answer = answer;
+  pushes = call.pushes;
+  rises = call.rises;
+  rose = call.rose;
+  is = subst (λ (read : Read). StepIs a.state read answer call.pushes call.rises b.state) is call.is;
+  wrote = wrote;
+}
+
 -- a line that is no command
-pub no_command : (s : State) (line : List ℕ) (r : Refusal) (c : MapperCounts) → Err r ≡ command_of line → Replied s (command_of line) (Err (Refused r)) s c c
-no_command s line r c e = record {
+pub line_refused : {T E : Type 0} (r : Result T E) (number : ℕ) (line : List ℕ) (refusal : Refusal) (a : Scene) (written : Option (List ℕ)) → Err refusal ≡ command_of line → Wrote r a.written written (text_of number (Err (Refused refusal))) → LineDone r number (command_of line) a (record a { written = written })
+line_refused r number line refusal a written is wrote = record {
+  answer = Err (Refused refusal);
   pushes = [];
   rises = no_counts;
-  rose = rise_none c;
-  is = subst (λ (x : Read). StepIs s x (Err (Refused r)) [] no_counts s) e (record { same = refl; refused = refl; no_push = refl; no_rise = refl });
+  rose = rise_none a.counts;
+  is = subst (λ (read : Read). StepIs a.state read (Err (Refused refusal)) [] no_counts a.state) is (record { same = refl; refused = refl; no_push = refl; no_rise = refl });
+  wrote = wrote;
 }

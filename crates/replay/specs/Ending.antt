@@ -2,7 +2,7 @@
 use Rattle.std.specs.Prelude.{◌≡◌, ◌≤◌, ℕ, ◌+◌, List, [], ◌++◌, length, take, Option, Some, option_map, IfSome}
 use Rattle.std.specs.List.{flat_map}
 use Rattle.vm_ids.specs.Counting.{MapperCounts, Rise}
-use Rattle.vm_ids.specs.Held.{Held, segments_of}
+use Rattle.vm_ids.specs.Held.{segments_of}
 use Rattle.vm_ids.specs.Forest.Nodes.{no_forest}
 use Rattle.vm_model.specs.Laws.{IsFollowed}
 use Rattle.vm_model.specs.Machine.{Machine, start}
@@ -11,6 +11,8 @@ use Rattle.vm_model.specs.Run.{Read, Step, State, RunOf, rises_of, state_of}
 use Rattle.replay.specs.Script.{commands_of, ended_commands_of, most_bytes, IsFront}
 use Rattle.actor_script.specs.Text.{text_of}
 use Rattle.actor_script.specs.Writing.{Writes, WritesFront}
+use Rattle.gmi_calls.specs.declared.gmi.Gmi.{Ghosts as GhostsOfGmi}
+use Rattle.vm_port.specs.declared.traits.mapper.Mapper.{Ghosts as GhostsOfMapper}
 use Rattle.replay.specs.declared.status.Status.{Status}
 use Rattle.replay.specs.declared.status.Status.TheVariants as statuses
 
@@ -21,23 +23,27 @@ pub record Scene : Type 0 where
   pub counts : MapperCounts
   pub written : Option (List ℕ)
 
--- the scene of a manager, its mapper and a sink
-abbrev pub scene_of : {G M K : Type 0} → (G → Option Held → Machine)
-    → (G → Option Held → Option PageForest) → (M → Option Held) → (M → MapperCounts)
-    → (K → Option (List ℕ)) → G → M → K → Scene
-scene_of machine forest held counts written gmi mapper sink = record {
-  state = state_of machine forest gmi (held mapper);
-  counts = counts mapper;
-  written = written sink;
+-- The scene of a manager and its mapper where this was written. `G` and `M` are the ghost members of
+-- the two.
+abbrev pub scene_of : {Manager Mapper Chooser : Type 0} → GhostsOfGmi Manager Mapper Chooser
+    → GhostsOfMapper Mapper → Manager → Mapper → Option (List ℕ) → Scene
+scene_of G M gmi mapper written = record {
+  state = state_of G.machine G.forest gmi (M.held mapper);
+  counts = M.counts mapper;
+  written = written;
 }
 
--- the scene of a machine and the page forest that is kept for it
-abbrev pub scene_with : {M K : Type 0} → (M → Option Held) → (M → MapperCounts)
-    → (K → Option (List ℕ)) → M → K → Machine → PageForest → Scene
-scene_with held counts written mapper sink m forest = record {
-  state = record { machine = m; forest = Some forest; segments = segments_of (held mapper) };
-  counts = counts mapper;
-  written = written sink;
+-- the scene of a machine and of the page forest that is kept for it, beside a mapper
+abbrev pub scene_with : {Mapper : Type 0} → GhostsOfMapper Mapper → Mapper → Option (List ℕ)
+    → Machine → PageForest → Scene
+scene_with M mapper written machine forest = record {
+  state = record {
+    machine = machine;
+    forest = Some forest;
+    segments = segments_of (M.held mapper);
+  };
+  counts = M.counts mapper;
+  written = written;
 }
 
 -- the lines of the replies, in the order of the steps

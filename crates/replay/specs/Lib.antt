@@ -1,4 +1,6 @@
 pub mod Commanding
 pub mod Ending
 pub mod Going
+pub mod OneLine
 pub mod Script
+pub mod Waiting

@@ -8,11 +8,13 @@ use Rattle.actor_script.specs.Forms.{command_of}
 abbrev pub most_bytes : ℕ
 most_bytes = 67108864
 
+-- the parts before the last one
 abbrev pub all_but_last : List (List ℕ) → List (List ℕ)
 all_but_last [] = []
 all_but_last (part ∷ []) = []
 all_but_last (part ∷ next ∷ parts) = part ∷ all_but_last (next ∷ parts)
 
+-- the last part
 abbrev pub last_part : List (List ℕ) → List ℕ
 last_part [] = []
 last_part (part ∷ []) = part
@@ -30,6 +32,7 @@ ended_lines_of bytes = all_but_last (parts_of bytes)
 unfoldable pub unended_of : List ℕ → List ℕ
 unended_of bytes = last_part (parts_of bytes)
 
+-- the one line that these bytes are, or none where there are no bytes
 abbrev pub unless_empty : List ℕ → List (List ℕ)
 unless_empty [] = []
 unless_empty (b ∷ bs) = (b ∷ bs) ∷ []
@@ -39,9 +42,11 @@ unless_empty (b ∷ bs) = (b ∷ bs) ∷ []
 unfoldable pub lines_of : List ℕ → List (List ℕ)
 lines_of bytes = ended_lines_of bytes ++ unless_empty (unended_of bytes)
 
+-- the lines of a script as they are read
 abbrev pub commands_of : List ℕ → List Read
 commands_of script = map command_of (lines_of script)
 
+-- those of them that a line feed ends
 abbrev pub ended_commands_of : List ℕ → List Read
 ended_commands_of script = map command_of (ended_lines_of script)
 

@@ -1,8 +1,10 @@
 // Lines out of bytes, each answered as it ends.
-ghost use Rattle.std.specs.Prelude.{◌≡◌, ℕ, List, [], ◌∷◌, ◌++◌, ◌≤◌, ◌+◌, ◌*◌, length};
+ghost use Rattle.std.specs.Prelude.{◌≡◌, ℕ, List, [], ◌∷◌, ◌≤◌, ◌+◌, length};
 ghost use Rattle.vm_ids.specs.Counting.{HasCause};
-ghost use Rattle.replay.specs.Ending.{Scene, scene_of};
-ghost use Rattle.replay.specs.Going.{Going, GoingOr, Grew, IsReady, line_budget, with_gathered};
+ghost use Rattle.replay.specs.Ending.{scene_of};
+ghost use Rattle.replay.specs.Going.{GoesOn};
+ghost use Rattle.replay.specs.OneLine.{CanAnswer};
+ghost use Rattle.replay.specs.Waiting.{Grew, with_gathered};
 ghost use Rattle.replay.specs.Script.{most_bytes};
 
 use crate::answering::answer_line;
@@ -21,23 +23,17 @@ fn feed_byte<G: Gmi<M, C>, M: Mapper, C: Chooser, K: Sink>(
     progress: &mut Progress,
     byte: u8,
 ) -> Result<(), Failed>
-    requires valid { G.valid gmi.old (M.held mapper.old) }
-    requires ready { IsReady (M.page_bytes mapper.old) (G.machine gmi.old (M.held mapper.old)) }
-    requires made { G.made gmi.old ≤ line_budget * progress.old.number }
+    requires able { CanAnswer G.Gmi M.Mapper progress.old.number gmi.old mapper.old }
     requires few { progress.old.number ≤ most_bytes }
-    ensures valid { G.valid gmi.new (M.held mapper.new) }
-    ensures ready { IsReady (M.page_bytes mapper.new) (G.machine gmi.new (M.held mapper.new)) }
-    ensures made { G.made gmi.new ≤ line_budget * progress.new.number }
+    ensures able { CanAnswer G.Gmi M.Mapper progress.new.number gmi.new mapper.new }
     ensures few { progress.new.number ≤ progress.old.number + 1 }
-    ensures going { (before : Scene) (script : List ℕ) →
-        Going before
-        (scene_of G.machine G.forest M.held M.counts (with_gathered K.written)
-        gmi.old mapper.old (sink.old, gathered.old))
-        progress.old.number progress.old.line.items script →
-        GoingOr result before
-        (scene_of G.machine G.forest M.held M.counts (with_gathered K.written)
-        gmi.new mapper.new (sink.new, gathered.new))
-        progress.new.number progress.new.line.items (script ++ byte ∷ []) }
+    ensures going { GoesOn result
+        (scene_of G.Gmi M.Mapper gmi.old mapper.old
+        (with_gathered (K.written sink.old) gathered.old))
+        progress.old
+        (scene_of G.Gmi M.Mapper gmi.new mapper.new
+        (with_gathered (K.written sink.new) gathered.new))
+        progress.new (byte ∷ []) }
     ensures grew { Grew (K.written sink.old) (K.written sink.new) }
     ensures cause { HasCause (K.faults sink.old) (K.faults sink.new) result }
 {
@@ -67,21 +63,14 @@ pub fn feed<G: Gmi<M, C>, M: Mapper, C: Chooser, K: Sink>(
     progress: &mut Progress,
     bytes: &[u8],
 ) -> Result<(), Failed>
-    requires valid { G.valid gmi.old (M.held mapper.old) }
-    requires ready { IsReady (M.page_bytes mapper.old) (G.machine gmi.old (M.held mapper.old)) }
-    requires made { G.made gmi.old ≤ line_budget * progress.old.number }
+    requires able { CanAnswer G.Gmi M.Mapper progress.old.number gmi.old mapper.old }
     requires few { progress.old.number + length bytes.now ≤ most_bytes + 1 }
-    ensures valid { G.valid gmi.new (M.held mapper.new) }
-    ensures ready { IsReady (M.page_bytes mapper.new) (G.machine gmi.new (M.held mapper.new)) }
-    ensures made { G.made gmi.new ≤ line_budget * progress.new.number }
+    ensures able { CanAnswer G.Gmi M.Mapper progress.new.number gmi.new mapper.new }
     ensures few { progress.new.number ≤ progress.old.number + length bytes.now }
-    ensures going { (before : Scene) (script : List ℕ) →
-        Going before
-        (scene_of G.machine G.forest M.held M.counts K.written gmi.old mapper.old sink.old)
-        progress.old.number progress.old.line.items script →
-        GoingOr result before
-        (scene_of G.machine G.forest M.held M.counts K.written gmi.new mapper.new sink.new)
-        progress.new.number progress.new.line.items (script ++ bytes.now) }
+    ensures going { GoesOn result
+        (scene_of G.Gmi M.Mapper gmi.old mapper.old (K.written sink.old)) progress.old
+        (scene_of G.Gmi M.Mapper gmi.new mapper.new (K.written sink.new)) progress.new
+        bytes.now }
     ensures cause { HasCause (K.faults sink.old) (K.faults sink.new) result }
 {
     let mut gathered = Gathered::new();

@@ -1,9 +1,9 @@
 // Replies that wait to be written.
-ghost use Rattle.std.specs.Prelude.{◌≡◌, ℕ, List, Some, [], ◌<◌, ◌≤◌, ◌++◌, length, take, option_map, if◌then◌else◌, IfOk, OnOk, OnErr};
+ghost use Rattle.std.specs.Prelude.{◌≡◌, ℕ, List, Some, [], ◌<◌, ◌≤◌, ◌++◌, length, take, option_map, if◌then◌else◌, IfOk, OnOk, OnErr, true, nat_le};
 ghost use Rattle.vm_ids.specs.Counting.{HasCause, last_count};
 ghost use Rattle.actor_script.specs.Text.{text_of};
 ghost use Rattle.actor_script.specs.Writing.{Wrote};
-ghost use Rattle.replay.specs.Going.{Grew, with_gathered};
+ghost use Rattle.replay.specs.Waiting.{Grew, HasRoomFor, most_gathered, with_gathered};
 
 use actor_script::write_reply;
 use arrayvec::ArrayVec;
@@ -41,8 +41,8 @@ impl Gathered {
     /// didn't take stays.
     pub fn flush<K: Sink>(&mut self, sink: &mut K) -> Result<(), Failed>
         ensures empty { OnOk result (self.new ≡ []) }
-        ensures kept { with_gathered K.written (sink.new, self.new)
-            ≡ with_gathered K.written (sink.old, self.old) }
+        ensures kept { with_gathered (K.written sink.new) self.new
+            ≡ with_gathered (K.written sink.old) self.old }
         ensures grew { Grew (K.written sink.old) (K.written sink.new) }
         ensures cause { HasCause (K.faults sink.old) (K.faults sink.new) result }
     {
@@ -55,7 +55,9 @@ impl Gathered {
 
     // Gathers the line of a reply, where there is room for all of it, and tells whether there is.
     fn gather(&mut self, number: u32, answer: &Answer) -> bool
-        ensures { self.new ≡ (if result then self.old ++ text_of number answer.now else self.old) }
+        ensures line { self.new
+            ≡ (if result then self.old ++ text_of number answer.now else self.old) }
+        ensures fits { HasRoomFor self.old (text_of number answer.now) → result ≡ true }
     {
         let before = self.bytes.len();
         if write_reply(number, answer, self).is_err() {
@@ -65,8 +67,9 @@ impl Gathered {
         true
     }
 
-    /// Gathers the line of a reply. Where no room is left behind what is gathered, that is written
-    /// first; a line longer than 4,096 bytes is written at once.
+    /// Gathers the line of a reply, which waits while the buffer isn't full. Where no room is left
+    /// behind what is gathered, that is written first; a line longer than 4,096 bytes is written at
+    /// once.
     ///
     /// `Failed` only where the sink's count of faults rose; then a front of the line was written or
     /// gathered.
@@ -76,8 +79,10 @@ impl Gathered {
         answer: &Answer,
         sink: &mut K,
     ) -> Result<(), Failed>
-        ensures wrote { Wrote result (with_gathered K.written (sink.old, self.old))
-            (with_gathered K.written (sink.new, self.new)) (text_of number answer.now) }
+        ensures wrote { Wrote result (with_gathered (K.written sink.old) self.old)
+            (with_gathered (K.written sink.new) self.new) (text_of number answer.now) }
+        ensures waits { HasRoomFor self.old (text_of number answer.now) →
+            (self.new ≡ self.old ++ text_of number answer.now) × (sink.new ≡ sink.old) }
         ensures grew { Grew (K.written sink.old) (K.written sink.new) }
         ensures cause { HasCause (K.faults sink.old) (K.faults sink.new) result }
     {
@@ -92,11 +97,12 @@ impl Gathered {
     }
 }
 
-// A write fails where no room is left. These failures aren't counted: their count has ended.
+// A write fails exactly where no room is left: the count of its faults is 0 before, and at its end
+// then.
 impl Sink for Gathered {
     ghost written = { λ g. Some g };
 
-    ghost faults = { λ _. last_count };
+    ghost faults = { λ g. if nat_le most_gathered (length g) then last_count else 0 };
 
     fn write(&mut self, from: &[u8]) -> Result<usize, Failed> {
         let count = self.bytes.remaining_capacity().min(from.len());

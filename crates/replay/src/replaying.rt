@@ -2,7 +2,8 @@
 ghost use Rattle.std.specs.Prelude.{◌≡◌, ℕ, List, [], ◌≤◌, ◌<◌, ◌+◌, ◌^◌, length, take, IfOk, IfSome, OnErr};
 ghost use Rattle.vm_ids.specs.Counting.{HasCause, Rose};
 ghost use Rattle.replay.specs.Ending.{Ends, Scene, scene_of, Took};
-ghost use Rattle.replay.specs.Going.{AnsweredOr, Going, IsReady, line_budget};
+ghost use Rattle.replay.specs.Going.{AnsweredOr, Going};
+ghost use Rattle.replay.specs.OneLine.{CanAnswer};
 ghost use Rattle.replay.specs.Script.{commands_of};
 
 use crate::Status;
@@ -47,16 +48,14 @@ fn finish<G: Gmi<M, C>, M: Mapper, C: Chooser, K: Sink>(
     sink: &mut K,
     progress: &Progress,
 ) -> Result<(), Failed>
-    requires valid { G.valid gmi.old (M.held mapper.old) }
-    requires ready { IsReady (M.page_bytes mapper.old) (G.machine gmi.old (M.held mapper.old)) }
-    requires made { G.made gmi.old ≤ 2 ^ 62 }
+    requires { CanAnswer G.Gmi M.Mapper progress.now.number gmi.old mapper.old }
     ensures valid { G.valid gmi.new (M.held mapper.new) }
     ensures answered { (before : Scene) (script : List ℕ) →
         Going before
-        (scene_of G.machine G.forest M.held M.counts K.written gmi.old mapper.old sink.old)
-        progress.now.number progress.now.line.items script →
+        (scene_of G.Gmi M.Mapper gmi.old mapper.old (K.written sink.old))
+        progress.now script →
         AnsweredOr result before
-        (scene_of G.machine G.forest M.held M.counts K.written gmi.new mapper.new sink.new)
+        (scene_of G.Gmi M.Mapper gmi.new mapper.new (K.written sink.new))
         (commands_of script) }
     ensures cause { HasCause (K.faults sink.old) (K.faults sink.new) result }
 {
@@ -85,13 +84,11 @@ pub fn replay<G: Gmi<M, C>, M: Mapper, C: Chooser, S: Source, K: Sink>(
     source: &mut S,
     sink: &mut K,
 ) -> Status
-    requires valid { G.valid gmi.old (M.held mapper.old) }
-    requires ready { IsReady (M.page_bytes mapper.old) (G.machine gmi.old (M.held mapper.old)) }
-    requires made { G.made gmi.old ≤ line_budget }
+    requires { CanAnswer G.Gmi M.Mapper 1 gmi.old mapper.old }
     ensures valid { G.valid gmi.new (M.held mapper.new) }
     ensures ends { Ends result
-        (scene_of G.machine G.forest M.held M.counts K.written gmi.old mapper.old sink.old)
-        (scene_of G.machine G.forest M.held M.counts K.written gmi.new mapper.new sink.new)
+        (scene_of G.Gmi M.Mapper gmi.old mapper.old (K.written sink.old))
+        (scene_of G.Gmi M.Mapper gmi.new mapper.new (K.written sink.new))
         (S.left source.old) (S.left source.new) }
     ensures source_fault { result ≡ Status.SourceFault →
         Rose (S.faults source.old) (S.faults source.new) }

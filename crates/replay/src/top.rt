@@ -13,9 +13,9 @@ use std::alloc::Global;
 use vm_ids::PAGE;
 use vm_port::{Chooser, Mapper, Sink, Source};
 
-/// Runs the program for the words of a command line: for `run --frames F` it replays the script
-/// that the source has left, over a demand-paged manager of F page frames of 4,096 bytes, and
-/// writes a reply for each line.
+/// Runs the program for the words of a command line. For `run --frames F`, with or without
+/// `--segments DIR` behind, it replays the script that the source has left, over a demand-paged
+/// manager of F page frames of 4,096 bytes, and writes a reply for each line.
 ///
 /// Whatever the source, the sink, the mapper and the chooser: the lines written are the replies of
 /// a machine that keeps each cache as plain bytes and copies at once, a line once and in order, and
@@ -24,8 +24,8 @@ use vm_port::{Chooser, Mapper, Sink, Source};
 /// the end. However reads cut the script, it is the same script.
 ///
 /// - `Done`: the source has nothing left, and each line is answered.
-/// - `Usage` exactly where the words aren't `run --frames F` with F from 3 to 65,536, decimal with
-///   no leading zero. Nothing was read or written.
+/// - `Usage` exactly where the words aren't those, with F from 3 to 65,536, decimal with no leading
+///   zero. Nothing was read or written.
 /// - `SourceFault` only where the source's count of faults rose; each line that ended before is
 ///   answered.
 /// - `SinkFault` only where the sink's count of faults rose; a front of the replies was written.
@@ -46,8 +46,8 @@ pub fn run<S: Source, K: Sink, M: Mapper, C: Chooser>(
     // are written.
     ensures ends { result ≢ Status.NoMemory →
         IfSome (frames_of (map (λ w. w.now) words.now)) (λ frames. RunEnds result frames
-        (scene_with M.held M.counts K.written mapper.old sink.old)
-        (scene_with M.held M.counts K.written mapper.new sink.new)
+        (scene_with M.Mapper mapper.old (K.written sink.old))
+        (scene_with M.Mapper mapper.new (K.written sink.new))
         (S.left source.old) (S.left source.new)) }
     // Usage: exactly for other words.
     ensures usage { (result ≡ Status.Usage) ↔ (frames_of (map (λ w. w.now) words.now) ≡ None) }

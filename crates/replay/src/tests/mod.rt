@@ -4,7 +4,7 @@ ghost use Rattle.replay.specs.Ending.{page_size};
 
 mod rows;
 
-use crate::{Status, run};
+use crate::{Status, folder, run};
 use std::alloc::Global;
 use std::cell::Cell;
 use std::process::Abort;
@@ -364,12 +364,18 @@ fn other_words_read_and_write_nothing(rt: HostRuntime) -> Result<(), NoMemory> {
         &["run", "--frames", "3", "3"],
         &["run", "--pages", "3"],
         &["Run", "--frames", "3"],
+        &["run", "--frames", "3", "--segments"],
+        &["run", "--frames", "2", "--segments", "d"],
+        &["run", "--frames", "3", "--segment", "d"],
+        &["run", "--segments", "d", "--frames", "3"],
+        &["run", "--frames", "3", "--segments", "d", "d"],
     ] {
         let status = replay_source(rt.alloc(), words, &mut source, &mut sink)?;
         assert_eq!(&rt; status, Status::Usage);
     }
     assert_eq!(&rt; sink.written(), b"".as_slice());
-    let words = ["run", "--frames", "65536"];
+    let words = ["run", "--frames", "65536", "--segments", "d"];
+    assert_eq!(&rt; (folder(&words), folder(&words[..4])), ("d", "."));
     let status = replay_source(rt.alloc(), &words, &mut source, &mut sink)?;
     assert_eq!(&rt; status, Status::Done);
     assert_eq!(&rt; sink.written(), rows::ZEROS_REPLIES.as_bytes());

@@ -1,4 +1,5 @@
-// Scripts with their whole output, worked out by hand from the rules of the commands and of the page forest.
+// Scripts with their whole output, worked out by hand from the rules of the commands and of the page
+// forest.
 
 // The least script that does something.
 pub const LEAST_SUCCESS: &str = "actor

@@ -1,15 +1,20 @@
-use Rattle.std.proofs.Common.{refl}
+use Rattle.std.proofs.Common.{refl, rules}
 use Rattle.vm_ids.specs.Held.{segments_of}
 use Rattle.replay.specs.Ending.{scene_with}
-use Rattle.replay.proofs.Promise.{as_asked, complete, limited, ready_start, run_ends}
+use Rattle.replay.proofs.Promise.{as_asked, complete, fits_start, limited, live_start, run_ends}
 use Rattle.replay.proofs.top.run.Goals as goal
 
-pub replay-requires-clause-valid : goal.replay-requires-clause-valid
-replay-requires-clause-valid g c = c.in-Ok.ensures.valid (g.M.Mapper.held c.args.mapper.now)
-
-pub replay-requires-clause-ready : goal.replay-requires-clause-ready
-replay-requires-clause-ready g c =
-    ready_start (g.M.Mapper.page_bytes c.args.mapper.now) c.in-Some.frames _ c.requires (c.in-Ok.ensures.machine (g.M.Mapper.held c.args.mapper.now))
+pub replay-requires : goal.replay-requires
+replay-requires g c =
+    let M = g.M.Mapper in
+    let told = M.held c.args.mapper.now in
+    let starts = c.in-Ok.ensures.machine told in
+    record {
+      valid = c.in-Ok.ensures.valid told;
+      fits = fits_start (M.page_bytes c.args.mapper.now) c.in-Some.frames _ c.requires starts;
+      live = live_start c.in-Some.frames _ starts;
+      made = search rules;
+    }
 
 pub returns-clause-ends : goal.returns-clause-ends
 returns-clause-ends g c = λ some.
@@ -17,7 +22,7 @@ returns-clause-ends g c = λ some.
     let K = g.K.Sink in
     let told = M.held c.args.mapper.now in
     as_asked c.in-Some.frames _ _ c.in-Some.ensures.frames
-    (run_ends c.replay.result c.in-Some.frames (scene_with M.held M.counts K.written c.args.mapper.now c.args.sink.now) (scene_with M.held M.counts K.written c.replay.new.mapper c.replay.new.sink) _ _
+    (run_ends c.replay.result c.in-Some.frames (scene_with M c.args.mapper.now (K.written c.args.sink.now)) (scene_with M c.replay.new.mapper (K.written c.replay.new.sink)) _ _
     (segments_of told) _ _ _ _ (λ m f. refl) (λ m f. (refl, refl)) (c.in-Ok.ensures.machine told) (c.in-Ok.ensures.forest told) c.replay.ensures.ends)
 
 pub returns-clause-too_long_exactly : goal.returns-clause-too_long_exactly

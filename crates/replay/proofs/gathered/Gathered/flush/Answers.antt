@@ -1,5 +1,5 @@
 use Rattle.std.proofs.Common.{◌≡◌, ℕ, List, drop, ap, ◌∙◌, rules}
-use Rattle.replay.specs.Going.{with_gathered}
+use Rattle.replay.specs.Waiting.{with_gathered}
 use Rattle.replay.proofs.Gathering.{front_given, grew_then}
 use Rattle.replay.proofs.gathered.Gathered.flush.Goals as goal
 
@@ -13,7 +13,7 @@ loop-self-preserved g c =
     record {
       faults = search rules;
       grew = grew_then (written c.args.sink.now) (written c.loop-self.sink) (written sink) c.loop-self.invariant.grew (_, c.in_ok-count.ensures.taken);
-      kept = ap (λ (left : List ℕ). with_gathered written (sink, left)) rest
+      kept = ap (λ (left : List ℕ). with_gathered (written sink) left) rest
           ∙ front_given (written c.loop-self.sink) (written sink) bytes count (rw c.as_slice.ensures.value at c.in_ok-count.ensures.taken)
           ∙ c.loop-self.invariant.kept;
     }

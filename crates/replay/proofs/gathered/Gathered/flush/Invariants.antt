@@ -1,5 +1,5 @@
 use Rattle.std.proofs.Common.{◌≡◌, ◌≤◌, length}
-use Rattle.replay.specs.Going.{Grew, with_gathered}
+use Rattle.replay.specs.Waiting.{Grew, with_gathered}
 use Rattle.replay.proofs.gathered.Gathered.flush.Given as goal
 
 abbrev pub invariant-loop-self : goal.invariant-loop-self
@@ -9,7 +9,7 @@ invariant-loop-self g l =
     record {
       faults : K.faults l.fn.sink ≤ K.faults l.sink;
       grew : Grew (K.written l.fn.sink) (K.written l.sink);
-      kept : with_gathered K.written (l.sink, bytes) ≡ with_gathered K.written (l.fn.sink, l.fn.self);
+      kept : with_gathered (K.written l.sink) bytes ≡ with_gathered (K.written l.fn.sink) l.fn.self;
     }
 
 abbrev pub decreases-loop-self : goal.decreases-loop-self
