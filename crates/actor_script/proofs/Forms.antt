@@ -6,7 +6,7 @@ use Rattle.vm_model.specs.Run.{Read}
 use Rattle.actor_script.specs.Words.{words_of}
 use Rattle.vm_ids.specs.declared.command.Command.{Command}
 use Rattle.vm_ids.specs.declared.command.Command.TheVariants as commands
-use Rattle.actor_script.specs.Forms.{command_of, form_of, verb_form, actor_form, temp_form, destroy_form, span_of, copy_form, move_form, map_form, unmap_form, load_form, store_form, pageout_form, chain_form, stat_form}
+use Rattle.actor_script.specs.Forms.{command_of, form_of, verb_form, actor_form, temp_form, open_form, destroy_form, span_of, copy_form, move_form, map_form, unmap_form, load_form, store_form, extent_of, sync_form, flush_form, invalidate_form, pageout_form, chain_form, stat_form}
 
 neither : (b : Bool) (o p : Option Command) → o ≡ None → p ≡ None → (if b then o else p) ≡ None
 neither true o p e f = e
@@ -22,6 +22,12 @@ unfolding temp_form
 no_temp [] h = absurd (omega arith)
 no_temp (a ∷ []) h = absurd (omega arith)
 no_temp (a ∷ b ∷ xs) h = refl
+
+no_open : (xs : List (List ℕ)) → 6 < length xs → open_form xs ≡ None
+unfolding open_form
+no_open [] h = absurd (omega arith)
+no_open (a ∷ []) h = absurd (omega arith)
+no_open (a ∷ b ∷ xs) h = refl
 
 no_destroy : (xs : List (List ℕ)) → 6 < length xs → destroy_form xs ≡ None
 unfolding destroy_form
@@ -80,6 +86,26 @@ no_store (a ∷ b ∷ []) h = absurd (omega arith)
 no_store (a ∷ b ∷ c ∷ []) h = absurd (omega arith)
 no_store (a ∷ b ∷ c ∷ d ∷ xs) h = refl
 
+no_extent : (xs : List (List ℕ)) → 6 < length xs → extent_of xs ≡ None
+unfolding extent_of
+no_extent [] h = absurd (omega arith)
+no_extent (a ∷ []) h = absurd (omega arith)
+no_extent (a ∷ b ∷ []) h = absurd (omega arith)
+no_extent (a ∷ b ∷ c ∷ []) h = absurd (omega arith)
+no_extent (a ∷ b ∷ c ∷ d ∷ xs) h = refl
+
+no_sync : (xs : List (List ℕ)) → 6 < length xs → sync_form xs ≡ None
+unfolding sync_form
+no_sync xs h = ap (option_map commands.Sync) (no_extent xs h)
+
+no_flush : (xs : List (List ℕ)) → 6 < length xs → flush_form xs ≡ None
+unfolding flush_form
+no_flush xs h = ap (option_map commands.Flush) (no_extent xs h)
+
+no_invalidate : (xs : List (List ℕ)) → 6 < length xs → invalidate_form xs ≡ None
+unfolding invalidate_form
+no_invalidate xs h = ap (option_map commands.Invalidate) (no_extent xs h)
+
 no_pageout : (xs : List (List ℕ)) → 6 < length xs → pageout_form xs ≡ None
 unfolding pageout_form
 no_pageout [] h = absurd (omega arith)
@@ -104,6 +130,7 @@ unfolding verb_form
 no_verb verb xs h =
     neither (bytes_eq verb (codes "actor")) _ _ (no_actor xs h) (
     neither (bytes_eq verb (codes "temp")) _ _ (no_temp xs h) (
+    neither (bytes_eq verb (codes "open")) _ _ (no_open xs h) (
     neither (bytes_eq verb (codes "destroy")) _ _ (no_destroy xs h) (
     neither (bytes_eq verb (codes "copy")) _ _ (no_copy xs h) (
     neither (bytes_eq verb (codes "move")) _ _ (no_move xs h) (
@@ -111,9 +138,12 @@ no_verb verb xs h =
     neither (bytes_eq verb (codes "unmap")) _ _ (no_unmap xs h) (
     neither (bytes_eq verb (codes "load")) _ _ (no_load xs h) (
     neither (bytes_eq verb (codes "store")) _ _ (no_store xs h) (
+    neither (bytes_eq verb (codes "sync")) _ _ (no_sync xs h) (
+    neither (bytes_eq verb (codes "flush")) _ _ (no_flush xs h) (
+    neither (bytes_eq verb (codes "invalidate")) _ _ (no_invalidate xs h) (
     neither (bytes_eq verb (codes "pageout")) _ _ (no_pageout xs h) (
     neither (bytes_eq verb (codes "chain")) _ _ (no_chain xs h) (
-    neither (bytes_eq verb (codes "stat")) _ _ (no_stat xs h) refl)))))))))))
+    neither (bytes_eq verb (codes "stat")) _ _ (no_stat xs h) refl)))))))))))))))
 
 no_longer_form : (words : List (List ℕ)) → 7 < length words → form_of words ≡ None
 no_longer_form [] h = absurd (omega arith)

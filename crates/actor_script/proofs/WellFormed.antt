@@ -4,13 +4,14 @@ use Rattle.std.specs.Prelude.{option_and_then, option_map, IfSome, IfOk, bytes_e
 use Rattle.std.specs.Option.{ok_or}
 use Rattle.vm_ids.specs.declared.command.Command.{Command}
 use Rattle.vm_ids.specs.declared.command.Command.TheVariants as commands
+use Rattle.vm_ids.specs.declared.command.Extent.{Extent}
 use Rattle.vm_ids.specs.declared.command.Span.{Span}
 use Rattle.vm_ids.specs.declared.refusal.Refusal.TheVariants.{BadLine}
 use Rattle.vm_model.specs.Asking.{IsWellFormed}
 use Rattle.std.proofs.lemmas.Bool.{leb-true, eqb-false}
 use Rattle.actor_script.specs.Words.{words_of}
 use Rattle.actor_script.specs.Operands.{number_of, count_of, unless_zero, length_of, if_few, lettered, address_of, bytes_of, mode_of}
-use Rattle.actor_script.specs.Forms.{form_of, command_of, verb_form, actor_form, temp_form, destroy_form, span_of, copy_form, move_form, map_form, unmap_form, load_form, store_form, pageout_form, chain_form, stat_form}
+use Rattle.actor_script.specs.Forms.{form_of, command_of, verb_form, actor_form, temp_form, open_form, destroy_form, span_of, copy_form, move_form, map_form, unmap_form, load_form, store_form, extent_of, sync_form, flush_form, invalidate_form, pageout_form, chain_form, stat_form}
 
 -- what holds of all that a step gives, whatever it is given
 any_then : {A B : Type 0} (o : Option A) (f : A → Option B) (P : B → Type 0) → ((x : A) → IfSome (f x) P) → IfSome (option_and_then f o) P
@@ -49,6 +50,12 @@ temp_is [] = tt
 temp_is (a ∷ []) = such_then (count_of a) _ (λ n. 1 ≤ n) IsWellFormed (counts a) (λ n some. some)
 temp_is (a ∷ b ∷ xs) = tt
 
+open_is : (xs : List (List ℕ)) → IfSome (open_form xs) IsWellFormed
+unfolding open_form
+open_is [] = tt
+open_is (a ∷ []) = any_then (number_of a) _ IsWellFormed (λ n. tt)
+open_is (a ∷ b ∷ xs) = tt
+
 destroy_is : (xs : List (List ℕ)) → IfSome (destroy_form xs) IsWellFormed
 unfolding destroy_form
 destroy_is [] = tt
@@ -71,17 +78,17 @@ span_is (a ∷ b ∷ c ∷ d ∷ e ∷ []) =
     such_then (count_of e) _ (λ n. 1 ≤ n) P (counts e) (λ n some. some)))))
 span_is (a ∷ b ∷ c ∷ d ∷ e ∷ f ∷ xs) = tt
 
-as_command : (o : Option Span) (f : Span → Command) → ((s : Span) → 1 ≤ s.pages → IsWellFormed (f s)) → IfSome o (λ s. 1 ≤ s.pages) → IfSome (option_map f o) IsWellFormed
-as_command None f h some = tt
-as_command (Some s) f h some = h s some
+as_command : {A : Type 0} (o : Option A) (f : A → Command) (P : A → Type 0) → ((x : A) → P x → IsWellFormed (f x)) → IfSome o P → IfSome (option_map f o) IsWellFormed
+as_command None f P h some = tt
+as_command (Some x) f P h some = h x some
 
 copy_is : (xs : List (List ℕ)) → IfSome (copy_form xs) IsWellFormed
 unfolding copy_form
-copy_is xs = as_command (span_of xs) commands.Copy (λ s some. some) (span_is xs)
+copy_is xs = as_command (span_of xs) commands.Copy (λ s. 1 ≤ s.pages) (λ s some. some) (span_is xs)
 
 move_is : (xs : List (List ℕ)) → IfSome (move_form xs) IsWellFormed
 unfolding move_form
-move_is xs = as_command (span_of xs) commands.Move (λ s some. some) (span_is xs)
+move_is xs = as_command (span_of xs) commands.Move (λ s. 1 ≤ s.pages) (λ s some. some) (span_is xs)
 
 map_is : (xs : List (List ℕ)) → IfSome (map_form xs) IsWellFormed
 unfolding map_form
@@ -128,6 +135,30 @@ store_is (a ∷ b ∷ c ∷ []) =
     any_then (bytes_of c) _ IsWellFormed (λ n. tt)))
 store_is (a ∷ b ∷ c ∷ d ∷ xs) = tt
 
+extent_is : (xs : List (List ℕ)) → IfSome (extent_of xs) (λ e. 1 ≤ e.pages)
+unfolding extent_of
+extent_is [] = tt
+extent_is (a ∷ []) = tt
+extent_is (a ∷ b ∷ []) = tt
+extent_is (a ∷ b ∷ c ∷ []) =
+    let P : Extent → Type 0 = λ e. 1 ≤ e.pages in
+    any_then (lettered 99 a) _ P (λ n.
+    any_then (number_of b) _ P (λ n.
+    such_then (count_of c) _ (λ n. 1 ≤ n) P (counts c) (λ n some. some)))
+extent_is (a ∷ b ∷ c ∷ d ∷ xs) = tt
+
+sync_is : (xs : List (List ℕ)) → IfSome (sync_form xs) IsWellFormed
+unfolding sync_form
+sync_is xs = as_command (extent_of xs) commands.Sync (λ e. 1 ≤ e.pages) (λ e some. some) (extent_is xs)
+
+flush_is : (xs : List (List ℕ)) → IfSome (flush_form xs) IsWellFormed
+unfolding flush_form
+flush_is xs = as_command (extent_of xs) commands.Flush (λ e. 1 ≤ e.pages) (λ e some. some) (extent_is xs)
+
+invalidate_is : (xs : List (List ℕ)) → IfSome (invalidate_form xs) IsWellFormed
+unfolding invalidate_form
+invalidate_is xs = as_command (extent_of xs) commands.Invalidate (λ e. 1 ≤ e.pages) (λ e some. some) (extent_is xs)
+
 pageout_is : (xs : List (List ℕ)) → IfSome (pageout_form xs) IsWellFormed
 unfolding pageout_form
 pageout_is [] = tt
@@ -151,6 +182,7 @@ unfolding verb_form
 verb_is verb xs =
     if_true (bytes_eq verb (codes "actor")) _ _ IsWellFormed (λ e. actor_is xs) (λ e.
     if_true (bytes_eq verb (codes "temp")) _ _ IsWellFormed (λ e. temp_is xs) (λ e.
+    if_true (bytes_eq verb (codes "open")) _ _ IsWellFormed (λ e. open_is xs) (λ e.
     if_true (bytes_eq verb (codes "destroy")) _ _ IsWellFormed (λ e. destroy_is xs) (λ e.
     if_true (bytes_eq verb (codes "copy")) _ _ IsWellFormed (λ e. copy_is xs) (λ e.
     if_true (bytes_eq verb (codes "move")) _ _ IsWellFormed (λ e. move_is xs) (λ e.
@@ -158,9 +190,12 @@ verb_is verb xs =
     if_true (bytes_eq verb (codes "unmap")) _ _ IsWellFormed (λ e. unmap_is xs) (λ e.
     if_true (bytes_eq verb (codes "load")) _ _ IsWellFormed (λ e. load_is xs) (λ e.
     if_true (bytes_eq verb (codes "store")) _ _ IsWellFormed (λ e. store_is xs) (λ e.
+    if_true (bytes_eq verb (codes "sync")) _ _ IsWellFormed (λ e. sync_is xs) (λ e.
+    if_true (bytes_eq verb (codes "flush")) _ _ IsWellFormed (λ e. flush_is xs) (λ e.
+    if_true (bytes_eq verb (codes "invalidate")) _ _ IsWellFormed (λ e. invalidate_is xs) (λ e.
     if_true (bytes_eq verb (codes "pageout")) _ _ IsWellFormed (λ e. pageout_is xs) (λ e.
     if_true (bytes_eq verb (codes "chain")) _ _ IsWellFormed (λ e. chain_is xs) (λ e.
-    if_true (bytes_eq verb (codes "stat")) _ _ IsWellFormed (λ e. stat_is xs) (λ e. tt))))))))))))
+    if_true (bytes_eq verb (codes "stat")) _ _ IsWellFormed (λ e. stat_is xs) (λ e. tt))))))))))))))))
 
 pub form : (words : List (List ℕ)) → IfSome (form_of words) IsWellFormed
 form [] = tt

@@ -2,6 +2,7 @@
 use Rattle.std.specs.Prelude.{ℕ, List, [], ◌∷◌, length, nat_lt, bytes_eq, codes, Option, Some, None, option_map, option_and_then, ok_or, Err, if◌then◌else◌}
 use Rattle.vm_ids.specs.declared.command.Command.{Command}
 use Rattle.vm_ids.specs.declared.command.Command.TheVariants as commands
+use Rattle.vm_ids.specs.declared.command.Extent.{Extent}
 use Rattle.vm_ids.specs.declared.command.Span.{Span}
 use Rattle.vm_ids.specs.declared.refusal.Refusal.TheVariants.{BadLine}
 use Rattle.vm_model.specs.Run.{Read}
@@ -13,7 +14,8 @@ infixl 10 ◌>>=◌
 abbrev pub ◌>>=◌ : {A B : Type 0} → Option A → (A → Option B) → Option B
 o >>= f = option_and_then f o
 
--- Each form stands by its verb, and says what the operands behind it ask. No other words are one of the forms.
+-- Each form stands by its verb, and says what the operands behind it ask. No other words are one of
+-- the forms.
 
 -- `actor`
 unfoldable pub actor_form : List (List ℕ) → Option Command
@@ -26,6 +28,13 @@ temp_form (pages ∷ []) = do
   n ← count_of pages
   Some (commands.MakeTemp n)
 temp_form _ = None
+
+-- `open S`
+unfoldable pub open_form : List (List ℕ) → Option Command
+open_form (segment ∷ []) = do
+  s ← number_of segment
+  Some (commands.OpenSegment (record { 0 = s }))
+open_form _ = None
 
 -- `destroy C`
 unfoldable pub destroy_form : List (List ℕ) → Option Command
@@ -100,6 +109,27 @@ store_form (actor ∷ address ∷ bytes ∷ []) = do
   Some (commands.Store (record { 0 = a }) at piece)
 store_form _ = None
 
+-- `C O N`
+unfoldable pub extent_of : List (List ℕ) → Option Extent
+extent_of (cache ∷ first ∷ pages ∷ []) = do
+  c ← lettered 99 cache
+  o ← number_of first
+  n ← count_of pages
+  Some (record { cache = record { 0 = c }; first = record { 0 = o }; pages = n })
+extent_of _ = None
+
+-- `sync C O N`
+unfoldable pub sync_form : List (List ℕ) → Option Command
+sync_form operands = option_map commands.Sync (extent_of operands)
+
+-- `flush C O N`
+unfoldable pub flush_form : List (List ℕ) → Option Command
+flush_form operands = option_map commands.Flush (extent_of operands)
+
+-- `invalidate C O N`
+unfoldable pub invalidate_form : List (List ℕ) → Option Command
+invalidate_form operands = option_map commands.Invalidate (extent_of operands)
+
 -- `pageout N`
 unfoldable pub pageout_form : List (List ℕ) → Option Command
 pageout_form (pages ∷ []) = do
@@ -125,6 +155,7 @@ unfoldable pub verb_form : List ℕ → List (List ℕ) → Option Command
 verb_form verb operands =
     if bytes_eq verb (codes "actor") then actor_form operands
     else if bytes_eq verb (codes "temp") then temp_form operands
+    else if bytes_eq verb (codes "open") then open_form operands
     else if bytes_eq verb (codes "destroy") then destroy_form operands
     else if bytes_eq verb (codes "copy") then copy_form operands
     else if bytes_eq verb (codes "move") then move_form operands
@@ -132,6 +163,9 @@ verb_form verb operands =
     else if bytes_eq verb (codes "unmap") then unmap_form operands
     else if bytes_eq verb (codes "load") then load_form operands
     else if bytes_eq verb (codes "store") then store_form operands
+    else if bytes_eq verb (codes "sync") then sync_form operands
+    else if bytes_eq verb (codes "flush") then flush_form operands
+    else if bytes_eq verb (codes "invalidate") then invalidate_form operands
     else if bytes_eq verb (codes "pageout") then pageout_form operands
     else if bytes_eq verb (codes "chain") then chain_form operands
     else if bytes_eq verb (codes "stat") then stat_form operands

@@ -7,7 +7,8 @@ use Rattle.vm_ids.specs.declared.command.Prot.{Prot}
 use Rattle.std.specs.Char.{is_digit}
 use Rattle.hex.specs.Hex.{decode_of}
 
--- A number is spelled as it is printed: decimal, with no leading zero and no sign. It is below 2^32.
+-- A number is spelled as it is printed: decimal, with no leading zero and no sign. It is below
+-- 2^32.
 abbrev pub number_if : ℕ → List ℕ → Option ℕ
 number_if n word = if nat_lt n (2 ^ 32) && bytes_eq (decimal n) word then Some n else None
 

@@ -42,7 +42,8 @@ abbrev pub name_text : NodeName → List ℕ
 name_text (names.Live cache page) = codes "c" ++ decimal cache.0 ++ codes ":" ++ decimal page.0
 name_text (names.Working number) = codes "w" ++ decimal number
 
--- A node of a chain: a space, its name, `+` and how many children it has. Behind the last one stands `*`.
+-- A node of a chain: a space, its name, `+` and how many children it has. Behind the last one
+-- stands `*`.
 abbrev pub item_text : ChainItem → List ℕ
 item_text item = codes " " ++ name_text item.name ++ codes "+" ++ decimal item.children
 
@@ -54,7 +55,8 @@ ok_text (replies.Region region) = codes "ok r" ++ decimal region.0
 ok_text (replies.Bytes bytes) = codes "ok " ++ encode_lower bytes
 ok_text (replies.Chain items) = codes "chain" ++ flat_map item_text items ++ codes "*"
 ok_text (replies.Stat counts) =
-    codes "stat live " ++ decimal counts.live ++ codes " working " ++ decimal counts.working ++ codes " copies " ++ decimal counts.copies
+    codes "stat live " ++ decimal counts.live ++ codes " working " ++ decimal counts.working
+    ++ codes " copies " ++ decimal counts.copies
 
 abbrev pub fault_text : FaultAt → List ℕ
 fault_text faults.Opening = codes "fault mapper open"

@@ -22,7 +22,8 @@ abbrev pub Wrote : {T E : Type 0} → Result T E → Option (List ℕ) → Optio
 Wrote (Ok x) before after bytes = Writes before after bytes
 Wrote (Err e) before after bytes = WritesFront before after bytes
 
--- A chain may have more nodes than a line on the stack holds, so they are written one by one, behind this front of the text.
+-- A chain may have more nodes than a line on the stack holds, so they are written one by one,
+-- behind this front of the text.
 abbrev pub reply_front : Reply → List ℕ
 reply_front (replies.Chain items) = codes "chain"
 reply_front reply = ok_text reply

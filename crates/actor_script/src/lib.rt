@@ -1,11 +1,13 @@
-//! The script language of actors: a line is read as a command, and an answer is written as the line of a reply.
+//! The script language of actors: a line is read as a command, and an answer is written as the line
+//! of a reply.
 //!
-//! Its model is in specs/: the words of a line (`Words`), what one word says (`Operands`), the forms of the commands
-//! (`Forms`), the texts of replies (`Text`), and what a sink was given (`Writing`). A line is read as what those
-//! definitions make of it, and nothing else; a reply is written as its text, or as a front of it where the sink fails.
+//! Its model is in specs/: the words of a line (`Words`), what one word says (`Operands`), the
+//! forms of the commands (`Forms`), the texts of replies (`Text`), and what a sink was given
+//! (`Writing`). A line is read as what those definitions make of it, and nothing else; a reply is
+//! written as its text, or as a front of it where the sink fails.
 //!
-//! It stands on the plain types, the sinks of the outside, and the machine's words for an answer. The replay of scripts
-//! stands on it. It keeps nothing and takes no memory.
+//! It stands on the plain types, the sinks of the outside, and the machine's words for an answer.
+//! The replay of scripts stands on it. It keeps nothing and takes no memory.
 #![tactic(auto)]
 
 mod reading;

@@ -1,4 +1,5 @@
-// The language by values from outside: lines that are none of its forms, and the text of each kind of answer.
+// The language by values from outside: lines that are none of its forms, and the text of each kind
+// of answer.
 use crate::{read_line, write_reply};
 use vm_ids::{
     ActorId, Answer, CacheId, Counts, FaultAt, NoMemory, PageNo, Refusal, RegionId, Reply, Trouble,
@@ -52,6 +53,14 @@ fn lines_outside_the_grammar_are_refused(rt: HostRuntime) {
         b"chain c1 0 1",
         b"destroy 1",
         b"unmap c1",
+        b"open",
+        b"open s1",
+        b"open 01",
+        b"sync c1 0",
+        b"sync c1 0 0",
+        b"flush 1 0 1",
+        b"flush c1 0 1 1",
+        b"invalidate c1 1",
         b"pageout 0",
         b"move c1 0 c2 0 0",
         b"act\xc3\xb6r",

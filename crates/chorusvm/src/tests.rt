@@ -177,3 +177,51 @@ fn a_run_swaps_to_a_file(rt: HostRuntime) -> io::Result<()> {
     assert!(&rt; fs::exists(&rt, swap.as_str())?);
     fs::remove_dir_all(&rt, folder)
 }
+
+// A file of one page is opened, mapped, stored to and pushed.
+const MAPS: &str = "actor
+open 1
+map a1 c1 0 1 10000 rw
+load a1 10000 5
+store a1 10000 48
+sync c1 0 1
+load a1 10000 5
+";
+
+const MAPS_REPLIES: &str = "1 ok a1
+2 ok c1
+3 ok r1
+4 ok 68656c6c6f
+5 ok
+6 ok
+7 ok 48656c6c6f
+";
+
+#[test]
+fn a_run_writes_a_mapped_file(rt: HostRuntime) -> io::Result<()> {
+    let folder = new_folder(&rt, "mapped")?;
+    let file = path_in(&rt, &folder, "seg.1")?;
+    fs::write(&rt, file.as_str(), "hello")?;
+    let Ok(mut mapper) = FileMapper::new(&rt, rt.alloc(), &folder, PAGE as u32) else {
+        panic!(&rt; "no memory");
+    };
+    let mut source = MemorySource::new(MAPS.as_bytes(), &[]);
+    let Ok(mut sink) = MemorySink::new(rt.alloc(), 4096, &[]) else {
+        panic!(&rt; "no memory");
+    };
+    let words = ["run", "--frames", "3"];
+    let mut chooser = Clock::new();
+    let status = run(
+        rt.alloc(),
+        &words,
+        &mut source,
+        &mut sink,
+        &mut mapper,
+        &mut chooser,
+    );
+    assert_eq!(&rt; status, Status::Done);
+    assert_eq!(&rt; sink.written(), MAPS_REPLIES.as_bytes());
+    let bytes = fs::read(&rt, rt.alloc(), file.as_str())?;
+    assert_eq!(&rt; (bytes.len(), bytes.get(..6)), (PAGE, Some(b"Hello\0".as_slice())));
+    fs::remove_dir_all(&rt, folder)
+}

@@ -8,8 +8,10 @@ use Rattle.local_cache.specs.Sound.{IsSound}
 use Rattle.residency.specs.Causes.{HasMissCause, Later}
 use Rattle.residency.specs.declared.miss.Miss.{Miss}
 use Rattle.residency.specs.declared.miss.Miss.TheVariants.{Pull, Victim}
+use Rattle.residency.specs.Pushing.{TellsOn}
 use Rattle.residency.specs.World.{Still, World}
 use Rattle.residency.proofs.StillForest.{still_forest}
+use Rattle.residency.proofs.Told.{tells_then}
 use Rattle.fault_path.specs.Answers.{IsAnswered, IsMissed}
 use Rattle.fault_path.proofs.Kept.{still_kept}
 use Rattle.fault_path.proofs.TwoFrames.{kept_then}
@@ -27,8 +29,8 @@ cause_then a b c Pull p q = record { faults = λ below. omega (arith, q.faults b
 cause_then a b c Victim p q = record { faults = λ below. omega (arith, q.faults below, p.faults); pushes = λ below. omega (arith, q.pushes below, p.pushes) }
 
 module _ (old new : World) (still : Still old new) (before now : MapperCounts) where
-  pub still_answered : IsSound old.caches → IsWellShaped (forest_of old.caches) → new.frames.pinned ≡ old.frames.pinned → Later before now → IsAnswered old new before now
-  still_answered sound shaped pins later = record { kept = still_kept old new still sound shaped pins; later = later }
+  pub still_answered : IsSound old.caches → IsWellShaped (forest_of old.caches) → new.frames.pinned ≡ old.frames.pinned → Later before now → TellsOn old new before now → IsAnswered old new before now
+  still_answered sound shaped pins later told = record { kept = still_kept old new still sound shaped pins; later = later; told = told }
 
   pub still_missed : (miss : Miss) → HasMissCause before now miss → IsMissed miss old new before now
   still_missed miss cause = record { still = still; forest = still_forest old new still; cause = cause }
@@ -37,7 +39,11 @@ module _ (old new : World) (still : Still old new) (before now : MapperCounts) w
   still_missed_by (Ok x) cause = tt
   still_missed_by (Err miss) cause = still_missed miss cause
 
--- a call before which another one went well
-module _ (a b c : World) (p q r : MapperCounts) where
-  pub answered_then : IsAnswered a b p q → IsAnswered b c q r → IsAnswered a c p r
-  answered_then first second = record { kept = kept_then a b c first.kept second.kept; later = later_then p q r first.later second.later }
+-- a call before which every page was still
+module _ (a b c : World) (still : Still a b) (sound : IsSound a.caches) (shaped : IsWellShaped (forest_of a.caches)) (p q r : MapperCounts) where
+  pub answered_then : b.frames.pinned ≡ a.frames.pinned → Later p q → TellsOn a b p q → IsAnswered b c q r → IsAnswered a c p r
+  answered_then pins later told next = record {
+    kept = kept_then a b c (still_kept a b still sound shaped pins) next.kept;
+    later = later_then p q r later next.later;
+    told = tells_then a b still.stays c p q r next.later told next.told;
+  }

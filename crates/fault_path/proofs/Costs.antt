@@ -7,9 +7,10 @@ use Rattle.vm_ids.proofs.Places.{count_cons}
 use Rattle.frame_pool.specs.Pool.{Frames, held_count}
 use Rattle.local_cache.specs.declared.own_state.OwnState.{OwnState}
 use Rattle.local_cache.specs.declared.own_state.OwnState.TheVariants.{Absent, Zero, Resident, Slot, OnSegment}
-use Rattle.local_cache.specs.Own.{is_absent, is_in_slot, is_on_segment, is_resident}
+use Rattle.local_cache.specs.Own.{is_absent, is_resident}
 use Rattle.residency.specs.Causes.{Later, Made, frames_to_bring, pushes_for, pushes_to_bring}
-use Rattle.fault_path.specs.Costs.{MadeAtMost, Takes, frames_to_copy, pulls_to_copy}
+use Rattle.residency.specs.World.{is_pulled}
+use Rattle.fault_path.specs.Costs.{MadeAtMost, Pulls, Takes, TakesAtMost, frames_to_copy, pulls_to_copy}
 
 count_most : (xs : List Bool) → count_by (λ h. h) xs ≤ length xs
 count_most xs = count_by-le-length (λ h. h) xs
@@ -54,34 +55,41 @@ pushes_then k before now same e = omega (arith, count_most before, count_most no
 pub taken_then : (k : ℕ) (before now after : List Bool) → length now ≡ length before → Taken k before now → count_by (λ h. h) after + pushes_for now ≡ count_by (λ h. h) now + 1 → Taken (k + 1) before after
 taken_then k before now after same e f = omega (arith, count_most before, count_most now, pushes_free now)
 
-pub made_then : (p q r s pulls pushes : ℕ) (a b c : MapperCounts) → Made p q a b → Made r s b c → Later b c → p + r ≡ pulls → q + s ≡ pushes → Made pulls pushes a c
-made_then p q r s pulls pushes a b c one two later e f = record {
+-- a count of pushes that is told exactly is also told at most
+pub pulls_few : (p q pushes : ℕ) (a b : MapperCounts) → Made p q a b → q ≤ pushes → Pulls p pushes a b
+pulls_few p q pushes a b made f = record {
+  pulled = made.pulled;
+  pushed = λ low. (let it : b.pushes ≡ a.pushes + q = made.pushed low in omega (arith, it, f));
+}
+
+pub pulls_then : (p q r s pulls pushes : ℕ) (a b c : MapperCounts) → Pulls p q a b → Pulls r s b c → Later b c → p + r ≡ pulls → q + s ≤ pushes → Pulls pulls pushes a c
+pulls_then p q r s pulls pushes a b c one two later e f = record {
   pulled = λ low. (let first : b.pulls ≡ a.pulls + p = one.pulled (omega (arith, later.pulls, low)) in let second : c.pulls ≡ b.pulls + r = two.pulled low in omega arith);
-  pushed = λ low. (let first : b.pushes ≡ a.pushes + q = one.pushed (omega (arith, later.pushes, low)) in let second : c.pushes ≡ b.pushes + s = two.pushed low in omega arith);
+  pushed = λ low. (let first : b.pushes ≤ a.pushes + q = one.pushed (omega (arith, later.pushes, low)) in let second : c.pushes ≤ b.pushes + s = two.pushed low in omega arith);
 }
 
 -- frames for k, and then one more
-pub made_more : (k p : ℕ) (before now : List Bool) (a b c : MapperCounts) → length now ≡ length before → Taken k before now → Made p (k - (length before - count_by (λ h. h) before)) a b → Made 0 (pushes_for now) b c → Later b c
-    → Made p (k + 1 - (length before - count_by (λ h. h) before)) a c
-made_more k p before now a b c same taken one two later =
-    made_then p (k - (length before - count_by (λ h. h) before)) 0 (pushes_for now) p (k + 1 - (length before - count_by (λ h. h) before)) a b c one two later (omega arith) (omega (arith, pushes_then k before now same taken, pushes_free now))
+pub pulls_more : (k p : ℕ) (before now : List Bool) (a b c : MapperCounts) → length now ≡ length before → Taken k before now → Pulls p (k - (length before - count_by (λ h. h) before)) a b → Pulls 0 (pushes_for now) b c → Later b c
+    → Pulls p (k + 1 - (length before - count_by (λ h. h) before)) a c
+pulls_more k p before now a b c same taken one two later =
+    pulls_then p (k - (length before - count_by (λ h. h) before)) 0 (pushes_for now) p (k + 1 - (length before - count_by (λ h. h) before)) a b c one two later (omega arith) (omega (arith, pushes_then k before now same taken, pushes_free now))
 
-pub made_is : (p q pulls pushes : ℕ) (a b : MapperCounts) → Made p q a b → p ≡ pulls → q ≡ pushes → Made pulls pushes a b
-made_is p q pulls pushes a b made e f = record {
+pub pulls_is : (p q pulls pushes : ℕ) (a b : MapperCounts) → Pulls p q a b → p ≡ pulls → q ≤ pushes → Pulls pulls pushes a b
+pulls_is p q pulls pushes a b made e f = record {
   pulled = λ low. (let it : b.pulls ≡ a.pulls + p = made.pulled low in omega arith);
-  pushed = λ low. (let it : b.pushes ≡ a.pushes + q = made.pushed low in omega arith);
+  pushed = λ low. (let it : b.pushes ≤ a.pushes + q = made.pushed low in omega arith);
 }
 
-pub most_then : (p q r s pulls pushes : ℕ) (a b c : MapperCounts) → Made p q a b → MadeAtMost r s b c → Later b c → p + r ≤ pulls → q + s ≤ pushes → MadeAtMost pulls pushes a c
+pub most_then : (p q r s pulls pushes : ℕ) (a b c : MapperCounts) → Pulls p q a b → MadeAtMost r s b c → Later b c → p + r ≤ pulls → q + s ≤ pushes → MadeAtMost pulls pushes a c
 most_then p q r s pulls pushes a b c one two later e f = record {
   pulled = λ low. (let first : b.pulls ≡ a.pulls + p = one.pulled (omega (arith, later.pulls, low)) in let second : c.pulls ≤ b.pulls + r = two.pulled low in omega arith);
-  pushed = λ low. (let first : b.pushes ≡ a.pushes + q = one.pushed (omega (arith, later.pushes, low)) in let second : c.pushes ≤ b.pushes + s = two.pushed low in omega arith);
+  pushed = λ low. (let first : b.pushes ≤ a.pushes + q = one.pushed (omega (arith, later.pushes, low)) in let second : c.pushes ≤ b.pushes + s = two.pushed low in omega arith);
 }
 
-pub made_most : (p q pulls pushes : ℕ) (a b : MapperCounts) → Made p q a b → p ≤ pulls → q ≤ pushes → MadeAtMost pulls pushes a b
-made_most p q pulls pushes a b made e f = record {
+pub pulls_most : (p q pulls pushes : ℕ) (a b : MapperCounts) → Pulls p q a b → p ≤ pulls → q ≤ pushes → MadeAtMost pulls pushes a b
+pulls_most p q pulls pushes a b made e f = record {
   pulled = λ low. (let it : b.pulls ≡ a.pulls + p = made.pulled low in omega arith);
-  pushed = λ low. (let it : b.pushes ≡ a.pushes + q = made.pushed low in omega arith);
+  pushed = λ low. (let it : b.pushes ≤ a.pushes + q = made.pushed low in omega arith);
 }
 
 pub most_more : (p q pulls pushes : ℕ) (a b : MapperCounts) → MadeAtMost p q a b → p ≤ pulls → q ≤ pushes → MadeAtMost pulls pushes a b
@@ -91,24 +99,24 @@ most_more p q pulls pushes a b made e f = record {
 }
 
 -- a pull fails or was not tried
-pub pulls_most : (b : Bool) (own : OwnState) → cond {A = ℕ} b 0 (cond {A = ℕ} (is_in_slot own) 1 0) ≤ pulls_to_copy own
-pulls_most true own = omega arith
-pulls_most false own = omega arith
+pub tried_most : (b : Bool) (own : OwnState) → cond {A = ℕ} b 0 (cond {A = ℕ} (is_pulled own) 1 0) ≤ pulls_to_copy own
+tried_most true own = omega arith
+tried_most false own = omega arith
 
 by_most : (b : Bool) → (cond {A = ℕ} b 1 0 ≤ 1) × (cond {A = ℕ} b 2 1 ≤ 2)
 by_most true = (omega arith, omega arith)
 by_most false = (omega arith, omega arith)
 
 pub copy_most : (own : OwnState) → (pulls_to_copy own ≤ 1) × (frames_to_copy own ≤ 2)
-copy_most own = by_most (is_in_slot own)
+copy_most own = by_most (is_pulled own)
 
--- what is in a frame or in a slot is brought in and copied
-pub bring_copies : (own : OwnState) → is_absent own ≡ false → (own ≡ Zero → ⊥) → is_on_segment own ≡ false → frames_to_bring own + 1 ≡ frames_to_copy own
-bring_copies Absent some zero out = absurd (cc some)
-bring_copies Zero some zero out = absurd (zero refl)
-bring_copies (Resident d) some zero out = refl
-bring_copies (Slot s) some zero out = refl
-bring_copies OnSegment some zero out = absurd (cc out)
+-- what is in a frame, in a slot or on a segment is brought in and copied
+pub bring_copies : (own : OwnState) → is_absent own ≡ false → (own ≡ Zero → ⊥) → frames_to_bring own + 1 ≡ frames_to_copy own
+bring_copies Absent some zero = absurd (cc some)
+bring_copies Zero some zero = absurd (zero refl)
+bring_copies (Resident d) some zero = refl
+bring_copies (Slot s) some zero = refl
+bring_copies OnSegment some zero = refl
 
 -- a resident page is copied to one frame
 pub resident_copies : (own : OwnState) → is_resident own ≡ true → (pulls_to_copy own ≡ 0) × (frames_to_copy own ≡ 1)
@@ -127,16 +135,21 @@ bring_most own = bring_by_most (is_resident own)
 
 -- A page in this state was brought in: the frames that that took, and the one that is taken then.
 module _ (own : OwnState) (before now : Frames) (x y : MapperCounts) (same : length now.held ≡ length before.held)
-    (held : held_count now + pushes_to_bring own before.held ≡ held_count before + frames_to_bring own) (brought : Made (pulls_to_copy own) (pushes_to_bring own before.held) x y) where
+    (held : held_count now + pushes_to_bring own before.held ≡ held_count before + frames_to_bring own) (pushes : ℕ) (brought : Made (pulls_to_copy own) pushes x y) (few : pushes ≤ pushes_to_bring own before.held) where
   pub brought_taken : Taken (frames_to_bring own) before.held now.held
   brought_taken = taken_to_bring own before.held now.held held
 
   pub brought_made : Takes (pulls_to_copy own) (frames_to_bring own) before x y
-  brought_made = made_is _ _ _ _ _ _ brought refl (pushes_bring own before.held)
+  brought_made = pulls_few _ _ _ _ _ brought (omega (arith, few, pushes_bring own before.held))
 
-  pub brought_more : (z : MapperCounts) → Made 0 (pushes_for now.held) y z → Later y z → Takes (pulls_to_copy own) (frames_to_bring own + 1) before x z
-  brought_more z one later = made_more (frames_to_bring own) (pulls_to_copy own) before.held now.held x y z same brought_taken brought_made one later
+  pub brought_more : (z : MapperCounts) → Pulls 0 (pushes_for now.held) y z → Later y z → Takes (pulls_to_copy own) (frames_to_bring own + 1) before x z
+  brought_more z one later = pulls_more (frames_to_bring own) (pulls_to_copy own) before.held now.held x y z same brought_taken brought_made one later
+
+-- it failed to be brought in
+pub failed_most : (own : OwnState) (before : Frames) (b : Bool) (pushes : ℕ) (x y : MapperCounts) → Made (cond {A = ℕ} b 0 (cond {A = ℕ} (is_pulled own) 1 0)) pushes x y → pushes ≤ pushes_to_bring own before.held
+    → TakesAtMost (pulls_to_copy own) (frames_to_bring own) before x y
+failed_most own before b pushes x y made few = pulls_most _ _ _ _ _ _ (pulls_few _ _ _ _ _ made few) (tried_most b own) (omega (arith, pushes_bring own before.held))
 
 -- a copy of a resident page takes the one frame
-pub resident_takes : (own : OwnState) (now : Frames) (y z : MapperCounts) → is_resident own ≡ true → Takes (pulls_to_copy own) (frames_to_copy own) now y z → Made 0 (pushes_for now.held) y z
-resident_takes own now y z e made = let one = resident_copies own e in made_is _ _ _ _ _ _ made one.0 (omega (arith, one.1, pushes_free now.held))
+pub resident_takes : (own : OwnState) (now : Frames) (y z : MapperCounts) → is_resident own ≡ true → Takes (pulls_to_copy own) (frames_to_copy own) now y z → Pulls 0 (pushes_for now.held) y z
+resident_takes own now y z e made = let one = resident_copies own e in pulls_is _ _ _ _ _ _ made one.0 (omega (arith, one.1, pushes_free now.held))

@@ -14,7 +14,7 @@ use Rattle.local_cache.specs.Own.{is_absent, is_resident, own_of}
 use Rattle.local_cache.specs.Reading.{forest_of, name_of, page_of}
 use Rattle.local_cache.specs.Sound.{IsSound}
 use Rattle.residency.specs.StoreForest.{store_forest}
-use Rattle.residency.specs.World.{HasOwnPage, Still, World, frame_page, page_by, zero_page}
+use Rattle.residency.specs.World.{HasOwnPage, Still, World, frame_page, home_page, page_by, zero_page}
 use Rattle.residency.proofs.StillForest.{still_caches_sound, still_like}
 use Rattle.fault_path.specs.Faults.{IsOwner, found_page, is_at_hand, is_zero}
 use Rattle.fault_path.proofs.GatheredFrames.{doubled_page}
@@ -59,7 +59,7 @@ module _ (w : World) (sound : IsSound w.caches) (shaped : IsWellShaped (forest_o
   -- a page of zeros
   pub found_zero : own_of w.caches o ≡ Zero → value_of (store_forest w) (name_of w.caches n) ≡ Some (found_page w None)
   found_zero e = value_at w sound shaped n o there owner
-      ∙ ap (page_by (option_map (λ _. zero_page w) w.told) (option_map (λ _. frame_page w o) w.told) (λ k. option_and_then (λ h. slot_of h k) w.told) None) e
+      ∙ ap (page_by (option_map (λ _. zero_page w) w.told) (option_map (λ _. frame_page w o) w.told) (λ k. option_and_then (λ h. slot_of h k) w.told) (home_page w o)) e
 
   -- a page in a frame, which was brought in
   pub found_frame : (new : World) → Still w new → (f : ℕ) → f < length new.map → node_of new.map f ≡ Some o → value_of (store_forest new) (name_of w.caches n) ≡ Some (option_map (λ _. bytes_of new.frames f) new.told)

@@ -3,16 +3,21 @@ use Rattle.std.proofs.Common.{◌≡◌, ◌≢◌, ℕ, zero, suc, ◌<◌, ◌
 use Rattle.std.specs.Prelude.{option_map}
 use Rattle.std.proofs.lemmas.Bool.{cases_lt}
 use Rattle.std.proofs.lemmas.List.{get_or-set_same, get_or-set_other, get_or_past}
+use Rattle.vm_ids.specs.Counting.{MapperCounts}
 use Rattle.vm_ids.specs.declared.numbers.NodeId.{NodeId}
 use Rattle.vm_ids.proofs.Places.{back, true_below}
 use Rattle.frame_pool.specs.Pool.{bytes_of, is_held, is_pinned, with_bytes}
 use Rattle.global_map.specs.Pairs.{node_of}
 use Rattle.local_cache.specs.Own.{own_of}
-use Rattle.residency.specs.World.{IsMadeFree, IsStoreRight, PinnedStays, Still, World, is_bound}
+use Rattle.residency.specs.Causes.{Later}
+use Rattle.residency.specs.Pushing.{TellsOn}
+use Rattle.residency.specs.World.{IsMadeFree, IsStoreRight, PagesStay, PinnedStays, Still, World, is_bound}
 use Rattle.residency.proofs.After.{pin_right, pin_set, written_right}
 use Rattle.residency.proofs.Brought.{given_page, place_other}
-use Rattle.residency.proofs.Evicted.{page_here, still_then}
-use Rattle.residency.proofs.Homes.{IsHome, home}
+use Rattle.residency.proofs.Composed.{still_then}
+use Rattle.residency.proofs.Homes.{IsHome, home, page_here}
+use Rattle.residency.proofs.Nodes.{same}
+use Rattle.residency.proofs.Told.{tells_as, tells_none, tells_then}
 use Rattle.fault_path.specs.Gathering.{HasPageOf, IsGathered, NoneGathered}
 
 pub set_comm : {X : Type 0} (xs : List X) (i j : ℕ) (a b : X) → i ≢ j → set (set xs i a) j b ≡ set (set xs j b) i a
@@ -49,7 +54,7 @@ module _ (old w : World) (h : ℕ) (right : IsStoreRight old) (held : is_held ol
       right = pin_right w h false still.stays.right (ap is_some stays_h.node ∙ is_bound_h);
       pages = still.stays.pages;
       caches = still.stays.caches;
-      told = record { segments = still.stays.told.segments; page_bytes = still.stays.told.page_bytes };
+      page_bytes = still.stays.page_bytes;
       frames = still.stays.frames;
       page = still.stays.page;
       slots = still.stays.slots;
@@ -61,6 +66,11 @@ module _ (old w : World) (h : ℕ) (right : IsStoreRight old) (held : is_held ol
 
   pub beside_none : w.frames.pinned ≡ set old.frames.pinned h true → NoneGathered old (pin_set w h false)
   beside_none e = record { still = beside_still; pinned = ap (λ ps. set ps h false) e ∙ back old.frames.pinned h loose }
+
+  pub beside_told : (c d : MapperCounts) → Later c d → TellsOn (pin_set old h true) w c d → TellsOn old (pin_set w h false) c d
+  beside_told c d later told =
+      let stays : PagesStay old (pin_set old h true) = record { right = pin_right old h true right is_bound_h; pages = λ n. refl; caches = same old.caches; page_bytes = refl; frames = refl; page = refl; slots = refl } in
+      tells_as old w (pin_set w h false) c d refl (tells_then old (pin_set old h true) stays w c c d later (tells_none old (pin_set old h true) c c refl (omega arith)) told)
 
   module _ (f : ℕ) (free : IsMadeFree f (pin_set old h true) w) where
     apart : f ≢ h
@@ -97,10 +107,10 @@ pub filled_gathered : (old w : World) (f : ℕ) (bytes : List ℕ) → IsGathere
 filled_gathered old w f bytes g = record {
   still = record {
     stays = record {
-      right = written_right w f bytes g.still.stays.right;
+      right = written_right w f bytes g.still.stays.right (λ m here. absurd (cc (here, g.taken.unbound)));
       pages = λ m. given_page w f bytes m (own_of w.caches m) (λ r. place_other w f m g.still.stays.right g.taken.unbound r) ∙ g.still.stays.pages m;
       caches = g.still.stays.caches;
-      told = record { segments = g.still.stays.told.segments; page_bytes = g.still.stays.told.page_bytes };
+      page_bytes = g.still.stays.page_bytes;
       frames = g.still.stays.frames;
       page = g.still.stays.page;
       slots = g.still.stays.slots;

@@ -78,8 +78,7 @@ module _ (old new : World) (still : Still old new) (sound : IsSound old.caches) 
     room = still_room old.caches new.caches still.stays.caches;
     frames = still.stays.frames;
     page = still.stays.page;
-    page_bytes = still.stays.told.page_bytes;
-    segments = still.stays.told.segments;
+    page_bytes = still.stays.page_bytes;
     slots = still.stays.slots;
   }
 

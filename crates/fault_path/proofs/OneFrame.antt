@@ -104,13 +104,13 @@ module _ (w : World) (f : ℕ) (n : NodeId) (right : IsStoreRight w) (taken : Is
   module _ (b : Arena) (is : IsOwned w.caches b n) where
     in_owned : IsResidentIn w.caches b n
     in_owned = record {
+      like = like_then w.caches is.given b (given_like w.caches sound n there is.given is.is_given) (counted is.given b is.is);
       held = λ m. held_counted is.given b is.is m ∙ is.is_given.links.like.held m;
       own = λ m. own_counted is.given b is.is m ∙ is.is_given.links.own m;
     }
 
     pub owned_gives : GivesFrame w (homed w f n b) f n
-    owned_gives = gives b in_owned is.sound
-        (like_then w.caches is.given b (given_like w.caches sound n there is.given is.is_given) (counted is.given b is.is))
+    owned_gives = gives b in_owned is.sound in_owned.like
         (ap (λ (k : Arena). k.made) is.is ∙ given_made w.caches sound n there is.given is.is_given)
         (ap (λ (k : Arena). k.copies) is.is ∙ ap (λ k. k + 1) (given_copies w.caches sound n there is.given is.is_given))
         (ap (λ (k : Arena). k.room) is.is ∙ is.is_given.room)
@@ -127,13 +127,13 @@ module _ (w : World) (f : ℕ) (n : NodeId) (right : IsStoreRight w) (taken : Is
   module _ (b : Arena) (from : NodeId) (is : IsHanded w.caches b from n) where
     in_handed : IsResidentIn w.caches b n
     in_handed = record {
+      like = like_then w.caches is.given b (given_like w.caches sound n there is.given is.is_given) (like_then is.given is.handed b is.links.like (counted is.handed b is.is));
       held = λ m. held_counted is.handed b is.is m ∙ is.links.like.held m ∙ is.is_given.links.like.held m;
       own = λ m. own_counted is.handed b is.is m ∙ is.links.own m ∙ is.is_given.links.own m;
     }
 
     pub handed_gives : GivesFrame w (homed w f n b) f n
-    handed_gives = gives b in_handed is.sound
-        (like_then w.caches is.given b (given_like w.caches sound n there is.given is.is_given) (like_then is.given is.handed b is.links.like (counted is.handed b is.is)))
+    handed_gives = gives b in_handed is.sound in_handed.like
         (ap (λ (k : Arena). k.made) is.is ∙ sym is.links.made ∙ given_made w.caches sound n there is.given is.is_given)
         (ap (λ (k : Arena). k.copies) is.is ∙ ap (λ k. k + 1) (sym is.links.copies ∙ given_copies w.caches sound n there is.given is.is_given))
         (ap (λ (k : Arena). k.room) is.is ∙ is.room ∙ is.is_given.room)

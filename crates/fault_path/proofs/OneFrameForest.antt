@@ -1,6 +1,5 @@
 -- From the gathered frames to the rules of the forest.
 use Rattle.std.proofs.Common.{◌≡◌, ℕ, ◌+◌, true, false, List, length, set, Option, Some, None, is_some, refl, sym, ap, ◌∙◌, subst}
-use Rattle.vm_ids.specs.Held.{segments_of}
 use Rattle.vm_ids.specs.declared.numbers.NodeId.{NodeId}
 use Rattle.vm_ids.specs.Forest.Nodes.{node}
 use Rattle.vm_ids.specs.Forest.Changes.{count_copy}
@@ -45,8 +44,7 @@ given_kept old w v f n gathered gives shaped = record {
   room = gives.room ∙ still_room old.caches w.caches gathered.still.stays.caches;
   frames = ap (λ hs. length hs) gives.held ∙ gathered.still.stays.frames;
   page = gives.page ∙ gathered.still.stays.page;
-  page_bytes = gives.page_bytes ∙ gathered.still.stays.told.page_bytes;
-  segments = ap segments_of gives.told ∙ gathered.still.stays.told.segments;
+  page_bytes = gives.page_bytes ∙ gathered.still.stays.page_bytes;
   slots = ap (λ xs. length xs) gives.slots ∙ gathered.still.stays.slots;
 }
 

@@ -1,7 +1,7 @@
 -- Two frames were gathered: a node gets the first, and then its heir the second.
 use Rattle.std.proofs.Common.{◌≡◌, ◌≢◌, ℕ, ◌+◌, ◌≤◌, Bool, true, false, List, [], ◌∷◌, ◌++◌, length, filter, ap₂, cond, set, get_or, Option, Some, None, is_none, is_some, refl, sym, ap, ◌∙◌, subst, arith, inl, inr}
 use Rattle.std.specs.Prelude.{option_map, option_and_then}
-use Rattle.vm_ids.specs.Held.{segments_of, slot_of}
+use Rattle.vm_ids.specs.Held.{slot_of}
 use Rattle.std.proofs.lemmas.List.{get_or-set_other, set-get_or}
 use Rattle.vm_ids.specs.declared.node_name.NodeName.{NodeName}
 use Rattle.vm_ids.specs.declared.numbers.NodeId.{NodeId}
@@ -29,9 +29,9 @@ use Rattle.local_cache.specs.Reading.{forest_of, name_of}
 use Rattle.local_cache.specs.Sound.{IsSound}
 use Rattle.local_cache.proofs.Changes.SameNodes.{like_then}
 use Rattle.residency.specs.StoreForest.{store_forest}
-use Rattle.residency.specs.World.{IsTaken, PinnedStays, Still, World, frame_page, own_page, page_by, zero_page}
+use Rattle.residency.specs.World.{IsTaken, PinnedStays, Still, World, frame_page, home_page, own_page, page_by, zero_page}
 use Rattle.residency.proofs.Brought.{given_up, given_up_still}
-use Rattle.residency.proofs.Evicted.{stays_then, still, still_then}
+use Rattle.residency.proofs.Composed.{stays_then, still, still_then}
 use Rattle.residency.proofs.StillForest.{still_copies, still_like, still_made, still_room}
 use Rattle.fault_path.specs.Answers.{IsForestRight}
 use Rattle.fault_path.specs.Faults.{IsOwner, Kept, readied}
@@ -47,7 +47,7 @@ use Rattle.fault_path.proofs.OneFrameForest.{hand_forest, hand_gives, handed_sha
 use Rattle.fault_path.proofs.OneFrame.{GivesFrame}
 
 pub absent_none : (w : World) (n : NodeId) → own_of w.caches n ≡ Absent → own_page w n ≡ None
-absent_none w n e = ap (page_by (option_map (λ _. zero_page w) w.told) (option_map (λ _. frame_page w n) w.told) (λ k. option_and_then (λ h. slot_of h k) w.told) None) e
+absent_none w n e = ap (page_by (option_map (λ _. zero_page w) w.told) (option_map (λ _. frame_page w n) w.told) (λ k. option_and_then (λ h. slot_of h k) w.told) (home_page w n)) e
 
 -- one kept, and then another
 pub kept_then : (a b c : World) → Kept a b → Kept b c → Kept a c
@@ -63,7 +63,6 @@ kept_then a b c p q = record {
   frames = q.frames ∙ p.frames;
   page = q.page ∙ p.page;
   page_bytes = q.page_bytes ∙ p.page_bytes;
-  segments = q.segments ∙ p.segments;
   slots = q.slots ∙ p.slots;
 }
 
@@ -245,8 +244,7 @@ module _ {old w v : World} {f g : ℕ} {n o : NodeId} {b : Arena} (right : IsFor
       room = hands.room ∙ step_gives.room ∙ still_room old.caches v.caches whole.stays.caches;
       frames = ap (λ hs. length hs) (hands.held ∙ step_gives.held) ∙ whole.stays.frames;
       page = hands.page ∙ step_gives.page ∙ whole.stays.page;
-      page_bytes = hands.page_bytes ∙ step_gives.page_bytes ∙ whole.stays.told.page_bytes;
-      segments = ap segments_of hands.told ∙ ap segments_of step_gives.told ∙ whole.stays.told.segments;
+      page_bytes = hands.page_bytes ∙ step_gives.page_bytes ∙ whole.stays.page_bytes;
       slots = ap (λ xs. length xs) (hands.slots ∙ step_gives.slots) ∙ whole.stays.slots;
     }
       where

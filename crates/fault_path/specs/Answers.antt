@@ -15,6 +15,7 @@ use Rattle.local_cache.specs.Sound.{IsSound}
 use Rattle.residency.specs.Causes.{HasMissCause, Later}
 use Rattle.residency.specs.declared.miss.Miss.{Miss}
 use Rattle.residency.specs.declared.store.Store.{Store}
+use Rattle.residency.specs.Pushing.{TellsOn}
 use Rattle.residency.specs.World.{IsFrameOf, IsStoreRight, Still, World, world}
 use Rattle.fault_path.specs.Faults.{Follows, Kept, SameForest}
 
@@ -30,22 +31,15 @@ module _ {M : Type 0} where
   RightForest held size mapper caches store =
       IsForestRight (world (held mapper) (size mapper) caches store)
 
-  -- a relation of two worlds, and of the counts then, holds from one moment to a later one
-  abbrev pub Across : (World → World → MapperCounts → MapperCounts → Type 0)
-      → (M → Option Held) → (M → Option ℕ) → (M → MapperCounts)
-      → M → Arena → Store → M → Arena → Store → Type 0
-  Across relation held size counts mapper caches store mapper' caches' store' = relation
-      (world (held mapper) (size mapper) caches store)
-      (world (held mapper') (size mapper') caches' store')
-      (counts mapper) (counts mapper')
-
--- After any answer a call has kept what each call keeps, and no count fell.
+-- After any answer a call has kept what each call keeps, no count fell, and pages that left their
+-- frames were pushed to their homes or to slots.
 pub record IsAnswered (old new : World) (before now : MapperCounts) : Type 0 where
   pub kept : Kept old new
   pub later : Later before now
+  pub told : TellsOn old new before now
 
--- After this miss every page is where it was, or in a slot, the page forest is the same, and the
--- mapper failed at what the miss names.
+-- After this miss every page is where it was, or left its frame, the page forest is the same, and
+-- the mapper failed at what the miss names.
 pub record IsMissed (miss : Miss) (old new : World) (before now : MapperCounts) : Type 0 where
   pub still : Still old new
   pub forest : SameForest old new

@@ -1,14 +1,15 @@
--- How many frames, pulls and pushes a call takes: a push for each frame that isn't free.
+-- How many frames, pulls and pushes a call takes: at most a push for each frame that isn't free.
 use Rattle.std.specs.Prelude.{◌≡◌, ℕ, ◌+◌, ◌-◌, ◌<◌, ◌≤◌, is_some, if◌then◌else◌, length}
-use Rattle.vm_ids.specs.Counting.{MapperCounts, last_count}
+use Rattle.vm_ids.specs.Counting.{MapperCounts, RoseBy, last_count}
 use Rattle.vm_ids.specs.declared.numbers.NodeId.{NodeId}
 use Rattle.vm_ids.specs.Forest.Rules.{heir}
 use Rattle.frame_pool.specs.Pool.{Frames, held_count}
 use Rattle.local_cache.specs.declared.own_state.OwnState.{OwnState}
 use Rattle.local_cache.specs.Arena.{Arena}
-use Rattle.local_cache.specs.Own.{is_absent, is_in_slot, own_of}
+use Rattle.local_cache.specs.Own.{is_absent, own_of}
 use Rattle.local_cache.specs.Reading.{forest_of, name_of}
-use Rattle.residency.specs.Causes.{Made, frames_to_bring}
+use Rattle.residency.specs.Causes.{frames_to_bring}
+use Rattle.residency.specs.World.{is_pulled}
 
 -- the count rose by no more than this, where it is below the last number
 abbrev pub RoseAtMost : ℕ → ℕ → ℕ → Type 0
@@ -19,6 +20,11 @@ pub record MadeAtMost (pulls pushes : ℕ) (before now : MapperCounts) : Type 0 
   pub pulled : RoseAtMost pulls before.pulls now.pulls
   pub pushed : RoseAtMost pushes before.pushes now.pushes
 
+-- there were so many pulls, and no more pushes than these
+pub record Pulls (pulls pushes : ℕ) (before now : MapperCounts) : Type 0 where
+  pub pulled : RoseBy pulls before.pulls now.pulls
+  pub pushed : RoseAtMost pushes before.pushes now.pushes
+
 abbrev pub free_count : Frames → ℕ
 free_count p = length p.held - held_count p
 
@@ -27,22 +33,22 @@ abbrev pub HoldsMore : ℕ → Frames → Frames → Type 0
 HoldsMore frames old new =
     held_count new + (frames - free_count old) ≡ held_count old + frames
 
--- From before to now there were so many pulls, and a push for each of so many frames that wasn't
--- free.
+-- From before to now there were so many pulls, and at most a push for each of so many frames that
+-- wasn't free.
 abbrev pub Takes : ℕ → ℕ → Frames → MapperCounts → MapperCounts → Type 0
-Takes pulls frames p before now = Made pulls (frames - free_count p) before now
+Takes pulls frames p before now = Pulls pulls (frames - free_count p) before now
 
 -- there were no more than these
 abbrev pub TakesAtMost : ℕ → ℕ → Frames → MapperCounts → MapperCounts → Type 0
 TakesAtMost pulls frames p before now = MadeAtMost pulls (frames - free_count p) before now
 
--- A copy of a page takes a pull and two frames where the page is in a slot, and else the frame of
--- the copy alone: a page of zeros needs no other.
+-- A copy of a page takes a pull and two frames where the page is in a slot or on its segment, and
+-- else the frame of the copy alone: a page of zeros needs no other.
 abbrev pub pulls_to_copy : OwnState → ℕ
-pulls_to_copy own = if is_in_slot own then 1 else 0
+pulls_to_copy own = if is_pulled own then 1 else 0
 
 abbrev pub frames_to_copy : OwnState → ℕ
-frames_to_copy own = if is_in_slot own then 2 else 1
+frames_to_copy own = if is_pulled own then 2 else 1
 
 -- Its heir, where a node has one, gets a copy.
 abbrev pub heirs_to_save : Arena → NodeId → ℕ

@@ -1,7 +1,6 @@
 -- What faults ask, what they answer, and what they keep.
-use Rattle.std.specs.Prelude.{◌≡◌, ℕ, ◌+◌, ◌<◌, ◌≤◌, Bool, true, false, List, length, Option, Some, None, option_map, is_none, IfSome}
+use Rattle.std.specs.Prelude.{◌≡◌, ℕ, ◌+◌, ◌<◌, ◌≤◌, Bool, true, false, List, length, Option, Some, None, option_map, is_none, IfSome, IsSome}
 use Rattle.vm_ids.specs.declared.node_name.NodeName.{NodeName}
-use Rattle.vm_ids.specs.Held.{segments_of}
 use Rattle.vm_ids.specs.declared.numbers.FrameId.{FrameId}
 use Rattle.vm_ids.specs.declared.numbers.NodeId.{NodeId}
 use Rattle.vm_ids.specs.Forest.Nodes.{Forest}
@@ -14,10 +13,11 @@ use Rattle.local_cache.specs.declared.own_state.OwnState.{OwnState}
 use Rattle.local_cache.specs.declared.own_state.OwnState.TheVariants.{Absent, Zero, Resident, Slot, OnSegment}
 use Rattle.local_cache.specs.Arena.{Arena, IsHeld}
 use Rattle.local_cache.specs.Changes.{Like}
+use Rattle.local_cache.specs.Home.{home_of}
 use Rattle.local_cache.specs.Reading.{forest_of, name_of}
 use Rattle.local_cache.specs.Sound.{IsSound}
 use Rattle.residency.specs.StoreForest.{store_forest}
-use Rattle.residency.specs.World.{IsStoreRight, PinnedStays, World, zero_page}
+use Rattle.residency.specs.World.{IsStoreRight, PinnedStays, World, is_name_granted, zero_page}
 
 -- so many frames aren't pinned
 abbrev pub HasLoose : ℕ → Frames → Type 0
@@ -58,6 +58,10 @@ found_page w (Some f) = option_map (λ _. bytes_of w.frames f.0) w.told
 abbrev pub IsValueFound : World → NodeName → Option FrameId → Type 0
 IsValueFound w x found = value_of (store_forest w) x ≡ Some (found_page w found)
 
+-- the page of n may be written: where it is one of a segment, that was granted
+abbrev pub MayWrite : Arena → NodeId → Type 0
+MayWrite a n = IsSome (home_of a n) → is_name_granted a (name_of a n) ≡ true
+
 -- h is the heir of n
 abbrev pub IsHeirOf : Arena → NodeId → NodeId → Type 0
 IsHeirOf a n h = heir (forest_of a) (name_of a n) ≡ Some (name_of a h)
@@ -80,7 +84,7 @@ abbrev pub readied : {P : Type 0} → Forest P → NodeName → Forest P
 readied f x = heir_gets (owned f x) x
 
 -- What each call keeps: a right store, sound caches, each frame that was pinned, all nodes under
--- their numbers and names, the tables, the spare room, what the mapper tells, and the sizes.
+-- their numbers and names, the tables, the spare room, and the sizes.
 pub record Kept (old new : World) : Type 0 where
   pub right : IsStoreRight new
   pub sound : IsSound new.caches
@@ -93,5 +97,4 @@ pub record Kept (old new : World) : Type 0 where
   pub frames : length new.frames.held ≡ length old.frames.held
   pub page : new.frames.page ≡ old.frames.page
   pub page_bytes : new.page_bytes ≡ old.page_bytes
-  pub segments : segments_of new.told ≡ segments_of old.told
   pub slots : length new.slots ≡ length old.slots

@@ -3,11 +3,12 @@ ghost use Rattle.std.specs.Prelude.{◌≡◌, ◌≢◌, ℕ, ◌+◌, ◌<◌,
 ghost use Rattle.frame_pool.specs.Pool.{held_count, is_held};
 ghost use Rattle.global_map.specs.Pairs.{node_of};
 ghost use Rattle.local_cache.specs.Own.{own_of};
-ghost use Rattle.residency.specs.Causes.{HasMissCause, Later, Made, PushFailed, frames_to_bring, pushes_for};
-ghost use Rattle.residency.specs.Between.{Between, RightStore};
+ghost use Rattle.residency.specs.Causes.{HasMissCause, Later, PushFailed, frames_to_bring, pushes_for};
+ghost use Rattle.residency.specs.Between.{Across, Between, RightStore};
 ghost use Rattle.residency.specs.Frames.{with_held, with_pinned};
+ghost use Rattle.residency.specs.Pushing.{TellsOn};
 ghost use Rattle.residency.specs.World.{FrameStays, HasOwnPage};
-ghost use Rattle.fault_path.specs.Costs.{HoldsMore, Takes, TakesAtMost, frames_to_copy, pulls_to_copy};
+ghost use Rattle.fault_path.specs.Costs.{HoldsMore, Pulls, Takes, TakesAtMost, frames_to_copy, pulls_to_copy};
 ghost use Rattle.fault_path.specs.Faults.{HasLoose};
 ghost use Rattle.fault_path.specs.Gathering.{IsCopiedOut, IsDoubled, IsGathered, NoneGathered};
 
@@ -34,10 +35,12 @@ fn make_free_beside<M: Mapper, C: Chooser>(
         mapper.old caches.old store.old mapper.new caches.new store.new) }
     ensures none { OnErr result (Between NoneGathered M.held M.page_bytes
         mapper.old caches.old store.old mapper.new caches.new store.new) }
+    ensures told { Across TellsOn M.held M.page_bytes M.counts
+        mapper.old caches.old store.old mapper.new caches.new store.new }
     ensures later { Later (M.counts mapper.old) (M.counts mapper.new) }
     ensures held { OnOk result (held_count store.new.frames + pushes_for store.old.frames.held
         ≡ held_count store.old.frames + 1) }
-    ensures made { Made 0 (pushes_for store.old.frames.held)
+    ensures made { Pulls 0 (pushes_for store.old.frames.held)
         (M.counts mapper.old) (M.counts mapper.new) }
     ensures cause { OnErr result (PushFailed (M.counts mapper.old) (M.counts mapper.new)) }
 {
@@ -65,10 +68,12 @@ pub(crate) fn double<M: Mapper, C: Chooser>(
         mapper.old caches.old store.old mapper.new caches.new store.new) }
     ensures none { OnErr result (Between NoneGathered M.held M.page_bytes
         mapper.old caches.old store.old mapper.new caches.new store.new) }
+    ensures told { Across TellsOn M.held M.page_bytes M.counts
+        mapper.old caches.old store.old mapper.new caches.new store.new }
     ensures later { Later (M.counts mapper.old) (M.counts mapper.new) }
     ensures held { OnOk result (held_count store.new.frames + pushes_for store.old.frames.held
         ≡ held_count store.old.frames + 1) }
-    ensures made { Made 0 (pushes_for store.old.frames.held)
+    ensures made { Pulls 0 (pushes_for store.old.frames.held)
         (M.counts mapper.old) (M.counts mapper.new) }
     ensures cause { OnErr result (PushFailed (M.counts mapper.old) (M.counts mapper.new)) }
 {
@@ -92,10 +97,12 @@ fn zeroed<M: Mapper, C: Chooser>(
         mapper.old caches.old store.old mapper.new caches.new store.new) }
     ensures none { OnErr result (Between NoneGathered M.held M.page_bytes
         mapper.old caches.old store.old mapper.new caches.new store.new) }
+    ensures told { Across TellsOn M.held M.page_bytes M.counts
+        mapper.old caches.old store.old mapper.new caches.new store.new }
     ensures later { Later (M.counts mapper.old) (M.counts mapper.new) }
     ensures held { OnOk result (held_count store.new.frames + pushes_for store.old.frames.held
         ≡ held_count store.old.frames + 1) }
-    ensures made { Made 0 (pushes_for store.old.frames.held)
+    ensures made { Pulls 0 (pushes_for store.old.frames.held)
         (M.counts mapper.old) (M.counts mapper.new) }
     ensures cause { IfErr result (HasMissCause (M.counts mapper.old) (M.counts mapper.new)) }
 {
@@ -121,6 +128,8 @@ fn brought_out<M: Mapper, C: Chooser>(
         mapper.old caches.old store.old mapper.new caches.new store.new) }
     ensures none { OnErr result (Between NoneGathered M.held M.page_bytes
         mapper.old caches.old store.old mapper.new caches.new store.new) }
+    ensures told { Across TellsOn M.held M.page_bytes M.counts
+        mapper.old caches.old store.old mapper.new caches.new store.new }
     ensures later { Later (M.counts mapper.old) (M.counts mapper.new) }
     ensures held { OnOk result (HoldsMore (frames_to_bring (own_of caches.old node) + 1)
         store.old.frames store.new.frames) }
@@ -154,6 +163,8 @@ pub(crate) fn copy_out<M: Mapper, C: Chooser>(
         mapper.old caches.old store.old mapper.new caches.new store.new) }
     ensures none { OnErr result (Between NoneGathered M.held M.page_bytes
         mapper.old caches.old store.old mapper.new caches.new store.new) }
+    ensures told { Across TellsOn M.held M.page_bytes M.counts
+        mapper.old caches.old store.old mapper.new caches.new store.new }
     ensures later { Later (M.counts mapper.old) (M.counts mapper.new) }
     ensures held { OnOk result (HoldsMore (frames_to_copy (own_of caches.old node))
         store.old.frames store.new.frames) }

@@ -1,14 +1,14 @@
 // The page that a node reads.
-ghost use Rattle.std.specs.Prelude.{◌≡◌, ◌<◌, true, false, Some, IfErr, IfOk, IfSome, IsOk, length};
+ghost use Rattle.std.specs.Prelude.{◌≡◌, ◌+◌, ◌-◌, ◌<◌, ◌≤◌, true, false, Some, IfErr, IfOk, IfSome, IsOk, length};
 ghost use Rattle.vm_ids.specs.declared.numbers.NodeId.{NodeId};
 ghost use Rattle.vm_ids.specs.Forest.Reading.{value_of};
 ghost use Rattle.local_cache.specs.Arena.{IsHeld};
 ghost use Rattle.local_cache.specs.Own.{own_of};
 ghost use Rattle.local_cache.specs.Reading.{forest_of, name_of};
-ghost use Rattle.residency.specs.Causes.{HasMissCause, Made, pulls_for, pushes_to_bring};
-ghost use Rattle.residency.specs.Between.{Between};
+ghost use Rattle.residency.specs.Causes.{HasMissCause, Made, dirtied, dirty_count, failed_victims, pulls_for, pushes_to_bring};
+ghost use Rattle.residency.specs.Between.{Across, Between};
 ghost use Rattle.residency.specs.World.{HasUnpinned, HoldsPage, Still, world};
-ghost use Rattle.fault_path.specs.Answers.{Across, IsAnswered, RightForest};
+ghost use Rattle.fault_path.specs.Answers.{IsAnswered, RightForest};
 ghost use Rattle.fault_path.specs.Faults.{IsFound, IsOwner, IsValueFound, SameForest, is_at_hand};
 ghost use Rattle.fault_path.specs.Faults as faults;
 
@@ -27,7 +27,7 @@ fn is_zero(caches: &Caches, node: NodeId) -> bool
 }
 
 /// The frame of the page that a node reads, which is brought in where it is in none. `None` exactly
-/// where that is a zeroed page. After a fault every page is where it was, or in a slot.
+/// where that is a zeroed page. After a fault every page is where it was, or left its frame.
 pub fn read_fault<M: Mapper, C: Chooser>(
     store: &mut Store,
     caches: &mut Caches,
@@ -63,8 +63,14 @@ pub fn read_fault<M: Mapper, C: Chooser>(
     ensures made { (o : NodeId) → IsOwner caches.old node o →
         faults.is_zero (own_of caches.old o) ≡ false → Made
         (pulls_for result (own_of caches.old o))
-        (pushes_to_bring (own_of caches.old o) store.old.frames.held)
+        (dirty_count caches.old + dirtied result (own_of caches.old o)
+        - dirty_count caches.new + failed_victims result)
         (M.counts mapper.old) (M.counts mapper.new) }
+    ensures few { (o : NodeId) → IsOwner caches.old node o →
+        faults.is_zero (own_of caches.old o) ≡ false →
+        dirty_count caches.old + dirtied result (own_of caches.old o)
+        - dirty_count caches.new + failed_victims result
+        ≤ pushes_to_bring (own_of caches.old o) store.old.frames.held }
     ensures cause { IfErr result (HasMissCause (M.counts mapper.old) (M.counts mapper.new)) }
 {
     let owner = owner_of(caches, node);

@@ -10,11 +10,11 @@ ghost use Rattle.local_cache.specs.Arena.{IsHeld};
 ghost use Rattle.local_cache.specs.Own.{own_of};
 ghost use Rattle.local_cache.specs.Reading.{forest_of, name_of};
 ghost use Rattle.residency.specs.Causes.{frames_to_bring};
-ghost use Rattle.residency.specs.Between.{Between};
+ghost use Rattle.residency.specs.Between.{Across, Between};
 ghost use Rattle.residency.specs.World.{HasOwnPage};
-ghost use Rattle.fault_path.specs.Answers.{Across, IsAnswered, IsFramed, IsMissed, RightForest};
+ghost use Rattle.fault_path.specs.Answers.{IsAnswered, IsFramed, IsMissed, RightForest};
 ghost use Rattle.fault_path.specs.Costs.{Takes, TakesAtMost, frames_to_copy, frames_to_save, frames_to_write, heirs_to_save, pulls_to_copy, pulls_to_save, pulls_to_write};
-ghost use Rattle.fault_path.specs.Faults.{Follows, HasLoose, IsHeirOf, IsOwner, StaysHome, readied};
+ghost use Rattle.fault_path.specs.Faults.{Follows, HasLoose, IsHeirOf, IsOwner, MayWrite, StaysHome, readied};
 
 use crate::gathering::{copy_out, double, release};
 use crate::giving::{hand_page, own_page, settle_in};
@@ -25,7 +25,7 @@ use vm_ids::{FrameId, NodeId};
 use vm_port::{Chooser, Mapper};
 
 /// A node without an own page gets the page that it reads as its own, in a frame. After a fault
-/// every page is where it was, or in a slot.
+/// every page is where it was, or left its frame.
 pub fn own<M: Mapper, C: Chooser>(
     store: &mut Store,
     caches: &mut Caches,
@@ -89,7 +89,7 @@ fn own_framed<M: Mapper, C: Chooser>(
 }
 
 /// The heir of a page, where there is one, gets the page as its own, in a frame. After a fault
-/// every page is where it was, or in a slot.
+/// every page is where it was, or left its frame.
 pub fn save<M: Mapper, C: Chooser>(
     store: &mut Store,
     caches: &mut Caches,
@@ -160,8 +160,9 @@ fn hand_over<M: Mapper, C: Chooser>(
 
 /// The page of a node is made ready for a write: the node owns its page, in a frame, which is the
 /// answer, and its heir, where there is one, has the page as it is. The bytes of the frame may be
-/// written then. All frames are gathered before anything changes, so that after a fault every page
-/// is where it was, or in a slot.
+/// written then, and the page is dirty; where it is one of a segment, that was granted before. All
+/// frames are gathered before anything changes, so that after a fault every page is where it was,
+/// or left its frame.
 pub fn write_fault<M: Mapper, C: Chooser>(
     store: &mut Store,
     caches: &mut Caches,
@@ -172,6 +173,7 @@ pub fn write_fault<M: Mapper, C: Chooser>(
     requires right { RightForest M.held M.page_bytes mapper.old caches.old store.old }
     requires node { IsHeld caches.old node }
     requires live { is_live (name_of caches.old node) ≡ true }
+    requires granted { MayWrite caches.old node }
     requires loose { HasLoose 3 store.old.frames }
     requires copies { caches.old.copies + 1 < 2 ^ 63 }
     ensures answered { Across IsAnswered M.held M.page_bytes M.counts
@@ -254,6 +256,7 @@ fn hand_own<M: Mapper, C: Chooser>(
     requires own { HasOwnPage caches.old node }
     requires next { IsHeld caches.old next }
     requires is { IsHeirOf caches.old node next }
+    requires granted { MayWrite caches.old node }
     requires loose { HasLoose 2 store.old.frames }
     requires copies { caches.old.copies < 2 ^ 63 }
     ensures answered { Across IsAnswered M.held M.page_bytes M.counts
@@ -285,6 +288,7 @@ fn bring_dirty<M: Mapper, C: Chooser>(
     requires right { RightForest M.held M.page_bytes mapper.old caches.old store.old }
     requires own { HasOwnPage caches.old node }
     requires none { forest.heir (forest_of caches.old) (name_of caches.old node) ≡ None }
+    requires granted { MayWrite caches.old node }
     requires loose { HasLoose 2 store.old.frames }
     ensures answered { Across IsAnswered M.held M.page_bytes M.counts
         mapper.old caches.old store.old mapper.new caches.new store.new }

@@ -1,3 +1,11 @@
-pub mod EachRecord
+pub mod Accessing
+pub mod Asking
+pub mod Backing
+pub mod Called
+pub mod Opening
+pub mod Pulling
+pub mod Pushing
 pub mod Ready
+pub mod Rising
 pub mod Still
+pub mod Storing

@@ -1,5 +1,6 @@
--- What calls of a manager have in common. Below, `held` and `counts` read a mapper, `state` reads a manager and a record of
--- what a mapper holds, and an answer is that of the command between the manager before and the manager after.
+-- What calls of a manager have in common. Below, `held` and `counts` read a mapper, `state` reads a
+-- manager and a record of what a mapper holds, and an answer is that of the command between the
+-- manager before and the manager after.
 use Rattle.std.specs.Prelude.{◌≡◌, ◌≤◌, ℕ, ◌+◌, ◌*◌, [], Option, Result, Err, IfSome}
 use Rattle.vm_ids.specs.Counting.{MapperCounts, no_counts}
 use Rattle.vm_ids.specs.Held.{Held}
@@ -20,8 +21,8 @@ done_by = answer_by (λ _. Done)
 abbrev pub Fits : Option ℕ → Machine → Type 0
 Fits told m = IfSome told (λ bytes. bytes ≡ m.page_bytes)
 
--- How far a call may raise the number that bounds a manager's counters: a refused call leaves it, any other
--- raises it by at most 8 for each page that it touches and by at most 8 besides.
+-- How far a call may raise the number that bounds a manager's counters: a refused call leaves it,
+-- any other raises it by at most 8 for each page that it touches and by at most 8 besides.
 abbrev pub RaisesMade : Machine → Command → Answer → ℕ → ℕ → Type 0
 RaisesMade m command (Err (Refused r)) before now = now ≡ before
 RaisesMade m command answer before now = now ≤ before + 8 * pages_touched m command + 8

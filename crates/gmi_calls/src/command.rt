@@ -28,7 +28,8 @@ pub fn answer<G: Gmi<M, C>, M: Mapper, C: Chooser>(
     ensures made { RaisesMade (G.machine gmi.old (M.held mapper.old)) command.now result
         (G.made gmi.old) (G.made gmi.new) }
     ensures page { M.page_bytes mapper.new ≡ M.page_bytes mapper.old }
-    // What the next command needs: pages of one size, live pages within their limit, and counters that don't wrap.
+    // What the next command needs: pages of one size, live pages within their limit, and counters
+    // that don't wrap.
     ensures fits { Fits (M.page_bytes mapper.new) (G.machine gmi.new (M.held mapper.new)) }
     ensures live { live_pages (G.machine gmi.new (M.held mapper.new)) ≤ LIVE_PAGES }
     ensures made_little { G.made gmi.new ≤ G.made gmi.old + 24 * LIVE_PAGES + 8 }
@@ -58,6 +59,7 @@ fn call<G: Gmi<M, C>, M: Mapper, C: Chooser>(
     match command {
         Command::MakeActor => Ok(Reply::Actor(gmi.make_actor()?)),
         Command::MakeTemp(pages) => Ok(Reply::Cache(gmi.make_temp(*pages)?)),
+        Command::OpenSegment(seg) => Ok(Reply::Cache(gmi.open_segment(*seg, mapper)?)),
         Command::Destroy(cache) => {
             gmi.destroy(*cache, mapper, chooser)?;
             Ok(Reply::Done)
@@ -81,6 +83,18 @@ fn call<G: Gmi<M, C>, M: Mapper, C: Chooser>(
         }
         Command::Store(actor, address, piece) => {
             gmi.store(*actor, *address, piece, mapper, chooser)?;
+            Ok(Reply::Done)
+        }
+        Command::Sync(extent) => {
+            gmi.sync(*extent, mapper, chooser)?;
+            Ok(Reply::Done)
+        }
+        Command::Flush(extent) => {
+            gmi.flush(*extent, mapper, chooser)?;
+            Ok(Reply::Done)
+        }
+        Command::Invalidate(extent) => {
+            gmi.invalidate(*extent, mapper, chooser)?;
             Ok(Reply::Done)
         }
         Command::PageOut(count) => {

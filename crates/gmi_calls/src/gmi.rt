@@ -8,34 +8,37 @@ ghost use Rattle.vm_model.specs.Run.{state_of};
 ghost use Rattle.gmi_calls.specs.Calling.{Answers, Calls, Fits, Numbers, RaisesMade, StaysValid, done_by};
 
 use vm_ids::{
-    ActorId, CacheId, ChainList, Command, Counts, Mapping, PageNo, Piece, RegionId, Reply, Span,
-    Trouble,
+    ActorId, CacheId, ChainList, Command, Counts, Extent, Mapping, PageNo, Piece, RegionId, Reply,
+    SegId, Span, Trouble,
 };
 use vm_port::{Chooser, Mapper};
 
 /// A memory manager.
 ///
-/// Each call gives the answer of the machine that the manager stands for, or a mapper fault that has a cause, or want
-/// of memory; after a refusal, a fault or want of memory that machine is as before. Where the mapper tells what it
-/// holds, machine and answers are said byte by byte; where it doesn't, the same is said of a machine without bytes. The
-/// page forest, where the manager tells it, follows each answer by the command's rule. A call that takes no mapper keeps
-/// this for every record for which the manager is valid, pushes nothing and raises no count.
+/// Each call gives the answer of the machine that the manager stands for, or a mapper fault that
+/// has a cause, or want of memory; after a refusal, a fault or want of memory that machine is as
+/// before. Where the mapper tells what it holds, machine and answers are said byte by byte; where
+/// it doesn't, the same is said of a machine without bytes. The page forest, where the manager
+/// tells it, follows each answer by the command's rule. A call that takes no mapper keeps this for
+/// every record for which the manager is valid, pushes nothing and raises no count.
 pub trait Gmi<M: Mapper, C: Chooser> {
     /// The machine that the manager stands for, given what the mapper holds, where that is told.
     ghost machine: { Self → Option Held → Machine };
 
-    /// The page forest that the manager keeps, where it tells one; without the bytes of its pages where the mapper doesn't
-    /// tell what it holds. Where a manager tells none, chains and counts are those of the plain forest of its machine.
+    /// The page forest that the manager keeps, where it tells one; without the bytes of its pages
+    /// where the mapper doesn't tell what it holds. Where a manager tells none, chains and counts
+    /// are those of the plain forest of its machine.
     ghost forest: { Self → Option Held → Option PageForest };
 
     /// What each call needs, and keeps.
     ghost valid: { Self → Option Held → Type 0 };
 
-    /// A number by which a manager bounds its counters, as those of the working nodes made and of the pages copied, so
-    /// that none of them wraps.
+    /// A number by which a manager bounds its counters, as those of the working nodes made and of
+    /// the pages copied, so that none of them wraps.
     ghost made: { Self → ℕ };
 
-    /// Makes an actor without regions. Refused as `TooMany` exactly where 256 actors are alive or 65,535 were made.
+    /// Makes an actor without regions. Refused as `TooMany` exactly where 256 actors are alive or
+    /// 65,535 were made.
     fn make_actor(&mut self) -> Result<ActorId, Trouble>
         requires valid { (h : Option Held) × valid self.old h }
         requires made { made self.old ≤ 2 ^ 62 }
@@ -45,8 +48,8 @@ pub trait Gmi<M: Mapper, C: Chooser> {
         ensures made { Numbers valid machine made self.old
             Command.MakeActor (answer_by Reply.Actor result) self.new };
 
-    /// Makes a temporary cache of so many zero pages. Refused as `TooMany` exactly where 65,535 caches were made or
-    /// the live pages would be too many.
+    /// Makes a temporary cache of so many zero pages. Refused as `TooMany` exactly where 65,535
+    /// caches were made or the live pages would be too many.
     fn make_temp(&mut self, pages: u32) -> Result<CacheId, Trouble>
         requires some { 1 ≤ pages }
         requires valid { (h : Option Held) × valid self.old h }
@@ -57,7 +60,24 @@ pub trait Gmi<M: Mapper, C: Chooser> {
         ensures made { Numbers valid machine made self.old
             (Command.MakeTemp pages) (answer_by Reply.Cache result) self.new };
 
-    /// Takes a cache away, with all its pages. Refused as `NoCache` or `InUse`, in this order.
+    /// Makes a cache that a segment names, with the segment's pages: the one local cache of the
+    /// segment, through which it is read and written as memory. Refused as `SegmentInUse`,
+    /// `TooMany` where 65,535 caches were made, `NoSegment`, or `TooMany` where the live pages
+    /// would be too many, in this order.
+    fn open_segment(&mut self, seg: SegId, mapper: &mut M) -> Result<CacheId, Trouble>
+        requires valid { valid self.old (M.held mapper.old) }
+        requires made { made self.old ≤ 2 ^ 62 }
+        requires fits { Fits (M.page_bytes mapper.old) (machine self.old (M.held mapper.old)) }
+        ensures valid { valid self.new (M.held mapper.new) }
+        ensures answers { Calls M.counts M.held (state_of machine forest) mapper.old self.old
+            (Command.OpenSegment seg) (answer_by Reply.Cache result) mapper.new self.new }
+        ensures made { RaisesMade (machine self.old (M.held mapper.old))
+            (Command.OpenSegment seg) (answer_by Reply.Cache result)
+            (made self.old) (made self.new) }
+        ensures page { M.page_bytes mapper.new ≡ M.page_bytes mapper.old };
+
+    /// Takes a cache away, with all its pages. Where a segment names it, what the segment doesn't
+    /// hold yet is pushed to it first. Refused as `NoCache` or `InUse`, in this order.
     fn destroy(&mut self, cache: CacheId, mapper: &mut M, chooser: &mut C) -> Result<(), Trouble>
         requires valid { valid self.old (M.held mapper.old) }
         requires made { made self.old ≤ 2 ^ 62 }
@@ -69,8 +89,8 @@ pub trait Gmi<M: Mapper, C: Chooser> {
             (Command.Destroy cache) (done_by result) (made self.old) (made self.new) }
         ensures page { M.page_bytes mapper.new ≡ M.page_bytes mapper.old };
 
-    /// Copies pages from one place to another, all at once. Refused as `NoCache`, `OutOfCache`, `Overlap`, `Locked` or
-    /// `WriteDenied`, in this order.
+    /// Copies pages from one place to another, all at once. Refused as `NoCache`, `OutOfCache`,
+    /// `Overlap`, `Locked` or `WriteDenied`, in this order.
     fn copy_pages(&mut self, span: Span, mapper: &mut M, chooser: &mut C) -> Result<(), Trouble>
         requires some { 1 ≤ span.pages }
         requires valid { valid self.old (M.held mapper.old) }
@@ -83,8 +103,8 @@ pub trait Gmi<M: Mapper, C: Chooser> {
             (Command.Copy span) (done_by result) (made self.old) (made self.new) }
         ensures page { M.page_bytes mapper.new ≡ M.page_bytes mapper.old };
 
-    /// Moves pages from one place to another; zeros are left where they were. Refused as `NoCache`, `OutOfCache`, `NotTemp`,
-    /// `Overlap`, `Locked` or `WriteDenied`, in this order.
+    /// Moves pages from one place to another; zeros are left where they were. Refused as `NoCache`,
+    /// `OutOfCache`, `NotTemp`, `Overlap`, `Locked` or `WriteDenied`, in this order.
     fn move_pages(&mut self, span: Span, mapper: &mut M, chooser: &mut C) -> Result<(), Trouble>
         requires some { 1 ≤ span.pages }
         requires valid { valid self.old (M.held mapper.old) }
@@ -97,8 +117,8 @@ pub trait Gmi<M: Mapper, C: Chooser> {
             (Command.Move span) (done_by result) (made self.old) (made self.new) }
         ensures page { M.page_bytes mapper.new ≡ M.page_bytes mapper.old };
 
-    /// Maps pages of a cache into an actor. Refused as `NoActor`, `NoCache`, `Unaligned`, `BadAddress`, `OutOfCache`,
-    /// `Overlap` or `TooMany`, in this order.
+    /// Maps pages of a cache into an actor. Refused as `NoActor`, `NoCache`, `Unaligned`,
+    /// `BadAddress`, `OutOfCache`, `Overlap` or `TooMany`, in this order.
     fn map(&mut self, actor: ActorId, mapping: Mapping) -> Result<RegionId, Trouble>
         requires some { 1 ≤ mapping.extent.pages }
         requires valid { (h : Option Held) × valid self.old h }
@@ -119,8 +139,8 @@ pub trait Gmi<M: Mapper, C: Chooser> {
         ensures made { Numbers valid machine made self.old
             (Command.Unmap region) (done_by result) self.new };
 
-    /// Loads so many bytes, 1 to 64, at an address of an actor. Refused as `NoActor`, `Crosses` or `BadAddress`, in
-    /// this order.
+    /// Loads so many bytes, 1 to 64, at an address of an actor. Refused as `NoActor`, `Crosses` or
+    /// `BadAddress`, in this order.
     fn load(
         &mut self,
         actor: ActorId,
@@ -143,8 +163,8 @@ pub trait Gmi<M: Mapper, C: Chooser> {
             (made self.old) (made self.new) }
         ensures page { M.page_bytes mapper.new ≡ M.page_bytes mapper.old };
 
-    /// Stores bytes at an address of an actor. Refused as `NoActor`, `Crosses`, `BadAddress`, `Protection` or
-    /// `WriteDenied`, in this order.
+    /// Stores bytes at an address of an actor. Refused as `NoActor`, `Crosses`, `BadAddress`,
+    /// `Protection` or `WriteDenied`, in this order.
     fn store(
         &mut self,
         actor: ActorId,
@@ -164,6 +184,51 @@ pub trait Gmi<M: Mapper, C: Chooser> {
             (made self.old) (made self.new) }
         ensures page { M.page_bytes mapper.new ≡ M.page_bytes mapper.old };
 
+    /// Pushes those of these pages to the segment that it doesn't hold yet, and keeps them. Refused
+    /// as `NoCache`, `NotNamed` or `OutOfCache`, in this order. After the fault `Page` the pages
+    /// before that one are pushed. With `flush` and `invalidate` it is how the keeper of a segment
+    /// rules over what the segment's cache holds (Abrossimov, Rozier and Shapiro).
+    fn sync(&mut self, extent: Extent, mapper: &mut M, chooser: &mut C) -> Result<(), Trouble>
+        requires some { 1 ≤ extent.pages }
+        requires valid { valid self.old (M.held mapper.old) }
+        requires made { made self.old ≤ 2 ^ 62 }
+        requires fits { Fits (M.page_bytes mapper.old) (machine self.old (M.held mapper.old)) }
+        ensures valid { valid self.new (M.held mapper.new) }
+        ensures answers { Calls M.counts M.held (state_of machine forest) mapper.old self.old
+            (Command.Sync extent) (done_by result) mapper.new self.new }
+        ensures made { RaisesMade (machine self.old (M.held mapper.old))
+            (Command.Sync extent) (done_by result) (made self.old) (made self.new) }
+        ensures page { M.page_bytes mapper.new ≡ M.page_bytes mapper.old };
+
+    /// The same, and gives back the page frames of these pages. Refused as `NoCache`, `NotNamed`,
+    /// `OutOfCache` or `Locked`, in this order.
+    fn flush(&mut self, extent: Extent, mapper: &mut M, chooser: &mut C) -> Result<(), Trouble>
+        requires some { 1 ≤ extent.pages }
+        requires valid { valid self.old (M.held mapper.old) }
+        requires made { made self.old ≤ 2 ^ 62 }
+        requires fits { Fits (M.page_bytes mapper.old) (machine self.old (M.held mapper.old)) }
+        ensures valid { valid self.new (M.held mapper.new) }
+        ensures answers { Calls M.counts M.held (state_of machine forest) mapper.old self.old
+            (Command.Flush extent) (done_by result) mapper.new self.new }
+        ensures made { RaisesMade (machine self.old (M.held mapper.old))
+            (Command.Flush extent) (done_by result) (made self.old) (made self.new) }
+        ensures page { M.page_bytes mapper.new ≡ M.page_bytes mapper.old };
+
+    /// Takes these pages from the segment again; what was not pushed to it is lost, but for copies,
+    /// which keep what they read. Refused as `NoCache`, `NotNamed`, `OutOfCache` or `Locked`, in
+    /// this order.
+    fn invalidate(&mut self, extent: Extent, mapper: &mut M, chooser: &mut C) -> Result<(), Trouble>
+        requires some { 1 ≤ extent.pages }
+        requires valid { valid self.old (M.held mapper.old) }
+        requires made { made self.old ≤ 2 ^ 62 }
+        requires fits { Fits (M.page_bytes mapper.old) (machine self.old (M.held mapper.old)) }
+        ensures valid { valid self.new (M.held mapper.new) }
+        ensures answers { Calls M.counts M.held (state_of machine forest) mapper.old self.old
+            (Command.Invalidate extent) (done_by result) mapper.new self.new }
+        ensures made { RaisesMade (machine self.old (M.held mapper.old))
+            (Command.Invalidate extent) (done_by result) (made self.old) (made self.new) }
+        ensures page { M.page_bytes mapper.new ≡ M.page_bytes mapper.old };
+
     /// Evicts so many page frames, or as many as can be.
     fn page_out(&mut self, count: u32, mapper: &mut M, chooser: &mut C) -> Result<(), Trouble>
         requires some { 1 ≤ count }
@@ -177,7 +242,8 @@ pub trait Gmi<M: Mapper, C: Chooser> {
             (Command.PageOut count) (done_by result) (made self.old) (made self.new) }
         ensures page { M.page_bytes mapper.new ≡ M.page_bytes mapper.old };
 
-    /// The nodes from that of a page up to the one that has its bytes. Refused as `NoCache` or `OutOfCache`, in this order.
+    /// The nodes from that of a page up to the one that has its bytes. Refused as `NoCache` or
+    /// `OutOfCache`, in this order.
     fn chain(&self, cache: CacheId, page: PageNo) -> Result<ChainList, Trouble>
         ensures answers { Answers valid (state_of machine forest) self.now
             (Command.Chain cache page) (answer_by Reply.Chain result) self.now };

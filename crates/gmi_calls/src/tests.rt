@@ -9,11 +9,11 @@ use crate::{Gmi, answer};
 use std::process::Abort;
 use std::test::Fail;
 use vm_ids::{
-    ActorId, Answer, CacheId, Command, Counts, Extent, Mapping, PageNo, Piece, Prot, Refusal,
-    RegionId, Reply, Span, Trouble,
+    ActorId, Answer, CacheId, Command, Counts, Extent, FaultAt, Mapping, PageNo, Piece, Prot,
+    Refusal, RegionId, Reply, SegId, Span, Trouble,
 };
 use vm_model::EagerMachine;
-use vm_port::{Chooser, Fifo, Mapper, MemoryMapper};
+use vm_port::{CallKind, CallNo, Chooser, Fifo, Mapper, MemoryMapper};
 
 // What an answer comes to.
 #[derive(Clone, Copy, Debug, PartialEq, Eq)]
@@ -27,6 +27,7 @@ enum Shown {
     Chain(usize),
     Stat(Counts),
     Refused(Refusal),
+    Fault(FaultAt),
     Other,
 }
 
@@ -38,6 +39,7 @@ fn seen(answer: Answer) -> Shown {
         Ok(Reply::Region(RegionId(n))) => Shown::Region(n),
         Ok(Reply::Bytes(piece)) => two(piece.as_slice()),
         Err(Trouble::Refused(refusal)) => Shown::Refused(refusal),
+        Err(Trouble::Mapper(at)) => Shown::Fault(at),
         Ok(Reply::Chain(chain)) => Shown::Chain(chain.as_slice().len()),
         Ok(Reply::Stat(counts)) => Shown::Stat(counts),
         Err(_) => Shown::Other,
@@ -247,6 +249,169 @@ fn caches_and_regions_go(rt: HostRuntime) -> Result<(), Fail> {
             working: 0,
             copies: 0
         })
+    );
+    Ok(())
+}
+
+// Some pages of a cache, from page 0 on.
+fn extent(cache: u32, pages: u32) -> Extent
+    requires { 1 ≤ pages }
+    ensures { 1 ≤ result.pages }
+{
+    Extent {
+        cache: CacheId(cache),
+        first: PageNo(0),
+        pages,
+    }
+}
+
+// A segment, and what becomes of it: what is stored to its cache goes to it by a sync or a flush,
+// and is lost by an invalidation.
+#[test]
+fn segments_are_opened_pushed_and_taken_again(rt: HostRuntime) -> Result<(), Fail> {
+    let segment = Vec::from_slice(rt.alloc(), &[0x41, 0x42])?;
+    let mut gmi = EagerMachine::new(rt.alloc(), 3, 4096);
+    let mut mapper = MemoryMapper::new(rt.alloc(), &[segment], &[], 0, &[], 4096)?;
+    let (mapper, chooser) = (&mut mapper, &mut Fifo::new());
+    assert_eq!(rt;
+        seen(answer(&mut gmi, &Command::MakeActor, mapper, chooser)),
+        Shown::Actor(1)
+    );
+    assert_eq!(rt;
+        seen(answer(&mut gmi, &Command::OpenSegment(SegId(9)), mapper, chooser)),
+        Shown::Refused(Refusal::NoSegment)
+    );
+    assert_eq!(rt;
+        seen(answer(&mut gmi, &Command::OpenSegment(SegId(1)), mapper, chooser)),
+        Shown::Cache(1)
+    );
+    assert_eq!(rt;
+        seen(answer(&mut gmi, &Command::OpenSegment(SegId(1)), mapper, chooser)),
+        Shown::Refused(Refusal::SegmentInUse)
+    );
+    assert_eq!(rt;
+        seen(answer(&mut gmi, &map(0, 0x10000, true), mapper, chooser)),
+        Shown::Region(1)
+    );
+    assert_eq!(rt;
+        seen(answer(&mut gmi, &store(0x10000)?, mapper, chooser)),
+        Shown::Done
+    );
+    assert_eq!(rt;
+        seen(answer(
+            &mut gmi,
+            &Command::Invalidate(extent(1, 1)),
+            mapper,
+            chooser
+        )),
+        Shown::Done
+    );
+    assert_eq!(rt;
+        seen(answer(&mut gmi, &load(1, 0x10000), mapper, chooser)),
+        Shown::Two(0x41, 0x42)
+    );
+    assert_eq!(rt;
+        seen(answer(&mut gmi, &store(0x10000)?, mapper, chooser)),
+        Shown::Done
+    );
+    assert_eq!(rt;
+        seen(answer(&mut gmi, &Command::Sync(extent(1, 1)), mapper, chooser)),
+        Shown::Done
+    );
+    assert_eq!(rt;
+        seen(answer(&mut gmi, &Command::Flush(extent(1, 2)), mapper, chooser)),
+        Shown::Refused(Refusal::OutOfCache)
+    );
+    assert_eq!(rt;
+        seen(answer(
+            &mut gmi,
+            &Command::Invalidate(extent(1, 1)),
+            mapper,
+            chooser
+        )),
+        Shown::Done
+    );
+    assert_eq!(rt;
+        seen(answer(&mut gmi, &load(1, 0x10000), mapper, chooser)),
+        Shown::Two(0x0a, 0x0b)
+    );
+    Ok(())
+}
+
+// A page that the mapper denies isn't written, and each kind of call that fails is told.
+#[test]
+fn denied_pages_and_faults_are_told(rt: HostRuntime) -> Result<(), Fail> {
+    let segment = Vec::from_slice(rt.alloc(), &[0x41, 0x42])?;
+    let denied = [(SegId(1), PageNo(0))];
+    let fails = [
+        CallNo {
+            kind: CallKind::Size,
+            nth: 1,
+        },
+        CallNo {
+            kind: CallKind::PullIn,
+            nth: 1,
+        },
+        CallNo {
+            kind: CallKind::PullIn,
+            nth: 3,
+        },
+        CallNo {
+            kind: CallKind::Access,
+            nth: 2,
+        },
+        CallNo {
+            kind: CallKind::Access,
+            nth: 3,
+        },
+    ];
+    let mut gmi = EagerMachine::new(rt.alloc(), 3, 4096);
+    let mut mapper = MemoryMapper::new(rt.alloc(), &[segment], &denied, 0, &fails, 4096)?;
+    let (mapper, chooser) = (&mut mapper, &mut Fifo::new());
+    assert_eq!(rt;
+        seen(answer(&mut gmi, &Command::MakeActor, mapper, chooser)),
+        Shown::Actor(1)
+    );
+    assert_eq!(rt;
+        seen(answer(&mut gmi, &Command::OpenSegment(SegId(1)), mapper, chooser)),
+        Shown::Fault(FaultAt::Opening)
+    );
+    assert_eq!(rt;
+        seen(answer(&mut gmi, &Command::OpenSegment(SegId(1)), mapper, chooser)),
+        Shown::Fault(FaultAt::Opening)
+    );
+    assert_eq!(rt;
+        seen(answer(&mut gmi, &Command::OpenSegment(SegId(1)), mapper, chooser)),
+        Shown::Cache(1)
+    );
+    assert_eq!(rt;
+        seen(answer(&mut gmi, &map(0, 0x10000, true), mapper, chooser)),
+        Shown::Region(1)
+    );
+    assert_eq!(rt;
+        seen(answer(&mut gmi, &store(0x10000)?, mapper, chooser)),
+        Shown::Refused(Refusal::WriteDenied)
+    );
+    assert_eq!(rt;
+        seen(answer(&mut gmi, &store(0x10000)?, mapper, chooser)),
+        Shown::Fault(FaultAt::Access(PageNo(0)))
+    );
+    assert_eq!(rt;
+        seen(answer(&mut gmi, &Command::Sync(extent(1, 1)), mapper, chooser)),
+        Shown::Fault(FaultAt::Page(PageNo(0)))
+    );
+    assert_eq!(rt;
+        seen(answer(
+            &mut gmi,
+            &Command::Invalidate(extent(1, 1)),
+            mapper,
+            chooser
+        )),
+        Shown::Fault(FaultAt::Save(0))
+    );
+    assert_eq!(rt;
+        seen(answer(&mut gmi, &load(1, 0x10000), mapper, chooser)),
+        Shown::Two(0x41, 0x42)
     );
     Ok(())
 }

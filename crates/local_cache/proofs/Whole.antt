@@ -6,3 +6,5 @@ pub mod Pages
 pub mod Commands
 -- Caches without nodes.
 pub mod Empty
+-- The caches stay whole where nodes keep their numbers and names.
+pub mod Like

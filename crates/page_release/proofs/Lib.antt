@@ -1,20 +1,14 @@
-pub mod Copied
-pub mod Counting
-pub mod Detach
-pub mod Dropped
-pub mod Follow
-pub mod Followed
-pub mod FreshPage
-pub mod Grown
-pub mod Loops
-pub mod Merged
-pub mod MoveOne
-pub mod Ranges
-pub mod Renamed
-pub mod Retiring
-pub mod Sized
-pub mod Stepped
-pub mod StoreShape
-pub mod Tied
+-- A store that is tied to its caches.
+pub mod Tying
+-- A node goes, or loses its own page, and the store follows.
+pub mod Leaving
+-- A fresh node is linked to its source, and the store is as it was.
+pub mod Linking
+-- A node takes the name of a page that has none, and the store follows.
+pub mod Coming
+-- Own pages give way to pages of zeros, and the store follows.
+pub mod Forgotten
+-- What is carried through the steps of a command.
+pub mod Walking
+-- What the tests know of their pages.
 mod Tried
-pub mod Wholly

@@ -1,5 +1,5 @@
 -- What a step keeps of a store that gives frames and slots back and takes none.
-use Rattle.std.specs.Prelude.{◌≡◌, ◌≢◌, ℕ, Bool, true, false, List, length, Option, Some, None, option_map}
+use Rattle.std.specs.Prelude.{◌≡◌, ◌≢◌, ℕ, Bool, true, false, if◌then◌else◌, List, length, map, Option, Some, None, is_some, option_map}
 use Rattle.vm_ids.specs.Held.{Held}
 use Rattle.vm_ids.specs.declared.node_name.NodeName.{NodeName}
 use Rattle.vm_ids.specs.declared.numbers.NodeId.{NodeId}
@@ -9,19 +9,26 @@ use Rattle.global_map.specs.Pairs.{node_of}
 use Rattle.local_cache.specs.declared.own_state.OwnState.{OwnState}
 use Rattle.local_cache.specs.declared.own_state.OwnState.TheVariants.{Absent, Zero, Resident, Slot, OnSegment}
 use Rattle.local_cache.specs.Arena.{Arena}
+use Rattle.local_cache.specs.Home.{home_named}
 use Rattle.local_cache.specs.Reading.{name_of}
+use Rattle.local_cache.specs.Sound.{IsSound}
+use Rattle.local_cache.specs.Whole.{SameCaches}
 use Rattle.residency.specs.declared.store.Store.{Store}
+use Rattle.vm_ids.specs.Forest.Forgetting.{forgotten}
+use Rattle.vm_ids.specs.Forest.Nodes.{Forest}
 use Rattle.vm_ids.specs.Forest.Settling.{settle_step}
 use Rattle.tree_merge.specs.declared.released.Released.{Released}
 use Rattle.tree_merge.specs.Releasing.{IsMerged}
 use Rattle.residency.specs.StoreForest.{store_forest}
 use Rattle.residency.specs.World.{IsStoreRight, IsTied, PinnedStays, World, is_slot_held, page_by, world, zero_page}
+use Rattle.page_release.specs.Homes.{KeepsHomes, named_page}
 
 -- the store is tied to its caches, whatever a mapper holds
 abbrev pub IsStoreTied : Store → Arena → Type 0
 IsStoreTied s a = IsTied (world None None a s)
 
--- From old to new frames and slots fell free, and none was taken. Each frame has its bytes, and a pinned one its node.
+-- From old to new frames and slots fell free, and none was taken. Each frame has its bytes, and a
+-- pinned one its node.
 pub record GivesBack (old new : World) : Type 0 where
   pub tied : IsTied new
   pub held : (f : ℕ) → is_held new.frames f ≡ true → is_held old.frames f ≡ true
@@ -33,7 +40,8 @@ pub record GivesBack (old new : World) : Type 0 where
   pub frames : length new.frames.held ≡ length old.frames.held
   pub page : new.frames.page ≡ old.frames.page
 
--- Whatever a mapper holds for which the store was tied to its caches, this holds from before to after.
+-- Whatever a mapper holds for which the store was tied to its caches, this holds from before to
+-- after.
 abbrev pub ForAnyMapper : Store → Arena → Store → Arena → (World → World → Type 0) → Type 0
 ForAnyMapper s a t b holds = (told : Option Held) (size : Option ℕ) → IsTied (world told size a s)
     → holds (world told size a s) (world told size b t)
@@ -52,6 +60,18 @@ abbrev pub PinnedStayNamed : Store → Arena → Arena → Type 0
 PinnedStayNamed s a b = (f : ℕ) (n : NodeId) → is_pinned s.frames f ≡ true
     → node_of s.map f ≡ Some n → name_of b n ≡ name_of a n
 
+-- Frames and slots fell free, whatever the mapper holds, and none was taken. Nodes of pinned frames
+-- keep their names, and caches their sizes and segments. No page of a segment became one that its
+-- segment holds, or ceased to be one, but for the pages of the list.
+pub record Kept (names : List NodeName) (s : Store) (a : Arena) (t : Store) (b : Arena)
+    : Type 0 where
+  pub gives_back : ForAnyMapper s a t b GivesBack
+  pub sound : IsSound b
+  pub tied : IsStoreTied t b
+  pub pinned : PinnedStayNamed s a b
+  pub sizes : SameCaches a b
+  pub homes : KeepsHomes names a b
+
 -- One step of settle was done, in the nodes and in the store.
 pub record IsSettleStep (s : Store) (a : Arena) (t : Store) (b : Arena) : Type 0 where
   pub released : Released
@@ -59,23 +79,36 @@ pub record IsSettleStep (s : Store) (a : Arena) (t : Store) (b : Arena) : Type 0
   pub forest : ForAnyMapper s a t b
       (λ old new. store_forest new ≡ settle_step (store_forest old) (name_of a merged.node))
 
--- a page that is in no frame, no slot and on no segment: none at all, or zeros
-abbrev pub is_unstored : OwnState → Bool
-is_unstored Absent = true
-is_unstored Zero = true
-is_unstored (Resident dirty) = false
-is_unstored (Slot s) = false
-is_unstored OnSegment = false
-
--- the own page of a fresh node that has it in no frame and in no slot
-abbrev pub fresh_page : World → OwnState → Option (Option (List ℕ))
-fresh_page w state = page_by (option_map (λ _. zero_page w) w.told) None (λ slot. None) None state
-
 -- a page of zeros, where the mapper tells what pages hold
 abbrev pub zeros_told : World → Option (List ℕ)
 zeros_told w = option_map (λ _. zero_page w) w.told
+
+-- Where the own page of a fresh node of this name may be: in no frame and in no slot, and on its
+-- segment where it has one.
+abbrev pub is_fresh : Arena → NodeName → OwnState → Bool
+is_fresh a x Absent = true
+is_fresh a x Zero = true
+is_fresh a x (Resident dirty) = false
+is_fresh a x (Slot s) = false
+is_fresh a x OnSegment = is_some (home_named a.caches x)
+
+-- the own page of such a node
+abbrev pub fresh_page : World → NodeName → OwnState → Option (Option (List ℕ))
+fresh_page w x state = page_by (zeros_told w) None (λ slot. None) (named_page w x) state
 
 -- a store that was right is right still, whatever the mapper holds
 abbrev pub StaysRight : Store → Arena → Store → Arena → Type 0
 StaysRight s a t b = (told : Option Held) (size : Option ℕ) → IsStoreRight (world told size a s)
     → IsStoreRight (world told size b t)
+
+-- these pages forgotten, where their cache is named
+abbrev pub forgotten_where : {P : Type 0} → Bool → List NodeName → P → Forest P → Forest P
+forgotten_where named names p f = if named then forgotten names p f else f
+
+-- each of these pages with the state of one that is on its segment
+abbrev pub on_segment : List NodeName → List (NodeName × OwnState)
+on_segment names = map (λ x. (x, OnSegment)) names
+
+-- each of these pages with the one that its segment holds
+abbrev pub segment_pages : World → List NodeName → List (NodeName × Option (List ℕ))
+segment_pages w names = map (λ x. (x, named_page w x)) names

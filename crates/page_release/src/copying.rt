@@ -1,5 +1,5 @@
 // The pages of a copy, and the store follows.
-ghost use Rattle.std.specs.Prelude.{◌≡◌, ℕ, ◌+◌, ◌*◌, ◌<◌, ◌≤◌, ◌^◌, false, leb, length};
+ghost use Rattle.std.specs.Prelude.{◌≡◌, ℕ, ◌+◌, ◌*◌, ◌<◌, ◌≤◌, ◌^◌, false, [], leb, length};
 ghost use Rattle.vm_ids.specs.declared.node_name.NodeName.{NodeName};
 ghost use Rattle.vm_ids.specs.Forest.Commands.{copy as rule_copy, copy_pages as rule_copy_pages, firsts, small_copy, span_pairs};
 ghost use Rattle.vm_ids.specs.Forest.NameLists.{◌∈◌};
@@ -14,9 +14,11 @@ ghost use Rattle.vm_ids.specs.Forest.Reading.{live_count};
 ghost use Rattle.local_cache.specs.Reading.{forest_of};
 ghost use Rattle.local_cache.specs.Sound.{IsSound};
 ghost use Rattle.residency.specs.StoreForest.{store_forest};
-ghost use Rattle.local_cache.specs.Whole.{IsWhole, SameCaches};
-ghost use Rattle.page_release.specs.Steps.{ForAnyMapper, GivesBack, IsStoreTied, IsUnpinned, IsWorkingUnpinned, PinnedStayNamed, StaysRight};
+ghost use Rattle.local_cache.specs.Whole.{IsWhole};
+ghost use Rattle.page_release.specs.Homes.{AreSaved, IsUnclean, IsWritable};
+ghost use Rattle.page_release.specs.Steps.{ForAnyMapper, IsStoreTied, IsUnpinned, IsWorkingUnpinned, Kept, StaysRight};
 
+use crate::forgetting::forget_named;
 use crate::settling::settle;
 use crate::steps::detach_page;
 use history_tree::link;
@@ -41,6 +43,7 @@ fn copy_page(
     requires pages { ArePages (forest_of caches.old) (NodeName.Live to to_page)
         (NodeName.Live from from_page) }
     requires unpinned { IsUnpinned store.old caches.old (NodeName.Live to to_page) }
+    requires unclean { IsUnclean caches.old (NodeName.Live to to_page) }
     requires room { 2 ≤ caches.old.room.nodes }
     requires made { caches.old.made + 1 < 2 ^ 63 }
     requires few { len (forest_of caches.old).nodes + 1 < 2 ^ 32 }
@@ -49,11 +52,7 @@ fn copy_page(
     ensures forest { ForAnyMapper store.old caches.old store.new caches.new
         (λ old new. store_forest new ≡ forest.copy_page is_small (store_forest old)
         (NodeName.Live to to_page) (NodeName.Live from from_page)) }
-    ensures gives_back { ForAnyMapper store.old caches.old store.new caches.new GivesBack }
-    ensures sound { IsSound caches.new }
-    ensures tied { IsStoreTied store.new caches.new }
-    ensures pinned { PinnedStayNamed store.old caches.old caches.new }
-    ensures sizes { SameCaches caches.old caches.new }
+    ensures kept { Kept [] store.old caches.old store.new caches.new }
     ensures room { caches.old.room.nodes ≤ caches.new.room.nodes + 2 }
 {
     detach_page(store, caches, to, to_page, OwnState::Absent);
@@ -73,6 +72,7 @@ fn copy_each(store: &mut Store, caches: &mut Caches, span: Span)
     requires can { CanCopy (forest_of caches.old) (span_pairs span) }
     requires unpinned { (x : NodeName) → x ∈ firsts (span_pairs span)
         → IsUnpinned store.old caches.old x }
+    requires unclean { (x : NodeName) → x ∈ firsts (span_pairs span) → IsUnclean caches.old x }
     requires room { 2 * span.pages ≤ caches.old.room.nodes }
     requires made { caches.old.made + 2 * span.pages < 2 ^ 63 }
     requires few { len (forest_of caches.old).nodes + 2 * span.pages < 2 ^ 32 }
@@ -83,14 +83,10 @@ fn copy_each(store: &mut Store, caches: &mut Caches, span: Span)
     ensures forest { ForAnyMapper store.old caches.old store.new caches.new
         (λ old new. store_forest new ≡ rule_copy_pages (leb span.pages small_copy) (span_pairs span)
         (store_forest old)) }
-    ensures gives_back { ForAnyMapper store.old caches.old store.new caches.new GivesBack }
-    ensures sound { IsSound caches.new }
-    ensures tied { IsStoreTied store.new caches.new }
-    ensures pinned { PinnedStayNamed store.old caches.old caches.new }
+    ensures kept { Kept [] store.old caches.old store.new caches.new }
     ensures consistent { IsConsistent (forest_of caches.new) }
     ensures stays { (x : NodeName) → IsNode (forest_of caches.old) x
         → IsNode (forest_of caches.new) x }
-    ensures sizes { SameCaches caches.old caches.new }
     ensures made { caches.new.made ≤ caches.old.made + 2 * span.pages }
     ensures room { caches.old.room.nodes ≤ caches.new.room.nodes + 2 * span.pages }
     ensures few { len (forest_of caches.new).nodes
@@ -111,13 +107,16 @@ fn copy_each(store: &mut Store, caches: &mut Caches, span: Span)
 }
 
 /// Each page of the destination, none of which is pinned, becomes a copy of its source: by stub links where they are few,
-/// and else by tree links. No page is copied, and none is brought in.
+/// and else by tree links. No page is copied, and none is brought in. Where the destination is named by a segment, each of
+/// its pages was granted, and its heirs have their saves: what it has is forgotten first.
 pub fn copy_pages(store: &mut Store, caches: &mut Caches, span: Span)
     requires tied { IsStoreTied store.old caches.old }
     requires whole { IsWhole caches.old }
     requires can { CanCopy (forest_of caches.old) (span_pairs span) }
     requires unpinned { (x : NodeName) → x ∈ firsts (span_pairs span)
         → IsUnpinned store.old caches.old x }
+    requires saved { AreSaved caches.old span.to (firsts (span_pairs span)) }
+    requires granted { (x : NodeName) → x ∈ firsts (span_pairs span) → IsWritable caches.old x }
     requires working { IsWorkingUnpinned store.old caches.old }
     requires room { 2 * span.pages ≤ caches.old.room.nodes }
     requires made { caches.old.made + 2 * span.pages < 2 ^ 63 }
@@ -128,20 +127,18 @@ pub fn copy_pages(store: &mut Store, caches: &mut Caches, span: Span)
         (forest_of caches.old) }
     ensures forest { ForAnyMapper store.old caches.old store.new caches.new
         (λ old new. store_forest new ≡ rule_copy false (span_pairs span) (store_forest old)) }
-    ensures gives_back { ForAnyMapper store.old caches.old store.new caches.new GivesBack }
+    ensures kept { Kept (firsts (span_pairs span)) store.old caches.old store.new caches.new }
     ensures whole { IsWhole caches.new }
-    ensures tied { IsStoreTied store.new caches.new }
-    ensures pinned { PinnedStayNamed store.old caches.old caches.new }
     ensures live { live_count (forest_of caches.new) ≡ live_count (forest_of caches.old) }
     ensures right { 2 * live_count (forest_of caches.old) ≤ length store.old.slots
         → StaysRight store.old caches.old store.new caches.new }
     ensures settled { IsSettled (forest_of caches.new) }
     ensures bounded { IsBounded (forest_of caches.new) }
-    ensures sizes { SameCaches caches.old caches.new }
     ensures made { caches.new.made ≤ caches.old.made + 2 * span.pages }
     ensures copies { caches.new.copies ≡ caches.old.copies }
     ensures room { caches.old.room.nodes ≤ caches.new.room.nodes + 2 * span.pages }
 {
+    forget_named(store, caches, span.to, span.to_page, span.pages);
     copy_each(store, caches, span);
     settle(store, caches);
 }

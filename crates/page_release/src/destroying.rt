@@ -1,7 +1,9 @@
 // The pages of a cache go, and the store follows.
-ghost use Rattle.std.specs.Prelude.{◌≡◌, ℕ, ◌+◌, ◌<◌, ◌≤◌, ◌^◌, false, Some, None, length};
+ghost use Rattle.std.specs.Prelude.{◌≡◌, ℕ, ◌+◌, ◌<◌, ◌≤◌, ◌^◌, false, [], Some, None, length};
 ghost use Rattle.vm_ids.specs.Forest.Commands.{destroy as rule_destroy, page_name, page_names, retire_all};
 ghost use Rattle.vm_ids.specs.Forest.Laws.Settling.{IsSettled};
+ghost use Rattle.vm_ids.specs.declared.node_name.NodeName.{NodeName};
+ghost use Rattle.vm_ids.specs.Forest.NameLists.{◌∈◌};
 ghost use Rattle.vm_ids.specs.Forest.NameMap.{len};
 ghost use Rattle.vm_ids.specs.Forest.Shape.{IsBounded, IsConsistent};
 ghost use Rattle.local_cache.specs.Arena.{Arena, node_at, without_cache};
@@ -9,9 +11,11 @@ ghost use Rattle.local_cache.specs.Own.{own_states};
 ghost use Rattle.local_cache.specs.Reading.{forest_of};
 ghost use Rattle.local_cache.specs.Sound.{IsSound};
 ghost use Rattle.residency.specs.StoreForest.{store_forest};
-ghost use Rattle.local_cache.specs.Whole.{IsWhole, SameCaches, size_of};
-ghost use Rattle.page_release.specs.Steps.{ForAnyMapper, GivesBack, IsStoreTied, IsUnpinned, IsWorkingUnpinned, PinnedStayNamed, StaysRight};
+ghost use Rattle.local_cache.specs.Whole.{IsWhole, size_of};
+ghost use Rattle.page_release.specs.Homes.{AreSaved, IsUnclean};
+ghost use Rattle.page_release.specs.Steps.{ForAnyMapper, IsStoreTied, IsUnpinned, IsWorkingUnpinned, Kept, StaysRight};
 
+use crate::forgetting::forget_named;
 use crate::settling::settle;
 use crate::steps::retire_page;
 use local_cache::Caches;
@@ -25,48 +29,42 @@ fn retire_pages(store: &mut Store, caches: &mut Caches, cache: CacheId, pages: u
     requires pages { size_of caches.old cache.0 ≡ Some pages }
     requires made { caches.old.made + pages < 2 ^ 63 }
     requires unpinned { (page : ℕ) → IsUnpinned store.old caches.old (page_name cache page) }
+    requires unclean { (x : NodeName) → x ∈ page_names cache 0 pages → IsUnclean caches.old x }
     ensures nodes { forest_of caches.new ≡ retire_all (page_names cache 0 pages)
         (forest_of caches.old) }
     ensures forest { ForAnyMapper store.old caches.old store.new caches.new
         (λ old new. store_forest new ≡ retire_all (page_names cache 0 pages) (store_forest old)) }
-    ensures gives_back { ForAnyMapper store.old caches.old store.new caches.new GivesBack }
-    ensures sound { IsSound caches.new }
-    ensures tied { IsStoreTied store.new caches.new }
-    ensures pinned { PinnedStayNamed store.old caches.old caches.new }
+    ensures kept { Kept [] store.old caches.old store.new caches.new }
     ensures consistent { IsConsistent (forest_of caches.new) }
-    ensures sizes { SameCaches caches.old caches.new }
     ensures made { caches.new.made ≤ caches.old.made + pages }
     ensures few { len (forest_of caches.new).nodes ≤ len (forest_of caches.old).nodes }
     ensures room { caches.old.room.nodes ≤ caches.new.room.nodes }
     ensures fewer { length (own_states caches.new) ≤ length (own_states caches.old) }
-    ensures right { StaysRight store.old caches.old store.new caches.new }
 {
     for page in 0..pages {
         retire_page(store, caches, cache, PageNo(page));
     }
 }
 
-/// Retires all pages of a live cache, none of which is pinned, and settles. The cache can be removed then.
+/// Retires all pages of a live cache, none of which is pinned, and settles. The cache can be removed then. Where it is
+/// named by a segment the heirs of its pages have their saves: what it has is forgotten first.
 pub fn destroy_pages(store: &mut Store, caches: &mut Caches, cache: CacheId, pages: u32)
     requires tied { IsStoreTied store.old caches.old }
     requires whole { IsWhole caches.old }
     requires pages { size_of caches.old cache.0 ≡ Some pages }
     requires made { caches.old.made + pages < 2 ^ 63 }
     requires unpinned { (page : ℕ) → IsUnpinned store.old caches.old (page_name cache page) }
+    requires saved { AreSaved caches.old cache (page_names cache 0 pages) }
     requires working { IsWorkingUnpinned store.old caches.old }
     ensures nodes { forest_of caches.new ≡ rule_destroy false (page_names cache 0 pages)
         (forest_of caches.old) }
     ensures forest { ForAnyMapper store.old caches.old store.new caches.new
         (λ old new. store_forest new ≡ rule_destroy false (page_names cache 0 pages)
         (store_forest old)) }
-    ensures gives_back { ForAnyMapper store.old caches.old store.new caches.new GivesBack }
-    ensures sound { IsSound caches.new }
-    ensures tied { IsStoreTied store.new caches.new }
-    ensures pinned { PinnedStayNamed store.old caches.old caches.new }
+    ensures kept { Kept [] store.old caches.old store.new caches.new }
     ensures settled { IsSettled (forest_of caches.new) }
     ensures consistent { IsConsistent (forest_of caches.new) }
     ensures bounded { IsBounded (forest_of caches.new) }
-    ensures sizes { SameCaches caches.old caches.new }
     ensures empty { (page : ℕ) → node_at caches.new cache.0 page ≡ None }
     ensures whole { (after : Arena) → after ≡ without_cache caches.new cache → IsSound after
         → forest_of after ≡ forest_of caches.new → IsWhole after }
@@ -76,6 +74,7 @@ pub fn destroy_pages(store: &mut Store, caches: &mut Caches, cache: CacheId, pag
     ensures fewer { length (own_states caches.new) ≤ length (own_states caches.old) }
     ensures right { StaysRight store.old caches.old store.new caches.new }
 {
+    forget_named(store, caches, cache, PageNo(0), pages);
     retire_pages(store, caches, cache, pages);
     settle(store, caches);
 }

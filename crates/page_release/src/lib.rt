@@ -1,27 +1,32 @@
-//! Whole commands over a store: pages are copied, moved and destroyed, and no page is brought in or pushed for it.
+//! Whole commands over a store: pages are copied, moved, invalidated and destroyed, and no page is brought in or pushed for
+//! it.
 //!
 //! The nodes are changed as the crates of the arena do it, step by step, and behind each step the store follows: the frame
 //! or the swap slot of a node that went is given back, or becomes another node's. So frames and slots only fall free, each
 //! frame that is held has its bytes still, and the pages are those of the rules on the page forest.
 //!
+//! A page that its segment holds is never that of a node that stands for no page of a segment. So where pages of a named
+//! cache are replaced or taken away, their own pages give way to pages of zeros first: behind the saves nobody reads them.
+//!
 //! The model is the forest of bytes, `store_forest`, beside that of the local caches. No call takes a mapper: what is said
-//! holds whatever the mapper holds, `ForAnyMapper`. Within a command there may be more nodes than swap slots, so the store
-//! is `IsTied` there, and right again at the end. The crate stands on `residency`, `tree_merge`, `move_pages`,
-//! `page_stubs` and `history_tree`.
+//! holds whatever the mapper holds, `ForAnyMapper`. What every call keeps is the record `Kept`. Within a command there may
+//! be more nodes than swap slots, so the store is `IsTied` there, and right again at the end. The crate stands on
+//! `residency`, `tree_merge`, `move_pages`, `page_stubs` and `history_tree`.
 #![tactic(auto)]
 
 mod copying;
 mod destroying;
 mod following;
+mod forgetting;
+mod invalidating;
 mod moving;
 mod settling;
 mod steps;
 
 pub use copying::copy_pages;
 pub use destroying::destroy_pages;
+pub use invalidating::invalidate_pages;
 pub use moving::move_pages;
-pub use settling::settle;
-pub use steps::{detach_page, retire_page, settle_step};
 
 #[cfg(test)]
 mod tests;

@@ -1,5 +1,5 @@
 // The pages of a move, and the store follows.
-ghost use Rattle.std.specs.Prelude.{◌≡◌, ◌+◌, ◌<◌, ◌≤◌, ◌^◌, false, length, ◌*◌};
+ghost use Rattle.std.specs.Prelude.{◌≡◌, ◌+◌, ◌<◌, ◌≤◌, ◌^◌, false, [], length, ◌*◌};
 ghost use Rattle.vm_ids.specs.declared.node_name.NodeName.{NodeName};
 ghost use Rattle.vm_ids.specs.Forest.Commands.{firsts, move_, move_pages as rule_move_pages, seconds, span_pairs};
 ghost use Rattle.vm_ids.specs.Forest.NameLists.{◌∈◌};
@@ -14,10 +14,12 @@ ghost use Rattle.vm_ids.specs.Forest.Reading.{live_count};
 ghost use Rattle.local_cache.specs.Reading.{forest_of};
 ghost use Rattle.local_cache.specs.Sound.{IsSound};
 ghost use Rattle.residency.specs.StoreForest.{store_forest};
-ghost use Rattle.local_cache.specs.Whole.{IsWhole, SameCaches};
-ghost use Rattle.page_release.specs.Steps.{ForAnyMapper, GivesBack, IsStoreTied, IsUnpinned, IsWorkingUnpinned, PinnedStayNamed, zeros_told, StaysRight};
+ghost use Rattle.local_cache.specs.Whole.{IsWhole};
+ghost use Rattle.page_release.specs.Homes.{AreSaved, IsUnclean, IsWritable, is_named};
+ghost use Rattle.page_release.specs.Steps.{ForAnyMapper, IsStoreTied, IsUnpinned, IsWorkingUnpinned, Kept, StaysRight, zeros_told};
 
 use crate::following::follow;
+use crate::forgetting::forget_named;
 use crate::settling::settle;
 use local_cache::{Caches, OwnState};
 use residency::Store;
@@ -37,7 +39,9 @@ fn move_one(
     requires consistent { IsConsistent (forest_of caches.old) }
     requires pages { ArePages (forest_of caches.old) (NodeName.Live to to_page)
         (NodeName.Live from from_page) }
+    requires temporary { is_named caches.old from ≡ false }
     requires unpinned { IsUnpinned store.old caches.old (NodeName.Live to to_page) }
+    requires unclean { IsUnclean caches.old (NodeName.Live to to_page) }
     requires source { IsUnpinned store.old caches.old (NodeName.Live from from_page) }
     requires room { 1 ≤ caches.old.room.nodes }
     requires made { caches.old.made < 2 ^ 63 }
@@ -46,11 +50,7 @@ fn move_one(
     ensures forest { ForAnyMapper store.old caches.old store.new caches.new
         (λ old new. store_forest new ≡ forest.move_page (store_forest old)
         (NodeName.Live to to_page) (NodeName.Live from from_page) (zeros_told old)) }
-    ensures gives_back { ForAnyMapper store.old caches.old store.new caches.new GivesBack }
-    ensures sound { IsSound caches.new }
-    ensures tied { IsStoreTied store.new caches.new }
-    ensures pinned { PinnedStayNamed store.old caches.old caches.new }
-    ensures sizes { SameCaches caches.old caches.new }
+    ensures kept { Kept [] store.old caches.old store.new caches.new }
     ensures room { caches.old.room.nodes ≤ caches.new.room.nodes + 1 }
 {
     let released = move_pages::move_one(caches, from, from_page, to, to_page);
@@ -62,8 +62,10 @@ fn move_each(store: &mut Store, caches: &mut Caches, span: Span)
     requires tied { IsStoreTied store.old caches.old }
     requires whole { IsWhole caches.old }
     requires can { CanCopy (forest_of caches.old) (span_pairs span) }
+    requires temporary { is_named caches.old span.from ≡ false }
     requires unpinned { (x : NodeName) → x ∈ firsts (span_pairs span)
         → IsUnpinned store.old caches.old x }
+    requires unclean { (x : NodeName) → x ∈ firsts (span_pairs span) → IsUnclean caches.old x }
     requires sources { (x : NodeName) → x ∈ seconds (span_pairs span)
         → IsUnpinned store.old caches.old x }
     requires room { span.pages ≤ caches.old.room.nodes }
@@ -75,14 +77,10 @@ fn move_each(store: &mut Store, caches: &mut Caches, span: Span)
     ensures forest { ForAnyMapper store.old caches.old store.new caches.new
         (λ old new. store_forest new ≡ rule_move_pages (zeros_told old) (span_pairs span)
         (store_forest old)) }
-    ensures gives_back { ForAnyMapper store.old caches.old store.new caches.new GivesBack }
-    ensures sound { IsSound caches.new }
-    ensures tied { IsStoreTied store.new caches.new }
-    ensures pinned { PinnedStayNamed store.old caches.old caches.new }
+    ensures kept { Kept [] store.old caches.old store.new caches.new }
     ensures consistent { IsConsistent (forest_of caches.new) }
     ensures stays { (x : NodeName) → IsNode (forest_of caches.old) x
         → IsNode (forest_of caches.new) x }
-    ensures sizes { SameCaches caches.old caches.new }
     ensures made { caches.new.made ≤ caches.old.made + span.pages }
     ensures room { caches.old.room.nodes ≤ caches.new.room.nodes + span.pages }
     ensures few { len (forest_of caches.new).nodes ≤ len (forest_of caches.old).nodes + span.pages }
@@ -100,7 +98,9 @@ fn move_each(store: &mut Store, caches: &mut Caches, span: Span)
 }
 
 /// Each page of the source, none of which is pinned, becomes that of the destination, none of which is pinned, with its
-/// frame or its slot and all that it has, and is a page of zeros then. No page is copied, and none is brought in.
+/// frame or its slot and all that it has, and is a page of zeros then. No page is copied, and none is brought in. The
+/// source is temporary. Where the destination is named by a segment, each of its pages was granted, and its heirs have
+/// their saves: what it has is forgotten first.
 pub fn move_pages(store: &mut Store, caches: &mut Caches, span: Span)
     requires tied { IsStoreTied store.old caches.old }
     requires whole { IsWhole caches.old }
@@ -109,6 +109,9 @@ pub fn move_pages(store: &mut Store, caches: &mut Caches, span: Span)
         → IsUnpinned store.old caches.old x }
     requires sources { (x : NodeName) → x ∈ seconds (span_pairs span)
         → IsUnpinned store.old caches.old x }
+    requires temporary { is_named caches.old span.from ≡ false }
+    requires saved { AreSaved caches.old span.to (firsts (span_pairs span)) }
+    requires granted { (x : NodeName) → x ∈ firsts (span_pairs span) → IsWritable caches.old x }
     requires working { IsWorkingUnpinned store.old caches.old }
     requires room { span.pages ≤ caches.old.room.nodes }
     requires made { caches.old.made + span.pages < 2 ^ 63 }
@@ -120,20 +123,18 @@ pub fn move_pages(store: &mut Store, caches: &mut Caches, span: Span)
     ensures forest { ForAnyMapper store.old caches.old store.new caches.new
         (λ old new. store_forest new ≡ move_ false (zeros_told old) (span_pairs span)
         (store_forest old)) }
-    ensures gives_back { ForAnyMapper store.old caches.old store.new caches.new GivesBack }
+    ensures kept { Kept (firsts (span_pairs span)) store.old caches.old store.new caches.new }
     ensures whole { IsWhole caches.new }
-    ensures tied { IsStoreTied store.new caches.new }
-    ensures pinned { PinnedStayNamed store.old caches.old caches.new }
     ensures live { live_count (forest_of caches.new) ≡ live_count (forest_of caches.old) }
     ensures right { 2 * live_count (forest_of caches.old) ≤ length store.old.slots
         → StaysRight store.old caches.old store.new caches.new }
     ensures settled { IsSettled (forest_of caches.new) }
     ensures bounded { IsBounded (forest_of caches.new) }
-    ensures sizes { SameCaches caches.old caches.new }
     ensures made { caches.new.made ≤ caches.old.made + span.pages }
     ensures copies { caches.new.copies ≡ caches.old.copies }
     ensures room { caches.old.room.nodes ≤ caches.new.room.nodes + span.pages }
 {
+    forget_named(store, caches, span.to, span.to_page, span.pages);
     move_each(store, caches, span);
     settle(store, caches);
 }

@@ -1,5 +1,5 @@
 // Working nodes settle, and the store follows.
-ghost use Rattle.std.specs.Prelude.{◌≡◌, ◌≤◌, length};
+ghost use Rattle.std.specs.Prelude.{◌≡◌, ◌≤◌, [], length};
 ghost use Rattle.vm_ids.specs.Forest.Laws.Settling.{IsSettled};
 ghost use Rattle.vm_ids.specs.Forest.Settling.{settle as rule_settle};
 ghost use Rattle.vm_ids.specs.Forest.Shape.{IsBounded, IsConsistent};
@@ -7,15 +7,14 @@ ghost use Rattle.local_cache.specs.Own.{own_states};
 ghost use Rattle.local_cache.specs.Reading.{forest_of};
 ghost use Rattle.local_cache.specs.Sound.{IsSound};
 ghost use Rattle.residency.specs.StoreForest.{store_forest};
-ghost use Rattle.local_cache.specs.Whole.{SameCaches};
-ghost use Rattle.page_release.specs.Steps.{ForAnyMapper, GivesBack, IsStoreTied, IsWorkingUnpinned, PinnedStayNamed, StaysRight};
+ghost use Rattle.page_release.specs.Steps.{ForAnyMapper, IsStoreTied, IsWorkingUnpinned, Kept};
 
 use crate::steps::settle_step;
 use local_cache::Caches;
 use residency::Store;
 
-/// Settles until each working node has at least two children. Frames and slots of those that go fall free.
-pub fn settle(store: &mut Store, caches: &mut Caches)
+// Settles until each working node has at least two children. Frames and slots of those that go fall free.
+pub(crate) fn settle(store: &mut Store, caches: &mut Caches)
     requires tied { IsStoreTied store.old caches.old }
     requires sound { IsSound caches.old }
     requires consistent { IsConsistent (forest_of caches.old) }
@@ -23,19 +22,14 @@ pub fn settle(store: &mut Store, caches: &mut Caches)
     ensures nodes { forest_of caches.new ≡ rule_settle (forest_of caches.old) }
     ensures forest { ForAnyMapper store.old caches.old store.new caches.new
         (λ old new. store_forest new ≡ rule_settle (store_forest old)) }
-    ensures gives_back { ForAnyMapper store.old caches.old store.new caches.new GivesBack }
-    ensures sound { IsSound caches.new }
-    ensures tied { IsStoreTied store.new caches.new }
-    ensures pinned { PinnedStayNamed store.old caches.old caches.new }
+    ensures kept { Kept [] store.old caches.old store.new caches.new }
     ensures settled { IsSettled (forest_of caches.new) }
     ensures consistent { IsConsistent (forest_of caches.new) }
     ensures bounded { IsBounded (forest_of caches.new) }
-    ensures sizes { SameCaches caches.old caches.new }
     ensures counters { (caches.new.made ≡ caches.old.made)
         × (caches.new.copies ≡ caches.old.copies) }
     ensures room { caches.old.room.nodes ≤ caches.new.room.nodes }
     ensures fewer { length (own_states caches.new) ≤ length (own_states caches.old) }
-    ensures right { StaysRight store.old caches.old store.new caches.new }
 {
     while settle_step(store, caches) {}
 }

@@ -1,5 +1,5 @@
 // A page is retired or detached, or a working node gives way, and the store follows.
-ghost use Rattle.std.specs.Prelude.{◌≡◌, ◌+◌, ◌<◌, ◌≤◌, ◌^◌, true, false, Some, IsSome, length};
+ghost use Rattle.std.specs.Prelude.{◌≡◌, ◌+◌, ◌<◌, ◌≤◌, ◌^◌, true, false, [], Some, IsSome, length};
 ghost use Rattle.vm_ids.specs.declared.node_name.NodeName.{NodeName};
 ghost use Rattle.vm_ids.specs.declared.numbers.NodeId.{NodeId};
 ghost use Rattle.vm_ids.specs.Forest.Laws.Settling.{IsSettled};
@@ -11,8 +11,8 @@ ghost use Rattle.local_cache.specs.Sound.{IsSound};
 ghost use Rattle.residency.specs.StoreForest.{store_forest};
 ghost use Rattle.tree_merge.specs.declared.released.Released.{Released as Freed};
 ghost use Rattle.tree_merge.specs.Releasing.{IsDetached, IsRetired};
-ghost use Rattle.local_cache.specs.Whole.{SameCaches};
-ghost use Rattle.page_release.specs.Steps.{ForAnyMapper, GivesBack, IsSettleStep, IsStoreTied, IsUnpinned, IsWorkingUnpinned, PinnedStayNamed, fresh_page, is_unstored, StaysRight};
+ghost use Rattle.page_release.specs.Homes.{IsUnclean, cleaned};
+ghost use Rattle.page_release.specs.Steps.{ForAnyMapper, IsSettleStep, IsStoreTied, IsUnpinned, IsWorkingUnpinned, Kept, fresh_page, is_fresh};
 
 use crate::following::follow;
 use local_cache::{Caches, OwnState};
@@ -20,37 +20,33 @@ use residency::Store;
 use tree_merge::retire;
 use vm_ids::{CacheId, NodeName, PageNo};
 
-/// Retires the node of a page, which has none then. Where it has no children its frame or its swap slot falls free with
-/// it. Its frame must not be pinned.
-pub fn retire_page(store: &mut Store, caches: &mut Caches, cache: CacheId, page: PageNo)
+// Retires the node of a page, which has none then. Where it has no children its frame or its swap slot falls free with
+// it. Its frame must not be pinned, and its own page must not be one that its segment holds.
+pub(crate) fn retire_page(store: &mut Store, caches: &mut Caches, cache: CacheId, page: PageNo)
     requires tied { IsStoreTied store.old caches.old }
     requires sound { IsSound caches.old }
     requires node { IsSome (node_at caches.old cache.0 page.0) }
     requires made { caches.old.made < 2 ^ 63 }
     requires unpinned { IsUnpinned store.old caches.old (NodeName.Live cache page) }
+    requires unclean { IsUnclean caches.old (NodeName.Live cache page) }
     ensures nodes { forest_of caches.new ≡ rule_retire (forest_of caches.old)
         (NodeName.Live cache page) }
     ensures forest { ForAnyMapper store.old caches.old store.new caches.new
         (λ old new. store_forest new ≡ rule_retire (store_forest old) (NodeName.Live cache page)) }
-    ensures gives_back { ForAnyMapper store.old caches.old store.new caches.new GivesBack }
-    ensures sound { IsSound caches.new }
-    ensures tied { IsStoreTied store.new caches.new }
-    ensures pinned { PinnedStayNamed store.old caches.old caches.new }
+    ensures kept { Kept [] store.old caches.old store.new caches.new }
     ensures retired { (n : NodeId) → node_at caches.old cache.0 page.0 ≡ Some n → (released : Freed)
         × IsRetired caches.old caches.new n released }
     ensures vacant { IsVacant caches.new cache page }
-    ensures sizes { SameCaches caches.old caches.new }
     ensures room { caches.old.room.nodes ≤ caches.new.room.nodes }
     ensures fewer { length (own_states caches.new) ≤ length (own_states caches.old) }
-    ensures right { StaysRight store.old caches.old store.new caches.new }
 {
     let released = retire(caches, cache, page);
     follow(store, caches, released);
 }
 
-/// Retires the node of a page and makes a fresh one for it, without parent and children, which has no own page, or one of
-/// zeros. It takes no memory: there has to be room for a node.
-pub fn detach_page(
+// Retires the node of a page and makes a fresh one for it, without parent and children, which has no own page, or one of
+// zeros, or the one of its segment. It takes no memory: there has to be room for a node.
+pub(crate) fn detach_page(
     store: &mut Store,
     caches: &mut Caches,
     cache: CacheId,
@@ -63,45 +59,37 @@ pub fn detach_page(
     requires room { 1 ≤ caches.old.room.nodes }
     requires made { caches.old.made < 2 ^ 63 }
     requires unpinned { IsUnpinned store.old caches.old (NodeName.Live cache page) }
-    requires unstored { is_unstored state ≡ true }
+    requires unclean { IsUnclean caches.old (NodeName.Live cache page) }
+    requires fresh { is_fresh caches.old (NodeName.Live cache page) state ≡ true }
     ensures nodes { forest_of caches.new ≡ rule_detach (forest_of caches.old)
         (NodeName.Live cache page) (page_of state) }
     ensures forest { ForAnyMapper store.old caches.old store.new caches.new
         (λ old new. store_forest new ≡ rule_detach (store_forest old) (NodeName.Live cache page)
-        (fresh_page old state)) }
-    ensures gives_back { ForAnyMapper store.old caches.old store.new caches.new GivesBack }
-    ensures sound { IsSound caches.new }
-    ensures tied { IsStoreTied store.new caches.new }
-    ensures pinned { PinnedStayNamed store.old caches.old caches.new }
+        (fresh_page old (NodeName.Live cache page) state)) }
+    ensures kept { Kept (cleaned state (NodeName.Live cache page))
+        store.old caches.old store.new caches.new }
     ensures detached { (n : NodeId) → node_at caches.old cache.0 page.0 ≡ Some n
         → (released : Freed) × IsDetached caches.old caches.new n
         (NodeName.Live cache page) state released }
-    ensures sizes { SameCaches caches.old caches.new }
     ensures room { caches.old.room.nodes ≤ caches.new.room.nodes + 1 }
     ensures more { length (own_states caches.new) ≤ length (own_states caches.old) + 1 }
-    ensures right { length (own_states caches.old) + 1 ≤ length store.old.slots
-        → StaysRight store.old caches.old store.new caches.new }
 {
     retire_page(store, caches, cache, page);
     caches.fresh(cache, page, state);
 }
 
-/// One step of settle: the working node with the least number of those that have fewer than two children gives way. Its
-/// own page is that of its only child then, or falls free. It answers `false`, and changes nothing, exactly where each
-/// working node has at least two children.
-pub fn settle_step(store: &mut Store, caches: &mut Caches) -> bool
+// One step of settle: the working node with the least number of those that have fewer than two children gives way. Its
+// own page is that of its only child then, or falls free. It answers `false`, and changes nothing, exactly where each
+// working node has at least two children.
+pub(crate) fn settle_step(store: &mut Store, caches: &mut Caches) -> bool
     requires tied { IsStoreTied store.old caches.old }
     requires sound { IsSound caches.old }
     requires unpinned { IsWorkingUnpinned store.old caches.old }
     ensures step { result ≡ true → IsSettleStep store.old caches.old store.new caches.new }
     ensures idle { result ≡ false → IsSettled (forest_of caches.old) × (caches.new ≡ caches.old)
         × (store.new ≡ store.old) }
-    ensures gives_back { ForAnyMapper store.old caches.old store.new caches.new GivesBack }
-    ensures sound { IsSound caches.new }
-    ensures tied { IsStoreTied store.new caches.new }
-    ensures pinned { PinnedStayNamed store.old caches.old caches.new }
+    ensures kept { Kept [] store.old caches.old store.new caches.new }
     ensures fewer { length (own_states caches.new) ≤ length (own_states caches.old) }
-    ensures right { StaysRight store.old caches.old store.new caches.new }
 {
     match tree_merge::settle_step(caches) {
         Some(released) => {

@@ -4,6 +4,7 @@ ghost use Rattle.vm_ids.specs.Forest.NameMap.{len};
 ghost use Rattle.frame_pool.specs.Pool.{is_pinned};
 ghost use Rattle.local_cache.specs.Reading.{forest_of};
 ghost use Rattle.local_cache.specs.Whole.{IsWhole, size_of};
+ghost use Rattle.page_release.specs.Homes.{is_named};
 ghost use Rattle.page_release.specs.Steps.{IsStoreTied};
 
 use crate::{copy_pages, destroy_pages, move_pages};
@@ -29,6 +30,8 @@ fn two_caches(alloc: Global) -> Result<Two, NoMemory>
     ensures loose { IfOk result (λ r. (f : ℕ) → is_pinned r.store.frames f ≡ false) }
     ensures from { IfOk result (λ r. size_of r.caches r.from.0 ≡ Some 1) }
     ensures to { IfOk result (λ r. size_of r.caches r.to.0 ≡ Some 1) }
+    ensures temporary { IfOk result (λ r. is_named r.caches r.from ≡ false) }
+    ensures filled { IfOk result (λ r. is_named r.caches r.to ≡ false) }
     ensures apart { IfOk result (λ r. r.from ≢ r.to) }
     ensures room { IfOk result (λ r. 2 ≤ r.caches.room.nodes) }
     ensures made { IfOk result (λ r. r.caches.made ≡ 0) }

@@ -21,7 +21,8 @@ use Rattle.pvm_core.proofs.Begun.{right_with}
 use Rattle.pvm_core.proofs.Determined.{IsShaped, followed_is}
 use Rattle.pvm_core.proofs.Kept.{seen}
 use Rattle.pvm_core.proofs.Live.{live_most}
-use Rattle.pvm_core.proofs.Same.{live_same, shaped_same, shown_shaped, temporary_same}
+use Rattle.pvm_core.proofs.Same.{live_same, shaped_same, shown_shaped}
+use Rattle.pvm_core.proofs.Sized.{apart_same}
 use Rattle.pvm_core.proofs.Shown.{shown_made}
 use Rattle.pvm_core.proofs.Values.{blank_of}
 
@@ -72,7 +73,7 @@ module _ (b d : Arena) (s u : Store) (t : Actors) (live : ℕ) (i : IsSound b s 
   pub changed_sound : IsBounded (arena.forest_of d) → IsSound d u t live
   changed_sound bounded = record {
     nodes = whole;
-    temporary = temporary_same b d same i.temporary;
+    apart = apart_same b d same.segments i.apart;
     bounded = bounded;
     slots = omega (arith, i.slots, gives.capacity);
     counted = i.counted ∙ sym (live_same b d same);

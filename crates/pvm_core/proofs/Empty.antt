@@ -1,5 +1,5 @@
 -- A manager without caches.
-use Rattle.std.proofs.Common.{◌≡◌, ℕ, zero, suc, ◌≤◌, ◌^◌, ◌+◌, List, [], length, Option, Some, None, is_some, refl, sym, ap, ◌∙◌, subst, arith, replicate, false}
+use Rattle.std.proofs.Common.{◌≡◌, ℕ, zero, suc, ◌≤◌, ◌^◌, ◌+◌, List, [], length, Option, Some, None, is_some, option_map, refl, sym, ap, ◌∙◌, subst, arith, replicate, false}
 use Rattle.std.specs.Prelude.{IfSome, count_by, sum_by}
 use Rattle.std.specs.List.{All, slice_index_or}
 use Rattle.std.proofs.lemmas.Bool.{false≢true}
@@ -13,7 +13,7 @@ use Rattle.vm_ids.proofs.Forest.NameMap.{get-empty}
 use Rattle.vm_ids.proofs.Forest.PageMap.{same_forest}
 use Rattle.vm_ids.proofs.Places.{count-replicate_none}
 use Rattle.local_cache.specs.declared.own_state.OwnState.{OwnState}
-use Rattle.local_cache.specs.Arena.{Arena, Table, page_count}
+use Rattle.local_cache.specs.Arena.{Arena, Table, page_count, table_at}
 use Rattle.local_cache.specs.Reading.{forest_of}
 use Rattle.local_cache.specs.ReadingBy.{forest_by}
 use Rattle.local_cache.specs.Sound.{IsSound}
@@ -27,6 +27,7 @@ use Rattle.local_cache.proofs.Whole.Pages.{no_caches, no_nodes}
 use Rattle.vm_model.specs.Outcome.{IsWhole}
 use Rattle.contexts.specs.Actors.{Actors}
 use Rattle.pvm_core.specs.Placed.{ArePlaced}
+use Rattle.vm_ids.specs.declared.numbers.SegId.{SegId}
 use Rattle.pvm_core.specs.Manager as manager
 use Rattle.pvm_core.specs.Manager.{caches_shown}
 
@@ -34,6 +35,20 @@ none_pinned : (n f : ℕ) → slice_index_or (replicate n false) f false ≡ fal
 none_pinned zero f = refl
 none_pinned (suc n) zero = refl
 none_pinned (suc n) (suc f) = none_pinned n f
+
+none_at : (cache : ℕ) → table_at [] cache ≡ None
+none_at zero = refl
+none_at (suc k) = refl
+
+none_named : (ts : List (Option Table)) → ts ≡ [] → (cache : ℕ) (segment : SegId) → option_map (λ (t : Table). t.segment) (table_at ts cache) ≡ Some (Some segment) → ⊥
+none_named ts e cache segment is = (let q : None ≡ Some (Some segment) = sym (ap (λ (ts : List (Option Table)). option_map (λ (t : Table). t.segment) (table_at ts cache)) e ∙ ap (option_map (λ (t : Table). t.segment)) (none_at cache)) ∙ is in cc q)
+
+-- no segment is as long as a cache that it names, for none is named
+pub none_full : (a : Arena) (page_bytes : ℕ) (h : Option Held) → a.caches ≡ [] → manager.AreFull a page_bytes h
+none_full a page_bytes h tables cache segment is = absurd (none_named a.caches tables cache segment is)
+
+pub none_sized : (a : Arena) (h : Option Held) → a.caches ≡ [] → manager.AreSized a h
+none_sized a h tables cache segment is = absurd (none_named a.caches tables cache segment is)
 
 pub none_sound : (frames page : ℕ) (a : Arena) (s : Store) (t : Actors) → 3 ≤ frames → 1 ≤ page → page ≤ 2 ^ 16 → HasNoNodes a → a.caches ≡ [] → forest_of a ≡ no_forest → IsSound a
     → s ≡ record { frames = record { page = page; held = replicate frames false; pinned = replicate frames false; bytes = replicate frames (replicate page 0) }; slots = []; map = replicate frames None; marks = replicate frames false }
@@ -45,7 +60,7 @@ none_sound frames page a s t three some most none tables forest sound is size it
     pages = λ cache page count size. absurd (no_caches a tables cache.0 count size);
     few = no_nodes (forest_of a) forest;
   };
-  temporary = All-same manager.IsTemporary a.caches [] tables (All-nil manager.IsTemporary);
+  apart = λ cache other segment one two. absurd (none_named a.caches tables cache segment one);
   bounded = subst IsBounded (sym forest) (no_forest_is_bounded OwnState);
   slots = omega arith;
   counted = sym (ap (sum_by page_count) tables);

@@ -8,10 +8,10 @@ use Rattle.vm_ids.specs.declared.numbers.NodeId.{NodeId}
 use Rattle.local_cache.specs.declared.own_state.OwnState.{OwnState}
 use Rattle.local_cache.specs.declared.own_state.OwnState.TheVariants.{Absent, Zero, Resident, Slot, OnSegment}
 use Rattle.local_cache.specs.Arena.{Arena}
-use Rattle.local_cache.specs.Own.{is_in_slot, own_of}
+use Rattle.local_cache.specs.Own.{own_of}
 use Rattle.residency.specs.declared.store.Store.{Store}
 use Rattle.residency.specs.Causes.{Made, pulls_for}
-use Rattle.residency.specs.World.{HoldsPage, IsStoreRight, world}
+use Rattle.residency.specs.World.{HoldsPage, IsStoreRight, is_pulled, world}
 use Rattle.residency.proofs.Homes.{home}
 use Rattle.fault_path.specs.Faults.{IsFound, is_at_hand, is_zero}
 use Rattle.contexts.specs.Actors.{Actors}
@@ -35,15 +35,15 @@ module _ (g : Option Held) (j : Option ℕ) (a b : Arena) (s : Store) (t : Actor
 
   -- what was pulled for it
   pub given_in : (last : Option (List ℕ)) (found : Option FrameId) → IsFound (world g j b s) o (own_of a o) found → IfSome found (λ f. HoldsPage (own_of a o) last s.frames f.0)
-      → is_in_slot (own_of a o) ≡ true → IfSome last (λ page. bytes_found s found ≡ page)
-  given_in last None f holds slot = absurd (let e : is_in_slot (own_of a o) ≡ false = ap is_in_slot (zero_is (own_of a o) f.zero) in let k : true ≡ false = sym slot ∙ e in cc k)
+      → is_pulled (own_of a o) ≡ true → IfSome last (λ page. bytes_found s found ≡ page)
+  given_in last None f holds slot = absurd (let e : is_pulled (own_of a o) ≡ false = ap is_pulled (zero_is (own_of a o) f.zero) in let k : true ≡ false = sym slot ∙ e in cc k)
   given_in last (Some n) f holds slot = holds.given slot
 
 no_rise : (n : ℕ) → RoseBy 0 n n
 no_rise n = λ low. omega arith
 
--- a page was pulled exactly where it was in a slot
-pub pulled_for : (x : OwnState) (c d : MapperCounts) (found : Option FrameId) → (is_zero x ≡ false → (pushes : ℕ) × Made (pulls_for {T = Option FrameId} (Ok found) x) pushes c d) → (is_at_hand x ≡ true → d ≡ c) → RoseBy (if is_in_slot x then 1 else 0) c.pulls d.pulls
+-- a page was pulled exactly where it was in a slot or on its segment
+pub pulled_for : (x : OwnState) (c d : MapperCounts) (found : Option FrameId) → (is_zero x ≡ false → (pushes : ℕ) × Made (pulls_for {T = Option FrameId} (Ok found) x) pushes c d) → (is_at_hand x ≡ true → d ≡ c) → RoseBy (if is_pulled x then 1 else 0) c.pulls d.pulls
 pulled_for Zero c d found made idle = subst (λ (k : MapperCounts). RoseBy 0 c.pulls k.pulls) (sym (idle refl)) (no_rise c.pulls)
 pulled_for Absent c d found made idle = (made refl).1.pulled
 pulled_for (Resident dirty) c d found made idle = (made refl).1.pulled

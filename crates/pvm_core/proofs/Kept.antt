@@ -1,10 +1,12 @@
 -- What stays where actors alone change, and where pages are moved about.
 use Rattle.std.proofs.Common.{◌≡◌, ℕ, suc, ◌+◌, ◌≤◌, Bool, true, false, cond, List, [], ◌∷◌, length, Option, Some, None, is_some, refl, sym, ap, ◌∙◌, subst, arith}
 use Rattle.std.specs.Prelude.{IfSome, OnErr, Result, Ok, Err, option_map, sum_by, count_by}
-use Rattle.std.specs.List.{All, slice_index_or}
+use Rattle.std.specs.List.{slice_index_or}
 use Rattle.std.specs.FinMap as ids
 use Rattle.std.proofs.lemmas.List.{length-map}
-use Rattle.vm_ids.specs.Held.{Held, segments_of}
+use Rattle.vm_ids.specs.Counting.{MapperCounts}
+use Rattle.vm_ids.specs.Held.{Held}
+use Rattle.vm_ids.specs.declared.numbers.SegId.{SegId}
 use Rattle.vm_ids.specs.declared.node_name.NodeName.{NodeName}
 use Rattle.vm_ids.specs.declared.node_name.NodeName.TheVariants.{Working}
 use Rattle.vm_ids.specs.Forest.Commands.{page_name}
@@ -27,19 +29,23 @@ use Rattle.residency.proofs.StillForest.{still_forest}
 use Rattle.fault_path.specs.Faults.{Kept}
 use Rattle.fault_path.proofs.Kept.{still_kept}
 use Rattle.local_cache.proofs.Nodes.Count.{forest_len}
-use Rattle.local_cache.specs.Whole.{size_of}
+use Rattle.local_cache.specs.Whole.{segment_of, size_of}
 use Rattle.vm_model.specs.Machine.{Machine}
 use Rattle.vm_model.specs.Outcome.{HasWholePages}
 use Rattle.vm_model.specs.PageForest.{PageForest}
 use Rattle.contexts.specs.Actors.{Actors}
 use Rattle.pvm_core.specs.Placed.{AreRight}
 use Rattle.pvm_core.proofs.Live.{nodes_most}
-use Rattle.pvm_core.specs.Manager.{IsSound, IsTemporary, IsValid, Manager, caches_shown, forest_of, machine_by, machine_of}
+use Rattle.pvm_core.specs.Reaching.{Reach}
+use Rattle.pvm_core.proofs.Reaching.{as_told, reach_told}
+use Rattle.pvm_core.proofs.Full.{full_after}
+use Rattle.pvm_core.proofs.Sized.{sized_after}
+use Rattle.pvm_core.specs.Manager.{IsSound, IsValid, Manager, caches_shown, forest_of, machine_by, machine_of}
 
 pub seated_sound : (a : Arena) (s : Store) (t u : Actors) (live : ℕ) → u.page_bytes ≡ t.page_bytes → AreRight (size_of a) u → IsSound a s t live → IsSound a s u live
 seated_sound a s t u live page right i = record {
   nodes = i.nodes;
-  temporary = i.temporary;
+  apart = i.apart;
   bounded = i.bounded;
   slots = i.slots;
   counted = i.counted;
@@ -58,7 +64,7 @@ seated_valid p q h caches store page v = valid caches store page
     valid c s b = subst (λ (r : Manager). IsValid r h) (λ i. record { caches = sym c i; store = sym s i; page_bytes = sym b i; actors = q.actors; regions_made = q.regions_made }) (moved v)
       where
         moved : IsValid p h → IsValid (record { caches = p.caches; store = p.store; page_bytes = p.page_bytes; actors = q.actors; regions_made = q.regions_made }) h
-        moved v = record { right = v.right; whole = v.whole }
+        moved v = record { right = v.right; sized = v.sized; full = v.full; whole = v.whole }
 
 -- The number of nodes -----------------------------------------------------------------------
 
@@ -100,7 +106,10 @@ unsized_right h i a s r = record {
     placed = r.tied.placed;
     backed = record {
       there = r.tied.backed.there;
-      temporary = r.tied.backed.temporary;
+      homes = r.tied.backed.homes;
+      apart = r.tied.backed.apart;
+      lies = r.tied.backed.lies;
+      clean = r.tied.backed.clean;
     };
     fitted = record {
       map_frames = r.tied.fitted.map_frames;
@@ -111,6 +120,7 @@ unsized_right h i a s r = record {
       page = tt;
     };
   };
+  granted = record { granted = r.granted.granted; allowed = r.granted.allowed };
   capacity = r.capacity;
 }
 
@@ -120,7 +130,10 @@ sized_right h i a s fits r = record {
     placed = r.tied.placed;
     backed = record {
       there = r.tied.backed.there;
-      temporary = r.tied.backed.temporary;
+      homes = r.tied.backed.homes;
+      apart = r.tied.backed.apart;
+      lies = r.tied.backed.lies;
+      clean = r.tied.backed.clean;
     };
     fitted = record {
       map_frames = r.tied.fitted.map_frames;
@@ -131,6 +144,7 @@ sized_right h i a s fits r = record {
       page = fits;
     };
   };
+  granted = record { granted = r.granted.granted; allowed = r.granted.allowed };
   capacity = r.capacity;
 }
 
@@ -150,6 +164,9 @@ module _ (a b : Arena) (s t : Store) (h g : Option Held) (i j : Option ℕ) (k :
   unfolding arena.forest_of
   made_of = refl
 
+  segment_at : (cache : ℕ) (segment : SegId) → segment_of b cache ≡ Some (Some segment) → segment_of a cache ≡ Some (Some segment)
+  segment_at cache segment = subst (λ (ts : List (Option Table)). option_map (λ (t : Table). t.segment) (table_at ts cache) ≡ Some (Some segment)) k.nodes.caches
+
   -- each call that keeps nodes and tables keeps what holds of a manager's fields
   pub kept_sound : IsSound b t actors live
   kept_sound = record {
@@ -162,7 +179,7 @@ module _ (a b : Arena) (s t : Store) (h g : Option Held) (i j : Option ℕ) (k :
       pages = λ cache page count size less. kept_node (page_name cache page) (sound.nodes.pages cache page count (ap (λ (ts : List (Option Table)). option_map (λ (t : Table). length t.pages) (table_at ts cache.0)) (sym k.nodes.caches) ∙ size) less);
       few = omega (arith, forest_len b, like_count a b k.nodes, nodes_most sound, sound.few);
     };
-    temporary = subst (All IsTemporary) (sym k.nodes.caches) sound.temporary;
+    apart = λ cache other segment one two. sound.apart cache other segment (segment_at cache segment one) (segment_at other segment two);
     bounded = bounded_from (arena.forest_of a) (arena.forest_of b) (working_count-le (arena.forest_of b) (arena.forest_of a) (λ x is w. node_kept x is)) (live_count-le (arena.forest_of a) (arena.forest_of b) (λ x is l. kept_node x is)) sound.bounded;
     slots = omega (arith, k.slots, sound.slots);
     counted = sound.counted ∙ sym (ap (sum_by page_count) k.nodes.caches);
@@ -194,17 +211,19 @@ module _ (a b : Arena) (s t : Store) (h g : Option Held) (i j : Option ℕ) (k :
     pub kept_machine : machine_of (seen b t actors) g ≡ machine_of (seen a s actors) h
     kept_machine = ap (machine_by (seen b t actors)) kept_forest ∙ kept_by (forest_of (seen a s actors) h)
 
-    pub kept_valid : IsValid (seen a s actors) h → IsValid (seen b t actors) g
-    kept_valid v = record {
+    pub kept_valid : (c d : MapperCounts) → Reach (machine_of (seen a s actors) h) h g c d → IsValid (seen a s actors) h → IsValid (seen b t actors) g
+    kept_valid c d reach v = record {
       right = unsized_right g j b t k.right;
-      whole = subst (λ (m : Machine). IfSome g (λ _. HasWholePages m)) (sym kept_machine) (as_told (HasWholePages (machine_of (seen a s actors) h)) h g k.segments v.whole);
+      sized = sized_after (seen a s actors) b h g same_segment same_size reach.pushes reach.rule v.sized;
+      full = full_after (seen a s actors) b h g same_segment reach.pushes reach.rule v.whole v.full;
+      whole = subst (λ (m : Machine). IfSome g (λ _. HasWholePages m)) (sym kept_machine) (as_told (HasWholePages (machine_of (seen a s actors) h)) h g (reach_told (machine_of (seen a s actors) h) h g c d reach) v.whole);
     }
       where
-        as_told : (T : Type 0) (h g : Option Held) → segments_of g ≡ segments_of h → IfSome h (λ _. T) → IfSome g (λ _. T)
-        as_told T None None e x = x
-        as_told T (Some h) (Some g) e x = x
-        as_told T None (Some g) e x = absurd (cc e)
-        as_told T (Some h) None e x = tt
+        same_segment : (cache : ℕ) → segment_of b cache ≡ segment_of a cache
+        same_segment cache = ap (λ (ts : List (Option Table)). option_map (λ (t : Table). t.segment) (table_at ts cache)) k.nodes.caches
+
+        same_size : (cache : ℕ) → size_of b cache ≡ size_of a cache
+        same_size cache = ap (λ (ts : List (Option Table)). option_map (λ (t : Table). length t.pages) (table_at ts cache)) k.nodes.caches
 
 -- a call that leaves every page keeps all this
 module _ (a b : Arena) (s t : Store) (h g : Option Held) (i j : Option ℕ) (still : Still (world h i a s) (world g j b t)) (pins : t.frames.pinned ≡ s.frames.pinned) (actors : Actors) (live : ℕ) (sound : IsSound a s actors live) where
@@ -214,8 +233,8 @@ module _ (a b : Arena) (s t : Store) (h g : Option Held) (i j : Option ℕ) (sti
   pub stilled_sound : IsSound b t actors live
   stilled_sound = kept_sound a b s t h g i j stilled actors live sound
 
-  pub stilled_valid : IsValid (seen a s actors) h → IsValid (seen b t actors) g
-  stilled_valid v = kept_valid a b s t h g i j stilled actors (still_forest (world h i a s) (world g j b t) still) v
+  pub stilled_valid : (c d : MapperCounts) → Reach (machine_of (seen a s actors) h) h g c d → IsValid (seen a s actors) h → IsValid (seen b t actors) g
+  stilled_valid c d reach v = kept_valid a b s t h g i j stilled actors (still_forest (world h i a s) (world g j b t) still) c d reach v
 
   pub stilled_forest : forest_of (seen b t actors) g ≡ forest_of (seen a s actors) h
   stilled_forest = kept_forest a b s t h g i j stilled actors (still_forest (world h i a s) (world g j b t) still)

@@ -46,20 +46,9 @@ use Rattle.vm_model.specs.Place.{Place, place}
 use Rattle.vm_model.specs.Run.{CallIs}
 use Rattle.pvm_core.specs.Manager.{Manager, forest_of, machine_by, machine_of, shown, state_at}
 use Rattle.pvm_core.specs.Pieces.{bytes_found, fault_at}
-use Rattle.pvm_core.proofs.Answered.{no_push, no_segments}
-use Rattle.pvm_core.proofs.Rising.{grown_some, rise_between, rises_between}
+use Rattle.pvm_core.proofs.Answered.{no_segments}
+use Rattle.pvm_core.proofs.Rising.{grown_some, rises_between}
 use Rattle.pvm_core.proofs.Values.{blank_of, page_shown, value_there, zeroed, zeroed_whole, zeros_by}
-
--- a call from its outcome and its forest
-pub call_is : (c d : MapperCounts) → Later c d → (p q : Manager) (h g : Option Held) (command : Command) (answer : Answer) → segments_of g ≡ segments_of h → ReachesMapper command (rises_between c d)
-    → forest_of q g ≡ forest_after (forest_of p h) (machine_of p h) command answer (machine_of q g)
-    → OutcomeAt (segments_of g) (machine_of p h) (Some (forest_of p h)) command answer (machine_of q g) (rises_between c d) → CallIs c d (state_at p h) command answer (state_at q g)
-call_is c d later p q h g command answer segs reaches forest outcome = record {
-  pushes = [];
-  rises = rises_between c d;
-  rose = rise_between c d later;
-  is = record { outcome = outcome; forest = ap Some forest; reaches = reaches; few = omega arith; pushed = no_push (machine_of p h) (segments_of h) (segments_of g) segs };
-}
 
 -- Rows ------------------------------------------------------------------------------------------
 
@@ -116,24 +105,24 @@ found_shown g i b s None = refl
 found_shown g i b s (Some f) = refl
 
 -- a fault of a load
-pub load_fault : (m next : Machine) (f : PageForest) (actor : ActorId) (address n : ℕ) (s : Segments) (c d : MapperCounts) (miss : Miss) (page : PageNo) (at : Place) → next ≡ m → Ok at ≡ place m actor.0 address n → at.page ≡ page.0 → HasMissCause c d miss
-    → Outcome m (Some f) (commands.Load actor address n) s (Err (troubles.Mapper (fault_at miss page))) next (rises_between c d)
-load_fault m next f actor address n s c d Pull page at same is on cause =
+pub load_fault : (k : ℕ) (m next : Machine) (f : PageForest) (actor : ActorId) (address n : ℕ) (s : Segments) (c d : MapperCounts) (miss : Miss) (page : PageNo) (at : Place) → next ≡ m → Ok at ≡ place m actor.0 address n → at.page ≡ page.0 → HasMissCause c d miss
+    → Outcome m (Some f) (commands.Load actor address n) s (Err (troubles.Mapper (fault_at miss page))) next (rises_between k c d)
+load_fault k m next f actor address n s c d Pull page at same is on cause =
     let row = load_row m actor.0 address n at is in
-    (same, grown_some c.faults d.faults cause.faults, (subst (λ (r : Result Place Refusal). IsOkAnd r (λ (at : Place). at.page ≡ page.0)) is on, grown_some c.pulls d.pulls cause.pulls), rw row tt)
-load_fault m next f actor address n s c d Victim page at same is on cause =
+    (same, grown_some k c.faults d.faults cause.faults, (subst (λ (r : Result Place Refusal). IsOkAnd r (λ (at : Place). at.page ≡ page.0)) is on, grown_some k c.pulls d.pulls cause.pulls), rw row tt)
+load_fault k m next f actor address n s c d Victim page at same is on cause =
     let row = load_row m actor.0 address n at is in
-    (same, grown_some c.faults d.faults cause.faults, grown_some c.pushes d.pushes cause.pushes, rw row tt)
+    (same, grown_some k c.faults d.faults cause.faults, grown_some k c.pushes d.pushes cause.pushes, rw row tt)
 
 -- the bytes that were loaded
 module _ (p q : Manager) (h g : Option Held) (i : Option ℕ) (b : Arena) (s : Store) (actor : ActorId) (address n : ℕ) (at : Place) (cache : CacheId) (page count : ℕ) (found : Option FrameId) (piece : List ℕ) (rises : MapperCounts)
     (nodes : IsWhole p.caches) (is : (f : PageForest) → Ok at ≡ place (machine_by p f) actor.0 address n) (of : at.region.cache ≡ cache.0) (on : at.page ≡ page) (size : size_of p.caches cache.0 ≡ Some count) (less : page < count) (fits : at.byte + n ≤ p.page_bytes)
     (piece_is : piece ≡ take n (drop at.byte (bytes_found s found))) (long : length piece ≡ n) (value : value_of (forest_of p h) (page_name cache page) ≡ Some (found_page (world g i b s) found))
-    (segs : segments_of g ≡ segments_of h) (by : (f : PageForest) → machine_by q f ≡ machine_by p f) (same : machine_of q g ≡ machine_of p h) where
+    (segs : is_some (segments_of g) ≡ is_some (segments_of h)) (by : (f : PageForest) → machine_by q f ≡ machine_by p f) (same : machine_of q g ≡ machine_of p h) where
   pub loaded : OutcomeAt (segments_of g) (machine_of p h) (Some (forest_of p h)) (commands.Load actor address n) (Ok (replies.Bytes piece)) (machine_of q g) rises
   loaded = go g h refl refl segs
     where
-      go : (k j : Option Held) → g ≡ k → h ≡ j → segments_of k ≡ segments_of j → OutcomeAt (segments_of k) (machine_of p h) (Some (forest_of p h)) (commands.Load actor address n) (Ok (replies.Bytes piece)) (machine_of q g) rises
+      go : (k j : Option Held) → g ≡ k → h ≡ j → is_some (segments_of k) ≡ is_some (segments_of j) → OutcomeAt (segments_of k) (machine_of p h) (Some (forest_of p h)) (commands.Load actor address n) (Ok (replies.Bytes piece)) (machine_of q g) rises
       go (Some k) j e e2 segs =
           load_row (machine_of p h) actor.0 address n at (is (forest_of p h))
           ∙ (λ x. reply (replies.Bytes ((ap (λ (y : Page). take n (drop at.byte y)) (page_is p cache page count size less (forest_of p h) at of on ∙ ap shown value ∙ ap (λ (t : Option Held). shown (Some (found_page (world t i b s) found))) e ∙ found_shown k i b s found) ∙ sym piece_is) x)) (sym same x))
@@ -183,8 +172,6 @@ at_le ts (suc k) t e = le_sum ts k t e
 pub size_le : (a : Arena) (n count : ℕ) → size_of a n ≡ Some count → count ≤ sum_by page_count a.caches
 size_le a n count e = let t = sized_table (table_of a n) count e in omega (arith, at_le a.caches n t.0 t.1, t.2)
 
-pub no_later : (c : MapperCounts) → Later c c
-no_later c = record { faults = omega arith; pulls = omega arith; pushes = omega arith }
 
 pub found_within : (found : Option FrameId) (P : FrameId → Type 0) (m n : ℕ) → m ≡ n → IfSome found (λ f. (f.0 < m) × P f) → IfSome found (λ f. f.0 < n)
 found_within None P m n e h = tt

@@ -22,9 +22,11 @@ use Rattle.local_cache.specs.Reading.{name_of}
 use Rattle.local_cache.specs.Sound.{IsSound}
 use Rattle.local_cache.proofs.Forest.Reading.{IsNode-forest_of, forest_of-IsNode}
 use Rattle.local_cache.proofs.Forest.ReadingBy.{lifted}
+use Rattle.local_cache.specs.Home.{home_of}
+use Rattle.local_cache.specs.declared.home.Home.{Home}
 use Rattle.residency.specs.declared.store.Store.{Store}
 use Rattle.residency.specs.StoreForest.{store_forest}
-use Rattle.residency.specs.World.{frame_page, own_page, page_by, world}
+use Rattle.residency.specs.World.{frame_page, own_page, page_by, world, home_page, page_at}
 use Rattle.residency.proofs.Telling.{tells}
 use Rattle.fault_path.proofs.Kept.{store_bare, store_page}
 
@@ -76,20 +78,22 @@ module _ (h : Option Held) (a : Arena) (s : Store) (r : Room) (slots : List Bool
 
 -- The nodes of a new cache ----------------------------------------------------------------------
 
-module _ (h : Option Held) (a b : Arena) (s : Store) (cache : CacheId) (n : ℕ) (has : (page : ℕ) → page < n → HasPage b cache page Zero) (stays : (m : NodeId) → IsHeld a m → find b m ≡ find a m)
+module _ (h : Option Held) (a b : Arena) (s : Store) (cache : CacheId) (n : ℕ) (has : (page : ℕ) → page < n → HasPage b cache page Zero) (stays : (m : NodeId) → IsHeld a m → find b m ≡ find a m) (homes : (m : NodeId) → IsHeld a m → home_of b m ≡ home_of a m)
     (forest : arena.forest_of b ≡ make (all_with Zero (page_names cache 0 n)) (arena.forest_of a)) (sound : IsSound a) (then : IsSound b) (fresh : (x : NodeName) → x ∈ page_names cache 0 n → IsNode (arena.forest_of a) x → ⊥) where
   abbrev zeros : Option (List ℕ)
   zeros = option_map (λ _. replicate s.frames.page 0) h
 
   zero_is : (m : NodeId) → own_of b m ≡ Zero → own_page (world h None b s) m ≡ Some zeros
-  zero_is m e = ap (page_by zeros (option_map (λ _. frame_page (world h None b s) m) h) (λ slot. option_and_then (λ k. slot_of k slot) h) None) e
+  zero_is m e = ap (page_by zeros (option_map (λ _. frame_page (world h None b s) m) h) (λ slot. option_and_then (λ k. slot_of k slot) h) (home_page (world h None b s) m)) e
 
   cell_stays : (m : NodeId) → IsHeld a m → cell b m ≡ cell a m
   unfolding cell
   cell_stays m k = ap (λ o. unwrap_or o blank) (stays m k)
 
   page_stays : (m : NodeId) → IsHeld a m → own_page (world h None b s) m ≡ own_page (world h None a s) m
-  page_stays m k = ap (λ c. page_by zeros (option_map (λ _. frame_page (world h None a s) m) h) (λ slot. option_and_then (λ k. slot_of k slot) h) None c.own) (cell_stays m k)
+  page_stays m k =
+      ap (λ (o : Option Home). page_by zeros (option_map (λ _. frame_page (world h None a s) m) h) (λ slot. option_and_then (λ k. slot_of k slot) h) (option_and_then (λ g. option_and_then (page_at g) o) h) (own_of b m)) (homes m k)
+      ∙ ap (λ c. page_by zeros (option_map (λ _. frame_page (world h None a s) m) h) (λ slot. option_and_then (λ k. slot_of k slot) h) (home_page (world h None a s) m) c.own) (cell_stays m k)
 
   held_stays : (m : NodeId) → IsHeld a m → IsHeld b m
   held_stays m k = ap is_some (stays m k) ∙ k

@@ -24,12 +24,13 @@ use Rattle.vm_model.specs.Run.{AnswerIs}
 use Rattle.vm_model.proofs.Following.{made_followed}
 use Rattle.vm_model.proofs.ListParts.{numbered_pushed}
 use Rattle.pvm_core.specs.Manager.{Manager, caches_shown, forest_of, machine_by, machine_of, state_at}
-use Rattle.pvm_core.proofs.Answered.{no_push, no_segments}
+use Rattle.pvm_core.proofs.Answered.{no_segments}
+use Rattle.pvm_core.proofs.Reaching.{as_segments, no_push}
 use Rattle.pvm_core.proofs.Determined.{IsShaped, followed_is}
 use Rattle.pvm_core.proofs.Making.{all_with, equal_pages}
 use Rattle.pvm_core.proofs.Shown.{shown_live, shown_made}
 use Rattle.pvm_core.proofs.Values.{blank_of, zeroed, zeroed_whole}
-use Rattle.local_cache.proofs.NewCache.Whole.{zero_pages}
+use Rattle.local_cache.proofs.NewCache.Whole.{pages_with}
 use Rattle.local_cache.specs.Whole as whole
 use Rattle.local_cache.proofs.Whole.Pages.{node_page}
 use Rattle.local_cache.specs.Reading as arena
@@ -185,14 +186,16 @@ module _ (p q : Manager) (h : Option Held) (cache : CacheId) (n : ℕ) (nodes : 
             ∙ ap (λ (k : ℕ). reply (replies.Cache (record { 0 = k })) (record (machine_by p (zeroed p h)) { caches = (machine_by p (zeroed p h)).caches ++ Some (temporary p.page_bytes n) ∷ [] })) (let e : length (machine_by p (zeroed p h)).caches + 1 ≡ cache.0 = omega (arith, made.number, shown_made (zeroed p h) 1 p.caches.caches) in e);
       }
 
-  pub answer_more : whole.IsWhole p.caches → (live : ℕ) → live ≡ sum_by page_count p.caches.caches → length p.caches.caches < MADE → live + n ≤ LIVE_PAGES
+  pub answer_more : whole.IsWhole p.caches → (live : ℕ) → live ≡ sum_by page_count p.caches.caches → length p.caches.caches < MADE → live + n ≤ LIVE_PAGES → IfSome h (λ _. HasWholePages (machine_of p h))
       → AnswerIs (state_at p h) (commands.MakeTemp n) (Ok (replies.Cache cache)) [] no_counts (state_at q h)
-  answer_more nodes live is few low = record {
+  answer_more nodes live is few low whole = record {
     outcome = outcome_more nodes live is few low;
     forest = ap Some forest_more;
     reaches = refl;
     few = omega arith;
     pushed = no_push (machine_of p h) (segments_of h) (segments_of h) refl;
+    synchronised = tt;
+    whole = as_segments (HasWholePages (machine_of q h)) h (whole_more whole);
   }
 
 -- the pages of a new cache have no nodes before
@@ -211,9 +214,9 @@ zeros_named : (xs : List NodeName) → firsts (map (λ (x : NodeName). (x, Zero)
 zeros_named [] = refl
 zeros_named (x ∷ xs) = ap (λ ys. x ∷ ys) (zeros_named xs)
 
-pub fresh_zeros : (b d : Arena) (cache : CacheId) (n : ℕ) (nodes : List NodeId) → whole.IsWhole b → IsMade b d cache None Zero nodes → AreFresh (arena.forest_of b) (zero_pages cache n)
+pub fresh_zeros : (b d : Arena) (cache : CacheId) (n : ℕ) (nodes : List NodeId) → whole.IsWhole b → IsMade b d cache None Zero nodes → AreFresh (arena.forest_of b) (pages_with Zero cache n)
 fresh_zeros b d cache n nodes w made =
-    let named : firsts (zero_pages cache n) ≡ page_names cache 0 n = zeros_named (page_names cache 0 n) in
+    let named : firsts (pages_with Zero cache n) ≡ page_names cache 0 n = zeros_named (page_names cache 0 n) in
     record {
       once = subst Once (sym named) (ranges_hold_pages_once cache 0 n);
       fresh = λ x i. (

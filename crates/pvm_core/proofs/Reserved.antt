@@ -13,7 +13,7 @@ use Rattle.local_cache.specs.Whole.{IsWhole, size_of}
 use Rattle.local_cache.proofs.Whole.Pages.{range_there}
 use Rattle.residency.specs.declared.store.Store.{Store}
 use Rattle.page_release.specs.Steps.{IsStoreTied}
-use Rattle.page_release.proofs.Tied.{tied_right}
+use Rattle.page_release.proofs.Tying.Tied.{tied_right}
 use Rattle.vm_model.specs.PageForest.{PageForest}
 use Rattle.contexts.specs.Actors.{Actors}
 use Rattle.pvm_core.specs.Manager.{IsSound, IsValid, forest_of, machine_by, state_at}

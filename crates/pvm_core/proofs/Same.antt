@@ -1,15 +1,13 @@
 -- What depends on the sizes and the segments of caches alone.
 use Rattle.std.proofs.Common.{◌≡◌, ℕ, zero, suc, ◌+◌, List, [], ◌∷◌, get_or, set, length, Option, Some, None, option_map, refl, sym, ap, ◌∙◌, arith}
 use Rattle.std.specs.Prelude.{sum_by}
-use Rattle.std.specs.List.{All}
-use Rattle.std.proofs.lemmas.List.Elements.{All-cons, All-nil, All-head, All-tail}
 use Rattle.std.proofs.lemmas.List.Sums.{sum_by-cons}
 use Rattle.vm_ids.specs.declared.numbers.SegId.{SegId}
 use Rattle.local_cache.specs.Arena.{Arena, Table, page_count}
 use Rattle.local_cache.specs.Whole.{SameCaches}
 use Rattle.vm_model.specs.Machine.{Cache}
 use Rattle.vm_model.specs.PageForest.{PageForest}
-use Rattle.pvm_core.specs.Manager.{IsTemporary, caches_shown, live_in}
+use Rattle.pvm_core.specs.Manager.{caches_shown, live_in}
 use Rattle.pvm_core.proofs.Determined.{IsShaped}
 use Rattle.pvm_core.proofs.Shown.{length-pages}
 
@@ -30,16 +28,6 @@ total [] [] many each = refl
 total (t ∷ ts) (u ∷ us) many each = omega (arith, sum_by-cons page_count t ts, sum_by-cons page_count u us, same_count t u (each 0), total ts us (omega (arith, many)) (λ k. each (suc k)))
 total [] (u ∷ us) many each = absurd (omega (arith, many))
 total (t ∷ ts) [] many each = absurd (omega (arith, many))
-
-same_temporary : (o p : Option Table) → segment p ≡ segment o → IsTemporary o → IsTemporary p
-same_temporary o None e h = tt
-same_temporary None (Some u) e h = absurd (cc e)
-same_temporary (Some t) (Some u) e h = (let s : u.segment ≡ t.segment = cc e in s ∙ h)
-
-all_temporary : (ts us : List (Option Table)) → ((k : ℕ) → segment (get_or us k None) ≡ segment (get_or ts k None)) → All IsTemporary ts → All IsTemporary us
-all_temporary ts [] each h = All-nil IsTemporary
-all_temporary (t ∷ ts) (u ∷ us) each h = All-cons IsTemporary u us (same_temporary t u (each 0) (All-head IsTemporary t ts h)) (all_temporary ts us (λ k. each (suc k)) (All-tail IsTemporary t ts h))
-all_temporary [] (u ∷ us) each h = All-cons IsTemporary u us (same_temporary None u (each 0) tt) (all_temporary [] us (λ k. each (suc k)) h)
 
 same_shape : (c : Option Cache) (o p : Option Table) → segment p ≡ segment o → size p ≡ size o → IsShaped c o → IsShaped c p
 same_shape None None None seg sz h = tt
@@ -79,9 +67,6 @@ module _ (a b : Arena) (same : SameCaches a b) where
 
   pub live_same : live_in b ≡ live_in a
   live_same = total a.caches b.caches same.count size_at
-
-  pub temporary_same : All IsTemporary a.caches → All IsTemporary b.caches
-  temporary_same = all_temporary a.caches b.caches segment_at
 
   pub shaped_same : (c : Option Cache) (k : ℕ) → IsShaped c (get_or a.caches k None) → IsShaped c (get_or b.caches k None)
   shaped_same c k = same_shape c (get_or a.caches k None) (get_or b.caches k None) (segment_at k) (size_at k)

@@ -17,7 +17,7 @@ use Rattle.local_cache.specs.Arena.{Table, table_at, table_of}
 use Rattle.local_cache.specs.Reading.{name_of}
 use Rattle.residency.specs.StoreForest.{store_forest}
 use Rattle.residency.specs.World.{World}
-use Rattle.residency.proofs.Evicted.{page_here}
+use Rattle.residency.proofs.Homes.{page_here}
 use Rattle.residency.proofs.Homes.{IsHome, home}
 use Rattle.residency.proofs.WrittenForest.{written_forest}
 use Rattle.fault_path.specs.Faults.{Kept, readied}
@@ -55,6 +55,10 @@ module _ (m : Machine) (actor address : ℕ) (bytes : List ℕ) (h : Segments) w
   pub store_row : (at : Place) → Ok at ≡ place m actor address (length bytes) → at.region.may_write ≡ true → is_denied_page m h at.region.cache at.page ≡ false → store_of m actor address bytes h ≡ reply replies.Done (write_at m at bytes)
   unfolding store_of with_ok unless
   store_row at e may_write allowed = let back = sym e in rw (back, may_write, allowed) refl
+
+  pub store_denied : (at : Place) → Ok at ≡ place m actor address (length bytes) → at.region.may_write ≡ true → is_denied_page m h at.region.cache at.page ≡ true → store_of m actor address bytes h ≡ refuse m refusals.WriteDenied
+  unfolding store_of with_ok unless
+  store_denied at e may_write denied = let back = sym e in rw (back, may_write, denied) refl
 
 -- The forest --------------------------------------------------------------------------------------
 

@@ -1,6 +1,6 @@
 -- A copy and a move of pages: the machine after each.
 use Rattle.std.proofs.Common.{◌≡◌, ℕ, zero, suc, ◌+◌, ◌-◌, ◌≤◌, Bool, false, List, ◌++◌, get_or, set, length, length-set, take, drop, Option, Some, None, option_map, refl, sym, ap, ◌∙◌, subst, arith, [], replicate, inl, inr}
-use Rattle.std.specs.Prelude.{Ok, IfSome, nat_lt, ◌||◌, is_some, unwrap_or}
+use Rattle.std.specs.Prelude.{Ok, IfSome, nat_lt, ◌||◌, is_some, option_and_then, unwrap_or}
 use Rattle.std.specs.List.{All}
 use Rattle.std.specs.Option.{option_map_or}
 use Rattle.std.proofs.lemmas.Bool.Decides.{nat_tests}
@@ -9,15 +9,18 @@ use Rattle.std.proofs.lemmas.List.Elements.{All-append, All-take, All-drop, All-
 use Rattle.vm_ids.specs.Counting.{MapperCounts}
 use Rattle.vm_ids.specs.Held.{Held, Segments, segments_in, segments_of}
 use Rattle.vm_ids.specs.declared.command.Span.{Span}
-use Rattle.vm_ids.specs.Forest.Commands.{copy, span_pairs, move_}
+use Rattle.vm_ids.specs.Forest.Commands.{copy, extent_names, span_pairs, move_}
+use Rattle.vm_ids.specs.Forest.Saving.{saved}
+use Rattle.vm_ids.specs.declared.numbers.SegId.{SegId}
 use Rattle.local_cache.specs.Arena.{Arena, Table, table_at, table_of}
 use Rattle.residency.specs.declared.store.Store.{Store}
 use Rattle.residency.specs.StoreForest.{store_forest}
 use Rattle.residency.specs.World.{world}
 use Rattle.local_cache.specs.Whole.{IsWhole, SameCaches, size_of}
 use Rattle.page_release.specs.Steps.{ForAnyMapper, GivesBack, IsStoreTied, StaysRight, zeros_told}
-use Rattle.page_release.proofs.Tied.{tied_of}
-use Rattle.vm_model.specs.Answering.{copy_of, is_named, overwrite, put_pages, reply, move_of, put_cache}
+use Rattle.page_release.proofs.Tying.Tied.{tied_of}
+use Rattle.vm_model.specs.Answering.{copy_of, is_any_denied, overwrite, put_pages, reply, move_of, put_cache}
+use Rattle.vm_model.specs.Answering.{is_named as model_named}
 use Rattle.vm_model.specs.Following.{forest_after}
 use Rattle.vm_model.specs.Machine.{Cache, Machine, Page, cache_of}
 use Rattle.vm_model.specs.Outcome.{HasWholePages, OutcomeAt, blank}
@@ -27,15 +30,20 @@ use Rattle.vm_model.proofs.Following.{IsAllowed, copied_followed, moved_followed
 use Rattle.vm_model.proofs.Lists.{length-overwrite, at_number, numbered-set}
 use Rattle.vm_model.proofs.Sound.{numbered-all}
 use Rattle.contexts.specs.Actors.{Actors}
-use Rattle.pvm_core.specs.Manager.{IsSound, IsValid, cache_shown, caches_shown, forest_of, machine_by, machine_of}
+use Rattle.pvm_core.specs.Manager.{IsSound, IsValid, Manager, cache_shown, caches_shown, forest_of, machine_by, machine_of}
 use Rattle.pvm_core.proofs.Answered.{no_segments}
 use Rattle.pvm_core.proofs.Changed.{blank_is, machine_is, put_shaped}
 use Rattle.pvm_core.proofs.Determined.{IsShaped}
 use Rattle.pvm_core.proofs.Kept.{seen}
 use Rattle.pvm_core.proofs.Same.{shown_shaped}
 use Rattle.pvm_core.proofs.Shown.{length-pages, numbered-caches, shown_made}
-use Rattle.pvm_core.proofs.SpanRows.{IsOpen, copy_row, unlocked_actors, move_row}
-use Rattle.pvm_core.proofs.Stored.{undenied, unnamed_at}
+use Rattle.pvm_core.proofs.SpanRows.{IsOpen, copy_denied, copy_row, move_denied, move_row, outside, unlocked_actors}
+use Rattle.pvm_core.proofs.Transferring.{IsTransfer, undenied_any}
+use Rattle.pvm_core.specs.Spans.{replaced}
+use Rattle.pvm_core.proofs.Full.{full_same}
+use Rattle.pvm_core.proofs.Sized.{sized_same}
+use Rattle.pvm_core.specs.Saving.{is_named}
+use Rattle.page_release.proofs.Walking.Ranges.{destination_names}
 use Rattle.pvm_core.proofs.Values.{blank_of, followed_of, zeroed, zeroed_whole}
 use Rattle.std.proofs.lemmas.Option.{get_or_from_slice_get}
 use Rattle.pvm_core.proofs.NewCache.{told_zeros, zeros_for}
@@ -55,6 +63,22 @@ table_place ts (suc k) t e = ap (λ (i : ℕ). get_or ts i None) (let s : suc k 
 
 pub all_overwrite : (P : Page → Type 0) (at : ℕ) (part whole : List Page) → All P part → All P whole → All P (overwrite at part whole)
 all_overwrite P at part whole p w = All-append P (take at whole ++ part) (drop (at + length part) whole) (All-append P (take at whole) part (All-take P at whole w) p) (All-drop P (at + length part) whole w)
+
+is_shown : (o : Option SegId) → is_some (option_map (λ (s : SegId). s.0) o) ≡ is_some o
+is_shown None = refl
+is_shown (Some s) = refl
+
+-- a segment names the cache in the machine where it does in the tables
+pub named_machine : (p : Manager) (f : PageForest) (n : ℕ) → model_named (machine_by p f) n ≡ is_named p.caches n
+named_machine p f n = ap (λ (o : Option Cache). option_map_or (λ (c : Cache). is_some c.segment) o false) (numbered-caches f p.caches.caches n) ∙ by_table (table_of p.caches n)
+  where
+    by_table : (o : Option Table) → option_map_or (λ (c : Cache). is_some c.segment) (option_map (cache_shown f n) o) false ≡ is_some (option_and_then (λ (t : Table). t.segment) o)
+    by_table None = refl
+    by_table (Some t) = is_shown t.segment
+
+-- and so it does in the cache that is there
+pub named_there : (p : Manager) (f : PageForest) (n : ℕ) (c : Cache) → cache_of (machine_by p f) n ≡ Some c → is_some c.segment ≡ is_named p.caches n
+named_there p f n c e = ap (λ (o : Option Cache). option_map_or (λ (c : Cache). is_some c.segment) o false) (sym e) ∙ named_machine p f n
 
 module _ (b : Arena) (s : Store) (t : Actors) (live : ℕ) (k : IsSound b s t live) (span : Span) (out : IsOpen (size_of b span.from.0) (size_of b span.to.0) span) (from to : Table) (from_is : table_of b span.from.0 ≡ Some from) (to_is : table_of b span.to.0 ≡ Some to) (from_long : length from.pages ≡ out.from) (to_long : length to.pages ≡ out.to) where
   abbrev source : PageForest → Cache
@@ -84,10 +108,27 @@ module _ (b : Arena) (s : Store) (t : Actors) (live : ℕ) (k : IsSound b s t li
   allowed : (f : PageForest) → IsAllowed (machine_by (seen b s t) f) span (cache_shown f span.from.0 from) (cache_shown f span.to.0 to)
   allowed f = record { from = source_there f; to = destination_there f; source_ends = omega (arith, source_long f, out.from_ends); destination_ends = omega (arith, destination_long f, out.to_ends); apart = out.apart }
 
-  pub copied_row : (f : PageForest) (sg : Segments) → copy_of (machine_by (seen b s t) f) span sg ≡ reply replies.Done (record (machine_by (seen b s t) f) { caches = next f })
-  copied_row f sg = copy_row (machine_by (seen b s t) f) span sg (λ cache page. unlocked_actors (size_of b) cache page t.actors k.actors.placed) (λ page. undenied (seen b s t) f sg span.to.0 page to k.temporary to_is) (cache_shown f span.from.0 from) (cache_shown f span.to.0 to) (source_there f) (destination_there f)
-      (both (nat_lt (length (cache_shown f span.from.0 from).pages) (span.from_page.0 + span.pages)) (nat_lt (length (cache_shown f span.to.0 to).pages) (span.to_page.0 + span.pages))
-      (inside (length (cache_shown f span.from.0 from).pages) (span.from_page.0 + span.pages) (omega (arith, source_long f, out.from_ends))) (inside (length (cache_shown f span.to.0 to).pages) (span.to_page.0 + span.pages) (omega (arith, destination_long f, out.to_ends)))) out.apart
+  outside_not : (f : PageForest) → outside (cache_shown f span.from.0 from) (cache_shown f span.to.0 to) span ≡ false
+  outside_not f = both (nat_lt (length (cache_shown f span.from.0 from).pages) (span.from_page.0 + span.pages)) (nat_lt (length (cache_shown f span.to.0 to).pages) (span.to_page.0 + span.pages))
+      (inside (length (cache_shown f span.from.0 from).pages) (span.from_page.0 + span.pages) (omega (arith, source_long f, out.from_ends))) (inside (length (cache_shown f span.to.0 to).pages) (span.to_page.0 + span.pages) (omega (arith, destination_long f, out.to_ends)))
+
+  pub copied_row : (f : PageForest) (sg : Segments) → is_any_denied (machine_by (seen b s t) f) sg span ≡ false → copy_of (machine_by (seen b s t) f) span sg ≡ reply replies.Done (record (machine_by (seen b s t) f) { caches = next f })
+  copied_row f sg free = copy_row (machine_by (seen b s t) f) span sg (λ cache page. unlocked_actors (size_of b) cache page t.actors k.actors.placed) (cache_shown f span.from.0 from) (cache_shown f span.to.0 to) (source_there f) (destination_there f) (outside_not f) out.apart free
+
+  -- a copy of the span
+  pub copied_transfer : IsTransfer (seen b s t) span (commands.Copy span)
+  copied_transfer = record {
+    next = λ f. record (machine_by (seen b s t) f) { caches = next f };
+    row = λ f g sg free. copied_row f sg free;
+    shut = λ f g sg denied. copy_denied (machine_by (seen b s t) f) span sg (λ cache page. unlocked_actors (size_of b) cache page t.actors k.actors.placed) (cache_shown f span.from.0 from) (cache_shown f span.to.0 to) (source_there f) (destination_there f) (outside_not f) out.apart denied;
+    saved = λ m. refl;
+    access = λ m f sg page rises named first. (named, first);
+    save = λ m f sg done rises named can. (named, can);
+    memory = tt;
+    reaches = λ rises. tt;
+    touched = λ m. omega arith;
+    quiet = λ m h answer. tt;
+  }
 
   part_long : (f : PageForest) → length (take span.pages (drop span.from_page.0 (cache_shown f span.from.0 from).pages)) ≡ span.pages
   part_long f = length-take-le span.pages (drop span.from_page.0 (cache_shown f span.from.0 from).pages) (omega (arith, source_long f, out.from_ends, length-drop span.from_page.0 (cache_shown f span.from.0 from).pages))
@@ -112,15 +153,15 @@ module _ (b : Arena) (s : Store) (t : Actors) (live : ℕ) (k : IsSound b s t li
     pub machine_copied : machine_of (seen d u t) h ≡ record (machine_of (seen b s t) h) { caches = next (forest_of (seen b s t) h) }
     machine_copied = machine_is b d s u t live k same back tied whole h (next (forest_of (seen b s t) h)) (many (forest_of (seen b s t) h)) (shapes (forest_of (seen b s t) h)) now
 
-    named : is_named (machine_of (seen b s t) h) span.to.0 ≡ false
-    named = ap (λ (o : Option Cache). option_map_or (λ (c : Cache). is_some c.segment) o false) (destination_there (forest_of (seen b s t) h)) ∙ ap (λ o. is_some (option_map (λ s. s.0) o)) (unnamed_at b.caches span.to.0 to k.temporary to_is)
-
-    pub copy_follows : (m : Machine) → forest_of (seen d u t) h ≡ forest_after (forest_of (seen b s t) h) (machine_of (seen b s t) h) (commands.Copy span) (Ok replies.Done) m
-    copy_follows m = forest_now ∙ ap (λ (x : Bool). copy x (span_pairs span) (forest_of (seen b s t) h)) (sym named)
+    -- with the saves that were done before
+    pub copy_follows : (named : Bool) (f : PageForest) → forest_of (seen b s t) h ≡ saved named (extent_names (replaced span)) f → forest_of (seen d u t) h ≡ copy named (span_pairs span) f
+    copy_follows named f before = forest_now ∙ ap (copy false (span_pairs span)) (before ∙ ap (λ xs. saved named xs f) (sym (destination_names span)))
 
     pub copied_valid : IsValid (seen d u t) h
     copied_valid = record {
       right = right h None v.right;
+      sized = sized_same b d h same.segments same.sizes v.sized;
+      full = full_same b d t.page_bytes h same.segments v.full;
       whole = subst (λ (m : Machine). IfSome h (λ _. HasWholePages m)) (sym machine_copied) (go h v.whole);
     }
       where
@@ -134,11 +175,12 @@ module _ (b : Arena) (s : Store) (t : Actors) (live : ℕ) (k : IsSound b s t li
             All-set (outcome.IsWhole t.page_bytes) (caches_shown f 1 b.caches) (span.to.0 - 1) (Some (put f))
             (all_overwrite P span.to_page.0 (take span.pages (drop span.from_page.0 (cache_shown f span.from.0 from).pages)) (cache_shown f span.to.0 to).pages (All-take P span.pages (drop span.from_page.0 (cache_shown f span.from.0 from).pages) (All-drop P span.from_page.0 (cache_shown f span.from.0 from).pages sp)) dp) w
 
-    pub copied_outcome : (rises : MapperCounts) → OutcomeAt (segments_of h) (machine_of (seen b s t) h) (Some (forest_of (seen b s t) h)) (commands.Copy span) (Ok replies.Done) (machine_of (seen d u t) h) rises
-    copied_outcome rises = go h refl
+    pub copied_outcome : (F : PageForest) (rises : MapperCounts) → ((sg : Segments) → segments_of h ≡ Some sg → is_any_denied (machine_of (seen b s t) h) sg span ≡ false)
+        → OutcomeAt (segments_of h) (machine_of (seen b s t) h) (Some F) (commands.Copy span) (Ok replies.Done) (machine_of (seen d u t) h) rises
+    copied_outcome F rises free = go h refl
       where
-        go : (g : Option Held) → h ≡ g → OutcomeAt (segments_of g) (machine_of (seen b s t) h) (Some (forest_of (seen b s t) h)) (commands.Copy span) (Ok replies.Done) (machine_of (seen d u t) h) rises
-        go (Some g) e = copied_row (forest_of (seen b s t) h) (segments_in g) ∙ ap (λ (m : Machine). reply replies.Done m) (sym machine_copied)
+        go : (g : Option Held) → h ≡ g → OutcomeAt (segments_of g) (machine_of (seen b s t) h) (Some F) (commands.Copy span) (Ok replies.Done) (machine_of (seen d u t) h) rises
+        go (Some g) e = copied_row (forest_of (seen b s t) h) (segments_in g) (free (segments_in g) (ap segments_of e)) ∙ ap (λ (m : Machine). reply replies.Done m) (sym machine_copied)
         go None e = record {
           whole = machine_by (seen b s t) (zeroed (seen b s t) h);
           whole_next = record (machine_by (seen b s t) (zeroed (seen b s t) h)) { caches = next (zeroed (seen b s t) h) };
@@ -148,7 +190,7 @@ module _ (b : Arena) (s : Store) (t : Actors) (live : ℕ) (k : IsSound b s t li
           is_next = blank_is b d s u t live k same back tied whole h (next (zeroed (seen b s t) h)) (many (zeroed (seen b s t) h)) (shapes (zeroed (seen b s t) h)) (zeroed (seen b s t) h) e;
           pages = zeroed_whole (seen b s t) h k.nodes;
           alike = refl;
-          outcome = copied_row (zeroed (seen b s t) h) no_segments;
+          outcome = copied_row (zeroed (seen b s t) h) no_segments (undenied_any (seen b s t) (zeroed (seen b s t) h) span);
         }
 
   -- A move ------------------------------------------------------------------------------------
@@ -165,14 +207,27 @@ module _ (b : Arena) (s : Store) (t : Actors) (live : ℕ) (k : IsSound b s t li
   abbrev moved : PageForest → Page → List (Option Cache)
   moved f z = set (next f) (span.from.0 - 1) (Some (put_pages span.from_page.0 (replicate span.pages z) (copied_there f).0))
 
-  unnamed_source : (f : PageForest) → is_some (cache_shown f span.from.0 from).segment ≡ false
-  unnamed_source f = ap (λ o. is_some (option_map (λ s. s.0) o)) (unnamed_at b.caches span.from.0 from k.temporary from_is)
+  unnamed_source : is_named b span.from.0 ≡ false → (f : PageForest) → is_some (cache_shown f span.from.0 from).segment ≡ false
+  unnamed_source temp f = is_shown from.segment ∙ sym (ap (λ (o : Option Table). is_some (option_and_then (λ (t : Table). t.segment) o)) from_is) ∙ temp
 
-  pub moved_row : (f : PageForest) (sg : Segments) → move_of (machine_by (seen b s t) f) span sg ≡ reply replies.Done (record (machine_by (seen b s t) f) { caches = moved f (replicate t.page_bytes 0) })
-  moved_row f sg = move_row (machine_by (seen b s t) f) span sg (λ cache page. unlocked_actors (size_of b) cache page t.actors k.actors.placed) (λ page. undenied (seen b s t) f sg span.to.0 page to k.temporary to_is) (cache_shown f span.from.0 from) (cache_shown f span.to.0 to) (source_there f) (destination_there f) (unnamed_source f)
-      (both (nat_lt (length (cache_shown f span.from.0 from).pages) (span.from_page.0 + span.pages)) (nat_lt (length (cache_shown f span.to.0 to).pages) (span.to_page.0 + span.pages))
-      (inside (length (cache_shown f span.from.0 from).pages) (span.from_page.0 + span.pages) (omega (arith, source_long f, out.from_ends))) (inside (length (cache_shown f span.to.0 to).pages) (span.to_page.0 + span.pages) (omega (arith, destination_long f, out.to_ends)))) out.apart
+  pub moved_row : is_named b span.from.0 ≡ false → (f : PageForest) (sg : Segments) → is_any_denied (machine_by (seen b s t) f) sg span ≡ false → move_of (machine_by (seen b s t) f) span sg ≡ reply replies.Done (record (machine_by (seen b s t) f) { caches = moved f (replicate t.page_bytes 0) })
+  moved_row temp f sg free = move_row (machine_by (seen b s t) f) span sg (λ cache page. unlocked_actors (size_of b) cache page t.actors k.actors.placed) (cache_shown f span.from.0 from) (cache_shown f span.to.0 to) (source_there f) (destination_there f) (outside_not f) out.apart (unnamed_source temp f) free
       ∙ ap (λ (o : Option Cache). reply replies.Done (option_map_or (λ (c : Cache). put_cache (record (machine_by (seen b s t) f) { caches = next f }) span.from.0 (put_pages span.from_page.0 (replicate span.pages (replicate t.page_bytes 0)) c)) o (record (machine_by (seen b s t) f) { caches = next f }))) (copied_there f).1
+
+  -- a move of the span
+  pub moved_transfer : is_named b span.from.0 ≡ false → IsTransfer (seen b s t) span (commands.Move span)
+  moved_transfer temp = record {
+    next = λ f. record (machine_by (seen b s t) f) { caches = moved f (replicate t.page_bytes 0) };
+    row = λ f g sg free. moved_row temp f sg free;
+    shut = λ f g sg denied. move_denied (machine_by (seen b s t) f) span sg (λ cache page. unlocked_actors (size_of b) cache page t.actors k.actors.placed) (cache_shown f span.from.0 from) (cache_shown f span.to.0 to) (source_there f) (destination_there f) (outside_not f) out.apart (unnamed_source temp f) denied;
+    saved = λ m. refl;
+    access = λ m f sg page rises named first. (named, first);
+    save = λ m f sg done rises named can. (named, can);
+    memory = tt;
+    reaches = λ rises. tt;
+    touched = λ m. omega arith;
+    quiet = λ m h answer. tt;
+  }
 
   left_shape : (f : PageForest) → IsShaped (Some (copied_there f).0) (get_or b.caches (span.from.0 - 1) None)
   left_shape f = subst (λ (o : Option Cache). IsShaped o (get_or b.caches (span.from.0 - 1) None)) (get_or_from_slice_get (next f) (span.from.0 - 1) (Some (copied_there f).0) None (at_number (next f) span.from.0 (copied_there f).0 (copied_there f).1)) (shapes f (span.from.0 - 1))
@@ -217,20 +272,22 @@ module _ (b : Arena) (s : Store) (t : Actors) (live : ℕ) (k : IsSound b s t li
     pub machine_moved : machine_of (seen d u t) h ≡ record (machine_of (seen b s t) h) { caches = moved g z }
     machine_moved = machine_is b d s u t live k same back tied whole h (moved g z) (moved_many g z) (moved_shapes g z) moved_now
 
-    moved_named : is_named (machine_of (seen b s t) h) span.to.0 ≡ false
-    moved_named = ap (λ (o : Option Cache). option_map_or (λ (c : Cache). is_some c.segment) o false) (destination_there g) ∙ ap (λ o. is_some (option_map (λ s. s.0) o)) (unnamed_at b.caches span.to.0 to k.temporary to_is)
-
     left_zero : 1 ≤ span.pages → page_in (machine_of (seen d u t) h) span.from.0 span.from_page.0 ≡ Some z
     left_zero some = ap (λ (m : Machine). page_in m span.from.0 span.from_page.0) machine_moved
         ∙ ap (λ cs. page_in (record (machine_of (seen b s t) h) { caches = cs }) span.from.0 span.from_page.0) (sym moved_is)
         ∙ zero_left (machine_of (seen b s t) h) g span (source g) (destination g) F (allowed g) z span.from_page.0 (omega arith) (omega (arith, some))
 
-    pub move_follows : 1 ≤ span.pages → forest_of (seen d u t) h ≡ forest_after (forest_of (seen b s t) h) (machine_of (seen b s t) h) (commands.Move span) (Ok replies.Done) (machine_of (seen d u t) h)
-    move_follows some = forest_moved ∙ (λ j. move_ (sym moved_named j) ((blanks_are ∙ ap (λ (o : Option Page). told (unwrap_or o [])) (sym (left_zero some))) j) (span_pairs span) (forest_of (seen b s t) h))
+    -- with the saves that were done before
+    pub move_follows : 1 ≤ span.pages → (named : Bool) (f : PageForest) → forest_of (seen b s t) h ≡ saved named (extent_names (replaced span)) f
+        → forest_of (seen d u t) h ≡ move_ named (told (unwrap_or (page_in (machine_of (seen d u t) h) span.from.0 span.from_page.0) [])) (span_pairs span) f
+    move_follows some named f before = forest_moved ∙ ap (move_ false (zeros_told (world h None b s)) (span_pairs span)) (before ∙ ap (λ xs. saved named xs f) (sym (destination_names span)))
+        ∙ ap (λ (y : Option Page). move_ named y (span_pairs span) f) (blanks_are ∙ ap (λ (o : Option Page). told (unwrap_or o [])) (sym (left_zero some)))
 
     pub moved_valid : IsValid (seen d u t) h
     moved_valid = record {
       right = right h None v.right;
+      sized = sized_same b d h same.segments same.sizes v.sized;
+      full = full_same b d t.page_bytes h same.segments v.full;
       whole = subst (λ (m : Machine). IfSome h (λ _. HasWholePages m)) (sym machine_moved) (go h refl v.whole);
     }
       where
@@ -246,11 +303,12 @@ module _ (b : Arena) (s : Store) (t : Actors) (live : ℕ) (k : IsSound b s t li
             All-set (outcome.IsWhole t.page_bytes) (next g) (span.from.0 - 1) (Some (left g z))
             (all_overwrite P span.from_page.0 (replicate span.pages z) (copied_there g).0.pages (All-replicate P span.pages z (ap (λ k. length (zeros_for k t.page_bytes)) e ∙ length-replicate t.page_bytes 0)) lp) all
 
-    pub moved_outcome : (rises : MapperCounts) → OutcomeAt (segments_of h) (machine_of (seen b s t) h) (Some (forest_of (seen b s t) h)) (commands.Move span) (Ok replies.Done) (machine_of (seen d u t) h) rises
-    moved_outcome rises = go h refl
+    pub moved_outcome : is_named b span.from.0 ≡ false → (F : PageForest) (rises : MapperCounts) → ((sg : Segments) → segments_of h ≡ Some sg → is_any_denied (machine_of (seen b s t) h) sg span ≡ false)
+        → OutcomeAt (segments_of h) (machine_of (seen b s t) h) (Some F) (commands.Move span) (Ok replies.Done) (machine_of (seen d u t) h) rises
+    moved_outcome temp F rises free = go h refl
       where
-        go : (o : Option Held) → h ≡ o → OutcomeAt (segments_of o) (machine_of (seen b s t) h) (Some (forest_of (seen b s t) h)) (commands.Move span) (Ok replies.Done) (machine_of (seen d u t) h) rises
-        go (Some o) e = moved_row g (segments_in o) ∙ ap (λ (m : Machine). reply replies.Done m) (ap (λ k. record (machine_of (seen b s t) h) { caches = moved g (zeros_for k t.page_bytes) }) (sym e) ∙ sym machine_moved)
+        go : (o : Option Held) → h ≡ o → OutcomeAt (segments_of o) (machine_of (seen b s t) h) (Some F) (commands.Move span) (Ok replies.Done) (machine_of (seen d u t) h) rises
+        go (Some o) e = moved_row temp g (segments_in o) (free (segments_in o) (ap segments_of e)) ∙ ap (λ (m : Machine). reply replies.Done m) (ap (λ k. record (machine_of (seen b s t) h) { caches = moved g (zeros_for k t.page_bytes) }) (sym e) ∙ sym machine_moved)
         go None e = record {
           whole = machine_by (seen b s t) (zeroed (seen b s t) h);
           whole_next = record (machine_by (seen b s t) (zeroed (seen b s t) h)) { caches = moved (zeroed (seen b s t) h) (replicate t.page_bytes 0) };
@@ -260,5 +318,5 @@ module _ (b : Arena) (s : Store) (t : Actors) (live : ℕ) (k : IsSound b s t li
           is_next = blank_is b d s u t live k same back tied whole h (moved (zeroed (seen b s t) h) (replicate t.page_bytes 0)) (moved_many (zeroed (seen b s t) h) (replicate t.page_bytes 0)) (moved_shapes (zeroed (seen b s t) h) (replicate t.page_bytes 0)) (zeroed (seen b s t) h) e;
           pages = zeroed_whole (seen b s t) h k.nodes;
           alike = refl;
-          outcome = moved_row (zeroed (seen b s t) h) no_segments;
+          outcome = moved_row temp (zeroed (seen b s t) h) no_segments (undenied_any (seen b s t) (zeroed (seen b s t) h) span);
         }

@@ -1,5 +1,5 @@
 -- What the values of a manager's forest are, and that they are the machine's pages.
-use Rattle.std.proofs.Common.{◌≡◌, ◌≢◌, ◌⊎◌, ℕ, suc, ◌+◌, ◌<◌, ◌≤◌, List, [], ◌∷◌, length, get_or, replicate, Option, Some, None, is_some, unwrap_or, refl, sym, ap, ◌∙◌, subst, arith, inl, inr}
+use Rattle.std.proofs.Common.{◌≡◌, ◌≢◌, ◌⊎◌, ℕ, suc, false, ◌+◌, ◌<◌, ◌≤◌, List, [], ◌∷◌, length, get_or, replicate, Option, Some, None, is_some, unwrap_or, refl, sym, ap, ◌∙◌, subst, arith, inl, inr}
 use Rattle.std.specs.Prelude.{option_map, option_and_then, slice_get, IfSome, IsSome}
 use Rattle.std.specs.List.{All}
 use Rattle.std.proofs.lemmas.Bool.{cases_lt}
@@ -18,22 +18,23 @@ use Rattle.vm_ids.specs.Forest.PageMap.{map_pages, no_page}
 use Rattle.vm_ids.specs.Forest.Reading.{owner_of, value_of}
 use Rattle.vm_ids.specs.Forest.Shape.{IsConsistent, IsWellShaped}
 use Rattle.vm_ids.proofs.Forest.BareShape.{IsNode-map}
-use Rattle.vm_ids.proofs.Forest.Laws.Reading.{nodes_have_values, owners_own_values}
+use Rattle.vm_ids.proofs.Forest.Laws.Reading.{nodes_have_values, owners_own_themselves, owners_own_values}
 use Rattle.vm_ids.proofs.Forest.PageMap.{value_of-map}
 use Rattle.local_cache.specs.declared.own_state.OwnState.{OwnState}
 use Rattle.local_cache.specs.declared.own_state.OwnState.TheVariants.{Absent, Zero, Resident, Slot, OnSegment}
 use Rattle.local_cache.specs.Arena.{Arena, IsHeld, Table, table_of}
-use Rattle.local_cache.specs.Own.{own_of}
+use Rattle.local_cache.specs.Home.{home_of}
+use Rattle.local_cache.specs.Own.{is_absent, own_of}
 use Rattle.local_cache.specs.Reading as arena
 use Rattle.local_cache.specs.Reading.{name_of}
 use Rattle.local_cache.specs.ReadingBy.{forest_by}
 use Rattle.local_cache.specs.Sound as arena_sound
-use Rattle.local_cache.proofs.Forest.Reading.{get-forest_by_none, held_or_not}
+use Rattle.local_cache.proofs.Forest.Reading.{IsNode-forest_of, get-forest_by_none, held_or_not}
 use Rattle.local_cache.proofs.Forest.ReadingBy.{page-at}
 use Rattle.residency.specs.StoreForest.{store_forest}
-use Rattle.residency.specs.World.{World, frame_page, own_page, page_by, zero_page}
+use Rattle.residency.specs.World.{World, frame_page, own_page, page_at, page_by, zero_page}
 use Rattle.residency.proofs.WrittenForest.{store_made}
-use Rattle.fault_path.proofs.Kept.{store_bare, store_shaped}
+use Rattle.fault_path.proofs.Kept.{store_bare, store_page, store_shaped}
 use Rattle.local_cache.specs.Whole.{IsWhole, size_of}
 use Rattle.local_cache.proofs.Whole.Pages.{no_node}
 use Rattle.vm_model.specs.Machine.{Cache, Machine, Page, cache_of}
@@ -74,7 +75,7 @@ module _ (w : World) (sound : arena_sound.IsSound w.caches) (P : Option (Option 
           subst P (owners_own_values (store_forest w) s x is) (each_own (owner_of (store_forest w) x))
 
 untold_page : (w : World) → w.told ≡ None → (n : NodeId) → shown (own_page w n) ≡ []
-untold_page w none n = subst (λ (t : Option Held). shown (page_by (option_map (λ _. zero_page w) t) (option_map (λ _. frame_page w n) t) (λ slot. option_and_then (λ h. slot_of h slot) t) None (own_of w.caches n)) ≡ []) (sym none) (go (own_of w.caches n))
+untold_page w none n = subst (λ (t : Option Held). shown (page_by (option_map (λ _. zero_page w) t) (option_map (λ _. frame_page w n) t) (λ slot. option_and_then (λ h. slot_of h slot) t) (option_and_then (λ h. option_and_then (page_at h) (home_of w.caches n)) t) (own_of w.caches n)) ≡ []) (sym none) (go (own_of w.caches n))
   where
     go : (x : OwnState) → shown (page_by None None (λ slot. None) None x) ≡ []
     go Absent = refl
@@ -95,6 +96,27 @@ module _ (p : Manager) (h : Option Held) (nodes : IsWhole p.caches) where
   made_of : (arena.forest_of p.caches).made ≡ p.caches.made
   unfolding arena.forest_of
   made_of = refl
+
+  -- a node with an own page reads that
+  pub own_value : (n : NodeId) → IsHeld p.caches n → is_absent (own_of p.caches n) ≡ false → value_of (forest_of p h) (name_of p.caches n) ≡ own_page (world_of p h) n
+  own_value n held own = by_page (own_page (world_of p h) n) refl (store_page (world_of p h) nodes.sound n held)
+    where
+      x : NodeName
+      x = name_of p.caches n
+
+      some : (s : OwnState) → is_absent s ≡ false → (a b : Option Page) (slot : ℕ → Option Page) (segment : Option Page) → page_by a b slot segment s ≡ None → ⊥
+      some Absent e a b slot segment none = absurd (cc e)
+      some Zero e a b slot segment none = cc none
+      some (Resident d) e a b slot segment none = cc none
+      some (Slot k) e a b slot segment none = cc none
+      some OnSegment e a b slot segment none = cc none
+
+      by_page : (o : Option (Option Page)) → own_page (world_of p h) n ≡ o → (node (forest_of p h) (name_of p.caches n)).own ≡ own_page (world_of p h) n → value_of (forest_of p h) (name_of p.caches n) ≡ own_page (world_of p h) n
+      by_page None e at = absurd (some (own_of p.caches n) own _ _ _ _ e)
+      by_page (Some v) e at =
+          let is : IsNode (forest_of p h) (name_of p.caches n) = same_nodes (name_of p.caches n) ∙ IsNode-forest_of p.caches nodes.sound.kept.named n held in
+          let itself : owner_of (forest_of p h) (name_of p.caches n) ≡ name_of p.caches n = owners_own_themselves (forest_of p h) shaped_of (name_of p.caches n) v (at ∙ e) in
+          sym (owners_own_values (forest_of p h) shaped_of (name_of p.caches n) is) ∙ ap (λ y. (node (forest_of p h) y).own) itself ∙ at
 
   pub consistent_of : IsConsistent (forest_of p h)
   consistent_of = record {
@@ -159,7 +181,7 @@ full_some (Some (Some [])) some = absurd (omega (arith, some))
 full_some (Some (Some (b ∷ bs))) some = refl
 
 untold_full : (w : World) → w.told ≡ None → (n : NodeId) → IsFull (own_page w n)
-untold_full w none n = subst (λ (t : Option Held). IsFull (page_by (option_map (λ _. zero_page w) t) (option_map (λ _. frame_page w n) t) (λ slot. option_and_then (λ h. slot_of h slot) t) None (own_of w.caches n))) (sym none) (go (own_of w.caches n))
+untold_full w none n = subst (λ (t : Option Held). IsFull (page_by (option_map (λ _. zero_page w) t) (option_map (λ _. frame_page w n) t) (λ slot. option_and_then (λ h. slot_of h slot) t) (option_and_then (λ h. option_and_then (page_at h) (home_of w.caches n)) t) (own_of w.caches n))) (sym none) (go (own_of w.caches n))
   where
     go : (x : OwnState) → IsFull (page_by None None (λ slot. None) None x)
     go Absent = refl

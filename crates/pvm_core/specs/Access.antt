@@ -10,8 +10,9 @@ use Rattle.vm_ids.specs.Forest.Reading.{owner_of}
 use Rattle.global_map.specs.Pairs.{node_of}
 use Rattle.local_cache.specs.declared.own_state.OwnState.TheVariants.{Zero}
 use Rattle.local_cache.specs.Arena.{IsHeld}
-use Rattle.local_cache.specs.Own.{is_in_slot, is_resident, own_of}
+use Rattle.local_cache.specs.Own.{is_resident, own_of}
 use Rattle.local_cache.specs.Reading.{name_of}
+use Rattle.residency.specs.World.{is_pulled}
 use Rattle.fault_path.specs.Faults.{is_at_hand}
 use Rattle.vm_model.specs.Place.{Place, place}
 use Rattle.pvm_core.specs.Manager.{Manager, machine_by, nodes_of}
@@ -45,7 +46,7 @@ IsFoundIn p o (Some f) =
 --     place, has     the access is at a place, and the owner had the page there
 --     found          the owner has it in a frame now, or it is zeros
 --     bytes          the bytes are those of that frame, or zeros
---     pulled         a page was pulled exactly where it was in a slot
+--     pulled         a page was pulled exactly where it was in a slot or on its segment
 --     given          and what the mapper gave then, where it tells that, is what the frame holds
 pub record IsLoaded (c d : MapperCounts) (page_given : Option (List ℕ)) (old new : Manager)
     (actor address length : ℕ) (piece : List ℕ) : Type 0 where
@@ -56,6 +57,6 @@ pub record IsLoaded (c d : MapperCounts) (page_given : Option (List ℕ)) (old n
   pub frame : Option FrameId
   pub found : IsFoundIn new owner frame
   pub bytes : piece ≡ take length (drop at.byte (bytes_found new.store frame))
-  pub pulled : RoseBy (if is_in_slot (own_of old.caches owner) then 1 else 0) c.pulls d.pulls
-  pub given : is_in_slot (own_of old.caches owner) ≡ true
+  pub pulled : RoseBy (if is_pulled (own_of old.caches owner) then 1 else 0) c.pulls d.pulls
+  pub given : is_pulled (own_of old.caches owner) ≡ true
       → IfSome page_given (λ page. bytes_found new.store frame ≡ page)

@@ -1,12 +1,13 @@
 -- What calls keep of a manager.
-use Rattle.std.specs.Prelude.{◌≡◌, ℕ, ◌<◌, ◌⊎◌, ◌++◌, true, false, if◌then◌else◌, is_some, count_by, replicate}
+use Rattle.std.specs.Prelude.{◌≡◌, ℕ, ◌<◌, ◌⊎◌, ◌++◌, true, false, if◌then◌else◌, is_some, count_by, replicate, Option}
+use Rattle.vm_ids.specs.Held.{Held}
 use Rattle.vm_ids.specs.declared.reply.Counts.{Counts}
 use Rattle.vm_ids.specs.declared.numbers.NodeId.{NodeId}
 use Rattle.frame_pool.specs.Pool.{is_held}
 use Rattle.slot_pool.specs.Slots as swap
 use Rattle.global_map.specs.Pairs.{bound_times, node_of}
 use Rattle.local_cache.specs.Own.{is_resident, is_slot, own_of, own_states}
-use Rattle.pvm_core.specs.Manager.{Manager}
+use Rattle.pvm_core.specs.Manager.{Manager, forest_of, machine_of}
 
 -- no page was copied, and each frame that is held was held before, with the bytes that it has
 pub record CopiesNothing (old new : Manager) : Type 0 where
@@ -36,3 +37,8 @@ pub record HoldsEachOnce (p : Manager) : Type 0 where
 -- the working nodes are fewer than the live pages, or there are none of either
 abbrev pub HasFewWorking : Counts → Type 0
 HasFewWorking c = (c.working < c.live) ⊎ ((c.working ≡ 0) × (c.live ≡ 0))
+
+-- the manager stands for the same machine, and keeps the same page forest
+pub record SameMeaning (old new : Manager) (told now : Option Held) : Type 0 where
+  pub machine : machine_of new now ≡ machine_of old told
+  pub forest : forest_of new now ≡ forest_of old told

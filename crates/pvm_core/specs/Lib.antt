@@ -1,8 +1,13 @@
 pub mod Placed
 pub mod Maps
 pub mod Manager
+pub mod Opening
 pub mod Codes
 pub mod Pieces
 pub mod Spans
+pub mod Extents
 pub mod Access
 pub mod Keeping
+pub mod Reaching
+pub mod Writes
+pub mod Saving

@@ -1,6 +1,8 @@
 -- What a manager keeps, the page forest and the machine that it stands for, and what holds of it between two calls.
 use Rattle.std.specs.Prelude.{◌≡◌, ℕ, zero, suc, ◌+◌, ◌*◌, ◌≤◌, false, List, [], ◌∷◌, length, sum_by, All, Option, Some, None, option_map, IfSome}
+use Rattle.std.specs.FinMap.{get}
 use Rattle.vm_ids.specs.Held.{Held, segments_of}
+use Rattle.vm_ids.specs.declared.numbers.SegId.{SegId}
 use Rattle.vm_ids.specs.Forest.Commands.{page_name}
 use Rattle.vm_ids.specs.Forest.Nodes.{Forest}
 use Rattle.vm_ids.specs.Forest.Reading.{value_of}
@@ -13,7 +15,7 @@ use Rattle.residency.specs.declared.store.Store.{Store}
 use Rattle.residency.specs.StoreForest.{store_forest}
 use Rattle.residency.specs.World.{IsStoreRight, World, world}
 use Rattle.fault_path.specs.Faults.{HasLoose}
-use Rattle.local_cache.specs.Whole.{IsWhole, size_of}
+use Rattle.local_cache.specs.Whole.{IsWhole, segment_of, size_of}
 use Rattle.vm_model.specs.Machine.{Actor, Cache, Machine, Page}
 use Rattle.vm_model.specs.Outcome.{HasWholePages}
 use Rattle.vm_model.specs.PageForest.{PageForest}
@@ -84,14 +86,24 @@ machine_of p told = machine_by p (forest_of p told)
 abbrev pub live_in : Arena → ℕ
 live_in a = sum_by page_count a.caches
 
--- no segment names the cache
-abbrev pub IsTemporary : Option Table → Type 0
-IsTemporary None = Unit {0}
-IsTemporary (Some t) = t.segment ≡ None
+-- no two live caches are of one segment
+abbrev pub AreApart : Arena → Type 0
+AreApart a = (cache other : ℕ) (segment : SegId) → segment_of a cache ≡ Some (Some segment)
+    → segment_of a other ≡ Some (Some segment) → cache ≡ other
+
+-- a segment that names a live cache has as many pages as the cache, where that is told
+abbrev pub AreSized : Arena → Option Held → Type 0
+AreSized a told = (cache : ℕ) (segment : SegId) → segment_of a cache ≡ Some (Some segment)
+    → IfSome told (λ h. option_map length (get h.segments segment.0) ≡ size_of a cache)
+
+-- and each page of such a segment has all its bytes
+abbrev pub AreFull : Arena → ℕ → Option Held → Type 0
+AreFull a page_bytes told = (cache : ℕ) (segment : SegId) → segment_of a cache ≡ Some (Some segment)
+    → IfSome told (λ h. IfSome (get h.segments segment.0) (All (λ page. length page ≡ page_bytes)))
 
 -- What holds of a manager's fields, whatever the mapper holds:
 --     nodes      the caches are sound, their forest is consistent, and each page of a live cache has a node
---     temporary  no segment names a cache
+--     apart      no two live caches are of one segment
 --     bounded    the working nodes are fewer than the live ones, or there are none of either
 --     slots      there are slots for the nodes of twice the live pages
 --     counted    the live pages are counted, and are at most the limit
@@ -101,7 +113,7 @@ IsTemporary (Some t) = t.segment ≡ None
 --     page       the actors and the frames have one page size
 pub record IsSound (a : Arena) (s : Store) (t : Actors) (live : ℕ) : Type 0 where
   pub nodes : IsWhole a
-  pub temporary : All IsTemporary a.caches
+  pub apart : AreApart a
   pub bounded : IsBounded (arena.forest_of a)
   pub slots : 2 * live ≤ length s.slots
   pub counted : live ≡ live_in a
@@ -111,10 +123,15 @@ pub record IsSound (a : Arena) (s : Store) (t : Actors) (live : ℕ) : Type 0 wh
   pub actors : AreRight (size_of a) t
   pub page : t.page_bytes ≡ s.frames.page
 
--- What each call needs and keeps beside, which speaks of what the mapper holds: the store is right, and where the mapper
--- tells what it holds, each page of the machine has all its bytes.
+-- What each call needs and keeps beside, which speaks of what the mapper holds:
+--     right    the store is right
+--     sized    where the mapper tells what it holds, segments are as long as the caches that they name
+--     full     and each of their pages has all its bytes
+--     whole    as each page of the machine does
 pub record IsValid (p : Manager) (told : Option Held) : Type 0 where
   pub right : IsStoreRight (world_of p told)
+  pub sized : AreSized p.caches told
+  pub full : AreFull p.caches p.page_bytes told
   pub whole : IfSome told (λ _. HasWholePages (machine_of p told))
 
 -- the working nodes made and the pages copied

@@ -13,7 +13,10 @@ mod maps;
 mod nodes;
 mod pieces;
 mod pvm;
+mod segments;
+mod saving;
 mod spans;
+mod writes;
 #[cfg(test)]
 mod tests;
 

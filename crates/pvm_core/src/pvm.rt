@@ -1,21 +1,25 @@
 // The manager.
-ghost use Rattle.std.specs.Prelude.{◌≡◌, ℕ, ◌+◌, ◌≤◌, ◌^◌, min, Option, length, Ok, Err, IfOk, IsOk, OnErr, OnOk};
+ghost use Rattle.std.specs.Prelude.{◌≡◌, ◌≢◌, ℕ, ◌+◌, ◌≤◌, ◌^◌, false, min, Option, length, Ok, Err, IfOk, IsOk, OnErr, OnOk};
 ghost use Rattle.vm_ids.specs.Held.{Held};
 ghost use Rattle.vm_ids.specs.Forest.Laws.Settling.{IsSettled};
 ghost use Rattle.vm_ids.specs.Forest.Nodes.{no_forest};
 ghost use Rattle.vm_ids.specs.Forest.Reading.{live_count, working_count};
 ghost use Rattle.frame_pool.specs.Pool.{held_count};
+ghost use Rattle.residency.specs.Causes.{Made};
 ghost use Rattle.vm_model.specs.Answering.{answer_by};
 ghost use Rattle.vm_model.specs.Machine.{start};
 ghost use Rattle.gmi_calls.specs.Calling.{Answers, Calls, Fits, Numbers, RaisesMade, StaysValid, done_by};
 ghost use Rattle.pvm_core.specs.Access.{IsAtHand, IsLoaded};
 ghost use Rattle.pvm_core.specs.Keeping.{CopiesNothing, HasFewWorking, HasMoreRoom, HoldsEachOnce};
+ghost use Rattle.pvm_core.specs.Saving.{CopiesSaved, NeedsNothing, RefusedOf, all_of, is_named};
+ghost use Rattle.pvm_core.specs.Spans.{replaced};
 ghost use Rattle.pvm_core.specs.Manager.{IsValid, forest_of, machine_of, nodes_of, numbered, state_at};
 
 use crate::maps::map_refusal;
 use crate::nodes::{node_of, reserve};
 use crate::pieces::{fault_of, part_of, write_frame};
-use crate::spans::span_refusal;
+use crate::spans::{copy_refusal, destination, move_refusal};
+use crate::writes::grant_range;
 use contexts::Contexts;
 use fault_path::{read_fault, write_fault};
 use history_tree::chain;
@@ -25,7 +29,7 @@ use residency::Store;
 use std::alloc::Global;
 use std::marker::Model;
 use vm_ids::{
-    ActorId, CacheId, ChainList, Command, Counts, FaultAt, Mapping, NoMemory, PageNo, Piece,
+    ActorId, CacheId, ChainList, Command, Counts, Extent, FaultAt, Mapping, NoMemory, PageNo, Piece,
     Refusal, RegionId, Reply, Span, Trouble,
 };
 use vm_model::{LIVE_PAGES, MADE};
@@ -118,7 +122,8 @@ impl Pvm {
         Ok(self.caches.make_temp(pages))
     }
 
-    /// Takes a cache away, with all its pages. Refused as `NoCache` or `InUse`, in this order.
+    /// Takes a cache away, with all its pages; where a segment names it, they are pushed to the segment first. Refused as
+    /// `NoCache` or `InUse`, in this order. After a fault the cache is there still.
     pub fn destroy<M: Mapper, C: Chooser>(
         &mut self,
         cache: CacheId,
@@ -134,22 +139,28 @@ impl Pvm {
         ensures made { RaisesMade (machine_of self.old (M.held mapper.old))
             (Command.Destroy cache) (done_by result) (numbered self.old) (numbered self.new) }
         ensures page { M.page_bytes mapper.new ≡ M.page_bytes mapper.old }
-        // No page is pulled, pushed or copied, and frames are given back alone.
-        ensures mapper { mapper.new ≡ mapper.old }
-        ensures chooser { chooser.new ≡ chooser.old }
-        ensures frames { CopiesNothing self.old self.new }
+        // A page is copied for a save alone, and of a temporary cache none is pulled or pushed either, and frames are given
+        // back alone.
+        ensures copies { CopiesSaved (all_of self.old.caches cache)
+            self.old (M.held mapper.old) self.new result }
+        ensures idle { is_named self.old.caches cache.0 ≡ false → (mapper.new ≡ mapper.old)
+            × (chooser.new ≡ chooser.old) × CopiesNothing self.old self.new
+            × OnErr result (self.new ≡ self.old) }
         ensures settled { OnOk result (IsSettled (nodes_of self.new)) }
-        ensures err { OnErr result (self.new ≡ self.old) }
+        ensures refused { (r : Refusal) → result ≡ Err (Trouble.Refused r)
+            → (self.new ≡ self.old) × (mapper.new ≡ mapper.old) }
     {
-        let Some(count) = self.caches.pages(cache) else {
+        let Some(pages) = self.caches.pages(cache) else {
             return Err(Trouble::Refused(Refusal::NoCache));
         };
         if self.contexts.maps(cache) {
             return Err(Trouble::Refused(Refusal::InUse));
         }
-        destroy_pages(&mut self.store, &mut self.caches, cache, count);
+        let all = Extent { cache, first: PageNo(0), pages };
+        self.write_back(all, mapper, chooser)?;
+        destroy_pages(&mut self.store, &mut self.caches, cache, pages);
         self.caches.remove(cache);
-        self.live -= count;
+        self.live -= pages;
         Ok(())
     }
 
@@ -171,17 +182,19 @@ impl Pvm {
         ensures made { RaisesMade (machine_of self.old (M.held mapper.old))
             (Command.Copy span) (done_by result) (numbered self.old) (numbered self.new) }
         ensures page { M.page_bytes mapper.new ≡ M.page_bytes mapper.old }
-        // No page is pulled, pushed or copied, and frames are given back alone.
-        ensures mapper { mapper.new ≡ mapper.old }
-        ensures chooser { chooser.new ≡ chooser.old }
-        ensures frames { CopiesNothing self.old self.new }
+        // A page is copied for a save alone, and where none is needed and the writes are granted, none is pulled or pushed
+        // either, and frames are given back alone.
+        ensures copies { CopiesSaved (replaced span) self.old (M.held mapper.old) self.new result }
+        ensures idle { NeedsNothing self.old.caches (replaced span) → (mapper.new ≡ mapper.old)
+            × (chooser.new ≡ chooser.old) × CopiesNothing self.old self.new
+            × OnErr result (HasMoreRoom self.old self.new) }
         ensures settled { OnOk result (IsSettled (nodes_of self.new)) }
-        ensures err { OnErr result (HasMoreRoom self.old self.new) }
+        ensures refused { RefusedOf self.old self.new mapper.old mapper.new result }
     {
-        if let Some(refusal) = span_refusal(&self.caches, span) {
+        if let Some(refusal) = copy_refusal(&self.caches, span) {
             return Err(Trouble::Refused(refusal));
         }
-        self.caches.reserve(0, 2 * span.pages)?;
+        self.make_ready(destination(span), 2 * span.pages, mapper, chooser)?;
         copy_pages(&mut self.store, &mut self.caches, span);
         Ok(())
     }
@@ -204,17 +217,19 @@ impl Pvm {
         ensures made { RaisesMade (machine_of self.old (M.held mapper.old))
             (Command.Move span) (done_by result) (numbered self.old) (numbered self.new) }
         ensures page { M.page_bytes mapper.new ≡ M.page_bytes mapper.old }
-        // No page is pulled, pushed or copied, and frames are given back alone.
-        ensures mapper { mapper.new ≡ mapper.old }
-        ensures chooser { chooser.new ≡ chooser.old }
-        ensures frames { CopiesNothing self.old self.new }
+        // A page is copied for a save alone, and where none is needed and the writes are granted, none is pulled or pushed
+        // either, and frames are given back alone.
+        ensures copies { CopiesSaved (replaced span) self.old (M.held mapper.old) self.new result }
+        ensures idle { NeedsNothing self.old.caches (replaced span) → (mapper.new ≡ mapper.old)
+            × (chooser.new ≡ chooser.old) × CopiesNothing self.old self.new
+            × OnErr result (HasMoreRoom self.old self.new) }
         ensures settled { OnOk result (IsSettled (nodes_of self.new)) }
-        ensures err { OnErr result (HasMoreRoom self.old self.new) }
+        ensures refused { RefusedOf self.old self.new mapper.old mapper.new result }
     {
-        if let Some(refusal) = span_refusal(&self.caches, span) {
+        if let Some(refusal) = move_refusal(&self.caches, span) {
             return Err(Trouble::Refused(refusal));
         }
-        self.caches.reserve(0, span.pages)?;
+        self.make_ready(destination(span), span.pages, mapper, chooser)?;
         move_pages(&mut self.store, &mut self.caches, span);
         Ok(())
     }
@@ -315,14 +330,22 @@ impl Pvm {
             (numbered self.old) (numbered self.new) }
         ensures page { M.page_bytes mapper.new ≡ M.page_bytes mapper.old }
         ensures copies { self.new.caches.copies ≤ self.old.caches.copies + 2 }
+        // No page is pulled or pushed before a refusal, and before `WriteDenied` alone the mapper is asked.
         ensures refused { (r : Refusal) → result ≡ Err (Trouble.Refused r)
-            → (self.new ≡ self.old) × (mapper.new ≡ mapper.old) }
+            → (self.new ≡ self.old) × Made 0 0 (M.counts mapper.old) (M.counts mapper.new)
+            × (r ≢ Refusal.WriteDenied → mapper.new ≡ mapper.old) }
     {
         let bytes = piece.as_slice();
         let place = self.contexts.locate(actor, address, bytes.len() as u8)?;
         if !place.prot.write {
             return Err(Trouble::Refused(Refusal::Protection));
         }
+        let range = Extent {
+            cache: place.cache,
+            first: place.page,
+            pages: 1,
+        };
+        grant_range(&self.store, &mut self.caches, range, mapper)?;
         let node = node_of(&self.caches, place.cache, place.page);
         match write_fault(&mut self.store, &mut self.caches, node, mapper, chooser) {
             Ok(frame) => {

@@ -1,22 +1,28 @@
-// Random commands to the manager, each beside the eager machine, and what memory that is there suffices for.
+// Random commands to the manager, each beside the eager machine, and what memory that is there
+// suffices for.
 ghost use Rattle.std.specs.Prelude.{◌≡◌, ℕ, ◌+◌, ◌*◌, ◌<◌, ◌≤◌, ◌^◌, Some, IfOk};
 ghost use Rattle.vm_model.specs.declared.limits.TheConstants.{LIVE_PAGES};
 ghost use Rattle.vm_model.specs.Asking.{IsWellFormed};
-ghost use Rattle.vm_model.specs.Machine.{live_pages};
+ghost use Rattle.vm_model.specs.Machine.{Machine, live_pages};
+ghost use Rattle.vm_port.specs.Mapping.{MapperInMemory, held_of};
+ghost use Rattle.gmi_calls.specs.Backing.{IsReady};
 ghost use Rattle.gmi_calls.specs.Calling.{Fits};
 
 use crate::Pvm;
 use gmi_calls::{Gmi, answer};
 use std::alloc::Global;
+use std::marker::Model;
 use std::process::Abort;
 use std::test::Fail;
 use vm_ids::{
-    ActorId, Answer, CacheId, Command, Extent, Mapping, PageNo, Piece, Prot, RegionId, Reply, Span,
+    ActorId, Answer, CacheId, Command, Extent, Mapping, NoMemory, PageNo, Piece, Prot, Refusal,
+    RegionId, Reply, SegId, Span, Trouble,
 };
 use vm_model::EagerMachine;
 use vm_port::{Chooser, Clock, Mapper, MemoryMapper};
 
-// Each cache has so many pages of so many bytes. Eight pages are copied by stub links, more by tree links.
+// Each cache has so many pages of so many bytes. Eight pages are copied by stub links, more by
+// tree links.
 const PAGES: u32 = 12;
 
 const PAGE: u32 = 4;
@@ -29,17 +35,33 @@ const MAPPED: u32 = PLACES * PAGES * PAGE;
 // So long is a history.
 const STEPS: u32 = 15_000;
 
-// Commands by a linear congruential generator. Now and then all pages of all caches are looked at: each cache is mapped,
-// loaded page by page, and unmapped.
+// The segments, each of as many pages as a cache. The last page of the second is denied for
+// writing.
+const FIRST: &[u8] = b"The first segment's twelve pages of four bytes.\n";
+
+const SECOND: &[u8] = b"The second one's twelve pages, the last denied.\n";
+
+const DENIED: (SegId, PageNo) = (SegId(2), PageNo(PAGES - 1));
+
+// So many kinds of commands are counted, and each is to be done so often.
+const KINDS: usize = 12;
+
+const OFTEN: u32 = 20;
+
+// Commands by a linear congruential generator. Now and then all pages of all caches are looked at:
+// each cache is mapped, loaded page by page, and unmapped.
 #[derive(Drop)]
 struct Script {
     state: u64,
     caches: u32,
-    regions: u32,
+    // The caches that the segments name, or named last.
+    named: [CacheId; 2],
+    // The regions that were mapped last, one for each place.
+    regions: [RegionId; 5],
     // So many commands come between two looks, and so many are left before the next.
     apart: u32,
     left: u32,
-    // The cache that is looked at, with those below it still to come, and the step of the look at it.
+    // The cache that is looked at, with those below it still to come, and the step of the look.
     seen: u32,
     step: u32,
 }
@@ -49,7 +71,8 @@ impl Script {
         Script {
             state: seed,
             caches: 0,
-            regions: 0,
+            named: [CacheId(0); 2],
+            regions: [RegionId(0); 5],
             apart,
             left: apart,
             seen: 0,
@@ -69,15 +92,23 @@ impl Script {
         (self.state >> 33) as u32 % limit
     }
 
-    // One of the last that were made.
-    fn recent(&mut self, last: u32, made: u32) -> u32
+    // One of the last caches that were made.
+    fn recent(&mut self, last: u32) -> CacheId
         requires { 0 < last }
     {
-        made.saturating_sub(self.below(last))
+        CacheId(self.caches.saturating_sub(self.below(last)))
+    }
+
+    // One that a segment names.
+    fn of_segment(&mut self) -> CacheId {
+        self.named[self.below(2) as usize]
     }
 
     fn cache(&mut self) -> CacheId {
-        CacheId(self.recent(4, self.caches))
+        match self.below(3) {
+            0 => self.of_segment(),
+            _ => self.recent(4),
+        }
     }
 
     // Pages of two caches.
@@ -94,6 +125,21 @@ impl Script {
         }
     }
 
+    // Pages of one, which mostly is of a segment.
+    fn extent(&mut self) -> Extent
+        ensures { 1 ≤ result.pages }
+    {
+        let pages = 1 + self.below(PAGES);
+        Extent {
+            cache: match self.below(4) {
+                0 => self.cache(),
+                _ => self.of_segment(),
+            },
+            first: PageNo(self.below(PAGES + 1 - pages)),
+            pages,
+        }
+    }
+
     fn address(&mut self) -> u64 {
         self.below(MAPPED) as u64
     }
@@ -102,25 +148,30 @@ impl Script {
     fn command(&mut self) -> Result<Command, Fail>
         ensures { IfOk result (λ c. IsWellFormed c) }
     {
-        Ok(match self.below(24) {
-            0..=2 => Command::MakeTemp(PAGES),
-            3..=4 => Command::Destroy(CacheId(self.recent(8, self.caches))),
-            5..=7 => Command::Copy(self.span()),
-            8..=9 => Command::Move(self.span()),
-            10..=11 => {
+        Ok(match self.below(32) {
+            0..=1 => Command::MakeTemp(PAGES),
+            2..=3 => Command::OpenSegment(SegId(1 + self.below(2))),
+            4 => Command::Destroy(self.of_segment()),
+            5..=6 => Command::Destroy(self.recent(8)),
+            7..=10 => Command::Copy(self.span()),
+            11..=12 => Command::Move(self.span()),
+            13..=15 => {
                 let cache = self.cache();
                 let prot = Prot {
                     write: self.below(8) > 0,
                 };
                 Command::Map(ActorId(1), whole(cache, cache.0 % PLACES, prot))
             }
-            12..=13 => Command::Unmap(RegionId(self.recent(6, self.regions))),
-            14..=18 => {
+            16 => Command::Unmap(self.regions[self.below(PLACES) as usize]),
+            17..=22 => {
                 let bytes = [self.below(256) as u8, self.below(256) as u8];
                 let piece = Piece::new(&bytes).ok_or("no piece")?;
                 Command::Store(ActorId(1), self.address(), piece)
             }
-            19..=22 => Command::Load(ActorId(1), self.address(), 1),
+            23..=26 => Command::Load(ActorId(1), self.address(), 1),
+            27 => Command::Sync(self.extent()),
+            28 => Command::Flush(self.extent()),
+            29 => Command::Invalidate(self.extent()),
             _ => Command::PageOut(1 + self.below(3)),
         })
     }
@@ -141,7 +192,7 @@ impl Script {
         }
         self.seen = self.seen.saturating_sub(1);
         self.step = 0;
-        Command::Unmap(RegionId(self.regions))
+        Command::Unmap(self.regions[PLACES as usize])
     }
 
     fn next(&mut self) -> Result<Command, Fail>
@@ -160,11 +211,17 @@ impl Script {
     }
 
     // What was made; and there is no look at a cache that isn't there.
-    fn hear(&mut self, answer: &Answer) {
-        match answer {
-            Ok(Reply::Cache(cache)) => self.caches = cache.0,
-            Ok(Reply::Region(region)) => self.regions = region.0,
-            Err(_) if self.step > 0 => {
+    fn hear(&mut self, command: &Command, answer: &Answer) {
+        match (command, answer) {
+            (Command::OpenSegment(seg), Ok(Reply::Cache(cache))) => {
+                self.caches = cache.0;
+                put(&mut self.named, seg.0.saturating_sub(1) as usize, *cache);
+            }
+            (_, Ok(Reply::Cache(cache))) => self.caches = cache.0,
+            (Command::Map(_, mapping), Ok(Reply::Region(region))) => {
+                put(&mut self.regions, place_of(mapping), *region);
+            }
+            (_, Err(_)) if self.step > 0 => {
                 self.seen = self.seen.saturating_sub(1);
                 self.step = 0;
             }
@@ -189,6 +246,18 @@ fn whole(cache: CacheId, place: u32, prot: Prot) -> Mapping
     }
 }
 
+// The place of a whole cache.
+fn place_of(mapping: &Mapping) -> usize {
+    (mapping.address / (PAGES * PAGE) as u64) as usize
+}
+
+// Puts one in its place, where there is such a place.
+fn put<T: Copy>(all: &mut [T], place: usize, one: T) {
+    if place < all.len() {
+        all[place] = one;
+    }
+}
+
 // Whether two answers are the same.
 fn same(one: &Answer, other: &Answer) -> bool {
     match (one, other) {
@@ -203,53 +272,145 @@ fn same(one: &Answer, other: &Answer) -> bool {
     }
 }
 
-// The eager machine's answer to a command.
-fn plain_answer(plain: &mut EagerMachine, command: &Command) -> Answer
-    requires { IsWellFormed command.now }
+// A mapper over the two segments, with so many swap slots.
+fn segments(alloc: Global, slots: u32) -> Result<MemoryMapper, NoMemory>
+    ensures { IfOk result (λ m. m.page_bytes ≡ 4) }
 {
-    match command {
-        Command::MakeActor => plain.make_actor().map(Reply::Actor),
-        Command::MakeTemp(pages) => plain.make_temp(*pages).map(Reply::Cache),
-        Command::Destroy(cache) => plain.destroy(*cache).map(|()| Reply::Done),
-        Command::Copy(span) => plain.copy_pages(span).map(|()| Reply::Done),
-        Command::Move(span) => plain.move_pages(span).map(|()| Reply::Done),
-        Command::Map(actor, mapping) => plain.map(*actor, mapping).map(Reply::Region),
-        Command::Unmap(region) => plain.unmap(*region).map(|()| Reply::Done),
-        Command::Load(actor, address, bytes) => {
-            EagerMachine::load(plain, *actor, *address, *bytes).map(Reply::Bytes)
+    let segments = [FIRST.to_vec(alloc)?, SECOND.to_vec(alloc)?];
+    MemoryMapper::new(alloc, &segments, &[DENIED], slots, &[], PAGE)
+}
+
+// Whether two mappers hold the same in a page of a segment, by its number among the pages of both
+// segments.
+fn agree(one: &MemoryMapper, other: &MemoryMapper, number: u32) -> bool {
+    let (seg, page) = (SegId(1 + number / PAGES), PageNo(number % PAGES));
+    one.has_page(seg, page)
+        && other.has_page(seg, page)
+        && one.page(seg, page) == other.page(seg, page)
+}
+
+// Whether they do so in all pages.
+fn hold_the_same(one: &MemoryMapper, other: &MemoryMapper) -> bool {
+    for number in 0..2 * PAGES {
+        if !agree(one, other, number) {
+            return false;
         }
-        Command::Store(actor, address, piece) => {
-            plain.store(*actor, *address, piece).map(|()| Reply::Done)
+    }
+    true
+}
+
+// The eager machine with a mapper of its own.
+#[derive(Drop)]
+struct Plain {
+    machine: EagerMachine,
+    mapper: MemoryMapper,
+}
+
+impl Model for Plain {
+    ghost Value = { Machine × MapperInMemory };
+
+    ghost view = { λ p. (p.machine, p.mapper) };
+
+    ghost invariant = { λ p. IsReady p.machine (Some (held_of p.mapper))
+        × (p.mapper.page_bytes ≡ p.machine.page_bytes) × (live_pages p.machine ≤ LIVE_PAGES) };
+}
+
+impl Plain {
+    fn new(alloc: Global, frames: u32) -> Result<Plain, NoMemory> {
+        Ok(Plain {
+            machine: EagerMachine::new(alloc, frames, PAGE),
+            mapper: segments(alloc, 0)?,
+        })
+    }
+
+    fn answer(&mut self, command: &Command) -> Answer
+        requires { IsWellFormed command.now }
+    {
+        answer(
+            &mut self.machine,
+            command,
+            &mut self.mapper,
+            &mut Clock::new(),
+        )
+    }
+
+    // Pushes each page that the manager pushed. Whatever it is that pushes a page, it is pushed as
+    // it was before the command, so both mappers are to hold the same then.
+    fn push_too(&mut self, rt: &impl Abort, mapper: &MemoryMapper, named: &[CacheId; 2]) {
+        for number in 0..2 * PAGES {
+            if !agree(&self.mapper, mapper, number) {
+                let extent = Extent {
+                    cache: named[(number / PAGES) as usize],
+                    first: PageNo(number % PAGES),
+                    pages: 1,
+                };
+                assert!(rt; self.answer(&Command::Sync(extent)).is_ok(), "at {number}");
+            }
         }
-        Command::PageOut(count) => EagerMachine::page_out(plain, *count).map(|()| Reply::Done),
-        Command::Chain(cache, page) => EagerMachine::chain(plain, *cache, *page).map(Reply::Chain),
-        Command::Stat => Ok(Reply::Stat(EagerMachine::stat(plain))),
     }
 }
 
-// Commands, each to the manager and to the eager machine, which answer the same.
-fn answer_both<G: Gmi<M, C>, M: Mapper, C: Chooser>(
+// How often commands of each kind were done, and how often one was denied.
+#[derive(Drop)]
+struct Tally {
+    done: [u32; KINDS],
+}
+
+impl Tally {
+    fn count(&mut self, command: &Command, answer: &Answer, named: &[CacheId; 2]) {
+        let kind = match (command, answer) {
+            (_, Err(Trouble::Refused(Refusal::WriteDenied))) => 0,
+            (_, Err(_)) => return,
+            (Command::OpenSegment(_), _) => 1,
+            (Command::Store(..), _) => 2,
+            (Command::Sync(_), _) => 3,
+            (Command::Flush(_), _) => 4,
+            (Command::Invalidate(_), _) => 5,
+            (Command::Destroy(cache), _) => 6 + is_one_of(named, *cache) as usize,
+            (Command::Copy(span), _) => 8 + is_one_of(named, span.to) as usize,
+            (Command::Move(span), _) => 10 + is_one_of(named, span.to) as usize,
+            _ => return,
+        };
+        self.done[kind] = self.done[kind].saturating_add(1);
+    }
+}
+
+fn is_one_of(named: &[CacheId; 2], cache: CacheId) -> bool {
+    named[0] == cache || named[1] == cache
+}
+
+// Commands, each to the manager and to the eager machine, which answer the same and push the same.
+fn answer_both<G: Gmi<MemoryMapper, C>, C: Chooser>(
     rt: &impl Abort,
     gmi: &mut G,
-    mapper: &mut M,
+    mapper: &mut MemoryMapper,
     chooser: &mut C,
-    plain: &mut EagerMachine,
+    plain: &mut Plain,
     script: &mut Script,
-    steps: u32,
+    tally: &mut Tally,
 ) -> Result<(), Fail>
-    requires valid { G.valid gmi.old (M.held mapper.old) }
+    requires valid { G.valid gmi.old (Some (held_of mapper.old)) }
     requires made { G.made gmi.old ≤ 2 ^ 61 }
-    requires fits { Fits (M.page_bytes mapper.old) (G.machine gmi.old (M.held mapper.old)) }
-    requires live { live_pages (G.machine gmi.old (M.held mapper.old)) ≤ LIVE_PAGES }
+    requires fits { mapper.old.page_bytes
+        ≡ (G.machine gmi.old (Some (held_of mapper.old))).page_bytes }
+    requires live { live_pages (G.machine gmi.old (Some (held_of mapper.old))) ≤ LIVE_PAGES }
 {
     assert!(rt; answer(gmi, &Command::MakeActor, mapper, chooser).is_ok());
-    assert!(rt; plain.make_actor().is_ok());
-    for step in 0..steps {
+    assert!(rt; plain.answer(&Command::MakeActor).is_ok());
+    for step in 0..STEPS {
         let command = script.next()?;
+        let (pushes, pushes_of_plain) = (mapper.pushes(), plain.mapper.pushes());
         let given = answer(gmi, &command, mapper, chooser);
-        let wanted = plain_answer(plain, &command);
+        if mapper.pushes() > pushes {
+            plain.push_too(rt, mapper, &script.named);
+        }
+        let wanted = plain.answer(&command);
         assert!(rt; same(&given, &wanted), "at {step}");
-        script.hear(&given);
+        if plain.mapper.pushes() > pushes_of_plain {
+            assert!(rt; hold_the_same(&plain.mapper, mapper), "at {step}");
+        }
+        script.hear(&command, &given);
+        tally.count(&command, &given, &script.named);
     }
     Ok(())
 }
@@ -261,34 +422,39 @@ fn answers_as_plain_pages(
     frames: u32,
     seed: u64,
     apart: u32,
+    tally: &mut Tally,
 ) -> Result<(), Fail>
     requires some { 3 ≤ frames }
     requires few { frames ≤ 8 }
 {
     let mut gmi = Pvm::new(alloc, frames, PAGE)?;
-    let mut plain = EagerMachine::new(alloc, frames, PAGE);
-    let mut mapper = MemoryMapper::new(alloc, &[], &[], 1 << 16, &[], PAGE)?;
+    let mut mapper = segments(alloc, 1 << 16)?;
     answer_both(
         rt,
         &mut gmi,
         &mut mapper,
         &mut Clock::new(),
-        &mut plain,
+        &mut Plain::new(alloc, frames)?,
         &mut Script::new(seed, apart),
-        STEPS,
+        tally,
     )
 }
 
-// Histories of some hundred and fifty commands, with a look after each, and a long one with few looks, in which pages are
-// in frames and slots as the commands left them.
+// Histories with a look after each command, and a long one with few looks, in which pages are in
+// frames, slots and segments as the commands left them.
 fn answer_as_plain_pages(rt: &impl Abort, alloc: Global, frames: u32) -> Result<(), Fail>
     requires some { 3 ≤ frames }
     requires few { frames ≤ 8 }
 {
+    let mut tally = Tally { done: [0; KINDS] };
     for seed in 0..20 {
-        answers_as_plain_pages(rt, alloc, frames, seed, 1)?;
+        answers_as_plain_pages(rt, alloc, frames, seed, 1, &mut tally)?;
     }
-    answers_as_plain_pages(rt, alloc, frames, 20, 400)
+    answers_as_plain_pages(rt, alloc, frames, 20, 400, &mut tally)?;
+    for kind in 0..KINDS {
+        assert!(rt; tally.done[kind] >= OFTEN, "{kind} is seldom");
+    }
+    Ok(())
 }
 
 #[test]

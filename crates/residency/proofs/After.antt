@@ -1,22 +1,23 @@
 -- What layers above use of a right store: which small changes keep it right, and what stays where every page is still.
-use Rattle.std.proofs.Common.{◌≡◌, ℕ, ◌+◌, ◌-◌, ◌≤◌, ◌||◌, Bool, true, false, not, List, ◌++◌, length, get_or, set, replicate, Option, Some, None, is_some, option_map, refl, sym, ap, ◌∙◌, arith, inl, inr, length-set, length-append}
+use Rattle.std.proofs.Common.{◌≡◌, ◌≢◌, ℕ, ◌+◌, ◌-◌, ◌≤◌, ◌==◌, ◌||◌, Bool, true, false, not, List, ◌++◌, length, get_or, set, replicate, Option, Some, None, is_some, option_map, refl, sym, ap, ◌∙◌, arith, inl, inr, length-set, length-append}
 use Rattle.std.specs.Prelude.{option_and_then}
 use Rattle.std.proofs.lemmas.Bool.{cases_lt, cases_eq}
 use Rattle.std.proofs.lemmas.List.{get_or-set_other, get_or_past, get_or_append_left, get_or-append_right}
 use Rattle.std.proofs.lemmas.List.Sums.{sum_by-append}
 use Rattle.vm_ids.specs.Held.{slot_of}
-use Rattle.vm_ids.specs.declared.numbers.CacheId.{CacheId}
 use Rattle.vm_ids.specs.declared.numbers.NodeId.{NodeId}
-use Rattle.vm_ids.specs.declared.numbers.SegId.{SegId}
-use Rattle.vm_ids.proofs.Places.{bit, count-replicate_none, same_all}
+use Rattle.vm_ids.proofs.Places.{bit, bit_true, count-replicate_none, other_number, same_all, some_place}
+use Rattle.std.proofs.lemmas.List.Sums.{passes_at_first}
 use Rattle.frame_pool.specs.Pool.{is_pinned, with_bytes}
+use Rattle.global_map.specs.Pairs.{bound_times, frame_of, is_node, node_of}
+use Rattle.residency.proofs.Brought.{given_page}
 use Rattle.slot_pool.specs.Slots as swap
 use Rattle.local_cache.specs.declared.own_state.OwnState.{OwnState}
 use Rattle.local_cache.specs.declared.own_state.OwnState.TheVariants.{Absent, Zero, Resident, Slot, OnSegment}
-use Rattle.local_cache.specs.Arena.{Arena, Cell, IsHeld, IsMade, cell, find}
-use Rattle.local_cache.specs.Own.{is_absent, is_in_slot, is_on_segment, is_resident, is_slot, own_of, own_states}
-use Rattle.local_cache.proofs.Nodes.OwnStates.{filled_count, filled_length, filled_own}
-use Rattle.residency.specs.World.{World, HasOwnPage, IsStoreRight, SameNodes, Still, frame_page, is_bound, own_page, page_by, without_own, zero_page}
+use Rattle.local_cache.specs.Arena.{Arena, Cell, IsHeld, find}
+use Rattle.local_cache.specs.Home.{home_of}
+use Rattle.local_cache.specs.Own.{is_absent, is_resident, own_of}
+use Rattle.residency.specs.World.{World, HasOwnPage, IsStoreRight, SameNodes, Still, frame_page, home_page, is_bound, is_clean, own_page, page_by, without_own, zero_page}
 
 -- who is a node stays one
 bare_some : (o : Option Cell) → is_some (option_map without_own o) ≡ is_some o
@@ -34,11 +35,14 @@ has_page z f s g (Slot k) = refl
 has_page z f s g OnSegment = refl
 
 page_there : (w : World) (n : NodeId) → is_absent (own_of w.caches n) ≡ not (is_some (own_page w n))
-page_there w n = has_page (option_map (λ _. zero_page w) w.told) (option_map (λ _. frame_page w n) w.told) (λ k. option_and_then (λ h. slot_of h k) w.told) None (own_of w.caches n)
+page_there w n = has_page (option_map (λ _. zero_page w) w.told) (option_map (λ _. frame_page w n) w.told) (λ k. option_and_then (λ h. slot_of h k) w.told) (home_page w n) (own_of w.caches n)
 
 -- who has an own page has one still, whatever a mapper tells
+pub absent_still : (a b : World) → ((n : NodeId) → own_page b n ≡ own_page a n) → (n : NodeId) → is_absent (own_of b.caches n) ≡ is_absent (own_of a.caches n)
+absent_still a b pages n = page_there b n ∙ ap (λ (o : Option (Option (List ℕ))). not (is_some o)) (pages n) ∙ sym (page_there a n)
+
 pub absent_stays : (a b : World) → Still a b → (n : NodeId) → is_absent (own_of b.caches n) ≡ is_absent (own_of a.caches n)
-absent_stays a b s n = page_there b n ∙ ap (λ (o : Option (Option (List ℕ))). not (is_some o)) (s.stays.pages n) ∙ sym (page_there a n)
+absent_stays a b s = absent_still a b s.stays.pages
 
 pub own_page_stays : (a b : World) → Still a b → (n : NodeId) → HasOwnPage a.caches n → HasOwnPage b.caches n
 own_page_stays a b s n h = record { node = held_stays a.caches b.caches s.stays.caches n h.node; own_page = absent_stays a b s n ∙ h.own_page }
@@ -65,7 +69,10 @@ pin_right w f t right bound = record {
     };
     backed = record {
       there = right.tied.backed.there;
-      temporary = right.tied.backed.temporary;
+      homes = right.tied.backed.homes;
+      apart = right.tied.backed.apart;
+      lies = right.tied.backed.lies;
+      clean = right.tied.backed.clean;
     };
     fitted = record {
       map_frames = right.tied.fitted.map_frames;
@@ -76,12 +83,27 @@ pin_right w f t right bound = record {
       page = right.tied.fitted.page;
     };
   };
+  granted = record { granted = right.granted.granted; allowed = right.granted.allowed };
   capacity = right.capacity;
 }
 
--- the bytes of a frame may be written
-pub written_right : (w : World) (f : ℕ) (bytes : List ℕ) → IsStoreRight w → IsStoreRight (record w { frames = with_bytes w.frames f bytes })
-written_right w f bytes right = record {
+is_here : (k : ℕ) (o : Option NodeId) → is_node k o ≡ true → o ≡ Some (record { 0 = k })
+is_here k None e = absurd (cc)
+is_here k (Some n) e = elim (cases_eq n.0 k) [
+  | inl q ↦ λ i. Some (record { 0 = q i })
+  | inr d ↦ absurd (let t : (n.0 == k) ≡ false = other_number n.0 k d in cc)
+]
+
+-- a resident node that isn't at frame f is at another
+at_other : (w : World) (f : ℕ) (m : NodeId) → IsStoreRight w → is_resident (own_of w.caches m) ≡ true → (node_of w.map f ≡ Some m → ⊥) → frame_of w.map m.0 ≢ f
+at_other w f m right resident apart e =
+    let some : 1 ≤ bound_times w.map m.0 = omega (arith, right.tied.placed.bound m, bit_true (is_resident (own_of w.caches m)) resident) in
+    let here : is_node m.0 (get_or w.map (frame_of w.map m.0) None) ≡ true = passes_at_first (is_node m.0) w.map None (some_place (is_node m.0) w.map some) in
+    apart (is_here m.0 (node_of w.map f) (ap (λ (k : ℕ). is_node m.0 (get_or w.map k None)) (sym e) ∙ here))
+
+-- the bytes of a frame may be written, but for that of a clean node
+pub written_right : (w : World) (f : ℕ) (bytes : List ℕ) → IsStoreRight w → ((m : NodeId) → node_of w.map f ≡ Some m → is_clean (own_of w.caches m) ≡ false) → IsStoreRight (record w { frames = with_bytes w.frames f bytes })
+written_right w f bytes right loose = record {
   tied = record {
     placed = record {
       bound = right.tied.placed.bound;
@@ -91,7 +113,10 @@ written_right w f bytes right = record {
     };
     backed = record {
       there = right.tied.backed.there;
-      temporary = right.tied.backed.temporary;
+      homes = right.tied.backed.homes;
+      apart = right.tied.backed.apart;
+      lies = right.tied.backed.lies;
+      clean = λ m clean. given_page w f bytes m (own_of w.caches m) (λ resident. at_other w f m right resident (λ here. absurd (let dirty = loose m here in cc))) ∙ right.tied.backed.clean m clean;
     };
     fitted = record {
       map_frames = right.tied.fitted.map_frames;
@@ -102,6 +127,7 @@ written_right w f bytes right = record {
       page = right.tied.fitted.page;
     };
   };
+  granted = record { granted = right.granted.granted; allowed = right.granted.allowed };
   capacity = right.capacity;
 }
 
@@ -123,33 +149,21 @@ slots_right w n right = record {
     };
     backed = record {
       there = λ s h. right.tied.backed.there s (sym (more_false w.slots n s) ∙ h);
-      temporary = right.tied.backed.temporary;
+      homes = right.tied.backed.homes;
+      apart = right.tied.backed.apart;
+      lies = right.tied.backed.lies;
+      clean = right.tied.backed.clean;
     };
     fitted = right.tied.fitted;
   };
+  granted = record { granted = right.granted.granted; allowed = right.granted.allowed };
   capacity = omega (arith, length-append w.slots (replicate n false), right.capacity);
 }
 
-own_alike : (a b : Arena) (cache : CacheId) (segment : Option SegId) (ns : List NodeId) → IsMade a b cache segment Zero ns → (f : OwnState → Bool) → f Zero ≡ f Absent → (n : NodeId) → f (own_of b n) ≡ f (own_of a n)
-unfolding cell
-own_alike a b cache segment ns m f alike n = filled_own ns a.cells 0 b.cells cache Zero f n.0 m.cells alike
-
--- a cache of pages of zeros may be made, where there are slots for them
-pub made_right : (w : World) (b : Arena) (cache : CacheId) (segment : Option SegId) (ns : List NodeId) → IsStoreRight w → IsMade w.caches b cache segment Zero ns → length (own_states w.caches) + length ns ≤ length w.slots
-    → IsStoreRight (record w { caches = b })
-made_right w b cache segment ns right m room = record {
-  tied = record {
-    placed = record {
-      bound = λ n. right.tied.placed.bound n ∙ sym (ap bit (own_alike w.caches b cache segment ns m is_resident refl n));
-      held = right.tied.placed.held;
-      slots = λ s. filled_count ns w.caches.cells 0 b.cells cache Zero (is_slot s) m.cells refl ∙ right.tied.placed.slots s;
-      in_slots = right.tied.placed.in_slots ∙ sym (filled_count ns w.caches.cells 0 b.cells cache Zero is_in_slot m.cells refl);
-    };
-    backed = record {
-      there = right.tied.backed.there;
-      temporary = λ n. own_alike w.caches b cache segment ns m is_on_segment refl n ∙ right.tied.backed.temporary n;
-    };
-    fitted = right.tied.fitted;
-  };
-  capacity = omega (arith, filled_length ns w.caches.cells 0 b.cells cache Zero m.cells);
-}
+-- a node without a home isn't clean
+pub homeless_dirty : (w : World) (n : NodeId) → IsStoreRight w → home_of w.caches n ≡ None → is_clean (own_of w.caches n) ≡ false
+homeless_dirty w n right none = by_mark (is_clean (own_of w.caches n)) refl
+  where
+    by_mark : (t : Bool) → is_clean (own_of w.caches n) ≡ t → t ≡ false
+    by_mark false e = refl
+    by_mark true e = absurd (let some = right.tied.backed.homes n e in let out : is_some (home_of w.caches n) ≡ false = ap is_some none in cc)

@@ -12,7 +12,7 @@ use Rattle.frame_pool.specs.Pool.{Frames, is_evictable, is_held, is_pinned}
 use Rattle.global_map.specs.Pairs.{node_of}
 use Rattle.residency.specs.Causes.{pushes_for}
 use Rattle.residency.specs.World.{World, HasUnpinned, IsMadeFree, IsStoreRight, OthersStay, PinnedStays, Still, StillBut, is_bound}
-use Rattle.residency.proofs.Evicted.{stays_then}
+use Rattle.residency.proofs.Composed.{stays_then}
 use Rattle.residency.proofs.Nodes.{same}
 
 abbrev pub claimed : World → ℕ → World
@@ -62,7 +62,10 @@ claimed_still w f right within free = record {
         };
         backed = record {
           there = right.tied.backed.there;
-          temporary = right.tied.backed.temporary;
+          homes = right.tied.backed.homes;
+          apart = right.tied.backed.apart;
+          lies = right.tied.backed.lies;
+          clean = right.tied.backed.clean;
         };
         fitted = record {
           map_frames = right.tied.fitted.map_frames ∙ sym (length-set w.frames.held f true);
@@ -73,11 +76,12 @@ claimed_still w f right within free = record {
           page = right.tied.fitted.page;
         };
       };
+      granted = record { granted = right.granted.granted; allowed = right.granted.allowed };
       capacity = right.capacity;
     };
     pages = λ n. refl;
     caches = same w.caches;
-    told = record { segments = refl; page_bytes = refl };
+    page_bytes = refl;
     frames = length-set w.frames.held f true;
     page = refl;
     slots = refl;

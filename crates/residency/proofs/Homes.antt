@@ -1,17 +1,21 @@
 -- What a right store says of one frame and of one slot.
 use Rattle.std.proofs.Common.{◌≡◌, ℕ, ◌<◌, ◌≤◌, true, false, length, Option, Some, None, refl, ap, ◌∙◌, arith}
+use Rattle.std.specs.Prelude.{option_map, option_and_then, Result, Ok, Err, OnErr}
 use Rattle.std.specs.List.{count_by}
+use Rattle.vm_ids.specs.Held.{Held, slot_of}
 use Rattle.vm_ids.specs.declared.numbers.NodeId.{NodeId}
+use Rattle.vm_ids.specs.declared.numbers.SlotId.{SlotId}
 use Rattle.vm_ids.proofs.Places.{same_number, bit, bit-le, bit_from, count_some, only_place, true_below}
-use Rattle.frame_pool.specs.Pool.{is_held}
+use Rattle.frame_pool.specs.Pool.{bytes_of, is_held}
 use Rattle.global_map.specs.Pairs.{bound_times, frame_of, is_node, node_of}
 use Rattle.slot_pool.specs.Slots as swap
 use Rattle.local_cache.specs.declared.own_state.OwnState.{OwnState}
 use Rattle.local_cache.specs.declared.own_state.OwnState.TheVariants.{Absent, Zero, Resident, Slot, OnSegment}
-use Rattle.local_cache.specs.Arena.{IsHeld}
+use Rattle.local_cache.specs.Arena.{Arena, IsHeld}
 use Rattle.local_cache.specs.Own.{is_in_slot, is_resident, is_slot, own_of, own_states}
-use Rattle.local_cache.proofs.Nodes.OwnStates.{own_held, own_not_all}
-use Rattle.residency.specs.World.{World, IsStoreRight}
+use Rattle.local_cache.proofs.Nodes.OwnStates.{own_held, own_not_all, own_some}
+use Rattle.residency.specs.declared.store.Store.{Store}
+use Rattle.residency.specs.World.{World, IsStoreRight, frame_page, home_page, is_slot_held, page_by, world, zero_page}
 
 pub resident_not_in_slot : (x : OwnState) → is_resident x ≡ true → is_in_slot x ≡ false
 resident_not_in_slot Absent h = refl
@@ -67,3 +71,24 @@ room w f n right h =
 
 pub world_is : (a b : World) → a.told ≡ b.told → a.page_bytes ≡ b.page_bytes → a.caches ≡ b.caches → a.frames ≡ b.frames → a.slots ≡ b.slots → a.map ≡ b.map → a.marks ≡ b.marks → a ≡ b
 world_is a b told size caches frames slots map marks = λ i. record { told = told i; page_bytes = size i; caches = caches i; frames = frames i; slots = slots i; map = map i; marks = marks i }
+
+-- after an error nothing changed
+pub unchanged : {T F : Type 0} (r : Result T F) (told now : Option Held) (size then : Option ℕ) (a b : Arena) (s t : Store) → OnErr r (t ≡ s) → OnErr r (b ≡ a) → OnErr r (now ≡ told) → then ≡ size
+    → OnErr r (world now then b t ≡ world told size a s)
+unchanged (Ok x) told now size then a b s t store caches held bytes = tt
+unchanged (Err x) told now size then a b s t store caches held bytes = λ i. world (held i) (bytes i) (caches i) (store i)
+
+-- its page is in its frame
+pub page_here : (w : World) (f : ℕ) (n : NodeId) (x : OwnState) → is_resident x ≡ true → frame_of w.map n.0 ≡ f
+    → page_by (option_map (λ _. zero_page w) w.told) (option_map (λ _. frame_page w n) w.told) (λ k. option_and_then (λ h. slot_of h k) w.told) (home_page w n) x ≡ Some (option_map (λ _. bytes_of w.frames f) w.told)
+page_here w f n Absent r place = absurd (cc)
+page_here w f n Zero r place = absurd (cc)
+page_here w f n (Resident dirty) r place = ap (λ (g : ℕ). Some (option_map (λ _. bytes_of w.frames g) w.told)) place
+page_here w f n (Slot k) r place = absurd (cc)
+page_here w f n OnSegment r place = absurd (cc)
+
+-- a node's slot is held
+pub slot_is_held : (w : World) (n : NodeId) (s : SlotId) → IsStoreRight w → IsHeld w.caches n → own_of w.caches n ≡ Slot s → is_slot_held w s.0 ≡ true
+slot_is_held w n s right there e =
+    let here : is_slot s.0 (own_of w.caches n) ≡ true = ap (is_slot s.0) e ∙ same_number s.0 in
+    bit_from (is_slot_held w s.0) (omega (arith, own_some (is_slot s.0) w.caches n there here, right.tied.placed.slots s.0))

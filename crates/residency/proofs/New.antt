@@ -14,8 +14,9 @@ use Rattle.global_map.specs.Pairs.{is_node}
 use Rattle.local_cache.specs.declared.own_state.OwnState.{OwnState}
 use Rattle.local_cache.specs.declared.own_state.OwnState.TheVariants.{Absent}
 use Rattle.local_cache.specs.Arena.{Arena, Cell, blank, cell}
-use Rattle.local_cache.specs.Own.{is_in_slot, is_on_segment, is_resident, is_slot, own_of, own_states}
-use Rattle.residency.specs.World.{HasNoNodes, IsStoreRight}
+use Rattle.local_cache.specs.Home.{home_named, home_of}
+use Rattle.local_cache.specs.Own.{is_in_slot, is_resident, is_slot, own_of, own_states}
+use Rattle.residency.specs.World.{HasNoNodes, IsStoreRight, is_clean}
 
 none_held : (n f : ℕ) → get_or (replicate n false) f false ≡ (is_some (get_or (replicate {A = Option NodeId} n None) f None) || get_or (replicate n false) f false)
 none_held n f = ap (λ (o : Option NodeId). is_some o || get_or (replicate n false) f false) (sym (same_all n None f))
@@ -23,6 +24,10 @@ none_held n f = ap (λ (o : Option NodeId). is_some o || get_or (replicate n fal
 absent : (a : Arena) → HasNoNodes a → (n : NodeId) → own_of a n ≡ Absent
 unfolding cell
 absent a none n = ap (λ (o : Option Cell). (unwrap_or o blank).own) (none n)
+
+pub homeless : (a : Arena) → HasNoNodes a → (n : NodeId) → home_of a n ≡ None
+unfolding cell
+homeless a none n = ap (λ (o : Option Cell). home_named a.caches (unwrap_or o blank).name) (none n)
 
 no_items : {X : Type 0} (xs : List X) → length xs ≡ 0 → xs ≡ []
 no_items [] e = refl
@@ -48,7 +53,10 @@ new_right n page told size a few none fits =
         };
         backed = record {
           there = λ s h. absurd (cc);
-          temporary = λ m. ap is_on_segment (absent a none m);
+          homes = λ m clean. absurd (let dirty : is_clean (own_of a m) ≡ false = ap is_clean (absent a none m) in cc);
+          apart = λ m k home e q. absurd (let out = homeless a none m in cc);
+          lies = λ m home e. absurd (let out = homeless a none m in cc);
+          clean = λ m clean. absurd (let dirty : is_clean (own_of a m) ≡ false = ap is_clean (absent a none m) in cc);
         };
         fitted = record {
           map_frames = length-replicate n None ∙ sym (length-replicate n false);
@@ -58,6 +66,10 @@ new_right n page told size a few none fits =
           few = omega (arith, length-replicate n false);
           page = fits;
         };
+      };
+      granted = record {
+        granted = λ m home clean. absurd (let out : is_some (home_of a m) ≡ false = ap is_some (homeless a none m) in cc);
+        allowed = λ m home e granted. absurd (let out = homeless a none m in cc);
       };
       capacity = omega (arith, ap (λ (xs : List OwnState). length xs) states);
     }

@@ -29,8 +29,7 @@ use Rattle.local_cache.proofs.Nodes.OwnStates.{id_apart, id_cases}
 use Rattle.residency.specs.StoreForest.{store_forest}
 use Rattle.residency.specs.World.{IsStoreRight, World, own_page}
 use Rattle.residency.proofs.Brought.{given_page}
-use Rattle.residency.proofs.Evicted.{page_here}
-use Rattle.residency.proofs.Homes.{IsHome}
+use Rattle.residency.proofs.Homes.{IsHome, page_here}
 use Rattle.residency.proofs.Telling.{tells}
 
 pub store_made : (w : World) → (store_forest w).made ≡ w.caches.made

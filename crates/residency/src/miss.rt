@@ -1,6 +1,6 @@
 // Why a page couldn't be brought in.
 
-/// Why a page couldn't be brought in. Every page is then where it was, or in a slot.
+/// Why a page couldn't be brought in. Every page is then where it was, or was evicted.
 #[derive(Clone, Copy, Debug, PartialEq, Eq)]
 pub enum Miss {
     /// A pull failed.

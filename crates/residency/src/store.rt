@@ -7,18 +7,21 @@ ghost use Rattle.frame_pool.specs.Pool.{bytes_of, held_count, is_held, is_pinned
 ghost use Rattle.slot_pool.specs.Slots as swap;
 ghost use Rattle.global_map.specs.Pairs.{bound_times, frame_of, node_of};
 ghost use Rattle.local_cache.specs.Arena.{Arena, IsHeld, with_own};
+ghost use Rattle.local_cache.specs.Home.{home_of};
 ghost use Rattle.local_cache.specs.Own.{is_resident, own_of};
-ghost use Rattle.residency.specs.Between.{Between, RightStore};
-ghost use Rattle.residency.specs.Causes.{HasMissCause, Later, Made, PushFailed, failed_pushes, frames_to_bring, is_victim, pulls_for, pushes_for, pushes_to_bring};
+ghost use Rattle.residency.specs.Between.{Across, Between, RightStore};
+ghost use Rattle.residency.specs.Causes.{HasMissCause, Later, Made, PushFailed, dirtied, dirty_count, dirty_in, failed_pushes, failed_victims, frames_to_bring, is_victim, pulls_for, pushes_for, pushes_to_bring};
+ghost use Rattle.residency.specs.Evicting.{HasLeft, IsEvicted, IsInSlot};
 ghost use Rattle.residency.specs.Frames.{evictable_count, free_frames, with_held, with_pinned};
 ghost use Rattle.residency.specs.Lending.{LendsFrame};
-ghost use Rattle.residency.specs.World.{HasNoNodes, HasOwnPage, HoldsPage, HasUnpinned, IsAway, IsEvicted, IsFrameOf, IsMadeFree, IsStoreRight, IsTaken, OthersStay, OthersStayBut, Still, StillBut, world};
+ghost use Rattle.residency.specs.Pushing.{TellsOn};
+ghost use Rattle.residency.specs.World.{HasNoNodes, HasOwnPage, HoldsPage, HasUnpinned, IsAway, IsFrameOf, IsMadeFree, IsStoreRight, IsTaken, OthersStay, OthersStayBut, Still, StillBut, brought_in, is_clean, world};
 
 use crate::Miss;
 use crate::marks::Marks;
 use frame_pool::FramePool;
 use global_map::GlobalMap;
-use local_cache::{Caches, OwnState};
+use local_cache::{Caches, Home, OwnState};
 use slot_pool::SlotPool;
 use std::alloc::Global;
 use vm_ids::{FrameId, NoMemory, NodeId, SlotId};
@@ -178,8 +181,8 @@ impl Store {
         self.slots.give_back(slot);
     }
 
-    /// Makes the number of slots at least `total`, the new ones free. It can fail only where there were fewer, and after
-    /// an error the store is as it was.
+    /// Makes the number of slots at least `total`, the new ones free. It can fail only where there
+    /// were fewer, and after an error the store is as it was.
     pub fn reserve_slots(&mut self, total: u32) -> Result<(), NoMemory>
         ensures ok { OnOk result (self.new ≡ record self.old {
           slots = self.old.slots ++ replicate (total - length self.old.slots) false;
@@ -198,8 +201,9 @@ impl Store {
         self.marks.touch(frame);
     }
 
-    /// Moves the page in a held frame that isn't pinned to a swap slot. The frame is then free. After a fault the store and
-    /// the caches are as they were. It takes one push.
+    /// Evicts the page in a held frame that isn't pinned, so that the frame is free. A page with a
+    /// home on a segment goes there, by a push where it is dirty and else without one; any other is
+    /// pushed to a swap slot. After a fault the store and the caches are as they were.
     pub fn evict<M: Mapper>(
         &mut self,
         caches: &mut Caches,
@@ -211,24 +215,90 @@ impl Store {
         requires unpinned { is_pinned self.old.frames frame.0 ≡ false }
         ensures still { Between Still M.held M.page_bytes
             mapper.old caches.old self.old mapper.new caches.new self.new }
+        ensures told { Across TellsOn M.held M.page_bytes M.counts
+            mapper.old caches.old self.old mapper.new caches.new self.new }
         ensures evicted { OnOk result (Between (IsEvicted frame.0) M.held M.page_bytes
             mapper.old caches.old self.old mapper.new caches.new self.new) }
         ensures free { OnOk result (self.new.frames.held
             ≡ slice_set self.old.frames.held frame.0 false) }
         ensures failed { OnErr result (self.new ≡ self.old) }
         ensures failed_caches { OnErr result (caches.new ≡ caches.old) }
+        ensures failed_dirty { OnErr result (dirty_in caches.old self.old.map frame.0 ≡ 1) }
         ensures pinned { self.new.frames.pinned ≡ self.old.frames.pinned }
         ensures others { Between OthersStay M.held M.page_bytes
             mapper.old caches.old self.old mapper.new caches.new self.new }
-        ensures counts { Counted 0 1 (M.counts mapper.old) (M.counts mapper.new) result }
+        ensures dirty { OnOk result (
+            dirty_count caches.new + dirty_in caches.old self.old.map frame.0
+            ≡ dirty_count caches.old) }
+        ensures counts { Counted 0 (dirty_in caches.old self.old.map frame.0)
+            (M.counts mapper.old) (M.counts mapper.new) result }
     {
         let node = self.map.node_at(frame).unwrap();
+        match caches.home(node) {
+            Some(home) => self.send_home(caches, node, frame, home, mapper),
+            None => self.send_to_slot(caches, node, frame, mapper),
+        }
+    }
+
+    // Evicts the page of a node with a home.
+    fn send_home<M: Mapper>(
+        &mut self,
+        caches: &mut Caches,
+        node: NodeId,
+        frame: FrameId,
+        home: Home,
+        mapper: &mut M,
+    ) -> Result<(), Failed>
+        requires right { RightStore M.held M.page_bytes mapper.old caches.old self.old }
+        requires held { is_held self.old.frames frame.0 ≡ true }
+        requires unpinned { is_pinned self.old.frames frame.0 ≡ false }
+        requires bound { node_of self.old.map frame.0 ≡ Some node }
+        requires home { home_of caches.old node ≡ Some home }
+        ensures left { OnOk result (Between
+            (HasLeft (Some home) (is_clean (own_of caches.old node)) frame.0 node)
+            M.held M.page_bytes
+            mapper.old caches.old self.old mapper.new caches.new self.new) }
+        ensures failed { OnErr result (self.new ≡ self.old) }
+        ensures failed_caches { OnErr result (caches.new ≡ caches.old) }
+        ensures failed_held { OnErr result (M.held mapper.new ≡ M.held mapper.old) }
+        ensures failed_dirty { OnErr result (dirty_in caches.old self.old.map frame.0 ≡ 1) }
+        ensures page_bytes { M.page_bytes mapper.new ≡ M.page_bytes mapper.old }
+        ensures counts { Counted 0 (dirty_in caches.old self.old.map frame.0)
+            (M.counts mapper.old) (M.counts mapper.new) result }
+    {
+        if let OwnState::Resident { dirty: true } = caches.own_state(node) {
+            mapper.push_out(home.segment, home.page, self.frames.bytes(frame))?;
+        }
+        self.leave(caches, node, frame, OwnState::OnSegment);
+        Ok(())
+    }
+
+    // Evicts the page of a node without a home.
+    fn send_to_slot<M: Mapper>(
+        &mut self,
+        caches: &mut Caches,
+        node: NodeId,
+        frame: FrameId,
+        mapper: &mut M,
+    ) -> Result<(), Failed>
+        requires right { RightStore M.held M.page_bytes mapper.old caches.old self.old }
+        requires held { is_held self.old.frames frame.0 ≡ true }
+        requires unpinned { is_pinned self.old.frames frame.0 ≡ false }
+        requires bound { node_of self.old.map frame.0 ≡ Some node }
+        requires home { home_of caches.old node ≡ None }
+        ensures left { OnOk result (Between (IsInSlot frame.0 node) M.held M.page_bytes
+            mapper.old caches.old self.old mapper.new caches.new self.new) }
+        ensures failed { OnErr result (self.new ≡ self.old) }
+        ensures failed_caches { OnErr result (caches.new ≡ caches.old) }
+        ensures failed_held { OnErr result (M.held mapper.new ≡ M.held mapper.old) }
+        ensures dirty { dirty_in caches.old self.old.map frame.0 ≡ 1 }
+        ensures page_bytes { M.page_bytes mapper.new ≡ M.page_bytes mapper.old }
+        ensures counts { Counted 0 1 (M.counts mapper.old) (M.counts mapper.new) result }
+    {
         let slot = self.slots.take();
         match mapper.swap_out(slot, self.frames.bytes(frame)) {
             Ok(()) => {
-                caches.set_state(node, OwnState::Slot(slot));
-                self.map.unbind(node);
-                self.frames.give_back(frame);
+                self.leave(caches, node, frame, OwnState::Slot(slot));
                 Ok(())
             }
             Err(failed) => {
@@ -238,8 +308,26 @@ impl Store {
         }
     }
 
-    /// A frame for the caller, which is held, pinned and bound to no node. It evicts a page only where no frame is free, and
-    /// fails only where that push fails.
+    // The frame of a node falls free, whose page is in this state then.
+    fn leave(&mut self, caches: &mut Caches, node: NodeId, frame: FrameId, own: OwnState)
+        requires node { IsHeld caches.old node }
+        requires held { is_held self.old.frames frame.0 ≡ true }
+        requires unpinned { is_pinned self.old.frames frame.0 ≡ false }
+        requires bound { bound_times self.old.map node.0 ≡ 1 }
+        requires place { frame_of self.old.map node.0 ≡ frame.0 }
+        ensures caches { caches.new ≡ with_own caches.old node own }
+        ensures store { self.new ≡ record self.old {
+          frames = with_held self.old.frames frame.0 false;
+          map = slice_set self.old.map frame.0 None;
+        } }
+    {
+        caches.set_state(node, own);
+        self.map.unbind(node);
+        self.frames.give_back(frame);
+    }
+
+    /// A frame for the caller, which is held, pinned and bound to no node. It evicts a page only
+    /// where no frame is free, and fails only where that push fails.
     pub fn make_free<M: Mapper, C: Chooser>(
         &mut self,
         caches: &mut Caches,
@@ -249,6 +337,8 @@ impl Store {
         requires right { RightStore M.held M.page_bytes mapper.old caches.old self.old }
         requires unpinned { HasUnpinned self.old.frames }
         ensures still { Between Still M.held M.page_bytes
+            mapper.old caches.old self.old mapper.new caches.new self.new }
+        ensures told { Across TellsOn M.held M.page_bytes M.counts
             mapper.old caches.old self.old mapper.new caches.new self.new }
         ensures free { IfOk result (λ f. Between (IsMadeFree f.0) M.held M.page_bytes
             mapper.old caches.old self.old mapper.new caches.new self.new) }
@@ -262,8 +352,12 @@ impl Store {
         ensures idle { pushes_for self.old.frames.held ≡ 0 → mapper.new ≡ mapper.old }
         ensures idle_caches { pushes_for self.old.frames.held ≡ 0 → caches.new ≡ caches.old }
         ensures later { Later (M.counts mapper.old) (M.counts mapper.new) }
-        ensures made { Made 0 (pushes_for self.old.frames.held)
+        ensures made { Made 0
+            (dirty_count caches.old - dirty_count caches.new + failed_pushes result)
             (M.counts mapper.old) (M.counts mapper.new) }
+        ensures dirty { dirty_count caches.new ≤ dirty_count caches.old }
+        ensures few { dirty_count caches.old - dirty_count caches.new + failed_pushes result
+            ≤ pushes_for self.old.frames.held }
         ensures cause { OnErr result (PushFailed (M.counts mapper.old) (M.counts mapper.new)) }
     {
         match self.frames.take() {
@@ -287,6 +381,8 @@ impl Store {
         requires full { All (λ h. h ≡ true) self.old.frames.held }
         ensures still { Between Still M.held M.page_bytes
             mapper.old caches.old self.old mapper.new caches.new self.new }
+        ensures told { Across TellsOn M.held M.page_bytes M.counts
+            mapper.old caches.old self.old mapper.new caches.new self.new }
         ensures free { IfOk result (λ f. Between (IsMadeFree f.0) M.held M.page_bytes
             mapper.old caches.old self.old mapper.new caches.new self.new) }
         ensures pinned { OnErr result (self.new.frames.pinned ≡ self.old.frames.pinned) }
@@ -294,7 +390,11 @@ impl Store {
         ensures others { Between OthersStay M.held M.page_bytes
             mapper.old caches.old self.old mapper.new caches.new self.new }
         ensures later { Later (M.counts mapper.old) (M.counts mapper.new) }
-        ensures made { Made 0 1 (M.counts mapper.old) (M.counts mapper.new) }
+        ensures made { Made 0
+            (dirty_count caches.old - dirty_count caches.new + failed_pushes result)
+            (M.counts mapper.old) (M.counts mapper.new) }
+        ensures dirty { dirty_count caches.new ≤ dirty_count caches.old }
+        ensures few { dirty_count caches.old - dirty_count caches.new + failed_pushes result ≤ 1 }
         ensures cause { OnErr result (PushFailed (M.counts mapper.old) (M.counts mapper.new)) }
     {
         let victim = self.marks.pick(&self.frames, chooser);
@@ -304,8 +404,10 @@ impl Store {
         Ok(frame)
     }
 
-    /// Brings the own page of a node into a frame, which it answers. A resident page stays where it is. Else a frame is made
-    /// free for it, and the page is pulled from its slot or is zeros. After a fault the node's page is where it was.
+    /// Brings the own page of a node into a frame, which it answers. A resident page stays where it
+    /// is. Else a frame is made free for it, and the page is pulled from its slot or from its
+    /// segment, or is zeros. One from its segment is clean, any other is dirty. After a fault the
+    /// node's page is where it was.
     pub fn bring_in<M: Mapper, C: Chooser>(
         &mut self,
         caches: &mut Caches,
@@ -319,7 +421,11 @@ impl Store {
             HasUnpinned self.old.frames }
         ensures still { Between Still M.held M.page_bytes
             mapper.old caches.old self.old mapper.new caches.new self.new }
+        ensures told { Across TellsOn M.held M.page_bytes M.counts
+            mapper.old caches.old self.old mapper.new caches.new self.new }
         ensures home { IfOk result (λ f. IsFrameOf self.new.map f.0 node) }
+        ensures state { OnOk result (
+            own_of caches.new node ≡ brought_in (own_of caches.old node)) }
         ensures page { IfOk result (λ f.
             HoldsPage (own_of caches.old node) (M.given mapper.new) self.new.frames f.0) }
         ensures idle { is_resident (own_of caches.old node) ≡ true →
@@ -335,8 +441,14 @@ impl Store {
             + pushes_to_bring (own_of caches.old node) self.old.frames.held
             ≡ held_count self.old.frames + frames_to_bring (own_of caches.old node)) }
         ensures made { Made (pulls_for result (own_of caches.old node))
-            (pushes_to_bring (own_of caches.old node) self.old.frames.held)
+            (dirty_count caches.old + dirtied result (own_of caches.old node)
+            - dirty_count caches.new + failed_victims result)
             (M.counts mapper.old) (M.counts mapper.new) }
+        ensures dirty { dirty_count caches.new
+            ≤ dirty_count caches.old + dirtied result (own_of caches.old node) }
+        ensures few { dirty_count caches.old + dirtied result (own_of caches.old node)
+            - dirty_count caches.new + failed_victims result
+            ≤ pushes_to_bring (own_of caches.old node) self.old.frames.held }
         ensures cause { IfErr result (HasMissCause (M.counts mapper.old) (M.counts mapper.new)) }
     {
         match self.map.get(node) {
@@ -358,7 +470,11 @@ impl Store {
         requires unpinned { HasUnpinned self.old.frames }
         ensures still { Between Still M.held M.page_bytes
             mapper.old caches.old self.old mapper.new caches.new self.new }
+        ensures told { Across TellsOn M.held M.page_bytes M.counts
+            mapper.old caches.old self.old mapper.new caches.new self.new }
         ensures home { IfOk result (λ f. IsFrameOf self.new.map f.0 node) }
+        ensures state { OnOk result (
+            own_of caches.new node ≡ brought_in (own_of caches.old node)) }
         ensures page { IfOk result (λ f.
             HoldsPage (own_of caches.old node) (M.given mapper.new) self.new.frames f.0) }
         ensures others { Between (OthersStayBut node) M.held M.page_bytes
@@ -369,9 +485,15 @@ impl Store {
         ensures later { Later (M.counts mapper.old) (M.counts mapper.new) }
         ensures held { OnOk result (held_count self.new.frames + pushes_for self.old.frames.held
             ≡ held_count self.old.frames + 1) }
-        ensures made { Made
-            (pulls_for result (own_of caches.old node)) (pushes_for self.old.frames.held)
+        ensures made { Made (pulls_for result (own_of caches.old node))
+            (dirty_count caches.old + dirtied result (own_of caches.old node)
+            - dirty_count caches.new + failed_victims result)
             (M.counts mapper.old) (M.counts mapper.new) }
+        ensures dirty { dirty_count caches.new
+            ≤ dirty_count caches.old + dirtied result (own_of caches.old node) }
+        ensures few { dirty_count caches.old + dirtied result (own_of caches.old node)
+            - dirty_count caches.new + failed_victims result
+            ≤ pushes_for self.old.frames.held }
         ensures cause { IfErr result (HasMissCause (M.counts mapper.old) (M.counts mapper.new)) }
     {
         match self.make_free(caches, mapper, chooser) {
@@ -396,6 +518,8 @@ impl Store {
         ensures still { Between (StillBut frame.0) M.held M.page_bytes
             mapper.old caches.old self.old mapper.new caches.new self.new }
         ensures home { IfOk result (λ f. IsFrameOf self.new.map f.0 node) }
+        ensures state { OnOk result (
+            own_of caches.new node ≡ brought_in (own_of caches.old node)) }
         ensures page { IfOk result (λ f.
             HoldsPage (own_of caches.old node) (M.given mapper.new) self.new.frames f.0) }
         ensures others { Between (OthersStayBut node) M.held M.page_bytes
@@ -407,14 +531,18 @@ impl Store {
         ensures held { OnOk result (self.new.frames.held ≡ self.old.frames.held) }
         ensures made { Made (pulls_for result (own_of caches.old node)) 0
             (M.counts mapper.old) (M.counts mapper.new) }
+        ensures dirty { dirty_count caches.new
+            ≡ dirty_count caches.old + dirtied result (own_of caches.old node) }
+        ensures told { M.held mapper.new ≡ M.held mapper.old }
         ensures filled { is_victim result ≡ false }
         ensures cause { IfErr result (HasMissCause (M.counts mapper.old) (M.counts mapper.new)) }
     {
         match caches.own_state(node) {
             OwnState::Slot(slot) => self.pull_slot(caches, node, slot, frame, mapper),
+            OwnState::OnSegment => self.pull_home(caches, node, frame, mapper),
             _ => {
                 self.frames.zero(frame);
-                self.settle_in(caches, node, frame);
+                self.settle_in(caches, node, frame, true);
                 Ok(frame)
             }
         }
@@ -438,6 +566,8 @@ impl Store {
         ensures still { Between (StillBut frame.0) M.held M.page_bytes
             mapper.old caches.old self.old mapper.new caches.new self.new }
         ensures home { IfOk result (λ f. IsFrameOf self.new.map f.0 node) }
+        ensures state { OnOk result (
+            own_of caches.new node ≡ brought_in (own_of caches.old node)) }
         ensures page { IfOk result (λ f.
             HoldsPage (own_of caches.old node) (M.given mapper.new) self.new.frames f.0) }
         ensures others { Between (OthersStayBut node) M.held M.page_bytes
@@ -448,43 +578,105 @@ impl Store {
         ensures later { Later (M.counts mapper.old) (M.counts mapper.new) }
         ensures held { OnOk result (self.new.frames.held ≡ self.old.frames.held) }
         ensures made { Made 1 0 (M.counts mapper.old) (M.counts mapper.new) }
+        ensures dirty { dirty_count caches.new
+            ≡ dirty_count caches.old + dirtied result (own_of caches.old node) }
+        ensures told { M.held mapper.new ≡ M.held mapper.old }
         ensures filled { is_victim result ≡ false }
         ensures cause { IfErr result (HasMissCause (M.counts mapper.old) (M.counts mapper.new)) }
     {
         match mapper.swap_in(slot, self.frames.bytes_mut(frame)) {
             Ok(()) => {
                 self.slots.give_back(slot);
-                self.settle_in(caches, node, frame);
+                self.settle_in(caches, node, frame, true);
                 Ok(frame)
             }
             Err(_) => {
-                self.frames.unpin(frame);
-                self.frames.give_back(frame);
+                self.give_up(frame);
+                Err(Miss::Pull)
+            }
+        }
+    }
+
+    // The same for a page on its segment.
+    fn pull_home<M: Mapper>(
+        &mut self,
+        caches: &mut Caches,
+        node: NodeId,
+        frame: FrameId,
+        mapper: &mut M,
+    ) -> Result<FrameId, Miss>
+        requires right { RightStore M.held M.page_bytes mapper.old caches.old self.old }
+        requires node { IsHeld caches.old node }
+        requires on_segment { own_of caches.old node ≡ OwnState.OnSegment }
+        requires taken { IsTaken
+            (world (M.held mapper.old) (M.page_bytes mapper.old) caches.old self.old)
+            frame.0 }
+        ensures still { Between (StillBut frame.0) M.held M.page_bytes
+            mapper.old caches.old self.old mapper.new caches.new self.new }
+        ensures home { IfOk result (λ f. IsFrameOf self.new.map f.0 node) }
+        ensures state { OnOk result (
+            own_of caches.new node ≡ brought_in (own_of caches.old node)) }
+        ensures page { IfOk result (λ f.
+            HoldsPage (own_of caches.old node) (M.given mapper.new) self.new.frames f.0) }
+        ensures others { Between (OthersStayBut node) M.held M.page_bytes
+            mapper.old caches.old self.old mapper.new caches.new self.new }
+        ensures failed { OnErr result (Between OthersStay M.held M.page_bytes
+            mapper.old caches.old self.old mapper.new caches.new self.new) }
+        ensures pinned { self.new.frames.pinned ≡ slice_set self.old.frames.pinned frame.0 false }
+        ensures later { Later (M.counts mapper.old) (M.counts mapper.new) }
+        ensures held { OnOk result (self.new.frames.held ≡ self.old.frames.held) }
+        ensures made { Made 1 0 (M.counts mapper.old) (M.counts mapper.new) }
+        ensures dirty { dirty_count caches.new
+            ≡ dirty_count caches.old + dirtied result (own_of caches.old node) }
+        ensures told { M.held mapper.new ≡ M.held mapper.old }
+        ensures filled { is_victim result ≡ false }
+        ensures cause { IfErr result (HasMissCause (M.counts mapper.old) (M.counts mapper.new)) }
+    {
+        let home = caches.home(node).unwrap();
+        match mapper.pull_in(home.segment, home.page, self.frames.bytes_mut(frame)) {
+            Ok(()) => {
+                self.settle_in(caches, node, frame, false);
+                Ok(frame)
+            }
+            Err(_) => {
+                self.give_up(frame);
                 Err(Miss::Pull)
             }
         }
     }
 
     // The frame that its taker filled becomes the node's.
-    fn settle_in(&mut self, caches: &mut Caches, node: NodeId, frame: FrameId)
+    fn settle_in(&mut self, caches: &mut Caches, node: NodeId, frame: FrameId, dirty: bool)
         requires node { IsHeld caches.old node }
         requires frame { frame.0 < length self.old.frames.held }
         requires place { frame.0 < length self.old.map }
         requires free { node_of self.old.map frame.0 ≡ None }
         requires away { bound_times self.old.map node.0 ≡ 0 }
-        ensures caches { caches.new ≡ with_own caches.old node (OwnState.Resident true) }
+        ensures caches { caches.new ≡ with_own caches.old node (OwnState.Resident dirty) }
         ensures store { self.new ≡ record self.old {
           frames = with_pinned self.old.frames frame.0 false;
           map = slice_set self.old.map frame.0 (Some node);
         } }
     {
-        caches.set_state(node, OwnState::Resident { dirty: true });
+        caches.set_state(node, OwnState::Resident { dirty });
         self.map.bind(node, frame);
         self.frames.unpin(frame);
     }
 
-    /// Evicts so many pages, or all whose frames aren't pinned where they are fewer. It ends at the first push that fails.
-    /// It takes one push for each frame that falls free, and after a fault one more.
+    // The frame that its taker couldn't fill is free again.
+    fn give_up(&mut self, frame: FrameId)
+        requires held { is_held self.old.frames frame.0 ≡ true }
+        ensures { self.new ≡ record self.old {
+          frames = with_held (with_pinned self.old.frames frame.0 false) frame.0 false;
+        } }
+    {
+        self.frames.unpin(frame);
+        self.frames.give_back(frame);
+    }
+
+    /// Evicts so many pages, or all whose frames aren't pinned where they are fewer. It ends at the
+    /// first push that fails. It takes one push for each dirty page that leaves its frame, and
+    /// after a fault one more.
     pub fn page_out<M: Mapper, C: Chooser>(
         &mut self,
         caches: &mut Caches,
@@ -494,6 +686,8 @@ impl Store {
     ) -> Result<(), Failed>
         requires right { RightStore M.held M.page_bytes mapper.old caches.old self.old }
         ensures still { Between Still M.held M.page_bytes
+            mapper.old caches.old self.old mapper.new caches.new self.new }
+        ensures told { Across TellsOn M.held M.page_bytes M.counts
             mapper.old caches.old self.old mapper.new caches.new self.new }
         ensures fewer { OnOk result (
             held_count self.new.frames + min count (evictable_count self.old.frames)
@@ -506,8 +700,11 @@ impl Store {
             mapper.old caches.old self.old mapper.new caches.new self.new }
         ensures later { Later (M.counts mapper.old) (M.counts mapper.new) }
         ensures made { Made 0
-            (held_count self.old.frames - held_count self.new.frames + failed_pushes result)
+            (dirty_count caches.old - dirty_count caches.new + failed_pushes result)
             (M.counts mapper.old) (M.counts mapper.new) }
+        ensures dirty { dirty_count caches.new ≤ dirty_count caches.old }
+        ensures few { dirty_count caches.old - dirty_count caches.new
+            ≤ held_count self.old.frames - held_count self.new.frames }
         ensures cause { OnErr result (PushFailed (M.counts mapper.old) (M.counts mapper.new)) }
     {
         for done in 0..count {

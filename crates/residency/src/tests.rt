@@ -1,7 +1,8 @@
 // Pages brought in and evicted in every order, and what a failed push leaves.
-ghost use Rattle.std.specs.Prelude.{◌≡◌, ℕ, ◌<◌, ◌≤◌, All, IfOk, IfSome};
+ghost use Rattle.std.specs.Prelude.{◌≡◌, ℕ, ◌<◌, ◌≤◌, All, IfOk, IfSome, None};
 ghost use Rattle.frame_pool.specs.Pool.{bytes_of};
 ghost use Rattle.local_cache.specs.Arena.{HasPage};
+ghost use Rattle.local_cache.specs.Home.{home_of};
 ghost use Rattle.vm_ids.specs.declared.numbers.NodeId.{NodeId};
 ghost use Rattle.residency.specs.Between.{RightStore};
 ghost use Rattle.residency.specs.World.{HasOwnPage, HasUnpinned};
@@ -34,11 +35,13 @@ fn nodes_of(
     Ok(nodes)
 }
 
-// A store of three frames, and a cache of four pages of zeros of four bytes, with a swap slot for each.
+// A store of three frames, and a cache of four pages of zeros of four bytes, with a swap slot for
+// each.
 fn filled<M: Mapper>(alloc: Global, mapper: &M) -> Result<(Store, Caches, Vec<NodeId>), NoMemory>
     requires { IfSome (M.page_bytes mapper.now) (λ n. n ≡ 4) }
     ensures right { IfOk result (λ r. RightStore M.held M.page_bytes mapper.now r.1 r.0) }
     ensures ready { IfOk result (λ r. All (λ n. HasOwnPage r.1 n) r.2.items) }
+    ensures homeless { IfOk result (λ r. (n : NodeId) → home_of r.1 n ≡ None) }
     ensures loose { IfOk result (λ r. HasUnpinned r.0.frames) }
     ensures page { IfOk result (λ r. r.0.frames.page ≡ 4) }
 {
@@ -62,10 +65,12 @@ fn write_first<M: Mapper, C: Chooser>(
 ) -> Result<(), Miss>
     requires right { RightStore M.held M.page_bytes mapper.old caches.old store.old }
     requires node { HasOwnPage caches.old node }
+    requires homeless { (n : NodeId) → home_of caches.old n ≡ None }
     requires loose { HasUnpinned store.old.frames }
     requires page { 1 ≤ store.old.frames.page }
     ensures right { RightStore M.held M.page_bytes mapper.new caches.new store.new }
     ensures ready { (n : NodeId) → HasOwnPage caches.old n → HasOwnPage caches.new n }
+    ensures homeless { (n : NodeId) → home_of caches.new n ≡ None }
     ensures pinned { store.new.frames.pinned ≡ store.old.frames.pinned }
     ensures page { store.new.frames.page ≡ store.old.frames.page }
 {
@@ -110,10 +115,12 @@ fn write_all<M: Mapper, C: Chooser>(
 ) -> Result<(), Miss>
     requires right { RightStore M.held M.page_bytes mapper.old caches.old store.old }
     requires nodes { All (λ n. HasOwnPage caches.old n) nodes.now }
+    requires homeless { (n : NodeId) → home_of caches.old n ≡ None }
     requires loose { HasUnpinned store.old.frames }
     requires page { 1 ≤ store.old.frames.page }
     ensures right { RightStore M.held M.page_bytes mapper.new caches.new store.new }
     ensures ready { (n : NodeId) → HasOwnPage caches.old n → HasOwnPage caches.new n }
+    ensures homeless { (n : NodeId) → home_of caches.new n ≡ None }
     ensures pinned { store.new.frames.pinned ≡ store.old.frames.pinned }
     ensures page { store.new.frames.page ≡ store.old.frames.page }
 {
@@ -228,7 +235,8 @@ fn each_call_on_a_part_does_what_the_part_does(rt: HostRuntime) -> Result<(), Fa
     Ok(())
 }
 
-// The fourth page took frame 0, so that the hand of the clock stands at frame 1. It passes over the mark and takes frame 2.
+// The fourth page took frame 0, so that the hand of the clock stands at frame 1. It passes over the
+// mark and takes frame 2.
 #[test]
 fn a_touched_frame_has_a_second_chance(rt: HostRuntime) -> Result<(), Fail> {
     let mut mapper = MemoryMapper::new(rt.alloc(), &[], &[], 4, &[], 4)?;

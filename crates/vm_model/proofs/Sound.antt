@@ -1,22 +1,20 @@
 -- What the tables are, before and after a change.
 use Rattle.std.proofs.Common.{◌≡◌, ◌==◌, ℕ, suc, zero, ◌+◌, ◌-◌, ◌<◌, ◌≤◌, Bool, true, false, cond, List, [], ◌∷◌, ◌++◌, length, get_or, set, take, drop, map, replicate, Option, Some, None, refl, sym, ap, subst, ◌∙◌, arith, rules, inl, inr, Vec, Global}
-use Rattle.std.specs.Prelude.{option_map, option_and_then, slice_get, unwrap_or, count_by, sum_by, is_some, insert, IsSome, Result, Ok, Err, OnOk, OnErr, nat_le, nat_lt, ◌%◌, ◌*◌, ◌^◌, ◌||◌, ◌&&◌}
+use Rattle.std.specs.Prelude.{option_map, option_and_then, slice_get, unwrap_or, count_by, sum_by, is_some, insert, IsSome, Result, Ok, Err, OnOk, OnErr, nat_le, nat_lt, ◌%◌, ◌*◌, ◌^◌, ◌||◌}
 use Rattle.std.specs.List.{All, list_any, range_with_len}
 use Rattle.std.specs.Option.{option_map_or}
 use Rattle.std.proofs.lemmas.List.{take-map, drop-map, map-set, map_push, length-map, length-set, length-replicate}
 use Rattle.std.proofs.lemmas.List.Elements.{All-append, All-take, All-drop, All-set, All-get_or, All-nil, All-cons, All-head, All-tail, All-same, All-weaker, All-map, All-replicate}
 use Rattle.std.proofs.lemmas.List.Sums.{sum_by_push}
 use Rattle.std.proofs.lemmas.Option.{get_or_from_slice_get, slice_get-get_or, slice_get-map, unwrap_or-slice_get}
-use Rattle.vm_ids.specs.Denying.{denies}
-use Rattle.vm_ids.specs.Held.{Segments}
 use Rattle.vm_ids.specs.declared.command.Mapping.{Mapping}
-use Rattle.vm_ids.specs.declared.command.Span.{Span}
+use Rattle.vm_ids.specs.declared.numbers.SegId.{SegId}
 use Rattle.vm_ids.specs.declared.reply.NoMemory.{NoMemory}
 use Rattle.vm_ids.specs.declared.reply.Reply.TheVariants as replies
 use Rattle.vm_model.specs.declared.limits.TheConstants.{MADE}
 use Rattle.vm_model.specs.Machine.{numbered, pages_in, zero_page}
 use Rattle.vm_model.specs.Machine as model
-use Rattle.vm_model.specs.Answering.{add_region, copy_of, insert_region, map_of, overlaps, is_denied_page, overwrite, passes_end, put_cache, put_page, put_pages, region_of, reply, shares, unless, with_some, write_at}
+use Rattle.vm_model.specs.Answering.{add_region, insert_region, map_of, overlaps, overwrite, passes_end, put_cache, put_page, put_pages, region_of, reply, unless, with_some, write_at}
 use Rattle.vm_model.specs.Place.{Place}
 use Rattle.vm_model.specs.Outcome.{IsWhole, HasWholePages}
 use Rattle.vm_model.specs.declared.tables.Actor.{Actor}
@@ -151,12 +149,13 @@ whole-written b c d page at bytes h below fits e =
     all_from_map (λ p. p.items) P d.pages.items (All-same P _ _ e (All-set P (pages_seen c) page (overwrite at bytes old) put (All-map P (λ v. v.items) c.pages.items h)))
 
 -- the machine then has the bytes written
-pub seen-written : (t : Tables) (p : Place) (c d : Cache) (bytes : List ℕ) → numbered t.caches.items p.region.cache ≡ Some c → pages_seen d ≡ set (pages_seen c) p.page (overwrite p.byte bytes (unwrap_or (slice_get (pages_seen c) p.page) [])) → put_cache (machine_seen t) p.region.cache (cache_seen d) ≡ write_at (machine_seen t) p bytes
-seen-written t p c d bytes there e =
+pub seen-written : (t : Tables) (p : Place) (c d : Cache) (bytes : List ℕ) → numbered t.caches.items p.region.cache ≡ Some c → d.segment ≡ c.segment → pages_seen d ≡ set (pages_seen c) p.page (overwrite p.byte bytes (unwrap_or (slice_get (pages_seen c) p.page) [])) → put_cache (machine_seen t) p.region.cache (cache_seen d) ≡ write_at (machine_seen t) p bytes
+seen-written t p c d bytes there named e =
     let m = machine_seen t in
     let n = p.region.cache in
     let found : model.cache_of m n ≡ Some (cache_seen c) = numbered-map cache_seen t.caches.items n ∙ ap (option_map cache_seen) there in
-    ap (λ (ps : List (List ℕ)). put_cache m n (record { segment = None; pages = ps })) e
+    ap (λ (seg : Option SegId). put_cache m n (record { segment = option_map (λ s. s.0) seg; pages = pages_seen d })) named
+    ∙ ap (λ (ps : List (List ℕ)). put_cache m n (record { segment = option_map (λ s. s.0) c.segment; pages = ps })) e
     ∙ sym (ap (λ (o : Option model.Cache). option_map_or (λ x. put_cache m n (put_page p.page (overwrite p.byte bytes (option_map_or (λ (y : model.Cache). unwrap_or (slice_get y.pages p.page) []) o [])) x)) o m) found)
 
 -- what an index finds is the cache with the number
@@ -183,17 +182,6 @@ none_of p h (x ∷ xs) = ap (λ b. b || list_any p xs) (h x) ∙ none_of p h xs
 pub unlocked : (t : Tables) (cache first pages : ℕ) → list_any (model.is_locked_page (machine_seen t) cache) (range_with_len first pages) ≡ false
 unlocked t cache first pages = none_of _ (unlocked_actors t.actors.items cache) (range_with_len first pages)
 
--- no cache is named, so none of its pages is denied
-unnamed : (h : Segments) (page : ℕ) (o : Option Cache) → option_map_or (λ seg. denies h.denied seg page) (option_and_then (λ (c : model.Cache). c.segment) (option_map cache_seen o)) false ≡ false
-unnamed h page None = refl
-unnamed h page (Some c) = refl
-
-undenied_page : (t : Tables) (h : Segments) (cache page : ℕ) → is_denied_page (machine_seen t) h cache page ≡ false
-undenied_page t h cache page = ap (λ o. option_map_or (λ seg. denies h.denied seg page) (option_and_then (λ (c : model.Cache). c.segment) o) false) (numbered-map cache_seen t.caches.items cache) ∙ unnamed h page (numbered t.caches.items cache)
-
-pub undenied : (t : Tables) (h : Segments) (cache first pages : ℕ) → list_any (is_denied_page (machine_seen t) h cache) (range_with_len first pages) ≡ false
-undenied t h cache first pages = none_of _ (undenied_page t h cache) (range_with_len first pages)
-
 -- a cache into which whole pages were put
 pub whole-put : (b : ℕ) (c d : Cache) (first : ℕ) (pages : List (Vec ℕ Global)) → HasPages b (Some c) → All (λ p. length p.items ≡ b) pages → pages_seen d ≡ overwrite first (map (λ p. p.items) pages) (pages_seen c) → HasPages b (Some d)
 whole-put b c d first pages old new e =
@@ -202,18 +190,6 @@ whole-put b c d first pages old new e =
     let put : All P (map (λ p. p.items) pages) = All-map P (λ v. v.items) pages new in
     all_from_map (λ p. p.items) P d.pages.items (All-same P _ _ e
     (All-append P (take first (pages_seen c) ++ map (λ p. p.items) pages) _ (All-append P (take first (pages_seen c)) _ (All-take P first (pages_seen c) all) put) (All-drop P (first + length (map (λ p. p.items) pages)) (pages_seen c) all)))
-
--- a copy that nothing refuses
-pub copy_row : (t : Tables) (s : Span) (h : Segments) (source destination : Cache) → numbered t.caches.items s.from.0 ≡ Some source → numbered t.caches.items s.to.0 ≡ Some destination
-    → passes_end (cache_seen source) s.from_page.0 s.pages ≡ false → passes_end (cache_seen destination) s.to_page.0 s.pages ≡ false → (s.from.0 == s.to.0 && shares s.from_page.0 s.pages s.to_page.0 s.pages) ≡ false
-    → copy_of (machine_seen t) s h ≡ reply replies.Done (put_cache (machine_seen t) s.to.0 (put_pages s.to_page.0 (take s.pages (drop s.from_page.0 (pages_seen source))) (cache_seen destination)))
-unfolding copy_of with_some unless
-copy_row t s h source destination from to inside within apart =
-    let from' : model.cache_of (machine_seen t) s.from.0 ≡ Some (cache_seen source) = numbered-map cache_seen t.caches.items s.from.0 ∙ ap (option_map cache_seen) from in
-    let to' : model.cache_of (machine_seen t) s.to.0 ≡ Some (cache_seen destination) = numbered-map cache_seen t.caches.items s.to.0 ∙ ap (option_map cache_seen) to in
-    let open' = unlocked t s.to.0 s.to_page.0 s.pages in
-    let allowed = undenied t h s.to.0 s.to_page.0 s.pages in
-    rw (from', to', inside, within, apart, open', allowed) refl
 
 -- some pages of a cache, as the machine has them
 pub part_seen : (c : Cache) (first n : ℕ) → map (λ p. p.items) (take (first + n - first) (drop first c.pages.items)) ≡ take n (drop first (pages_seen c))

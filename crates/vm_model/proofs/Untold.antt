@@ -4,19 +4,23 @@ use Rattle.std.specs.Prelude.{◌||◌, nat_lt, option_map, option_and_then, sli
 use Rattle.std.specs.Option.{option_map_or}
 use Rattle.std.proofs.lemmas.Bool.{cases_eq}
 use Rattle.std.proofs.lemmas.Bool.Decides.{nat_tests}
+use Rattle.std.specs.FinMap.{get}
 use Rattle.std.proofs.lemmas.List.{length-append, length-map}
+use Rattle.std.proofs.lemmas.List.FromFn.{length-map-range_with_len}
 use Rattle.std.proofs.lemmas.Option.{get_or_from_slice_get, slice_get-map}
 use Rattle.std.proofs.Math.Seq.{map-set_same}
 use Rattle.vm_ids.specs.Counting.{MapperCounts}
 use Rattle.vm_ids.specs.Held.{Segments}
 use Rattle.vm_ids.specs.declared.command.Command.{Command}
 use Rattle.vm_ids.specs.declared.command.Command.TheVariants as commands
+use Rattle.vm_ids.specs.declared.command.Extent.{Extent}
 use Rattle.vm_ids.specs.declared.command.Mapping.{Mapping}
 use Rattle.vm_ids.specs.declared.command.Span.{Span}
 use Rattle.vm_ids.specs.declared.numbers.ActorId.{ActorId}
 use Rattle.vm_ids.specs.declared.numbers.CacheId.{CacheId}
 use Rattle.vm_ids.specs.declared.numbers.PageNo.{PageNo}
 use Rattle.vm_ids.specs.declared.numbers.RegionId.{RegionId}
+use Rattle.vm_ids.specs.declared.numbers.SegId.{SegId}
 use Rattle.vm_ids.specs.declared.refusal.Refusal.{Refusal}
 use Rattle.vm_ids.specs.declared.reply.FaultAt.{FaultAt}
 use Rattle.vm_ids.specs.declared.reply.FaultAt.TheVariants as faults
@@ -25,28 +29,31 @@ use Rattle.vm_ids.specs.declared.reply.Trouble.TheVariants as troubles
 use Rattle.vm_ids.specs.Forest.Nodes.{IsNode}
 use Rattle.vm_ids.specs.Forest.Reading.{value_of}
 use Rattle.vm_ids.specs.Forest.Rules.{write}
-use Rattle.vm_ids.specs.Forest.Commands.{page_name, page_names, span_pairs, make, copy, destroy}
+use Rattle.vm_ids.specs.Forest.Commands.{page_name, page_names, span_pairs, make, copy, invalidate, destroy}
 use Rattle.vm_ids.proofs.Forest.Laws.Writing.{write_keeps_consistency, write_changes_its_node, write_keeps_other_values}
 use Rattle.vm_model.specs.Machine.{Machine, Cache, Page, Region, actor_of, cache_of, numbered, pages_in, zero_page}
 use Rattle.vm_model.specs.Place.{Place, place}
-use Rattle.vm_model.specs.PageForest.{PageForest, told, nodes_of, page_in}
-use Rattle.vm_model.specs.Answering.{Answer, Answered, answer_of, is_named, make_actor_of, make_temp_of, destroy_of, copy_of, move_of, map_of, unmap_of, load_of, store_of, chain_answer, overwrite, page_at, passes_end, put_cache, put_page, put_pages, temporary, write_at}
+use Rattle.vm_model.specs.PageForest.{PageForest, told, nodes_of, nodes_in, page_in}
+use Rattle.vm_model.specs.Answering.{Answer, Answered, answer_of, is_named, make_actor_of, make_temp_of, open_of, opened, destroy_of, copy_of, move_of, map_of, unmap_of, load_of, store_of, sync_of, flush_of, invalidate_of, held_for, held_part, chain_answer, overwrite, page_at, passes_end, put_cache, put_page, put_pages, temporary, write_at}
 use Rattle.vm_model.specs.Asking.{IsWellFormed}
 use Rattle.vm_model.specs.Following.{followed, forest_after, pages_saved, written_at}
 use Rattle.vm_model.specs.Outcome.{IsAlike, Outcome, blank, blank_cache}
-use Rattle.vm_model.specs.Laws.{HasMappedPages, IsFollowed, IsLaid, IsProper, LiesIn, UntoldAnswersAreFollowed}
+use Rattle.vm_model.specs.Laws.{HasMappedPages, IsFollowed, IsLaid, LiesIn, UntoldAnswersAreFollowed}
 use Rattle.vm_model.proofs.Blank.{blank_gone, blank_more, blank_pages, blank_part, blank_put, blank_replicate, blank_there, no_bytes}
 use Rattle.vm_model.proofs.Followed.{some_page, stays}
-use Rattle.vm_model.proofs.Following.{IsAllowed, by_values, copied_followed, destroyed_followed, made_followed, moved_followed, moved_machine, node_there, number_of, of_number, same_page, saves_followed, source_left, zero_left}
+use Rattle.vm_model.proofs.Following.{IsAllowed, by_values, copied_followed, destroyed_followed, invalidated_followed, invalidated_there, made_followed, moved_followed, moved_machine, node_there, number_of, of_number, same_page, saves_followed, source_left, zero_left}
 use Rattle.vm_model.proofs.Lists.{numbered-set, numbered_place, numbered-map}
 use Rattle.vm_model.proofs.ListParts.{numbered_pushed}
 use Rattle.vm_model.proofs.Plain.{id_of}
-use Rattle.vm_model.proofs.Proper.{lie_still, machines_stay_proper, proper_machines_are_mapped}
+use Rattle.vm_model.proofs.Laid.{lie_still, machines_stay_laid, laid_machines_are_mapped}
 use Rattle.vm_model.proofs.Taking.{from_some}
 use Rattle.vm_model.proofs.Rows.{each_unless, each_some, each_ok}
 
 neither : (a b x y : ℕ) → (nat_lt a b || nat_lt x y) ≡ false → (b ≤ a) × (y ≤ x)
 neither a b x y e = (grind (arith, nat_tests), grind (arith, nat_tests))
+
+not_past : (a b : ℕ) → nat_lt a b ≡ false → b ≤ a
+not_past a b e = grind (arith, nat_tests)
 
 same_some : (c d : Cache) → ◌≡◌ {A = Option Cache} (Some c) (Some d) → c ≡ d
 same_some c d e = cc
@@ -97,16 +104,64 @@ module _ (w : Machine) (f : PageForest) (F : IsFollowed (blank w) f) where
   unfolding make_actor_of
   actor_row = each_unless (RowUntold commands.MakeActor) _ _ w _ F (λ e. stays (blank w) f F _ refl)
 
-  temp_row : (pages : ℕ) → RowUntold (commands.MakeTemp pages) (make_temp_of w pages)
-  unfolding make_temp_of
-  temp_row pages = each_unless (RowUntold (commands.MakeTemp pages)) _ _ w _ F (λ e.
-      let c : Cache = temporary w.page_bytes pages in
+  -- a cache is added
+  more_untold : (c : Cache) → let next : Machine = record w { caches = w.caches ++ Some c ∷ [] } in IsFollowed (blank next) (make (nodes_of (length (blank next).caches) (cache_of (blank next) (length (blank next).caches))) f)
+  more_untold c =
       let next : Machine = record w { caches = w.caches ++ Some c ∷ [] } in
       let n : ℕ = length (blank next).caches in
       let new : n ≡ length w.caches + 1 = length-map next.caches (option_map blank_cache) ∙ length-append w.caches (Some c ∷ []) in
       let made = made_followed (blank w) f n (blank_cache c) (new ∙ ap (λ (k : ℕ). k + 1) (sym (length-map w.caches (option_map blank_cache)))) F in
       subst (λ (o : Option Cache). IsFollowed (blank next) (make (nodes_of n o) f)) (sym (blank_there next n c (numbered_pushed w.caches (Some c) n new)))
-      (subst (λ (m : Machine). IsFollowed m (make (nodes_of n (Some (blank_cache c))) f)) (blank_more w c) made))
+      (subst (λ (m : Machine). IsFollowed m (make (nodes_of n (Some (blank_cache c))) f)) (blank_more w c) made)
+
+  temp_row : (pages : ℕ) → RowUntold (commands.MakeTemp pages) (make_temp_of w pages)
+  unfolding make_temp_of
+  temp_row pages = each_unless (RowUntold (commands.MakeTemp pages)) _ _ w _ F (λ e. more_untold (temporary w.page_bytes pages))
+
+  open_row : (seg : SegId) (held : Option (List Page)) → RowUntold (commands.OpenSegment seg) (open_of w seg.0 held)
+  unfolding open_of
+  open_row seg held =
+      let P : Answered → Type 0 = RowUntold (commands.OpenSegment seg) in
+      each_unless P _ _ w _ F (λ free.
+      each_unless P _ _ w _ F (λ fewer.
+      each_some P held _ w _ F (λ pages holds.
+      each_unless P _ _ w _ F (λ room. more_untold (opened seg.0 pages)))))
+
+  sync_row : (e : Extent) → RowUntold (commands.Sync e) (sync_of w e)
+  unfolding sync_of
+  sync_row e =
+      let P : Answered → Type 0 = RowUntold (commands.Sync e) in
+      each_some P _ _ w _ F (λ c there.
+      each_some P _ _ w _ F (λ seg named.
+      each_unless P _ _ w _ F (λ inside. F)))
+
+  flush_row : (e : Extent) → RowUntold (commands.Flush e) (flush_of w e)
+  unfolding flush_of
+  flush_row e =
+      let P : Answered → Type 0 = RowUntold (commands.Flush e) in
+      each_some P _ _ w _ F (λ c there.
+      each_some P _ _ w _ F (λ seg named.
+      each_unless P _ _ w _ F (λ inside.
+      each_unless P _ _ w _ F (λ unlocked. F))))
+
+  invalidate_row : (e : Extent) (held : Option (List Page)) → RowUntold (commands.Invalidate e) (invalidate_of w e held)
+  unfolding invalidate_of
+  invalidate_row e held =
+      let P : Answered → Type 0 = RowUntold (commands.Invalidate e) in
+      each_some P (cache_of w e.cache.0) _ w _ F (λ c there.
+      each_some P c.segment _ w _ F (λ seg named.
+      each_unless P (passes_end c e.first.0 e.pages) _ w _ F (λ inside.
+      each_unless P _ _ w _ F (λ unlocked.
+      let part : List Page = held_part held e.first.0 e.pages in
+      let blanks : List Page = map no_bytes part in
+      let there' = blank_there w e.cache.0 c there in
+      let ends : e.first.0 + e.pages ≤ length (blank_cache c).pages = omega (arith, not_past _ _ inside, length-map c.pages no_bytes) in
+      let many : length blanks ≡ e.pages = length-map part no_bytes ∙ length-map-range_with_len _ e.first.0 e.pages in
+      let next : Machine = put_cache w e.cache.0 (put_pages e.first.0 part c) in
+      let seen : Machine = put_cache (blank w) e.cache.0 (put_pages e.first.0 blanks (blank_cache c)) in
+      let same : seen ≡ blank next = ap (put_cache (blank w) e.cache.0) (blank_pages e.first.0 part c) ∙ blank_put w e.cache.0 (put_pages e.first.0 part c) in
+      let all : IsFollowed seen (invalidate (nodes_in e (cache_of seen e.cache.0)) f) = subst (λ (o : Option Cache). IsFollowed seen (invalidate (nodes_in e o) f)) (sym (invalidated_there (blank w) f F e (blank_cache c) blanks there' ends many)) (invalidated_followed (blank w) f F e (blank_cache c) blanks there' ends many) in
+      subst (λ (n : Machine). IsFollowed n (invalidate (nodes_in e (cache_of n e.cache.0)) f)) same all))))
 
   destroy_row : (cache : CacheId) → RowUntold (commands.Destroy cache) (destroy_of w cache.0)
   unfolding destroy_of
@@ -232,6 +287,7 @@ module _ (w : Machine) (f : PageForest) (F : IsFollowed (blank w) f) where
   rows : (c : Command) (h : Segments) → IsWellFormed c → HasMappedPages w → RowUntold c (answer_of w f c h)
   rows commands.MakeActor h some mapped = actor_row
   rows (commands.MakeTemp pages) h some mapped = temp_row pages
+  rows (commands.OpenSegment seg) h some mapped = open_row seg (get h.pages seg.0)
   rows (commands.Destroy cache) h some mapped = destroy_row cache
   rows (commands.Copy span) h some mapped = copy_row span h
   rows (commands.Move span) h some mapped = move_row span h some
@@ -239,6 +295,9 @@ module _ (w : Machine) (f : PageForest) (F : IsFollowed (blank w) f) where
   rows (commands.Unmap region) h some mapped = unmap_row region
   rows (commands.Load actor address length) h some mapped = load_row actor address length
   rows (commands.Store actor address piece) h some mapped = store_row actor address piece h mapped
+  rows (commands.Sync extent) h some mapped = sync_row extent
+  rows (commands.Flush extent) h some mapped = flush_row extent
+  rows (commands.Invalidate extent) h some mapped = invalidate_row extent (held_for w h extent.cache.0)
   rows (commands.PageOut count) h some mapped = F
   rows (commands.Chain cache page) h some mapped = chain_row cache page
   rows commands.Stat h some mapped = F
@@ -276,10 +335,10 @@ untold_answers_are_followed m next f c a rises laid well F o =
     let n = o.whole_next in
     let seen : IsFollowed (blank w) f = subst (λ (k : Machine). IsFollowed k f) o.is F in
     let old : IsLaid (blank w) = subst IsLaid o.is laid in
-    let proper : IsProper w = record { some = old.some; whole = o.pages; lie = lie_still (blank w).caches w.caches (lies_back w) w.actors old.lie } in
-    let all = followed_by w f seen n c o.segments o.whole_answer rises well (proper_machines_are_mapped w proper) o.outcome in
+    let with_bytes : IsLaid w = record { some = old.some; lie = lie_still (blank w).caches w.caches (lies_back w) w.actors old.lie } in
+    let all = followed_by w f seen n c o.segments o.whole_answer rises well (laid_machines_are_mapped w with_bytes) o.outcome in
     let same : IsFollowed (blank n) (forest_after f (blank w) c a (blank n)) = subst (IsFollowed (blank n)) (alike_after f (blank w) c (blank n) o.whole_answer a o.alike) all in
-    let left = machines_stay_proper w n f c o.segments o.whole_answer rises proper o.outcome in
+    let left = machines_stay_laid w n f c o.segments o.whole_answer rises with_bytes o.outcome in
     let laid_next : IsLaid (blank n) = record { some = left.some; lie = lie_still n.caches (blank n).caches (lies_blank n) n.actors left.lie } in (
       subst (λ (k : Machine). IsFollowed next (forest_after f k c a next)) (sym o.is) (subst (λ (k : Machine). IsFollowed k (forest_after f (blank w) c a k)) (sym o.is_next) same),
       subst IsLaid (sym o.is_next) laid_next,

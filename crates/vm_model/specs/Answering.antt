@@ -1,11 +1,13 @@
 -- The machine's answer to a command, row by row: the first refusal that holds, or else the reply and the change.
 use Rattle.std.specs.Prelude.{◌==◌, ℕ, ◌+◌, ◌-◌, ◌*◌, ◌%◌, ◌^◌, ◌&&◌, ◌||◌, not, Bool, false, is_some, nat_lt, nat_le, List, [], ◌∷◌, ◌++◌, map, filter, length, take, drop, replicate, Option, Some, None, option_map, option_and_then, slice_get, slice_set, Result, Ok, Err, if◌then◌else◌, unwrap_or}
 use Rattle.std.specs.List.{list_any, range_with_len}
+use Rattle.std.specs.FinMap.{get}
 use Rattle.std.specs.Option.{option_map_or, option_or}
 use Rattle.vm_ids.specs.Denying.{denies}
 use Rattle.vm_ids.specs.Held.{Segments}
 use Rattle.vm_ids.specs.declared.command.Command.{Command}
 use Rattle.vm_ids.specs.declared.command.Command.TheVariants as commands
+use Rattle.vm_ids.specs.declared.command.Extent.{Extent}
 use Rattle.vm_ids.specs.declared.command.Mapping.{Mapping}
 use Rattle.vm_ids.specs.declared.command.Span.{Span}
 use Rattle.vm_ids.specs.declared.reply.Reply.{Reply}
@@ -18,7 +20,7 @@ use Rattle.vm_ids.specs.declared.numbers.CacheId.{CacheId}
 use Rattle.vm_ids.specs.Forest.Reading.{chain_of, counts_of}
 use Rattle.vm_ids.specs.Forest.Commands.{page_name}
 use Rattle.vm_model.specs.declared.limits.TheConstants.{LIVING_ACTORS, LIVE_PAGES, MADE}
-use Rattle.vm_model.specs.Machine.{Machine, Page, Cache, Region, Actor, zero_page, live_pages, living_actors, cache_of, actor_of, is_locked_page}
+use Rattle.vm_model.specs.Machine.{Machine, Page, Cache, Region, Actor, zero_page, live_pages, living_actors, cache_of, cache_named, segment_of, actor_of, is_locked_page}
 use Rattle.vm_model.specs.PageForest.{PageForest}
 use Rattle.vm_model.specs.Place.{Place, place}
 
@@ -81,6 +83,21 @@ make_temp_of m pages =
     (reply (replies.Cache (record { 0 = length m.caches + 1 }))
     (record m { caches = m.caches ++ Some (temporary m.page_bytes pages) ∷ [] }))
 
+-- a cache that the segment with this number names, with all its pages
+abbrev pub opened : ℕ → List Page → Cache
+opened seg pages = record { segment = Some seg; pages = pages }
+
+-- open: a new cache with the pages that the segment holds, where there is such a segment. No other
+-- live cache is of it.
+unfoldable pub open_of : Machine → ℕ → Option (List Page) → Answered
+open_of m seg held =
+    unless (is_some (cache_named m.caches seg)) refusals.SegmentInUse m
+    (unless (nat_le MADE (length m.caches)) refusals.TooMany m
+    (with_some held refusals.NoSegment m (λ pages.
+    unless (nat_lt LIVE_PAGES (live_pages m + length pages)) refusals.TooMany m
+    (reply (replies.Cache (record { 0 = length m.caches + 1 }))
+    (record m { caches = m.caches ++ Some (opened seg pages) ∷ [] })))))
+
 -- a region of a living actor maps the cache
 abbrev pub maps_in : ℕ → Option Actor → Bool
 maps_in cache None = false
@@ -108,8 +125,7 @@ shares start size other other_size =
 -- the mapper denies writing to this page of the cache: only where a segment names the cache
 abbrev pub is_denied_page : Machine → Segments → ℕ → ℕ → Bool
 is_denied_page m h cache page =
-    option_map_or (λ seg. denies h.denied seg page)
-    (option_and_then (λ (c : Cache). c.segment) (cache_of m cache)) false
+    option_map_or (λ seg. denies h.denied seg page) (segment_of m cache) false
 
 abbrev pub put_pages : ℕ → List Page → Cache → Cache
 put_pages first pages c = record c { pages = overwrite first pages c.pages }
@@ -277,6 +293,43 @@ store_of m actor address bytes h =
     (unless (is_denied_page m h p.region.cache p.page) refusals.WriteDenied m
     (reply replies.Done (write_at m p bytes))))
 
+-- sync: the pages of the range are pushed to the segment, and the machine stays
+unfoldable pub sync_of : Machine → Extent → Answered
+sync_of m e =
+    with_some (cache_of m e.cache.0) refusals.NoCache m (λ c.
+    with_some c.segment refusals.NotNamed m (λ seg.
+    unless (passes_end c e.first.0 e.pages) refusals.OutOfCache m
+    (reply replies.Done m)))
+
+-- flush: as sync, but no page of the range may be locked
+unfoldable pub flush_of : Machine → Extent → Answered
+flush_of m e =
+    with_some (cache_of m e.cache.0) refusals.NoCache m (λ c.
+    with_some c.segment refusals.NotNamed m (λ seg.
+    unless (passes_end c e.first.0 e.pages) refusals.OutOfCache m
+    (unless (is_any_locked m e.cache e.first.0 e.pages) refusals.Locked m
+    (reply replies.Done m))))
+
+-- what the segment holds that names this cache
+abbrev pub held_for : Machine → Segments → ℕ → Option (List Page)
+held_for m h cache = option_and_then (get h.pages) (segment_of m cache)
+
+-- so many of the pages held, from page `first` on; an empty one for each that there is not
+abbrev pub held_part : Option (List Page) → ℕ → ℕ → List Page
+held_part held first pages =
+    map (λ page. unwrap_or (option_and_then (λ ps. slice_get ps page) held) [])
+    (range_with_len first pages)
+
+-- invalidate: each page of the range becomes the one that the segment holds
+unfoldable pub invalidate_of : Machine → Extent → Option (List Page) → Answered
+invalidate_of m e held =
+    with_some (cache_of m e.cache.0) refusals.NoCache m (λ c.
+    with_some c.segment refusals.NotNamed m (λ seg.
+    unless (passes_end c e.first.0 e.pages) refusals.OutOfCache m
+    (unless (is_any_locked m e.cache e.first.0 e.pages) refusals.Locked m
+    (reply replies.Done
+    (put_cache m e.cache.0 (put_pages e.first.0 (held_part held e.first.0 e.pages) c))))))
+
 -- chain: the nodes from that of the page up to its owner
 unfoldable pub chain_answer : Machine → PageForest → CacheId → ℕ → Answered
 chain_answer m f cache page =
@@ -288,6 +341,7 @@ chain_answer m f cache page =
 abbrev pub answer_of : Machine → PageForest → Command → Segments → Answered
 answer_of m f commands.MakeActor h = make_actor_of m
 answer_of m f (commands.MakeTemp pages) h = make_temp_of m pages
+answer_of m f (commands.OpenSegment seg) h = open_of m seg.0 (get h.pages seg.0)
 answer_of m f (commands.Destroy cache) h = destroy_of m cache.0
 answer_of m f (commands.Copy span) h = copy_of m span h
 answer_of m f (commands.Move span) h = move_of m span h
@@ -295,6 +349,10 @@ answer_of m f (commands.Map actor mapping) h = map_of m actor.0 mapping
 answer_of m f (commands.Unmap region) h = unmap_of m region.0
 answer_of m f (commands.Load actor address length) h = load_of m actor.0 address length
 answer_of m f (commands.Store actor address piece) h = store_of m actor.0 address piece h
+answer_of m f (commands.Sync extent) h = sync_of m extent
+answer_of m f (commands.Flush extent) h = flush_of m extent
+answer_of m f (commands.Invalidate extent) h =
+    invalidate_of m extent (held_for m h extent.cache.0)
 answer_of m f (commands.PageOut count) h = reply replies.Done m
 answer_of m f (commands.Chain cache page) h = chain_answer m f cache page.0
 answer_of m f commands.Stat h = reply (replies.Stat (counts_of f)) m

@@ -13,6 +13,9 @@ IsWellFormed (commands.Copy span) = 1 ≤ span.pages
 IsWellFormed (commands.Move span) = 1 ≤ span.pages
 IsWellFormed (commands.Map actor mapping) = 1 ≤ mapping.extent.pages
 IsWellFormed (commands.Load actor address length) = (1 ≤ length) × (length ≤ 64)
+IsWellFormed (commands.Sync extent) = 1 ≤ extent.pages
+IsWellFormed (commands.Flush extent) = 1 ≤ extent.pages
+IsWellFormed (commands.Invalidate extent) = 1 ≤ extent.pages
 IsWellFormed (commands.PageOut count) = 1 ≤ count
 IsWellFormed command = Unit {0}
 
@@ -40,4 +43,6 @@ pages_touched m (commands.Map actor mapping) =
     mapping.extent.pages + pages_in (cache_of m mapping.extent.cache.0)
 pages_touched m (commands.Load actor address length) = 1
 pages_touched m (commands.Store actor address piece) = 1
+pages_touched m (commands.Invalidate extent) =
+    extent.pages + pages_in (cache_of m extent.cache.0)
 pages_touched m command = 0

@@ -8,10 +8,10 @@ use Rattle.vm_ids.specs.declared.reply.Trouble.TheVariants as troubles
 use Rattle.vm_ids.specs.declared.refusal.Refusal.{Refusal}
 use Rattle.vm_ids.specs.Forest.Rules.{write}
 use Rattle.vm_ids.specs.Forest.Saving.{saves}
-use Rattle.vm_ids.specs.Forest.Commands.{page_name, page_names, span_pairs, make, copy, move_, destroy}
+use Rattle.vm_ids.specs.Forest.Commands.{page_name, page_names, extent_names, span_pairs, make, copy, move_, invalidate, destroy}
 use Rattle.vm_model.specs.Machine.{Machine, cache_of, pages_in}
 use Rattle.vm_model.specs.Place.{Place, place}
-use Rattle.vm_model.specs.PageForest.{PageForest, told, nodes_of, page_in}
+use Rattle.vm_model.specs.PageForest.{PageForest, told, nodes_of, nodes_in, page_in}
 use Rattle.vm_model.specs.Answering.{Answer, is_named, overwrite}
 
 -- The pages of which a command does the saves, where they are of a named cache: those that it replaces or takes away.
@@ -19,6 +19,7 @@ abbrev pub pages_saved : Machine → Command → List NodeName
 pages_saved m (commands.Copy span) = page_names span.to span.to_page.0 span.pages
 pages_saved m (commands.Move span) = page_names span.to span.to_page.0 span.pages
 pages_saved m (commands.Destroy cache) = page_names cache 0 (pages_in (cache_of m cache.0))
+pages_saved m (commands.Invalidate extent) = extent_names extent
 pages_saved m command = []
 
 -- these bytes are written at the place
@@ -33,6 +34,8 @@ written_at f (Err r) bytes = f
 abbrev pub followed : PageForest → Machine → Command → Machine → PageForest
 followed f m (commands.MakeTemp pages) next =
     make (nodes_of (length next.caches) (cache_of next (length next.caches))) f
+followed f m (commands.OpenSegment seg) next =
+    make (nodes_of (length next.caches) (cache_of next (length next.caches))) f
 followed f m (commands.Destroy cache) next =
     destroy (is_named m cache.0) (pages_saved m (commands.Destroy cache)) f
 followed f m (commands.Copy span) next = copy (is_named m span.to.0) (span_pairs span) f
@@ -41,6 +44,8 @@ followed f m (commands.Move span) next =
     (span_pairs span) f
 followed f m (commands.Store actor address piece) next =
     written_at f (place m actor.0 address (length piece)) piece
+followed f m (commands.Invalidate extent) next =
+    invalidate (nodes_in extent (cache_of next extent.cache.0)) f
 followed f m command next = f
 
 -- The forest after an answer: the command's rule, or the saves that were done before one failed, or the same forest.

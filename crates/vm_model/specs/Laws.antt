@@ -40,25 +40,20 @@ abbrev pub LieIn : List (Option Cache) → Option Actor → Type 0
 LieIn caches None = Unit {0}
 LieIn caches (Some regions) = All (LiesIn caches) regions
 
--- What holds of a machine between two answers: its pages have all their bytes, and its regions lie in live caches.
-pub record IsProper (m : Machine) : Type 0 where
-  pub some : 1 ≤ m.page_bytes
-  pub whole : HasWholePages m
-  pub lie : All (LieIn m.caches) m.actors
-
-abbrev pub ProperMachinesAreMapped : Type 0
-ProperMachinesAreMapped = (m : Machine) → IsProper m → HasMappedPages m
-
-abbrev pub MachinesStayProper : Type 0
-MachinesStayProper =
-    (m next : Machine) (f : PageForest) (command : Command) (h : Segments) (answer : Answer)
-    (rises : MapperCounts)
-    → IsProper m → Outcome m (Some f) command h answer next rises → IsProper next
-
--- The same without bytes: regions lie in live caches.
+-- What holds of a machine between two answers, with its bytes or without them: its regions lie in
+-- live caches.
 pub record IsLaid (m : Machine) : Type 0 where
   pub some : 1 ≤ m.page_bytes
   pub lie : All (LieIn m.caches) m.actors
+
+abbrev pub LaidMachinesAreMapped : Type 0
+LaidMachinesAreMapped = (m : Machine) → IsLaid m → HasMappedPages m
+
+abbrev pub MachinesStayLaid : Type 0
+MachinesStayLaid =
+    (m next : Machine) (f : PageForest) (command : Command) (h : Segments) (answer : Answer)
+    (rises : MapperCounts)
+    → IsLaid m → Outcome m (Some f) command h answer next rises → IsLaid next
 
 -- Where the mapper tells nothing, the forest without bytes agrees with the machine without bytes, and goes on so.
 abbrev pub UntoldAnswersAreFollowed : Type 0

@@ -1,6 +1,7 @@
 -- The machine that keeps each cache as plain bytes: no frames, no trees, no swap.
-use Rattle.std.specs.Prelude.{◌==◌, ◌&&◌, ℕ, ◌+◌, ◌-◌, nat_le, nat_lt, Bool, false, List, [], length, Option, Some, None, option_and_then, slice_get, if◌then◌else◌, replicate, sum_by, count_by, is_some}
+use Rattle.std.specs.Prelude.{◌==◌, ◌&&◌, ℕ, ◌+◌, ◌-◌, nat_le, nat_lt, Bool, false, List, [], ◌∷◌, length, Option, Some, None, option_and_then, slice_get, if◌then◌else◌, replicate, sum_by, count_by, is_some}
 use Rattle.std.specs.List.{list_any}
+use Rattle.std.specs.Option.{option_map_or}
 
 -- as many bytes as the machine's page size says
 abbrev pub Page : Type 0
@@ -54,6 +55,20 @@ actor_of m n = numbered m.actors n
 
 abbrev pub living_actors : Machine → ℕ
 living_actors m = count_by is_some m.actors
+
+-- the segment names this cache
+abbrev pub is_named_by : ℕ → Option Cache → Bool
+is_named_by seg None = false
+is_named_by seg (Some c) = option_map_or (λ s. s == seg) c.segment false
+
+-- the live cache that this segment names
+abbrev pub cache_named : List (Option Cache) → ℕ → Option Cache
+cache_named [] seg = None
+cache_named (c ∷ cs) seg = if is_named_by seg c then c else cache_named cs seg
+
+-- the segment that names the cache with this number, if one does
+abbrev pub segment_of : Machine → ℕ → Option ℕ
+segment_of m cache = option_and_then (λ (c : Cache). c.segment) (cache_of m cache)
 
 -- how many pages a cache has, if it is alive
 abbrev pub pages_in : Option Cache → ℕ

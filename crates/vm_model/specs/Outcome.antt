@@ -4,6 +4,7 @@ use Rattle.vm_ids.specs.Counting.{MapperCounts, no_counts}
 use Rattle.vm_ids.specs.Held.{Segments}
 use Rattle.vm_ids.specs.declared.command.Command.{Command}
 use Rattle.vm_ids.specs.declared.command.Command.TheVariants as commands
+use Rattle.vm_ids.specs.declared.command.Extent.{Extent}
 use Rattle.vm_ids.specs.declared.command.Span.{Span}
 use Rattle.vm_ids.specs.declared.reply.Reply.TheVariants as replies
 use Rattle.vm_ids.specs.declared.reply.FaultAt.{FaultAt}
@@ -13,16 +14,21 @@ use Rattle.vm_ids.specs.declared.refusal.Refusal.TheVariants as refusals
 use Rattle.std.specs.Bool.{IsTrue}
 use Rattle.vm_ids.specs.declared.node_name.NodeName.{NodeName}
 use Rattle.vm_ids.specs.Forest.Saving.{saves, unsaved}
+use Rattle.vm_model.specs.declared.limits.TheConstants.{MADE}
 use Rattle.vm_model.specs.PageForest.{PageForest, forest_shown}
 use Rattle.vm_model.specs.Following.{pages_saved}
 use Rattle.vm_model.specs.Machine.{Machine, Cache, cache_of, pages_in}
 use Rattle.vm_model.specs.Place.{Place, place}
 use Rattle.vm_model.specs.Answering.{Answer, answer_of, is_denied_page, is_named}
 
--- the machine would refuse nothing; but a failed question for write access may hide that the write is denied
+-- The machine would refuse nothing; but a failed question for write access may hide that the write
+-- is denied, and one for the size of a segment that there is no such segment, or that it is too
+-- large.
 abbrev pub NotRefusedButFor : FaultAt → Answer → Type 0
 NotRefusedButFor at (Ok r) = Unit {0}
 NotRefusedButFor (faults.Access p) (Err (troubles.Refused refusals.WriteDenied)) = Unit {0}
+NotRefusedButFor faults.Opening (Err (troubles.Refused refusals.NoSegment)) = Unit {0}
+NotRefusedButFor faults.Opening (Err (troubles.Refused refusals.TooMany)) = Unit {0}
 NotRefusedButFor at (Err e) = ⊥
 
 abbrev pub IsNamed : Machine → ℕ → Type 0
@@ -55,9 +61,15 @@ CanFailAtSave (Some f) pages done = (n : ℕ) → n ≤ done → IsSome (unsaved
 abbrev pub IsPageOf : Machine → ℕ → ℕ → Type 0
 IsPageOf m cache p = p < pages_in (cache_of m cache)
 
--- Which faults a command may answer, at which page, and which of the mapper's counts rose with it beside its faults.
+-- page p is a page of the extent
+abbrev pub IsPageIn : Extent → ℕ → Type 0
+IsPageIn e p = (e.first.0 ≤ p) × (p < e.first.0 + e.pages)
+
+-- Which faults a command may answer, at which page, and which of the mapper's counts rose with it
+-- beside its faults. The size of a segment is asked only where fewer caches were made than may be.
 abbrev pub MayFault : Machine → Option PageForest → Command → Segments → FaultAt → MapperCounts
     → Type 0
+MayFault m f (commands.OpenSegment seg) h faults.Opening rises = length m.caches < MADE
 MayFault m f (commands.Destroy cache) h (faults.Page p) rises =
     IsNamed m cache.0 × IsPageOf m cache.0 p.0
 MayFault m f (commands.Destroy cache) h (faults.Save done) rises =
@@ -78,6 +90,10 @@ MayFault m f (commands.Store actor address piece) h (faults.Access p) rises =
 MayFault m f (commands.Store actor address piece) h (faults.Page p) rises =
     IsAccessed m actor.0 address (length piece) p.0 × (0 < rises.pulls)
 MayFault m f (commands.Store actor address piece) h faults.Victim rises = 0 < rises.pushes
+MayFault m f (commands.Sync extent) h (faults.Page p) rises = IsPageIn extent p.0
+MayFault m f (commands.Flush extent) h (faults.Page p) rises = IsPageIn extent p.0
+MayFault m f (commands.Invalidate extent) h (faults.Save done) rises =
+    IsNamed m extent.cache.0 × CanFailAtSave f (pages_saved m (commands.Invalidate extent)) done
 MayFault m f (commands.PageOut count) h faults.Victim rises = 0 < rises.pushes
 MayFault m f command h at rises = ⊥
 
@@ -85,9 +101,11 @@ MayFault m f command h at rises = ⊥
 abbrev pub MayLackMemory : Command → Type 0
 MayLackMemory commands.MakeActor = Unit {0}
 MayLackMemory (commands.MakeTemp pages) = Unit {0}
+MayLackMemory (commands.OpenSegment seg) = Unit {0}
 MayLackMemory (commands.Copy span) = Unit {0}
 MayLackMemory (commands.Move span) = Unit {0}
 MayLackMemory (commands.Map actor mapping) = Unit {0}
+MayLackMemory (commands.Invalidate extent) = Unit {0}
 MayLackMemory (commands.Chain cache page) = Unit {0}
 MayLackMemory command = ⊥
 

@@ -1,5 +1,6 @@
 -- The page forest that a manager keeps for a machine, and the plain one that stands in where a manager tells none.
-use Rattle.std.specs.Prelude.{◌≡◌, ◌↔◌, ℕ, ◌+◌, List, [], ◌∷◌, ◌++◌, map, Option, Some, None, option_map, option_and_then, slice_get, IsSome}
+use Rattle.std.specs.Prelude.{◌≡◌, ◌↔◌, ℕ, ◌+◌, List, [], ◌∷◌, ◌++◌, map, take, drop, Option, Some, None, option_map, option_and_then, slice_get, IsSome}
+use Rattle.vm_ids.specs.declared.command.Extent.{Extent}
 use Rattle.vm_ids.specs.declared.node_name.NodeName.{NodeName}
 use Rattle.vm_ids.specs.declared.numbers.CacheId.{CacheId}
 use Rattle.vm_ids.specs.Forest.Nodes.{Forest, no_forest, IsNode}
@@ -20,6 +21,12 @@ told (b ∷ bs) = Some (b ∷ bs)
 abbrev pub nodes_of : ℕ → Option Cache → List (NodeName × Option Page)
 nodes_of number None = []
 nodes_of number (Some c) = pages_at (record { 0 = number }) 0 (map told c.pages)
+
+-- the pages of an extent of this cache, each at its node
+abbrev pub nodes_in : Extent → Option Cache → List (NodeName × Option Page)
+nodes_in e None = []
+nodes_in e (Some c) =
+    pages_at e.cache e.first.0 (map told (take e.pages (drop e.first.0 c.pages)))
 
 -- the pages of these caches, the first of which has this number
 abbrev pub nodes_from : ℕ → List (Option Cache) → List (NodeName × Option Page)

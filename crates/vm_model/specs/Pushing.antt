@@ -1,21 +1,11 @@
 -- What a push writes to a segment: the page that the machine holds for it.
-use Rattle.std.specs.Prelude.{◌≡◌, ◌==◌, ℕ, Bool, false, List, [], ◌∷◌, Option, Some, None, option_map, option_and_then, slice_get, if◌then◌else◌, unwrap_or, IsSome}
-use Rattle.std.specs.Option.{option_map_or}
+use Rattle.std.specs.Prelude.{◌≡◌, ℕ, false, List, [], ◌∷◌, Option, Some, None, option_map, option_and_then, slice_get, unwrap_or, IsSome}
 use Rattle.std.specs.List.{AllByRecursion}
 use Rattle.vm_ids.specs.Denying.{denies}
 use Rattle.vm_ids.specs.Held.{Segments, put_segment_page}
-use Rattle.vm_model.specs.Machine.{Machine, Page, Cache}
+use Rattle.vm_model.specs.Machine.{Machine, Page, Cache, cache_named}
 
--- the live cache that this segment names
-abbrev pub is_named_by : ℕ → Option Cache → Bool
-is_named_by seg None = false
-is_named_by seg (Some c) = option_map_or (λ s. s == seg) c.segment false
-
-abbrev pub cache_named : List (Option Cache) → ℕ → Option Cache
-cache_named [] seg = None
-cache_named (c ∷ cs) seg = if is_named_by seg c then c else cache_named cs seg
-
--- its page, as the machine holds it
+-- a page of the live cache that this segment names, as the machine holds it
 abbrev pub page_named : Machine → ℕ → ℕ → Option Page
 page_named m seg page =
     option_and_then (λ (c : Cache). slice_get c.pages page) (cache_named m.caches seg)

@@ -1,11 +1,12 @@
 -- Worked scripts, as runs of the machine and of the page forest that follows it: what each command answers, and whether
 -- the last forest has the last machine's pages. A page has two bytes here. The definitions compute each of them.
 use Rattle.std.specs.Prelude.{◌≡◌, ℕ, List, [], ◌∷◌, map, true, Some, Ok, Err}
-use Rattle.std.specs.FinMap.{empty}
+use Rattle.std.specs.FinMap.{empty, insert}
 use Rattle.vm_ids.specs.Held.{Segments}
 use Rattle.vm_ids.specs.declared.chain.ChainItem.{ChainItem}
 use Rattle.vm_ids.specs.declared.command.Command.{Command}
 use Rattle.vm_ids.specs.declared.command.Command.TheVariants as commands
+use Rattle.vm_ids.specs.declared.command.Extent.{Extent}
 use Rattle.vm_ids.specs.declared.command.Span.{Span}
 use Rattle.vm_ids.specs.declared.node_name.NodeName.{NodeName}
 use Rattle.vm_ids.specs.declared.refusal.Refusal.{Refusal}
@@ -16,7 +17,7 @@ use Rattle.vm_ids.specs.declared.node_name.NodeName.TheVariants.{Working}
 use Rattle.vm_ids.specs.Forest.Nodes.{no_forest}
 use Rattle.vm_ids.specs.Forest.Reading.{value_of}
 use Rattle.vm_ids.specs.Forest.Commands.{page_name}
-use Rattle.vm_model.specs.Machine.{Machine, start}
+use Rattle.vm_model.specs.Machine.{Machine, Page, start}
 use Rattle.vm_model.specs.PageForest.{PageForest, nodes_from}
 use Rattle.vm_model.specs.Answering.{Answer, Answered, answer_of}
 use Rattle.vm_model.specs.Following.{forest_after}
@@ -35,6 +36,10 @@ no_segments = record { pages = empty; denied = [] }
 abbrev pub played_first : Answer → Played → Played
 played_first a p = record p { answers = a ∷ p.answers }
 
+-- one segment, number 1, of these pages
+abbrev pub one_segment : List Page → Segments
+one_segment pages = record { pages = insert empty 1 pages; denied = [] }
+
 -- a command was answered so; the forest follows the machines as they are seen, and the rest goes on from there
 abbrev pub played_on : (Machine → Machine) → Machine → PageForest → Command
     → (Machine → PageForest → Played) → Answered → Played
@@ -42,23 +47,32 @@ played_on seen m f command rest a =
     played_first a.answer (rest a.next (forest_after f (seen m) command a.answer (seen a.next)))
 
 -- the commands, the first one first, over a machine and its forest
-abbrev pub play_from : (Machine → Machine) → List Command → Machine → PageForest → Played
-play_from seen [] m f = record { answers = []; machine = seen m; forest = f }
-play_from seen (c ∷ cs) m f = played_on seen m f c (play_from seen cs) (answer_of m f c no_segments)
+abbrev pub play_from : Segments → (Machine → Machine) → List Command → Machine → PageForest
+    → Played
+play_from h seen [] m f = record { answers = []; machine = seen m; forest = f }
+play_from h seen (c ∷ cs) m f = played_on seen m f c (play_from h seen cs) (answer_of m f c h)
 
-abbrev pub play : (Machine → Machine) → List Command → Played
-play seen cs = play_from seen cs (start 8 2) no_forest
+abbrev pub play : Segments → (Machine → Machine) → List Command → Played
+play h seen cs = play_from h seen cs (start 8 2) no_forest
 
--- The commands answer this, and each page of the machine, as it is seen, is then the value of its node.
-abbrev pub AnswersAs : (Machine → Machine) → List Command → List Answer → Type 0
-AnswersAs seen cs answers =
-    ((play seen cs).answers ≡ answers)
-    × (map (λ e. value_of (play seen cs).forest e.0) (nodes_from 1 (play seen cs).machine.caches)
-    ≡ map (λ e. Some e.1) (nodes_from 1 (play seen cs).machine.caches))
+-- each page of the machine, as it was seen last, is the value of its node
+abbrev pub HoldsItsPages : Played → Type 0
+HoldsItsPages p =
+    map (λ e. value_of p.forest e.0) (nodes_from 1 p.machine.caches)
+    ≡ map (λ e. Some e.1) (nodes_from 1 p.machine.caches)
 
--- with bytes where the mapper tells what it holds, and without them where it doesn't
+-- the commands answer this over segments that hold this
+abbrev pub AnswersAs : Segments → (Machine → Machine) → List Command → List Answer → Type 0
+AnswersAs h seen cs answers =
+    ((play h seen cs).answers ≡ answers) × HoldsItsPages (play h seen cs)
+
+-- The same with bytes, where the mapper tells what it holds, and without them, where it doesn't.
+pub record AnswersOver (h : Segments) (cs : List Command) (answers : List Answer) : Type 0 where
+  pub told : AnswersAs h (λ m. m) cs answers
+  pub untold : AnswersAs h blank cs answers
+
 abbrev pub Answers : List Command → List Answer → Type 0
-Answers cs answers = AnswersAs (λ m. m) cs answers × AnswersAs blank cs answers
+Answers = AnswersOver no_segments
 
 -- Commands and answers in short -----------------------------------------------------
 
@@ -104,6 +118,21 @@ load address = commands.Load (record { 0 = 1 }) address 1
 
 abbrev pub chain : ℕ → ℕ → Command
 chain c p = commands.Chain (record { 0 = c }) (record { 0 = p })
+
+abbrev pub open_ : ℕ → Command
+open_ seg = commands.OpenSegment (record { 0 = seg })
+
+abbrev pub extent : ℕ → ℕ → ℕ → Extent
+extent c o n = record { cache = record { 0 = c }; first = record { 0 = o }; pages = n }
+
+abbrev pub invalidate : ℕ → ℕ → ℕ → Command
+invalidate c o n = commands.Invalidate (extent c o n)
+
+abbrev pub sync : ℕ → ℕ → ℕ → Command
+sync c o n = commands.Sync (extent c o n)
+
+abbrev pub flush : ℕ → ℕ → ℕ → Command
+flush c o n = commands.Flush (extent c o n)
 
 abbrev pub ok : Answer
 ok = Ok replies.Done
@@ -201,3 +230,38 @@ RefusedCommands = Answers
     ∷ no refusals.NoCache ∷ no refusals.NoRegion
     ∷ no refusals.NoCache ∷ no refusals.OutOfCache ∷ ok ∷ ok ∷ no refusals.NoCache ∷ ok_stat 0 0 0
     ∷ [])
+
+-- The page that a store changed is lost where it is invalidated, and a copy that was made before
+-- keeps it.
+abbrev pub StoredAndInvalidated : Type 0
+StoredAndInvalidated = AnswersOver (one_segment ((65 ∷ 66 ∷ []) ∷ []))
+    (commands.MakeActor ∷ open_ 1 ∷ map_ 1 1 65536 ∷ load 65536 ∷ store 65536 88
+    ∷ temp 1 ∷ copy 1 0 2 0 1 ∷ map_ 2 1 131072 ∷ sync 1 0 1 ∷ flush 1 0 1
+    ∷ invalidate 1 0 1 ∷ load 65536 ∷ load 131072 ∷ chain 1 0 ∷ chain 2 0 ∷ commands.Stat ∷ [])
+    (ok_a 1 ∷ ok_c 1 ∷ ok_r 1 ∷ ok_byte 65 ∷ ok
+    ∷ ok_c 2 ∷ ok ∷ ok_r 2 ∷ ok ∷ ok
+    ∷ ok ∷ ok_byte 65 ∷ ok_byte 88 ∷ ok_chain (item (page 1 0) 0 ∷ [])
+    ∷ ok_chain (item (page 2 0) 0 ∷ []) ∷ ok_stat 2 0 1 ∷ [])
+
+-- A copy of a named cache gets its page when that cache goes. The segment can be opened again then,
+-- and not before.
+abbrev pub SourceOfACopyReopened : Type 0
+SourceOfACopyReopened = AnswersOver (one_segment ((65 ∷ 66 ∷ []) ∷ (67 ∷ 68 ∷ []) ∷ []))
+    (open_ 1 ∷ temp 2 ∷ copy 1 0 2 0 2 ∷ commands.Stat ∷ open_ 1 ∷ destroy 1 ∷ commands.Stat
+    ∷ chain 2 1 ∷ open_ 1 ∷ commands.MakeActor ∷ map_ 2 2 65536 ∷ map_ 3 2 131072 ∷ store 131072 90
+    ∷ load 65536 ∷ load 131072 ∷ [])
+    (ok_c 1 ∷ ok_c 2 ∷ ok ∷ ok_stat 4 0 0 ∷ no refusals.SegmentInUse ∷ ok ∷ ok_stat 2 0 2
+    ∷ ok_chain (item (page 2 1) 0 ∷ []) ∷ ok_c 3 ∷ ok_a 1 ∷ ok_r 1 ∷ ok_r 2 ∷ ok
+    ∷ ok_byte 65 ∷ ok_byte 90 ∷ [])
+
+-- Each command with a segment that is refused, in the order of its row.
+abbrev pub RefusedSegments : Type 0
+RefusedSegments = AnswersOver (one_segment ((65 ∷ 66 ∷ []) ∷ []))
+    (open_ 2 ∷ temp 1 ∷ open_ 1 ∷ open_ 1 ∷ sync 3 0 1 ∷ sync 1 0 1 ∷ sync 2 0 2 ∷ flush 3 0 1
+    ∷ flush 1 0 1 ∷ flush 2 1 1 ∷ invalidate 3 0 1 ∷ invalidate 1 0 1 ∷ invalidate 2 0 2
+    ∷ move_ 2 0 1 0 1 ∷ move_ 1 0 2 0 1 ∷ destroy 2 ∷ open_ 1 ∷ commands.Stat ∷ [])
+    (no refusals.NoSegment ∷ ok_c 1 ∷ ok_c 2 ∷ no refusals.SegmentInUse ∷ no refusals.NoCache
+    ∷ no refusals.NotNamed ∷ no refusals.OutOfCache ∷ no refusals.NoCache
+    ∷ no refusals.NotNamed ∷ no refusals.OutOfCache ∷ no refusals.NoCache ∷ no refusals.NotNamed
+    ∷ no refusals.OutOfCache
+    ∷ no refusals.NotTemp ∷ ok ∷ ok ∷ ok_c 3 ∷ ok_stat 2 0 0 ∷ [])

@@ -1,5 +1,5 @@
 -- A whole run: one answer after another.
-use Rattle.std.specs.Prelude.{◌≡◌, ℕ, ◌+◌, ◌≤◌, List, [], ◌∷◌, map, length, Option, option_map, Result, Ok, Err}
+use Rattle.std.specs.Prelude.{◌≡◌, ℕ, ◌+◌, ◌≤◌, List, [], ◌∷◌, map, length, Option, option_map, IfSome, Result, Ok, Err}
 use Rattle.vm_ids.specs.Counting.{MapperCounts, Rise, no_counts, counts_sum}
 use Rattle.vm_ids.specs.Held.{Held, Segments, segments_of}
 use Rattle.vm_ids.specs.declared.command.Command.{Command}
@@ -10,8 +10,9 @@ use Rattle.vm_model.specs.PageForest.{PageForest}
 use Rattle.vm_model.specs.Answering.{Answer}
 use Rattle.vm_model.specs.Following.{forest_after}
 use Rattle.vm_model.specs.Asking.{ReachesMapper}
-use Rattle.vm_model.specs.Outcome.{OutcomeAt}
+use Rattle.vm_model.specs.Outcome.{HasWholePages, OutcomeAt}
 use Rattle.vm_model.specs.Pushing.{PushRule}
+use Rattle.vm_model.specs.Synchronised.{IsSynchronised}
 
 -- What there is between two answers: the machine, the page forest where the manager tells it, and the mapper's
 -- segments where they are told.
@@ -20,7 +21,8 @@ pub record State : Type 0 where
   pub forest : Option PageForest
   pub segments : Option Segments
 
--- One answer: what is pushed meanwhile, by how much the mapper's counts rise, and how the forest follows.
+-- One answer: what is pushed meanwhile, by how much the mapper's counts rise, and how the forest
+-- follows. Where the segments are told, the machine's pages have all their bytes.
 pub record AnswerIs (before : State) (command : Command) (answer : Answer) (pushes : List (ℕ × ℕ))
     (rises : MapperCounts) (after : State) : Type 0 where
   pub outcome : OutcomeAt after.segments before.machine before.forest command answer after.machine rises
@@ -29,6 +31,8 @@ pub record AnswerIs (before : State) (command : Command) (answer : Answer) (push
   pub reaches : ReachesMapper command rises
   pub few : length pushes ≤ rises.pushes
   pub pushed : PushRule before.machine before.segments pushes after.segments
+  pub synchronised : IsSynchronised before.machine after.segments command answer
+  pub whole : IfSome after.segments (λ h. HasWholePages after.machine)
 
 -- One call of a manager, which leads from one state to the next while the mapper's counts go from c to d.
 pub record CallIs (c d : MapperCounts) (before : State) (command : Command) (answer : Answer)

@@ -1,8 +1,10 @@
 -- The machine that the tables of the eager machine are, and what holds of them.
 use Rattle.std.specs.Prelude.{◌≡◌, ℕ, ◌+◌, ◌*◌, ◌≤◌, ◌^◌, false, List, map, length, All, Option, Some, None, option_map, Result, Ok, Err}
+use Rattle.vm_ids.specs.declared.command.Span.{Span}
 use Rattle.vm_ids.specs.declared.refusal.Refusal.{Refusal}
 use Rattle.vm_model.specs.Machine as model
 use Rattle.vm_model.specs.Place as model_place
+use Rattle.vm_model.specs.Answering.{passes_end}
 use Rattle.vm_model.specs.declared.tables.Actor.{Actor}
 use Rattle.vm_model.specs.declared.tables.Cache.{Cache}
 use Rattle.vm_model.specs.declared.tables.Region.{Region}
@@ -25,7 +27,7 @@ abbrev pub pages_seen : Cache → List (List ℕ)
 pages_seen c = map (λ p. p.items) c.pages.items
 
 abbrev pub cache_seen : Cache → model.Cache
-cache_seen c = record { segment = None; pages = pages_seen c }
+cache_seen c = record { segment = option_map (λ s. s.0) c.segment; pages = pages_seen c }
 
 abbrev pub actor_seen : Actor → model.Actor
 actor_seen a = map region_seen a.regions.items
@@ -59,6 +61,15 @@ pub record IsPlaced (page_bytes : ℕ) (caches : List (Option Cache)) (r : Regio
 abbrev pub ArePlaced : ℕ → List (Option Cache) → Option Actor → Type 0
 ArePlaced page_bytes caches None = Unit {0}
 ArePlaced page_bytes caches (Some a) = All (IsPlaced page_bytes caches) a.regions.items
+
+-- The pages of a copy or a move are there.
+pub record IsSpanned (t : Tables) (s : Span) : Type 0 where
+  pub source : Cache
+  pub destination : Cache
+  pub from : model.numbered t.caches.items s.from.0 ≡ Some source
+  pub to : model.numbered t.caches.items s.to.0 ≡ Some destination
+  pub inside : passes_end (cache_seen source) s.from_page.0 s.pages ≡ false
+  pub within : passes_end (cache_seen destination) s.to_page.0 s.pages ≡ false
 
 -- each page has all its bytes
 abbrev pub HasPages : ℕ → Option Cache → Type 0

@@ -1,16 +1,18 @@
 // Bytes are loaded and stored.
-ghost use Rattle.std.specs.Prelude.{None, ◌≡◌, ℕ, ◌+◌, ◌-◌, ◌≤◌, ◌<◌, List, [], map, length, Some, option_map, option_and_then, slice_get, slice_set, unwrap_or, IfOk, All};
+ghost use Rattle.std.specs.Prelude.{None, ◌≡◌, ℕ, ◌+◌, ◌-◌, ◌≤◌, ◌<◌, List, [], map, length, Some, option_map, option_and_then, slice_get, slice_set, unwrap_or, IfOk, IsOkAnd, OnOk, OnErr, All, Ok, true};
 ghost use Rattle.vm_model.specs.Answering.{answer_by, bytes_at, overwrite, page_at, write_at};
-ghost use Rattle.vm_model.specs.Machine.{numbered};
+ghost use Rattle.vm_model.specs.Allowed.{AllowedOutcome, AwaitsAccess, numbers_of, segment_place};
+ghost use Rattle.vm_model.specs.Machine.{cache_of, numbered, pages_in};
+ghost use Rattle.vm_model.specs.Place.{place};
 ghost use Rattle.vm_model.specs.Outcome.{PlainOutcome};
 ghost use Rattle.vm_model.specs.Seen.{IsPlaced, IsSound, machine_seen, pages_seen, place_seen};
 
-use crate::place::{Found, cache_at, place_of};
+use crate::place::{Found, cache_at, place_of, segment_of};
 use crate::tables::{Cache, Tables};
-use vm_ids::{ActorId, Command, Piece, Refusal, Reply, Trouble};
+use vm_ids::{ActorId, Command, PageNo, Piece, Refusal, Reply, SegId, Trouble};
 
 // A page of a cache, where it is there.
-fn page_in(caches: &[Option<Cache>], cache: u32, page: u64) -> Option<&[u8]>
+pub(crate) fn page_in(caches: &[Option<Cache>], cache: u32, page: u64) -> Option<&[u8]>
     ensures { option_map (λ p. p.now) result
         ≡ option_and_then (λ c. slice_get (map (λ p. p.items) c.pages.items) page)
         (numbered caches.now cache) }
@@ -84,7 +86,8 @@ fn write_page(page: &mut Vec<u8>, at: usize, bytes: &[u8])
 fn write_cache(cache: &mut Cache, page: usize, at: usize, bytes: &[u8])
     requires there { page < length cache.old.pages.items }
     requires within { All (λ p. at + length bytes.now ≤ length p.items) cache.old.pages.items }
-    ensures { pages_seen cache.new
+    ensures segment { cache.new.segment ≡ cache.old.segment }
+    ensures pages { pages_seen cache.new
         ≡ slice_set (pages_seen cache.old) page
         (overwrite at bytes.now (unwrap_or (slice_get (pages_seen cache.old) page) [])) }
 {
@@ -107,7 +110,69 @@ fn write_place(tables: &mut Tables, found: Found, bytes: &[u8])
     }
 }
 
+// The place of a store, where the machine alone doesn't refuse it.
 #[tactic(auto, unfolding(crate::specs::Answering::store_of, crate::specs::Answering::with_ok, crate::specs::Answering::unless))]
+fn place_to_store(
+    tables: &Tables,
+    actor: ActorId,
+    address: u64,
+    piece: &Piece,
+) -> Result<Found, Trouble>
+    requires { IsSound tables.now }
+    ensures refused { OnErr result (PlainOutcome (machine_seen tables.now)
+        (Command.Store actor address piece.now) (answer_by (λ _. Reply.Done) result)
+        (machine_seen tables.now)) }
+    ensures place { IfOk result (λ f. place (machine_seen tables.now)
+        actor.0 address (length piece.now) ≡ Ok (place_seen f)) }
+    ensures placed { IfOk result
+        (λ f. IsPlaced tables.now.page_bytes tables.now.caches.items f.region) }
+    ensures within { IfOk result (λ f. f.page < f.region.offset + f.region.pages) }
+    ensures byte { IfOk result (λ f. f.byte + length piece.now ≤ tables.now.page_bytes) }
+    ensures writes { IfOk result (λ f. f.region.may_write ≡ true) }
+{
+    let found = match place_of(tables, actor, address, piece.as_slice().len() as u8) {
+        Ok(found) => found,
+        Err(refusal) => return Err(Trouble::Refused(refusal)),
+    };
+    if !found.region.may_write {
+        return Err(Trouble::Refused(Refusal::Protection));
+    }
+    Ok(found)
+}
+
+// The page of a segment that a store would change, or none where no segment names the cache.
+pub(crate) fn check_store(
+    tables: &Tables,
+    actor: ActorId,
+    address: u64,
+    piece: &Piece,
+) -> Result<Option<(SegId, PageNo)>, Trouble>
+    requires { IsSound tables.now }
+    ensures refused { OnErr result (PlainOutcome (machine_seen tables.now)
+        (Command.Store actor address piece.now) (answer_by (λ _. Reply.Done) result)
+        (machine_seen tables.now)) }
+    ensures awaits { OnOk result (AwaitsAccess (machine_seen tables.now)
+        (Command.Store actor address piece.now)) }
+    ensures page { IfOk result (λ page.
+        IsOkAnd (place (machine_seen tables.now) actor.0 address (length piece.now)) (λ at.
+        option_map numbers_of page ≡ segment_place (machine_seen tables.now) at)) }
+    ensures there { OnOk result
+        (IsOkAnd (place (machine_seen tables.now) actor.0 address (length piece.now)) (λ at.
+        at.page < pages_in (cache_of (machine_seen tables.now) at.region.cache))) }
+{
+    let found = match place_to_store(tables, actor, address, piece) {
+        Ok(found) => found,
+        Err(trouble) => return Err(trouble),
+    };
+    match segment_of(tables, found.region.cache) {
+        Some(seg) => {
+            prove!(found.page < tables.live as u64);
+            Ok(Some((seg, PageNo(found.page as u32))))
+        }
+        None => Ok(None),
+    }
+}
+
 pub(crate) fn store(
     tables: &mut Tables,
     actor: ActorId,
@@ -116,17 +181,15 @@ pub(crate) fn store(
 ) -> Result<(), Trouble>
     requires { IsSound tables.old }
     ensures sound { IsSound tables.new }
-    ensures outcome { PlainOutcome (machine_seen tables.old) (Command.Store actor address piece.now)
-        (answer_by (λ _. Reply.Done) result) (machine_seen tables.new) }
+    ensures outcome { AllowedOutcome (machine_seen tables.old)
+        (Command.Store actor address piece.now) (answer_by (λ _. Reply.Done) result)
+        (machine_seen tables.new) }
 {
-    let bytes = piece.as_slice();
-    let found = match place_of(tables, actor, address, bytes.len() as u8) {
-        Ok(found) => found,
-        Err(refusal) => return Err(Trouble::Refused(refusal)),
-    };
-    if !found.region.may_write {
-        return Err(Trouble::Refused(Refusal::Protection));
+    match place_to_store(tables, actor, address, piece) {
+        Ok(found) => {
+            write_place(tables, found, piece.as_slice());
+            Ok(())
+        }
+        Err(trouble) => Err(trouble),
     }
-    write_place(tables, found, bytes);
-    Ok(())
 }

@@ -2,13 +2,13 @@
 ghost use Rattle.std.specs.Prelude.{◌≡◌, ℕ, ◌+◌, ◌*◌, ◌≤◌, ◌<◌, ◌^◌, map, length, option_map, option_and_then, IfSome, IfOk, slice_get};
 ghost use Rattle.std.specs.List.{All, Contains};
 ghost use Rattle.vm_model.specs.Answering.{passes_end};
-ghost use Rattle.vm_model.specs.Machine.{numbered};
+ghost use Rattle.vm_model.specs.Machine.{cache_of, numbered, pages_in, segment_of};
 ghost use Rattle.vm_model.specs.Place.{place, place_among, region_at};
 ghost use Rattle.vm_model.specs.Seen.{cache_seen, region_seen, found_seen, machine_seen, IsPlaced, IsSound};
 
 use crate::numbering::numbered;
 use crate::tables::{Actor, Cache, Region, Tables};
-use vm_ids::{ActorId, Refusal};
+use vm_ids::{ActorId, CacheId, Refusal, SegId};
 
 // A byte of a page of the region's cache.
 #[derive(Clone, Copy, Debug, PartialEq, Eq)]
@@ -30,6 +30,28 @@ pub(crate) fn actor_at(actors: &[Option<Actor>], n: u32) -> Option<&Actor>
     ensures { option_map (λ a. a.now) result ≡ numbered actors.now n }
 {
     numbered(actors, n)
+}
+
+// The segment that names a cache, if one does.
+pub(crate) fn segment_of(tables: &Tables, cache: CacheId) -> Option<SegId>
+    ensures { option_map (λ s. s.0) result ≡ segment_of (machine_seen tables.now) cache.0 }
+{
+    cache_at(&tables.caches, cache.0)?.segment
+}
+
+// How many pages a cache has; none where it isn't alive.
+pub(crate) fn page_count(tables: &Tables, cache: CacheId) -> u32
+    requires { IsSound tables.now }
+    ensures { result ≡ pages_in (cache_of (machine_seen tables.now) cache.0) }
+{
+    match cache_at(&tables.caches, cache.0) {
+        Some(cache) => {
+            let pages = cache.pages.len();
+            prove!(pages <= tables.live as usize);
+            pages as u32
+        }
+        None => 0,
+    }
 }
 
 // Whether these pages pass the end of the cache.

@@ -1,6 +1,6 @@
 // What the eager machine keeps.
 use std::alloc::Global;
-use vm_ids::{CacheId, RegionId};
+use vm_ids::{CacheId, RegionId, SegId};
 
 // A region. None is locked, since no command locks one.
 #[derive(Clone, Copy, Debug, PartialEq, Eq)]
@@ -13,9 +13,10 @@ pub(crate) struct Region {
     pub offset: u32,
 }
 
-// A temporary cache: no command names one by a segment.
+// A cache: temporary, or named by a segment.
 #[derive(Drop)]
 pub(crate) struct Cache {
+    pub segment: Option<SegId>,
     pub pages: Vec<Vec<u8>>,
 }
 

@@ -1,13 +1,15 @@
 // The forms of lines.
 ghost use Rattle.std.specs.Prelude.{◌≡◌, map, IfOk};
 ghost use Rattle.vm_model.specs.Asking.{IsWellFormed};
-ghost use Rattle.actor_script.specs.Forms.{command_of, form_of, verb_form, actor_form, temp_form, destroy_form, span_of, copy_form, move_form, map_form, unmap_form, load_form, store_form, pageout_form, chain_form, stat_form};
+ghost use Rattle.actor_script.specs.Forms.{command_of, form_of, verb_form, actor_form, temp_form, open_form, destroy_form, span_of, copy_form, move_form, map_form, unmap_form, load_form, store_form, extent_of, sync_form, flush_form, invalidate_form, pageout_form, chain_form, stat_form};
 ghost use Rattle.actor_script.specs.Operands.{mode_of};
 
 use super::hexadecimal::{read_address, read_bytes};
 use super::numbers::{read_count, read_length, read_lettered, read_number};
 use super::words::split_words;
-use vm_ids::{ActorId, CacheId, Command, Extent, Mapping, PageNo, Prot, Refusal, RegionId, Span};
+use vm_ids::{
+    ActorId, CacheId, Command, Extent, Mapping, PageNo, Prot, Refusal, RegionId, SegId, Span,
+};
 
 // A longer line is no command.
 const LONGEST_LINE: usize = 256;
@@ -30,6 +32,17 @@ fn read_temp(operands: &[&[u8]]) -> Option<Command>
 {
     match operands {
         [pages] => Some(Command::MakeTemp(read_count(pages)?)),
+        _ => None,
+    }
+}
+
+// `open S`
+#[tactic(auto, unfolding(crate::specs::Forms::open_form))]
+fn read_open(operands: &[&[u8]]) -> Option<Command>
+    ensures { result ≡ open_form (map (λ w. w.now) operands.now) }
+{
+    match operands {
+        [segment] => Some(Command::OpenSegment(SegId(read_number(segment)?))),
         _ => None,
     }
 }
@@ -173,6 +186,50 @@ fn read_store(operands: &[&[u8]]) -> Option<Command>
     }
 }
 
+// `C O N`
+#[tactic(auto, unfolding(crate::specs::Forms::extent_of))]
+fn read_extent(operands: &[&[u8]]) -> Option<Extent>
+    ensures { result ≡ extent_of (map (λ w. w.now) operands.now) }
+{
+    match operands {
+        [cache, first, pages] => {
+            let cache = CacheId(read_lettered(b'c', cache)?);
+            let first = PageNo(read_number(first)?);
+            let pages = read_count(pages)?;
+            Some(Extent {
+                cache,
+                first,
+                pages,
+            })
+        }
+        _ => None,
+    }
+}
+
+// `sync C O N`
+#[tactic(auto, unfolding(crate::specs::Forms::sync_form))]
+fn read_sync(operands: &[&[u8]]) -> Option<Command>
+    ensures { result ≡ sync_form (map (λ w. w.now) operands.now) }
+{
+    Some(Command::Sync(read_extent(operands)?))
+}
+
+// `flush C O N`
+#[tactic(auto, unfolding(crate::specs::Forms::flush_form))]
+fn read_flush(operands: &[&[u8]]) -> Option<Command>
+    ensures { result ≡ flush_form (map (λ w. w.now) operands.now) }
+{
+    Some(Command::Flush(read_extent(operands)?))
+}
+
+// `invalidate C O N`
+#[tactic(auto, unfolding(crate::specs::Forms::invalidate_form))]
+fn read_invalidate(operands: &[&[u8]]) -> Option<Command>
+    ensures { result ≡ invalidate_form (map (λ w. w.now) operands.now) }
+{
+    Some(Command::Invalidate(read_extent(operands)?))
+}
+
 // `pageout N`
 #[tactic(auto, unfolding(crate::specs::Forms::pageout_form))]
 fn read_pageout(operands: &[&[u8]]) -> Option<Command>
@@ -219,6 +276,8 @@ fn read_verb(verb: &[u8], operands: &[&[u8]]) -> Option<Command>
         read_actor(operands)
     } else if verb == b"temp".as_slice() {
         read_temp(operands)
+    } else if verb == b"open".as_slice() {
+        read_open(operands)
     } else if verb == b"destroy".as_slice() {
         read_destroy(operands)
     } else if verb == b"copy".as_slice() {
@@ -233,6 +292,12 @@ fn read_verb(verb: &[u8], operands: &[&[u8]]) -> Option<Command>
         read_load(operands)
     } else if verb == b"store".as_slice() {
         read_store(operands)
+    } else if verb == b"sync".as_slice() {
+        read_sync(operands)
+    } else if verb == b"flush".as_slice() {
+        read_flush(operands)
+    } else if verb == b"invalidate".as_slice() {
+        read_invalidate(operands)
     } else if verb == b"pageout".as_slice() {
         read_pageout(operands)
     } else if verb == b"chain".as_slice() {
@@ -255,7 +320,8 @@ fn read_form(words: &[&[u8]]) -> Option<Command>
 
 /// Reads a line, which has no line feed, as a command.
 ///
-/// `BadLine` exactly where the line has more than 256 bytes or none of the forms of the script language.
+/// `BadLine` exactly where the line has more than 256 bytes or none of the forms of the script
+/// language.
 #[tactic(auto, unfolding(crate::specs::Forms::command_of))]
 pub fn read_line(line: &[u8]) -> Result<Command, Refusal>
     ensures command { result ≡ command_of line.now }

@@ -25,7 +25,8 @@ fn first_word(text: &[u8]) -> (&[u8], Option<&[u8]>)
     }
 }
 
-/// The words of a line, which stand between its spaces. `None` exactly where there are more than any form has.
+/// The words of a line, which stand between its spaces. `None` exactly where there are more than
+/// any form has.
 pub fn split_words(line: &[u8]) -> Option<ArrayVec<&[u8], MOST_WORDS>>
     ensures { MatchOption result (MOST_WORDS < length (words_of line.now)) (λ words.
         map (λ w. w.now) words.items ≡ words_of line.now) }

@@ -57,9 +57,11 @@ fn write_chain<K: Sink>(front: &[u8], items: &[ChainItem], sink: &mut K) -> Resu
     write_all(sink, b"*\n")
 }
 
-/// Writes the line of a reply: the number of the line that it answers, a space, the answer's text and a line feed.
+/// Writes the line of a reply: the number of the line that it answers, a space, the answer's text
+/// and a line feed.
 ///
-/// `Failed` only where the sink's count of faults rose; then a front of the line was written. It takes no memory.
+/// `Failed` only where the sink's count of faults rose; then a front of the line was written. It
+/// takes no memory.
 pub fn write_reply<K: Sink>(number: u32, answer: &Answer, sink: &mut K) -> Result<(), Failed>
     ensures wrote { Wrote result (K.written sink.old) (K.written sink.new)
         (text_of number answer.now) }

@@ -9,8 +9,8 @@ use arrayvec::ArrayVec;
 use itoa::Buffer;
 use vm_ids::{Answer, ChainItem, Counts, FaultAt, NodeName, Piece, Refusal, Reply, Trouble};
 
-// The longest line is that of 64 bytes loaded: a number of at most 10 digits, a space, three letters, 128 digits and a
-// line feed.
+// The longest line is that of 64 bytes loaded: a number of at most 10 digits, a space, three
+// letters, 128 digits and a line feed.
 const LONGEST: usize = 143;
 
 /// The line of a reply, as far as it has come.

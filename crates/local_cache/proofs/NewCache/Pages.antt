@@ -1,5 +1,5 @@
 -- What is found after a cache was made.
-use Rattle.std.proofs.Common.{◌≡◌, ℕ, zero, suc, ◌+◌, ◌<◌, ◌≤◌, Bool, false, cond, replicate, option_map, List, [], ◌∷◌, length, get_or, map, Option, Some, None, IsSome, unwrap_or, refl, sym, ap, ◌∙◌, inl, inr, arith, add-one, zero-add}
+use Rattle.std.proofs.Common.{◌≡◌, ◌⊎◌, ℕ, zero, suc, ◌+◌, ◌<◌, ◌≤◌, Bool, false, cond, replicate, option_map, List, [], ◌∷◌, length, get_or, map, Option, Some, None, IsSome, unwrap_or, refl, sym, ap, ◌∙◌, inl, inr, arith, add-one, zero-add}
 use Rattle.std.specs.Prelude.{option_and_then, slice_get, is_some}
 use Rattle.std.specs.Ordering.{nat_cmp}
 use Rattle.std.specs.Cmp.{nat_cmp_total}
@@ -45,6 +45,18 @@ filled_page (n ∷ ns) cells page after cache own zero d f h =
 filled_page (n ∷ ns) cells page after cache own (suc k) d f h =
     let at : page + 1 + k ≡ page + suc k = omega arith in
     filled_page ns (ids.insert cells n.0 (named cache page own)) (page + 1) after cache own k d f.1 (omega arith) ∙ ap (λ (p : ℕ). Some (named cache p own)) at
+
+-- what is found at a number is what was found there, or the node of a page of the cache
+filled_cases : (ns : List NodeId) (cells : FinMap nat_cmp Cell) (page : ℕ) (after : FinMap nat_cmp Cell) (cache : CacheId) (own : OwnState) (k : ℕ) → IsFilled cells cache page own ns after
+    → (ids.get after k ≡ ids.get cells k) ⊎ ((j : ℕ) × (j < length ns) × (ids.get after k ≡ Some (named cache (page + j) own)))
+filled_cases [] cells page after cache own k f = inl (ap (λ (m : FinMap nat_cmp Cell). ids.get m k) f)
+filled_cases (n ∷ ns) cells page after cache own k f = elim (filled_cases ns (ids.insert cells n.0 (named cache page own)) (page + 1) after cache own k f.1) [
+  | inr at ↦ inr (suc at.0, omega (arith, at.1), at.2 ∙ ap (λ (p : ℕ). Some (named cache p own)) (let e : page + 1 + at.0 ≡ page + suc at.0 = omega arith in e))
+  | inl same ↦ elim (cases_eq k n.0) [
+    | inl e ↦ inr (0, omega arith, same ∙ get-insert nat_cmp_total cells n.0 (named cache page own) k ∙ ap (λ (b : Bool). cond b (Some (named cache page own)) (ids.get cells k)) (tied k n.0 e) ∙ ap (λ (p : ℕ). Some (named cache p own)) (let e : page ≡ page + 0 = omega arith in e))
+    | inr d ↦ inl (same ∙ get-insert nat_cmp_total cells n.0 (named cache page own) k ∙ ap (λ (b : Bool). cond b (Some (named cache page own)) (ids.get cells k)) (apart k n.0 d))
+  ]
+]
 
 last_table : (old new : Arena) (cache : CacheId) (segment : Option SegId) (own : OwnState) (ns : List NodeId) → IsMade old new cache segment own ns → table_of new cache.0 ≡ Some (new_table segment ns)
 last_table old new cache segment own ns m =
@@ -92,6 +104,14 @@ pub made_tables : (old new : Arena) (cache : CacheId) (segment : Option SegId) (
 made_tables old new cache segment own ns m zero h = refl
 made_tables old new cache segment own ns m (suc k) h =
     ap (λ (ts : List (Option Table)). get_or ts k None) m.caches ∙ get_or_append_left old.caches (Some (new_table segment ns) ∷ []) None k (omega arith)
+
+-- each node is one that was there, or that of a page of the cache
+pub made_cases : (old new : Arena) (cache : CacheId) (segment : Option SegId) (own : OwnState) (ns : List NodeId) → IsMade old new cache segment own ns → (n : NodeId)
+    → (find new n ≡ find old n) ⊎ ((j : ℕ) × (j < length ns) × (find new n ≡ Some (named cache j own)))
+made_cases old new cache segment own ns m n = elim (filled_cases ns old.cells 0 new.cells cache own n.0 m.cells) [
+  | inl same ↦ inl same
+  | inr at ↦ inr (at.0, at.1, at.2 ∙ ap (λ (p : ℕ). Some (named cache p own)) (zero-add at.0))
+]
 
 -- the node of a page is that node
 pub page_node : (a : Arena) (cache : CacheId) (page : ℕ) (own : OwnState) (n : NodeId) → HasPage a cache page own → node_at a cache.0 page ≡ Some n → find a n ≡ Some (named cache page own)

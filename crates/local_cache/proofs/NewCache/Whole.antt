@@ -15,7 +15,7 @@ use Rattle.vm_ids.proofs.Forest.Laws.Commands.{make_keeps_consistency, no_forest
 use Rattle.vm_ids.proofs.Forest.Laws.Ranges.{ranges_hold_pages_once, ranges_hold_their_pages}
 use Rattle.vm_ids.proofs.Forest.NodesAfter.{IsNode-put, put-IsNode}
 use Rattle.local_cache.specs.declared.own_state.OwnState.{OwnState}
-use Rattle.local_cache.specs.declared.own_state.OwnState.TheVariants.{Zero}
+use Rattle.vm_ids.specs.declared.numbers.SegId.{SegId}
 use Rattle.local_cache.specs.Arena.{Arena, IsMade, Table, entry_for, new_table}
 use Rattle.local_cache.specs.Reading.{forest_of}
 use Rattle.local_cache.specs.Sound.{IsSound}
@@ -23,9 +23,9 @@ use Rattle.local_cache.specs.Whole.{IsWhole, size_of}
 use Rattle.vm_ids.proofs.Forest.Lengths.{put_len}
 use Rattle.local_cache.proofs.Whole.Pages.{no_caches, no_nodes, node_page}
 
--- the pages of a new cache, each of zeros
-abbrev pub zero_pages : CacheId → ℕ → List (NodeName × OwnState)
-zero_pages cache pages = map (λ x. (x, Zero)) (page_names cache 0 pages)
+-- the pages of a new cache, each of one own state
+abbrev pub pages_with : OwnState → CacheId → ℕ → List (NodeName × OwnState)
+pages_with own cache pages = map (λ x. (x, own)) (page_names cache 0 pages)
 
 -- The forest --------------------------------------------------------------------------------
 
@@ -43,9 +43,9 @@ module _ {P : Type 0} (f : Forest P) where
   make_len [] = omega arith
   make_len (e ∷ es) = omega (arith, make_len es, put_len (make es f) e.0 (childless (Some e.1) Root))
 
-zeros_named : (xs : List NodeName) → firsts (map (λ (x : NodeName). (x, Zero)) xs) ≡ xs
-zeros_named [] = refl
-zeros_named (x ∷ xs) = ap (λ ys. x ∷ ys) (zeros_named xs)
+pub named_alike : {P : Type 0} (v : P) (xs : List NodeName) → firsts (map (λ (x : NodeName). (x, v)) xs) ≡ xs
+named_alike v [] = refl
+named_alike v (x ∷ xs) = ap (λ ys. x ∷ ys) (named_alike v xs)
 
 names_length : (c : CacheId) (p n : ℕ) → length (page_names c p n) ≡ n
 names_length c p zero = refl
@@ -64,17 +64,17 @@ none_behind : (ts : List (Option Table)) → get_or ts (length ts) None ≡ None
 none_behind [] = refl
 none_behind (t ∷ ts) = none_behind ts
 
-module _ (a b : Arena) (whole : IsWhole a) (cache : CacheId) (n : ℕ) (nodes : List NodeId) (size : length nodes ≡ n) (made : IsMade a b cache None Zero nodes) (forest_is : forest_of b ≡ make (zero_pages cache n) (forest_of a)) (sound : IsSound b) (few : len (forest_of a).nodes + n < 2 ^ 32) where
+module _ (a b : Arena) (whole : IsWhole a) (cache : CacheId) (n : ℕ) (segment : Option SegId) (own : OwnState) (nodes : List NodeId) (size : length nodes ≡ n) (made : IsMade a b cache segment own nodes) (forest_is : forest_of b ≡ make (pages_with own cache n) (forest_of a)) (sound : IsSound b) (few : len (forest_of a).nodes + n < 2 ^ 32) where
   number : cache.0 ≡ suc (length a.caches)
   number = omega (arith, made.number)
 
   unmade : size_of a cache.0 ≡ None
   unmade = ap (size_of a) number ∙ ap (λ (o : Option Table). option_map (λ (t : Table). length t.pages) o) (none_behind a.caches)
 
-  named : firsts (zero_pages cache n) ≡ page_names cache 0 n
-  named = zeros_named (page_names cache 0 n)
+  named : firsts (pages_with own cache n) ≡ page_names cache 0 n
+  named = named_alike own (page_names cache 0 n)
 
-  fresh : AreFresh (forest_of a) (zero_pages cache n)
+  pub fresh : AreFresh (forest_of a) (pages_with own cache n)
   fresh = record {
     once = subst Once (sym named) (ranges_hold_pages_once cache 0 n);
     fresh = λ x i.
@@ -87,7 +87,7 @@ module _ (a b : Arena) (whole : IsWhole a) (cache : CacheId) (n : ℕ) (nodes : 
   size_cases : (other : ℕ) → (size_of b other ≡ size_of a other) ⊎ ((other ≡ cache.0) × (size_of b other ≡ Some n))
   size_cases zero = inl refl
   size_cases (suc k) =
-      let table : Table = new_table None nodes in
+      let table : Table = new_table segment nodes in
       let at : get_or b.caches k None ≡ get_or (a.caches ++ Some table ∷ []) k None = ap (λ (ts : List (Option Table)). get_or ts k None) made.caches in
       elim (at_place a.caches table k) [
         | inl e ↦ inl (ap (λ (o : Option Table). option_map (λ (t : Table). length t.pages) o) (at ∙ e))
@@ -96,23 +96,23 @@ module _ (a b : Arena) (whole : IsWhole a) (cache : CacheId) (n : ℕ) (nodes : 
 
   page_begun : (other : CacheId) (page count : ℕ) → size_of b other.0 ≡ Some count → page < count → IsNode (forest_of b) (page_name other page)
   page_begun other page count is low = subst (λ g. IsNode g (page_name other page)) (sym forest_is) (elim (size_cases other.0) [
-    | inl e ↦ make_stays (forest_of a) (zero_pages cache n) (page_name other page) (whole.pages other page count (sym e ∙ is) low)
+    | inl e ↦ make_stays (forest_of a) (pages_with own cache n) (page_name other page) (whole.pages other page count (sym e ∙ is) low)
     | inr e ↦
         let two : Some count ≡ Some n = sym is ∙ e.1 in
         let all : count ≡ n = cc two in
         let zeroth : page ≡ 0 + page = omega arith in
         let same : page_name other page ≡ page_name cache (0 + page) = λ i. page_name (record { 0 = e.0 i }) (zeroth i) in
-        make_there (forest_of a) (zero_pages cache n) (page_name other page) (subst (λ xs. page_name other page ∈ xs) (sym named) ((ranges_hold_their_pages cache 0 n (page_name other page)).1 (page, omega (arith, all, low), same)))
+        make_there (forest_of a) (pages_with own cache n) (page_name other page) (subst (λ xs. page_name other page ∈ xs) (sym named) ((ranges_hold_their_pages cache 0 n (page_name other page)).1 (page, omega (arith, all, low), same)))
   ])
 
   pub whole_begun : IsWhole b
   whole_begun = record {
     sound = sound;
-    consistent = subst IsConsistent (sym forest_is) (make_keeps_consistency (zero_pages cache n) (forest_of a) whole.consistent fresh);
+    consistent = subst IsConsistent (sym forest_is) (make_keeps_consistency (pages_with own cache n) (forest_of a) whole.consistent fresh);
     pages = page_begun;
     few = (
-        let most = make_len (forest_of a) (zero_pages cache n) in
-        let count : length (zero_pages cache n) ≡ n = length-map (page_names cache 0 n) (λ (x : NodeName). (x, Zero)) ∙ names_length cache 0 n in
+        let most = make_len (forest_of a) (pages_with own cache n) in
+        let count : length (pages_with own cache n) ≡ n = length-map (page_names cache 0 n) (λ (x : NodeName). (x, own)) ∙ names_length cache 0 n in
         omega (arith, most, count, few, ap (λ (g : Forest OwnState). len g.nodes) forest_is));
   }
 

@@ -155,18 +155,23 @@ filled_length (n ∷ ns) cells page after cache own f =
     counted : (cells : FinMap nat_cmp Cell) → length (states_in cells) ≡ ids.len cells
     counted cells = length-map (values cells) (λ c. c.own) ∙ length-map (entries cells) (λ e. e.1) ∙ sym (len-entries cells)
 
--- what holds alike of Absent and of the new own states holds of each node as before
-pub filled_own : (ns : List NodeId) (cells : FinMap nat_cmp Cell) (page : ℕ) (after : FinMap nat_cmp Cell) (cache : CacheId) (own : OwnState) (f : OwnState → Bool) (k : ℕ) → IsFilled cells cache page own ns after → f own ≡ f Absent
-    → f (own_in after k) ≡ f (own_in cells k)
-filled_own [] cells page after cache own f k is alike = ap (λ (m : FinMap nat_cmp Cell). f (own_in m k)) is
-filled_own (n ∷ ns) cells page after cache own f k is alike =
+-- what is read alike of no node and of the new nodes is read of each node as before
+pub filled_cell : {X : Type 0} (ns : List NodeId) (cells : FinMap nat_cmp Cell) (page : ℕ) (after : FinMap nat_cmp Cell) (cache : CacheId) (own : OwnState) (read : Cell → X) (k : ℕ) → IsFilled cells cache page own ns after
+    → ((p : ℕ) → read (new_cell (Live cache (record { 0 = p })) own) ≡ read blank) → read (unwrap_or (ids.get after k) blank) ≡ read (unwrap_or (ids.get cells k) blank)
+filled_cell [] cells page after cache own read k is alike = ap (λ (m : FinMap nat_cmp Cell). read (unwrap_or (ids.get m k) blank)) is
+filled_cell (n ∷ ns) cells page after cache own read k is alike =
     let c : Cell = new_cell (Live cache (record { 0 = page })) own in
-    filled_own ns (ids.insert cells n.0 c) (page + 1) after cache own f k is.1 alike
-    ∙ ap (λ (o : Option Cell). f (unwrap_or o blank).own) (get-insert nat_cmp_total cells n.0 c k)
+    filled_cell ns (ids.insert cells n.0 c) (page + 1) after cache own read k is.1 alike
+    ∙ ap (λ (o : Option Cell). read (unwrap_or o blank)) (get-insert nat_cmp_total cells n.0 c k)
     ∙ elim (cases_eq k n.0) [
-      | inl e ↦ ap (λ (b : Bool). f (unwrap_or (cond b (Some c) (ids.get cells k)) blank).own) (tied k n.0 e) ∙ alike ∙ sym (ap (λ (o : Option Cell). f (unwrap_or o blank).own) (ap (ids.get cells) e ∙ is.0))
-      | inr d ↦ ap (λ (b : Bool). f (unwrap_or (cond b (Some c) (ids.get cells k)) blank).own) (apart k n.0 d)
+      | inl e ↦ ap (λ (b : Bool). read (unwrap_or (cond b (Some c) (ids.get cells k)) blank)) (tied k n.0 e) ∙ alike page ∙ sym (ap (λ (o : Option Cell). read (unwrap_or o blank)) (ap (ids.get cells) e ∙ is.0))
+      | inr d ↦ ap (λ (b : Bool). read (unwrap_or (cond b (Some c) (ids.get cells k)) blank)) (apart k n.0 d)
     ]
+
+-- what holds alike of Absent and of the new own states holds of each node as before
+pub filled_own : {X : Type 0} (ns : List NodeId) (cells : FinMap nat_cmp Cell) (page : ℕ) (after : FinMap nat_cmp Cell) (cache : CacheId) (own : OwnState) (f : OwnState → X) (k : ℕ) → IsFilled cells cache page own ns after → f own ≡ f Absent
+    → f (own_in after k) ≡ f (own_in cells k)
+filled_own ns cells page after cache own f k is alike = filled_cell ns cells page after cache own (λ c. f c.own) k is (λ _. alike)
 
 -- counts of own states under a change of one node
 pub own_count : (p : OwnState → Bool) (a : Arena) (n : NodeId) (s : OwnState) → IsHeld a n → count_by p (own_states (with_own a n s)) + bit (p (own_of a n)) ≡ count_by p (own_states a) + bit (p s)

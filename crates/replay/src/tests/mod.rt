@@ -3,6 +3,8 @@ ghost use Rattle.std.specs.Prelude.{◌≡◌, ◌≤◌, None, IfOk};
 ghost use Rattle.replay.specs.Ending.{page_size};
 
 mod rows;
+mod segment_rows;
+mod segments;
 
 use crate::{Status, folder, run};
 use std::alloc::Global;

@@ -3,11 +3,12 @@ use Rattle.global_map.specs.Pairs.{node_of}
 use Rattle.residency.specs.declared.store.Store.{Store}
 use Rattle.residency.specs.World.{World, world}
 use Rattle.residency.proofs.Homes.{home}
+use Rattle.residency.proofs.Told.{tells_then}
 use Rattle.fault_path.proofs.GatheredFrames.{bound_below, doubled_page, same_home, then_gathered}
 use Rattle.local_cache.specs.declared.own_state.OwnState.{OwnState}
 use Rattle.local_cache.specs.Own.{own_of}
 use Rattle.residency.specs.Causes.{frames_to_bring}
-use Rattle.fault_path.proofs.Costs.{brought_more, brought_taken, made_most, pulls_most, pushes_bring, taken_then}
+use Rattle.fault_path.proofs.Costs.{brought_more, brought_taken, failed_most, most_more, pulls_most, taken_then}
 use Rattle.fault_path.proofs.gathering.brought_out.Goals as goal
 
 pub returns-clause-copied : goal.returns-clause-copied
@@ -36,7 +37,7 @@ returns-clause-held g c =
     let own : OwnState = own_of c.args.caches.now c.args.node in
     let b = c.in_ok-home.ensures in
     let first = b.still in
-    let taken = brought_taken own c.args.store.now.frames c.bring_in.new.self.frames _ _ first.stays.frames b.held b.made in
+    let taken = brought_taken own c.args.store.now.frames c.bring_in.new.self.frames _ _ first.stays.frames b.held _ b.made b.few in
     taken_then (frames_to_bring own) c.args.store.now.frames.held c.bring_in.new.self.frames.held c.double.new.store.frames.held first.stays.frames taken c.in-Ok.ensures.held
 
 pub returns-clause-made : goal.returns-clause-made
@@ -44,23 +45,35 @@ returns-clause-made g c =
     let own : OwnState = own_of c.args.caches.now c.args.node in
     let b = c.in_ok-home.ensures in
     let first = b.still in
-    brought_more own c.args.store.now.frames c.bring_in.new.self.frames _ _ first.stays.frames b.held b.made _ c.double.ensures.made c.double.ensures.later
+    brought_more own c.args.store.now.frames c.bring_in.new.self.frames _ _ first.stays.frames b.held _ b.made b.few _ c.double.ensures.made c.double.ensures.later
 
 pub returns-clause-most : goal.returns-clause-most
 returns-clause-most g c =
     let own : OwnState = own_of c.args.caches.now c.args.node in
     let b = c.in_ok-home.ensures in
     let first = b.still in
-    made_most _ _ _ _ _ _ (brought_more own c.args.store.now.frames c.bring_in.new.self.frames _ _ first.stays.frames b.held b.made _ c.double.ensures.made c.double.ensures.later) (omega arith) (omega arith)
+    pulls_most _ _ _ _ _ _ (brought_more own c.args.store.now.frames c.bring_in.new.self.frames _ _ first.stays.frames b.held _ b.made b.few _ c.double.ensures.made c.double.ensures.later) (omega arith) (omega arith)
 
 pub returns-in_default-clause-most : goal.returns-in_default-clause-most
 returns-in_default-clause-most g c =
     let own : OwnState = own_of c.args.caches.now c.args.node in
     let b = c.in_ok-home.ensures in
     let first = b.still in
-    made_most _ _ _ _ _ _ (brought_more own c.args.store.now.frames c.bring_in.new.self.frames _ _ first.stays.frames b.held b.made _ c.double.ensures.made c.double.ensures.later) (omega arith) (omega arith)
+    pulls_most _ _ _ _ _ _ (brought_more own c.args.store.now.frames c.bring_in.new.self.frames _ _ first.stays.frames b.held _ b.made b.few _ c.double.ensures.made c.double.ensures.later) (omega arith) (omega arith)
 
 pub returns-in_err-home-clause-most : goal.returns-in_err-home-clause-most
 returns-in_err-home-clause-most g c =
     let own : OwnState = own_of c.args.caches.now c.args.node in
-    made_most _ _ _ _ _ _ c.in_err-home.ensures.made (pulls_most _ own) (omega (arith, pushes_bring own c.args.store.now.frames.held))
+    let e = c.in_err-home.ensures in
+    let most = failed_most own c.args.store.now.frames _ _ _ _ e.made e.few in
+    most_more _ _ _ _ _ _ most (omega arith) (omega arith)
+
+pub returns-clause-told : goal.returns-clause-told
+returns-clause-told g c =
+    let b = c.in_ok-home.ensures in
+    tells_then _ _ b.still.stays _ _ _ _ c.double.ensures.later b.told c.double.ensures.told
+
+pub returns-in_default-clause-told : goal.returns-in_default-clause-told
+returns-in_default-clause-told g c =
+    let b = c.in_ok-home.ensures in
+    tells_then _ _ b.still.stays _ _ _ _ c.double.ensures.later b.told c.double.ensures.told

@@ -6,7 +6,7 @@ use Rattle.local_cache.specs.Own.{own_of}
 use Rattle.residency.specs.Causes.{pushes_for}
 use Rattle.fault_path.specs.Costs.{frames_to_copy, free_count, pulls_to_copy}
 use Rattle.residency.proofs.Arms.{on_ok, on_ok_then}
-use Rattle.fault_path.proofs.Costs.{made_is, made_most, pushes_free}
+use Rattle.fault_path.proofs.Costs.{pulls_is, pulls_most, pushes_free}
 use Rattle.fault_path.proofs.gathering.copy_out.Goals as goal
 
 pub returns-in-Zero-clause-held : goal.returns-in-Zero-clause-held
@@ -23,11 +23,11 @@ returns-in-Zero-clause-made g c =
     let own : OwnState = own_of c.args.caches.now c.args.node in
     let zero : own ≡ Zero = sym c.own_state.ensures ∙ c.in-Zero.is in
     let one : frames_to_copy own ≡ 1 = ap frames_to_copy zero in
-    on_ok _ c.zeroed.result (made_is _ _ _ _ _ _ c.zeroed.ensures.made (sym (ap pulls_to_copy zero)) (omega (arith, one, pushes_free c.args.store.now.frames.held)))
+    on_ok _ c.zeroed.result (pulls_is _ _ _ _ _ _ c.zeroed.ensures.made (sym (ap pulls_to_copy zero)) (omega (arith, one, pushes_free c.args.store.now.frames.held)))
 
 pub returns-in-Zero-clause-most : goal.returns-in-Zero-clause-most
 returns-in-Zero-clause-most g c =
     let own : OwnState = own_of c.args.caches.now c.args.node in
     let zero : own ≡ Zero = sym c.own_state.ensures ∙ c.in-Zero.is in
     let one : frames_to_copy own ≡ 1 = ap frames_to_copy zero in
-    made_most _ _ _ _ _ _ c.zeroed.ensures.made (omega arith) (omega (arith, one, pushes_free c.args.store.now.frames.held))
+    pulls_most _ _ _ _ _ _ c.zeroed.ensures.made (omega arith) (omega (arith, one, pushes_free c.args.store.now.frames.held))

@@ -2,10 +2,11 @@ use Rattle.std.proofs.Common.{sym, ap, subst, ◌∙◌, ◌≡◌, true, false}
 use Rattle.frame_pool.specs.Pool.{is_pinned}
 use Rattle.residency.specs.declared.store.Store.{Store}
 use Rattle.residency.specs.World.{IsMadeFree, Still, World, world}
+use Rattle.residency.specs.Pushing.{TellsOn}
 use Rattle.residency.proofs.After.{pin_set}
 use Rattle.fault_path.specs.Gathering.{IsGathered, NoneGathered}
 use Rattle.residency.proofs.Arms.{if_ok, on_err_then}
-use Rattle.fault_path.proofs.GatheredFrames.{beside_gathered, beside_none}
+use Rattle.fault_path.proofs.GatheredFrames.{beside_gathered, beside_none, beside_told}
 use Rattle.fault_path.proofs.gathering.make_free_beside.Goals as goal
 
 pub returns-clause-gathered : goal.returns-clause-gathered
@@ -35,3 +36,16 @@ returns-clause-none g c =
     (λ e. subst (λ (s : Store). NoneGathered old (world told size c.make_free-fresh.new.caches s)) (sym c.unpin.ensures)
     (beside_none old w c.args.frame.0 c.requires.right c.requires.held loose still (e ∙ ap (λ (s : Store). s.frames.pinned) c.pin.ensures)))
     c.make_free-fresh.ensures.pinned
+
+pub returns-clause-told : goal.returns-clause-told
+returns-clause-told g c =
+    let old : World = world (g.M.Mapper.held c.args.mapper.now) (g.M.Mapper.page_bytes c.args.mapper.now) c.args.caches.now c.args.store.now in
+    let told = g.M.Mapper.held c.make_free-fresh.new.mapper in
+    let size = g.M.Mapper.page_bytes c.make_free-fresh.new.mapper in
+    let w : World = world told size c.make_free-fresh.new.caches c.make_free-fresh.new.self in
+    let pinned = λ (s : Store). world (g.M.Mapper.held c.args.mapper.now) (g.M.Mapper.page_bytes c.args.mapper.now) c.args.caches.now s in
+    let loose : is_pinned c.args.store.now.frames c.args.frame.0 ≡ false = sym (c.is_pinned.ensures ∙ ap (λ p. is_pinned p c.args.frame.0) c.frames.ensures) ∙ c.if-is_pinned.false in
+    let still : Still (pin_set old c.args.frame.0 true) w = subst (λ (s : Store). Still (pinned s) w) c.pin.ensures c.make_free-fresh.ensures.still in
+    let first : TellsOn (pin_set old c.args.frame.0 true) w (g.M.Mapper.counts c.args.mapper.now) (g.M.Mapper.counts c.make_free-fresh.new.mapper) = subst (λ (s : Store). TellsOn (pinned s) w (g.M.Mapper.counts c.args.mapper.now) (g.M.Mapper.counts c.make_free-fresh.new.mapper)) c.pin.ensures c.make_free-fresh.ensures.told in
+    subst (λ (s : Store). TellsOn old (world told size c.make_free-fresh.new.caches s) (g.M.Mapper.counts c.args.mapper.now) (g.M.Mapper.counts c.make_free-fresh.new.mapper)) (sym c.unpin.ensures)
+    (beside_told old w c.args.frame.0 c.requires.right c.requires.held loose still _ _ c.make_free-fresh.ensures.later first)

@@ -1,8 +1,10 @@
-use Rattle.std.proofs.Common.{sym, ap, subst, ◌∙◌, ◌≡◌, true, false, Some, Ok, Err}
+use Rattle.std.proofs.Common.{sym, ap, subst, ◌∙◌, ◌≡◌, ◌+◌, ◌-◌, ◌≤◌, true, false, Some, Ok, Err}
+use Rattle.std.proofs.lemmas.Bool.{false≢true}
 use Rattle.vm_ids.specs.declared.numbers.FrameId.{FrameId}
 use Rattle.vm_ids.specs.declared.numbers.NodeId.{NodeId}
 use Rattle.local_cache.specs.Own.{is_resident, own_of}
-use Rattle.residency.specs.Causes.{Made, pulls_for, pushes_to_bring}
+use Rattle.residency.specs.Causes.{Made, dirtied, dirty_count, failed_victims, pulls_for, pushes_to_bring}
+use Rattle.residency.specs.declared.miss.Miss.{Miss}
 use Rattle.residency.specs.World.{HoldsPage, World, world}
 use Rattle.residency.proofs.StillForest.{still_forest}
 use Rattle.fault_path.specs.Faults.{IsOwner, is_at_hand, is_zero}
@@ -30,7 +32,7 @@ returns-in-Ok-clause-answered g c =
     let old : World = world (g.M.Mapper.held c.args.mapper.now) (g.M.Mapper.page_bytes c.args.mapper.now) c.args.caches.now c.args.store.now in
     let w : World = world (g.M.Mapper.held c.bring_in.new.mapper) (g.M.Mapper.page_bytes c.bring_in.new.mapper) c.bring_in.new.caches c.bring_in.new.self in
     let e = c.in-Ok.ensures in
-    still_answered old w e.still _ _ c.requires.right.sound c.requires.right.shaped e.pinned e.later
+    still_answered old w e.still _ _ c.requires.right.sound c.requires.right.shaped e.pinned e.later e.told
 
 pub returns-in-Ok-clause-forest : goal.returns-in-Ok-clause-forest
 returns-in-Ok-clause-forest g c =
@@ -43,7 +45,7 @@ returns-in-Err-clause-answered g c =
     let old : World = world (g.M.Mapper.held c.args.mapper.now) (g.M.Mapper.page_bytes c.args.mapper.now) c.args.caches.now c.args.store.now in
     let w : World = world (g.M.Mapper.held c.bring_in.new.mapper) (g.M.Mapper.page_bytes c.bring_in.new.mapper) c.bring_in.new.caches c.bring_in.new.self in
     let e = c.in-Err.ensures in
-    still_answered old w e.still _ _ c.requires.right.sound c.requires.right.shaped e.pinned e.later
+    still_answered old w e.still _ _ c.requires.right.sound c.requires.right.shaped e.pinned e.later e.told
 
 pub returns-in-Err-clause-forest : goal.returns-in-Err-clause-forest
 returns-in-Err-clause-forest g c =
@@ -109,7 +111,7 @@ returns-in-Ok-clause-made g c =
     let owner : IsOwner c.args.caches.now c.args.node it = record { held = c.owner_of-owner.ensures.held; name = c.owner_of-owner.ensures.owner } in
     let zero : is_zero (own_of c.args.caches.now it) ≡ false = sym c.is_zero.ensures ∙ c.if-is_zero.false in
     let e = c.in-Ok.ensures in
-    λ o is out. subst (λ (m : NodeId). Made (pulls_for {T = FrameId} (Ok c.in-Ok.frame) (own_of c.args.caches.now m)) (pushes_to_bring (own_of c.args.caches.now m) c.args.store.now.frames.held) (g.M.Mapper.counts c.args.mapper.now) (g.M.Mapper.counts c.bring_in.new.mapper))
+    λ o is out. subst (λ (m : NodeId). Made (pulls_for {T = FrameId} (Ok c.in-Ok.frame) (own_of c.args.caches.now m)) (dirty_count c.args.caches.now + dirtied {T = FrameId} {E = Miss} (Ok c.in-Ok.frame) (own_of c.args.caches.now m) - dirty_count c.bring_in.new.caches + failed_victims {T = FrameId} (Ok c.in-Ok.frame)) (g.M.Mapper.counts c.args.mapper.now) (g.M.Mapper.counts c.bring_in.new.mapper))
     (sym (owner_same c.args.caches.now c.requires.right.sound c.args.node o it is owner)) e.made
 
 pub returns-in-Err-clause-made : goal.returns-in-Err-clause-made
@@ -118,5 +120,35 @@ returns-in-Err-clause-made g c =
     let owner : IsOwner c.args.caches.now c.args.node it = record { held = c.owner_of-owner.ensures.held; name = c.owner_of-owner.ensures.owner } in
     let zero : is_zero (own_of c.args.caches.now it) ≡ false = sym c.is_zero.ensures ∙ c.if-is_zero.false in
     let e = c.in-Err.ensures in
-    λ o is out. subst (λ (m : NodeId). Made (pulls_for {T = FrameId} (Err c.in-Err.miss) (own_of c.args.caches.now m)) (pushes_to_bring (own_of c.args.caches.now m) c.args.store.now.frames.held) (g.M.Mapper.counts c.args.mapper.now) (g.M.Mapper.counts c.bring_in.new.mapper))
+    λ o is out. subst (λ (m : NodeId). Made (pulls_for {T = FrameId} (Err c.in-Err.miss) (own_of c.args.caches.now m)) (dirty_count c.args.caches.now + dirtied {T = FrameId} {E = Miss} (Err c.in-Err.miss) (own_of c.args.caches.now m) - dirty_count c.bring_in.new.caches + failed_victims {T = FrameId} (Err c.in-Err.miss)) (g.M.Mapper.counts c.args.mapper.now) (g.M.Mapper.counts c.bring_in.new.mapper))
     (sym (owner_same c.args.caches.now c.requires.right.sound c.args.node o it is owner)) e.made
+
+pub returns-in-Ok-clause-few : goal.returns-in-Ok-clause-few
+returns-in-Ok-clause-few g c =
+    let it : NodeId = c.owner_of-owner.result in
+    let owner : IsOwner c.args.caches.now c.args.node it = record { held = c.owner_of-owner.ensures.held; name = c.owner_of-owner.ensures.owner } in
+    let e = c.in-Ok.ensures in
+    λ o is out. subst (λ (m : NodeId). dirty_count c.args.caches.now + dirtied {T = FrameId} {E = Miss} (Ok c.in-Ok.frame) (own_of c.args.caches.now m) - dirty_count c.bring_in.new.caches + failed_victims {T = FrameId} (Ok c.in-Ok.frame) ≤ pushes_to_bring (own_of c.args.caches.now m) c.args.store.now.frames.held)
+    (sym (owner_same c.args.caches.now c.requires.right.sound c.args.node o it is owner)) e.few
+
+pub returns-in-Err-clause-few : goal.returns-in-Err-clause-few
+returns-in-Err-clause-few g c =
+    let it : NodeId = c.owner_of-owner.result in
+    let owner : IsOwner c.args.caches.now c.args.node it = record { held = c.owner_of-owner.ensures.held; name = c.owner_of-owner.ensures.owner } in
+    let e = c.in-Err.ensures in
+    λ o is out. subst (λ (m : NodeId). dirty_count c.args.caches.now + dirtied {T = FrameId} {E = Miss} (Err c.in-Err.miss) (own_of c.args.caches.now m) - dirty_count c.bring_in.new.caches + failed_victims {T = FrameId} (Err c.in-Err.miss) ≤ pushes_to_bring (own_of c.args.caches.now m) c.args.store.now.frames.held)
+    (sym (owner_same c.args.caches.now c.requires.right.sound c.args.node o it is owner)) e.few
+
+pub returns-then-is_zero-clause-made : goal.returns-then-is_zero-clause-made
+returns-then-is_zero-clause-made g c =
+    let it : NodeId = c.owner_of-owner.result in
+    let owner : IsOwner c.args.caches.now c.args.node it = record { held = c.owner_of-owner.ensures.held; name = c.owner_of-owner.ensures.owner } in
+    let zero : is_zero (own_of c.args.caches.now it) ≡ true = sym c.is_zero.ensures ∙ c.if-is_zero.true in
+    λ o is out. absurd (false≢true (sym out ∙ ap (λ (m : NodeId). is_zero (own_of c.args.caches.now m)) (owner_same c.args.caches.now c.requires.right.sound c.args.node o it is owner) ∙ zero))
+
+pub returns-then-is_zero-clause-few : goal.returns-then-is_zero-clause-few
+returns-then-is_zero-clause-few g c =
+    let it : NodeId = c.owner_of-owner.result in
+    let owner : IsOwner c.args.caches.now c.args.node it = record { held = c.owner_of-owner.ensures.held; name = c.owner_of-owner.ensures.owner } in
+    let zero : is_zero (own_of c.args.caches.now it) ≡ true = sym c.is_zero.ensures ∙ c.if-is_zero.true in
+    λ o is out. absurd (false≢true (sym out ∙ ap (λ (m : NodeId). is_zero (own_of c.args.caches.now m)) (owner_same c.args.caches.now c.requires.right.sound c.args.node o it is owner) ∙ zero))

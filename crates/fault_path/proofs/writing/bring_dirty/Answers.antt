@@ -1,4 +1,4 @@
-use Rattle.std.proofs.Common.{sym, ap, subst, ◌∙◌, ◌-◌, refl, arith, rules}
+use Rattle.std.proofs.Common.{sym, ap, subst, ◌∙◌, refl, arith, rules}
 use Rattle.local_cache.specs.Arena.{Arena, IsHeld}
 use Rattle.local_cache.specs.Own.{own_of}
 use Rattle.local_cache.proofs.Nodes.OwnStates.{own_same}
@@ -6,20 +6,19 @@ use Rattle.local_cache.specs.declared.own_state.OwnState.TheVariants.{Resident}
 use Rattle.residency.specs.StoreForest.{store_forest}
 use Rattle.residency.specs.World.{Still, World, world}
 use Rattle.residency.proofs.After.{held_stays}
-use Rattle.residency.proofs.Evicted.{still_then}
+use Rattle.residency.proofs.Composed.{still_then}
 use Rattle.residency.proofs.Homes.{home}
-use Rattle.residency.proofs.StillForest.{still_forest}
+use Rattle.residency.proofs.StillForest.{still_forest, still_like}
 use Rattle.fault_path.specs.Faults.{Kept}
-use Rattle.fault_path.proofs.DirtyPage.{dirtied, dirty_still}
+use Rattle.fault_path.proofs.DirtyPage.{dirtied, dirty_still, may_like}
 use Rattle.fault_path.proofs.Kept.{still_kept}
 use Rattle.fault_path.proofs.ReadyForest.{kept_ready}
 use Rattle.local_cache.proofs.Changes.SameNodes.{copies-put}
 use Rattle.residency.proofs.StillForest.{still_copies}
 use Rattle.local_cache.specs.declared.own_state.OwnState.{OwnState}
-use Rattle.residency.specs.Causes.{frames_to_bring}
-use Rattle.fault_path.specs.Costs.{free_count, pulls_to_copy}
-use Rattle.fault_path.proofs.Costs.{bring_most, copy_most, made_is, made_most, most_more, pulls_most, pushes_bring}
+use Rattle.fault_path.proofs.Costs.{bring_most, brought_made, copy_most, failed_most, most_more, pulls_most}
 use Rattle.fault_path.proofs.Answered.{still_answered, still_missed_by}
+use Rattle.residency.proofs.Told.{tells_as}
 use Rattle.fault_path.proofs.writing.bring_dirty.Goals as goal
 
 pub returns-in_err-frame-clause-answered : goal.returns-in_err-frame-clause-answered
@@ -29,7 +28,7 @@ returns-in_err-frame-clause-answered g c =
     let old : World = world (g.M.Mapper.held c.args.mapper.now) (g.M.Mapper.page_bytes c.args.mapper.now) c.args.caches.now c.args.store.now in
     let w : World = world told size c.bring_in.new.caches c.bring_in.new.self in
     let e = c.in_err-frame.ensures in
-    still_answered old w e.still _ _ c.requires.right.sound c.requires.right.shaped e.pinned e.later
+    still_answered old w e.still _ _ c.requires.right.sound c.requires.right.shaped e.pinned e.later e.told
 
 pub returns-in_err-frame-clause-missed : goal.returns-in_err-frame-clause-missed
 returns-in_err-frame-clause-missed g c =
@@ -50,9 +49,9 @@ returns-clause-answered g c =
     let first = b.still in
     let there : IsHeld w.caches c.args.node = held_stays old.caches w.caches first.stays.caches c.args.node c.requires.own.node in
     let at = home w c.in_ok-frame.frame.0 c.args.node first.stays.right b.home.0 b.home.1 in
-    let whole : Still old (dirtied w c.args.node) = still_then old w (dirtied w c.args.node) first (dirty_still w c.args.node first.stays.right there at.resident) in
+    let whole : Still old (dirtied w c.args.node) = still_then old w (dirtied w c.args.node) first (dirty_still w c.args.node first.stays.right there at.resident (may_like old.caches w.caches (still_like old.caches w.caches first.stays.caches) c.args.node c.requires.granted)) in
     let kept : Kept old (dirtied w c.args.node) = still_kept old (dirtied w c.args.node) whole c.requires.right.sound c.requires.right.shaped b.pinned in
-    record { kept = subst (λ (a : Arena). Kept old (world told size a c.bring_in.new.self)) (sym c.set_state.ensures.changed) kept; later = b.later }
+    record { kept = subst (λ (a : Arena). Kept old (world told size a c.bring_in.new.self)) (sym c.set_state.ensures.changed) kept; later = b.later; told = tells_as _ _ _ _ _ refl b.told }
 
 pub returns-clause-ready : goal.returns-clause-ready
 returns-clause-ready g c =
@@ -64,7 +63,7 @@ returns-clause-ready g c =
     let first = b.still in
     let there : IsHeld w.caches c.args.node = held_stays old.caches w.caches first.stays.caches c.args.node c.requires.own.node in
     let at = home w c.in_ok-frame.frame.0 c.args.node first.stays.right b.home.0 b.home.1 in
-    let whole : Still old (dirtied w c.args.node) = still_then old w (dirtied w c.args.node) first (dirty_still w c.args.node first.stays.right there at.resident) in
+    let whole : Still old (dirtied w c.args.node) = still_then old w (dirtied w c.args.node) first (dirty_still w c.args.node first.stays.right there at.resident (may_like old.caches w.caches (still_like old.caches w.caches first.stays.caches) c.args.node c.requires.granted)) in
     record {
       forest = ap (λ (a : Arena). store_forest (world told size a c.bring_in.new.self)) c.set_state.ensures.changed
           ∙ still_forest old (dirtied w c.args.node) whole ∙ kept_ready old c.requires.right.sound c.requires.right.shaped c.args.node c.requires.own.node c.requires.own c.requires.none;
@@ -77,16 +76,19 @@ returns-clause-copies g c = let b = c.in_ok-frame.ensures in let first = b.still
 
 pub returns-clause-made : goal.returns-clause-made
 returns-clause-made g c =
-    made_is _ _ _ _ _ _ c.in_ok-frame.ensures.made refl (pushes_bring (own_of c.args.caches.now c.args.node) c.args.store.now.frames.held)
+    let b = c.in_ok-frame.ensures in
+    brought_made (own_of c.args.caches.now c.args.node) c.args.store.now.frames c.bring_in.new.self.frames _ _ b.still.stays.frames b.held _ b.made b.few
 
 pub returns-clause-most : goal.returns-clause-most
 returns-clause-most g c =
     let own : OwnState = own_of c.args.caches.now c.args.node in
     let bounds = copy_most own in
-    made_most _ _ _ _ _ _ c.in_ok-frame.ensures.made bounds.0 (omega (arith, bring_most own, pushes_bring own c.args.store.now.frames.held))
+    let b = c.in_ok-frame.ensures in
+    pulls_most _ _ _ _ _ _ (brought_made own c.args.store.now.frames c.bring_in.new.self.frames _ _ b.still.stays.frames b.held _ b.made b.few) bounds.0 (omega (arith, bring_most own))
 
 pub returns-in_err-frame-clause-most : goal.returns-in_err-frame-clause-most
 returns-in_err-frame-clause-most g c =
     let own : OwnState = own_of c.args.caches.now c.args.node in
     let bounds = copy_most own in
-    most_more (pulls_to_copy own) (frames_to_bring own - free_count c.args.store.now.frames) _ _ _ _ (made_most _ _ _ _ _ _ c.in_err-frame.ensures.made (pulls_most _ own) (omega (arith, pushes_bring own c.args.store.now.frames.held))) bounds.0 (omega (arith, bring_most own))
+    let e = c.in_err-frame.ensures in
+    most_more _ _ _ _ _ _ (failed_most own c.args.store.now.frames _ _ _ _ e.made e.few) bounds.0 (omega (arith, bring_most own))

@@ -1,4 +1,4 @@
-use Rattle.std.proofs.Common.{sym, ap, subst, ◌∙◌, rules}
+use Rattle.std.proofs.Common.{refl, sym, ap, subst, ◌∙◌, rules}
 use Rattle.residency.specs.declared.store.Store.{Store}
 use Rattle.residency.specs.StoreForest.{store_forest}
 use Rattle.residency.specs.World.{World, world}
@@ -9,6 +9,7 @@ use Rattle.fault_path.proofs.Heirs.{has_own, heir_absent, still_heir, unbound}
 use Rattle.fault_path.proofs.OneFrameForest.{hand_forest, hand_kept}
 use Rattle.fault_path.proofs.OneFrameForest.{hand_copies}
 use Rattle.fault_path.proofs.Answered.{still_answered, still_missed_by}
+use Rattle.residency.proofs.Told.{tells_as}
 use Rattle.fault_path.proofs.writing.hand_over.Goals as goal
 
 pub returns-in_err-frame-clause-answered : goal.returns-in_err-frame-clause-answered
@@ -18,7 +19,7 @@ returns-in_err-frame-clause-answered g c =
     let old : World = world (g.M.Mapper.held c.args.mapper.now) (g.M.Mapper.page_bytes c.args.mapper.now) c.args.caches.now c.args.store.now in
     let w : World = world told size c.copy_out.new.caches c.copy_out.new.store in
     let n = c.in_err-frame.ensures.none in
-    still_answered old w n.still _ _ c.requires.right.sound c.requires.right.shaped n.pinned c.in_err-frame.ensures.later
+    still_answered old w n.still _ _ c.requires.right.sound c.requires.right.shaped n.pinned c.in_err-frame.ensures.later c.in_err-frame.ensures.told
 
 pub returns-in_err-frame-clause-missed : goal.returns-in_err-frame-clause-missed
 returns-in_err-frame-clause-missed g c =
@@ -55,6 +56,7 @@ returns-clause-answered g c =
       kept = subst (Kept old) (sym (ap (λ (s : Store). world told size c.hand_page.new.caches s) c.settle_in.ensures)) (hand_kept old w c.in_ok-frame.frame.0 k.still k.taken c.requires.right.sound c.requires.right.shaped c.args.node c.args.next c.requires.own.node (has_own old c.args.node c.requires.own.own_page) c.requires.next c.requires.is
           (heir_absent c.args.caches.now c.requires.right.sound _ c.args.next c.requires.next c.requires.is) c.in_ok-frame.ensures.copied.page c.hand_page.new.caches c.hand_page.ensures k);
       later = c.in_ok-frame.ensures.later;
+      told = tells_as _ _ _ _ _ refl c.in_ok-frame.ensures.told;
     }
 
 pub returns-clause-forest : goal.returns-clause-forest

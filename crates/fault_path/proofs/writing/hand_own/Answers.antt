@@ -1,4 +1,4 @@
-use Rattle.std.proofs.Common.{sym, ap, subst, ◌∙◌, ◌≡◌, ◌+◌, arith, Some, refl, ◌-◌, rules}
+use Rattle.std.proofs.Common.{sym, ap, subst, ◌∙◌, ◌≡◌, ◌+◌, arith, Some, refl, rules}
 use Rattle.local_cache.specs.Arena.{Arena, IsHeld}
 use Rattle.local_cache.specs.Own.{own_of}
 use Rattle.local_cache.proofs.Nodes.OwnStates.{own_same}
@@ -12,7 +12,7 @@ use Rattle.vm_ids.specs.Forest.Rules.{heir_gets}
 use Rattle.global_map.specs.Pairs.{node_of}
 use Rattle.local_cache.specs.Reading.{name_of}
 use Rattle.fault_path.specs.Faults.{Kept}
-use Rattle.fault_path.proofs.DirtyPage.{dirtied, dirty_still}
+use Rattle.fault_path.proofs.DirtyPage.{dirtied, dirty_still, may_like}
 use Rattle.fault_path.proofs.Kept.{still_kept, still_shaped}
 use Rattle.fault_path.proofs.ReadyForest.{handed_ready}
 use Rattle.fault_path.proofs.GatheredFrames.{bound_below}
@@ -22,10 +22,10 @@ use Rattle.local_cache.proofs.Changes.SameNodes.{copies-put}
 use Rattle.residency.proofs.StillForest.{still_copies}
 use Rattle.local_cache.specs.declared.own_state.OwnState.{OwnState}
 use Rattle.residency.specs.Causes.{HasMissCause, frames_to_bring}
-use Rattle.fault_path.specs.Costs.{free_count, pulls_to_copy}
-use Rattle.fault_path.proofs.Costs.{bring_most, brought_made, brought_more, brought_taken, copy_most, made_most, most_more, most_then, pulls_most, pushes_bring, pushes_then, resident_copies, resident_takes}
-use Rattle.residency.proofs.Evicted.{still_then}
+use Rattle.fault_path.proofs.Costs.{bring_most, brought_made, brought_more, brought_taken, copy_most, failed_most, most_more, most_then, pulls_most, pushes_then, resident_copies, resident_takes}
+use Rattle.residency.proofs.Composed.{still_then}
 use Rattle.fault_path.proofs.Answered.{answered_then, cause_then, later_then, still_answered, still_missed_by}
+use Rattle.residency.proofs.Told.{tells_as, tells_then}
 use Rattle.fault_path.proofs.writing.hand_own.Goals as goal
 
 pub returns-in_err-frame-clause-answered : goal.returns-in_err-frame-clause-answered
@@ -35,7 +35,7 @@ returns-in_err-frame-clause-answered g c =
     let old : World = world (g.M.Mapper.held c.args.mapper.now) (g.M.Mapper.page_bytes c.args.mapper.now) c.args.caches.now c.args.store.now in
     let w : World = world told size c.bring_in.new.caches c.bring_in.new.self in
     let e = c.in_err-frame.ensures in
-    still_answered old w e.still _ _ c.requires.right.sound c.requires.right.shaped e.pinned e.later
+    still_answered old w e.still _ _ c.requires.right.sound c.requires.right.shaped e.pinned e.later e.told
 
 pub returns-in_err-frame-clause-missed : goal.returns-in_err-frame-clause-missed
 returns-in_err-frame-clause-missed g c =
@@ -65,7 +65,7 @@ returns-in_err-hand_over-clause-answered g c =
     let v : World = world told2 size2 c.hand_over.new.caches c.hand_over.new.store in
     let b = c.in_ok-frame.ensures in
     let e = c.in_err-hand_over.ensures in
-    answered_then old w v _ _ _ (still_answered old w b.still _ _ c.requires.right.sound c.requires.right.shaped b.pinned b.later) e.answered
+    answered_then old w v b.still c.requires.right.sound c.requires.right.shaped _ _ _ b.pinned b.later b.told e.answered
 
 pub returns-in_err-hand_over-clause-missed : goal.returns-in_err-hand_over-clause-missed
 returns-in_err-hand_over-clause-missed g c =
@@ -98,12 +98,13 @@ returns-clause-answered g c =
     let bound : node_of v.map c.in_ok-frame.frame.0 ≡ Some c.args.node = h.home c.in_ok-frame.frame.0 b.home.1 in
     let below = bound_below v.map c.in_ok-frame.frame.0 c.args.node bound in
     let at = home v c.in_ok-frame.frame.0 c.args.node k.right below bound in
-    let dirty : Still v (dirtied v c.args.node) = dirty_still v c.args.node k.right there at.resident in
+    let dirty : Still v (dirtied v c.args.node) = dirty_still v c.args.node k.right there at.resident (may_like w.caches v.caches k.nodes c.args.node (may_like old.caches w.caches (still_like old.caches w.caches first.stays.caches) c.args.node c.requires.granted)) in
     let kept : Kept old (dirtied v c.args.node) = kept_then old w (dirtied v c.args.node) (still_kept old w first c.requires.right.sound c.requires.right.shaped b.pinned)
     (kept_then w v (dirtied v c.args.node) k (still_kept v (dirtied v c.args.node) dirty k.sound k.shaped refl)) in
     record {
       kept = subst (λ (a : Arena). Kept old (world told2 size2 a c.hand_over.new.store)) (sym c.set_state.ensures.changed) kept;
       later = later_then _ _ _ b.later h.answered.later;
+      told = tells_as _ _ _ _ _ refl (tells_then old w first.stays v _ _ _ h.answered.later b.told h.answered.told);
     }
 
 pub returns-clause-ready : goal.returns-clause-ready
@@ -123,7 +124,7 @@ returns-clause-ready g c =
     let bound : node_of v.map c.in_ok-frame.frame.0 ≡ Some c.args.node = h.home c.in_ok-frame.frame.0 b.home.1 in
     let below = bound_below v.map c.in_ok-frame.frame.0 c.args.node bound in
     let at = home v c.in_ok-frame.frame.0 c.args.node k.right below bound in
-    let dirty : Still v (dirtied v c.args.node) = dirty_still v c.args.node k.right there at.resident in
+    let dirty : Still v (dirtied v c.args.node) = dirty_still v c.args.node k.right there at.resident (may_like w.caches v.caches k.nodes c.args.node (may_like old.caches w.caches (still_like old.caches w.caches first.stays.caches) c.args.node c.requires.granted)) in
     let like = still_like old.caches w.caches first.stays.caches in
     record {
       forest = ap (λ (a : Arena). store_forest (world told2 size2 a c.hand_over.new.store)) c.set_state.ensures.changed
@@ -151,7 +152,7 @@ returns-clause-made g c =
     let at = home w c.in_ok-frame.frame.0 c.args.node first.stays.right b.home.0 b.home.1 in
     let h = c.in_ok-hand_over.ensures in
     let over = resident_takes then c.bring_in.new.self.frames _ _ at.resident h.made in
-    brought_more own c.args.store.now.frames c.bring_in.new.self.frames _ _ first.stays.frames b.held b.made _ over h.answered.later
+    brought_more own c.args.store.now.frames c.bring_in.new.self.frames _ _ first.stays.frames b.held _ b.made b.few _ over h.answered.later
 
 pub returns-clause-most : goal.returns-clause-most
 returns-clause-most g c =
@@ -164,7 +165,7 @@ returns-clause-most g c =
     let h = c.in_ok-hand_over.ensures in
     let over = resident_takes then c.bring_in.new.self.frames _ _ at.resident h.made in
     let bounds = copy_most own in
-    made_most _ _ _ _ _ _ (brought_more own c.args.store.now.frames c.bring_in.new.self.frames _ _ first.stays.frames b.held b.made _ over h.answered.later) bounds.0 (omega (arith, bring_most own))
+    pulls_most _ _ _ _ _ _ (brought_more own c.args.store.now.frames c.bring_in.new.self.frames _ _ first.stays.frames b.held _ b.made b.few _ over h.answered.later) bounds.0 (omega (arith, bring_most own))
 
 pub returns-in_err-hand_over-clause-most : goal.returns-in_err-hand_over-clause-most
 returns-in_err-hand_over-clause-most g c =
@@ -176,8 +177,8 @@ returns-in_err-hand_over-clause-most g c =
     let at = home w c.in_ok-frame.frame.0 c.args.node first.stays.right b.home.0 b.home.1 in
     let e = c.in_err-hand_over.ensures in
     let one = resident_copies then at.resident in
-    let taken = brought_taken own c.args.store.now.frames c.bring_in.new.self.frames _ _ first.stays.frames b.held b.made in
-    let brought = brought_made own c.args.store.now.frames c.bring_in.new.self.frames _ _ first.stays.frames b.held b.made in
+    let taken = brought_taken own c.args.store.now.frames c.bring_in.new.self.frames _ _ first.stays.frames b.held _ b.made b.few in
+    let brought = brought_made own c.args.store.now.frames c.bring_in.new.self.frames _ _ first.stays.frames b.held _ b.made b.few in
     let bounds = copy_most own in
     most_then _ _ _ _ _ _ _ _ _ brought e.most e.answered.later (omega (arith, one.0, bounds.0)) (omega (arith, one.1, bring_most own, pushes_then (frames_to_bring own) c.args.store.now.frames.held c.bring_in.new.self.frames.held first.stays.frames taken))
 
@@ -185,4 +186,5 @@ pub returns-in_err-frame-clause-most : goal.returns-in_err-frame-clause-most
 returns-in_err-frame-clause-most g c =
     let own : OwnState = own_of c.args.caches.now c.args.node in
     let bounds = copy_most own in
-    most_more (pulls_to_copy own) (frames_to_bring own - free_count c.args.store.now.frames) _ _ _ _ (made_most _ _ _ _ _ _ c.in_err-frame.ensures.made (pulls_most _ own) (omega (arith, pushes_bring own c.args.store.now.frames.held))) bounds.0 (omega (arith, bring_most own))
+    let e = c.in_err-frame.ensures in
+    most_more _ _ _ _ _ _ (failed_most own c.args.store.now.frames _ _ _ _ e.made e.few) bounds.0 (omega (arith, bring_most own))

@@ -1,11 +1,11 @@
-use Rattle.std.proofs.Common.{sym, ap, subst, ◌∙◌, ◌≡◌, arith, Some, set, false, ◌+◌, ◌-◌, rules}
+use Rattle.std.proofs.Common.{refl, sym, ap, subst, ◌∙◌, ◌≡◌, arith, Some, set, false, ◌+◌, ◌-◌, rules}
 use Rattle.vm_ids.proofs.Forest.Owning.{apart_of_heir}
 use Rattle.global_map.specs.Pairs.{bound_times}
 use Rattle.local_cache.specs.Reading.{forest_of, name_of}
 use Rattle.residency.specs.declared.store.Store.{Store}
 use Rattle.residency.specs.StoreForest.{store_forest}
 use Rattle.residency.specs.World.{World, world}
-use Rattle.residency.proofs.Evicted.{still_then}
+use Rattle.residency.proofs.Composed.{still_then}
 use Rattle.residency.proofs.StillForest.{still_caches_sound}
 use Rattle.fault_path.specs.Faults.{IsOwner, Kept}
 use Rattle.fault_path.proofs.Heirs.{heir_absent, unbound}
@@ -13,13 +13,13 @@ use Rattle.fault_path.proofs.TwoFrames.{released_pins, released_still, step_copi
 use Rattle.fault_path.specs.Answers.{IsAnswered, IsMissed}
 use Rattle.residency.specs.declared.miss.Miss.TheVariants.{Victim}
 use Rattle.fault_path.proofs.Answered.{cause_then, later_then, still_answered, still_missed, still_missed_by}
+use Rattle.residency.proofs.Told.{tells_as, tells_then}
 use Rattle.vm_ids.specs.declared.numbers.NodeId.{NodeId}
 use Rattle.local_cache.specs.Own.{own_of}
-use Rattle.residency.specs.Causes.{Made}
-use Rattle.fault_path.specs.Costs.{frames_to_copy, free_count, pulls_to_copy}
+use Rattle.fault_path.specs.Costs.{Pulls, frames_to_copy, free_count, pulls_to_copy}
 use Rattle.fault_path.proofs.FoundPage.{owner_same}
 use Rattle.local_cache.specs.declared.own_state.OwnState.{OwnState}
-use Rattle.fault_path.proofs.Costs.{copy_most, made_more, made_most}
+use Rattle.fault_path.proofs.Costs.{copy_most, pulls_more, pulls_most}
 use Rattle.fault_path.proofs.writing.own_and_hand.Goals as goal
 
 pub returns-in_err-frame-clause-answered : goal.returns-in_err-frame-clause-answered
@@ -29,7 +29,7 @@ returns-in_err-frame-clause-answered g c =
     let old : World = world (g.M.Mapper.held c.args.mapper.now) (g.M.Mapper.page_bytes c.args.mapper.now) c.args.caches.now c.args.store.now in
     let w : World = world told size c.copy_out.new.caches c.copy_out.new.store in
     let n = c.in_err-frame.ensures.none in
-    still_answered old w n.still _ _ c.requires.right.sound c.requires.right.shaped n.pinned c.in_err-frame.ensures.later
+    still_answered old w n.still _ _ c.requires.right.sound c.requires.right.shaped n.pinned c.in_err-frame.ensures.later c.in_err-frame.ensures.told
 
 pub returns-in_err-frame-clause-missed : goal.returns-in_err-frame-clause-missed
 returns-in_err-frame-clause-missed g c =
@@ -53,7 +53,7 @@ returns-in_default-clause-answered g c =
     let n = c.in_default.ensures.none in
     let later = later_then _ _ _ c.in_ok-frame.ensures.later c.in_default.ensures.later in
     subst (λ (s : Store). IsAnswered old (world told2 size2 c.double.new.caches s) (g.M.Mapper.counts c.args.mapper.now) (g.M.Mapper.counts c.double.new.mapper)) (sym c.release.ensures)
-    (still_answered old _ (released_still old w v c.in_ok-frame.frame.0 one n) _ _ c.requires.right.sound c.requires.right.shaped (released_pins old w v c.in_ok-frame.frame.0 one n) later)
+    (still_answered old _ (released_still old w v c.in_ok-frame.frame.0 one n) _ _ c.requires.right.sound c.requires.right.shaped (released_pins old w v c.in_ok-frame.frame.0 one n) later (tells_as _ _ _ _ _ refl (tells_then old w one.still.stays v _ _ _ c.in_default.ensures.later c.in_ok-frame.ensures.told c.in_default.ensures.told)))
 
 pub returns-in_default-clause-missed : goal.returns-in_default-clause-missed
 returns-in_default-clause-missed g c =
@@ -116,6 +116,7 @@ returns-clause-answered g c =
     record {
       kept = subst (λ (s : Store). Kept old (world told size c.hand_page.new.caches s)) (sym store) kept;
       later = later_then _ _ _ c.in_ok-frame.ensures.later c.in-Ok.ensures.later;
+      told = tells_as _ _ _ _ _ refl (tells_then _ _ (c.in_ok-frame.ensures.copied.gathered).still.stays _ _ _ _ c.in-Ok.ensures.later c.in_ok-frame.ensures.told c.in-Ok.ensures.told);
     }
 
 pub returns-clause-ready : goal.returns-clause-ready
@@ -146,8 +147,8 @@ returns-clause-made g c = λ o is. (
     let first = c.in_ok-frame.ensures in
     let gathered = first.copied.gathered in
     let whole = gathered.still in
-    let sum : Made (pulls_to_copy own) (frames_to_copy own + 1 - free_count c.args.store.now.frames) (g.M.Mapper.counts c.args.mapper.now) (g.M.Mapper.counts c.double.new.mapper) = made_more (frames_to_copy own) (pulls_to_copy own) c.args.store.now.frames.held c.copy_out.new.store.frames.held _ _ _ whole.stays.frames first.held first.made c.double.ensures.made c.double.ensures.later in
-    subst (λ (m : NodeId). Made (pulls_to_copy (own_of c.args.caches.now m)) (frames_to_copy (own_of c.args.caches.now m) + 1 - free_count c.args.store.now.frames) (g.M.Mapper.counts c.args.mapper.now) (g.M.Mapper.counts c.double.new.mapper)) (sym (owner_same c.args.caches.now c.requires.right.sound c.args.node o it is owner)) sum)
+    let sum : Pulls (pulls_to_copy own) (frames_to_copy own + 1 - free_count c.args.store.now.frames) (g.M.Mapper.counts c.args.mapper.now) (g.M.Mapper.counts c.double.new.mapper) = pulls_more (frames_to_copy own) (pulls_to_copy own) c.args.store.now.frames.held c.copy_out.new.store.frames.held _ _ _ whole.stays.frames first.held first.made c.double.ensures.made c.double.ensures.later in
+    subst (λ (m : NodeId). Pulls (pulls_to_copy (own_of c.args.caches.now m)) (frames_to_copy (own_of c.args.caches.now m) + 1 - free_count c.args.store.now.frames) (g.M.Mapper.counts c.args.mapper.now) (g.M.Mapper.counts c.double.new.mapper)) (sym (owner_same c.args.caches.now c.requires.right.sound c.args.node o it is owner)) sum)
 
 pub returns-clause-most : goal.returns-clause-most
 returns-clause-most g c =
@@ -156,9 +157,9 @@ returns-clause-most g c =
     let first = c.in_ok-frame.ensures in
     let gathered = first.copied.gathered in
     let whole = gathered.still in
-    let sum : Made (pulls_to_copy own) (frames_to_copy own + 1 - free_count c.args.store.now.frames) (g.M.Mapper.counts c.args.mapper.now) (g.M.Mapper.counts c.double.new.mapper) = made_more (frames_to_copy own) (pulls_to_copy own) c.args.store.now.frames.held c.copy_out.new.store.frames.held _ _ _ whole.stays.frames first.held first.made c.double.ensures.made c.double.ensures.later in
+    let sum : Pulls (pulls_to_copy own) (frames_to_copy own + 1 - free_count c.args.store.now.frames) (g.M.Mapper.counts c.args.mapper.now) (g.M.Mapper.counts c.double.new.mapper) = pulls_more (frames_to_copy own) (pulls_to_copy own) c.args.store.now.frames.held c.copy_out.new.store.frames.held _ _ _ whole.stays.frames first.held first.made c.double.ensures.made c.double.ensures.later in
     let bounds = copy_most own in
-    made_most _ _ _ _ _ _ sum bounds.0 (omega (arith, bounds.1))
+    pulls_most _ _ _ _ _ _ sum bounds.0 (omega (arith, bounds.1))
 
 pub returns-in_default-clause-most : goal.returns-in_default-clause-most
 returns-in_default-clause-most g c =
@@ -167,6 +168,6 @@ returns-in_default-clause-most g c =
     let first = c.in_ok-frame.ensures in
     let gathered = first.copied.gathered in
     let whole = gathered.still in
-    let sum : Made (pulls_to_copy own) (frames_to_copy own + 1 - free_count c.args.store.now.frames) (g.M.Mapper.counts c.args.mapper.now) (g.M.Mapper.counts c.double.new.mapper) = made_more (frames_to_copy own) (pulls_to_copy own) c.args.store.now.frames.held c.copy_out.new.store.frames.held _ _ _ whole.stays.frames first.held first.made c.double.ensures.made c.double.ensures.later in
+    let sum : Pulls (pulls_to_copy own) (frames_to_copy own + 1 - free_count c.args.store.now.frames) (g.M.Mapper.counts c.args.mapper.now) (g.M.Mapper.counts c.double.new.mapper) = pulls_more (frames_to_copy own) (pulls_to_copy own) c.args.store.now.frames.held c.copy_out.new.store.frames.held _ _ _ whole.stays.frames first.held first.made c.double.ensures.made c.double.ensures.later in
     let bounds = copy_most own in
-    made_most _ _ _ _ _ _ sum bounds.0 (omega (arith, bounds.1))
+    pulls_most _ _ _ _ _ _ sum bounds.0 (omega (arith, bounds.1))

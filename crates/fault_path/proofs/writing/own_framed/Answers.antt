@@ -1,15 +1,15 @@
-use Rattle.std.proofs.Common.{sym, ap, subst, ◌∙◌, ◌-◌, rules}
+use Rattle.std.proofs.Common.{refl, sym, ap, subst, ◌∙◌, ◌-◌, rules}
 use Rattle.residency.specs.declared.store.Store.{Store}
 use Rattle.residency.specs.StoreForest.{store_forest}
 use Rattle.residency.specs.World.{World, world}
 use Rattle.residency.proofs.StillForest.{still_caches_sound}
 use Rattle.fault_path.specs.Faults.{Kept, IsOwner}
 use Rattle.fault_path.proofs.Answered.{still_answered, still_missed_by}
+use Rattle.residency.proofs.Told.{tells_as}
 use Rattle.fault_path.proofs.OneFrameForest.{own_copies, own_forest, own_gives, own_kept}
 use Rattle.vm_ids.specs.declared.numbers.NodeId.{NodeId}
 use Rattle.local_cache.specs.Own.{own_of}
-use Rattle.residency.specs.Causes.{Made}
-use Rattle.fault_path.specs.Costs.{frames_to_copy, free_count, pulls_to_copy}
+use Rattle.fault_path.specs.Costs.{Pulls, frames_to_copy, free_count, pulls_to_copy}
 use Rattle.fault_path.proofs.FoundPage.{owner_same}
 use Rattle.fault_path.proofs.writing.own_framed.Goals as goal
 
@@ -20,7 +20,7 @@ returns-in_err-frame-clause-answered g c =
     let old : World = world (g.M.Mapper.held c.args.mapper.now) (g.M.Mapper.page_bytes c.args.mapper.now) c.args.caches.now c.args.store.now in
     let w : World = world told size c.copy_out.new.caches c.copy_out.new.store in
     let n = c.in_err-frame.ensures.none in
-    still_answered old w n.still _ _ c.requires.right.sound c.requires.right.shaped n.pinned c.in_err-frame.ensures.later
+    still_answered old w n.still _ _ c.requires.right.sound c.requires.right.shaped n.pinned c.in_err-frame.ensures.later c.in_err-frame.ensures.told
 
 pub returns-in_err-frame-clause-missed : goal.returns-in_err-frame-clause-missed
 returns-in_err-frame-clause-missed g c =
@@ -45,6 +45,7 @@ returns-clause-answered g c =
     record {
       kept = subst (Kept old) (sym (ap (λ (s : Store). world told size c.own_page.new.caches s) c.settle_in.ensures)) (own_kept old w c.in_ok-frame.frame.0 k.still k.taken c.requires.right.sound c.requires.right.shaped c.args.node c.owner_of-owner.result c.requires.node c.requires.bare owner c.in_ok-frame.ensures.copied.page c.own_page.new.caches c.own_page.ensures k);
       later = c.in_ok-frame.ensures.later;
+      told = tells_as _ _ _ _ _ refl c.in_ok-frame.ensures.told;
     }
 
 pub returns-clause-owned : goal.returns-clause-owned
@@ -76,4 +77,4 @@ pub returns-clause-made : goal.returns-clause-made
 returns-clause-made g c = λ o is. (
     let it : NodeId = c.owner_of-owner.result in
     let owner : IsOwner c.args.caches.now c.args.node it = record { held = c.owner_of-owner.ensures.held; name = c.owner_of-owner.ensures.owner } in
-    subst (λ (m : NodeId). Made (pulls_to_copy (own_of c.args.caches.now m)) (frames_to_copy (own_of c.args.caches.now m) - free_count c.args.store.now.frames) (g.M.Mapper.counts c.args.mapper.now) (g.M.Mapper.counts c.copy_out.new.mapper)) (sym (owner_same c.args.caches.now c.requires.right.sound c.args.node o it is owner)) c.in_ok-frame.ensures.made)
+    subst (λ (m : NodeId). Pulls (pulls_to_copy (own_of c.args.caches.now m)) (frames_to_copy (own_of c.args.caches.now m) - free_count c.args.store.now.frames) (g.M.Mapper.counts c.args.mapper.now) (g.M.Mapper.counts c.copy_out.new.mapper)) (sym (owner_same c.args.caches.now c.requires.right.sound c.args.node o it is owner)) c.in_ok-frame.ensures.made)

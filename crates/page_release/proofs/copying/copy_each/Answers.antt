@@ -1,4 +1,4 @@
-use Rattle.std.proofs.Common.{sym, ap, ◌∙◌, subst, arith, leb, refl, ◌+◌, ◌-◌}
+use Rattle.std.proofs.Common.{[], sym, ap, ◌∙◌, subst, arith, leb, ◌+◌, ◌-◌}
 use Rattle.vm_ids.specs.Forest.Commands.{copy_pages as rule_copy_pages, page_name, page_pairs, small_copy}
 use Rattle.vm_ids.specs.Forest.Laws.Commands.{CanCopy}
 use Rattle.vm_ids.specs.Forest.NameMap.{len}
@@ -12,11 +12,9 @@ use Rattle.residency.specs.World.{world}
 use Rattle.vm_ids.proofs.Forest.Lengths.{copy_page_len, copy_page_stays}
 use Rattle.vm_ids.proofs.Forest.Made.{copy_page-made}
 use Rattle.vm_ids.proofs.Forest.Pairs.{can_by, copied_by, pages_now, pairs_start}
-use Rattle.local_cache.proofs.Tables.Sizes.{sizes_same, sizes_then}
-use Rattle.page_release.proofs.StoreShape.{store_can, store_consistent}
-use Rattle.page_release.proofs.Detach.{back_then, named_then}
-use Rattle.page_release.proofs.Loops.{gives_none, unpinned_then}
-use Rattle.page_release.proofs.Ranges.{is_destination}
+use Rattle.page_release.proofs.Tying.Kept.{kept_both, kept_none, unclean_kept, unpinned_kept}
+use Rattle.page_release.proofs.Tying.Shape.{store_can, store_consistent}
+use Rattle.page_release.proofs.Walking.Ranges.{is_destination}
 use Rattle.page_release.proofs.copying.copy_each.Goals as goal
 
 pub loop-page-init : goal.loop-page-init
@@ -27,15 +25,10 @@ loop-page-init c =
     record {
       nodes = ap (λ es. rule_copy_pages (leb s.pages small_copy) es (forest_of a)) (sym all);
       forest = λ told size fit. ap (λ es. rule_copy_pages (leb s.pages small_copy) es (store_forest (world told size a c.args.store.now))) (sym all);
-      back = λ told size fit. gives_none (world told size a c.args.store.now) fit;
-      sound = c.requires.whole.sound;
-      tied = c.requires.tied;
-      pinned = λ f n pin at. refl;
-      unpinned = c.requires.unpinned;
+      kept = kept_none [] c.args.store.now a c.requires.whole.sound c.requires.tied;
       consistent = c.requires.whole.consistent;
       can = subst (CanCopy (forest_of a)) all c.requires.can;
       stays = λ x is. is;
-      sizes = sizes_same a a refl;
       room = omega arith;
       made = omega arith;
       few = omega arith;
@@ -50,7 +43,14 @@ copy_page-requires-clause-pages c =
 pub copy_page-requires-clause-unpinned : goal.copy_page-requires-clause-unpinned
 copy_page-requires-clause-unpinned c =
     let s = c.args.span in
-    c.loop-page.invariant.unpinned (page_name s.to (s.to_page.0 + c.loop-page.page)) (is_destination s c.loop-page.page c.loop-page-test.true)
+    let x = page_name s.to (s.to_page.0 + c.loop-page.page) in
+    unpinned_kept [] c.args.store.now c.args.caches.now c.loop-page.store c.loop-page.caches c.requires.tied c.loop-page.invariant.kept x (c.requires.unpinned x (is_destination s c.loop-page.page c.loop-page-test.true))
+
+pub copy_page-requires-clause-unclean : goal.copy_page-requires-clause-unclean
+copy_page-requires-clause-unclean c =
+    let s = c.args.span in
+    let x = page_name s.to (s.to_page.0 + c.loop-page.page) in
+    unclean_kept [] c.args.store.now c.args.caches.now c.loop-page.store c.loop-page.caches c.requires.tied c.loop-page.invariant.kept x (λ i. i) (c.requires.unclean x (is_destination s c.loop-page.page c.loop-page-test.true))
 
 pub loop-page-preserved : goal.loop-page-preserved
 loop-page-preserved c =
@@ -76,19 +76,14 @@ loop-page-preserved c =
       nodes = copied_by f i.consistent is_small s.from s.from_page.0 s.to s.to_page.0 s.pages k low i.can (forest_of b) e.nodes ∙ i.nodes;
       forest = λ told size fit.
           let w = world told size a t in
-          let now = (i.back told size fit).tied in
+          let now = (i.kept.gives_back told size fit).tied in
           let left = page_pairs s.from (s.from_page.0 + k) s.to (s.to_page.0 + k) (s.pages - k) in
-          copied_by (store_forest w) (store_consistent w i.sound i.consistent) is_small s.from s.from_page.0 s.to s.to_page.0 s.pages k low (store_can w i.sound left i.can) (store_forest (world told size b u)) (e.forest told size now)
+          copied_by (store_forest w) (store_consistent w i.kept.sound i.consistent) is_small s.from s.from_page.0 s.to s.to_page.0 s.pages k low (store_can w i.kept.sound left i.can) (store_forest (world told size b u)) (e.forest told size now)
           ∙ i.forest told size fit;
-      back = back_then r z t a u b i.back e.gives_back;
-      sound = e.sound;
-      tied = e.tied;
-      pinned = named_then r z t a b i.back c.requires.tied i.pinned e.pinned;
-      unpinned = λ x j. unpinned_then t a u b x i.tied e.gives_back e.pinned (i.unpinned x j);
+      kept = kept_both r z t a u b c.requires.tied i.kept e.kept;
       consistent = subst IsConsistent (sym e.nodes) (copy_page-consistent f i.consistent d o pages is_small);
       can = can_by f i.consistent is_small s.from s.from_page.0 s.to s.to_page.0 s.pages k low i.can (forest_of b) e.nodes;
       stays = λ x is. subst (λ g. IsNode g x) (sym e.nodes) (copy_page_stays f i.consistent d o pages is_small x (i.stays x is));
-      sizes = sizes_then z a b i.sizes e.sizes;
       room = omega (arith, i.room, e.room);
       made = omega (arith, i.made, made, forest_of-made b, forest_of-made a, ap (λ g. g.made) e.nodes);
       few = omega (arith, i.few, most, ap (λ g. len g.nodes) e.nodes);

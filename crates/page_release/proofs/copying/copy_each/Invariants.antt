@@ -1,16 +1,13 @@
-use Rattle.std.proofs.Common.{◌≡◌, ◌+◌, ◌-◌, ◌*◌, ◌≤◌, leb}
-use Rattle.vm_ids.specs.Forest.Commands.{copy_pages as rule_copy_pages, firsts, page_pairs, small_copy, span_pairs}
+use Rattle.std.proofs.Common.{◌≡◌, ◌+◌, ◌-◌, ◌*◌, ◌≤◌, [], leb}
+use Rattle.vm_ids.specs.Forest.Commands.{copy_pages as rule_copy_pages, page_pairs, small_copy, span_pairs}
 use Rattle.vm_ids.specs.Forest.Laws.Commands.{CanCopy}
 use Rattle.vm_ids.specs.declared.node_name.NodeName.{NodeName}
-use Rattle.vm_ids.specs.Forest.NameLists.{◌∈◌}
 use Rattle.vm_ids.specs.Forest.NameMap.{len}
 use Rattle.vm_ids.specs.Forest.Nodes.{IsNode}
 use Rattle.vm_ids.specs.Forest.Shape.{IsConsistent}
 use Rattle.local_cache.specs.Reading.{forest_of}
-use Rattle.local_cache.specs.Sound.{IsSound}
 use Rattle.residency.specs.StoreForest.{store_forest}
-use Rattle.local_cache.specs.Whole.{SameCaches}
-use Rattle.page_release.specs.Steps.{ForAnyMapper, GivesBack, IsStoreTied, IsUnpinned, PinnedStayNamed}
+use Rattle.page_release.specs.Steps.{ForAnyMapper, Kept}
 use Rattle.page_release.proofs.copying.copy_each.Given as goal
 
 abbrev pub invariant-loop-page : goal.invariant-loop-page
@@ -20,15 +17,10 @@ invariant-loop-page l =
     record {
       nodes : rule_copy_pages is_small left (forest_of l.caches) ≡ rule_copy_pages is_small (span_pairs l.span) (forest_of l.fn.caches);
       forest : ForAnyMapper l.fn.store l.fn.caches l.store l.caches (λ old new. rule_copy_pages is_small left (store_forest new) ≡ rule_copy_pages is_small (span_pairs l.span) (store_forest old));
-      back : ForAnyMapper l.fn.store l.fn.caches l.store l.caches GivesBack;
-      sound : IsSound l.caches;
-      tied : IsStoreTied l.store l.caches;
-      pinned : PinnedStayNamed l.fn.store l.fn.caches l.caches;
-      unpinned : (x : NodeName) → x ∈ firsts (span_pairs l.span) → IsUnpinned l.store l.caches x;
+      kept : Kept [] l.fn.store l.fn.caches l.store l.caches;
       consistent : IsConsistent (forest_of l.caches);
       can : CanCopy (forest_of l.caches) left;
       stays : (x : NodeName) → IsNode (forest_of l.fn.caches) x → IsNode (forest_of l.caches) x;
-      sizes : SameCaches l.fn.caches l.caches;
       room : l.fn.caches.room.nodes ≤ l.caches.room.nodes + 2 * l.page;
       made : l.caches.made ≤ l.fn.caches.made + 2 * l.page;
       few : len (forest_of l.caches).nodes ≤ len (forest_of l.fn.caches).nodes + 2 * l.page;

@@ -1,6 +1,7 @@
-use Rattle.std.proofs.Common.{refl, sym, ap, ◌∙◌, ◌-◌, subst, arith}
+use Rattle.std.proofs.Common.{◌≡◌, ◌+◌, [], refl, sym, ap, ◌∙◌, ◌-◌, subst, arith}
 use Rattle.vm_ids.specs.Forest.Commands.{page_name, page_names, retire_all}
 use Rattle.vm_ids.specs.Forest.Laws.Commands.{ArePagesOnce}
+use Rattle.vm_ids.specs.Forest.NameLists.{◌∈◌}
 use Rattle.vm_ids.specs.Forest.NameMap.{len}
 use Rattle.vm_ids.specs.Forest.Shape.{IsConsistent}
 use Rattle.vm_ids.proofs.Forest.Pages.{retire-consistent}
@@ -13,11 +14,9 @@ use Rattle.vm_ids.proofs.Forest.Lengths.{retire_len}
 use Rattle.vm_ids.proofs.Forest.CachePages.{names_start, page_now, pages_by, retired_by}
 use Rattle.local_cache.proofs.Whole.Pages.{pages_once}
 use Rattle.local_cache.proofs.Whole.Pages.{page_there}
-use Rattle.local_cache.proofs.Tables.Sizes.{sizes_same, sizes_then}
-use Rattle.page_release.proofs.StoreShape.{store_consistent, store_pages}
-use Rattle.page_release.proofs.Detach.{back_then, named_then}
-use Rattle.page_release.proofs.Loops.{gives_none, unpinned_then}
-use Rattle.page_release.proofs.Sized.{right_fewer}
+use Rattle.page_release.proofs.Forgotten.Range.{in_range}
+use Rattle.page_release.proofs.Tying.Kept.{kept_both, kept_none, unclean_kept, unpinned_kept}
+use Rattle.page_release.proofs.Tying.Shape.{store_consistent, store_pages}
 use Rattle.page_release.proofs.destroying.retire_pages.Goals as goal
 
 pub loop-page-init : goal.loop-page-init
@@ -27,14 +26,9 @@ loop-page-init c =
     record {
       nodes = ap (λ xs. retire_all xs (forest_of a)) (sym all);
       forest = λ told size fit. ap (λ xs. retire_all xs (store_forest (world told size a c.args.store.now))) (sym all);
-      back = λ told size fit. gives_none (world told size a c.args.store.now) fit;
-      sound = c.requires.whole.sound;
-      tied = c.requires.tied;
-      pinned = λ f n pin at. refl;
-      unpinned = c.requires.unpinned;
+      kept = kept_none [] c.args.store.now a c.requires.whole.sound c.requires.tied;
       consistent = c.requires.whole.consistent;
       pages = subst (ArePagesOnce (forest_of a)) all (pages_once a c.requires.whole c.args.cache c.args.pages c.requires.pages);
-      sizes = sizes_same a a refl;
       few = omega arith;
       made = omega arith;
       room = omega arith;
@@ -44,7 +38,17 @@ loop-page-init c =
 pub retire_page-requires-clause-node : goal.retire_page-requires-clause-node
 retire_page-requires-clause-node c =
     let i = c.loop-page.invariant in
-    page_there c.loop-page.caches i.sound c.args.cache (record { 0 = c.loop-page.page }) (page_now (forest_of c.loop-page.caches) i.consistent c.args.cache c.args.pages c.loop-page.page c.loop-page-test.true i.pages)
+    page_there c.loop-page.caches i.kept.sound c.args.cache (record { 0 = c.loop-page.page }) (page_now (forest_of c.loop-page.caches) i.consistent c.args.cache c.args.pages c.loop-page.page c.loop-page-test.true i.pages)
+
+pub retire_page-requires-clause-unpinned : goal.retire_page-requires-clause-unpinned
+retire_page-requires-clause-unpinned c = unpinned_kept [] c.args.store.now c.args.caches.now c.loop-page.store c.loop-page.caches c.requires.tied c.loop-page.invariant.kept (page_name c.args.cache c.loop-page.page) (c.requires.unpinned c.loop-page.page)
+
+pub retire_page-requires-clause-unclean : goal.retire_page-requires-clause-unclean
+retire_page-requires-clause-unclean c =
+    let x = page_name c.args.cache c.loop-page.page in
+    let number : 0 + c.loop-page.page ≡ c.loop-page.page = omega arith in
+    let here = subst (λ k. page_name c.args.cache k ∈ page_names c.args.cache 0 c.args.pages) number (in_range c.args.cache 0 c.args.pages c.loop-page.page c.loop-page-test.true) in
+    unclean_kept [] c.args.store.now c.args.caches.now c.loop-page.store c.loop-page.caches c.requires.tied c.loop-page.invariant.kept x (λ i. i) (c.requires.unclean x here)
 
 pub loop-page-preserved : goal.loop-page-preserved
 loop-page-preserved c =
@@ -64,22 +68,14 @@ loop-page-preserved c =
       nodes = retired_by (forest_of a) i.consistent c.args.cache c.args.pages k low i.pages (forest_of b) e.nodes ∙ i.nodes;
       forest = λ told size fit.
           let w = world told size a t in
-          let now = (i.back told size fit).tied in
-          retired_by (store_forest w) (store_consistent w i.sound i.consistent) c.args.cache c.args.pages k low (store_pages w i.sound (page_names c.args.cache k (c.args.pages - k)) i.pages) (store_forest (world told size b u)) (e.forest told size now)
+          let now = (i.kept.gives_back told size fit).tied in
+          retired_by (store_forest w) (store_consistent w i.kept.sound i.consistent) c.args.cache c.args.pages k low (store_pages w i.kept.sound (page_names c.args.cache k (c.args.pages - k)) i.pages) (store_forest (world told size b u)) (e.forest told size now)
           ∙ i.forest told size fit;
-      back = back_then s o t a u b i.back e.gives_back;
-      sound = e.sound;
-      tied = e.tied;
-      pinned = named_then s o t a b i.back c.requires.tied i.pinned e.pinned;
-      unpinned = λ page. unpinned_then t a u b (page_name c.args.cache page) i.tied e.gives_back e.pinned (i.unpinned page);
+      kept = kept_both s o t a u b c.requires.tied i.kept e.kept;
       consistent = subst IsConsistent (sym e.nodes) (retire-consistent (forest_of a) i.consistent x is refl);
       pages = pages_by (forest_of a) i.consistent c.args.cache c.args.pages k low i.pages (forest_of b) e.nodes;
-      sizes = sizes_then o a b i.sizes e.sizes;
       few = omega (arith, i.few, retire_len (forest_of a) i.consistent x is refl, ap (λ g. len g.nodes) e.nodes);
       made = omega (arith, i.made, retire-made (forest_of a) x, forest_of-made a, forest_of-made b, ap (λ g. g.made) e.nodes);
       room = omega (arith, i.room, e.room);
       fewer = omega (arith, i.fewer, e.fewer);
     }
-
-pub returns-clause-right : goal.returns-clause-right
-returns-clause-right c = right_fewer c.args.store.now c.args.caches.now c.loop-page.store c.loop-page.caches c.loop-page.invariant.back c.loop-page.invariant.fewer

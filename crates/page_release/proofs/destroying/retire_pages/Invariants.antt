@@ -1,14 +1,12 @@
-use Rattle.std.proofs.Common.{◌≡◌, ℕ, ◌+◌, ◌-◌, ◌≤◌, length}
-use Rattle.vm_ids.specs.Forest.Commands.{page_name, page_names, retire_all}
+use Rattle.std.proofs.Common.{◌≡◌, ◌+◌, ◌-◌, ◌≤◌, [], length}
+use Rattle.vm_ids.specs.Forest.Commands.{page_names, retire_all}
 use Rattle.vm_ids.specs.Forest.Laws.Commands.{ArePagesOnce}
 use Rattle.vm_ids.specs.Forest.NameMap.{len}
 use Rattle.vm_ids.specs.Forest.Shape.{IsConsistent}
 use Rattle.local_cache.specs.Own.{own_states}
 use Rattle.local_cache.specs.Reading.{forest_of}
-use Rattle.local_cache.specs.Sound.{IsSound}
 use Rattle.residency.specs.StoreForest.{store_forest}
-use Rattle.local_cache.specs.Whole.{SameCaches}
-use Rattle.page_release.specs.Steps.{ForAnyMapper, GivesBack, IsStoreTied, IsUnpinned, PinnedStayNamed}
+use Rattle.page_release.specs.Steps.{ForAnyMapper, Kept}
 use Rattle.page_release.proofs.destroying.retire_pages.Given as goal
 
 abbrev pub invariant-loop-page : goal.invariant-loop-page
@@ -18,14 +16,9 @@ invariant-loop-page l =
     record {
       nodes : retire_all left (forest_of l.caches) ≡ retire_all all (forest_of l.fn.caches);
       forest : ForAnyMapper l.fn.store l.fn.caches l.store l.caches (λ old new. retire_all left (store_forest new) ≡ retire_all all (store_forest old));
-      back : ForAnyMapper l.fn.store l.fn.caches l.store l.caches GivesBack;
-      sound : IsSound l.caches;
-      tied : IsStoreTied l.store l.caches;
-      pinned : PinnedStayNamed l.fn.store l.fn.caches l.caches;
-      unpinned : (page : ℕ) → IsUnpinned l.store l.caches (page_name l.cache page);
+      kept : Kept [] l.fn.store l.fn.caches l.store l.caches;
       consistent : IsConsistent (forest_of l.caches);
       pages : ArePagesOnce (forest_of l.caches) left;
-      sizes : SameCaches l.fn.caches l.caches;
       few : len (forest_of l.caches).nodes ≤ len (forest_of l.fn.caches).nodes;
       made : l.caches.made ≤ l.fn.caches.made + l.page;
       room : l.fn.caches.room.nodes ≤ l.caches.room.nodes;

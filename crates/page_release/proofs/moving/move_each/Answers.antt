@@ -1,4 +1,4 @@
-use Rattle.std.proofs.Common.{ℕ, sym, ap, ◌∙◌, subst, arith, refl, ◌+◌}
+use Rattle.std.proofs.Common.{ℕ, [], sym, ap, ◌∙◌, subst, arith, ◌+◌}
 use Rattle.std.specs.Prelude.{option_map, replicate}
 use Rattle.vm_ids.specs.Forest.Commands.{move_pages as rule_move_pages, page_name}
 use Rattle.vm_ids.specs.Forest.Laws.Commands.{CanCopy}
@@ -13,13 +13,12 @@ use Rattle.local_cache.proofs.Changes.SameNodes.{forest_of-made}
 use Rattle.residency.specs.StoreForest.{store_forest}
 use Rattle.residency.specs.World.{world}
 use Rattle.vm_ids.proofs.Forest.Pairs.{can_move_by, move_now, moved_by, pairs_start}
-use Rattle.local_cache.proofs.Tables.Sizes.{sizes_same, sizes_then}
 use Rattle.page_release.specs.Steps.{zeros_told}
-use Rattle.page_release.proofs.Detach.{back_then, named_then}
-use Rattle.page_release.proofs.Loops.{gives_none, unpinned_then}
+use Rattle.page_release.proofs.Tying.Kept.{kept_both, kept_none, unclean_kept, unpinned_kept}
+use Rattle.page_release.proofs.Tying.Named.{named_same}
 use Rattle.vm_ids.proofs.Forest.Moving.{move_page_len, move_page_stays}
 use Rattle.vm_ids.proofs.Forest.Made.{move_page-made}
-use Rattle.page_release.proofs.Ranges.{is_destination, is_source}
+use Rattle.page_release.proofs.Walking.Ranges.{is_destination, is_source}
 use Rattle.page_release.proofs.moving.move_each.Goals as goal
 
 pub loop-page-init : goal.loop-page-init
@@ -30,16 +29,10 @@ loop-page-init c =
     record {
       nodes = ap (λ es. rule_move_pages Zero es (forest_of a)) (sym all);
       forest = λ told size fit. let w = world told size a c.args.store.now in ap (λ es. rule_move_pages (zeros_told w) es (store_forest w)) (sym all);
-      back = λ told size fit. gives_none (world told size a c.args.store.now) fit;
-      sound = c.requires.whole.sound;
-      tied = c.requires.tied;
-      pinned = λ f n pin at. refl;
-      unpinned = c.requires.unpinned;
-      sources = c.requires.sources;
+      kept = kept_none [] c.args.store.now a c.requires.whole.sound c.requires.tied;
       consistent = c.requires.whole.consistent;
       can = subst (CanCopy (forest_of a)) all c.requires.can;
       stays = λ x is. is;
-      sizes = sizes_same a a refl;
       room = omega arith;
       made = omega arith;
       few = omega arith;
@@ -51,15 +44,26 @@ move_one-requires-clause-pages c =
     let i = c.loop-page.invariant in
     move_now Zero (forest_of c.loop-page.caches) s.from s.from_page.0 s.to s.to_page.0 s.pages c.loop-page.page c.loop-page-test.true i.consistent i.can
 
+pub move_one-requires-clause-temporary : goal.move_one-requires-clause-temporary
+move_one-requires-clause-temporary c = named_same c.args.caches.now c.loop-page.caches c.loop-page.invariant.kept.sizes c.args.span.from ∙ c.requires.temporary
+
 pub move_one-requires-clause-unpinned : goal.move_one-requires-clause-unpinned
 move_one-requires-clause-unpinned c =
     let s = c.args.span in
-    c.loop-page.invariant.unpinned (page_name s.to (s.to_page.0 + c.loop-page.page)) (is_destination s c.loop-page.page c.loop-page-test.true)
+    let x = page_name s.to (s.to_page.0 + c.loop-page.page) in
+    unpinned_kept [] c.args.store.now c.args.caches.now c.loop-page.store c.loop-page.caches c.requires.tied c.loop-page.invariant.kept x (c.requires.unpinned x (is_destination s c.loop-page.page c.loop-page-test.true))
+
+pub move_one-requires-clause-unclean : goal.move_one-requires-clause-unclean
+move_one-requires-clause-unclean c =
+    let s = c.args.span in
+    let x = page_name s.to (s.to_page.0 + c.loop-page.page) in
+    unclean_kept [] c.args.store.now c.args.caches.now c.loop-page.store c.loop-page.caches c.requires.tied c.loop-page.invariant.kept x (λ i. i) (c.requires.unclean x (is_destination s c.loop-page.page c.loop-page-test.true))
 
 pub move_one-requires-clause-source : goal.move_one-requires-clause-source
 move_one-requires-clause-source c =
     let s = c.args.span in
-    c.loop-page.invariant.sources (page_name s.from (s.from_page.0 + c.loop-page.page)) (is_source s c.loop-page.page c.loop-page-test.true)
+    let x = page_name s.from (s.from_page.0 + c.loop-page.page) in
+    unpinned_kept [] c.args.store.now c.args.caches.now c.loop-page.store c.loop-page.caches c.requires.tied c.loop-page.invariant.kept x (c.requires.sources x (is_source s c.loop-page.page c.loop-page-test.true))
 
 pub loop-page-preserved : goal.loop-page-preserved
 loop-page-preserved c =
@@ -82,20 +86,14 @@ loop-page-preserved c =
       nodes = moved_by Zero f s.from s.from_page.0 s.to s.to_page.0 s.pages k low (forest_of b) e.nodes ∙ i.nodes;
       forest = λ told size fit.
           let w = world told size a t in
-          let one = i.back told size fit in
+          let one = i.kept.gives_back told size fit in
           moved_by (zeros_told (world told size z r)) (store_forest w) s.from s.from_page.0 s.to s.to_page.0 s.pages k low (store_forest (world told size b u))
           (e.forest told size one.tied ∙ ap (λ (n : ℕ). move_page (store_forest w) d o (option_map (λ _. replicate n 0) told)) one.page)
           ∙ i.forest told size fit;
-      back = back_then r z t a u b i.back e.gives_back;
-      sound = e.sound;
-      tied = e.tied;
-      pinned = named_then r z t a b i.back c.requires.tied i.pinned e.pinned;
-      unpinned = λ x j. unpinned_then t a u b x i.tied e.gives_back e.pinned (i.unpinned x j);
-      sources = λ x j. unpinned_then t a u b x i.tied e.gives_back e.pinned (i.sources x j);
+      kept = kept_both r z t a u b c.requires.tied i.kept e.kept;
       consistent = subst IsConsistent (sym e.nodes) (move_page-consistent f i.consistent d o pages Zero);
       can = can_move_by Zero f s.from s.from_page.0 s.to s.to_page.0 s.pages k low i.consistent i.can (forest_of b) e.nodes;
       stays = λ x is. subst (λ g. IsNode g x) (sym e.nodes) (move_page_stays f i.consistent d o pages Zero x (i.stays x is));
-      sizes = sizes_then z a b i.sizes e.sizes;
       room = omega (arith, i.room, e.room);
       made = omega (arith, i.made, move_page-made f d o Zero, forest_of-made b, forest_of-made a, ap (λ g. g.made) e.nodes);
       few = omega (arith, i.few, move_page_len f i.consistent d o pages Zero, ap (λ g. len g.nodes) e.nodes);

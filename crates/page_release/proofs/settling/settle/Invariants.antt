@@ -1,26 +1,20 @@
-use Rattle.std.proofs.Common.{◌≡◌, ◌≤◌, length}
+use Rattle.std.proofs.Common.{◌≡◌, ◌≤◌, [], length}
 use Rattle.vm_ids.specs.Forest.NameMap.{len}
 use Rattle.vm_ids.specs.Forest.Settling.{settle as rule_settle}
 use Rattle.vm_ids.specs.Forest.Shape.{IsConsistent}
 use Rattle.local_cache.specs.Own.{own_states}
 use Rattle.local_cache.specs.Reading.{forest_of}
-use Rattle.local_cache.specs.Sound.{IsSound}
 use Rattle.residency.specs.StoreForest.{store_forest}
-use Rattle.local_cache.specs.Whole.{SameCaches}
-use Rattle.page_release.specs.Steps.{ForAnyMapper, GivesBack, IsStoreTied, IsWorkingUnpinned, PinnedStayNamed}
+use Rattle.page_release.specs.Steps.{ForAnyMapper, IsWorkingUnpinned, Kept}
 use Rattle.page_release.proofs.settling.settle.Given as goal
 
 abbrev pub invariant-loop : goal.invariant-loop
 invariant-loop l = record {
   nodes : rule_settle (forest_of l.caches) ≡ rule_settle (forest_of l.fn.caches);
   forest : ForAnyMapper l.fn.store l.fn.caches l.store l.caches (λ old new. rule_settle (store_forest new) ≡ rule_settle (store_forest old));
-  back : ForAnyMapper l.fn.store l.fn.caches l.store l.caches GivesBack;
-  sound : IsSound l.caches;
+  kept : Kept [] l.fn.store l.fn.caches l.store l.caches;
   consistent : IsConsistent (forest_of l.caches);
-  tied : IsStoreTied l.store l.caches;
-  pinned : PinnedStayNamed l.fn.store l.fn.caches l.caches;
   unpinned : IsWorkingUnpinned l.store l.caches;
-  sizes : SameCaches l.fn.caches l.caches;
   made : l.caches.made ≡ l.fn.caches.made;
   copies : l.caches.copies ≡ l.fn.caches.copies;
   room : l.fn.caches.room.nodes ≤ l.caches.room.nodes;

@@ -1,49 +1,33 @@
-use Rattle.std.proofs.Common.{None}
 use Rattle.vm_ids.specs.declared.node_name.NodeName.TheVariants.{Live}
 use Rattle.local_cache.specs.Arena.{node_at}
 use Rattle.local_cache.proofs.NewCache.Pages.{some_of}
-use Rattle.page_release.proofs.Stepped.{retire_back, retire_can, retire_forest, retire_named}
-use Rattle.page_release.proofs.Retiring.{room_left, sizes_left}
-use Rattle.page_release.proofs.Sized.{released_fewer, right_fewer}
+use Rattle.page_release.proofs.Leaving.Retired.{retire_can, retire_forest, retire_kept}
+use Rattle.page_release.proofs.Leaving.Tables.{room_left}
+use Rattle.page_release.proofs.Tying.Sized.{released_fewer}
 use Rattle.page_release.proofs.steps.retire_page.Goals as goal
 
 pub follow-requires : goal.follow-requires
 follow-requires c =
     let n = some_of (node_at c.args.caches.now c.args.cache.0 c.args.page.0) c.requires.node in
     let at = c.requires.sound.kept.listed.nodes c.args.cache.0 c.args.page.0 n.0 n.1 in
-    retire_can c.args.store.now c.args.caches.now c.retire-released.new.caches n.0 (Live c.args.cache c.args.page) at.0 at.1 c.retire-released.result (c.retire-released.ensures.retired n.0 n.1) c.retire-released.ensures.released c.requires.tied c.requires.unpinned
+    retire_can c.args.store.now c.args.caches.now c.retire-released.new.caches n.0 (Live c.args.cache c.args.page) at.0 at.1 c.retire-released.result (c.retire-released.ensures.retired n.0 n.1) c.retire-released.ensures.released c.requires.tied c.requires.unpinned c.requires.unclean
 
 pub returns-clause-forest : goal.returns-clause-forest
 returns-clause-forest c =
     let n = some_of (node_at c.args.caches.now c.args.cache.0 c.args.page.0) c.requires.node in
     let at = c.requires.sound.kept.listed.nodes c.args.cache.0 c.args.page.0 n.0 n.1 in
-    retire_forest c.args.store.now c.args.caches.now c.retire-released.new.caches n.0 (Live c.args.cache c.args.page) at.0 at.1 c.retire-released.result (c.retire-released.ensures.retired n.0 n.1) c.retire-released.ensures.released c.requires.tied c.requires.unpinned
+    retire_forest c.args.store.now c.args.caches.now c.retire-released.new.caches n.0 (Live c.args.cache c.args.page) at.0 at.1 c.retire-released.result (c.retire-released.ensures.retired n.0 n.1) c.retire-released.ensures.released c.requires.tied c.requires.unpinned c.requires.unclean
     c.follow.new.store c.follow.ensures c.requires.sound c.retire-released.ensures.sound c.retire-released.ensures.forest
 
-pub returns-clause-gives_back : goal.returns-clause-gives_back
-returns-clause-gives_back c =
+pub returns-clause-kept : goal.returns-clause-kept
+returns-clause-kept c =
     let n = some_of (node_at c.args.caches.now c.args.cache.0 c.args.page.0) c.requires.node in
     let at = c.requires.sound.kept.listed.nodes c.args.cache.0 c.args.page.0 n.0 n.1 in
-    retire_back c.args.store.now c.args.caches.now c.retire-released.new.caches n.0 (Live c.args.cache c.args.page) at.0 at.1 c.retire-released.result (c.retire-released.ensures.retired n.0 n.1) c.retire-released.ensures.released c.requires.tied c.requires.unpinned
-    c.follow.new.store c.follow.ensures
-
-pub returns-clause-tied : goal.returns-clause-tied
-returns-clause-tied c = (returns-clause-gives_back c None None c.requires.tied).tied
-
-pub returns-clause-pinned : goal.returns-clause-pinned
-returns-clause-pinned c =
-    let n = some_of (node_at c.args.caches.now c.args.cache.0 c.args.page.0) c.requires.node in
-    let at = c.requires.sound.kept.listed.nodes c.args.cache.0 c.args.page.0 n.0 n.1 in
-    retire_named c.args.store.now c.args.caches.now c.retire-released.new.caches n.0 (Live c.args.cache c.args.page) at.0 at.1 c.retire-released.result (c.retire-released.ensures.retired n.0 n.1) c.retire-released.ensures.released c.requires.tied c.requires.unpinned
-
-pub returns-clause-sizes : goal.returns-clause-sizes
-returns-clause-sizes c = sizes_left c.args.caches.now c.retire-released.new.caches (node_at c.args.caches.now c.args.cache.0 c.args.page.0) c.requires.node (λ n is. (c.retire-released.result, c.retire-released.ensures.retired n is))
+    retire_kept c.args.store.now c.args.caches.now c.retire-released.new.caches n.0 (Live c.args.cache c.args.page) at.0 at.1 c.retire-released.result (c.retire-released.ensures.retired n.0 n.1) c.retire-released.ensures.released c.requires.tied c.requires.unpinned c.requires.unclean
+    c.follow.new.store c.follow.ensures c.retire-released.ensures.sound
 
 pub returns-clause-room : goal.returns-clause-room
 returns-clause-room c = room_left c.args.caches.now c.retire-released.new.caches (node_at c.args.caches.now c.args.cache.0 c.args.page.0) c.requires.node (λ n is. (c.retire-released.result, c.retire-released.ensures.retired n is))
 
 pub returns-clause-fewer : goal.returns-clause-fewer
-returns-clause-fewer c = released_fewer c.args.store.now c.args.caches.now c.retire-released.new.caches c.requires.tied c.retire-released.result c.retire-released.ensures.released
-
-pub returns-clause-right : goal.returns-clause-right
-returns-clause-right c = right_fewer c.args.store.now c.args.caches.now c.follow.new.store c.retire-released.new.caches (returns-clause-gives_back c) (returns-clause-fewer c)
+returns-clause-fewer c = released_fewer c.args.caches.now c.retire-released.new.caches c.retire-released.result c.retire-released.ensures.released

@@ -5,8 +5,8 @@ use Rattle.vm_model.specs.Answering.{overwrite}
 use Rattle.vm_model.specs.Seen.{pages_seen}
 use Rattle.vm_model.proofs.accesses.write_cache.Goals as goal
 
-pub returns : goal.returns
-returns c =
+pub returns-clause-pages : goal.returns-clause-pages
+returns-clause-pages c =
     let pages = c.args.cache.now.pages.items in
     let old : c.index_mut.result.now.items ≡ get_or (pages_seen c.args.cache.now) c.args.page [] = ap (λ p. p.items) c.index_mut.ensures.value ∙ sym (get_or-map (λ p. p.items) pages c.args.page c.index_mut.result.now [] c.requires.there) in
     map-set (λ p. p.items) pages c.args.page c.write_page.new.page

@@ -20,4 +20,5 @@ loop-page-preserved c =
           ∙ overwrite-set c.args.first (map (λ p. p.items) left) (pages_seen before) page.items below
           ∙ ap (λ (ps : List (List ℕ)). overwrite c.args.first ps (pages_seen before)) (sym (ap (map (λ p. p.items)) all ∙ map_push (λ p. p.items) left page))
           ∙ c.loop-page.invariant.1,
+      c.loop-page.invariant.2,
     )

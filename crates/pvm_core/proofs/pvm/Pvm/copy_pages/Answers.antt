@@ -1,29 +1,51 @@
-use Rattle.std.proofs.Common.{◌≡◌, None, refl, sym, ap, subst, ◌∙◌, arith}
-use Rattle.std.specs.Prelude.{Result, Ok, Err}
+use Rattle.std.proofs.Common.{◌≡◌, ◌≢◌, ℕ, ◌+◌, ◌*◌, ◌≤◌, Bool, true, false, List, Option, Some, None, is_some, length, refl, sym, ap, subst, ◌∙◌, arith}
+use Rattle.std.specs.Prelude.{IfErr, OnErr, Result, Ok, Err, option_and_then}
 use Rattle.std.proofs.lemmas.Result.{err_from_is_err_and}
-use Rattle.gmi_calls.specs.Calling.{done_by}
+use Rattle.gmi_calls.specs.Calling.{RaisesMade, done_by}
+use Rattle.vm_ids.specs.Held.{Segments, segments_of}
 use Rattle.vm_ids.specs.declared.command.Command.TheVariants as commands
+use Rattle.vm_ids.specs.declared.command.Extent.{Extent}
+use Rattle.vm_ids.specs.declared.node_name.NodeName.{NodeName}
+use Rattle.vm_ids.specs.declared.refusal.Refusal.{Refusal}
 use Rattle.vm_ids.specs.declared.reply.Reply.TheVariants as replies
+use Rattle.vm_ids.specs.declared.reply.Trouble.{Trouble}
 use Rattle.vm_ids.specs.declared.reply.Trouble.TheVariants as troubles
+use Rattle.vm_ids.specs.Forest.Commands.{copy, extent_names, firsts, page_names, span_pairs}
+use Rattle.vm_ids.specs.Forest.NameLists.{◌∈◌}
+use Rattle.vm_ids.specs.Forest.NameMap.{len}
+use Rattle.vm_ids.specs.Forest.Saving.{saved}
+use Rattle.local_cache.specs.Arena.{Arena, Table, table_of}
 use Rattle.local_cache.specs.Whole.{size_of}
-use Rattle.vm_model.specs.Answering.{Answer}
-use Rattle.vm_model.specs.Machine.{cache_of}
-use Rattle.vm_model.specs.Run.{CallIs, State}
-use Rattle.pvm_core.specs.Manager.{IsValid, Manager, machine_by, machine_of, state_at}
-use Rattle.pvm_core.specs.Keeping.{CopiesNothing}
-use Rattle.pvm_core.specs.Spans.{span_refusal}
-use Rattle.pvm_core.specs.contracts.pvm.Pvm.{the_view}
-use Rattle.pvm_core.proofs.Changed.{changed_sound, slots_enough}
-use Rattle.pvm_core.proofs.Reserved.{can_copy, reserved}
-use Rattle.pvm_core.proofs.Transfers.{copied_outcome, copied_row, copied_valid, copy_follows}
 use Rattle.local_cache.proofs.Nodes.Count.{forest_len}
+use Rattle.page_release.specs.Homes.{AreSaved, IsWritable}
+use Rattle.page_release.proofs.Tying.Tied.{tied_right}
+use Rattle.page_release.proofs.Walking.Ranges.{destination_names}
+use Rattle.segment_ops.specs.Ranges.{HasRange}
+use Rattle.vm_model.specs.Answering.{Answer, is_any_denied}
+use Rattle.vm_model.specs.Following.{forest_after}
+use Rattle.vm_model.specs.Machine.{Cache, Machine, cache_of}
+use Rattle.vm_model.specs.Outcome.{OutcomeAt}
+use Rattle.vm_model.specs.Run.{CallIs}
+use Rattle.pvm_core.specs.Keeping.{CopiesNothing, HasMoreRoom}
+use Rattle.pvm_core.specs.Manager.{IsValid, Manager, forest_of, machine_by, machine_of, numbered, state_at}
+use Rattle.pvm_core.specs.Saving.{CopiesSaved, IsNotReady, IsReady, KeepsMachine, NeedsNothing, RefusedOf, is_named}
+use Rattle.pvm_core.specs.Spans.{copy_refusal, move_refusal, replaced}
+use Rattle.pvm_core.specs.contracts.pvm.Pvm.{the_view}
+use Rattle.pvm_core.proofs.Answered.{call_is, failed}
+use Rattle.pvm_core.proofs.Changed.{changed_sound, slots_enough}
+use Rattle.pvm_core.proofs.Copies.{range_copied}
 use Rattle.pvm_core.proofs.Kept.{seen}
 use Rattle.pvm_core.proofs.Live.{nodes_most}
-use Rattle.pvm_core.proofs.Loading.{call_is, no_later, size_le, sized_table}
+use Rattle.pvm_core.proofs.Loading.{size_le, sized_table}
+use Rattle.pvm_core.proofs.Reaching.{reach_none}
+use Rattle.pvm_core.proofs.Readying.{named_same}
+use Rattle.pvm_core.proofs.Reserved.{can_copy}
+use Rattle.pvm_core.proofs.Rising.{rises_between}
 use Rattle.pvm_core.proofs.Shown.{shown_size}
-use Rattle.pvm_core.proofs.SpanRows.{IsOpen, copy_refused, is_open, unlocked_actors}
-use Rattle.pvm_core.proofs.Spanned.{none_of_option, undenied_any}
-use Rattle.pvm_core.proofs.Stored.{failed}
+use Rattle.pvm_core.proofs.SpanRows.{IsOpen, copy_refused, is_movable, is_open, move_refused, unlocked_actors}
+use Rattle.pvm_core.proofs.Spanned.{apart_of}
+use Rattle.pvm_core.proofs.Transferring.{copies_nothing, failed_copied, failed_made, failed_refused, names_written, transfer_failed, undenied_range}
+use Rattle.pvm_core.proofs.Transfers.{copied_outcome, copied_transfer, copied_valid, copy_follows, move_follows, moved_outcome, moved_transfer, moved_valid, named_machine}
 use Rattle.pvm_core.proofs.pvm.Pvm.copy_pages.Goals as goal
 
 pub returns-in-Some-clause-answers : goal.returns-in-Some-clause-answers
@@ -32,174 +54,727 @@ returns-in-Some-clause-answers g c =
     let counts = g.M.Mapper.counts c.args.mapper.now in
     let p : Manager = the_view c.self.inside in
     let s = c.args.span in
-    let command = commands.Copy c.args.span in
     let answer : Answer = Err (troubles.Refused c.in-Some.refusal) in
-    subst (λ (p : Manager). CallIs counts counts (state_at p h) command answer (state_at p h)) c.self.view_is
-    (failed counts counts (no_later counts) p p h h command answer c.self.invariant.nodes c.self.invariant.nodes refl refl refl tt
-    (λ f sg. copy_refused (machine_by p f) s sg (λ cache page. unlocked_actors (size_of c.self.inside.caches) cache page c.self.inside.contexts.actors c.self.invariant.actors.placed) (undenied_any p f sg s.to.0 c.self.invariant.temporary) c.in-Some.refusal (cache_of (machine_by p f) s.from.0) (cache_of (machine_by p f) s.to.0) refl refl
-    ((λ j. span_refusal (shown_size f p.caches.caches s.from.0 j) (shown_size f p.caches.caches s.to.0 j) s) ∙ sym c.span_refusal.ensures ∙ c.in-Some.is)))
+    subst (λ (p : Manager). CallIs counts counts (state_at p h) (commands.Copy c.args.span) answer (state_at p h)) c.self.view_is
+    (failed counts counts p p h h (commands.Copy c.args.span) answer (reach_none (machine_of p h) h counts) c.self.invariant.nodes c.self.invariant.nodes (subst (λ (p : Manager). IsValid p h) (sym c.self.view_is) c.requires.valid) refl refl tt tt
+    (λ f sg. copy_refused (machine_by p f) s sg c.in-Some.refusal (cache_of (machine_by p f) s.from.0) (cache_of (machine_by p f) s.to.0) refl refl
+    ((λ j. copy_refusal (shown_size f p.caches.caches s.from.0 j) (shown_size f p.caches.caches s.to.0 j) s) ∙ sym c.copy_refusal.ensures ∙ c.in-Some.is)))
 
-pub invariant_of-self : goal.invariant_of-self
-invariant_of-self g c =
+pub make_ready-requires-clause-range : goal.make_ready-requires-clause-range
+make_ready-requires-clause-range g c =
     let i = c.self.inside in
-    let r = c.reserve.ensures in
-    let roomy = reserved i.caches c.reserve.new.self i.store i.contexts i.live r.kept r.no_less.0 r.forest (r.sound c.self.invariant.nodes.sound) c.self.invariant in
-    roomy.sound
+    let s = c.args.span in
+    let open0 = is_open (size_of i.caches s.from.0) (size_of i.caches s.to.0) s (sym c.copy_refusal.ensures ∙ c.in_default.is) in
+    let range : HasRange i.caches c.destination.result = subst (HasRange i.caches) (sym c.destination.ensures) (record { pages = open0.to; size = open0.to_is; within = open0.to_ends }) in
+    subst (λ (p : Manager). HasRange p.caches c.destination.result) c.self.view_is range
 
-pub returns-in_err-reserve-clause-valid : goal.returns-in_err-reserve-clause-valid
-returns-in_err-reserve-clause-valid g c =
+pub returns-in_err-make_ready-clause-answers : goal.returns-in_err-make_ready-clause-answers
+returns-in_err-make_ready-clause-answers g c =
+    let i = c.self.inside in
+    let s = c.args.span in
+    let open0 = is_open (size_of i.caches s.from.0) (size_of i.caches s.to.0) s (sym c.copy_refusal.ensures ∙ c.in_default.is) in
+    let q = c.make_ready.new.self in
+    let x0 = c.make_ready.ensures in
     let h = g.M.Mapper.held c.args.mapper.now in
+    let k = g.M.Mapper.held c.make_ready.new.mapper in
+    let before = g.M.Mapper.counts c.args.mapper.now in
+    let after = g.M.Mapper.counts c.make_ready.new.mapper in
+    let p : Manager = seen i.caches i.store i.contexts in
+    let valid0 = (subst (λ (p : Manager). IsValid p h) (sym c.self.view_is) c.requires.valid) in
+    let from0 = sized_table (table_of i.caches s.from.0) open0.from open0.from_is in
+    let to0 = sized_table (table_of i.caches s.to.0) open0.to open0.to_is in
+    let transfer = copied_transfer i.caches i.store i.contexts i.live c.self.invariant s open0 from0.0 to0.0 from0.1 to0.1 from0.2 to0.2 in
+    let keeps0 : KeepsMachine p q h k before after = subst (λ (p : Manager). KeepsMachine p q h k before after) (sym c.self.view_is) x0.keeps in
+    let gave = err_from_is_err_and c.from_residual.result c.from_residual.ensures.1 in
+    let trouble = c.in_err-make_ready.field-0.0 in
+    let is : c.from_residual.result ≡ Err trouble = gave.1 ∙ ap (λ t. Err t) gave.2 in
+    let wrong : IsNotReady (replaced s) p h q k trouble = subst (λ (e : Extent). IsNotReady e p h q k trouble) c.destination.ensures
+        (subst (λ (p : Manager). IsNotReady c.destination.result p h q k trouble) (sym c.self.view_is) (subst (λ (r : Result _ Trouble). IfErr r (IsNotReady c.destination.result c.args.self.now h q k)) c.in_err-make_ready.was x0.not_ready)) in
+    subst (λ (p : Manager). CallIs before after (state_at p h) (commands.Copy s) (done_by c.from_residual.result) (state_at q k)) c.self.view_is
+    (subst (λ (r : Result _ Trouble). CallIs before after (state_at p h) (commands.Copy s) (done_by r) (state_at q k)) (sym is)
+    (transfer_failed p q h k before after s (commands.Copy s) transfer keeps0 c.self.invariant.nodes x0.whole valid0 x0.valid open0.to open0.to_is open0.to_ends trouble wrong (λ at e. x0.cause at (c.in_err-make_ready.was ∙ ap (λ t. Err t) e))))
+
+pub returns-in_err-make_ready-clause-made : goal.returns-in_err-make_ready-clause-made
+returns-in_err-make_ready-clause-made g c =
     let i = c.self.inside in
-    let r = c.reserve.ensures in
-    let roomy = reserved i.caches c.reserve.new.self i.store i.contexts i.live r.kept r.no_less.0 r.forest (r.sound c.self.invariant.nodes.sound) c.self.invariant in
-    roomy.valid h (subst (λ (p : Manager). IsValid p h) (sym c.self.view_is) c.requires.valid)
+    let s = c.args.span in
+    let open0 = is_open (size_of i.caches s.from.0) (size_of i.caches s.to.0) s (sym c.copy_refusal.ensures ∙ c.in_default.is) in
+    let q = c.make_ready.new.self in
+    let x0 = c.make_ready.ensures in
+    let h = g.M.Mapper.held c.args.mapper.now in
+    let k = g.M.Mapper.held c.make_ready.new.mapper in
+    let before = g.M.Mapper.counts c.args.mapper.now in
+    let after = g.M.Mapper.counts c.make_ready.new.mapper in
+    let p : Manager = seen i.caches i.store i.contexts in
+    let valid0 = (subst (λ (p : Manager). IsValid p h) (sym c.self.view_is) c.requires.valid) in
+    let from0 = sized_table (table_of i.caches s.from.0) open0.from open0.from_is in
+    let to0 = sized_table (table_of i.caches s.to.0) open0.to open0.to_is in
+    let transfer = copied_transfer i.caches i.store i.contexts i.live c.self.invariant s open0 from0.0 to0.0 from0.1 to0.1 from0.2 to0.2 in
+    let keeps0 : KeepsMachine p q h k before after = subst (λ (p : Manager). KeepsMachine p q h k before after) (sym c.self.view_is) x0.keeps in
+    let gave = err_from_is_err_and c.from_residual.result c.from_residual.ensures.1 in
+    let trouble = c.in_err-make_ready.field-0.0 in
+    let is : c.from_residual.result ≡ Err trouble = gave.1 ∙ ap (λ t. Err t) gave.2 in
+    let wrong : IsNotReady (replaced s) p h q k trouble = subst (λ (e : Extent). IsNotReady e p h q k trouble) c.destination.ensures
+        (subst (λ (p : Manager). IsNotReady c.destination.result p h q k trouble) (sym c.self.view_is) (subst (λ (r : Result _ Trouble). IfErr r (IsNotReady c.destination.result c.args.self.now h q k)) c.in_err-make_ready.was x0.not_ready)) in
+    subst (λ (p : Manager). RaisesMade (machine_of p h) (commands.Copy s) (done_by c.from_residual.result) (numbered p) (numbered q)) c.self.view_is
+    (subst (λ (r : Result _ Trouble). RaisesMade (machine_of p h) (commands.Copy s) (done_by r) (numbered p) (numbered q)) (sym is) (failed_made p q h k before after s (commands.Copy s) transfer keeps0 c.self.invariant.nodes trouble wrong))
+
+pub returns-in_err-make_ready-clause-copies : goal.returns-in_err-make_ready-clause-copies
+returns-in_err-make_ready-clause-copies g c =
+    let i = c.self.inside in
+    let s = c.args.span in
+    let open0 = is_open (size_of i.caches s.from.0) (size_of i.caches s.to.0) s (sym c.copy_refusal.ensures ∙ c.in_default.is) in
+    let q = c.make_ready.new.self in
+    let x0 = c.make_ready.ensures in
+    let h = g.M.Mapper.held c.args.mapper.now in
+    let k = g.M.Mapper.held c.make_ready.new.mapper in
+    let before = g.M.Mapper.counts c.args.mapper.now in
+    let after = g.M.Mapper.counts c.make_ready.new.mapper in
+    let p : Manager = seen i.caches i.store i.contexts in
+    let valid0 = (subst (λ (p : Manager). IsValid p h) (sym c.self.view_is) c.requires.valid) in
+    let from0 = sized_table (table_of i.caches s.from.0) open0.from open0.from_is in
+    let to0 = sized_table (table_of i.caches s.to.0) open0.to open0.to_is in
+    let transfer = copied_transfer i.caches i.store i.contexts i.live c.self.invariant s open0 from0.0 to0.0 from0.1 to0.1 from0.2 to0.2 in
+    let keeps0 : KeepsMachine p q h k before after = subst (λ (p : Manager). KeepsMachine p q h k before after) (sym c.self.view_is) x0.keeps in
+    let gave = err_from_is_err_and c.from_residual.result c.from_residual.ensures.1 in
+    let trouble = c.in_err-make_ready.field-0.0 in
+    let is : c.from_residual.result ≡ Err trouble = gave.1 ∙ ap (λ t. Err t) gave.2 in
+    let wrong : IsNotReady (replaced s) p h q k trouble = subst (λ (e : Extent). IsNotReady e p h q k trouble) c.destination.ensures
+        (subst (λ (p : Manager). IsNotReady c.destination.result p h q k trouble) (sym c.self.view_is) (subst (λ (r : Result _ Trouble). IfErr r (IsNotReady c.destination.result c.args.self.now h q k)) c.in_err-make_ready.was x0.not_ready)) in
+    subst (λ (p : Manager). CopiesSaved (replaced s) p h q c.from_residual.result) c.self.view_is
+    (subst (λ (r : Result _ Trouble). CopiesSaved (replaced s) p h q r) (sym is) (failed_copied p q h k before after s (commands.Copy s) transfer keeps0 c.self.invariant.nodes trouble wrong))
+
+pub returns-in_err-make_ready-clause-refused : goal.returns-in_err-make_ready-clause-refused
+returns-in_err-make_ready-clause-refused g c =
+    let i = c.self.inside in
+    let s = c.args.span in
+    let open0 = is_open (size_of i.caches s.from.0) (size_of i.caches s.to.0) s (sym c.copy_refusal.ensures ∙ c.in_default.is) in
+    let q = c.make_ready.new.self in
+    let x0 = c.make_ready.ensures in
+    let h = g.M.Mapper.held c.args.mapper.now in
+    let k = g.M.Mapper.held c.make_ready.new.mapper in
+    let before = g.M.Mapper.counts c.args.mapper.now in
+    let after = g.M.Mapper.counts c.make_ready.new.mapper in
+    let p : Manager = seen i.caches i.store i.contexts in
+    let valid0 = (subst (λ (p : Manager). IsValid p h) (sym c.self.view_is) c.requires.valid) in
+    let from0 = sized_table (table_of i.caches s.from.0) open0.from open0.from_is in
+    let to0 = sized_table (table_of i.caches s.to.0) open0.to open0.to_is in
+    let transfer = copied_transfer i.caches i.store i.contexts i.live c.self.invariant s open0 from0.0 to0.0 from0.1 to0.1 from0.2 to0.2 in
+    let keeps0 : KeepsMachine p q h k before after = subst (λ (p : Manager). KeepsMachine p q h k before after) (sym c.self.view_is) x0.keeps in
+    let gave = err_from_is_err_and c.from_residual.result c.from_residual.ensures.1 in
+    let trouble = c.in_err-make_ready.field-0.0 in
+    let is : c.from_residual.result ≡ Err trouble = gave.1 ∙ ap (λ t. Err t) gave.2 in
+    let wrong : IsNotReady (replaced s) p h q k trouble = subst (λ (e : Extent). IsNotReady e p h q k trouble) c.destination.ensures
+        (subst (λ (p : Manager). IsNotReady c.destination.result p h q k trouble) (sym c.self.view_is) (subst (λ (r : Result _ Trouble). IfErr r (IsNotReady c.destination.result c.args.self.now h q k)) c.in_err-make_ready.was x0.not_ready)) in
+    λ r e other. absurd (failed_refused p q h k before after s (commands.Copy s) transfer keeps0 c.self.invariant.nodes trouble wrong r (let x : Err trouble ≡ Err (troubles.Refused r) = sym is ∙ e in cc x) other)
+
+pub returns-in_err-make_ready-clause-idle : goal.returns-in_err-make_ready-clause-idle
+returns-in_err-make_ready-clause-idle g c =
+    let i = c.self.inside in
+    let s = c.args.span in
+    let open0 = is_open (size_of i.caches s.from.0) (size_of i.caches s.to.0) s (sym c.copy_refusal.ensures ∙ c.in_default.is) in
+    let q = c.make_ready.new.self in
+    let x0 = c.make_ready.ensures in
+    let h = g.M.Mapper.held c.args.mapper.now in
+    let k = g.M.Mapper.held c.make_ready.new.mapper in
+    let before = g.M.Mapper.counts c.args.mapper.now in
+    let after = g.M.Mapper.counts c.make_ready.new.mapper in
+    let p : Manager = seen i.caches i.store i.contexts in
+    let valid0 = (subst (λ (p : Manager). IsValid p h) (sym c.self.view_is) c.requires.valid) in
+    let from0 = sized_table (table_of i.caches s.from.0) open0.from open0.from_is in
+    let to0 = sized_table (table_of i.caches s.to.0) open0.to open0.to_is in
+    let transfer = copied_transfer i.caches i.store i.contexts i.live c.self.invariant s open0 from0.0 to0.0 from0.1 to0.1 from0.2 to0.2 in
+    let keeps0 : KeepsMachine p q h k before after = subst (λ (p : Manager). KeepsMachine p q h k before after) (sym c.self.view_is) x0.keeps in
+    let gave = err_from_is_err_and c.from_residual.result c.from_residual.ensures.1 in
+    let trouble = c.in_err-make_ready.field-0.0 in
+    let is : c.from_residual.result ≡ Err trouble = gave.1 ∙ ap (λ t. Err t) gave.2 in
+    let wrong : IsNotReady (replaced s) p h q k trouble = subst (λ (e : Extent). IsNotReady e p h q k trouble) c.destination.ensures
+        (subst (λ (p : Manager). IsNotReady c.destination.result p h q k trouble) (sym c.self.view_is) (subst (λ (r : Result _ Trouble). IfErr r (IsNotReady c.destination.result c.args.self.now h q k)) c.in_err-make_ready.was x0.not_ready)) in
+    λ nothing.
+    let idle = x0.idle (subst (NeedsNothing c.args.self.now.caches) (sym c.destination.ensures) nothing) in (
+      idle.0,
+      idle.1,
+      copies_nothing c.args.self.now q idle.2,
+      subst (λ (r : Result _ Trouble). OnErr r (HasMoreRoom c.args.self.now q)) (sym is) idle.2,
+    )
 
 pub copy_pages-requires-clause-tied : goal.copy_pages-requires-clause-tied
 copy_pages-requires-clause-tied g c =
+    let i = c.self.inside in
+    let s = c.args.span in
+    let open0 = is_open (size_of i.caches s.from.0) (size_of i.caches s.to.0) s (sym c.copy_refusal.ensures ∙ c.in_default.is) in
+    let q = c.make_ready.new.self in
+    let x0 = c.make_ready.ensures in
     let h = g.M.Mapper.held c.args.mapper.now in
-    let i = c.self.inside in
-    let r = c.reserve.ensures in
-    let roomy = reserved i.caches c.reserve.new.self i.store i.contexts i.live r.kept r.no_less.0 r.forest (r.sound c.self.invariant.nodes.sound) c.self.invariant in
-    let valid = subst (λ (p : Manager). IsValid p h) (sym c.self.view_is) c.requires.valid in
-    roomy.tied h valid
-
-pub copy_pages-requires-clause-whole : goal.copy_pages-requires-clause-whole
-copy_pages-requires-clause-whole g c =
-    let i = c.self.inside in
-    let r = c.reserve.ensures in
-    let roomy = reserved i.caches c.reserve.new.self i.store i.contexts i.live r.kept r.no_less.0 r.forest (r.sound c.self.invariant.nodes.sound) c.self.invariant in
-    let k = roomy.sound in
-    k.nodes
+    let k = g.M.Mapper.held c.make_ready.new.mapper in
+    let before = g.M.Mapper.counts c.args.mapper.now in
+    let after = g.M.Mapper.counts c.make_ready.new.mapper in
+    let p : Manager = seen i.caches i.store i.contexts in
+    let valid0 = (subst (λ (p : Manager). IsValid p h) (sym c.self.view_is) c.requires.valid) in
+    let from0 = sized_table (table_of i.caches s.from.0) open0.from open0.from_is in
+    let to0 = sized_table (table_of i.caches s.to.0) open0.to open0.to_is in
+    let transfer = copied_transfer i.caches i.store i.contexts i.live c.self.invariant s open0 from0.0 to0.0 from0.1 to0.1 from0.2 to0.2 in
+    let keeps0 : KeepsMachine p q h k before after = subst (λ (p : Manager). KeepsMachine p q h k before after) (sym c.self.view_is) x0.keeps in
+    let j = c.self-2.inside in
+    let v2 = c.self-2.view_is in
+    let b : Manager = seen j.caches j.store j.contexts in
+    let sound = c.self-2.invariant in
+    let valid : IsValid b k = subst (λ (p : Manager). IsValid p k) (sym v2) x0.valid in
+    let keeps : KeepsMachine p b h k before after = subst (λ (r : Manager). KeepsMachine p r h k before after) (sym v2) keeps0 in
+    let ready : IsReady (replaced s) (2 * c.args.span.pages) p b h k = subst (λ (e : Extent). IsReady e (2 * c.args.span.pages) p b h k) c.destination.ensures
+        (subst (λ (r : Manager). IsReady c.destination.result (2 * c.args.span.pages) p r h k) (sym v2) (subst (λ (p : Manager). IsReady c.destination.result (2 * c.args.span.pages) p q h k) (sym c.self.view_is) c.in_ok-make_ready.ensures.ready)) in
+    let out : IsOpen (size_of j.caches s.from.0) (size_of j.caches s.to.0) s = record {
+      from = open0.from;
+      to = open0.to;
+      from_is = keeps.same.sizes s.from.0 ∙ open0.from_is;
+      to_is = keeps.same.sizes s.to.0 ∙ open0.to_is;
+      from_ends = open0.from_ends;
+      to_ends = open0.to_ends;
+      apart = open0.apart;
+    } in
+    let tied = tied_right k None j.caches j.store valid.right in
+    tied
 
 pub copy_pages-requires-clause-can : goal.copy_pages-requires-clause-can
 copy_pages-requires-clause-can g c =
     let i = c.self.inside in
-    let r = c.reserve.ensures in
     let s = c.args.span in
-    let b = c.reserve.new.self in
-    let roomy = reserved i.caches b i.store i.contexts i.live r.kept r.no_less.0 r.forest (r.sound c.self.invariant.nodes.sound) c.self.invariant in
-    let k = roomy.sound in
-    let out = subst (λ a. IsOpen (size_of a s.from.0) (size_of a s.to.0) s) (sym r.kept) (is_open (size_of i.caches s.from.0) (size_of i.caches s.to.0) s (sym c.span_refusal.ensures ∙ none_of_option c.span_refusal.result c.in_default.not-Some)) in
-    can_copy b k.nodes s out
+    let open0 = is_open (size_of i.caches s.from.0) (size_of i.caches s.to.0) s (sym c.copy_refusal.ensures ∙ c.in_default.is) in
+    let q = c.make_ready.new.self in
+    let x0 = c.make_ready.ensures in
+    let h = g.M.Mapper.held c.args.mapper.now in
+    let k = g.M.Mapper.held c.make_ready.new.mapper in
+    let before = g.M.Mapper.counts c.args.mapper.now in
+    let after = g.M.Mapper.counts c.make_ready.new.mapper in
+    let p : Manager = seen i.caches i.store i.contexts in
+    let valid0 = (subst (λ (p : Manager). IsValid p h) (sym c.self.view_is) c.requires.valid) in
+    let from0 = sized_table (table_of i.caches s.from.0) open0.from open0.from_is in
+    let to0 = sized_table (table_of i.caches s.to.0) open0.to open0.to_is in
+    let transfer = copied_transfer i.caches i.store i.contexts i.live c.self.invariant s open0 from0.0 to0.0 from0.1 to0.1 from0.2 to0.2 in
+    let keeps0 : KeepsMachine p q h k before after = subst (λ (p : Manager). KeepsMachine p q h k before after) (sym c.self.view_is) x0.keeps in
+    let j = c.self-2.inside in
+    let v2 = c.self-2.view_is in
+    let b : Manager = seen j.caches j.store j.contexts in
+    let sound = c.self-2.invariant in
+    let valid : IsValid b k = subst (λ (p : Manager). IsValid p k) (sym v2) x0.valid in
+    let keeps : KeepsMachine p b h k before after = subst (λ (r : Manager). KeepsMachine p r h k before after) (sym v2) keeps0 in
+    let ready : IsReady (replaced s) (2 * c.args.span.pages) p b h k = subst (λ (e : Extent). IsReady e (2 * c.args.span.pages) p b h k) c.destination.ensures
+        (subst (λ (r : Manager). IsReady c.destination.result (2 * c.args.span.pages) p r h k) (sym v2) (subst (λ (p : Manager). IsReady c.destination.result (2 * c.args.span.pages) p q h k) (sym c.self.view_is) c.in_ok-make_ready.ensures.ready)) in
+    let out : IsOpen (size_of j.caches s.from.0) (size_of j.caches s.to.0) s = record {
+      from = open0.from;
+      to = open0.to;
+      from_is = keeps.same.sizes s.from.0 ∙ open0.from_is;
+      to_is = keeps.same.sizes s.to.0 ∙ open0.to_is;
+      from_ends = open0.from_ends;
+      to_ends = open0.to_ends;
+      apart = open0.apart;
+    } in
+    let tied = tied_right k None j.caches j.store valid.right in
+    can_copy j.caches sound.nodes s out
+
+pub copy_pages-requires-clause-saved : goal.copy_pages-requires-clause-saved
+copy_pages-requires-clause-saved g c =
+    let i = c.self.inside in
+    let s = c.args.span in
+    let open0 = is_open (size_of i.caches s.from.0) (size_of i.caches s.to.0) s (sym c.copy_refusal.ensures ∙ c.in_default.is) in
+    let q = c.make_ready.new.self in
+    let x0 = c.make_ready.ensures in
+    let h = g.M.Mapper.held c.args.mapper.now in
+    let k = g.M.Mapper.held c.make_ready.new.mapper in
+    let before = g.M.Mapper.counts c.args.mapper.now in
+    let after = g.M.Mapper.counts c.make_ready.new.mapper in
+    let p : Manager = seen i.caches i.store i.contexts in
+    let valid0 = (subst (λ (p : Manager). IsValid p h) (sym c.self.view_is) c.requires.valid) in
+    let from0 = sized_table (table_of i.caches s.from.0) open0.from open0.from_is in
+    let to0 = sized_table (table_of i.caches s.to.0) open0.to open0.to_is in
+    let transfer = copied_transfer i.caches i.store i.contexts i.live c.self.invariant s open0 from0.0 to0.0 from0.1 to0.1 from0.2 to0.2 in
+    let keeps0 : KeepsMachine p q h k before after = subst (λ (p : Manager). KeepsMachine p q h k before after) (sym c.self.view_is) x0.keeps in
+    let j = c.self-2.inside in
+    let v2 = c.self-2.view_is in
+    let b : Manager = seen j.caches j.store j.contexts in
+    let sound = c.self-2.invariant in
+    let valid : IsValid b k = subst (λ (p : Manager). IsValid p k) (sym v2) x0.valid in
+    let keeps : KeepsMachine p b h k before after = subst (λ (r : Manager). KeepsMachine p r h k before after) (sym v2) keeps0 in
+    let ready : IsReady (replaced s) (2 * c.args.span.pages) p b h k = subst (λ (e : Extent). IsReady e (2 * c.args.span.pages) p b h k) c.destination.ensures
+        (subst (λ (r : Manager). IsReady c.destination.result (2 * c.args.span.pages) p r h k) (sym v2) (subst (λ (p : Manager). IsReady c.destination.result (2 * c.args.span.pages) p q h k) (sym c.self.view_is) c.in_ok-make_ready.ensures.ready)) in
+    let out : IsOpen (size_of j.caches s.from.0) (size_of j.caches s.to.0) s = record {
+      from = open0.from;
+      to = open0.to;
+      from_is = keeps.same.sizes s.from.0 ∙ open0.from_is;
+      to_is = keeps.same.sizes s.to.0 ∙ open0.to_is;
+      from_ends = open0.from_ends;
+      to_ends = open0.to_ends;
+      apart = open0.apart;
+    } in
+    let tied = tied_right k None j.caches j.store valid.right in
+    subst (AreSaved j.caches s.to) (sym (destination_names s)) ready.saved_now
+
+pub copy_pages-requires-clause-granted : goal.copy_pages-requires-clause-granted
+copy_pages-requires-clause-granted g c =
+    let i = c.self.inside in
+    let s = c.args.span in
+    let open0 = is_open (size_of i.caches s.from.0) (size_of i.caches s.to.0) s (sym c.copy_refusal.ensures ∙ c.in_default.is) in
+    let q = c.make_ready.new.self in
+    let x0 = c.make_ready.ensures in
+    let h = g.M.Mapper.held c.args.mapper.now in
+    let k = g.M.Mapper.held c.make_ready.new.mapper in
+    let before = g.M.Mapper.counts c.args.mapper.now in
+    let after = g.M.Mapper.counts c.make_ready.new.mapper in
+    let p : Manager = seen i.caches i.store i.contexts in
+    let valid0 = (subst (λ (p : Manager). IsValid p h) (sym c.self.view_is) c.requires.valid) in
+    let from0 = sized_table (table_of i.caches s.from.0) open0.from open0.from_is in
+    let to0 = sized_table (table_of i.caches s.to.0) open0.to open0.to_is in
+    let transfer = copied_transfer i.caches i.store i.contexts i.live c.self.invariant s open0 from0.0 to0.0 from0.1 to0.1 from0.2 to0.2 in
+    let keeps0 : KeepsMachine p q h k before after = subst (λ (p : Manager). KeepsMachine p q h k before after) (sym c.self.view_is) x0.keeps in
+    let j = c.self-2.inside in
+    let v2 = c.self-2.view_is in
+    let b : Manager = seen j.caches j.store j.contexts in
+    let sound = c.self-2.invariant in
+    let valid : IsValid b k = subst (λ (p : Manager). IsValid p k) (sym v2) x0.valid in
+    let keeps : KeepsMachine p b h k before after = subst (λ (r : Manager). KeepsMachine p r h k before after) (sym v2) keeps0 in
+    let ready : IsReady (replaced s) (2 * c.args.span.pages) p b h k = subst (λ (e : Extent). IsReady e (2 * c.args.span.pages) p b h k) c.destination.ensures
+        (subst (λ (r : Manager). IsReady c.destination.result (2 * c.args.span.pages) p r h k) (sym v2) (subst (λ (p : Manager). IsReady c.destination.result (2 * c.args.span.pages) p q h k) (sym c.self.view_is) c.in_ok-make_ready.ensures.ready)) in
+    let out : IsOpen (size_of j.caches s.from.0) (size_of j.caches s.to.0) s = record {
+      from = open0.from;
+      to = open0.to;
+      from_is = keeps.same.sizes s.from.0 ∙ open0.from_is;
+      to_is = keeps.same.sizes s.to.0 ∙ open0.to_is;
+      from_ends = open0.from_ends;
+      to_ends = open0.to_ends;
+      apart = open0.apart;
+    } in
+    let tied = tied_right k None j.caches j.store valid.right in
+    names_written j.caches s ready.writable
 
 pub copy_pages-requires-clause-few : goal.copy_pages-requires-clause-few
 copy_pages-requires-clause-few g c =
     let i = c.self.inside in
-    let r = c.reserve.ensures in
     let s = c.args.span in
-    let out = is_open (size_of i.caches s.from.0) (size_of i.caches s.to.0) s (sym c.span_refusal.ensures ∙ none_of_option c.span_refusal.result c.in_default.not-Some) in
-    omega (arith, ap (λ f. Rattle.vm_ids.specs.Forest.NameMap.len f.nodes) r.forest, forest_len i.caches, nodes_most c.self.invariant, c.self.invariant.few, c.self.invariant.counted, size_le i.caches s.from.0 out.from out.from_is, out.from_ends)
-
-pub returns-in_err-reserve-clause-answers : goal.returns-in_err-reserve-clause-answers
-returns-in_err-reserve-clause-answers g c =
+    let open0 = is_open (size_of i.caches s.from.0) (size_of i.caches s.to.0) s (sym c.copy_refusal.ensures ∙ c.in_default.is) in
+    let q = c.make_ready.new.self in
+    let x0 = c.make_ready.ensures in
     let h = g.M.Mapper.held c.args.mapper.now in
-    let counts = g.M.Mapper.counts c.args.mapper.now in
-    let i = c.self.inside in
-    let r = c.reserve.ensures in
-    let s = c.args.span in
-    let b = c.reserve.new.self in
-    let roomy = reserved i.caches b i.store i.contexts i.live r.kept r.no_less.0 r.forest (r.sound c.self.invariant.nodes.sound) c.self.invariant in
-    let k = roomy.sound in
+    let k = g.M.Mapper.held c.make_ready.new.mapper in
+    let before = g.M.Mapper.counts c.args.mapper.now in
+    let after = g.M.Mapper.counts c.make_ready.new.mapper in
     let p : Manager = seen i.caches i.store i.contexts in
-    let q : Manager = seen b i.store i.contexts in
-    let command = commands.Copy s in
-    let answer : Answer = Err troubles.Memory in
-    let out = is_open (size_of i.caches s.from.0) (size_of i.caches s.to.0) s (sym c.span_refusal.ensures ∙ none_of_option c.span_refusal.result c.in_default.not-Some) in
-    let from = sized_table _ out.from out.from_is in
-    let to = sized_table _ out.to out.to_is in
-    let gave = err_from_is_err_and c.from_residual.result c.from_residual.ensures.1 in
-    let is : c.from_residual.result ≡ Err troubles.Memory = gave.1 ∙ ap (λ t. Err t) gave.2 in
-    subst (λ (p : Manager). CallIs counts counts (state_at p h) command (done_by c.from_residual.result) (state_at q h)) c.self.view_is
-    (subst (λ (r : Result _ _). CallIs counts counts (state_at p h) command (done_by r) (state_at q h)) (sym is)
-    (failed counts counts (no_later counts) p q h h command answer c.self.invariant.nodes k.nodes refl (roomy.forest h) refl tt
-    (λ f sg. (
-      roomy.by f,
-      tt,
-      (let line = copied_row i.caches i.store i.contexts i.live c.self.invariant s out from.0 to.0 from.1 to.1 from.2 to.2 f sg in rw line tt),
-    ))))
+    let valid0 = (subst (λ (p : Manager). IsValid p h) (sym c.self.view_is) c.requires.valid) in
+    let from0 = sized_table (table_of i.caches s.from.0) open0.from open0.from_is in
+    let to0 = sized_table (table_of i.caches s.to.0) open0.to open0.to_is in
+    let transfer = copied_transfer i.caches i.store i.contexts i.live c.self.invariant s open0 from0.0 to0.0 from0.1 to0.1 from0.2 to0.2 in
+    let keeps0 : KeepsMachine p q h k before after = subst (λ (p : Manager). KeepsMachine p q h k before after) (sym c.self.view_is) x0.keeps in
+    let j = c.self-2.inside in
+    let v2 = c.self-2.view_is in
+    let b : Manager = seen j.caches j.store j.contexts in
+    let sound = c.self-2.invariant in
+    let valid : IsValid b k = subst (λ (p : Manager). IsValid p k) (sym v2) x0.valid in
+    let keeps : KeepsMachine p b h k before after = subst (λ (r : Manager). KeepsMachine p r h k before after) (sym v2) keeps0 in
+    let ready : IsReady (replaced s) (2 * c.args.span.pages) p b h k = subst (λ (e : Extent). IsReady e (2 * c.args.span.pages) p b h k) c.destination.ensures
+        (subst (λ (r : Manager). IsReady c.destination.result (2 * c.args.span.pages) p r h k) (sym v2) (subst (λ (p : Manager). IsReady c.destination.result (2 * c.args.span.pages) p q h k) (sym c.self.view_is) c.in_ok-make_ready.ensures.ready)) in
+    let out : IsOpen (size_of j.caches s.from.0) (size_of j.caches s.to.0) s = record {
+      from = open0.from;
+      to = open0.to;
+      from_is = keeps.same.sizes s.from.0 ∙ open0.from_is;
+      to_is = keeps.same.sizes s.to.0 ∙ open0.to_is;
+      from_ends = open0.from_ends;
+      to_ends = open0.to_ends;
+      apart = open0.apart;
+    } in
+    let tied = tied_right k None j.caches j.store valid.right in
+    omega (arith, forest_len j.caches, nodes_most sound, sound.few, sound.counted, size_le j.caches s.from.0 out.from out.from_is, out.from_ends)
 
-pub invariant_of-self-2 : goal.invariant_of-self-2
-invariant_of-self-2 g c =
-    let h = g.M.Mapper.held c.args.mapper.now in
-    let counts = g.M.Mapper.counts c.args.mapper.now in
+pub copy_pages-requires-clause-within : goal.copy_pages-requires-clause-within
+copy_pages-requires-clause-within g c =
     let i = c.self.inside in
-    let r = c.reserve.ensures in
     let s = c.args.span in
-    let b = c.reserve.new.self in
-    let roomy = reserved i.caches b i.store i.contexts i.live r.kept r.no_less.0 r.forest (r.sound c.self.invariant.nodes.sound) c.self.invariant in
-    let k = roomy.sound in
+    let open0 = is_open (size_of i.caches s.from.0) (size_of i.caches s.to.0) s (sym c.copy_refusal.ensures ∙ c.in_default.is) in
+    let q = c.make_ready.new.self in
+    let x0 = c.make_ready.ensures in
+    let h = g.M.Mapper.held c.args.mapper.now in
+    let k = g.M.Mapper.held c.make_ready.new.mapper in
+    let before = g.M.Mapper.counts c.args.mapper.now in
+    let after = g.M.Mapper.counts c.make_ready.new.mapper in
+    let p : Manager = seen i.caches i.store i.contexts in
+    let valid0 = (subst (λ (p : Manager). IsValid p h) (sym c.self.view_is) c.requires.valid) in
+    let from0 = sized_table (table_of i.caches s.from.0) open0.from open0.from_is in
+    let to0 = sized_table (table_of i.caches s.to.0) open0.to open0.to_is in
+    let transfer = copied_transfer i.caches i.store i.contexts i.live c.self.invariant s open0 from0.0 to0.0 from0.1 to0.1 from0.2 to0.2 in
+    let keeps0 : KeepsMachine p q h k before after = subst (λ (p : Manager). KeepsMachine p q h k before after) (sym c.self.view_is) x0.keeps in
+    let j = c.self-2.inside in
+    let v2 = c.self-2.view_is in
+    let b : Manager = seen j.caches j.store j.contexts in
+    let sound = c.self-2.invariant in
+    let valid : IsValid b k = subst (λ (p : Manager). IsValid p k) (sym v2) x0.valid in
+    let keeps : KeepsMachine p b h k before after = subst (λ (r : Manager). KeepsMachine p r h k before after) (sym v2) keeps0 in
+    let ready : IsReady (replaced s) (2 * c.args.span.pages) p b h k = subst (λ (e : Extent). IsReady e (2 * c.args.span.pages) p b h k) c.destination.ensures
+        (subst (λ (r : Manager). IsReady c.destination.result (2 * c.args.span.pages) p r h k) (sym v2) (subst (λ (p : Manager). IsReady c.destination.result (2 * c.args.span.pages) p q h k) (sym c.self.view_is) c.in_ok-make_ready.ensures.ready)) in
+    let out : IsOpen (size_of j.caches s.from.0) (size_of j.caches s.to.0) s = record {
+      from = open0.from;
+      to = open0.to;
+      from_is = keeps.same.sizes s.from.0 ∙ open0.from_is;
+      to_is = keeps.same.sizes s.to.0 ∙ open0.to_is;
+      from_ends = open0.from_ends;
+      to_ends = open0.to_ends;
+      apart = open0.apart;
+    } in
+    let tied = tied_right k None j.caches j.store valid.right in
+    (omega (arith, sound.few, sound.counted, size_le j.caches s.from.0 out.from out.from_is, out.from_ends), omega (arith, sound.few, sound.counted, size_le j.caches s.to.0 out.to out.to_is, out.to_ends))
+
+pub copy_pages-requires-clause-room : goal.copy_pages-requires-clause-room
+copy_pages-requires-clause-room g c =
+    let i = c.self.inside in
+    let s = c.args.span in
+    let open0 = is_open (size_of i.caches s.from.0) (size_of i.caches s.to.0) s (sym c.copy_refusal.ensures ∙ c.in_default.is) in
+    let q = c.make_ready.new.self in
+    let x0 = c.make_ready.ensures in
+    let h = g.M.Mapper.held c.args.mapper.now in
+    let k = g.M.Mapper.held c.make_ready.new.mapper in
+    let before = g.M.Mapper.counts c.args.mapper.now in
+    let after = g.M.Mapper.counts c.make_ready.new.mapper in
+    let p : Manager = seen i.caches i.store i.contexts in
+    let valid0 = (subst (λ (p : Manager). IsValid p h) (sym c.self.view_is) c.requires.valid) in
+    let from0 = sized_table (table_of i.caches s.from.0) open0.from open0.from_is in
+    let to0 = sized_table (table_of i.caches s.to.0) open0.to open0.to_is in
+    let transfer = copied_transfer i.caches i.store i.contexts i.live c.self.invariant s open0 from0.0 to0.0 from0.1 to0.1 from0.2 to0.2 in
+    let keeps0 : KeepsMachine p q h k before after = subst (λ (p : Manager). KeepsMachine p q h k before after) (sym c.self.view_is) x0.keeps in
+    let j = c.self-2.inside in
+    let v2 = c.self-2.view_is in
+    let b : Manager = seen j.caches j.store j.contexts in
+    let sound = c.self-2.invariant in
+    let valid : IsValid b k = subst (λ (p : Manager). IsValid p k) (sym v2) x0.valid in
+    let keeps : KeepsMachine p b h k before after = subst (λ (r : Manager). KeepsMachine p r h k before after) (sym v2) keeps0 in
+    let ready : IsReady (replaced s) (2 * c.args.span.pages) p b h k = subst (λ (e : Extent). IsReady e (2 * c.args.span.pages) p b h k) c.destination.ensures
+        (subst (λ (r : Manager). IsReady c.destination.result (2 * c.args.span.pages) p r h k) (sym v2) (subst (λ (p : Manager). IsReady c.destination.result (2 * c.args.span.pages) p q h k) (sym c.self.view_is) c.in_ok-make_ready.ensures.ready)) in
+    let out : IsOpen (size_of j.caches s.from.0) (size_of j.caches s.to.0) s = record {
+      from = open0.from;
+      to = open0.to;
+      from_is = keeps.same.sizes s.from.0 ∙ open0.from_is;
+      to_is = keeps.same.sizes s.to.0 ∙ open0.to_is;
+      from_ends = open0.from_ends;
+      to_ends = open0.to_ends;
+      apart = open0.apart;
+    } in
+    let tied = tied_right k None j.caches j.store valid.right in
+    ready.room
+
+pub copy_pages-requires-clause-made : goal.copy_pages-requires-clause-made
+copy_pages-requires-clause-made g c =
+    let i = c.self.inside in
+    let s = c.args.span in
+    let open0 = is_open (size_of i.caches s.from.0) (size_of i.caches s.to.0) s (sym c.copy_refusal.ensures ∙ c.in_default.is) in
+    let q = c.make_ready.new.self in
+    let x0 = c.make_ready.ensures in
+    let h = g.M.Mapper.held c.args.mapper.now in
+    let k = g.M.Mapper.held c.make_ready.new.mapper in
+    let before = g.M.Mapper.counts c.args.mapper.now in
+    let after = g.M.Mapper.counts c.make_ready.new.mapper in
+    let p : Manager = seen i.caches i.store i.contexts in
+    let valid0 = (subst (λ (p : Manager). IsValid p h) (sym c.self.view_is) c.requires.valid) in
+    let from0 = sized_table (table_of i.caches s.from.0) open0.from open0.from_is in
+    let to0 = sized_table (table_of i.caches s.to.0) open0.to open0.to_is in
+    let transfer = copied_transfer i.caches i.store i.contexts i.live c.self.invariant s open0 from0.0 to0.0 from0.1 to0.1 from0.2 to0.2 in
+    let keeps0 : KeepsMachine p q h k before after = subst (λ (p : Manager). KeepsMachine p q h k before after) (sym c.self.view_is) x0.keeps in
+    let j = c.self-2.inside in
+    let v2 = c.self-2.view_is in
+    let b : Manager = seen j.caches j.store j.contexts in
+    let sound = c.self-2.invariant in
+    let valid : IsValid b k = subst (λ (p : Manager). IsValid p k) (sym v2) x0.valid in
+    let keeps : KeepsMachine p b h k before after = subst (λ (r : Manager). KeepsMachine p r h k before after) (sym v2) keeps0 in
+    let ready : IsReady (replaced s) (2 * c.args.span.pages) p b h k = subst (λ (e : Extent). IsReady e (2 * c.args.span.pages) p b h k) c.destination.ensures
+        (subst (λ (r : Manager). IsReady c.destination.result (2 * c.args.span.pages) p r h k) (sym v2) (subst (λ (p : Manager). IsReady c.destination.result (2 * c.args.span.pages) p q h k) (sym c.self.view_is) c.in_ok-make_ready.ensures.ready)) in
+    let out : IsOpen (size_of j.caches s.from.0) (size_of j.caches s.to.0) s = record {
+      from = open0.from;
+      to = open0.to;
+      from_is = keeps.same.sizes s.from.0 ∙ open0.from_is;
+      to_is = keeps.same.sizes s.to.0 ∙ open0.to_is;
+      from_ends = open0.from_ends;
+      to_ends = open0.to_ends;
+      apart = open0.apart;
+    } in
+    let tied = tied_right k None j.caches j.store valid.right in
+    omega (arith, keeps.made, c.requires.made, ap numbered c.self.view_is, sound.few, sound.counted, size_le j.caches s.from.0 out.from out.from_is, out.from_ends)
+
+pub invariant_of-self : goal.invariant_of-self
+invariant_of-self g c =
+    let i = c.self.inside in
+    let s = c.args.span in
+    let open0 = is_open (size_of i.caches s.from.0) (size_of i.caches s.to.0) s (sym c.copy_refusal.ensures ∙ c.in_default.is) in
+    let q = c.make_ready.new.self in
+    let x0 = c.make_ready.ensures in
+    let h = g.M.Mapper.held c.args.mapper.now in
+    let k = g.M.Mapper.held c.make_ready.new.mapper in
+    let before = g.M.Mapper.counts c.args.mapper.now in
+    let after = g.M.Mapper.counts c.make_ready.new.mapper in
+    let p : Manager = seen i.caches i.store i.contexts in
+    let valid0 = (subst (λ (p : Manager). IsValid p h) (sym c.self.view_is) c.requires.valid) in
+    let from0 = sized_table (table_of i.caches s.from.0) open0.from open0.from_is in
+    let to0 = sized_table (table_of i.caches s.to.0) open0.to open0.to_is in
+    let transfer = copied_transfer i.caches i.store i.contexts i.live c.self.invariant s open0 from0.0 to0.0 from0.1 to0.1 from0.2 to0.2 in
+    let keeps0 : KeepsMachine p q h k before after = subst (λ (p : Manager). KeepsMachine p q h k before after) (sym c.self.view_is) x0.keeps in
+    let j = c.self-2.inside in
+    let v2 = c.self-2.view_is in
+    let b : Manager = seen j.caches j.store j.contexts in
+    let sound = c.self-2.invariant in
+    let valid : IsValid b k = subst (λ (p : Manager). IsValid p k) (sym v2) x0.valid in
+    let keeps : KeepsMachine p b h k before after = subst (λ (r : Manager). KeepsMachine p r h k before after) (sym v2) keeps0 in
+    let ready : IsReady (replaced s) (2 * c.args.span.pages) p b h k = subst (λ (e : Extent). IsReady e (2 * c.args.span.pages) p b h k) c.destination.ensures
+        (subst (λ (r : Manager). IsReady c.destination.result (2 * c.args.span.pages) p r h k) (sym v2) (subst (λ (p : Manager). IsReady c.destination.result (2 * c.args.span.pages) p q h k) (sym c.self.view_is) c.in_ok-make_ready.ensures.ready)) in
+    let out : IsOpen (size_of j.caches s.from.0) (size_of j.caches s.to.0) s = record {
+      from = open0.from;
+      to = open0.to;
+      from_is = keeps.same.sizes s.from.0 ∙ open0.from_is;
+      to_is = keeps.same.sizes s.to.0 ∙ open0.to_is;
+      from_ends = open0.from_ends;
+      to_ends = open0.to_ends;
+      apart = open0.apart;
+    } in
+    let tied = tied_right k None j.caches j.store valid.right in
     let e = c.copy_pages.ensures in
     let d = c.copy_pages.new.caches in
     let u = c.copy_pages.new.store in
-    let valid = subst (λ (p : Manager). IsValid p h) (sym c.self.view_is) c.requires.valid in
-    let tied = roomy.tied h valid in
-    changed_sound b d i.store u i.contexts i.live k e.sizes e.gives_back tied e.whole e.bounded
+    let z : Manager = seen d u j.contexts in
+    let from = sized_table (table_of j.caches s.from.0) out.from out.from_is in
+    let to = sized_table (table_of j.caches s.to.0) out.to out.to_is in
+    let right = e.right (slots_enough j.caches d j.store u j.contexts j.live sound e.kept.sizes e.kept.gives_back tied e.whole) in
+    changed_sound j.caches d j.store u j.contexts j.live sound e.kept.sizes e.kept.gives_back tied e.whole e.bounded
 
 pub returns-clause-valid : goal.returns-clause-valid
 returns-clause-valid g c =
-    let h = g.M.Mapper.held c.args.mapper.now in
-    let counts = g.M.Mapper.counts c.args.mapper.now in
     let i = c.self.inside in
-    let r = c.reserve.ensures in
     let s = c.args.span in
-    let b = c.reserve.new.self in
-    let roomy = reserved i.caches b i.store i.contexts i.live r.kept r.no_less.0 r.forest (r.sound c.self.invariant.nodes.sound) c.self.invariant in
-    let k = roomy.sound in
+    let open0 = is_open (size_of i.caches s.from.0) (size_of i.caches s.to.0) s (sym c.copy_refusal.ensures ∙ c.in_default.is) in
+    let q = c.make_ready.new.self in
+    let x0 = c.make_ready.ensures in
+    let h = g.M.Mapper.held c.args.mapper.now in
+    let k = g.M.Mapper.held c.make_ready.new.mapper in
+    let before = g.M.Mapper.counts c.args.mapper.now in
+    let after = g.M.Mapper.counts c.make_ready.new.mapper in
+    let p : Manager = seen i.caches i.store i.contexts in
+    let valid0 = (subst (λ (p : Manager). IsValid p h) (sym c.self.view_is) c.requires.valid) in
+    let from0 = sized_table (table_of i.caches s.from.0) open0.from open0.from_is in
+    let to0 = sized_table (table_of i.caches s.to.0) open0.to open0.to_is in
+    let transfer = copied_transfer i.caches i.store i.contexts i.live c.self.invariant s open0 from0.0 to0.0 from0.1 to0.1 from0.2 to0.2 in
+    let keeps0 : KeepsMachine p q h k before after = subst (λ (p : Manager). KeepsMachine p q h k before after) (sym c.self.view_is) x0.keeps in
+    let j = c.self-2.inside in
+    let v2 = c.self-2.view_is in
+    let b : Manager = seen j.caches j.store j.contexts in
+    let sound = c.self-2.invariant in
+    let valid : IsValid b k = subst (λ (p : Manager). IsValid p k) (sym v2) x0.valid in
+    let keeps : KeepsMachine p b h k before after = subst (λ (r : Manager). KeepsMachine p r h k before after) (sym v2) keeps0 in
+    let ready : IsReady (replaced s) (2 * c.args.span.pages) p b h k = subst (λ (e : Extent). IsReady e (2 * c.args.span.pages) p b h k) c.destination.ensures
+        (subst (λ (r : Manager). IsReady c.destination.result (2 * c.args.span.pages) p r h k) (sym v2) (subst (λ (p : Manager). IsReady c.destination.result (2 * c.args.span.pages) p q h k) (sym c.self.view_is) c.in_ok-make_ready.ensures.ready)) in
+    let out : IsOpen (size_of j.caches s.from.0) (size_of j.caches s.to.0) s = record {
+      from = open0.from;
+      to = open0.to;
+      from_is = keeps.same.sizes s.from.0 ∙ open0.from_is;
+      to_is = keeps.same.sizes s.to.0 ∙ open0.to_is;
+      from_ends = open0.from_ends;
+      to_ends = open0.to_ends;
+      apart = open0.apart;
+    } in
+    let tied = tied_right k None j.caches j.store valid.right in
     let e = c.copy_pages.ensures in
     let d = c.copy_pages.new.caches in
     let u = c.copy_pages.new.store in
-    let valid = subst (λ (p : Manager). IsValid p h) (sym c.self.view_is) c.requires.valid in
-    let v = roomy.valid h valid in
-    let tied = roomy.tied h valid in
-    let out = subst (λ a. IsOpen (size_of a s.from.0) (size_of a s.to.0) s) (sym r.kept) (is_open (size_of i.caches s.from.0) (size_of i.caches s.to.0) s (sym c.span_refusal.ensures ∙ none_of_option c.span_refusal.result c.in_default.not-Some)) in
-    let from = sized_table _ out.from out.from_is in
-    let to = sized_table _ out.to out.to_is in
-    let right = e.right (slots_enough b d i.store u i.contexts i.live k e.sizes e.gives_back tied e.whole) in
-    copied_valid b i.store i.contexts i.live k s out from.0 to.0 from.1 to.1 from.2 to.2 d u e.sizes e.gives_back tied e.whole h v right e.forest
+    let z : Manager = seen d u j.contexts in
+    let from = sized_table (table_of j.caches s.from.0) out.from out.from_is in
+    let to = sized_table (table_of j.caches s.to.0) out.to out.to_is in
+    let right = e.right (slots_enough j.caches d j.store u j.contexts j.live sound e.kept.sizes e.kept.gives_back tied e.whole) in
+    copied_valid j.caches j.store j.contexts j.live sound s out from.0 to.0 from.1 to.1 from.2 to.2 d u e.kept.sizes e.kept.gives_back tied e.whole k valid right e.forest
 
 pub returns-clause-answers : goal.returns-clause-answers
 returns-clause-answers g c =
-    let h = g.M.Mapper.held c.args.mapper.now in
-    let counts = g.M.Mapper.counts c.args.mapper.now in
     let i = c.self.inside in
-    let r = c.reserve.ensures in
     let s = c.args.span in
-    let b = c.reserve.new.self in
-    let roomy = reserved i.caches b i.store i.contexts i.live r.kept r.no_less.0 r.forest (r.sound c.self.invariant.nodes.sound) c.self.invariant in
-    let k = roomy.sound in
+    let open0 = is_open (size_of i.caches s.from.0) (size_of i.caches s.to.0) s (sym c.copy_refusal.ensures ∙ c.in_default.is) in
+    let q = c.make_ready.new.self in
+    let x0 = c.make_ready.ensures in
+    let h = g.M.Mapper.held c.args.mapper.now in
+    let k = g.M.Mapper.held c.make_ready.new.mapper in
+    let before = g.M.Mapper.counts c.args.mapper.now in
+    let after = g.M.Mapper.counts c.make_ready.new.mapper in
+    let p : Manager = seen i.caches i.store i.contexts in
+    let valid0 = (subst (λ (p : Manager). IsValid p h) (sym c.self.view_is) c.requires.valid) in
+    let from0 = sized_table (table_of i.caches s.from.0) open0.from open0.from_is in
+    let to0 = sized_table (table_of i.caches s.to.0) open0.to open0.to_is in
+    let transfer = copied_transfer i.caches i.store i.contexts i.live c.self.invariant s open0 from0.0 to0.0 from0.1 to0.1 from0.2 to0.2 in
+    let keeps0 : KeepsMachine p q h k before after = subst (λ (p : Manager). KeepsMachine p q h k before after) (sym c.self.view_is) x0.keeps in
+    let j = c.self-2.inside in
+    let v2 = c.self-2.view_is in
+    let b : Manager = seen j.caches j.store j.contexts in
+    let sound = c.self-2.invariant in
+    let valid : IsValid b k = subst (λ (p : Manager). IsValid p k) (sym v2) x0.valid in
+    let keeps : KeepsMachine p b h k before after = subst (λ (r : Manager). KeepsMachine p r h k before after) (sym v2) keeps0 in
+    let ready : IsReady (replaced s) (2 * c.args.span.pages) p b h k = subst (λ (e : Extent). IsReady e (2 * c.args.span.pages) p b h k) c.destination.ensures
+        (subst (λ (r : Manager). IsReady c.destination.result (2 * c.args.span.pages) p r h k) (sym v2) (subst (λ (p : Manager). IsReady c.destination.result (2 * c.args.span.pages) p q h k) (sym c.self.view_is) c.in_ok-make_ready.ensures.ready)) in
+    let out : IsOpen (size_of j.caches s.from.0) (size_of j.caches s.to.0) s = record {
+      from = open0.from;
+      to = open0.to;
+      from_is = keeps.same.sizes s.from.0 ∙ open0.from_is;
+      to_is = keeps.same.sizes s.to.0 ∙ open0.to_is;
+      from_ends = open0.from_ends;
+      to_ends = open0.to_ends;
+      apart = open0.apart;
+    } in
+    let tied = tied_right k None j.caches j.store valid.right in
     let e = c.copy_pages.ensures in
     let d = c.copy_pages.new.caches in
     let u = c.copy_pages.new.store in
-    let valid = subst (λ (p : Manager). IsValid p h) (sym c.self.view_is) c.requires.valid in
-    let v = roomy.valid h valid in
-    let tied = roomy.tied h valid in
-    let out = subst (λ a. IsOpen (size_of a s.from.0) (size_of a s.to.0) s) (sym r.kept) (is_open (size_of i.caches s.from.0) (size_of i.caches s.to.0) s (sym c.span_refusal.ensures ∙ none_of_option c.span_refusal.result c.in_default.not-Some)) in
-    let from = sized_table _ out.from out.from_is in
-    let to = sized_table _ out.to out.to_is in
-    let right = e.right (slots_enough b d i.store u i.contexts i.live k e.sizes e.gives_back tied e.whole) in
-    let o : Manager = seen i.caches i.store i.contexts in
-    let p : Manager = seen b i.store i.contexts in
-    let q : Manager = seen d u i.contexts in
-    let command = commands.Copy s in
+    let z : Manager = seen d u j.contexts in
+    let from = sized_table (table_of j.caches s.from.0) out.from out.from_is in
+    let to = sized_table (table_of j.caches s.to.0) out.to out.to_is in
+    let right = e.right (slots_enough j.caches d j.store u j.contexts j.live sound e.kept.sizes e.kept.gives_back tied e.whole) in
     let answer : Answer = Ok replies.Done in
-    let same : state_at p h ≡ state_at o h = roomy.state h in
-    subst (λ (p : Manager). CallIs counts counts (state_at p h) command answer (state_at q h)) c.self.view_is
-    (subst (λ (x : State). CallIs counts counts x command answer (state_at q h)) same
-    (call_is counts counts (no_later counts) p q h h command answer refl tt
-    (copy_follows b i.store i.contexts i.live k s out from.0 to.0 from.1 to.1 from.2 to.2 d u e.sizes e.gives_back tied e.whole h v right e.forest (machine_of q h))
-    (copied_outcome b i.store i.contexts i.live k s out from.0 to.0 from.1 to.1 from.2 to.2 d u e.sizes e.gives_back tied e.whole h v right e.forest _)))
+    let rises = rises_between (length keeps.reach.pushes) before after in
+    let may : (sg : Segments) → segments_of k ≡ Some sg → is_any_denied (machine_of b k) sg s ≡ false = λ sg e. undenied_range b k sound.nodes valid.right s out.to out.to_is out.to_ends ready.writable (forest_of b k) k sg refl e in
+    let now = copied_valid j.caches j.store j.contexts j.live sound s out from.0 to.0 from.1 to.1 from.2 to.2 d u e.kept.sizes e.kept.gives_back tied e.whole k valid right e.forest in
+    let named = named_machine p (forest_of p h) s.to.0 in
+    let outcome : OutcomeAt (segments_of k) (machine_of p h) (Some (forest_of p h)) (commands.Copy s) answer (machine_of z k) rises
+    = subst (λ (m : Machine). OutcomeAt (segments_of k) m (Some (forest_of p h)) (commands.Copy s) answer (machine_of z k) rises) keeps.machine (copied_outcome j.caches j.store j.contexts j.live sound s out from.0 to.0 from.1 to.1 from.2 to.2 d u e.kept.sizes e.kept.gives_back tied e.whole k valid right e.forest (forest_of p h) rises may) in
+    let follows : forest_of z k ≡ forest_after (forest_of p h) (machine_of p h) (commands.Copy s) answer (machine_of z k) = copy_follows j.caches j.store j.contexts j.live sound s out from.0 to.0 from.1 to.1 from.2 to.2 d u e.kept.sizes e.kept.gives_back tied e.whole k valid right e.forest (is_named i.caches s.to.0) (forest_of p h) ready.forest ∙ (λ x. copy (sym named x) (span_pairs s) (forest_of p h)) in
+    subst (λ (p : Manager). CallIs before after (state_at p h) (commands.Copy s) answer (state_at z k)) c.self.view_is
+    (call_is before after p z h k (commands.Copy s) answer keeps.reach now tt tt follows outcome)
 
-pub returns-clause-frames : goal.returns-clause-frames
-returns-clause-frames g c =
-    let h = g.M.Mapper.held c.args.mapper.now in
+pub returns-clause-made : goal.returns-clause-made
+returns-clause-made g c =
     let i = c.self.inside in
-    let r = c.reserve.ensures in
-    let b = c.reserve.new.self in
-    let roomy = reserved i.caches b i.store i.contexts i.live r.kept r.no_less.0 r.forest (r.sound c.self.invariant.nodes.sound) c.self.invariant in
-    let valid = subst (λ (p : Manager). IsValid p h) (sym c.self.view_is) c.requires.valid in
+    let s = c.args.span in
+    let open0 = is_open (size_of i.caches s.from.0) (size_of i.caches s.to.0) s (sym c.copy_refusal.ensures ∙ c.in_default.is) in
+    let q = c.make_ready.new.self in
+    let x0 = c.make_ready.ensures in
+    let h = g.M.Mapper.held c.args.mapper.now in
+    let k = g.M.Mapper.held c.make_ready.new.mapper in
+    let before = g.M.Mapper.counts c.args.mapper.now in
+    let after = g.M.Mapper.counts c.make_ready.new.mapper in
+    let p : Manager = seen i.caches i.store i.contexts in
+    let valid0 = (subst (λ (p : Manager). IsValid p h) (sym c.self.view_is) c.requires.valid) in
+    let from0 = sized_table (table_of i.caches s.from.0) open0.from open0.from_is in
+    let to0 = sized_table (table_of i.caches s.to.0) open0.to open0.to_is in
+    let transfer = copied_transfer i.caches i.store i.contexts i.live c.self.invariant s open0 from0.0 to0.0 from0.1 to0.1 from0.2 to0.2 in
+    let keeps0 : KeepsMachine p q h k before after = subst (λ (p : Manager). KeepsMachine p q h k before after) (sym c.self.view_is) x0.keeps in
+    let j = c.self-2.inside in
+    let v2 = c.self-2.view_is in
+    let b : Manager = seen j.caches j.store j.contexts in
+    let sound = c.self-2.invariant in
+    let valid : IsValid b k = subst (λ (p : Manager). IsValid p k) (sym v2) x0.valid in
+    let keeps : KeepsMachine p b h k before after = subst (λ (r : Manager). KeepsMachine p r h k before after) (sym v2) keeps0 in
+    let ready : IsReady (replaced s) (2 * c.args.span.pages) p b h k = subst (λ (e : Extent). IsReady e (2 * c.args.span.pages) p b h k) c.destination.ensures
+        (subst (λ (r : Manager). IsReady c.destination.result (2 * c.args.span.pages) p r h k) (sym v2) (subst (λ (p : Manager). IsReady c.destination.result (2 * c.args.span.pages) p q h k) (sym c.self.view_is) c.in_ok-make_ready.ensures.ready)) in
+    let out : IsOpen (size_of j.caches s.from.0) (size_of j.caches s.to.0) s = record {
+      from = open0.from;
+      to = open0.to;
+      from_is = keeps.same.sizes s.from.0 ∙ open0.from_is;
+      to_is = keeps.same.sizes s.to.0 ∙ open0.to_is;
+      from_ends = open0.from_ends;
+      to_ends = open0.to_ends;
+      apart = open0.apart;
+    } in
+    let tied = tied_right k None j.caches j.store valid.right in
     let e = c.copy_pages.ensures in
-    let n = c.copy_pages.new in
-    let gives = e.gives_back None None (roomy.tied h valid) in
-    let q : Manager = seen n.caches n.store i.contexts in
-    subst (λ (p : Manager). CopiesNothing p q) c.self.view_is
-    (record { copies = e.copies ∙ ap (λ k. k.copies) r.kept; held = gives.held; bytes = gives.bytes })
+    let d = c.copy_pages.new.caches in
+    let u = c.copy_pages.new.store in
+    let z : Manager = seen d u j.contexts in
+    let from = sized_table (table_of j.caches s.from.0) out.from out.from_is in
+    let to = sized_table (table_of j.caches s.to.0) out.to out.to_is in
+    let right = e.right (slots_enough j.caches d j.store u j.contexts j.live sound e.kept.sizes e.kept.gives_back tied e.whole) in
+    let copied = range_copied p b h k (replaced s) c.self.invariant.nodes (is_named i.caches s.to.0) ready.forest in
+    subst (λ (p : Manager). RaisesMade (machine_of p h) (commands.Copy s) (Ok replies.Done) (numbered p) (numbered z)) c.self.view_is
+    (omega (arith, e.made, e.copies, keeps.made, copied.1, transfer.touched (machine_of p h)))
+
+pub returns-clause-copies : goal.returns-clause-copies
+returns-clause-copies g c =
+    let i = c.self.inside in
+    let s = c.args.span in
+    let open0 = is_open (size_of i.caches s.from.0) (size_of i.caches s.to.0) s (sym c.copy_refusal.ensures ∙ c.in_default.is) in
+    let q = c.make_ready.new.self in
+    let x0 = c.make_ready.ensures in
+    let h = g.M.Mapper.held c.args.mapper.now in
+    let k = g.M.Mapper.held c.make_ready.new.mapper in
+    let before = g.M.Mapper.counts c.args.mapper.now in
+    let after = g.M.Mapper.counts c.make_ready.new.mapper in
+    let p : Manager = seen i.caches i.store i.contexts in
+    let valid0 = (subst (λ (p : Manager). IsValid p h) (sym c.self.view_is) c.requires.valid) in
+    let from0 = sized_table (table_of i.caches s.from.0) open0.from open0.from_is in
+    let to0 = sized_table (table_of i.caches s.to.0) open0.to open0.to_is in
+    let transfer = copied_transfer i.caches i.store i.contexts i.live c.self.invariant s open0 from0.0 to0.0 from0.1 to0.1 from0.2 to0.2 in
+    let keeps0 : KeepsMachine p q h k before after = subst (λ (p : Manager). KeepsMachine p q h k before after) (sym c.self.view_is) x0.keeps in
+    let j = c.self-2.inside in
+    let v2 = c.self-2.view_is in
+    let b : Manager = seen j.caches j.store j.contexts in
+    let sound = c.self-2.invariant in
+    let valid : IsValid b k = subst (λ (p : Manager). IsValid p k) (sym v2) x0.valid in
+    let keeps : KeepsMachine p b h k before after = subst (λ (r : Manager). KeepsMachine p r h k before after) (sym v2) keeps0 in
+    let ready : IsReady (replaced s) (2 * c.args.span.pages) p b h k = subst (λ (e : Extent). IsReady e (2 * c.args.span.pages) p b h k) c.destination.ensures
+        (subst (λ (r : Manager). IsReady c.destination.result (2 * c.args.span.pages) p r h k) (sym v2) (subst (λ (p : Manager). IsReady c.destination.result (2 * c.args.span.pages) p q h k) (sym c.self.view_is) c.in_ok-make_ready.ensures.ready)) in
+    let out : IsOpen (size_of j.caches s.from.0) (size_of j.caches s.to.0) s = record {
+      from = open0.from;
+      to = open0.to;
+      from_is = keeps.same.sizes s.from.0 ∙ open0.from_is;
+      to_is = keeps.same.sizes s.to.0 ∙ open0.to_is;
+      from_ends = open0.from_ends;
+      to_ends = open0.to_ends;
+      apart = open0.apart;
+    } in
+    let tied = tied_right k None j.caches j.store valid.right in
+    let e = c.copy_pages.ensures in
+    let d = c.copy_pages.new.caches in
+    let u = c.copy_pages.new.store in
+    let z : Manager = seen d u j.contexts in
+    let from = sized_table (table_of j.caches s.from.0) out.from out.from_is in
+    let to = sized_table (table_of j.caches s.to.0) out.to out.to_is in
+    let right = e.right (slots_enough j.caches d j.store u j.contexts j.live sound e.kept.sizes e.kept.gives_back tied e.whole) in
+    let copied = range_copied p b h k (replaced s) c.self.invariant.nodes (is_named i.caches s.to.0) ready.forest in
+    subst (λ (p : Manager). CopiesSaved (replaced s) p h z (Ok tt)) c.self.view_is (e.copies ∙ copied.0)
+
+pub returns-clause-idle : goal.returns-clause-idle
+returns-clause-idle g c =
+    let i = c.self.inside in
+    let s = c.args.span in
+    let open0 = is_open (size_of i.caches s.from.0) (size_of i.caches s.to.0) s (sym c.copy_refusal.ensures ∙ c.in_default.is) in
+    let q = c.make_ready.new.self in
+    let x0 = c.make_ready.ensures in
+    let h = g.M.Mapper.held c.args.mapper.now in
+    let k = g.M.Mapper.held c.make_ready.new.mapper in
+    let before = g.M.Mapper.counts c.args.mapper.now in
+    let after = g.M.Mapper.counts c.make_ready.new.mapper in
+    let p : Manager = seen i.caches i.store i.contexts in
+    let valid0 = (subst (λ (p : Manager). IsValid p h) (sym c.self.view_is) c.requires.valid) in
+    let from0 = sized_table (table_of i.caches s.from.0) open0.from open0.from_is in
+    let to0 = sized_table (table_of i.caches s.to.0) open0.to open0.to_is in
+    let transfer = copied_transfer i.caches i.store i.contexts i.live c.self.invariant s open0 from0.0 to0.0 from0.1 to0.1 from0.2 to0.2 in
+    let keeps0 : KeepsMachine p q h k before after = subst (λ (p : Manager). KeepsMachine p q h k before after) (sym c.self.view_is) x0.keeps in
+    let j = c.self-2.inside in
+    let v2 = c.self-2.view_is in
+    let b : Manager = seen j.caches j.store j.contexts in
+    let sound = c.self-2.invariant in
+    let valid : IsValid b k = subst (λ (p : Manager). IsValid p k) (sym v2) x0.valid in
+    let keeps : KeepsMachine p b h k before after = subst (λ (r : Manager). KeepsMachine p r h k before after) (sym v2) keeps0 in
+    let ready : IsReady (replaced s) (2 * c.args.span.pages) p b h k = subst (λ (e : Extent). IsReady e (2 * c.args.span.pages) p b h k) c.destination.ensures
+        (subst (λ (r : Manager). IsReady c.destination.result (2 * c.args.span.pages) p r h k) (sym v2) (subst (λ (p : Manager). IsReady c.destination.result (2 * c.args.span.pages) p q h k) (sym c.self.view_is) c.in_ok-make_ready.ensures.ready)) in
+    let out : IsOpen (size_of j.caches s.from.0) (size_of j.caches s.to.0) s = record {
+      from = open0.from;
+      to = open0.to;
+      from_is = keeps.same.sizes s.from.0 ∙ open0.from_is;
+      to_is = keeps.same.sizes s.to.0 ∙ open0.to_is;
+      from_ends = open0.from_ends;
+      to_ends = open0.to_ends;
+      apart = open0.apart;
+    } in
+    let tied = tied_right k None j.caches j.store valid.right in
+    let e = c.copy_pages.ensures in
+    let d = c.copy_pages.new.caches in
+    let u = c.copy_pages.new.store in
+    let z : Manager = seen d u j.contexts in
+    let from = sized_table (table_of j.caches s.from.0) out.from out.from_is in
+    let to = sized_table (table_of j.caches s.to.0) out.to out.to_is in
+    let right = e.right (slots_enough j.caches d j.store u j.contexts j.live sound e.kept.sizes e.kept.gives_back tied e.whole) in
+    λ nothing.
+    let idle = x0.idle (subst (NeedsNothing c.args.self.now.caches) (sym c.destination.ensures) nothing) in
+    let was : CopiesNothing c.args.self.now b = subst (CopiesNothing c.args.self.now) (sym v2) (copies_nothing c.args.self.now q idle.2) in
+    let gives = e.kept.gives_back None None tied in (
+      idle.0,
+      idle.1,
+      (let x : CopiesNothing c.args.self.now z = record { copies = e.copies ∙ was.copies; held = λ f on. was.held f (gives.held f on); bytes = gives.bytes ∙ was.bytes } in x),
+      tt,
+    )
+

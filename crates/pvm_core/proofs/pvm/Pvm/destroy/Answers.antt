@@ -1,23 +1,46 @@
-use Rattle.std.proofs.Common.{None, refl, sym, ap, subst, ◌∙◌, arith}
-use Rattle.std.specs.Prelude.{Ok, Err}
+use Rattle.std.proofs.Common.{◌≡◌, ℕ, ◌+◌, ◌≤◌, Bool, true, false, List, Option, Some, None, is_some, length, refl, sym, ap, subst, ◌∙◌, arith}
+use Rattle.std.specs.Prelude.{IfErr, IsOk, OnErr, Result, Ok, Err, unwrap_or}
+use Rattle.std.proofs.lemmas.Result.{err_from_is_err_and}
+use Rattle.gmi_calls.specs.Calling.{RaisesMade, done_by}
+use Rattle.std.specs.List.{list_any}
+use Rattle.vm_ids.specs.Counting.{Rose}
 use Rattle.vm_ids.specs.declared.command.Command.TheVariants as commands
-use Rattle.vm_ids.specs.declared.reply.Reply.TheVariants as replies
-use Rattle.vm_ids.specs.declared.reply.Trouble.TheVariants as troubles
+use Rattle.vm_ids.specs.declared.command.Extent.{Extent}
 use Rattle.vm_ids.specs.declared.refusal.Refusal.TheVariants as refusals
+use Rattle.vm_ids.specs.declared.reply.Reply.TheVariants as replies
+use Rattle.vm_ids.specs.declared.reply.Trouble.{Trouble}
+use Rattle.vm_ids.specs.declared.reply.Trouble.TheVariants as troubles
+use Rattle.vm_ids.specs.Forest.Commands.{destroy, extent_names, page_names}
+use Rattle.vm_ids.specs.Forest.Saving.{saved}
 use Rattle.vm_ids.specs.Forest.Shape.{IsBounded}
-use Rattle.vm_model.specs.Answering.{Answer}
+use Rattle.vm_ids.specs.Held.{segments_of}
+use Rattle.local_cache.specs.Arena.{table_of}
+use Rattle.local_cache.specs.Whole.{size_of}
+use Rattle.page_release.specs.Homes.{AreSaved}
+use Rattle.page_release.proofs.Tying.Tied.{tied_right}
+use Rattle.segment_ops.specs.Ranges.{HasRange}
+use Rattle.vm_model.specs.Answering.{Answer, is_mapped, maps_in}
+use Rattle.vm_model.specs.Following.{forest_after}
+use Rattle.vm_model.specs.Machine.{Machine, cache_of, pages_in}
+use Rattle.vm_model.specs.Outcome.{OutcomeAt}
 use Rattle.vm_model.specs.Run.{CallIs}
-use Rattle.gmi_calls.specs.Calling.{RaisesMade}
-use Rattle.page_release.proofs.Tied.{tied_right}
-use Rattle.pvm_core.specs.Manager.{IsValid, Manager, forest_of, machine_by, machine_of, numbered, state_at}
-use Rattle.pvm_core.specs.contracts.pvm.Pvm.{the_view}
+use Rattle.vm_model.specs.Synchronised.{ArePushed}
 use Rattle.pvm_core.specs.Keeping.{CopiesNothing}
+use Rattle.pvm_core.specs.Manager.{IsValid, Manager, forest_of, machine_by, machine_of, numbered, state_at}
+use Rattle.pvm_core.specs.Saving.{CopiesSaved, IsNotWrittenBack, IsPushed, IsWrittenBack, KeepsMachine, all_of, is_named}
+use Rattle.pvm_core.specs.contracts.pvm.Pvm.{the_view}
+use Rattle.pvm_core.proofs.Answered.{call_is, failed}
+use Rattle.pvm_core.proofs.Copies.{range_copied}
+use Rattle.pvm_core.proofs.Destroying.Failed.{destroy_copied, destroy_failed, destroy_made, destroy_refused, of_cache, touched}
+use Rattle.pvm_core.proofs.Destroying.Rows.{destroy_in_use, destroy_no_cache}
+use Rattle.pvm_core.proofs.Destroying.Taken.{follows, taken, taken_sound, taken_valid}
 use Rattle.pvm_core.proofs.Kept.{seen}
 use Rattle.pvm_core.proofs.Listed.{sized, unsized}
-use Rattle.pvm_core.proofs.Loading.{call_is, no_later, size_le, sized_table}
+use Rattle.pvm_core.proofs.Loading.{size_le, sized_table}
+use Rattle.pvm_core.proofs.Reaching.{reach_none}
+use Rattle.pvm_core.proofs.Rising.{rises_between}
 use Rattle.pvm_core.proofs.Shown.{shown_size}
-use Rattle.pvm_core.proofs.Stored.{failed}
-use Rattle.pvm_core.proofs.Taken.{destroy_in_use, destroy_no_cache, follows, taken, taken_sound, taken_valid, touched}
+use Rattle.pvm_core.proofs.Transfers.{named_machine}
 use Rattle.pvm_core.proofs.pvm.Pvm.destroy.Goals as goal
 
 pub returns-in_default-clause-answers : goal.returns-in_default-clause-answers
@@ -28,7 +51,7 @@ returns-in_default-clause-answers g c =
     let command = commands.Destroy c.args.cache in
     let answer : Answer = Err (troubles.Refused refusals.NoCache) in
     subst (λ (p : Manager). CallIs counts counts (state_at p h) command answer (state_at p h)) c.self.view_is
-    (failed counts counts (no_later counts) p p h h command answer c.self.invariant.nodes c.self.invariant.nodes refl refl refl tt
+    (failed counts counts p p h h command answer (reach_none (machine_of p h) h counts) c.self.invariant.nodes c.self.invariant.nodes (subst (λ (p : Manager). IsValid p h) (sym c.self.view_is) c.requires.valid) refl refl tt tt
     (λ f s. destroy_no_cache (machine_by p f) c.args.cache.0 (unsized _ (shown_size f p.caches.caches c.args.cache.0 ∙ sym c.pages.ensures ∙ c.in_default.is))))
 
 pub returns-then-maps-clause-answers : goal.returns-then-maps-clause-answers
@@ -39,100 +62,562 @@ returns-then-maps-clause-answers g c =
     let command = commands.Destroy c.args.cache in
     let answer : Answer = Err (troubles.Refused refusals.InUse) in
     subst (λ (p : Manager). CallIs counts counts (state_at p h) command answer (state_at p h)) c.self.view_is
-    (failed counts counts (no_later counts) p p h h command answer c.self.invariant.nodes c.self.invariant.nodes refl refl refl tt
-    (λ f s. let k = sized _ c.in-Some.count (shown_size f p.caches.caches c.args.cache.0 ∙ sym c.pages.ensures ∙ c.in-Some.is) in
+    (failed counts counts p p h h command answer (reach_none (machine_of p h) h counts) c.self.invariant.nodes c.self.invariant.nodes (subst (λ (p : Manager). IsValid p h) (sym c.self.view_is) c.requires.valid) refl refl tt tt
+    (λ f s. let k = sized _ c.in-Some.pages (shown_size f p.caches.caches c.args.cache.0 ∙ sym c.pages.ensures ∙ c.in-Some.is) in
     destroy_in_use (machine_by p f) c.args.cache.0 k.0 k.1
     (sym c.maps.ensures ∙ c.if-maps.true)))
 
+pub write_back-requires-clause-range : goal.write_back-requires-clause-range
+write_back-requires-clause-range g c =
+    let i = c.self.inside in
+    let pages = c.in-Some.pages in
+    let all : Extent = of_cache c.args.cache pages in
+    let size : size_of i.caches c.args.cache.0 ≡ Some pages = sym c.pages.ensures ∙ c.in-Some.is in
+    let free = sym c.maps.ensures ∙ c.if-maps.false in
+    subst (λ (p : Manager). HasRange p.caches all) c.self.view_is (record { pages = pages; size = size; within = omega arith })
+
+pub returns-in_err-write_back-clause-answers : goal.returns-in_err-write_back-clause-answers
+returns-in_err-write_back-clause-answers g c =
+    let i = c.self.inside in
+    let pages = c.in-Some.pages in
+    let all : Extent = of_cache c.args.cache pages in
+    let size : size_of i.caches c.args.cache.0 ≡ Some pages = sym c.pages.ensures ∙ c.in-Some.is in
+    let free = sym c.maps.ensures ∙ c.if-maps.false in
+    let q = c.write_back.new.self in
+    let x = c.write_back.ensures in
+    let h = g.M.Mapper.held c.args.mapper.now in
+    let k = g.M.Mapper.held c.write_back.new.mapper in
+    let before = g.M.Mapper.counts c.args.mapper.now in
+    let after = g.M.Mapper.counts c.write_back.new.mapper in
+    let p : Manager = seen i.caches i.store i.contexts in
+    let t0 = sized_table (table_of i.caches c.args.cache.0) pages size in
+    let keeps0 : KeepsMachine p q h k before after = subst (λ (p : Manager). KeepsMachine p q h k before after) (sym c.self.view_is) x.keeps in
+    let extent : all_of i.caches c.args.cache ≡ all = ap (λ (o : Option ℕ). of_cache c.args.cache (unwrap_or o 0)) size in
+    let gave = err_from_is_err_and c.from_residual.result c.from_residual.ensures.1 in
+    let trouble = c.in_err-write_back.field-0.0 in
+    let is : c.from_residual.result ≡ Err trouble = gave.1 ∙ ap (λ t. Err t) gave.2 in
+    let wrong : IsNotWrittenBack all p h q k trouble = subst (λ (p : Manager). IsNotWrittenBack all p h q k trouble) (sym c.self.view_is) (subst (λ (r : Result _ Trouble). IfErr r (IsNotWrittenBack all c.args.self.now h q k)) c.in_err-write_back.was x.not_written) in
+    subst (λ (p : Manager). CallIs before after (state_at p h) (commands.Destroy c.args.cache) (done_by c.from_residual.result) (state_at q k)) c.self.view_is
+    (subst (λ (r : Result _ Trouble). CallIs before after (state_at p h) (commands.Destroy c.args.cache) (done_by r) (state_at q k)) (sym is)
+    (destroy_failed p q h k before after c.args.cache pages keeps0 c.self.invariant.nodes x.whole x.valid t0.0 t0.1 t0.2 (λ f. free) trouble wrong (subst (λ (r : Result _ Trouble). OnErr r (Rose before.faults after.faults)) c.in_err-write_back.was x.cause)))
+
+pub returns-in_err-write_back-clause-made : goal.returns-in_err-write_back-clause-made
+returns-in_err-write_back-clause-made g c =
+    let i = c.self.inside in
+    let pages = c.in-Some.pages in
+    let all : Extent = of_cache c.args.cache pages in
+    let size : size_of i.caches c.args.cache.0 ≡ Some pages = sym c.pages.ensures ∙ c.in-Some.is in
+    let free = sym c.maps.ensures ∙ c.if-maps.false in
+    let q = c.write_back.new.self in
+    let x = c.write_back.ensures in
+    let h = g.M.Mapper.held c.args.mapper.now in
+    let k = g.M.Mapper.held c.write_back.new.mapper in
+    let before = g.M.Mapper.counts c.args.mapper.now in
+    let after = g.M.Mapper.counts c.write_back.new.mapper in
+    let p : Manager = seen i.caches i.store i.contexts in
+    let t0 = sized_table (table_of i.caches c.args.cache.0) pages size in
+    let keeps0 : KeepsMachine p q h k before after = subst (λ (p : Manager). KeepsMachine p q h k before after) (sym c.self.view_is) x.keeps in
+    let extent : all_of i.caches c.args.cache ≡ all = ap (λ (o : Option ℕ). of_cache c.args.cache (unwrap_or o 0)) size in
+    let gave = err_from_is_err_and c.from_residual.result c.from_residual.ensures.1 in
+    let trouble = c.in_err-write_back.field-0.0 in
+    let is : c.from_residual.result ≡ Err trouble = gave.1 ∙ ap (λ t. Err t) gave.2 in
+    let wrong : IsNotWrittenBack all p h q k trouble = subst (λ (p : Manager). IsNotWrittenBack all p h q k trouble) (sym c.self.view_is) (subst (λ (r : Result _ Trouble). IfErr r (IsNotWrittenBack all c.args.self.now h q k)) c.in_err-write_back.was x.not_written) in
+    subst (λ (p : Manager). RaisesMade (machine_of p h) (commands.Destroy c.args.cache) (done_by c.from_residual.result) (numbered p) (numbered q)) c.self.view_is
+    (subst (λ (r : Result _ Trouble). RaisesMade (machine_of p h) (commands.Destroy c.args.cache) (done_by r) (numbered p) (numbered q)) (sym is)
+    (destroy_made p q h k before after c.args.cache pages keeps0 c.self.invariant.nodes x.whole x.valid t0.0 t0.1 t0.2 (λ f. free) trouble wrong))
+
+pub returns-in_err-write_back-clause-copies : goal.returns-in_err-write_back-clause-copies
+returns-in_err-write_back-clause-copies g c =
+    let i = c.self.inside in
+    let pages = c.in-Some.pages in
+    let all : Extent = of_cache c.args.cache pages in
+    let size : size_of i.caches c.args.cache.0 ≡ Some pages = sym c.pages.ensures ∙ c.in-Some.is in
+    let free = sym c.maps.ensures ∙ c.if-maps.false in
+    let q = c.write_back.new.self in
+    let x = c.write_back.ensures in
+    let h = g.M.Mapper.held c.args.mapper.now in
+    let k = g.M.Mapper.held c.write_back.new.mapper in
+    let before = g.M.Mapper.counts c.args.mapper.now in
+    let after = g.M.Mapper.counts c.write_back.new.mapper in
+    let p : Manager = seen i.caches i.store i.contexts in
+    let t0 = sized_table (table_of i.caches c.args.cache.0) pages size in
+    let keeps0 : KeepsMachine p q h k before after = subst (λ (p : Manager). KeepsMachine p q h k before after) (sym c.self.view_is) x.keeps in
+    let extent : all_of i.caches c.args.cache ≡ all = ap (λ (o : Option ℕ). of_cache c.args.cache (unwrap_or o 0)) size in
+    let gave = err_from_is_err_and c.from_residual.result c.from_residual.ensures.1 in
+    let trouble = c.in_err-write_back.field-0.0 in
+    let is : c.from_residual.result ≡ Err trouble = gave.1 ∙ ap (λ t. Err t) gave.2 in
+    let wrong : IsNotWrittenBack all p h q k trouble = subst (λ (p : Manager). IsNotWrittenBack all p h q k trouble) (sym c.self.view_is) (subst (λ (r : Result _ Trouble). IfErr r (IsNotWrittenBack all c.args.self.now h q k)) c.in_err-write_back.was x.not_written) in
+    subst (λ (p : Manager). CopiesSaved (all_of p.caches c.args.cache) p h q c.from_residual.result) c.self.view_is
+    (subst (λ (e : Extent). CopiesSaved e p h q c.from_residual.result) (sym extent)
+    (subst (λ (r : Result _ Trouble). CopiesSaved all p h q r) (sym is) (destroy_copied all p q h k trouble wrong)))
+
+pub returns-in_err-write_back-clause-refused : goal.returns-in_err-write_back-clause-refused
+returns-in_err-write_back-clause-refused g c =
+    let i = c.self.inside in
+    let pages = c.in-Some.pages in
+    let all : Extent = of_cache c.args.cache pages in
+    let size : size_of i.caches c.args.cache.0 ≡ Some pages = sym c.pages.ensures ∙ c.in-Some.is in
+    let free = sym c.maps.ensures ∙ c.if-maps.false in
+    let q = c.write_back.new.self in
+    let x = c.write_back.ensures in
+    let h = g.M.Mapper.held c.args.mapper.now in
+    let k = g.M.Mapper.held c.write_back.new.mapper in
+    let before = g.M.Mapper.counts c.args.mapper.now in
+    let after = g.M.Mapper.counts c.write_back.new.mapper in
+    let p : Manager = seen i.caches i.store i.contexts in
+    let t0 = sized_table (table_of i.caches c.args.cache.0) pages size in
+    let keeps0 : KeepsMachine p q h k before after = subst (λ (p : Manager). KeepsMachine p q h k before after) (sym c.self.view_is) x.keeps in
+    let extent : all_of i.caches c.args.cache ≡ all = ap (λ (o : Option ℕ). of_cache c.args.cache (unwrap_or o 0)) size in
+    let gave = err_from_is_err_and c.from_residual.result c.from_residual.ensures.1 in
+    let trouble = c.in_err-write_back.field-0.0 in
+    let is : c.from_residual.result ≡ Err trouble = gave.1 ∙ ap (λ t. Err t) gave.2 in
+    let wrong : IsNotWrittenBack all p h q k trouble = subst (λ (p : Manager). IsNotWrittenBack all p h q k trouble) (sym c.self.view_is) (subst (λ (r : Result _ Trouble). IfErr r (IsNotWrittenBack all c.args.self.now h q k)) c.in_err-write_back.was x.not_written) in
+    λ r e. absurd (destroy_refused all p q h k trouble wrong r (let x : Err trouble ≡ Err (troubles.Refused r) = sym is ∙ e in cc x))
+
+pub returns-in_err-write_back-clause-idle : goal.returns-in_err-write_back-clause-idle
+returns-in_err-write_back-clause-idle g c =
+    let i = c.self.inside in
+    let pages = c.in-Some.pages in
+    let all : Extent = of_cache c.args.cache pages in
+    let size : size_of i.caches c.args.cache.0 ≡ Some pages = sym c.pages.ensures ∙ c.in-Some.is in
+    let free = sym c.maps.ensures ∙ c.if-maps.false in
+    let q = c.write_back.new.self in
+    let x = c.write_back.ensures in
+    let h = g.M.Mapper.held c.args.mapper.now in
+    let k = g.M.Mapper.held c.write_back.new.mapper in
+    let before = g.M.Mapper.counts c.args.mapper.now in
+    let after = g.M.Mapper.counts c.write_back.new.mapper in
+    let p : Manager = seen i.caches i.store i.contexts in
+    let t0 = sized_table (table_of i.caches c.args.cache.0) pages size in
+    let keeps0 : KeepsMachine p q h k before after = subst (λ (p : Manager). KeepsMachine p q h k before after) (sym c.self.view_is) x.keeps in
+    let extent : all_of i.caches c.args.cache ≡ all = ap (λ (o : Option ℕ). of_cache c.args.cache (unwrap_or o 0)) size in
+    let gave = err_from_is_err_and c.from_residual.result c.from_residual.ensures.1 in
+    let trouble = c.in_err-write_back.field-0.0 in
+    let is : c.from_residual.result ≡ Err trouble = gave.1 ∙ ap (λ t. Err t) gave.2 in
+    let wrong : IsNotWrittenBack all p h q k trouble = subst (λ (p : Manager). IsNotWrittenBack all p h q k trouble) (sym c.self.view_is) (subst (λ (r : Result _ Trouble). IfErr r (IsNotWrittenBack all c.args.self.now h q k)) c.in_err-write_back.was x.not_written) in
+    λ none. absurd (
+      let t = x.temporary none in
+      let fine : IsOk {T = Unit {0}} (Err trouble) = subst (λ (r : Result (Unit {0}) Trouble). IsOk r) c.in_err-write_back.was t.0 in cc fine)
+
+pub destroy_pages-requires-clause-tied : goal.destroy_pages-requires-clause-tied
+destroy_pages-requires-clause-tied g c =
+    let i = c.self.inside in
+    let pages = c.in-Some.pages in
+    let all : Extent = of_cache c.args.cache pages in
+    let size : size_of i.caches c.args.cache.0 ≡ Some pages = sym c.pages.ensures ∙ c.in-Some.is in
+    let free = sym c.maps.ensures ∙ c.if-maps.false in
+    let q = c.write_back.new.self in
+    let x = c.write_back.ensures in
+    let h = g.M.Mapper.held c.args.mapper.now in
+    let k = g.M.Mapper.held c.write_back.new.mapper in
+    let before = g.M.Mapper.counts c.args.mapper.now in
+    let after = g.M.Mapper.counts c.write_back.new.mapper in
+    let p : Manager = seen i.caches i.store i.contexts in
+    let t0 = sized_table (table_of i.caches c.args.cache.0) pages size in
+    let keeps0 : KeepsMachine p q h k before after = subst (λ (p : Manager). KeepsMachine p q h k before after) (sym c.self.view_is) x.keeps in
+    let extent : all_of i.caches c.args.cache ≡ all = ap (λ (o : Option ℕ). of_cache c.args.cache (unwrap_or o 0)) size in
+    let j = c.self-2.inside in
+    let v2 = c.self-2.view_is in
+    let m : Manager = seen j.caches j.store j.contexts in
+    let sound = c.self-2.invariant in
+    let valid : IsValid m k = subst (λ (p : Manager). IsValid p k) (sym v2) x.valid in
+    let keeps : KeepsMachine p m h k before after = subst (λ (r : Manager). KeepsMachine p r h k before after) (sym v2) keeps0 in
+    let written : IsWrittenBack all p m h k = subst (λ (r : Manager). IsWrittenBack all p r h k) (sym v2) (subst (λ (p : Manager). IsWrittenBack all p q h k) (sym c.self.view_is) c.in_ok-write_back.ensures.written) in
+    let tied = tied_right k None j.caches j.store valid.right in
+    let size2 : size_of j.caches c.args.cache.0 ≡ Some pages = keeps.same.sizes c.args.cache.0 ∙ size in
+    let free2 : list_any (maps_in c.args.cache.0) j.contexts.actors ≡ false = subst (λ (m : Machine). is_mapped m c.args.cache.0 ≡ false) (sym keeps.machine) free in
+    tied
+
+pub destroy_pages-requires-clause-pages : goal.destroy_pages-requires-clause-pages
+destroy_pages-requires-clause-pages g c =
+    let i = c.self.inside in
+    let pages = c.in-Some.pages in
+    let all : Extent = of_cache c.args.cache pages in
+    let size : size_of i.caches c.args.cache.0 ≡ Some pages = sym c.pages.ensures ∙ c.in-Some.is in
+    let free = sym c.maps.ensures ∙ c.if-maps.false in
+    let q = c.write_back.new.self in
+    let x = c.write_back.ensures in
+    let h = g.M.Mapper.held c.args.mapper.now in
+    let k = g.M.Mapper.held c.write_back.new.mapper in
+    let before = g.M.Mapper.counts c.args.mapper.now in
+    let after = g.M.Mapper.counts c.write_back.new.mapper in
+    let p : Manager = seen i.caches i.store i.contexts in
+    let t0 = sized_table (table_of i.caches c.args.cache.0) pages size in
+    let keeps0 : KeepsMachine p q h k before after = subst (λ (p : Manager). KeepsMachine p q h k before after) (sym c.self.view_is) x.keeps in
+    let extent : all_of i.caches c.args.cache ≡ all = ap (λ (o : Option ℕ). of_cache c.args.cache (unwrap_or o 0)) size in
+    let j = c.self-2.inside in
+    let v2 = c.self-2.view_is in
+    let m : Manager = seen j.caches j.store j.contexts in
+    let sound = c.self-2.invariant in
+    let valid : IsValid m k = subst (λ (p : Manager). IsValid p k) (sym v2) x.valid in
+    let keeps : KeepsMachine p m h k before after = subst (λ (r : Manager). KeepsMachine p r h k before after) (sym v2) keeps0 in
+    let written : IsWrittenBack all p m h k = subst (λ (r : Manager). IsWrittenBack all p r h k) (sym v2) (subst (λ (p : Manager). IsWrittenBack all p q h k) (sym c.self.view_is) c.in_ok-write_back.ensures.written) in
+    let tied = tied_right k None j.caches j.store valid.right in
+    let size2 : size_of j.caches c.args.cache.0 ≡ Some pages = keeps.same.sizes c.args.cache.0 ∙ size in
+    let free2 : list_any (maps_in c.args.cache.0) j.contexts.actors ≡ false = subst (λ (m : Machine). is_mapped m c.args.cache.0 ≡ false) (sym keeps.machine) free in
+    size2
+
+pub destroy_pages-requires-clause-saved : goal.destroy_pages-requires-clause-saved
+destroy_pages-requires-clause-saved g c =
+    let i = c.self.inside in
+    let pages = c.in-Some.pages in
+    let all : Extent = of_cache c.args.cache pages in
+    let size : size_of i.caches c.args.cache.0 ≡ Some pages = sym c.pages.ensures ∙ c.in-Some.is in
+    let free = sym c.maps.ensures ∙ c.if-maps.false in
+    let q = c.write_back.new.self in
+    let x = c.write_back.ensures in
+    let h = g.M.Mapper.held c.args.mapper.now in
+    let k = g.M.Mapper.held c.write_back.new.mapper in
+    let before = g.M.Mapper.counts c.args.mapper.now in
+    let after = g.M.Mapper.counts c.write_back.new.mapper in
+    let p : Manager = seen i.caches i.store i.contexts in
+    let t0 = sized_table (table_of i.caches c.args.cache.0) pages size in
+    let keeps0 : KeepsMachine p q h k before after = subst (λ (p : Manager). KeepsMachine p q h k before after) (sym c.self.view_is) x.keeps in
+    let extent : all_of i.caches c.args.cache ≡ all = ap (λ (o : Option ℕ). of_cache c.args.cache (unwrap_or o 0)) size in
+    let j = c.self-2.inside in
+    let v2 = c.self-2.view_is in
+    let m : Manager = seen j.caches j.store j.contexts in
+    let sound = c.self-2.invariant in
+    let valid : IsValid m k = subst (λ (p : Manager). IsValid p k) (sym v2) x.valid in
+    let keeps : KeepsMachine p m h k before after = subst (λ (r : Manager). KeepsMachine p r h k before after) (sym v2) keeps0 in
+    let written : IsWrittenBack all p m h k = subst (λ (r : Manager). IsWrittenBack all p r h k) (sym v2) (subst (λ (p : Manager). IsWrittenBack all p q h k) (sym c.self.view_is) c.in_ok-write_back.ensures.written) in
+    let tied = tied_right k None j.caches j.store valid.right in
+    let size2 : size_of j.caches c.args.cache.0 ≡ Some pages = keeps.same.sizes c.args.cache.0 ∙ size in
+    let free2 : list_any (maps_in c.args.cache.0) j.contexts.actors ≡ false = subst (λ (m : Machine). is_mapped m c.args.cache.0 ≡ false) (sym keeps.machine) free in
+    written.saved_now
+
+pub destroy_pages-requires-clause-made : goal.destroy_pages-requires-clause-made
+destroy_pages-requires-clause-made g c =
+    let i = c.self.inside in
+    let pages = c.in-Some.pages in
+    let all : Extent = of_cache c.args.cache pages in
+    let size : size_of i.caches c.args.cache.0 ≡ Some pages = sym c.pages.ensures ∙ c.in-Some.is in
+    let free = sym c.maps.ensures ∙ c.if-maps.false in
+    let q = c.write_back.new.self in
+    let x = c.write_back.ensures in
+    let h = g.M.Mapper.held c.args.mapper.now in
+    let k = g.M.Mapper.held c.write_back.new.mapper in
+    let before = g.M.Mapper.counts c.args.mapper.now in
+    let after = g.M.Mapper.counts c.write_back.new.mapper in
+    let p : Manager = seen i.caches i.store i.contexts in
+    let t0 = sized_table (table_of i.caches c.args.cache.0) pages size in
+    let keeps0 : KeepsMachine p q h k before after = subst (λ (p : Manager). KeepsMachine p q h k before after) (sym c.self.view_is) x.keeps in
+    let extent : all_of i.caches c.args.cache ≡ all = ap (λ (o : Option ℕ). of_cache c.args.cache (unwrap_or o 0)) size in
+    let j = c.self-2.inside in
+    let v2 = c.self-2.view_is in
+    let m : Manager = seen j.caches j.store j.contexts in
+    let sound = c.self-2.invariant in
+    let valid : IsValid m k = subst (λ (p : Manager). IsValid p k) (sym v2) x.valid in
+    let keeps : KeepsMachine p m h k before after = subst (λ (r : Manager). KeepsMachine p r h k before after) (sym v2) keeps0 in
+    let written : IsWrittenBack all p m h k = subst (λ (r : Manager). IsWrittenBack all p r h k) (sym v2) (subst (λ (p : Manager). IsWrittenBack all p q h k) (sym c.self.view_is) c.in_ok-write_back.ensures.written) in
+    let tied = tied_right k None j.caches j.store valid.right in
+    let size2 : size_of j.caches c.args.cache.0 ≡ Some pages = keeps.same.sizes c.args.cache.0 ∙ size in
+    let free2 : list_any (maps_in c.args.cache.0) j.contexts.actors ≡ false = subst (λ (m : Machine). is_mapped m c.args.cache.0 ≡ false) (sym keeps.machine) free in
+    omega (arith, keeps.made, c.requires.made, ap numbered c.self.view_is, sound.few, sound.counted, size_le j.caches c.args.cache.0 pages size2)
+
+pub remove-requires-clause-live : goal.remove-requires-clause-live
+remove-requires-clause-live g c =
+    let i = c.self.inside in
+    let pages = c.in-Some.pages in
+    let all : Extent = of_cache c.args.cache pages in
+    let size : size_of i.caches c.args.cache.0 ≡ Some pages = sym c.pages.ensures ∙ c.in-Some.is in
+    let free = sym c.maps.ensures ∙ c.if-maps.false in
+    let q = c.write_back.new.self in
+    let x = c.write_back.ensures in
+    let h = g.M.Mapper.held c.args.mapper.now in
+    let k = g.M.Mapper.held c.write_back.new.mapper in
+    let before = g.M.Mapper.counts c.args.mapper.now in
+    let after = g.M.Mapper.counts c.write_back.new.mapper in
+    let p : Manager = seen i.caches i.store i.contexts in
+    let t0 = sized_table (table_of i.caches c.args.cache.0) pages size in
+    let keeps0 : KeepsMachine p q h k before after = subst (λ (p : Manager). KeepsMachine p q h k before after) (sym c.self.view_is) x.keeps in
+    let extent : all_of i.caches c.args.cache ≡ all = ap (λ (o : Option ℕ). of_cache c.args.cache (unwrap_or o 0)) size in
+    let j = c.self-2.inside in
+    let v2 = c.self-2.view_is in
+    let m : Manager = seen j.caches j.store j.contexts in
+    let sound = c.self-2.invariant in
+    let valid : IsValid m k = subst (λ (p : Manager). IsValid p k) (sym v2) x.valid in
+    let keeps : KeepsMachine p m h k before after = subst (λ (r : Manager). KeepsMachine p r h k before after) (sym v2) keeps0 in
+    let written : IsWrittenBack all p m h k = subst (λ (r : Manager). IsWrittenBack all p r h k) (sym v2) (subst (λ (p : Manager). IsWrittenBack all p q h k) (sym c.self.view_is) c.in_ok-write_back.ensures.written) in
+    let tied = tied_right k None j.caches j.store valid.right in
+    let size2 : size_of j.caches c.args.cache.0 ≡ Some pages = keeps.same.sizes c.args.cache.0 ∙ size in
+    let free2 : list_any (maps_in c.args.cache.0) j.contexts.actors ≡ false = subst (λ (m : Machine). is_mapped m c.args.cache.0 ≡ false) (sym keeps.machine) free in
+    (let t = sized_table (table_of c.destroy_pages.new.caches c.args.cache.0) pages (c.destroy_pages.ensures.kept.sizes.sizes c.args.cache.0 ∙ size2) in ap is_some t.1)
+
 pub overflow_sub-self : goal.overflow_sub-self
-overflow_sub-self g c = omega (arith, size_le c.self.inside.caches c.args.cache.0 c.in-Some.count (sym c.pages.ensures ∙ c.in-Some.is), c.self.invariant.counted)
+overflow_sub-self g c =
+    let i = c.self.inside in
+    let pages = c.in-Some.pages in
+    let all : Extent = of_cache c.args.cache pages in
+    let size : size_of i.caches c.args.cache.0 ≡ Some pages = sym c.pages.ensures ∙ c.in-Some.is in
+    let free = sym c.maps.ensures ∙ c.if-maps.false in
+    let q = c.write_back.new.self in
+    let x = c.write_back.ensures in
+    let h = g.M.Mapper.held c.args.mapper.now in
+    let k = g.M.Mapper.held c.write_back.new.mapper in
+    let before = g.M.Mapper.counts c.args.mapper.now in
+    let after = g.M.Mapper.counts c.write_back.new.mapper in
+    let p : Manager = seen i.caches i.store i.contexts in
+    let t0 = sized_table (table_of i.caches c.args.cache.0) pages size in
+    let keeps0 : KeepsMachine p q h k before after = subst (λ (p : Manager). KeepsMachine p q h k before after) (sym c.self.view_is) x.keeps in
+    let extent : all_of i.caches c.args.cache ≡ all = ap (λ (o : Option ℕ). of_cache c.args.cache (unwrap_or o 0)) size in
+    let j = c.self-2.inside in
+    let v2 = c.self-2.view_is in
+    let m : Manager = seen j.caches j.store j.contexts in
+    let sound = c.self-2.invariant in
+    let valid : IsValid m k = subst (λ (p : Manager). IsValid p k) (sym v2) x.valid in
+    let keeps : KeepsMachine p m h k before after = subst (λ (r : Manager). KeepsMachine p r h k before after) (sym v2) keeps0 in
+    let written : IsWrittenBack all p m h k = subst (λ (r : Manager). IsWrittenBack all p r h k) (sym v2) (subst (λ (p : Manager). IsWrittenBack all p q h k) (sym c.self.view_is) c.in_ok-write_back.ensures.written) in
+    let tied = tied_right k None j.caches j.store valid.right in
+    let size2 : size_of j.caches c.args.cache.0 ≡ Some pages = keeps.same.sizes c.args.cache.0 ∙ size in
+    let free2 : list_any (maps_in c.args.cache.0) j.contexts.actors ≡ false = subst (λ (m : Machine). is_mapped m c.args.cache.0 ≡ false) (sym keeps.machine) free in
+    omega (arith, size_le j.caches c.args.cache.0 pages size2, sound.counted)
 
 pub invariant_of-self : goal.invariant_of-self
 invariant_of-self g c =
-    let h = g.M.Mapper.held c.args.mapper.now in
     let i = c.self.inside in
+    let pages = c.in-Some.pages in
+    let all : Extent = of_cache c.args.cache pages in
+    let size : size_of i.caches c.args.cache.0 ≡ Some pages = sym c.pages.ensures ∙ c.in-Some.is in
+    let free = sym c.maps.ensures ∙ c.if-maps.false in
+    let q = c.write_back.new.self in
+    let x = c.write_back.ensures in
+    let h = g.M.Mapper.held c.args.mapper.now in
+    let k = g.M.Mapper.held c.write_back.new.mapper in
+    let before = g.M.Mapper.counts c.args.mapper.now in
+    let after = g.M.Mapper.counts c.write_back.new.mapper in
+    let p : Manager = seen i.caches i.store i.contexts in
+    let t0 = sized_table (table_of i.caches c.args.cache.0) pages size in
+    let keeps0 : KeepsMachine p q h k before after = subst (λ (p : Manager). KeepsMachine p q h k before after) (sym c.self.view_is) x.keeps in
+    let extent : all_of i.caches c.args.cache ≡ all = ap (λ (o : Option ℕ). of_cache c.args.cache (unwrap_or o 0)) size in
+    let j = c.self-2.inside in
+    let v2 = c.self-2.view_is in
+    let m : Manager = seen j.caches j.store j.contexts in
+    let sound = c.self-2.invariant in
+    let valid : IsValid m k = subst (λ (p : Manager). IsValid p k) (sym v2) x.valid in
+    let keeps : KeepsMachine p m h k before after = subst (λ (r : Manager). KeepsMachine p r h k before after) (sym v2) keeps0 in
+    let written : IsWrittenBack all p m h k = subst (λ (r : Manager). IsWrittenBack all p r h k) (sym v2) (subst (λ (p : Manager). IsWrittenBack all p q h k) (sym c.self.view_is) c.in_ok-write_back.ensures.written) in
+    let tied = tied_right k None j.caches j.store valid.right in
+    let size2 : size_of j.caches c.args.cache.0 ≡ Some pages = keeps.same.sizes c.args.cache.0 ∙ size in
+    let free2 : list_any (maps_in c.args.cache.0) j.contexts.actors ≡ false = subst (λ (m : Machine). is_mapped m c.args.cache.0 ≡ false) (sym keeps.machine) free in
     let b = c.destroy_pages.new in
     let e = c.destroy_pages.ensures in
     let d = c.remove.new.self in
     let r = c.remove.ensures in
-    let n = c.in-Some.count in
-    let v = subst (λ (p : Manager). IsValid p h) (sym c.self.view_is) c.requires.valid in
-    let free = sym c.maps.ensures ∙ c.if-maps.false in
-    let whole = e.whole d r.changed (r.sound e.sound) r.forest in
-    taken_sound i.caches b.caches d i.store b.store i.contexts i.live c.args.cache n c.self.invariant (sym c.pages.ensures ∙ c.in-Some.is) free e.sizes e.gives_back (tied_right h None i.caches i.store v.right) r.changed whole (subst IsBounded (sym r.forest) e.bounded)
+    let whole = e.whole d r.changed (r.sound e.kept.sound) r.forest in
+    let t = sized_table (table_of j.caches c.args.cache.0) pages size2 in
+    let bounded = subst IsBounded (sym r.forest) e.bounded in
+    let z : Manager = seen d b.store j.contexts in
+    taken_sound j.caches b.caches d j.store b.store j.contexts j.live c.args.cache pages sound size2 free2 e.kept.sizes e.kept.gives_back tied r.changed whole bounded
 
 pub returns-clause-valid : goal.returns-clause-valid
 returns-clause-valid g c =
-    let h = g.M.Mapper.held c.args.mapper.now in
     let i = c.self.inside in
+    let pages = c.in-Some.pages in
+    let all : Extent = of_cache c.args.cache pages in
+    let size : size_of i.caches c.args.cache.0 ≡ Some pages = sym c.pages.ensures ∙ c.in-Some.is in
+    let free = sym c.maps.ensures ∙ c.if-maps.false in
+    let q = c.write_back.new.self in
+    let x = c.write_back.ensures in
+    let h = g.M.Mapper.held c.args.mapper.now in
+    let k = g.M.Mapper.held c.write_back.new.mapper in
+    let before = g.M.Mapper.counts c.args.mapper.now in
+    let after = g.M.Mapper.counts c.write_back.new.mapper in
+    let p : Manager = seen i.caches i.store i.contexts in
+    let t0 = sized_table (table_of i.caches c.args.cache.0) pages size in
+    let keeps0 : KeepsMachine p q h k before after = subst (λ (p : Manager). KeepsMachine p q h k before after) (sym c.self.view_is) x.keeps in
+    let extent : all_of i.caches c.args.cache ≡ all = ap (λ (o : Option ℕ). of_cache c.args.cache (unwrap_or o 0)) size in
+    let j = c.self-2.inside in
+    let v2 = c.self-2.view_is in
+    let m : Manager = seen j.caches j.store j.contexts in
+    let sound = c.self-2.invariant in
+    let valid : IsValid m k = subst (λ (p : Manager). IsValid p k) (sym v2) x.valid in
+    let keeps : KeepsMachine p m h k before after = subst (λ (r : Manager). KeepsMachine p r h k before after) (sym v2) keeps0 in
+    let written : IsWrittenBack all p m h k = subst (λ (r : Manager). IsWrittenBack all p r h k) (sym v2) (subst (λ (p : Manager). IsWrittenBack all p q h k) (sym c.self.view_is) c.in_ok-write_back.ensures.written) in
+    let tied = tied_right k None j.caches j.store valid.right in
+    let size2 : size_of j.caches c.args.cache.0 ≡ Some pages = keeps.same.sizes c.args.cache.0 ∙ size in
+    let free2 : list_any (maps_in c.args.cache.0) j.contexts.actors ≡ false = subst (λ (m : Machine). is_mapped m c.args.cache.0 ≡ false) (sym keeps.machine) free in
     let b = c.destroy_pages.new in
     let e = c.destroy_pages.ensures in
     let d = c.remove.new.self in
     let r = c.remove.ensures in
-    let n = c.in-Some.count in
-    let v = subst (λ (p : Manager). IsValid p h) (sym c.self.view_is) c.requires.valid in
-    let size = sym c.pages.ensures ∙ c.in-Some.is in
-    let free = sym c.maps.ensures ∙ c.if-maps.false in
-    let whole = e.whole d r.changed (r.sound e.sound) r.forest in
-    let t = sized_table _ n size in
-    taken_valid i.caches b.caches d i.store b.store i.contexts i.live c.args.cache n c.self.invariant size free e.sizes e.gives_back (tied_right h None i.caches i.store v.right) r.changed whole (subst IsBounded (sym r.forest) e.bounded)
-    h v e.right e.forest t.0 t.1 t.2
+    let whole = e.whole d r.changed (r.sound e.kept.sound) r.forest in
+    let t = sized_table (table_of j.caches c.args.cache.0) pages size2 in
+    let bounded = subst IsBounded (sym r.forest) e.bounded in
+    let z : Manager = seen d b.store j.contexts in
+    taken_valid j.caches b.caches d j.store b.store j.contexts j.live c.args.cache pages sound size2 free2 e.kept.sizes e.kept.gives_back tied r.changed whole bounded k valid e.right e.forest e.kept.sound.kept.listed e.empty t.0 t.1 t.2
 
 pub returns-clause-answers : goal.returns-clause-answers
 returns-clause-answers g c =
-    let h = g.M.Mapper.held c.args.mapper.now in
-    let counts = g.M.Mapper.counts c.args.mapper.now in
     let i = c.self.inside in
+    let pages = c.in-Some.pages in
+    let all : Extent = of_cache c.args.cache pages in
+    let size : size_of i.caches c.args.cache.0 ≡ Some pages = sym c.pages.ensures ∙ c.in-Some.is in
+    let free = sym c.maps.ensures ∙ c.if-maps.false in
+    let q = c.write_back.new.self in
+    let x = c.write_back.ensures in
+    let h = g.M.Mapper.held c.args.mapper.now in
+    let k = g.M.Mapper.held c.write_back.new.mapper in
+    let before = g.M.Mapper.counts c.args.mapper.now in
+    let after = g.M.Mapper.counts c.write_back.new.mapper in
+    let p : Manager = seen i.caches i.store i.contexts in
+    let t0 = sized_table (table_of i.caches c.args.cache.0) pages size in
+    let keeps0 : KeepsMachine p q h k before after = subst (λ (p : Manager). KeepsMachine p q h k before after) (sym c.self.view_is) x.keeps in
+    let extent : all_of i.caches c.args.cache ≡ all = ap (λ (o : Option ℕ). of_cache c.args.cache (unwrap_or o 0)) size in
+    let j = c.self-2.inside in
+    let v2 = c.self-2.view_is in
+    let m : Manager = seen j.caches j.store j.contexts in
+    let sound = c.self-2.invariant in
+    let valid : IsValid m k = subst (λ (p : Manager). IsValid p k) (sym v2) x.valid in
+    let keeps : KeepsMachine p m h k before after = subst (λ (r : Manager). KeepsMachine p r h k before after) (sym v2) keeps0 in
+    let written : IsWrittenBack all p m h k = subst (λ (r : Manager). IsWrittenBack all p r h k) (sym v2) (subst (λ (p : Manager). IsWrittenBack all p q h k) (sym c.self.view_is) c.in_ok-write_back.ensures.written) in
+    let tied = tied_right k None j.caches j.store valid.right in
+    let size2 : size_of j.caches c.args.cache.0 ≡ Some pages = keeps.same.sizes c.args.cache.0 ∙ size in
+    let free2 : list_any (maps_in c.args.cache.0) j.contexts.actors ≡ false = subst (λ (m : Machine). is_mapped m c.args.cache.0 ≡ false) (sym keeps.machine) free in
     let b = c.destroy_pages.new in
     let e = c.destroy_pages.ensures in
     let d = c.remove.new.self in
     let r = c.remove.ensures in
-    let n = c.in-Some.count in
-    let v = subst (λ (p : Manager). IsValid p h) (sym c.self.view_is) c.requires.valid in
-    let size = sym c.pages.ensures ∙ c.in-Some.is in
-    let free = sym c.maps.ensures ∙ c.if-maps.false in
-    let whole = e.whole d r.changed (r.sound e.sound) r.forest in
-    let t = sized_table _ n size in
-    let p : Manager = seen i.caches i.store i.contexts in
-    let q : Manager = seen d b.store i.contexts in
-    let command = commands.Destroy c.args.cache in
-    let answer : Answer = Ok replies.Done in
-    let tied = tied_right h None i.caches i.store v.right in
+    let whole = e.whole d r.changed (r.sound e.kept.sound) r.forest in
+    let t = sized_table (table_of j.caches c.args.cache.0) pages size2 in
     let bounded = subst IsBounded (sym r.forest) e.bounded in
-    subst (λ (p : Manager). CallIs counts counts (state_at p h) command answer (state_at q h)) c.self.view_is
-    (call_is counts counts (no_later counts) p q h h command answer refl tt
-    (follows i.caches b.caches d i.store b.store i.contexts i.live c.args.cache n c.self.invariant size free e.sizes e.gives_back tied r.changed whole bounded h v e.right e.forest t.0 t.1 t.2 (machine_of q h))
-    (taken i.caches b.caches d i.store b.store i.contexts i.live c.args.cache n c.self.invariant size free e.sizes e.gives_back tied r.changed whole bounded h v e.right e.forest t.0 t.1 t.2 _))
+    let z : Manager = seen d b.store j.contexts in
+    let answer : Answer = Ok replies.Done in
+    let command = commands.Destroy c.args.cache in
+    let rises = rises_between (length keeps.reach.pushes) before after in
+    let many : pages_in (cache_of (machine_of p h) c.args.cache.0) ≡ pages = touched p m h k before after c.args.cache pages keeps c.self.invariant.nodes sound.nodes valid t0.0 t0.1 t0.2 (λ f. free) (forest_of p h) in
+    let named = named_machine p (forest_of p h) c.args.cache.0 in
+    let after_is : forest_of z k ≡ forest_after (forest_of p h) (machine_of p h) command answer (machine_of z k)
+    = follows j.caches b.caches d j.store b.store j.contexts j.live c.args.cache pages sound size2 free2 e.kept.sizes e.kept.gives_back tied r.changed whole bounded k valid e.right e.forest e.kept.sound.kept.listed e.empty t.0 t.1 t.2 (is_named i.caches c.args.cache.0) (forest_of p h) written.forest
+        ∙ ap (λ (n : ℕ). destroy (is_named i.caches c.args.cache.0) (page_names c.args.cache 0 n) (forest_of p h)) (sym many)
+        ∙ ap (λ (x : Bool). destroy x (page_names c.args.cache 0 (pages_in (cache_of (machine_of p h) c.args.cache.0))) (forest_of p h)) (sym named) in
+    let outcome : OutcomeAt (segments_of k) (machine_of p h) (Some (forest_of p h)) command answer (machine_of z k) rises
+    = subst (λ (m : Machine). OutcomeAt (segments_of k) m (Some (forest_of p h)) command answer (machine_of z k) rises) keeps.machine (taken j.caches b.caches d j.store b.store j.contexts j.live c.args.cache pages sound size2 free2 e.kept.sizes e.kept.gives_back tied r.changed whole bounded k valid e.right e.forest e.kept.sound.kept.listed e.empty t.0 t.1 t.2 (forest_of p h) rises) in
+    subst (λ (p : Manager). CallIs before after (state_at p h) command answer (state_at z k)) c.self.view_is
+    (call_is before after p z h k command answer keeps.reach (taken_valid j.caches b.caches d j.store b.store j.contexts j.live c.args.cache pages sound size2 free2 e.kept.sizes e.kept.gives_back tied r.changed whole bounded k valid e.right e.forest e.kept.sound.kept.listed e.empty t.0 t.1 t.2) tt
+    (subst (λ (n : ℕ). ArePushed (machine_of p h) (segments_of k) c.args.cache.0 0 n) (let e : 0 + pages ≡ pages = omega arith in e ∙ sym many) written.pushed) after_is outcome)
 
 pub returns-clause-made : goal.returns-clause-made
 returns-clause-made g c =
-    let h = g.M.Mapper.held c.args.mapper.now in
     let i = c.self.inside in
+    let pages = c.in-Some.pages in
+    let all : Extent = of_cache c.args.cache pages in
+    let size : size_of i.caches c.args.cache.0 ≡ Some pages = sym c.pages.ensures ∙ c.in-Some.is in
+    let free = sym c.maps.ensures ∙ c.if-maps.false in
+    let q = c.write_back.new.self in
+    let x = c.write_back.ensures in
+    let h = g.M.Mapper.held c.args.mapper.now in
+    let k = g.M.Mapper.held c.write_back.new.mapper in
+    let before = g.M.Mapper.counts c.args.mapper.now in
+    let after = g.M.Mapper.counts c.write_back.new.mapper in
+    let p : Manager = seen i.caches i.store i.contexts in
+    let t0 = sized_table (table_of i.caches c.args.cache.0) pages size in
+    let keeps0 : KeepsMachine p q h k before after = subst (λ (p : Manager). KeepsMachine p q h k before after) (sym c.self.view_is) x.keeps in
+    let extent : all_of i.caches c.args.cache ≡ all = ap (λ (o : Option ℕ). of_cache c.args.cache (unwrap_or o 0)) size in
+    let j = c.self-2.inside in
+    let v2 = c.self-2.view_is in
+    let m : Manager = seen j.caches j.store j.contexts in
+    let sound = c.self-2.invariant in
+    let valid : IsValid m k = subst (λ (p : Manager). IsValid p k) (sym v2) x.valid in
+    let keeps : KeepsMachine p m h k before after = subst (λ (r : Manager). KeepsMachine p r h k before after) (sym v2) keeps0 in
+    let written : IsWrittenBack all p m h k = subst (λ (r : Manager). IsWrittenBack all p r h k) (sym v2) (subst (λ (p : Manager). IsWrittenBack all p q h k) (sym c.self.view_is) c.in_ok-write_back.ensures.written) in
+    let tied = tied_right k None j.caches j.store valid.right in
+    let size2 : size_of j.caches c.args.cache.0 ≡ Some pages = keeps.same.sizes c.args.cache.0 ∙ size in
+    let free2 : list_any (maps_in c.args.cache.0) j.contexts.actors ≡ false = subst (λ (m : Machine). is_mapped m c.args.cache.0 ≡ false) (sym keeps.machine) free in
     let b = c.destroy_pages.new in
     let e = c.destroy_pages.ensures in
     let d = c.remove.new.self in
     let r = c.remove.ensures in
-    let n = c.in-Some.count in
-    let v = subst (λ (p : Manager). IsValid p h) (sym c.self.view_is) c.requires.valid in
-    let size = sym c.pages.ensures ∙ c.in-Some.is in
-    let free = sym c.maps.ensures ∙ c.if-maps.false in
-    let whole = e.whole d r.changed (r.sound e.sound) r.forest in
-    let t = sized_table _ n size in
-    let p : Manager = seen i.caches i.store i.contexts in
-    let q : Manager = seen d b.store i.contexts in
-    let touch = touched i.caches b.caches d i.store b.store i.contexts i.live c.args.cache n c.self.invariant size free e.sizes e.gives_back (tied_right h None i.caches i.store v.right) r.changed whole (subst IsBounded (sym r.forest) e.bounded)
-    h v e.right e.forest t.0 t.1 t.2 (forest_of p h) in
-    subst (λ (p : Manager). RaisesMade (machine_of p h) (commands.Destroy c.args.cache) (Ok replies.Done) (numbered p) (numbered q)) c.self.view_is
-    (omega (arith, touch, e.made, e.copies, ap (λ a. a.made) r.changed, ap (λ a. a.copies) r.changed))
+    let whole = e.whole d r.changed (r.sound e.kept.sound) r.forest in
+    let t = sized_table (table_of j.caches c.args.cache.0) pages size2 in
+    let bounded = subst IsBounded (sym r.forest) e.bounded in
+    let z : Manager = seen d b.store j.contexts in
+    let many : pages_in (cache_of (machine_of p h) c.args.cache.0) ≡ pages = touched p m h k before after c.args.cache pages keeps c.self.invariant.nodes sound.nodes valid t0.0 t0.1 t0.2 (λ f. free) (forest_of p h) in
+    let copied = range_copied p m h k all c.self.invariant.nodes (is_named i.caches c.args.cache.0) written.forest in
+    subst (λ (p : Manager). RaisesMade (machine_of p h) (commands.Destroy c.args.cache) (Ok replies.Done) (numbered p) (numbered z)) c.self.view_is
+    (omega (arith, many, keeps.made, copied.1, e.made, e.copies, ap (λ a. a.made) r.changed, ap (λ a. a.copies) r.changed))
 
-pub returns-clause-frames : goal.returns-clause-frames
-returns-clause-frames g c =
-    let h = g.M.Mapper.held c.args.mapper.now in
+pub returns-clause-copies : goal.returns-clause-copies
+returns-clause-copies g c =
     let i = c.self.inside in
+    let pages = c.in-Some.pages in
+    let all : Extent = of_cache c.args.cache pages in
+    let size : size_of i.caches c.args.cache.0 ≡ Some pages = sym c.pages.ensures ∙ c.in-Some.is in
+    let free = sym c.maps.ensures ∙ c.if-maps.false in
+    let q = c.write_back.new.self in
+    let x = c.write_back.ensures in
+    let h = g.M.Mapper.held c.args.mapper.now in
+    let k = g.M.Mapper.held c.write_back.new.mapper in
+    let before = g.M.Mapper.counts c.args.mapper.now in
+    let after = g.M.Mapper.counts c.write_back.new.mapper in
+    let p : Manager = seen i.caches i.store i.contexts in
+    let t0 = sized_table (table_of i.caches c.args.cache.0) pages size in
+    let keeps0 : KeepsMachine p q h k before after = subst (λ (p : Manager). KeepsMachine p q h k before after) (sym c.self.view_is) x.keeps in
+    let extent : all_of i.caches c.args.cache ≡ all = ap (λ (o : Option ℕ). of_cache c.args.cache (unwrap_or o 0)) size in
+    let j = c.self-2.inside in
+    let v2 = c.self-2.view_is in
+    let m : Manager = seen j.caches j.store j.contexts in
+    let sound = c.self-2.invariant in
+    let valid : IsValid m k = subst (λ (p : Manager). IsValid p k) (sym v2) x.valid in
+    let keeps : KeepsMachine p m h k before after = subst (λ (r : Manager). KeepsMachine p r h k before after) (sym v2) keeps0 in
+    let written : IsWrittenBack all p m h k = subst (λ (r : Manager). IsWrittenBack all p r h k) (sym v2) (subst (λ (p : Manager). IsWrittenBack all p q h k) (sym c.self.view_is) c.in_ok-write_back.ensures.written) in
+    let tied = tied_right k None j.caches j.store valid.right in
+    let size2 : size_of j.caches c.args.cache.0 ≡ Some pages = keeps.same.sizes c.args.cache.0 ∙ size in
+    let free2 : list_any (maps_in c.args.cache.0) j.contexts.actors ≡ false = subst (λ (m : Machine). is_mapped m c.args.cache.0 ≡ false) (sym keeps.machine) free in
     let b = c.destroy_pages.new in
     let e = c.destroy_pages.ensures in
-    let v = subst (λ (p : Manager). IsValid p h) (sym c.self.view_is) c.requires.valid in
-    let gives = e.gives_back None None (tied_right h None i.caches i.store v.right) in
-    let q : Manager = seen c.remove.new.self b.store i.contexts in
-    subst (λ (p : Manager). CopiesNothing p q) c.self.view_is
-    (record { copies = ap (λ k. k.copies) c.remove.ensures.changed ∙ e.copies; held = gives.held; bytes = gives.bytes })
+    let d = c.remove.new.self in
+    let r = c.remove.ensures in
+    let whole = e.whole d r.changed (r.sound e.kept.sound) r.forest in
+    let t = sized_table (table_of j.caches c.args.cache.0) pages size2 in
+    let bounded = subst IsBounded (sym r.forest) e.bounded in
+    let z : Manager = seen d b.store j.contexts in
+    let copied = range_copied p m h k all c.self.invariant.nodes (is_named i.caches c.args.cache.0) written.forest in
+    subst (λ (p : Manager). CopiesSaved (all_of p.caches c.args.cache) p h z (Ok tt)) c.self.view_is
+    (subst (λ (e : Extent). CopiesSaved e p h z (Ok tt)) (sym extent) (ap (λ a. a.copies) r.changed ∙ e.copies ∙ copied.0))
+
+pub returns-clause-idle : goal.returns-clause-idle
+returns-clause-idle g c =
+    let i = c.self.inside in
+    let pages = c.in-Some.pages in
+    let all : Extent = of_cache c.args.cache pages in
+    let size : size_of i.caches c.args.cache.0 ≡ Some pages = sym c.pages.ensures ∙ c.in-Some.is in
+    let free = sym c.maps.ensures ∙ c.if-maps.false in
+    let q = c.write_back.new.self in
+    let x = c.write_back.ensures in
+    let h = g.M.Mapper.held c.args.mapper.now in
+    let k = g.M.Mapper.held c.write_back.new.mapper in
+    let before = g.M.Mapper.counts c.args.mapper.now in
+    let after = g.M.Mapper.counts c.write_back.new.mapper in
+    let p : Manager = seen i.caches i.store i.contexts in
+    let t0 = sized_table (table_of i.caches c.args.cache.0) pages size in
+    let keeps0 : KeepsMachine p q h k before after = subst (λ (p : Manager). KeepsMachine p q h k before after) (sym c.self.view_is) x.keeps in
+    let extent : all_of i.caches c.args.cache ≡ all = ap (λ (o : Option ℕ). of_cache c.args.cache (unwrap_or o 0)) size in
+    let j = c.self-2.inside in
+    let v2 = c.self-2.view_is in
+    let m : Manager = seen j.caches j.store j.contexts in
+    let sound = c.self-2.invariant in
+    let valid : IsValid m k = subst (λ (p : Manager). IsValid p k) (sym v2) x.valid in
+    let keeps : KeepsMachine p m h k before after = subst (λ (r : Manager). KeepsMachine p r h k before after) (sym v2) keeps0 in
+    let written : IsWrittenBack all p m h k = subst (λ (r : Manager). IsWrittenBack all p r h k) (sym v2) (subst (λ (p : Manager). IsWrittenBack all p q h k) (sym c.self.view_is) c.in_ok-write_back.ensures.written) in
+    let tied = tied_right k None j.caches j.store valid.right in
+    let size2 : size_of j.caches c.args.cache.0 ≡ Some pages = keeps.same.sizes c.args.cache.0 ∙ size in
+    let free2 : list_any (maps_in c.args.cache.0) j.contexts.actors ≡ false = subst (λ (m : Machine). is_mapped m c.args.cache.0 ≡ false) (sym keeps.machine) free in
+    let b = c.destroy_pages.new in
+    let e = c.destroy_pages.ensures in
+    let d = c.remove.new.self in
+    let r = c.remove.ensures in
+    let whole = e.whole d r.changed (r.sound e.kept.sound) r.forest in
+    let t = sized_table (table_of j.caches c.args.cache.0) pages size2 in
+    let bounded = subst IsBounded (sym r.forest) e.bounded in
+    let z : Manager = seen d b.store j.contexts in
+    λ none.
+    let still = x.temporary none in
+    let gives = e.kept.gives_back None None tied in
+    let same : m ≡ c.args.self.now = v2 ∙ still.1 in (
+      still.2,
+      still.3,
+      (let out : CopiesNothing c.args.self.now z = subst (λ (p : Manager). CopiesNothing p z) same (record { copies = ap (λ k. k.copies) r.changed ∙ e.copies; held = gives.held; bytes = gives.bytes }) in out),
+      tt,
+    )
+

@@ -1,5 +1,5 @@
 use Rattle.std.proofs.Common.{true, false, ◌≡◌, Option, length, refl, sym, ap, subst, ◌∙◌}
-use Rattle.std.specs.Prelude.{Result, Ok, Err, IfOk, IsOk}
+use Rattle.std.specs.Prelude.{◌+◌, ◌-◌, Result, Ok, Err, IfOk, IsOk}
 use Rattle.std.proofs.lemmas.Result.{err_from_is_err_and}
 use Rattle.vm_ids.specs.declared.command.Command.TheVariants as commands
 use Rattle.vm_ids.specs.declared.numbers.PageNo.{PageNo}
@@ -12,7 +12,7 @@ use Rattle.vm_ids.specs.Forest.Nodes.{no_forest}
 use Rattle.vm_ids.specs.Forest.Reading.{owner_of, value_of}
 use Rattle.local_cache.specs.Own.{own_of}
 use Rattle.residency.specs.declared.miss.Miss.{Miss}
-use Rattle.residency.specs.Causes.{Made, pulls_for, pushes_to_bring}
+use Rattle.residency.specs.Causes.{Made, dirtied, dirty_count, failed_victims, pulls_for}
 use Rattle.fault_path.specs.Faults.{IsOwner}
 use Rattle.pvm_core.specs.Access.{IsAtHand, IsLoaded}
 use Rattle.pvm_core.proofs.Found.{found_in, given_in, pulled_for}
@@ -21,12 +21,14 @@ use Rattle.vm_model.specs.PageForest.{PageForest}
 use Rattle.vm_model.specs.Place.{Place, place}
 use Rattle.vm_model.specs.Run.{CallIs}
 use Rattle.local_cache.specs.Whole.{size_of}
-use Rattle.pvm_core.specs.Manager.{IsValid, Manager, forest_of, machine_by, nodes_of, state_at}
+use Rattle.pvm_core.specs.Manager.{IsValid, Manager, forest_of, machine_by, machine_of, nodes_of, state_at}
 use Rattle.pvm_core.specs.Pieces.{fault_at}
-use Rattle.pvm_core.proofs.Answered.{called}
+use Rattle.pvm_core.proofs.Answered.{call_is, called}
+use Rattle.pvm_core.proofs.Homed.{reached}
+use Rattle.pvm_core.proofs.Reaching.{reach_none, reach_told}
 use Rattle.pvm_core.proofs.Kept.{kept_by, kept_forest, kept_machine, kept_sound, kept_valid, seen, sizeless}
 use Rattle.pvm_core.proofs.Listed.{found_at, refused_at, spot}
-use Rattle.pvm_core.proofs.Loading.{call_is, found_within, load_fault, load_refused, loaded, no_later, owner_there}
+use Rattle.pvm_core.proofs.Loading.{found_within, load_fault, load_refused, loaded, owner_there}
 use Rattle.pvm_core.proofs.pvm.Pvm.load.Goals as goal
 use Rattle.pvm_core.proofs.pvm.Pvm.load.Goals.{in-Ok, in-Err}
 
@@ -41,7 +43,7 @@ returns-in_err-place-clause-answers g c =
     let is : c.from_residual.result ≡ Err (troubles.Refused c.in_err-place.field-0.0) = gave.1 ∙ ap (λ t. Err t) gave.2 in
     subst (λ (p : Manager). CallIs counts counts (state_at p h) (commands.Load c.args.actor c.args.address c.args.bytes) (answer_by replies.Bytes c.from_residual.result) (state_at p h)) c.self.view_is
     (subst (λ (r : Result _ _). CallIs counts counts (state_at p h) (commands.Load c.args.actor c.args.address c.args.bytes) (answer_by replies.Bytes r) (state_at p h)) (sym is)
-    (called counts counts (no_later counts) p p h h (commands.Load c.args.actor c.args.address c.args.bytes) answer c.self.invariant.nodes c.self.invariant.nodes refl refl (λ done m f s none. none) tt (λ f. refl)
+    (called counts counts p p h h (commands.Load c.args.actor c.args.address c.args.bytes) answer (reach_none (machine_of p h) h counts) c.self.invariant.nodes c.self.invariant.nodes (subst (λ (p : Manager). IsValid p h) (sym c.self.view_is) c.requires.valid) refl (λ done m f s none. none) tt tt (λ f. refl)
     (λ f s. load_refused (machine_by p f) c.args.actor.0 c.args.address c.args.bytes c.in_err-place.field-0.0 (refused_at (place (machine_by p f) c.args.actor.0 c.args.address c.args.bytes) c.in_err-place.field-0.0 (sym c.in_err-place.was ∙ c.locate.ensures)))))
 
 pub node_of-node-requires-clause-page : goal.node_of-node-requires-clause-page
@@ -67,8 +69,15 @@ returns-clause-valid g c =
     let i = c.self.inside in
     let n = c.read_fault.new in
     let e = c.read_fault.ensures in
-    kept_valid i.caches n.caches i.store n.store (g.M.Mapper.held c.args.mapper.now) (g.M.Mapper.held n.mapper) (g.M.Mapper.page_bytes c.args.mapper.now) (g.M.Mapper.page_bytes n.mapper) e.answered.kept i.contexts e.forest
-    (subst (λ (p : Manager). IsValid p (g.M.Mapper.held c.args.mapper.now)) (sym c.self.view_is) c.requires.valid)
+    let h = g.M.Mapper.held c.args.mapper.now in
+    let k = g.M.Mapper.held n.mapper in
+    let size = g.M.Mapper.page_bytes c.args.mapper.now in
+    let then_size = g.M.Mapper.page_bytes n.mapper in
+    let before = g.M.Mapper.counts c.args.mapper.now in
+    let after = g.M.Mapper.counts n.mapper in
+    let reach = reached (seen i.caches i.store i.contexts) h c.self.invariant.nodes c.self.invariant.apart size then_size n.caches n.store k before after e.answered.later e.answered.told in
+    kept_valid i.caches n.caches i.store n.store h k size then_size e.answered.kept i.contexts e.forest before after reach
+    (subst (λ (p : Manager). IsValid p h) (sym c.self.view_is) c.requires.valid)
 
 pub returns-clause-answers : goal.returns-clause-answers
 returns-clause-answers g c =
@@ -93,20 +102,23 @@ returns-clause-answers g c =
     let r = spot (size_of i.caches) i.contexts c.args.actor.0 c.args.address c.args.bytes c.in_ok-place.place c.self.invariant.actors (sym c.in_ok-place.was ∙ c.locate.ensures) in
     let at : Place = found_at r.region pl in
     let is : (f : PageForest) → Ok at ≡ place (machine_by p f) c.args.actor.0 c.args.address c.args.bytes = λ f. r.is in
+    let reach = reached p h c.self.invariant.nodes c.self.invariant.apart size then_size n.caches n.store k before after e.answered.later e.answered.told in
+    let valid = kept_valid i.caches n.caches i.store n.store h k size then_size e.answered.kept i.contexts e.forest before after reach (subst (λ (p : Manager). IsValid p h) (sym c.self.view_is) c.requires.valid) in
+    let both = reach_told (machine_of p h) h k before after reach in
     subst (λ (p : Manager). CallIs before after (state_at p h) command (answer_by replies.Bytes c.match-read_fault.result) (state_at q k)) c.self.view_is (elim c.match-read_fault.branch [
       | in-Ok w ↦ (
           let piece = w.part_of.result in
           let value = (λ j. value_of (sym (e.forest ∙ sizeless h size i.caches i.store) j) (sym c.node_of-node.ensures.name j)) ∙ w.in-Ok.ensures.value in
           subst (λ (r : Result _ _). CallIs before after (state_at p h) command (answer_by replies.Bytes r) (state_at q k)) (sym w.result-is)
-          (call_is before after e.answered.later p q h k command (Ok (replies.Bytes piece)) e.answered.kept.segments tt forest
+          (call_is before after p q h k command (Ok (replies.Bytes piece)) reach valid tt tt forest
           (loaded p q h k then_size n.caches n.store c.args.actor c.args.address c.args.bytes at pl.cache pl.page.0 r.count w.in-Ok.found piece _ nodes is refl refl r.there r.less r.fits
-          w.part_of.ensures.piece w.part_of.ensures.length value e.answered.kept.segments by same)))
+          w.part_of.ensures.piece w.part_of.ensures.length value both by same)))
       | in-Err w ↦ (
           let page : PageNo = pl.page in
           subst (λ (r : Result _ _). CallIs before after (state_at p h) command (answer_by replies.Bytes r) (state_at q k)) (sym w.result-is)
           (subst (λ (f : FaultAt). CallIs before after (state_at p h) command (Err (troubles.Mapper f)) (state_at q k)) (sym w.fault_of.ensures)
-          (called before after e.answered.later p q h k command (Err (troubles.Mapper (fault_at w.in-Err.miss page))) nodes then.nodes e.answered.kept.segments forest (λ done m f s none. none) tt (λ f. refl)
-          (λ f s. load_fault (machine_by p f) (machine_by q f) (forest_of p h) c.args.actor c.args.address c.args.bytes s before after w.in-Err.miss page at (by f) (is f) refl w.in-Err.ensures.cause))))
+          (called before after p q h k command (Err (troubles.Mapper (fault_at w.in-Err.miss page))) reach nodes then.nodes valid forest (λ done m f s none. none) tt tt (λ f. refl)
+          (λ f s. load_fault (length reach.pushes) (machine_by p f) (machine_by q f) (forest_of p h) c.args.actor c.args.address c.args.bytes s before after w.in-Err.miss page at (by f) (is f) refl w.in-Err.ensures.cause))))
     ])
 
 pub returns-in_err-place-clause-idle : goal.returns-in_err-place-clause-idle
@@ -168,7 +180,7 @@ returns-clause-loaded g c =
         found = found_in k size i.caches n.caches n.store i.contexts e.answered.kept.right o.0 w.in-Ok.found (w.in-Ok.ensures.frame o.0 o.1) (λ hand. (e.idle o.0 o.1 hand).2);
         bytes = w.part_of.ensures.piece;
         pulled = pulled_for (own_of i.caches o.0) before after w.in-Ok.found
-            (λ zero. (pushes_to_bring (own_of i.caches o.0) i.store.frames.held, subst (λ (r : Result (Option FrameId) Miss). Made (pulls_for r (own_of i.caches o.0)) (pushes_to_bring (own_of i.caches o.0) i.store.frames.held) before after) w.in-Ok.is (e.made o.0 o.1 zero)))
+            (λ zero. (_, subst (λ (r : Result (Option FrameId) Miss). Made (pulls_for r (own_of i.caches o.0)) (dirty_count i.caches + dirtied c.read_fault.result (own_of i.caches o.0) - dirty_count n.caches + failed_victims c.read_fault.result) before after) w.in-Ok.is (e.made o.0 o.1 zero)))
             (λ hand. ap (λ m. g.M.Mapper.counts m) (e.idle o.0 o.1 hand).3);
         given = given_in k size i.caches n.caches n.store i.contexts e.answered.kept.right o.0 given w.in-Ok.found (w.in-Ok.ensures.frame o.0 o.1) (w.in-Ok.ensures.given o.0 o.1);
       })

@@ -1,4 +1,4 @@
-use Rattle.std.proofs.Common.{◌≡◌, ℕ, ◌+◌, ◌≤◌, [], Some, length, replicate, refl, sym, ap, subst, ◌∙◌, arith}
+use Rattle.std.proofs.Common.{◌≡◌, ℕ, ◌+◌, ◌≤◌, [], None, Some, length, replicate, refl, sym, ap, subst, ◌∙◌, arith}
 use Rattle.std.specs.Prelude.{Result, Ok, Err, option_map}
 use Rattle.std.proofs.lemmas.Result.{err_from_is_err_and}
 use Rattle.vm_ids.specs.Counting.{no_counts}
@@ -10,10 +10,12 @@ use Rattle.vm_ids.specs.declared.reply.Trouble.TheVariants as troubles
 use Rattle.vm_ids.specs.Forest.Commands.{make, page_names}
 use Rattle.vm_model.specs.Answering.{Answer, answer_by}
 use Rattle.vm_model.specs.Run.{AnswerIs, State}
+use Rattle.local_cache.proofs.Names.Homes.{home-made_other}
+use Rattle.local_cache.specs.declared.own_state.OwnState.TheVariants.{Zero}
 use Rattle.pvm_core.specs.Manager.{IsValid, Manager, forest_of, state_at}
 use Rattle.pvm_core.specs.contracts.pvm.Pvm.{the_view}
 use Rattle.pvm_core.proofs.Answered.{answered}
-use Rattle.pvm_core.proofs.Begun.{begun_right, begun_sound, roomy_by, roomy_forest, roomy_machine, roomy_sound, roomy_valid}
+use Rattle.pvm_core.proofs.Begun.{begun_full, begun_right, begun_sized, begun_sound, roomy_by, roomy_forest, roomy_machine, roomy_sound, roomy_valid}
 use Rattle.pvm_core.proofs.Kept.{seen}
 use Rattle.pvm_core.proofs.Making.{all_with, made_store}
 use Rattle.pvm_core.proofs.NewCache.{answer_more, fresh_pages, many_live, many_made, temp_row, whole_more}
@@ -27,7 +29,7 @@ returns-then-caches_made-ge-MADE-clause-answers c = λ h v.
     let i = c.self.invariant in
     let answer : Answer = Err (troubles.Refused refusals.TooMany) in
     subst (λ (p : Manager). AnswerIs (state_at p h) (commands.MakeTemp c.args.pages) answer [] no_counts (state_at p h)) c.self.view_is
-    (answered p p h (commands.MakeTemp c.args.pages) answer i.nodes i.nodes refl refl refl (λ f s. elim c.then-caches_made-ge-MADE.branch [
+    (answered p p h (commands.MakeTemp c.args.pages) answer i.nodes i.nodes (subst (λ (p : Manager). IsValid p h) (sym c.self.view_is) v) refl refl refl tt (λ f s. elim c.then-caches_made-ge-MADE.branch [
       | then-caches_made-ge-MADE-via-then-caches_made-ge-MADE w ↦ many_made p f c.args.pages (omega (arith, w.if-caches_made-ge-MADE.true, c.caches_made.ensures))
       | then-caches_made-ge-MADE-via-else-caches_made-ge-MADE+then-self-pages w ↦ many_live p f c.args.pages c.self.inside.live i.counted (omega (arith, w.if-self-pages.true))
     ]))
@@ -59,7 +61,7 @@ returns-in_err-reserve-clause-answers c = λ h v.
     let is : c.from_residual.result ≡ Err troubles.Memory = gave.1 ∙ ap (λ t. Err t) gave.2 in
     subst (λ (p : Manager). AnswerIs (state_at p h) (commands.MakeTemp c.args.pages) (answer_by replies.Cache c.from_residual.result) [] no_counts (state_at q h)) c.self.view_is
     (subst (λ (r : Result _ _). AnswerIs (state_at p h) (commands.MakeTemp c.args.pages) (answer_by replies.Cache r) [] no_counts (state_at q h)) (sym is)
-    (answered p q h (commands.MakeTemp c.args.pages) answer c.self.invariant.nodes k.nodes (roomy_forest i.caches r.caches i.store r.store i.contexts i.live e.caches e.store e.slots e.no_less e.forest e.sound c.self.invariant h) refl refl (λ f s. (
+    (answered p q h (commands.MakeTemp c.args.pages) answer c.self.invariant.nodes k.nodes (roomy_valid i.caches r.caches i.store r.store i.contexts i.live e.caches e.store e.slots e.no_less e.forest e.sound c.self.invariant h (subst (λ (p : Manager). IsValid p h) (sym c.self.view_is) v)) (roomy_forest i.caches r.caches i.store r.store i.contexts i.live e.caches e.store e.slots e.no_less e.forest e.sound c.self.invariant h) refl refl tt (λ f s. (
       roomy_by i.caches r.caches i.store r.store i.contexts i.live e.caches e.store e.slots e.no_less e.forest e.sound c.self.invariant f,
       tt,
       (let row = temp_row p f c.args.pages i.live c.self.invariant.counted (omega (arith, c.if-caches_made-ge-MADE.false, c.caches_made.ensures)) (omega (arith, c.if-self-pages.false)) in rw row tt),
@@ -87,9 +89,11 @@ returns-clause-valid c = λ h v.
     let q : Manager = seen d r.store i.contexts in
     let w = roomy_valid i.caches r.caches i.store r.store i.contexts i.live e.caches e.store e.slots e.no_less e.forest e.sound c.self.invariant h (subst (λ (p : Manager). IsValid p h) (sym c.self.view_is) v) in
     let low : i.live + c.args.pages ≤ Rattle.vm_model.specs.declared.limits.TheConstants.LIVE_PAGES = omega (arith, c.if-self-pages.false) in
-    let forest = made_store h r.caches d r.store c.make_temp.result c.args.pages m.pages m.stays (m.forest e.sound) e.sound (m.sound e.sound) (fresh_pages r.caches d c.make_temp.result c.args.pages m.made.0 k.nodes m.made.2) in
+    let forest = made_store h r.caches d r.store c.make_temp.result c.args.pages m.pages m.stays (home-made_other r.caches d c.make_temp.result None Zero m.made.0 m.made.2 k.nodes.sound.kept.listed) (m.forest e.sound) e.sound (m.sound e.sound) (fresh_pages r.caches d c.make_temp.result c.args.pages m.made.0 k.nodes m.made.2) in
     record {
       right = begun_right r.caches d r.store i.contexts i.live c.args.pages c.make_temp.result m.made.0 m.made.1 m.made.2 (m.forest e.sound) (m.sound e.sound) k low c.in_ok-reserve.ensures.nodes c.in_ok-reserve.ensures.capacity h w.right;
+      sized = begun_sized r.caches d r.store i.contexts i.live c.args.pages c.make_temp.result m.made.0 m.made.1 m.made.2 (m.forest e.sound) (m.sound e.sound) k low c.in_ok-reserve.ensures.nodes c.in_ok-reserve.ensures.capacity h w.sized;
+      full = begun_full r.caches d r.store i.contexts i.live c.args.pages c.make_temp.result m.made.0 m.made.1 m.made.2 (m.forest e.sound) (m.sound e.sound) k low c.in_ok-reserve.ensures.nodes c.in_ok-reserve.ensures.capacity h w.full;
       whole = whole_more p q h c.make_temp.result c.args.pages m.made.0 m.made.1 m.made.2 k.actors.some (followed_of p h k.nodes k.actors.some w.whole)
           (subst (λ (b : ℕ). forest_of q h ≡ make (all_with (option_map (λ _. replicate b 0) h) (page_names c.make_temp.result 0 c.args.pages)) (forest_of p h)) (sym k.page) forest) (refl, refl, refl, refl) w.whole;
     }
@@ -106,7 +110,7 @@ returns-clause-answers c = λ h v.
     let p : Manager = seen r.caches r.store i.contexts in
     let q : Manager = seen d r.store i.contexts in
     let w = roomy_valid i.caches r.caches i.store r.store i.contexts i.live e.caches e.store e.slots e.no_less e.forest e.sound c.self.invariant h (subst (λ (p : Manager). IsValid p h) (sym c.self.view_is) v) in
-    let forest = made_store h r.caches d r.store c.make_temp.result c.args.pages m.pages m.stays (m.forest e.sound) e.sound (m.sound e.sound) (fresh_pages r.caches d c.make_temp.result c.args.pages m.made.0 k.nodes m.made.2) in
+    let forest = made_store h r.caches d r.store c.make_temp.result c.args.pages m.pages m.stays (home-made_other r.caches d c.make_temp.result None Zero m.made.0 m.made.2 k.nodes.sound.kept.listed) (m.forest e.sound) e.sound (m.sound e.sound) (fresh_pages r.caches d c.make_temp.result c.args.pages m.made.0 k.nodes m.made.2) in
     let answer : Answer = Ok (replies.Cache c.make_temp.result) in
     let same : state_at p h ≡ state_at o h = λ j. record {
       machine = roomy_machine i.caches r.caches i.store r.store i.contexts i.live e.caches e.store e.slots e.no_less e.forest e.sound c.self.invariant h j;
@@ -117,4 +121,4 @@ returns-clause-answers c = λ h v.
     (subst (λ (x : State). AnswerIs x (commands.MakeTemp c.args.pages) answer [] no_counts (state_at q h)) same
     (answer_more p q h c.make_temp.result c.args.pages m.made.0 m.made.1 m.made.2 k.actors.some (followed_of p h k.nodes k.actors.some w.whole)
     (subst (λ (b : ℕ). forest_of q h ≡ make (all_with (option_map (λ _. replicate b 0) h) (page_names c.make_temp.result 0 c.args.pages)) (forest_of p h)) (sym k.page) forest) (refl, refl, refl, refl)
-    k.nodes i.live k.counted (omega (arith, c.if-caches_made-ge-MADE.false, c.caches_made.ensures, ap (λ a. length a.caches) e.caches)) (omega (arith, c.if-self-pages.false))))
+    k.nodes i.live k.counted (omega (arith, c.if-caches_made-ge-MADE.false, c.caches_made.ensures, ap (λ a. length a.caches) e.caches)) (omega (arith, c.if-self-pages.false)) w.whole))

@@ -12,12 +12,12 @@ use Rattle.vm_model.specs.PageForest.{PageForest}
 use Rattle.vm_model.specs.Run.{AnswerIs}
 use Rattle.local_cache.specs.Whole.{size_of}
 use Rattle.contexts.specs.Actors.{Actors, with_region}
-use Rattle.pvm_core.specs.Manager.{Manager, caches_shown, state_at}
+use Rattle.pvm_core.specs.Manager.{Manager, caches_shown, state_at, IsValid}
 use Rattle.pvm_core.specs.Maps.{map_refusal}
 use Rattle.pvm_core.specs.Placed.{AreRight}
 use Rattle.pvm_core.specs.contracts.pvm.Pvm.{the_view}
 use Rattle.pvm_core.proofs.Answered.{seated}
-use Rattle.pvm_core.proofs.Kept.{seated_sound}
+use Rattle.pvm_core.proofs.Kept.{seated_sound, seated_valid}
 use Rattle.pvm_core.proofs.Listed.{IsMappable, after_either, is_mappable, machine_with, map_refused, map_row, next_placed, right_mapped, size_in}
 use Rattle.pvm_core.proofs.Shown.{shown_size}
 use Rattle.pvm_core.proofs.pvm.Pvm.map.Goals as goal
@@ -32,7 +32,7 @@ returns-in-Some-clause-answers c = λ h v.
     let actor = c.args.actor.0 in
     let answer : Answer = Err (troubles.Refused c.in-Some.refusal) in
     subst (λ (p : Manager). AnswerIs (state_at p h) (commands.Map c.args.actor x) answer [] no_counts (state_at p h)) c.self.view_is
-    (seated p p h (commands.Map c.args.actor x) answer c.self.invariant.nodes refl refl (λ done m f s none. none) refl (λ f. refl)
+    (seated p p h (commands.Map c.args.actor x) answer c.self.invariant.nodes c.self.invariant.nodes (subst (λ (p : Manager). IsValid p h) (sym c.self.view_is) v) refl (λ done m f s none. none) refl tt (λ f. refl)
     (λ f s. let caches = caches_shown f 1 i.caches.caches in
     let size : size_in (numbered caches x.extent.cache.0) ≡ c.pages-count.result = shown_size f i.caches.caches x.extent.cache.0 ∙ sym c.pages-count.ensures in
     map_refused t x caches (length i.store.frames.held) actor c.in-Some.refusal (numbered t.actors actor) (numbered caches x.extent.cache.0) refl refl
@@ -72,13 +72,24 @@ returns-clause-answers c = λ h v.
     = λ f. is_mappable t x (numbered t.actors actor) (size_in (numbered (caches_shown f 1 i.caches.caches) x.extent.cache.0))
     (ap (λ (n : Option ℕ). map_refusal t (numbered t.actors actor) n x) (size f) ∙ sym c.map_refusal.ensures ∙ c.in_default.is) in
     let row = λ (f : PageForest). map_row t x (caches_shown f 1 i.caches.caches) frames actor (k f) in
+    let page : u.page_bytes ≡ t.page_bytes = after_either (λ (w : Actors). w.page_bytes ≡ t.page_bytes) t u (with_region t actor x) c.map.result e.ok e.err refl refl in
+    let valid = seated_valid p q h refl refl page (subst (λ (p : Manager). IsValid p h) (sym c.self.view_is) v) in
     let at : Result RegionId Trouble → Type 0 = λ r. AnswerIs (state_at p h) command (answer_by replies.Region r) [] no_counts (state_at q h) in
     subst (λ (p : Manager). AnswerIs (state_at p h) command (answer_by replies.Region c.match-map.result) [] no_counts (state_at q h)) c.self.view_is
     (elim c.match-map.branch [
       | in-Ok w ↦ subst at (sym w.result-is)
-          (seated p q h command (Ok (replies.Region w.in-Ok.region)) c.self.invariant.nodes refl refl (λ done m f s none. none) refl (λ f. refl)
+          (seated p q h command (Ok (replies.Region w.in-Ok.region)) c.self.invariant.nodes c.self.invariant.nodes valid refl (λ done m f s none. none) refl tt (λ f. refl)
           (λ f s. row f ∙ (λ j. reply (replies.Region (record { 0 = sym w.in-Ok.ensures.number j })) (machine_with (caches_shown f 1 i.caches.caches) frames (sym w.in-Ok.ensures.ok j)))))
       | in-Err w ↦ subst at (sym w.result-is)
-          (seated p q h command (Err troubles.Memory) c.self.invariant.nodes refl refl (λ done m f s none. none) refl (λ f. refl)
+          (seated p q h command (Err troubles.Memory) c.self.invariant.nodes c.self.invariant.nodes valid refl (λ done m f s none. none) refl tt (λ f. refl)
           (λ f s. (ap (machine_with (caches_shown f 1 i.caches.caches) frames) w.in-Err.ensures.err, tt, (let line = row f in rw line tt))))
     ])
+
+pub returns-clause-valid : goal.returns-clause-valid
+returns-clause-valid c = λ h v.
+    let i = c.self.inside in
+    let t : Actors = i.contexts in
+    let u : Actors = c.map.new.self in
+    let e = c.map.ensures in
+    let page : u.page_bytes ≡ t.page_bytes = after_either (λ (w : Actors). w.page_bytes ≡ t.page_bytes) t u (with_region t c.args.actor.0 c.args.mapping) c.map.result e.ok e.err refl refl in
+    seated_valid (the_view i) (the_view (record i { contexts = u })) h refl refl page (subst (λ (p : Manager). IsValid p h) (sym c.self.view_is) v)

@@ -1,5 +1,5 @@
 use Rattle.std.proofs.Common.{None}
-use Rattle.pvm_core.proofs.Empty.{none_sound, none_forest, none_whole}
+use Rattle.pvm_core.proofs.Empty.{none_sound, none_forest, none_full, none_sized, none_whole}
 use Rattle.pvm_core.proofs.pvm.Pvm.new.Goals as goal
 
 pub invariant_of-result : goal.invariant_of-result
@@ -11,5 +11,7 @@ returns-clause-forest c = λ h. none_forest h c.new-2.result c.in_ok-store.store
 pub returns-clause-valid : goal.returns-clause-valid
 returns-clause-valid c = λ h. record {
   right = c.in_ok-store.ensures.right h None c.new-2.result c.new-2.ensures.nodes tt;
+  sized = none_sized c.new-2.result h c.new-2.ensures.caches;
+  full = none_full c.new-2.result c.new-3.result.page_bytes h c.new-2.ensures.caches;
   whole = none_whole h c.new-3.result.page_bytes c.new-2.result c.in_ok-store.store c.new-2.ensures.caches;
 }

@@ -1,5 +1,5 @@
 use Rattle.std.proofs.Common.{◌≡◌, ℕ, refl, sym, ap, subst, ◌∙◌, arith}
-use Rattle.std.specs.Prelude.{◌+◌, ◌-◌, min, OnOk, Result}
+use Rattle.std.specs.Prelude.{◌+◌, ◌-◌, length, min, OnOk, Result}
 use Rattle.frame_pool.specs.Pool.{held_count, pinned_count}
 use Rattle.vm_ids.specs.declared.command.Command.TheVariants as commands
 use Rattle.vm_ids.specs.declared.reply.Reply.TheVariants as replies
@@ -8,6 +8,7 @@ use Rattle.vm_model.specs.Answering.{answer_by}
 use Rattle.vm_model.specs.Run.{CallIs}
 use Rattle.pvm_core.specs.Manager.{IsValid, Manager, forest_of, machine_by, machine_of, state_at}
 use Rattle.pvm_core.proofs.Answered.{called, on_victim, paged_out, victim}
+use Rattle.pvm_core.proofs.Homed.{reached}
 use Rattle.pvm_core.proofs.Kept.{kept_by, seen, stilled, pinned_none, stilled_forest, stilled_machine, stilled_sound, stilled_valid}
 use Rattle.pvm_core.proofs.pvm.Pvm.page_out.Goals as goal
 use Rattle.pvm_core.proofs.pvm.Pvm.page_out.Goals.{in-Ok, in-Err}
@@ -24,7 +25,10 @@ returns-clause-valid g c =
     let i = c.self.inside in
     let n = c.page_out.new in
     let e = c.page_out.ensures in
-    stilled_valid i.caches n.caches i.store n.self (g.M.Mapper.held c.args.mapper.now) (g.M.Mapper.held n.mapper) (g.M.Mapper.page_bytes c.args.mapper.now) (g.M.Mapper.page_bytes n.mapper) e.still e.pinned i.contexts i.live c.self.invariant
+    let before = g.M.Mapper.counts c.args.mapper.now in
+    let after = g.M.Mapper.counts n.mapper in
+    let reach = reached (seen i.caches i.store i.contexts) (g.M.Mapper.held c.args.mapper.now) c.self.invariant.nodes c.self.invariant.apart (g.M.Mapper.page_bytes c.args.mapper.now) (g.M.Mapper.page_bytes n.mapper) n.caches n.self (g.M.Mapper.held n.mapper) before after e.later e.told in
+    stilled_valid i.caches n.caches i.store n.self (g.M.Mapper.held c.args.mapper.now) (g.M.Mapper.held n.mapper) (g.M.Mapper.page_bytes c.args.mapper.now) (g.M.Mapper.page_bytes n.mapper) e.still e.pinned i.contexts i.live c.self.invariant before after reach
     (subst (λ (p : Manager). IsValid p (g.M.Mapper.held c.args.mapper.now)) (sym c.self.view_is) c.requires.valid)
 
 pub returns-clause-answers : goal.returns-clause-answers
@@ -42,14 +46,16 @@ returns-clause-answers g c =
     let kept = stilled i.caches n.caches i.store n.self h k (g.M.Mapper.page_bytes c.args.mapper.now) (g.M.Mapper.page_bytes n.mapper) e.still e.pinned i.contexts i.live c.self.invariant in
     let then = stilled_sound i.caches n.caches i.store n.self h k (g.M.Mapper.page_bytes c.args.mapper.now) (g.M.Mapper.page_bytes n.mapper) e.still e.pinned i.contexts i.live c.self.invariant in
     let forest = stilled_forest i.caches n.caches i.store n.self h k (g.M.Mapper.page_bytes c.args.mapper.now) (g.M.Mapper.page_bytes n.mapper) e.still e.pinned i.contexts i.live c.self.invariant in
+    let reach = reached p h c.self.invariant.nodes c.self.invariant.apart (g.M.Mapper.page_bytes c.args.mapper.now) (g.M.Mapper.page_bytes n.mapper) n.caches n.self k before after e.later e.told in
+    let valid = stilled_valid i.caches n.caches i.store n.self h k (g.M.Mapper.page_bytes c.args.mapper.now) (g.M.Mapper.page_bytes n.mapper) e.still e.pinned i.contexts i.live c.self.invariant before after reach (subst (λ (p : Manager). IsValid p h) (sym c.self.view_is) c.requires.valid) in
     let turned : victim c.page_out.result ≡ c.match-page_out.result = elim c.match-page_out.branch [
       | in-Ok w ↦ ap victim w.in-Ok.is ∙ sym w.result-is
       | in-Err w ↦ ap victim w.in-Err.is ∙ sym w.result-is
     ] in
     subst (λ (p : Manager). CallIs before after (state_at p h) command (answer_by (λ _. replies.Done) c.match-page_out.result) (state_at q k)) c.self.view_is
     (subst (λ (r : Result (Unit {0}) Trouble). CallIs before after (state_at p h) command (answer_by (λ _. replies.Done) r) (state_at q k)) turned
-    (called before after e.later p q h k command (answer_by (λ _. replies.Done) (victim c.page_out.result)) c.self.invariant.nodes then.nodes kept.segments forest (λ done m f s none. none) tt (λ f. refl)
-    (λ f s. paged_out (machine_by p f) (machine_by q f) (forest_of p h) c.args.count s before after c.page_out.result (kept_by i.caches n.caches i.store n.self h k (g.M.Mapper.page_bytes c.args.mapper.now) (g.M.Mapper.page_bytes n.mapper) kept i.contexts f) e.cause)))
+    (called before after p q h k command (answer_by (λ _. replies.Done) (victim c.page_out.result)) reach c.self.invariant.nodes then.nodes valid forest (λ done m f s none. none) tt tt (λ f. refl)
+    (λ f s. paged_out (length reach.pushes) (machine_by p f) (machine_by q f) (forest_of p h) c.args.count s before after c.page_out.result (kept_by i.caches n.caches i.store n.self h k (g.M.Mapper.page_bytes c.args.mapper.now) (g.M.Mapper.page_bytes n.mapper) kept i.contexts f) e.cause)))
 
 pub returns-clause-machine : goal.returns-clause-machine
 returns-clause-machine g c =

@@ -1,45 +1,52 @@
-use Rattle.std.proofs.Common.{◌≡◌, ℕ, List, ◌+◌, ◌<◌, ◌≤◌, Bool, true, false, None, length, refl, sym, ap, subst, ◌∙◌, arith}
-use Rattle.std.specs.Prelude.{Result, Ok, Err}
+use Rattle.std.proofs.Common.{◌≡◌, ℕ, List, Option, ◌+◌, ◌<◌, ◌≤◌, Bool, true, false, None, Some, length, refl, sym, ap, subst, ◌∙◌, arith, inl, inr}
+use Rattle.std.specs.Prelude.{Result, Ok, Err, IfErr, not, option_map}
 use Rattle.std.proofs.lemmas.Result.{err_from_is_err_and}
-use Rattle.gmi_calls.specs.Calling.{done_by}
+use Rattle.gmi_calls.specs.Calling.{RaisesMade, done_by}
+use Rattle.vm_ids.specs.Denying.{denies}
+use Rattle.vm_ids.specs.Held.{Segments, segments_in, segments_of}
 use Rattle.vm_ids.specs.declared.command.Command.TheVariants as commands
+use Rattle.vm_ids.specs.declared.command.Extent.{Extent}
 use Rattle.vm_ids.specs.declared.numbers.PageNo.{PageNo}
-use Rattle.vm_ids.specs.declared.reply.FaultAt.{FaultAt}
-use Rattle.vm_ids.specs.declared.reply.Trouble.TheVariants as troubles
+use Rattle.vm_ids.specs.declared.refusal.Refusal.{Refusal}
 use Rattle.vm_ids.specs.declared.refusal.Refusal.TheVariants as refusals
-use Rattle.vm_model.specs.Answering.{Answer}
-use Rattle.vm_model.specs.PageForest.{PageForest}
-use Rattle.vm_model.specs.Place.{Place, place}
-use Rattle.vm_model.specs.Run.{CallIs}
-use Rattle.local_cache.specs.Whole.{size_of}
-use Rattle.local_cache.specs.Arena.{table_of}
-use Rattle.pvm_core.specs.Manager.{IsValid, Manager, forest_of, machine_by, machine_of, numbered, state_at}
-use Rattle.pvm_core.specs.Pieces.{fault_at}
-use Rattle.pvm_core.proofs.Stored.{failed, not_saved}
-use Rattle.pvm_core.proofs.Kept.{kept_by, kept_forest, kept_sound, kept_valid, seen}
-use Rattle.vm_model.specs.Machine.{numbered as has_number}
-use Rattle.vm_model.specs.Place.{place_of_actor}
-use Rattle.regions.specs.AddressSpace.{place_told}
-use Rattle.pvm_core.proofs.Listed.{found_at, refused_at, spot}
-use Rattle.pvm_core.proofs.Loading.{no_later, sized_table}
-use Rattle.pvm_core.proofs.Storing.{store_protected, store_refused}
-use Rattle.std.specs.Prelude.{not, option_map}
+use Rattle.vm_ids.specs.declared.reply.FaultAt.{FaultAt}
+use Rattle.vm_ids.specs.declared.reply.FaultAt.TheVariants as faults
+use Rattle.vm_ids.specs.declared.reply.Reply.TheVariants as replies
+use Rattle.vm_ids.specs.declared.reply.Trouble.{Trouble}
+use Rattle.vm_ids.specs.declared.reply.Trouble.TheVariants as troubles
 use Rattle.vm_ids.specs.Forest.Commands.{page_name}
 use Rattle.vm_ids.specs.Forest.Rules.{write}
-use Rattle.vm_ids.specs.declared.reply.Reply.TheVariants as replies
 use Rattle.frame_pool.specs.Pool.{bytes_of, with_bytes}
+use Rattle.local_cache.specs.Arena.{Table, table_at, table_of}
+use Rattle.local_cache.specs.Whole.{size_of}
+use Rattle.residency.specs.Causes.{Made}
 use Rattle.residency.specs.declared.store.Store.{Store}
 use Rattle.residency.specs.StoreForest.{store_forest}
 use Rattle.residency.specs.World.{world}
 use Rattle.fault_path.specs.Faults.{readied}
-use Rattle.vm_model.specs.Answering.{overwrite}
+use Rattle.vm_model.specs.Answering.{Answer, overwrite, refuse}
 use Rattle.vm_model.specs.Following.{written_at}
-use Rattle.pvm_core.proofs.Kept.{sizeless, unsized_right}
-use Rattle.pvm_core.proofs.Loading.{call_is}
-use Rattle.pvm_core.proofs.Storing.{stored_forest}
+use Rattle.vm_model.specs.Machine.{Machine, numbered as has_number}
+use Rattle.vm_model.specs.PageForest.{PageForest}
+use Rattle.vm_model.specs.Place.{Place, place, place_of_actor}
+use Rattle.vm_model.specs.Run.{CallIs, State}
+use Rattle.regions.specs.AddressSpace.{place_told}
+use Rattle.pvm_core.specs.Manager.{IsValid, Manager, forest_of, machine_by, machine_of, numbered, state_at}
+use Rattle.pvm_core.specs.Pieces.{fault_at}
+use Rattle.pvm_core.specs.Writes.{IsNotGranted}
+use Rattle.pvm_core.proofs.Answered.{made_stays, call_is, call_later, failed, failed_at, no_segments}
+use Rattle.pvm_core.proofs.Denied.{denied_cases, denied_there, told_denied, denies_one, one_denied}
+use Rattle.pvm_core.proofs.Granted.{granted_forest, granted_machine, granted_sound, granted_state, granted_valid, granted_by, writable_node}
+use Rattle.pvm_core.proofs.Full.{full_after}
+use Rattle.pvm_core.proofs.Homed.{reached}
+use Rattle.pvm_core.proofs.Kept.{kept_by, kept_forest, kept_sound, kept_valid, seen, sizeless, unsized_right}
+use Rattle.pvm_core.proofs.Listed.{found_at, refused_at, spot}
+use Rattle.pvm_core.proofs.Loading.{sized_table}
+use Rattle.pvm_core.proofs.Reaching.{reach_denied, reach_none, reach_quiet, reach_told}
+use Rattle.pvm_core.proofs.Sized.{sized_after}
+use Rattle.pvm_core.proofs.Storing.{store_denied, store_protected, store_refused, stored_forest}
+use Rattle.pvm_core.proofs.Stored.{kept_copies, access_fault, bytes_right, bytes_sound, copied_most, denied_by, dirty_here, named_in, not_saved, store_fault, stored, undenied, undenied_blank, whole_stored}
 use Rattle.pvm_core.proofs.Values.{followed_of}
-use Rattle.pvm_core.proofs.Stored.{bytes_right, stored, whole_stored}
-use Rattle.pvm_core.proofs.Stored.{bytes_sound, copied_most, store_fault, undenied}
 use Rattle.pvm_core.proofs.pvm.Pvm.store.Goals as goal
 
 denied : (b : Bool) → not b ≡ true → b ≡ false
@@ -49,34 +56,6 @@ denied false e = refl
 granted : (b : Bool) → not b ≡ false → b ≡ true
 granted true e = refl
 granted false e = absurd (cc e)
-
-pub node_of-node-requires-clause-page : goal.node_of-node-requires-clause-page
-node_of-node-requires-clause-page g c =
-    let i = c.self.inside in
-    let bs : c.as_slice-bytes.result.now ≡ c.args.piece.now = c.as_slice-bytes.ensures.bytes in
-    let r = spot (size_of i.caches) i.contexts c.args.actor.0 c.args.address (length c.args.piece.now) c.in_ok-place.place c.self.invariant.actors
-    (sym c.in_ok-place.was ∙ c.locate.ensures ∙ ap (λ (xs : List ℕ). place_told (place_of_actor i.contexts.page_bytes (has_number i.contexts.actors c.args.actor.0) c.args.address (length xs))) bs) in
-    (r.count, r.there, r.less)
-
-pub invariant_of-self : goal.invariant_of-self
-invariant_of-self g c =
-    let i = c.self.inside in
-    let n = c.write_fault.new in
-    bytes_sound n.caches n.store c.write_frame.new.store i.contexts i.live c.in-Ok.frame.0 _ c.write_frame.ensures
-    (kept_sound i.caches n.caches i.store n.store (g.M.Mapper.held c.args.mapper.now) (g.M.Mapper.held n.mapper) (g.M.Mapper.page_bytes c.args.mapper.now) (g.M.Mapper.page_bytes n.mapper) c.write_fault.ensures.answered.kept i.contexts i.live c.self.invariant)
-
-pub invariant_of-self-in-Err : goal.invariant_of-self-in-Err
-invariant_of-self-in-Err g c =
-    let i = c.self.inside in
-    let n = c.write_fault.new in
-    kept_sound i.caches n.caches i.store n.store (g.M.Mapper.held c.args.mapper.now) (g.M.Mapper.held n.mapper) (g.M.Mapper.page_bytes c.args.mapper.now) (g.M.Mapper.page_bytes n.mapper) c.write_fault.ensures.answered.kept i.contexts i.live c.self.invariant
-
-pub returns-in-Err-clause-valid : goal.returns-in-Err-clause-valid
-returns-in-Err-clause-valid g c =
-    let i = c.self.inside in
-    let n = c.write_fault.new in
-    kept_valid i.caches n.caches i.store n.store (g.M.Mapper.held c.args.mapper.now) (g.M.Mapper.held n.mapper) (g.M.Mapper.page_bytes c.args.mapper.now) (g.M.Mapper.page_bytes n.mapper) c.write_fault.ensures.answered.kept i.contexts c.in-Err.ensures.missed.forest
-    (subst (λ (p : Manager). IsValid p (g.M.Mapper.held c.args.mapper.now)) (sym c.self.view_is) c.requires.valid)
 
 pub returns-in_err-place-clause-answers : goal.returns-in_err-place-clause-answers
 returns-in_err-place-clause-answers g c =
@@ -90,7 +69,7 @@ returns-in_err-place-clause-answers g c =
     let is : c.from_residual.result ≡ Err (troubles.Refused c.in_err-place.field-0.0) = gave.1 ∙ ap (λ t. Err t) gave.2 in
     subst (λ (p : Manager). CallIs counts counts (state_at p h) (commands.Store c.args.actor c.args.address c.args.piece.now) (done_by c.from_residual.result) (state_at p h)) c.self.view_is
     (subst (λ (r : Result _ _). CallIs counts counts (state_at p h) (commands.Store c.args.actor c.args.address c.args.piece.now) (done_by r) (state_at p h)) (sym is)
-    (failed counts counts (no_later counts) p p h h (commands.Store c.args.actor c.args.address c.args.piece.now) answer c.self.invariant.nodes c.self.invariant.nodes refl refl refl tt
+    (failed counts counts p p h h (commands.Store c.args.actor c.args.address c.args.piece.now) answer (reach_none (machine_of p h) h counts) c.self.invariant.nodes c.self.invariant.nodes (subst (λ (p : Manager). IsValid p (g.M.Mapper.held c.args.mapper.now)) (sym c.self.view_is) c.requires.valid) refl refl tt tt
     (λ f s. store_refused (machine_by p f) c.args.actor.0 c.args.address c.args.piece.now s c.in_err-place.field-0.0
     (refused_at (place (machine_by p f) c.args.actor.0 c.args.address (length c.as_slice-bytes.result.now)) c.in_err-place.field-0.0 (sym c.in_err-place.was ∙ c.locate.ensures)
     ∙ ap (λ xs. place (machine_by p f) c.args.actor.0 c.args.address (length xs)) bs))))
@@ -108,133 +87,526 @@ returns-then-not-place-clause-answers g c =
     (sym c.in_ok-place.was ∙ c.locate.ensures ∙ ap (λ (xs : List ℕ). place_told (place_of_actor i.contexts.page_bytes (has_number i.contexts.actors c.args.actor.0) c.args.address (length xs))) bs) in
     let at : Place = found_at r.region pl in
     subst (λ (p : Manager). CallIs counts counts (state_at p h) (commands.Store c.args.actor c.args.address c.args.piece.now) answer (state_at p h)) c.self.view_is
-    (failed counts counts (no_later counts) p p h h (commands.Store c.args.actor c.args.address c.args.piece.now) answer c.self.invariant.nodes c.self.invariant.nodes refl refl refl tt
+    (failed counts counts p p h h (commands.Store c.args.actor c.args.address c.args.piece.now) answer (reach_none (machine_of p h) h counts) c.self.invariant.nodes c.self.invariant.nodes (subst (λ (p : Manager). IsValid p (g.M.Mapper.held c.args.mapper.now)) (sym c.self.view_is) c.requires.valid) refl refl tt tt
     (λ f s. store_protected (machine_by p f) c.args.actor.0 c.args.address c.args.piece.now s at
     r.is (denied c.in_ok-place.place.prot.write c.if-not-place.true)))
 
-pub returns-in-Err-clause-answers : goal.returns-in-Err-clause-answers
-returns-in-Err-clause-answers g c =
+pub grant_range-requires-clause-range : goal.grant_range-requires-clause-range
+grant_range-requires-clause-range g c =
     let i = c.self.inside in
-    let n = c.write_fault.new in
-    let e = c.write_fault.ensures in
-    let h = g.M.Mapper.held c.args.mapper.now in
-    let k = g.M.Mapper.held n.mapper in
-    let size = g.M.Mapper.page_bytes c.args.mapper.now in
-    let then_size = g.M.Mapper.page_bytes n.mapper in
-    let before = g.M.Mapper.counts c.args.mapper.now in
-    let after = g.M.Mapper.counts n.mapper in
-    let bytes = c.args.piece.now in
-    let bs : c.as_slice-bytes.result.now ≡ c.args.piece.now = c.as_slice-bytes.ensures.bytes in
     let pl = c.in_ok-place.place in
+    let bs : c.as_slice-bytes.result.now ≡ c.args.piece.now = c.as_slice-bytes.ensures.bytes in
     let r = spot (size_of i.caches) i.contexts c.args.actor.0 c.args.address (length c.args.piece.now) c.in_ok-place.place c.self.invariant.actors
     (sym c.in_ok-place.was ∙ c.locate.ensures ∙ ap (λ (xs : List ℕ). place_told (place_of_actor i.contexts.page_bytes (has_number i.contexts.actors c.args.actor.0) c.args.address (length xs))) bs) in
+    record { pages = r.count; size = r.there; within = omega (arith, r.less) }
+
+pub invariant_of-self : goal.invariant_of-self
+invariant_of-self g c =
+    let i = c.self.inside in
+    let e0 = c.grant_range.ensures in
+    let a = c.grant_range.new.caches in
+    let m = c.grant_range.new.mapper in
+    let h0 = g.M.Mapper.held c.args.mapper.now in
+    let h = g.M.Mapper.held m in
+    let size0 = g.M.Mapper.page_bytes c.args.mapper.now in
+    let size = g.M.Mapper.page_bytes m in
+    let asked = g.M.Mapper.counts c.args.mapper.now in
+    let before = g.M.Mapper.counts m in
+    let sound = granted_sound i.caches a i.store i.contexts i.live e0.nodes c.self.invariant in
+    let valid = granted_valid i.caches a i.store i.contexts i.live e0.nodes c.self.invariant h0 h size0 size e0.held e0.forest e0.right (subst (λ (p : Manager). IsValid p (g.M.Mapper.held c.args.mapper.now)) (sym c.self.view_is) c.requires.valid) in
+    sound
+
+pub returns-in_err-grant_range-clause-valid : goal.returns-in_err-grant_range-clause-valid
+returns-in_err-grant_range-clause-valid g c =
+    let i = c.self.inside in
+    let e0 = c.grant_range.ensures in
+    let a = c.grant_range.new.caches in
+    let m = c.grant_range.new.mapper in
+    let h0 = g.M.Mapper.held c.args.mapper.now in
+    let h = g.M.Mapper.held m in
+    let size0 = g.M.Mapper.page_bytes c.args.mapper.now in
+    let size = g.M.Mapper.page_bytes m in
+    let asked = g.M.Mapper.counts c.args.mapper.now in
+    let before = g.M.Mapper.counts m in
+    let sound = granted_sound i.caches a i.store i.contexts i.live e0.nodes c.self.invariant in
+    let valid = granted_valid i.caches a i.store i.contexts i.live e0.nodes c.self.invariant h0 h size0 size e0.held e0.forest e0.right (subst (λ (p : Manager). IsValid p (g.M.Mapper.held c.args.mapper.now)) (sym c.self.view_is) c.requires.valid) in
+    valid
+
+pub returns-in_err-grant_range-clause-answers : goal.returns-in_err-grant_range-clause-answers
+returns-in_err-grant_range-clause-answers g c =
+    let i = c.self.inside in
+    let e0 = c.grant_range.ensures in
+    let a = c.grant_range.new.caches in
+    let m = c.grant_range.new.mapper in
+    let h0 = g.M.Mapper.held c.args.mapper.now in
+    let h = g.M.Mapper.held m in
+    let size0 = g.M.Mapper.page_bytes c.args.mapper.now in
+    let size = g.M.Mapper.page_bytes m in
+    let asked = g.M.Mapper.counts c.args.mapper.now in
+    let before = g.M.Mapper.counts m in
+    let sound = granted_sound i.caches a i.store i.contexts i.live e0.nodes c.self.invariant in
+    let valid = granted_valid i.caches a i.store i.contexts i.live e0.nodes c.self.invariant h0 h size0 size e0.held e0.forest e0.right (subst (λ (p : Manager). IsValid p (g.M.Mapper.held c.args.mapper.now)) (sym c.self.view_is) c.requires.valid) in
+    let pl = c.in_ok-place.place in
+    let bs : c.as_slice-bytes.result.now ≡ c.args.piece.now = c.as_slice-bytes.ensures.bytes in
+    let r = spot (size_of i.caches) i.contexts c.args.actor.0 c.args.address (length c.args.piece.now) c.in_ok-place.place c.self.invariant.actors
+    (sym c.in_ok-place.was ∙ c.locate.ensures ∙ ap (λ (xs : List ℕ). place_told (place_of_actor i.contexts.page_bytes (has_number i.contexts.actors c.args.actor.0) c.args.address (length xs))) bs) in
+    let gave = err_from_is_err_and c.from_residual-in_err-grant_range.result c.from_residual-in_err-grant_range.ensures.1 in
+    let trouble = c.in_err-grant_range.field-0.0 in
+    let is : c.from_residual-in_err-grant_range.result ≡ Err trouble = gave.1 ∙ ap (λ t. Err t) gave.2 in
+    let out : IsNotGranted (record { cache = c.in_ok-place.place.cache; first = c.in_ok-place.place.page; pages = 1 }) h0 i.caches a trouble
+    = subst (λ (x : Result _ Trouble). IfErr x (IsNotGranted (record { cache = c.in_ok-place.place.cache; first = c.in_ok-place.place.page; pages = 1 }) h0 i.caches a)) c.in_err-grant_range.was e0.refused in
+    let range : Extent = record { cache = pl.cache; first = pl.page; pages = 1 } in
     let at : Place = found_at r.region pl in
     let p : Manager = seen i.caches i.store i.contexts in
-    let is : (f : PageForest) → Ok at ≡ place (machine_by p f) c.args.actor.0 c.args.address (length c.args.piece.now)
-    = λ f. r.is in
-    let t = sized_table (table_of i.caches pl.cache.0) r.count r.there in
-    let valid = subst (λ (p : Manager). IsValid p h) (sym c.self.view_is) c.requires.valid in
-    let q : Manager = seen n.caches n.store i.contexts in
-    let page : PageNo = pl.page in
-    let then = kept_sound i.caches n.caches i.store n.store h k size then_size e.answered.kept i.contexts i.live c.self.invariant in
-    let forest = kept_forest i.caches n.caches i.store n.store h k size then_size e.answered.kept i.contexts c.in-Err.ensures.missed.forest in
-    let answer : Answer = Err (troubles.Mapper (fault_at c.in-Err.miss page)) in
-    subst (λ (p : Manager). CallIs before after (state_at p h) (commands.Store c.args.actor c.args.address c.args.piece.now) (Err (troubles.Mapper c.fault_of.result)) (state_at q k)) c.self.view_is
-    (subst (λ (f : FaultAt). CallIs before after (state_at p h) (commands.Store c.args.actor c.args.address c.args.piece.now) (Err (troubles.Mapper f)) (state_at q k)) (sym c.fault_of.ensures)
-    (failed before after e.answered.later p q h k (commands.Store c.args.actor c.args.address c.args.piece.now) answer c.self.invariant.nodes then.nodes e.answered.kept.segments forest (not_saved c.in-Err.miss page (forest_of p h) (machine_of p h) (commands.Store c.args.actor c.args.address c.args.piece.now) (machine_of q k)) tt
-    (λ f s. store_fault (machine_by p f) (machine_by q f) (forest_of p h) c.args.actor c.args.address c.args.piece.now s before after c.in-Err.miss page at (kept_by i.caches n.caches i.store n.store h k size then_size e.answered.kept i.contexts f) (is f) (granted c.in_ok-place.place.prot.write c.if-not-place.false)
-    (undenied p f s pl.cache.0 pl.page.0 t.0 c.self.invariant.temporary t.1) refl c.in-Err.ensures.missed.cause)))
+    let q : Manager = seen a i.store i.contexts in
+    let is_at : (f : PageForest) → Ok at ≡ place (machine_by p f) c.args.actor.0 c.args.address (length c.args.piece.now) = λ f. r.is in
+    let may = granted c.in_ok-place.place.prot.write c.if-not-place.false in
+    let reach = reach_quiet (machine_of p h0) h0 h asked before (ap segments_of e0.held) e0.later in
+    let forest = granted_forest i.caches a i.store i.contexts i.live e0.nodes c.self.invariant h0 h size0 size e0.held e0.forest in
+    let by = granted_by i.caches a i.store i.contexts i.live e0.nodes c.self.invariant in
+    subst (λ (p : Manager). CallIs asked before (state_at p h0) (commands.Store c.args.actor c.args.address c.args.piece.now) (done_by c.from_residual-in_err-grant_range.result) (state_at q h)) c.self.view_is
+    (subst (λ (x : Result _ Trouble). CallIs asked before (state_at p h0) (commands.Store c.args.actor c.args.address c.args.piece.now) (done_by x) (state_at q h)) (sym is) (elim (denied_cases range h0 out.segment i.caches a trouble out.denied) [
+      | inl w ↦ (
+          let page : pl.page.0 ≡ w.1.page = omega (arith, w.1.asked.page_of.0, w.1.asked.page_of.1) in
+          subst (λ (t : Trouble). CallIs asked before (state_at p h0) (commands.Store c.args.actor c.args.address c.args.piece.now) (Err t) (state_at q h)) (sym w.0)
+          (failed_at asked before p q h0 h (commands.Store c.args.actor c.args.address c.args.piece.now) (Err (troubles.Refused refusals.WriteDenied)) (one_denied out.segment.0 pl.page.0) reach c.self.invariant.nodes sound.nodes valid forest refl tt tt
+          (λ f. store_denied (machine_by p f) c.args.actor.0 c.args.address c.args.piece.now (one_denied out.segment.0 pl.page.0) at (is_at f) may (denied_there p f (one_denied out.segment.0 pl.page.0) pl.cache.0 pl.page.0 out.segment out.named (denies_one out.segment.0 pl.page.0))
+              ∙ ap (λ (n : Machine). refuse n refusals.WriteDenied) (sym (by f)))
+          (λ f s told. store_denied (machine_by p f) c.args.actor.0 c.args.address c.args.piece.now s at (is_at f) may
+              (denied_there p f s pl.cache.0 pl.page.0 out.segment out.named (ap (denies s.denied out.segment.0) page ∙ told_denied h0 out.segment.0 w.1.page w.1.denied s (sym (ap segments_of e0.held) ∙ told)))
+              ∙ ap (λ (n : Machine). refuse n refusals.WriteDenied) (sym (by f)))))
+      | inr w ↦ (
+          let page : pl.page.0 ≡ w.0.0 = omega (arith, w.2.page_of.0, w.2.page_of.1) in
+          subst (λ (t : Trouble). CallIs asked before (state_at p h0) (commands.Store c.args.actor c.args.address c.args.piece.now) (Err t) (state_at q h)) (sym w.1)
+          (failed asked before p q h0 h (commands.Store c.args.actor c.args.address c.args.piece.now) (Err (troubles.Mapper (faults.Access w.0))) reach c.self.invariant.nodes sound.nodes valid forest refl tt tt
+          (λ f s. access_fault (length reach.pushes) (machine_by p f) (machine_by q f) (forest_of p h0) c.args.actor c.args.address c.args.piece.now s asked before w.0 at (by f) (is_at f) may page (named_in p f pl.cache.0 out.segment out.named)
+              (e0.cause (faults.Access w.0) (c.in_err-grant_range.was ∙ ap (λ t. Err t) w.1)))))
+    ]))
 
-pub returns-in-Ok-clause-made : goal.returns-in-Ok-clause-made
-returns-in-Ok-clause-made g c =
+pub returns-in_err-grant_range-clause-made : goal.returns-in_err-grant_range-clause-made
+returns-in_err-grant_range-clause-made g c =
     let i = c.self.inside in
+    let e0 = c.grant_range.ensures in
+    let a = c.grant_range.new.caches in
+    let m = c.grant_range.new.mapper in
+    let h0 = g.M.Mapper.held c.args.mapper.now in
+    let h = g.M.Mapper.held m in
+    let size0 = g.M.Mapper.page_bytes c.args.mapper.now in
+    let size = g.M.Mapper.page_bytes m in
+    let asked = g.M.Mapper.counts c.args.mapper.now in
+    let before = g.M.Mapper.counts m in
+    let sound = granted_sound i.caches a i.store i.contexts i.live e0.nodes c.self.invariant in
+    let valid = granted_valid i.caches a i.store i.contexts i.live e0.nodes c.self.invariant h0 h size0 size e0.held e0.forest e0.right (subst (λ (p : Manager). IsValid p (g.M.Mapper.held c.args.mapper.now)) (sym c.self.view_is) c.requires.valid) in
+    let gave = err_from_is_err_and c.from_residual-in_err-grant_range.result c.from_residual-in_err-grant_range.ensures.1 in
+    let trouble = c.in_err-grant_range.field-0.0 in
+    let is : c.from_residual-in_err-grant_range.result ≡ Err trouble = gave.1 ∙ ap (λ t. Err t) gave.2 in
+    let out : IsNotGranted (record { cache = c.in_ok-place.place.cache; first = c.in_ok-place.place.page; pages = 1 }) h0 i.caches a trouble
+    = subst (λ (x : Result _ Trouble). IfErr x (IsNotGranted (record { cache = c.in_ok-place.place.cache; first = c.in_ok-place.place.page; pages = 1 }) h0 i.caches a)) c.in_err-grant_range.was e0.refused in
+    subst (λ (p : Manager). RaisesMade (machine_of p h0) (commands.Store c.args.actor c.args.address c.args.piece.now) (done_by c.from_residual-in_err-grant_range.result) (numbered p) (numbered (seen a i.store i.contexts))) c.self.view_is
+    (made_stays (machine_of (seen i.caches i.store i.contexts) h0) (commands.Store c.args.actor c.args.address c.args.piece.now) (done_by c.from_residual-in_err-grant_range.result) (numbered (seen i.caches i.store i.contexts)) (numbered (seen a i.store i.contexts)) (omega (arith, e0.nodes.made, e0.nodes.copies)))
+
+pub returns-in_err-grant_range-clause-copies : goal.returns-in_err-grant_range-clause-copies
+returns-in_err-grant_range-clause-copies g c =
+    let i = c.self.inside in
+    let e0 = c.grant_range.ensures in
+    let a = c.grant_range.new.caches in
+    let m = c.grant_range.new.mapper in
+    let h0 = g.M.Mapper.held c.args.mapper.now in
+    let h = g.M.Mapper.held m in
+    let size0 = g.M.Mapper.page_bytes c.args.mapper.now in
+    let size = g.M.Mapper.page_bytes m in
+    let asked = g.M.Mapper.counts c.args.mapper.now in
+    let before = g.M.Mapper.counts m in
+    let sound = granted_sound i.caches a i.store i.contexts i.live e0.nodes c.self.invariant in
+    let valid = granted_valid i.caches a i.store i.contexts i.live e0.nodes c.self.invariant h0 h size0 size e0.held e0.forest e0.right (subst (λ (p : Manager). IsValid p (g.M.Mapper.held c.args.mapper.now)) (sym c.self.view_is) c.requires.valid) in
+    subst (λ (p : Manager). a.copies ≤ p.caches.copies + 2) c.self.view_is (omega (arith, e0.nodes.copies))
+
+pub returns-in_err-grant_range-clause-refused : goal.returns-in_err-grant_range-clause-refused
+returns-in_err-grant_range-clause-refused g c =
+    let i = c.self.inside in
+    let e0 = c.grant_range.ensures in
+    let a = c.grant_range.new.caches in
+    let m = c.grant_range.new.mapper in
+    let h0 = g.M.Mapper.held c.args.mapper.now in
+    let h = g.M.Mapper.held m in
+    let size0 = g.M.Mapper.page_bytes c.args.mapper.now in
+    let size = g.M.Mapper.page_bytes m in
+    let asked = g.M.Mapper.counts c.args.mapper.now in
+    let before = g.M.Mapper.counts m in
+    let sound = granted_sound i.caches a i.store i.contexts i.live e0.nodes c.self.invariant in
+    let valid = granted_valid i.caches a i.store i.contexts i.live e0.nodes c.self.invariant h0 h size0 size e0.held e0.forest e0.right (subst (λ (p : Manager). IsValid p (g.M.Mapper.held c.args.mapper.now)) (sym c.self.view_is) c.requires.valid) in
+    let gave = err_from_is_err_and c.from_residual-in_err-grant_range.result c.from_residual-in_err-grant_range.ensures.1 in
+    let trouble = c.in_err-grant_range.field-0.0 in
+    let is : c.from_residual-in_err-grant_range.result ≡ Err trouble = gave.1 ∙ ap (λ t. Err t) gave.2 in
+    let out : IsNotGranted (record { cache = c.in_ok-place.place.cache; first = c.in_ok-place.place.page; pages = 1 }) h0 i.caches a trouble
+    = subst (λ (x : Result _ Trouble). IfErr x (IsNotGranted (record { cache = c.in_ok-place.place.cache; first = c.in_ok-place.place.page; pages = 1 }) h0 i.caches a)) c.in_err-grant_range.was e0.refused in
+    λ r e.
+    let same : trouble ≡ troubles.Refused r = (let q : Err trouble ≡ Err (troubles.Refused r) = sym is ∙ e in cc q) in
+    elim (denied_cases (record { cache = c.in_ok-place.place.cache; first = c.in_ok-place.place.page; pages = 1 }) h0 out.segment i.caches a trouble out.denied) [
+      | inl w ↦ (
+          let kept : a ≡ i.caches = w.1.asked.grants.none (omega (arith, w.1.asked.page_of.0, w.1.asked.page_of.1)) in (
+            subst (λ (p : Manager). seen a i.store i.contexts ≡ p) c.self.view_is (λ j. seen (kept j) i.store i.contexts),
+            e0.made,
+            λ other. absurd (other (let q : troubles.Refused r ≡ troubles.Refused refusals.WriteDenied = sym same ∙ w.0 in cc q)),
+          ))
+      | inr w ↦ absurd (let q : troubles.Refused r ≡ troubles.Mapper (faults.Access w.0) = sym same ∙ w.1 in cc q)
+    ]
+
+pub node_of-node-requires-clause-page : goal.node_of-node-requires-clause-page
+node_of-node-requires-clause-page g c =
+    let i = c.self.inside in
+    let pl = c.in_ok-place.place in
+    let bs : c.as_slice-bytes.result.now ≡ c.args.piece.now = c.as_slice-bytes.ensures.bytes in
+    let r = spot (size_of i.caches) i.contexts c.args.actor.0 c.args.address (length c.args.piece.now) c.in_ok-place.place c.self.invariant.actors
+    (sym c.in_ok-place.was ∙ c.locate.ensures ∙ ap (λ (xs : List ℕ). place_told (place_of_actor i.contexts.page_bytes (has_number i.contexts.actors c.args.actor.0) c.args.address (length xs))) bs) in
+    (r.count, c.grant_range.ensures.nodes.same.sizes pl.cache.0 ∙ r.there, r.less)
+
+pub write_fault-requires-clause-granted : goal.write_fault-requires-clause-granted
+write_fault-requires-clause-granted g c =
+    let i = c.self.inside in
+    let e0 = c.grant_range.ensures in
+    let a = c.grant_range.new.caches in
+    let m = c.grant_range.new.mapper in
+    let h0 = g.M.Mapper.held c.args.mapper.now in
+    let h = g.M.Mapper.held m in
+    let size0 = g.M.Mapper.page_bytes c.args.mapper.now in
+    let size = g.M.Mapper.page_bytes m in
+    let asked = g.M.Mapper.counts c.args.mapper.now in
+    let before = g.M.Mapper.counts m in
+    let sound = granted_sound i.caches a i.store i.contexts i.live e0.nodes c.self.invariant in
+    let valid = granted_valid i.caches a i.store i.contexts i.live e0.nodes c.self.invariant h0 h size0 size e0.held e0.forest e0.right (subst (λ (p : Manager). IsValid p (g.M.Mapper.held c.args.mapper.now)) (sym c.self.view_is) c.requires.valid) in
+    writable_node a c.node_of-node.result c.in_ok-place.place.cache c.in_ok-place.place.page.0 c.node_of-node.ensures.name (c.in_ok-grant_range.ensures.granted c.in_ok-place.place.page.0 (omega arith, omega arith))
+
+pub write_fault-requires-clause-copies : goal.write_fault-requires-clause-copies
+write_fault-requires-clause-copies g c =
+    omega (arith, c.grant_range.ensures.nodes.copies, c.requires.made, ap numbered c.self.view_is)
+
+pub invariant_of-self-in-Ok : goal.invariant_of-self-in-Ok
+invariant_of-self-in-Ok g c =
+    let i = c.self.inside in
+    let e0 = c.grant_range.ensures in
+    let a = c.grant_range.new.caches in
+    let m = c.grant_range.new.mapper in
+    let h0 = g.M.Mapper.held c.args.mapper.now in
+    let h = g.M.Mapper.held m in
+    let size0 = g.M.Mapper.page_bytes c.args.mapper.now in
+    let size = g.M.Mapper.page_bytes m in
+    let asked = g.M.Mapper.counts c.args.mapper.now in
+    let before = g.M.Mapper.counts m in
+    let sound = granted_sound i.caches a i.store i.contexts i.live e0.nodes c.self.invariant in
+    let valid = granted_valid i.caches a i.store i.contexts i.live e0.nodes c.self.invariant h0 h size0 size e0.held e0.forest e0.right (subst (λ (p : Manager). IsValid p (g.M.Mapper.held c.args.mapper.now)) (sym c.self.view_is) c.requires.valid) in
     let n = c.write_fault.new in
-    let most = copied_most (world (g.M.Mapper.held c.args.mapper.now) (g.M.Mapper.page_bytes c.args.mapper.now) i.caches i.store) (world (g.M.Mapper.held n.mapper) (g.M.Mapper.page_bytes n.mapper) n.caches n.store) _ c.in-Ok.ensures.ready.forest in
-    omega (arith, most, c.write_fault.ensures.answered.kept.made, ap numbered c.self.view_is)
+    let e = c.write_fault.ensures in
+    let k = g.M.Mapper.held n.mapper in
+    let then_size = g.M.Mapper.page_bytes n.mapper in
+    let after = g.M.Mapper.counts n.mapper in
+    let p : Manager = seen a i.store i.contexts in
+    let reach = reached p h sound.nodes sound.apart size then_size n.caches n.store k before after e.answered.later e.answered.told in
+    bytes_sound n.caches n.store c.write_frame.new.store i.contexts i.live c.in-Ok.frame.0 _ c.write_frame.ensures
+    (kept_sound a n.caches i.store n.store h k size then_size e.answered.kept i.contexts i.live sound)
+
+pub invariant_of-self-in-Err : goal.invariant_of-self-in-Err
+invariant_of-self-in-Err g c =
+    let i = c.self.inside in
+    let e0 = c.grant_range.ensures in
+    let a = c.grant_range.new.caches in
+    let m = c.grant_range.new.mapper in
+    let h0 = g.M.Mapper.held c.args.mapper.now in
+    let h = g.M.Mapper.held m in
+    let size0 = g.M.Mapper.page_bytes c.args.mapper.now in
+    let size = g.M.Mapper.page_bytes m in
+    let asked = g.M.Mapper.counts c.args.mapper.now in
+    let before = g.M.Mapper.counts m in
+    let sound = granted_sound i.caches a i.store i.contexts i.live e0.nodes c.self.invariant in
+    let valid = granted_valid i.caches a i.store i.contexts i.live e0.nodes c.self.invariant h0 h size0 size e0.held e0.forest e0.right (subst (λ (p : Manager). IsValid p (g.M.Mapper.held c.args.mapper.now)) (sym c.self.view_is) c.requires.valid) in
+    let n = c.write_fault.new in
+    let e = c.write_fault.ensures in
+    let k = g.M.Mapper.held n.mapper in
+    let then_size = g.M.Mapper.page_bytes n.mapper in
+    let after = g.M.Mapper.counts n.mapper in
+    let p : Manager = seen a i.store i.contexts in
+    let reach = reached p h sound.nodes sound.apart size then_size n.caches n.store k before after e.answered.later e.answered.told in
+    kept_sound a n.caches i.store n.store h k size then_size e.answered.kept i.contexts i.live sound
 
 pub returns-in-Ok-clause-valid : goal.returns-in-Ok-clause-valid
 returns-in-Ok-clause-valid g c =
     let i = c.self.inside in
+    let e0 = c.grant_range.ensures in
+    let a = c.grant_range.new.caches in
+    let m = c.grant_range.new.mapper in
+    let h0 = g.M.Mapper.held c.args.mapper.now in
+    let h = g.M.Mapper.held m in
+    let size0 = g.M.Mapper.page_bytes c.args.mapper.now in
+    let size = g.M.Mapper.page_bytes m in
+    let asked = g.M.Mapper.counts c.args.mapper.now in
+    let before = g.M.Mapper.counts m in
+    let sound = granted_sound i.caches a i.store i.contexts i.live e0.nodes c.self.invariant in
+    let valid = granted_valid i.caches a i.store i.contexts i.live e0.nodes c.self.invariant h0 h size0 size e0.held e0.forest e0.right (subst (λ (p : Manager). IsValid p (g.M.Mapper.held c.args.mapper.now)) (sym c.self.view_is) c.requires.valid) in
     let n = c.write_fault.new in
     let e = c.write_fault.ensures in
-    let h = g.M.Mapper.held c.args.mapper.now in
     let k = g.M.Mapper.held n.mapper in
-    let size = g.M.Mapper.page_bytes c.args.mapper.now in
     let then_size = g.M.Mapper.page_bytes n.mapper in
-    let before = g.M.Mapper.counts c.args.mapper.now in
     let after = g.M.Mapper.counts n.mapper in
-    let bytes = c.args.piece.now in
-    let bs : c.as_slice-bytes.result.now ≡ c.args.piece.now = c.as_slice-bytes.ensures.bytes in
+    let p : Manager = seen a i.store i.contexts in
+    let reach = reached p h sound.nodes sound.apart size then_size n.caches n.store k before after e.answered.later e.answered.told in
     let pl = c.in_ok-place.place in
+    let bs : c.as_slice-bytes.result.now ≡ c.args.piece.now = c.as_slice-bytes.ensures.bytes in
     let r = spot (size_of i.caches) i.contexts c.args.actor.0 c.args.address (length c.args.piece.now) c.in_ok-place.place c.self.invariant.actors
     (sym c.in_ok-place.was ∙ c.locate.ensures ∙ ap (λ (xs : List ℕ). place_told (place_of_actor i.contexts.page_bytes (has_number i.contexts.actors c.args.actor.0) c.args.address (length xs))) bs) in
     let at : Place = found_at r.region pl in
-    let p : Manager = seen i.caches i.store i.contexts in
-    let is : (f : PageForest) → Ok at ≡ place (machine_by p f) c.args.actor.0 c.args.address (length c.args.piece.now)
-    = λ f. r.is in
-    let t = sized_table (table_of i.caches pl.cache.0) r.count r.there in
-    let valid = subst (λ (p : Manager). IsValid p h) (sym c.self.view_is) c.requires.valid in
+    let is : (f : PageForest) → Ok at ≡ place (machine_by p f) c.args.actor.0 c.args.address (length c.args.piece.now) = λ f. r.is in
+    let there = e0.nodes.same.sizes pl.cache.0 ∙ r.there in
+    let t = sized_table (table_of a pl.cache.0) r.count there in
     let q : Manager = seen n.caches c.write_frame.new.store i.contexts in
     let new = overwrite pl.at c.args.piece.now (bytes_of n.store.frames c.in-Ok.frame.0) in
     let stored_at : c.write_frame.new.store ≡ record n.store { frames = with_bytes n.store.frames c.in-Ok.frame.0 new }
     = c.write_frame.ensures ∙ ap (λ xs. record n.store { frames = with_bytes n.store.frames c.in-Ok.frame.0 (overwrite pl.at xs (bytes_of n.store.frames c.in-Ok.frame.0)) }) bs in
-    let then = bytes_sound n.caches n.store c.write_frame.new.store i.contexts i.live c.in-Ok.frame.0 new stored_at (kept_sound i.caches n.caches i.store n.store h k size then_size e.answered.kept i.contexts i.live c.self.invariant) in
+    let then = bytes_sound n.caches n.store c.write_frame.new.store i.contexts i.live c.in-Ok.frame.0 new stored_at (kept_sound a n.caches i.store n.store h k size then_size e.answered.kept i.contexts i.live sound) in
     let frames = ap (λ (s : Store). length s.frames.held) stored_at ∙ e.answered.kept.frames in
-    let by : (f : PageForest) → machine_by q f ≡ machine_by p f = λ f. (λ j. machine_by (seen n.caches (stored_at j) i.contexts) f) ∙ kept_by i.caches n.caches i.store n.store h k size then_size e.answered.kept i.contexts f in
-    let b = c.in-Ok.ensures.ready.bound in
+    let by : (f : PageForest) → machine_by q f ≡ machine_by p f = λ f. (λ j. machine_by (seen n.caches (stored_at j) i.contexts) f) ∙ kept_by a n.caches i.store n.store h k size then_size e.answered.kept i.contexts f in
+    let ready = c.in-Ok.ensures.ready in
     let rule : forest_of q k ≡ write (forest_of p h) (page_name pl.cache pl.page.0) (option_map (overwrite pl.at c.args.piece.now))
     = (λ j. store_forest (world k None n.caches (stored_at j))) ∙ sym (sizeless k then_size n.caches (record n.store { frames = with_bytes n.store.frames c.in-Ok.frame.0 new }))
-    ∙ stored_forest (world h size i.caches i.store) (world k then_size n.caches n.store) c.in-Ok.frame.0 c.node_of-node.result (page_name pl.cache pl.page.0) pl.at c.args.piece.now e.answered.kept
-    (c.in-Ok.ensures.ready.forest ∙ ap (readied (store_forest (world h size i.caches i.store))) c.node_of-node.ensures.name) (e.answered.kept.nodes.name c.node_of-node.result ∙ c.node_of-node.ensures.name) b.0 b.1
-    ∙ ap (λ f. write f (page_name pl.cache pl.page.0) (option_map (overwrite pl.at c.args.piece.now))) (sizeless h size i.caches i.store) in
-    let followed = followed_of p h c.self.invariant.nodes c.self.invariant.actors.some valid.whole in
+    ∙ stored_forest (world h size a i.store) (world k then_size n.caches n.store) c.in-Ok.frame.0 c.node_of-node.result (page_name pl.cache pl.page.0) pl.at c.args.piece.now e.answered.kept
+    (ready.forest ∙ ap (readied (store_forest (world h size a i.store))) c.node_of-node.ensures.name) (e.answered.kept.nodes.name c.node_of-node.result ∙ c.node_of-node.ensures.name) ready.bound.0 ready.bound.1
+    ∙ ap (λ f. write f (page_name pl.cache pl.page.0) (option_map (overwrite pl.at c.args.piece.now))) (sizeless h size a i.store) in
+    let followed = followed_of p h sound.nodes sound.actors.some valid.whole in
     let less : pl.page.0 < length t.0.pages = omega (arith, r.less, t.2) in
     let fits : pl.at + length c.args.piece.now ≤ p.page_bytes = r.fits in
-    record {
-      right = bytes_right k n.caches n.store c.write_frame.new.store c.in-Ok.frame.0 new stored_at (unsized_right k then_size n.caches n.store e.answered.kept.right);
-      whole = whole_stored p q h k c.args.actor c.args.address at c.args.piece.now t.0 t.1 less fits c.self.invariant.actors.some e.answered.kept.nodes.caches (refl, frames, refl, refl) c.self.invariant.nodes then.nodes valid.whole followed rule e.answered.kept.segments by;
-    }
+    let both = reach_told (machine_of p h) h k before after reach in
+    let now : IsValid q k = record {
+      right = bytes_right k n.caches n.store c.write_frame.new.store c.in-Ok.frame.0 new stored_at (unsized_right k then_size n.caches n.store e.answered.kept.right) (dirty_here n.caches n.store c.in-Ok.frame.0 c.node_of-node.result ready.bound.1 ready.resident);
+      sized = sized_after p n.caches h k (λ cache. ap (λ (ts : List (Option Table)). option_map (λ (t : Table). t.segment) (table_at ts cache)) e.answered.kept.nodes.caches) (λ cache. ap (λ (ts : List (Option Table)). option_map (λ (t : Table). length t.pages) (table_at ts cache)) e.answered.kept.nodes.caches) reach.pushes reach.rule valid.sized;
+      full = full_after p n.caches h k (λ cache. ap (λ (ts : List (Option Table)). option_map (λ (t : Table). t.segment) (table_at ts cache)) e.answered.kept.nodes.caches) reach.pushes reach.rule valid.whole valid.full;
+      whole = whole_stored p q h k c.args.actor c.args.address at c.args.piece.now t.0 t.1 less fits sound.actors.some e.answered.kept.nodes.caches (refl, frames, refl, refl) sound.nodes then.nodes valid.whole followed rule both by;
+    } in
+    now
 
 pub returns-in-Ok-clause-answers : goal.returns-in-Ok-clause-answers
 returns-in-Ok-clause-answers g c =
     let i = c.self.inside in
+    let e0 = c.grant_range.ensures in
+    let a = c.grant_range.new.caches in
+    let m = c.grant_range.new.mapper in
+    let h0 = g.M.Mapper.held c.args.mapper.now in
+    let h = g.M.Mapper.held m in
+    let size0 = g.M.Mapper.page_bytes c.args.mapper.now in
+    let size = g.M.Mapper.page_bytes m in
+    let asked = g.M.Mapper.counts c.args.mapper.now in
+    let before = g.M.Mapper.counts m in
+    let sound = granted_sound i.caches a i.store i.contexts i.live e0.nodes c.self.invariant in
+    let valid = granted_valid i.caches a i.store i.contexts i.live e0.nodes c.self.invariant h0 h size0 size e0.held e0.forest e0.right (subst (λ (p : Manager). IsValid p (g.M.Mapper.held c.args.mapper.now)) (sym c.self.view_is) c.requires.valid) in
     let n = c.write_fault.new in
     let e = c.write_fault.ensures in
-    let h = g.M.Mapper.held c.args.mapper.now in
     let k = g.M.Mapper.held n.mapper in
-    let size = g.M.Mapper.page_bytes c.args.mapper.now in
     let then_size = g.M.Mapper.page_bytes n.mapper in
-    let before = g.M.Mapper.counts c.args.mapper.now in
     let after = g.M.Mapper.counts n.mapper in
-    let bytes = c.args.piece.now in
-    let bs : c.as_slice-bytes.result.now ≡ c.args.piece.now = c.as_slice-bytes.ensures.bytes in
+    let p : Manager = seen a i.store i.contexts in
+    let reach = reached p h sound.nodes sound.apart size then_size n.caches n.store k before after e.answered.later e.answered.told in
     let pl = c.in_ok-place.place in
+    let bs : c.as_slice-bytes.result.now ≡ c.args.piece.now = c.as_slice-bytes.ensures.bytes in
     let r = spot (size_of i.caches) i.contexts c.args.actor.0 c.args.address (length c.args.piece.now) c.in_ok-place.place c.self.invariant.actors
     (sym c.in_ok-place.was ∙ c.locate.ensures ∙ ap (λ (xs : List ℕ). place_told (place_of_actor i.contexts.page_bytes (has_number i.contexts.actors c.args.actor.0) c.args.address (length xs))) bs) in
     let at : Place = found_at r.region pl in
-    let p : Manager = seen i.caches i.store i.contexts in
-    let is : (f : PageForest) → Ok at ≡ place (machine_by p f) c.args.actor.0 c.args.address (length c.args.piece.now)
-    = λ f. r.is in
-    let t = sized_table (table_of i.caches pl.cache.0) r.count r.there in
-    let valid = subst (λ (p : Manager). IsValid p h) (sym c.self.view_is) c.requires.valid in
+    let is : (f : PageForest) → Ok at ≡ place (machine_by p f) c.args.actor.0 c.args.address (length c.args.piece.now) = λ f. r.is in
+    let there = e0.nodes.same.sizes pl.cache.0 ∙ r.there in
+    let t = sized_table (table_of a pl.cache.0) r.count there in
     let q : Manager = seen n.caches c.write_frame.new.store i.contexts in
     let new = overwrite pl.at c.args.piece.now (bytes_of n.store.frames c.in-Ok.frame.0) in
     let stored_at : c.write_frame.new.store ≡ record n.store { frames = with_bytes n.store.frames c.in-Ok.frame.0 new }
     = c.write_frame.ensures ∙ ap (λ xs. record n.store { frames = with_bytes n.store.frames c.in-Ok.frame.0 (overwrite pl.at xs (bytes_of n.store.frames c.in-Ok.frame.0)) }) bs in
-    let then = bytes_sound n.caches n.store c.write_frame.new.store i.contexts i.live c.in-Ok.frame.0 new stored_at (kept_sound i.caches n.caches i.store n.store h k size then_size e.answered.kept i.contexts i.live c.self.invariant) in
+    let then = bytes_sound n.caches n.store c.write_frame.new.store i.contexts i.live c.in-Ok.frame.0 new stored_at (kept_sound a n.caches i.store n.store h k size then_size e.answered.kept i.contexts i.live sound) in
     let frames = ap (λ (s : Store). length s.frames.held) stored_at ∙ e.answered.kept.frames in
-    let by : (f : PageForest) → machine_by q f ≡ machine_by p f = λ f. (λ j. machine_by (seen n.caches (stored_at j) i.contexts) f) ∙ kept_by i.caches n.caches i.store n.store h k size then_size e.answered.kept i.contexts f in
-    let b = c.in-Ok.ensures.ready.bound in
+    let by : (f : PageForest) → machine_by q f ≡ machine_by p f = λ f. (λ j. machine_by (seen n.caches (stored_at j) i.contexts) f) ∙ kept_by a n.caches i.store n.store h k size then_size e.answered.kept i.contexts f in
+    let ready = c.in-Ok.ensures.ready in
     let rule : forest_of q k ≡ write (forest_of p h) (page_name pl.cache pl.page.0) (option_map (overwrite pl.at c.args.piece.now))
     = (λ j. store_forest (world k None n.caches (stored_at j))) ∙ sym (sizeless k then_size n.caches (record n.store { frames = with_bytes n.store.frames c.in-Ok.frame.0 new }))
-    ∙ stored_forest (world h size i.caches i.store) (world k then_size n.caches n.store) c.in-Ok.frame.0 c.node_of-node.result (page_name pl.cache pl.page.0) pl.at c.args.piece.now e.answered.kept
-    (c.in-Ok.ensures.ready.forest ∙ ap (readied (store_forest (world h size i.caches i.store))) c.node_of-node.ensures.name) (e.answered.kept.nodes.name c.node_of-node.result ∙ c.node_of-node.ensures.name) b.0 b.1
-    ∙ ap (λ f. write f (page_name pl.cache pl.page.0) (option_map (overwrite pl.at c.args.piece.now))) (sizeless h size i.caches i.store) in
-    let followed = followed_of p h c.self.invariant.nodes c.self.invariant.actors.some valid.whole in
+    ∙ stored_forest (world h size a i.store) (world k then_size n.caches n.store) c.in-Ok.frame.0 c.node_of-node.result (page_name pl.cache pl.page.0) pl.at c.args.piece.now e.answered.kept
+    (ready.forest ∙ ap (readied (store_forest (world h size a i.store))) c.node_of-node.ensures.name) (e.answered.kept.nodes.name c.node_of-node.result ∙ c.node_of-node.ensures.name) ready.bound.0 ready.bound.1
+    ∙ ap (λ f. write f (page_name pl.cache pl.page.0) (option_map (overwrite pl.at c.args.piece.now))) (sizeless h size a i.store) in
+    let followed = followed_of p h sound.nodes sound.actors.some valid.whole in
     let less : pl.page.0 < length t.0.pages = omega (arith, r.less, t.2) in
     let fits : pl.at + length c.args.piece.now ≤ p.page_bytes = r.fits in
+    let both = reach_told (machine_of p h) h k before after reach in
+    let now : IsValid q k = record {
+      right = bytes_right k n.caches n.store c.write_frame.new.store c.in-Ok.frame.0 new stored_at (unsized_right k then_size n.caches n.store e.answered.kept.right) (dirty_here n.caches n.store c.in-Ok.frame.0 c.node_of-node.result ready.bound.1 ready.resident);
+      sized = sized_after p n.caches h k (λ cache. ap (λ (ts : List (Option Table)). option_map (λ (t : Table). t.segment) (table_at ts cache)) e.answered.kept.nodes.caches) (λ cache. ap (λ (ts : List (Option Table)). option_map (λ (t : Table). length t.pages) (table_at ts cache)) e.answered.kept.nodes.caches) reach.pushes reach.rule valid.sized;
+      full = full_after p n.caches h k (λ cache. ap (λ (ts : List (Option Table)). option_map (λ (t : Table). t.segment) (table_at ts cache)) e.answered.kept.nodes.caches) reach.pushes reach.rule valid.whole valid.full;
+      whole = whole_stored p q h k c.args.actor c.args.address at c.args.piece.now t.0 t.1 less fits sound.actors.some e.answered.kept.nodes.caches (refl, frames, refl, refl) sound.nodes then.nodes valid.whole followed rule both by;
+    } in
     let answer : Answer = Ok replies.Done in
-    subst (λ (p : Manager). CallIs before after (state_at p h) (commands.Store c.args.actor c.args.address c.args.piece.now) answer (state_at q k)) c.self.view_is
-    (call_is before after e.answered.later p q h k (commands.Store c.args.actor c.args.address c.args.piece.now) answer e.answered.kept.segments tt (rule ∙ ap (λ x. written_at (forest_of p h) x c.args.piece.now) (is (forest_of p h)))
-    (stored p q h k c.args.actor c.args.address at c.args.piece.now t.0 t.1 less fits c.self.invariant.actors.some e.answered.kept.nodes.caches (refl, frames, refl, refl) c.self.invariant.nodes then.nodes valid.whole followed rule e.answered.kept.segments by
-    is (granted c.in_ok-place.place.prot.write c.if-not-place.false) (λ f s. undenied p f s pl.cache.0 pl.page.0 t.0 c.self.invariant.temporary t.1) _))
+    let state : state_at p h ≡ state_at (seen i.caches i.store i.contexts) h0 = granted_state i.caches a i.store i.contexts i.live e0.nodes c.self.invariant h0 h size0 size e0.held e0.forest in
+    let writable = c.in_ok-grant_range.ensures.granted pl.page.0 (omega arith, omega arith) in
+    subst (λ (p : Manager). CallIs asked after (state_at p h0) (commands.Store c.args.actor c.args.address c.args.piece.now) answer (state_at q k)) c.self.view_is
+    (subst (λ (x : State). CallIs asked after x (commands.Store c.args.actor c.args.address c.args.piece.now) answer (state_at q k)) state
+    (call_later asked before after (state_at p h) (state_at q k) (commands.Store c.args.actor c.args.address c.args.piece.now) answer e0.later e0.made
+    (call_is before after p q h k (commands.Store c.args.actor c.args.address c.args.piece.now) answer reach now tt tt (rule ∙ ap (λ x. written_at (forest_of p h) x c.args.piece.now) (is (forest_of p h)))
+    (stored p q h k c.args.actor c.args.address at c.args.piece.now t.0 t.1 less fits sound.actors.some e.answered.kept.nodes.caches (refl, frames, refl, refl) sound.nodes then.nodes valid.whole followed rule both by
+    is (granted c.in_ok-place.place.prot.write c.if-not-place.false) (λ f s told. undenied p h sound.nodes valid.right pl.cache pl.page.0 r.count there r.less writable f k s (reach_denied (machine_of p h) h k before after reach) told) _))))
+
+pub returns-in-Ok-clause-made : goal.returns-in-Ok-clause-made
+returns-in-Ok-clause-made g c =
+    let i = c.self.inside in
+    let e0 = c.grant_range.ensures in
+    let a = c.grant_range.new.caches in
+    let m = c.grant_range.new.mapper in
+    let h0 = g.M.Mapper.held c.args.mapper.now in
+    let h = g.M.Mapper.held m in
+    let size0 = g.M.Mapper.page_bytes c.args.mapper.now in
+    let size = g.M.Mapper.page_bytes m in
+    let asked = g.M.Mapper.counts c.args.mapper.now in
+    let before = g.M.Mapper.counts m in
+    let sound = granted_sound i.caches a i.store i.contexts i.live e0.nodes c.self.invariant in
+    let valid = granted_valid i.caches a i.store i.contexts i.live e0.nodes c.self.invariant h0 h size0 size e0.held e0.forest e0.right (subst (λ (p : Manager). IsValid p (g.M.Mapper.held c.args.mapper.now)) (sym c.self.view_is) c.requires.valid) in
+    let n = c.write_fault.new in
+    let e = c.write_fault.ensures in
+    let k = g.M.Mapper.held n.mapper in
+    let then_size = g.M.Mapper.page_bytes n.mapper in
+    let after = g.M.Mapper.counts n.mapper in
+    let p : Manager = seen a i.store i.contexts in
+    let reach = reached p h sound.nodes sound.apart size then_size n.caches n.store k before after e.answered.later e.answered.told in
+    let most = copied_most (world h size a i.store) (world k then_size n.caches n.store) _ c.in-Ok.ensures.ready.forest in
+    omega (arith, most, e.answered.kept.made, e0.nodes.made, e0.nodes.copies, ap numbered c.self.view_is)
+
+pub returns-in-Ok-clause-copies : goal.returns-in-Ok-clause-copies
+returns-in-Ok-clause-copies g c =
+    let i = c.self.inside in
+    let e0 = c.grant_range.ensures in
+    let a = c.grant_range.new.caches in
+    let m = c.grant_range.new.mapper in
+    let h0 = g.M.Mapper.held c.args.mapper.now in
+    let h = g.M.Mapper.held m in
+    let size0 = g.M.Mapper.page_bytes c.args.mapper.now in
+    let size = g.M.Mapper.page_bytes m in
+    let asked = g.M.Mapper.counts c.args.mapper.now in
+    let before = g.M.Mapper.counts m in
+    let sound = granted_sound i.caches a i.store i.contexts i.live e0.nodes c.self.invariant in
+    let valid = granted_valid i.caches a i.store i.contexts i.live e0.nodes c.self.invariant h0 h size0 size e0.held e0.forest e0.right (subst (λ (p : Manager). IsValid p (g.M.Mapper.held c.args.mapper.now)) (sym c.self.view_is) c.requires.valid) in
+    let n = c.write_fault.new in
+    let e = c.write_fault.ensures in
+    let k = g.M.Mapper.held n.mapper in
+    let then_size = g.M.Mapper.page_bytes n.mapper in
+    let after = g.M.Mapper.counts n.mapper in
+    let p : Manager = seen a i.store i.contexts in
+    let reach = reached p h sound.nodes sound.apart size then_size n.caches n.store k before after e.answered.later e.answered.told in
+    let most = copied_most (world h size a i.store) (world k then_size n.caches n.store) _ c.in-Ok.ensures.ready.forest in
+    subst (λ (p : Manager). n.caches.copies ≤ p.caches.copies + 2) c.self.view_is (omega (arith, most, e0.nodes.copies))
+
+pub returns-in-Err-clause-valid : goal.returns-in-Err-clause-valid
+returns-in-Err-clause-valid g c =
+    let i = c.self.inside in
+    let e0 = c.grant_range.ensures in
+    let a = c.grant_range.new.caches in
+    let m = c.grant_range.new.mapper in
+    let h0 = g.M.Mapper.held c.args.mapper.now in
+    let h = g.M.Mapper.held m in
+    let size0 = g.M.Mapper.page_bytes c.args.mapper.now in
+    let size = g.M.Mapper.page_bytes m in
+    let asked = g.M.Mapper.counts c.args.mapper.now in
+    let before = g.M.Mapper.counts m in
+    let sound = granted_sound i.caches a i.store i.contexts i.live e0.nodes c.self.invariant in
+    let valid = granted_valid i.caches a i.store i.contexts i.live e0.nodes c.self.invariant h0 h size0 size e0.held e0.forest e0.right (subst (λ (p : Manager). IsValid p (g.M.Mapper.held c.args.mapper.now)) (sym c.self.view_is) c.requires.valid) in
+    let n = c.write_fault.new in
+    let e = c.write_fault.ensures in
+    let k = g.M.Mapper.held n.mapper in
+    let then_size = g.M.Mapper.page_bytes n.mapper in
+    let after = g.M.Mapper.counts n.mapper in
+    let p : Manager = seen a i.store i.contexts in
+    let reach = reached p h sound.nodes sound.apart size then_size n.caches n.store k before after e.answered.later e.answered.told in
+    let then = kept_sound a n.caches i.store n.store h k size then_size e.answered.kept i.contexts i.live sound in
+    let now = kept_valid a n.caches i.store n.store h k size then_size e.answered.kept i.contexts c.in-Err.ensures.missed.forest before after reach valid in
+    now
+
+pub returns-in-Err-clause-answers : goal.returns-in-Err-clause-answers
+returns-in-Err-clause-answers g c =
+    let i = c.self.inside in
+    let e0 = c.grant_range.ensures in
+    let a = c.grant_range.new.caches in
+    let m = c.grant_range.new.mapper in
+    let h0 = g.M.Mapper.held c.args.mapper.now in
+    let h = g.M.Mapper.held m in
+    let size0 = g.M.Mapper.page_bytes c.args.mapper.now in
+    let size = g.M.Mapper.page_bytes m in
+    let asked = g.M.Mapper.counts c.args.mapper.now in
+    let before = g.M.Mapper.counts m in
+    let sound = granted_sound i.caches a i.store i.contexts i.live e0.nodes c.self.invariant in
+    let valid = granted_valid i.caches a i.store i.contexts i.live e0.nodes c.self.invariant h0 h size0 size e0.held e0.forest e0.right (subst (λ (p : Manager). IsValid p (g.M.Mapper.held c.args.mapper.now)) (sym c.self.view_is) c.requires.valid) in
+    let n = c.write_fault.new in
+    let e = c.write_fault.ensures in
+    let k = g.M.Mapper.held n.mapper in
+    let then_size = g.M.Mapper.page_bytes n.mapper in
+    let after = g.M.Mapper.counts n.mapper in
+    let p : Manager = seen a i.store i.contexts in
+    let reach = reached p h sound.nodes sound.apart size then_size n.caches n.store k before after e.answered.later e.answered.told in
+    let then = kept_sound a n.caches i.store n.store h k size then_size e.answered.kept i.contexts i.live sound in
+    let now = kept_valid a n.caches i.store n.store h k size then_size e.answered.kept i.contexts c.in-Err.ensures.missed.forest before after reach valid in
+    let pl = c.in_ok-place.place in
+    let bs : c.as_slice-bytes.result.now ≡ c.args.piece.now = c.as_slice-bytes.ensures.bytes in
+    let r = spot (size_of i.caches) i.contexts c.args.actor.0 c.args.address (length c.args.piece.now) c.in_ok-place.place c.self.invariant.actors
+    (sym c.in_ok-place.was ∙ c.locate.ensures ∙ ap (λ (xs : List ℕ). place_told (place_of_actor i.contexts.page_bytes (has_number i.contexts.actors c.args.actor.0) c.args.address (length xs))) bs) in
+    let at : Place = found_at r.region pl in
+    let is : (f : PageForest) → Ok at ≡ place (machine_by p f) c.args.actor.0 c.args.address (length c.args.piece.now) = λ f. r.is in
+    let q : Manager = seen n.caches n.store i.contexts in
+    let page : PageNo = pl.page in
+    let there = e0.nodes.same.sizes pl.cache.0 ∙ r.there in
+    let forest = kept_forest a n.caches i.store n.store h k size then_size e.answered.kept i.contexts c.in-Err.ensures.missed.forest in
+    let answer : Answer = Err (troubles.Mapper (fault_at c.in-Err.miss page)) in
+    let may = granted c.in_ok-place.place.prot.write c.if-not-place.false in
+    let state : state_at p h ≡ state_at (seen i.caches i.store i.contexts) h0 = granted_state i.caches a i.store i.contexts i.live e0.nodes c.self.invariant h0 h size0 size e0.held e0.forest in
+    let writable = c.in_ok-grant_range.ensures.granted pl.page.0 (omega arith, omega arith) in
+    let by = kept_by a n.caches i.store n.store h k size then_size e.answered.kept i.contexts in
+    subst (λ (p : Manager). CallIs asked after (state_at p h0) (commands.Store c.args.actor c.args.address c.args.piece.now) (Err (troubles.Mapper c.fault_of.result)) (state_at q k)) c.self.view_is
+    (subst (λ (f : FaultAt). CallIs asked after (state_at (seen i.caches i.store i.contexts) h0) (commands.Store c.args.actor c.args.address c.args.piece.now) (Err (troubles.Mapper f)) (state_at q k)) (sym c.fault_of.ensures)
+    (subst (λ (x : State). CallIs asked after x (commands.Store c.args.actor c.args.address c.args.piece.now) answer (state_at q k)) state
+    (call_later asked before after (state_at p h) (state_at q k) (commands.Store c.args.actor c.args.address c.args.piece.now) answer e0.later e0.made
+    (failed_at before after p q h k (commands.Store c.args.actor c.args.address c.args.piece.now) answer no_segments reach sound.nodes then.nodes now forest (not_saved c.in-Err.miss page (forest_of p h) (machine_of p h) (commands.Store c.args.actor c.args.address c.args.piece.now) (machine_of q k)) tt tt
+    (λ f. store_fault (length reach.pushes) (machine_by p f) (machine_by q f) (forest_of p h) c.args.actor c.args.address c.args.piece.now no_segments before after c.in-Err.miss page at (by f) (is f) may (undenied_blank p f pl.cache.0 pl.page.0) refl c.in-Err.ensures.missed.cause)
+    (λ f s told. store_fault (length reach.pushes) (machine_by p f) (machine_by q f) (forest_of p h) c.args.actor c.args.address c.args.piece.now s before after c.in-Err.miss page at (by f) (is f) may
+        (undenied p h sound.nodes valid.right pl.cache pl.page.0 r.count there r.less writable f k s (reach_denied (machine_of p h) h k before after reach) told) refl c.in-Err.ensures.missed.cause)))))
+
+pub returns-in-Err-clause-copies : goal.returns-in-Err-clause-copies
+returns-in-Err-clause-copies g c =
+    let i = c.self.inside in
+    let e0 = c.grant_range.ensures in
+    let a = c.grant_range.new.caches in
+    let m = c.grant_range.new.mapper in
+    let h0 = g.M.Mapper.held c.args.mapper.now in
+    let h = g.M.Mapper.held m in
+    let size0 = g.M.Mapper.page_bytes c.args.mapper.now in
+    let size = g.M.Mapper.page_bytes m in
+    let asked = g.M.Mapper.counts c.args.mapper.now in
+    let before = g.M.Mapper.counts m in
+    let sound = granted_sound i.caches a i.store i.contexts i.live e0.nodes c.self.invariant in
+    let valid = granted_valid i.caches a i.store i.contexts i.live e0.nodes c.self.invariant h0 h size0 size e0.held e0.forest e0.right (subst (λ (p : Manager). IsValid p (g.M.Mapper.held c.args.mapper.now)) (sym c.self.view_is) c.requires.valid) in
+    let n = c.write_fault.new in
+    let e = c.write_fault.ensures in
+    let k = g.M.Mapper.held n.mapper in
+    let then_size = g.M.Mapper.page_bytes n.mapper in
+    let after = g.M.Mapper.counts n.mapper in
+    let p : Manager = seen a i.store i.contexts in
+    let reach = reached p h sound.nodes sound.apart size then_size n.caches n.store k before after e.answered.later e.answered.told in
+    subst (λ (p : Manager). n.caches.copies ≤ p.caches.copies + 2) c.self.view_is (omega (arith, kept_copies h k size then_size a n.caches i.store n.store c.in-Err.ensures.missed.forest, e0.nodes.copies))
+
+pub returns-in-Err-clause-made : goal.returns-in-Err-clause-made
+returns-in-Err-clause-made g c =
+    let i = c.self.inside in
+    let e0 = c.grant_range.ensures in
+    let a = c.grant_range.new.caches in
+    let m = c.grant_range.new.mapper in
+    let h0 = g.M.Mapper.held c.args.mapper.now in
+    let h = g.M.Mapper.held m in
+    let size0 = g.M.Mapper.page_bytes c.args.mapper.now in
+    let size = g.M.Mapper.page_bytes m in
+    let asked = g.M.Mapper.counts c.args.mapper.now in
+    let before = g.M.Mapper.counts m in
+    let sound = granted_sound i.caches a i.store i.contexts i.live e0.nodes c.self.invariant in
+    let valid = granted_valid i.caches a i.store i.contexts i.live e0.nodes c.self.invariant h0 h size0 size e0.held e0.forest e0.right (subst (λ (p : Manager). IsValid p (g.M.Mapper.held c.args.mapper.now)) (sym c.self.view_is) c.requires.valid) in
+    let n = c.write_fault.new in
+    let e = c.write_fault.ensures in
+    let k = g.M.Mapper.held n.mapper in
+    let then_size = g.M.Mapper.page_bytes n.mapper in
+    let after = g.M.Mapper.counts n.mapper in
+    let p : Manager = seen a i.store i.contexts in
+    let reach = reached p h sound.nodes sound.apart size then_size n.caches n.store k before after e.answered.later e.answered.told in
+    omega (arith, kept_copies h k size then_size a n.caches i.store n.store c.in-Err.ensures.missed.forest, e.answered.kept.made, e0.nodes.made, e0.nodes.copies, ap numbered c.self.view_is)
+

@@ -1,67 +1,87 @@
-use Rattle.std.proofs.Common.{rules, ℕ, sym, ◌∙◌, ap, subst, refl, List, Bool, false, slice_set, None}
-use Rattle.std.specs.Prelude.{option_map}
-use Rattle.vm_ids.specs.Held.{with_slot}
-use Rattle.vm_ids.specs.declared.numbers.NodeId.{NodeId}
-use Rattle.vm_ids.proofs.Places.{back}
-use Rattle.residency.specs.World.{World, OthersStay, Still, evicted, world}
-use Rattle.residency.proofs.Homes.{IsHome, home_of_held, room, world_is}
-use Rattle.residency.proofs.Evicted.{eviction_others, eviction_still, others_same, still}
+use Rattle.std.proofs.Common.{Some, subst, sym, ◌∙◌}
+use Rattle.vm_ids.specs.Counting.{RoseBy}
+use Rattle.local_cache.specs.Own.{own_of}
+use Rattle.residency.specs.Evicting.{HasLeft, IsEvicted, IsInSlot}
+use Rattle.residency.specs.World.{World, is_clean, world}
+use Rattle.residency.proofs.Arms.{on_ok_then}
+use Rattle.residency.proofs.Evicted.{evicts_dirty, evicts_others, evicts_still}
+use Rattle.residency.proofs.Homes.{home_of_held, unchanged}
+use Rattle.residency.proofs.Told.{evicts_told}
 use Rattle.residency.proofs.store.Store.evict.Goals as goal
 
-pub take-slot-requires : goal.take-slot-requires
-take-slot-requires g c =
-    let w : World = world (g.M.Mapper.held c.args.mapper.now) (g.M.Mapper.page_bytes c.args.mapper.now) c.args.caches.now c.args.self.now in
-    room w c.args.frame.0 c.unwrap-node.result c.requires.right (home_of_held w c.args.frame.0 c.unwrap-node.result c.requires.right c.requires.held (sym c.node_at.ensures ∙ c.unwrap-node.ensures))
-
-pub set_state-requires : goal.set_state-requires
-set_state-requires g c =
+pub home-requires : goal.home-requires
+home-requires g c =
     let w : World = world (g.M.Mapper.held c.args.mapper.now) (g.M.Mapper.page_bytes c.args.mapper.now) c.args.caches.now c.args.self.now in
     (home_of_held w c.args.frame.0 c.unwrap-node.result c.requires.right c.requires.held (sym c.node_at.ensures ∙ c.unwrap-node.ensures)).there
 
-pub returns-in-Ok-clause-evicted : goal.returns-in-Ok-clause-evicted
-returns-in-Ok-clause-evicted g c =
+pub returns-in-Some-clause-evicted : goal.returns-in-Some-clause-evicted
+returns-in-Some-clause-evicted g c =
     let w : World = world (g.M.Mapper.held c.args.mapper.now) (g.M.Mapper.page_bytes c.args.mapper.now) c.args.caches.now c.args.self.now in
-    let n : NodeId = c.unwrap-node.result in
-    let f : ℕ = c.args.frame.0 in
-    let h : IsHome w f n = home_of_held w f n c.requires.right c.requires.held (sym c.node_at.ensures ∙ c.unwrap-node.ensures) in
-    record {
-      node = n;
-      slot = c.take-slot.result;
-      was = h.node;
-      within = c.take-slot.ensures.below;
-      free = c.take-slot.ensures.fresh;
-      is = world_is _ (evicted w f n c.take-slot.result)
-          (c.in-Ok.ensures.ok ∙ ap (λ (b : List ℕ). option_map (with_slot c.take-slot.result.0 b) (g.M.Mapper.held c.args.mapper.now)) c.bytes.ensures.bytes)
-          c.swap_out.ensures.page
-          c.set_state.ensures.changed
-          c.give_back.ensures
-          c.take-slot.ensures.held
-          (c.unbind.ensures ∙ ap (λ (k : ℕ). slice_set c.args.self.now.map k None) h.place)
-          refl;
-    }
+    let v : World = world (g.M.Mapper.held c.send_home.new.mapper) (g.M.Mapper.page_bytes c.send_home.new.mapper) c.send_home.new.caches c.send_home.new.self in
+    on_ok_then (HasLeft (Some c.in-Some.home) (is_clean (own_of w.caches c.unwrap-node.result)) c.args.frame.0 c.unwrap-node.result w v) (IsEvicted c.args.frame.0 w v) c.send_home.result
+    (λ p. record { node = c.unwrap-node.result; was = sym c.node_at.ensures ∙ c.unwrap-node.ensures; has_left = subst (λ o. HasLeft o (is_clean (own_of w.caches c.unwrap-node.result)) c.args.frame.0 c.unwrap-node.result w v) (sym c.in-Some.is ∙ c.home.ensures) p })
+    c.send_home.ensures.left
 
-pub returns-in-Ok-clause-still : goal.returns-in-Ok-clause-still
-returns-in-Ok-clause-still g c =
+pub returns-in-Some-clause-still : goal.returns-in-Some-clause-still
+returns-in-Some-clause-still g c =
     let w : World = world (g.M.Mapper.held c.args.mapper.now) (g.M.Mapper.page_bytes c.args.mapper.now) c.args.caches.now c.args.self.now in
-    eviction_still w _ c.args.frame.0 c.requires.right c.requires.held (returns-in-Ok-clause-evicted g c) c.requires.unpinned
+    let v : World = world (g.M.Mapper.held c.send_home.new.mapper) (g.M.Mapper.page_bytes c.send_home.new.mapper) c.send_home.new.caches c.send_home.new.self in
+    evicts_still w v c.args.frame.0 c.requires.right c.requires.held c.requires.unpinned c.send_home.result (returns-in-Some-clause-evicted g c)
+    (unchanged c.send_home.result (g.M.Mapper.held c.args.mapper.now) (g.M.Mapper.held c.send_home.new.mapper) (g.M.Mapper.page_bytes c.args.mapper.now) (g.M.Mapper.page_bytes c.send_home.new.mapper) c.args.caches.now c.send_home.new.caches c.args.self.now c.send_home.new.self c.send_home.ensures.failed c.send_home.ensures.failed_caches c.send_home.ensures.failed_held c.send_home.ensures.page_bytes)
 
-pub returns-in-Ok-clause-others : goal.returns-in-Ok-clause-others
-returns-in-Ok-clause-others g c =
+pub returns-in-Some-clause-others : goal.returns-in-Some-clause-others
+returns-in-Some-clause-others g c =
     let w : World = world (g.M.Mapper.held c.args.mapper.now) (g.M.Mapper.page_bytes c.args.mapper.now) c.args.caches.now c.args.self.now in
-    eviction_others w _ c.args.frame.0 c.requires.right c.requires.held (returns-in-Ok-clause-evicted g c)
+    let v : World = world (g.M.Mapper.held c.send_home.new.mapper) (g.M.Mapper.page_bytes c.send_home.new.mapper) c.send_home.new.caches c.send_home.new.self in
+    evicts_others w v c.args.frame.0 c.requires.right c.requires.held c.requires.unpinned c.send_home.result (returns-in-Some-clause-evicted g c)
+    (unchanged c.send_home.result (g.M.Mapper.held c.args.mapper.now) (g.M.Mapper.held c.send_home.new.mapper) (g.M.Mapper.page_bytes c.args.mapper.now) (g.M.Mapper.page_bytes c.send_home.new.mapper) c.args.caches.now c.send_home.new.caches c.args.self.now c.send_home.new.self c.send_home.ensures.failed c.send_home.ensures.failed_caches c.send_home.ensures.failed_held c.send_home.ensures.page_bytes)
 
-pub returns-in-Err-clause-still : goal.returns-in-Err-clause-still
-returns-in-Err-clause-still g c =
+pub returns-in-Some-clause-dirty : goal.returns-in-Some-clause-dirty
+returns-in-Some-clause-dirty g c =
     let w : World = world (g.M.Mapper.held c.args.mapper.now) (g.M.Mapper.page_bytes c.args.mapper.now) c.args.caches.now c.args.self.now in
-    subst (Still w) (sym (world_is _ w c.in-Err.ensures.err c.swap_out.ensures.page refl refl
-    (c.give_back-in-Err.ensures ∙ ap (λ (xs : List Bool). slice_set xs c.take-slot.result.0 false) c.take-slot.ensures.held ∙ back c.args.self.now.slots c.take-slot.result.0 c.take-slot.ensures.fresh) refl refl)) (still w c.requires.right)
+    let v : World = world (g.M.Mapper.held c.send_home.new.mapper) (g.M.Mapper.page_bytes c.send_home.new.mapper) c.send_home.new.caches c.send_home.new.self in
+    evicts_dirty w v c.args.frame.0 c.requires.right c.requires.held c.requires.unpinned c.send_home.result (returns-in-Some-clause-evicted g c)
 
-pub returns-in-Err-clause-failed : goal.returns-in-Err-clause-failed
-returns-in-Err-clause-failed g c =
-    let b = back c.args.self.now.slots c.take-slot.result.0 c.take-slot.ensures.fresh in search rules
-
-pub returns-in-Err-clause-others : goal.returns-in-Err-clause-others
-returns-in-Err-clause-others g c =
+pub returns-in-Some-clause-told : goal.returns-in-Some-clause-told
+returns-in-Some-clause-told g c =
     let w : World = world (g.M.Mapper.held c.args.mapper.now) (g.M.Mapper.page_bytes c.args.mapper.now) c.args.caches.now c.args.self.now in
-    subst (OthersStay w) (sym (world_is _ w c.in-Err.ensures.err c.swap_out.ensures.page refl refl
-    (c.give_back-in-Err.ensures ∙ ap (λ (xs : List Bool). slice_set xs c.take-slot.result.0 false) c.take-slot.ensures.held ∙ back c.args.self.now.slots c.take-slot.result.0 c.take-slot.ensures.fresh) refl refl)) (others_same w)
+    let v : World = world (g.M.Mapper.held c.send_home.new.mapper) (g.M.Mapper.page_bytes c.send_home.new.mapper) c.send_home.new.caches c.send_home.new.self in
+    evicts_told w v (g.M.Mapper.counts c.args.mapper.now) (g.M.Mapper.counts c.send_home.new.mapper) c.args.frame.0 c.requires.right c.requires.held c.send_home.result (returns-in-Some-clause-evicted g c)
+    (unchanged c.send_home.result (g.M.Mapper.held c.args.mapper.now) (g.M.Mapper.held c.send_home.new.mapper) (g.M.Mapper.page_bytes c.args.mapper.now) (g.M.Mapper.page_bytes c.send_home.new.mapper) c.args.caches.now c.send_home.new.caches c.args.self.now c.send_home.new.self c.send_home.ensures.failed c.send_home.ensures.failed_caches c.send_home.ensures.failed_held c.send_home.ensures.page_bytes)
+    c.send_home.ensures.counts.pushes_later c.send_home.ensures.counts.pushed
+
+pub returns-in-None-clause-evicted : goal.returns-in-None-clause-evicted
+returns-in-None-clause-evicted g c =
+    let w : World = world (g.M.Mapper.held c.args.mapper.now) (g.M.Mapper.page_bytes c.args.mapper.now) c.args.caches.now c.args.self.now in
+    let v : World = world (g.M.Mapper.held c.send_to_slot.new.mapper) (g.M.Mapper.page_bytes c.send_to_slot.new.mapper) c.send_to_slot.new.caches c.send_to_slot.new.self in
+    on_ok_then (IsInSlot c.args.frame.0 c.unwrap-node.result w v) (IsEvicted c.args.frame.0 w v) c.send_to_slot.result
+    (λ p. record { node = c.unwrap-node.result; was = sym c.node_at.ensures ∙ c.unwrap-node.ensures; has_left = subst (λ o. HasLeft o (is_clean (own_of w.caches c.unwrap-node.result)) c.args.frame.0 c.unwrap-node.result w v) (sym c.in-None.is ∙ c.home.ensures) p })
+    c.send_to_slot.ensures.left
+
+pub returns-in-None-clause-still : goal.returns-in-None-clause-still
+returns-in-None-clause-still g c =
+    let w : World = world (g.M.Mapper.held c.args.mapper.now) (g.M.Mapper.page_bytes c.args.mapper.now) c.args.caches.now c.args.self.now in
+    let v : World = world (g.M.Mapper.held c.send_to_slot.new.mapper) (g.M.Mapper.page_bytes c.send_to_slot.new.mapper) c.send_to_slot.new.caches c.send_to_slot.new.self in
+    evicts_still w v c.args.frame.0 c.requires.right c.requires.held c.requires.unpinned c.send_to_slot.result (returns-in-None-clause-evicted g c)
+    (unchanged c.send_to_slot.result (g.M.Mapper.held c.args.mapper.now) (g.M.Mapper.held c.send_to_slot.new.mapper) (g.M.Mapper.page_bytes c.args.mapper.now) (g.M.Mapper.page_bytes c.send_to_slot.new.mapper) c.args.caches.now c.send_to_slot.new.caches c.args.self.now c.send_to_slot.new.self c.send_to_slot.ensures.failed c.send_to_slot.ensures.failed_caches c.send_to_slot.ensures.failed_held c.send_to_slot.ensures.page_bytes)
+
+pub returns-in-None-clause-others : goal.returns-in-None-clause-others
+returns-in-None-clause-others g c =
+    let w : World = world (g.M.Mapper.held c.args.mapper.now) (g.M.Mapper.page_bytes c.args.mapper.now) c.args.caches.now c.args.self.now in
+    let v : World = world (g.M.Mapper.held c.send_to_slot.new.mapper) (g.M.Mapper.page_bytes c.send_to_slot.new.mapper) c.send_to_slot.new.caches c.send_to_slot.new.self in
+    evicts_others w v c.args.frame.0 c.requires.right c.requires.held c.requires.unpinned c.send_to_slot.result (returns-in-None-clause-evicted g c)
+    (unchanged c.send_to_slot.result (g.M.Mapper.held c.args.mapper.now) (g.M.Mapper.held c.send_to_slot.new.mapper) (g.M.Mapper.page_bytes c.args.mapper.now) (g.M.Mapper.page_bytes c.send_to_slot.new.mapper) c.args.caches.now c.send_to_slot.new.caches c.args.self.now c.send_to_slot.new.self c.send_to_slot.ensures.failed c.send_to_slot.ensures.failed_caches c.send_to_slot.ensures.failed_held c.send_to_slot.ensures.page_bytes)
+
+pub returns-in-None-clause-dirty : goal.returns-in-None-clause-dirty
+returns-in-None-clause-dirty g c =
+    let w : World = world (g.M.Mapper.held c.args.mapper.now) (g.M.Mapper.page_bytes c.args.mapper.now) c.args.caches.now c.args.self.now in
+    let v : World = world (g.M.Mapper.held c.send_to_slot.new.mapper) (g.M.Mapper.page_bytes c.send_to_slot.new.mapper) c.send_to_slot.new.caches c.send_to_slot.new.self in
+    evicts_dirty w v c.args.frame.0 c.requires.right c.requires.held c.requires.unpinned c.send_to_slot.result (returns-in-None-clause-evicted g c)
+
+pub returns-in-None-clause-told : goal.returns-in-None-clause-told
+returns-in-None-clause-told g c =
+    let w : World = world (g.M.Mapper.held c.args.mapper.now) (g.M.Mapper.page_bytes c.args.mapper.now) c.args.caches.now c.args.self.now in
+    let v : World = world (g.M.Mapper.held c.send_to_slot.new.mapper) (g.M.Mapper.page_bytes c.send_to_slot.new.mapper) c.send_to_slot.new.caches c.send_to_slot.new.self in
+    evicts_told w v (g.M.Mapper.counts c.args.mapper.now) (g.M.Mapper.counts c.send_to_slot.new.mapper) c.args.frame.0 c.requires.right c.requires.held c.send_to_slot.result (returns-in-None-clause-evicted g c)
+    (unchanged c.send_to_slot.result (g.M.Mapper.held c.args.mapper.now) (g.M.Mapper.held c.send_to_slot.new.mapper) (g.M.Mapper.page_bytes c.args.mapper.now) (g.M.Mapper.page_bytes c.send_to_slot.new.mapper) c.args.caches.now c.send_to_slot.new.caches c.args.self.now c.send_to_slot.new.self c.send_to_slot.ensures.failed c.send_to_slot.ensures.failed_caches c.send_to_slot.ensures.failed_held c.send_to_slot.ensures.page_bytes)
+    c.send_to_slot.ensures.counts.pushes_later (subst (λ k. RoseBy k (g.M.Mapper.counts c.args.mapper.now).pushes (g.M.Mapper.counts c.send_to_slot.new.mapper).pushes) (sym c.send_to_slot.ensures.dirty) c.send_to_slot.ensures.counts.pushed)

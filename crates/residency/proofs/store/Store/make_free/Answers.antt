@@ -1,14 +1,14 @@
-use Rattle.std.proofs.Common.{arith, ◌≡◌, ◌+◌, ℕ, ap, sym, subst}
+use Rattle.std.proofs.Common.{arith, ◌≡◌, ◌+◌, ap}
 use Rattle.frame_pool.specs.Pool.{Frames, held_count}
-use Rattle.residency.specs.Causes.{Made, pushes_for}
+use Rattle.residency.specs.Causes.{pushes_for}
 use Rattle.residency.proofs.Arms.{on_ok}
 use Rattle.residency.proofs.Claimed.{pushes_when_full}
 use Rattle.residency.proofs.store.Store.make_free.Goals as goal
 
-pub returns-in-None-clause-made : goal.returns-in-None-clause-made
-returns-in-None-clause-made g c =
+pub returns-in-None-clause-few : goal.returns-in-None-clause-few
+returns-in-None-clause-few g c =
     let once : pushes_for c.args.self.now.frames.held ≡ 1 = pushes_when_full c.args.self.now.frames.held c.in-None.ensures.1 in
-    subst (λ (n : ℕ). Made 0 n (g.M.Mapper.counts c.args.mapper.now) (g.M.Mapper.counts c.make_room.new.mapper)) (sym once) c.make_room.ensures.made
+    omega (arith, once, c.make_room.ensures.few)
 
 pub returns-in-None-clause-idle : goal.returns-in-None-clause-idle
 returns-in-None-clause-idle g c = λ none. absurd (omega (arith, pushes_when_full c.args.self.now.frames.held c.in-None.ensures.1, none))

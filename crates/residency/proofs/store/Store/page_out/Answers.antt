@@ -1,12 +1,18 @@
-use Rattle.std.proofs.Common.{rules, arith, ◌≡◌, ◌≤◌, ◌<◌, ◌+◌, ap, ◌∙◌, sym, List, Bool, ◌-◌, min, length}
+use Rattle.std.proofs.Common.{rules, arith, ◌≡◌, ◌≤◌, ◌<◌, ◌+◌, ap, ◌∙◌, sym, List, Bool, false, ◌-◌, min, length}
 use Rattle.std.specs.List.{count_by}
+use Rattle.std.specs.Option.{option_map_or}
+use Rattle.vm_ids.proofs.Places.{bit-le}
+use Rattle.global_map.specs.Pairs.{node_of}
+use Rattle.local_cache.specs.Own.{own_of}
+use Rattle.residency.specs.Causes.{is_dirty}
+use Rattle.residency.proofs.Told.{tells_marks, tells_then}
 use Rattle.frame_pool.specs.Pool.{held_count, pinned_count}
 use Rattle.residency.specs.World.{World, world}
 use Rattle.residency.specs.declared.store.Store.{Store}
 use Rattle.residency.proofs.Arms.{on_err}
 use Rattle.residency.proofs.Counted.{one_fewer, pinned_held, none_left, some_left}
 use Rattle.residency.proofs.Picked.{none_counted, some_counted}
-use Rattle.residency.proofs.Evicted.{others_marks, others_then, still_marks, still_then}
+use Rattle.residency.proofs.Composed.{others_marks, others_then, still_marks, still_then}
 use Rattle.residency.proofs.store.Store.page_out.Goals as goal
 
 pub returns-then-evictable_count-eq0-clause-fewer : goal.returns-then-evictable_count-eq0-clause-fewer
@@ -32,10 +38,15 @@ loop-done-preserved g c =
       still = still_then before w after c.loop-done.invariant.still (still_marks w after (length c.pick-frame.new.self) c.pick-frame.ensures.length c.in_ok-evict.ensures.still);
       pinned = c.in_ok-evict.ensures.pinned ∙ c.loop-done.invariant.pinned;
       fewer = omega (arith, c.loop-done.invariant.fewer);
-      others = others_then before w after c.loop-done.invariant.others (others_marks w after (length c.pick-frame.new.self) c.in_ok-evict.ensures.others);
+      others = others_then before w after c.loop-done.invariant.still.stays.caches c.loop-done.invariant.others (others_marks w after (length c.pick-frame.new.self) c.in_ok-evict.ensures.others);
       later = search rules;
       pulls = search rules;
-      pushes = search rules;
+      told = tells_then before w c.loop-done.invariant.still.stays after (g.M.Mapper.counts c.args.mapper.now) (g.M.Mapper.counts c.loop-done.mapper) (g.M.Mapper.counts c.evict.new.mapper)
+          (record { faults = c.evict.ensures.counts.faults.later; pulls = c.evict.ensures.counts.pulls_later; pushes = c.evict.ensures.counts.pushes_later })
+          c.loop-done.invariant.told (tells_marks w after (length c.pick-frame.new.self) (g.M.Mapper.counts c.loop-done.mapper) (g.M.Mapper.counts c.evict.new.mapper) c.pick-frame.ensures.length c.in_ok-evict.ensures.told);
+      dirty = omega (arith, c.loop-done.invariant.dirty, c.in_ok-evict.ensures.dirty);
+      few = omega (arith, c.loop-done.invariant.few, c.in_ok-evict.ensures.dirty, bit-le (option_map_or (λ n. is_dirty (own_of c.loop-done.caches n)) (node_of c.loop-done.self.map c.pick-frame.result.0) false));
+      pushes = λ below. omega (arith, c.loop-done.invariant.dirty, c.in_ok-evict.ensures.dirty, c.evict.ensures.counts.pushed below, c.evict.ensures.counts.pushes_later, c.loop-done.invariant.pushes (omega (arith, below, c.evict.ensures.counts.pushes_later)));
     }
 
 pub returns-clause-fewer : goal.returns-clause-fewer
@@ -53,3 +64,12 @@ returns-in_err-evict-clause-failed g c =
     let as_before : held_count c.evict.new.self.frames ≡ held_count c.loop-done.self.frames = ap (λ (s : Store). held_count s.frames) c.in_err-evict.ensures.failed in
     let few : held_count c.args.self.now.frames < held_count c.evict.new.self.frames + min c.args.count (held_count c.args.self.now.frames - pinned_count c.args.self.now.frames) = omega (arith, c.loop-done.invariant.fewer, c.loop-done-test.true) in
     on_err _ c.from_residual.result few
+
+pub returns-in_err-evict-clause-told : goal.returns-in_err-evict-clause-told
+returns-in_err-evict-clause-told g c =
+    let before : World = world (g.M.Mapper.held c.args.mapper.now) (g.M.Mapper.page_bytes c.args.mapper.now) c.args.caches.now c.args.self.now in
+    let w : World = world (g.M.Mapper.held c.loop-done.mapper) (g.M.Mapper.page_bytes c.loop-done.mapper) c.loop-done.caches c.loop-done.self in
+    let after : World = world (g.M.Mapper.held c.evict.new.mapper) (g.M.Mapper.page_bytes c.evict.new.mapper) c.evict.new.caches c.evict.new.self in
+    tells_then before w c.loop-done.invariant.still.stays after (g.M.Mapper.counts c.args.mapper.now) (g.M.Mapper.counts c.loop-done.mapper) (g.M.Mapper.counts c.evict.new.mapper)
+    (record { faults = c.evict.ensures.counts.faults.later; pulls = c.evict.ensures.counts.pulls_later; pushes = c.evict.ensures.counts.pushes_later })
+    c.loop-done.invariant.told (tells_marks w after (length c.pick-frame.new.self) (g.M.Mapper.counts c.loop-done.mapper) (g.M.Mapper.counts c.evict.new.mapper) c.pick-frame.ensures.length c.in_err-evict.ensures.told)

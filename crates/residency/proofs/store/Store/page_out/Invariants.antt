@@ -1,7 +1,8 @@
-use Rattle.std.proofs.Common.{◌≡◌, ◌+◌}
+use Rattle.std.proofs.Common.{◌≡◌, ◌+◌, ◌-◌, ◌≤◌}
 use Rattle.vm_ids.specs.Counting.{RoseBy}
 use Rattle.frame_pool.specs.Pool.{held_count}
-use Rattle.residency.specs.Causes.{Later}
+use Rattle.residency.specs.Causes.{Later, dirty_count}
+use Rattle.residency.specs.Pushing.{TellsOn}
 use Rattle.residency.specs.World.{OthersStay, Still, world}
 use Rattle.residency.proofs.store.Store.page_out.Given as goal
 
@@ -13,5 +14,8 @@ invariant-loop-done g l = record {
   others : OthersStay (world (g.M.Mapper.held l.initial.mapper) (g.M.Mapper.page_bytes l.initial.mapper) l.initial.caches l.initial.self) (world (g.M.Mapper.held l.mapper) (g.M.Mapper.page_bytes l.mapper) l.caches l.self);
   later : Later (g.M.Mapper.counts l.initial.mapper) (g.M.Mapper.counts l.mapper);
   pulls : RoseBy 0 (g.M.Mapper.counts l.initial.mapper).pulls (g.M.Mapper.counts l.mapper).pulls;
-  pushes : RoseBy l.done (g.M.Mapper.counts l.initial.mapper).pushes (g.M.Mapper.counts l.mapper).pushes;
+  told : TellsOn (world (g.M.Mapper.held l.initial.mapper) (g.M.Mapper.page_bytes l.initial.mapper) l.initial.caches l.initial.self) (world (g.M.Mapper.held l.mapper) (g.M.Mapper.page_bytes l.mapper) l.caches l.self) (g.M.Mapper.counts l.initial.mapper) (g.M.Mapper.counts l.mapper);
+  dirty : dirty_count l.caches ≤ dirty_count l.initial.caches;
+  few : dirty_count l.initial.caches ≤ dirty_count l.caches + l.done;
+  pushes : RoseBy (dirty_count l.initial.caches - dirty_count l.caches) (g.M.Mapper.counts l.initial.mapper).pushes (g.M.Mapper.counts l.mapper).pushes;
 }

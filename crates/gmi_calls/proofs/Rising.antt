@@ -1,0 +1,74 @@
+-- By how much counts rise in calls one after the other.
+use Rattle.std.proofs.Common.{◌≡◌, ℕ, ◌<◌, arith}
+use Rattle.std.specs.Prelude.{Result, Ok, Err, OnErr}
+use Rattle.vm_ids.specs.Counting.{Counted, MapperCounts, Rise, counts_sum, no_counts}
+use Rattle.gmi_calls.specs.Reaching.{Reached}
+
+pub rise_none : (a : MapperCounts) → Rise a a no_counts
+rise_none a = record {
+  faults_later = omega arith;
+  pulls_later = omega arith;
+  pushes_later = omega arith;
+  faults = λ h. omega arith;
+  pulls = λ h. omega arith;
+  pushes = λ h. omega arith;
+}
+
+pub rise_then : (a b c x y : MapperCounts) → Rise a b x → Rise b c y → Rise a c (counts_sum x y)
+rise_then a b c x y p q = record {
+  faults_later = omega (arith, p.faults_later, q.faults_later);
+  pulls_later = omega (arith, p.pulls_later, q.pulls_later);
+  pushes_later = omega (arith, p.pushes_later, q.pushes_later);
+  faults = λ h. omega (arith, p.faults, q.faults, q.faults_later, h);
+  pulls = λ h. omega (arith, p.pulls, q.pulls, q.pulls_later, h);
+  pushes = λ h. omega (arith, p.pushes, q.pushes, q.pushes_later, h);
+}
+
+-- one call with so many pulls and pushes
+abbrev pub one_call : {T E : Type 0} → ℕ → ℕ → Result T E → MapperCounts
+one_call pulls pushes (Ok x) = record { faults = 0; pulls = pulls; pushes = pushes }
+one_call pulls pushes (Err e) = record { faults = 1; pulls = pulls; pushes = pushes }
+
+pub counted : {T E : Type 0} (pulls pushes : ℕ) (before now : MapperCounts) (r : Result T E) → Counted pulls pushes before now r → Rise before now (one_call pulls pushes r)
+counted pulls pushes before now (Ok x) c = record {
+  faults_later = c.faults.later;
+  pulls_later = c.pulls_later;
+  pushes_later = c.pushes_later;
+  faults = λ h. omega (arith, c.faults.later);
+  pulls = c.pulled;
+  pushes = c.pushed;
+}
+counted pulls pushes before now (Err e) c = record {
+  faults_later = c.faults.later;
+  pulls_later = c.pulls_later;
+  pushes_later = c.pushes_later;
+  faults = λ h. omega (arith, c.faults.failed h);
+  pulls = c.pulled;
+  pushes = c.pushed;
+}
+
+pub one_failed : {T E : Type 0} (pulls pushes : ℕ) (r : Result T E) → OnErr r (0 < (one_call pulls pushes r).faults)
+one_failed pulls pushes (Ok x) = tt
+one_failed pulls pushes (Err e) = omega arith
+
+-- nothing was reached yet, and all went well
+pub reached_none : {T E : Type 0} (a : MapperCounts) (x : T) → Reached a a (let r : Result T E = Ok x in r)
+reached_none a x = record { rises = no_counts; rose = rise_none a; failed = tt }
+
+-- one call more, after which all is said
+pub reached_then : {T U E F : Type 0} (a b c : MapperCounts) (r : Result T E) (s : Result U F) → Reached a b r → (y : MapperCounts) → Rise b c y → OnErr s (0 < y.faults) → Reached a c s
+reached_then a b c r (Ok x) R y rose failed = record { rises = counts_sum R.rises y; rose = rise_then a b c R.rises y R.rose rose; failed = tt }
+reached_then a b c r (Err e) R y rose failed = record { rises = counts_sum R.rises y; rose = rise_then a b c R.rises y R.rose rose; failed = omega (arith, failed) }
+
+-- a call that failed
+pub fault_counted : {T E : Type 0} (pulls pushes : ℕ) (r : Result T E) (e : E) → r ≡ Err e → 0 < (one_call pulls pushes r).faults
+fault_counted pulls pushes (Ok x) e was = absurd (cc was)
+fault_counted pulls pushes (Err x) e was = omega arith
+
+pub on_err : {T E : Type 0} (r : Result T E) (P : Type 0) → P → OnErr r P
+on_err (Ok x) P h = tt
+on_err (Err e) P h = h
+
+-- one call
+abbrev pub reached_one : {T E : Type 0} (pulls pushes : ℕ) (before now : MapperCounts) (r : Result T E) → Counted pulls pushes before now r → Reached before now r
+reached_one pulls pushes before now r c = record { rises = one_call pulls pushes r; rose = counted pulls pushes before now r c; failed = one_failed pulls pushes r }

@@ -1,0 +1,104 @@
+use Rattle.std.proofs.Common.{◌≡◌, ℕ, List, Vec, Global, Ok, Err, length, map, refl, sym, ap, subst, ◌∙◌, arith}
+use Rattle.std.proofs.lemmas.List.{length-map, with_items_is}
+use Rattle.std.specs.Prelude.{All, IfSome, Result}
+use Rattle.std.specs.Vec.{with_items}
+use Rattle.vm_port.specs.declared.traits.failed.Failed.{Failed}
+use Rattle.vm_ids.specs.Counting.{no_counts}
+use Rattle.vm_ids.specs.declared.command.Command.TheVariants as commands
+use Rattle.vm_ids.specs.declared.reply.FaultAt.TheVariants as faults
+use Rattle.vm_ids.specs.declared.reply.Reply.TheVariants.{Done}
+use Rattle.vm_ids.specs.declared.reply.Trouble.TheVariants as troubles
+use Rattle.vm_model.proofs.Naming.{segment_names}
+use Rattle.gmi_calls.specs.Backing.{IsReady}
+use Rattle.gmi_calls.specs.Reaching.{ArePagesOf}
+use Rattle.gmi_calls.proofs.Accessing.{asked_pages}
+use Rattle.gmi_calls.proofs.Called.{call_each, call_reached, fault_for, memory_for, ready_after}
+use Rattle.gmi_calls.proofs.Opening.{fit_pages, seen_fits, taken_for, zeros_many, zeros_whole}
+use Rattle.gmi_calls.proofs.Rising.{reached_none}
+use Rattle.gmi_calls.proofs.eager.EagerMachineGmi.invalidate.Goals as goal
+
+pub returns-in-Err-clause-answers : goal.returns-in-Err-clause-answers
+returns-in-Err-clause-answers g c =
+    let m = c.args.self.now in
+    call_each _ _ m m (commands.Invalidate c.args.extent) (Err c.in-Err.trouble) tt c.requires.valid c.requires.valid.whole c.in-Err.ensures.refused tt
+
+pub returns-in_default-clause-answers : goal.returns-in_default-clause-answers
+returns-in_default-clause-answers g c =
+    let m = c.args.self.now in
+    let command = commands.Invalidate c.args.extent in
+    let told = g.M.Mapper.held c.args.mapper.now in
+    let r : Result (Unit {0}) Failed = Ok tt in
+    call_reached told _ _ _ m m command (Err troubles.Memory) r refl (reached_none _ tt) c.requires.valid.whole c.requires.valid.whole tt
+    (memory_for told m command _ tt (λ s. c.in-Ok.ensures.awaits.allowed s refl)) tt
+
+pub pull_pages-requires-clause-room : goal.pull_pages-requires-clause-room
+pull_pages-requires-clause-room g c =
+    let m = c.args.self.now in
+    let room = c.in-Ok-zero_pages.pages in
+    fit_pages (g.M.Mapper.page_bytes c.args.mapper.now) m c.deref_mut.result.now (seen_fits (g.M.Mapper.page_bytes c.args.mapper.now) (g.M.Mapper.held c.args.mapper.now) m c.requires.fits)
+    (subst (λ (vs : List (Vec ℕ Global)). All (λ (p : Vec ℕ Global). length p.items ≡ m.page_bytes) vs) (sym c.deref_mut.ensures.value) (zeros_whole room.items c.args.extent.pages m.page_bytes c.in-Ok-zero_pages.ensures))
+
+pub pull_pages-requires-clause-there : goal.pull_pages-requires-clause-there
+pull_pages-requires-clause-there g c =
+    let m = c.args.self.now in
+    let e = c.args.extent in
+    let many : length c.deref_mut.result.now ≡ e.pages = ap length c.deref_mut.ensures.value ∙ zeros_many c.in-Ok-zero_pages.pages.items e.pages m.page_bytes c.in-Ok-zero_pages.ensures in
+    asked_pages m e.cache.0 c.in-Ok.seg.0 e.first.0 (length c.deref_mut.result.now) _ c.in-Ok.ensures.segment (omega (arith, c.in-Ok.ensures.within, many)) c.requires.valid
+
+pub invalidate-requires-clause-whole : goal.invalidate-requires-clause-whole
+invalidate-requires-clause-whole g c =
+    let bytes = c.args.self.now.page_bytes in
+    let room = c.in-Ok-zero_pages.pages in
+    let new = c.pull_pages.new.pages in
+    let many : length new ≡ length room.items = c.pull_pages.ensures.many ∙ ap length c.deref_mut.ensures.value in
+    let is : (with_items room new).items ≡ new = with_items_is room new (many ∙ sym room.ok.0) in
+    let whole : All (λ (p : Vec ℕ Global). length p.items ≡ bytes) new =
+    c.pull_pages.ensures.whole bytes (subst (λ (vs : List (Vec ℕ Global)). All (λ (p : Vec ℕ Global). length p.items ≡ bytes) vs) (sym c.deref_mut.ensures.value) (zeros_whole room.items c.args.extent.pages bytes c.in-Ok-zero_pages.ensures)) in
+    subst (λ (vs : List (Vec ℕ Global)). All (λ (p : Vec ℕ Global). length p.items ≡ bytes) vs) (sym is) whole
+
+pub returns-in-Ok-pull_pages-clause-valid : goal.returns-in-Ok-pull_pages-clause-valid
+returns-in-Ok-pull_pages-clause-valid g c =
+    let m = c.args.self.now in
+    let e = c.args.extent in
+    let next = c.invalidate.new.self in
+    let command = commands.Invalidate e in
+    let told = g.M.Mapper.held c.args.mapper.now in
+    let room = c.in-Ok-zero_pages.pages in
+    let new = c.pull_pages.new.pages in
+    let many : length new ≡ length room.items = c.pull_pages.ensures.many ∙ ap length c.deref_mut.ensures.value in
+    let is : (with_items room new).items ≡ new = with_items_is room new (many ∙ sym room.ok.0) in
+    let pages : List (List ℕ) = map (λ p. p.items) (with_items room new).items in
+    let count : length pages ≡ e.pages = length-map (with_items room new).items (λ p. p.items) ∙ ap length is ∙ many ∙ zeros_many room.items e.pages m.page_bytes c.in-Ok-zero_pages.ensures in
+    let E = c.in-Ok-pull_pages.ensures in
+    let pulled = subst (λ (vs : List (Vec ℕ Global)). IfSome told (ArePagesOf c.in-Ok.seg.0 e.first.0 (map (λ p. p.items) vs))) (sym is) E.pulled in
+    subst (IsReady next) (sym E.held)
+    (ready_after told m next command (Ok Done) no_counts c.requires.valid c.invalidate.ensures.whole
+    (taken_for told told m next command (Ok Done) e.cache.0 c.in-Ok.seg.0 e.first.0 e.pages pages no_counts refl c.requires.valid c.in-Ok.ensures.segment c.in-Ok.ensures.within count pulled c.invalidate.ensures.outcome))
+
+pub returns-in-Ok-pull_pages-clause-answers : goal.returns-in-Ok-pull_pages-clause-answers
+returns-in-Ok-pull_pages-clause-answers g c =
+    let m = c.args.self.now in
+    let e = c.args.extent in
+    let next = c.invalidate.new.self in
+    let command = commands.Invalidate e in
+    let told = g.M.Mapper.held c.args.mapper.now in
+    let room = c.in-Ok-zero_pages.pages in
+    let new = c.pull_pages.new.pages in
+    let many : length new ≡ length room.items = c.pull_pages.ensures.many ∙ ap length c.deref_mut.ensures.value in
+    let is : (with_items room new).items ≡ new = with_items_is room new (many ∙ sym room.ok.0) in
+    let pages : List (List ℕ) = map (λ p. p.items) (with_items room new).items in
+    let count : length pages ≡ e.pages = length-map (with_items room new).items (λ p. p.items) ∙ ap length is ∙ many ∙ zeros_many room.items e.pages m.page_bytes c.in-Ok-zero_pages.ensures in
+    let E = c.in-Ok-pull_pages.ensures in
+    let pulled = subst (λ (vs : List (Vec ℕ Global)). IfSome told (ArePagesOf c.in-Ok.seg.0 e.first.0 (map (λ p. p.items) vs))) (sym is) E.pulled in
+    call_reached told _ _ _ m next command (Ok Done) _ E.held E.reached c.requires.valid.whole c.invalidate.ensures.whole tt
+    (taken_for told told m next command (Ok Done) e.cache.0 c.in-Ok.seg.0 e.first.0 e.pages pages E.reached.rises refl c.requires.valid c.in-Ok.ensures.segment c.in-Ok.ensures.within count pulled c.invalidate.ensures.outcome) tt
+
+pub returns-in-Err-pull_pages-clause-answers : goal.returns-in-Err-pull_pages-clause-answers
+returns-in-Err-pull_pages-clause-answers g c =
+    let m = c.args.self.now in
+    let command = commands.Invalidate c.args.extent in
+    let told = g.M.Mapper.held c.args.mapper.now in
+    let E = c.in-Err-pull_pages.ensures in
+    let named = segment_names m c.args.extent.cache.0 c.in-Ok.seg.0 c.in-Ok.ensures.segment in
+    call_reached told _ _ _ m m command (Err (troubles.Mapper (faults.Save 0))) _ E.held E.reached c.requires.valid.whole c.requires.valid.whole tt
+    (fault_for told m command (faults.Save 0) E.reached.rises E.reached.failed (λ s. (named, refl)) (λ s. c.in-Ok.ensures.awaits.allowed s refl)) tt

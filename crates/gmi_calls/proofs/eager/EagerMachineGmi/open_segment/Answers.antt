@@ -1,0 +1,108 @@
+use Rattle.std.proofs.Common.{◌≡◌, ℕ, List, Vec, Global, Some, Ok, Err, length, map, sym, ap, subst, ◌∙◌}
+use Rattle.std.specs.Prelude.{All, IfSome, Result}
+use Rattle.vm_port.specs.declared.traits.failed.Failed.{Failed}
+use Rattle.gmi_calls.specs.Reaching.{ArePagesOf}
+use Rattle.std.proofs.lemmas.List.{length-map, with_items_is}
+use Rattle.std.specs.Vec.{with_items}
+use Rattle.vm_ids.specs.Counting.{no_counts}
+use Rattle.vm_ids.specs.declared.command.Command.TheVariants as commands
+use Rattle.vm_ids.specs.declared.reply.FaultAt.TheVariants as faults
+use Rattle.vm_ids.specs.declared.reply.Reply.TheVariants.{Cache}
+use Rattle.vm_ids.specs.declared.reply.Trouble.TheVariants as troubles
+use Rattle.vm_model.specs.Answering.{answer_by}
+use Rattle.gmi_calls.specs.Backing.{IsReady}
+use Rattle.gmi_calls.proofs.Called.{call_each, call_reached, every_segments, ready_after}
+use Rattle.gmi_calls.proofs.Opening.{opened_for, sized_for, sized_pages}
+use Rattle.gmi_calls.proofs.Rising.{fault_counted, reached_one, reached_then}
+use Rattle.gmi_calls.proofs.eager.EagerMachineGmi.open_segment.Goals as goal
+
+pub returns-in-Err-clause-answers : goal.returns-in-Err-clause-answers
+returns-in-Err-clause-answers g c =
+    let m = c.args.self.now in
+    call_each _ _ m m (commands.OpenSegment c.args.seg) (Err c.in-Err.trouble) tt c.requires.valid c.requires.valid.whole c.in-Err.ensures.refused tt
+
+pub returns-in_default-size-clause-answers : goal.returns-in_default-size-clause-answers
+returns-in_default-size-clause-answers g c =
+    let m = c.args.self.now in
+    let command = commands.OpenSegment c.args.seg in
+    let told = g.M.Mapper.held c.args.mapper.now in
+    let answer = Err (troubles.Mapper faults.Opening) in
+    let R = reached_one 0 0 _ _ c.size.result c.size.ensures.counts in
+    call_reached told _ _ _ m m command answer c.size.result c.size.ensures.held R c.requires.valid.whole c.requires.valid.whole tt
+    (every_segments told m m command answer R.rises (λ s. c.in_default.ensures.fault s R.rises (fault_counted 0 0 c.size.result _ c.in_default-size.is))) tt
+
+pub returns-in-Err-room_for-clause-answers : goal.returns-in-Err-room_for-clause-answers
+returns-in-Err-room_for-clause-answers g c =
+    let m = c.args.self.now in
+    let command = commands.OpenSegment c.args.seg in
+    let told = g.M.Mapper.held c.args.mapper.now in
+    let answer = Err c.in-Err-room_for.trouble in
+    let R = reached_one 0 0 _ _ c.size.result c.size.ensures.counts in
+    call_reached told _ _ _ m m command answer c.size.result c.size.ensures.held R c.requires.valid.whole c.requires.valid.whole tt
+    (sized_for told m command answer c.args.seg.0 c.in-Ok.size R.rises c.in-Ok.ensures.pages c.in-Err-room_for.ensures.refused) tt
+
+pub pull_pages-requires-clause-there : goal.pull_pages-requires-clause-there
+pull_pages-requires-clause-there g c =
+    sized_pages (g.M.Mapper.held c.args.mapper.now) (g.M.Mapper.held c.size.new.self) c.args.seg.0 (length c.deref_mut.result.now) c.in-Ok.size c.size.ensures.held (ap Some (ap length c.deref_mut.ensures.value) ∙ c.in-Ok-room_for.ensures.size) c.in-Ok.ensures.pages
+
+pub open_segment-requires-clause-whole : goal.open_segment-requires-clause-whole
+open_segment-requires-clause-whole g c =
+    let bytes = c.args.self.now.page_bytes in
+    let room = c.in-Ok-room_for.pages in
+    let new = c.pull_pages.new.pages in
+    let many : length new ≡ length room.items = c.pull_pages.ensures.many ∙ ap length c.deref_mut.ensures.value in
+    let is : (with_items room new).items ≡ new = with_items_is room new (many ∙ sym room.ok.0) in
+    let whole : All (λ (p : Vec ℕ Global). length p.items ≡ bytes) new =
+    c.pull_pages.ensures.whole bytes (subst (λ (vs : List (Vec ℕ Global)). All (λ (p : Vec ℕ Global). length p.items ≡ bytes) vs) (sym c.deref_mut.ensures.value) c.in-Ok-room_for.ensures.whole) in
+    subst (λ (vs : List (Vec ℕ Global)). All (λ (p : Vec ℕ Global). length p.items ≡ bytes) vs) (sym is) whole
+
+pub returns-in-Ok-pull_pages-clause-valid : goal.returns-in-Ok-pull_pages-clause-valid
+returns-in-Ok-pull_pages-clause-valid g c =
+    let m = c.args.self.now in
+    let next = c.open_segment.new.self in
+    let command = commands.OpenSegment c.args.seg in
+    let told = g.M.Mapper.held c.args.mapper.now in
+    let answer = answer_by (λ x. Cache x) c.open_segment.result in
+    let room = c.in-Ok-room_for.pages in
+    let new = c.pull_pages.new.pages in
+    let many : length new ≡ length room.items = c.pull_pages.ensures.many ∙ ap length c.deref_mut.ensures.value in
+    let is : (with_items room new).items ≡ new = with_items_is room new (many ∙ sym room.ok.0) in
+    let pages : List (List ℕ) = map (λ p. p.items) (with_items room new).items in
+    let sized : Some (length pages) ≡ c.in-Ok.size = ap Some (length-map (with_items room new).items (λ p. p.items) ∙ ap length is ∙ many) ∙ c.in-Ok-room_for.ensures.size in
+    let pulled = subst (λ (vs : List (Vec ℕ Global)). IfSome (g.M.Mapper.held c.size.new.self) (ArePagesOf c.args.seg.0 0 (map (λ p. p.items) vs))) (sym is) c.in-Ok-pull_pages.ensures.pulled in
+    let held = c.in-Ok-pull_pages.ensures.held ∙ c.size.ensures.held in
+    subst (IsReady next) (sym held)
+    (ready_after told m next command answer no_counts c.requires.valid c.open_segment.ensures.whole
+    (opened_for told (g.M.Mapper.held c.size.new.self) m next command answer c.args.seg.0 c.in-Ok.size pages no_counts c.size.ensures.held sized c.in-Ok.ensures.pages pulled c.open_segment.ensures.outcome))
+
+pub returns-in-Ok-pull_pages-clause-answers : goal.returns-in-Ok-pull_pages-clause-answers
+returns-in-Ok-pull_pages-clause-answers g c =
+    let m = c.args.self.now in
+    let next = c.open_segment.new.self in
+    let command = commands.OpenSegment c.args.seg in
+    let told = g.M.Mapper.held c.args.mapper.now in
+    let answer = answer_by (λ x. Cache x) c.open_segment.result in
+    let room = c.in-Ok-room_for.pages in
+    let new = c.pull_pages.new.pages in
+    let many : length new ≡ length room.items = c.pull_pages.ensures.many ∙ ap length c.deref_mut.ensures.value in
+    let is : (with_items room new).items ≡ new = with_items_is room new (many ∙ sym room.ok.0) in
+    let pages : List (List ℕ) = map (λ p. p.items) (with_items room new).items in
+    let sized : Some (length pages) ≡ c.in-Ok.size = ap Some (length-map (with_items room new).items (λ p. p.items) ∙ ap length is ∙ many) ∙ c.in-Ok-room_for.ensures.size in
+    let pulled = subst (λ (vs : List (Vec ℕ Global)). IfSome (g.M.Mapper.held c.size.new.self) (ArePagesOf c.args.seg.0 0 (map (λ p. p.items) vs))) (sym is) c.in-Ok-pull_pages.ensures.pulled in
+    let held = c.in-Ok-pull_pages.ensures.held ∙ c.size.ensures.held in
+    let P = c.in-Ok-pull_pages.ensures.reached in
+    let R = reached_then _ _ _ c.size.result (let r : Result (Unit {0}) Failed = Ok tt in r) (reached_one 0 0 _ _ c.size.result c.size.ensures.counts) P.rises P.rose tt in
+    call_reached told _ _ _ m next command answer (let r : Result (Unit {0}) Failed = Ok tt in r) held R c.requires.valid.whole c.open_segment.ensures.whole tt
+    (opened_for told (g.M.Mapper.held c.size.new.self) m next command answer c.args.seg.0 c.in-Ok.size pages R.rises c.size.ensures.held sized c.in-Ok.ensures.pages pulled c.open_segment.ensures.outcome) tt
+
+pub returns-in-Err-pull_pages-clause-answers : goal.returns-in-Err-pull_pages-clause-answers
+returns-in-Err-pull_pages-clause-answers g c =
+    let m = c.args.self.now in
+    let command = commands.OpenSegment c.args.seg in
+    let told = g.M.Mapper.held c.args.mapper.now in
+    let answer = Err (troubles.Mapper faults.Opening) in
+    let P = c.in-Err-pull_pages.ensures.reached in
+    let r : Result (Unit {0}) Failed = Err c.in-Err-pull_pages.field-0 in
+    let R = reached_then _ _ _ c.size.result r (reached_one 0 0 _ _ c.size.result c.size.ensures.counts) P.rises P.rose P.failed in
+    call_reached told _ _ _ m m command answer r (c.in-Err-pull_pages.ensures.held ∙ c.size.ensures.held) R c.requires.valid.whole c.requires.valid.whole tt
+    (every_segments told m m command answer R.rises (λ s. c.in_default.ensures.fault s R.rises R.failed)) tt

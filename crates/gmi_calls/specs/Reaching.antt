@@ -1,0 +1,39 @@
+-- What some calls of a mapper come to, one after the other, between a machine's cache and the
+-- segment that names it.
+use Rattle.std.specs.Prelude.{◌≡◌, ℕ, ◌+◌, ◌<◌, ◌≤◌, List, length, slice_get, Option, Result, Ok, Err, IsSome, OnErr}
+use Rattle.vm_ids.specs.Counting.{MapperCounts, Rise}
+use Rattle.vm_ids.specs.Held.{Held, page_of, segments_of}
+use Rattle.vm_ids.specs.declared.numbers.PageNo.{PageNo}
+use Rattle.vm_model.specs.Machine.{Machine}
+use Rattle.vm_model.specs.Pushing.{PushRule}
+
+-- By how much the counts of the mapper rose; where the result is an error, a call failed.
+pub record Reached {T E : Type 0} (before now : MapperCounts) (result : Result T E) : Type 0 where
+  pub rises : MapperCounts
+  pub rose : Rise before now rises
+  pub failed : OnErr result (0 < rises.faults)
+
+-- the segment has these pages
+abbrev pub HasPages : ℕ → ℕ → ℕ → Held → Type 0
+HasPages seg first pages h =
+    (page : ℕ) → first ≤ page → page < first + pages → IsSome (page_of h seg page)
+
+-- the pages that the segment holds, from this one on
+abbrev pub ArePagesOf : ℕ → ℕ → List (List ℕ) → Held → Type 0
+ArePagesOf seg first pages h =
+    (i : ℕ) → i < length pages → slice_get pages i ≡ page_of h seg (first + i)
+
+-- The same as of the counts; and what was pushed meanwhile.
+pub record Pushed {T E : Type 0} (m : Machine) (before after : Option Held)
+    (counts now : MapperCounts) (result : Result T E) : Type 0 where
+  pub pushes : List (ℕ × ℕ)
+  pub rises : MapperCounts
+  pub rose : Rise counts now rises
+  pub failed : OnErr result (0 < rises.faults)
+  pub few : length pushes ≤ rises.pushes
+  pub rule : PushRule m (segments_of before) pushes (segments_of after)
+
+-- the page behind the last of a range that was gone through, or else the one at which it failed
+abbrev pub past : ℕ → Result (Unit {0}) PageNo → ℕ
+past end (Ok x) = end
+past end (Err page) = page.0

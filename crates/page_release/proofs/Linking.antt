@@ -1,0 +1,6 @@
+-- A fresh node is linked to its source, and the store is as it was.
+
+-- Links were changed, and maybe a working node without a page was made.
+pub mod Grown
+-- One page of a copy: what its calls ask, and which nodes it makes.
+pub mod Copied

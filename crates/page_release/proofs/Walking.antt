@@ -1,0 +1,8 @@
+-- What is carried through the steps of a command.
+
+-- The steps of settle.
+pub mod Steps
+-- The pages that a span names.
+pub mod Ranges
+-- The pages of a range become those of their segment.
+pub mod Replacing

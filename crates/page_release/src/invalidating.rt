@@ -1,0 +1,106 @@
+// Pages of a named cache become what their segment holds, and the store follows.
+ghost use Rattle.std.specs.Prelude.{◌≡◌, ◌+◌, ◌*◌, ◌<◌, ◌≤◌, ◌^◌, true, [], length};
+ghost use Rattle.vm_ids.specs.declared.node_name.NodeName.{NodeName};
+ghost use Rattle.vm_ids.specs.Forest.Commands.{page_names, replace_pages};
+ghost use Rattle.vm_ids.specs.Forest.Laws.Ranges.{AreNodes};
+ghost use Rattle.vm_ids.specs.Forest.Laws.Settling.{IsSettled};
+ghost use Rattle.vm_ids.specs.Forest.NameLists.{◌∈◌};
+ghost use Rattle.vm_ids.specs.Forest.NameMap.{len};
+ghost use Rattle.vm_ids.specs.Forest.Nodes.{IsNode};
+ghost use Rattle.vm_ids.specs.Forest.Reading.{live_count};
+ghost use Rattle.vm_ids.specs.Forest.Settling.{settle as rule_settle};
+ghost use Rattle.vm_ids.specs.Forest.Shape.{IsBounded, IsConsistent};
+ghost use Rattle.local_cache.specs.Reading.{forest_of};
+ghost use Rattle.local_cache.specs.Whole.{IsWhole};
+ghost use Rattle.residency.specs.StoreForest.{store_forest};
+ghost use Rattle.page_release.specs.Homes.{AreSaved, IsClean, IsUnclean, is_named};
+ghost use Rattle.page_release.specs.Steps.{ForAnyMapper, IsStoreTied, IsUnpinned, IsWorkingUnpinned, Kept, StaysRight, on_segment, segment_pages};
+
+use crate::forgetting::forget_named;
+use crate::settling::settle;
+use crate::steps::detach_page;
+use local_cache::{Caches, OwnState};
+use residency::Store;
+use vm_ids::{CacheId, NodeName, PageNo};
+
+// Each page of a range is detached, and is what its segment holds, in rising order.
+fn replace_each(store: &mut Store, caches: &mut Caches, cache: CacheId, first: PageNo, pages: u32)
+    requires tied { IsStoreTied store.old caches.old }
+    requires whole { IsWhole caches.old }
+    requires named { is_named caches.old cache ≡ true }
+    requires within { first.0 + pages < 2 ^ 32 }
+    requires nodes { AreNodes (forest_of caches.old) cache first.0 pages }
+    requires unpinned { (x : NodeName) → x ∈ page_names cache first.0 pages
+        → IsUnpinned store.old caches.old x }
+    requires unclean { (x : NodeName) → x ∈ page_names cache first.0 pages
+        → IsUnclean caches.old x }
+    requires room { pages ≤ caches.old.room.nodes }
+    requires made { caches.old.made + pages < 2 ^ 63 }
+    ensures nodes { forest_of caches.new
+        ≡ replace_pages (on_segment (page_names cache first.0 pages)) (forest_of caches.old) }
+    ensures forest { ForAnyMapper store.old caches.old store.new caches.new
+        (λ old new. store_forest new
+        ≡ replace_pages (segment_pages old (page_names cache first.0 pages)) (store_forest old)) }
+    ensures kept { Kept (page_names cache first.0 pages)
+        store.old caches.old store.new caches.new }
+    ensures clean { (x : NodeName) → x ∈ page_names cache first.0 pages → IsClean caches.new x }
+    ensures consistent { IsConsistent (forest_of caches.new) }
+    ensures stays { (x : NodeName) → IsNode (forest_of caches.old) x
+        → IsNode (forest_of caches.new) x }
+    ensures made { caches.new.made ≤ caches.old.made + pages }
+    ensures room { caches.old.room.nodes ≤ caches.new.room.nodes + pages }
+    ensures few { len (forest_of caches.new).nodes ≤ len (forest_of caches.old).nodes + pages }
+{
+    for page in 0..pages {
+        detach_page(
+            store,
+            caches,
+            cache,
+            PageNo(first.0 + page),
+            OwnState::OnSegment,
+        );
+    }
+}
+
+/// Each page of a range of a named cache, none of which is pinned, becomes what its segment holds. No page is brought in:
+/// what the pages have is forgotten, and their heirs have their saves.
+pub fn invalidate_pages(
+    store: &mut Store,
+    caches: &mut Caches,
+    cache: CacheId,
+    first: PageNo,
+    pages: u32,
+)
+    requires tied { IsStoreTied store.old caches.old }
+    requires whole { IsWhole caches.old }
+    requires named { is_named caches.old cache ≡ true }
+    requires within { first.0 + pages < 2 ^ 32 }
+    requires nodes { AreNodes (forest_of caches.old) cache first.0 pages }
+    requires unpinned { (x : NodeName) → x ∈ page_names cache first.0 pages
+        → IsUnpinned store.old caches.old x }
+    requires saved { AreSaved caches.old cache (page_names cache first.0 pages) }
+    requires working { IsWorkingUnpinned store.old caches.old }
+    requires room { pages ≤ caches.old.room.nodes }
+    requires made { caches.old.made + pages < 2 ^ 63 }
+    requires few { len (forest_of caches.old).nodes + pages < 2 ^ 32 }
+    ensures nodes { forest_of caches.new ≡ rule_settle
+        (replace_pages (on_segment (page_names cache first.0 pages)) (forest_of caches.old)) }
+    ensures forest { ForAnyMapper store.old caches.old store.new caches.new
+        (λ old new. store_forest new ≡ rule_settle
+        (replace_pages (segment_pages old (page_names cache first.0 pages)) (store_forest old))) }
+    ensures kept { Kept (page_names cache first.0 pages)
+        store.old caches.old store.new caches.new }
+    ensures whole { IsWhole caches.new }
+    ensures live { live_count (forest_of caches.new) ≡ live_count (forest_of caches.old) }
+    ensures right { 2 * live_count (forest_of caches.old) ≤ length store.old.slots
+        → StaysRight store.old caches.old store.new caches.new }
+    ensures settled { IsSettled (forest_of caches.new) }
+    ensures bounded { IsBounded (forest_of caches.new) }
+    ensures made { caches.new.made ≤ caches.old.made + pages }
+    ensures copies { caches.new.copies ≡ caches.old.copies }
+    ensures room { caches.old.room.nodes ≤ caches.new.room.nodes + pages }
+{
+    forget_named(store, caches, cache, first, pages);
+    replace_each(store, caches, cache, first, pages);
+    settle(store, caches);
+}

@@ -1,0 +1,16 @@
+-- A cache that goes.
+
+-- Its pages are pushed to its segment, and their heirs get them.
+pub mod Written
+-- Tables without one.
+pub mod Tables
+-- Regions of other caches.
+pub mod Regions
+-- The rows of a destroy.
+pub mod Rows
+-- The store without the cache.
+pub mod Right
+-- The manager after it, and its answer.
+pub mod Taken
+-- The answers where the mapper failed.
+pub mod Failed

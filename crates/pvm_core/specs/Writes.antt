@@ -1,0 +1,46 @@
+-- How pages of caches that segments name come to be written.
+use Rattle.std.specs.Prelude.{◌≡◌, ℕ, Option}
+use Rattle.vm_ids.specs.Held.{Held}
+use Rattle.vm_ids.specs.declared.command.Extent.{Extent}
+use Rattle.vm_ids.specs.declared.numbers.SegId.{SegId}
+use Rattle.vm_ids.specs.declared.refusal.Refusal.TheVariants.{WriteDenied}
+use Rattle.vm_ids.specs.declared.reply.FaultAt.TheVariants.{Access}
+use Rattle.vm_ids.specs.declared.reply.Trouble.{Trouble}
+use Rattle.vm_ids.specs.declared.reply.Trouble.TheVariants.{Mapper, Refused}
+use Rattle.vm_ids.specs.Forest.Commands.{page_name}
+use Rattle.local_cache.specs.Arena.{Arena}
+use Rattle.local_cache.specs.Reading.{forest_of}
+use Rattle.local_cache.specs.Whole.{IsWhole, SameCaches}
+use Rattle.page_release.specs.Homes.{IsWritable}
+use Rattle.segment_ops.specs.Access.{IsAskedFor, OneDenied}
+use Rattle.segment_ops.specs.Ranges.{IsNamedBy, IsPageOf}
+
+-- grants alone changed: the nodes stay, and so do the sizes and segments of the caches, the counters
+-- and the room
+pub record KeepsNodes (old new : Arena) : Type 0 where
+  pub same : SameCaches old new
+  pub nodes : forest_of new ≡ forest_of old
+  pub whole : IsWhole new
+  pub made : new.made ≡ old.made
+  pub copies : new.copies ≡ old.copies
+  pub room : new.room ≡ old.room
+
+-- each page of the range may be written
+abbrev pub AreWritable : Extent → Arena → Type 0
+AreWritable range a =
+    (page : ℕ) → IsPageOf range page → IsWritable a (page_name range.cache page)
+
+-- why not all of them may: the mapper denies one, or it failed when it was asked for one
+abbrev pub IsDenied : Extent → Option Held → SegId → Arena → Arena → Trouble → Type 0
+IsDenied range told segment old new (Refused WriteDenied) =
+    OneDenied range told segment old new
+IsDenied range told segment old new (Mapper (Access page)) =
+    IsAskedFor range page.0 told segment old new
+IsDenied range told segment old new trouble = ⊥
+
+-- the cache of the range is named by a segment, and not all its pages may be written
+pub record IsNotGranted (range : Extent) (told : Option Held) (old new : Arena) (trouble : Trouble)
+    : Type 0 where
+  pub segment : SegId
+  pub named : IsNamedBy old range segment
+  pub denied : IsDenied range told segment old new trouble

@@ -1,0 +1,172 @@
+// Scripts over segments with their whole output, worked out by hand from the rules of the commands and
+// of the page forest.
+
+// A copy of a segment outlives its cache, and keeps what the segment was.
+pub const SEGMENT_REOPENED: &str = "actor
+open 4
+temp 1
+copy c1 0 c2 0 1
+open 4
+destroy c1
+open 4
+map a1 c3 0 1 10000 rw
+map a1 c2 0 1 20000 r
+store a1 10000 5a
+sync c3 0 1
+load a1 20000 2
+load a1 10000 2
+stat
+";
+
+pub const SEGMENT_REOPENED_REPLIES: &str = "1 ok a1
+2 ok c1
+3 ok c2
+4 ok
+5 no SegmentInUse
+6 ok
+7 ok c3
+8 ok r1
+9 ok r2
+10 ok
+11 ok
+12 ok 4142
+13 ok 5a42
+14 stat live 2 working 0 copies 1
+";
+
+// A page that is denied for writing, and an inherited page that is pushed and stays inherited.
+pub const DENIED_PAGE: &str = "open 1
+temp 2
+actor
+map a1 c2 0 2 20000 rw
+store a1 20000 77
+copy c2 0 c1 0 2
+copy c2 0 c1 0 1
+chain c1 0
+sync c1 0 1
+chain c1 0
+map a1 c1 0 2 10000 rw
+load a1 10000 1
+load a1 11000 1
+store a1 11000 01
+";
+
+pub const DENIED_PAGE_REPLIES: &str = "1 ok c1
+2 ok c2
+3 ok a1
+4 ok r1
+5 ok
+6 no WriteDenied
+7 ok
+8 chain c1:0+0 c2:0+1*
+9 ok
+10 chain c1:0+0 c2:0+1*
+11 ok r2
+12 ok 77
+13 ok 42
+14 no WriteDenied
+";
+
+// Pages of a segment are moved nowhere.
+pub const REFUSED_MOVES: &str = "temp 4
+copy c1 0 c1 1 2
+copy c1 0 c1 2 2
+copy c1 3 c1 4 1
+open 1
+move c2 0 c1 0 1
+move c1 0 c1 0 1
+";
+
+pub const REFUSED_MOVES_REPLIES: &str = "1 ok c1
+2 no Overlap
+3 ok
+4 no OutOfCache
+5 ok c2
+6 no NotTemp
+7 no Overlap
+";
+
+// What was not pushed is lost, and what was flushed is not.
+pub const INVALIDATE_AND_FLUSH: &str = "actor
+open 1
+map a1 c1 0 1 10000 rw
+store a1 10000 58
+invalidate c1 0 1
+load a1 10000 1
+store a1 10000 58
+flush c1 0 1
+invalidate c1 0 1
+load a1 10000 1
+";
+
+pub const INVALIDATE_AND_FLUSH_REPLIES: &str = "1 ok a1
+2 ok c1
+3 ok r1
+4 ok
+5 ok
+6 ok 41
+7 ok
+8 ok
+9 ok
+10 ok 58
+";
+
+// A cache of a segment stays where a page of it can't be saved.
+pub const A_SAVE_FAILS: &str = "open 1
+temp 2
+copy c1 0 c2 0 2
+destroy c1
+stat
+destroy c1
+stat
+";
+
+pub const A_SAVE_FAILS_REPLIES: &str = "1 ok c1
+2 ok c2
+3 ok
+4 fault mapper save 1
+5 stat live 4 working 0 copies 1
+6 ok
+7 stat live 2 working 0 copies 2
+";
+
+// examples/mapped_file, letter for letter.
+pub const MAPPED_FILE_EXAMPLE: &str = "actor
+open 1
+map a1 c1 0 1 10000 rw
+load a1 10000 5
+temp 1
+copy c1 0 c2 0 1
+map a1 c2 0 1 20000 r
+store a1 10000 48
+chain c2 0
+sync c1 0 1
+store a1 10001 45
+invalidate c1 0 1
+load a1 10000 5
+load a1 20000 5
+unmap r1
+destroy c1
+open 2
+stat
+";
+
+pub const MAPPED_FILE_EXAMPLE_REPLIES: &str = "1 ok a1
+2 ok c1
+3 ok r1
+4 ok 68656c6c6f
+5 ok c2
+6 ok
+7 ok r2
+8 ok
+9 chain c2:0+0*
+10 ok
+11 ok
+12 ok
+13 ok 48656c6c6f
+14 ok 68656c6c6f
+15 ok
+16 ok
+17 no NoSegment
+18 stat live 1 working 0 copies 1
+";

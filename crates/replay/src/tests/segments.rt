@@ -1,0 +1,161 @@
+// Whole runs over segments in memory: what is answered, and what the segments hold then.
+ghost use Rattle.std.specs.Prelude.{◌≡◌, ◌≤◌, ◌<◌, ◌*◌, ◌-◌, ◌^◌, length, All, IfOk};
+ghost use Rattle.replay.specs.Ending.{page_size};
+
+use super::{SLOTS, segment_rows as rows};
+use crate::{Status, run};
+use std::alloc::Global;
+use std::process::Abort;
+use vm_ids::{NoMemory, PAGE, PageNo, SegId};
+use vm_port::{CallKind, CallNo, Clock, MemoryMapper, MemorySink, MemorySource};
+
+// A script over these segments at eight frames, where these pages are denied for writing and these
+// calls fail. It gives the mapper as it is then.
+fn play(
+    rt: &impl Abort,
+    alloc: Global,
+    script: &str,
+    replies: &str,
+    segments: &[Vec<u8>],
+    denied: &[(SegId, PageNo)],
+    fails: &[CallNo],
+) -> Result<MemoryMapper, NoMemory>
+    requires few { length segments.now < 2 ^ 32 }
+    requires pages { All (λ s. length s.items ≤ (2 ^ 32 - 1) * page_size) segments.now }
+{
+    let mut mapper = MemoryMapper::new(alloc, segments, denied, SLOTS, fails, PAGE as u32)?;
+    let mut source = MemorySource::new(script.as_bytes(), &[]);
+    let mut sink = MemorySink::new(alloc, 4096, &[])?;
+    let mut chooser = Clock::new();
+    let words = ["run", "--frames", "8"];
+    let status = run(
+        alloc,
+        &words,
+        &mut source,
+        &mut sink,
+        &mut mapper,
+        &mut chooser,
+    );
+    assert_eq!(rt; status, Status::Done, "{script}");
+    assert_eq!(rt; sink.written(), replies.as_bytes(), "{script}");
+    Ok(mapper)
+}
+
+// So many zero bytes.
+fn zeros(alloc: Global, bytes: usize) -> Result<Vec<u8>, NoMemory>
+    ensures { IfOk result (λ v. length v.items ≡ bytes) }
+{
+    Ok(vec![in alloc; 0u8; bytes]?)
+}
+
+// Two pages that begin with these bytes.
+fn two_pages(alloc: Global, first: u8, second: u8) -> Result<Vec<u8>, NoMemory>
+    ensures { IfOk result (λ v. length v.items ≡ 2 * page_size) }
+{
+    let mut bytes = zeros(alloc, 2 * PAGE)?;
+    bytes[0] = first;
+    bytes[PAGE] = second;
+    Ok(bytes)
+}
+
+// A page of a segment begins with these bytes.
+fn begins(rt: &impl Abort, mapper: &MemoryMapper, seg: SegId, page: PageNo, bytes: &[u8]) {
+    assert!(rt; mapper.has_page(seg, page));
+    let front = mapper.page(seg, page).get(..bytes.len());
+    assert_eq!(rt; front, Some(bytes));
+}
+
+#[test]
+fn a_copy_outlives_the_cache_of_its_segment(rt: HostRuntime) -> Result<(), NoMemory> {
+    let alloc = rt.alloc();
+    let zeros = [0u8].to_vec(alloc)?;
+    let segments = [zeros.clone()?, zeros.clone()?, zeros, [0x41u8, 0x42].to_vec(alloc)?];
+    let mapper = play(
+        &rt,
+        alloc,
+        rows::SEGMENT_REOPENED,
+        rows::SEGMENT_REOPENED_REPLIES,
+        &segments,
+        &[],
+        &[],
+    )?;
+    begins(&rt, &mapper, SegId(4), PageNo(0), &[0x5a, 0x42, 0]);
+    Ok(())
+}
+
+#[test]
+fn what_was_flushed_is_there_after_invalidate(rt: HostRuntime) -> Result<(), NoMemory> {
+    let segments = [[0x41u8].to_vec(rt.alloc())?];
+    let mapper = play(
+        &rt,
+        rt.alloc(),
+        rows::INVALIDATE_AND_FLUSH,
+        rows::INVALIDATE_AND_FLUSH_REPLIES,
+        &segments,
+        &[],
+        &[],
+    )?;
+    begins(&rt, &mapper, SegId(1), PageNo(0), &[0x58, 0]);
+    play(
+        &rt,
+        rt.alloc(),
+        rows::REFUSED_MOVES,
+        rows::REFUSED_MOVES_REPLIES,
+        &segments,
+        &[],
+        &[],
+    )?;
+    Ok(())
+}
+
+#[test]
+fn a_denied_page_is_not_written(rt: HostRuntime) -> Result<(), NoMemory> {
+    let segments = [two_pages(rt.alloc(), 0x41, 0x42)?];
+    let mapper = play(
+        &rt,
+        rt.alloc(),
+        rows::DENIED_PAGE,
+        rows::DENIED_PAGE_REPLIES,
+        &segments,
+        &[(SegId(1), PageNo(1))],
+        &[],
+    )?;
+    begins(&rt, &mapper, SegId(1), PageNo(0), &[0x77, 0]);
+    begins(&rt, &mapper, SegId(1), PageNo(1), &[0x42, 0]);
+    Ok(())
+}
+
+#[test]
+fn a_save_that_fails_leaves_the_cache(rt: HostRuntime) -> Result<(), NoMemory> {
+    let segments = [zeros(rt.alloc(), 2 * PAGE)?];
+    let fails = [CallNo {
+        kind: CallKind::PullIn,
+        nth: 2,
+    }];
+    play(
+        &rt,
+        rt.alloc(),
+        rows::A_SAVE_FAILS,
+        rows::A_SAVE_FAILS_REPLIES,
+        &segments,
+        &[],
+        &fails,
+    )?;
+    Ok(())
+}
+
+#[test]
+fn a_mapped_file_is_written_by_sync_alone(rt: HostRuntime) -> Result<(), NoMemory> {
+    let segments = [b"hello, segment\n".to_vec(rt.alloc())?];
+    let mapper = play(
+        &rt,
+        rt.alloc(),
+        rows::MAPPED_FILE_EXAMPLE,
+        rows::MAPPED_FILE_EXAMPLE_REPLIES,
+        &segments,
+        &[],
+        &[],
+    )?;
+    begins(&rt, &mapper, SegId(1), PageNo(0), b"Hello, segment\n\0");
+    Ok(())
+}

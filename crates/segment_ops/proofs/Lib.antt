@@ -1,0 +1,10 @@
+pub mod GivenUp
+pub mod Granting
+pub mod Pushed
+pub mod PushedPage
+pub mod Saves
+pub mod SyncedPages
+pub mod Tried
+pub mod Unsaved
+pub mod Values
+pub mod Wholly

@@ -1,0 +1,23 @@
+use Rattle.std.proofs.Common.{◌≡◌, ◌-◌, ◌*◌}
+use Rattle.residency.specs.Causes.{Later}
+use Rattle.residency.specs.World.{Still, World, world}
+use Rattle.fault_path.specs.Costs.{MadeAtMost}
+use Rattle.segment_ops.specs.Pushing.{TellsValues}
+use Rattle.segment_ops.specs.Synced.{AreSynced, CleanStays, unclean_count}
+use Rattle.segment_ops.proofs.pushing.push_pages.Given as goal
+
+abbrev pub invariant-loop-number : goal.invariant-loop-number
+invariant-loop-number g l =
+    let M = g.M.Mapper in
+    let old : World = world (M.held l.fn.mapper) (M.page_bytes l.fn.mapper) l.fn.caches l.fn.store in
+    let now : World = world (M.held l.mapper) (M.page_bytes l.mapper) l.caches l.store in
+    let some = unclean_count l.fn.caches l.range.cache.0 l.range.first.0 (l.number - l.range.first.0) in
+    record {
+      still : Still old now;
+      told : TellsValues old now (M.counts l.fn.mapper) (M.counts l.mapper);
+      pinned : l.store.frames.pinned ≡ l.fn.store.frames.pinned;
+      later : Later (M.counts l.fn.mapper) (M.counts l.mapper);
+      clean : CleanStays l.fn.caches l.caches;
+      synced : AreSynced l.range l.number now;
+      most : MadeAtMost some (2 * some) (M.counts l.fn.mapper) (M.counts l.mapper);
+    }

@@ -1,0 +1,20 @@
+use Rattle.std.proofs.Common.{rules}
+use Rattle.residency.specs.World.{World, world}
+use Rattle.segment_ops.proofs.SyncedPages.{clean_synced}
+use Rattle.segment_ops.proofs.Values.{home_held}
+use Rattle.segment_ops.proofs.pushing.sync_page.Goals as goal
+
+pub is_clean-requires : goal.is_clean-requires
+is_clean-requires g c =
+    let old : World = world (g.M.Mapper.held c.args.mapper.now) (g.M.Mapper.page_bytes c.args.mapper.now) c.args.caches.now c.args.store.now in
+    home_held old c.requires.right.sound c.requires.right.shaped c.args.node c.requires.home
+
+pub returns-then-is_clean-clause-synced : goal.returns-then-is_clean-clause-synced
+returns-then-is_clean-clause-synced g c =
+    let old : World = world (g.M.Mapper.held c.args.mapper.now) (g.M.Mapper.page_bytes c.args.mapper.now) c.args.caches.now c.args.store.now in
+    clean_synced old c.requires.right.store c.requires.right.sound c.requires.right.shaped c.args.node (home_held old c.requires.right.sound c.requires.right.shaped c.args.node c.requires.home) (search rules)
+
+pub home-requires : goal.home-requires
+home-requires g c =
+    let old : World = world (g.M.Mapper.held c.args.mapper.now) (g.M.Mapper.page_bytes c.args.mapper.now) c.args.caches.now c.args.store.now in
+    home_held old c.requires.right.sound c.requires.right.shaped c.args.node c.requires.home

@@ -1,0 +1,187 @@
+use Rattle.std.proofs.Common.{◌≡◌, ◌+◌, ◌<◌, ◌≤◌, Bool, List, length, true, false, Some, refl, sym, ap, ◌∙◌, subst, arith}
+use Rattle.std.specs.List.{count_by}
+use Rattle.vm_ids.specs.Forest.Commands.{extent_names, page_name}
+use Rattle.vm_ids.specs.Forest.NameMap.{len}
+use Rattle.vm_ids.specs.Forest.Nodes.{is_live}
+use Rattle.vm_ids.specs.Forest.Rules.{heir, heir_gets}
+use Rattle.vm_ids.specs.Forest.Saving.{is_unsaved, saves}
+use Rattle.local_cache.specs.Reading.{forest_of, name_of}
+use Rattle.local_cache.specs.Sound.{IsSound}
+use Rattle.residency.specs.StoreForest.{store_forest}
+use Rattle.residency.specs.World.{World, world}
+use Rattle.residency.proofs.Composed.{still}
+use Rattle.fault_path.proofs.Kept.{still_kept, store_heir, store_shaped}
+use Rattle.segment_ops.proofs.Unsaved.{all_done, failed_here, copies_then, few_done, measured, node_named, no_saves, nodes_by, not_idle, one_more, range_fits, range_node, still_in_range, saved_on, saved_then, unsaved_by, unsaved_owns}
+use Rattle.segment_ops.proofs.Values.{values_none}
+use Rattle.segment_ops.proofs.Wholly.{saves_read, stays_then}
+use Rattle.segment_ops.proofs.saving.save_range.Goals as goal
+
+pub overflow_add-end : goal.overflow_add-end
+overflow_add-end g c = omega (arith, range_fits c.args.caches.now c.requires.whole c.args.range c.requires.range)
+
+pub loop-page-init : goal.loop-page-init
+loop-page-init g c =
+    let M = g.M.Mapper in
+    let old : World = world (M.held c.args.mapper.now) (M.page_bytes c.args.mapper.now) c.args.caches.now c.args.store.now in
+    record {
+      stays = record {
+        kept = still_kept old old (still old c.requires.right) c.requires.whole.sound c.requires.whole.consistent.shaped refl;
+        whole = c.requires.whole;
+        later = record { faults = omega arith; pulls = omega arith; pushes = omega arith };
+        told = values_none old old _ _ refl (omega arith);
+      };
+      forest = (let none : saves 0 (extent_names c.args.range) (store_forest old) ≡ store_forest old = no_saves (extent_names c.args.range) (store_forest old) in sym none);
+      saved = λ p from below. absurd (omega (arith, from, below));
+      first = omega arith;
+      end = omega arith;
+      done = omega arith;
+      copies = omega arith;
+      idle = λ none. (refl, refl, refl, refl);
+    }
+
+pub node_of-node-requires : goal.node_of-node-requires
+node_of-node-requires g c =
+    let i = c.loop-page.invariant in
+    let kept = i.stays.kept in
+    range_node c.loop-page.caches i.stays.whole c.args.range (still_in_range c.args.caches.now c.loop-page.caches kept.nodes c.args.range c.requires.range) c.loop-page.page c.loop-page-test.true
+
+pub reader-requires-clause-node : goal.reader-requires-clause-node
+reader-requires-clause-node g c = let i = c.loop-page.invariant in (node_named c.loop-page.caches i.stays.whole.sound c.args.range.cache c.loop-page.page c.node_of-node.result c.node_of-node.ensures).0
+
+pub reader-requires-clause-live : goal.reader-requires-clause-live
+reader-requires-clause-live g c = let i = c.loop-page.invariant in ap is_live (node_named c.loop-page.caches i.stays.whole.sound c.args.range.cache c.loop-page.page c.node_of-node.result c.node_of-node.ensures).1
+
+pub save-requires-clause-right : goal.save-requires-clause-right
+save-requires-clause-right g c =
+    let i = c.loop-page.invariant in
+    record { store = i.stays.kept.right; sound = i.stays.whole.sound; shaped = i.stays.whole.consistent.shaped }
+
+pub save-requires-clause-own : goal.save-requires-clause-own
+save-requires-clause-own g c =
+    let i = c.loop-page.invariant in
+    let at = node_named c.loop-page.caches i.stays.whole.sound c.args.range.cache c.loop-page.page c.node_of-node.result c.node_of-node.ensures in
+    unsaved_owns c.loop-page.caches i.stays.whole.sound c.node_of-node.result at.0 c.in-Some.ensures.unsaved
+
+pub save-requires-clause-live : goal.save-requires-clause-live
+save-requires-clause-live g c = let i = c.loop-page.invariant in ap is_live (node_named c.loop-page.caches i.stays.whole.sound c.args.range.cache c.loop-page.page c.node_of-node.result c.node_of-node.ensures).1
+
+pub save-requires-clause-loose : goal.save-requires-clause-loose
+save-requires-clause-loose g c = let i = c.loop-page.invariant in subst (λ (ps : List Bool). count_by (λ p. p) ps + 2 ≤ length ps) (sym i.stays.kept.pins) c.requires.loose
+
+pub save-requires-clause-copies : goal.save-requires-clause-copies
+save-requires-clause-copies g c = let i = c.loop-page.invariant in omega (arith, i.copies, i.done, c.requires.copies)
+
+pub returns-in_default-clause-stays : goal.returns-in_default-clause-stays
+returns-in_default-clause-stays g c =
+    let M = g.M.Mapper in
+    let old : World = world (M.held c.args.mapper.now) (M.page_bytes c.args.mapper.now) c.args.caches.now c.args.store.now in
+    let w : World = world (M.held c.loop-page.mapper) (M.page_bytes c.loop-page.mapper) c.loop-page.caches c.loop-page.store in
+    let v : World = world (M.held c.save.new.mapper) (M.page_bytes c.save.new.mapper) c.save.new.caches c.save.new.store in
+    let i = c.loop-page.invariant in
+    stays_then old w v _ _ _ i.stays c.in_default.ensures.answered (saves_read old w c.loop-page.done (extent_names c.args.range) i.forest i.stays.kept.nodes (store_shaped old c.requires.whole.sound c.requires.whole.consistent.shaped))
+
+pub returns-in_default-clause-failed : goal.returns-in_default-clause-failed
+returns-in_default-clause-failed g c =
+    let M = g.M.Mapper in
+    let old : World = world (M.held c.args.mapper.now) (M.page_bytes c.args.mapper.now) c.args.caches.now c.args.store.now in
+    let w : World = world (M.held c.loop-page.mapper) (M.page_bytes c.loop-page.mapper) c.loop-page.caches c.loop-page.store in
+    let v : World = world (M.held c.save.new.mapper) (M.page_bytes c.save.new.mapper) c.save.new.caches c.save.new.store in
+    let i = c.loop-page.invariant in
+    let at = node_named c.loop-page.caches i.stays.whole.sound c.args.range.cache c.loop-page.page c.node_of-node.result c.node_of-node.ensures in
+    let is : is_unsaved (store_forest w) (page_name c.args.range.cache c.loop-page.page) ≡ true = unsaved_by w i.stays.whole.sound _ ∙ ap (is_unsaved (forest_of w.caches)) (sym at.1) ∙ sym c.in-Some.ensures.unsaved in
+    failed_here old w c.args.range c.loop-page.done c.loop-page.page i.forest i.first i.saved v c.loop-page-test.true is c.in_default.ensures.missed.forest
+
+pub overflow_add-done : goal.overflow_add-done
+overflow_add-done g c =
+    let M = g.M.Mapper in
+    let old : World = world (M.held c.args.mapper.now) (M.page_bytes c.args.mapper.now) c.args.caches.now c.args.store.now in
+    let w : World = world (M.held c.loop-page.mapper) (M.page_bytes c.loop-page.mapper) c.loop-page.caches c.loop-page.store in
+    let i = c.loop-page.invariant in
+    let at = node_named c.loop-page.caches i.stays.whole.sound c.args.range.cache c.loop-page.page c.node_of-node.result c.node_of-node.ensures in
+    let is : is_unsaved (store_forest w) (page_name c.args.range.cache c.loop-page.page) ≡ true = unsaved_by w i.stays.whole.sound _ ∙ ap (is_unsaved (forest_of w.caches)) (sym at.1) ∙ sym c.in-Some.ensures.unsaved in
+    let low = few_done old w c.args.range c.loop-page.done c.loop-page.page i.forest i.first i.saved (store_shaped old c.requires.whole.sound c.requires.whole.consistent.shaped) c.loop-page-test.true is in
+    let few : c.loop-page.done < len (forest_of c.args.caches.now).nodes = omega (arith, low, nodes_by old c.requires.whole.sound) in
+    omega (arith, few, c.requires.whole.few)
+
+pub loop-page-smaller-in-Some : goal.loop-page-smaller-in-Some
+loop-page-smaller-in-Some g c =
+    let M = g.M.Mapper in
+    let old : World = world (M.held c.args.mapper.now) (M.page_bytes c.args.mapper.now) c.args.caches.now c.args.store.now in
+    let w : World = world (M.held c.loop-page.mapper) (M.page_bytes c.loop-page.mapper) c.loop-page.caches c.loop-page.store in
+    let i = c.loop-page.invariant in
+    let at = node_named c.loop-page.caches i.stays.whole.sound c.args.range.cache c.loop-page.page c.node_of-node.result c.node_of-node.ensures in
+    let is : is_unsaved (store_forest w) (page_name c.args.range.cache c.loop-page.page) ≡ true = unsaved_by w i.stays.whole.sound _ ∙ ap (is_unsaved (forest_of w.caches)) (sym at.1) ∙ sym c.in-Some.ensures.unsaved in
+    let low = few_done old w c.args.range c.loop-page.done c.loop-page.page i.forest i.first i.saved (store_shaped old c.requires.whole.sound c.requires.whole.consistent.shaped) c.loop-page-test.true is in
+    let few : c.loop-page.done < len (forest_of c.args.caches.now).nodes = omega (arith, low, nodes_by old c.requires.whole.sound) in
+    let e = c.next_page-page.ensures in
+    measured (len (forest_of c.args.caches.now).nodes) c.loop-page.done (c.args.range.first.0 + c.args.range.pages) c.loop-page.page c.next_page-page.result few (range_fits c.args.caches.now c.requires.whole c.args.range c.requires.range)
+
+pub loop-page-preserved-in-Some : goal.loop-page-preserved-in-Some
+loop-page-preserved-in-Some g c =
+    let M = g.M.Mapper in
+    let old : World = world (M.held c.args.mapper.now) (M.page_bytes c.args.mapper.now) c.args.caches.now c.args.store.now in
+    let w : World = world (M.held c.loop-page.mapper) (M.page_bytes c.loop-page.mapper) c.loop-page.caches c.loop-page.store in
+    let i = c.loop-page.invariant in
+    let at = node_named c.loop-page.caches i.stays.whole.sound c.args.range.cache c.loop-page.page c.node_of-node.result c.node_of-node.ensures in
+    let is : is_unsaved (store_forest w) (page_name c.args.range.cache c.loop-page.page) ≡ true = unsaved_by w i.stays.whole.sound _ ∙ ap (is_unsaved (forest_of w.caches)) (sym at.1) ∙ sym c.in-Some.ensures.unsaved in
+    let low = few_done old w c.args.range c.loop-page.done c.loop-page.page i.forest i.first i.saved (store_shaped old c.requires.whole.sound c.requires.whole.consistent.shaped) c.loop-page-test.true is in
+    let few : c.loop-page.done < len (forest_of c.args.caches.now).nodes = omega (arith, low, nodes_by old c.requires.whole.sound) in
+    let v : World = world (M.held c.save.new.mapper) (M.page_bytes c.save.new.mapper) c.save.new.caches c.save.new.store in
+    let e = c.in-Ok.ensures in
+    let k = e.answered.kept in
+    let next = c.next_page-page.ensures in
+    let h = name_of c.loop-page.caches c.in-Some.heir in
+    let is_heir : heir (store_forest w) (page_name c.args.range.cache c.loop-page.page) ≡ Some h = store_heir w i.stays.whole.sound _ ∙ ap (heir (forest_of w.caches)) (sym at.1) ∙ c.in-Some.ensures.heir in
+    let after : store_forest v ≡ heir_gets (store_forest w) (page_name c.args.range.cache c.loop-page.page) = e.forest ∙ ap (heir_gets (store_forest w)) at.1 in
+    let more = one_more old w c.args.range c.loop-page.done c.loop-page.page i.forest i.first i.saved v h c.loop-page-test.true is is_heir after in
+    let sound : IsSound v.caches = k.sound in
+    record {
+      stays = stays_then old w v _ _ _ i.stays e.answered (saves_read old w c.loop-page.done (extent_names c.args.range) i.forest i.stays.kept.nodes (store_shaped old c.requires.whole.sound c.requires.whole.consistent.shaped));
+      forest = more;
+      saved = saved_then old w c.args.range c.loop-page.done c.loop-page.page i.forest i.first i.saved v h c.loop-page-test.true is is_heir after (store_shaped w i.stays.whole.sound i.stays.whole.consistent.shaped) c.next_page-page.result next.past
+          (λ p from below other q. next.apart p from below other (k.nodes.name c.in-Some.heir ∙ q));
+      first = next.first;
+      end = omega (arith, next.past, c.loop-page-test.true);
+      done = omega (arith, few);
+      idle = λ none. absurd (not_idle c.args.caches.now c.loop-page.caches c.args.range c.loop-page.page i.first c.loop-page-test.true none (i.idle none).1 (sym (ap (is_unsaved (forest_of w.caches)) at.1) ∙ sym c.in-Some.ensures.unsaved));
+      copies = copies_then old w v c.loop-page.done i.copies _ h e.forest (store_heir w i.stays.whole.sound (name_of w.caches c.node_of-node.result) ∙ c.in-Some.ensures.heir);
+    }
+
+pub loop-page-preserved : goal.loop-page-preserved
+loop-page-preserved g c =
+    let M = g.M.Mapper in
+    let old : World = world (M.held c.args.mapper.now) (M.page_bytes c.args.mapper.now) c.args.caches.now c.args.store.now in
+    let w : World = world (M.held c.loop-page.mapper) (M.page_bytes c.loop-page.mapper) c.loop-page.caches c.loop-page.store in
+    let i = c.loop-page.invariant in
+    let at = node_named c.loop-page.caches i.stays.whole.sound c.args.range.cache c.loop-page.page c.node_of-node.result c.node_of-node.ensures in
+    let is : is_unsaved (store_forest w) (page_name c.args.range.cache c.loop-page.page) ≡ false = unsaved_by w i.stays.whole.sound _ ∙ ap (is_unsaved (forest_of w.caches)) (sym at.1) ∙ sym c.in-None.ensures.unsaved in
+    record {
+      stays = i.stays;
+      forest = i.forest;
+      saved = saved_on old w c.args.range c.loop-page.done c.loop-page.page i.forest i.first i.saved is;
+      first = omega (arith, i.first);
+      end = omega (arith, c.loop-page-test.true);
+      done = i.done;
+      copies = i.copies;
+      idle = i.idle;
+    }
+
+pub next_page-page-requires-clause-end : goal.next_page-page-requires-clause-end
+next_page-page-requires-clause-end g c = range_fits c.args.caches.now c.requires.whole c.args.range c.requires.range
+
+pub overflow_add-page : goal.overflow_add-page
+overflow_add-page g c = omega (arith, range_fits c.args.caches.now c.requires.whole c.args.range c.requires.range, c.loop-page-test.true)
+
+pub returns-clause-saved : goal.returns-clause-saved
+returns-clause-saved g c =
+    let M = g.M.Mapper in
+    let old : World = world (M.held c.args.mapper.now) (M.page_bytes c.args.mapper.now) c.args.caches.now c.args.store.now in
+    let w : World = world (M.held c.loop-page.mapper) (M.page_bytes c.loop-page.mapper) c.loop-page.caches c.loop-page.store in
+    let i = c.loop-page.invariant in
+    all_done old w c.args.range c.loop-page.done c.loop-page.page i.forest i.first i.saved (store_shaped old c.requires.whole.sound c.requires.whole.consistent.shaped) (omega (arith, c.loop-page-test.false))
+
+pub returns-in_default-clause-idle : goal.returns-in_default-clause-idle
+returns-in_default-clause-idle g c = λ none.
+    let i = c.loop-page.invariant in
+    let at = node_named c.loop-page.caches i.stays.whole.sound c.args.range.cache c.loop-page.page c.node_of-node.result c.node_of-node.ensures in
+    absurd (not_idle c.args.caches.now c.loop-page.caches c.args.range c.loop-page.page i.first c.loop-page-test.true none (i.idle none).1 (sym (ap (is_unsaved (forest_of c.loop-page.caches)) at.1) ∙ sym c.in-Some.ensures.unsaved))

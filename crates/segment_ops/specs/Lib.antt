@@ -1,0 +1,6 @@
+pub mod Access
+pub mod Keeping
+pub mod Pushing
+pub mod Ranges
+pub mod Saving
+pub mod Synced

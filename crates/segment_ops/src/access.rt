@@ -1,0 +1,62 @@
+// The mapper is asked whether the pages of a range may be written.
+ghost use Rattle.std.specs.Prelude.{◌≡◌, true, Ok, IfErr, OnErr};
+ghost use Rattle.vm_ids.specs.Counting.{Rose};
+ghost use Rattle.vm_ids.specs.declared.numbers.SegId.{SegId};
+ghost use Rattle.local_cache.specs.Reading.{forest_of};
+ghost use Rattle.local_cache.specs.Whole.{IsWhole, SameCaches};
+ghost use Rattle.residency.specs.Between.{Between, RightStore};
+ghost use Rattle.residency.specs.Causes.{Later, Made};
+ghost use Rattle.fault_path.specs.Faults.{SameForest};
+ghost use Rattle.segment_ops.specs.Access.{IsAccess, IsGranted};
+ghost use Rattle.segment_ops.specs.Ranges.{HasRange, IsNamed, IsNamedBy};
+
+use local_cache::Caches;
+use residency::Store;
+use vm_ids::{Extent, PageNo};
+use vm_port::Mapper;
+
+/// Whether the pages of a range of a named cache may be written: the mapper is asked for each that
+/// wasn't granted, in rising order, and what it allows is granted. False exactly where it denies a
+/// page; the error is the page whose call failed. After either no more is asked. Nothing is pulled
+/// or pushed, and only grants change.
+pub fn write_access<M: Mapper>(
+    _store: &Store,
+    caches: &mut Caches,
+    range: Extent,
+    mapper: &mut M,
+) -> Result<bool, PageNo>
+    requires right { RightStore M.held M.page_bytes mapper.old caches.old _store.now }
+    requires whole { IsWhole caches.old }
+    requires range { HasRange caches.old range }
+    requires named { IsNamed caches.old range }
+    ensures access { (segment : SegId) → IsNamedBy caches.old range segment
+        → IsAccess range (M.held mapper.old) segment caches.old caches.new result }
+    ensures right { RightStore M.held M.page_bytes mapper.new caches.new _store.now }
+    ensures whole { IsWhole caches.new }
+    ensures sizes { SameCaches caches.old caches.new }
+    ensures nodes { forest_of caches.new ≡ forest_of caches.old }
+    ensures forest { Between SameForest M.held M.page_bytes
+        mapper.old caches.old _store.now mapper.new caches.new _store.now }
+    ensures held { M.held mapper.new ≡ M.held mapper.old }
+    ensures given { M.given mapper.new ≡ M.given mapper.old }
+    ensures page_bytes { M.page_bytes mapper.new ≡ M.page_bytes mapper.old }
+    ensures later { Later (M.counts mapper.old) (M.counts mapper.new) }
+    ensures made { Made 0 0 (M.counts mapper.old) (M.counts mapper.new) }
+    ensures cause { OnErr result (
+        Rose (M.counts mapper.old).faults (M.counts mapper.new).faults) }
+    ensures idle { IsGranted caches.old range
+        → (result ≡ Ok true) × (caches.new ≡ caches.old) × (mapper.new ≡ mapper.old) }
+{
+    let segment = caches.segment(range.cache).unwrap();
+    for number in range.first.0..range.first.0 + range.pages {
+        let page = PageNo(number);
+        if !caches.granted(range.cache, page) {
+            match mapper.get_write_access(segment, page) {
+                Ok(true) => caches.grant(range.cache, page),
+                Ok(false) => return Ok(false),
+                Err(_) => return Err(page),
+            }
+        }
+    }
+    Ok(true)
+}

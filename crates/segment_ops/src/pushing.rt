@@ -1,0 +1,238 @@
+// Pages of segments are pushed home, and given up.
+ghost use Rattle.std.specs.Prelude.{◌≡◌, ℕ, ◌*◌, ◌+◌, true, false, Some, IfErr, IsSome, OnErr, OnOk};
+ghost use Rattle.vm_ids.specs.declared.numbers.NodeId.{NodeId};
+ghost use Rattle.frame_pool.specs.Pool.{is_pinned};
+ghost use Rattle.global_map.specs.Pairs.{node_of};
+ghost use Rattle.local_cache.specs.Arena.{IsHeld};
+ghost use Rattle.local_cache.specs.Home.{home_of};
+ghost use Rattle.local_cache.specs.Own.{is_resident, own_of};
+ghost use Rattle.local_cache.specs.Whole.{IsWhole};
+ghost use Rattle.residency.specs.Between.{Across, Between, RightStore};
+ghost use Rattle.residency.specs.Causes.{Later, Made};
+ghost use Rattle.residency.specs.World.{HasUnpinned, OthersStay, Still, is_clean as is_page_clean, world};
+ghost use Rattle.fault_path.specs.Answers.{RightForest};
+ghost use Rattle.fault_path.specs.Costs.{MadeAtMost};
+ghost use Rattle.fault_path.specs.Faults.{SameForest};
+ghost use Rattle.segment_ops.specs.Keeping.{StaysWhole};
+ghost use Rattle.segment_ops.specs.Pushing.{TellsValues};
+ghost use Rattle.segment_ops.specs.Ranges.{HasRange, IsNamed, IsPageOf};
+ghost use Rattle.segment_ops.specs.Saving.{HasFailed};
+ghost use Rattle.segment_ops.specs.Synced.{AreLoose, AreOut, AreSynced, CleanStays, IsSynced, is_settled, unclean, unclean_count};
+
+use history_tree::owner_of;
+use local_cache::{Caches, Home, OwnState};
+use residency::Store;
+use vm_ids::{Extent, NodeId, PageNo};
+use vm_port::{Chooser, Failed, Mapper};
+
+// Pushes what a node reads to its home, which doesn't hold it: its own page, which is clean in its
+// frame then, or that of its owner.
+fn push_page<M: Mapper, C: Chooser>(
+    store: &mut Store,
+    caches: &mut Caches,
+    node: NodeId,
+    home: Home,
+    mapper: &mut M,
+    chooser: &mut C,
+) -> Result<(), Failed>
+    requires right { RightForest M.held M.page_bytes mapper.old caches.old store.old }
+    requires home { home_of caches.old node ≡ Some home }
+    requires unclean { is_page_clean (own_of caches.old node) ≡ false }
+    requires unpinned { HasUnpinned store.old.frames }
+    ensures still { Between Still M.held M.page_bytes
+        mapper.old caches.old store.old mapper.new caches.new store.new }
+    ensures told { Across TellsValues M.held M.page_bytes M.counts
+        mapper.old caches.old store.old mapper.new caches.new store.new }
+    ensures pinned { store.new.frames.pinned ≡ store.old.frames.pinned }
+    ensures later { Later (M.counts mapper.old) (M.counts mapper.new) }
+    ensures clean { CleanStays caches.old caches.new }
+    ensures synced { OnOk result (IsSynced
+        (world (M.held mapper.new) (M.page_bytes mapper.new) caches.new store.new) node) }
+    ensures most { MadeAtMost 1 2 (M.counts mapper.old) (M.counts mapper.new) }
+    ensures cause { OnErr result (HasFailed (M.counts mapper.old) (M.counts mapper.new)) }
+{
+    let owner = owner_of(caches, node);
+    let Ok(frame) = store.bring_in(caches, owner, mapper, chooser) else {
+        return Err(Failed);
+    };
+    mapper.push_out(home.segment, home.page, store.frames().bytes(frame))?;
+    if !caches.own_state(node).is_absent() {
+        caches.set_state(node, OwnState::Resident { dirty: false });
+    }
+    Ok(())
+}
+
+// Whether a segment holds the own page of a node.
+fn is_clean(caches: &Caches, node: NodeId) -> bool
+    requires { IsHeld caches.now node }
+    ensures { result ≡ is_page_clean (own_of caches.now node) }
+{
+    matches!(
+        caches.own_state(node),
+        OwnState::OnSegment | OwnState::Resident { dirty: false }
+    )
+}
+
+// The same where the home may hold it. Nothing is done then.
+fn sync_page<M: Mapper, C: Chooser>(
+    store: &mut Store,
+    caches: &mut Caches,
+    node: NodeId,
+    mapper: &mut M,
+    chooser: &mut C,
+) -> Result<(), Failed>
+    requires right { RightForest M.held M.page_bytes mapper.old caches.old store.old }
+    requires home { IsSome (home_of caches.old node) }
+    requires unpinned { HasUnpinned store.old.frames }
+    ensures still { Between Still M.held M.page_bytes
+        mapper.old caches.old store.old mapper.new caches.new store.new }
+    ensures told { Across TellsValues M.held M.page_bytes M.counts
+        mapper.old caches.old store.old mapper.new caches.new store.new }
+    ensures pinned { store.new.frames.pinned ≡ store.old.frames.pinned }
+    ensures later { Later (M.counts mapper.old) (M.counts mapper.new) }
+    ensures clean { CleanStays caches.old caches.new }
+    ensures synced { OnOk result (IsSynced
+        (world (M.held mapper.new) (M.page_bytes mapper.new) caches.new store.new) node) }
+    ensures most { MadeAtMost (unclean (own_of caches.old node))
+        (2 * unclean (own_of caches.old node)) (M.counts mapper.old) (M.counts mapper.new) }
+    ensures cause { OnErr result (HasFailed (M.counts mapper.old) (M.counts mapper.new)) }
+{
+    if is_clean(caches, node) {
+        return Ok(());
+    }
+    let home = caches.home(node).unwrap();
+    push_page(store, caches, node, home, mapper, chooser)
+}
+
+// Pushes the pages of a range that their segment doesn't hold, in rising order. The error is the
+// page whose push, or whose frame, failed.
+fn push_pages<M: Mapper, C: Chooser>(
+    store: &mut Store,
+    caches: &mut Caches,
+    range: Extent,
+    mapper: &mut M,
+    chooser: &mut C,
+) -> Result<(), PageNo>
+    requires right { RightStore M.held M.page_bytes mapper.old caches.old store.old }
+    requires whole { IsWhole caches.old }
+    requires range { HasRange caches.old range }
+    requires named { IsNamed caches.old range }
+    requires unpinned { HasUnpinned store.old.frames }
+    ensures still { Between Still M.held M.page_bytes
+        mapper.old caches.old store.old mapper.new caches.new store.new }
+    ensures told { Across TellsValues M.held M.page_bytes M.counts
+        mapper.old caches.old store.old mapper.new caches.new store.new }
+    ensures pinned { store.new.frames.pinned ≡ store.old.frames.pinned }
+    ensures later { Later (M.counts mapper.old) (M.counts mapper.new) }
+    ensures synced { OnOk result (AreSynced range (range.first.0 + range.pages)
+        (world (M.held mapper.new) (M.page_bytes mapper.new) caches.new store.new)) }
+    ensures failed { IfErr result (λ page. IsPageOf range page.0 × AreSynced range page.0
+        (world (M.held mapper.new) (M.page_bytes mapper.new) caches.new store.new)) }
+    ensures most { MadeAtMost
+        (unclean_count caches.old range.cache.0 range.first.0 range.pages)
+        (2 * unclean_count caches.old range.cache.0 range.first.0 range.pages)
+        (M.counts mapper.old) (M.counts mapper.new) }
+    ensures cause { OnErr result (HasFailed (M.counts mapper.old) (M.counts mapper.new)) }
+{
+    for number in range.first.0..range.first.0 + range.pages {
+        let page = PageNo(number);
+        let node = caches.node_of(range.cache, page);
+        let Ok(()) = sync_page(store, caches, node, mapper, chooser) else {
+            return Err(page);
+        };
+    }
+    Ok(())
+}
+
+// Gives up the frame of a page that its segment holds, where it is in one.
+fn let_go<M: Mapper>(store: &mut Store, caches: &mut Caches, node: NodeId, mapper: &mut M)
+    requires right { RightStore M.held M.page_bytes mapper.old caches.old store.old }
+    requires home { IsSome (home_of caches.old node) }
+    requires settled { is_settled (own_of caches.old node) ≡ true }
+    requires loose { (f : ℕ) → node_of store.old.map f ≡ Some node
+        → is_pinned store.old.frames f ≡ false }
+    ensures still { Between Still M.held M.page_bytes
+        mapper.old caches.old store.old mapper.new caches.new store.new }
+    ensures others { Between OthersStay M.held M.page_bytes
+        mapper.old caches.old store.old mapper.new caches.new store.new }
+    ensures held { M.held mapper.new ≡ M.held mapper.old }
+    ensures pinned { store.new.frames.pinned ≡ store.old.frames.pinned }
+    ensures later { Later (M.counts mapper.old) (M.counts mapper.new) }
+    ensures made { Made 0 0 (M.counts mapper.old) (M.counts mapper.new) }
+    ensures out { is_resident (own_of caches.new node) ≡ false }
+{
+    if let Some(frame) = store.map().get(node) {
+        store.evict(caches, frame, mapper).unwrap();
+    }
+}
+
+// The same for the pages of a range.
+fn give_up_pages<M: Mapper>(store: &mut Store, caches: &mut Caches, range: Extent, mapper: &mut M)
+    requires right { RightStore M.held M.page_bytes mapper.old caches.old store.old }
+    requires whole { IsWhole caches.old }
+    requires range { HasRange caches.old range }
+    requires named { IsNamed caches.old range }
+    requires synced { AreSynced range (range.first.0 + range.pages)
+        (world (M.held mapper.old) (M.page_bytes mapper.old) caches.old store.old) }
+    requires loose { AreLoose range
+        (world (M.held mapper.old) (M.page_bytes mapper.old) caches.old store.old) }
+    ensures still { Between Still M.held M.page_bytes
+        mapper.old caches.old store.old mapper.new caches.new store.new }
+    ensures held { M.held mapper.new ≡ M.held mapper.old }
+    ensures pinned { store.new.frames.pinned ≡ store.old.frames.pinned }
+    ensures later { Later (M.counts mapper.old) (M.counts mapper.new) }
+    ensures made { Made 0 0 (M.counts mapper.old) (M.counts mapper.new) }
+    ensures synced { AreSynced range (range.first.0 + range.pages)
+        (world (M.held mapper.new) (M.page_bytes mapper.new) caches.new store.new) }
+    ensures out { AreOut range caches.new }
+{
+    for number in range.first.0..range.first.0 + range.pages {
+        let node = caches.node_of(range.cache, PageNo(number));
+        let_go(store, caches, node, mapper);
+    }
+}
+
+/// Pushes the pages of a range of a named cache home, in rising order, where the segment doesn't
+/// hold what they read: dirty pages, pages of zeros, pages in slots, and inherited ones. An
+/// inherited page stays inherited; a page of its own is clean in its frame then. With `give_up` the
+/// frames of the range's own pages fall free. A page that the segment holds takes no push. A failed
+/// pull or push ends it at the page that is told; the segment holds those before. No node reads
+/// anything else.
+pub fn push_range<M: Mapper, C: Chooser>(
+    store: &mut Store,
+    caches: &mut Caches,
+    range: Extent,
+    give_up: bool,
+    mapper: &mut M,
+    chooser: &mut C,
+) -> Result<(), PageNo>
+    requires right { RightStore M.held M.page_bytes mapper.old caches.old store.old }
+    requires whole { IsWhole caches.old }
+    requires range { HasRange caches.old range }
+    requires named { IsNamed caches.old range }
+    requires unpinned { HasUnpinned store.old.frames }
+    requires loose { give_up ≡ true → AreLoose range
+        (world (M.held mapper.old) (M.page_bytes mapper.old) caches.old store.old) }
+    ensures stays { Across StaysWhole M.held M.page_bytes M.counts
+        mapper.old caches.old store.old mapper.new caches.new store.new }
+    ensures still { Between Still M.held M.page_bytes
+        mapper.old caches.old store.old mapper.new caches.new store.new }
+    ensures forest { Between SameForest M.held M.page_bytes
+        mapper.old caches.old store.old mapper.new caches.new store.new }
+    ensures synced { OnOk result (AreSynced range (range.first.0 + range.pages)
+        (world (M.held mapper.new) (M.page_bytes mapper.new) caches.new store.new)) }
+    ensures out { give_up ≡ true → OnOk result (AreOut range caches.new) }
+    ensures failed { IfErr result (λ page. IsPageOf range page.0 × AreSynced range page.0
+        (world (M.held mapper.new) (M.page_bytes mapper.new) caches.new store.new)) }
+    ensures most { MadeAtMost
+        (unclean_count caches.old range.cache.0 range.first.0 range.pages)
+        (2 * unclean_count caches.old range.cache.0 range.first.0 range.pages)
+        (M.counts mapper.old) (M.counts mapper.new) }
+    ensures cause { OnErr result (HasFailed (M.counts mapper.old) (M.counts mapper.new)) }
+{
+    push_pages(store, caches, range, mapper, chooser)?;
+    if give_up {
+        give_up_pages(store, caches, range, mapper);
+    }
+    Ok(())
+}

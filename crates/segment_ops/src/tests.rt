@@ -1,0 +1,116 @@
+// The pages of a segment are granted, pushed and saved.
+ghost use Rattle.std.specs.Prelude.{◌≡◌, ℕ, false, IfOk, Some};
+ghost use Rattle.vm_ids.specs.declared.numbers.SegId.{SegId};
+ghost use Rattle.vm_port.specs.Mapping.{held_of};
+ghost use Rattle.frame_pool.specs.Pool.{is_pinned};
+ghost use Rattle.local_cache.specs.Whole.{IsWhole};
+ghost use Rattle.residency.specs.World.{IsStoreRight, world};
+ghost use Rattle.fault_path.specs.Faults.{HasLoose};
+ghost use Rattle.segment_ops.specs.Ranges.{HasRange, IsNamed};
+
+use crate::{push_range, save_range, write_access};
+use fault_path::write_fault;
+use local_cache::Caches;
+use residency::Store;
+use std::alloc::Global;
+use std::test::Fail;
+use vm_ids::{Extent, NoMemory, PageNo, SegId};
+use vm_port::{Fifo, MemoryMapper};
+
+const SEGMENT: SegId = SegId(1);
+
+// A segment of two pages of four bytes, the second of which is denied for writing, and its cache.
+#[derive(Drop)]
+struct Opened {
+    mapper: MemoryMapper,
+    store: Store,
+    caches: Caches,
+    range: Extent,
+}
+
+fn open_segment(alloc: Global) -> Result<Opened, NoMemory>
+    ensures right { IfOk result (λ r. IsStoreRight
+        (world (Some (held_of r.mapper)) (Some r.mapper.page_bytes) r.caches r.store)) }
+    ensures whole { IfOk result (λ r. IsWhole r.caches) }
+    ensures range { IfOk result (λ r. HasRange r.caches r.range) }
+    ensures named { IfOk result (λ r. IsNamed r.caches r.range) }
+    ensures pages { IfOk result (λ r. (r.range.first.0 ≡ 0) × (r.range.pages ≡ 2)) }
+    ensures unpinned { IfOk result (λ r. (f : ℕ) → is_pinned r.store.frames f ≡ false) }
+    ensures loose { IfOk result (λ r. HasLoose 3 r.store.frames) }
+    ensures page { IfOk result (λ r. r.store.frames.page ≡ 4) }
+    ensures copies { IfOk result (λ r. r.caches.copies ≡ 0) }
+{
+    let segment = Vec::from_slice(alloc, b"one two.")?;
+    let denied = [(SEGMENT, PageNo(1))];
+    let mapper = MemoryMapper::new(alloc, &[segment], &denied, 0, &[], 4)?;
+    let mut store = Store::new(alloc, 3, 4)?;
+    store.reserve_slots(2)?;
+    let mut caches = Caches::new(alloc);
+    caches.reserve(1, 2)?;
+    let cache = caches.make_named(SEGMENT, 2);
+    let range = Extent {
+        cache,
+        first: PageNo(0),
+        pages: 2,
+    };
+    Ok(Opened {
+        mapper,
+        store,
+        caches,
+        range,
+    })
+}
+
+#[test]
+fn writes_are_granted_up_to_a_denied_page(rt: HostRuntime) -> Result<(), Fail> {
+    let mut opened = open_segment(rt.alloc())?;
+    let both = opened.range;
+    let first = Extent { pages: 1, ..both };
+    assert_eq!(&rt;
+        write_access(&opened.store, &mut opened.caches, both, &mut opened.mapper),
+        Ok(false)
+    );
+    assert_eq!(&rt;
+        write_access(&opened.store, &mut opened.caches, first, &mut opened.mapper),
+        Ok(true)
+    );
+    Ok(())
+}
+
+#[test]
+fn a_flush_pushes_what_was_stored_and_frees_the_frame(rt: HostRuntime) -> Result<(), Fail> {
+    let mut opened = open_segment(rt.alloc())?;
+    let first = Extent {
+        pages: 1,
+        ..opened.range
+    };
+    let (store, caches, mapper) = (&mut opened.store, &mut opened.caches, &mut opened.mapper);
+    let mut chooser = Fifo::new();
+    assert_eq!(&rt; write_access(store, caches, first, mapper), Ok(true));
+    let node = caches.node_of(first.cache, first.first);
+    let frame = write_fault(store, caches, node, mapper, &mut chooser)?;
+    store.bytes_mut(frame).copy_from_slice(b"sent");
+    assert_eq!(&rt; store.frames().free_count(), 2);
+    assert_eq!(&rt;
+        push_range(store, caches, first, true, mapper, &mut chooser),
+        Ok(())
+    );
+    assert_eq!(&rt; store.frames().free_count(), 3);
+    assert!(&rt; mapper.has_page(SEGMENT, PageNo(0)));
+    assert_eq!(&rt; mapper.page(SEGMENT, PageNo(0)), b"sent".as_slice());
+    Ok(())
+}
+
+#[test]
+fn pages_that_no_copy_reads_need_no_save(rt: HostRuntime) -> Result<(), Fail> {
+    let mut opened = open_segment(rt.alloc())?;
+    let range = opened.range;
+    let (store, caches, mapper) = (&mut opened.store, &mut opened.caches, &mut opened.mapper);
+    assert_eq!(&rt;
+        save_range(store, caches, range, mapper, &mut Fifo::new()),
+        Ok(())
+    );
+    assert_eq!(&rt; store.frames().free_count(), 3);
+    assert_eq!(&rt; mapper.pulls(), 0);
+    Ok(())
+}

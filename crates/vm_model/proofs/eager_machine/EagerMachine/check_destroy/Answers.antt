@@ -1,0 +1,11 @@
+use Rattle.std.proofs.Common.{subst}
+use Rattle.std.specs.Prelude.{OnErr}
+use Rattle.vm_ids.specs.declared.command.Command.TheVariants as commands
+use Rattle.vm_ids.specs.declared.reply.Reply.TheVariants.{Done}
+use Rattle.vm_model.specs.Machine.{Machine}
+use Rattle.vm_model.specs.Answering.{answer_by}
+use Rattle.vm_model.specs.Outcome.{PlainOutcome}
+use Rattle.vm_model.proofs.eager_machine.EagerMachine.check_destroy.Goals as goal
+
+pub returns-clause-refused : goal.returns-clause-refused
+returns-clause-refused c = subst (λ (m : Machine). OnErr c.check_destroy.result (PlainOutcome m (commands.Destroy c.args.cache) (answer_by (λ _. Done) c.check_destroy.result) m)) c.self.view_is c.check_destroy.ensures.refused

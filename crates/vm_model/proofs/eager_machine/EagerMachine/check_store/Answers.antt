@@ -1,0 +1,11 @@
+use Rattle.std.proofs.Common.{subst}
+use Rattle.std.specs.Prelude.{OnErr}
+use Rattle.vm_ids.specs.declared.command.Command.TheVariants as commands
+use Rattle.vm_ids.specs.declared.reply.Reply.TheVariants.{Done}
+use Rattle.vm_model.specs.Machine.{Machine}
+use Rattle.vm_model.specs.Answering.{answer_by}
+use Rattle.vm_model.specs.Outcome.{PlainOutcome}
+use Rattle.vm_model.proofs.eager_machine.EagerMachine.check_store.Goals as goal
+
+pub returns-clause-refused : goal.returns-clause-refused
+returns-clause-refused c = subst (λ (m : Machine). OnErr c.check_store.result (PlainOutcome m (commands.Store c.args.actor c.args.address c.args.piece.now) (answer_by (λ _. Done) c.check_store.result) m)) c.self.view_is c.check_store.ensures.refused
