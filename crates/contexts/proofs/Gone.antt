@@ -4,7 +4,8 @@ use Rattle.std.specs.Prelude.{IsSome, is_some, option_and_then, option_map, slic
 use Rattle.std.specs.Option.{option_or}
 use Rattle.std.proofs.lemmas.Bool.Decides.{nat_tests}
 use Rattle.vm_ids.specs.declared.numbers.ActorId.{ActorId}
-use Rattle.vm_model.specs.Answering.{region_among, region_with, without_region}
+use Rattle.vm_model.specs.Answering.{without_region}
+use Rattle.vm_model.specs.Regions.{region_among, region_with}
 use Rattle.vm_model.specs.Machine as model
 use Rattle.vm_model.specs.Machine.{numbered}
 use Rattle.vm_model.proofs.Lists.{at_number, numbered_place}

@@ -6,7 +6,7 @@ use Rattle.std.proofs.lemmas.List.Sums.{sum_by-cons, sum_by_push}
 use Rattle.vm_model.specs.Machine as model
 use Rattle.vm_model.specs.Machine.{numbered}
 use Rattle.vm_model.proofs.Lists.{at_number, is_there}
-use Rattle.vm_model.specs.declared.limits.TheConstants.{LIVING_ACTORS, MADE}
+use Rattle.vm_model.specs.declared.limits.TheConstants.{LIVING_ACTORS, MOST_MADE}
 use Rattle.regions.specs.AddressSpace.{AddressSpace}
 use Rattle.contexts.specs.Actors.{is_full}
 use Rattle.contexts.specs.Layout.{regions_in}
@@ -39,10 +39,10 @@ seen_living (Some s ∷ xs) = omega (arith, sum_by-cons lives (option_map region
 
 -- no more can be made, by what the fields count
 pub full_by : (page living : ℕ) (xs : List (Option AddressSpace)) (made : ℕ) → living ≡ count_by is_some xs
-    → is_full (record { page_bytes = page; actors = regions_in xs; regions_made = made }) ≡ (nat_le LIVING_ACTORS living || nat_le MADE (length xs))
+    → is_full (record { page_bytes = page; actors = regions_in xs; regions_made = made }) ≡ (nat_le LIVING_ACTORS living || nat_le MOST_MADE (length xs))
 full_by page living xs made counted =
-    ap (λ (n : ℕ). nat_le LIVING_ACTORS n || nat_le MADE (length (regions_in xs))) (seen_living xs ∙ sym counted)
-    ∙ ap (λ (n : ℕ). nat_le LIVING_ACTORS living || nat_le MADE n) (length-map xs (option_map regions_of))
+    ap (λ (n : ℕ). nat_le LIVING_ACTORS n || nat_le MOST_MADE (length (regions_in xs))) (seen_living xs ∙ sym counted)
+    ∙ ap (λ (n : ℕ). nat_le LIVING_ACTORS living || nat_le MOST_MADE n) (length-map xs (option_map regions_of))
 
 pub more_living : (xs : List (Option AddressSpace)) (s : AddressSpace) → count_by is_some (xs ++ Some s ∷ []) ≡ count_by is_some xs + 1
 more_living xs s = sum_by_push lives_in xs (Some s)

@@ -1,9 +1,10 @@
 -- The actors of a machine, and the regions of each.
 use Rattle.std.specs.Prelude.{ℕ, ◌+◌, ◌-◌, ◌||◌, Bool, false, nat_le, List, length, Option, Some, None, count_by, is_some, option_map, slice_set}
 use Rattle.vm_ids.specs.declared.command.Mapping.{Mapping}
-use Rattle.vm_model.specs.Answering.{insert_region, region_among, region_of}
+use Rattle.vm_model.specs.Answering.{insert_region, region_of}
+use Rattle.vm_model.specs.Regions.{region_among}
 use Rattle.vm_model.specs.Machine.{Actor, Region, numbered}
-use Rattle.vm_model.specs.declared.limits.TheConstants.{LIVING_ACTORS, MADE}
+use Rattle.vm_model.specs.declared.limits.TheConstants.{LIVING_ACTORS, MOST_MADE}
 
 -- The bytes of a page; the actors in the order of making, of which a dead one is None; and how many
 -- regions were made.
@@ -14,7 +15,7 @@ pub record Actors : Type 0 where
 
 -- no more can be made
 abbrev pub is_full : Actors → Bool
-is_full a = nat_le LIVING_ACTORS (count_by is_some a.actors) || nat_le MADE (length a.actors)
+is_full a = nat_le LIVING_ACTORS (count_by is_some a.actors) || nat_le MOST_MADE (length a.actors)
 
 -- the region that the next mapping makes
 abbrev pub next_region : Actors → Mapping → Region

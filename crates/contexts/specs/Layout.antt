@@ -2,7 +2,7 @@
 use Rattle.std.specs.Prelude.{◌≡◌, ℕ, ◌-◌, ◌==◌, ◌≤◌, ◌^◌, List, All, Option, Some, None, count_by, is_some, length, map, option_map, slice_get, slice_set, if◌then◌else◌}
 use Rattle.vm_ids.specs.declared.numbers.ActorId.{ActorId}
 use Rattle.vm_model.specs.Machine.{Actor, numbered}
-use Rattle.vm_model.specs.declared.limits.TheConstants.{MADE}
+use Rattle.vm_model.specs.declared.limits.TheConstants.{MOST_MADE}
 use Rattle.regions.specs.AddressSpace.{AddressSpace}
 use Rattle.contexts.specs.Actors.{Actors}
 use Rattle.contexts.specs.declared.contexts.Contexts.TheInside.{Inside}
@@ -33,7 +33,7 @@ pub record IsSound (a : Inside) : Type 0 where
   pub some : 1 ≤ a.page
   pub most : a.page ≤ 2 ^ 16
   pub living : a.living ≡ count_by is_some a.actors.items
-  pub few : length a.owners.items ≤ MADE
+  pub few : length a.owners.items ≤ MOST_MADE
   pub kept : (actor : ℕ) (s : AddressSpace) → numbered a.actors.items actor ≡ Some s
       → IsKept a.page a.owners.items actor s
 

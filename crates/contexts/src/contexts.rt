@@ -4,7 +4,8 @@ ghost use Rattle.std.specs.List.{list_any};
 ghost use Rattle.vm_ids.specs.declared.refusal.Refusal.TheVariants.{TooMany};
 ghost use Rattle.vm_ids.specs.declared.reply.Trouble.TheVariants.{Memory, Refused};
 ghost use Rattle.regions.specs.AddressSpace.{place_told, IsWellFormed};
-ghost use Rattle.vm_model.specs.Answering.{maps_in, overlaps, region_with, without_region};
+ghost use Rattle.vm_model.specs.Answering.{maps_in, overlaps, without_region};
+ghost use Rattle.vm_model.specs.Regions.{region_with};
 ghost use Rattle.vm_model.specs.Machine.{numbered};
 ghost use Rattle.vm_model.specs.Place.{place_of_actor};
 ghost use Rattle.contexts.specs.Actors.{has_region, is_full, next_region, with_region};
@@ -15,7 +16,7 @@ use regions::{Place, RegionMap};
 use std::alloc::Global;
 use std::marker::Model;
 use vm_ids::{ActorId, CacheId, Mapping, NoMemory, Refusal, RegionId, Trouble};
-use vm_model::{LIVING_ACTORS, MADE, numbered};
+use vm_model::{LIVING_ACTORS, MOST_MADE, numbered};
 
 // The actor for which a region was made.
 fn owner_in(owners: &[ActorId], region: RegionId) -> Option<ActorId>
@@ -81,7 +82,7 @@ impl Contexts {
     /// How many regions were made, at most 65,535.
     pub fn regions_made(&self) -> u32
         ensures made { result ≡ self.now.regions_made }
-        ensures most { result ≤ MADE }
+        ensures most { result ≤ MOST_MADE }
     {
         self.owners.len() as u32
     }
@@ -105,7 +106,7 @@ impl Contexts {
             (self.new ≡ record self.old { actors = self.old.actors ++ Some [] ∷ [] }) }
         ensures err { OnErr result (self.new ≡ self.old) }
     {
-        if self.living >= LIVING_ACTORS || self.actors.len() >= MADE as usize {
+        if self.living >= LIVING_ACTORS || self.actors.len() >= MOST_MADE as usize {
             return Err(Trouble::Refused(Refusal::TooMany));
         }
         match self
@@ -133,7 +134,7 @@ impl Contexts {
     /// Maps pages into a living actor, as the next region, unlocked. They fit where they are
     /// mapped, and fewer than 65,535 regions were made. After an error everything is as it was.
     pub fn map(&mut self, actor: ActorId, mapping: Mapping) -> Result<RegionId, NoMemory>
-        requires few { self.old.regions_made < MADE }
+        requires few { self.old.regions_made < MOST_MADE }
         requires formed { IsWellFormed self.old.page_bytes (next_region self.old mapping) }
         requires fits { IsSomeAnd (numbered self.old.actors actor.0) (λ rs.
             list_any (overlaps self.old.page_bytes mapping.address mapping.extent.pages) rs

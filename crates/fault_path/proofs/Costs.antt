@@ -8,7 +8,7 @@ use Rattle.frame_pool.specs.Pool.{Frames, held_count}
 use Rattle.local_cache.specs.declared.own_state.OwnState.{OwnState}
 use Rattle.local_cache.specs.declared.own_state.OwnState.TheVariants.{Absent, Zero, Resident, Slot, OnSegment}
 use Rattle.local_cache.specs.Own.{is_absent, is_resident}
-use Rattle.residency.specs.Causes.{Later, Made, frames_to_bring, pushes_for, pushes_to_bring}
+use Rattle.residency.specs.Causes.{Later, Traffic, frames_to_bring, pushes_for, pushes_to_bring}
 use Rattle.residency.specs.World.{is_pulled}
 use Rattle.fault_path.specs.Costs.{MadeAtMost, Pulls, Takes, TakesAtMost, frames_to_copy, pulls_to_copy}
 
@@ -56,7 +56,7 @@ pub taken_then : (k : ℕ) (before now after : List Bool) → length now ≡ len
 taken_then k before now after same e f = omega (arith, count_most before, count_most now, pushes_free now)
 
 -- a count of pushes that is told exactly is also told at most
-pub pulls_few : (p q pushes : ℕ) (a b : MapperCounts) → Made p q a b → q ≤ pushes → Pulls p pushes a b
+pub pulls_few : (p q pushes : ℕ) (a b : MapperCounts) → Traffic p q a b → q ≤ pushes → Pulls p pushes a b
 pulls_few p q pushes a b made f = record {
   pulled = made.pulled;
   pushed = λ low. (let it : b.pushes ≡ a.pushes + q = made.pushed low in omega (arith, it, f));
@@ -135,7 +135,7 @@ bring_most own = bring_by_most (is_resident own)
 
 -- A page in this state was brought in: the frames that that took, and the one that is taken then.
 module _ (own : OwnState) (before now : Frames) (x y : MapperCounts) (same : length now.held ≡ length before.held)
-    (held : held_count now + pushes_to_bring own before.held ≡ held_count before + frames_to_bring own) (pushes : ℕ) (brought : Made (pulls_to_copy own) pushes x y) (few : pushes ≤ pushes_to_bring own before.held) where
+    (held : held_count now + pushes_to_bring own before.held ≡ held_count before + frames_to_bring own) (pushes : ℕ) (brought : Traffic (pulls_to_copy own) pushes x y) (few : pushes ≤ pushes_to_bring own before.held) where
   pub brought_taken : Taken (frames_to_bring own) before.held now.held
   brought_taken = taken_to_bring own before.held now.held held
 
@@ -146,7 +146,7 @@ module _ (own : OwnState) (before now : Frames) (x y : MapperCounts) (same : len
   brought_more z one later = pulls_more (frames_to_bring own) (pulls_to_copy own) before.held now.held x y z same brought_taken brought_made one later
 
 -- it failed to be brought in
-pub failed_most : (own : OwnState) (before : Frames) (b : Bool) (pushes : ℕ) (x y : MapperCounts) → Made (cond {A = ℕ} b 0 (cond {A = ℕ} (is_pulled own) 1 0)) pushes x y → pushes ≤ pushes_to_bring own before.held
+pub failed_most : (own : OwnState) (before : Frames) (b : Bool) (pushes : ℕ) (x y : MapperCounts) → Traffic (cond {A = ℕ} b 0 (cond {A = ℕ} (is_pulled own) 1 0)) pushes x y → pushes ≤ pushes_to_bring own before.held
     → TakesAtMost (pulls_to_copy own) (frames_to_bring own) before x y
 failed_most own before b pushes x y made few = pulls_most _ _ _ _ _ _ (pulls_few _ _ _ _ _ made few) (tried_most b own) (omega (arith, pushes_bring own before.held))
 

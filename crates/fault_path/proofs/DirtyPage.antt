@@ -10,7 +10,7 @@ use Rattle.frame_pool.specs.Pool.{bytes_of}
 use Rattle.local_cache.specs.declared.home.Home.{Home}
 use Rattle.local_cache.specs.declared.own_state.OwnState.{OwnState}
 use Rattle.local_cache.specs.declared.own_state.OwnState.TheVariants.{Absent, Zero, Resident, Slot, OnSegment}
-use Rattle.local_cache.specs.Arena.{Arena, IsHeld, with_own}
+use Rattle.local_cache.specs.Arena.{Arena, HasNode, with_own}
 use Rattle.local_cache.specs.Changes.{Like}
 use Rattle.local_cache.specs.Home.{home_of}
 use Rattle.local_cache.specs.Reading.{name_of}
@@ -60,7 +60,7 @@ clean_before w n m clean = elim (id_cases m n) [
   | inr d ↦ sym (ap is_clean (own_other w.caches n m (Resident true) d)) ∙ clean
 ]
 
-pub dirty_still : (w : World) (n : NodeId) → IsStoreRight w → IsHeld w.caches n → is_resident (own_of w.caches n) ≡ true → MayWrite w.caches n → Still w (dirtied w n)
+pub dirty_still : (w : World) (n : NodeId) → IsStoreRight w → HasNode w.caches n → is_resident (own_of w.caches n) ≡ true → MayWrite w.caches n → Still w (dirtied w n)
 dirty_still w n right there resident may = record {
   stays = record {
     right = record {
@@ -123,7 +123,7 @@ home_told w n right None e some = absurd (cc some)
 home_told w n right (Some home) e some = ap (λ (o : Option Home). is_some (option_and_then (λ h. option_and_then (page_at h) o) w.told)) e ∙ page_told w.told home (right.tied.backed.lies n home e)
 
 -- The bytes of an own page are told exactly where the mapper tells what it holds.
-told_by : (w : World) (n : NodeId) → IsStoreRight w → IsHeld w.caches n → (x : OwnState) → own_of w.caches n ≡ x → (q : Option (List ℕ))
+told_by : (w : World) (n : NodeId) → IsStoreRight w → HasNode w.caches n → (x : OwnState) → own_of w.caches n ≡ x → (q : Option (List ℕ))
     → page_by (option_map (λ _. zero_page w) w.told) (option_map (λ _. frame_page w n) w.told) (λ k. option_and_then (λ h. slot_of h k) w.told) (home_page w n) x ≡ Some q → is_some q ≡ is_some w.told
 told_by w n right there Absent e q is = absurd (cc is)
 told_by w n right there Zero e q is = let same : option_map (λ _. zero_page w) w.told ≡ q = cc is in ap is_some (sym same) ∙ some_told w.told (zero_page w)
@@ -140,7 +140,7 @@ told_alike None (Some k) x e = absurd (cc e)
 told_alike (Some h) None x e = absurd (cc e)
 
 -- a frame that keeps its bytes has a node's page still
-pub page_moves : (a b : World) (f : ℕ) (n : NodeId) → Still a b → IsHeld b.caches n → HasPageOf a f n → bytes_of b.frames f ≡ bytes_of a.frames f → HasPageOf b f n
+pub page_moves : (a b : World) (f : ℕ) (n : NodeId) → Still a b → HasNode b.caches n → HasPageOf a f n → bytes_of b.frames f ≡ bytes_of a.frames f → HasPageOf b f n
 page_moves a b f n still there page same =
     let here : own_page b n ≡ Some (option_map (λ _. bytes_of a.frames f) a.told) = still.stays.pages n ∙ page in
     here ∙ ap Some (told_alike a.told b.told (bytes_of a.frames f) (told_by b n still.stays.right there (own_of b.caches n) refl _ here) ∙ ap (λ (x : List ℕ). option_map (λ _. x) b.told) (sym same))

@@ -9,7 +9,7 @@ use Rattle.frame_pool.specs.Pool.{bytes_of}
 use Rattle.global_map.specs.Pairs.{node_of}
 use Rattle.local_cache.specs.declared.own_state.OwnState.{OwnState}
 use Rattle.local_cache.specs.declared.own_state.OwnState.TheVariants.{Absent, Zero, Resident, Slot, OnSegment}
-use Rattle.local_cache.specs.Arena.{Arena, IsHeld}
+use Rattle.local_cache.specs.Arena.{Arena, HasNode}
 use Rattle.local_cache.specs.Own.{is_absent, is_resident, own_of}
 use Rattle.local_cache.specs.Reading.{forest_of, name_of, page_of}
 use Rattle.local_cache.specs.Sound.{IsSound}
@@ -52,10 +52,10 @@ has_page (Resident d) e = refl
 has_page (Slot s) e = refl
 has_page OnSegment e = refl
 
-pub owner_page : (a : Arena) (o : NodeId) → IsHeld a o → IsSome (page_of (own_of a o)) → HasOwnPage a o
+pub owner_page : (a : Arena) (o : NodeId) → HasNode a o → IsSome (page_of (own_of a o)) → HasOwnPage a o
 owner_page a o held some = record { node = held; own_page = has_page (own_of a o) some }
 
-module _ (w : World) (sound : IsSound w.caches) (shaped : IsWellShaped (forest_of w.caches)) (n o : NodeId) (there : IsHeld w.caches n) (owner : IsOwner w.caches n o) where
+module _ (w : World) (sound : IsSound w.caches) (shaped : IsWellShaped (forest_of w.caches)) (n o : NodeId) (there : HasNode w.caches n) (owner : IsOwner w.caches n o) where
   -- a page of zeros
   pub found_zero : own_of w.caches o ≡ Zero → value_of (store_forest w) (name_of w.caches n) ≡ Some (found_page w None)
   found_zero e = value_at w sound shaped n o there owner

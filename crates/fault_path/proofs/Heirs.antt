@@ -11,7 +11,7 @@ use Rattle.vm_ids.proofs.Places.{bit}
 use Rattle.global_map.specs.Pairs.{bound_times}
 use Rattle.local_cache.specs.declared.own_state.OwnState.{OwnState}
 use Rattle.local_cache.specs.declared.own_state.OwnState.TheVariants.{Absent, Zero, Resident, Slot, OnSegment}
-use Rattle.local_cache.specs.Arena.{Arena, IsHeld}
+use Rattle.local_cache.specs.Arena.{Arena, HasNode}
 use Rattle.local_cache.specs.Own.{is_absent, is_resident, own_of}
 use Rattle.local_cache.specs.Reading.{forest_of, name_of, page_of}
 use Rattle.local_cache.specs.Sound.{IsSound}
@@ -38,7 +38,7 @@ some_page (Slot s) e = refl
 some_page OnSegment e = refl
 
 -- an heir has no own page
-pub heir_absent : (a : Arena) → IsSound a → (x : NodeName) (h : NodeId) → IsHeld a h → heir (forest_of a) x ≡ Some (name_of a h) → own_of a h ≡ Absent
+pub heir_absent : (a : Arena) → IsSound a → (x : NodeName) (h : NodeId) → HasNode a h → heir (forest_of a) x ≡ Some (name_of a h) → own_of a h ≡ Absent
 heir_absent a sound x h held is = absent_page (own_of a h) (sym (ap (λ k. k.own) (node-forest_of a sound.kept.named h held)) ∙ (heir_hangs (forest_of a) sound.linked x (name_of a h) is).0)
 
 -- who has no own page is bound to no frame

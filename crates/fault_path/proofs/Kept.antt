@@ -12,7 +12,7 @@ use Rattle.vm_ids.proofs.Forest.Laws.Reading.{owners_own_values}
 use Rattle.vm_ids.proofs.Forest.PageMap.{heir-map, owner_of-map}
 use Rattle.local_cache.specs.declared.own_state.OwnState.{OwnState}
 use Rattle.local_cache.specs.declared.own_state.OwnState.TheVariants.{Absent, Zero, Resident, Slot, OnSegment}
-use Rattle.local_cache.specs.Arena.{IsHeld}
+use Rattle.local_cache.specs.Arena.{HasNode}
 use Rattle.local_cache.specs.Own.{is_absent, own_of}
 use Rattle.local_cache.specs.Reading.{forest_of, name_of}
 use Rattle.local_cache.specs.Sound.{IsSound}
@@ -46,16 +46,16 @@ caches_shaped w sound shaped = bare-shaped (store_forest w) (forest_of w.caches)
 pub store_heir : (w : World) → IsSound w.caches → (x : NodeName) → heir (store_forest w) x ≡ heir (forest_of w.caches) x
 store_heir w sound x = sym (heir-map no_page (store_forest w) x) ∙ ap (λ f. heir f x) (store_bare w sound) ∙ heir-map no_page (forest_of w.caches) x
 
-pub store_node : (w : World) → IsSound w.caches → (n : NodeId) → IsHeld w.caches n → IsNode (store_forest w) (name_of w.caches n)
+pub store_node : (w : World) → IsSound w.caches → (n : NodeId) → HasNode w.caches n → IsNode (store_forest w) (name_of w.caches n)
 unfolding store_forest
 store_node w sound n there = IsNode-forest_by w.caches (own_page w) sound.kept.named n there
 
-pub store_page : (w : World) → IsSound w.caches → (n : NodeId) → IsHeld w.caches n → (node (store_forest w) (name_of w.caches n)).own ≡ own_page w n
+pub store_page : (w : World) → IsSound w.caches → (n : NodeId) → HasNode w.caches n → (node (store_forest w) (name_of w.caches n)).own ≡ own_page w n
 unfolding store_forest
 store_page w sound n there = page-at (own_page w) w.caches sound.kept.named n there
 
 -- a node reads the own page of its owner
-pub value_at : (w : World) → IsSound w.caches → IsWellShaped (forest_of w.caches) → (n o : NodeId) → IsHeld w.caches n → IsOwner w.caches n o → value_of (store_forest w) (name_of w.caches n) ≡ own_page w o
+pub value_at : (w : World) → IsSound w.caches → IsWellShaped (forest_of w.caches) → (n o : NodeId) → HasNode w.caches n → IsOwner w.caches n o → value_of (store_forest w) (name_of w.caches n) ≡ own_page w o
 value_at w sound shaped n o there owner =
     let x : NodeName = name_of w.caches n in
     sym (owners_own_values (store_forest w) (store_shaped w sound shaped) x (store_node w sound n there))

@@ -9,7 +9,7 @@ use Rattle.frame_pool.specs.Pool.{bytes_of, is_pinned}
 use Rattle.global_map.specs.Pairs.{node_of}
 use Rattle.local_cache.specs.declared.own_state.OwnState.{OwnState}
 use Rattle.local_cache.specs.declared.own_state.OwnState.TheVariants.{Absent, Resident}
-use Rattle.local_cache.specs.Arena.{Arena, IsHeld, find, with_own}
+use Rattle.local_cache.specs.Arena.{Arena, HasNode, find, with_own}
 use Rattle.local_cache.specs.Changes.{Like, Relinked}
 use Rattle.local_cache.specs.Own.{own_of}
 use Rattle.local_cache.specs.Reading.{IsNamed, name_of, page_of}
@@ -52,7 +52,7 @@ pub record GivesFrame (w v : World) (f : ℕ) (n : NodeId) : Type 0 where
 handed_named : (a b : Arena) → IsNamed a → Relinked a b → IsNamed b
 handed_named a b named links = named-like a b named links.like links.made
 
-module _ (w : World) (f : ℕ) (n : NodeId) (right : IsStoreRight w) (taken : IsTaken w f) (sound : IsSound w.caches) (there : IsHeld w.caches n) (absent : own_of w.caches n ≡ Absent) where
+module _ (w : World) (f : ℕ) (n : NodeId) (right : IsStoreRight w) (taken : IsTaken w f) (sound : IsSound w.caches) (there : HasNode w.caches n) (absent : own_of w.caches n ≡ Absent) where
   module _ (b : Arena) (in_b : IsResidentIn w.caches b n) (is_sound : IsSound b) (like : Like w.caches b) (made : b.made ≡ w.caches.made) (copies : b.copies ≡ w.caches.copies + 1) (room : b.room ≡ w.caches.room) where
     gives : GivesFrame w (homed w f n b) f n
     gives = record {

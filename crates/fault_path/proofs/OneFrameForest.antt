@@ -12,7 +12,7 @@ use Rattle.vm_ids.proofs.Forest.Reading.{value-IsValue}
 use Rattle.vm_ids.proofs.Places.{back}
 use Rattle.frame_pool.specs.Pool.{is_pinned}
 use Rattle.local_cache.specs.declared.own_state.OwnState.TheVariants.{Absent, Resident}
-use Rattle.local_cache.specs.Arena.{Arena, IsHeld}
+use Rattle.local_cache.specs.Arena.{Arena, HasNode}
 use Rattle.local_cache.specs.Own.{own_of}
 use Rattle.local_cache.specs.Reading.{forest_of, name_of}
 use Rattle.local_cache.specs.Sound.{IsSound}
@@ -52,14 +52,14 @@ module _ (old w : World) (f : ℕ) (still : Still old w) (taken : IsTaken w f) (
   pub sound_w : IsSound w.caches
   sound_w = still_caches_sound old w still sound
 
-  pub there_w : (n : NodeId) → IsHeld old.caches n → IsHeld w.caches n
+  pub there_w : (n : NodeId) → HasNode old.caches n → HasNode w.caches n
   there_w n there = let like = still_like old.caches w.caches still.stays.caches in like.held n ∙ there
 
   pub name_w : (n : NodeId) → name_of w.caches n ≡ name_of old.caches n
   name_w n = let like = still_like old.caches w.caches still.stays.caches in like.name n
 
   -- own
-  module _ (n o : NodeId) (there : IsHeld old.caches n) (absent : own_of old.caches n ≡ Absent) (owner : IsOwner old.caches n o) (page : HasPageOf w f o) (b : Arena) (is : IsOwned w.caches b n) where
+  module _ (n o : NodeId) (there : HasNode old.caches n) (absent : own_of old.caches n ≡ Absent) (owner : IsOwner old.caches n o) (page : HasPageOf w f o) (b : Arena) (is : IsOwned w.caches b n) where
     pub own_gives : GivesFrame w (homed w f n b) f n
     own_gives = owned_gives w f n still.stays.right taken sound_w (there_w n there) (still_absent old w still sound n absent) b is
 
@@ -83,7 +83,7 @@ module _ (old w : World) (f : ℕ) (still : Still old w) (taken : IsTaken w f) (
     own_copies = own_gives.copies ∙ ap (λ k. k + 1) (still_copies old.caches w.caches still.stays.caches)
 
   -- heir_gets
-  module _ (n h : NodeId) (there : IsHeld old.caches n) (some : is_some (own_page old n) ≡ true) (held : IsHeld old.caches h) (heir_is : heir (forest_of old.caches) (name_of old.caches n) ≡ Some (name_of old.caches h)) (absent : own_of old.caches h ≡ Absent) (page : HasPageOf w f n) (b : Arena) (is : IsHanded w.caches b n h) where
+  module _ (n h : NodeId) (there : HasNode old.caches n) (some : is_some (own_page old n) ≡ true) (held : HasNode old.caches h) (heir_is : heir (forest_of old.caches) (name_of old.caches n) ≡ Some (name_of old.caches h)) (absent : own_of old.caches h ≡ Absent) (page : HasPageOf w f n) (b : Arena) (is : IsHanded w.caches b n h) where
     pub hand_gives : GivesFrame w (homed w f h b) f h
     hand_gives = handed_gives w f h still.stays.right taken sound_w (there_w h held) (still_absent old w still sound h absent) b n is
 

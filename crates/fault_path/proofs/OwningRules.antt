@@ -22,7 +22,7 @@ use Rattle.vm_ids.proofs.Forest.Reading.{value-IsValue}
 use Rattle.vm_ids.proofs.Forest.Values.{handed, heir_hangs}
 use Rattle.local_cache.specs.declared.own_state.OwnState.{OwnState}
 use Rattle.local_cache.specs.declared.own_state.OwnState.TheVariants.{Absent, Zero, Resident, Slot, OnSegment}
-use Rattle.local_cache.specs.Arena.{Arena, cell, IsHeld}
+use Rattle.local_cache.specs.Arena.{Arena, cell, HasNode}
 use Rattle.local_cache.specs.Changes.{Like}
 use Rattle.local_cache.specs.Reading.{forest_of, name_of, page_of}
 use Rattle.local_cache.specs.Sound.{IsSound}
@@ -34,12 +34,12 @@ use Rattle.page_stubs.proofs.Rules.Ranks.{under_ranked}
 use Rattle.fault_path.proofs.ForestSize.{more_names}
 
 -- the own state of the owner is the page that a node reads
-pub owner_page : (a : Arena) → IsSound a → IsWellShaped (forest_of a) → (n o : NodeId) → IsHeld a n → IsHeld a o → name_of a o ≡ owner_of (forest_of a) (name_of a n) → (s : OwnState) → s ≡ (cell a o).own → page_of s ≡ value_of (forest_of a) (name_of a n)
+pub owner_page : (a : Arena) → IsSound a → IsWellShaped (forest_of a) → (n o : NodeId) → HasNode a n → HasNode a o → name_of a o ≡ owner_of (forest_of a) (name_of a n) → (s : OwnState) → s ≡ (cell a o).own → page_of s ≡ value_of (forest_of a) (name_of a n)
 owner_page a sound shaped n o hn ho named s is =
     ap page_of is ∙ sym (ap (λ m. m.own) (node-forest_of a sound.kept.named o ho)) ∙ ap (λ x. (node (forest_of a) x).own) named ∙ owners_own_values (forest_of a) shaped (name_of a n) (IsNode-forest_of a sound.kept.named n hn)
 
 -- an own page is the page that a node reads
-pub own_page : (a : Arena) → IsSound a → (n : NodeId) → IsHeld a n → IsSome (node (forest_of a) (name_of a n)).own → (s : OwnState) → s ≡ (cell a n).own → page_of s ≡ value_of (forest_of a) (name_of a n)
+pub own_page : (a : Arena) → IsSound a → (n : NodeId) → HasNode a n → IsSome (node (forest_of a) (name_of a n)).own → (s : OwnState) → s ≡ (cell a n).own → page_of s ≡ value_of (forest_of a) (name_of a n)
 own_page a sound n hn some s is = ap page_of is ∙ sym (ap (λ m. m.own) (node-forest_of a sound.kept.named n hn)) ∙ go (node (forest_of a) (name_of a n)).own refl some
   where
     go : (o : Option OwnState) → (node (forest_of a) (name_of a n)).own ≡ o → IsSome o → (node (forest_of a) (name_of a n)).own ≡ value_of (forest_of a) (name_of a n)
@@ -98,7 +98,7 @@ unfolding own
 owned f x v is = ap (λ w. count_copy (gets f x w)) is
 
 -- The node h is the heir of n, and got its page.
-module _ (a b : Arena) (sound : IsSound a) (n h : NodeId) (hn : IsHeld a n) (hh : IsHeld a h) (is : heir (forest_of a) (name_of a n) ≡ Some (name_of a h)) (s : OwnState)
+module _ (a b : Arena) (sound : IsSound a) (n h : NodeId) (hn : HasNode a n) (hh : HasNode a h) (is : heir (forest_of a) (name_of a n) ≡ Some (name_of a h)) (s : OwnState)
     (forest : forest_of b ≡ gets (forest_of a) (name_of a h) (page_of s)) (after : IsSound b) (like : Like a b) where
   pub apart : h ≢ n
   apart e = apart_of_heir (forest_of a) sound.linked (name_of a n) (name_of a h) is (sym (ap (name_of a) e))
@@ -137,6 +137,6 @@ page_told (Slot k) h = refl
 page_told OnSegment h = refl
 
 -- what a page of a cache holds
-pub page_loaded : (a : Arena) → IsSound a → IsWellShaped (forest_of a) → (n o : NodeId) → IsHeld a n → IsHeld a o → name_of a o ≡ owner_of (forest_of a) (name_of a n) → IsSome (page_of (cell a o).own) → (s : OwnState) → s ≡ (cell a o).own
+pub page_loaded : (a : Arena) → IsSound a → IsWellShaped (forest_of a) → (n o : NodeId) → HasNode a n → HasNode a o → name_of a o ≡ owner_of (forest_of a) (name_of a n) → IsSome (page_of (cell a o).own) → (s : OwnState) → s ≡ (cell a o).own
     → (x : NodeName) → name_of a n ≡ x → Some s ≡ value_of (forest_of a) x
 page_loaded a sound shaped n o hn ho owner own s is x name = sym (page_told s (subst (λ k. IsSome (page_of k)) (sym is) own)) ∙ owner_page a sound shaped n o hn ho owner s is ∙ ap (value_of (forest_of a)) name

@@ -7,7 +7,7 @@ use Rattle.vm_ids.specs.Forest.Nodes.{Forest, node}
 use Rattle.vm_ids.specs.Forest.Rules.{heir, heir_gets, own, write}
 use Rattle.vm_ids.specs.Forest.Shape.{IsWellShaped}
 use Rattle.local_cache.specs.declared.own_state.OwnState.TheVariants.{Absent}
-use Rattle.local_cache.specs.Arena.{IsHeld}
+use Rattle.local_cache.specs.Arena.{HasNode}
 use Rattle.local_cache.specs.Own.{own_of}
 use Rattle.local_cache.specs.Reading.{forest_of, name_of}
 use Rattle.local_cache.specs.Sound.{IsSound}
@@ -19,7 +19,7 @@ use Rattle.fault_path.proofs.Heirs.{has_own, no_heir}
 use Rattle.fault_path.proofs.Kept.{store_heir, store_page, store_shaped}
 use Rattle.fault_path.proofs.TwoFrames.{absent_none, heir-own, readied_bare, readied_own}
 
-module _ (w : World) (sound : IsSound w.caches) (shaped : IsWellShaped (forest_of w.caches)) (n : NodeId) (there : IsHeld w.caches n) where
+module _ (w : World) (sound : IsSound w.caches) (shaped : IsWellShaped (forest_of w.caches)) (n : NodeId) (there : HasNode w.caches n) where
   pub own_ready : own_of w.caches n ≡ Absent → heir (forest_of w.caches) (name_of w.caches n) ≡ None → own (store_forest w) (name_of w.caches n) ≡ readied (store_forest w) (name_of w.caches n)
   own_ready absent none =
       let k = store_shaped w sound shaped in

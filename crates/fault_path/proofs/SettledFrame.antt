@@ -9,7 +9,7 @@ use Rattle.frame_pool.specs.Pool.{bytes_of, is_pinned}
 use Rattle.local_cache.specs.declared.home.Home.{Home}
 use Rattle.local_cache.specs.declared.own_state.OwnState.{OwnState}
 use Rattle.local_cache.specs.declared.own_state.OwnState.TheVariants.{Absent, Resident}
-use Rattle.local_cache.specs.Arena.{Arena, IsHeld, find, with_own}
+use Rattle.local_cache.specs.Arena.{Arena, HasNode, find, with_own}
 use Rattle.local_cache.specs.Changes.{Like}
 use Rattle.local_cache.specs.Home.{home_of}
 use Rattle.local_cache.specs.Own.{is_in_slot, is_resident, is_slot, own_of, own_states}
@@ -67,7 +67,7 @@ pub record IsResidentIn (a b : Arena) (n : NodeId) : Type 0 where
   pub held : (m : NodeId) → is_some (find b m) ≡ is_some (find (with_own a n (Resident true)) m)
   pub own : (m : NodeId) → own_of b m ≡ own_of (with_own a n (Resident true)) m
 
-module _ (w : World) (f : ℕ) (n : NodeId) (right : IsStoreRight w) (taken : IsTaken w f) (there : IsHeld w.caches n) (absent : own_of w.caches n ≡ Absent) (b : Arena) (in_b : IsResidentIn w.caches b n) where
+module _ (w : World) (f : ℕ) (n : NodeId) (right : IsStoreRight w) (taken : IsTaken w f) (there : HasNode w.caches n) (absent : own_of w.caches n ≡ Absent) (b : Arena) (in_b : IsResidentIn w.caches b n) where
   abbrev bytes : List ℕ
   bytes = bytes_of w.frames f
 

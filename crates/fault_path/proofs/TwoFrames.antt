@@ -23,7 +23,7 @@ use Rattle.vm_ids.proofs.Places.{back}
 use Rattle.frame_pool.specs.Pool.{bytes_of, is_pinned}
 use Rattle.global_map.specs.Pairs.{node_of}
 use Rattle.local_cache.specs.declared.own_state.OwnState.TheVariants.{Absent, Resident}
-use Rattle.local_cache.specs.Arena.{Arena, IsHeld}
+use Rattle.local_cache.specs.Arena.{Arena, HasNode}
 use Rattle.local_cache.specs.Own.{own_of}
 use Rattle.local_cache.specs.Reading.{forest_of, name_of}
 use Rattle.local_cache.specs.Sound.{IsSound}
@@ -136,7 +136,7 @@ module _ (old w v : World) (f : ℕ) (gathered : IsGathered f old w) (none : Non
 
 -- The page of o, which n reads, was copied out and doubled, and n owns it.
 module _ {old w v : World} {f g : ℕ} {n o : NodeId} {b : Arena} (right : IsForestRight old) (copied : IsCopiedOut o f old w) (doubled : IsDoubled f g w v)
-    (there : IsHeld old.caches n) (absent : own_of old.caches n ≡ Absent) (owner : IsOwner old.caches n o) (is : IsOwned v.caches b n) where
+    (there : HasNode old.caches n) (absent : own_of old.caches n ≡ Absent) (owner : IsOwner old.caches n o) (is : IsOwned v.caches b n) where
   sound : IsSound old.caches
   sound = right.sound
 
@@ -177,7 +177,7 @@ module _ {old w v : World} {f g : ℕ} {n o : NodeId} {b : Arena} (right : IsFor
   pub step_name : (m : NodeId) → name_of b m ≡ name_of old.caches m
   step_name m = let like = still_like old.caches v.caches whole.stays.caches in let more = step_gives.like in more.name m ∙ like.name m
 
-  pub step_there : (m : NodeId) → IsHeld old.caches m → IsHeld b m
+  pub step_there : (m : NodeId) → HasNode old.caches m → HasNode b m
   step_there m h = let like = still_like old.caches v.caches whole.stays.caches in let more = step_gives.like in more.held m ∙ like.held m ∙ h
 
   pub step_copies : b.copies ≡ old.caches.copies + 1
@@ -209,7 +209,7 @@ module _ {old w v : World} {f g : ℕ} {n o : NodeId} {b : Arena} (right : IsFor
   still_u = still (homed v f n b) step_gives.right
 
   -- and its heir the page as it is
-  module _ {h : NodeId} (held : IsHeld old.caches h) (heir_is : heir (forest_of old.caches) (name_of old.caches n) ≡ Some (name_of old.caches h)) {d : Arena} (handed : IsHanded b d n h) where
+  module _ {h : NodeId} (held : HasNode old.caches h) (heir_is : heir (forest_of old.caches) (name_of old.caches n) ≡ Some (name_of old.caches h)) {d : Arena} (handed : IsHanded b d n h) where
     absent_h : own_of b h ≡ Absent
     absent_h = heir_absent b step_gives.sound (name_of b n) h (step_there h held) (step_heir h heir_is)
 

@@ -11,7 +11,7 @@ use Rattle.frame_pool.specs.Pool.{Frames, bytes_of, is_pinned, pinned_count}
 use Rattle.global_map.specs.Pairs.{node_of}
 use Rattle.local_cache.specs.declared.own_state.OwnState.{OwnState}
 use Rattle.local_cache.specs.declared.own_state.OwnState.TheVariants.{Absent, Zero, Resident, Slot, OnSegment}
-use Rattle.local_cache.specs.Arena.{Arena, IsHeld}
+use Rattle.local_cache.specs.Arena.{Arena, HasNode}
 use Rattle.local_cache.specs.Changes.{Like}
 use Rattle.local_cache.specs.Home.{home_of}
 use Rattle.local_cache.specs.Reading.{forest_of, name_of}
@@ -25,7 +25,7 @@ HasLoose n p = pinned_count p + n ≤ length p.pinned
 
 -- o is the owner of n: the node whose own page n reads
 pub record IsOwner (a : Arena) (n o : NodeId) : Type 0 where
-  pub held : IsHeld a o
+  pub held : HasNode a o
   pub name : name_of a o ≡ owner_of (forest_of a) (name_of a n)
 
 abbrev pub is_zero : OwnState → Bool

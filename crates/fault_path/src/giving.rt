@@ -4,7 +4,7 @@ ghost use Rattle.vm_ids.specs.Forest.NameMap.{len};
 ghost use Rattle.vm_ids.specs.Forest.Nodes.{is_stub, node as node_named};
 ghost use Rattle.vm_ids.specs.Forest.Rules as forest;
 ghost use Rattle.global_map.specs.Pairs.{bound_times, node_of};
-ghost use Rattle.local_cache.specs.Arena.{IsHeld};
+ghost use Rattle.local_cache.specs.Arena.{HasNode};
 ghost use Rattle.local_cache.specs.Reading.{forest_of, name_of, node_of as read_node};
 ghost use Rattle.local_cache.specs.Sound.{IsSound};
 ghost use Rattle.residency.specs.Frames.{with_pinned};
@@ -18,7 +18,7 @@ use vm_ids::{FrameId, NodeId};
 
 // Whether a node hangs by a stub link.
 fn hangs_by_stub(caches: &Caches, node: NodeId) -> bool
-    requires { IsHeld caches.now node }
+    requires { HasNode caches.now node }
     ensures { result ≡ is_stub (read_node caches.now node).hang }
 {
     let links = caches.links(node);
@@ -28,7 +28,7 @@ fn hangs_by_stub(caches: &Caches, node: NodeId) -> bool
 // The node has its page in a frame, and is no stub then.
 fn set_resident(caches: &mut Caches, node: NodeId)
     requires sound { IsSound caches.old }
-    requires node { IsHeld caches.old node }
+    requires node { HasNode caches.old node }
     ensures { IsGiven caches.old caches.new node }
 {
     caches.set_state(node, OwnState::Resident { dirty: true });
@@ -40,7 +40,7 @@ fn set_resident(caches: &mut Caches, node: NodeId)
 // The same, and one more page was copied.
 pub(crate) fn own_page(caches: &mut Caches, node: NodeId)
     requires sound { IsSound caches.old }
-    requires node { IsHeld caches.old node }
+    requires node { HasNode caches.old node }
     requires copies { caches.old.copies < 2 ^ 63 }
     ensures { IsOwned caches.old caches.new node }
 {
@@ -51,8 +51,8 @@ pub(crate) fn own_page(caches: &mut Caches, node: NodeId)
 // The same for the heir of a node, which gets all other stubs of the node too.
 pub(crate) fn hand_page(caches: &mut Caches, node: NodeId, heir: NodeId)
     requires sound { IsSound caches.old }
-    requires node { IsHeld caches.old node }
-    requires heir { IsHeld caches.old heir }
+    requires node { HasNode caches.old node }
+    requires heir { HasNode caches.old heir }
     requires is { IsHeirOf caches.old node heir }
     requires copies { caches.old.copies < 2 ^ 63 }
     ensures { IsHanded caches.old caches.new node heir }

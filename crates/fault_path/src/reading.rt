@@ -2,10 +2,10 @@
 ghost use Rattle.std.specs.Prelude.{◌≡◌, ◌+◌, ◌-◌, ◌<◌, ◌≤◌, true, false, Some, IfErr, IfOk, IfSome, IsOk, length};
 ghost use Rattle.vm_ids.specs.declared.numbers.NodeId.{NodeId};
 ghost use Rattle.vm_ids.specs.Forest.Reading.{value_of};
-ghost use Rattle.local_cache.specs.Arena.{IsHeld};
+ghost use Rattle.local_cache.specs.Arena.{HasNode};
 ghost use Rattle.local_cache.specs.Own.{own_of};
 ghost use Rattle.local_cache.specs.Reading.{forest_of, name_of};
-ghost use Rattle.residency.specs.Causes.{HasMissCause, Made, dirtied, dirty_count, failed_victims, pulls_for, pushes_to_bring};
+ghost use Rattle.residency.specs.Causes.{HasMissCause, Traffic, dirtied, dirty_count, failed_victims, pulls_for, pushes_to_bring};
 ghost use Rattle.residency.specs.Between.{Across, Between};
 ghost use Rattle.residency.specs.World.{HasUnpinned, HoldsPage, Still, world};
 ghost use Rattle.fault_path.specs.Answers.{IsAnswered, RightForest};
@@ -20,7 +20,7 @@ use vm_port::{Chooser, Mapper};
 
 // Whether the own page of a node is a page of zeros.
 fn is_zero(caches: &Caches, node: NodeId) -> bool
-    requires { IsHeld caches.now node }
+    requires { HasNode caches.now node }
     ensures { result ≡ faults.is_zero (own_of caches.now node) }
 {
     matches!(caches.own_state(node), OwnState::Zero)
@@ -36,7 +36,7 @@ pub fn read_fault<M: Mapper, C: Chooser>(
     chooser: &mut C,
 ) -> Result<Option<FrameId>, Miss>
     requires right { RightForest M.held M.page_bytes mapper.old caches.old store.old }
-    requires node { IsHeld caches.old node }
+    requires node { HasNode caches.old node }
     requires unpinned { (o : NodeId) → IsOwner caches.old node o →
         is_at_hand (own_of caches.old o) ≡ false → HasUnpinned store.old.frames }
     ensures answered { Across IsAnswered M.held M.page_bytes M.counts
@@ -61,7 +61,7 @@ pub fn read_fault<M: Mapper, C: Chooser>(
         IsOk result × (store.new ≡ store.old) × (caches.new ≡ caches.old)
         × (mapper.new ≡ mapper.old) }
     ensures made { (o : NodeId) → IsOwner caches.old node o →
-        faults.is_zero (own_of caches.old o) ≡ false → Made
+        faults.is_zero (own_of caches.old o) ≡ false → Traffic
         (pulls_for result (own_of caches.old o))
         (dirty_count caches.old + dirtied result (own_of caches.old o)
         - dirty_count caches.new + failed_victims result)

@@ -6,7 +6,7 @@ ghost use Rattle.vm_ids.specs.Forest.Nodes.{is_live};
 ghost use Rattle.vm_ids.specs.Forest.Rules as forest;
 ghost use Rattle.frame_pool.specs.Pool.{is_pinned};
 ghost use Rattle.global_map.specs.Pairs.{node_of};
-ghost use Rattle.local_cache.specs.Arena.{IsHeld};
+ghost use Rattle.local_cache.specs.Arena.{HasNode};
 ghost use Rattle.local_cache.specs.Own.{own_of};
 ghost use Rattle.local_cache.specs.Reading.{forest_of, name_of};
 ghost use Rattle.residency.specs.Causes.{frames_to_bring};
@@ -34,7 +34,7 @@ pub fn own<M: Mapper, C: Chooser>(
     chooser: &mut C,
 ) -> Result<(), Miss>
     requires right { RightForest M.held M.page_bytes mapper.old caches.old store.old }
-    requires node { IsHeld caches.old node }
+    requires node { HasNode caches.old node }
     requires bare { own_of caches.old node ≡ OwnState.Absent }
     requires loose { HasLoose 2 store.old.frames }
     requires copies { caches.old.copies < 2 ^ 63 }
@@ -65,7 +65,7 @@ fn own_framed<M: Mapper, C: Chooser>(
     chooser: &mut C,
 ) -> Result<FrameId, Miss>
     requires right { RightForest M.held M.page_bytes mapper.old caches.old store.old }
-    requires node { IsHeld caches.old node }
+    requires node { HasNode caches.old node }
     requires bare { own_of caches.old node ≡ OwnState.Absent }
     requires loose { HasLoose 2 store.old.frames }
     requires copies { caches.old.copies < 2 ^ 63 }
@@ -132,7 +132,7 @@ fn hand_over<M: Mapper, C: Chooser>(
 ) -> Result<(), Miss>
     requires right { RightForest M.held M.page_bytes mapper.old caches.old store.old }
     requires own { HasOwnPage caches.old node }
-    requires next { IsHeld caches.old next }
+    requires next { HasNode caches.old next }
     requires is { IsHeirOf caches.old node next }
     requires loose { HasLoose 2 store.old.frames }
     requires copies { caches.old.copies < 2 ^ 63 }
@@ -171,7 +171,7 @@ pub fn write_fault<M: Mapper, C: Chooser>(
     chooser: &mut C,
 ) -> Result<FrameId, Miss>
     requires right { RightForest M.held M.page_bytes mapper.old caches.old store.old }
-    requires node { IsHeld caches.old node }
+    requires node { HasNode caches.old node }
     requires live { is_live (name_of caches.old node) ≡ true }
     requires granted { MayWrite caches.old node }
     requires loose { HasLoose 3 store.old.frames }
@@ -212,9 +212,9 @@ fn own_and_hand<M: Mapper, C: Chooser>(
     chooser: &mut C,
 ) -> Result<FrameId, Miss>
     requires right { RightForest M.held M.page_bytes mapper.old caches.old store.old }
-    requires node { IsHeld caches.old node }
+    requires node { HasNode caches.old node }
     requires bare { own_of caches.old node ≡ OwnState.Absent }
-    requires next { IsHeld caches.old next }
+    requires next { HasNode caches.old next }
     requires is { IsHeirOf caches.old node next }
     requires loose { HasLoose 3 store.old.frames }
     requires copies { caches.old.copies + 1 < 2 ^ 63 }
@@ -254,7 +254,7 @@ fn hand_own<M: Mapper, C: Chooser>(
 ) -> Result<FrameId, Miss>
     requires right { RightForest M.held M.page_bytes mapper.old caches.old store.old }
     requires own { HasOwnPage caches.old node }
-    requires next { IsHeld caches.old next }
+    requires next { HasNode caches.old next }
     requires is { IsHeirOf caches.old node next }
     requires granted { MayWrite caches.old node }
     requires loose { HasLoose 2 store.old.frames }

@@ -11,7 +11,7 @@ use Rattle.vm_ids.specs.Forest.Shape.{IsLinked, IsWellShaped}
 use Rattle.vm_ids.specs.Forest.Reading.{chain_of}
 use Rattle.vm_ids.proofs.Forest.Fitting.{names_fit, IsNode-parent}
 use Rattle.vm_ids.proofs.Forest.NameLists.{in_append, Once-append}
-use Rattle.local_cache.specs.Arena.{Arena, cell, IsHeld}
+use Rattle.local_cache.specs.Arena.{Arena, cell, HasNode}
 use Rattle.local_cache.specs.Reading.{name_of, page_of, forest_of, stubs_of}
 use Rattle.local_cache.specs.Sound.{IsSound}
 use Rattle.local_cache.proofs.Forest.Reading.{node-forest_of, IsNode-forest_of}
@@ -40,7 +40,7 @@ most_two : (x : NodeName) → most_tree_children x ≤ 2
 most_two (Live c p) = omega arith
 most_two (Working k) = omega arith
 
-module _ (a : Arena) (sound : IsSound a) (n : NodeId) (h : IsHeld a n) where
+module _ (a : Arena) (sound : IsSound a) (n : NodeId) (h : HasNode a n) where
   pub at_most_two : length (cell a n).tree ≤ 2
   at_most_two = let most = sound.linked.few (name_of a n) in omega (arith, ap (λ m. length m.tree) (node-forest_of a sound.kept.named n h), length-map (cell a n).tree (name_of a), most_two (name_of a n))
 
@@ -54,7 +54,7 @@ module _ (a : Arena) (sound : IsSound a) (n : NodeId) (h : IsHeld a n) where
 
 -- The chain ------------------------------------------------------------------------
 
-module _ (a : Arena) (sound : IsSound a) (shaped : IsWellShaped (forest_of a)) (n : NodeId) (h : IsHeld a n) where
+module _ (a : Arena) (sound : IsSound a) (shaped : IsWellShaped (forest_of a)) (n : NodeId) (h : HasNode a n) where
   pub chain_up : (p : NodeId) → is_none (page_of (cell a n).own) ≡ true → (cell a n).links.parent ≡ Some p → chain_of (forest_of a) (name_of a n) ≡ item_for (forest_of a) (name_of a n) ∷ chain_of (forest_of a) (name_of a p)
   unfolding chain_of
   chain_up p bare up = ap (map (item_for (forest_of a))) (path_up a sound shaped n h p bare up)

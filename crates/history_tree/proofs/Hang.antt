@@ -16,7 +16,7 @@ use Rattle.vm_ids.specs.Forest.Changes.{edit, with_hang, set_tree, count_working
 use Rattle.vm_ids.specs.Forest.Nodes.Hang.{Root, TreeOf}
 use Rattle.vm_ids.specs.declared.numbers.NodeId.{NodeId}
 use Rattle.local_cache.specs.declared.own_state.OwnState.{OwnState}
-use Rattle.local_cache.specs.Arena.{Arena, cell, find, IsHeld, hung, with_tree, with_new, with_working}
+use Rattle.local_cache.specs.Arena.{Arena, cell, find, HasNode, hung, with_tree, with_new, with_working}
 use Rattle.local_cache.specs.Reading.{name_of, forest_of, hang_by}
 use Rattle.local_cache.specs.Sound.{IsSound, IsKept, ◌∈◌}
 use Rattle.local_cache.proofs.Changes.SameNodes.{Like, rehung_then, hang_root, forest_of-made}
@@ -27,22 +27,22 @@ use Rattle.history_tree.proofs.Inheriting.{most_one}
 use Rattle.history_tree.proofs.OwnPages.{states-link}
 use Rattle.history_tree.specs.Hanging.{set_one, set_two, IsGrown}
 
-held : (a b : Arena) → Like a b → (n : NodeId) → IsHeld a n → IsHeld b n
+held : (a b : Arena) → Like a b → (n : NodeId) → HasNode a n → HasNode b n
 held a b like n h = like.held n ∙ h
 
-all_one : (a : Arena) (x : NodeId) → IsHeld a x → (m : NodeId) → m ∈ (x ∷ []) → IsHeld a m
-all_one a x hx m (inl e) = subst (IsHeld a) (sym e) hx
+all_one : (a : Arena) (x : NodeId) → HasNode a x → (m : NodeId) → m ∈ (x ∷ []) → HasNode a m
+all_one a x hx m (inl e) = subst (HasNode a) (sym e) hx
 all_one a x hx m (inr i) = absurd i
 
-all_two : (a : Arena) (x y : NodeId) → IsHeld a x → IsHeld a y → (m : NodeId) → m ∈ (x ∷ y ∷ []) → IsHeld a m
-all_two a x y hx hy m (inl e) = subst (IsHeld a) (sym e) hx
+all_two : (a : Arena) (x y : NodeId) → HasNode a x → HasNode a y → (m : NodeId) → m ∈ (x ∷ y ∷ []) → HasNode a m
+all_two a x y hx hy m (inl e) = subst (HasNode a) (sym e) hx
 all_two a x y hx hy m (inr i) = all_one a y hy m i
 
-hang-step : (a : Arena) → IsKept a → (n p : NodeId) → IsHeld a n → IsHeld a p → IsNoStub a n
+hang-step : (a : Arena) → IsKept a → (n p : NodeId) → HasNode a n → HasNode a p → IsNoStub a n
     → Edited a (hung a n (Some p)) (edit (forest_of a) (name_of a n) (with_hang (TreeOf (name_of a p))))
-hang-step a kept n p hn hp none = hang-edited a kept n hn none (Some p) (λ q e. subst (IsHeld a) (cc e) hp)
+hang-step a kept n p hn hp none = hang-edited a kept n hn none (Some p) (λ q e. subst (HasNode a) (cc e) hp)
 
-pub one-step : (a : Arena) → IsKept a → (p x : NodeId) → IsHeld a p → IsHeld a x → IsNoStub a x
+pub one-step : (a : Arena) → IsKept a → (p x : NodeId) → HasNode a p → HasNode a x → IsNoStub a x
     → Edited a (set_one a p x) (set_tree (forest_of a) (name_of a p) (name_of a x ∷ []))
 unfolding set_tree forest.hang_all
 one-step a kept p x hp hx none =
@@ -59,7 +59,7 @@ one-step a kept p x hp hx none =
           ∙ ap (λ (f : Forest OwnState). edit f (name_of a x) (with_hang (TreeOf (name_of a p)))) s1.forest;
     }
 
-pub two-step : (a : Arena) → IsKept a → (p x y : NodeId) → IsHeld a p → IsHeld a x → IsHeld a y → IsNoStub a x → IsNoStub a y → y ≢ x
+pub two-step : (a : Arena) → IsKept a → (p x y : NodeId) → HasNode a p → HasNode a x → HasNode a y → IsNoStub a x → IsNoStub a y → y ≢ x
     → Edited a (set_two a p x y) (set_tree (forest_of a) (name_of a p) (name_of a x ∷ name_of a y ∷ []))
 unfolding set_tree forest.hang_all
 two-step a kept p x y hp hx hy none_x none_y y_x =
@@ -134,8 +134,8 @@ link_some f d s h rest e = ap (λ ts. elim ts [
 
 pub record CanLink (a : Arena) (d s : NodeId) : Type 0 where
   pub sound : IsSound a
-  pub held_d : IsHeld a d
-  pub held_s : IsHeld a s
+  pub held_d : HasNode a d
+  pub held_s : HasNode a s
   pub bare : node (forest_of a) (name_of a d) ≡ childless None Root
   pub live : is_live (name_of a s) ≡ true
   pub apart : d ≢ s
@@ -143,7 +143,7 @@ pub record CanLink (a : Arena) (d s : NodeId) : Type 0 where
 not_counted : (a : Arena) → IsSound a → IsNode (forest_of a) (Working (a.made + 1)) → ⊥
 not_counted a sound is = let f = forest_of-IsNode a (Working (a.made + 1)) is in (let low = sound.kept.named.counted f.0 (a.made + 1) f.1 f.2 in omega arith)
 
-bare_parent : (a : Arena) → IsSound a → (d : NodeId) → IsHeld a d → node (forest_of a) (name_of a d) ≡ childless None Root → (cell a d).links.parent ≡ None
+bare_parent : (a : Arena) → IsSound a → (d : NodeId) → HasNode a d → node (forest_of a) (name_of a d) ≡ childless None Root → (cell a d).links.parent ≡ None
 bare_parent a sound d hd bare = hang_root a (cell a d).links.parent (cell a d).links.by_stub (ap (λ n. n.hang) (sym (node-forest_of a sound.kept.named d hd) ∙ bare))
 
 rule-linked : (a : Arena) (d s : NodeId) → CanLink a d s → IsLinked (rules.link (forest_of a) (name_of a d) (name_of a s))
@@ -197,7 +197,7 @@ pub links-more : (a : Arena) (d s w h : NodeId) (rest : List NodeId) → CanLink
 links-more a d s w h rest can tree free roomy =
     let sound = can.sound in
     let f : Forest OwnState = forest_of a in
-    let hh : IsHeld a h = sound.kept.children s h can.held_s (subst (λ ts. h ∈ ts) (sym tree) (inl refl)) in
+    let hh : HasNode a h = sound.kept.children s h can.held_s (subst (λ ts. h ∈ ts) (sym tree) (inl refl)) in
     let a1 : Arena = with_working a w in
     let sound1 = sound-fresh a sound w free in
     let w1 = held_new a sound w free in
@@ -211,12 +211,12 @@ links-more a d s w h rest can tree free roomy =
     let h_hangs : (node f (name_of a h)).hang ≡ TreeOf (name_of a s) = (sound.linked.tree_links (name_of a h) (name_of a s)).0 (subst (λ xs. names.◌∈◌ (name_of a h) xs) (sym tree_is) (inl refl)) in
     let h_tree : IsNoStub a h = tree_no_stub a h (name_of a s) (sym (ap (λ n. n.hang) (node-forest_of a sound.kept.named h hh)) ∙ h_hangs) in
     let d_root : IsNoStub a d = root_no_stub a d (bare_parent a sound d can.held_d can.bare) in
-    let later : (n : NodeId) → n ≢ w → IsHeld a n → IsNoStub a n → IsNoStub a2 n = λ n ne hn none. no_stub-hung (with_tree a1 s (w ∷ [])) w (Some s) n ne (no_stub-tree a1 s (w ∷ []) n (no_stub-old a w free n ne none)) in
+    let later : (n : NodeId) → n ≢ w → HasNode a n → IsNoStub a n → IsNoStub a2 n = λ n ne hn none. no_stub-hung (with_tree a1 s (w ∷ [])) w (Some s) n ne (no_stub-tree a1 s (w ∷ []) n (no_stub-old a w free n ne none)) in
     let d_h : d ≢ h = λ e. (let up : (node f (name_of a d)).hang ≡ TreeOf (name_of a s) = ap (λ n. (node f (name_of a n)).hang) e ∙ h_hangs in let root = ap (λ n. n.hang) can.bare in cc (up, root)) in
     let step2 = two-step a2 step1.kept w h d (held a1 a2 step1.rehung.like w w1) (held a1 a2 step1.rehung.like h (held_old a sound w free h hh)) (held a1 a2 step1.rehung.like d (held_old a sound w free d can.held_d)) (later h h_w hh h_tree) (later d d_w can.held_d d_root) d_h in
     let wn : NodeName = Working (a.made + 1) in
     let name_w : name_of a1 w ≡ wn = new_name a sound w free in
-    let name2 : (n : NodeId) → IsHeld a n → name_of a2 n ≡ name_of a n = λ n hn. step1.rehung.like.name n ∙ old_name a sound w free n hn in
+    let name2 : (n : NodeId) → HasNode a n → name_of a2 n ≡ name_of a n = λ n hn. step1.rehung.like.name n ∙ old_name a sound w free n hn in
     let first : forest_of a2 ≡ count_working (set_tree f (name_of a s) (wn ∷ [])) =
     step1.forest
     ∙ ap (λ k. set_tree (forest_of a1) k (name_of a1 w ∷ [])) (old_name a sound w free s can.held_s)
@@ -239,8 +239,8 @@ links-more a d s w h rest can tree free roomy =
       sound = record { kept = step2.kept; linked = subst IsLinked (sym is) (rule-linked a d s can) };
       grown = (let room = step2.rehung.room ∙ step1.rehung.room ∙ room-fresh a w in let nodes : (set_two a2 w h d).room.nodes ≡ a.room.nodes - 1 = ap (λ r. r.nodes) room in
           let made : (set_two a2 w h d).made ≡ a.made + 1 = step2.rehung.made ∙ step1.rehung.made ∙ (counters-fresh a w).0 in
-          let there : (n : NodeId) → IsHeld a n → IsHeld (set_two a2 w h d) n = λ n hn. step2.rehung.like.held n ∙ step1.rehung.like.held n ∙ held_old a sound w free n hn in
-          let called : (n : NodeId) → IsHeld a n → name_of (set_two a2 w h d) n ≡ name_of a n = λ n hn. step2.rehung.like.name n ∙ name2 n hn in record {
+          let there : (n : NodeId) → HasNode a n → HasNode (set_two a2 w h d) n = λ n hn. step2.rehung.like.held n ∙ step1.rehung.like.held n ∙ held_old a sound w free n hn in
+          let called : (n : NodeId) → HasNode a n → name_of (set_two a2 w h d) n ≡ name_of a n = λ n hn. step2.rehung.like.name n ∙ name2 n hn in record {
             held = there;
             names = called;
             own = λ n hn. states-link a (set_two a2 w h d) sound.kept.named step2.kept.named (name_of a d) (name_of a s) is n hn (there n hn) (called n hn);

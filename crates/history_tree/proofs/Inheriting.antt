@@ -9,7 +9,7 @@ use Rattle.vm_ids.specs.Forest.NameLists.{first}
 use Rattle.vm_ids.specs.Forest.Nodes.{Forest, node, is_live, most_tree_children}
 use Rattle.vm_ids.specs.Forest.Rules.{heir}
 use Rattle.local_cache.specs.declared.own_state.OwnState.{OwnState}
-use Rattle.local_cache.specs.Arena.{Arena, cell, IsHeld}
+use Rattle.local_cache.specs.Arena.{Arena, cell, HasNode}
 use Rattle.local_cache.specs.Reading.{name_of, page_of, forest_of, stubs_of}
 use Rattle.local_cache.specs.Threads.{head_or}
 use Rattle.local_cache.specs.Sound.{IsSound, ◌∈◌}
@@ -33,7 +33,7 @@ only_child [] t few e = absurd (cc e)
 only_child (u ∷ []) t few e = let same : t ≡ u = cc e in ap (λ k. k ∷ []) (sym same)
 only_child (u ∷ v ∷ ts) t few e = absurd (omega arith)
 
-module _ (a : Arena) (sound : IsSound a) (n : NodeId) (h : IsHeld a n) where
+module _ (a : Arena) (sound : IsSound a) (n : NodeId) (h : HasNode a n) where
   f : Forest OwnState
   f = forest_of a
 
@@ -60,7 +60,7 @@ module _ (a : Arena) (sound : IsSound a) (n : NodeId) (h : IsHeld a n) where
     ids : (cell a n).tree ≡ t ∷ []
     ids = only_child _ t few there
 
-    pub child_held : IsHeld a t
+    pub child_held : HasNode a t
     child_held = sound.kept.children n t h (subst (λ ts. t ∈ ts) (sym ids) (inl refl))
 
     by_child : heir (forest_of a) (name_of a n) ≡ first (cond (is_none (page_of (cell a t).own)) (name_of a t ∷ []) [] ++ (node (forest_of a) (name_of a n)).stubs)

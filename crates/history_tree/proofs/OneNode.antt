@@ -5,7 +5,7 @@ use Rattle.vm_ids.specs.declared.numbers.NodeId.{NodeId}
 use Rattle.vm_ids.specs.Forest.Nodes.{node}
 use Rattle.vm_ids.specs.Forest.Shape.{IsWellShaped}
 use Rattle.local_cache.specs.declared.own_state.OwnState.TheVariants.{Absent, Zero}
-use Rattle.local_cache.specs.Arena.{Arena, cell, find, IsHeld, with_own, with_working}
+use Rattle.local_cache.specs.Arena.{Arena, cell, find, HasNode, with_own, with_working}
 use Rattle.local_cache.specs.Reading.{name_of, forest_of, page_of}
 use Rattle.local_cache.specs.Sound.{IsSound}
 use Rattle.local_cache.proofs.NewNode.Addition.{was_held}
@@ -26,13 +26,13 @@ module _ (a : Arena) (none : (n : NodeId) → find a n ≡ None) (sound : IsSoun
   sound_one : IsSound (with_working a w)
   sound_one = sound-fresh a sound w (none w)
 
-  held_one : IsHeld (with_working a w) w
+  held_one : HasNode (with_working a w) w
   held_one = held_new a sound w (none w)
 
-  held_own : IsHeld (with_own (with_working a w) w Zero) w
+  held_own : HasNode (with_own (with_working a w) w Zero) w
   held_own = ap is_some (find-put one w _)
 
-  only : (n : NodeId) → IsHeld (with_own (with_working a w) w Zero) n → n ≡ w
+  only : (n : NodeId) → HasNode (with_own (with_working a w) w Zero) n → n ≡ w
   only n h = elim (id_cases n w) [
     | inl e ↦ e
     | inr ne ↦ absurd (no_held a none n (was_held a w (none w) (Working (a.made + 1)) Absent (a.made + 1) n (sym (ap is_some (find-put_other one w n _ ne)) ∙ h) ne))

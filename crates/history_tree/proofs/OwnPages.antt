@@ -8,7 +8,7 @@ use Rattle.vm_ids.specs.Forest.Nodes.Hang.{TreeOf}
 use Rattle.vm_ids.specs.Forest.Rules.{link}
 use Rattle.vm_ids.proofs.Forest.NodesAfter.{hang_all-keeps, keeps}
 use Rattle.vm_ids.specs.declared.numbers.NodeId.{NodeId}
-use Rattle.local_cache.specs.Arena.{Arena, IsHeld}
+use Rattle.local_cache.specs.Arena.{Arena, HasNode}
 use Rattle.local_cache.specs.Own.{own_of}
 use Rattle.local_cache.specs.Reading.{IsNamed, forest_of, name_of}
 use Rattle.local_cache.proofs.Forest.Reading.{node-forest_of}
@@ -33,7 +33,7 @@ module _ {P : Type 0} where
 
 -- so each node has its own state still
 pub states-link : (a b : Arena) → IsNamed a → IsNamed b → (d s : NodeName) → forest_of b ≡ link (forest_of a) d s
-    → (n : NodeId) → IsHeld a n → IsHeld b n → name_of b n ≡ name_of a n → own_of b n ≡ own_of a n
+    → (n : NodeId) → HasNode a n → HasNode b n → name_of b n ≡ name_of a n → own_of b n ≡ own_of a n
 states-link a b was is d s forest n h after name = same_own (own_of b n) (own_of a n) (
     sym (ap (λ k. k.own) (node-forest_of b is n after)) ∙ ap (λ f. (node f (name_of b n)).own) forest ∙ link-own (forest_of a) d s (name_of b n)
     ∙ ap (λ x. (node (forest_of a) x).own) name ∙ ap (λ k. k.own) (node-forest_of a was n h))

@@ -9,7 +9,7 @@ use Rattle.vm_ids.proofs.Forest.Owning.{has_value}
 use Rattle.vm_ids.proofs.Forest.Paths.{path-step}
 use Rattle.vm_ids.specs.declared.numbers.NodeId.{NodeId}
 use Rattle.local_cache.specs.declared.own_state.OwnState.{OwnState}
-use Rattle.local_cache.specs.Arena.{Arena, cell, IsHeld}
+use Rattle.local_cache.specs.Arena.{Arena, cell, HasNode}
 use Rattle.local_cache.specs.Reading.{name_of, page_of, forest_of, hang_by}
 use Rattle.local_cache.specs.Sound.{IsSound}
 use Rattle.local_cache.proofs.Changes.SameNodes.{parent_by}
@@ -23,7 +23,7 @@ some_by : {A : Type 0} (o : Option A) → is_none o ≡ false → (v : A) × (o 
 some_by None e = absurd (false≢true (sym e))
 some_by (Some v) e = (v, refl)
 
-module _ (a : Arena) (sound : IsSound a) (shaped : IsWellShaped (forest_of a)) (n : NodeId) (h : IsHeld a n) where
+module _ (a : Arena) (sound : IsSound a) (shaped : IsWellShaped (forest_of a)) (n : NodeId) (h : HasNode a n) where
   own_is : (node (forest_of a) (name_of a n)).own ≡ page_of (cell a n).own
   own_is = ap (λ m. m.own) (node-forest_of a sound.kept.named n h)
 
@@ -53,8 +53,8 @@ module _ (a : Arena) (sound : IsSound a) (shaped : IsWellShaped (forest_of a)) (
       by_link None t some = some
       by_link (Some p) t some = refl
 
-module _ (a : Arena) (sound : IsSound a) (shaped : IsWellShaped (forest_of a)) (n : NodeId) (h : IsHeld a n) (p : NodeId) (bare : is_none (page_of (cell a n).own) ≡ true) (up : (cell a n).links.parent ≡ Some p) where
-  pub held_up : IsHeld a p
+module _ (a : Arena) (sound : IsSound a) (shaped : IsWellShaped (forest_of a)) (n : NodeId) (h : HasNode a n) (p : NodeId) (bare : is_none (page_of (cell a n).own) ≡ true) (up : (cell a n).links.parent ≡ Some p) where
+  pub held_up : HasNode a p
   held_up = sound.kept.parents n p h up
 
   pub same_owner : owner_of (forest_of a) (name_of a n) ≡ owner_of (forest_of a) (name_of a p)

@@ -1,7 +1,7 @@
 -- What the steps of `link` do to the caches, node by node.
 use Rattle.std.specs.Prelude.{◌≡◌, ◌+◌, ◌≤◌, [], ◌∷◌, Some}
 use Rattle.vm_ids.specs.declared.numbers.NodeId.{NodeId}
-use Rattle.local_cache.specs.Arena.{Arena, IsHeld, hung, with_tree}
+use Rattle.local_cache.specs.Arena.{Arena, HasNode, hung, with_tree}
 use Rattle.local_cache.specs.Own.{own_of}
 use Rattle.local_cache.specs.Reading.{name_of}
 
@@ -16,9 +16,9 @@ set_two a p x y = hung (hung (with_tree a p (x ∷ y ∷ [])) y (Some p)) x (Som
 -- All nodes that were there are there still under their numbers and names, each with its own page where it was, and so
 -- are the tables. As many working nodes were made as there is room for fewer nodes, at most one.
 pub record IsGrown (a b : Arena) : Type 0 where
-  pub held : (n : NodeId) → IsHeld a n → IsHeld b n
-  pub names : (n : NodeId) → IsHeld a n → name_of b n ≡ name_of a n
-  pub own : (n : NodeId) → IsHeld a n → own_of b n ≡ own_of a n
+  pub held : (n : NodeId) → HasNode a n → HasNode b n
+  pub names : (n : NodeId) → HasNode a n → name_of b n ≡ name_of a n
+  pub own : (n : NodeId) → HasNode a n → own_of b n ≡ own_of a n
   pub tables : b.caches ≡ a.caches
   pub made : (a.made ≤ b.made) × (b.made ≤ a.made + 1)
   pub copies : b.copies ≡ a.copies

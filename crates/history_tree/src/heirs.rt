@@ -2,7 +2,7 @@
 ghost use Rattle.std.specs.Prelude.{◌≡◌, true, IfSome, option_map};
 ghost use Rattle.vm_ids.specs.Forest.Nodes.{is_live};
 ghost use Rattle.vm_ids.specs.Forest.Rules as forest;
-ghost use Rattle.local_cache.specs.Arena.{IsHeld};
+ghost use Rattle.local_cache.specs.Arena.{HasNode};
 ghost use Rattle.local_cache.specs.Reading.{name_of, forest_of};
 ghost use Rattle.local_cache.specs.Sound.{IsSound};
 
@@ -13,11 +13,11 @@ use vm_ids::NodeId;
 /// exactly where there is nobody who would lose the page by a change.
 pub fn heir(caches: &Caches, node: NodeId) -> Option<NodeId>
     requires sound { IsSound caches.now }
-    requires node { IsHeld caches.now node }
+    requires node { HasNode caches.now node }
     requires live { is_live (name_of caches.now node) ≡ true }
     ensures heir { option_map (name_of caches.now) result
         ≡ forest.heir (forest_of caches.now) (name_of caches.now node) }
-    ensures held { IfSome result (λ h. IsHeld caches.now h) }
+    ensures held { IfSome result (λ h. HasNode caches.now h) }
 {
     let stub = caches.links(node).first;
     match caches.tree_child(node, 0) {

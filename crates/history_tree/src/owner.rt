@@ -2,7 +2,7 @@
 ghost use Rattle.std.specs.Prelude.{◌≡◌, IsSome};
 ghost use Rattle.vm_ids.specs.Forest.Reading as forest;
 ghost use Rattle.vm_ids.specs.Forest.Shape.{IsWellShaped};
-ghost use Rattle.local_cache.specs.Arena.{IsHeld, cell};
+ghost use Rattle.local_cache.specs.Arena.{HasNode, cell};
 ghost use Rattle.local_cache.specs.Reading.{name_of, forest_of, page_of};
 ghost use Rattle.local_cache.specs.Sound.{IsSound};
 
@@ -14,8 +14,8 @@ use vm_ids::NodeId;
 pub fn owner_of(caches: &Caches, node: NodeId) -> NodeId
     requires sound { IsSound caches.now }
     requires shaped { IsWellShaped (forest_of caches.now) }
-    requires node { IsHeld caches.now node }
-    ensures held { IsHeld caches.now result }
+    requires node { HasNode caches.now node }
+    ensures held { HasNode caches.now result }
     ensures owner { name_of caches.now result
         ≡ forest.owner_of (forest_of caches.now) (name_of caches.now node) }
     ensures own { IsSome (page_of (cell caches.now result).own) }

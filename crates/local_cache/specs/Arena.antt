@@ -66,8 +66,8 @@ blank = new_cell (Working 0) Absent
 abbrev pub find : Arena → NodeId → Option Cell
 find a n = ids.get a.cells n.0
 
-abbrev pub IsHeld : Arena → NodeId → Type 0
-IsHeld a n = IsSome (find a n)
+abbrev pub HasNode : Arena → NodeId → Type 0
+HasNode a n = IsSome (find a n)
 
 -- the node, or a blank one
 unfoldable pub cell : Arena → NodeId → Cell
@@ -250,11 +250,11 @@ MakesCache old new cache segment pages own =
 
 -- the nodes that were there are there
 abbrev pub NodesStay : Arena → Arena → Type 0
-NodesStay old new = (n : NodeId) → IsHeld old n → IsHeld new n
+NodesStay old new = (n : NodeId) → HasNode old n → HasNode new n
 
 -- and they are as they were
 abbrev pub CellsStay : Arena → Arena → Type 0
-CellsStay old new = (n : NodeId) → IsHeld old n → find new n ≡ find old n
+CellsStay old new = (n : NodeId) → HasNode old n → find new n ≡ find old n
 
 -- the caches that were made are as they were
 abbrev pub TablesStay : Arena → Arena → Type 0

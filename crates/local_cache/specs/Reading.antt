@@ -9,7 +9,7 @@ use Rattle.vm_ids.specs.Forest.Nodes.Hang.{Root, TreeOf, StubOf}
 use Rattle.vm_ids.specs.declared.numbers.NodeId.{NodeId}
 use Rattle.local_cache.specs.declared.own_state.OwnState.{OwnState}
 use Rattle.local_cache.specs.declared.own_state.OwnState.TheVariants.{Absent, Zero, Resident, Slot, OnSegment}
-use Rattle.local_cache.specs.Arena.{Arena, cell, IsHeld}
+use Rattle.local_cache.specs.Arena.{Arena, cell, HasNode}
 
 abbrev pub page_of : OwnState → Option OwnState
 page_of Absent = None
@@ -57,5 +57,5 @@ forest_of a = record {
 
 -- Each name is that of one node, and the number of each working node was counted.
 pub record IsNamed (a : Arena) : Type 0 where
-  pub apart : (n m : NodeId) → IsHeld a n → IsHeld a m → name_of a n ≡ name_of a m → n ≡ m
-  pub counted : (n : NodeId) (k : ℕ) → IsHeld a n → name_of a n ≡ Working k → k ≤ a.made
+  pub apart : (n m : NodeId) → HasNode a n → HasNode a m → name_of a n ≡ name_of a m → n ≡ m
+  pub counted : (n : NodeId) (k : ℕ) → HasNode a n → name_of a n ≡ Working k → k ≤ a.made

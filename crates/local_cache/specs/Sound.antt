@@ -6,7 +6,7 @@ use Rattle.vm_ids.specs.Forest.Shape.{IsLinked}
 use Rattle.vm_ids.specs.declared.node_name.NodeName.TheVariants.{Live}
 use Rattle.vm_ids.specs.declared.numbers.NodeId.{NodeId}
 use Rattle.local_cache.specs.declared.own_state.OwnState.{OwnState}
-use Rattle.local_cache.specs.Arena.{Arena, cell, IsHeld, node_at}
+use Rattle.local_cache.specs.Arena.{Arena, cell, HasNode, node_at}
 use Rattle.local_cache.specs.Reading.{name_of, forest_of, IsNamed}
 use Rattle.local_cache.specs.Threads.{AreThreaded}
 
@@ -19,8 +19,8 @@ x ∈ (y ∷ ys) = (x ≡ y) ⊎ (x ∈ ys)
 -- The tables have the node of each page that has one.
 pub record IsListed (a : Arena) : Type 0 where
   pub nodes : (cache page : ℕ) (n : NodeId) → node_at a cache page ≡ Some n
-      → IsHeld a n × (name_of a n ≡ Live (record { 0 = cache }) (record { 0 = page }))
-  pub pages : (cache page : ℕ) (n : NodeId) → IsHeld a n
+      → HasNode a n × (name_of a n ≡ Live (record { 0 = cache }) (record { 0 = page }))
+  pub pages : (cache page : ℕ) (n : NodeId) → HasNode a n
       → name_of a n ≡ Live (record { 0 = cache }) (record { 0 = page })
       → node_at a cache page ≡ Some n
 
@@ -29,8 +29,8 @@ pub record IsListed (a : Arena) : Type 0 where
 pub record IsKept (a : Arena) : Type 0 where
   pub named : IsNamed a
   pub listed : IsListed a
-  pub parents : (n p : NodeId) → IsHeld a n → (cell a n).links.parent ≡ Some p → IsHeld a p
-  pub children : (n m : NodeId) → IsHeld a n → m ∈ (cell a n).tree → IsHeld a m
+  pub parents : (n p : NodeId) → HasNode a n → (cell a n).links.parent ≡ Some p → HasNode a p
+  pub children : (n m : NodeId) → HasNode a n → m ∈ (cell a n).tree → HasNode a m
   pub threaded : AreThreaded a
 
 -- What holds before and after each rule: that, and the shape of the forest's links.

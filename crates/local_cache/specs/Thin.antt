@@ -2,7 +2,7 @@
 use Rattle.std.specs.Prelude.{◌≡◌, ℕ, ◌+◌, ◌≤◌, Bool, true, ltb, length, Option, Some, None}
 use Rattle.vm_ids.specs.declared.node_name.NodeName.TheVariants.{Working}
 use Rattle.vm_ids.specs.declared.numbers.NodeId.{NodeId}
-use Rattle.local_cache.specs.Arena.{Arena, Cell, cell, IsHeld}
+use Rattle.local_cache.specs.Arena.{Arena, Cell, cell, HasNode}
 
 -- fewer than two children, tree children and stubs together
 abbrev pub has_few : Cell → Bool
@@ -10,7 +10,7 @@ has_few c = ltb (length c.tree + c.links.stubs) 2
 
 -- n is the working node of this number, and has fewer than two children
 pub record IsThin (a : Arena) (n : NodeId) (number : ℕ) : Type 0 where
-  pub held : IsHeld a n
+  pub held : HasNode a n
   pub name : (cell a n).name ≡ Working number
   pub few : has_few (cell a n) ≡ true
 

@@ -1,7 +1,7 @@
 -- How the list of a node's stubs is threaded through their links.
 use Rattle.std.specs.Prelude.{◌≡◌, List, [], ◌∷◌, length, true, Option, Some, None}
 use Rattle.vm_ids.specs.declared.numbers.NodeId.{NodeId}
-use Rattle.local_cache.specs.Arena.{Arena, cell, IsHeld}
+use Rattle.local_cache.specs.Arena.{Arena, cell, HasNode}
 use Rattle.local_cache.specs.Reading.{stubs_of}
 
 abbrev pub head_or : List NodeId → Option NodeId → Option NodeId
@@ -15,7 +15,7 @@ last_or (y ∷ ys) o = last_or ys (Some y)
 -- y is a stub of x between two neighbours
 pub record IsStub (a : Arena) (x : NodeId) (before : Option NodeId) (y : NodeId)
     (behind : Option NodeId) : Type 0 where
-  pub held : IsHeld a y
+  pub held : HasNode a y
   pub parent : (cell a y).links.parent ≡ Some x
   pub by_stub : (cell a y).links.by_stub ≡ true
   pub has_before : (cell a y).links.before ≡ before
@@ -36,4 +36,4 @@ pub record IsThreaded (a : Arena) (x : NodeId) (ys : List NodeId) : Type 0 where
 
 -- the links of each node make its list of stubs
 abbrev pub AreThreaded : Arena → Type 0
-AreThreaded a = (x : NodeId) → IsHeld a x → IsThreaded a x (stubs_of a x)
+AreThreaded a = (x : NodeId) → HasNode a x → IsThreaded a x (stubs_of a x)

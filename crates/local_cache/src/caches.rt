@@ -2,7 +2,7 @@
 ghost use Rattle.std.specs.Prelude.{◌≡◌, ℕ, ◌+◌, ◌-◌, ◌<◌, ◌≤◌, ◌^◌, [], List, length, true, None, Some, option_and_then, option_map, IsOk, OnOk, OnErr, IsSome, slice_get};
 ghost use Rattle.vm_ids.specs.declared.numbers.NodeId.{NodeId};
 ghost use Rattle.slab.specs.Slab.{HasRoomFor, slab_len};
-ghost use Rattle.local_cache.specs.Arena.{HasPlace, IsFilled, IsHeld, IsVacant, as_working, cell, find, hung, is_granted, node_at, table_of, with_grant, with_links, with_name, with_new, with_own, with_tree, with_working, without, without_cache, HasPages, MakesCache, NodesStay, CellsStay, TablesStay, HasNoLess};
+ghost use Rattle.local_cache.specs.Arena.{HasPlace, IsFilled, HasNode, IsVacant, as_working, cell, find, hung, is_granted, node_at, table_of, with_grant, with_links, with_name, with_new, with_own, with_tree, with_working, without, without_cache, HasPages, MakesCache, NodesStay, CellsStay, TablesStay, HasNoLess};
 ghost use Rattle.vm_ids.specs.Forest.Changes.{count_copy};
 ghost use Rattle.vm_ids.specs.Forest.Commands.{make, page_names};
 ghost use Rattle.vm_ids.specs.Forest.NameMap.{len};
@@ -264,7 +264,7 @@ impl Caches {
 
     /// The name of a node.
     pub fn name(&self, node: NodeId) -> NodeName
-        requires { IsHeld self.now node }
+        requires { HasNode self.now node }
         ensures { result ≡ (cell self.now node).name }
     {
         self.nodes[node.0 as usize].name()
@@ -273,7 +273,7 @@ impl Caches {
     /// The page of a segment that a node stands for, or `None` exactly for a working node and a node
     /// of a temporary cache.
     pub fn home(&self, node: NodeId) -> Option<Home>
-        requires { IsHeld self.now node }
+        requires { HasNode self.now node }
         ensures { result ≡ home_of self.now node }
     {
         match self.name(node) {
@@ -287,7 +287,7 @@ impl Caches {
 
     /// Where a node's own page is.
     pub fn own_state(&self, node: NodeId) -> OwnState
-        requires { IsHeld self.now node }
+        requires { HasNode self.now node }
         ensures { result ≡ (cell self.now node).own }
     {
         self.nodes[node.0 as usize].own_state()
@@ -295,7 +295,7 @@ impl Caches {
 
     /// Sets where a node's own page is.
     pub fn set_state(&mut self, node: NodeId, state: OwnState)
-        requires { IsHeld self.old node }
+        requires { HasNode self.old node }
         ensures changed { self.new ≡ with_own self.old node state }
         ensures stays { NodesStay self.old self.new }
     {
@@ -304,7 +304,7 @@ impl Caches {
 
     /// How a node hangs, and the ends of its list of stubs.
     pub fn links(&self, node: NodeId) -> Links
-        requires { IsHeld self.now node }
+        requires { HasNode self.now node }
         ensures { result ≡ (cell self.now node).links }
     {
         self.nodes[node.0 as usize].links()
@@ -312,7 +312,7 @@ impl Caches {
 
     /// Sets how a node hangs, and the ends of its list of stubs.
     pub fn set_links(&mut self, node: NodeId, links: Links)
-        requires { IsHeld self.old node }
+        requires { HasNode self.old node }
         ensures changed { self.new ≡ with_links self.old node links }
         ensures stays { NodesStay self.old self.new }
     {
@@ -323,7 +323,7 @@ impl Caches {
 
     /// Hangs a node on this parent by a tree link, or on none. Nothing is done to the children of its old and new parent.
     pub fn hang(&mut self, node: NodeId, parent: Option<NodeId>)
-        requires { IsHeld self.old node }
+        requires { HasNode self.old node }
         ensures changed { self.new ≡ hung self.old node parent }
         ensures stays { NodesStay self.old self.new }
     {
@@ -340,7 +340,7 @@ impl Caches {
 
     /// The tree child of a node at a place counted from 0, or `None` exactly where there are no more.
     pub fn tree_child(&self, node: NodeId, place: u32) -> Option<NodeId>
-        requires { IsHeld self.now node }
+        requires { HasNode self.now node }
         ensures { result ≡ slice_get (cell self.now node).tree place }
     {
         self.nodes[node.0 as usize].tree_child(place)
@@ -348,7 +348,7 @@ impl Caches {
 
     /// Sets the tree children of a node, of which there are at most two.
     pub fn set_tree_children(&mut self, node: NodeId, children: &[NodeId])
-        requires held { IsHeld self.old node }
+        requires held { HasNode self.old node }
         requires few { length children.now ≤ 2 }
         ensures changed { self.new ≡ with_tree self.old node children.now }
         ensures stays { NodesStay self.old self.new }
@@ -365,7 +365,7 @@ impl Caches {
         requires vacant { IsVacant self.old cache page }
         ensures new { find self.old result ≡ None }
         ensures changed { self.new ≡ with_new self.old result (NodeName.Live cache page) state }
-        ensures held { IsHeld self.new result }
+        ensures held { HasNode self.new result }
         ensures stays { NodesStay self.old self.new }
     {
         self.insert(NodeName::Live(cache, page), state)
@@ -378,7 +378,7 @@ impl Caches {
         requires made { self.old.made < 2 ^ 63 }
         ensures new { find self.old result ≡ None }
         ensures changed { self.new ≡ with_working self.old result }
-        ensures held { IsHeld self.new result }
+        ensures held { HasNode self.new result }
         ensures stays { NodesStay self.old self.new }
     {
         self.made += 1;
@@ -387,7 +387,7 @@ impl Caches {
 
     /// Names a node by the next number of a working node. The page that it was the node of has none then.
     pub fn to_working(&mut self, node: NodeId)
-        requires held { IsHeld self.old node }
+        requires held { HasNode self.old node }
         requires made { self.old.made < 2 ^ 63 }
         ensures changed { self.new ≡ as_working self.old node }
         ensures stays { NodesStay self.old self.new }
@@ -398,7 +398,7 @@ impl Caches {
 
     /// Makes a node that of a page that has none. The page that it was the node of has none then.
     pub fn rename(&mut self, node: NodeId, cache: CacheId, page: PageNo)
-        requires held { IsHeld self.old node }
+        requires held { HasNode self.old node }
         requires vacant { IsVacant self.old cache page }
         ensures changed { self.new ≡ with_name self.old node (NodeName.Live cache page) }
         ensures stays { NodesStay self.old self.new }
@@ -408,7 +408,7 @@ impl Caches {
 
     /// Gives back a node that nothing names. The page that it was the node of has none then.
     pub fn free(&mut self, node: NodeId)
-        requires { IsHeld self.old node }
+        requires { HasNode self.old node }
         ensures { self.new ≡ without self.old node }
     {
         let before = number_at(&self.nodes, node.0);
@@ -471,7 +471,7 @@ impl Caches {
         requires { 1 ≤ self.old.room.nodes }
         ensures new { find self.old result ≡ None }
         ensures changed { self.new ≡ with_new self.old result name own }
-        ensures held { IsHeld self.new result }
+        ensures held { HasNode self.new result }
         ensures stays { NodesStay self.old self.new }
     {
         let place = self
@@ -486,7 +486,7 @@ impl Caches {
 
     // Gives a node another name, in the tables too.
     fn set_name(&mut self, node: NodeId, name: NodeName)
-        requires { IsHeld self.old node }
+        requires { HasNode self.old node }
         ensures changed { self.new ≡ with_name self.old node name }
         ensures stays { NodesStay self.old self.new }
     {

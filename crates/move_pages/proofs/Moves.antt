@@ -13,7 +13,7 @@ use Rattle.vm_ids.specs.Forest.Shape.{IsConsistent}
 use Rattle.vm_ids.specs.Forest.Laws.Linking.{ArePages}
 use Rattle.vm_ids.proofs.Forest.Pages.{move_page-consistent}
 use Rattle.local_cache.specs.declared.own_state.OwnState.TheVariants.{Zero}
-use Rattle.local_cache.specs.Arena.{Arena, IsHeld, IsVacant, find, node_at, tables_with, with_name, with_new}
+use Rattle.local_cache.specs.Arena.{Arena, HasNode, IsVacant, find, node_at, tables_with, with_name, with_new}
 use Rattle.local_cache.specs.Own.{own_of}
 use Rattle.local_cache.specs.Reading.{forest_of, name_of}
 use Rattle.local_cache.specs.Sound.{IsKept, IsSound}
@@ -31,7 +31,7 @@ module _ (b : Arena) (sound : IsSound b) (to : CacheId) (to_page : PageNo) (vaca
   abbrev y : NodeName
   y = Live from from_page
 
-  pub origin_held : IsHeld b n
+  pub origin_held : HasNode b n
   origin_held = (sound.kept.listed.nodes from.0 from_page.0 n at).0
 
   pub origin_name : name_of b n ≡ Live from from_page

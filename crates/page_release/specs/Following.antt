@@ -6,7 +6,7 @@ use Rattle.slot_pool.specs.Slots as swap
 use Rattle.global_map.specs.Pairs.{bound_times, frame_of}
 use Rattle.local_cache.specs.declared.own_state.OwnState.{OwnState}
 use Rattle.local_cache.specs.declared.own_state.OwnState.TheVariants.{Absent, Zero, Resident, Slot, OnSegment}
-use Rattle.local_cache.specs.Arena.{Arena, IsHeld}
+use Rattle.local_cache.specs.Arena.{Arena, HasNode}
 use Rattle.local_cache.specs.Own.{own_of}
 use Rattle.residency.specs.declared.store.Store.{Store}
 use Rattle.residency.specs.World.{World}
@@ -61,4 +61,4 @@ followed w (Moved from to) = with_page_moved w from to (own_of w.caches to)
 abbrev pub CanFollow : Store → Arena → Released → Type 0
 CanFollow s a Nothing = Unit {0}
 CanFollow s a (Dropped n state) = CanLeave s n state
-CanFollow s a (Moved from to) = IsHeld a to × CanMove s from to (own_of a to)
+CanFollow s a (Moved from to) = HasNode a to × CanMove s from to (own_of a to)

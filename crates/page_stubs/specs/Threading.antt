@@ -2,11 +2,11 @@
 use Rattle.std.specs.Prelude.{ℕ, ◌+◌, ◌-◌, Bool, true, false, Option, Some, None}
 use Rattle.std.specs.Option.{option_or}
 use Rattle.vm_ids.specs.declared.numbers.NodeId.{NodeId}
-use Rattle.local_cache.specs.Arena.{Arena, cell, IsHeld, with_links}
+use Rattle.local_cache.specs.Arena.{Arena, cell, HasNode, with_links}
 
 abbrev pub IsHeldIf : Arena → Option NodeId → Type 0
 IsHeldIf a None = Unit {0}
-IsHeldIf a (Some n) = IsHeld a n
+IsHeldIf a (Some n) = HasNode a n
 
 abbrev pub with_behind : Arena → Option NodeId → Option NodeId → Arena
 with_behind a None to = a

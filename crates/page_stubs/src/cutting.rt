@@ -3,7 +3,7 @@ ghost use Rattle.std.specs.Prelude.{◌≡◌, ◌<◌, None, true};
 ghost use Rattle.vm_ids.specs.Forest.Changes.{edit, with_own, cut_stub as rule_cut_stub};
 ghost use Rattle.vm_ids.specs.Forest.Nodes.{is_stub};
 ghost use Rattle.vm_ids.specs.Forest.Shape.{IsLinked};
-ghost use Rattle.local_cache.specs.Arena.{IsHeld, cell};
+ghost use Rattle.local_cache.specs.Arena.{HasNode, cell};
 ghost use Rattle.local_cache.specs.Changes.{Relinked};
 ghost use Rattle.local_cache.specs.Reading.{name_of, forest_of, node_of};
 ghost use Rattle.local_cache.specs.Sound.{IsSound, IsKept};
@@ -32,8 +32,8 @@ fn take_out(
     before: Option<NodeId>,
     behind: Option<NodeId>,
 )
-    requires n { IsHeld caches.old n }
-    requires p { IsHeld caches.old p }
+    requires n { HasNode caches.old n }
+    requires p { HasNode caches.old p }
     requires before { IsHeldIf caches.old before }
     requires behind { IsHeldIf caches.old behind }
     requires some { 0 < (cell caches.old p).links.stubs }
@@ -57,7 +57,7 @@ pub fn cut_stub(caches: &mut Caches, node: NodeId)
     requires kept { IsKept caches.old }
     requires linked { IsLinked
         (edit (forest_of caches.old) (name_of caches.old node) (with_own None)) }
-    requires node { IsHeld caches.old node }
+    requires node { HasNode caches.old node }
     requires stub { is_stub (node_of caches.old node).hang ≡ true }
     ensures forest { forest_of caches.new
         ≡ rule_cut_stub (forest_of caches.old) (name_of caches.old node) }

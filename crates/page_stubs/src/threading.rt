@@ -1,7 +1,7 @@
 // The neighbours in a list of stubs.
 ghost use Rattle.std.specs.Prelude.{◌≡◌};
 ghost use Rattle.vm_ids.specs.declared.numbers.NodeId.{NodeId};
-ghost use Rattle.local_cache.specs.Arena.{IsHeld, NodesStay};
+ghost use Rattle.local_cache.specs.Arena.{HasNode, NodesStay};
 ghost use Rattle.page_stubs.specs.Threading.{IsHeldIf, with_behind, with_before};
 ghost use Rattle.page_stubs.specs.Threading as spec;
 
@@ -52,7 +52,7 @@ pub(crate) fn set_ends(
     last: Option<NodeId>,
     stubs: u32,
 )
-    requires { IsHeld caches.old node }
+    requires { HasNode caches.old node }
     ensures changed { caches.new ≡ spec.with_ends caches.old node first last stubs }
     ensures stays { NodesStay caches.old caches.new }
 {
@@ -77,7 +77,7 @@ pub(crate) fn set_place(
     before: Option<NodeId>,
     behind: Option<NodeId>,
 )
-    requires { IsHeld caches.old node }
+    requires { HasNode caches.old node }
     ensures changed { caches.new ≡ spec.with_place caches.old node parent by_stub before behind }
     ensures stays { NodesStay caches.old caches.new }
 {

@@ -22,7 +22,7 @@ use Rattle.vm_model.specs.Synchronised.{IsSynchronised}
 use Rattle.gmi_calls.specs.Calling.{RaisesMade}
 use Rattle.local_cache.specs.Whole.{IsWhole}
 use Rattle.pvm_core.specs.Manager.{IsValid, Manager, forest_of, machine_by, machine_of, state_at}
-use Rattle.residency.specs.Causes.{Later, Made, PushFailed}
+use Rattle.residency.specs.Causes.{Later, Traffic, PushFailed}
 use Rattle.pvm_core.specs.Reaching.{Reach}
 use Rattle.pvm_core.proofs.Reaching.{as_segments, no_push, reach_told}
 use Rattle.pvm_core.proofs.Rising.{grown_least, grown_some, rise_between, rises_between}
@@ -170,7 +170,7 @@ made_stays m command (Err (troubles.Mapper at)) n k e = omega (arith, e)
 made_stays m command (Err troubles.Memory) n k e = omega (arith, e)
 
 -- The mapper was reached before, with neither pull nor push.
-pub call_later : (c d e : MapperCounts) (s t : State) (command : Command) (answer : Answer) → Later c d → Made 0 0 c d → CallIs d e s command answer t → CallIs c e s command answer t
+pub call_later : (c d e : MapperCounts) (s t : State) (command : Command) (answer : Answer) → Later c d → Traffic 0 0 c d → CallIs d e s command answer t → CallIs c e s command answer t
 call_later c d e s t command answer later made call = record {
   pushes = call.pushes;
   rises = call.rises;

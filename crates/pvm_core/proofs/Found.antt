@@ -10,7 +10,7 @@ use Rattle.local_cache.specs.declared.own_state.OwnState.TheVariants.{Absent, Ze
 use Rattle.local_cache.specs.Arena.{Arena}
 use Rattle.local_cache.specs.Own.{own_of}
 use Rattle.residency.specs.declared.store.Store.{Store}
-use Rattle.residency.specs.Causes.{Made, pulls_for}
+use Rattle.residency.specs.Causes.{Traffic, pulls_for}
 use Rattle.residency.specs.World.{HoldsPage, IsStoreRight, is_pulled, world}
 use Rattle.residency.proofs.Homes.{home}
 use Rattle.fault_path.specs.Faults.{IsFound, is_at_hand, is_zero}
@@ -43,7 +43,7 @@ no_rise : (n : ℕ) → RoseBy 0 n n
 no_rise n = λ low. omega arith
 
 -- a page was pulled exactly where it was in a slot or on its segment
-pub pulled_for : (x : OwnState) (c d : MapperCounts) (found : Option FrameId) → (is_zero x ≡ false → (pushes : ℕ) × Made (pulls_for {T = Option FrameId} (Ok found) x) pushes c d) → (is_at_hand x ≡ true → d ≡ c) → RoseBy (if is_pulled x then 1 else 0) c.pulls d.pulls
+pub pulled_for : (x : OwnState) (c d : MapperCounts) (found : Option FrameId) → (is_zero x ≡ false → (pushes : ℕ) × Traffic (pulls_for {T = Option FrameId} (Ok found) x) pushes c d) → (is_at_hand x ≡ true → d ≡ c) → RoseBy (if is_pulled x then 1 else 0) c.pulls d.pulls
 pulled_for Zero c d found made idle = subst (λ (k : MapperCounts). RoseBy 0 c.pulls k.pulls) (sym (idle refl)) (no_rise c.pulls)
 pulled_for Absent c d found made idle = (made refl).1.pulled
 pulled_for (Resident dirty) c d found made idle = (made refl).1.pulled

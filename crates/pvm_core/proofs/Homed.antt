@@ -17,7 +17,7 @@ use Rattle.vm_ids.specs.Forest.Nodes.{IsNode}
 use Rattle.vm_ids.specs.Forest.Reading.{owner_of, value_of}
 use Rattle.vm_ids.proofs.Forest.Laws.Reading.{nodes_have_values, owners_own_themselves, owners_own_values}
 use Rattle.local_cache.specs.declared.home.Home.{Home}
-use Rattle.local_cache.specs.Arena.{Arena, IsHeld, Table, find, table_at, table_of}
+use Rattle.local_cache.specs.Arena.{Arena, HasNode, Table, find, table_at, table_of}
 use Rattle.local_cache.specs.Home.{home_named, home_of}
 use Rattle.local_cache.specs.Reading as arena
 use Rattle.local_cache.specs.Reading.{name_of}
@@ -46,7 +46,7 @@ pub record HasHome (a : Arena) (n : NodeId) (home : Home) : Type 0 where
   pub table : Table
   pub there : table_of a cache.0 ≡ Some table
   pub of : table.segment ≡ Some home.segment
-  pub held : IsHeld a n
+  pub held : HasNode a n
 
 pub has_home : (a : Arena) (n : NodeId) (home : Home) → home_of a n ≡ Some home → HasHome a n home
 has_home a n home is = by_name (name_of a n) refl is

@@ -15,10 +15,11 @@ use Rattle.vm_ids.specs.declared.refusal.Refusal.TheVariants as refusals
 use Rattle.vm_ids.specs.declared.reply.Reply.TheVariants as replies
 use Rattle.vm_ids.specs.declared.reply.Trouble.{Trouble}
 use Rattle.vm_ids.specs.declared.reply.Trouble.TheVariants as troubles
-use Rattle.vm_model.specs.declared.limits.TheConstants.{MADE}
+use Rattle.vm_model.specs.declared.limits.TheConstants.{MOST_MADE}
 use Rattle.vm_model.specs.Machine as model
 use Rattle.vm_model.specs.Machine.{numbered}
-use Rattle.vm_model.specs.Answering.{answer_by, insert_region, make_actor_of, map_of, unmap_of, overlaps, passes_end, refuse, region_among, region_with, reply, unless, with_some, without_region}
+use Rattle.vm_model.specs.Answering.{answer_by, insert_region, make_actor_of, map_of, unmap_of, overlaps, passes_end, refuse, reply, unless, with_some, without_region}
+use Rattle.vm_model.specs.Regions.{region_among, region_with}
 use Rattle.vm_model.specs.Outcome.{Outcome}
 use Rattle.vm_model.specs.PageForest.{PageForest}
 use Rattle.vm_model.specs.Place.{Place, holds, place_in, place_of_actor, placed, region_at}
@@ -58,7 +59,7 @@ pub record IsMappable (t : Actors) (o : Option model.Actor) (q : Option ℕ) (p 
   pub low : nat_lt (2 ^ 48) (p.address + t.page_bytes * p.extent.pages) ≡ false
   pub inside : nat_lt count (p.extent.first.0 + p.extent.pages) ≡ false
   pub apart : list_any (overlaps t.page_bytes p.address p.extent.pages) regions ≡ false
-  pub few : nat_le MADE t.regions_made ≡ false
+  pub few : nat_le MOST_MADE t.regions_made ≡ false
 
 module _ (t : Actors) (p : Mapping) where
   abbrev aligned_at : Bool
@@ -74,7 +75,7 @@ module _ (t : Actors) (p : Mapping) where
   meets regions = list_any (overlaps t.page_bytes p.address p.extent.pages) regions
 
   abbrev many : Bool
-  many = nat_le MADE t.regions_made
+  many = nat_le MOST_MADE t.regions_made
 
   pub is_mappable : (o : Option model.Actor) (q : Option ℕ) → map_refusal t o q p ≡ None → IsMappable t o q p
   is_mappable None q e = absurd (cc e)

@@ -28,7 +28,7 @@ use Rattle.local_cache.specs.Reading.{name_of}
 use Rattle.local_cache.proofs.Forest.Reading.{IsNode-forest_of, forest_of-IsNode}
 use Rattle.fault_path.specs.Faults.{IsOwner}
 use Rattle.vm_ids.proofs.Forest.PageMap.{value_of-map}
-use Rattle.local_cache.specs.Arena.{Arena, IsHeld, Table, page_count, table_at, table_of}
+use Rattle.local_cache.specs.Arena.{Arena, HasNode, Table, page_count, table_at, table_of}
 use Rattle.residency.specs.declared.miss.Miss.{Miss}
 use Rattle.residency.specs.declared.miss.Miss.TheVariants.{Pull, Victim}
 use Rattle.residency.specs.declared.store.Store.{Store}
@@ -150,7 +150,7 @@ own_node f y some = go (get f.nodes y) refl some
     go (Some k) e s = ap is_some e
 
 -- each node has an owner
-pub owner_there : (a : Arena) → IsWhole a → (n : NodeId) → IsHeld a n → (o : NodeId) × IsOwner a n o
+pub owner_there : (a : Arena) → IsWhole a → (n : NodeId) → HasNode a n → (o : NodeId) × IsOwner a n o
 owner_there a w n held =
     let f = arena.forest_of a in
     let x = name_of a n in

@@ -15,7 +15,7 @@ use Rattle.vm_ids.proofs.Forest.Names.{name_cases}
 use Rattle.vm_ids.proofs.Forest.NodesAfter.{IsNode-put_cases, node-put, node-put_other}
 use Rattle.vm_ids.proofs.Forest.PageMap.{put-map}
 use Rattle.local_cache.specs.declared.own_state.OwnState.TheVariants.{Zero}
-use Rattle.local_cache.specs.Arena.{Arena, HasPage, IsHeld, Room, blank, cell, find, new_cell}
+use Rattle.local_cache.specs.Arena.{Arena, HasPage, HasNode, Room, blank, cell, find, new_cell}
 use Rattle.local_cache.specs.Own.{own_of}
 use Rattle.local_cache.specs.Reading as arena
 use Rattle.local_cache.specs.Reading.{name_of}
@@ -78,7 +78,7 @@ module _ (h : Option Held) (a : Arena) (s : Store) (r : Room) (slots : List Bool
 
 -- The nodes of a new cache ----------------------------------------------------------------------
 
-module _ (h : Option Held) (a b : Arena) (s : Store) (cache : CacheId) (n : ℕ) (has : (page : ℕ) → page < n → HasPage b cache page Zero) (stays : (m : NodeId) → IsHeld a m → find b m ≡ find a m) (homes : (m : NodeId) → IsHeld a m → home_of b m ≡ home_of a m)
+module _ (h : Option Held) (a b : Arena) (s : Store) (cache : CacheId) (n : ℕ) (has : (page : ℕ) → page < n → HasPage b cache page Zero) (stays : (m : NodeId) → HasNode a m → find b m ≡ find a m) (homes : (m : NodeId) → HasNode a m → home_of b m ≡ home_of a m)
     (forest : arena.forest_of b ≡ make (all_with Zero (page_names cache 0 n)) (arena.forest_of a)) (sound : IsSound a) (then : IsSound b) (fresh : (x : NodeName) → x ∈ page_names cache 0 n → IsNode (arena.forest_of a) x → ⊥) where
   abbrev zeros : Option (List ℕ)
   zeros = option_map (λ _. replicate s.frames.page 0) h
@@ -86,36 +86,36 @@ module _ (h : Option Held) (a b : Arena) (s : Store) (cache : CacheId) (n : ℕ)
   zero_is : (m : NodeId) → own_of b m ≡ Zero → own_page (world h None b s) m ≡ Some zeros
   zero_is m e = ap (page_by zeros (option_map (λ _. frame_page (world h None b s) m) h) (λ slot. option_and_then (λ k. slot_of k slot) h) (home_page (world h None b s) m)) e
 
-  cell_stays : (m : NodeId) → IsHeld a m → cell b m ≡ cell a m
+  cell_stays : (m : NodeId) → HasNode a m → cell b m ≡ cell a m
   unfolding cell
   cell_stays m k = ap (λ o. unwrap_or o blank) (stays m k)
 
-  page_stays : (m : NodeId) → IsHeld a m → own_page (world h None b s) m ≡ own_page (world h None a s) m
+  page_stays : (m : NodeId) → HasNode a m → own_page (world h None b s) m ≡ own_page (world h None a s) m
   page_stays m k =
       ap (λ (o : Option Home). page_by zeros (option_map (λ _. frame_page (world h None a s) m) h) (λ slot. option_and_then (λ k. slot_of k slot) h) (option_and_then (λ g. option_and_then (page_at g) o) h) (own_of b m)) (homes m k)
       ∙ ap (λ c. page_by zeros (option_map (λ _. frame_page (world h None a s) m) h) (λ slot. option_and_then (λ k. slot_of k slot) h) (home_page (world h None a s) m) c.own) (cell_stays m k)
 
-  held_stays : (m : NodeId) → IsHeld a m → IsHeld b m
+  held_stays : (m : NodeId) → HasNode a m → HasNode b m
   held_stays m k = ap is_some (stays m k) ∙ k
 
   of_cell : (m : NodeId) (x : NodeName) → find b m ≡ Some (new_cell x Zero) → (own_of b m ≡ Zero) × (name_of b m ≡ x)
   unfolding cell
   of_cell m x e = (ap (λ o. (unwrap_or o blank).own) e, ap (λ o. (unwrap_or o blank).name) e)
 
-  new_zero : (m : NodeId) → IsHeld b m → name_of b m ∈ page_names cache 0 n → own_of b m ≡ Zero
+  new_zero : (m : NodeId) → HasNode b m → name_of b m ∈ page_names cache 0 n → own_of b m ≡ Zero
   new_zero m k i =
       let at = (ranges_hold_their_pages cache 0 n (name_of b m)).0 i in
       let p = has (0 + at.0) (omega (arith, at.1)) in
       let c = of_cell p.node (page_name cache (0 + at.0)) p.is in
       subst (λ (m : NodeId). own_of b m ≡ Zero) (then.kept.named.apart p.node m (ap is_some p.is) k (c.1 ∙ sym at.2)) c.0
 
-  own_made : (m : NodeId) → IsHeld b m → own_page (world h None b s) m ≡ (node (make (all_with zeros (page_names cache 0 n)) (store_forest (world h None a s))) (name_of b m)).own
+  own_made : (m : NodeId) → HasNode b m → own_page (world h None b s) m ≡ (node (make (all_with zeros (page_names cache 0 n)) (store_forest (world h None a s))) (name_of b m)).own
   own_made m k = elim (make_cases Zero (arena.forest_of a) (page_names cache 0 n) (name_of b m) (subst (λ f. IsNode f (name_of b m)) forest (IsNode-forest_of b then.kept.named m k))) [
     | inl i ↦ zero_is m (new_zero m k i) ∙ sym (make_here zeros (store_forest (world h None a s)) (page_names cache 0 n) (name_of b m) i)
     | inr is ↦ (
         let f = forest_of-IsNode a (name_of b m) is in
         let same : f.0 ≡ m = then.kept.named.apart f.0 m (held_stays f.0 f.1) k (ap (λ c. c.name) (cell_stays f.0 f.1) ∙ f.2) in
-        let was : IsHeld a m = subst (IsHeld a) same f.1 in
+        let was : HasNode a m = subst (HasNode a) same f.1 in
         page_stays m was ∙ sym (store_page (world h None a s) sound m was) ∙ ap (λ x. (node (store_forest (world h None a s)) x).own) (sym (ap (λ c. c.name) (cell_stays m was)))
         ∙ sym (ap (λ k. k.own) (make_other zeros (store_forest (world h None a s)) (page_names cache 0 n) (name_of b m) (λ i. fresh (name_of b m) i is))))
   ]

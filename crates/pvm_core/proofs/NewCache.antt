@@ -14,7 +14,7 @@ use Rattle.vm_ids.specs.declared.reply.Reply.TheVariants as replies
 use Rattle.vm_ids.specs.Forest.Commands.{firsts, make, page_names, pages_at}
 use Rattle.local_cache.specs.Arena.{Arena, IsMade, Table, entry_for, new_table, page_count}
 use Rattle.local_cache.specs.declared.own_state.OwnState.TheVariants.{Zero}
-use Rattle.vm_model.specs.declared.limits.TheConstants.{LIVE_PAGES, MADE}
+use Rattle.vm_model.specs.declared.limits.TheConstants.{LIVE_PAGES, MOST_MADE}
 use Rattle.vm_model.specs.Answering.{make_temp_of, refuse, reply, temporary, unless}
 use Rattle.vm_model.specs.Machine.{Cache, Machine, Page, cache_of, live_pages, zero_page}
 use Rattle.vm_model.specs.Outcome.{HasWholePages, IsWhole, OutcomeAt, blank, blank_cache}
@@ -63,21 +63,21 @@ module _ (p : Manager) (f : PageForest) (n : ℕ) where
   total : live_pages (machine_by p f) ≡ sum_by page_count p.caches.caches
   total = shown_live f 1 p.caches.caches
 
-  refused : (nat_le MADE (length (machine_by p f).caches) || nat_lt LIVE_PAGES (live_pages (machine_by p f) + n)) ≡ true → make_temp_of (machine_by p f) n ≡ refuse (machine_by p f) refusals.TooMany
+  refused : (nat_le MOST_MADE (length (machine_by p f).caches) || nat_lt LIVE_PAGES (live_pages (machine_by p f) + n)) ≡ true → make_temp_of (machine_by p f) n ≡ refuse (machine_by p f) refusals.TooMany
   unfolding make_temp_of unless
   refused e = rw e refl
 
-  pub many_made : MADE ≤ length p.caches.caches → make_temp_of (machine_by p f) n ≡ refuse (machine_by p f) refusals.TooMany
-  many_made e = refused (ap (λ b. b || nat_lt LIVE_PAGES (live_pages (machine_by p f) + n)) (at_most MADE (length (machine_by p f).caches) (omega (arith, e, count))))
+  pub many_made : MOST_MADE ≤ length p.caches.caches → make_temp_of (machine_by p f) n ≡ refuse (machine_by p f) refusals.TooMany
+  many_made e = refused (ap (λ b. b || nat_lt LIVE_PAGES (live_pages (machine_by p f) + n)) (at_most MOST_MADE (length (machine_by p f).caches) (omega (arith, e, count))))
 
   pub many_live : (live : ℕ) → live ≡ sum_by page_count p.caches.caches → LIVE_PAGES < live + n → make_temp_of (machine_by p f) n ≡ refuse (machine_by p f) refusals.TooMany
-  many_live live is e = refused (ap (λ b. nat_le MADE (length (machine_by p f).caches) || b) (less LIVE_PAGES (live_pages (machine_by p f) + n) (omega (arith, e, is, total))) ∙ or_true (nat_le MADE (length (machine_by p f).caches)))
+  many_live live is e = refused (ap (λ b. nat_le MOST_MADE (length (machine_by p f).caches) || b) (less LIVE_PAGES (live_pages (machine_by p f) + n) (omega (arith, e, is, total))) ∙ or_true (nat_le MOST_MADE (length (machine_by p f).caches)))
 
-  pub temp_row : (live : ℕ) → live ≡ sum_by page_count p.caches.caches → length p.caches.caches < MADE → live + n ≤ LIVE_PAGES
+  pub temp_row : (live : ℕ) → live ≡ sum_by page_count p.caches.caches → length p.caches.caches < MOST_MADE → live + n ≤ LIVE_PAGES
       → make_temp_of (machine_by p f) n ≡ reply (replies.Cache (record { 0 = length (machine_by p f).caches + 1 })) (record (machine_by p f) { caches = (machine_by p f).caches ++ Some (temporary p.page_bytes n) ∷ [] })
   unfolding make_temp_of unless
   temp_row live is few low =
-      let a = not_most MADE (length (machine_by p f).caches) (omega (arith, few, count)) in
+      let a = not_most MOST_MADE (length (machine_by p f).caches) (omega (arith, few, count)) in
       let b = not_less LIVE_PAGES (live_pages (machine_by p f) + n) (omega (arith, low, is, total)) in
       rw (a, b) refl
 
@@ -166,7 +166,7 @@ module _ (p q : Manager) (h : Option Held) (cache : CacheId) (n : ℕ) (nodes : 
       ∙ ap (λ (c : Cache). record (blank w) { caches = (blank w).caches ++ Some c ∷ [] }) (ap (λ k. cache_for k p.page_bytes n) none ∙ ap (λ ps. record { segment = None; pages = ps }) (sym (map_equal (λ (x : Page). []) n (zero_page p.page_bytes))))
       ∙ ap (λ cs. record (blank w) { caches = cs }) (sym (map_push (option_map blank_cache) w.caches (Some (temporary p.page_bytes n))))
 
-  pub outcome_more : whole.IsWhole p.caches → (live : ℕ) → live ≡ sum_by page_count p.caches.caches → length p.caches.caches < MADE → live + n ≤ LIVE_PAGES
+  pub outcome_more : whole.IsWhole p.caches → (live : ℕ) → live ≡ sum_by page_count p.caches.caches → length p.caches.caches < MOST_MADE → live + n ≤ LIVE_PAGES
       → OutcomeAt (segments_of h) (machine_of p h) (Some (forest_of p h)) (commands.MakeTemp n) (Ok (replies.Cache cache)) (machine_of q h) no_counts
   outcome_more nodes live is few low = go h refl
     where
@@ -186,7 +186,7 @@ module _ (p q : Manager) (h : Option Held) (cache : CacheId) (n : ℕ) (nodes : 
             ∙ ap (λ (k : ℕ). reply (replies.Cache (record { 0 = k })) (record (machine_by p (zeroed p h)) { caches = (machine_by p (zeroed p h)).caches ++ Some (temporary p.page_bytes n) ∷ [] })) (let e : length (machine_by p (zeroed p h)).caches + 1 ≡ cache.0 = omega (arith, made.number, shown_made (zeroed p h) 1 p.caches.caches) in e);
       }
 
-  pub answer_more : whole.IsWhole p.caches → (live : ℕ) → live ≡ sum_by page_count p.caches.caches → length p.caches.caches < MADE → live + n ≤ LIVE_PAGES → IfSome h (λ _. HasWholePages (machine_of p h))
+  pub answer_more : whole.IsWhole p.caches → (live : ℕ) → live ≡ sum_by page_count p.caches.caches → length p.caches.caches < MOST_MADE → live + n ≤ LIVE_PAGES → IfSome h (λ _. HasWholePages (machine_of p h))
       → AnswerIs (state_at p h) (commands.MakeTemp n) (Ok (replies.Cache cache)) [] no_counts (state_at q h)
   answer_more nodes live is few low whole = record {
     outcome = outcome_more nodes live is few low;

@@ -22,7 +22,7 @@ use Rattle.vm_ids.proofs.Forest.Laws.Reading.{nodes_have_values, owners_own_them
 use Rattle.vm_ids.proofs.Forest.PageMap.{value_of-map}
 use Rattle.local_cache.specs.declared.own_state.OwnState.{OwnState}
 use Rattle.local_cache.specs.declared.own_state.OwnState.TheVariants.{Absent, Zero, Resident, Slot, OnSegment}
-use Rattle.local_cache.specs.Arena.{Arena, IsHeld, Table, table_of}
+use Rattle.local_cache.specs.Arena.{Arena, HasNode, Table, table_of}
 use Rattle.local_cache.specs.Home.{home_of}
 use Rattle.local_cache.specs.Own.{is_absent, own_of}
 use Rattle.local_cache.specs.Reading as arena
@@ -59,7 +59,7 @@ module _ (w : World) (sound : arena_sound.IsSound w.caches) (P : Option (Option 
   unfolding store_forest
   each_own x = at (held_or_not w.caches x)
     where
-      at : ((n : NodeId) × IsHeld w.caches n × (name_of w.caches n ≡ x)) ⊎ ((n : NodeId) → IsHeld w.caches n → name_of w.caches n ≢ x) → P (node (forest_by (own_page w) w.caches) x).own
+      at : ((n : NodeId) × HasNode w.caches n × (name_of w.caches n ≡ x)) ⊎ ((n : NodeId) → HasNode w.caches n → name_of w.caches n ≢ x) → P (node (forest_by (own_page w) w.caches) x).own
       at (inl f) = subst P (sym (page-at (own_page w) w.caches sound.kept.named f.0 f.1) ∙ ap (λ y. (node (forest_by (own_page w) w.caches) y).own) f.2) (each f.0)
       at (inr out) = subst P (sym (ap (λ k. k.own) (node_at_none (forest_by (own_page w) w.caches) x (get-forest_by_none w.caches (own_page w) x out)))) none
 
@@ -98,7 +98,7 @@ module _ (p : Manager) (h : Option Held) (nodes : IsWhole p.caches) where
   made_of = refl
 
   -- a node with an own page reads that
-  pub own_value : (n : NodeId) → IsHeld p.caches n → is_absent (own_of p.caches n) ≡ false → value_of (forest_of p h) (name_of p.caches n) ≡ own_page (world_of p h) n
+  pub own_value : (n : NodeId) → HasNode p.caches n → is_absent (own_of p.caches n) ≡ false → value_of (forest_of p h) (name_of p.caches n) ≡ own_page (world_of p h) n
   own_value n held own = by_page (own_page (world_of p h) n) refl (store_page (world_of p h) nodes.sound n held)
     where
       x : NodeName

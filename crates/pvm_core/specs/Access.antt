@@ -9,7 +9,7 @@ use Rattle.vm_ids.specs.Forest.Nodes.{no_forest}
 use Rattle.vm_ids.specs.Forest.Reading.{owner_of}
 use Rattle.global_map.specs.Pairs.{node_of}
 use Rattle.local_cache.specs.declared.own_state.OwnState.TheVariants.{Zero}
-use Rattle.local_cache.specs.Arena.{IsHeld}
+use Rattle.local_cache.specs.Arena.{HasNode}
 use Rattle.local_cache.specs.Own.{is_resident, own_of}
 use Rattle.local_cache.specs.Reading.{name_of}
 use Rattle.residency.specs.World.{is_pulled}
@@ -24,7 +24,7 @@ place_of p actor address length = place (machine_by p no_forest) actor address l
 
 -- the node o has the page at this place: it is the owner of that page's node
 pub record HasPageAt (p : Manager) (at : Place) (o : NodeId) : Type 0 where
-  pub held : IsHeld p.caches o
+  pub held : HasNode p.caches o
   pub owner : name_of p.caches o
       ≡ owner_of (nodes_of p) (page_name (record { 0 = at.region.cache }) at.page)
 

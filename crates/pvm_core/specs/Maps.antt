@@ -6,7 +6,7 @@ use Rattle.vm_ids.specs.declared.refusal.Refusal.{Refusal}
 use Rattle.vm_ids.specs.declared.refusal.Refusal.TheVariants.{NoActor, NoCache, Unaligned, BadAddress, OutOfCache, Overlap, TooMany}
 use Rattle.vm_model.specs.Answering.{overlaps}
 use Rattle.vm_model.specs.Machine.{Actor}
-use Rattle.vm_model.specs.declared.limits.TheConstants.{MADE}
+use Rattle.vm_model.specs.declared.limits.TheConstants.{MOST_MADE}
 use Rattle.contexts.specs.Actors.{Actors}
 
 -- where the actor has these regions and the cache so many pages, or they are not there
@@ -18,5 +18,5 @@ map_refusal a (Some regions) (Some n) p =
     else if nat_lt (2 ^ 48) (p.address + a.page_bytes * p.extent.pages) then Some BadAddress
     else if nat_lt n (p.extent.first.0 + p.extent.pages) then Some OutOfCache
     else if list_any (overlaps a.page_bytes p.address p.extent.pages) regions then Some Overlap
-    else if nat_le MADE a.regions_made then Some TooMany
+    else if nat_le MOST_MADE a.regions_made then Some TooMany
     else None

@@ -5,7 +5,7 @@ ghost use Rattle.vm_ids.specs.Forest.Laws.Settling.{IsSettled};
 ghost use Rattle.vm_ids.specs.Forest.Nodes.{no_forest};
 ghost use Rattle.vm_ids.specs.Forest.Reading.{live_count, working_count};
 ghost use Rattle.frame_pool.specs.Pool.{held_count};
-ghost use Rattle.residency.specs.Causes.{Made};
+ghost use Rattle.residency.specs.Causes.{Traffic};
 ghost use Rattle.vm_model.specs.Answering.{answer_by};
 ghost use Rattle.vm_model.specs.Machine.{start};
 ghost use Rattle.gmi_calls.specs.Calling.{Answers, Calls, Fits, Numbers, RaisesMade, StaysValid, done_by};
@@ -32,7 +32,7 @@ use vm_ids::{
     ActorId, CacheId, ChainList, Command, Counts, Extent, FaultAt, Mapping, NoMemory, PageNo, Piece,
     Refusal, RegionId, Reply, Span, Trouble,
 };
-use vm_model::{LIVE_PAGES, MADE};
+use vm_model::{LIVE_PAGES, MOST_MADE};
 use vm_port::{Chooser, Mapper};
 
 /// The caches of a machine, whose pages are in frames, in swap slots, or zeros that are nowhere.
@@ -111,7 +111,7 @@ impl Pvm {
             (Command.MakeTemp pages) (answer_by Reply.Cache result) self.new }
         ensures err { OnErr result (HasMoreRoom self.old self.new) }
     {
-        if self.caches.caches_made() >= MADE
+        if self.caches.caches_made() >= MOST_MADE
             || self.live as u64 + pages as u64 > LIVE_PAGES as u64
         {
             return Err(Trouble::Refused(Refusal::TooMany));
@@ -332,7 +332,7 @@ impl Pvm {
         ensures copies { self.new.caches.copies ≤ self.old.caches.copies + 2 }
         // No page is pulled or pushed before a refusal, and before `WriteDenied` alone the mapper is asked.
         ensures refused { (r : Refusal) → result ≡ Err (Trouble.Refused r)
-            → (self.new ≡ self.old) × Made 0 0 (M.counts mapper.old) (M.counts mapper.new)
+            → (self.new ≡ self.old) × Traffic 0 0 (M.counts mapper.old) (M.counts mapper.new)
             × (r ≢ Refusal.WriteDenied → mapper.new ≡ mapper.old) }
     {
         let bytes = piece.as_slice();

@@ -5,7 +5,7 @@ ghost use Rattle.vm_ids.specs.Held.{Held, segments_of};
 ghost use Rattle.vm_ids.specs.Forest.Commands.{extent_names};
 ghost use Rattle.vm_ids.specs.Forest.Laws.Settling.{IsSettled};
 ghost use Rattle.local_cache.specs.Arena.{table_of};
-ghost use Rattle.residency.specs.Causes.{Made};
+ghost use Rattle.residency.specs.Causes.{Traffic};
 ghost use Rattle.fault_path.specs.Costs.{MadeAtMost};
 ghost use Rattle.segment_ops.specs.Saving.{AreSavedNow};
 ghost use Rattle.segment_ops.specs.Synced.{AreOut, AreSynced, unclean_count};
@@ -25,7 +25,7 @@ use local_cache::Caches;
 use page_release::invalidate_pages;
 use segment_ops::push_range;
 use vm_ids::{CacheId, Command, Extent, FaultAt, Refusal, Reply, SegId, Trouble};
-use vm_model::{LIVE_PAGES, MADE};
+use vm_model::{LIVE_PAGES, MOST_MADE};
 use vm_port::{Chooser, Mapper};
 
 // Whether a live cache is of the segment.
@@ -78,7 +78,7 @@ impl Pvm {
         ensures page { M.page_bytes mapper.new ≡ M.page_bytes mapper.old }
         // No page is pulled or pushed, or comes to a frame.
         ensures held { M.held mapper.new ≡ M.held mapper.old }
-        ensures moved { Made 0 0 (M.counts mapper.old) (M.counts mapper.new) }
+        ensures moved { Traffic 0 0 (M.counts mapper.old) (M.counts mapper.new) }
         ensures pages { IfOk result (LieOnSegment self.new) }
         ensures frames { self.new.store.frames ≡ self.old.store.frames }
         ensures err { OnErr result (HasMoreRoom self.old self.new) }
@@ -86,7 +86,7 @@ impl Pvm {
         if is_opened(&self.caches, seg) {
             return Err(Trouble::Refused(Refusal::SegmentInUse));
         }
-        if self.caches.caches_made() >= MADE {
+        if self.caches.caches_made() >= MOST_MADE {
             return Err(Trouble::Refused(Refusal::TooMany));
         }
         match mapper.size(seg) {
@@ -99,7 +99,7 @@ impl Pvm {
     // Makes the cache of a segment of so many pages.
     fn add_named(&mut self, seg: SegId, pages: u32) -> Result<CacheId, Trouble>
         requires free { IsOpened self.old.caches seg → ⊥ }
-        requires few { length self.old.caches.caches < MADE }
+        requires few { length self.old.caches.caches < MOST_MADE }
         ensures valid { (h : Option Held) → IsValid self.old h
             → HasSegment h seg self.old.page_bytes pages → IsValid self.new h }
         ensures answers { (h : Option Held) → IsValid self.old h

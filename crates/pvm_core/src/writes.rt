@@ -3,7 +3,7 @@ ghost use Rattle.std.specs.Prelude.{◌≡◌, Some, None, Ok, Err, IfErr, OnOk}
 ghost use Rattle.vm_ids.specs.Counting.{Rose};
 ghost use Rattle.local_cache.specs.Whole.{IsWhole, segment_of};
 ghost use Rattle.residency.specs.Between.{Between, RightStore};
-ghost use Rattle.residency.specs.Causes.{Later, Made};
+ghost use Rattle.residency.specs.Causes.{Later, Traffic};
 ghost use Rattle.fault_path.specs.Faults.{SameForest};
 ghost use Rattle.segment_ops.specs.Access.{IsGranted};
 ghost use Rattle.segment_ops.specs.Ranges.{HasRange};
@@ -38,7 +38,7 @@ pub(crate) fn grant_range<M: Mapper>(
     ensures held { M.held mapper.new ≡ M.held mapper.old }
     ensures page_bytes { M.page_bytes mapper.new ≡ M.page_bytes mapper.old }
     ensures later { Later (M.counts mapper.old) (M.counts mapper.new) }
-    ensures made { Made 0 0 (M.counts mapper.old) (M.counts mapper.new) }
+    ensures made { Traffic 0 0 (M.counts mapper.old) (M.counts mapper.new) }
     ensures idle { IsGranted caches.old range
         → (result ≡ Ok tt) × (caches.new ≡ caches.old) × (mapper.new ≡ mapper.old) }
     ensures cause { (at : FaultAt) → result ≡ Err (Trouble.Mapper at)

@@ -3,8 +3,8 @@ use Rattle.std.proofs.Common.{◌≡◌, ℕ, suc, ◌+◌, ◌<◌, ◌≤◌, 
 use Rattle.std.specs.Prelude.{insert, IsSome, IsSomeAnd}
 use Rattle.std.proofs.lemmas.List.{get_or_default}
 use Rattle.vm_model.specs.Machine as model
-use Rattle.vm_model.specs.Answering.{region_among}
-use Rattle.regions.specs.AddressSpace.{AddressSpace, AreInOrder, back_of, replace_region, split_at}
+use Rattle.vm_model.specs.Regions.{region_among, back_of, replace_region, split_at}
+use Rattle.regions.specs.AddressSpace.{AddressSpace, AreInOrder}
 use Rattle.regions.specs.Seen.{region_seen, IsPlaceOf}
 use Rattle.regions.specs.declared.region.Region.{Region}
 use Rattle.regions.proofs.Found.{among_found, one_instead, two_instead}

@@ -3,8 +3,7 @@ use Rattle.std.proofs.Common.{◌≡◌, ◌≢◌, ◌==◌, ℕ, zero, suc, �
 use Rattle.std.specs.Prelude.{insert, IsSome, MatchOption}
 use Rattle.std.proofs.lemmas.Bool.Decides.{nat_tests}
 use Rattle.vm_model.specs.Machine as model
-use Rattle.vm_model.specs.Answering.{region_among}
-use Rattle.regions.specs.AddressSpace.{replace_region}
+use Rattle.vm_model.specs.Regions.{region_among, replace_region}
 use Rattle.regions.specs.Seen.{region_seen, number_at, IsPlaceOf}
 use Rattle.regions.specs.declared.region.Region.{Region}
 

@@ -1,10 +1,10 @@
 -- The regions of one actor, in the plain machine's words.
 use Rattle.std.specs.Prelude.{◌≡◌, ◌==◌, ℕ, ◌+◌, ◌-◌, ◌*◌, ◌%◌, ◌^◌, ◌≤◌, Bool, List, [], ◌∷◌, ◌++◌, Result, Ok, Err, if◌then◌else◌}
-use Rattle.vm_ids.specs.declared.command.Prot.{Prot}
 use Rattle.vm_ids.specs.declared.numbers.RegionId.{RegionId}
 use Rattle.vm_ids.specs.declared.refusal.Refusal.{Refusal}
 use Rattle.vm_model.specs.Machine.{Region, Actor}
 use Rattle.vm_model.specs.Place as model
+use Rattle.vm_model.specs.Regions.{mapping_of}
 use Rattle.regions.specs.declared.region.RegionView.{RegionView}
 use Rattle.regions.specs.declared.region.Place.{Place}
 
@@ -31,29 +31,6 @@ AreInOrder page_bytes from [] = Unit {0}
 AreInOrder page_bytes from (r ∷ rs) =
     (from ≤ r.start) × IsWellFormed page_bytes r × AreInOrder page_bytes (end_of page_bytes r) rs
 
--- the region with this number becomes these
-abbrev pub replace_region : ℕ → (Region → List Region) → Actor → Actor
-replace_region number by [] = []
-replace_region number by (r ∷ rs) =
-    if r.number == number then by r ++ rs else r ∷ replace_region number by rs
-
--- the pages of a region behind the first so many, as a region with another number
-abbrev pub back_of : ℕ → ℕ → ℕ → Region → Region
-back_of page_bytes pages number r = record r {
-  number = number;
-  start = r.start + page_bytes * pages;
-  pages = r.pages - pages;
-  offset = r.offset + pages;
-}
-
--- a region becomes one of its first pages and one, with another number, of the others
-abbrev pub split_at : ℕ → ℕ → ℕ → Region → List Region
-split_at page_bytes pages number r =
-    record r { pages = pages } ∷ back_of page_bytes pages number r ∷ []
-
-abbrev pub with_prot : Prot → Region → List Region
-with_prot prot r = record r { may_write = prot.write } ∷ []
-
 abbrev pub with_lock : Bool → Region → List Region
 with_lock locked r = record r { locked = locked } ∷ []
 
@@ -62,18 +39,7 @@ id_of r = record { 0 = r.number }
 
 -- what is told of a region
 abbrev pub view_of : Region → RegionView
-view_of r = record {
-  mapping = record {
-    extent = record {
-      cache = record { 0 = r.cache };
-      first = record { 0 = r.offset };
-      pages = r.pages;
-    };
-    address = r.start;
-    prot = record { write = r.may_write };
-  };
-  locked = r.locked;
-}
+view_of r = record { mapping = mapping_of r; locked = r.locked }
 
 -- what is told of a place
 abbrev pub access_to : model.Place → Place

@@ -1,9 +1,10 @@
 // The regions of one actor.
 ghost use Rattle.std.specs.Prelude.{◌≡◌, ◌==◌, ℕ, ◌-◌, ◌≤◌, ◌<◌, ◌^◌, ◌∷◌, [], false, not, option_map, IsOk, OnOk, OnErr, IsSomeAnd, IsSome};
 ghost use Rattle.std.specs.List.{list_any};
-ghost use Rattle.vm_model.specs.Answering.{insert_region, overlaps, region_among, region_of, without_region};
+ghost use Rattle.vm_model.specs.Answering.{insert_region, overlaps, region_of, without_region};
+ghost use Rattle.vm_model.specs.Regions.{region_among, replace_region, split_at, with_prot};
 ghost use Rattle.vm_model.specs.Place.{place_among, region_at};
-ghost use Rattle.regions.specs.AddressSpace.{id_of, place_told, replace_region, split_at, view_of, IsWellFormed, with_lock, with_prot};
+ghost use Rattle.regions.specs.AddressSpace.{id_of, place_told, view_of, IsWellFormed, with_lock};
 
 use crate::region::{Place, Region, RegionView};
 use crate::search::{count_up_to, known_place, maps_cache, overlaps_any, place_of, region_holding};

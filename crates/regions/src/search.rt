@@ -1,7 +1,8 @@
 // Searches among regions in order of start address.
 ghost use Rattle.std.specs.Prelude.{◌≡◌, ◌==◌, ◌≢◌, ℕ, ◌≤◌, ◌<◌, ◌^◌, map, length, slice_index_or, MatchOption, option_map, IfSome, IsSome};
 ghost use Rattle.std.specs.List.{list_any};
-ghost use Rattle.vm_model.specs.Answering.{overlaps, region_among};
+ghost use Rattle.vm_model.specs.Answering.{overlaps};
+ghost use Rattle.vm_model.specs.Regions.{region_among};
 ghost use Rattle.vm_model.specs.Place.{region_at};
 ghost use Rattle.regions.specs.AddressSpace.{AreInOrder, IsWellFormed, end_of};
 ghost use Rattle.regions.specs.Seen.{region_seen, IsCountUpTo, IsPlaceOf};

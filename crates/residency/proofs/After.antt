@@ -14,7 +14,7 @@ use Rattle.residency.proofs.Brought.{given_page}
 use Rattle.slot_pool.specs.Slots as swap
 use Rattle.local_cache.specs.declared.own_state.OwnState.{OwnState}
 use Rattle.local_cache.specs.declared.own_state.OwnState.TheVariants.{Absent, Zero, Resident, Slot, OnSegment}
-use Rattle.local_cache.specs.Arena.{Arena, Cell, IsHeld, find}
+use Rattle.local_cache.specs.Arena.{Arena, Cell, HasNode, find}
 use Rattle.local_cache.specs.Home.{home_of}
 use Rattle.local_cache.specs.Own.{is_absent, is_resident, own_of}
 use Rattle.residency.specs.World.{World, HasOwnPage, IsStoreRight, SameNodes, Still, frame_page, home_page, is_bound, is_clean, own_page, page_by, without_own, zero_page}
@@ -24,7 +24,7 @@ bare_some : (o : Option Cell) → is_some (option_map without_own o) ≡ is_some
 bare_some None = refl
 bare_some (Some c) = refl
 
-pub held_stays : (a b : Arena) → SameNodes a b → (n : NodeId) → IsHeld a n → IsHeld b n
+pub held_stays : (a b : Arena) → SameNodes a b → (n : NodeId) → HasNode a n → HasNode b n
 held_stays a b s n held = sym (bare_some (find b n)) ∙ ap is_some (s.nodes n) ∙ bare_some (find a n) ∙ held
 
 has_page : {P : Type 0} (z f : P) (s : ℕ → P) (g : P) (x : OwnState) → is_absent x ≡ not (is_some (page_by z f s g x))

@@ -18,7 +18,7 @@ use Rattle.global_map.specs.Pairs.{bound_times, frame_of, is_node, node_of}
 use Rattle.local_cache.specs.declared.home.Home.{Home}
 use Rattle.local_cache.specs.declared.own_state.OwnState.{OwnState}
 use Rattle.local_cache.specs.declared.own_state.OwnState.TheVariants.{Absent, Zero, Resident, Slot, OnSegment}
-use Rattle.local_cache.specs.Arena.{Arena, IsHeld, with_own}
+use Rattle.local_cache.specs.Arena.{Arena, HasNode, with_own}
 use Rattle.local_cache.specs.Home.{home_of}
 use Rattle.local_cache.specs.Own.{is_absent, is_in_slot, is_resident, is_slot, own_of, own_states}
 use Rattle.local_cache.proofs.Names.Homes.{home-with_own}
@@ -45,7 +45,7 @@ pub record SlotsAfter (w : World) (n : NodeId) (dirty : Bool) (after : List Bool
   pub kept : (k : ℕ) → get_or after k false ≡ true → is_slot_held w k ≡ true
 
 -- where it was in none
-pub slots_same : (w : World) (n : NodeId) (dirty : Bool) (x : OwnState) → IsStoreRight w → IsHeld w.caches n → own_of w.caches n ≡ x → ((k : ℕ) → is_slot k x ≡ false) → is_in_slot x ≡ false → SlotsAfter w n dirty w.slots
+pub slots_same : (w : World) (n : NodeId) (dirty : Bool) (x : OwnState) → IsStoreRight w → HasNode w.caches n → own_of w.caches n ≡ x → ((k : ℕ) → is_slot k x ≡ false) → is_in_slot x ≡ false → SlotsAfter w n dirty w.slots
 slots_same w n dirty x right there e out none = record {
   slots = λ k. (
       let counts : count_by (is_slot k) (own_states (with_own w.caches n (Resident dirty))) + bit (is_slot k (own_of w.caches n)) ≡ count_by (is_slot k) (own_states w.caches) + 0 = own_count (is_slot k) w.caches n (Resident dirty) there in
@@ -59,7 +59,7 @@ slots_same w n dirty x right there e out none = record {
   kept = λ k h. h;
 }
 
-slots_slot : (w : World) (n : NodeId) (dirty : Bool) (s : SlotId) → IsStoreRight w → IsHeld w.caches n → own_of w.caches n ≡ Slot s → SlotsAfter w n dirty (set w.slots s.0 false)
+slots_slot : (w : World) (n : NodeId) (dirty : Bool) (s : SlotId) → IsStoreRight w → HasNode w.caches n → own_of w.caches n ≡ Slot s → SlotsAfter w n dirty (set w.slots s.0 false)
 slots_slot w n dirty s right there e =
     let held : is_slot_held w s.0 ≡ true = slot_is_held w n s right there e in
     let within : s.0 < length w.slots = true_below w.slots s.0 held in
@@ -176,7 +176,7 @@ module _ (w : World) (f : ℕ) (n : NodeId) (dirty : Bool) (after : List Bool) (
       ap (page_by (option_map (λ _. zero_page w) w.told) (option_map (λ _. frame_page then m) w.told) (λ k. option_and_then (λ h. slot_of h k) w.told) (home_page then m)) (own_other w.caches n m (Resident dirty) d)
       ∙ page_elsewhere w f n dirty after bytes m (own_of w.caches m) d taken.unbound (λ r. place_other w f m right taken.unbound r)
 
-  module _ (there : IsHeld w.caches n) (away : is_resident (own_of w.caches n) ≡ false) (slots : SlotsAfter w n dirty after)
+  module _ (there : HasNode w.caches n) (away : is_resident (own_of w.caches n) ≡ false) (slots : SlotsAfter w n dirty after)
       (mark : dirty ≡ not (is_clean (own_of w.caches n))) (page : dirty ≡ false → own_page w n ≡ Some (option_map (λ _. bytes) w.told)) where
     now : own_of then.caches n ≡ Resident dirty
     now = own_same w.caches n (Resident dirty)
@@ -254,11 +254,11 @@ brought_still w f n dirty after bytes right taken away slots mark page = record 
   };
 }
 
-away_from : (a : Arena) (n : NodeId) (x : OwnState) → own_of a n ≡ x → is_absent x ≡ false → is_resident x ≡ false → IsHeld a n → IsAway a n
+away_from : (a : Arena) (n : NodeId) (x : OwnState) → own_of a n ≡ x → is_absent x ≡ false → is_resident x ≡ false → HasNode a n → IsAway a n
 away_from a n x e some away there = record { node = there; own_page = ap is_absent e ∙ some; away = ap is_resident e ∙ away }
 
 -- a zeroed page gets a frame of zeros
-pub zero_brought : (w : World) (f : ℕ) (n : NodeId) → IsStoreRight w → IsTaken w f → IsHeld w.caches n → own_of w.caches n ≡ Zero → StillBut f w (brought w f n true w.slots (replicate w.frames.page 0))
+pub zero_brought : (w : World) (f : ℕ) (n : NodeId) → IsStoreRight w → IsTaken w f → HasNode w.caches n → own_of w.caches n ≡ Zero → StillBut f w (brought w f n true w.slots (replicate w.frames.page 0))
 zero_brought w f n right taken there e =
     brought_still w f n true w.slots (replicate w.frames.page 0) right taken (away_from w.caches n Zero e refl refl there) (slots_same w n true Zero right there e (λ k. refl) refl) (sym (ap (λ (x : OwnState). not (is_clean x)) e))
     (ap (page_by (option_map (λ _. zero_page w) w.told) (option_map (λ _. frame_page w n) w.told) (λ k. option_and_then (λ h. slot_of h k) w.told) (home_page w n)) e)
@@ -268,7 +268,7 @@ told_page None s bytes given = refl
 told_page (Some h) s bytes given = given
 
 -- a page in a slot gets a frame with what the slot held
-pub slot_brought : (w : World) (f : ℕ) (n : NodeId) (s : SlotId) (bytes : List ℕ) → IsStoreRight w → IsTaken w f → IsHeld w.caches n → own_of w.caches n ≡ Slot s
+pub slot_brought : (w : World) (f : ℕ) (n : NodeId) (s : SlotId) (bytes : List ℕ) → IsStoreRight w → IsTaken w f → HasNode w.caches n → own_of w.caches n ≡ Slot s
     → IfSome w.told (λ h. slot_of h s.0 ≡ Some bytes) → StillBut f w (brought w f n true (set w.slots s.0 false) bytes)
 slot_brought w f n s bytes right taken there e given =
     brought_still w f n true (set w.slots s.0 false) bytes right taken (away_from w.caches n (Slot s) e refl refl there) (slots_slot w n true s right there e) (sym (ap (λ (x : OwnState). not (is_clean x)) e))
@@ -279,7 +279,7 @@ told_home None home bytes given = refl
 told_home (Some h) home bytes given = given
 
 -- a page on its segment gets a frame with what the segment held, and is clean
-pub home_brought : (w : World) (f : ℕ) (n : NodeId) (home : Home) (bytes : List ℕ) → IsStoreRight w → IsTaken w f → IsHeld w.caches n → own_of w.caches n ≡ OnSegment → home_of w.caches n ≡ Some home
+pub home_brought : (w : World) (f : ℕ) (n : NodeId) (home : Home) (bytes : List ℕ) → IsStoreRight w → IsTaken w f → HasNode w.caches n → own_of w.caches n ≡ OnSegment → home_of w.caches n ≡ Some home
     → IfSome w.told (λ h. page_at h home ≡ Some bytes) → StillBut f w (brought w f n false w.slots bytes)
 home_brought w f n home bytes right taken there e at given =
     brought_still w f n false w.slots bytes right taken (away_from w.caches n OnSegment e refl refl there) (slots_same w n false OnSegment right there e (λ k. refl) refl) (sym (ap (λ (x : OwnState). not (is_clean x)) e))
@@ -287,7 +287,7 @@ home_brought w f n home bytes right taken there e at given =
     ∙ ap (λ (o : Option Home). Some (option_and_then (λ h. option_and_then (page_at h) o) w.told)) at ∙ ap Some (told_home w.told home bytes given))
 
 -- one dirty page more is in a frame, where it isn't clean
-pub brought_dirty : (w : World) (n : NodeId) (dirty : Bool) → IsHeld w.caches n → is_resident (own_of w.caches n) ≡ false → dirty_count (with_own w.caches n (Resident dirty)) ≡ dirty_count w.caches + bit dirty
+pub brought_dirty : (w : World) (n : NodeId) (dirty : Bool) → HasNode w.caches n → is_resident (own_of w.caches n) ≡ false → dirty_count (with_own w.caches n (Resident dirty)) ≡ dirty_count w.caches + bit dirty
 brought_dirty w n dirty there away = omega (arith, own_count is_dirty w.caches n (Resident dirty) there, bit_false (is_dirty (own_of w.caches n)) (away_clean (own_of w.caches n) away))
   where
     away_clean : (x : OwnState) → is_resident x ≡ false → is_dirty x ≡ false

@@ -14,7 +14,7 @@ use Rattle.slot_pool.specs.Slots as swap
 use Rattle.local_cache.specs.declared.home.Home.{Home}
 use Rattle.local_cache.specs.declared.own_state.OwnState.{OwnState}
 use Rattle.local_cache.specs.declared.own_state.OwnState.TheVariants.{Slot, OnSegment}
-use Rattle.local_cache.specs.Arena.{IsHeld, with_own}
+use Rattle.local_cache.specs.Arena.{HasNode, with_own}
 use Rattle.local_cache.specs.Home.{home_of}
 use Rattle.local_cache.specs.Own.{is_in_slot, is_resident, is_slot, own_of, own_states}
 use Rattle.local_cache.proofs.Names.Homes.{home-with_own}
@@ -52,11 +52,11 @@ in_slots_after w f n s right h below free =
     omega (arith, bit_false (get_or w.slots s.0 false) free, bit_false (is_in_slot (own_of w.caches n)) (resident_not_in_slot (own_of w.caches n) h.resident), right.tied.placed.in_slots)
 
 -- a node's slots stay where its page goes home
-home_slots : (w : World) (n : NodeId) → IsStoreRight w → IsHeld w.caches n → is_resident (own_of w.caches n) ≡ true → (k : ℕ) → count_by (is_slot k) (own_states (with_own w.caches n OnSegment)) ≡ bit (is_slot_held w k)
+home_slots : (w : World) (n : NodeId) → IsStoreRight w → HasNode w.caches n → is_resident (own_of w.caches n) ≡ true → (k : ℕ) → count_by (is_slot k) (own_states (with_own w.caches n OnSegment)) ≡ bit (is_slot_held w k)
 home_slots w n right there resident k =
     omega (arith, own_count (is_slot k) w.caches n OnSegment there, bit_false (is_slot k (own_of w.caches n)) (resident_not_slot k (own_of w.caches n) resident), right.tied.placed.slots k)
 
-home_in_slots : (w : World) (n : NodeId) → IsStoreRight w → IsHeld w.caches n → is_resident (own_of w.caches n) ≡ true → swap.held_count w.slots ≡ count_by is_in_slot (own_states (with_own w.caches n OnSegment))
+home_in_slots : (w : World) (n : NodeId) → IsStoreRight w → HasNode w.caches n → is_resident (own_of w.caches n) ≡ true → swap.held_count w.slots ≡ count_by is_in_slot (own_states (with_own w.caches n OnSegment))
 home_in_slots w n right there resident =
     omega (arith, own_count is_in_slot w.caches n OnSegment there, bit_false (is_in_slot (own_of w.caches n)) (resident_not_in_slot (own_of w.caches n) resident), right.tied.placed.in_slots)
 

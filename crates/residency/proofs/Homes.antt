@@ -11,7 +11,7 @@ use Rattle.global_map.specs.Pairs.{bound_times, frame_of, is_node, node_of}
 use Rattle.slot_pool.specs.Slots as swap
 use Rattle.local_cache.specs.declared.own_state.OwnState.{OwnState}
 use Rattle.local_cache.specs.declared.own_state.OwnState.TheVariants.{Absent, Zero, Resident, Slot, OnSegment}
-use Rattle.local_cache.specs.Arena.{Arena, IsHeld}
+use Rattle.local_cache.specs.Arena.{Arena, HasNode}
 use Rattle.local_cache.specs.Own.{is_in_slot, is_resident, is_slot, own_of, own_states}
 use Rattle.local_cache.proofs.Nodes.OwnStates.{own_held, own_not_all, own_some}
 use Rattle.residency.specs.declared.store.Store.{Store}
@@ -36,7 +36,7 @@ pub record IsHome (w : World) (f : ℕ) (n : NodeId) : Type 0 where
   pub frame : f < length w.map
   pub node : node_of w.map f ≡ Some n
   pub resident : is_resident (own_of w.caches n) ≡ true
-  pub there : IsHeld w.caches n
+  pub there : HasNode w.caches n
   pub place : frame_of w.map n.0 ≡ f
   pub once : bound_times w.map n.0 ≡ 1
 
@@ -88,7 +88,7 @@ page_here w f n (Slot k) r place = absurd (cc)
 page_here w f n OnSegment r place = absurd (cc)
 
 -- a node's slot is held
-pub slot_is_held : (w : World) (n : NodeId) (s : SlotId) → IsStoreRight w → IsHeld w.caches n → own_of w.caches n ≡ Slot s → is_slot_held w s.0 ≡ true
+pub slot_is_held : (w : World) (n : NodeId) (s : SlotId) → IsStoreRight w → HasNode w.caches n → own_of w.caches n ≡ Slot s → is_slot_held w s.0 ≡ true
 slot_is_held w n s right there e =
     let here : is_slot s.0 (own_of w.caches n) ≡ true = ap (is_slot s.0) e ∙ same_number s.0 in
     bit_from (is_slot_held w s.0) (omega (arith, own_some (is_slot s.0) w.caches n there here, right.tied.placed.slots s.0))

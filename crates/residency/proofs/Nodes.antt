@@ -7,7 +7,7 @@ use Rattle.vm_ids.specs.declared.node_name.NodeName.TheVariants.{Live, Working}
 use Rattle.vm_ids.specs.declared.numbers.NodeId.{NodeId}
 use Rattle.local_cache.specs.declared.own_state.OwnState.{OwnState}
 use Rattle.local_cache.specs.Arena as arena
-use Rattle.local_cache.specs.Arena.{Arena, Cell, IsHeld, Table, blank, cell, find, table_at, with_own}
+use Rattle.local_cache.specs.Arena.{Arena, Cell, HasNode, Table, blank, cell, find, table_at, with_own}
 use Rattle.local_cache.specs.Changes.{Like}
 use Rattle.local_cache.specs.Home.{home_of}
 use Rattle.local_cache.specs.Reading.{name_of}
@@ -20,7 +20,7 @@ whole : (o : Option Cell) → IsSome o → Some (without_own (unwrap_or o blank)
 whole None h = absurd (false≢true h)
 whole (Some c) h = refl
 
-bare : (a : Arena) (n : NodeId) → IsHeld a n → Some (without_own (cell a n)) ≡ option_map without_own (find a n)
+bare : (a : Arena) (n : NodeId) → HasNode a n → Some (without_own (cell a n)) ≡ option_map without_own (find a n)
 unfolding cell
 bare a n held = whole (find a n) held
 
@@ -28,7 +28,7 @@ rest_same : (a : Arena) (n : NodeId) (c : Cell) → record (arena.put a n c) { c
 unfolding arena.put
 rest_same a n c = refl
 
-pub with_own_same : (a : Arena) (n : NodeId) (s : OwnState) → IsHeld a n → SameNodes a (with_own a n s)
+pub with_own_same : (a : Arena) (n : NodeId) (s : OwnState) → HasNode a n → SameNodes a (with_own a n s)
 with_own_same a n s held = record {
   nodes = λ m. elim (id_cases m n) [
     | inl e ↦ ap (λ (k : NodeId). option_map without_own (find (with_own a n s) k)) e ∙ ap (option_map without_own) (find-put a n (record (cell a n) { own = s })) ∙ bare a n held ∙ ap (λ (k : NodeId). option_map without_own (find a k)) (sym e)
@@ -79,5 +79,5 @@ pub same_home : (a b : Arena) → SameNodes a b → (n : NodeId) → home_of b n
 same_home a b same = home-like a b (still_like a b same)
 
 -- another own state leaves them
-pub own_granted : (a : Arena) (n : NodeId) (s : OwnState) → IsHeld a n → (m : NodeId) → is_name_granted (with_own a n s) (name_of (with_own a n s) m) ≡ is_name_granted a (name_of a m)
+pub own_granted : (a : Arena) (n : NodeId) (s : OwnState) → HasNode a n → (m : NodeId) → is_name_granted (with_own a n s) (name_of (with_own a n s) m) ≡ is_name_granted a (name_of a m)
 own_granted a n s held = granted_like a (with_own a n s) (still_like a (with_own a n s) (with_own_same a n s held))

@@ -18,7 +18,7 @@ use Rattle.vm_ids.proofs.Forest.Counters.{put-counters}
 use Rattle.frame_pool.specs.Pool.{with_bytes}
 use Rattle.global_map.specs.Pairs.{frame_of, is_node}
 use Rattle.vm_ids.proofs.Places.{bit_true, other_number, some_place}
-use Rattle.local_cache.specs.Arena.{IsHeld}
+use Rattle.local_cache.specs.Arena.{HasNode}
 use Rattle.local_cache.specs.Own.{is_resident, own_of}
 use Rattle.local_cache.specs.Reading.{name_of}
 use Rattle.local_cache.specs.ReadingBy.{forest_by, node_with}
@@ -94,7 +94,7 @@ module _ (w : World) (f : ℕ) (n : NodeId) (bytes : List ℕ) (right : IsStoreR
       same_edit = same_put (forest_by (own_page w) w.caches) (name_of w.caches n) (node_with w.caches n (own_page w n)) (option_map (λ _. bytes) w.told) (get-forest_by w.caches (own_page w) sound.kept.named n home.there)
           (page_here w f n (own_of w.caches n) home.resident home.place)
 
-      by_name : (x : NodeName) → ((m : NodeId) × IsHeld w.caches m × (name_of w.caches m ≡ x)) ⊎ ((m : NodeId) → IsHeld w.caches m → name_of w.caches m ≢ x)
+      by_name : (x : NodeName) → ((m : NodeId) × HasNode w.caches m × (name_of w.caches m ≡ x)) ⊎ ((m : NodeId) → HasNode w.caches m → name_of w.caches m ≢ x)
           → (node (forest_by (own_page then) w.caches) x).own ≡ (node (edit (forest_by (own_page w) w.caches) (name_of w.caches n) (with_page (Some (option_map (λ _. bytes) w.told)))) x).own
       by_name x (inl k) = subst (λ y. (node (forest_by (own_page then) w.caches) y).own ≡ (node (edit (forest_by (own_page w) w.caches) (name_of w.caches n) (with_page v)) y).own) k.2 (page-at (own_page then) w.caches sound.kept.named k.0 k.1 ∙ elim (id_cases k.0 n) [
         | inl e ↦ ap (own_page then) e ∙ written_here ∙ sym (ap (λ j. j.own) (node-put (forest_by (own_page w) w.caches) (name_of w.caches n) _)) ∙ ap (λ m. (node (edit (forest_by (own_page w) w.caches) (name_of w.caches n) (with_page v)) (name_of w.caches m)).own) (sym e)

@@ -34,7 +34,7 @@ HasMissCause before now Pull = PullFailed before now
 HasMissCause before now Victim = PushFailed before now
 
 -- there were so many pulls and pushes, those that failed among them
-pub record Made (pulls pushes : ℕ) (before now : MapperCounts) : Type 0 where
+pub record Traffic (pulls pushes : ℕ) (before now : MapperCounts) : Type 0 where
   pub pulled : RoseBy pulls before.pulls now.pulls
   pub pushed : RoseBy pushes before.pushes now.pushes
 

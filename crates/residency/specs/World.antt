@@ -11,7 +11,7 @@ use Rattle.global_map.specs.Pairs.{bound_times, frame_of, node_of}
 use Rattle.local_cache.specs.declared.home.Home.{Home}
 use Rattle.local_cache.specs.declared.own_state.OwnState.{OwnState}
 use Rattle.local_cache.specs.declared.own_state.OwnState.TheVariants.{Absent, Zero, Resident, Slot, OnSegment}
-use Rattle.local_cache.specs.Arena.{Arena, Cell, IsHeld, find, is_granted}
+use Rattle.local_cache.specs.Arena.{Arena, Cell, HasNode, find, is_granted}
 use Rattle.local_cache.specs.Home.{home_of}
 use Rattle.local_cache.specs.Own.{is_absent, is_in_slot, is_on_segment, is_resident, is_slot, own_of, own_states}
 use Rattle.local_cache.specs.Reading.{name_of}
@@ -269,11 +269,11 @@ pub record IsTaken (w : World) (f : ℕ) : Type 0 where
 
 -- a node that has an own page
 pub record HasOwnPage (a : Arena) (n : NodeId) : Type 0 where
-  pub node : IsHeld a n
+  pub node : HasNode a n
   pub own_page : is_absent (own_of a n) ≡ false
 
 -- a node that has an own page in no frame
 pub record IsAway (a : Arena) (n : NodeId) : Type 0 where
-  pub node : IsHeld a n
+  pub node : HasNode a n
   pub own_page : is_absent (own_of a n) ≡ false
   pub away : is_resident (own_of a n) ≡ false

@@ -6,11 +6,11 @@ ghost use Rattle.vm_ids.specs.Held.{Held};
 ghost use Rattle.frame_pool.specs.Pool.{bytes_of, held_count, is_held, is_pinned, with_bytes};
 ghost use Rattle.slot_pool.specs.Slots as swap;
 ghost use Rattle.global_map.specs.Pairs.{bound_times, frame_of, node_of};
-ghost use Rattle.local_cache.specs.Arena.{Arena, IsHeld, with_own};
+ghost use Rattle.local_cache.specs.Arena.{Arena, HasNode, with_own};
 ghost use Rattle.local_cache.specs.Home.{home_of};
 ghost use Rattle.local_cache.specs.Own.{is_resident, own_of};
 ghost use Rattle.residency.specs.Between.{Across, Between, RightStore};
-ghost use Rattle.residency.specs.Causes.{HasMissCause, Later, Made, PushFailed, dirtied, dirty_count, dirty_in, failed_pushes, failed_victims, frames_to_bring, is_victim, pulls_for, pushes_for, pushes_to_bring};
+ghost use Rattle.residency.specs.Causes.{HasMissCause, Later, Traffic, PushFailed, dirtied, dirty_count, dirty_in, failed_pushes, failed_victims, frames_to_bring, is_victim, pulls_for, pushes_for, pushes_to_bring};
 ghost use Rattle.residency.specs.Evicting.{HasLeft, IsEvicted, IsInSlot};
 ghost use Rattle.residency.specs.Frames.{evictable_count, free_frames, with_held, with_pinned};
 ghost use Rattle.residency.specs.Lending.{LendsFrame};
@@ -310,7 +310,7 @@ impl Store {
 
     // The frame of a node falls free, whose page is in this state then.
     fn leave(&mut self, caches: &mut Caches, node: NodeId, frame: FrameId, own: OwnState)
-        requires node { IsHeld caches.old node }
+        requires node { HasNode caches.old node }
         requires held { is_held self.old.frames frame.0 ≡ true }
         requires unpinned { is_pinned self.old.frames frame.0 ≡ false }
         requires bound { bound_times self.old.map node.0 ≡ 1 }
@@ -352,7 +352,7 @@ impl Store {
         ensures idle { pushes_for self.old.frames.held ≡ 0 → mapper.new ≡ mapper.old }
         ensures idle_caches { pushes_for self.old.frames.held ≡ 0 → caches.new ≡ caches.old }
         ensures later { Later (M.counts mapper.old) (M.counts mapper.new) }
-        ensures made { Made 0
+        ensures made { Traffic 0
             (dirty_count caches.old - dirty_count caches.new + failed_pushes result)
             (M.counts mapper.old) (M.counts mapper.new) }
         ensures dirty { dirty_count caches.new ≤ dirty_count caches.old }
@@ -390,7 +390,7 @@ impl Store {
         ensures others { Between OthersStay M.held M.page_bytes
             mapper.old caches.old self.old mapper.new caches.new self.new }
         ensures later { Later (M.counts mapper.old) (M.counts mapper.new) }
-        ensures made { Made 0
+        ensures made { Traffic 0
             (dirty_count caches.old - dirty_count caches.new + failed_pushes result)
             (M.counts mapper.old) (M.counts mapper.new) }
         ensures dirty { dirty_count caches.new ≤ dirty_count caches.old }
@@ -440,7 +440,7 @@ impl Store {
         ensures held { OnOk result (held_count self.new.frames
             + pushes_to_bring (own_of caches.old node) self.old.frames.held
             ≡ held_count self.old.frames + frames_to_bring (own_of caches.old node)) }
-        ensures made { Made (pulls_for result (own_of caches.old node))
+        ensures made { Traffic (pulls_for result (own_of caches.old node))
             (dirty_count caches.old + dirtied result (own_of caches.old node)
             - dirty_count caches.new + failed_victims result)
             (M.counts mapper.old) (M.counts mapper.new) }
@@ -485,7 +485,7 @@ impl Store {
         ensures later { Later (M.counts mapper.old) (M.counts mapper.new) }
         ensures held { OnOk result (held_count self.new.frames + pushes_for self.old.frames.held
             ≡ held_count self.old.frames + 1) }
-        ensures made { Made (pulls_for result (own_of caches.old node))
+        ensures made { Traffic (pulls_for result (own_of caches.old node))
             (dirty_count caches.old + dirtied result (own_of caches.old node)
             - dirty_count caches.new + failed_victims result)
             (M.counts mapper.old) (M.counts mapper.new) }
@@ -529,7 +529,7 @@ impl Store {
         ensures pinned { self.new.frames.pinned ≡ slice_set self.old.frames.pinned frame.0 false }
         ensures later { Later (M.counts mapper.old) (M.counts mapper.new) }
         ensures held { OnOk result (self.new.frames.held ≡ self.old.frames.held) }
-        ensures made { Made (pulls_for result (own_of caches.old node)) 0
+        ensures made { Traffic (pulls_for result (own_of caches.old node)) 0
             (M.counts mapper.old) (M.counts mapper.new) }
         ensures dirty { dirty_count caches.new
             ≡ dirty_count caches.old + dirtied result (own_of caches.old node) }
@@ -558,7 +558,7 @@ impl Store {
         mapper: &mut M,
     ) -> Result<FrameId, Miss>
         requires right { RightStore M.held M.page_bytes mapper.old caches.old self.old }
-        requires node { IsHeld caches.old node }
+        requires node { HasNode caches.old node }
         requires slot { own_of caches.old node ≡ OwnState.Slot slot }
         requires taken { IsTaken
             (world (M.held mapper.old) (M.page_bytes mapper.old) caches.old self.old)
@@ -577,7 +577,7 @@ impl Store {
         ensures pinned { self.new.frames.pinned ≡ slice_set self.old.frames.pinned frame.0 false }
         ensures later { Later (M.counts mapper.old) (M.counts mapper.new) }
         ensures held { OnOk result (self.new.frames.held ≡ self.old.frames.held) }
-        ensures made { Made 1 0 (M.counts mapper.old) (M.counts mapper.new) }
+        ensures made { Traffic 1 0 (M.counts mapper.old) (M.counts mapper.new) }
         ensures dirty { dirty_count caches.new
             ≡ dirty_count caches.old + dirtied result (own_of caches.old node) }
         ensures told { M.held mapper.new ≡ M.held mapper.old }
@@ -606,7 +606,7 @@ impl Store {
         mapper: &mut M,
     ) -> Result<FrameId, Miss>
         requires right { RightStore M.held M.page_bytes mapper.old caches.old self.old }
-        requires node { IsHeld caches.old node }
+        requires node { HasNode caches.old node }
         requires on_segment { own_of caches.old node ≡ OwnState.OnSegment }
         requires taken { IsTaken
             (world (M.held mapper.old) (M.page_bytes mapper.old) caches.old self.old)
@@ -625,7 +625,7 @@ impl Store {
         ensures pinned { self.new.frames.pinned ≡ slice_set self.old.frames.pinned frame.0 false }
         ensures later { Later (M.counts mapper.old) (M.counts mapper.new) }
         ensures held { OnOk result (self.new.frames.held ≡ self.old.frames.held) }
-        ensures made { Made 1 0 (M.counts mapper.old) (M.counts mapper.new) }
+        ensures made { Traffic 1 0 (M.counts mapper.old) (M.counts mapper.new) }
         ensures dirty { dirty_count caches.new
             ≡ dirty_count caches.old + dirtied result (own_of caches.old node) }
         ensures told { M.held mapper.new ≡ M.held mapper.old }
@@ -647,7 +647,7 @@ impl Store {
 
     // The frame that its taker filled becomes the node's.
     fn settle_in(&mut self, caches: &mut Caches, node: NodeId, frame: FrameId, dirty: bool)
-        requires node { IsHeld caches.old node }
+        requires node { HasNode caches.old node }
         requires frame { frame.0 < length self.old.frames.held }
         requires place { frame.0 < length self.old.map }
         requires free { node_of self.old.map frame.0 ≡ None }
@@ -699,7 +699,7 @@ impl Store {
         ensures others { Between OthersStay M.held M.page_bytes
             mapper.old caches.old self.old mapper.new caches.new self.new }
         ensures later { Later (M.counts mapper.old) (M.counts mapper.new) }
-        ensures made { Made 0
+        ensures made { Traffic 0
             (dirty_count caches.old - dirty_count caches.new + failed_pushes result)
             (M.counts mapper.old) (M.counts mapper.new) }
         ensures dirty { dirty_count caches.new ≤ dirty_count caches.old }

@@ -11,7 +11,7 @@ use Rattle.local_cache.specs.Home.{home_of}
 use Rattle.local_cache.specs.Own.{is_resident, own_of}
 use Rattle.local_cache.specs.Whole.{IsWhole}
 use Rattle.local_cache.proofs.Nodes.OwnStates.{own_same}
-use Rattle.residency.specs.Causes.{Later, Made}
+use Rattle.residency.specs.Causes.{Later, Traffic}
 use Rattle.residency.specs.Evicting.{HasLeft, IsEvicted}
 use Rattle.residency.specs.World.{OthersStay, Still, World, is_clean}
 use Rattle.residency.proofs.StillForest.{still_like}
@@ -47,7 +47,7 @@ still_stays old new c d still whole pins later told =
     let kept = still_kept old new still whole.sound whole.consistent.shaped pins in
     record { kept = kept; whole = like_whole old.caches new.caches whole kept.nodes kept.sound kept.shaped; later = later; told = told }
 
-pub made_then : (a b c : MapperCounts) → Made 0 0 a b → Made 0 0 b c → Made 0 0 a c
+pub made_then : (a b c : MapperCounts) → Traffic 0 0 a b → Traffic 0 0 b c → Traffic 0 0 a c
 made_then a b c p q = record {
   pulled = λ low. (let second : c.pulls ≡ b.pulls + 0 = q.pulled low in let first : b.pulls ≡ a.pulls + 0 = p.pulled (omega (arith, second, low)) in omega arith);
   pushed = λ low. (let second : c.pushes ≡ b.pushes + 0 = q.pushed low in let first : b.pushes ≡ a.pushes + 0 = p.pushed (omega (arith, second, low)) in omega arith);

@@ -30,7 +30,7 @@ use Rattle.local_cache.proofs.Forest.ReadingBy.{lifted}
 use Rattle.local_cache.proofs.Names.Homes.{home-with_grant}
 use Rattle.local_cache.proofs.Tables.Sizes.{sizes_granted}
 use Rattle.local_cache.proofs.Whole.Pages.{whole_same}
-use Rattle.residency.specs.Causes.{Later, Made}
+use Rattle.residency.specs.Causes.{Later, Traffic}
 use Rattle.residency.specs.World.{AreGranted, IsAllowed, IsStoreRight, World, frame_page, home_page, is_clean, is_name_granted, own_page, page_at, page_by, zero_page}
 use Rattle.residency.specs.StoreForest.{store_forest}
 use Rattle.residency.proofs.Telling.{tells}
@@ -244,7 +244,7 @@ granted_allowed w right sound cache page segment some e granted =
 pub asked_later : {T E : Type 0} (a b c : MapperCounts) {r : Result T E} → Later a b → Counted 0 0 b c r → Later a c
 asked_later a b c p q = record { faults = omega (arith, p.faults, q.faults.later); pulls = omega (arith, p.pulls, q.pulls_later); pushes = omega (arith, p.pushes, q.pushes_later) }
 
-pub asked_made : {T E : Type 0} (a b c : MapperCounts) {r : Result T E} → Made 0 0 a b → Counted 0 0 b c r → Made 0 0 a c
+pub asked_made : {T E : Type 0} (a b c : MapperCounts) {r : Result T E} → Traffic 0 0 a b → Counted 0 0 b c r → Traffic 0 0 a c
 asked_made a b c p q = record {
   pulled = λ low. (let second : c.pulls ≡ b.pulls + 0 = q.pulled low in let first : b.pulls ≡ a.pulls + 0 = p.pulled (omega (arith, second, low)) in omega arith);
   pushed = λ low. (let second : c.pushes ≡ b.pushes + 0 = q.pushed low in let first : b.pushes ≡ a.pushes + 0 = p.pushed (omega (arith, second, low)) in omega arith);

@@ -10,7 +10,7 @@ use Rattle.vm_ids.proofs.Places.{bit, bit_false}
 use Rattle.local_cache.specs.declared.home.Home.{Home}
 use Rattle.local_cache.specs.declared.own_state.OwnState.{OwnState}
 use Rattle.local_cache.specs.declared.own_state.OwnState.TheVariants.{Absent, Zero, Resident, Slot, OnSegment}
-use Rattle.local_cache.specs.Arena.{IsHeld, with_own}
+use Rattle.local_cache.specs.Arena.{HasNode, with_own}
 use Rattle.local_cache.specs.Home.{home_of}
 use Rattle.local_cache.specs.Own.{is_in_slot, is_resident, is_slot, own_of, own_states}
 use Rattle.local_cache.proofs.Nodes.OwnStates.{id_cases, own_count, own_length, own_other, own_same}
@@ -108,7 +108,7 @@ module _ (w : World) (n : NodeId) (home : Home) (bytes : List ℕ) (right : IsSt
 
 -- A page in a frame that its segment holds is called clean -----------------------------------------
 
-module _ (w : World) (n : NodeId) (right : IsStoreRight w) (there : IsHeld w.caches n) (resident : is_resident (own_of w.caches n) ≡ true) (home : IsSome (home_of w.caches n)) (held : own_page w n ≡ Some (home_page w n)) where
+module _ (w : World) (n : NodeId) (right : IsStoreRight w) (there : HasNode w.caches n) (resident : is_resident (own_of w.caches n) ≡ true) (home : IsSome (home_of w.caches n)) (held : own_page w n ≡ Some (home_page w n)) where
   abbrev settled : World
   settled = record w { caches = with_own w.caches n (Resident false) }
 

@@ -11,7 +11,7 @@ use Rattle.frame_pool.specs.Pool.{bytes_of}
 use Rattle.local_cache.specs.declared.home.Home.{Home}
 use Rattle.local_cache.specs.declared.own_state.OwnState.{OwnState}
 use Rattle.local_cache.specs.declared.own_state.OwnState.TheVariants.{Absent, Zero, Resident, Slot, OnSegment}
-use Rattle.local_cache.specs.Arena.{IsHeld, with_own}
+use Rattle.local_cache.specs.Arena.{HasNode, with_own}
 use Rattle.local_cache.specs.Home.{home_of}
 use Rattle.local_cache.specs.Own.{is_absent, is_on_segment, is_resident, own_of}
 use Rattle.local_cache.specs.Reading.{forest_of, name_of, page_of}
@@ -96,10 +96,10 @@ some_page OnSegment e = (OnSegment, refl)
 -- The page of o, which n reads, is in frame f.
 module _ (old b : World) (n o : NodeId) (at_home : Home) (f : ℕ) (right : IsForestRight old) (at : home_of old.caches n ≡ Some at_home) (unclean : is_clean (own_of old.caches n) ≡ false)
     (owner : IsOwner old.caches n o) (still : Still old b) (bound : IsFrameOf b.map f o) (state : own_of b.caches o ≡ brought_in (own_of old.caches o)) where
-  pub there : IsHeld old.caches n
+  pub there : HasNode old.caches n
   there = held_home old right.sound right.shaped n at_home at
 
-  pub there_b : IsHeld b.caches n
+  pub there_b : HasNode b.caches n
   there_b = held_stays old.caches b.caches still.stays.caches n there
 
   pub at_b : home_of b.caches n ≡ Some at_home

@@ -13,7 +13,7 @@ use Rattle.vm_ids.specs.declared.numbers.SegId.{SegId}
 use Rattle.local_cache.specs.declared.home.Home.{Home}
 use Rattle.local_cache.specs.declared.own_state.OwnState.{OwnState}
 use Rattle.local_cache.specs.declared.own_state.OwnState.TheVariants.{Absent, Zero, Resident, Slot, OnSegment}
-use Rattle.local_cache.specs.Arena.{Arena, IsHeld, Table, node_at, table_at}
+use Rattle.local_cache.specs.Arena.{Arena, HasNode, Table, node_at, table_at}
 use Rattle.local_cache.specs.Changes.{Like}
 use Rattle.local_cache.specs.Home.{home_of}
 use Rattle.local_cache.specs.Own.{is_absent, own_of}
@@ -129,7 +129,7 @@ module _ (w v : World) (right : IsStoreRight w) (still : Still w v) (sound : IsS
       now ∙ told_stays w right n home at told.pushed w.told v.told told.segments
       (subst (λ b. IfSome w.told (λ h. page_at h home ≡ Some b)) (sym bytes) (reads w.told home (home_page w n) (right.tied.backed.lies n home at) here)) ∙ sym here
 
-  held : (n : NodeId) (home : Home) → home_of w.caches n ≡ Some home → IsHeld v.caches n
+  held : (n : NodeId) (home : Home) → home_of w.caches n ≡ Some home → HasNode v.caches n
   held n home at = held_stays w.caches v.caches still.stays.caches n (held_home w sound shaped n home at)
 
   owned : (n : NodeId) (home : Home) → home_of w.caches n ≡ Some home → is_clean (own_of v.caches n) ≡ true → IsSynced v n
@@ -148,7 +148,7 @@ module _ (w v : World) (right : IsStoreRight w) (still : Still w v) (sound : IsS
   ]
 
 -- a page that its segment holds is synced
-pub clean_synced : (w : World) → IsStoreRight w → IsSound w.caches → IsWellShaped (forest_of w.caches) → (n : NodeId) → IsHeld w.caches n → is_clean (own_of w.caches n) ≡ true → IsSynced w n
+pub clean_synced : (w : World) → IsStoreRight w → IsSound w.caches → IsWellShaped (forest_of w.caches) → (n : NodeId) → HasNode w.caches n → is_clean (own_of w.caches n) ≡ true → IsSynced w n
 clean_synced w right sound shaped n held is = record {
   page = own_is_value w sound shaped n held (clean_there (own_of w.caches n) is) ∙ right.tied.backed.clean n is;
   settled = clean_settled (own_of w.caches n) is;

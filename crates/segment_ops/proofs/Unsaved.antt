@@ -22,7 +22,7 @@ use Rattle.vm_ids.proofs.Forest.PageMap.{len-map}
 use Rattle.vm_ids.proofs.Forest.Saving.{next_save}
 use Rattle.local_cache.specs.declared.own_state.OwnState.{OwnState}
 use Rattle.local_cache.specs.declared.own_state.OwnState.TheVariants.{Absent, Zero, Resident, Slot, OnSegment}
-use Rattle.local_cache.specs.Arena.{Arena, IsHeld, node_at}
+use Rattle.local_cache.specs.Arena.{Arena, HasNode, node_at}
 use Rattle.local_cache.specs.Changes.{Like}
 use Rattle.local_cache.specs.Own.{is_absent, own_of}
 use Rattle.local_cache.specs.Reading.{forest_of, name_of, page_of}
@@ -66,7 +66,7 @@ pub range_node : (a : Arena) → IsWhole a → (range : Extent) → HasRange a r
 range_node a whole range r p low = page_there a whole.sound range.cache (record { 0 = p }) (whole.pages range.cache p r.pages r.size (omega (arith, r.within)))
 
 -- and the node has its name
-pub node_named : (a : Arena) → IsSound a → (cache : CacheId) (p : ℕ) (n : NodeId) → node_at a cache.0 p ≡ Some n → IsHeld a n × (name_of a n ≡ page_name cache p)
+pub node_named : (a : Arena) → IsSound a → (cache : CacheId) (p : ℕ) (n : NodeId) → node_at a cache.0 p ≡ Some n → HasNode a n × (name_of a n ≡ page_name cache p)
 node_named a sound cache p n at = sound.kept.listed.nodes cache.0 p n at
 
 -- What a node has ------------------------------------------------------------------------
@@ -89,7 +89,7 @@ map_some : {A B : Type 0} (f : A → B) (o : Option A) → is_some (option_map f
 map_some f None = refl
 map_some f (Some x) = refl
 
-module _ (a : Arena) (sound : IsSound a) (n : NodeId) (held : IsHeld a n) where
+module _ (a : Arena) (sound : IsSound a) (n : NodeId) (held : HasNode a n) where
   own_is : is_some (node (forest_of a) (name_of a n)).own ≡ is_some (page_of (own_of a n))
   own_is = ap (λ k. is_some k.own) (node-forest_of a sound.kept.named n held)
 

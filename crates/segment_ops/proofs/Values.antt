@@ -11,7 +11,7 @@ use Rattle.vm_ids.specs.Held.{Held, Segments, put_segment_page, segments_of}
 use Rattle.vm_ids.specs.declared.numbers.NodeId.{NodeId}
 use Rattle.vm_ids.proofs.Forest.Reading.{value-IsValue}
 use Rattle.local_cache.specs.declared.home.Home.{Home}
-use Rattle.local_cache.specs.Arena.{IsHeld, find}
+use Rattle.local_cache.specs.Arena.{HasNode, find}
 use Rattle.local_cache.specs.Home.{home_of}
 use Rattle.local_cache.specs.Own.{is_absent, own_of}
 use Rattle.local_cache.specs.Reading.{forest_of}
@@ -107,7 +107,7 @@ module _ (a b : World) (reads : ReadsOn a b) where
 
 -- an own page that is pushed is what its node reads
 module _ (w : World) (sound : IsSound w.caches) (shaped : IsWellShaped (forest_of w.caches)) where
-  pub held_home : (n : NodeId) (home : Home) → home_of w.caches n ≡ Some home → IsHeld w.caches n
+  pub held_home : (n : NodeId) (home : Home) → home_of w.caches n ≡ Some home → HasNode w.caches n
   held_home n home e = go (is_some (find w.caches n)) refl
     where
       none_of : (b : Bool) → is_some (find w.caches n) ≡ b → b ≡ false → find w.caches n ≡ None
@@ -121,20 +121,20 @@ module _ (w : World) (sound : IsSound w.caches) (shaped : IsWellShaped (forest_o
       go true e = e
       go false f = absurd (let none = home_none w.caches n (none_of false f refl) in cc (e, none))
 
-  pub home_held : (n : NodeId) → IsSome (home_of w.caches n) → IsHeld w.caches n
+  pub home_held : (n : NodeId) → IsSome (home_of w.caches n) → HasNode w.caches n
   home_held n some = go (home_of w.caches n) refl some
     where
-      go : (o : Option Home) → home_of w.caches n ≡ o → IsSome o → IsHeld w.caches n
+      go : (o : Option Home) → home_of w.caches n ≡ o → IsSome o → HasNode w.caches n
       go None e some = absurd (cc some)
       go (Some home) e some = held_home n home e
 
-  own_value : (n : NodeId) → IsHeld w.caches n → (o : Option (Option (List ℕ))) → own_page w n ≡ o → is_some o ≡ true → value_at w n ≡ own_page w n
+  own_value : (n : NodeId) → HasNode w.caches n → (o : Option (Option (List ℕ))) → own_page w n ≡ o → is_some o ≡ true → value_at w n ≡ own_page w n
   own_value n held None e some = absurd (cc some)
   own_value n held (Some page) e some =
       let linked = store_shaped w sound shaped in
       value-IsValue (store_forest w) linked.linked (itself (store_page w sound n held ∙ e)) ∙ sym e
 
-  pub own_is_value : (n : NodeId) → IsHeld w.caches n → is_absent (own_of w.caches n) ≡ false → value_at w n ≡ own_page w n
+  pub own_is_value : (n : NodeId) → HasNode w.caches n → is_absent (own_of w.caches n) ≡ false → value_at w n ≡ own_page w n
   own_is_value n held some = own_value n held (own_page w n) refl (has_own w n some)
 
   may_value : (n : NodeId) → MayPush w n → MayPushValue w n

@@ -5,7 +5,7 @@ ghost use Rattle.vm_ids.specs.declared.numbers.SegId.{SegId};
 ghost use Rattle.local_cache.specs.Reading.{forest_of};
 ghost use Rattle.local_cache.specs.Whole.{IsWhole, SameCaches};
 ghost use Rattle.residency.specs.Between.{Between, RightStore};
-ghost use Rattle.residency.specs.Causes.{Later, Made};
+ghost use Rattle.residency.specs.Causes.{Later, Traffic};
 ghost use Rattle.fault_path.specs.Faults.{SameForest};
 ghost use Rattle.segment_ops.specs.Access.{IsAccess, IsGranted};
 ghost use Rattle.segment_ops.specs.Ranges.{HasRange, IsNamed, IsNamedBy};
@@ -41,7 +41,7 @@ pub fn write_access<M: Mapper>(
     ensures given { M.given mapper.new ≡ M.given mapper.old }
     ensures page_bytes { M.page_bytes mapper.new ≡ M.page_bytes mapper.old }
     ensures later { Later (M.counts mapper.old) (M.counts mapper.new) }
-    ensures made { Made 0 0 (M.counts mapper.old) (M.counts mapper.new) }
+    ensures made { Traffic 0 0 (M.counts mapper.old) (M.counts mapper.new) }
     ensures cause { OnErr result (
         Rose (M.counts mapper.old).faults (M.counts mapper.new).faults) }
     ensures idle { IsGranted caches.old range

@@ -3,12 +3,12 @@ ghost use Rattle.std.specs.Prelude.{◌≡◌, ℕ, ◌*◌, ◌+◌, true, fals
 ghost use Rattle.vm_ids.specs.declared.numbers.NodeId.{NodeId};
 ghost use Rattle.frame_pool.specs.Pool.{is_pinned};
 ghost use Rattle.global_map.specs.Pairs.{node_of};
-ghost use Rattle.local_cache.specs.Arena.{IsHeld};
+ghost use Rattle.local_cache.specs.Arena.{HasNode};
 ghost use Rattle.local_cache.specs.Home.{home_of};
 ghost use Rattle.local_cache.specs.Own.{is_resident, own_of};
 ghost use Rattle.local_cache.specs.Whole.{IsWhole};
 ghost use Rattle.residency.specs.Between.{Across, Between, RightStore};
-ghost use Rattle.residency.specs.Causes.{Later, Made};
+ghost use Rattle.residency.specs.Causes.{Later, Traffic};
 ghost use Rattle.residency.specs.World.{HasUnpinned, OthersStay, Still, is_clean as is_page_clean, world};
 ghost use Rattle.fault_path.specs.Answers.{RightForest};
 ghost use Rattle.fault_path.specs.Costs.{MadeAtMost};
@@ -64,7 +64,7 @@ fn push_page<M: Mapper, C: Chooser>(
 
 // Whether a segment holds the own page of a node.
 fn is_clean(caches: &Caches, node: NodeId) -> bool
-    requires { IsHeld caches.now node }
+    requires { HasNode caches.now node }
     ensures { result ≡ is_page_clean (own_of caches.now node) }
 {
     matches!(
@@ -158,7 +158,7 @@ fn let_go<M: Mapper>(store: &mut Store, caches: &mut Caches, node: NodeId, mappe
     ensures held { M.held mapper.new ≡ M.held mapper.old }
     ensures pinned { store.new.frames.pinned ≡ store.old.frames.pinned }
     ensures later { Later (M.counts mapper.old) (M.counts mapper.new) }
-    ensures made { Made 0 0 (M.counts mapper.old) (M.counts mapper.new) }
+    ensures made { Traffic 0 0 (M.counts mapper.old) (M.counts mapper.new) }
     ensures out { is_resident (own_of caches.new node) ≡ false }
 {
     if let Some(frame) = store.map().get(node) {
@@ -181,7 +181,7 @@ fn give_up_pages<M: Mapper>(store: &mut Store, caches: &mut Caches, range: Exten
     ensures held { M.held mapper.new ≡ M.held mapper.old }
     ensures pinned { store.new.frames.pinned ≡ store.old.frames.pinned }
     ensures later { Later (M.counts mapper.old) (M.counts mapper.new) }
-    ensures made { Made 0 0 (M.counts mapper.old) (M.counts mapper.new) }
+    ensures made { Traffic 0 0 (M.counts mapper.old) (M.counts mapper.new) }
     ensures synced { AreSynced range (range.first.0 + range.pages)
         (world (M.held mapper.new) (M.page_bytes mapper.new) caches.new store.new) }
     ensures out { AreOut range caches.new }

@@ -5,7 +5,7 @@ ghost use Rattle.vm_ids.specs.Forest.NameMap.{len};
 ghost use Rattle.vm_ids.specs.Forest.Nodes.{is_live};
 ghost use Rattle.vm_ids.specs.Forest.Rules as forest;
 ghost use Rattle.vm_ids.specs.Forest.Saving.{is_unsaved};
-ghost use Rattle.local_cache.specs.Arena.{IsHeld};
+ghost use Rattle.local_cache.specs.Arena.{HasNode};
 ghost use Rattle.local_cache.specs.Reading.{forest_of, name_of};
 ghost use Rattle.local_cache.specs.Sound.{IsSound};
 ghost use Rattle.local_cache.specs.Whole.{IsWhole};
@@ -25,12 +25,12 @@ use vm_port::{Chooser, Mapper};
 // The heir of a page that has an own page.
 fn reader(caches: &Caches, node: NodeId) -> Option<NodeId>
     requires sound { IsSound caches.now }
-    requires node { IsHeld caches.now node }
+    requires node { HasNode caches.now node }
     requires live { is_live (name_of caches.now node) ≡ true }
     ensures unsaved { is_some result ≡ is_unsaved (forest_of caches.now) (name_of caches.now node) }
     ensures heir { IfSome result (λ h. forest.heir (forest_of caches.now) (name_of caches.now node)
         ≡ Some (name_of caches.now h)) }
-    ensures held { IfSome result (λ h. IsHeld caches.now h) }
+    ensures held { IfSome result (λ h. HasNode caches.now h) }
 {
     if caches.own_state(node).is_absent() {
         None
@@ -42,7 +42,7 @@ fn reader(caches: &Caches, node: NodeId) -> Option<NodeId>
 // Where the next page to save may be, after that of `page` was saved for its heir: at the heir,
 // where that is a page of the range before it, and else behind it.
 fn next_page(caches: &Caches, range: Extent, page: u32, heir: NodeId) -> u32
-    requires node { IsHeld caches.now heir }
+    requires node { HasNode caches.now heir }
     requires first { range.first.0 ≤ page }
     requires past { page < range.first.0 + range.pages }
     requires end { range.first.0 + range.pages < 2 ^ 32 }

@@ -8,7 +8,7 @@ use Rattle.vm_ids.proofs.Places.{other_number, same_number}
 use Rattle.local_cache.specs.declared.own_state.OwnState.{OwnState}
 use Rattle.local_cache.specs.declared.own_state.OwnState.TheVariants.{Absent, Zero, Resident, Slot, OnSegment}
 use Rattle.local_cache.specs.Arena as arena
-use Rattle.local_cache.specs.Arena.{Arena, IsHeld, as_working, cell, find}
+use Rattle.local_cache.specs.Arena.{Arena, HasNode, as_working, cell, find}
 use Rattle.local_cache.specs.Own.{is_absent, own_of}
 use Rattle.local_cache.specs.Reading.{forest_of, name_of}
 use Rattle.local_cache.specs.Sound.{IsSound}
@@ -35,13 +35,13 @@ working_own a n m = ap (λ c. c.own) (working_cell a n m) ∙ elim (id_cases m n
 pub working_name : (a : Arena) (n m : NodeId) → m ≢ n → name_of (as_working a n) m ≡ name_of a m
 working_name a n m d = ap (λ c. c.name) (working_cell a n m) ∙ ap (λ c. c.name) (cell-put_other a n m _ d)
 
-working_held : (a : Arena) (n m : NodeId) → IsHeld a n → is_some (find (as_working a n) m) ≡ is_some (find a m)
+working_held : (a : Arena) (n m : NodeId) → HasNode a n → is_some (find (as_working a n) m) ≡ is_some (find a m)
 working_held a n m there = elim (id_cases m n) [
   | inl e ↦ ap (λ k. is_some (find (arena.put a n (record (cell a n) { name = Working (a.made + 1) })) k)) e ∙ ap is_some (find-put a n _) ∙ sym there ∙ ap (λ k. is_some (find a k)) (sym e)
   | inr d ↦ ap is_some (find-put_other a n m _ d)
 ]
 
-module _ (a b : Arena) (n : NodeId) (there : IsHeld a n) (r : Released) (is : IsRetired a b n r) where
+module _ (a b : Arena) (n : NodeId) (there : HasNode a n) (r : Released) (is : IsRetired a b n r) where
   leaf_dropped : IsGone a b n → ((m : NodeId) → m ≢ n → own_of b m ≡ own_of a m) → IsDropped a b n (own_of a n)
   leaf_dropped gone others = record { went = record { was = there; gone = gone.gone; held = gone.held }; state_is = refl; others = others }
 
@@ -90,7 +90,7 @@ module _ (a b : Arena) (sound : IsSound a) (r : Released) (is : IsMerged a b r) 
 
   went_as : (n : NodeId) → n ≡ is.node → Went a b n
   went_as n e = record {
-    was = subst (IsHeld a) (sym e) is.held;
+    was = subst (HasNode a) (sym e) is.held;
     gone = subst (λ k. find b k ≡ None) (sym e) is.gone.gone;
     held = λ m d. is.gone.held m (λ q. d (q ∙ sym e));
   }

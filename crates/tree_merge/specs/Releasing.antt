@@ -7,7 +7,7 @@ use Rattle.vm_ids.specs.Forest.Nodes.{child_count}
 use Rattle.vm_ids.specs.Forest.Settling.{settle_step, thin}
 use Rattle.local_cache.specs.declared.own_state.OwnState.{OwnState}
 use Rattle.local_cache.specs.declared.own_state.OwnState.TheVariants.{Absent}
-use Rattle.local_cache.specs.Arena.{Arena, as_working, cell, find, IsHeld, with_new}
+use Rattle.local_cache.specs.Arena.{Arena, as_working, cell, find, HasNode, with_new}
 use Rattle.local_cache.specs.Own.{is_absent, own_of}
 use Rattle.local_cache.specs.Reading.{forest_of, name_of}
 use Rattle.tree_merge.specs.declared.released.Released.{Released}
@@ -22,7 +22,7 @@ own_after a (Moved from to) m = cond (m.0 == to.0) (own_of a from) (own_of a m)
 
 -- From a to b the node n went, and all others stayed.
 pub record Went (a b : Arena) (n : NodeId) : Type 0 where
-  pub was : IsHeld a n
+  pub was : HasNode a n
   pub gone : find b n ≡ None
   pub held : (m : NodeId) → m ≢ n → is_some (find b m) ≡ is_some (find a m)
 
@@ -41,7 +41,7 @@ pub record IsDropped (a b : Arena) (n : NodeId) (state : OwnState) : Type 0 wher
 pub record IsPassed (a b : Arena) (from to : NodeId) : Type 0 where
   pub went : Went a b from
   pub apart : from ≢ to
-  pub there : IsHeld a to
+  pub there : HasNode a to
   pub absent : own_of a to ≡ Absent
   pub passed : own_of b to ≡ own_of a from
   pub others : (m : NodeId) → m ≢ from → m ≢ to → own_of b m ≡ own_of a m
@@ -88,7 +88,7 @@ pub record IsDetached (a b : Arena) (n : NodeId) (x : NodeName) (s : OwnState)
 -- One step of settle was done, at the thin node with the least number.
 pub record IsMerged (a b : Arena) (released : Released) : Type 0 where
   pub node : NodeId
-  pub held : IsHeld a node
+  pub held : HasNode a node
   pub least : thin (forest_of a) ≡ Some (name_of a node)
   pub forest : forest_of b ≡ settle_step (forest_of a) (name_of a node)
   pub told : released ≡ released_to a node (first_child a node)

@@ -1,6 +1,6 @@
 // The children of a node.
 ghost use Rattle.std.specs.Prelude.{◌≡◌};
-ghost use Rattle.local_cache.specs.Arena.{IsHeld};
+ghost use Rattle.local_cache.specs.Arena.{HasNode};
 ghost use Rattle.tree_merge.specs.Releasing as spec;
 
 use local_cache::Caches;
@@ -8,7 +8,7 @@ use vm_ids::NodeId;
 
 // The first child of a node: its tree child or else the first of its stubs. `None` exactly where it has no children.
 pub(crate) fn first_child(caches: &Caches, node: NodeId) -> Option<NodeId>
-    requires { IsHeld caches.now node }
+    requires { HasNode caches.now node }
     ensures { result ≡ spec.first_child caches.now node }
 {
     caches.tree_child(node, 0).or(caches.links(node).first)

@@ -3,7 +3,7 @@ ghost use Rattle.std.specs.Prelude.{◌≡◌, ◌<◌, ◌^◌, true};
 ghost use Rattle.vm_ids.specs.Forest.Nodes.{child_count, is_live};
 ghost use Rattle.vm_ids.specs.Forest.Changes.{cut as rule_cut, free as rule_free};
 ghost use Rattle.vm_ids.specs.Forest.Rules.{retire as rule_retire};
-ghost use Rattle.local_cache.specs.Arena.{IsHeld};
+ghost use Rattle.local_cache.specs.Arena.{HasNode};
 ghost use Rattle.local_cache.specs.Own.{own_of};
 ghost use Rattle.local_cache.specs.Reading.{name_of, forest_of};
 ghost use Rattle.local_cache.specs.Sound.{IsSound};
@@ -19,7 +19,7 @@ use vm_ids::NodeId;
 // A node without children goes.
 pub(crate) fn drop_node(caches: &mut Caches, node: NodeId) -> Released
     requires sound { IsSound caches.old }
-    requires held { IsHeld caches.old node }
+    requires held { HasNode caches.old node }
     requires leaf { child_count (forest_of caches.old) (name_of caches.old node) ≡ 0 }
     ensures forest { forest_of caches.new ≡ rule_free
         (rule_cut (forest_of caches.old) (name_of caches.old node)) (name_of caches.old node) }
@@ -37,7 +37,7 @@ pub(crate) fn drop_node(caches: &mut Caches, node: NodeId) -> Released
 // The node of a page is retired.
 pub(crate) fn retire_node(caches: &mut Caches, node: NodeId) -> Released
     requires sound { IsSound caches.old }
-    requires held { IsHeld caches.old node }
+    requires held { HasNode caches.old node }
     requires live { is_live (name_of caches.old node) ≡ true }
     requires made { caches.old.made < 2 ^ 63 }
     ensures forest { forest_of caches.new ≡ rule_retire (forest_of caches.old)

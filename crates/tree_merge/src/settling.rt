@@ -6,7 +6,7 @@ ghost use Rattle.vm_ids.specs.Forest.Nodes.{child_count, node as node_named, par
 ghost use Rattle.vm_ids.specs.Forest.Nodes.Hang.{Root};
 ghost use Rattle.vm_ids.specs.Forest.Laws.Settling.{IsSettled};
 ghost use Rattle.vm_ids.specs.Forest.Settling.{give_way as rule_give_way, pass_page as rule_pass_page, settle_step as rule_settle_step};
-ghost use Rattle.local_cache.specs.Arena.{IsHeld, cell};
+ghost use Rattle.local_cache.specs.Arena.{HasNode, cell};
 ghost use Rattle.local_cache.specs.Changes.{Like, Rehung};
 ghost use Rattle.local_cache.specs.Own.{is_absent, own_of};
 ghost use Rattle.local_cache.specs.Reading.{name_of, forest_of};
@@ -34,8 +34,8 @@ fn passes(from: OwnState, to: OwnState) -> bool
 // The child gets the node's own page, if the node has one and the child has none.
 fn pass_page(caches: &mut Caches, node: NodeId, child: NodeId) -> Released
     requires sound { IsSound caches.old }
-    requires held { IsHeld caches.old node }
-    requires child { IsHeld caches.old child }
+    requires held { HasNode caches.old node }
+    requires child { HasNode caches.old child }
     requires root { (node_named (forest_of caches.old) (name_of caches.old child)).hang ≡ Root }
     ensures forest { forest_of caches.new ≡ rule_pass_page (forest_of caches.old)
         (name_of caches.old node) (name_of caches.old child) }
@@ -61,8 +61,8 @@ fn pass_page(caches: &mut Caches, node: NodeId, child: NodeId) -> Released
 // with an own page it stays without a parent, and the node is cut off.
 fn put_instead(caches: &mut Caches, node: NodeId, child: NodeId)
     requires sound { IsSound caches.old }
-    requires held { IsHeld caches.old node }
-    requires child { IsHeld caches.old child }
+    requires held { HasNode caches.old node }
+    requires child { HasNode caches.old child }
     requires root { (node_named (forest_of caches.old) (name_of caches.old child)).hang ≡ Root }
     requires below { IsBelow (forest_of caches.old) (name_of caches.old node)
         (name_of caches.old child) }
@@ -83,8 +83,8 @@ fn put_instead(caches: &mut Caches, node: NodeId, child: NodeId)
 // The child comes in the place of the node, which goes.
 fn give_way(caches: &mut Caches, node: NodeId, child: NodeId)
     requires sound { IsSound caches.old }
-    requires held { IsHeld caches.old node }
-    requires child { IsHeld caches.old child }
+    requires held { HasNode caches.old node }
+    requires child { HasNode caches.old child }
     requires root { (node_named (forest_of caches.old) (name_of caches.old child)).hang ≡ Root }
     requires below { IsBelow (forest_of caches.old) (name_of caches.old node)
         (name_of caches.old child) }
@@ -102,8 +102,8 @@ fn give_way(caches: &mut Caches, node: NodeId, child: NodeId)
 // The only child takes the page and the place of the node, which goes.
 fn give_to(caches: &mut Caches, node: NodeId, child: NodeId) -> Released
     requires sound { IsSound caches.old }
-    requires held { IsHeld caches.old node }
-    requires child { IsHeld caches.old child }
+    requires held { HasNode caches.old node }
+    requires child { HasNode caches.old child }
     requires up { parent_named (forest_of caches.old) (name_of caches.old child)
         ≡ Some (name_of caches.old node) }
     requires few { child_count (forest_of caches.old) (name_of caches.old node) < 2 }
@@ -125,7 +125,7 @@ fn give_to(caches: &mut Caches, node: NodeId, child: NodeId) -> Released
 // A node with fewer than two children goes. Its only child, where it has one, takes its page and its place.
 pub(crate) fn merge(caches: &mut Caches, node: NodeId) -> Released
     requires sound { IsSound caches.old }
-    requires held { IsHeld caches.old node }
+    requires held { HasNode caches.old node }
     requires few { child_count (forest_of caches.old) (name_of caches.old node) < 2 }
     ensures forest { forest_of caches.new ≡ rule_settle_step (forest_of caches.old)
         (name_of caches.old node) }

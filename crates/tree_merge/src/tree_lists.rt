@@ -6,7 +6,7 @@ ghost use Rattle.vm_ids.specs.Forest.Nodes.{node as node_named};
 ghost use Rattle.vm_ids.specs.Forest.Nodes.Hang.{Root};
 ghost use Rattle.vm_ids.specs.Forest.Changes.{cut as rule_cut};
 ghost use Rattle.vm_ids.specs.Forest.Settling.{take_place as rule_take_place};
-ghost use Rattle.local_cache.specs.Arena.{IsHeld, cell, with_tree};
+ghost use Rattle.local_cache.specs.Arena.{HasNode, cell, with_tree};
 ghost use Rattle.local_cache.specs.Changes.{Rehung};
 ghost use Rattle.local_cache.specs.Reading.{name_of, forest_of};
 ghost use Rattle.local_cache.specs.Sound.{IsSound};
@@ -24,7 +24,7 @@ fn child_at(
     node: NodeId,
     instead: Option<NodeId>,
 ) -> Option<NodeId>
-    requires { IsHeld caches.now parent }
+    requires { HasNode caches.now parent }
     ensures { result ≡ option_and_then (in_place node instead)
         (slice_get (cell caches.now parent).tree place) }
 {
@@ -34,10 +34,10 @@ fn child_at(
 
 // Sets the tree children of a parent, of which there are up to two.
 fn set_children(caches: &mut Caches, parent: NodeId, first: Option<NodeId>, second: Option<NodeId>)
-    requires { IsHeld caches.old parent }
+    requires { HasNode caches.old parent }
     ensures changed { caches.new ≡ with_tree caches.old parent
         (cons_option first (cons_option second [])) }
-    ensures stays { (n : NodeId) → IsHeld caches.old n → IsHeld caches.new n }
+    ensures stays { (n : NodeId) → HasNode caches.old n → HasNode caches.new n }
 {
     match (first, second) {
         (Some(first), Some(second)) => caches.set_tree_children(parent, &[first, second]),
@@ -49,11 +49,11 @@ fn set_children(caches: &mut Caches, parent: NodeId, first: Option<NodeId>, seco
 
 // Among the tree children of the parent comes another one, or none, in the place of a node.
 fn exchange(caches: &mut Caches, parent: NodeId, node: NodeId, instead: Option<NodeId>)
-    requires held { IsHeld caches.old parent }
+    requires held { HasNode caches.old parent }
     requires few { length (cell caches.old parent).tree ≤ 2 }
     ensures changed { caches.new ≡ with_tree caches.old parent
         (exchanged node instead (cell caches.old parent).tree) }
-    ensures stays { (n : NodeId) → IsHeld caches.old n → IsHeld caches.new n }
+    ensures stays { (n : NodeId) → HasNode caches.old n → HasNode caches.new n }
 {
     let first = child_at(caches, parent, 0, node, instead);
     let second = child_at(caches, parent, 1, node, instead);
@@ -63,7 +63,7 @@ fn exchange(caches: &mut Caches, parent: NodeId, node: NodeId, instead: Option<N
 // The node is taken out of the tree children of its parent, and has no parent.
 pub(crate) fn cut_tree(caches: &mut Caches, node: NodeId, parent: NodeId)
     requires sound { IsSound caches.old }
-    requires held { IsHeld caches.old node }
+    requires held { HasNode caches.old node }
     requires parent { (cell caches.old node).links.parent ≡ Some parent }
     requires by_tree { (cell caches.old node).links.by_stub ≡ false }
     ensures forest { forest_of caches.new ≡ rule_cut (forest_of caches.old)
@@ -78,8 +78,8 @@ pub(crate) fn cut_tree(caches: &mut Caches, node: NodeId, parent: NodeId)
 // A node without a parent comes in the place of another one among the tree children of a parent.
 pub(crate) fn take_tree_place(caches: &mut Caches, node: NodeId, instead: NodeId, parent: NodeId)
     requires sound { IsSound caches.old }
-    requires held { IsHeld caches.old node }
-    requires instead { IsHeld caches.old instead }
+    requires held { HasNode caches.old node }
+    requires instead { HasNode caches.old instead }
     requires parent { (cell caches.old node).links.parent ≡ Some parent }
     requires by_tree { (cell caches.old node).links.by_stub ≡ false }
     requires loose { (node_named (forest_of caches.old) (name_of caches.old instead)).hang ≡ Root }

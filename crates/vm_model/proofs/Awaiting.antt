@@ -13,7 +13,7 @@ use Rattle.vm_ids.specs.declared.refusal.Refusal.{Refusal}
 use Rattle.vm_ids.specs.declared.refusal.Refusal.TheVariants.{NotTemp, Overlap, WriteDenied}
 use Rattle.vm_ids.specs.declared.reply.FaultAt.TheVariants.{Opening}
 use Rattle.vm_ids.specs.declared.reply.Reply.TheVariants as replies
-use Rattle.vm_model.specs.declared.limits.TheConstants.{MADE}
+use Rattle.vm_model.specs.declared.limits.TheConstants.{MOST_MADE}
 use Rattle.vm_model.specs.Allowed.{AwaitsAccess, CanOpen, MayFailToOpen, is_denied, is_denied_place}
 use Rattle.vm_model.specs.Machine.{Machine, Cache, Page, cache_of, numbered, segment_of}
 use Rattle.vm_model.specs.Place.{Place, place}
@@ -104,7 +104,7 @@ pub open_fails : (m : Machine) (seg : SegId) → CanOpen m seg → MayFailToOpen
 unfolding open_of
 open_fails m seg can h rises rose =
     let P : Answered → Type 0 = λ a. NotRefusedButFor Opening a.answer in
-    let some : (nat_le MADE (length m.caches)) ≡ false = (let few = can.few in grind (arith, nat_tests)) in (
+    let some : (nat_le MOST_MADE (length m.caches)) ≡ false = (let few = can.few in grind (arith, nat_tests)) in (
       refl,
       rose,
       can.few,

@@ -11,7 +11,7 @@ use Rattle.vm_ids.specs.declared.command.Mapping.{Mapping}
 use Rattle.vm_ids.specs.declared.numbers.SegId.{SegId}
 use Rattle.vm_ids.specs.declared.reply.NoMemory.{NoMemory}
 use Rattle.vm_ids.specs.declared.reply.Reply.TheVariants as replies
-use Rattle.vm_model.specs.declared.limits.TheConstants.{MADE}
+use Rattle.vm_model.specs.declared.limits.TheConstants.{MOST_MADE}
 use Rattle.vm_model.specs.Machine.{numbered, pages_in, zero_page}
 use Rattle.vm_model.specs.Machine as model
 use Rattle.vm_model.specs.Answering.{add_region, insert_region, map_of, overlaps, overwrite, passes_end, put_cache, put_page, put_pages, region_of, reply, unless, with_some, write_at}
@@ -252,7 +252,7 @@ living-added t actors n r (Err e) there ok err = ap (count_by is_some) err
 -- a mapping that nothing refuses
 pub map_row : (t : Tables) (actor : ℕ) (p : Mapping) (a : Actor) (c : Cache) → numbered t.actors.items actor ≡ Some a → numbered t.caches.items p.extent.cache.0 ≡ Some c
     → (p.address % t.page_bytes == 0) ≡ true → nat_lt (2 ^ 48) (p.address + t.page_bytes * p.extent.pages) ≡ false → passes_end (cache_seen c) p.extent.first.0 p.extent.pages ≡ false
-    → list_any (overlaps t.page_bytes p.address p.extent.pages) (actor_seen a) ≡ false → nat_le MADE t.regions_made ≡ false
+    → list_any (overlaps t.page_bytes p.address p.extent.pages) (actor_seen a) ≡ false → nat_le MOST_MADE t.regions_made ≡ false
     → map_of (machine_seen t) actor p ≡ reply (replies.Region (record { 0 = t.regions_made + 1 })) (add_region (machine_seen t) actor (actor_seen a) p)
 unfolding map_of with_some unless
 map_row t actor p a c here there aligned below inside apart fewer =

@@ -11,7 +11,7 @@ use Rattle.vm_ids.specs.declared.refusal.Refusal.{Refusal}
 use Rattle.vm_ids.specs.declared.refusal.Refusal.TheVariants.{WriteDenied}
 use Rattle.vm_ids.specs.declared.reply.FaultAt.TheVariants.{Opening}
 use Rattle.vm_ids.specs.declared.reply.Trouble.TheVariants.{Mapper}
-use Rattle.vm_model.specs.declared.limits.TheConstants.{MADE}
+use Rattle.vm_model.specs.declared.limits.TheConstants.{MOST_MADE}
 use Rattle.vm_model.specs.Machine.{Machine, cache_named, segment_of}
 use Rattle.vm_model.specs.Place.{Place, place}
 use Rattle.vm_model.specs.PageForest.{plain_forest}
@@ -57,7 +57,7 @@ numbers_of p = (p.0.0, p.1.0)
 -- No live cache is of the segment, and one more may be made.
 pub record CanOpen (m : Machine) (seg : SegId) : Type 0 where
   pub free : is_some (cache_named m.caches seg.0) ≡ false
-  pub few : length m.caches < MADE
+  pub few : length m.caches < MOST_MADE
 
 -- A fault of the mapper on the way is then an outcome.
 abbrev pub MayFailToOpen : Machine → SegId → Type 0

@@ -9,6 +9,7 @@ use Rattle.vm_ids.specs.declared.command.Command.{Command}
 use Rattle.vm_ids.specs.declared.command.Command.TheVariants as commands
 use Rattle.vm_ids.specs.declared.command.Extent.{Extent}
 use Rattle.vm_ids.specs.declared.command.Mapping.{Mapping}
+use Rattle.vm_ids.specs.declared.command.Prot.{Prot}
 use Rattle.vm_ids.specs.declared.command.Span.{Span}
 use Rattle.vm_ids.specs.declared.reply.Reply.{Reply}
 use Rattle.vm_ids.specs.declared.reply.Reply.TheVariants as replies
@@ -19,10 +20,11 @@ use Rattle.vm_ids.specs.declared.refusal.Refusal.TheVariants as refusals
 use Rattle.vm_ids.specs.declared.numbers.CacheId.{CacheId}
 use Rattle.vm_ids.specs.Forest.Reading.{chain_of, counts_of}
 use Rattle.vm_ids.specs.Forest.Commands.{page_name}
-use Rattle.vm_model.specs.declared.limits.TheConstants.{LIVING_ACTORS, LIVE_PAGES, MADE}
+use Rattle.vm_model.specs.declared.limits.TheConstants.{LIVING_ACTORS, LIVE_PAGES, MOST_MADE}
 use Rattle.vm_model.specs.Machine.{Machine, Page, Cache, Region, Actor, zero_page, live_pages, living_actors, cache_of, cache_named, segment_of, actor_of, is_locked_page}
 use Rattle.vm_model.specs.PageForest.{PageForest}
-use Rattle.vm_model.specs.Place.{Place, place}
+use Rattle.vm_model.specs.Place.{Place, place, region_at}
+use Rattle.vm_model.specs.Regions.{region_with, replace_region, split_at, status_with, with_prot}
 
 -- what one command answers
 abbrev pub Answer : Type 0
@@ -66,10 +68,16 @@ overwrite at part whole = take at whole ++ part ++ drop (at + length part) whole
 -- actor: a new one without regions
 unfoldable pub make_actor_of : Machine → Answered
 make_actor_of m =
-    unless (nat_le LIVING_ACTORS (living_actors m) || nat_le MADE (length m.actors))
+    unless (nat_le LIVING_ACTORS (living_actors m) || nat_le MOST_MADE (length m.actors))
     refusals.TooMany m
     (reply (replies.Actor (record { 0 = length m.actors + 1 }))
     (record m { actors = m.actors ++ Some [] ∷ [] }))
+
+-- exit: the actor is gone, with its regions
+unfoldable pub exit_actor_of : Machine → ℕ → Answered
+exit_actor_of m actor =
+    with_some (actor_of m actor) refusals.NoActor m (λ regions.
+    reply replies.Done (record m { actors = slice_set m.actors (actor - 1) None }))
 
 abbrev pub temporary : ℕ → ℕ → Cache
 temporary page_bytes pages =
@@ -78,7 +86,7 @@ temporary page_bytes pages =
 -- temp: a new temporary cache of zero pages
 unfoldable pub make_temp_of : Machine → ℕ → Answered
 make_temp_of m pages =
-    unless (nat_le MADE (length m.caches) || nat_lt LIVE_PAGES (live_pages m + pages))
+    unless (nat_le MOST_MADE (length m.caches) || nat_lt LIVE_PAGES (live_pages m + pages))
     refusals.TooMany m
     (reply (replies.Cache (record { 0 = length m.caches + 1 }))
     (record m { caches = m.caches ++ Some (temporary m.page_bytes pages) ∷ [] }))
@@ -92,7 +100,7 @@ opened seg pages = record { segment = Some seg; pages = pages }
 unfoldable pub open_of : Machine → ℕ → Option (List Page) → Answered
 open_of m seg held =
     unless (is_some (cache_named m.caches seg)) refusals.SegmentInUse m
-    (unless (nat_le MADE (length m.caches)) refusals.TooMany m
+    (unless (nat_le MOST_MADE (length m.caches)) refusals.TooMany m
     (with_some held refusals.NoSegment m (λ pages.
     unless (nat_lt LIVE_PAGES (live_pages m + length pages)) refusals.TooMany m
     (reply (replies.Cache (record { 0 = length m.caches + 1 }))
@@ -235,21 +243,31 @@ map_of m actor p =
     (unless (nat_lt (2 ^ 48) (p.address + m.page_bytes * p.extent.pages)) refusals.BadAddress m
     (unless (passes_end cache p.extent.first.0 p.extent.pages) refusals.OutOfCache m
     (unless (list_any (overlaps m.page_bytes p.address p.extent.pages) regions) refusals.Overlap m
-    (unless (nat_le MADE m.regions_made) refusals.TooMany m
+    (unless (nat_le MOST_MADE m.regions_made) refusals.TooMany m
     (reply (replies.Region (record { 0 = m.regions_made + 1 }))
     (add_region m actor regions p))))))))
 
--- the first of these regions with this number
-abbrev pub region_among : ℕ → List Region → Option Region
-region_among number [] = None
-region_among number (r ∷ rs) = if r.number == number then Some r else region_among number rs
+-- the region with this number becomes these, in the actor that has it
+abbrev pub change_region : Machine → ℕ → (Region → List Region) → Machine
+change_region m number by =
+    record m { actors = map (option_map (replace_region number by)) m.actors }
 
--- the region with this number, of a living actor
-abbrev pub region_with : ℕ → List (Option Actor) → Option Region
-region_with number [] = None
-region_with number (None ∷ actors) = region_with number actors
-region_with number (Some regions ∷ actors) =
-    option_or (region_among number regions) (region_with number actors)
+-- split: the region keeps its first pages, and the next region has the others
+unfoldable pub split_of : Machine → ℕ → ℕ → Answered
+split_of m number pages =
+    with_some (region_with number m.actors) refusals.NoRegion m (λ r.
+    unless (nat_le r.pages pages) refusals.BadAddress m
+    (unless (nat_le MOST_MADE m.regions_made) refusals.TooMany m
+    (let fresh = m.regions_made + 1 in
+    reply (replies.Region (record { 0 = fresh }))
+    (record (change_region m number
+    (split_at m.page_bytes pages fresh)) { regions_made = fresh }))))
+
+-- protect: the region allows this beside reading
+unfoldable pub protect_of : Machine → ℕ → Prot → Answered
+protect_of m number prot =
+    with_some (region_with number m.actors) refusals.NoRegion m (λ r.
+    reply replies.Done (change_region m number (with_prot prot)))
 
 abbrev pub without_region : ℕ → Actor → Actor
 without_region number regions = filter (λ (r : Region). not (r.number == number)) regions
@@ -260,6 +278,19 @@ unmap_of m number =
     with_some (region_with number m.actors) refusals.NoRegion m (λ r.
     unless r.locked refusals.Locked m
     (reply replies.Done (record m { actors = map (option_map (without_region number)) m.actors })))
+
+-- status: what there is to tell of the region
+unfoldable pub status_of : Machine → ℕ → Answered
+status_of m number =
+    with_some (status_with number 1 m.actors) refusals.NoRegion m (λ status.
+    reply (replies.Status status) m)
+
+-- find: the region of the actor that holds the address
+unfoldable pub find_of : Machine → ℕ → ℕ → Answered
+find_of m actor address =
+    with_some (actor_of m actor) refusals.NoActor m (λ regions.
+    with_some (region_at m.page_bytes address regions) refusals.BadAddress m (λ r.
+    reply (replies.Region (record { 0 = r.number })) m))
 
 -- the page of a place, empty where there is none
 abbrev pub page_at : Machine → Place → Page
@@ -340,13 +371,18 @@ chain_answer m f cache page =
 -- the whole table; the forest is what chain and stat tell
 abbrev pub answer_of : Machine → PageForest → Command → Segments → Answered
 answer_of m f commands.MakeActor h = make_actor_of m
+answer_of m f (commands.ExitActor actor) h = exit_actor_of m actor.0
 answer_of m f (commands.MakeTemp pages) h = make_temp_of m pages
 answer_of m f (commands.OpenSegment seg) h = open_of m seg.0 (get h.pages seg.0)
 answer_of m f (commands.Destroy cache) h = destroy_of m cache.0
 answer_of m f (commands.Copy span) h = copy_of m span h
 answer_of m f (commands.Move span) h = move_of m span h
 answer_of m f (commands.Map actor mapping) h = map_of m actor.0 mapping
+answer_of m f (commands.Split region pages) h = split_of m region.0 pages
+answer_of m f (commands.Protect region prot) h = protect_of m region.0 prot
 answer_of m f (commands.Unmap region) h = unmap_of m region.0
+answer_of m f (commands.Status region) h = status_of m region.0
+answer_of m f (commands.Find actor address) h = find_of m actor.0 address
 answer_of m f (commands.Load actor address length) h = load_of m actor.0 address length
 answer_of m f (commands.Store actor address piece) h = store_of m actor.0 address piece h
 answer_of m f (commands.Sync extent) h = sync_of m extent

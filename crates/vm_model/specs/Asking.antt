@@ -12,6 +12,7 @@ IsWellFormed (commands.MakeTemp pages) = 1 ≤ pages
 IsWellFormed (commands.Copy span) = 1 ≤ span.pages
 IsWellFormed (commands.Move span) = 1 ≤ span.pages
 IsWellFormed (commands.Map actor mapping) = 1 ≤ mapping.extent.pages
+IsWellFormed (commands.Split region pages) = 1 ≤ pages
 IsWellFormed (commands.Load actor address length) = (1 ≤ length) × (length ≤ 64)
 IsWellFormed (commands.Sync extent) = 1 ≤ extent.pages
 IsWellFormed (commands.Flush extent) = 1 ≤ extent.pages
@@ -22,9 +23,14 @@ IsWellFormed command = Unit {0}
 -- these commands don't reach the mapper, so none of its counts rises in their answers
 abbrev pub ReachesMapper : Command → MapperCounts → Type 0
 ReachesMapper commands.MakeActor rises = rises ≡ no_counts
+ReachesMapper (commands.ExitActor actor) rises = rises ≡ no_counts
 ReachesMapper (commands.MakeTemp pages) rises = rises ≡ no_counts
 ReachesMapper (commands.Map actor mapping) rises = rises ≡ no_counts
+ReachesMapper (commands.Split region pages) rises = rises ≡ no_counts
+ReachesMapper (commands.Protect region prot) rises = rises ≡ no_counts
 ReachesMapper (commands.Unmap region) rises = rises ≡ no_counts
+ReachesMapper (commands.Status region) rises = rises ≡ no_counts
+ReachesMapper (commands.Find actor address) rises = rises ≡ no_counts
 ReachesMapper (commands.Chain cache page) rises = rises ≡ no_counts
 ReachesMapper commands.Stat rises = rises ≡ no_counts
 ReachesMapper command rises = Unit {0}

@@ -14,7 +14,7 @@ use Rattle.vm_ids.specs.declared.refusal.Refusal.TheVariants as refusals
 use Rattle.std.specs.Bool.{IsTrue}
 use Rattle.vm_ids.specs.declared.node_name.NodeName.{NodeName}
 use Rattle.vm_ids.specs.Forest.Saving.{saves, unsaved}
-use Rattle.vm_model.specs.declared.limits.TheConstants.{MADE}
+use Rattle.vm_model.specs.declared.limits.TheConstants.{MOST_MADE}
 use Rattle.vm_model.specs.PageForest.{PageForest, forest_shown}
 use Rattle.vm_model.specs.Following.{pages_saved}
 use Rattle.vm_model.specs.Machine.{Machine, Cache, cache_of, pages_in}
@@ -69,7 +69,7 @@ IsPageIn e p = (e.first.0 ≤ p) × (p < e.first.0 + e.pages)
 -- beside its faults. The size of a segment is asked only where fewer caches were made than may be.
 abbrev pub MayFault : Machine → Option PageForest → Command → Segments → FaultAt → MapperCounts
     → Type 0
-MayFault m f (commands.OpenSegment seg) h faults.Opening rises = length m.caches < MADE
+MayFault m f (commands.OpenSegment seg) h faults.Opening rises = length m.caches < MOST_MADE
 MayFault m f (commands.Destroy cache) h (faults.Page p) rises =
     IsNamed m cache.0 × IsPageOf m cache.0 p.0
 MayFault m f (commands.Destroy cache) h (faults.Save done) rises =
@@ -105,6 +105,7 @@ MayLackMemory (commands.OpenSegment seg) = Unit {0}
 MayLackMemory (commands.Copy span) = Unit {0}
 MayLackMemory (commands.Move span) = Unit {0}
 MayLackMemory (commands.Map actor mapping) = Unit {0}
+MayLackMemory (commands.Split region pages) = Unit {0}
 MayLackMemory (commands.Invalidate extent) = Unit {0}
 MayLackMemory (commands.Chain cache page) = Unit {0}
 MayLackMemory command = ⊥

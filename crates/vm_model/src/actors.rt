@@ -5,7 +5,7 @@ ghost use Rattle.vm_model.specs.Outcome.{PlainOutcome};
 ghost use Rattle.vm_model.specs.Seen.{machine_seen, IsSound};
 
 use crate::tables::{Actor, Tables};
-use crate::{LIVING_ACTORS, MADE};
+use crate::{LIVING_ACTORS, MOST_MADE};
 use vm_ids::{ActorId, Command, Refusal, Reply, Trouble};
 
 #[tactic(auto, unfolding(crate::specs::Answering::make_actor_of, crate::specs::Answering::unless))]
@@ -15,7 +15,7 @@ pub(crate) fn make_actor(tables: &mut Tables) -> Result<ActorId, Trouble>
     ensures outcome { PlainOutcome (machine_seen tables.old) Command.MakeActor
         (answer_by Reply.Actor result) (machine_seen tables.new) }
 {
-    if tables.living >= LIVING_ACTORS || tables.actors.len() >= MADE as usize {
+    if tables.living >= LIVING_ACTORS || tables.actors.len() >= MOST_MADE as usize {
         return Err(Trouble::Refused(Refusal::TooMany));
     }
     let actor = Actor {

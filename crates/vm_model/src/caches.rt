@@ -12,7 +12,7 @@ ghost use Rattle.vm_model.specs.Seen.{IsSound, actors_seen, cache_seen, machine_
 
 use crate::place::{cache_at, page_count};
 use crate::tables::{Actor, Cache, Region, Tables};
-use crate::{LIVE_PAGES, MADE};
+use crate::{LIVE_PAGES, MOST_MADE};
 use std::alloc::{AllocError, Global};
 use vm_ids::{CacheId, Command, Refusal, Reply, SegId, Trouble};
 
@@ -36,7 +36,7 @@ pub(crate) fn zero_pages(
 fn add_cache(tables: &mut Tables, cache: Cache) -> Result<CacheId, AllocError>
     requires sound { IsSound tables.old }
     requires room { live_pages (machine_seen tables.old) + length cache.pages.items ≤ LIVE_PAGES }
-    requires few { length tables.old.caches.items < MADE }
+    requires few { length tables.old.caches.items < MOST_MADE }
     requires whole { All (λ p. length p.items ≡ tables.old.page_bytes) cache.pages.items }
     ensures sound { IsSound tables.new }
     ensures number { IfOk result (λ number. number.0 ≡ length tables.old.caches.items + 1) }
@@ -58,7 +58,7 @@ pub(crate) fn make_temp(tables: &mut Tables, pages: u32) -> Result<CacheId, Trou
     ensures outcome { PlainOutcome (machine_seen tables.old) (Command.MakeTemp pages)
         (answer_by Reply.Cache result) (machine_seen tables.new) }
 {
-    if tables.caches.len() >= MADE as usize
+    if tables.caches.len() >= MOST_MADE as usize
         || tables.live as u64 + pages as u64 > LIVE_PAGES as u64
     {
         return Err(Trouble::Refused(Refusal::TooMany));
@@ -100,7 +100,7 @@ pub(crate) fn check_open(tables: &Tables, seg: SegId) -> Result<(), Trouble>
     if is_named(&tables.caches, seg) {
         return Err(Trouble::Refused(Refusal::SegmentInUse));
     }
-    if tables.caches.len() >= MADE as usize {
+    if tables.caches.len() >= MOST_MADE as usize {
         return Err(Trouble::Refused(Refusal::TooMany));
     }
     Ok(())

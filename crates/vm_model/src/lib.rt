@@ -26,5 +26,5 @@ mod telling;
 mod tests;
 
 pub use eager_machine::EagerMachine;
-pub use limits::{LIVE_PAGES, LIVING_ACTORS, MADE};
+pub use limits::{LIVE_PAGES, LIVING_ACTORS, MOST_MADE};
 pub use numbering::numbered;

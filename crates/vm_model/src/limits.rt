@@ -4,7 +4,7 @@
 pub const LIVING_ACTORS: u32 = 256;
 
 /// At most this many actors, caches and regions each are made.
-pub const MADE: u32 = 65535;
+pub const MOST_MADE: u32 = 65535;
 
 /// At most this many pages of all live caches there are at once.
 pub const LIVE_PAGES: u32 = 4194304;

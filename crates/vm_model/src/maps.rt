@@ -1,12 +1,13 @@
 // Regions are mapped and taken away.
 ghost use Rattle.std.specs.Prelude.{None, ◌==◌, not, filter, is_some, ◌≡◌, ℕ, ◌+◌, ◌-◌, ◌*◌, ◌^◌, ◌≤◌, ◌<◌, map, length, insert, nat_lt, All, OnOk, OnErr, IsSome, List, Option, option_map, slice_set};
 ghost use Rattle.std.specs.List.{list_any};
-ghost use Rattle.vm_model.specs.Answering.{answer_by, insert_region, overlaps, region_among, region_of, region_with, without_region};
+ghost use Rattle.vm_model.specs.Answering.{answer_by, insert_region, overlaps, region_of, without_region};
+ghost use Rattle.vm_model.specs.Regions.{region_among, region_with};
 ghost use Rattle.vm_model.specs.Machine.{numbered};
 ghost use Rattle.vm_model.specs.Outcome.{PlainOutcome};
 ghost use Rattle.vm_model.specs.Seen.{ArePlaced, IsPlaced, IsSound, actor_seen, actors_seen, machine_seen, region_seen};
 
-use crate::MADE;
+use crate::MOST_MADE;
 use crate::place::{actor_at, cache_at, passes_end};
 use crate::tables::{Actor, Cache, Region, Tables};
 use vm_ids::{ADDRESS_END, ActorId, Command, Mapping, NoMemory, Refusal, RegionId, Reply, Trouble};
@@ -100,7 +101,7 @@ fn put_region(tables: &mut Tables, actor: u32, region: Region) -> Result<(), NoM
     requires sound { IsSound tables.old }
     requires there { IsSome (numbered tables.old.actors.items actor) }
     requires placed { IsPlaced tables.old.page_bytes tables.old.caches.items region }
-    requires few { tables.old.regions_made < MADE }
+    requires few { tables.old.regions_made < MOST_MADE }
     ensures sound { IsSound tables.new }
     ensures ok { OnOk result (machine_seen tables.new ≡ record (machine_seen tables.old) {
       regions_made = tables.old.regions_made + 1;
@@ -145,7 +146,7 @@ pub(crate) fn map(
     if overlaps_any(&found.regions, page_bytes, mapping.address, pages) {
         return Err(Trouble::Refused(Refusal::Overlap));
     }
-    if tables.regions_made >= MADE {
+    if tables.regions_made >= MOST_MADE {
         return Err(Trouble::Refused(Refusal::TooMany));
     }
     let number = tables.regions_made + 1;

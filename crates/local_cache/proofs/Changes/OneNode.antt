@@ -12,7 +12,7 @@ use Rattle.vm_ids.proofs.Forest.NodesAfter.{node-put, node-put_other, has-put}
 use Rattle.vm_ids.specs.declared.numbers.NodeId.{NodeId}
 use Rattle.local_cache.specs.declared.own_state.OwnState.{OwnState}
 use Rattle.local_cache.specs.declared.links.Links.{Links}
-use Rattle.local_cache.specs.Arena.{Arena, Cell, cell, IsHeld, put, hung, with_own, with_tree}
+use Rattle.local_cache.specs.Arena.{Arena, Cell, cell, HasNode, put, hung, with_own, with_tree}
 use Rattle.local_cache.specs.Reading.{name_of, node_of, page_of, forest_of, hang_by, stubs_of}
 use Rattle.local_cache.specs.Threads.{IsThreaded}
 use Rattle.local_cache.specs.Sound.{IsSound, IsKept, ◌∈◌}
@@ -27,14 +27,14 @@ IsNoStub a n = (p : NodeId) → (cell a n).links.parent ≡ Some p → (cell a n
 
 -- c may stand in the place of the node n
 pub record Fits (a : Arena) (n : NodeId) (c : Cell) : Type 0 where
-  pub held : IsHeld a n
+  pub held : HasNode a n
   pub name : c.name ≡ name_of a n
   pub first : c.links.first ≡ (cell a n).links.first
   pub last : c.links.last ≡ (cell a n).links.last
   pub stubs : c.links.stubs ≡ (cell a n).links.stubs
   pub place : IsNoStub a n ⊎ (c.links ≡ (cell a n).links)
-  pub parents : (p : NodeId) → c.links.parent ≡ Some p → IsHeld a p
-  pub children : (m : NodeId) → m ∈ c.tree → IsHeld a m
+  pub parents : (p : NodeId) → c.links.parent ≡ Some p → HasNode a p
+  pub children : (m : NodeId) → m ∈ c.tree → HasNode a m
 
 abbrev pub node_by : Arena → NodeId → Cell → Node OwnState
 node_by a n c = record { own = page_of c.own; hang = hang_by a c.links.parent c.links.by_stub; tree = map (name_of a) c.tree; stubs = (node (forest_of a) (name_of a n)).stubs }
@@ -46,12 +46,12 @@ module _ (a : Arena) (kept : IsKept a) (n : NodeId) (c : Cell) (fits : Fits a n 
   other : (m : NodeId) → m ≢ n → cell (put a n c) m ≡ cell a m
   other m ne = cell-put_other a n m c ne
 
-  lists : (x : NodeId) → IsHeld a x → IsThreaded (put a n c) x (stubs_of a x)
+  lists : (x : NodeId) → HasNode a x → IsThreaded (put a n c) x (stubs_of a x)
   lists x h =
       let t = kept.threaded x h in
       threaded-kept a (put a n c) x (stubs_of a x) (λ y i. places y (row-each a x None (stubs_of a x) None t.row y i)) first last stubs t
     where
-      places : (y : NodeId) → IsHeld a y × ((cell a y).links.parent ≡ Some x) × ((cell a y).links.by_stub ≡ true) → Keeps a (put a n c) y
+      places : (y : NodeId) → HasNode a y × ((cell a y).links.parent ≡ Some x) × ((cell a y).links.by_stub ≡ true) → Keeps a (put a n c) y
       places y each = elim (id_cases y n) [
         | inr ne ↦ keeps_links a (put a n c) y (λ h. like.held y ∙ h) (ap (λ d. d.links) (other y ne))
         | inl e ↦ elim fits.place [
@@ -75,10 +75,10 @@ module _ (a : Arena) (kept : IsKept a) (n : NodeId) (c : Cell) (fits : Fits a n 
       stubs : (cell (put a n c) x).links.stubs ≡ (cell a x).links.stubs
       stubs = by_case (λ l. l.stubs) fits.stubs
 
-  stubs_are : (x : NodeId) → IsHeld a x → stubs_of (put a n c) x ≡ stubs_of a x
+  stubs_are : (x : NodeId) → HasNode a x → stubs_of (put a n c) x ≡ stubs_of a x
   stubs_are x h = threaded_is (put a n c) x (stubs_of a x) (lists x h)
 
-  stub_names : (x : NodeId) → IsHeld a x → (node_of (put a n c) x).stubs ≡ (node (forest_of a) (name_of a x)).stubs
+  stub_names : (x : NodeId) → HasNode a x → (node_of (put a n c) x).stubs ≡ (node (forest_of a) (name_of a x)).stubs
   stub_names x h = ap (map (name_of (put a n c))) (stubs_are x h) ∙ map-like a (put a n c) like (stubs_of a x) ∙ sym (ap (λ m. m.stubs) (node-forest_of a kept.named x h))
 
   node_n : node_of (put a n c) n ≡ node_by a n c
@@ -88,7 +88,7 @@ module _ (a : Arena) (kept : IsKept a) (n : NodeId) (c : Cell) (fits : Fits a n 
       (ap (λ d. map (name_of (put a n c)) d.tree) (cell-put a n c) ∙ map-like a (put a n c) like c.tree)
       (stub_names n fits.held)
 
-  node_other : (x : NodeId) → IsHeld a x → x ≢ n → node_of (put a n c) x ≡ node_of a x
+  node_other : (x : NodeId) → HasNode a x → x ≢ n → node_of (put a n c) x ≡ node_of a x
   node_other x h ne = same_node (node_of (put a n c) x) (node_of a x)
       (ap (λ d. page_of d.own) (other x ne))
       (ap (λ d. hang_by (put a n c) d.links.parent d.links.by_stub) (other x ne) ∙ hang-like a (put a n c) like (cell a x).links.parent (cell a x).links.by_stub)
@@ -124,12 +124,12 @@ module _ (a : Arena) (kept : IsKept a) (n : NodeId) (c : Cell) (fits : Fits a n 
       | inl e ↦ fits.children m (subst (λ ts. m ∈ ts) (ap (λ k. (cell (put a n c) k).tree) e ∙ ap (λ d. d.tree) (cell-put a n c)) i)
       | inr ne ↦ kept.children x m (sym (like.held x) ∙ h) (subst (λ ts. m ∈ ts) (ap (λ d. d.tree) (other x ne)) i)
     ];
-    threaded = λ x h. let ha : IsHeld a x = sym (like.held x) ∙ h in subst (IsThreaded (put a n c) x) (sym (stubs_are x ha)) (lists x ha);
+    threaded = λ x h. let ha : HasNode a x = sym (like.held x) ∙ h in subst (IsThreaded (put a n c) x) (sym (stubs_are x ha)) (lists x ha);
   }
 
 -- Steps ----------------------------------------------------------------------------
 
-module _ (a : Arena) (kept : IsKept a) (n : NodeId) (h : IsHeld a n) where
+module _ (a : Arena) (kept : IsKept a) (n : NodeId) (h : HasNode a n) where
   as_node : (own : Option OwnState) (hang : Hang) (tree : List NodeName) → own ≡ (node_of a n).own → hang ≡ (node_of a n).hang → tree ≡ (node_of a n).tree
       → ◌≡◌ {A = Node OwnState} (record { own = own; hang = hang; tree = tree; stubs = (node (forest_of a) (name_of a n)).stubs }) (node (forest_of a) (name_of a n))
   as_node own hang tree o k t =
@@ -156,24 +156,24 @@ module _ (a : Arena) (kept : IsKept a) (n : NodeId) (h : IsHeld a n) where
         cc clash));
   }
 
-  tree_fits : (ts : List NodeId) → ((m : NodeId) → m ∈ ts → IsHeld a m) → Fits a n (record (cell a n) { tree = ts })
+  tree_fits : (ts : List NodeId) → ((m : NodeId) → m ∈ ts → HasNode a m) → Fits a n (record (cell a n) { tree = ts })
   tree_fits ts all = record { held = h; name = refl; first = refl; last = refl; stubs = refl; place = inr refl; parents = λ p e. kept.parents n p h e; children = all }
 
-  pub tree-forest : (ts : List NodeId) → ((m : NodeId) → m ∈ ts → IsHeld a m) → forest_of (with_tree a n ts) ≡ edit (forest_of a) (name_of a n) (forest.with_tree (map (name_of a) ts))
+  pub tree-forest : (ts : List NodeId) → ((m : NodeId) → m ∈ ts → HasNode a m) → forest_of (with_tree a n ts) ≡ edit (forest_of a) (name_of a n) (forest.with_tree (map (name_of a) ts))
   tree-forest ts all = edit-forest a kept n (record (cell a n) { tree = ts }) (tree_fits ts all)
       ∙ ap (λ m. forest.put (forest_of a) (name_of a n) (forest.with_tree (map (name_of a) ts) m)) (as_node _ _ (map (name_of a) (cell a n).tree) refl refl refl)
 
-  pub tree-kept : (ts : List NodeId) → ((m : NodeId) → m ∈ ts → IsHeld a m) → IsKept (with_tree a n ts)
+  pub tree-kept : (ts : List NodeId) → ((m : NodeId) → m ∈ ts → HasNode a m) → IsKept (with_tree a n ts)
   tree-kept ts all = edit-kept a kept n (record (cell a n) { tree = ts }) (tree_fits ts all)
 
-  hang_fits : IsNoStub a n → (up : Option NodeId) → ((p : NodeId) → up ≡ Some p → IsHeld a p) → Fits a n (record (cell a n) { links = record (cell a n).links { parent = up; by_stub = false } })
+  hang_fits : IsNoStub a n → (up : Option NodeId) → ((p : NodeId) → up ≡ Some p → HasNode a p) → Fits a n (record (cell a n) { links = record (cell a n).links { parent = up; by_stub = false } })
   hang_fits none up all = record { held = h; name = refl; first = refl; last = refl; stubs = refl; place = inl none; parents = all; children = λ m i. kept.children n m h i }
 
-  pub hang-forest : IsNoStub a n → (up : Option NodeId) → ((p : NodeId) → up ≡ Some p → IsHeld a p) → forest_of (hung a n up) ≡ edit (forest_of a) (name_of a n) (with_hang (hang_by a up false))
+  pub hang-forest : IsNoStub a n → (up : Option NodeId) → ((p : NodeId) → up ≡ Some p → HasNode a p) → forest_of (hung a n up) ≡ edit (forest_of a) (name_of a n) (with_hang (hang_by a up false))
   hang-forest none up all = edit-forest a kept n _ (hang_fits none up all)
       ∙ ap (λ m. forest.put (forest_of a) (name_of a n) (with_hang (hang_by a up false) m)) (as_node _ (hang_by a (cell a n).links.parent (cell a n).links.by_stub) _ refl refl refl)
 
-  pub hang-kept : IsNoStub a n → (up : Option NodeId) → ((p : NodeId) → up ≡ Some p → IsHeld a p) → IsKept (hung a n up)
+  pub hang-kept : IsNoStub a n → (up : Option NodeId) → ((p : NodeId) → up ≡ Some p → HasNode a p) → IsKept (hung a n up)
   hang-kept none up all = edit-kept a kept n _ (hang_fits none up all)
 
 -- b is a after a step that changes links and lists alone, and reads as the forest g
@@ -182,11 +182,11 @@ pub record Edited (a b : Arena) (g : Forest OwnState) : Type 0 where
   pub kept : IsKept b
   pub forest : forest_of b ≡ g
 
-pub tree-edited : (a : Arena) → IsKept a → (p : NodeId) → IsHeld a p → (ts : List NodeId) → ((m : NodeId) → m ∈ ts → IsHeld a m)
+pub tree-edited : (a : Arena) → IsKept a → (p : NodeId) → HasNode a p → (ts : List NodeId) → ((m : NodeId) → m ∈ ts → HasNode a m)
     → Edited a (with_tree a p ts) (edit (forest_of a) (name_of a p) (forest.with_tree (map (name_of a) ts)))
 tree-edited a kept p hp ts all = record { rehung = rehung-tree a p ts hp; kept = tree-kept a kept p hp ts all; forest = tree-forest a kept p hp ts all }
 
-pub hang-edited : (a : Arena) → IsKept a → (n : NodeId) → IsHeld a n → IsNoStub a n → (up : Option NodeId) → ((p : NodeId) → up ≡ Some p → IsHeld a p)
+pub hang-edited : (a : Arena) → IsKept a → (n : NodeId) → HasNode a n → IsNoStub a n → (up : Option NodeId) → ((p : NodeId) → up ≡ Some p → HasNode a p)
     → Edited a (hung a n up) (edit (forest_of a) (name_of a n) (with_hang (hang_by a up false)))
 hang-edited a kept n hn none up all = record { rehung = rehung-links a n _ hn; kept = hang-kept a kept n hn none up all; forest = hang-forest a kept n hn none up all }
 

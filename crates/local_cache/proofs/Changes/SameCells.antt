@@ -7,7 +7,7 @@ use Rattle.vm_ids.specs.Forest.Nodes.{Forest, node}
 use Rattle.vm_ids.specs.Forest.Shape.{IsLinked}
 use Rattle.vm_ids.specs.declared.numbers.CacheId.{CacheId}
 use Rattle.vm_ids.specs.declared.numbers.NodeId.{NodeId}
-use Rattle.local_cache.specs.Arena.{Arena, IsHeld, Table, blank, cell, node_at, without_cache}
+use Rattle.local_cache.specs.Arena.{Arena, HasNode, Table, blank, cell, node_at, without_cache}
 use Rattle.local_cache.specs.Reading.{at_key, forest_of, hang_by, name_of, node_of, page_of, stubs_of, walk}
 use Rattle.local_cache.specs.Sound.{IsSound, ◌∈◌}
 use Rattle.local_cache.specs.Threads.{IsThreaded}
@@ -33,10 +33,10 @@ module _ (a b : Arena) (cells : b.cells ≡ a.cells) where
   names_same : name_of b ≡ name_of a
   names_same = λ i m. name_same m i
 
-  now_held : (m : NodeId) → IsHeld a m → IsHeld b m
+  now_held : (m : NodeId) → HasNode a m → HasNode b m
   now_held m h = ap (λ cs. is_some (ids.get cs m.0)) cells ∙ h
 
-  was_held : (m : NodeId) → IsHeld b m → IsHeld a m
+  was_held : (m : NodeId) → HasNode b m → HasNode a m
   was_held m h = ap (λ cs. is_some (ids.get cs m.0)) (sym cells) ∙ h
 
   walk_same : (k : ℕ) (from : Option NodeId) → walk b k from ≡ walk a k from

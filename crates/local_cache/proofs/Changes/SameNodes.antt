@@ -8,7 +8,7 @@ use Rattle.vm_ids.specs.Forest.Nodes.Hang.{Root, TreeOf, StubOf}
 use Rattle.vm_ids.specs.declared.numbers.NodeId.{NodeId}
 use Rattle.local_cache.specs.declared.own_state.OwnState.{OwnState}
 use Rattle.local_cache.specs.declared.links.Links.{Links}
-use Rattle.local_cache.specs.Arena.{Arena, Cell, cell, find, IsHeld, put, with_links, with_tree}
+use Rattle.local_cache.specs.Arena.{Arena, Cell, cell, find, HasNode, put, with_links, with_tree}
 use Rattle.local_cache.specs.Reading.{name_of, node_of, forest_of, hang_by, IsNamed}
 pub use Rattle.local_cache.specs.Changes.{Like, Relinked, Rehung}
 pub use Rattle.local_cache.proofs.Nodes.OwnStates.{id_cases}
@@ -24,7 +24,7 @@ pub caches-put : (a : Arena) (n : NodeId) (c : Cell) → (put a n c).caches ≡ 
 unfolding put
 caches-put a n c = refl
 
-pub like-put : (a : Arena) (n : NodeId) (c : Cell) → IsHeld a n → c.name ≡ name_of a n → Like a (put a n c)
+pub like-put : (a : Arena) (n : NodeId) (c : Cell) → HasNode a n → c.name ≡ name_of a n → Like a (put a n c)
 like-put a n c h e = record {
   held = λ m. elim (id_cases m n) [
     | inl is ↦ ap (λ k. is_some (find (put a n c) k)) is ∙ ap is_some (find-put a n c) ∙ sym h ∙ ap (λ k. is_some (find a k)) (sym is)
@@ -58,11 +58,11 @@ map-like a b like (n ∷ ns) = λ i. like.name n i ∷ map-like a b like ns i
 -- the forest of b is g, where b has the nodes of a, g those of the forest of a, and each is as b has it
 pub reads_like : (a b : Arena) → IsNamed a → Like a b → a.made ≡ b.made → (g : Forest OwnState) → b.made ≡ g.made → b.copies ≡ g.copies
     → ((x : NodeName) → contains_key g.nodes x ≡ contains_key (forest_of a).nodes x)
-    → ((n : NodeId) → IsHeld a n → node g (name_of a n) ≡ node_of b n)
+    → ((n : NodeId) → HasNode a n → node g (name_of a n) ≡ node_of b n)
     → forest_of b ≡ g
 reads_like a b named like same_made g made copies has there =
     reads_as b (named-like a b named like same_made) g made copies
-    (λ n h. let k : IsHeld a n = sym (like.held n) ∙ h in
+    (λ n h. let k : HasNode a n = sym (like.held n) ∙ h in
     (ap (λ x. contains_key g.nodes x) (like.name n) ∙ has (name_of a n) ∙ IsNode-forest_of a named n k, ap (node g) (like.name n) ∙ there n k))
     (λ x is. let f = forest_of-IsNode a x (sym (has x) ∙ is) in (f.0, like.held f.0 ∙ f.1, like.name f.0 ∙ f.2))
 
@@ -79,7 +79,7 @@ links-with_links a n l = ap (λ c. c.links) (cell-put a n _)
 pub links-with_links_other : (a : Arena) (n m : NodeId) (l : Links) → m ≢ n → (cell (with_links a n l) m).links ≡ (cell a m).links
 links-with_links_other a n m l ne = ap (λ c. c.links) (cell-put_other a n m _ ne)
 
-pub like-with_links : (a : Arena) (n : NodeId) (l : Links) → IsHeld a n → Like a (with_links a n l)
+pub like-with_links : (a : Arena) (n : NodeId) (l : Links) → HasNode a n → Like a (with_links a n l)
 like-with_links a n l h = like-put a n _ h refl
 
 pub made-put : (a : Arena) (n : NodeId) (c : Cell) → (put a n c).made ≡ a.made
@@ -94,7 +94,7 @@ pub room-put : (a : Arena) (n : NodeId) (c : Cell) → (put a n c).room ≡ a.ro
 unfolding put
 room-put a n c = refl
 
-pub relinked : (a : Arena) (n : NodeId) (l : Links) → IsHeld a n → Relinked a (with_links a n l)
+pub relinked : (a : Arena) (n : NodeId) (l : Links) → HasNode a n → Relinked a (with_links a n l)
 relinked a n l h = record {
   like = like-with_links a n l h;
   own = with_links-keeps (λ c. c.own) (λ c k. refl) a n l;
@@ -131,12 +131,12 @@ hang-like a b like None t = refl
 hang-like a b like (Some p) true = ap StubOf (like.name p)
 hang-like a b like (Some p) false = ap TreeOf (like.name p)
 
-pub parent-read : (a : Arena) → IsNamed a → (n p : NodeId) → IsHeld a n → (cell a n).links.parent ≡ Some p → parent (forest_of a) (name_of a n) ≡ Some (name_of a p)
+pub parent-read : (a : Arena) → IsNamed a → (n p : NodeId) → HasNode a n → (cell a n).links.parent ≡ Some p → parent (forest_of a) (name_of a n) ≡ Some (name_of a p)
 parent-read a named n p h e =
     ap (λ m. parent_of m.hang) (node-forest_of a named n h) ∙ ap (λ o. parent_of (hang_by a o (cell a n).links.by_stub)) e ∙ parent_by a p (cell a n).links.by_stub
 
 -- no node is its own parent
-pub irreflexive : (a : Arena) → IsNamed a → IsLinked (forest_of a) → (n : NodeId) → IsHeld a n → (cell a n).links.parent ≡ Some n → ⊥
+pub irreflexive : (a : Arena) → IsNamed a → IsLinked (forest_of a) → (n : NodeId) → HasNode a n → (cell a n).links.parent ≡ Some n → ⊥
 irreflexive a named linked n h e = let less = linked.order.1 (name_of a n) (name_of a n) (parent-read a named n n h e) in omega arith
 
 pub same_node : {P : Type 0} (m n : Node P) → m.own ≡ n.own → m.hang ≡ n.hang → m.tree ≡ n.tree → m.stubs ≡ n.stubs → m ≡ n
@@ -163,7 +163,7 @@ pub tree-with_links : (a : Arena) (n : NodeId) (l : Links) (m : NodeId) → (cel
 tree-with_links = with_links-keeps (λ c. c.tree) (λ c l. refl)
 
 -- where links and lists alone were changed
-pub rehung-links : (a : Arena) (n : NodeId) (l : Links) → IsHeld a n → Rehung a (with_links a n l)
+pub rehung-links : (a : Arena) (n : NodeId) (l : Links) → HasNode a n → Rehung a (with_links a n l)
 rehung-links a n l h = record {
   like = like-with_links a n l h;
   own = with_links-keeps (λ c. c.own) (λ c k. refl) a n l;
@@ -172,7 +172,7 @@ rehung-links a n l h = record {
   room = room-put a n _;
 }
 
-pub rehung-tree : (a : Arena) (n : NodeId) (ts : List NodeId) → IsHeld a n → Rehung a (with_tree a n ts)
+pub rehung-tree : (a : Arena) (n : NodeId) (ts : List NodeId) → HasNode a n → Rehung a (with_tree a n ts)
 rehung-tree a n ts h = record {
   like = like-put a n _ h refl;
   own = with_tree-keeps (λ c. c.own) (λ c k. refl) a n ts;

@@ -13,7 +13,7 @@ use Rattle.vm_ids.proofs.Forest.Values.{node-count_copy}
 use Rattle.vm_ids.specs.declared.numbers.NodeId.{NodeId}
 use Rattle.local_cache.specs.declared.own_state.OwnState.{OwnState}
 use Rattle.local_cache.specs.declared.own_state.OwnState.TheVariants.{Absent, Zero, Resident, Slot, OnSegment}
-use Rattle.local_cache.specs.Arena.{Arena, IsHeld, cell, find, with_own}
+use Rattle.local_cache.specs.Arena.{Arena, HasNode, cell, find, with_own}
 use Rattle.local_cache.specs.Changes.{Like, Relinked}
 use Rattle.local_cache.specs.Reading.{IsNamed, forest_of, name_of, page_of}
 use Rattle.local_cache.specs.ReadingBy.{Tells, forest_by, node_with, state_page}
@@ -52,7 +52,7 @@ module _ {P Q : Type 0} (page : NodeId → Option P) (other : NodeId → Option 
       (made-map no_page (forest_by page a) ∙ forest_by-made page a ∙ sym (made-map no_page (forest_by other a) ∙ forest_by-made other a))
       (copies-map no_page (forest_by page a) ∙ forest_by-copies page a ∙ sym (copies-map no_page (forest_by other a) ∙ forest_by-copies other a))
     where
-      at : (x : NodeName) → ((n : NodeId) × IsHeld a n × (name_of a n ≡ x)) ⊎ ((n : NodeId) → IsHeld a n → name_of a n ≢ x)
+      at : (x : NodeName) → ((n : NodeId) × HasNode a n × (name_of a n ≡ x)) ⊎ ((n : NodeId) → HasNode a n → name_of a n ≢ x)
           → option_map (map_node no_page) (names.get (forest_by page a).nodes x) ≡ option_map (map_node no_page) (names.get (forest_by other a).nodes x)
       at x (inl f) = subst (λ y. option_map (map_node no_page) (names.get (forest_by page a).nodes y) ≡ option_map (map_node no_page) (names.get (forest_by other a).nodes y)) f.2
           (ap (option_map (map_node no_page)) (get-forest_by a page named f.0 f.1) ∙ ap (λ o. Some (node_with a f.0 o)) (same_bare (page f.0) (other f.0) (alike f.0)) ∙ sym (ap (option_map (map_node no_page)) (get-forest_by a other named f.0 f.1)))
@@ -62,15 +62,15 @@ module _ {P : Type 0} (page : NodeId → Option P) where
   pub bare-of : (a : Arena) → IsNamed a → Tells page a → bare (forest_by page a) ≡ bare (forest_of a)
   bare-of a named tells = bare-by page (state_page a) a named tells ∙ sym (ap bare (forest_of-by a))
 
-  pub page-at : (a : Arena) → IsNamed a → (n : NodeId) → IsHeld a n → (node (forest_by page a) (name_of a n)).own ≡ page n
+  pub page-at : (a : Arena) → IsNamed a → (n : NodeId) → HasNode a n → (node (forest_by page a) (name_of a n)).own ≡ page n
   page-at a named n h = ap (λ k. k.own) (node-forest_by a page named n h)
 
   -- The forest that is read with these pages is g, where the forest of own states is like g but for its pages, and g
   -- has each node's page.
-  pub lifted : (a : Arena) → IsNamed a → Tells page a → (g : Forest P) → bare (forest_of a) ≡ bare g → ((n : NodeId) → IsHeld a n → page n ≡ (node g (name_of a n)).own) → forest_by page a ≡ g
+  pub lifted : (a : Arena) → IsNamed a → Tells page a → (g : Forest P) → bare (forest_of a) ≡ bare g → ((n : NodeId) → HasNode a n → page n ≡ (node g (name_of a n)).own) → forest_by page a ≡ g
   lifted a named tells g alike pages = equal_by_pages (forest_by page a) g (bare-of a named tells ∙ alike) (λ x. at x (held_or_not a x))
     where
-      at : (x : NodeName) → ((n : NodeId) × IsHeld a n × (name_of a n ≡ x)) ⊎ ((n : NodeId) → IsHeld a n → name_of a n ≢ x) → (node (forest_by page a) x).own ≡ (node g x).own
+      at : (x : NodeName) → ((n : NodeId) × HasNode a n × (name_of a n ≡ x)) ⊎ ((n : NodeId) → HasNode a n → name_of a n ≢ x) → (node (forest_by page a) x).own ≡ (node g x).own
       at x (inl f) = subst (λ y. (node (forest_by page a) y).own ≡ (node g y).own) f.2 (page-at a named f.0 f.1 ∙ pages f.0 f.1)
       at x (inr none) =
           let gone : (node (forest_by page a) x).own ≡ None = ap (λ k. k.own) (node_none (forest_by page a) x (get-forest_by_none a page x none)) in
@@ -83,20 +83,20 @@ module _ {P : Type 0} (page : NodeId → Option P) where
 
 -- From a to b all nodes stay under their names, and each has its page still. Nodes may have been made.
 pub record PagesStay {P : Type 0} (page now : NodeId → Option P) (a b : Arena) : Type 0 where
-  pub held : (n : NodeId) → IsHeld a n → IsHeld b n
-  pub name : (n : NodeId) → IsHeld a n → name_of b n ≡ name_of a n
-  pub same : (n : NodeId) → IsHeld a n → now n ≡ page n
+  pub held : (n : NodeId) → HasNode a n → HasNode b n
+  pub name : (n : NodeId) → HasNode a n → name_of b n ≡ name_of a n
+  pub same : (n : NodeId) → HasNode a n → now n ≡ page n
 
 module _ {P : Type 0} (page now : NodeId → Option P) (a b : Arena) (was : IsNamed a) (is : IsNamed b) (stay : PagesStay page now a b) (told : Tells now b) where
   -- Where a rule keeps each own page, it is followed with any pages.
   pub lifted-kept : (g : Forest P) → bare (forest_of b) ≡ bare g → ((x : NodeName) → (node g x).own ≡ (node (forest_by page a) x).own) → forest_by now b ≡ g
   lifted-kept g alike kept = lifted now b is told g alike (λ n h. old_or_new n h (is_some (find a n)) refl)
     where
-      none_at : (n : NodeId) → (IsHeld a n → ⊥) → IsHeld b n → (node (forest_by page a) (name_of b n)).own ≡ None
+      none_at : (n : NodeId) → (HasNode a n → ⊥) → HasNode b n → (node (forest_by page a) (name_of b n)).own ≡ None
       none_at n out h = ap (λ k. k.own) (node_none (forest_by page a) (name_of b n) (get-forest_by_none a page (name_of b n) (λ m k e.
-          out (subst (IsHeld a) (is.apart m n (stay.held m k) h (stay.name m k ∙ e)) k))))
+          out (subst (HasNode a) (is.apart m n (stay.held m k) h (stay.name m k ∙ e)) k))))
 
-      old_or_new : (n : NodeId) → IsHeld b n → (t : Bool) → is_some (find a n) ≡ t → now n ≡ (node g (name_of b n)).own
+      old_or_new : (n : NodeId) → HasNode b n → (t : Bool) → is_some (find a n) ≡ t → now n ≡ (node g (name_of b n)).own
       old_or_new n h true e = stay.same n e ∙ sym (page-at page a was n e) ∙ sym (kept (name_of a n)) ∙ ap (λ x. (node g x).own) (sym (stay.name n e))
       old_or_new n h false e =
           let gone : (node g (name_of b n)).own ≡ None = kept (name_of b n) ∙ none_at n (λ k. false≢true (sym e ∙ k)) h in
@@ -116,7 +116,7 @@ module _ {P : Type 0} (page : NodeId → Option P) (a b : Arena) (named : IsName
       (λ n. tells n ∙ ap (λ o. is_some (page_of o)) (sym (links.own n)))
       (s (forest_by page a)) (ap bare forest ∙ bare-rule page a named tells r u s rs ss) (kept (forest_by page a))
 
-module _ {P : Type 0} (page now : NodeId → Option P) (a : Arena) (kept : IsKept a) (n : NodeId) (h : IsHeld a n) (s : OwnState) where
+module _ {P : Type 0} (page now : NodeId → Option P) (a : Arena) (kept : IsKept a) (n : NodeId) (h : HasNode a n) (s : OwnState) where
   -- another own state at a node is another page at its name
   pub own-forest_by : Tells page a → is_some (now n) ≡ is_some (page_of s) → ((m : NodeId) → m ≢ n → now m ≡ page m) → Tells now (with_own a n s)
       → forest_by now (with_own a n s) ≡ edit (forest_by page a) (name_of a n) (with_page (now n))
@@ -127,7 +127,7 @@ module _ {P : Type 0} (page now : NodeId → Option P) (a : Arena) (kept : IsKep
       (λ m k. elim (id_cases m n) [
         | inl e ↦ ap now e ∙ sym (ap (λ k. k.own) (node-put (forest_by page a) x (with_page (now n) (node (forest_by page a) x)))) ∙ ap (λ y. (node g y).own) (sym (like.name n) ∙ ap (name_of b) (sym e))
         | inr ne ↦
-            let was : IsHeld a m = sym (like.held m) ∙ k in
+            let was : HasNode a m = sym (like.held m) ∙ k in
             others m ne ∙ sym (page-at page a kept.named m was) ∙ sym (ap (λ k. k.own) (node-put_other (forest_by page a) x (name_of a m) _ (λ e. ne (kept.named.apart m n was h e)))) ∙ ap (λ y. (node g y).own) (sym (like.name m))
       ])
     where

@@ -6,7 +6,7 @@ use Rattle.vm_ids.specs.Forest.Nodes.{Forest, node}
 use Rattle.vm_ids.specs.Forest.Shape.{IsLinked}
 use Rattle.vm_ids.specs.declared.numbers.NodeId.{NodeId}
 use Rattle.local_cache.specs.declared.own_state.OwnState.{OwnState}
-use Rattle.local_cache.specs.Arena.{Arena, cell, IsHeld}
+use Rattle.local_cache.specs.Arena.{Arena, cell, HasNode}
 use Rattle.local_cache.specs.Reading.{name_of, node_of, page_of, forest_of, hang_by, stubs_of, IsNamed}
 use Rattle.local_cache.specs.Threads.{IsThreaded}
 use Rattle.local_cache.specs.Sound.{IsListed, IsSound, ◌∈◌}
@@ -20,17 +20,17 @@ pub record Follows (a b : Arena) (g : Forest OwnState) (ys : NodeId → List Nod
   pub made : b.made ≡ g.made
   pub copies : b.copies ≡ g.copies
   pub names : (x : NodeName) → contains_key g.nodes x ≡ contains_key (forest_of a).nodes x
-  pub threaded : (x : NodeId) → IsHeld a x → IsThreaded b x (ys x)
-  pub own : (n : NodeId) → IsHeld a n → (node g (name_of a n)).own ≡ page_of (cell b n).own
-  pub hang : (n : NodeId) → IsHeld a n → (node g (name_of a n)).hang ≡ hang_by a (cell b n).links.parent (cell b n).links.by_stub
-  pub tree : (n : NodeId) → IsHeld a n → (node g (name_of a n)).tree ≡ map (name_of a) (cell b n).tree
-  pub stubs : (n : NodeId) → IsHeld a n → (node g (name_of a n)).stubs ≡ map (name_of a) (ys n)
-  pub parents : (n p : NodeId) → IsHeld a n → (cell b n).links.parent ≡ Some p → IsHeld a p
-  pub children : (n m : NodeId) → IsHeld a n → m ∈ (cell b n).tree → IsHeld a m
+  pub threaded : (x : NodeId) → HasNode a x → IsThreaded b x (ys x)
+  pub own : (n : NodeId) → HasNode a n → (node g (name_of a n)).own ≡ page_of (cell b n).own
+  pub hang : (n : NodeId) → HasNode a n → (node g (name_of a n)).hang ≡ hang_by a (cell b n).links.parent (cell b n).links.by_stub
+  pub tree : (n : NodeId) → HasNode a n → (node g (name_of a n)).tree ≡ map (name_of a) (cell b n).tree
+  pub stubs : (n : NodeId) → HasNode a n → (node g (name_of a n)).stubs ≡ map (name_of a) (ys n)
+  pub parents : (n p : NodeId) → HasNode a n → (cell b n).links.parent ≡ Some p → HasNode a p
+  pub children : (n m : NodeId) → HasNode a n → m ∈ (cell b n).tree → HasNode a m
   pub linked : IsLinked g
 
 module _ (a b : Arena) (named : IsNamed a) (g : Forest OwnState) (ys : NodeId → List NodeId) (rule : Follows a b g ys) where
-  stubs_are : (n : NodeId) → IsHeld a n → stubs_of b n ≡ ys n
+  stubs_are : (n : NodeId) → HasNode a n → stubs_of b n ≡ ys n
   stubs_are n h = threaded_is b n (ys n) (rule.threaded n h)
 
   pub follows-forest : forest_of b ≡ g
@@ -47,7 +47,7 @@ module _ (a b : Arena) (named : IsNamed a) (g : Forest OwnState) (ys : NodeId �
       listed = listed-like a b listed rule.like;
       parents = λ n p h up. rule.like.held p ∙ rule.parents n p (sym (rule.like.held n) ∙ h) up;
       children = λ n m h i. rule.like.held m ∙ rule.children n m (sym (rule.like.held n) ∙ h) i;
-      threaded = λ x h. let ha : IsHeld a x = sym (rule.like.held x) ∙ h in subst (IsThreaded b x) (sym (stubs_are x ha)) (rule.threaded x ha);
+      threaded = λ x h. let ha : HasNode a x = sym (rule.like.held x) ∙ h in subst (IsThreaded b x) (sym (stubs_are x ha)) (rule.threaded x ha);
     };
     linked = subst IsLinked (sym follows-forest) rule.linked;
   }

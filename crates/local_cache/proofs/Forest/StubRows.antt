@@ -1,7 +1,7 @@
 -- Rows of stubs: what a walk gives, cutting a row in two, and rows in another arena.
 use Rattle.std.proofs.Common.{◌≡◌, ◌⊎◌, true, List, [], ◌∷◌, ◌++◌, length, Option, Some, None, refl, sym, ap, ◌∙◌, subst, inl, inr}
 use Rattle.vm_ids.specs.declared.numbers.NodeId.{NodeId}
-use Rattle.local_cache.specs.Arena.{Arena, cell, IsHeld}
+use Rattle.local_cache.specs.Arena.{Arena, cell, HasNode}
 use Rattle.local_cache.specs.Reading.{walk, stubs_of}
 use Rattle.local_cache.specs.Threads.{head_or, last_or, IsStub, Row, IsThreaded}
 use Rattle.local_cache.specs.Sound.{◌∈◌}
@@ -30,20 +30,20 @@ row-join a x b (u ∷ []) vs c front rear = (front.0, rear)
 row-join a x b (u ∷ w ∷ us) vs c front rear = (front.0, row-join a x (Some u) (w ∷ us) vs c front.1 rear)
 
 -- what holds of each node of a row
-pub row-each : (a : Arena) (x : NodeId) (b : Option NodeId) (ys : List NodeId) (c : Option NodeId) → Row a x b ys c → (y : NodeId) → y ∈ ys → IsHeld a y × ((cell a y).links.parent ≡ Some x) × ((cell a y).links.by_stub ≡ true)
+pub row-each : (a : Arena) (x : NodeId) (b : Option NodeId) (ys : List NodeId) (c : Option NodeId) → Row a x b ys c → (y : NodeId) → y ∈ ys → HasNode a y × ((cell a y).links.parent ≡ Some x) × ((cell a y).links.by_stub ≡ true)
 row-each a x b [] c row y h = absurd h
-row-each a x b (z ∷ ys) c row y (inl e) = subst (λ z. IsHeld a z × ((cell a z).links.parent ≡ Some x) × ((cell a z).links.by_stub ≡ true)) (sym e) (row.0.held, row.0.parent, row.0.by_stub)
+row-each a x b (z ∷ ys) c row y (inl e) = subst (λ z. HasNode a z × ((cell a z).links.parent ≡ Some x) × ((cell a z).links.by_stub ≡ true)) (sym e) (row.0.held, row.0.parent, row.0.by_stub)
 row-each a x b (z ∷ ys) c row y (inr h) = row-each a x (Some z) ys c row.1 y h
 
 -- y keeps its place among its parent's stubs
 pub record Keeps (a b : Arena) (y : NodeId) : Type 0 where
-  pub held : IsHeld a y → IsHeld b y
+  pub held : HasNode a y → HasNode b y
   pub parent : (cell b y).links.parent ≡ (cell a y).links.parent
   pub by_stub : (cell b y).links.by_stub ≡ (cell a y).links.by_stub
   pub before : (cell b y).links.before ≡ (cell a y).links.before
   pub behind : (cell b y).links.behind ≡ (cell a y).links.behind
 
-pub keeps_links : (a b : Arena) (y : NodeId) → (IsHeld a y → IsHeld b y) → (cell b y).links ≡ (cell a y).links → Keeps a b y
+pub keeps_links : (a b : Arena) (y : NodeId) → (HasNode a y → HasNode b y) → (cell b y).links ≡ (cell a y).links → Keeps a b y
 keeps_links a b y h e = record { held = h; parent = ap (λ l. l.parent) e; by_stub = ap (λ l. l.by_stub) e; before = ap (λ l. l.before) e; behind = ap (λ l. l.behind) e }
 
 pub stub-kept : (a b : Arena) (x y : NodeId) (before behind : Option NodeId) → Keeps a b y → IsStub a x before y behind → IsStub b x before y behind

@@ -13,7 +13,7 @@ use Rattle.local_cache.specs.declared.home.Home.{Home}
 use Rattle.local_cache.specs.declared.links.Links.{Links}
 use Rattle.local_cache.specs.declared.own_state.OwnState.{OwnState}
 use Rattle.local_cache.specs.declared.own_state.OwnState.TheVariants.{Absent}
-use Rattle.local_cache.specs.Arena.{Arena, Cell, HasPage, IsHeld, IsMade, Table, as_working, blank, cell, find, new_cell, put, table_at, tables_with, tables_without, with_grant, with_links, with_name, with_new, with_own, with_tree, with_working, without, without_cache}
+use Rattle.local_cache.specs.Arena.{Arena, Cell, HasPage, HasNode, IsMade, Table, as_working, blank, cell, find, new_cell, put, table_at, tables_with, tables_without, with_grant, with_links, with_name, with_new, with_own, with_tree, with_working, without, without_cache}
 use Rattle.local_cache.specs.Changes.{Like}
 use Rattle.local_cache.specs.Home.{home_named, home_of}
 use Rattle.local_cache.specs.Reading.{name_of}
@@ -207,7 +207,7 @@ table_below ts (suc k) page n is = go ts k is
     go (t ∷ ts) zero is = omega arith
     go (t ∷ ts) (suc k) is = let less = go ts k is in omega (arith, less)
 
-pub home-made_other : (old new : Arena) (cache : CacheId) (segment : Option SegId) (own : OwnState) (ns : List NodeId) → IsMade old new cache segment own ns → IsListed old → (n : NodeId) → IsHeld old n → home_of new n ≡ home_of old n
+pub home-made_other : (old new : Arena) (cache : CacheId) (segment : Option SegId) (own : OwnState) (ns : List NodeId) → IsMade old new cache segment own ns → IsListed old → (n : NodeId) → HasNode old n → home_of new n ≡ home_of old n
 home-made_other old new cache segment own ns m listed n held =
     ap (λ (c : Cell). home_named new.caches c.name) (cell_of new n ∙ ap (λ (o : Option Cell). unwrap_or o blank) (made_stays old new cache segment own ns m n held) ∙ sym (cell_of old n))
     ∙ home_where old.caches new.caches (name_of old n) (λ c p is. ap (option_map (λ (t : Table). t.segment)) (made_tables old new cache segment own ns m c.0 (table_below old.caches c.0 p.0 n (listed.pages c.0 p.0 n held is))))

@@ -13,7 +13,7 @@ use Rattle.vm_ids.proofs.Forest.Detaching.{swapped_b, swapped_other}
 use Rattle.vm_ids.proofs.Forest.PageMap.{rename-map}
 use Rattle.vm_ids.proofs.Forest.Renaming.{node-rename}
 use Rattle.local_cache.specs.Arena as arena
-use Rattle.local_cache.specs.Arena.{Arena, IsHeld, IsVacant, cell, entry_at, find, node_at, tables_with, with_name}
+use Rattle.local_cache.specs.Arena.{Arena, HasNode, IsVacant, cell, entry_at, find, node_at, tables_with, with_name}
 use Rattle.local_cache.specs.Own.{own_of}
 use Rattle.local_cache.specs.Reading.{forest_of, name_of}
 use Rattle.local_cache.specs.ReadingBy.{Tells, forest_by}
@@ -33,7 +33,7 @@ module _ (a : Arena) (n : NodeId) (x : NodeName) where
   unfolding cell
   cell_as m = refl
 
-  held_as : IsHeld a n → (m : NodeId) → is_some (find (with_name a n x) m) ≡ is_some (find a m)
+  held_as : HasNode a n → (m : NodeId) → is_some (find (with_name a n x) m) ≡ is_some (find a m)
   held_as h m = elim (id_cases m n) [
     | inl e ↦ ap (λ k. is_some (find (arena.put a n (record (cell a n) { name = x })) k)) e ∙ ap is_some (find-put a n (record (cell a n) { name = x })) ∙ sym h ∙ ap (λ k. is_some (find a k)) (sym e)
     | inr ne ↦ ap is_some (find-put_other a n m (record (cell a n) { name = x }) ne)
@@ -55,7 +55,7 @@ module _ (a : Arena) (n : NodeId) (x : NodeName) where
   unfolding arena.put
   room_as = refl
 
-module _ (b : Arena) (kept : IsKept b) (n : NodeId) (h : IsHeld b n) (y : NodeName) (named : name_of b n ≡ y) (cache : CacheId) (page : PageNo) (vacant : IsVacant b cache page) (c : Arena) (is : c ≡ with_name b n (Live cache page)) where
+module _ (b : Arena) (kept : IsKept b) (n : NodeId) (h : HasNode b n) (y : NodeName) (named : name_of b n ≡ y) (cache : CacheId) (page : PageNo) (vacant : IsVacant b cache page) (c : Arena) (is : c ≡ with_name b n (Live cache page)) where
   abbrev x : NodeName
   x = Live cache page
 
@@ -91,7 +91,7 @@ module _ (b : Arena) (kept : IsKept b) (n : NodeId) (h : IsHeld b n) (y : NodeNa
     renamed-by = lifted own c renamed_kept.named told_c (rename (forest_by own b) y x)
         (ap bare renamed_forest ∙ bare-rule own b kept.named told (λ f. rename f y x) (λ f. rename f y x) (λ f. rename f y x) (λ f. rename-map no_page f y x) (λ f. rename-map no_page f y x))
         (λ m k.
-        let was : IsHeld b m = sym (renamed_held m) ∙ k in
+        let was : HasNode b m = sym (renamed_held m) ∙ k in
         let moved : (z : NodeName) → (node (rename (forest_by own b) y x) z).own ≡ (node (forest_by own b) (swapped y x z)).own = λ z. ap (λ q. q.own) (node-rename y x (forest_by own b) z) in
         let apart : x ≢ y = λ e. vacant-unnamed b kept cache page vacant n h (named ∙ sym e) in
         sym (moved (name_of c m) ∙ elim (id_cases m n) [

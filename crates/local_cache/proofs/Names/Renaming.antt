@@ -14,7 +14,7 @@ use Rattle.vm_ids.specs.Forest.Nodes.Hang.{Root, TreeOf, StubOf}
 use Rattle.vm_ids.proofs.Forest.Renaming.{back, node-rename, find_across}
 use Rattle.vm_ids.specs.declared.numbers.NodeId.{NodeId}
 use Rattle.local_cache.specs.declared.own_state.OwnState.{OwnState}
-use Rattle.local_cache.specs.Arena.{Arena, cell, find, IsHeld, as_working, Table, IsVacant, entry_at, node_at, tables_with, with_name}
+use Rattle.local_cache.specs.Arena.{Arena, cell, find, HasNode, as_working, Table, IsVacant, entry_at, node_at, tables_with, with_name}
 use Rattle.local_cache.specs.Reading.{name_of, node_of, page_of, forest_of, hang_by, stubs_of, IsNamed}
 use Rattle.local_cache.specs.Threads.{IsThreaded}
 use Rattle.local_cache.specs.Sound.{IsKept, IsListed, ◌∈◌}
@@ -36,13 +36,13 @@ has-rename {P} f o x y = ap is_some (get-from_entries _ y ∙ find_across o x y 
     out None = refl
     out (Some n) = refl
 
-module _ (a : Arena) (kept : IsKept a) (n : NodeId) (h : IsHeld a n) (x : NodeName) (fresh : (m : NodeId) → IsHeld a m → name_of a m ≢ x)
+module _ (a : Arena) (kept : IsKept a) (n : NodeId) (h : HasNode a n) (x : NodeName) (fresh : (m : NodeId) → HasNode a m → name_of a m ≢ x)
     (b : Arena) (held_is : (m : NodeId) → is_some (find b m) ≡ is_some (find a m))
     (at_n : cell b n ≡ record (cell a n) { name = x }) (other : (m : NodeId) → m ≢ n → cell b m ≡ cell a m)
     (made : (k : ℕ) → x ≡ Working k → k ≤ b.made) (more : a.made ≤ b.made)
     (caches : (cache page : ℕ) → node_at b cache page ≡ node_in (tables_with (tables_with a.caches (name_of a n) None) x (Some n)) cache page)
     (has : (cache page : ℕ) → x ≡ page_name cache page → IsSome (entry_at a.caches cache page)) where
-  name_is : (m : NodeId) → IsHeld a m → name_of b m ≡ swapped (name_of a n) x (name_of a m)
+  name_is : (m : NodeId) → HasNode a m → name_of b m ≡ swapped (name_of a n) x (name_of a m)
   name_is m hm = elim (id_cases m n) [
     | inl e ↦ ap (name_of b) e ∙ ap (λ c. c.name) at_n ∙ sym (ap (swapped (name_of a n) x) (ap (name_of a) e) ∙ rw (same_itself (name_of a n)))
     | inr ne ↦ ap (λ c. c.name) (other m ne) ∙ sym (rw (same_apart (name_of a n) (name_of a m) (λ e. ne (kept.named.apart m n hm h (sym e))), same_apart x (name_of a m) (λ e. fresh m hm (sym e))))
@@ -57,29 +57,29 @@ module _ (a : Arena) (kept : IsKept a) (n : NodeId) (h : IsHeld a n) (x : NodeNa
   own_same : (m : NodeId) → (cell b m).own ≡ (cell a m).own
   own_same m = elim (id_cases m n) [ inl e ↦ ap (λ k. (cell b k).own) e ∙ ap (λ c. c.own) at_n ∙ ap (λ k. (cell a k).own) (sym e) | inr ne ↦ ap (λ c. c.own) (other m ne) ]
 
-  lists : (m : NodeId) → IsHeld a m → IsThreaded b m (stubs_of a m)
+  lists : (m : NodeId) → HasNode a m → IsThreaded b m (stubs_of a m)
   lists m hm = threaded-kept a b m (stubs_of a m) (λ y i. keeps_links a b y (λ k. held_is y ∙ k) (links_same y)) (ap (λ l. l.first) (links_same m)) (ap (λ l. l.last) (links_same m)) (ap (λ l. l.stubs) (links_same m)) (kept.threaded m hm)
 
-  stubs_are : (m : NodeId) → IsHeld a m → stubs_of b m ≡ stubs_of a m
+  stubs_are : (m : NodeId) → HasNode a m → stubs_of b m ≡ stubs_of a m
   stubs_are m hm = threaded_is b m (stubs_of a m) (lists m hm)
 
-  map_is : (ms : List NodeId) → ((m : NodeId) → m ∈ ms → IsHeld a m) → map (name_of b) ms ≡ map (swapped (name_of a n) x) (map (name_of a) ms)
+  map_is : (ms : List NodeId) → ((m : NodeId) → m ∈ ms → HasNode a m) → map (name_of b) ms ≡ map (swapped (name_of a n) x) (map (name_of a) ms)
   map_is [] all = refl
   map_is (m ∷ ms) all = λ i. name_is m (all m (inl refl)) i ∷ map_is ms (λ k j. all k (inr j)) i
 
-  hang_is : (p : Option NodeId) (t : Bool) → ((q : NodeId) → p ≡ Some q → IsHeld a q) → hang_by b p t ≡ swapped_hang (name_of a n) x (hang_by a p t)
+  hang_is : (p : Option NodeId) (t : Bool) → ((q : NodeId) → p ≡ Some q → HasNode a q) → hang_by b p t ≡ swapped_hang (name_of a n) x (hang_by a p t)
   hang_is None t all = refl
   hang_is (Some p) true all = ap StubOf (name_is p (all p refl))
   hang_is (Some p) false all = ap TreeOf (name_is p (all p refl))
 
-  node_is : (m : NodeId) → IsHeld a m → node_of b m ≡ swapped_node (name_of a n) x (node_of a m)
+  node_is : (m : NodeId) → HasNode a m → node_of b m ≡ swapped_node (name_of a n) x (node_of a m)
   node_is m hm = same_node (node_of b m) (swapped_node (name_of a n) x (node_of a m))
       (ap page_of (own_same m))
       (ap (λ l. hang_by b l.parent l.by_stub) (links_same m) ∙ hang_is (cell a m).links.parent (cell a m).links.by_stub (λ q e. kept.parents m q hm e))
       (ap (map (name_of b)) (tree_same m) ∙ map_is (cell a m).tree (λ k i. kept.children m k hm i))
       (ap (map (name_of b)) (stubs_are m hm) ∙ map_is (stubs_of a m) (λ k i. (row-each a m None (stubs_of a m) None (kept.threaded m hm).row k i).0))
 
-  was : (m : NodeId) → IsHeld b m → IsHeld a m
+  was : (m : NodeId) → HasNode b m → HasNode a m
   was m hm = sym (held_is m) ∙ hm
 
   pub named-renamed : IsNamed b
@@ -112,7 +112,7 @@ module _ (a : Arena) (kept : IsKept a) (n : NodeId) (h : IsHeld a n) (x : NodeNa
       | inl e ↦
           let two : Some n ≡ Some m = sym (set-there cache page e) ∙ sym (caches cache page) ∙ is in
           let same : n ≡ m = cc two in
-          subst (λ k. IsHeld b k × (name_of b k ≡ page_name cache page)) same (held_is n ∙ h, name_n ∙ e)
+          subst (λ k. HasNode b k × (name_of b k ≡ page_name cache page)) same (held_is n ∙ h, name_n ∙ e)
       | inr ne ↦
           let old = left-node a.caches cache page (name_of a n) m (name_cases (name_of a n) (page_name cache page)) (sym (other-node cleared cache page x (Some n) ne) ∙ sym (caches cache page) ∙ is) in
           let there = kept.listed.nodes cache page m old.1 in
@@ -155,7 +155,7 @@ module _ (a : Arena) (kept : IsKept a) (n : NodeId) (h : IsHeld a n) (x : NodeNa
       (f.0, held_is f.0 ∙ f.1, name_is f.0 f.1 ∙ ap (swapped (name_of a n) x) f.2 ∙ back (name_of a n) x y))
 
 module _ (a : Arena) (n : NodeId) (x : NodeName) where
-  held-with_name : IsHeld a n → (m : NodeId) → is_some (find (with_name a n x) m) ≡ is_some (find a m)
+  held-with_name : HasNode a n → (m : NodeId) → is_some (find (with_name a n x) m) ≡ is_some (find a m)
   held-with_name h m = elim (id_cases m n) [
     | inl e ↦ ap (λ k. is_some (find (with_name a n x) k)) e ∙ ap is_some (find-put a n (record (cell a n) { name = x })) ∙ sym h ∙ ap (λ k. is_some (find a k)) (sym e)
     | inr ne ↦ ap is_some (find-put_other a n m (record (cell a n) { name = x }) ne)
@@ -170,7 +170,7 @@ module _ (a : Arena) (n : NodeId) (x : NodeName) where
   cell-with_name_other m ne = cell-put_other a n m (record (cell a n) { name = x }) ne
 
 -- a node becomes the next working node
-module _ (a : Arena) (kept : IsKept a) (n : NodeId) (h : IsHeld a n) where
+module _ (a : Arena) (kept : IsKept a) (n : NodeId) (h : HasNode a n) where
   abbrev w : NodeName
   w = Working (a.made + 1)
 
@@ -198,7 +198,7 @@ module _ (a : Arena) (kept : IsKept a) (n : NodeId) (h : IsHeld a n) where
   working-kept = kept-renamed a kept n h w (next-unnamed a kept) (as_working a n) (held-with_name a n w h) (cell-with_name a n w) (cell-with_name_other a n w) low (omega arith) (λ cache page. refl) no_page
 
 -- a node becomes that of a page
-module _ (a : Arena) (kept : IsKept a) (n : NodeId) (h : IsHeld a n) (cache : CacheId) (page : PageNo) (vacant : IsVacant a cache page) where
+module _ (a : Arena) (kept : IsKept a) (n : NodeId) (h : HasNode a n) (cache : CacheId) (page : PageNo) (vacant : IsVacant a cache page) where
   abbrev live : NodeName
   live = Live cache page
 

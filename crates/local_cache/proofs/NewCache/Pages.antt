@@ -15,7 +15,7 @@ use Rattle.vm_ids.specs.declared.numbers.NodeId.{NodeId}
 use Rattle.vm_ids.specs.declared.numbers.SegId.{SegId}
 use Rattle.local_cache.specs.declared.own_state.OwnState.{OwnState}
 use Rattle.local_cache.specs.declared.page_table.PageEntry.{PageEntry}
-use Rattle.local_cache.specs.Arena.{Arena, Cell, HasPage, IsFilled, IsHeld, IsMade, Table, blank, cell, entry_for, find, is_granted, new_cell, new_table, node_at, table_of}
+use Rattle.local_cache.specs.Arena.{Arena, Cell, HasPage, IsFilled, HasNode, IsMade, Table, blank, cell, entry_for, find, is_granted, new_cell, new_table, node_at, table_of}
 use Rattle.local_cache.specs.Own.{own_of}
 use Rattle.local_cache.specs.Whole.{segment_of}
 use Rattle.local_cache.proofs.Nodes.Slots.{tied, apart}
@@ -95,7 +95,7 @@ pub some_of : {A : Type 0} (o : Option A) → IsSome o → (x : A) × (o ≡ Som
 some_of None h = absurd (false≢true h)
 some_of (Some x) h = (x, refl)
 
-pub made_stays : (old new : Arena) (cache : CacheId) (segment : Option SegId) (own : OwnState) (ns : List NodeId) → IsMade old new cache segment own ns → (n : NodeId) → IsHeld old n → find new n ≡ find old n
+pub made_stays : (old new : Arena) (cache : CacheId) (segment : Option SegId) (own : OwnState) (ns : List NodeId) → IsMade old new cache segment own ns → (n : NodeId) → HasNode old n → find new n ≡ find old n
 made_stays old new cache segment own ns m n held =
     let w : (c : Cell) × (find old n ≡ Some c) = some_of (find old n) held in
     filled_stays ns old.cells 0 new.cells cache own n.0 w.0 m.cells w.1 ∙ sym w.1
@@ -120,7 +120,7 @@ page_node a cache page own n p e =
     let same : p.node ≡ n = cc in
     ap (find a) (sym same) ∙ p.is
 
-pub page_held : (a : Arena) (cache : CacheId) (page : ℕ) (own : OwnState) (n : NodeId) → HasPage a cache page own → node_at a cache.0 page ≡ Some n → IsHeld a n
+pub page_held : (a : Arena) (cache : CacheId) (page : ℕ) (own : OwnState) (n : NodeId) → HasPage a cache page own → node_at a cache.0 page ≡ Some n → HasNode a n
 page_held a cache page own n p e = ap is_some (page_node a cache page own n p e)
 
 pub page_own : (a : Arena) (cache : CacheId) (page : ℕ) (own : OwnState) (n : NodeId) → HasPage a cache page own → node_at a cache.0 page ≡ Some n → own_of a n ≡ own

@@ -11,7 +11,7 @@ use Rattle.vm_ids.specs.Forest.NameMap.{contains_key, get}
 use Rattle.vm_ids.proofs.Forest.Names.{name_cases}
 use Rattle.vm_ids.proofs.Forest.NodesAfter.{node-put, node-put_other, IsNode-put, put-IsNode, IsNode-put_cases}
 use Rattle.local_cache.specs.declared.own_state.OwnState.{OwnState}
-use Rattle.local_cache.specs.Arena.{Arena, blank, cell, entry_at, find, IsHeld, new_cell, node_at, tables_with, with_new}
+use Rattle.local_cache.specs.Arena.{Arena, blank, cell, entry_at, find, HasNode, new_cell, node_at, tables_with, with_new}
 use Rattle.local_cache.specs.Reading.{name_of, node_of, page_of, forest_of, hang_by, stubs_of, IsNamed}
 use Rattle.local_cache.specs.Threads.{IsThreaded, AreThreaded}
 use Rattle.local_cache.specs.Sound.{IsKept, IsListed, ◌∈◌}
@@ -58,29 +58,29 @@ module _ (a : Arena) (w : NodeId) (free : find a w ≡ None) (x : NodeName) (s :
   unfolding with_new
   caches_is cache page = refl
 
-  pub not_added : (m : NodeId) → IsHeld a m → m ≢ w
+  pub not_added : (m : NodeId) → HasNode a m → m ≢ w
   not_added m h e = false≢true (sym (ap (λ k. is_some (find a k)) e ∙ ap is_some free) ∙ h)
 
-  pub still_held : (m : NodeId) → IsHeld a m → IsHeld (with_counted a w x s made) m
+  pub still_held : (m : NodeId) → HasNode a m → HasNode (with_counted a w x s made) m
   still_held m h = ap is_some (find-old m (not_added m h)) ∙ h
 
-  pub added_held : IsHeld (with_counted a w x s made) w
+  pub added_held : HasNode (with_counted a w x s made) w
   added_held = ap is_some find-new
 
-  pub was_held : (m : NodeId) → IsHeld (with_counted a w x s made) m → m ≢ w → IsHeld a m
+  pub was_held : (m : NodeId) → HasNode (with_counted a w x s made) m → m ≢ w → HasNode a m
   was_held m h ne = sym (ap is_some (find-old m ne)) ∙ h
 
-  pub still_cell : (m : NodeId) → IsHeld a m → cell (with_counted a w x s made) m ≡ cell a m
+  pub still_cell : (m : NodeId) → HasNode a m → cell (with_counted a w x s made) m ≡ cell a m
   still_cell m h = other-cell m (not_added m h)
 
   pub added_name : name_of (with_counted a w x s made) w ≡ x
   added_name = ap (λ c. c.name) added-cell
 
-  pub still_name : (m : NodeId) → IsHeld a m → name_of (with_counted a w x s made) m ≡ name_of a m
+  pub still_name : (m : NodeId) → HasNode a m → name_of (with_counted a w x s made) m ≡ name_of a m
   still_name m h = ap (λ c. c.name) (still_cell m h)
 
   -- where the name is new, and a page that it names is there
-  module _ (kept : IsKept a) (unnamed : (m : NodeId) → IsHeld a m → name_of a m ≢ x) (counted : (k : ℕ) → x ≡ Working k → k ≤ made) (more : a.made ≤ made)
+  module _ (kept : IsKept a) (unnamed : (m : NodeId) → HasNode a m → name_of a m ≢ x) (counted : (k : ℕ) → x ≡ Working k → k ≤ made) (more : a.made ≤ made)
       (has : (cache page : ℕ) → x ≡ page_name cache page → IsSome (entry_at a.caches cache page)) where
     abbrev b : Arena
     b = with_counted a w x s made
@@ -109,7 +109,7 @@ module _ (a : Arena) (w : NodeId) (free : find a w ≡ None) (x : NodeName) (s :
         | inl e ↦
             let two : Some w ≡ Some n = sym (ap (λ y. node_in (tables_with a.caches y (Some w)) cache page) e ∙ set-node a.caches cache page w (has cache page e)) ∙ sym (caches_is cache page) ∙ is in
             let same : w ≡ n = cc two in
-            subst (λ k. IsHeld b k × (name_of b k ≡ page_name cache page)) same (added_held, added_name ∙ e)
+            subst (λ k. HasNode b k × (name_of b k ≡ page_name cache page)) same (added_held, added_name ∙ e)
         | inr ne ↦
             let was = kept.listed.nodes cache page n (sym (other-node a.caches cache page x (Some w) ne) ∙ sym (caches_is cache page) ∙ is) in
             (still_held n was.0, still_name n was.0 ∙ was.1)
@@ -125,7 +125,7 @@ module _ (a : Arena) (w : NodeId) (free : find a w ≡ None) (x : NodeName) (s :
       ];
     }
 
-    threaded_old : (m : NodeId) → IsHeld a m → IsThreaded b m (stubs_of a m)
+    threaded_old : (m : NodeId) → HasNode a m → IsThreaded b m (stubs_of a m)
     threaded_old m h =
         let t = kept.threaded m h in
         let c = still_cell m h in
@@ -142,7 +142,7 @@ module _ (a : Arena) (w : NodeId) (free : find a w ≡ None) (x : NodeName) (s :
       | inr old ↦ let ha = was_held m h old in subst (IsThreaded b m) (sym (threaded_is b m (stubs_of a m) (threaded_old m ha))) (threaded_old m ha)
     ]
 
-    node_old : (n : NodeId) → IsHeld a n → node_of b n ≡ node_of a n
+    node_old : (n : NodeId) → HasNode a n → node_of b n ≡ node_of a n
     node_old n h =
         let c = still_cell n h in
         same_node (node_of b n) (node_of a n)

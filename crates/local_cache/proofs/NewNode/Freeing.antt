@@ -7,7 +7,7 @@ use Rattle.vm_ids.specs.Forest.Changes as forest
 use Rattle.vm_ids.specs.Forest.Nodes.{node, IsNode}
 use Rattle.vm_ids.proofs.Forest.NodesAfter.{node-free_other, IsNode-free, free-IsNode}
 use Rattle.vm_ids.specs.declared.numbers.NodeId.{NodeId}
-use Rattle.local_cache.specs.Arena.{Arena, cell, find, IsHeld, without, blank, node_at, tables_with}
+use Rattle.local_cache.specs.Arena.{Arena, cell, find, HasNode, without, blank, node_at, tables_with}
 use Rattle.local_cache.specs.Reading.{name_of, node_of, page_of, forest_of, hang_by, stubs_of, IsNamed}
 use Rattle.local_cache.specs.Threads.{IsThreaded}
 use Rattle.local_cache.specs.Sound.{IsKept, IsListed, ◌∈◌}
@@ -21,11 +21,11 @@ use Rattle.vm_ids.proofs.Forest.Names.{name_cases}
 
 -- no other node names n
 pub record IsLoose (a : Arena) (n : NodeId) : Type 0 where
-  pub parents : (m p : NodeId) → IsHeld a m → (cell a m).links.parent ≡ Some p → p ≢ n
-  pub children : (m k : NodeId) → IsHeld a m → k ∈ (cell a m).tree → k ≢ n
-  pub stubs : (m k : NodeId) → IsHeld a m → k ∈ stubs_of a m → k ≢ n
+  pub parents : (m p : NodeId) → HasNode a m → (cell a m).links.parent ≡ Some p → p ≢ n
+  pub children : (m k : NodeId) → HasNode a m → k ∈ (cell a m).tree → k ≢ n
+  pub stubs : (m k : NodeId) → HasNode a m → k ∈ stubs_of a m → k ≢ n
 
-module _ (a : Arena) (kept : IsKept a) (n : NodeId) (h : IsHeld a n) (loose : IsLoose a n) where
+module _ (a : Arena) (kept : IsKept a) (n : NodeId) (h : HasNode a n) (loose : IsLoose a n) where
   find-gone : find (without a n) n ≡ None
   unfolding without
   find-gone = get-remove nat_cmp_total a.cells n.0 n.0 ∙ rw (tied n.0 n.0 refl)
@@ -42,13 +42,13 @@ module _ (a : Arena) (kept : IsKept a) (n : NodeId) (h : IsHeld a n) (loose : Is
   unfolding without
   counts = (refl, refl)
 
-  not_n : (m : NodeId) → IsHeld (without a n) m → m ≢ n
+  not_n : (m : NodeId) → HasNode (without a n) m → m ≢ n
   not_n m hm e = false≢true (sym (ap (λ k. is_some (find (without a n) k)) e ∙ ap is_some find-gone) ∙ hm)
 
-  was : (m : NodeId) → IsHeld (without a n) m → IsHeld a m
+  was : (m : NodeId) → HasNode (without a n) m → HasNode a m
   was m hm = sym (ap is_some (find-left m (not_n m hm))) ∙ hm
 
-  still : (m : NodeId) → IsHeld a m → m ≢ n → IsHeld (without a n) m
+  still : (m : NodeId) → HasNode a m → m ≢ n → HasNode (without a n) m
   still m hm ne = ap is_some (find-left m ne) ∙ hm
 
   name_left : (m : NodeId) → m ≢ n → name_of (without a n) m ≡ name_of a m
@@ -78,7 +78,7 @@ module _ (a : Arena) (kept : IsKept a) (n : NodeId) (h : IsHeld a n) (loose : Is
         caches_is cache page ∙ other-node a.caches cache page (name_of a n) None (λ q. ne (kept.named.apart m n ha h (name_is ∙ sym q))) ∙ kept.listed.pages cache page m ha name_is;
   }
 
-  lists : (m : NodeId) → IsHeld a m → m ≢ n → IsThreaded (without a n) m (stubs_of a m)
+  lists : (m : NodeId) → HasNode a m → m ≢ n → IsThreaded (without a n) m (stubs_of a m)
   lists m hm ne =
       let t = kept.threaded m hm in
       let c = left m ne in
@@ -86,7 +86,7 @@ module _ (a : Arena) (kept : IsKept a) (n : NodeId) (h : IsHeld a n) (loose : Is
       (λ y i. let y_n = loose.stubs m y hm i in keeps_links a (without a n) y (λ hy. still y hy y_n) (ap (λ c. c.links) (left y y_n)))
       (ap (λ c. c.links.first) c) (ap (λ c. c.links.last) c) (ap (λ c. c.links.stubs) c) t
 
-  node_left : (m : NodeId) → IsHeld a m → m ≢ n → node_of (without a n) m ≡ node_of a m
+  node_left : (m : NodeId) → HasNode a m → m ≢ n → node_of (without a n) m ≡ node_of a m
   node_left m hm ne =
       let c = left m ne in
       same_node (node_of (without a n) m) (node_of a m)

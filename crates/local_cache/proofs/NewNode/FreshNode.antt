@@ -13,7 +13,7 @@ use Rattle.vm_ids.proofs.Forest.Linking.{IsLinked-count_working}
 use Rattle.vm_ids.proofs.Forest.Detaching.{fresh-linked}
 use Rattle.local_cache.specs.declared.own_state.OwnState.{OwnState}
 use Rattle.local_cache.specs.declared.own_state.OwnState.TheVariants.{Absent}
-use Rattle.local_cache.specs.Arena.{Arena, cell, entry_at, find, IsHeld, IsVacant, new_cell, node_at, with_new, with_working}
+use Rattle.local_cache.specs.Arena.{Arena, cell, entry_at, find, HasNode, IsVacant, new_cell, node_at, with_new, with_working}
 use Rattle.local_cache.specs.Reading.{name_of, page_of, forest_of}
 use Rattle.local_cache.specs.Sound.{IsKept, IsSound}
 use Rattle.local_cache.proofs.NewNode.Addition.{added-cell, added-forest, added-kept, added_held, added_name, not_added, other-cell, still_held, still_name}
@@ -29,26 +29,26 @@ module _ (a : Arena) (w : NodeId) (free : find a w ≡ None) where
   cell-old = other-cell a w free (Working (a.made + 1)) Absent (a.made + 1)
 
 -- the next working name is new
-pub next-unnamed : (a : Arena) → IsKept a → (m : NodeId) → IsHeld a m → name_of a m ≢ Working (a.made + 1)
+pub next-unnamed : (a : Arena) → IsKept a → (m : NodeId) → HasNode a m → name_of a m ≢ Working (a.made + 1)
 next-unnamed a kept m h e = let low = kept.named.counted m (a.made + 1) h e in omega arith
 
 module _ (a : Arena) (sound : IsSound a) (w : NodeId) (free : find a w ≡ None) where
   abbrev x : NodeName
   x = Working (a.made + 1)
 
-  pub not_w : (m : NodeId) → IsHeld a m → m ≢ w
+  pub not_w : (m : NodeId) → HasNode a m → m ≢ w
   not_w = not_added a w free x Absent (a.made + 1)
 
-  pub held_old : (m : NodeId) → IsHeld a m → IsHeld (with_working a w) m
+  pub held_old : (m : NodeId) → HasNode a m → HasNode (with_working a w) m
   held_old = still_held a w free x Absent (a.made + 1)
 
-  pub held_new : IsHeld (with_working a w) w
+  pub held_new : HasNode (with_working a w) w
   held_new = added_held a w free x Absent (a.made + 1)
 
   pub new_name : name_of (with_working a w) w ≡ Working (a.made + 1)
   new_name = added_name a w free x Absent (a.made + 1)
 
-  pub old_name : (m : NodeId) → IsHeld a m → name_of (with_working a w) m ≡ name_of a m
+  pub old_name : (m : NodeId) → HasNode a m → name_of (with_working a w) m ≡ name_of a m
   old_name = still_name a w free x Absent (a.made + 1)
 
   counted : (k : ℕ) → x ≡ Working k → k ≤ a.made + 1
@@ -83,7 +83,7 @@ module _ (a : Arena) (sound : IsSound a) (w : NodeId) (free : find a w ≡ None)
   sound-fresh = record { kept = kept-fresh; linked = subst IsLinked (sym forest-fresh) (fresh-linked (count_working (forest_of a)) (IsLinked-count_working (forest_of a) sound.linked) x new_not_node None) }
 
 -- a page without a node is the name of none
-pub vacant-unnamed : (a : Arena) → IsKept a → (cache : CacheId) (page : PageNo) → IsVacant a cache page → (m : NodeId) → IsHeld a m → name_of a m ≢ Live cache page
+pub vacant-unnamed : (a : Arena) → IsKept a → (cache : CacheId) (page : PageNo) → IsVacant a cache page → (m : NodeId) → HasNode a m → name_of a m ≢ Live cache page
 vacant-unnamed a kept cache page vacant m h e =
     let some : node_at a cache.0 page.0 ≡ Some m = kept.listed.pages cache.0 page.0 m h e in
     let none : node_at a cache.0 page.0 ≡ None = node_by_entry a.caches cache.0 page.0 ∙ ap node_of_entry vacant in

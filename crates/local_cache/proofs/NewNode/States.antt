@@ -4,7 +4,7 @@ use Rattle.std.proofs.lemmas.Bool.{false≢true}
 use Rattle.vm_ids.specs.declared.node_name.NodeName.{NodeName}
 use Rattle.vm_ids.specs.declared.numbers.NodeId.{NodeId}
 use Rattle.local_cache.specs.declared.own_state.OwnState.{OwnState}
-use Rattle.local_cache.specs.Arena.{Arena, IsHeld, blank, cell, find, new_cell, with_new}
+use Rattle.local_cache.specs.Arena.{Arena, HasNode, blank, cell, find, new_cell, with_new}
 use Rattle.local_cache.specs.Own.{own_of}
 use Rattle.local_cache.specs.Reading.{name_of}
 use Rattle.local_cache.proofs.Nodes.Cells.{find-with_new}
@@ -40,5 +40,5 @@ module _ (a : Arena) (d : NodeId) (free : find a d ≡ None) (x : NodeName) (s :
   fresh_name_other m ne = ap (λ c. c.name) (cell_other m ne)
 
   -- what is there is another node
-  pub other_node : (m : NodeId) → IsHeld a m → m ≢ d
-  other_node m h e = false≢true (sym (ap is_some free) ∙ subst (IsHeld a) e h)
+  pub other_node : (m : NodeId) → HasNode a m → m ≢ d
+  other_node m h e = false≢true (sym (ap is_some free) ∙ subst (HasNode a) e h)

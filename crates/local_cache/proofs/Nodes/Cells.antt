@@ -7,7 +7,7 @@ use Rattle.std.proofs.lemmas.Bool.{cases_eq}
 use Rattle.vm_ids.specs.declared.node_name.NodeName.{NodeName}
 use Rattle.vm_ids.specs.declared.numbers.NodeId.{NodeId}
 use Rattle.local_cache.specs.declared.own_state.OwnState.{OwnState}
-use Rattle.local_cache.specs.Arena.{Arena, Cell, IsHeld, blank, cell, find, new_cell, put, with_name, with_new}
+use Rattle.local_cache.specs.Arena.{Arena, Cell, HasNode, blank, cell, find, new_cell, put, with_name, with_new}
 use Rattle.local_cache.proofs.Nodes.Slots.{tied, apart}
 
 pub find-put : (a : Arena) (n : NodeId) (c : Cell) → find (put a n c) n ≡ Some c
@@ -27,8 +27,8 @@ unfolding cell
 cell-put_other a n m c h = ap (λ o. unwrap_or o blank) (find-put_other a n m c h)
 
 -- a held node stays held
-pub stays-put : (a b : Arena) (n : NodeId) (c : Cell) → b ≡ put a n c → (m : NodeId) → IsHeld a m → IsHeld b m
-stays-put a b n c e m h = subst (λ x. IsHeld x m) (sym e) (elim (cases_eq m.0 n.0) [
+pub stays-put : (a b : Arena) (n : NodeId) (c : Cell) → b ≡ put a n c → (m : NodeId) → HasNode a m → HasNode b m
+stays-put a b n c e m h = subst (λ x. HasNode x m) (sym e) (elim (cases_eq m.0 n.0) [
   | inl same ↦ ap is_some (ap (λ k. find (put a n c) k) (number m n same) ∙ find-put a n c)
   | inr ne ↦ ap is_some (find-put_other a n m c (λ q. ne (ap (λ k. k.0) q))) ∙ h
 ])
@@ -41,16 +41,16 @@ pub find-with_new : (a : Arena) (n m : NodeId) (x : NodeName) (s : OwnState) →
 unfolding with_new
 find-with_new a n m x s = get-insert nat_cmp_total a.cells n.0 _ m.0
 
-pub stays-new : (a b : Arena) (n : NodeId) (x : NodeName) (s : OwnState) → b ≡ with_new a n x s → (m : NodeId) → IsHeld a m → IsHeld b m
-stays-new a b n x s e m h = subst (λ y. IsHeld y m) (sym e) (ap is_some (find-with_new a n m x s) ∙ go (eq_by_cmp nat_cmp m.0 n.0))
+pub stays-new : (a b : Arena) (n : NodeId) (x : NodeName) (s : OwnState) → b ≡ with_new a n x s → (m : NodeId) → HasNode a m → HasNode b m
+stays-new a b n x s e m h = subst (λ y. HasNode y m) (sym e) (ap is_some (find-with_new a n m x s) ∙ go (eq_by_cmp nat_cmp m.0 n.0))
   where
     go : (t : Bool) → is_some (cond t (Some (new_cell x s)) (find a m)) ≡ true
     go true = refl
     go false = h
 
-pub held-new : (a b : Arena) (n : NodeId) (x : NodeName) (s : OwnState) → b ≡ with_new a n x s → IsHeld b n
-held-new a b n x s e = subst (λ y. IsHeld y n) (sym e) (ap is_some (find-with_new a n n x s) ∙ rw (tied n.0 n.0 refl))
+pub held-new : (a b : Arena) (n : NodeId) (x : NodeName) (s : OwnState) → b ≡ with_new a n x s → HasNode b n
+held-new a b n x s e = subst (λ y. HasNode y n) (sym e) (ap is_some (find-with_new a n n x s) ∙ rw (tied n.0 n.0 refl))
 
 -- another name
-pub stays-named : (a b : Arena) (n : NodeId) (x : NodeName) → b ≡ with_name a n x → (m : NodeId) → IsHeld a m → IsHeld b m
-stays-named a b n x e m h = subst (λ y. IsHeld y m) (sym e) (stays-put a (put a n (record (cell a n) { name = x })) n (record (cell a n) { name = x }) refl m h)
+pub stays-named : (a b : Arena) (n : NodeId) (x : NodeName) → b ≡ with_name a n x → (m : NodeId) → HasNode a m → HasNode b m
+stays-named a b n x e m h = subst (λ y. HasNode y m) (sym e) (stays-put a (put a n (record (cell a n) { name = x })) n (record (cell a n) { name = x }) refl m h)

@@ -18,7 +18,7 @@ use Rattle.vm_ids.proofs.Forest.Agreeing.{subset_le}
 use Rattle.vm_ids.proofs.Forest.Bound.{IsNode-key}
 use Rattle.vm_ids.proofs.Forest.NameMap.{len-insert}
 use Rattle.local_cache.specs.declared.own_state.OwnState.{OwnState}
-use Rattle.local_cache.specs.Arena.{Arena, Cell, IsHeld}
+use Rattle.local_cache.specs.Arena.{Arena, Cell, HasNode}
 use Rattle.local_cache.specs.Own.{own_states}
 use Rattle.local_cache.specs.Reading.{IsNamed, at_key, forest_of, name_of, node_of}
 use Rattle.local_cache.proofs.Forest.Reading.{IsNode-forest_of}
@@ -71,7 +71,7 @@ module _ (a : Arena) (named : IsNamed a) where
   names es = map (λ (e : ℕ × Cell). name_of a (at_key e.0)) es
 
   abbrev AllHeld : List (ℕ × Cell) → Type 0
-  AllHeld es = (k : ℕ) → is_some (look_up nat_cmp k es) ≡ true → IsHeld a (at_key k)
+  AllHeld es = (k : ℕ) → is_some (look_up nat_cmp k es) ≡ true → HasNode a (at_key k)
 
   at_front : (e : ℕ × Cell) (es : List (ℕ × Cell)) → is_some (look_up nat_cmp e.0 (e ∷ es)) ≡ true
   at_front e es = ap (λ b. is_some (cond b (Some e.1) (look_up nat_cmp e.0 es))) (tied e.0 e.0 refl)

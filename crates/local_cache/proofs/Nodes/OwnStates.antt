@@ -18,7 +18,7 @@ use Rattle.local_cache.specs.declared.own_state.OwnState.TheVariants.{Absent}
 use Rattle.vm_ids.specs.declared.node_name.NodeName.TheVariants.{Live}
 use Rattle.vm_ids.specs.declared.numbers.CacheId.{CacheId}
 use Rattle.local_cache.specs.Arena as arena
-use Rattle.local_cache.specs.Arena.{Arena, Cell, IsFilled, IsHeld, blank, cell, new_cell, with_own}
+use Rattle.local_cache.specs.Arena.{Arena, Cell, IsFilled, HasNode, blank, cell, new_cell, with_own}
 use Rattle.local_cache.specs.Own.{own_of, own_states}
 use Rattle.local_cache.proofs.Nodes.Cells.{cell-put, cell-put_other}
 use Rattle.local_cache.proofs.Nodes.Slots.{tied, apart}
@@ -92,7 +92,7 @@ whole : (o : Option Cell) → IsSome o → o ≡ Some (unwrap_or o blank)
 whole None h = absurd (false≢true h)
 whole (Some c) h = refl
 
-pub standing : (a : Arena) (n : NodeId) → IsHeld a n → IsAt a n
+pub standing : (a : Arena) (n : NodeId) → HasNode a n → IsAt a n
 unfolding cell arena.put
 standing a n held =
     let p : Place (entries a.cells) n.0 (cell a n) = place (entries a.cells) n.0 (cell a n) (entries_sorted a.cells) (sym (get-entries a.cells n.0) ∙ whole (ids.get a.cells n.0) held) in
@@ -111,7 +111,7 @@ held_by None = inr refl
 held_by (Some c) = inl refl
 
 -- what isn't a node has no own page
-pub held_or_absent : (a : Arena) (n : NodeId) → IsHeld a n ⊎ (own_of a n ≡ Absent)
+pub held_or_absent : (a : Arena) (n : NodeId) → HasNode a n ⊎ (own_of a n ≡ Absent)
 unfolding cell
 held_or_absent a n = held_by (ids.get a.cells n.0)
 
@@ -174,24 +174,24 @@ pub filled_own : {X : Type 0} (ns : List NodeId) (cells : FinMap nat_cmp Cell) (
 filled_own ns cells page after cache own f k is alike = filled_cell ns cells page after cache own (λ c. f c.own) k is (λ _. alike)
 
 -- counts of own states under a change of one node
-pub own_count : (p : OwnState → Bool) (a : Arena) (n : NodeId) (s : OwnState) → IsHeld a n → count_by p (own_states (with_own a n s)) + bit (p (own_of a n)) ≡ count_by p (own_states a) + bit (p s)
+pub own_count : (p : OwnState → Bool) (a : Arena) (n : NodeId) (s : OwnState) → HasNode a n → count_by p (own_states (with_own a n s)) + bit (p (own_of a n)) ≡ count_by p (own_states a) + bit (p s)
 own_count p a n s held =
     let at : IsAt a n = standing a n held in
     ap (λ (xs : List OwnState). count_by p xs + bit (p (own_of a n))) (at.puts s)
     ∙ ap (λ (x : OwnState). count_by p (set (own_states a) at.place s) + bit (p x)) (sym at.is)
     ∙ count-set p (own_states a) at.place s Absent at.within
 
-pub own_length : (a : Arena) (n : NodeId) (s : OwnState) → IsHeld a n → length (own_states (with_own a n s)) ≡ length (own_states a)
+pub own_length : (a : Arena) (n : NodeId) (s : OwnState) → HasNode a n → length (own_states (with_own a n s)) ≡ length (own_states a)
 own_length a n s held =
     let at : IsAt a n = standing a n held in
     ap (λ (xs : List OwnState). length xs) (at.puts s) ∙ length-set (own_states a) at.place s
 
-pub own_some : (p : OwnState → Bool) (a : Arena) (n : NodeId) → IsHeld a n → p (own_of a n) ≡ true → 1 ≤ count_by p (own_states a)
+pub own_some : (p : OwnState → Bool) (a : Arena) (n : NodeId) → HasNode a n → p (own_of a n) ≡ true → 1 ≤ count_by p (own_states a)
 own_some p a n held passes =
     let at : IsAt a n = standing a n held in
     count_some p (own_states a) at.place Absent at.within (ap p at.is ∙ passes)
 
-pub own_not_all : (p : OwnState → Bool) (a : Arena) (n : NodeId) → IsHeld a n → p (own_of a n) ≡ false → count_by p (own_states a) < length (own_states a)
+pub own_not_all : (p : OwnState → Bool) (a : Arena) (n : NodeId) → HasNode a n → p (own_of a n) ≡ false → count_by p (own_states a) < length (own_states a)
 own_not_all p a n held fails =
     let at : IsAt a n = standing a n held in
     count_not_all p (own_states a) at.place Absent at.within (ap p at.is ∙ fails)
@@ -203,7 +203,7 @@ own_none p a n out none = elim (held_or_absent a n) [
 ]
 
 -- what passes a test that Absent doesn't is a node
-pub own_held : (p : OwnState → Bool) (a : Arena) (n : NodeId) → p Absent ≡ false → p (own_of a n) ≡ true → IsHeld a n
+pub own_held : (p : OwnState → Bool) (a : Arena) (n : NodeId) → p Absent ≡ false → p (own_of a n) ≡ true → HasNode a n
 own_held p a n out passes = elim (held_or_absent a n) [
   | inl held ↦ held
   | inr absent ↦ (let no_pass : p (own_of a n) ≡ false = ap p absent ∙ out in absurd (cc))

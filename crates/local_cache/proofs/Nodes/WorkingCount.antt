@@ -16,7 +16,7 @@ use Rattle.vm_ids.proofs.Forest.Agreeing.{subset_le}
 use Rattle.vm_ids.proofs.Forest.Bound.{IsNode-key, Once-keys, key-IsNode, split_length}
 use Rattle.vm_ids.proofs.Forest.NameLists.{Once-filter, filter_in, in_filter}
 use Rattle.local_cache.specs.declared.caches.Caches.TheInside.{Inside}
-use Rattle.local_cache.specs.Arena.{Arena, Cell, IsHeld, cell}
+use Rattle.local_cache.specs.Arena.{Arena, Cell, HasNode, cell}
 use Rattle.local_cache.specs.Layout.{IsCounted, working_in, working_len, working_of}
 use Rattle.local_cache.specs.Reading.{IsNamed, at_key, forest_of, name_of}
 use Rattle.local_cache.proofs.Changes.SameNodes.{forest_of-copies}
@@ -138,9 +138,9 @@ working-names (Some c ∷ slots) = omega (arith, one c.name, working-names slots
     one (Working k) = omega arith
 
 module _ (i : Inside) (a : Arena) (v : seen i ≡ a) (named : IsNamed a) where
-  held_at : (k : ℕ) (c : Cell) → get i.nodes k ≡ Some c → IsHeld a (at_key k) × (name_of a (at_key k) ≡ c.name)
+  held_at : (k : ℕ) (c : Cell) → get i.nodes k ≡ Some c → HasNode a (at_key k) × (name_of a (at_key k) ≡ c.name)
   held_at k c some = (
-    subst (λ b. IsHeld b (at_key k)) v (ap is_some (find-seen i (at_key k) ∙ some)),
+    subst (λ b. HasNode b (at_key k)) v (ap is_some (find-seen i (at_key k) ∙ some)),
     ap (λ (c : Cell). c.name) (ap (λ b. cell b (at_key k)) (sym v) ∙ cell-seen i (at_key k) c some),
   )
 

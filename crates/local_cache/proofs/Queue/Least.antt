@@ -6,7 +6,7 @@ use Rattle.vm_ids.specs.declared.node_name.NodeName.TheVariants.{Live, Working}
 use Rattle.vm_ids.specs.declared.numbers.NodeId.{NodeId}
 use Rattle.slab.specs.Slab as slab
 use Rattle.local_cache.specs.declared.caches.Caches.TheInside.{Inside}
-use Rattle.local_cache.specs.Arena.{Arena, Cell, cell, IsHeld}
+use Rattle.local_cache.specs.Arena.{Arena, Cell, cell, HasNode}
 use Rattle.local_cache.specs.declared.entry_heap.Entry.{Entry}
 use Rattle.local_cache.specs.Heap.{IsFirst}
 use Rattle.local_cache.specs.Queue.{IsQueued, number_at, number_if, thin_number}
@@ -30,7 +30,7 @@ module _ (i : Inside) (a : Arena) (v : seen i ≡ a) where
           let parts = by_number c.name (has_few c) k e in
           let is : cell a n ≡ c = ap (λ b. cell b n) (sym v) ∙ cell-seen i n c found in
           record {
-            held = subst (λ b. IsHeld b n) v (ap is_some (find-seen i n ∙ found));
+            held = subst (λ b. HasNode b n) v (ap is_some (find-seen i n ∙ found));
             name = ap (λ d. d.name) is ∙ parts.0;
             few = ap has_few is ∙ parts.1;
           }

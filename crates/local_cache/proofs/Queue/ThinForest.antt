@@ -9,14 +9,14 @@ use Rattle.vm_ids.specs.Forest.Nodes.{IsNode, child_count, is_live}
 use Rattle.vm_ids.specs.Forest.Settling.{thin}
 use Rattle.vm_ids.proofs.Forest.Bound.{thin_none, thin-some}
 use Rattle.vm_ids.proofs.Forest.Laws.Settling.{thin_is_least}
-use Rattle.local_cache.specs.Arena.{Arena, cell, IsHeld}
+use Rattle.local_cache.specs.Arena.{Arena, cell, HasNode}
 use Rattle.local_cache.specs.Reading.{name_of, forest_of, stubs_of}
 use Rattle.local_cache.specs.Sound.{IsKept}
 use Rattle.local_cache.specs.Thin.{IsThin, IsLeastThin}
 use Rattle.local_cache.proofs.Forest.Reading.{forest_of-IsNode, IsNode-forest_of, node-forest_of}
 
 -- the children of a node are counted in its cell
-pub child_count-is : (a : Arena) → IsKept a → (n : NodeId) → IsHeld a n → child_count (forest_of a) (name_of a n) ≡ length (cell a n).tree + (cell a n).links.stubs
+pub child_count-is : (a : Arena) → IsKept a → (n : NodeId) → HasNode a n → child_count (forest_of a) (name_of a n) ≡ length (cell a n).tree + (cell a n).links.stubs
 child_count-is a kept n h =
     let is = node-forest_of a kept.named n h in
     let count = (kept.threaded n h).count in

@@ -8,14 +8,14 @@ use Rattle.vm_ids.specs.Forest.Nodes.Hang.{Root, StubOf, TreeOf}
 use Rattle.vm_ids.specs.Forest.Shape.{IsLinked}
 use Rattle.vm_ids.proofs.Forest.NameMap.{get-empty}
 use Rattle.vm_ids.specs.declared.numbers.NodeId.{NodeId}
-use Rattle.local_cache.specs.Arena.{Arena, IsHeld, find, node_at}
+use Rattle.local_cache.specs.Arena.{Arena, HasNode, find, node_at}
 use Rattle.local_cache.specs.Reading.{IsNamed, forest_of}
 use Rattle.local_cache.specs.Sound.{IsSound}
 use Rattle.local_cache.proofs.Tables.Listing.{node_in}
 use Rattle.local_cache.proofs.Forest.Reading.{get-forest_of_none, reads_as}
 
 module _ (a : Arena) (none : (n : NodeId) → find a n ≡ None) where
-  pub no_held : (n : NodeId) → IsHeld a n → ⊥
+  pub no_held : (n : NodeId) → HasNode a n → ⊥
   no_held n h = false≢true (sym (ap is_some (none n)) ∙ h)
 
   no_node : (x : NodeName) → node (forest_of a) x ≡ childless None Root

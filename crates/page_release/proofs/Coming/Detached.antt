@@ -14,7 +14,7 @@ use Rattle.vm_ids.specs.Forest.Nodes.Hang.{Root}
 use Rattle.vm_ids.specs.Forest.Rules.{detach, retire}
 use Rattle.local_cache.specs.declared.own_state.OwnState.{OwnState}
 use Rattle.local_cache.specs.declared.own_state.OwnState.TheVariants.{Absent, Zero, Resident, Slot, OnSegment}
-use Rattle.local_cache.specs.Arena.{Arena, IsHeld, IsVacant, find, is_granted, with_new}
+use Rattle.local_cache.specs.Arena.{Arena, HasNode, IsVacant, find, is_granted, with_new}
 use Rattle.local_cache.specs.Home.{home_named, home_of}
 use Rattle.local_cache.specs.Own.{own_of}
 use Rattle.local_cache.specs.Reading.{IsNamed, name_of}
@@ -49,7 +49,7 @@ module _ (s : Store) (a : Arena) (d : NodeId) (free : find a d ≡ None) (cache 
   pub fresh_named : IsStoreTied s a → PinnedStayNamed s a c
   fresh_named tied f n pin at =
       let within : f < length s.map = omega (arith, true_below s.frames.pinned f pin, tied.fitted.pinned_frames, tied.fitted.map_frames) in
-      let there : IsHeld a n = (home (world None None a s) f n tied within at).there in
+      let there : HasNode a n = (home (world None None a s) f n tied within at).there in
       ap (λ k. name_of k n) is ∙ fresh_name_other a d free (Live cache no) state n (other_node a d free (Live cache no) state n there)
 
   pub fresh_forest : IsKept a → IsNamed c → IsVacant a cache no → (told : Option Held) (size : Option ℕ)

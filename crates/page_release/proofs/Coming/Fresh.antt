@@ -18,7 +18,7 @@ use Rattle.vm_ids.proofs.Places.{bit, bit_false}
 use Rattle.local_cache.specs.declared.own_state.OwnState.{OwnState}
 use Rattle.local_cache.specs.declared.own_state.OwnState.TheVariants.{Absent, Zero, Resident, Slot, OnSegment}
 use Rattle.local_cache.specs.Arena as arena
-use Rattle.local_cache.specs.Arena.{Arena, IsHeld, IsVacant, find, new_cell, with_new}
+use Rattle.local_cache.specs.Arena.{Arena, HasNode, IsVacant, find, new_cell, with_new}
 use Rattle.local_cache.specs.Own.{is_in_slot, is_resident, is_slot, own_of, own_states}
 use Rattle.local_cache.specs.Reading.{IsNamed, forest_of, name_of, page_of}
 use Rattle.local_cache.specs.ReadingBy.{Tells, forest_by}
@@ -146,8 +146,8 @@ module _ {P : Type 0} (page now : NodeId → Option P) (a : Arena) (kept : IsKep
       (λ m h. elim (id_cases m d) [
         | inl e ↦ ap now e ∙ sym (ap (λ k. k.own) (node-put (forest_by page a) x (childless (now d) Root))) ∙ ap (λ y. (node g y).own) (sym (ap (name_of c) e ∙ fresh_name a d free x s))
         | inr ne ↦
-            let held : IsHeld a m = ap is_some (sym (found_other a d free x s m ne)) ∙ h in
-            let there : IsHeld c d = ap is_some (fresh_found a d free x s) in
+            let held : HasNode a m = ap is_some (sym (found_other a d free x s m ne)) ∙ h in
+            let there : HasNode c d = ap is_some (fresh_found a d free x s) in
             same m ne ∙ sym (page-at page a kept.named m held) ∙ ap (λ y. (node (forest_by page a) y).own) (sym (fresh_name_other a d free x s m ne))
             ∙ sym (ap (λ k. k.own) (node-put_other (forest_by page a) x (name_of c m) _ (λ e. ne (named.apart m d h there (e ∙ sym (fresh_name a d free x s))))))
       ])

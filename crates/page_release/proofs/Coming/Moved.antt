@@ -12,7 +12,7 @@ use Rattle.vm_ids.specs.Forest.Nodes.Hang.{Root}
 use Rattle.vm_ids.specs.Forest.Rules.{move_page, retire}
 use Rattle.local_cache.specs.declared.own_state.OwnState.TheVariants.{Absent, Zero, Resident, Slot, OnSegment}
 use Rattle.vm_ids.specs.declared.numbers.NodeId.{NodeId}
-use Rattle.local_cache.specs.Arena.{Arena, Cell, IsHeld, cell, is_granted, tables_with, with_name}
+use Rattle.local_cache.specs.Arena.{Arena, Cell, HasNode, cell, is_granted, tables_with, with_name}
 use Rattle.local_cache.specs.Home.{home_named, home_of}
 use Rattle.local_cache.specs.Own.{own_of}
 use Rattle.local_cache.specs.Whole.{SameCaches}
@@ -85,13 +85,13 @@ module _ (s : Store) (a : Arena) (sound : IsSound a) (tied : IsStoreTied s a) (f
   abbrev c : Arena
   c = with_name m.between m.origin (Live to to_page)
 
-  was : IsHeld a m.cleared.node
+  was : HasNode a m.cleared.node
   was = (sound.kept.listed.nodes to.0 to_page.0 m.cleared.node m.cleared.at).0
 
   was_named : name_of a m.cleared.node ≡ Live to to_page
   was_named = (sound.kept.listed.nodes to.0 to_page.0 m.cleared.node m.cleared.at).1
 
-  there : IsHeld m.between m.origin
+  there : HasNode m.between m.origin
   there = origin_held b m.cleared.sound to to_page m.cleared.vacant from from_page m.origin m.source c refl
 
   there_named : name_of m.between m.origin ≡ Live from from_page

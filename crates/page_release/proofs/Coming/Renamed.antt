@@ -9,7 +9,7 @@ use Rattle.vm_ids.specs.declared.numbers.CacheId.{CacheId}
 use Rattle.vm_ids.specs.declared.numbers.NodeId.{NodeId}
 use Rattle.vm_ids.specs.declared.numbers.PageNo.{PageNo}
 use Rattle.vm_ids.specs.Forest.Changes.{rename}
-use Rattle.local_cache.specs.Arena.{Arena, IsHeld, IsVacant, with_name}
+use Rattle.local_cache.specs.Arena.{Arena, HasNode, IsVacant, with_name}
 use Rattle.local_cache.specs.Home.{home_named, home_of}
 use Rattle.local_cache.specs.Own.{own_of}
 use Rattle.local_cache.specs.Reading.{name_of}
@@ -28,7 +28,7 @@ use Rattle.page_release.proofs.Tying.Backed.{homeless}
 use Rattle.page_release.proofs.Tying.States.{SameStates, caches_give, states_page, states_tied}
 use Rattle.page_release.proofs.Coming.Taken.{IsFreeHome, taken_backed}
 
-module _ (b : Arena) (kept : IsKept b) (n : NodeId) (h : IsHeld b n) (y : NodeName) (named : name_of b n ≡ y) (cache : CacheId) (page : PageNo) (vacant : IsVacant b cache page) (c : Arena) (is : c ≡ with_name b n (Live cache page)) where
+module _ (b : Arena) (kept : IsKept b) (n : NodeId) (h : HasNode b n) (y : NodeName) (named : name_of b n ≡ y) (cache : CacheId) (page : PageNo) (vacant : IsVacant b cache page) (c : Arena) (is : c ≡ with_name b n (Live cache page)) where
   renamed_states : SameStates b c
   renamed_states = record {
     own = renamed_own b kept n h y named cache page vacant c is;

@@ -15,7 +15,7 @@ use Rattle.frame_pool.specs.Pool.{is_pinned}
 use Rattle.global_map.specs.Pairs.{frame_of}
 use Rattle.local_cache.specs.declared.own_state.OwnState.{OwnState}
 use Rattle.local_cache.specs.declared.own_state.OwnState.TheVariants.{Absent, Zero, Resident, Slot, OnSegment}
-use Rattle.local_cache.specs.Arena.{Arena, IsHeld, cell, find, with_own}
+use Rattle.local_cache.specs.Arena.{Arena, HasNode, cell, find, with_own}
 use Rattle.local_cache.specs.Home.{home_of}
 use Rattle.local_cache.specs.Own.{is_absent, own_of}
 use Rattle.local_cache.specs.Reading.{forest_of, name_of, page_of}
@@ -73,7 +73,7 @@ none_of : {P : Type 0} (o : Option P) → is_some o ≡ false → o ≡ None
 none_of None e = refl
 none_of (Some v) e = absurd (cc e)
 
-module _ (s : Store) (a : Arena) (sound : IsSound a) (tied : IsStoreTied s a) (n : NodeId) (there : IsHeld a n) (x : NodeName) (named : name_of a n ≡ x) where
+module _ (s : Store) (a : Arena) (sound : IsSound a) (tied : IsStoreTied s a) (n : NodeId) (there : HasNode a n) (x : NodeName) (named : name_of a n ≡ x) where
   own_at : (node (forest_of a) x).own ≡ page_of (own_of a n)
   own_at = ap (λ y. (node (forest_of a) y).own) (sym named) ∙ ap (λ k. k.own) (node-forest_of a sound.kept.named n there)
 
@@ -102,7 +102,7 @@ module _ (s : Store) (a : Arena) (sound : IsSound a) (tied : IsStoreTied s a) (n
     absent_unclean = absent_state (own_of a n) none
 
   -- only this node has the name
-  pub unclean_named : (b : Arena) → IsSound b → IsHeld b n → name_of b n ≡ x → is_clean (own_of b n) ≡ false → IsUnclean b x
+  pub unclean_named : (b : Arena) → IsSound b → HasNode b n → name_of b n ≡ x → is_clean (own_of b n) ≡ false → IsUnclean b x
   unclean_named b after held same out m at = go (is_clean (own_of b m)) refl
     where
       go : (t : Bool) → is_clean (own_of b m) ≡ t → is_clean (own_of b m) ≡ false

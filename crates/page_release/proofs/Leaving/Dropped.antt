@@ -14,7 +14,7 @@ use Rattle.slot_pool.specs.Slots as swap
 use Rattle.global_map.specs.Pairs.{bound_times, frame_of, is_node, node_of}
 use Rattle.local_cache.specs.declared.own_state.OwnState.{OwnState}
 use Rattle.local_cache.specs.declared.own_state.OwnState.TheVariants.{Absent, Zero, Resident, Slot, OnSegment}
-use Rattle.local_cache.specs.Arena.{Arena, IsHeld, with_own}
+use Rattle.local_cache.specs.Arena.{Arena, HasNode, with_own}
 use Rattle.local_cache.specs.Home.{home_of}
 use Rattle.local_cache.specs.Own.{is_in_slot, is_resident, is_slot, own_of, own_states}
 use Rattle.local_cache.proofs.Nodes.OwnStates.{id_apart, id_cases, own_count, own_other, own_same}
@@ -28,7 +28,7 @@ use Rattle.page_release.proofs.Leaving.Passed.{gone_own, resident_home}
 
 -- From a to b the node n lost its own page: it is gone, or is a page of zeros. All others have theirs.
 pub record HasLost (a b : Arena) (n : NodeId) : Type 0 where
-  pub was : IsHeld a n
+  pub was : HasNode a n
   pub stored : is_resident (own_of b n) ≡ false
   pub others : (m : NodeId) → m ≢ n → own_of b m ≡ own_of a m
   pub count : (p : OwnState → Bool) → p Absent ≡ false → p Zero ≡ false → count_by p (own_states a) ≡ bit (p (own_of a n)) + count_by p (own_states b)
@@ -43,7 +43,7 @@ went_lost a b n went others = record {
 }
 
 -- it is a page of zeros
-pub zero_lost : (a : Arena) (n : NodeId) → IsHeld a n → HasLost a (with_own a n Zero) n
+pub zero_lost : (a : Arena) (n : NodeId) → HasNode a n → HasLost a (with_own a n Zero) n
 zero_lost a n there = record {
   was = there;
   stored = ap is_resident (own_same a n Zero);

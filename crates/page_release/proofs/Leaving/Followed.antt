@@ -10,7 +10,7 @@ use Rattle.frame_pool.specs.Pool.{Frames, is_pinned}
 use Rattle.global_map.specs.Pairs.{frame_of}
 use Rattle.local_cache.specs.declared.own_state.OwnState.{OwnState}
 use Rattle.local_cache.specs.declared.own_state.OwnState.TheVariants.{Absent, Zero, Resident, Slot, OnSegment}
-use Rattle.local_cache.specs.Arena.{Arena, IsHeld}
+use Rattle.local_cache.specs.Arena.{Arena, HasNode}
 use Rattle.local_cache.specs.Own.{is_in_slot, is_resident, is_slot, own_of, own_states}
 use Rattle.local_cache.proofs.Nodes.OwnStates.{id_apart, id_cases}
 use Rattle.local_cache.proofs.Nodes.Values.{same_own_states}
@@ -63,8 +63,8 @@ module _ (w : World) (b : Arena) (tied : IsTied w) (stay : HomesStay w.caches b)
     still_page m = own_page_as w b w.frames.held w.slots w.map m m (still.own m) (λ r. refl) (λ k. stay.clean m (ap is_clean (still.own m) ∙ k))
 
   -- A page went ----------------------------------------------------------------------------
-  not_gone : {n : NodeId} → Went w.caches b n → (m : NodeId) → IsHeld b m → m ≢ n
-  not_gone went m h e = false≢true (sym (ap is_some went.gone) ∙ subst (IsHeld b) e h)
+  not_gone : {n : NodeId} → Went w.caches b n → (m : NodeId) → HasNode b m → m ≢ n
+  not_gone went m h e = false≢true (sym (ap is_some went.gone) ∙ subst (HasNode b) e h)
 
   true_after : (xs : List Bool) (k j : ℕ) → get_or (set xs k false) j false ≡ true → get_or xs j false ≡ true
   true_after [] k j h = h
@@ -173,7 +173,7 @@ module _ (w : World) (b : Arena) (tied : IsTied w) (stay : HomesStay w.caches b)
   follow_gives (Dropped n state) drop loose unclean = subst (λ x. GivesBack w (without_page (record w { caches = b }) n x)) (sym drop.state_is) (dropped_gives n (went_lost w.caches b n drop.went drop.others) loose (own_of w.caches n) refl)
   follow_gives (Moved from to) pass loose unclean = subst (λ x. GivesBack w (with_page_moved (record w { caches = b }) from to x)) (sym pass.passed) (passed_gives from to pass loose unclean (own_of w.caches from) refl)
 
-  pub follow_page : (r : Released) → IsReleased w.caches b r → IsLoose w.frames w.map r → IsPassedUnclean w.caches r → (m : NodeId) → IsHeld b m → own_page (followed (record w { caches = b }) r) m ≡ page_after (own_page w) r m
+  pub follow_page : (r : Released) → IsReleased w.caches b r → IsLoose w.frames w.map r → IsPassedUnclean w.caches r → (m : NodeId) → HasNode b m → own_page (followed (record w { caches = b }) r) m ≡ page_after (own_page w) r m
   follow_page Nothing still loose unclean m h = still_page still m
   follow_page (Dropped n state) drop loose unclean m h = subst (λ x. own_page (without_page (record w { caches = b }) n x) m ≡ own_page w m) (sym drop.state_is) (dropped_page n (went_lost w.caches b n drop.went drop.others) loose (own_of w.caches n) refl m (not_gone drop.went m h))
   follow_page (Moved from to) pass loose unclean m h = subst (λ x. own_page (with_page_moved (record w { caches = b }) from to x) m ≡ cond (m.0 == to.0) (own_page w from) (own_page w m)) (sym pass.passed) (passed_page from to pass loose unclean (own_of w.caches from) refl m (not_gone pass.went m h))
@@ -183,7 +183,7 @@ module _ (s : Store) (a b : Arena) (tied : IsTied (world None None a s)) where
   abbrev w : World
   w = world None None a s
 
-  pub can_leave : (n : NodeId) (x : OwnState) → IsHeld a n → own_of a n ≡ x → is_pinned s.frames (frame_of s.map n.0) ≡ false → CanLeave s n x
+  pub can_leave : (n : NodeId) (x : OwnState) → HasNode a n → own_of a n ≡ x → is_pinned s.frames (frame_of s.map n.0) ≡ false → CanLeave s n x
   can_leave n Absent was e loose = tt
   can_leave n Zero was e loose = tt
   can_leave n (Resident t) was e loose =

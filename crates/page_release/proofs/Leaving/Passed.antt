@@ -11,7 +11,7 @@ use Rattle.frame_pool.specs.Pool.{bytes_of, is_pinned}
 use Rattle.global_map.specs.Pairs.{bound_times, frame_of, is_node}
 use Rattle.local_cache.specs.declared.own_state.OwnState.{OwnState}
 use Rattle.local_cache.specs.declared.own_state.OwnState.TheVariants.{Absent}
-use Rattle.local_cache.specs.Arena.{Arena, Cell, IsHeld, blank, cell, find, with_own}
+use Rattle.local_cache.specs.Arena.{Arena, Cell, HasNode, blank, cell, find, with_own}
 use Rattle.local_cache.specs.Home.{home_of}
 use Rattle.local_cache.specs.Own.{is_in_slot, is_resident, is_slot, own_of, own_states}
 use Rattle.local_cache.proofs.Changes.SameNodes.{like-put}
@@ -45,7 +45,7 @@ resident_home w n tied resident =
     home w (frame_of w.map n.0) n tied within (node_is n (get_or w.map (frame_of w.map n.0) None) here)
 
 -- The page of `from`, which went, is that of `to`, which had none.
-module _ (a b : Arena) (from to : NodeId) (went : Went a b from) (ne : from ≢ to) (there : IsHeld a to) (absent : own_of a to ≡ Absent) (moved : own_of b to ≡ own_of a from) (others : (m : NodeId) → m ≢ from → m ≢ to → own_of b m ≡ own_of a m) where
+module _ (a b : Arena) (from to : NodeId) (went : Went a b from) (ne : from ≢ to) (there : HasNode a to) (absent : own_of a to ≡ Absent) (moved : own_of b to ≡ own_of a from) (others : (m : NodeId) → m ≢ from → m ≢ to → own_of b m ≡ own_of a m) where
   abbrev a1 : Arena
   a1 = with_own a to (own_of a from)
 
@@ -73,7 +73,7 @@ module _ (a b : Arena) (from to : NodeId) (went : Went a b from) (ne : from ≢ 
   passed_fewer = omega (arith, went_length a1 b from went1 owns1, own_length a to (own_of a from) there)
 
 -- and the store follows
-module _ (w : World) (b : Arena) (from to : NodeId) (tied : IsTied w) (went : Went w.caches b from) (ne : from ≢ to) (there : IsHeld w.caches to) (absent : own_of w.caches to ≡ Absent)
+module _ (w : World) (b : Arena) (from to : NodeId) (tied : IsTied w) (went : Went w.caches b from) (ne : from ≢ to) (there : HasNode w.caches to) (absent : own_of w.caches to ≡ Absent)
     (moved : own_of b to ≡ own_of w.caches from) (others : (m : NodeId) → m ≢ from → m ≢ to → own_of b m ≡ own_of w.caches m)
     (stay : HomesStay w.caches b) (unclean : is_clean (own_of w.caches from) ≡ false) where
   same_count : (p : OwnState → Bool) → p Absent ≡ false → count_by p (own_states b) ≡ count_by p (own_states w.caches)

@@ -9,7 +9,7 @@ use Rattle.vm_ids.specs.Forest.Rules.{retire}
 use Rattle.vm_ids.proofs.Places.{true_below}
 use Rattle.frame_pool.specs.Pool.{is_pinned}
 use Rattle.global_map.specs.Pairs.{frame_of, is_node, node_of}
-use Rattle.local_cache.specs.Arena.{Arena, IsHeld, as_working, put, tables_with}
+use Rattle.local_cache.specs.Arena.{Arena, HasNode, as_working, put, tables_with}
 use Rattle.local_cache.specs.Home.{home_of}
 use Rattle.local_cache.specs.Own.{own_of}
 use Rattle.local_cache.specs.Reading.{forest_of, name_of}
@@ -54,7 +54,7 @@ module _ (s : Store) (a : Arena) (t : Store) (b : Arena) (r : Released) (rel : I
   pub steps_back : ForAnyMapper s a t b GivesBack
   steps_back told size tied = subst (λ v. GivesBack (world told size a s) v) (sym (is told size)) (follow_gives (world told size a s) b tied stay r rel loose unclean)
 
-  pub steps_page : (told : Option Held) (size : Option ℕ) → IsTied (world told size a s) → (m : NodeId) → IsHeld b m → own_page (world told size b t) m ≡ page_after (own_page (world told size a s)) r m
+  pub steps_page : (told : Option Held) (size : Option ℕ) → IsTied (world told size a s) → (m : NodeId) → HasNode b m → own_page (world told size b t) m ≡ page_after (own_page (world told size a s)) r m
   steps_page told size tied m h = ap (λ v. own_page v m) (is told size) ∙ follow_page (world told size a s) b tied stay r rel loose unclean m h
 
 -- A page was retired ------------------------------------------------------------------------
@@ -128,7 +128,7 @@ module _ (a b : Arena) (n : NodeId) (r : Released) (is : IsRetired a b n r) wher
     retired_homes = others_kept a b n retire_name (sizes_retired a b n r is) retired_home (λ m d. ap is_clean (retired_own rel m d)) (grants-tables_with a b (name_of a n) None retired_tables)
 
 -- of the node of a page
-module _ (s : Store) (a b : Arena) (n : NodeId) (x : NodeName) (there : IsHeld a n) (named : name_of a n ≡ x) (r : Released) (is : IsRetired a b n r) (rel : IsReleased a b r) (tied : IsStoreTied s a) (unpinned : IsUnpinned s a x) (unclean : IsUnclean a x) where
+module _ (s : Store) (a b : Arena) (n : NodeId) (x : NodeName) (there : HasNode a n) (named : name_of a n ≡ x) (r : Released) (is : IsRetired a b n r) (rel : IsReleased a b r) (tied : IsStoreTied s a) (unpinned : IsUnpinned s a x) (unclean : IsUnclean a x) where
   pub retire_frame : is_pinned s.frames (frame_of s.map n.0) ≡ false
   retire_frame = loose_frame s a n tied (λ f pin at. unpinned f n pin at named)
 

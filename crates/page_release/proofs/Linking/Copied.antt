@@ -18,7 +18,7 @@ use Rattle.vm_ids.proofs.Forest.Made.{detach-made}
 use Rattle.vm_ids.proofs.Forest.NodesAfter.{node-put}
 use Rattle.vm_ids.proofs.Forest.Pages.{detach-shaped_but, next_free}
 use Rattle.local_cache.specs.declared.own_state.OwnState.{OwnState}
-use Rattle.local_cache.specs.Arena.{Arena, IsHeld, node_at}
+use Rattle.local_cache.specs.Arena.{Arena, HasNode, node_at}
 use Rattle.local_cache.specs.Reading.{forest_of, name_of}
 use Rattle.local_cache.specs.Sound.{IsSound}
 use Rattle.local_cache.proofs.Changes.SameNodes.{forest_of-made}
@@ -53,13 +53,13 @@ module _ (a b : Arena) (consistent : IsConsistent (forest_of a)) (to from : Cach
 
   -- the nodes of the two pages
   module _ (d s : NodeId) (at_d : node_at b to.0 to_page.0 ≡ Some d) (at_s : node_at b from.0 from_page.0 ≡ Some s) where
-    pub fresh_held : IsHeld b d
+    pub fresh_held : HasNode b d
     fresh_held = (sound.kept.listed.nodes to.0 to_page.0 d at_d).0
 
     pub fresh_name : name_of b d ≡ Live to to_page
     fresh_name = (sound.kept.listed.nodes to.0 to_page.0 d at_d).1
 
-    pub origin_held : IsHeld b s
+    pub origin_held : HasNode b s
     origin_held = (sound.kept.listed.nodes from.0 from_page.0 s at_s).0
 
     pub origin_name : name_of b s ≡ Live from from_page

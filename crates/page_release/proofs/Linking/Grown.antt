@@ -15,7 +15,7 @@ use Rattle.history_tree.proofs.OtherPages.{link-by}
 use Rattle.history_tree.proofs.OwnPages.{link-own}
 use Rattle.local_cache.specs.declared.own_state.OwnState.{OwnState}
 use Rattle.local_cache.specs.declared.own_state.OwnState.TheVariants.{Absent, Zero, Resident, Slot, OnSegment}
-use Rattle.local_cache.specs.Arena.{Arena, Cell, IsHeld, find}
+use Rattle.local_cache.specs.Arena.{Arena, Cell, HasNode, find}
 use Rattle.local_cache.specs.Changes.{Relinked}
 use Rattle.local_cache.specs.Own.{own_of, own_states}
 use Rattle.local_cache.specs.Reading.{forest_of, name_of, page_of}
@@ -83,22 +83,22 @@ module _ (a b : Arena) (sound : IsSound a) (after : IsSound b) (grown : IsGrown 
   both false false f g = refl
 
   -- a node that is there and isn't the new one was there
-  was_there : (m : NodeId) → IsHeld b m → name_of b m ≢ Working (a.made + 1) → IsHeld a m
+  was_there : (m : NodeId) → HasNode b m → name_of b m ≢ Working (a.made + 1) → HasNode a m
   was_there m h ne = elim (few (name_of b m) (subst (λ g. IsNode g (name_of b m)) forest (IsNode-forest_of b after.kept.named m h))) [
     | inl old ↦
         let k = forest_of-IsNode a (name_of b m) old in
         let one : k.0 ≡ m = after.kept.named.apart k.0 m (grown.held k.0 k.1) h (grown.names k.0 k.1 ∙ k.2) in
-        subst (IsHeld a) one k.1
+        subst (HasNode a) one k.1
     | inr e ↦ absurd (ne e)
   ]
 
-  none_new : (w : NodeId) → IsHeld b w → name_of b w ≡ Working (a.made + 1) → find a w ≡ None
+  none_new : (w : NodeId) → HasNode b w → name_of b w ≡ Working (a.made + 1) → find a w ≡ None
   none_new w h e = go (find a w) refl
     where
       go : (c : Option Cell) → find a w ≡ c → find a w ≡ None
       go None q = q
       go (Some c) q =
-          let there : IsHeld a w = ap is_some q in
+          let there : HasNode a w = ap is_some q in
           absurd (let low = sound.kept.named.counted w (a.made + 1) there (sym (grown.names w there) ∙ e) in omega arith)
 
   absent_of : (x : OwnState) → page_of x ≡ None → x ≡ Absent
@@ -119,7 +119,7 @@ module _ (a b : Arena) (sound : IsSound a) (after : IsSound b) (grown : IsGrown 
   unnamed : IsNode (forest_of a) (Working (a.made + 1)) → ⊥
   unnamed is = let k = forest_of-IsNode a (Working (a.made + 1)) is in let low = sound.kept.named.counted k.0 (a.made + 1) k.1 k.2 in absurd (omega (arith, low))
 
-  new_absent : (m : NodeId) → IsHeld b m → name_of b m ≡ Working (a.made + 1) → own_of b m ≡ Absent
+  new_absent : (m : NodeId) → HasNode b m → name_of b m ≡ Working (a.made + 1) → own_of b m ≡ Absent
   new_absent m h e = absent_of (own_of b m) (
       sym (ap (λ k. k.own) (node-forest_of b after.kept.named m h)) ∙ ap (λ f. (node f (name_of b m)).own) forest ∙ link-own (forest_of a) d o (name_of b m)
       ∙ ap (λ y. (node (forest_of a) y).own) e ∙ not_there (Working (a.made + 1)) unnamed)
@@ -129,12 +129,12 @@ module _ (a b : Arena) (sound : IsSound a) (after : IsSound b) (grown : IsGrown 
   none_of (Some c) e = absurd (cc e)
 
   -- a node that is new has the name of the new one
-  new_name : (m : NodeId) → IsHeld b m → is_some (find a m) ≡ false → name_of b m ≡ Working (a.made + 1)
+  new_name : (m : NodeId) → HasNode b m → is_some (find a m) ≡ false → name_of b m ≡ Working (a.made + 1)
   new_name m h out = elim (few (name_of b m) (subst (λ g. IsNode g (name_of b m)) forest (IsNode-forest_of b after.kept.named m h))) [
     | inl old ↦
         let k = forest_of-IsNode a (name_of b m) old in
         let one : k.0 ≡ m = after.kept.named.apart k.0 m (grown.held k.0 k.1) h (grown.names k.0 k.1 ∙ k.2) in
-        absurd (false≢true (sym out ∙ subst (IsHeld a) one k.1))
+        absurd (false≢true (sym out ∙ subst (HasNode a) one k.1))
     | inr e ↦ e
   ]
 

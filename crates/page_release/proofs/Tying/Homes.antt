@@ -11,7 +11,7 @@ use Rattle.vm_ids.specs.declared.numbers.CacheId.{CacheId}
 use Rattle.vm_ids.specs.Forest.Commands.{page_names}
 use Rattle.vm_ids.proofs.Forest.Laws.Ranges.{ranges_hold_their_pages}
 use Rattle.local_cache.specs.Sound.{IsListed}
-use Rattle.local_cache.specs.Arena.{Arena, Cell, IsHeld, find, is_granted, node_at}
+use Rattle.local_cache.specs.Arena.{Arena, Cell, HasNode, find, is_granted, node_at}
 use Rattle.local_cache.specs.Home.{home_named, home_of}
 use Rattle.local_cache.specs.Own.{own_of}
 use Rattle.local_cache.specs.Reading.{name_of}
@@ -28,10 +28,10 @@ pub home_name : (a b : Arena) → SameCaches a b → (x : NodeName) → home_nam
 home_name a b same x = home_where a.caches b.caches x (λ c p e. same.segments c.0)
 
 -- a node that has a home is there
-pub homed_held : (a : Arena) (n : NodeId) → IsSome (home_of a n) → IsHeld a n
+pub homed_held : (a : Arena) (n : NodeId) → IsSome (home_of a n) → HasNode a n
 homed_held a n some = go (find a n) refl
   where
-    go : (c : Option Cell) → find a n ≡ c → IsHeld a n
+    go : (c : Option Cell) → find a n ≡ c → HasNode a n
     go None e = absurd (let none : home_of a n ≡ None = home_none a n e in cc)
     go (Some c) e = ap is_some e
 

@@ -11,7 +11,7 @@ use Rattle.local_cache.specs.declared.own_state.OwnState.{OwnState}
 use Rattle.local_cache.specs.declared.own_state.OwnState.TheVariants.{Absent, Zero, Resident, Slot, OnSegment}
 use Rattle.vm_ids.specs.Held.{Held}
 use Rattle.residency.specs.declared.store.Store.{Store}
-use Rattle.local_cache.specs.Arena.{Arena, IsHeld}
+use Rattle.local_cache.specs.Arena.{Arena, HasNode}
 use Rattle.local_cache.specs.Own.{is_resident, is_slot, own_of}
 use Rattle.local_cache.proofs.Nodes.OwnStates.{own_held, own_some}
 use Rattle.residency.specs.World.{IsStoreRight, IsTied, World, is_clean, is_slot_held, page_by, world}
@@ -37,7 +37,7 @@ home w f n tied frame node =
       once = once;
     }
 
-pub slot_is_held : (w : World) (n : NodeId) (s : SlotId) → IsTied w → IsHeld w.caches n → own_of w.caches n ≡ Slot s → is_slot_held w s.0 ≡ true
+pub slot_is_held : (w : World) (n : NodeId) (s : SlotId) → IsTied w → HasNode w.caches n → own_of w.caches n ≡ Slot s → is_slot_held w s.0 ≡ true
 slot_is_held w n s tied there e =
     let here : is_slot s.0 (own_of w.caches n) ≡ true = ap (is_slot s.0) e ∙ same_number s.0 in
     bit_from (is_slot_held w s.0) (omega (arith, own_some (is_slot s.0) w.caches n there here, tied.placed.slots s.0))

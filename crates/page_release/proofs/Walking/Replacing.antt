@@ -26,7 +26,7 @@ use Rattle.vm_ids.proofs.Forest.NodesAfter.{IsNode-put, put-IsNode}
 use Rattle.vm_ids.proofs.Forest.Pages.{retired}
 use Rattle.local_cache.specs.declared.home.Home.{Home}
 use Rattle.local_cache.specs.declared.own_state.OwnState.TheVariants.{OnSegment}
-use Rattle.local_cache.specs.Arena.{Arena, Cell, IsHeld, blank, cell, find}
+use Rattle.local_cache.specs.Arena.{Arena, Cell, HasNode, blank, cell, find}
 use Rattle.local_cache.specs.Own.{own_of}
 use Rattle.local_cache.specs.Reading.{name_of}
 use Rattle.local_cache.specs.Sound.{IsSound}
@@ -92,11 +92,11 @@ clean_then xs a b homes x home out was n named =
     ]
 
 -- a node with the name of a page is there
-named_held : (a : Arena) (n : NodeId) (cache : CacheId) (page : PageNo) → name_of a n ≡ Live cache page → IsHeld a n
+named_held : (a : Arena) (n : NodeId) (cache : CacheId) (page : PageNo) → name_of a n ≡ Live cache page → HasNode a n
 unfolding cell
 named_held a n cache page named = go (find a n) refl
   where
-    go : (o : Option Cell) → find a n ≡ o → IsHeld a n
+    go : (o : Option Cell) → find a n ≡ o → HasNode a n
     go None e = absurd (let clash : Working 0 ≡ Live cache page = sym (ap (λ (o : Option Cell). (unwrap_or o blank).name) e) ∙ named in cc)
     go (Some k) e = ap is_some e
 

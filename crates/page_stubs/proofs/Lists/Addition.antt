@@ -11,7 +11,7 @@ use Rattle.vm_ids.specs.Forest.Nodes.Hang.{Root, StubOf}
 use Rattle.vm_ids.proofs.Forest.Detaching.{stub-own, stub-tree, stub-stubs_s, stub-stubs, stub-hang_d, stub-hang, stub-linked, stub-names}
 use Rattle.vm_ids.specs.declared.numbers.NodeId.{NodeId}
 use Rattle.local_cache.specs.declared.links.Links.{Links}
-use Rattle.local_cache.specs.Arena.{Arena, cell, IsHeld, with_links}
+use Rattle.local_cache.specs.Arena.{Arena, cell, HasNode, with_links}
 use Rattle.local_cache.specs.Reading.{name_of, node_of, forest_of, hang_by, stubs_of, page_of}
 use Rattle.local_cache.specs.Threads.{head_or, last_or, Row, IsThreaded, AreThreaded}
 use Rattle.local_cache.specs.Sound.{IsSound, ◌∈◌}
@@ -29,7 +29,7 @@ pub record Added (a b : Arena) (d s : NodeId) (last : Option NodeId) : Type 0 wh
   pub of_s : (cell b s).links ≡ record (cell a s).links { first = option_or (cell a s).links.first (Some d); last = Some d; stubs = (cell a s).links.stubs + 1 }
   pub others : (n : NodeId) → n ≢ d → n ≢ s → (last ≡ Some n → ⊥) → (cell b n).links ≡ (cell a n).links
 
-pub added-Added : (a : Arena) (d s : NodeId) (last : Option NodeId) → IsHeld a d → IsHeld a s → IsHeldIf a last → d ≢ s → ((l : NodeId) → last ≡ Some l → (l ≢ d) × (l ≢ s)) → Added a (added a d s last) d s last
+pub added-Added : (a : Arena) (d s : NodeId) (last : Option NodeId) → HasNode a d → HasNode a s → IsHeldIf a last → d ≢ s → ((l : NodeId) → last ≡ Some l → (l ≢ d) × (l ≢ s)) → Added a (added a d s last) d s last
 added-Added a d s last hd hs hl d_s far =
     let own : Links = record (cell a d).links { parent = Some s; by_stub = true; before = last; behind = None } in
     let to : Links → Links = λ l. record l { first = option_or (cell a s).links.first (Some d); last = Some d; stubs = (cell a s).links.stubs + 1 } in
@@ -52,7 +52,7 @@ option_or-head (u ∷ us) d = refl
 
 -- what is known of the caches before, without the forest
 pub record CanAdd (a : Arena) (d s : NodeId) (ys : List NodeId) : Type 0 where
-  pub held_d : IsHeld a d
+  pub held_d : HasNode a d
   pub root_d : (cell a d).links.parent ≡ None
   pub apart : d ≢ s
   pub irreflexive : (cell a s).links.parent ≡ Some s → ⊥
@@ -78,7 +78,7 @@ threaded_s a b d s ys can link = record {
   count = ap (λ l. l.stubs) link.of_s ∙ ap (λ k. k + 1) can.list.count ∙ sym (length-append ys (d ∷ []));
 }
   where
-    held : (n : NodeId) → IsHeld a n → IsHeld b n
+    held : (n : NodeId) → HasNode a n → HasNode b n
     held n h = link.relinked.like.held n ∙ h
 
     no_parent : (n x : NodeId) → (cell a n).links.parent ≡ Some x → n ≡ d → ⊥
@@ -132,7 +132,7 @@ stub-copies_is f d s = refl
 
 -- The whole rule ------------------------------------------------------------------
 
-module _ (a : Arena) (sound : IsSound a) (d s : NodeId) (hd : IsHeld a d) (hs : IsHeld a s) (bare : node (forest_of a) (name_of a d) ≡ childless None Root) (d_s : d ≢ s) where
+module _ (a : Arena) (sound : IsSound a) (d s : NodeId) (hd : HasNode a d) (hs : HasNode a s) (bare : node (forest_of a) (name_of a d) ≡ childless None Root) (d_s : d ≢ s) where
   bare_node : node_of a d ≡ childless None Root
   bare_node = sym (node-forest_of a sound.kept.named d hd) ∙ bare
 
@@ -142,13 +142,13 @@ module _ (a : Arena) (sound : IsSound a) (d s : NodeId) (hd : IsHeld a d) (hs : 
   pub can_add : CanAdd a d s (stubs_of a s)
   can_add = record { held_d = hd; root_d = root_d; apart = d_s; irreflexive = irreflexive a sound.kept.named sound.linked s hs; list = sound.kept.threaded s hs }
 
-  last_stub : (l : NodeId) → (cell a s).links.last ≡ Some l → IsHeld a l × ((cell a l).links.parent ≡ Some s) × ((cell a l).links.by_stub ≡ true)
+  last_stub : (l : NodeId) → (cell a s).links.last ≡ Some l → HasNode a l × ((cell a l).links.parent ≡ Some s) × ((cell a l).links.by_stub ≡ true)
   last_stub l e = let t = sound.kept.threaded s hs in row-each a s None (stubs_of a s) None t.row l (last_in (stubs_of a s) l (sym t.last ∙ e))
 
   pub last_held : IsHeldIf a (cell a s).links.last
   last_held = go (cell a s).links.last (λ l e. (last_stub l e).0)
     where
-      go : (o : Option NodeId) → ((l : NodeId) → o ≡ Some l → IsHeld a l) → IsHeldIf a o
+      go : (o : Option NodeId) → ((l : NodeId) → o ≡ Some l → HasNode a l) → IsHeldIf a o
       go None f = tt
       go (Some l) f = f l refl
 
@@ -206,7 +206,7 @@ module _ (a : Arena) (sound : IsSound a) (d s : NodeId) (hd : IsHeld a d) (hs : 
       | Other e ↦ keeps_links a b n (λ h. like.held n ∙ h) e
     ]
 
-    threaded_other : (x : NodeId) → IsHeld a x → x ≢ s → IsThreaded b x (stubs_of a x)
+    threaded_other : (x : NodeId) → HasNode a x → x ≢ s → IsThreaded b x (stubs_of a x)
     threaded_other x h ns =
         let t = sound.kept.threaded x h in
         let k = ends_kept x ns in
@@ -215,21 +215,21 @@ module _ (a : Arena) (sound : IsSound a) (d s : NodeId) (hd : IsHeld a d) (hs : 
     stubs_s : stubs_of b s ≡ stubs_of a s ++ d ∷ []
     stubs_s = threaded_is b s _ (threaded_s a b d s (stubs_of a s) can_add link)
 
-    stubs_other : (x : NodeId) → IsHeld a x → x ≢ s → stubs_of b x ≡ stubs_of a x
+    stubs_other : (x : NodeId) → HasNode a x → x ≢ s → stubs_of b x ≡ stubs_of a x
     stubs_other x h ns = threaded_is b x _ (threaded_other x h ns)
 
     pub all_threaded : AreThreaded b
     all_threaded x h =
-        let ha : IsHeld a x = sym (like.held x) ∙ h in
+        let ha : HasNode a x = sym (like.held x) ∙ h in
         elim (id_cases x s) [
           | inl e ↦ subst (λ y. IsThreaded b y (stubs_of b y)) (sym e) (subst (IsThreaded b s) (sym stubs_s) (threaded_s a b d s (stubs_of a s) can_add link))
           | inr ns ↦ subst (IsThreaded b x) (sym (stubs_other x ha ns)) (threaded_other x ha ns)
         ]
 
-    names_apart : (n m : NodeId) → IsHeld a n → IsHeld a m → n ≢ m → name_of a n ≢ name_of a m
+    names_apart : (n m : NodeId) → HasNode a n → HasNode a m → n ≢ m → name_of a n ≢ name_of a m
     names_apart n m hn hm ne e = ne (sound.kept.named.apart n m hn hm e)
 
-    hang_is : (n : NodeId) → IsHeld a n → (node (stub (forest_of a) (name_of a d) (name_of a s)) (name_of a n)).hang ≡ (node_of b n).hang
+    hang_is : (n : NodeId) → HasNode a n → (node (stub (forest_of a) (name_of a d) (name_of a s)) (name_of a n)).hang ≡ (node_of b n).hang
     hang_is n h = elim (id_cases n d) [
       | inl e ↦ stub-hang_d (forest_of a) sound.linked (name_of a d) (name_of a s) bare (names_apart d s hd hs d_s) (name_of a n) (ap (name_of a) e)
           ∙ ap StubOf (sym (like.name s))
@@ -239,7 +239,7 @@ module _ (a : Arena) (sound : IsSound a) (d s : NodeId) (hd : IsHeld a d) (hs : 
           ∙ sym (ap (λ o. hang_by b o (cell b n).links.by_stub) (up_kept n nd).0 ∙ ap (hang_by b (cell a n).links.parent) (up_kept n nd).1 ∙ hang-like a b like (cell a n).links.parent (cell a n).links.by_stub)
     ]
 
-    stubs_are : (n : NodeId) → IsHeld a n → (node (stub (forest_of a) (name_of a d) (name_of a s)) (name_of a n)).stubs ≡ (node_of b n).stubs
+    stubs_are : (n : NodeId) → HasNode a n → (node (stub (forest_of a) (name_of a d) (name_of a s)) (name_of a n)).stubs ≡ (node_of b n).stubs
     stubs_are n h = elim (id_cases n s) [
       | inl e ↦ subst (λ m. (node (stub (forest_of a) (name_of a d) (name_of a s)) (name_of a m)).stubs ≡ (node_of b m).stubs) (sym e)
           (stub-stubs_s (forest_of a) sound.linked (name_of a d) (name_of a s) bare (names_apart d s hd hs d_s)
@@ -251,7 +251,7 @@ module _ (a : Arena) (sound : IsSound a) (d s : NodeId) (hd : IsHeld a d) (hs : 
           ∙ sym (ap (map (name_of b)) (stubs_other n h ns) ∙ map-like a b like (stubs_of a n))
     ]
 
-    node_is : (n : NodeId) → IsHeld a n → node (stub (forest_of a) (name_of a d) (name_of a s)) (name_of a n) ≡ node_of b n
+    node_is : (n : NodeId) → HasNode a n → node (stub (forest_of a) (name_of a d) (name_of a s)) (name_of a n) ≡ node_of b n
     node_is n h = same_node _ (node_of b n)
         (stub-own (forest_of a) sound.linked (name_of a d) (name_of a s) bare (names_apart d s hd hs d_s) (name_of a n) ∙ ap (λ m. m.own) (node-forest_of a sound.kept.named n h) ∙ ap page_of (sym (link.relinked.own n)))
         (hang_is n h)
@@ -270,8 +270,8 @@ module _ (a : Arena) (sound : IsSound a) (d s : NodeId) (hd : IsHeld a d) (hs : 
       kept = record {
         named = named-like a b sound.kept.named like link.relinked.made;
         listed = listed-like a b sound.kept.listed like;
-        parents = λ n p h up. let ha : IsHeld a n = sym (like.held n) ∙ h in elim (id_cases n d) [
-          | inl e ↦ like.held p ∙ subst (IsHeld a) (let two : Some s ≡ Some p = sym (ap (λ m. (cell b m).links.parent) e ∙ ap (λ l. l.parent) link.of_d) ∙ up in cc two) hs
+        parents = λ n p h up. let ha : HasNode a n = sym (like.held n) ∙ h in elim (id_cases n d) [
+          | inl e ↦ like.held p ∙ subst (HasNode a) (let two : Some s ≡ Some p = sym (ap (λ m. (cell b m).links.parent) e ∙ ap (λ l. l.parent) link.of_d) ∙ up in cc two) hs
           | inr nd ↦ like.held p ∙ sound.kept.parents n p ha (sym (up_kept n nd).0 ∙ up)
         ];
         children = λ n m h i. like.held m ∙ sound.kept.children n m (sym (like.held n) ∙ h) (subst (λ ts. m ∈ ts) (link.relinked.tree n) i);
@@ -280,6 +280,6 @@ module _ (a : Arena) (sound : IsSound a) (d s : NodeId) (hd : IsHeld a d) (hs : 
       linked = subst IsLinked (sym forest_is) (stub-linked (forest_of a) sound.linked (name_of a d) (name_of a s) bare (names_apart d s hd hs d_s));
     }
 
-pub adds : (a : Arena) (sound : IsSound a) (d s : NodeId) (hd : IsHeld a d) (hs : IsHeld a s) (bare : node (forest_of a) (name_of a d) ≡ childless None Root) (d_s : d ≢ s)
+pub adds : (a : Arena) (sound : IsSound a) (d s : NodeId) (hd : HasNode a d) (hs : HasNode a s) (bare : node (forest_of a) (name_of a d) ≡ childless None Root) (d_s : d ≢ s)
     → Added a (added a d s (cell a s).links.last) d s (cell a s).links.last
 adds a sound d s hd hs bare d_s = added-Added a d s (cell a s).links.last hd hs (last_held a sound d s hd hs bare d_s) d_s (last_far a sound d s hd hs bare d_s)

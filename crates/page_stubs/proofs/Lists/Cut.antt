@@ -3,7 +3,7 @@ use Rattle.std.proofs.Common.{◌≡◌, ◌≢◌, ◌-◌, false, List, [], �
 use Rattle.std.proofs.lemmas.List.{append-nil}
 use Rattle.vm_ids.specs.declared.numbers.NodeId.{NodeId}
 use Rattle.local_cache.specs.declared.links.Links.{Links}
-use Rattle.local_cache.specs.Arena.{Arena, cell, IsHeld, with_links}
+use Rattle.local_cache.specs.Arena.{Arena, cell, HasNode, with_links}
 use Rattle.local_cache.specs.Threads.{head_or, last_or, Row, IsThreaded}
 use Rattle.local_cache.specs.Sound.{◌∈◌}
 pub use Rattle.local_cache.specs.Changes.{Once}
@@ -30,7 +30,7 @@ pub record Apart (n p : NodeId) (before behind : Option NodeId) : Type 0 where
   pub behind_p : behind ≡ Some p → ⊥
   pub both : (m : NodeId) → before ≡ Some m → behind ≡ Some m → ⊥
 
-pub cut-Cut : (a : Arena) (n p : NodeId) (before behind : Option NodeId) → IsHeld a n → IsHeld a p → IsHeldIf a before → IsHeldIf a behind → Apart n p before behind → Cut a (cut_out a n p before behind) n p before behind
+pub cut-Cut : (a : Arena) (n p : NodeId) (before behind : Option NodeId) → HasNode a n → HasNode a p → IsHeldIf a before → IsHeldIf a behind → Apart n p before behind → Cut a (cut_out a n p before behind) n p before behind
 cut-Cut a n p before behind hn hp hb hh far =
     let a1 : Arena = with_behind a before behind in
     let a2 : Arena = with_before a1 behind before in
@@ -99,7 +99,7 @@ last_is us (v ∷ vs) n = last_or-append us (n ∷ v ∷ vs) None ∙ sym (last_
 
 module _ (a b : Arena) (n p : NodeId) (us vs : List NodeId) (t : IsThreaded a p (us ++ n ∷ vs)) (once : Once (us ++ n ∷ vs)) (no_loop : (cell a p).links.parent ≡ Some p → ⊥)
     (cut : Cut a b n p (last_or us None) (head_or vs None)) where
-  held : (m : NodeId) → IsHeld a m → IsHeld b m
+  held : (m : NodeId) → HasNode a m → HasNode b m
   held m h = cut.relinked.like.held m ∙ h
 
   front : Row a p None us (Some n)

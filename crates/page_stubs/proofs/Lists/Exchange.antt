@@ -2,7 +2,7 @@
 use Rattle.std.proofs.Common.{◌≡◌, ◌≢◌, ℕ, Bool, true, false, List, [], ◌∷◌, ◌++◌, length, Option, Some, None, refl, sym, ap, ◌∙◌, subst, inl, inr, arith, length-append}
 use Rattle.vm_ids.specs.declared.numbers.NodeId.{NodeId}
 use Rattle.local_cache.specs.declared.links.Links.{Links}
-use Rattle.local_cache.specs.Arena.{Arena, cell, IsHeld}
+use Rattle.local_cache.specs.Arena.{Arena, cell, HasNode}
 use Rattle.local_cache.specs.Threads.{head_or, last_or, Row, IsThreaded}
 use Rattle.local_cache.specs.Sound.{◌∈◌}
 use Rattle.local_cache.specs.Changes.{Relinked, Once}
@@ -38,7 +38,7 @@ pub record Exchanged (a c : Arena) (w y p : NodeId) (l r : Option NodeId) : Type
   pub other_last : (m : NodeId) → m ≢ p → (cell c m).links.last ≡ (cell a m).links.last
   pub other_count : (m : NodeId) → m ≢ p → (cell c m).links.stubs ≡ (cell a m).links.stubs
 
-module _ (a : Arena) (w y p : NodeId) (apart : y ≢ w) (hw : IsHeld a w) (hy : IsHeld a y) (hp : IsHeld a p) (hl : IsHeldIf a (cell a w).links.before) (hr : IsHeldIf a (cell a w).links.behind) where
+module _ (a : Arena) (w y p : NodeId) (apart : y ≢ w) (hw : HasNode a w) (hy : HasNode a y) (hp : HasNode a p) (hl : IsHeldIf a (cell a w).links.before) (hr : IsHeldIf a (cell a w).links.behind) where
   abbrev l : Option NodeId
   l = (cell a w).links.before
 
@@ -118,12 +118,12 @@ last_with : (us vs : List NodeId) (w y : NodeId) → end_with (head_or vs None) 
 last_with us [] w y = sym (last_or-end us y None)
 last_with us (v ∷ vs) w y = last_or-append us (w ∷ v ∷ vs) None ∙ sym (last_or-append us (y ∷ v ∷ vs) None)
 
-module _ (a c : Arena) (w y p : NodeId) (us vs : List NodeId) (hy : IsHeld a y) (root : (cell a y).links.parent ≡ None) (t : IsThreaded a p (us ++ w ∷ vs)) (once : Once (us ++ w ∷ vs))
+module _ (a c : Arena) (w y p : NodeId) (us vs : List NodeId) (hy : HasNode a y) (root : (cell a y).links.parent ≡ None) (t : IsThreaded a p (us ++ w ∷ vs)) (once : Once (us ++ w ∷ vs))
     (swap : Exchanged a c w y p (last_or us None) (head_or vs None)) where
-  held : (m : NodeId) → IsHeld a m → IsHeld c m
+  held : (m : NodeId) → HasNode a m → HasNode c m
   held m h = swap.links.like.held m ∙ h
 
-  each : (m : NodeId) → m ∈ (us ++ w ∷ vs) → IsHeld a m × ((cell a m).links.parent ≡ Some p) × ((cell a m).links.by_stub ≡ true)
+  each : (m : NodeId) → m ∈ (us ++ w ∷ vs) → HasNode a m × ((cell a m).links.parent ≡ Some p) × ((cell a m).links.by_stub ≡ true)
   each m i = row-each a p None (us ++ w ∷ vs) None t.row m i
 
   in_us : (m : NodeId) → m ∈ us → m ∈ (us ++ w ∷ vs)

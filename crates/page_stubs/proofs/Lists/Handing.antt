@@ -2,7 +2,7 @@
 use Rattle.std.proofs.Common.{◌≡◌, ◌⊎◌, ℕ, zero, suc, ◌<◌, List, [], ◌∷◌, ◌++◌, take, drop, length, Option, Some, None, refl, sym, ap, ◌∙◌, subst, inl, inr, arith}
 use Rattle.vm_ids.specs.declared.numbers.NodeId.{NodeId}
 use Rattle.local_cache.specs.declared.links.Links.{Links}
-use Rattle.local_cache.specs.Arena.{Arena, cell, IsHeld, with_links}
+use Rattle.local_cache.specs.Arena.{Arena, cell, HasNode, with_links}
 use Rattle.local_cache.specs.Reading.{stubs_of}
 use Rattle.local_cache.specs.Threads.{head_or, last_or, IsStub, Row}
 use Rattle.local_cache.specs.Sound.{IsKept, ◌∈◌}
@@ -44,7 +44,7 @@ in_last : (us : List NodeId) (y : NodeId) → y ∈ (us ++ y ∷ [])
 in_last [] y = inl refl
 in_last (u ∷ us) y = inr (in_last us y)
 
-pub handed_more : (a b : Arena) (us : List NodeId) (y to : NodeId) → IsHeld b y → (y ∈ us → ⊥) → Handed a b us to → Handed a (with_links b y (record (cell b y).links { parent = Some to })) (us ++ y ∷ []) to
+pub handed_more : (a b : Arena) (us : List NodeId) (y to : NodeId) → HasNode b y → (y ∈ us → ⊥) → Handed a b us to → Handed a (with_links b y (record (cell b y).links { parent = Some to })) (us ++ y ∷ []) to
 handed_more a b us y to hy new h =
     let links : Links = record (cell b y).links { parent = Some to } in
     record {
@@ -61,7 +61,7 @@ handed_more a b us y to hy new h =
     up to l = record l { parent = Some to }
 
 -- one turn of the loop, at a place of the list
-module _ (a b : Arena) (kept : IsKept a) (from to : NodeId) (hf : IsHeld a from) (once : Once (stubs_of a from)) (i : ℕ) (within : i < (cell a from).links.stubs)
+module _ (a b : Arena) (kept : IsKept a) (from to : NodeId) (hf : HasNode a from) (once : Once (stubs_of a from)) (i : ℕ) (within : i < (cell a from).links.stubs)
     (h : Handed a b (take i (stubs_of a from)) to) where
   ys : List NodeId
   ys = stubs_of a from
@@ -81,7 +81,7 @@ module _ (a b : Arena) (kept : IsKept a) (from to : NodeId) (hf : IsHeld a from)
   stub : IsStub a from (last_or (take i (stubs_of a from)) None) (at_place (stubs_of a from) i short).0 (head_or (drop (suc i) (stubs_of a from)) None)
   stub = (row-rear a from None (take i (stubs_of a from)) ((at_place (stubs_of a from) i short).0 ∷ drop (suc i) (stubs_of a from)) None (subst (λ zs. Row a from None zs None) parts (kept.threaded from hf).row)).0
 
-  pub held_y : IsHeld b (at_place (stubs_of a from) i short).0
+  pub held_y : HasNode b (at_place (stubs_of a from) i short).0
   held_y = h.relinked.like.held (at_place (stubs_of a from) i short).0 ∙ stub.held
 
   new : (at_place (stubs_of a from) i short).0 ∈ take i (stubs_of a from) → ⊥

@@ -3,7 +3,7 @@ use Rattle.std.proofs.Common.{◌≡◌, ◌≢◌, ◌⊎◌, ℕ, ◌+◌, Lis
 use Rattle.std.specs.Option.{option_or}
 use Rattle.vm_ids.specs.declared.numbers.NodeId.{NodeId}
 use Rattle.local_cache.specs.declared.links.Links.{Links}
-use Rattle.local_cache.specs.Arena.{Arena, cell, IsHeld}
+use Rattle.local_cache.specs.Arena.{Arena, cell, HasNode}
 use Rattle.local_cache.specs.Threads.{head_or, last_or, Row, IsThreaded}
 use Rattle.local_cache.specs.Sound.{◌∈◌}
 use Rattle.local_cache.specs.Changes.{Relinked, Once}
@@ -40,13 +40,13 @@ last_by : (ys : List NodeId) (o : Option NodeId) → option_or (last_or ys None)
 last_by [] o = refl
 last_by (y ∷ ys) o = let l = last_some ys y in ap (λ k. option_or k o) l.1 ∙ sym l.1
 
-pub if_held : (a : Arena) (o : Option NodeId) → ((m : NodeId) → o ≡ Some m → IsHeld a m) → IsHeldIf a o
+pub if_held : (a : Arena) (o : Option NodeId) → ((m : NodeId) → o ≡ Some m → HasNode a m) → IsHeldIf a o
 if_held a None all = tt
 if_held a (Some m) all = all m refl
 
 -- y is a stub of x now, between the same neighbours
 pub record Moved (a b : Arena) (y x : NodeId) : Type 0 where
-  pub held : IsHeld b y
+  pub held : HasNode b y
   pub parent : (cell b y).links.parent ≡ Some x
   pub by_stub : (cell b y).links.by_stub ≡ (cell a y).links.by_stub
   pub before : (cell b y).links.before ≡ (cell a y).links.before
@@ -112,7 +112,7 @@ module _ (b : Arena) (from to : NodeId) (apart : to ≢ from) (l f first last : 
       → (m : NodeId) → m ≢ to → m ≢ from → col (cell (word b from to l f first last k) m).links ≡ col (cell b m).links
   word-other col one two m nt nf = ap col (links-with_links_other b3 from m _ nf) ∙ ap col (links-with_links_other b2 to m _ nt) ∙ before-col col two b1 f l m ∙ behind-col col one b l f m
 
-  word-relinked : IsHeldIf b l → IsHeldIf b f → IsHeld b to → IsHeld b from → Relinked b (word b from to l f first last k)
+  word-relinked : IsHeldIf b l → IsHeldIf b f → HasNode b to → HasNode b from → Relinked b (word b from to l f first last k)
   word-relinked hl hf ht hr =
       let r1 = behind_relinked b l f hl in
       let r2 = relinked_then b b1 b2 r1 (before_relinked b1 f l (held_if b b1 f r1.like hf)) in
@@ -140,7 +140,7 @@ pub record Joined (a c : Arena) (from to : NodeId) (ys zs : List NodeId) : Type 
   pub other_last : (m : NodeId) → m ≢ to → m ≢ from → (cell c m).links.last ≡ (cell a m).links.last
   pub other_count : (m : NodeId) → m ≢ to → m ≢ from → (cell c m).links.stubs ≡ (cell a m).links.stubs
 
-module _ (a b : Arena) (from to : NodeId) (apart : to ≢ from) (hf : IsHeld a from) (ht : IsHeld a to) (ys zs : List NodeId) (t_from : IsThreaded a from ys) (t_to : IsThreaded a to zs) (handed : Handed a b ys to) where
+module _ (a b : Arena) (from to : NodeId) (apart : to ≢ from) (hf : HasNode a from) (ht : HasNode a to) (ys zs : List NodeId) (t_from : IsThreaded a from ys) (t_to : IsThreaded a to zs) (handed : Handed a b ys to) where
   handed-col : {A : Type 0} (col : Links → A) → ((l : Links) (o : Option NodeId) → col (record l { parent = o }) ≡ col l) → (m : NodeId) → col (cell b m).links ≡ col (cell a m).links
   handed-col col same m = elim (in_ids ys m) [ inl i ↦ ap col (handed.done m i) ∙ same _ _ | inr out ↦ ap col (handed.rest m out) ]
 
@@ -156,7 +156,7 @@ module _ (a b : Arena) (from to : NodeId) (apart : to ≢ from) (hf : IsHeld a f
   pub given_count : (cell b from).links.stubs ≡ length ys
   given_count = handed-col (λ l. l.stubs) (λ l o. refl) from ∙ t_from.count
 
-  held_b : (n : NodeId) → IsHeld a n → IsHeld b n
+  held_b : (n : NodeId) → HasNode a n → HasNode b n
   held_b n h = handed.relinked.like.held n ∙ h
 
   pub last_held : IsHeldIf b (last_or zs None)
@@ -210,7 +210,7 @@ module _ (a b : Arena) (from to : NodeId) (apart : to ≢ from) (hf : IsHeld a f
 -- The lists ---------------------------------------------------------------------------
 
 module _ (a c : Arena) (from to : NodeId) (apart : to ≢ from) (ys zs : List NodeId) (t_from : IsThreaded a from ys) (t_to : IsThreaded a to zs) (once_ys : Once ys) (once_zs : Once zs) (join : Joined a c from to ys zs) where
-  held : (n : NodeId) → IsHeld a n → IsHeld c n
+  held : (n : NodeId) → HasNode a n → HasNode c n
   held n h = join.links.like.held n ∙ h
 
   in_from : (m : NodeId) → m ∈ ys → (cell a m).links.parent ≡ Some from

@@ -10,7 +10,7 @@ use Rattle.vm_ids.specs.Forest.Shape.{IsLinked}
 use Rattle.vm_ids.proofs.Forest.Fitting.{names_fit, IsNode-parent}
 use Rattle.vm_ids.proofs.Forest.NameLists.{in_append, Once-append}
 use Rattle.local_cache.specs.declared.links.Links.{Links}
-use Rattle.local_cache.specs.Arena.{Arena, cell, put, IsHeld, with_links}
+use Rattle.local_cache.specs.Arena.{Arena, cell, put, HasNode, with_links}
 use Rattle.local_cache.specs.Reading.{name_of, forest_of}
 use Rattle.local_cache.specs.Sound.{IsKept}
 use Rattle.local_cache.proofs.Forest.Reading.{node-forest_of}
@@ -55,5 +55,5 @@ module _ {P : Type 0} (f : Forest P) (linked : IsLinked f) where
         | inr j ↦ IsNode-parent f z x (ap parent_of ((linked.stub_links z x).0 j))
       ]))
 
-pub count_is : (a : Arena) → IsKept a → (s : NodeId) → IsHeld a s → (cell a s).links.stubs ≡ length (node (forest_of a) (name_of a s)).stubs
+pub count_is : (a : Arena) → IsKept a → (s : NodeId) → HasNode a s → (cell a s).links.stubs ≡ length (node (forest_of a) (name_of a s)).stubs
 count_is a kept s h = (kept.threaded s h).count ∙ sym (length-map _ (name_of a)) ∙ sym (ap (λ n. length n.stubs) (node-forest_of a kept.named s h))

@@ -21,7 +21,7 @@ use Rattle.vm_ids.proofs.Forest.Handing.{gets-linked}
 use Rattle.vm_ids.proofs.Forest.NamesAfter.{cut_stub-names}
 use Rattle.vm_ids.specs.declared.numbers.NodeId.{NodeId}
 use Rattle.local_cache.specs.declared.own_state.OwnState.{OwnState}
-use Rattle.local_cache.specs.Arena.{Arena, cell, IsHeld}
+use Rattle.local_cache.specs.Arena.{Arena, cell, HasNode}
 use Rattle.local_cache.specs.Reading.{name_of, forest_of, hang_by, stubs_of, page_of}
 use Rattle.local_cache.specs.Threads.{head_or, last_or, IsStub, IsThreaded}
 use Rattle.local_cache.specs.Sound.{IsSound, IsKept, ◌∈◌}
@@ -52,18 +52,18 @@ pub once-map : (a : Arena) (ys : List NodeId) → names.Once (map (name_of a) ys
 once-map a [] once = tt
 once-map a (y ∷ ys) once = ((λ i. once.0 (in_map a ys y i)), once-map a ys once.1)
 
-pub map-in : (a : Arena) → IsKept a → (n : NodeId) → IsHeld a n → (ys : List NodeId) → ((m : NodeId) → m ∈ ys → IsHeld a m) → names.◌∈◌ (name_of a n) (map (name_of a) ys) → n ∈ ys
+pub map-in : (a : Arena) → IsKept a → (n : NodeId) → HasNode a n → (ys : List NodeId) → ((m : NodeId) → m ∈ ys → HasNode a m) → names.◌∈◌ (name_of a n) (map (name_of a) ys) → n ∈ ys
 map-in a kept n h [] all i = i
 map-in a kept n h (y ∷ ys) all (inl e) = inl (kept.named.apart n y h (all y (inl refl)) e)
 map-in a kept n h (y ∷ ys) all (inr i) = inr (map-in a kept n h ys (λ m j. all m (inr j)) i)
 
-without-map : (a : Arena) → IsKept a → (n : NodeId) → IsHeld a n → (ys : List NodeId) → ((m : NodeId) → m ∈ ys → IsHeld a m) → (n ∈ ys → ⊥) → without (name_of a n) (map (name_of a) ys) ≡ map (name_of a) ys
+without-map : (a : Arena) → IsKept a → (n : NodeId) → HasNode a n → (ys : List NodeId) → ((m : NodeId) → m ∈ ys → HasNode a m) → (n ∈ ys → ⊥) → without (name_of a n) (map (name_of a) ys) ≡ map (name_of a) ys
 without-map a kept n h [] all out = refl
 without-map a kept n h (y ∷ ys) all out =
     ap (λ b. cond (not b) (name_of a y ∷ without (name_of a n) (map (name_of a) ys)) (without (name_of a n) (map (name_of a) ys))) (same_apart (name_of a n) (name_of a y) (λ e. out (inl (kept.named.apart n y h (all y (inl refl)) e))))
     ∙ ap (λ zs. name_of a y ∷ zs) (without-map a kept n h ys (λ m j. all m (inr j)) (λ i. out (inr i)))
 
-without-split : (a : Arena) → IsKept a → (n : NodeId) → IsHeld a n → (us vs : List NodeId) → ((m : NodeId) → m ∈ (us ++ n ∷ vs) → IsHeld a m) → Once (us ++ n ∷ vs) → without (name_of a n) (map (name_of a) (us ++ n ∷ vs)) ≡ map (name_of a) (us ++ vs)
+without-split : (a : Arena) → IsKept a → (n : NodeId) → HasNode a n → (us vs : List NodeId) → ((m : NodeId) → m ∈ (us ++ n ∷ vs) → HasNode a m) → Once (us ++ n ∷ vs) → without (name_of a n) (map (name_of a) (us ++ n ∷ vs)) ≡ map (name_of a) (us ++ vs)
 without-split a kept n h [] vs all once =
     ap (λ b. cond (not b) (name_of a n ∷ without (name_of a n) (map (name_of a) vs)) (without (name_of a n) (map (name_of a) vs))) (same_itself (name_of a n))
     ∙ without-map a kept n h vs (λ m i. all m (inr i)) once.0
@@ -111,7 +111,7 @@ pub record HasCut (a b : Arena) (n : NodeId) : Type 0 where
   pub sound : IsSound b
   pub links : Relinked a b
 
-module _ (a : Arena) (kept : IsKept a) (n p : NodeId) (hn : IsHeld a n) (linked : IsLinked (edit (forest_of a) (name_of a n) (with_own None)))
+module _ (a : Arena) (kept : IsKept a) (n p : NodeId) (hn : HasNode a n) (linked : IsLinked (edit (forest_of a) (name_of a n) (with_own None)))
     (up : (cell a n).links.parent ≡ Some p) (by : (cell a n).links.by_stub ≡ true) where
   f : Forest OwnState
   f = forest_of a
@@ -119,7 +119,7 @@ module _ (a : Arena) (kept : IsKept a) (n p : NodeId) (hn : IsHeld a n) (linked 
   bare : Forest OwnState
   bare = edit (forest_of a) (name_of a n) (with_own None)
 
-  hp : IsHeld a p
+  hp : HasNode a p
   hp = kept.parents n p hn up
 
   hang_n : (node (forest_of a) (name_of a n)).hang ≡ StubOf (name_of a p)
@@ -134,7 +134,7 @@ module _ (a : Arena) (kept : IsKept a) (n p : NodeId) (hn : IsHeld a n) (linked 
   ids_p : (node (forest_of a) (name_of a p)).stubs ≡ map (name_of a) (stubs_of a p)
   ids_p = ap (λ m. m.stubs) (node-forest_of a kept.named p hp)
 
-  all_held : (m : NodeId) → m ∈ stubs_of a p → IsHeld a m
+  all_held : (m : NodeId) → m ∈ stubs_of a p → HasNode a m
   all_held m i = (row-each a p None (stubs_of a p) None (kept.threaded p hp).row m i).0
 
   pub in_list : n ∈ stubs_of a p
@@ -143,7 +143,7 @@ module _ (a : Arena) (kept : IsKept a) (n p : NodeId) (hn : IsHeld a n) (linked 
   once_ids : Once (stubs_of a p)
   once_ids = once-map a (stubs_of a p) (subst names.Once (same_stubs (name_of a p) ∙ ids_p) (linked.once (name_of a p)).1)
 
-  no_loop : (m : NodeId) → IsHeld a m → (cell a m).links.parent ≡ Some m → ⊥
+  no_loop : (m : NodeId) → HasNode a m → (cell a m).links.parent ≡ Some m → ⊥
   no_loop m h e = let less = linked.order.1 (name_of a m) (name_of a m) (ap nodes.parent_of (same_hang (name_of a m)) ∙ parent-read a kept.named m m h e) in omega arith
 
   module _ (us vs : List NodeId) (is : stubs_of a p ≡ us ++ n ∷ vs) where
@@ -153,7 +153,7 @@ module _ (a : Arena) (kept : IsKept a) (n p : NodeId) (hn : IsHeld a n) (linked 
     once : Once (us ++ n ∷ vs)
     once = subst Once is once_ids
 
-    each : (m : NodeId) → m ∈ (us ++ n ∷ vs) → IsHeld a m × ((cell a m).links.parent ≡ Some p) × ((cell a m).links.by_stub ≡ true)
+    each : (m : NodeId) → m ∈ (us ++ n ∷ vs) → HasNode a m × ((cell a m).links.parent ≡ Some p) × ((cell a m).links.by_stub ≡ true)
     each m i = row-each a p None (us ++ n ∷ vs) None t.row m i
 
     at_n : IsStub a p (last_or us None) n (head_or vs None)
@@ -166,10 +166,10 @@ module _ (a : Arena) (kept : IsKept a) (n p : NodeId) (hn : IsHeld a n) (linked 
     in_vs [] m e = absurd (cc e)
     in_vs (z ∷ zs) m e = let same : z ≡ m = cc e in inl (sym same)
 
-    before_each : (m : NodeId) → last_or us None ≡ Some m → IsHeld a m × ((cell a m).links.parent ≡ Some p) × ((cell a m).links.by_stub ≡ true)
+    before_each : (m : NodeId) → last_or us None ≡ Some m → HasNode a m × ((cell a m).links.parent ≡ Some p) × ((cell a m).links.by_stub ≡ true)
     before_each m e = each m (in_left us (n ∷ vs) m (in_us m e))
 
-    behind_each : (m : NodeId) → head_or vs None ≡ Some m → IsHeld a m × ((cell a m).links.parent ≡ Some p) × ((cell a m).links.by_stub ≡ true)
+    behind_each : (m : NodeId) → head_or vs None ≡ Some m → HasNode a m × ((cell a m).links.parent ≡ Some p) × ((cell a m).links.by_stub ≡ true)
     behind_each m e = each m (in_right us (n ∷ vs) m (inr (in_vs vs m e)))
 
     not_p : (m : NodeId) → (cell a m).links.parent ≡ Some p → m ≢ p
@@ -185,7 +185,7 @@ module _ (a : Arena) (kept : IsKept a) (n p : NodeId) (hn : IsHeld a n) (linked 
       both = λ m e g. once-apart us (n ∷ vs) once m (in_us m e) (inr (in_vs vs m g));
     }
 
-    if_held : (o : Option NodeId) → ((m : NodeId) → o ≡ Some m → IsHeld a m) → IsHeldIf a o
+    if_held : (o : Option NodeId) → ((m : NodeId) → o ≡ Some m → HasNode a m) → IsHeldIf a o
     if_held None all = tt
     if_held (Some m) all = all m refl
 
@@ -255,13 +255,13 @@ module _ (a : Arena) (kept : IsKept a) (n p : NodeId) (hn : IsHeld a n) (linked 
         | Other e ↦ (ap (λ l. l.parent) e, ap (λ l. l.by_stub) e)
       ]
 
-      list_other : (x : NodeId) → IsHeld a x → x ≢ p → IsThreaded b x (stubs_of a x)
+      list_other : (x : NodeId) → HasNode a x → x ≢ p → IsThreaded b x (stubs_of a x)
       list_other x h np =
           let tx = kept.threaded x h in
           let k = ends_kept x np in
           threaded-kept a b x (stubs_of a x) (λ y i. place_kept x y np (row-each a x None (stubs_of a x) None tx.row y i).1) k.0 k.1 k.2 tx
 
-      lists : (x : NodeId) → IsHeld a x → IsThreaded b x (stubs_of b x)
+      lists : (x : NodeId) → HasNode a x → IsThreaded b x (stubs_of b x)
       lists x h = elim (id_cases x p) [
         | inl e ↦ subst (λ y. IsThreaded b y (stubs_of b y)) (sym e) (subst (IsThreaded b p) (sym (threaded_is b p (us ++ vs) list_p)) list_p)
         | inr np ↦ subst (IsThreaded b x) (sym (threaded_is b x (stubs_of a x) (list_other x h np))) (list_other x h np)
@@ -270,7 +270,7 @@ module _ (a : Arena) (kept : IsKept a) (n p : NodeId) (hn : IsHeld a n) (linked 
       g : Forest OwnState
       g = cut_stub (forest_of a) (name_of a n)
 
-      stubs_column : (m : NodeId) → IsHeld a m → (node (cut_stub (forest_of a) (name_of a n)) (name_of a m)).stubs ≡ map (name_of a) (stubs_of b m)
+      stubs_column : (m : NodeId) → HasNode a m → (node (cut_stub (forest_of a) (name_of a n)) (name_of a m)).stubs ≡ map (name_of a) (stubs_of b m)
       stubs_column m h =
           cut_stub-stubs (forest_of a) (name_of a n) (name_of a m)
           ∙ ap (λ k. left_stubs (name_of a n) k (name_of a m) (node (forest_of a) (name_of a m)).stubs) hang_n
@@ -285,7 +285,7 @@ module _ (a : Arena) (kept : IsKept a) (n p : NodeId) (hn : IsHeld a n) (linked 
                 ∙ ap (map (name_of a)) (sym (threaded_is b m (stubs_of a m) (list_other m h np)))
           ]
 
-      hang_column : (m : NodeId) → IsHeld a m → (node (cut_stub (forest_of a) (name_of a n)) (name_of a m)).hang ≡ hang_by a (cell b m).links.parent (cell b m).links.by_stub
+      hang_column : (m : NodeId) → HasNode a m → (node (cut_stub (forest_of a) (name_of a n)) (name_of a m)).hang ≡ hang_by a (cell b m).links.parent (cell b m).links.by_stub
       hang_column m h = elim (id_cases m n) [
         | inl e ↦ subst (λ k. (node (cut_stub (forest_of a) (name_of a n)) (name_of a k)).hang ≡ hang_by a (cell b k).links.parent (cell b k).links.by_stub) (sym e)
             (cut_stub-hang (forest_of a) (name_of a n) ∙ ap unstub hang_n ∙ sym (ap (λ l. hang_by a l.parent l.by_stub) cut.of_n))

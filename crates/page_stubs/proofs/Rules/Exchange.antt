@@ -17,7 +17,7 @@ use Rattle.vm_ids.proofs.Forest.Cutting.{flip}
 use Rattle.vm_ids.proofs.Forest.Counters.{take_place-counters}
 use Rattle.vm_ids.proofs.Forest.TakingPlace.{subbed, taken-own, taken-tree, taken-stubs, hang_w, hang_y, hang_other, taken-linked}
 use Rattle.local_cache.specs.declared.own_state.OwnState.{OwnState}
-use Rattle.local_cache.specs.Arena.{Arena, cell, IsHeld}
+use Rattle.local_cache.specs.Arena.{Arena, cell, HasNode}
 use Rattle.local_cache.specs.Reading.{name_of, forest_of, hang_by, stubs_of, page_of}
 use Rattle.local_cache.specs.Threads.{head_or, last_or, IsStub, IsThreaded}
 use Rattle.local_cache.specs.Sound.{IsSound, IsKept, ◌∈◌}
@@ -57,15 +57,15 @@ place-linked f linked w y root bare clear =
 
 -- Names -----------------------------------------------------------------------------
 
-module _ (a : Arena) (kept : IsKept a) (w y : NodeId) (hw : IsHeld a w) where
-  renamed-map : (ys : List NodeId) → ((m : NodeId) → m ∈ ys → IsHeld a m) → (w ∈ ys → ⊥) → map (renamed (name_of a w) (name_of a y)) (map (name_of a) ys) ≡ map (name_of a) ys
+module _ (a : Arena) (kept : IsKept a) (w y : NodeId) (hw : HasNode a w) where
+  renamed-map : (ys : List NodeId) → ((m : NodeId) → m ∈ ys → HasNode a m) → (w ∈ ys → ⊥) → map (renamed (name_of a w) (name_of a y)) (map (name_of a) ys) ≡ map (name_of a) ys
   renamed-map [] all out = refl
   renamed-map (z ∷ ys) all out =
       let apart : name_of a w ≢ name_of a z = λ e. out (inl (kept.named.apart w z hw (all z (inl refl)) e)) in
       ap (λ b. cond b (name_of a y) (name_of a z) ∷ map (renamed (name_of a w) (name_of a y)) (map (name_of a) ys)) (same_apart (name_of a w) (name_of a z) apart)
       ∙ ap (λ zs. name_of a z ∷ zs) (renamed-map ys (λ m j. all m (inr j)) (λ i. out (inr i)))
 
-  renamed-split : (us vs : List NodeId) → ((m : NodeId) → m ∈ (us ++ w ∷ vs) → IsHeld a m) → Once (us ++ w ∷ vs) → map (renamed (name_of a w) (name_of a y)) (map (name_of a) (us ++ w ∷ vs)) ≡ map (name_of a) (us ++ y ∷ vs)
+  renamed-split : (us vs : List NodeId) → ((m : NodeId) → m ∈ (us ++ w ∷ vs) → HasNode a m) → Once (us ++ w ∷ vs) → map (renamed (name_of a w) (name_of a y)) (map (name_of a) (us ++ w ∷ vs)) ≡ map (name_of a) (us ++ y ∷ vs)
   renamed-split [] vs all once =
       ap (λ b. cond b (name_of a y) (name_of a w) ∷ map (renamed (name_of a w) (name_of a y)) (map (name_of a) vs)) (same_itself (name_of a w))
       ∙ ap (λ zs. name_of a y ∷ zs) (renamed-map vs (λ m j. all m (inr j)) once.0)
@@ -81,7 +81,7 @@ pub record HasPlace (a c : Arena) (w y : NodeId) : Type 0 where
   pub sound : IsSound c
   pub links : Relinked a c
 
-module _ (a : Arena) (sound : IsSound a) (w y p : NodeId) (hw : IsHeld a w) (hy : IsHeld a y) (root : (node (forest_of a) (name_of a y)).hang ≡ Root) (bare : (node (forest_of a) (name_of a y)).own ≡ None)
+module _ (a : Arena) (sound : IsSound a) (w y p : NodeId) (hw : HasNode a w) (hy : HasNode a y) (root : (node (forest_of a) (name_of a y)).hang ≡ Root) (bare : (node (forest_of a) (name_of a y)).own ≡ None)
     (clear : IsUnder (forest_of a) (name_of a w) (name_of a y) → ⊥) (up : (cell a w).links.parent ≡ Some p) (by : (cell a w).links.by_stub ≡ true) where
   abbrev f : Forest OwnState
   f = forest_of a
@@ -89,7 +89,7 @@ module _ (a : Arena) (sound : IsSound a) (w y p : NodeId) (hw : IsHeld a w) (hy 
   kept : IsKept a
   kept = sound.kept
 
-  hp : IsHeld a p
+  hp : HasNode a p
   hp = sound.kept.parents w p hw up
 
   y_w : y ≢ w
@@ -107,7 +107,7 @@ module _ (a : Arena) (sound : IsSound a) (w y p : NodeId) (hw : IsHeld a w) (hy 
   ids_p : (node f (name_of a p)).stubs ≡ map (name_of a) (stubs_of a p)
   ids_p = ap (λ m. m.stubs) (node-forest_of a sound.kept.named p hp)
 
-  held_in : (m : NodeId) → m ∈ stubs_of a p → IsHeld a m
+  held_in : (m : NodeId) → m ∈ stubs_of a p → HasNode a m
   held_in m i = (row-each a p None (stubs_of a p) None (sound.kept.threaded p hp).row m i).0
 
   in_list : w ∈ stubs_of a p
@@ -123,7 +123,7 @@ module _ (a : Arena) (sound : IsSound a) (w y p : NodeId) (hw : IsHeld a w) (hy 
     at_w : IsStub a p (last_or us None) w (head_or vs None)
     at_w = (row-rear a p None us (w ∷ vs) None t.row).0
 
-    all_held : (m : NodeId) → m ∈ (us ++ w ∷ vs) → IsHeld a m
+    all_held : (m : NodeId) → m ∈ (us ++ w ∷ vs) → HasNode a m
     all_held m i = (row-each a p None (us ++ w ∷ vs) None t.row m i).0
 
     before_held : IsHeldIf a (cell a w).links.before
@@ -136,13 +136,13 @@ module _ (a : Arena) (sound : IsSound a) (w y p : NodeId) (hw : IsHeld a w) (hy 
       list_p : IsThreaded c p (us ++ y ∷ vs)
       list_p = threaded_with a c w y p us vs hy y_root t once swap
 
-      list_other : (m : NodeId) → IsHeld a m → m ≢ p → IsThreaded c m (stubs_of a m)
+      list_other : (m : NodeId) → HasNode a m → m ≢ p → IsThreaded c m (stubs_of a m)
       list_other m hm np = threaded_beside a c w y p us vs hy y_root t once swap m (stubs_of a m) np (sound.kept.threaded m hm)
 
       by_list : (m : NodeId) (zs : List NodeId) → IsThreaded c m zs → IsThreaded c m (stubs_of c m)
       by_list m zs s = subst (IsThreaded c m) (sym (threaded_is c m zs s)) s
 
-      lists : (m : NodeId) → IsHeld a m → IsThreaded c m (stubs_of c m)
+      lists : (m : NodeId) → HasNode a m → IsThreaded c m (stubs_of c m)
       lists m hm = elim (id_cases m p) [
         | inl e ↦ subst (λ k. IsThreaded c k (stubs_of c k)) (sym e) (by_list p _ list_p)
         | inr np ↦ by_list m _ (list_other m hm np)
@@ -154,7 +154,7 @@ module _ (a : Arena) (sound : IsSound a) (w y p : NodeId) (hw : IsHeld a w) (hy 
       abbrev StubsAre : NodeId → Type 0
       StubsAre m = cond (same (name_of a p) (name_of a m)) (map (renamed (name_of a w) (name_of a y)) (map (name_of a) (stubs_of a m))) (map (name_of a) (stubs_of a m)) ≡ map (name_of a) (stubs_of c m)
 
-      stubs_column : (m : NodeId) → IsHeld a m → (node g (name_of a m)).stubs ≡ map (name_of a) (stubs_of c m)
+      stubs_column : (m : NodeId) → HasNode a m → (node g (name_of a m)).stubs ≡ map (name_of a) (stubs_of c m)
       stubs_column m hm =
           taken-stubs f sound.linked (name_of a w) (name_of a y) names_apart root (name_of a m)
           ∙ ap (λ h. subbed (name_of a w) (name_of a y) h (name_of a m) (node f (name_of a m)).stubs) hang_is
@@ -169,7 +169,7 @@ module _ (a : Arena) (sound : IsSound a) (w y p : NodeId) (hw : IsHeld a w) (hy 
                 ∙ ap (map (name_of a)) (sym (threaded_is c m _ (list_other m hm np)))
           ]
 
-      tree_column : (m : NodeId) → IsHeld a m → (node g (name_of a m)).tree ≡ map (name_of a) (cell c m).tree
+      tree_column : (m : NodeId) → HasNode a m → (node g (name_of a m)).tree ≡ map (name_of a) (cell c m).tree
       tree_column m hm =
           taken-tree f sound.linked (name_of a w) (name_of a y) names_apart root (name_of a m)
           ∙ ap (λ h. subbed (name_of a w) (name_of a y) (flip h) (name_of a m) (node f (name_of a m)).tree) hang_is
@@ -179,7 +179,7 @@ module _ (a : Arena) (sound : IsSound a) (w y p : NodeId) (hw : IsHeld a w) (hy 
       abbrev HangIs : NodeId → Type 0
       HangIs m = (node g (name_of a m)).hang ≡ hang_by a (cell c m).links.parent (cell c m).links.by_stub
 
-      hang_column : (m : NodeId) → IsHeld a m → HangIs m
+      hang_column : (m : NodeId) → HasNode a m → HangIs m
       hang_column m hm = elim (id_cases m w) [
         | inl e ↦ subst HangIs (sym e) (hang_w f sound.linked (name_of a w) (name_of a y) names_apart root ∙ sym (ap (λ o. hang_by a o (cell c w).links.by_stub) swap.w_parent))
         | inr nw ↦ elim (id_cases m y) [
@@ -206,7 +206,7 @@ module _ (a : Arena) (sound : IsSound a) (w y p : NodeId) (hw : IsHeld a w) (hy 
         parents = λ m q hm u. elim (id_cases m w) [
           | inl e ↦ absurd (let none : Some q ≡ None = sym u ∙ ap (λ k. (cell c k).links.parent) e ∙ swap.w_parent in cc none)
           | inr nw ↦ elim (id_cases m y) [
-            | inl e ↦ (let two : Some p ≡ Some q = sym swap.y_parent ∙ ap (λ k. (cell c k).links.parent) (sym e) ∙ u in let is : p ≡ q = cc two in subst (IsHeld a) is hp)
+            | inl e ↦ (let two : Some p ≡ Some q = sym swap.y_parent ∙ ap (λ k. (cell c k).links.parent) (sym e) ∙ u in let is : p ≡ q = cc two in subst (HasNode a) is hp)
             | inr ny ↦ sound.kept.parents m q hm (sym (swap.parent m nw ny) ∙ u)
           ]
         ];

@@ -13,7 +13,7 @@ use Rattle.vm_ids.proofs.Forest.Counters.{hand_stubs-counters}
 use Rattle.vm_ids.proofs.Forest.Handing.{handed_cases, hand_stubs-by_rank}
 use Rattle.vm_ids.proofs.Forest.NamesAfter.{hand_stubs-names}
 use Rattle.local_cache.specs.declared.own_state.OwnState.{OwnState}
-use Rattle.local_cache.specs.Arena.{Arena, cell, IsHeld}
+use Rattle.local_cache.specs.Arena.{Arena, cell, HasNode}
 use Rattle.local_cache.specs.Reading.{name_of, forest_of, hang_by, stubs_of, page_of}
 use Rattle.local_cache.specs.Threads.{IsThreaded}
 use Rattle.local_cache.specs.Sound.{IsSound, IsKept, ◌∈◌}
@@ -48,7 +48,7 @@ module _ {P : Type 0} (f : Forest P) (linked : IsLinked f) (x h : NodeName) (apa
 -- The caches ------------------------------------------------------------------------
 
 -- the names of a node's stubs stand once
-pub once_stubs : (a : Arena) → IsKept a → IsLinked (forest_of a) → (n : NodeId) → IsHeld a n → Once (stubs_of a n)
+pub once_stubs : (a : Arena) → IsKept a → IsLinked (forest_of a) → (n : NodeId) → HasNode a n → Once (stubs_of a n)
 once_stubs a kept linked n h = once-map a (stubs_of a n) (subst names.Once (ap (λ m. m.stubs) (node-forest_of a kept.named n h)) (linked.once (name_of a n)).1)
 
 pub record HasHanded (a c : Arena) (from to : NodeId) : Type 0 where
@@ -56,7 +56,7 @@ pub record HasHanded (a c : Arena) (from to : NodeId) : Type 0 where
   pub sound : IsSound c
   pub links : Relinked a c
 
-module _ (a c : Arena) (sound : IsSound a) (from to : NodeId) (hf : IsHeld a from) (ht : IsHeld a to) (apart : to ≢ from)
+module _ (a c : Arena) (sound : IsSound a) (from to : NodeId) (hf : HasNode a from) (ht : HasNode a to) (apart : to ≢ from)
     (clear : (y : NodeName) → names.◌∈◌ y (node (forest_of a) (name_of a from)).stubs → IsUnder (forest_of a) (name_of a to) y → ⊥)
     (join : Joined a c from to (stubs_of a from) (stubs_of a to)) where
   abbrev f : Forest OwnState
@@ -80,7 +80,7 @@ module _ (a c : Arena) (sound : IsSound a) (from to : NodeId) (hf : IsHeld a fro
   ids_to : (node f h).stubs ≡ map (name_of a) (stubs_of a to)
   ids_to = ap (λ m. m.stubs) (node-forest_of a sound.kept.named to ht)
 
-  each : (m : NodeId) → m ∈ stubs_of a from → IsHeld a m × ((cell a m).links.parent ≡ Some from) × ((cell a m).links.by_stub ≡ true)
+  each : (m : NodeId) → m ∈ stubs_of a from → HasNode a m × ((cell a m).links.parent ≡ Some from) × ((cell a m).links.by_stub ≡ true)
   each m i = row-each a from None (stubs_of a from) None (sound.kept.threaded from hf).row m i
 
   once_from : Once (stubs_of a from)
@@ -95,13 +95,13 @@ module _ (a c : Arena) (sound : IsSound a) (from to : NodeId) (hf : IsHeld a fro
   list_from : IsThreaded c from []
   list_from = threaded_from a c from to apart (stubs_of a from) (stubs_of a to) (sound.kept.threaded from hf) (sound.kept.threaded to ht) once_from once_to join
 
-  list_other : (m : NodeId) → IsHeld a m → m ≢ to → m ≢ from → IsThreaded c m (stubs_of a m)
+  list_other : (m : NodeId) → HasNode a m → m ≢ to → m ≢ from → IsThreaded c m (stubs_of a m)
   list_other m hm nt nf = threaded_other a c from to apart (stubs_of a from) (stubs_of a to) (sound.kept.threaded from hf) (sound.kept.threaded to ht) once_from once_to join m (stubs_of a m) nt nf (sound.kept.threaded m hm)
 
   by_list : (m : NodeId) (us : List NodeId) → IsThreaded c m us → IsThreaded c m (stubs_of c m)
   by_list m us t = subst (IsThreaded c m) (sym (threaded_is c m us t)) t
 
-  lists : (m : NodeId) → IsHeld a m → IsThreaded c m (stubs_of c m)
+  lists : (m : NodeId) → HasNode a m → IsThreaded c m (stubs_of c m)
   lists m hm = elim (id_cases m to) [
     | inl e ↦ subst (λ k. IsThreaded c k (stubs_of c k)) (sym e) (by_list to _ list_to)
     | inr nt ↦ elim (id_cases m from) [
@@ -113,7 +113,7 @@ module _ (a c : Arena) (sound : IsSound a) (from to : NodeId) (hf : IsHeld a fro
   abbrev StubsAre : NodeId → Type 0
   StubsAre m = (node (hand_stubs f x h) (name_of a m)).stubs ≡ map (name_of a) (stubs_of c m)
 
-  stubs_column : (m : NodeId) → IsHeld a m → StubsAre m
+  stubs_column : (m : NodeId) → HasNode a m → StubsAre m
   stubs_column m hm = elim (id_cases m to) [
     | inl e ↦ subst StubsAre (sym e)
         (hand_stubs-stubs_to f x h names_apart ∙ (λ i. ids_to i ++ ids_from i) ∙ sym (map-append (name_of a) (stubs_of a to) (stubs_of a from)) ∙ ap (map (name_of a)) (sym (threaded_is c to _ list_to)))
@@ -125,7 +125,7 @@ module _ (a c : Arena) (sound : IsSound a) (from to : NodeId) (hf : IsHeld a fro
     ]
   ]
 
-  hang_column : (m : NodeId) → IsHeld a m → (node (hand_stubs f x h) (name_of a m)).hang ≡ hang_by a (cell c m).links.parent (cell c m).links.by_stub
+  hang_column : (m : NodeId) → HasNode a m → (node (hand_stubs f x h) (name_of a m)).hang ≡ hang_by a (cell c m).links.parent (cell c m).links.by_stub
   hang_column m hm = elim (in_ids (stubs_of a from) m) [
     | inl i ↦ hand_stubs-hang f x h (name_of a m) (subst (λ zs. names.◌∈◌ (name_of a m) zs) (sym ids_from) (in_map a (stubs_of a from) m i))
         ∙ sym (ap (λ o. hang_by a o (cell c m).links.by_stub) (join.parent_in m i) ∙ ap (hang_by a (Some to)) (join.by_stub m ∙ (each m i).2))
@@ -147,14 +147,14 @@ module _ (a c : Arena) (sound : IsSound a) (from to : NodeId) (hf : IsHeld a fro
     tree = λ m hm. hand_stubs-tree f x h (name_of a m) ∙ ap (λ k. k.tree) (node-forest_of a sound.kept.named m hm) ∙ ap (map (name_of a)) (sym (join.links.tree m));
     stubs = stubs_column;
     parents = λ m q hm up. elim (in_ids (stubs_of a from) m) [
-      | inl i ↦ (let two : Some to ≡ Some q = sym (join.parent_in m i) ∙ up in let same : to ≡ q = cc two in subst (IsHeld a) same ht)
+      | inl i ↦ (let two : Some to ≡ Some q = sym (join.parent_in m i) ∙ up in let same : to ≡ q = cc two in subst (HasNode a) same ht)
       | inr out ↦ sound.kept.parents m q hm (sym (join.parent_out m out) ∙ up)
     ];
     children = λ m k hm i. sound.kept.children m k hm (subst (λ ts. k ∈ ts) (join.links.tree m) i);
     linked = cleared-linked f sound.linked x h names_apart clear;
   }
     where
-      from_map : (ys : List NodeId) → ((m : NodeId) → m ∈ ys → IsHeld a m) → (y : NodeName) → names.◌∈◌ y (map (name_of a) ys) → IsNode f y
+      from_map : (ys : List NodeId) → ((m : NodeId) → m ∈ ys → HasNode a m) → (y : NodeName) → names.◌∈◌ y (map (name_of a) ys) → IsNode f y
       from_map [] all y i = absurd i
       from_map (z ∷ ys) all y (inl e) = subst (IsNode f) (sym e) (IsNode-forest_of a sound.kept.named z (all z (inl refl)))
       from_map (z ∷ ys) all y (inr i) = from_map ys (λ m j. all m (inr j)) y i

@@ -22,7 +22,7 @@ use Rattle.local_cache.proofs.Nodes.Slots.{tied}
 use Rattle.local_cache.specs.declared.own_state.OwnState.TheVariants.{OnSegment}
 use Rattle.local_cache.specs.Arena.{IsMade, entry_for, new_table, page_count}
 use Rattle.local_cache.specs.Whole as whole
-use Rattle.vm_model.specs.declared.limits.TheConstants.{LIVE_PAGES, MADE}
+use Rattle.vm_model.specs.declared.limits.TheConstants.{LIVE_PAGES, MOST_MADE}
 use Rattle.vm_model.specs.Answering.{opened, reply}
 use Rattle.vm_model.specs.Machine.{Cache, Machine, Page, zero_page}
 use Rattle.vm_model.specs.Outcome.{HasWholePages, IsWhole, OutcomeAt}
@@ -136,7 +136,7 @@ module _ (p q : Manager) (h : Option Held) (cache : CacheId) (seg : SegId) (n : 
   number_by : (f : _) → cache.0 ≡ length (machine_by p f).caches + 1
   number_by f = omega (arith, made.number, shown_made f 1 p.caches.caches)
 
-  module _ (nodes_whole : whole.IsWhole p.caches) (live : ℕ) (is : live ≡ sum_by page_count p.caches.caches) (few : length p.caches.caches < MADE) (room : live + n ≤ LIVE_PAGES) (free : IsOpened p.caches seg → ⊥) where
+  module _ (nodes_whole : whole.IsWhole p.caches) (live : ℕ) (is : live ≡ sum_by page_count p.caches.caches) (few : length p.caches.caches < MOST_MADE) (room : live + n ≤ LIVE_PAGES) (free : IsOpened p.caches seg → ⊥) where
     outcome : OutcomeAt (segments_of h) (machine_of p h) (Some (forest_of p h)) (commands.OpenSegment seg) (Ok (replies.Cache cache)) (machine_of q h) no_counts
     outcome = go h refl
       where

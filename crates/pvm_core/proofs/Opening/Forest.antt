@@ -14,7 +14,7 @@ use Rattle.vm_ids.proofs.Forest.Names.{name_cases}
 use Rattle.vm_ids.proofs.Forest.NodesAfter.{IsNode-put_cases, node-put, node-put_other}
 use Rattle.vm_ids.proofs.Forest.PageMap.{put-map}
 use Rattle.local_cache.specs.declared.own_state.OwnState.{OwnState}
-use Rattle.local_cache.specs.Arena.{Arena, HasPage, IsHeld, blank, cell, find, new_cell}
+use Rattle.local_cache.specs.Arena.{Arena, HasPage, HasNode, blank, cell, find, new_cell}
 use Rattle.local_cache.specs.Reading as arena
 use Rattle.local_cache.specs.Reading.{name_of}
 use Rattle.local_cache.specs.Sound.{IsSound}
@@ -68,22 +68,22 @@ module _ {P : Type 0} (v : NodeName → P) (f : Forest P) where
 
 -- The nodes of a new cache ----------------------------------------------------------------------
 
-module _ (h : Option Held) (a b : Arena) (s : Store) (cache : CacheId) (n : ℕ) (own : OwnState) (v : NodeName → Option (List ℕ)) (has : (page : ℕ) → page < n → HasPage b cache page own) (stays : (m : NodeId) → IsHeld a m → find b m ≡ find a m)
+module _ (h : Option Held) (a b : Arena) (s : Store) (cache : CacheId) (n : ℕ) (own : OwnState) (v : NodeName → Option (List ℕ)) (has : (page : ℕ) → page < n → HasPage b cache page own) (stays : (m : NodeId) → HasNode a m → find b m ≡ find a m)
     (new_page : (m : NodeId) (page : ℕ) → page < n → find b m ≡ Some (new_cell (page_name cache page) own) → own_page (world h None b s) m ≡ Some (v (page_name cache page)))
-    (page_stays : (m : NodeId) → IsHeld a m → own_page (world h None b s) m ≡ own_page (world h None a s) m)
+    (page_stays : (m : NodeId) → HasNode a m → own_page (world h None b s) m ≡ own_page (world h None a s) m)
     (forest : arena.forest_of b ≡ make (map (λ x. (x, own)) (page_names cache 0 n)) (arena.forest_of a)) (sound : IsSound a) (then : IsSound b) (fresh : (x : NodeName) → x ∈ page_names cache 0 n → IsNode (arena.forest_of a) x → ⊥) where
-  cell_stays : (m : NodeId) → IsHeld a m → cell b m ≡ cell a m
+  cell_stays : (m : NodeId) → HasNode a m → cell b m ≡ cell a m
   unfolding cell
   cell_stays m k = ap (λ o. unwrap_or o blank) (stays m k)
 
-  held_stays : (m : NodeId) → IsHeld a m → IsHeld b m
+  held_stays : (m : NodeId) → HasNode a m → HasNode b m
   held_stays m k = ap is_some (stays m k) ∙ k
 
   of_cell : (m : NodeId) (x : NodeName) → find b m ≡ Some (new_cell x own) → name_of b m ≡ x
   unfolding cell
   of_cell m x e = ap (λ o. (unwrap_or o blank).name) e
 
-  new_own : (m : NodeId) → IsHeld b m → name_of b m ∈ page_names cache 0 n → own_page (world h None b s) m ≡ Some (v (name_of b m))
+  new_own : (m : NodeId) → HasNode b m → name_of b m ∈ page_names cache 0 n → own_page (world h None b s) m ≡ Some (v (name_of b m))
   new_own m k i =
       let at = (ranges_hold_their_pages cache 0 n (name_of b m)).0 i in
       let low : 0 + at.0 < n = omega (arith, at.1) in
@@ -92,13 +92,13 @@ module _ (h : Option Held) (a b : Arena) (s : Store) (cache : CacheId) (n : ℕ)
       subst (λ (m : NodeId). own_page (world h None b s) m ≡ Some (v (name_of b m))) (then.kept.named.apart p.node m (ap is_some p.is) k (name ∙ sym at.2))
       (new_page p.node (0 + at.0) low p.is ∙ ap (λ x. Some (v x)) (sym name))
 
-  own_made : (m : NodeId) → IsHeld b m → own_page (world h None b s) m ≡ (node (make (with_pages v (page_names cache 0 n)) (store_forest (world h None a s))) (name_of b m)).own
+  own_made : (m : NodeId) → HasNode b m → own_page (world h None b s) m ≡ (node (make (with_pages v (page_names cache 0 n)) (store_forest (world h None a s))) (name_of b m)).own
   own_made m k = elim (make_cases (λ _. own) (arena.forest_of a) (page_names cache 0 n) (name_of b m) (subst (λ f. IsNode f (name_of b m)) forest (IsNode-forest_of b then.kept.named m k))) [
     | inl i ↦ new_own m k i ∙ sym (make_here v (store_forest (world h None a s)) (page_names cache 0 n) (name_of b m) i)
     | inr is ↦ (
         let f = forest_of-IsNode a (name_of b m) is in
         let same : f.0 ≡ m = then.kept.named.apart f.0 m (held_stays f.0 f.1) k (ap (λ c. c.name) (cell_stays f.0 f.1) ∙ f.2) in
-        let was : IsHeld a m = subst (IsHeld a) same f.1 in
+        let was : HasNode a m = subst (HasNode a) same f.1 in
         page_stays m was ∙ sym (store_page (world h None a s) sound m was) ∙ ap (λ x. (node (store_forest (world h None a s)) x).own) (sym (ap (λ c. c.name) (cell_stays m was)))
         ∙ sym (ap (λ k. k.own) (make_other v (store_forest (world h None a s)) (page_names cache 0 n) (name_of b m) (λ i. fresh (name_of b m) i is))))
   ]

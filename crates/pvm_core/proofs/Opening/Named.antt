@@ -23,7 +23,7 @@ use Rattle.local_cache.proofs.NewCache.Whole.{fresh, named_alike, pages_with}
 use Rattle.local_cache.proofs.Nodes.Count.{forest_len}
 use Rattle.residency.specs.declared.store.Store.{Store}
 use Rattle.residency.specs.World.{world}
-use Rattle.vm_model.specs.declared.limits.TheConstants.{LIVE_PAGES, MADE}
+use Rattle.vm_model.specs.declared.limits.TheConstants.{LIVE_PAGES, MOST_MADE}
 use Rattle.vm_model.specs.Run.{AnswerIs}
 use Rattle.contexts.specs.Actors.{Actors}
 use Rattle.pvm_core.specs.Manager.{IsSound, IsValid, Manager, forest_of, state_at}
@@ -76,6 +76,6 @@ module _ (b d : Arena) (u : Store) (t : Actors) (live n : ℕ) (cache : CacheId)
       whole = whole_opened (seen b u t) (seen d u t) h cache seg n nodes size made i.actors.some has (followed_of (seen b u t) h i.nodes i.actors.some v.whole) forest_now (refl, refl, refl, refl) v.whole;
     }
 
-    pub named_answer : length b.caches < MADE → AnswerIs (state_at (seen b u t) h) (commands.OpenSegment seg) (Ok (replies.Cache cache)) [] no_counts (state_at (seen d u t) h)
+    pub named_answer : length b.caches < MOST_MADE → AnswerIs (state_at (seen b u t) h) (commands.OpenSegment seg) (Ok (replies.Cache cache)) [] no_counts (state_at (seen d u t) h)
     named_answer low = answer_opened (seen b u t) (seen d u t) h cache seg n nodes size made i.actors.some has (followed_of (seen b u t) h i.nodes i.actors.some v.whole) forest_now (refl, refl, refl, refl)
         i.nodes live i.counted low few free v.whole

@@ -13,7 +13,7 @@ use Rattle.vm_ids.specs.declared.reply.FaultAt.TheVariants as faults
 use Rattle.vm_ids.specs.declared.reply.Trouble.TheVariants as troubles
 use Rattle.local_cache.specs.Arena.{page_count}
 use Rattle.local_cache.specs.Whole as whole
-use Rattle.vm_model.specs.declared.limits.TheConstants.{LIVE_PAGES, MADE}
+use Rattle.vm_model.specs.declared.limits.TheConstants.{LIVE_PAGES, MOST_MADE}
 use Rattle.vm_model.specs.Answering.{Answer, open_of}
 use Rattle.vm_model.specs.Asking.{ReachesMapper}
 use Rattle.vm_model.specs.Following.{forest_after}
@@ -62,7 +62,7 @@ stayed p q h command answer rises valid forest stays reaches synchronised outcom
   whole = as_segments (HasWholePages (machine_of q h)) h valid.whole;
 }
 
-module _ (p : Manager) (f : PageForest) (seg : SegId) (free : IsOpened p.caches seg → ⊥) (few : length p.caches.caches < MADE) where
+module _ (p : Manager) (f : PageForest) (seg : SegId) (free : IsOpened p.caches seg → ⊥) (few : length p.caches.caches < MOST_MADE) where
   abbrev not_named : (n : ℕ) → whole.segment_of p.caches n ≡ Some (Some seg) → ⊥
   not_named n e = free (n, e)
 
@@ -76,7 +76,7 @@ module _ (p : Manager) (f : PageForest) (seg : SegId) (free : IsOpened p.caches 
         | inr room ↦ subst (λ a. NotRefusedButFor faults.Opening a.answer) (sym (open_row p f seg not_named few pages live refl room)) tt
       ]
 
-module _ (p q : Manager) (h : Option Held) (seg : SegId) (n : ℕ) (free : IsOpened p.caches seg → ⊥) (few : length p.caches.caches < MADE) (has : HasSegment h seg p.page_bytes n) (nodes : whole.IsWhole p.caches) (then : whole.IsWhole q.caches) (valid : IsValid q h) (forest : forest_of q h ≡ forest_of p h)
+module _ (p q : Manager) (h : Option Held) (seg : SegId) (n : ℕ) (free : IsOpened p.caches seg → ⊥) (few : length p.caches.caches < MOST_MADE) (has : HasSegment h seg p.page_bytes n) (nodes : whole.IsWhole p.caches) (then : whole.IsWhole q.caches) (valid : IsValid q h) (forest : forest_of q h ≡ forest_of p h)
     (by : (f : PageForest) → machine_by q f ≡ machine_by p f) (live : ℕ) (is : live ≡ sum_by page_count p.caches.caches) where
   machine : machine_of q h ≡ machine_of p h
   machine = ap (machine_by q) forest ∙ by (forest_of p h)

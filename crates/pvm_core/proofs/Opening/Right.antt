@@ -11,7 +11,7 @@ use Rattle.vm_ids.specs.declared.numbers.SegId.{SegId}
 use Rattle.local_cache.specs.declared.home.Home.{Home}
 use Rattle.local_cache.specs.declared.own_state.OwnState.{OwnState}
 use Rattle.local_cache.specs.declared.own_state.OwnState.TheVariants.{OnSegment}
-use Rattle.local_cache.specs.Arena.{Arena, Cell, HasPage, IsHeld, IsMade, Table, blank, cell, find, new_cell, table_at, table_of}
+use Rattle.local_cache.specs.Arena.{Arena, Cell, HasPage, HasNode, IsMade, Table, blank, cell, find, new_cell, table_at, table_of}
 use Rattle.local_cache.specs.Home.{home_named, home_of}
 use Rattle.local_cache.specs.Own.{is_in_slot, is_resident, is_slot, own_of, own_states}
 use Rattle.local_cache.specs.Reading.{name_of}

@@ -8,7 +8,7 @@ use Rattle.vm_ids.specs.declared.refusal.Refusal.TheVariants as refusals
 use Rattle.vm_ids.specs.declared.reply.Reply.TheVariants as replies
 use Rattle.local_cache.specs.Arena.{Table, page_count, table_at}
 use Rattle.local_cache.specs.Whole.{segment_of}
-use Rattle.vm_model.specs.declared.limits.TheConstants.{LIVE_PAGES, MADE}
+use Rattle.vm_model.specs.declared.limits.TheConstants.{LIVE_PAGES, MOST_MADE}
 use Rattle.vm_model.specs.Answering.{open_of, opened, refuse, reply, unless, with_some}
 use Rattle.vm_model.specs.Machine.{Cache, Page, cache_named, is_named_by, live_pages}
 use Rattle.vm_model.specs.PageForest.{PageForest}
@@ -76,16 +76,16 @@ module _ (p : Manager) (f : PageForest) (seg : SegId) where
   in_use held n e = (let is = named_at n e in rw is refl)
 
   module _ (free : (n : ℕ) → segment_of p.caches n ≡ Some (Some seg) → ⊥) where
-    pub many_made : (held : Option (List Page)) → MADE ≤ length p.caches.caches → open_of (machine_by p f) seg.0 held ≡ refuse (machine_by p f) refusals.TooMany
+    pub many_made : (held : Option (List Page)) → MOST_MADE ≤ length p.caches.caches → open_of (machine_by p f) seg.0 held ≡ refuse (machine_by p f) refusals.TooMany
     unfolding open_of unless
     many_made held e =
         let out = unnamed free in
-        let many = most MADE (length (machine_by p f).caches) (omega (arith, e, count)) in
+        let many = most MOST_MADE (length (machine_by p f).caches) (omega (arith, e, count)) in
         rw (out, many) refl
 
-    module _ (low : length p.caches.caches < MADE) where
-      few : nat_le MADE (length (machine_by p f).caches) ≡ false
-      few = not_most MADE (length (machine_by p f).caches) (omega (arith, low, count))
+    module _ (low : length p.caches.caches < MOST_MADE) where
+      few : nat_le MOST_MADE (length (machine_by p f).caches) ≡ false
+      few = not_most MOST_MADE (length (machine_by p f).caches) (omega (arith, low, count))
 
       pub none_held : open_of (machine_by p f) seg.0 None ≡ refuse (machine_by p f) refusals.NoSegment
       unfolding open_of unless with_some

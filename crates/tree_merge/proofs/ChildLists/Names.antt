@@ -15,7 +15,7 @@ use Rattle.vm_ids.proofs.Forest.Fitting.{parent_cases}
 use Rattle.vm_ids.proofs.Forest.SettleStep.{none_in}
 use Rattle.vm_ids.proofs.Forest.Cutting.{cut-hang, cut-hang_other}
 use Rattle.vm_ids.specs.declared.numbers.NodeId.{NodeId}
-use Rattle.local_cache.specs.Arena.{Arena, cell, IsHeld}
+use Rattle.local_cache.specs.Arena.{Arena, cell, HasNode}
 use Rattle.local_cache.specs.Reading.{name_of, forest_of, stubs_of}
 use Rattle.local_cache.specs.Sound.{IsSound, ◌∈◌}
 use Rattle.local_cache.specs.Threads.{head_or}
@@ -69,7 +69,7 @@ module _ {P : Type 0} (f : Forest P) (linked : IsLinked f) where
 
 -- Of the caches ----------------------------------------------------------------------
 
-module _ (a : Arena) (sound : IsSound a) (n : NodeId) (hn : IsHeld a n) where
+module _ (a : Arena) (sound : IsSound a) (n : NodeId) (hn : HasNode a n) where
   tree_is : (node (forest_of a) (name_of a n)).tree ≡ map (name_of a) (cell a n).tree
   tree_is = ap (λ m. m.tree) (node-forest_of a sound.kept.named n hn)
 
@@ -106,10 +106,10 @@ module _ (a : Arena) (sound : IsSound a) (n : NodeId) (hn : IsHeld a n) where
       go (t ∷ ts) ss o e = refl
 
   -- the first child is a node that hangs on this one
-  pub first_child_up : (y : NodeId) → Some y ≡ first_child a n → IsHeld a y × (parent (forest_of a) (name_of a y) ≡ Some (name_of a n))
+  pub first_child_up : (y : NodeId) → Some y ≡ first_child a n → HasNode a y × (parent (forest_of a) (name_of a y) ≡ Some (name_of a n))
   first_child_up y e = go (cell a n).tree refl e
     where
-      go : (ts : List NodeId) → (cell a n).tree ≡ ts → Some y ≡ option_or (slice_get ts 0) (cell a n).links.first → IsHeld a y × (parent (forest_of a) (name_of a y) ≡ Some (name_of a n))
+      go : (ts : List NodeId) → (cell a n).tree ≡ ts → Some y ≡ option_or (slice_get ts 0) (cell a n).links.first → HasNode a y × (parent (forest_of a) (name_of a y) ≡ Some (name_of a n))
       go (t ∷ ts) is some =
           let same : t ≡ y = cc some in
           let in_tree : y ∈ (cell a n).tree = subst (λ xs. y ∈ xs) (sym is) (inl (sym same)) in

@@ -9,7 +9,7 @@ use Rattle.vm_ids.proofs.Forest.Names.{same_itself, same_apart}
 use Rattle.vm_ids.specs.Forest.NameLists.{renamed}
 use Rattle.vm_ids.specs.Forest.NameLists as names
 use Rattle.vm_ids.specs.declared.numbers.NodeId.{NodeId}
-use Rattle.local_cache.specs.Arena.{Arena, IsHeld}
+use Rattle.local_cache.specs.Arena.{Arena, HasNode}
 use Rattle.local_cache.specs.Reading.{name_of, IsNamed}
 use Rattle.local_cache.specs.Sound.{◌∈◌}
 use Rattle.local_cache.proofs.Changes.SameNodes.{id_cases}
@@ -51,11 +51,11 @@ exchanged-in n o (k ∷ ms) m i = elim (in_cons (in_place n o k) (exchanged n o 
   ]
 ]
 
-module _ (a : Arena) (named : IsNamed a) (n : NodeId) (hn : IsHeld a n) where
-  name_apart : (m : NodeId) → IsHeld a m → m ≢ n → same (name_of a n) (name_of a m) ≡ false
+module _ (a : Arena) (named : IsNamed a) (n : NodeId) (hn : HasNode a n) where
+  name_apart : (m : NodeId) → HasNode a m → m ≢ n → same (name_of a n) (name_of a m) ≡ false
   name_apart m hm ne = same_apart (name_of a n) (name_of a m) (λ e. ne (named.apart m n hm hn (sym e)))
 
-  pub without-names : (ms : List NodeId) → ((m : NodeId) → m ∈ ms → IsHeld a m) → map (name_of a) (exchanged n None ms) ≡ names.without (name_of a n) (map (name_of a) ms)
+  pub without-names : (ms : List NodeId) → ((m : NodeId) → m ∈ ms → HasNode a m) → map (name_of a) (exchanged n None ms) ≡ names.without (name_of a n) (map (name_of a) ms)
   without-names [] all = refl
   without-names (m ∷ ms) all =
       let rest = without-names ms (λ k i. all k (inr i)) in
@@ -67,7 +67,7 @@ module _ (a : Arena) (named : IsNamed a) (n : NodeId) (hn : IsHeld a n) where
             ∙ sym (ap (λ b. cond (not b) (name_of a m ∷ later) later) (name_apart m (all m (inl refl)) ne))
       ]
 
-  pub renamed-names : (y : NodeId) (ms : List NodeId) → ((m : NodeId) → m ∈ ms → IsHeld a m) → map (name_of a) (exchanged n (Some y) ms) ≡ map (renamed (name_of a n) (name_of a y)) (map (name_of a) ms)
+  pub renamed-names : (y : NodeId) (ms : List NodeId) → ((m : NodeId) → m ∈ ms → HasNode a m) → map (name_of a) (exchanged n (Some y) ms) ≡ map (renamed (name_of a n) (name_of a y)) (map (name_of a) ms)
   renamed-names y [] all = refl
   renamed-names y (m ∷ ms) all =
       let rest = renamed-names y ms (λ k i. all k (inr i)) in

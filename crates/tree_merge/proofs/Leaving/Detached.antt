@@ -10,7 +10,7 @@ use Rattle.vm_ids.specs.Forest.Changes.{put}
 use Rattle.vm_ids.specs.Forest.Rules.{detach, retire}
 use Rattle.local_cache.specs.declared.own_state.OwnState.{OwnState}
 use Rattle.local_cache.specs.declared.page_table.PageEntry.{PageEntry}
-use Rattle.local_cache.specs.Arena.{Arena, IsHeld, IsVacant, as_working, entry_at, find, node_at, tables_with, with_new}
+use Rattle.local_cache.specs.Arena.{Arena, HasNode, IsVacant, as_working, entry_at, find, node_at, tables_with, with_new}
 use Rattle.local_cache.specs.Reading.{name_of, forest_of, page_of}
 use Rattle.local_cache.specs.Sound.{IsSound}
 use Rattle.local_cache.proofs.NewNode.FreshNode.{page-forest, page-sound}
@@ -21,7 +21,7 @@ use Rattle.local_cache.proofs.Names.WorkingName.{room-as_working}
 
 -- the node of a page
 module _ (a : Arena) (sound : IsSound a) (cache : CacheId) (page : PageNo) (n : NodeId) (is : node_at a cache.0 page.0 ≡ Some n) where
-  pub page_held : IsHeld a n
+  pub page_held : HasNode a n
   page_held = (sound.kept.listed.nodes cache.0 page.0 n is).0
 
   pub page_name : name_of a n ≡ Live cache page

@@ -9,7 +9,7 @@ use Rattle.vm_ids.specs.Forest.Shape.{IsLinked}
 use Rattle.vm_ids.proofs.Forest.Cutting.{free-linked, cut-hang}
 use Rattle.vm_ids.specs.declared.numbers.NodeId.{NodeId}
 use Rattle.local_cache.specs.declared.own_state.OwnState.{OwnState}
-use Rattle.local_cache.specs.Arena.{Arena, Room, cell, find, IsHeld, without, blank, tables_with}
+use Rattle.local_cache.specs.Arena.{Arena, Room, cell, find, HasNode, without, blank, tables_with}
 use Rattle.local_cache.specs.Changes.{Like, Rehung}
 use Rattle.local_cache.specs.Own.{own_of}
 use Rattle.local_cache.specs.Reading.{name_of, forest_of}
@@ -75,7 +75,7 @@ pub record Freed (a c : Arena) (n : NodeId) (g : Forest OwnState) : Type 0 where
   pub owns : (m : NodeId) → m ≢ n → own_of c m ≡ own_of a m
 
 -- a node without parent and children goes
-module _ (a : Arena) (sound : IsSound a) (n : NodeId) (hn : IsHeld a n) (root : (node (forest_of a) (name_of a n)).hang ≡ Root) (none : HasNoChild (forest_of a) (name_of a n)) where
+module _ (a : Arena) (sound : IsSound a) (n : NodeId) (hn : HasNode a n) (root : (node (forest_of a) (name_of a n)).hang ≡ Root) (none : HasNoChild (forest_of a) (name_of a n)) where
   forest_is : forest_of (without a n) ≡ free (forest_of a) (name_of a n)
   forest_is = freed-forest a sound.kept n hn (loose a sound n hn root none)
 
@@ -94,7 +94,7 @@ module _ (a : Arena) (sound : IsSound a) (n : NodeId) (hn : IsHeld a n) (root : 
   free-Freed c is = subst (λ k. Freed a k n (free (forest_of a) (name_of a n))) (sym is) freed_here
 
 -- a node without children is cut off and goes
-pub drop-Freed : (a b c : Arena) → IsSound a → (n : NodeId) → IsHeld a n → child_count (forest_of a) (name_of a n) ≡ 0
+pub drop-Freed : (a b c : Arena) → IsSound a → (n : NodeId) → HasNode a n → child_count (forest_of a) (name_of a n) ≡ 0
     → forest_of b ≡ cut (forest_of a) (name_of a n) → IsSound b → Rehung a b → c ≡ without b n → Freed a c n (free (cut (forest_of a) (name_of a n)) (name_of a n))
 drop-Freed a b c sound n hn leaf forest_b sound_b r c_is =
     let f : Forest OwnState = forest_of a in

@@ -12,7 +12,7 @@ use Rattle.tree_merge.specs.Releasing.{IsRetired, OwnsAfter}
 use Rattle.tree_merge.specs.Staying.{IsGone}
 use Rattle.tree_merge.specs.declared.released.Released.{Released}
 use Rattle.tree_merge.specs.declared.released.Released.TheVariants.{Nothing, Dropped}
-use Rattle.local_cache.specs.Arena.{Arena, IsHeld, as_working}
+use Rattle.local_cache.specs.Arena.{Arena, HasNode, as_working}
 use Rattle.local_cache.specs.Own.{own_of}
 use Rattle.local_cache.specs.Reading.{name_of, forest_of}
 use Rattle.local_cache.specs.Sound.{IsSound}
@@ -36,7 +36,7 @@ retire_none {P} f x h =
     let by : ℕ → Forest P = λ n. elim n [ zero ↦ free (cut f x) x | suc m ↦ count_working (rename f x (Working (f.made + 1))) ] in
     ap by h
 
-module _ (a : Arena) (sound : IsSound a) (n : NodeId) (hn : IsHeld a n) (live : is_live (name_of a n) ≡ true) (children : 0 < child_count (forest_of a) (name_of a n)) where
+module _ (a : Arena) (sound : IsSound a) (n : NodeId) (hn : HasNode a n) (live : is_live (name_of a n) ≡ true) (children : 0 < child_count (forest_of a) (name_of a n)) where
   pub retired-forest : forest_of (as_working a n) ≡ retire (forest_of a) (name_of a n)
   retired-forest = working-forest a sound.kept n hn
       ∙ ap (λ k. count_working (rename (forest_of a) (name_of a n) (Working (k + 1)))) (sym (forest_of-made a))

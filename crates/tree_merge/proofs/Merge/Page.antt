@@ -12,7 +12,7 @@ use Rattle.vm_ids.proofs.Forest.Cutting.{put_page-linked}
 use Rattle.vm_ids.specs.declared.numbers.NodeId.{NodeId}
 use Rattle.local_cache.specs.declared.own_state.OwnState.{OwnState}
 use Rattle.local_cache.specs.declared.own_state.OwnState.TheVariants.{Absent, Zero, Resident, Slot, OnSegment}
-use Rattle.local_cache.specs.Arena.{Arena, cell, IsHeld, with_own}
+use Rattle.local_cache.specs.Arena.{Arena, cell, HasNode, with_own}
 use Rattle.local_cache.specs.Own.{is_absent, own_of}
 use Rattle.local_cache.specs.Reading.{name_of, forest_of, page_of}
 use Rattle.local_cache.specs.Sound.{IsSound}
@@ -67,7 +67,7 @@ pub record Passed (a b : Arena) (g : Forest OwnState) (released : Released) : Ty
   pub counters : (b.made ≡ a.made) × (b.copies ≡ a.copies)
   pub room : b.room ≡ a.room
 
-module _ (a : Arena) (is_sound : IsSound a) (w y : NodeId) (hw : IsHeld a w) (hy : IsHeld a y) (root : (node (forest_of a) (name_of a y)).hang ≡ Root) where
+module _ (a : Arena) (is_sound : IsSound a) (w y : NodeId) (hw : HasNode a w) (hy : HasNode a y) (root : (node (forest_of a) (name_of a y)).hang ≡ Root) where
   own_w : (node (forest_of a) (name_of a w)).own ≡ page_of (own_of a w)
   own_w = ap (λ m. m.own) (node-forest_of a is_sound.kept.named w hw)
 

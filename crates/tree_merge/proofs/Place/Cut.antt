@@ -14,7 +14,7 @@ use Rattle.vm_ids.specs.Forest.Changes.{put, edit, cut, cut_stub, relist, with_h
 use Rattle.vm_ids.proofs.Forest.NodesAfter.{keeps, node-put, node-put_other}
 use Rattle.vm_ids.proofs.Forest.Cutting.{linked_by_columns}
 use Rattle.vm_ids.specs.declared.numbers.NodeId.{NodeId}
-use Rattle.local_cache.specs.Arena.{Arena, cell, IsHeld}
+use Rattle.local_cache.specs.Arena.{Arena, cell, HasNode}
 use Rattle.local_cache.specs.Changes.{Relinked}
 use Rattle.local_cache.specs.Reading.{name_of, node_of, forest_of, hang_by}
 use Rattle.local_cache.specs.Sound.{IsSound}
@@ -56,7 +56,7 @@ module _ {P : Type 0} where
       ])
 
 -- what cutting a stub needs and gives
-module _ (a : Arena) (sound : IsSound a) (n p : NodeId) (hn : IsHeld a n) (up : (cell a n).links.parent ≡ Some p) (by_stub : (cell a n).links.by_stub ≡ true) where
+module _ (a : Arena) (sound : IsSound a) (n p : NodeId) (hn : HasNode a n) (up : (cell a n).links.parent ≡ Some p) (by_stub : (cell a n).links.by_stub ≡ true) where
   pub hang_stub : (node_of a n).hang ≡ StubOf (name_of a p)
   hang_stub = ap (λ o. hang_by a o (cell a n).links.by_stub) up ∙ ap (hang_by a (Some p)) by_stub
 
@@ -77,7 +77,7 @@ module _ (a : Arena) (sound : IsSound a) (n p : NodeId) (hn : IsHeld a n) (up : 
   }
 
 -- a node without a parent
-pub no_parent-Step : (a : Arena) → IsSound a → (n : NodeId) → IsHeld a n → (cell a n).links.parent ≡ None → Step a a (cut (forest_of a) (name_of a n))
+pub no_parent-Step : (a : Arena) → IsSound a → (n : NodeId) → HasNode a n → (cell a n).links.parent ≡ None → Step a a (cut (forest_of a) (name_of a n))
 no_parent-Step a sound n hn none = record {
   forest = sym (cut_root (forest_of a) (name_of a n) (IsNode-forest_of a sound.kept.named n hn) (ap (λ m. m.hang) (node-forest_of a sound.kept.named n hn) ∙ ap (λ o. hang_by a o (cell a n).links.by_stub) none));
   sound = sound;

@@ -12,7 +12,7 @@ use Rattle.vm_ids.proofs.Forest.Cutting.{cut-hang}
 use Rattle.vm_ids.proofs.Forest.TakingPlace.{hang_w, hang_y, hang_other}
 use Rattle.vm_ids.specs.declared.numbers.NodeId.{NodeId}
 use Rattle.local_cache.specs.declared.own_state.OwnState.{OwnState}
-use Rattle.local_cache.specs.Arena.{Arena, cell, IsHeld, without}
+use Rattle.local_cache.specs.Arena.{Arena, cell, HasNode, without}
 use Rattle.local_cache.specs.Own.{is_absent, own_of}
 use Rattle.local_cache.specs.Changes.{Rehung}
 use Rattle.local_cache.specs.Reading.{name_of, forest_of, hang_by}
@@ -85,7 +85,7 @@ module _ {P : Type 0} (f : Forest P) (w y : NodeName) where
         go false = taken_none none
 
 -- the steps of `put_instead`
-module _ (a : Arena) (is_sound : IsSound a) (w y : NodeId) (hw : IsHeld a w) (hy : IsHeld a y) (root : (node (forest_of a) (name_of a y)).hang ≡ Root) where
+module _ (a : Arena) (is_sound : IsSound a) (w y : NodeId) (hw : HasNode a w) (hy : HasNode a y) (root : (node (forest_of a) (name_of a y)).hang ≡ Root) where
   abbrev f : Forest OwnState
   f = forest_of a
 
@@ -122,7 +122,7 @@ module _ (a : Arena) (is_sound : IsSound a) (w y : NodeId) (hw : IsHeld a w) (hy
     bare-placed own = placed_bare (forest_of a) (name_of a w) (name_of a y) (own_is ∙ ap not own)
 
 -- the node goes
-pub give_way-Freed : (a b c : Arena) → IsSound a → (w y : NodeId) → IsHeld a w → (node (forest_of a) (name_of a y)).hang ≡ Root → IsBelow (forest_of a) (name_of a w) (name_of a y) → HasNoChild (forest_of a) (name_of a w)
+pub give_way-Freed : (a b c : Arena) → IsSound a → (w y : NodeId) → HasNode a w → (node (forest_of a) (name_of a y)).hang ≡ Root → IsBelow (forest_of a) (name_of a w) (name_of a y) → HasNoChild (forest_of a) (name_of a w)
     → Step a b (placed (forest_of a) (name_of a w) (name_of a y)) → c ≡ without b w → Freed a c w (give_way (forest_of a) (name_of a w) (name_of a y))
 unfolding give_way
 give_way-Freed a b c sound w y hw root below none step c_is =

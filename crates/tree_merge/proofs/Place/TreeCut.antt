@@ -12,7 +12,7 @@ use Rattle.vm_ids.specs.Forest.Changes as forest
 use Rattle.vm_ids.proofs.Forest.Cutting.{cut-linked}
 use Rattle.vm_ids.specs.declared.numbers.NodeId.{NodeId}
 use Rattle.local_cache.specs.declared.own_state.OwnState.{OwnState}
-use Rattle.local_cache.specs.Arena.{Arena, cell, IsHeld, hung, with_tree}
+use Rattle.local_cache.specs.Arena.{Arena, cell, HasNode, hung, with_tree}
 use Rattle.local_cache.specs.Reading.{name_of, forest_of, hang_by}
 use Rattle.local_cache.specs.Sound.{IsSound, IsKept, ◌∈◌}
 use Rattle.local_cache.proofs.Forest.Reading.{node-forest_of}
@@ -23,7 +23,7 @@ use Rattle.tree_merge.proofs.Place.Step.{Step}
 use Rattle.tree_merge.proofs.ChildLists.TreeLists.{exchanged-in, without-names}
 
 -- a node has at most two tree children
-pub few_tree : (a : Arena) → IsSound a → (p : NodeId) → IsHeld a p → length (cell a p).tree ≤ 2
+pub few_tree : (a : Arena) → IsSound a → (p : NodeId) → HasNode a p → length (cell a p).tree ≤ 2
 few_tree a sound p h =
     let most : most_tree_children (name_of a p) ≤ 2 = most_two (name_of a p) in
     omega (arith, sound.linked.few (name_of a p), ap (λ n. length n.tree) (node-forest_of a sound.kept.named p h), length-map (cell a p).tree (name_of a))
@@ -33,11 +33,11 @@ few_tree a sound p h =
     most_two (Working k) = omega arith
 
 -- what the forest has where a node hangs by a tree link
-module _ (a : Arena) (sound : IsSound a) (n p : NodeId) (hn : IsHeld a n) (up : (cell a n).links.parent ≡ Some p) (by_tree : (cell a n).links.by_stub ≡ false) where
+module _ (a : Arena) (sound : IsSound a) (n p : NodeId) (hn : HasNode a n) (up : (cell a n).links.parent ≡ Some p) (by_tree : (cell a n).links.by_stub ≡ false) where
   pub tree_hang : (node (forest_of a) (name_of a n)).hang ≡ TreeOf (name_of a p)
   tree_hang = ap (λ m. m.hang) (node-forest_of a sound.kept.named n hn) ∙ ap (λ o. hang_by a o (cell a n).links.by_stub) up ∙ ap (hang_by a (Some p)) by_tree
 
-  pub tree_parent : IsHeld a p
+  pub tree_parent : HasNode a p
   tree_parent = sound.kept.parents n p hn up
 
   pub tree_names : (node (forest_of a) (name_of a p)).tree ≡ map (name_of a) (cell a p).tree
@@ -47,11 +47,11 @@ pub relist_tree : {P : Type 0} (f : Forest P) (h : Hang) (change : List NodeName
 unfolding relist
 relist_tree f h change p e = ap (λ k. relist f k change) e
 
-module _ (a : Arena) (sound : IsSound a) (n p : NodeId) (hn : IsHeld a n) (up : (cell a n).links.parent ≡ Some p) (by_tree : (cell a n).links.by_stub ≡ false) where
+module _ (a : Arena) (sound : IsSound a) (n p : NodeId) (hn : HasNode a n) (up : (cell a n).links.parent ≡ Some p) (by_tree : (cell a n).links.by_stub ≡ false) where
   kept : IsKept a
   kept = sound.kept
 
-  hp : IsHeld a p
+  hp : HasNode a p
   hp = tree_parent a sound n p hn up by_tree
 
   ts : List NodeId
@@ -60,10 +60,10 @@ module _ (a : Arena) (sound : IsSound a) (n p : NodeId) (hn : IsHeld a n) (up : 
   abbrev b : Arena
   b = with_tree a p (exchanged n None (cell a p).tree)
 
-  all : (m : NodeId) → m ∈ (cell a p).tree → IsHeld a m
+  all : (m : NodeId) → m ∈ (cell a p).tree → HasNode a m
   all m i = sound.kept.children p m hp i
 
-  still : (m : NodeId) → m ∈ exchanged n None (cell a p).tree → IsHeld a m
+  still : (m : NodeId) → m ∈ exchanged n None (cell a p).tree → HasNode a m
   still m i = elim (exchanged-in n None (cell a p).tree m i) [ inl e ↦ absurd (cc e) | inr j ↦ all m j ]
 
   emptied : Edited a b (edit (forest_of a) (name_of a p) (forest.with_tree (map (name_of a) (exchanged n None (cell a p).tree))))

@@ -10,7 +10,7 @@ use Rattle.vm_ids.specs.Forest.Changes as forest
 use Rattle.vm_ids.specs.Forest.Settling.{take_place}
 use Rattle.vm_ids.proofs.Forest.TakingPlace.{taken-linked}
 use Rattle.vm_ids.specs.declared.numbers.NodeId.{NodeId}
-use Rattle.local_cache.specs.Arena.{Arena, cell, IsHeld, hung, with_tree}
+use Rattle.local_cache.specs.Arena.{Arena, cell, HasNode, hung, with_tree}
 use Rattle.local_cache.specs.Reading.{name_of, forest_of}
 use Rattle.local_cache.specs.Sound.{IsSound, IsKept, ◌∈◌}
 use Rattle.local_cache.proofs.Forest.Reading.{node-forest_of}
@@ -26,12 +26,12 @@ use Rattle.tree_merge.proofs.Place.TreeCut.{relist_tree, tree_hang, tree_parent,
 pub below_apart : {P : Type 0} (f : Forest P) (w y : NodeName) → IsBelow f w y → y ≢ w
 below_apart f w y below e = let low = below.2 in let is = ap below.0 e in absurd (omega arith)
 
-module _ (a : Arena) (sound : IsSound a) (w y p : NodeId) (hw : IsHeld a w) (hy : IsHeld a y) (up : (cell a w).links.parent ≡ Some p) (by_tree : (cell a w).links.by_stub ≡ false)
+module _ (a : Arena) (sound : IsSound a) (w y p : NodeId) (hw : HasNode a w) (hy : HasNode a y) (up : (cell a w).links.parent ≡ Some p) (by_tree : (cell a w).links.by_stub ≡ false)
     (root : (node (forest_of a) (name_of a y)).hang ≡ Root) (below : IsBelow (forest_of a) (name_of a w) (name_of a y)) where
   kept : IsKept a
   kept = sound.kept
 
-  hp : IsHeld a p
+  hp : HasNode a p
   hp = tree_parent a sound w p hw up by_tree
 
   apart : y ≢ w
@@ -40,11 +40,11 @@ module _ (a : Arena) (sound : IsSound a) (w y p : NodeId) (hw : IsHeld a w) (hy 
   no_parent : (cell a y).links.parent ≡ None
   no_parent = hang_root a (cell a y).links.parent (cell a y).links.by_stub (sym (ap (λ m. m.hang) (node-forest_of a sound.kept.named y hy)) ∙ root)
 
-  all : (m : NodeId) → m ∈ (cell a p).tree → IsHeld a m
+  all : (m : NodeId) → m ∈ (cell a p).tree → HasNode a m
   all m i = sound.kept.children p m hp i
 
-  still : (m : NodeId) → m ∈ exchanged w (Some y) (cell a p).tree → IsHeld a m
-  still m i = elim (exchanged-in w (Some y) (cell a p).tree m i) [ inl e ↦ (let is : y ≡ m = cc e in subst (IsHeld a) is hy) | inr j ↦ all m j ]
+  still : (m : NodeId) → m ∈ exchanged w (Some y) (cell a p).tree → HasNode a m
+  still m i = elim (exchanged-in w (Some y) (cell a p).tree m i) [ inl e ↦ (let is : y ≡ m = cc e in subst (HasNode a) is hy) | inr j ↦ all m j ]
 
   abbrev b : Arena
   b = with_tree a p (exchanged w (Some y) (cell a p).tree)
@@ -52,14 +52,14 @@ module _ (a : Arena) (sound : IsSound a) (w y p : NodeId) (hw : IsHeld a w) (hy 
   listed : Edited a b (edit (forest_of a) (name_of a p) (forest.with_tree (map (name_of a) (exchanged w (Some y) (cell a p).tree))))
   listed = tree-edited a kept p hp (exchanged w (Some y) (cell a p).tree) still
 
-  b-held : (m : NodeId) → IsHeld a m → IsHeld b m
+  b-held : (m : NodeId) → HasNode a m → HasNode b m
   b-held m h = listed.rehung.like.held m ∙ h
 
   free_y : IsNoStub b y
   free_y = no_stub-tree a p (exchanged w (Some y) (cell a p).tree) y (root_no_stub a y no_parent)
 
-  to_p : (q : NodeId) → ◌≡◌ {A = Option NodeId} (Some p) (Some q) → IsHeld b q
-  to_p q e = let is : p ≡ q = cc e in subst (IsHeld b) is (b-held p hp)
+  to_p : (q : NodeId) → ◌≡◌ {A = Option NodeId} (Some p) (Some q) → HasNode b q
+  to_p q e = let is : p ≡ q = cc e in subst (HasNode b) is (b-held p hp)
 
   abbrev c : Arena
   c = hung b y (Some p)

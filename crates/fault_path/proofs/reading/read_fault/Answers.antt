@@ -3,7 +3,7 @@ use Rattle.std.proofs.lemmas.Bool.{false≢true}
 use Rattle.vm_ids.specs.declared.numbers.FrameId.{FrameId}
 use Rattle.vm_ids.specs.declared.numbers.NodeId.{NodeId}
 use Rattle.local_cache.specs.Own.{is_resident, own_of}
-use Rattle.residency.specs.Causes.{Made, dirtied, dirty_count, failed_victims, pulls_for, pushes_to_bring}
+use Rattle.residency.specs.Causes.{Traffic, dirtied, dirty_count, failed_victims, pulls_for, pushes_to_bring}
 use Rattle.residency.specs.declared.miss.Miss.{Miss}
 use Rattle.residency.specs.World.{HoldsPage, World, world}
 use Rattle.residency.proofs.StillForest.{still_forest}
@@ -111,7 +111,7 @@ returns-in-Ok-clause-made g c =
     let owner : IsOwner c.args.caches.now c.args.node it = record { held = c.owner_of-owner.ensures.held; name = c.owner_of-owner.ensures.owner } in
     let zero : is_zero (own_of c.args.caches.now it) ≡ false = sym c.is_zero.ensures ∙ c.if-is_zero.false in
     let e = c.in-Ok.ensures in
-    λ o is out. subst (λ (m : NodeId). Made (pulls_for {T = FrameId} (Ok c.in-Ok.frame) (own_of c.args.caches.now m)) (dirty_count c.args.caches.now + dirtied {T = FrameId} {E = Miss} (Ok c.in-Ok.frame) (own_of c.args.caches.now m) - dirty_count c.bring_in.new.caches + failed_victims {T = FrameId} (Ok c.in-Ok.frame)) (g.M.Mapper.counts c.args.mapper.now) (g.M.Mapper.counts c.bring_in.new.mapper))
+    λ o is out. subst (λ (m : NodeId). Traffic (pulls_for {T = FrameId} (Ok c.in-Ok.frame) (own_of c.args.caches.now m)) (dirty_count c.args.caches.now + dirtied {T = FrameId} {E = Miss} (Ok c.in-Ok.frame) (own_of c.args.caches.now m) - dirty_count c.bring_in.new.caches + failed_victims {T = FrameId} (Ok c.in-Ok.frame)) (g.M.Mapper.counts c.args.mapper.now) (g.M.Mapper.counts c.bring_in.new.mapper))
     (sym (owner_same c.args.caches.now c.requires.right.sound c.args.node o it is owner)) e.made
 
 pub returns-in-Err-clause-made : goal.returns-in-Err-clause-made
@@ -120,7 +120,7 @@ returns-in-Err-clause-made g c =
     let owner : IsOwner c.args.caches.now c.args.node it = record { held = c.owner_of-owner.ensures.held; name = c.owner_of-owner.ensures.owner } in
     let zero : is_zero (own_of c.args.caches.now it) ≡ false = sym c.is_zero.ensures ∙ c.if-is_zero.false in
     let e = c.in-Err.ensures in
-    λ o is out. subst (λ (m : NodeId). Made (pulls_for {T = FrameId} (Err c.in-Err.miss) (own_of c.args.caches.now m)) (dirty_count c.args.caches.now + dirtied {T = FrameId} {E = Miss} (Err c.in-Err.miss) (own_of c.args.caches.now m) - dirty_count c.bring_in.new.caches + failed_victims {T = FrameId} (Err c.in-Err.miss)) (g.M.Mapper.counts c.args.mapper.now) (g.M.Mapper.counts c.bring_in.new.mapper))
+    λ o is out. subst (λ (m : NodeId). Traffic (pulls_for {T = FrameId} (Err c.in-Err.miss) (own_of c.args.caches.now m)) (dirty_count c.args.caches.now + dirtied {T = FrameId} {E = Miss} (Err c.in-Err.miss) (own_of c.args.caches.now m) - dirty_count c.bring_in.new.caches + failed_victims {T = FrameId} (Err c.in-Err.miss)) (g.M.Mapper.counts c.args.mapper.now) (g.M.Mapper.counts c.bring_in.new.mapper))
     (sym (owner_same c.args.caches.now c.requires.right.sound c.args.node o it is owner)) e.made
 
 pub returns-in-Ok-clause-few : goal.returns-in-Ok-clause-few

@@ -1,5 +1,5 @@
 use Rattle.std.proofs.Common.{sym, ap, subst, ◌∙◌, refl, arith, rules}
-use Rattle.local_cache.specs.Arena.{Arena, IsHeld}
+use Rattle.local_cache.specs.Arena.{Arena, HasNode}
 use Rattle.local_cache.specs.Own.{own_of}
 use Rattle.local_cache.proofs.Nodes.OwnStates.{own_same}
 use Rattle.local_cache.specs.declared.own_state.OwnState.TheVariants.{Resident}
@@ -47,7 +47,7 @@ returns-clause-answered g c =
     let w : World = world told size c.bring_in.new.caches c.bring_in.new.self in
     let b = c.in_ok-frame.ensures in
     let first = b.still in
-    let there : IsHeld w.caches c.args.node = held_stays old.caches w.caches first.stays.caches c.args.node c.requires.own.node in
+    let there : HasNode w.caches c.args.node = held_stays old.caches w.caches first.stays.caches c.args.node c.requires.own.node in
     let at = home w c.in_ok-frame.frame.0 c.args.node first.stays.right b.home.0 b.home.1 in
     let whole : Still old (dirtied w c.args.node) = still_then old w (dirtied w c.args.node) first (dirty_still w c.args.node first.stays.right there at.resident (may_like old.caches w.caches (still_like old.caches w.caches first.stays.caches) c.args.node c.requires.granted)) in
     let kept : Kept old (dirtied w c.args.node) = still_kept old (dirtied w c.args.node) whole c.requires.right.sound c.requires.right.shaped b.pinned in
@@ -61,7 +61,7 @@ returns-clause-ready g c =
     let w : World = world told size c.bring_in.new.caches c.bring_in.new.self in
     let b = c.in_ok-frame.ensures in
     let first = b.still in
-    let there : IsHeld w.caches c.args.node = held_stays old.caches w.caches first.stays.caches c.args.node c.requires.own.node in
+    let there : HasNode w.caches c.args.node = held_stays old.caches w.caches first.stays.caches c.args.node c.requires.own.node in
     let at = home w c.in_ok-frame.frame.0 c.args.node first.stays.right b.home.0 b.home.1 in
     let whole : Still old (dirtied w c.args.node) = still_then old w (dirtied w c.args.node) first (dirty_still w c.args.node first.stays.right there at.resident (may_like old.caches w.caches (still_like old.caches w.caches first.stays.caches) c.args.node c.requires.granted)) in
     record {

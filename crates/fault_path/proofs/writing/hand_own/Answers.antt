@@ -1,5 +1,5 @@
 use Rattle.std.proofs.Common.{sym, ap, subst, ◌∙◌, ◌≡◌, ◌+◌, arith, Some, refl, rules}
-use Rattle.local_cache.specs.Arena.{Arena, IsHeld}
+use Rattle.local_cache.specs.Arena.{Arena, HasNode}
 use Rattle.local_cache.specs.Own.{own_of}
 use Rattle.local_cache.proofs.Nodes.OwnStates.{own_same}
 use Rattle.local_cache.specs.declared.own_state.OwnState.TheVariants.{Resident}
@@ -94,7 +94,7 @@ returns-clause-answered g c =
     let first = b.still in
     let h = c.in_ok-hand_over.ensures in
     let k = h.answered.kept in
-    let there : IsHeld v.caches c.args.node = k.nodes.held c.args.node ∙ held_stays old.caches w.caches first.stays.caches c.args.node c.requires.own.node in
+    let there : HasNode v.caches c.args.node = k.nodes.held c.args.node ∙ held_stays old.caches w.caches first.stays.caches c.args.node c.requires.own.node in
     let bound : node_of v.map c.in_ok-frame.frame.0 ≡ Some c.args.node = h.home c.in_ok-frame.frame.0 b.home.1 in
     let below = bound_below v.map c.in_ok-frame.frame.0 c.args.node bound in
     let at = home v c.in_ok-frame.frame.0 c.args.node k.right below bound in
@@ -120,7 +120,7 @@ returns-clause-ready g c =
     let first = b.still in
     let h = c.in_ok-hand_over.ensures in
     let k = h.answered.kept in
-    let there : IsHeld v.caches c.args.node = k.nodes.held c.args.node ∙ held_stays old.caches w.caches first.stays.caches c.args.node c.requires.own.node in
+    let there : HasNode v.caches c.args.node = k.nodes.held c.args.node ∙ held_stays old.caches w.caches first.stays.caches c.args.node c.requires.own.node in
     let bound : node_of v.map c.in_ok-frame.frame.0 ≡ Some c.args.node = h.home c.in_ok-frame.frame.0 b.home.1 in
     let below = bound_below v.map c.in_ok-frame.frame.0 c.args.node bound in
     let at = home v c.in_ok-frame.frame.0 c.args.node k.right below bound in

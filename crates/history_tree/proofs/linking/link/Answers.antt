@@ -1,6 +1,6 @@
 use Rattle.std.proofs.Common.{◌≡◌, ◌≤◌, List, [], ◌∷◌, Some, None, sym, ap, subst, ◌∙◌, slice_get, refl, inl}
 use Rattle.vm_ids.specs.declared.numbers.NodeId.{NodeId}
-use Rattle.local_cache.specs.Arena.{Arena, IsHeld, cell, find, with_working}
+use Rattle.local_cache.specs.Arena.{Arena, HasNode, cell, find, with_working}
 use Rattle.local_cache.specs.Reading.{forest_of}
 use Rattle.local_cache.specs.Sound.{IsSound, ◌∈◌}
 use Rattle.history_tree.specs.Hanging.{set_one, set_two, IsGrown}
@@ -15,7 +15,7 @@ rest_of : (ts : List NodeId) (h : NodeId) → Some h ≡ slice_get ts 0 → (res
 rest_of [] h e = absurd (cc e)
 rest_of (t ∷ ts) h e = (ts, let same : h ≡ t = cc e in ap (λ k. k ∷ ts) (sym same))
 
-first_child : (a : Arena) (s : NodeId) (h : NodeId) → IsSound a → IsHeld a s → Some h ≡ slice_get (cell a s).tree 0 → IsHeld a h
+first_child : (a : Arena) (s : NodeId) (h : NodeId) → IsSound a → HasNode a s → Some h ≡ slice_get (cell a s).tree 0 → HasNode a h
 first_child a s h sound hs e = let r = rest_of (cell a s).tree h e in sound.kept.children s h hs (subst (λ ts. h ∈ ts) (sym r.1) (inl refl))
 
 pub put_between-requires-clause-h : goal.put_between-requires-clause-h

@@ -1,7 +1,7 @@
 use Rattle.std.proofs.Common.{◌≡◌, true, Some, None, sym, ap, subst, ◌∙◌}
 use Rattle.vm_ids.specs.declared.numbers.NodeId.{NodeId}
 use Rattle.local_cache.specs.declared.links.Links.{Links}
-use Rattle.local_cache.specs.Arena.{Arena, cell, IsHeld}
+use Rattle.local_cache.specs.Arena.{Arena, cell, HasNode}
 use Rattle.local_cache.specs.Reading.{forest_of, hang_by, name_of}
 use Rattle.local_cache.specs.Sound.{IsKept}
 use Rattle.vm_ids.specs.Forest.Nodes.{is_stub}
@@ -32,7 +32,7 @@ take_out-requires-clause-some c =
     let a = c.args.caches.now in
     (neighbours a r.kept c.args.node c.unwrap-p.result r.node r.linked (ap (λ l. l.parent) (sym c.links-own.ensures) ∙ c.unwrap-p.ensures) (by_stub a _ _ r.stub)).2
 
-rule : (a b : Arena) (n p : NodeId) (l : Links) → IsKept a → IsHeld a n → IsLinked (edit (forest_of a) (name_of a n) (with_own None)) → is_stub (hang_by a (cell a n).links.parent (cell a n).links.by_stub) ≡ true → l ≡ (cell a n).links → l.parent ≡ Some p → b ≡ cut_out a n p l.before l.behind → HasCut a b n
+rule : (a b : Arena) (n p : NodeId) (l : Links) → IsKept a → HasNode a n → IsLinked (edit (forest_of a) (name_of a n) (with_own None)) → is_stub (hang_by a (cell a n).links.parent (cell a n).links.by_stub) ≡ true → l ≡ (cell a n).links → l.parent ≡ Some p → b ≡ cut_out a n p l.before l.behind → HasCut a b n
 rule a b n p l kept hn linked stub l_is up is =
     cut-rule a kept n p hn linked (ap (λ k. k.parent) (sym l_is) ∙ up) (by_stub a _ _ stub) b (is ∙ ap (λ k. cut_out a n p k.before k.behind) l_is)
 

@@ -1,7 +1,7 @@
 use Rattle.std.proofs.Common.{◌≡◌, ◌<◌, ◌+◌, ℕ, take, drop, Option, Some, None, IsSome, refl, sym, subst, ◌∙◌, add-one}
 use Rattle.vm_ids.specs.declared.numbers.NodeId.{NodeId}
 use Rattle.local_cache.specs.declared.links.Links.{Links}
-use Rattle.local_cache.specs.Arena.{Arena, cell, IsHeld, with_links}
+use Rattle.local_cache.specs.Arena.{Arena, cell, HasNode, with_links}
 use Rattle.local_cache.specs.Reading.{stubs_of}
 use Rattle.local_cache.specs.Threads.{head_or}
 use Rattle.local_cache.specs.Sound.{IsKept}
@@ -10,13 +10,13 @@ use Rattle.page_stubs.specs.Handing.{Handed}
 use Rattle.page_stubs.proofs.Lists.Handing.{next_is, held_y, turn}
 use Rattle.page_stubs.proofs.handing.reparent.Goals as goal
 
-held_at : (a b : Arena) (from to : NodeId) (ends : Links) (i : ℕ) (o : Option NodeId) (k : NodeId) → IsKept a → IsHeld a from → Once (stubs_of a from) → ends ≡ (cell a from).links → i < ends.stubs
-    → Handed a b (take i (stubs_of a from)) to → o ≡ head_or (drop i (stubs_of a from)) None → o ≡ Some k → IsHeld b k
+held_at : (a b : Arena) (from to : NodeId) (ends : Links) (i : ℕ) (o : Option NodeId) (k : NodeId) → IsKept a → HasNode a from → Once (stubs_of a from) → ends ≡ (cell a from).links → i < ends.stubs
+    → Handed a b (take i (stubs_of a from)) to → o ≡ head_or (drop i (stubs_of a from)) None → o ≡ Some k → HasNode b k
 held_at a b from to ends i o k kept hf once e within h next is =
     let inside : i < (cell a from).links.stubs = subst (λ l. i < l.stubs) e within in
     let n = next_is a b kept from to hf once i inside h in
     let two : Some _ ≡ Some k = sym n ∙ sym next ∙ is in
-    subst (IsHeld b) (cc two) (held_y a b kept from to hf once i inside h)
+    subst (HasNode b) (cc two) (held_y a b kept from to hf once i inside h)
 
 pub links-links-requires : goal.links-links-requires
 links-links-requires c = let r = c.requires in held_at c.args.caches.now c.loop-i.caches c.args.from c.args.to _ c.loop-i.i c.loop-i.at c.unwrap-y.result r.kept r.from r.once c.links-ends.ensures c.loop-i-test.true c.loop-i.invariant.handed c.loop-i.invariant.next c.unwrap-y.ensures
@@ -24,7 +24,7 @@ links-links-requires c = let r = c.requires in held_at c.args.caches.now c.loop-
 pub set_links-requires : goal.set_links-requires
 set_links-requires c = let r = c.requires in held_at c.args.caches.now c.loop-i.caches c.args.from c.args.to _ c.loop-i.i c.loop-i.at c.unwrap-y.result r.kept r.from r.once c.links-ends.ensures c.loop-i-test.true c.loop-i.invariant.handed c.loop-i.invariant.next c.unwrap-y.ensures
 
-there_is : (a b : Arena) (from to : NodeId) (ends : Links) (i : ℕ) (o : Option NodeId) → IsKept a → IsHeld a from → Once (stubs_of a from) → ends ≡ (cell a from).links → i < ends.stubs
+there_is : (a b : Arena) (from to : NodeId) (ends : Links) (i : ℕ) (o : Option NodeId) → IsKept a → HasNode a from → Once (stubs_of a from) → ends ≡ (cell a from).links → i < ends.stubs
     → Handed a b (take i (stubs_of a from)) to → o ≡ head_or (drop i (stubs_of a from)) None → IsSome o
 there_is a b from to ends i o kept hf once e within h next =
     let inside : i < (cell a from).links.stubs = subst (λ l. i < l.stubs) e within in
@@ -33,7 +33,7 @@ there_is a b from to ends i o kept hf once e within h next =
 pub unwrap-y-requires : goal.unwrap-y-requires
 unwrap-y-requires c = let r = c.requires in there_is c.args.caches.now c.loop-i.caches c.args.from c.args.to _ c.loop-i.i c.loop-i.at r.kept r.from r.once c.links-ends.ensures c.loop-i-test.true c.loop-i.invariant.handed c.loop-i.invariant.next
 
-kept_on : (a b c : Arena) (from to : NodeId) (ends l : Links) (i : ℕ) (o : Option NodeId) (k : NodeId) → IsKept a → IsHeld a from → Once (stubs_of a from) → ends ≡ (cell a from).links → i < ends.stubs
+kept_on : (a b c : Arena) (from to : NodeId) (ends l : Links) (i : ℕ) (o : Option NodeId) (k : NodeId) → IsKept a → HasNode a from → Once (stubs_of a from) → ends ≡ (cell a from).links → i < ends.stubs
     → Handed a b (take i (stubs_of a from)) to → o ≡ head_or (drop i (stubs_of a from)) None → o ≡ Some k → l ≡ (cell b k).links → c ≡ with_links b k (record l { parent = Some to })
     → Handed a c (take (i + 1) (stubs_of a from)) to × (l.behind ≡ head_or (drop (i + 1) (stubs_of a from)) None)
 kept_on a b c from to ends l i o k kept hf once e within h next is l_is c_is =

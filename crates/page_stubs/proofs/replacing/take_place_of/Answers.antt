@@ -1,7 +1,7 @@
 use Rattle.std.proofs.Common.{◌≡◌, Bool, true, Option, Some, None, IsSome, refl, sym, ap, ◌∙◌, subst}
 use Rattle.vm_ids.specs.declared.numbers.NodeId.{NodeId}
 use Rattle.vm_ids.specs.Forest.Nodes.{node, is_stub}
-use Rattle.local_cache.specs.Arena.{Arena, cell, IsHeld}
+use Rattle.local_cache.specs.Arena.{Arena, cell, HasNode}
 use Rattle.local_cache.specs.Reading.{forest_of, name_of, hang_by}
 use Rattle.local_cache.specs.Sound.{IsSound}
 use Rattle.local_cache.specs.Changes.{Relinked}
@@ -11,7 +11,7 @@ use Rattle.page_stubs.proofs.Lists.Room.{room-replaced}
 use Rattle.page_stubs.proofs.Rules.Exchange.{places, neighbours_held}
 use Rattle.page_stubs.proofs.replacing.take_place_of.Goals as goal
 
-stub_read : (a : Arena) → IsSound a → (w : NodeId) → IsHeld a w → is_stub (node (forest_of a) (name_of a w)).hang ≡ true → is_stub (hang_by a (cell a w).links.parent (cell a w).links.by_stub) ≡ true
+stub_read : (a : Arena) → IsSound a → (w : NodeId) → HasNode a w → is_stub (node (forest_of a) (name_of a w)).hang ≡ true → is_stub (hang_by a (cell a w).links.parent (cell a w).links.by_stub) ≡ true
 stub_read a sound w h e = sym (ap (λ m. is_stub m.hang) (node-forest_of a sound.kept.named w h)) ∙ e
 
 -- a stub has a parent

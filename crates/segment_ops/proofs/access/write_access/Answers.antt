@@ -5,7 +5,7 @@ use Rattle.local_cache.specs.Arena.{Arena}
 use Rattle.local_cache.specs.Reading.{forest_of}
 use Rattle.local_cache.specs.Whole.{IsWhole, SameCaches}
 use Rattle.local_cache.proofs.Tables.Sizes.{sizes_granted, sizes_then}
-use Rattle.residency.specs.Causes.{Later, Made}
+use Rattle.residency.specs.Causes.{Later, Traffic}
 use Rattle.residency.specs.StoreForest.{store_forest}
 use Rattle.residency.specs.World.{IsStoreRight, World, world}
 use Rattle.segment_ops.specs.Access.{GrantsBefore}
@@ -71,7 +71,7 @@ loop-number-preserved g c =
             given = ap M.given b.mapper-is ∙ k.given ∙ i.given;
             page_bytes = ap M.page_bytes b.mapper-is ∙ k.page ∙ i.page_bytes;
             later = subst (λ m. Later (M.counts c.args.mapper.now) (M.counts m)) (sym b.mapper-is) (asked_later _ _ _ i.later k.counts);
-            made = subst (λ m. Made 0 0 (M.counts c.args.mapper.now) (M.counts m)) (sym b.mapper-is) (asked_made _ _ _ i.made k.counts);
+            made = subst (λ m. Traffic 0 0 (M.counts c.args.mapper.now) (M.counts m)) (sym b.mapper-is) (asked_made _ _ _ i.made k.counts);
             idle = λ all. absurd (asked_once c.args.caches.now c.loop-number.caches c.args.range c.loop-number.number all (i.idle all).0 (search rules) c.loop-number-test.true (search rules));
           })
       | else-not-granted b ↦ record {
@@ -88,7 +88,7 @@ loop-number-preserved g c =
         given = ap M.given b.mapper-is ∙ i.given;
         page_bytes = ap M.page_bytes b.mapper-is ∙ i.page_bytes;
         later = subst (λ m. Later (M.counts c.args.mapper.now) (M.counts m)) (sym b.mapper-is) i.later;
-        made = subst (λ m. Made 0 0 (M.counts c.args.mapper.now) (M.counts m)) (sym b.mapper-is) i.made;
+        made = subst (λ m. Traffic 0 0 (M.counts c.args.mapper.now) (M.counts m)) (sym b.mapper-is) i.made;
         idle = λ all. (let was = i.idle all in (b.caches-is ∙ was.0, b.mapper-is ∙ was.1));
       }
     ]

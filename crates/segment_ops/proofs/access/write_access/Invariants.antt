@@ -2,7 +2,7 @@ use Rattle.std.proofs.Common.{◌≡◌}
 use Rattle.local_cache.specs.Reading.{forest_of}
 use Rattle.local_cache.specs.Whole.{IsWhole, SameCaches}
 use Rattle.residency.specs.Between.{Between, RightStore}
-use Rattle.residency.specs.Causes.{Later, Made}
+use Rattle.residency.specs.Causes.{Later, Traffic}
 use Rattle.fault_path.specs.Faults.{SameForest}
 use Rattle.segment_ops.specs.Access.{AllowsBefore, GrantsBefore, IsGranted}
 use Rattle.segment_ops.proofs.access.write_access.Given as goal
@@ -22,6 +22,6 @@ invariant-loop-number g l =
       given : M.given l.mapper ≡ M.given l.fn.mapper;
       page_bytes : M.page_bytes l.mapper ≡ M.page_bytes l.fn.mapper;
       later : Later (M.counts l.fn.mapper) (M.counts l.mapper);
-      made : Made 0 0 (M.counts l.fn.mapper) (M.counts l.mapper);
+      made : Traffic 0 0 (M.counts l.fn.mapper) (M.counts l.mapper);
       idle : IsGranted l.fn.caches l.range → (l.caches ≡ l.fn.caches) × (l.mapper ≡ l.fn.mapper);
     }

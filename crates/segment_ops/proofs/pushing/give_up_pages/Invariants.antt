@@ -2,7 +2,7 @@ use Rattle.std.proofs.Common.{◌≡◌, ◌+◌, ◌<◌, ◌≤◌, ℕ, false
 use Rattle.vm_ids.specs.declared.numbers.NodeId.{NodeId}
 use Rattle.local_cache.specs.Arena.{node_at}
 use Rattle.local_cache.specs.Own.{is_resident, own_of}
-use Rattle.residency.specs.Causes.{Later, Made}
+use Rattle.residency.specs.Causes.{Later, Traffic}
 use Rattle.residency.specs.World.{Still, World, world}
 use Rattle.segment_ops.specs.Synced.{AreLoose, AreSynced}
 use Rattle.segment_ops.proofs.pushing.give_up_pages.Given as goal
@@ -17,7 +17,7 @@ invariant-loop-number g l =
       held : M.held l.mapper ≡ M.held l.fn.mapper;
       pinned : l.store.frames.pinned ≡ l.fn.store.frames.pinned;
       later : Later (M.counts l.fn.mapper) (M.counts l.mapper);
-      made : Made 0 0 (M.counts l.fn.mapper) (M.counts l.mapper);
+      made : Traffic 0 0 (M.counts l.fn.mapper) (M.counts l.mapper);
       synced : AreSynced l.range (l.range.first.0 + l.range.pages) now;
       loose : AreLoose l.range now;
       out : (page : ℕ) (n : NodeId) → l.range.first.0 ≤ page → page < l.number → node_at l.caches l.range.cache.0 page ≡ Some n → is_resident (own_of l.caches n) ≡ false;

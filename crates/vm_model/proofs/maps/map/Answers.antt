@@ -5,7 +5,7 @@ use Rattle.std.proofs.lemmas.Bool.Decides.{nat_tests}
 use Rattle.std.proofs.lemmas.List.{length-map}
 use Rattle.vm_ids.specs.declared.reply.Reply.TheVariants as replies
 use Rattle.vm_ids.specs.declared.numbers.CacheId.{CacheId}
-use Rattle.vm_model.specs.declared.limits.TheConstants.{MADE}
+use Rattle.vm_model.specs.declared.limits.TheConstants.{MOST_MADE}
 use Rattle.vm_model.specs.Machine.{numbered}
 use Rattle.vm_model.specs.Answering.{overlaps, passes_end, reply}
 use Rattle.vm_model.specs.declared.tables.Actor.{Actor}
@@ -54,7 +54,7 @@ returns-in-Ok-clause-outcome c =
     let inside : passes_end (cache_seen k) p.extent.first.0 p.extent.pages ≡ false = sym c.if-passes_end.ensures in
     let aligned : (p.address % t.page_bytes == 0) ≡ true = same_zero (p.address % t.page_bytes) c.if-mapping-page_bytes-ne0.false in
     let apart : list_any (overlaps t.page_bytes p.address p.extent.pages) (actor_seen a) ≡ false = sym (c.if-overlaps_any.ensures ∙ ap (λ (rs : List Region). list_any (overlaps t.page_bytes p.address p.extent.pages) (map region_seen rs)) c.deref-3.ensures.value) in
-    let fewer : nat_le MADE t.regions_made ≡ false = not_yet MADE t.regions_made c.if-tables-ge-MADE.false in
+    let fewer : nat_le MOST_MADE t.regions_made ≡ false = not_yet MOST_MADE t.regions_made c.if-tables-ge-MOST_MADE.false in
     let row = map_row t c.args.actor.0 p a k here there aligned below inside apart fewer in
     λ h. row ∙ ap (reply (replies.Region (record { 0 = t.regions_made + 1 }))) (sym (c.in-Ok.ensures.ok ∙ seen_added t c.args.actor.0 p a c.region_for.result here c.region_for.ensures.region))
 
@@ -70,6 +70,6 @@ returns-in-Err-clause-outcome c =
     let inside : passes_end (cache_seen k) p.extent.first.0 p.extent.pages ≡ false = sym c.if-passes_end.ensures in
     let aligned : (p.address % t.page_bytes == 0) ≡ true = same_zero (p.address % t.page_bytes) c.if-mapping-page_bytes-ne0.false in
     let apart : list_any (overlaps t.page_bytes p.address p.extent.pages) (actor_seen a) ≡ false = sym (c.if-overlaps_any.ensures ∙ ap (λ (rs : List Region). list_any (overlaps t.page_bytes p.address p.extent.pages) (map region_seen rs)) c.deref-3.ensures.value) in
-    let fewer : nat_le MADE t.regions_made ≡ false = not_yet MADE t.regions_made c.if-tables-ge-MADE.false in
+    let fewer : nat_le MOST_MADE t.regions_made ≡ false = not_yet MOST_MADE t.regions_made c.if-tables-ge-MOST_MADE.false in
     let row = map_row t c.args.actor.0 p a k here there aligned below inside apart fewer in
     λ h. (c.in-Err.ensures.err, tt, rw row tt)

@@ -1,6 +1,6 @@
 use Rattle.std.proofs.Common.{◌≡◌, ℕ, List, Some, None, false, sym, ap, subst, ◌∙◌}
 use Rattle.std.specs.Prelude.{is_some}
-use Rattle.vm_model.specs.Answering.{region_among}
+use Rattle.vm_model.specs.Regions.{region_among}
 use Rattle.vm_model.specs.Machine.{numbered}
 use Rattle.vm_ids.specs.declared.numbers.ActorId.{ActorId}
 use Rattle.contexts.specs.Actors.{Actors, has_region}

@@ -3,7 +3,7 @@ use Rattle.std.specs.Prelude.{◌||◌, count_by, is_some, nat_le}
 use Rattle.std.proofs.lemmas.Bool.Decides.{nat_tests}
 use Rattle.std.proofs.lemmas.List.Elements.{All-nil, All-same}
 use Rattle.regions.specs.AddressSpace.{AddressSpace}
-use Rattle.vm_model.specs.declared.limits.TheConstants.{LIVING_ACTORS, MADE}
+use Rattle.vm_model.specs.declared.limits.TheConstants.{LIVING_ACTORS, MOST_MADE}
 use Rattle.contexts.specs.Actors.{Actors, is_full}
 use Rattle.contexts.specs.Layout.{IsKept}
 use Rattle.contexts.proofs.Owners.{IsFor}
@@ -12,18 +12,18 @@ use Rattle.contexts.proofs.Living.{full_by, more_living}
 use Rattle.contexts.proofs.contexts.Contexts.make.Goals as goal
 use Rattle.contexts.proofs.contexts.Contexts.make.Goals.{then-self-ge-LIVING_ACTORS-via-then-self-ge-LIVING_ACTORS, then-self-ge-LIVING_ACTORS-via-else-self-ge-LIVING_ACTORS+then-len}
 
-full_if : (living made : ℕ) → LIVING_ACTORS ≤ living → (nat_le LIVING_ACTORS living || nat_le MADE made) ≡ true
-full_if living made h = let e : nat_le LIVING_ACTORS living ≡ true = grind (arith, nat_tests) in ap (λ (b : Bool). b || nat_le MADE made) e
+full_if : (living made : ℕ) → LIVING_ACTORS ≤ living → (nat_le LIVING_ACTORS living || nat_le MOST_MADE made) ≡ true
+full_if living made h = let e : nat_le LIVING_ACTORS living ≡ true = grind (arith, nat_tests) in ap (λ (b : Bool). b || nat_le MOST_MADE made) e
 
-full_or : (b : Bool) (made : ℕ) → MADE ≤ made → (b || nat_le MADE made) ≡ true
+full_or : (b : Bool) (made : ℕ) → MOST_MADE ≤ made → (b || nat_le MOST_MADE made) ≡ true
 full_or true made h = λ _. true
 full_or false made h = grind (arith, nat_tests)
 
-not_full : (living made : ℕ) → living < LIVING_ACTORS → made < MADE → (nat_le LIVING_ACTORS living || nat_le MADE made) ≡ false
+not_full : (living made : ℕ) → living < LIVING_ACTORS → made < MOST_MADE → (nat_le LIVING_ACTORS living || nat_le MOST_MADE made) ≡ false
 not_full living made h k =
     let e : nat_le LIVING_ACTORS living ≡ false = grind (arith, nat_tests) in
-    let f : nat_le MADE made ≡ false = grind (arith, nat_tests) in
-    ap (λ (b : Bool). b || nat_le MADE made) e ∙ f
+    let f : nat_le MOST_MADE made ≡ false = grind (arith, nat_tests) in
+    ap (λ (b : Bool). b || nat_le MOST_MADE made) e ∙ f
 
 pub returns-then-self-ge-LIVING_ACTORS-clause-made : goal.returns-then-self-ge-LIVING_ACTORS-clause-made
 returns-then-self-ge-LIVING_ACTORS-clause-made c = λ room.

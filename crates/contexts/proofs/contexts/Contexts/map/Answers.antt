@@ -2,7 +2,7 @@ use Rattle.std.proofs.Common.{◌≡◌, ℕ, ◌+◌, ◌-◌, ◌<◌, ◌≤�
 use Rattle.std.specs.Prelude.{count_by, is_some, option_map}
 use Rattle.std.proofs.lemmas.List.{length-append, with_items_is}
 use Rattle.std.proofs.lemmas.List.Elements.{All-weaker}
-use Rattle.vm_model.specs.declared.limits.TheConstants.{MADE}
+use Rattle.vm_model.specs.declared.limits.TheConstants.{MOST_MADE}
 use Rattle.vm_ids.specs.declared.numbers.ActorId.{ActorId}
 use Rattle.vm_model.specs.Answering.{insert_region, region_of}
 use Rattle.vm_model.specs.Machine.{numbered}
@@ -28,7 +28,7 @@ invariant_of-self-in_err-add_region c =
       some = k.some;
       most = k.most;
       living = k.living ∙ sym (changed_living a (λ rs. rs) i.actors.items ys e) ∙ sym (ap (count_by is_some) items);
-      few = subst (λ (os : List ActorId). length os ≤ MADE) (sym c.reserve.ensures.items) k.few;
+      few = subst (λ (os : List ActorId). length os ≤ MOST_MADE) (sym c.reserve.ensures.items) k.few;
       kept = subst (λ (os : List ActorId). Numbered (IsKept i.page os) (Rattle.std.specs.Vec.with_items i.actors ys).items) (sym c.reserve.ensures.items)
           (subst (Numbered (IsKept i.page i.owners.items)) (sym items) kept);
     }
@@ -54,7 +54,7 @@ invariant_of-self-2 c =
       some = k.some;
       most = k.most;
       living = k.living ∙ sym (changed_living a (insert_region r) i.actors.items ys e) ∙ sym (ap (count_by is_some) items);
-      few = (let made = subst (λ (t : Actors). t.regions_made < MADE) (sym c.self.view_is) c.requires.few in
+      few = (let made = subst (λ (t : Actors). t.regions_made < MOST_MADE) (sym c.self.view_is) c.requires.few in
           omega (arith, made, ap length after, length-append owners (c.args.actor ∷ [])));
       kept = subst (λ (os : List ActorId). Numbered (IsKept i.page os) (Rattle.std.specs.Vec.with_items i.actors ys).items) (sym after)
           (subst (Numbered (IsKept i.page more)) (sym items) kept);

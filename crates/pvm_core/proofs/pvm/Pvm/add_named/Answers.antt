@@ -14,7 +14,7 @@ use Rattle.pvm_core.specs.Opening.{HasSegment, IsOpened}
 use Rattle.local_cache.specs.Arena.{Arena}
 use Rattle.local_cache.specs.Whole.{segment_of}
 use Rattle.vm_ids.specs.declared.numbers.SegId.{SegId}
-use Rattle.vm_model.specs.declared.limits.TheConstants.{MADE}
+use Rattle.vm_model.specs.declared.limits.TheConstants.{MOST_MADE}
 use Rattle.pvm_core.specs.contracts.pvm.Pvm.{the_view}
 use Rattle.pvm_core.proofs.Begun.{roomy_by, roomy_forest, roomy_machine, roomy_sound, roomy_valid}
 use Rattle.pvm_core.proofs.Kept.{seen}
@@ -26,14 +26,14 @@ use Rattle.pvm_core.proofs.pvm.Pvm.add_named.Goals as goal
 free_of : {p q : Manager} {seg : SegId} → p ≡ q → (IsOpened q.caches seg → ⊥) → IsOpened p.caches seg → ⊥
 free_of {seg = seg} e free = subst (λ (p : Manager). IsOpened p.caches seg → ⊥) (sym e) free
 
-few_of : {p q : Manager} → p ≡ q → length q.caches.caches < MADE → length p.caches.caches < MADE
-few_of e few = subst (λ (p : Manager). length p.caches.caches < MADE) (sym e) few
+few_of : {p q : Manager} → p ≡ q → length q.caches.caches < MOST_MADE → length p.caches.caches < MOST_MADE
+few_of e few = subst (λ (p : Manager). length p.caches.caches < MOST_MADE) (sym e) few
 
 -- and after room was taken
 free_in : (a b : Arena) {seg : SegId} → b ≡ record a { room = b.room } → (IsOpened a seg → ⊥) → IsOpened b seg → ⊥
 free_in a b {seg} e free opened = free (opened.0, ap (λ (k : Arena). segment_of k opened.0) (sym e) ∙ opened.1)
 
-few_in : (a b : Arena) → b ≡ record a { room = b.room } → length a.caches < MADE → length b.caches < MADE
+few_in : (a b : Arena) → b ≡ record a { room = b.room } → length a.caches < MOST_MADE → length b.caches < MOST_MADE
 few_in a b e few = omega (arith, few, ap (λ (k : Arena). length k.caches) e)
 
 pub returns-then-self-pages-clause-answers : goal.returns-then-self-pages-clause-answers

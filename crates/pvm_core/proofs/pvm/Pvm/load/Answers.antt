@@ -12,7 +12,7 @@ use Rattle.vm_ids.specs.Forest.Nodes.{no_forest}
 use Rattle.vm_ids.specs.Forest.Reading.{owner_of, value_of}
 use Rattle.local_cache.specs.Own.{own_of}
 use Rattle.residency.specs.declared.miss.Miss.{Miss}
-use Rattle.residency.specs.Causes.{Made, dirtied, dirty_count, failed_victims, pulls_for}
+use Rattle.residency.specs.Causes.{Traffic, dirtied, dirty_count, failed_victims, pulls_for}
 use Rattle.fault_path.specs.Faults.{IsOwner}
 use Rattle.pvm_core.specs.Access.{IsAtHand, IsLoaded}
 use Rattle.pvm_core.proofs.Found.{found_in, given_in, pulled_for}
@@ -180,7 +180,7 @@ returns-clause-loaded g c =
         found = found_in k size i.caches n.caches n.store i.contexts e.answered.kept.right o.0 w.in-Ok.found (w.in-Ok.ensures.frame o.0 o.1) (λ hand. (e.idle o.0 o.1 hand).2);
         bytes = w.part_of.ensures.piece;
         pulled = pulled_for (own_of i.caches o.0) before after w.in-Ok.found
-            (λ zero. (_, subst (λ (r : Result (Option FrameId) Miss). Made (pulls_for r (own_of i.caches o.0)) (dirty_count i.caches + dirtied c.read_fault.result (own_of i.caches o.0) - dirty_count n.caches + failed_victims c.read_fault.result) before after) w.in-Ok.is (e.made o.0 o.1 zero)))
+            (λ zero. (_, subst (λ (r : Result (Option FrameId) Miss). Traffic (pulls_for r (own_of i.caches o.0)) (dirty_count i.caches + dirtied c.read_fault.result (own_of i.caches o.0) - dirty_count n.caches + failed_victims c.read_fault.result) before after) w.in-Ok.is (e.made o.0 o.1 zero)))
             (λ hand. ap (λ m. g.M.Mapper.counts m) (e.idle o.0 o.1 hand).3);
         given = given_in k size i.caches n.caches n.store i.contexts e.answered.kept.right o.0 given w.in-Ok.found (w.in-Ok.ensures.frame o.0 o.1) (w.in-Ok.ensures.given o.0 o.1);
       })

@@ -21,17 +21,17 @@ use Rattle.pvm_core.proofs.Making.{all_with, made_store}
 use Rattle.pvm_core.proofs.NewCache.{answer_more, fresh_pages, many_live, many_made, temp_row, whole_more}
 use Rattle.pvm_core.proofs.Values.{followed_of}
 use Rattle.pvm_core.proofs.pvm.Pvm.make_temp.Goals as goal
-use Rattle.pvm_core.proofs.pvm.Pvm.make_temp.Goals.{then-caches_made-ge-MADE-via-then-caches_made-ge-MADE, then-caches_made-ge-MADE-via-else-caches_made-ge-MADE+then-self-pages}
+use Rattle.pvm_core.proofs.pvm.Pvm.make_temp.Goals.{then-caches_made-ge-MOST_MADE-via-then-caches_made-ge-MOST_MADE, then-caches_made-ge-MOST_MADE-via-else-caches_made-ge-MOST_MADE+then-self-pages}
 
-pub returns-then-caches_made-ge-MADE-clause-answers : goal.returns-then-caches_made-ge-MADE-clause-answers
-returns-then-caches_made-ge-MADE-clause-answers c = λ h v.
+pub returns-then-caches_made-ge-MOST_MADE-clause-answers : goal.returns-then-caches_made-ge-MOST_MADE-clause-answers
+returns-then-caches_made-ge-MOST_MADE-clause-answers c = λ h v.
     let p : Manager = the_view c.self.inside in
     let i = c.self.invariant in
     let answer : Answer = Err (troubles.Refused refusals.TooMany) in
     subst (λ (p : Manager). AnswerIs (state_at p h) (commands.MakeTemp c.args.pages) answer [] no_counts (state_at p h)) c.self.view_is
-    (answered p p h (commands.MakeTemp c.args.pages) answer i.nodes i.nodes (subst (λ (p : Manager). IsValid p h) (sym c.self.view_is) v) refl refl refl tt (λ f s. elim c.then-caches_made-ge-MADE.branch [
-      | then-caches_made-ge-MADE-via-then-caches_made-ge-MADE w ↦ many_made p f c.args.pages (omega (arith, w.if-caches_made-ge-MADE.true, c.caches_made.ensures))
-      | then-caches_made-ge-MADE-via-else-caches_made-ge-MADE+then-self-pages w ↦ many_live p f c.args.pages c.self.inside.live i.counted (omega (arith, w.if-self-pages.true))
+    (answered p p h (commands.MakeTemp c.args.pages) answer i.nodes i.nodes (subst (λ (p : Manager). IsValid p h) (sym c.self.view_is) v) refl refl refl tt (λ f s. elim c.then-caches_made-ge-MOST_MADE.branch [
+      | then-caches_made-ge-MOST_MADE-via-then-caches_made-ge-MOST_MADE w ↦ many_made p f c.args.pages (omega (arith, w.if-caches_made-ge-MOST_MADE.true, c.caches_made.ensures))
+      | then-caches_made-ge-MOST_MADE-via-else-caches_made-ge-MOST_MADE+then-self-pages w ↦ many_live p f c.args.pages c.self.inside.live i.counted (omega (arith, w.if-self-pages.true))
     ]))
 
 pub invariant_of-self : goal.invariant_of-self
@@ -64,7 +64,7 @@ returns-in_err-reserve-clause-answers c = λ h v.
     (answered p q h (commands.MakeTemp c.args.pages) answer c.self.invariant.nodes k.nodes (roomy_valid i.caches r.caches i.store r.store i.contexts i.live e.caches e.store e.slots e.no_less e.forest e.sound c.self.invariant h (subst (λ (p : Manager). IsValid p h) (sym c.self.view_is) v)) (roomy_forest i.caches r.caches i.store r.store i.contexts i.live e.caches e.store e.slots e.no_less e.forest e.sound c.self.invariant h) refl refl tt (λ f s. (
       roomy_by i.caches r.caches i.store r.store i.contexts i.live e.caches e.store e.slots e.no_less e.forest e.sound c.self.invariant f,
       tt,
-      (let row = temp_row p f c.args.pages i.live c.self.invariant.counted (omega (arith, c.if-caches_made-ge-MADE.false, c.caches_made.ensures)) (omega (arith, c.if-self-pages.false)) in rw row tt),
+      (let row = temp_row p f c.args.pages i.live c.self.invariant.counted (omega (arith, c.if-caches_made-ge-MOST_MADE.false, c.caches_made.ensures)) (omega (arith, c.if-self-pages.false)) in rw row tt),
     ))))
 
 pub invariant_of-self-2 : goal.invariant_of-self-2
@@ -121,4 +121,4 @@ returns-clause-answers c = λ h v.
     (subst (λ (x : State). AnswerIs x (commands.MakeTemp c.args.pages) answer [] no_counts (state_at q h)) same
     (answer_more p q h c.make_temp.result c.args.pages m.made.0 m.made.1 m.made.2 k.actors.some (followed_of p h k.nodes k.actors.some w.whole)
     (subst (λ (b : ℕ). forest_of q h ≡ make (all_with (option_map (λ _. replicate b 0) h) (page_names c.make_temp.result 0 c.args.pages)) (forest_of p h)) (sym k.page) forest) (refl, refl, refl, refl)
-    k.nodes i.live k.counted (omega (arith, c.if-caches_made-ge-MADE.false, c.caches_made.ensures, ap (λ a. length a.caches) e.caches)) (omega (arith, c.if-self-pages.false)) w.whole))
+    k.nodes i.live k.counted (omega (arith, c.if-caches_made-ge-MOST_MADE.false, c.caches_made.ensures, ap (λ a. length a.caches) e.caches)) (omega (arith, c.if-self-pages.false)) w.whole))

@@ -10,7 +10,7 @@ use Rattle.vm_ids.specs.declared.refusal.Refusal.TheVariants as refusals
 use Rattle.vm_ids.specs.declared.reply.FaultAt.TheVariants as faults
 use Rattle.vm_ids.specs.declared.reply.Reply.TheVariants as replies
 use Rattle.vm_ids.specs.declared.reply.Trouble.TheVariants as troubles
-use Rattle.vm_model.specs.declared.limits.TheConstants.{MADE}
+use Rattle.vm_model.specs.declared.limits.TheConstants.{MOST_MADE}
 use Rattle.vm_model.specs.Answering.{Answer, answer_by}
 use Rattle.vm_model.specs.Machine.{Page}
 use Rattle.vm_model.specs.Run.{AnswerIs, CallIs}
@@ -26,7 +26,7 @@ use Rattle.pvm_core.proofs.Opening.Told.{failed_rise, has_segment, no_segment, o
 use Rattle.pvm_core.proofs.pvm.Pvm.open_segment.Goals as goal
 
 -- as many caches were made as the machine has
-shown_few : (p : Manager) (f : PageForest) → length p.caches.caches < MADE → length (machine_by p f).caches < MADE
+shown_few : (p : Manager) (f : PageForest) → length p.caches.caches < MOST_MADE → length (machine_by p f).caches < MOST_MADE
 shown_few p f few = omega (arith, few, shown_made f 1 p.caches.caches)
 
 -- the size that was told
@@ -52,13 +52,13 @@ returns-then-is_opened-clause-answers g c =
           (λ k e. in_use p (forest_of p h) c.args.seg (get k.segments c.args.seg.0) opened.0 opened.1)));
     }
 
-pub returns-then-caches_made-ge-MADE-clause-answers : goal.returns-then-caches_made-ge-MADE-clause-answers
-returns-then-caches_made-ge-MADE-clause-answers g c =
+pub returns-then-caches_made-ge-MOST_MADE-clause-answers : goal.returns-then-caches_made-ge-MOST_MADE-clause-answers
+returns-then-caches_made-ge-MOST_MADE-clause-answers g c =
     let h : Option Held = g.M.Mapper.held c.args.mapper.now in
     let p : Manager = the_view c.self.inside in
     let i = c.self.invariant in
     let answer : Answer = Err (troubles.Refused refusals.TooMany) in
-    let many : MADE ≤ length p.caches.caches = omega (arith, c.if-caches_made-ge-MADE.true, c.caches_made.ensures) in
+    let many : MOST_MADE ≤ length p.caches.caches = omega (arith, c.if-caches_made-ge-MOST_MADE.true, c.caches_made.ensures) in
     record {
       pushes = [];
       rises = no_counts;
@@ -95,7 +95,7 @@ returns-in-Ok-None-clause-answers g c =
     let p : Manager = the_view c.self.inside in
     let i = c.self.invariant in
     let answer : Answer = Err (troubles.Refused refusals.NoSegment) in
-    let few : length p.caches.caches < MADE = omega (arith, c.if-caches_made-ge-MADE.false, c.caches_made.ensures) in
+    let few : length p.caches.caches < MOST_MADE = omega (arith, c.if-caches_made-ge-MOST_MADE.false, c.caches_made.ensures) in
     record {
       pushes = [];
       rises = no_counts;
@@ -116,7 +116,7 @@ returns-in-Err-clause-answers g c =
     let p : Manager = the_view c.self.inside in
     let i = c.self.invariant in
     let answer : Answer = Err (troubles.Mapper faults.Opening) in
-    let few : length p.caches.caches < MADE = omega (arith, c.if-caches_made-ge-MADE.false, c.caches_made.ensures) in
+    let few : length p.caches.caches < MOST_MADE = omega (arith, c.if-caches_made-ge-MOST_MADE.false, c.caches_made.ensures) in
     let counts = c.size.ensures.counts in
     record {
       pushes = [];

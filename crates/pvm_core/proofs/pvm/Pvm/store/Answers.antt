@@ -19,7 +19,7 @@ use Rattle.vm_ids.specs.Forest.Rules.{write}
 use Rattle.frame_pool.specs.Pool.{bytes_of, with_bytes}
 use Rattle.local_cache.specs.Arena.{Table, table_at, table_of}
 use Rattle.local_cache.specs.Whole.{size_of}
-use Rattle.residency.specs.Causes.{Made}
+use Rattle.residency.specs.Causes.{Traffic}
 use Rattle.residency.specs.declared.store.Store.{Store}
 use Rattle.residency.specs.StoreForest.{store_forest}
 use Rattle.residency.specs.World.{world}

@@ -1,8 +1,8 @@
 use Rattle.std.proofs.Common.{◌≡◌, ◌-◌, ◌+◌, ◌<◌, ◌≤◌, List, map, sym, ap, ◌∙◌, subst, arith, refl}
 use Rattle.std.specs.Prelude.{IsSome, IsSomeAnd, vec_capacity, vec_len}
 use Rattle.vm_model.specs.Machine as model
-use Rattle.vm_model.specs.Answering.{region_among}
-use Rattle.regions.specs.AddressSpace.{AddressSpace, AreInOrder, IsWellFormed, replace_region, split_at}
+use Rattle.vm_model.specs.Regions.{region_among, replace_region, split_at}
+use Rattle.regions.specs.AddressSpace.{AddressSpace, AreInOrder, IsWellFormed}
 use Rattle.regions.specs.Seen.{region_seen, IsPlaceOf}
 use Rattle.regions.specs.declared.region.Region.{Region}
 use Rattle.regions.proofs.Changed.{cut, is_there, same_space, so_of_found, space}

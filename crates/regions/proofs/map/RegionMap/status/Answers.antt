@@ -1,6 +1,6 @@
 use Rattle.std.proofs.Common.{◌≡◌, List, get_or, map, Some, sym, ap, subst, ◌∙◌}
 use Rattle.std.specs.Prelude.{option_map}
-use Rattle.vm_model.specs.Answering.{region_among}
+use Rattle.vm_model.specs.Regions.{region_among}
 use Rattle.regions.specs.AddressSpace.{AddressSpace, view_of}
 use Rattle.regions.specs.Seen.{region_seen, IsPlaceOf}
 use Rattle.regions.specs.declared.region.Region.{Region}
