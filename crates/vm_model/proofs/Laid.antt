@@ -1,13 +1,13 @@
 -- Regions stay in live caches.
 use Rattle.std.proofs.Common.{◌≡◌, ◌≢◌, ◌==◌, ℕ, ◌+◌, ◌-◌, ◌*◌, ◌/◌, ◌%◌, ◌<◌, ◌≤◌, Bool, true, false, cond, not, List, [], ◌∷◌, ◌++◌, length, set, take, drop, map, replicate, Option, Some, None, refl, sym, ap, subst, ◌∙◌, arith, inl, inr}
-use Rattle.std.specs.Prelude.{◌||◌, ◌&&◌, nat_lt, nat_le, option_map, option_and_then, slice_get, IsSome, IfOk, Result, Ok, Err, All}
+use Rattle.std.specs.Prelude.{◌||◌, ◌&&◌, nat_lt, nat_le, is_some, option_map, option_and_then, slice_get, IsSome, IfOk, Result, Ok, Err, All}
 use Rattle.std.specs.FinMap.{get}
 use Rattle.std.specs.List.{list_any}
-use Rattle.std.specs.Option.{option_map_or}
+use Rattle.std.specs.Option.{option_map_or, option_or}
 use Rattle.std.proofs.lemmas.Bool.Decides.{nat_tests}
 use Rattle.std.proofs.lemmas.List.{length-replicate, length-take-le, length-drop, length-set}
 use Rattle.std.proofs.lemmas.List.FromFn.{length-map-range_with_len}
-use Rattle.std.proofs.lemmas.List.Elements.{All-set, All-nil, All-cons, All-head, All-tail, All-weaker, All-push}
+use Rattle.std.proofs.lemmas.List.Elements.{All-append, All-set, All-nil, All-cons, All-head, All-tail, All-weaker, All-push}
 use Rattle.std.proofs.lemmas.Option.{slice_get-get_or}
 use Rattle.std.proofs.lemmas.Grind.{common_steps}
 use Rattle.vm_ids.specs.Held.{Segments}
@@ -15,6 +15,7 @@ use Rattle.vm_ids.specs.declared.command.Command.{Command}
 use Rattle.vm_ids.specs.declared.command.Command.TheVariants as commands
 use Rattle.vm_ids.specs.declared.command.Extent.{Extent}
 use Rattle.vm_ids.specs.declared.command.Mapping.{Mapping}
+use Rattle.vm_ids.specs.declared.command.Prot.{Prot}
 use Rattle.vm_ids.specs.declared.command.Span.{Span}
 use Rattle.vm_ids.specs.declared.numbers.CacheId.{CacheId}
 use Rattle.vm_ids.specs.declared.refusal.Refusal.{Refusal}
@@ -23,7 +24,8 @@ use Rattle.vm_ids.specs.declared.reply.Trouble.TheVariants as troubles
 use Rattle.vm_model.specs.Machine.{Machine, Cache, Page, Region, Actor, actor_of, cache_of, numbered, zero_page}
 use Rattle.vm_model.specs.Place.{Place, place, placed, place_among, place_of_actor, region_at, holds}
 use Rattle.vm_model.specs.PageForest.{PageForest, page_in}
-use Rattle.vm_model.specs.Answering.{Answered, answer_of, chain_answer, copy_of, destroy_of, flush_of, held_for, held_part, insert_region, invalidate_of, is_mapped, load_of, make_actor_of, make_temp_of, map_of, maps_in, move_of, open_of, opened, overwrite, page_at, passes_end, put_cache, put_page, put_pages, region_of, store_of, sync_of, temporary, unmap_of, without_region, write_at}
+use Rattle.vm_model.specs.Answering.{Answered, answer_of, chain_answer, copy_of, destroy_of, flush_of, held_for, held_part, insert_region, invalidate_of, is_mapped, load_of, make_actor_of, exit_actor_of, make_temp_of, map_of, maps_in, move_of, open_of, opened, overwrite, page_at, passes_end, put_cache, put_page, put_pages, region_of, split_of, protect_of, status_of, find_of, store_of, sync_of, temporary, unmap_of, without_region, write_at}
+use Rattle.vm_model.specs.Regions.{back_of, region_among, region_with, replace_in, replace_region, split_at, with_prot}
 use Rattle.vm_model.specs.Laws.{IsLaid, LiesIn, LieIn, MachinesStayLaid, LaidMachinesAreMapped}
 use Rattle.vm_model.proofs.Lists.{length-overwrite, numbered-other, numbered-set, numbered_place, weaker_ok}
 use Rattle.vm_model.proofs.Rows.{each_unless, each_some, each_ok}
@@ -108,6 +110,37 @@ unmapped cs n (x ∷ xs) h = All-cons (LieIn cs) (option_map (without_region n) 
     one None p = tt
     one (Some rs) p = All-filter (LiesIn cs) (λ (r : Region). not (r.number == n)) rs p
 
+-- the region with a number is one of them
+among_all : (P : Region → Type 0) (n : ℕ) (r : Region) (rs : List Region) → region_among n rs ≡ Some r → All P rs → P r
+among_all P n r [] e h = absurd (cc e)
+among_all P n r (x ∷ xs) e h = go (x.number == n) e (λ found. among_all P n r xs found (All-tail P x xs h))
+  where
+    go : (b : Bool) → cond b (Some x) (region_among n xs) ≡ Some r → (region_among n xs ≡ Some r → P r) → P r
+    go true found rest = let same : x ≡ r = cc found in subst P same (All-head P x xs h)
+    go false found rest = rest found
+
+-- one region becomes others
+replaced_all : (P : Region → Type 0) (n : ℕ) (by : Region → List Region) (r : Region) (rs : List Region) → region_among n rs ≡ Some r → All P (by r) → All P rs → All P (replace_region n by rs)
+replaced_all P n by r [] e new h = absurd (cc e)
+replaced_all P n by r (x ∷ xs) e new h = go (x.number == n) e (λ found. replaced_all P n by r xs found new (All-tail P x xs h))
+  where
+    go : (b : Bool) → cond b (Some x) (region_among n xs) ≡ Some r → (region_among n xs ≡ Some r → All P (replace_region n by xs)) → All P (cond b (by x ++ xs) (x ∷ replace_region n by xs))
+    go true found rest = let same : x ≡ r = cc found in All-append P (by x) xs (subst (λ (y : Region). All P (by y)) (sym same) new) (All-tail P x xs h)
+    go false found rest = All-cons P x (replace_region n by xs) (All-head P x xs h) (rest found)
+
+changed_lie : (cs : List (Option Cache)) (n : ℕ) (by : Region → List Region) (r : Region) (xs : List (Option Actor)) → region_with n xs ≡ Some r → (LiesIn cs r → All (LiesIn cs) (by r)) → Lie cs xs → Lie cs (replace_in n by xs)
+changed_lie cs n by r [] e new h = absurd (cc e)
+changed_lie cs n by r (None ∷ xs) e new h = All-cons (LieIn cs) None (replace_in n by xs) tt (changed_lie cs n by r xs e new (All-tail (LieIn cs) None xs h))
+changed_lie cs n by r (Some rs ∷ xs) e new h = go (region_among n rs) refl e (λ found. changed_lie cs n by r xs found new (All-tail (LieIn cs) (Some rs) xs h))
+  where
+    go : (o : Option Region) → region_among n rs ≡ o → option_or o (region_with n xs) ≡ Some r → (region_with n xs ≡ Some r → Lie cs (replace_in n by xs)) → Lie cs (cond (is_some o) (Some (replace_region n by rs) ∷ xs) (Some rs ∷ replace_in n by xs))
+    go None here found rest = All-cons (LieIn cs) (Some rs) (replace_in n by xs) (All-head (LieIn cs) (Some rs) xs h) (rest found)
+    go (Some x) here found rest =
+        let same : x ≡ r = cc found in
+        let all : All (LiesIn cs) rs = All-head (LieIn cs) (Some rs) xs h in
+        let lies : LiesIn cs r = among_all (LiesIn cs) n r rs (here ∙ ap (λ (y : Region). Some y) same) all in
+        All-cons (LieIn cs) (Some (replace_region n by rs)) xs (replaced_all (LiesIn cs) n by r rs (here ∙ ap (λ (y : Region). Some y) same) (new lies) all) (All-tail (LieIn cs) (Some rs) xs h)
+
 neither : (a b x y : ℕ) → (nat_lt a b || nat_lt x y) ≡ false → (b ≤ a) × (y ≤ x)
 neither a b x y e = (grind (arith, nat_tests), grind (arith, nat_tests))
 
@@ -122,6 +155,10 @@ module _ (m : Machine) (P : IsLaid m) where
   actor_row : RowLaid (make_actor_of m)
   unfolding make_actor_of
   actor_row = each_unless RowLaid _ _ m _ P (λ e. record { some = P.some; lie = All-push (LieIn m.caches) m.actors (Some []) P.lie (All-nil (LiesIn m.caches)) })
+
+  exit_row : (n : ℕ) → RowLaid (exit_actor_of m n)
+  unfolding exit_actor_of
+  exit_row n = each_some RowLaid _ _ m _ P (λ regions here. record { some = P.some; lie = All-set (LieIn m.caches) m.actors (n - 1) None tt P.lie })
 
   temp_row : (pages : ℕ) → RowLaid (make_temp_of m pages)
   unfolding make_temp_of
@@ -200,6 +237,39 @@ module _ (m : Machine) (P : IsLaid m) where
         some = P.some;
         lie = All-set (LieIn m.caches) m.actors (actor - 1) (Some (insert_region r regions)) (insert_all (LiesIn m.caches) r regions (record { cache = cache; there = there; within = not_past _ _ inside }) old) P.lie;
       })))))))
+
+  split_row : (n pages : ℕ) → RowLaid (split_of m n pages)
+  unfolding split_of
+  split_row n pages =
+      each_some RowLaid (region_with n m.actors) _ m _ P (λ r there.
+      each_unless RowLaid (nat_le r.pages pages) _ m _ P (λ fewer.
+      each_unless RowLaid _ _ m _ P (λ room.
+      let fresh : ℕ = m.regions_made + 1 in
+      let less : pages ≤ r.pages = grind (arith, nat_tests, fewer) in
+      record {
+        some = P.some;
+        lie = changed_lie m.caches n (split_at m.page_bytes pages fresh) r m.actors there
+            (λ (p : LiesIn m.caches r). All-cons (LiesIn m.caches) (record r { pages = pages }) (back_of m.page_bytes pages fresh r ∷ []) (record { cache = p.cache; there = p.there; within = omega (arith, p.within, less) })
+            (All-cons (LiesIn m.caches) (back_of m.page_bytes pages fresh r) [] (record { cache = p.cache; there = p.there; within = omega (arith, p.within, less) }) (All-nil (LiesIn m.caches)))) P.lie;
+      })))
+
+  protect_row : (n : ℕ) (prot : Prot) → RowLaid (protect_of m n prot)
+  unfolding protect_of
+  protect_row n prot =
+      each_some RowLaid (region_with n m.actors) _ m _ P (λ r there.
+      record {
+        some = P.some;
+        lie = changed_lie m.caches n (with_prot prot) r m.actors there
+            (λ (p : LiesIn m.caches r). All-cons (LiesIn m.caches) (record r { may_write = prot.write }) [] (record { cache = p.cache; there = p.there; within = p.within }) (All-nil (LiesIn m.caches))) P.lie;
+      })
+
+  status_row : (n : ℕ) → RowLaid (status_of m n)
+  unfolding status_of
+  status_row n = each_some RowLaid _ _ m _ P (λ status there. P)
+
+  find_row : (actor address : ℕ) → RowLaid (find_of m actor address)
+  unfolding find_of
+  find_row actor address = each_some RowLaid _ _ m _ P (λ regions here. each_some RowLaid _ _ m _ P (λ r holds. P))
 
   unmap_row : (n : ℕ) → RowLaid (unmap_of m n)
   unfolding unmap_of
@@ -315,13 +385,18 @@ module _ (m : Machine) (P : IsLaid m) where
 
   rows : (f : PageForest) (c : Command) (h : Segments) → RowLaid (answer_of m f c h)
   rows f commands.MakeActor h = actor_row m P
+  rows f (commands.ExitActor actor) h = exit_row m P actor.0
   rows f (commands.MakeTemp pages) h = temp_row m P pages
   rows f (commands.OpenSegment seg) h = open_row m P seg.0 (get h.pages seg.0)
   rows f (commands.Destroy cache) h = destroy_row m P cache.0
   rows f (commands.Copy span) h = copy_row m P span h
   rows f (commands.Move span) h = move_row m P span h
   rows f (commands.Map actor mapping) h = map_row m P actor.0 mapping
+  rows f (commands.Split region pages) h = split_row m P region.0 pages
+  rows f (commands.Protect region prot) h = protect_row m P region.0 prot
   rows f (commands.Unmap region) h = unmap_row m P region.0
+  rows f (commands.Status region) h = status_row m P region.0
+  rows f (commands.Find actor address) h = find_row m P actor.0 address
   rows f (commands.Load actor address length) h = load_row m P actor.0 address length
   rows f (commands.Store actor address piece) h = store_row actor.0 address piece h
   rows f (commands.Sync extent) h = sync_row m P extent

@@ -14,6 +14,7 @@ use Rattle.vm_ids.specs.Held.{Segments}
 use Rattle.vm_ids.specs.declared.command.Command.{Command}
 use Rattle.vm_ids.specs.declared.command.Command.TheVariants as commands
 use Rattle.vm_ids.specs.declared.command.Extent.{Extent}
+use Rattle.vm_ids.specs.declared.command.Prot.{Prot}
 use Rattle.vm_ids.specs.declared.command.Mapping.{Mapping}
 use Rattle.vm_ids.specs.declared.command.Span.{Span}
 use Rattle.vm_ids.specs.declared.numbers.ActorId.{ActorId}
@@ -34,7 +35,7 @@ use Rattle.vm_ids.proofs.Forest.Laws.Writing.{write_keeps_consistency, write_cha
 use Rattle.vm_model.specs.Machine.{Machine, Cache, Page, Region, actor_of, cache_of, numbered, pages_in, zero_page}
 use Rattle.vm_model.specs.Place.{Place, place}
 use Rattle.vm_model.specs.PageForest.{PageForest, told, nodes_of, nodes_in, page_in}
-use Rattle.vm_model.specs.Answering.{Answer, Answered, answer_of, is_named, make_actor_of, make_temp_of, open_of, opened, destroy_of, copy_of, move_of, map_of, unmap_of, load_of, store_of, sync_of, flush_of, invalidate_of, held_for, held_part, chain_answer, overwrite, page_at, passes_end, put_cache, put_page, put_pages, temporary, write_at}
+use Rattle.vm_model.specs.Answering.{Answer, Answered, answer_of, is_named, make_actor_of, exit_actor_of, make_temp_of, open_of, opened, destroy_of, copy_of, move_of, map_of, split_of, protect_of, unmap_of, status_of, find_of, load_of, store_of, sync_of, flush_of, invalidate_of, held_for, held_part, chain_answer, overwrite, page_at, passes_end, put_cache, put_page, put_pages, temporary, write_at}
 use Rattle.vm_model.specs.Asking.{IsWellFormed}
 use Rattle.vm_model.specs.Following.{followed, forest_after, pages_saved, written_at}
 use Rattle.vm_model.specs.Outcome.{IsAlike, Outcome, blank, blank_cache}
@@ -240,6 +241,32 @@ module _ (w : Machine) (f : PageForest) (F : IsFollowed (blank w) f) where
       let row : option_map_or (λ c. put_cache w1 s.from.0 (put_pages s.from_page.0 zeros c)) (cache_of w1 s.from.0) w1 ≡ next = ap (λ (o : Option Cache). option_map_or (λ c. put_cache w1 s.from.0 (put_pages s.from_page.0 zeros c)) o w1) left.1 in
       subst (λ (m : Machine). IsFollowed m (followed f (blank w) (commands.Move s) m)) (is ∙ ap blank (sym row)) all)))))))
 
+  exit_row : (actor : ActorId) → RowUntold (commands.ExitActor actor) (exit_actor_of w actor.0)
+  unfolding exit_actor_of
+  exit_row actor = each_some (RowUntold (commands.ExitActor actor)) _ _ w _ F (λ regions here. stays (blank w) f F _ refl)
+
+  split_row : (region : RegionId) (pages : ℕ) → RowUntold (commands.Split region pages) (split_of w region.0 pages)
+  unfolding split_of
+  split_row region pages =
+      let P : Answered → Type 0 = RowUntold (commands.Split region pages) in
+      each_some P _ _ w _ F (λ r there.
+      each_unless P _ _ w _ F (λ fewer.
+      each_unless P _ _ w _ F (λ room. stays (blank w) f F _ refl)))
+
+  protect_row : (region : RegionId) (prot : Prot) → RowUntold (commands.Protect region prot) (protect_of w region.0 prot)
+  unfolding protect_of
+  protect_row region prot = each_some (RowUntold (commands.Protect region prot)) _ _ w _ F (λ r there. stays (blank w) f F _ refl)
+
+  status_row : (region : RegionId) → RowUntold (commands.Status region) (status_of w region.0)
+  unfolding status_of
+  status_row region = each_some (RowUntold (commands.Status region)) _ _ w _ F (λ status there. F)
+
+  find_row : (actor : ActorId) (address : ℕ) → RowUntold (commands.Find actor address) (find_of w actor.0 address)
+  unfolding find_of
+  find_row actor address =
+      let P : Answered → Type 0 = RowUntold (commands.Find actor address) in
+      each_some P _ _ w _ F (λ regions here. each_some P _ _ w _ F (λ r holds. F))
+
   map_row : (actor : ActorId) (p : Mapping) → RowUntold (commands.Map actor p) (map_of w actor.0 p)
   unfolding map_of
   map_row actor p =
@@ -286,13 +313,18 @@ module _ (w : Machine) (f : PageForest) (F : IsFollowed (blank w) f) where
 
   rows : (c : Command) (h : Segments) → IsWellFormed c → HasMappedPages w → RowUntold c (answer_of w f c h)
   rows commands.MakeActor h some mapped = actor_row
+  rows (commands.ExitActor actor) h some mapped = exit_row actor
   rows (commands.MakeTemp pages) h some mapped = temp_row pages
   rows (commands.OpenSegment seg) h some mapped = open_row seg (get h.pages seg.0)
   rows (commands.Destroy cache) h some mapped = destroy_row cache
   rows (commands.Copy span) h some mapped = copy_row span h
   rows (commands.Move span) h some mapped = move_row span h some
   rows (commands.Map actor mapping) h some mapped = map_row actor mapping
+  rows (commands.Split region pages) h some mapped = split_row region pages
+  rows (commands.Protect region prot) h some mapped = protect_row region prot
   rows (commands.Unmap region) h some mapped = unmap_row region
+  rows (commands.Status region) h some mapped = status_row region
+  rows (commands.Find actor address) h some mapped = find_row actor address
   rows (commands.Load actor address length) h some mapped = load_row actor address length
   rows (commands.Store actor address piece) h some mapped = store_row actor address piece h mapped
   rows (commands.Sync extent) h some mapped = sync_row extent

@@ -24,7 +24,7 @@ use Rattle.vm_model.specs.declared.limits.TheConstants.{LIVING_ACTORS, LIVE_PAGE
 use Rattle.vm_model.specs.Machine.{Machine, Page, Cache, Region, Actor, zero_page, live_pages, living_actors, cache_of, cache_named, segment_of, actor_of, is_locked_page}
 use Rattle.vm_model.specs.PageForest.{PageForest}
 use Rattle.vm_model.specs.Place.{Place, place, region_at}
-use Rattle.vm_model.specs.Regions.{region_with, replace_region, split_at, status_with, with_prot}
+use Rattle.vm_model.specs.Regions.{region_with, replace_in, split_at, status_with, with_prot}
 
 -- what one command answers
 abbrev pub Answer : Type 0
@@ -247,10 +247,9 @@ map_of m actor p =
     (reply (replies.Region (record { 0 = m.regions_made + 1 }))
     (add_region m actor regions p))))))))
 
--- the region with this number becomes these, in the actor that has it
+-- the region with this number becomes these
 abbrev pub change_region : Machine → ℕ → (Region → List Region) → Machine
-change_region m number by =
-    record m { actors = map (option_map (replace_region number by)) m.actors }
+change_region m number by = record m { actors = replace_in number by m.actors }
 
 -- split: the region keeps its first pages, and the next region has the others
 unfoldable pub split_of : Machine → ℕ → ℕ → Answered

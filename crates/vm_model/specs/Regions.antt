@@ -1,5 +1,5 @@
 -- What becomes of regions, and what is told of them.
-use Rattle.std.specs.Prelude.{ℕ, ◌==◌, ◌+◌, ◌-◌, ◌*◌, List, [], ◌∷◌, ◌++◌, Option, Some, None, option_map, if◌then◌else◌}
+use Rattle.std.specs.Prelude.{ℕ, ◌==◌, ◌+◌, ◌-◌, ◌*◌, List, [], ◌∷◌, ◌++◌, Option, Some, None, is_some, option_map, if◌then◌else◌}
 use Rattle.std.specs.Option.{option_or}
 use Rattle.vm_ids.specs.declared.command.Mapping.{Mapping}
 use Rattle.vm_ids.specs.declared.command.Prot.{Prot}
@@ -18,11 +18,20 @@ region_with number (None ∷ actors) = region_with number actors
 region_with number (Some regions ∷ actors) =
     option_or (region_among number regions) (region_with number actors)
 
--- the region with this number becomes these
+-- the first of these regions with this number becomes these
 abbrev pub replace_region : ℕ → (Region → List Region) → Actor → Actor
 replace_region number by [] = []
 replace_region number by (r ∷ rs) =
     if r.number == number then by r ++ rs else r ∷ replace_region number by rs
+
+-- the region with this number, of a living actor, becomes these
+abbrev pub replace_in : ℕ → (Region → List Region) → List (Option Actor) → List (Option Actor)
+replace_in number by [] = []
+replace_in number by (None ∷ actors) = None ∷ replace_in number by actors
+replace_in number by (Some regions ∷ actors) =
+    if is_some (region_among number regions)
+    then Some (replace_region number by regions) ∷ actors
+    else Some regions ∷ replace_in number by actors
 
 -- the pages of a region behind the first so many, as a region with another number
 abbrev pub back_of : ℕ → ℕ → ℕ → Region → Region
