@@ -2,9 +2,9 @@
 ghost use Rattle.std.specs.Prelude.{◌≡◌, ◌+◌, ◌-◌, ◌*◌, ◌≤◌, ◌<◌, ◌^◌, nat_lt};
 ghost use Rattle.vm_model.specs.Answering.{overlaps, region_of};
 ghost use Rattle.vm_model.specs.Place.{holds};
+ghost use Rattle.vm_model.specs.Regions.{back_of};
 ghost use Rattle.regions.specs.Seen.{region_seen};
 ghost use Rattle.regions.specs.AddressSpace.{access_of, end_of, IsWellFormed};
-ghost use Rattle.vm_model.specs.Regions.{back_of};
 
 use vm_ids::{CacheId, Extent, Mapping, PageNo, Prot, RegionId};
 
