@@ -82,7 +82,7 @@ with_none n (None ∷ xs) f = with_none n xs (λ j rs e off. f (suc j) rs e off)
 with_none n (Some rs ∷ xs) f = neither (region_among n rs) (region_with n xs) (f 0 rs refl (λ off. off)) (with_none n xs (λ j qs e off. f (suc j) qs e off))
 
 -- what stands at a place has the number behind it
-number_at : {A : Type 0} (xs : List (Option A)) (j : ℕ) (x : A) → slice_get xs j ≡ Some (Some x) → numbered xs (j + 1) ≡ Some x
+pub number_at : {A : Type 0} (xs : List (Option A)) (j : ℕ) (x : A) → slice_get xs j ≡ Some (Some x) → numbered xs (j + 1) ≡ Some x
 number_at xs j x e =
     let other : (j + 1 == 0) ≡ false = grind (arith, nat_tests) in
     let place : j + 1 - 1 ≡ j = omega arith in

@@ -1,10 +1,15 @@
 -- The actors of a machine, and the regions of each.
-use Rattle.std.specs.Prelude.{ℕ, ◌+◌, ◌-◌, ◌||◌, Bool, false, nat_le, List, length, Option, Some, None, count_by, is_some, option_map, slice_set}
+use Rattle.std.specs.Prelude.{ℕ, ◌+◌, ◌-◌, ◌||◌, Bool, false, nat_le, List, length, Option, Some, None, count_by, is_some, ok_or, option_map, slice_set, Result, Err, if◌then◌else◌}
 use Rattle.vm_ids.specs.declared.command.Mapping.{Mapping}
+use Rattle.vm_ids.specs.declared.numbers.RegionId.{RegionId}
+use Rattle.vm_ids.specs.declared.refusal.Refusal.{Refusal}
+use Rattle.vm_ids.specs.declared.refusal.Refusal.TheVariants.{BadAddress, NoActor, NoRegion, TooMany}
 use Rattle.vm_model.specs.Answering.{insert_region, region_of}
-use Rattle.vm_model.specs.Regions.{region_among}
+use Rattle.vm_model.specs.Regions.{region_among, region_with, replace_in, split_at}
 use Rattle.vm_model.specs.Machine.{Actor, Region, numbered}
+use Rattle.vm_model.specs.Place.{region_at}
 use Rattle.vm_model.specs.declared.limits.TheConstants.{LIVING_ACTORS, MOST_MADE}
+use Rattle.regions.specs.AddressSpace.{id_of}
 
 -- The bytes of a page; the actors in the order of making, of which a dead one is None; and how many
 -- regions were made.
@@ -33,3 +38,30 @@ with_region a actor p = record a {
 abbrev pub has_region : ℕ → Option Actor → Bool
 has_region region None = false
 has_region region (Some regions) = is_some (region_among region regions)
+
+-- how the cut of a region behind its first so many pages is refused, where so many regions were made
+abbrev pub cut_refusal : ℕ → ℕ → Option Region → Option Refusal
+cut_refusal made pages None = Some NoRegion
+cut_refusal made pages (Some r) =
+    if nat_le r.pages pages then Some BadAddress
+    else if nat_le MOST_MADE made then Some TooMany
+    else None
+
+-- the same of the region with this number
+abbrev pub split_refusal : Actors → ℕ → ℕ → Option Refusal
+split_refusal a region pages = cut_refusal a.regions_made pages (region_with region a.actors)
+
+-- that region keeps its first so many pages, and the next region has the others
+abbrev pub with_split : Actors → ℕ → ℕ → Actors
+with_split a region pages =
+    let fresh = a.regions_made + 1 in
+    record a {
+      actors = replace_in region (split_at a.page_bytes pages fresh) a.actors;
+      regions_made = fresh;
+    }
+
+-- the region of an actor that holds an address, or why there is none
+abbrev pub holder_of : ℕ → Option Actor → ℕ → Result RegionId Refusal
+holder_of page_bytes None address = Err NoActor
+holder_of page_bytes (Some regions) address =
+    ok_or (option_map id_of (region_at page_bytes address regions)) BadAddress

@@ -1,21 +1,21 @@
 // Actors under their numbers.
-ghost use Rattle.std.specs.Prelude.{◌≡◌, ℕ, ◌+◌, ◌-◌, ◌≤◌, ◌<◌, ◌^◌, [], ◌∷◌, ◌++◌, true, false, is_some, map, None, Some, Err, length, slice_set, option_map, All, IfOk, IfSome, IsSome, IsSomeAnd, OnErr, OnOk, MatchOption, MatchResult};
+ghost use Rattle.std.specs.Prelude.{◌≡◌, ℕ, ◌+◌, ◌-◌, ◌≤◌, ◌<◌, ◌^◌, [], ◌∷◌, ◌++◌, true, false, is_some, map, None, Some, Err, length, slice_set, option_map, IfOk, IfSome, IsSome, IsSomeAnd, OnErr, OnOk, MatchOption, MatchResult};
 ghost use Rattle.std.specs.List.{list_any};
 ghost use Rattle.vm_ids.specs.declared.refusal.Refusal.TheVariants.{TooMany};
 ghost use Rattle.vm_ids.specs.declared.reply.Trouble.TheVariants.{Memory, Refused};
 ghost use Rattle.regions.specs.AddressSpace.{place_told, IsWellFormed};
 ghost use Rattle.vm_model.specs.Answering.{maps_in, overlaps, without_region};
-ghost use Rattle.vm_model.specs.Regions.{region_with};
+ghost use Rattle.vm_model.specs.Regions.{region_with, replace_in, status_with, with_prot};
 ghost use Rattle.vm_model.specs.Machine.{numbered};
 ghost use Rattle.vm_model.specs.Place.{place_of_actor};
-ghost use Rattle.contexts.specs.Actors.{has_region, is_full, next_region, with_region};
+ghost use Rattle.contexts.specs.Actors.{has_region, holder_of, is_full, next_region, split_refusal, with_region, with_split};
 ghost use Rattle.contexts.specs.Layout.{owner_of};
 
-use crate::spaces::{add_region, maps_any, remove_region};
+use crate::spaces::{add_region, maps_any, protect_region, remove_region, split_region};
 use regions::{Place, RegionMap};
 use std::alloc::Global;
 use std::marker::Model;
-use vm_ids::{ActorId, CacheId, Mapping, NoMemory, Refusal, RegionId, Trouble};
+use vm_ids::{ActorId, CacheId, Mapping, NoMemory, Prot, Refusal, RegionId, RegionStatus, Trouble};
 use vm_model::{LIVING_ACTORS, MOST_MADE, numbered};
 
 // The actor for which a region was made.
@@ -87,6 +87,13 @@ impl Contexts {
         self.owners.len() as u32
     }
 
+    // The number of the region that is made next.
+    fn next_region(&self) -> RegionId
+        ensures { result.0 ≡ self.now.regions_made + 1 }
+    {
+        RegionId(self.owners.len() as u32 + 1)
+    }
+
     /// The regions of an actor. `None` exactly where it isn't alive.
     pub fn regions(&self, actor: ActorId) -> Option<&RegionMap>
         ensures regions { option_map (λ r. r.now.regions) result
@@ -143,11 +150,77 @@ impl Contexts {
         ensures ok { OnOk result (self.new ≡ with_region self.old actor.0 mapping) }
         ensures err { OnErr result (self.new ≡ self.old) }
     {
+        let region = self.next_region();
         self.owners.reserve(1)?;
-        let region = RegionId(self.owners.len() as u32 + 1);
         add_region(&mut self.actors, actor, region, mapping)?;
         self.owners.push_reserved(actor);
         Ok(region)
+    }
+
+    /// Cuts a region in two. It keeps the first `pages` of its pages, and the others become the next
+    /// region of its actor, which allows the same and is locked where the region is. `NoRegion`
+    /// where no living actor has it, else `BadAddress` where it has no more pages than these, else
+    /// `TooMany` where 65,535 regions were made. After an error everything is as it was.
+    pub fn split(&mut self, region: RegionId, pages: u32) -> Result<RegionId, Trouble>
+        requires some { 1 ≤ pages }
+        ensures refused { IfSome (split_refusal self.old region.0 pages)
+            (λ refusal. result ≡ Err (Refused refusal)) }
+        ensures made { split_refusal self.old region.0 pages ≡ None
+            → MatchResult result (λ fresh. fresh.0 ≡ self.old.regions_made + 1) (λ e. e ≡ Memory) }
+        ensures ok { OnOk result (self.new ≡ with_split self.old region.0 pages) }
+        ensures err { OnErr result (self.new ≡ self.old) }
+    {
+        let Some(status) = self.status(region) else {
+            return Err(Trouble::Refused(Refusal::NoRegion));
+        };
+        if status.mapping.extent.pages <= pages {
+            return Err(Trouble::Refused(Refusal::BadAddress));
+        }
+        if self.regions_made() >= MOST_MADE {
+            return Err(Trouble::Refused(Refusal::TooMany));
+        }
+        match self.cut(region, status, pages) {
+            Ok(fresh) => Ok(fresh),
+            Err(NoMemory) => Err(Trouble::Memory),
+        }
+    }
+
+    // The same, where nothing refuses it and this is told of the region.
+    fn cut(
+        &mut self,
+        region: RegionId,
+        status: RegionStatus,
+        pages: u32,
+    ) -> Result<RegionId, NoMemory>
+        requires told { status_with region.0 1 self.old.actors ≡ Some status }
+        requires some { 1 ≤ pages }
+        requires fewer { pages < status.mapping.extent.pages }
+        requires few { self.old.regions_made < MOST_MADE }
+        ensures number { IfOk result (λ fresh. fresh.0 ≡ self.old.regions_made + 1) }
+        ensures ok { OnOk result (self.new ≡ with_split self.old region.0 pages) }
+        ensures err { OnErr result (self.new ≡ self.old) }
+    {
+        let fresh = self.next_region();
+        self.owners.reserve(1)?;
+        split_region(&mut self.actors, status.actor, region, pages, fresh)?;
+        self.owners.push_reserved(status.actor);
+        Ok(fresh)
+    }
+
+    /// Changes what a region allows. `false` exactly where no living actor has it, and then
+    /// everything is as it was.
+    pub fn protect(&mut self, region: RegionId, prot: Prot) -> bool
+        ensures found { result ≡ is_some (region_with region.0 self.old.actors) }
+        ensures changed { result ≡ true → self.new ≡ record self.old {
+          actors = replace_in region.0 (with_prot prot) self.old.actors;
+        } }
+        ensures none { result ≡ false → self.new ≡ self.old }
+    {
+        let Some(status) = self.status(region) else {
+            return false;
+        };
+        protect_region(&mut self.actors, status.actor, region, prot);
+        true
     }
 
     /// Takes a region away. `false` exactly where no living actor has it, and then everything is as
@@ -172,15 +245,44 @@ impl Contexts {
             ((a : ℕ) → has_region region.0 (numbered self.now.actors a) ≡ false)
             (λ a. has_region region.0 (numbered self.now.actors a.0) ≡ true) }
     {
-        let Some(owner) = owner_in(&self.owners, region) else {
+        match self.status(region) {
+            Some(status) => Some(status.actor),
+            None => None,
+        }
+    }
+
+    /// What there is to tell of a region. `None` exactly where no living actor has it.
+    pub fn status(&self, region: RegionId) -> Option<RegionStatus>
+        ensures { result ≡ status_with region.0 1 self.now.actors }
+    {
+        let Some(actor) = owner_in(&self.owners, region) else {
             return None;
         };
-        let Some(regions) = self.regions(owner) else {
+        let Some(regions) = self.regions(actor) else {
             return None;
         };
         match regions.status(region) {
-            Some(_) => Some(owner),
+            Some(view) => Some(RegionStatus {
+                actor,
+                mapping: view.mapping,
+                locked: view.locked,
+            }),
             None => None,
+        }
+    }
+
+    /// The region of an actor that holds an address. `NoActor` where the actor isn't alive, else
+    /// `BadAddress` where no region of it holds the address.
+    pub fn find(&self, actor: ActorId, address: u64) -> Result<RegionId, Refusal>
+        ensures { result
+            ≡ holder_of self.now.page_bytes (numbered self.now.actors actor.0) address }
+    {
+        let Some(regions) = self.regions(actor) else {
+            return Err(Refusal::NoActor);
+        };
+        match regions.find(address) {
+            Some(region) => Ok(region),
+            None => Err(Refusal::BadAddress),
         }
     }
 

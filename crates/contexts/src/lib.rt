@@ -2,8 +2,8 @@
 //!
 //! Actors are numbered from 1 in the order of making, and so are regions; no number comes again. A
 //! list from the numbers of regions to their actors finds the actor of a region without a search
-//! among the actors. Only `make` and `map` take memory, for one actor or one region more, and where
-//! there is none everything stays as it was.
+//! among the actors. Only `make`, `map` and `split` take memory, for one actor or one region more,
+//! and where there is none everything stays as it was.
 //!
 //! The model is what the plain machine (`vm_model`) has of actors: the regions of each, or none
 //! where it is dead, and how many regions were made. The calls say in its words what they do and

@@ -1,13 +1,14 @@
 // The address spaces of actors, of which a dead one has none.
-ghost use Rattle.std.specs.Prelude.{◌≡◌, false, IsSome, OnErr, OnOk};
+ghost use Rattle.std.specs.Prelude.{◌≡◌, ◌<◌, ◌≤◌, false, IsSome, IsSomeAnd, OnErr, OnOk};
 ghost use Rattle.std.specs.List.{list_any};
 ghost use Rattle.vm_model.specs.Answering.{insert_region, maps_in, overlaps, region_of, without_region};
 ghost use Rattle.vm_model.specs.Machine.{numbered};
+ghost use Rattle.vm_model.specs.Regions.{region_among, replace_region, split_at, with_prot};
 ghost use Rattle.regions.specs.AddressSpace.{AddressSpace, IsWellFormed};
 ghost use Rattle.contexts.specs.Layout.{regions_in, IsChanged};
 
 use regions::RegionMap;
-use vm_ids::{ActorId, CacheId, Mapping, NoMemory, RegionId};
+use vm_ids::{ActorId, CacheId, Mapping, NoMemory, Prot, RegionId};
 
 // Adds a region to an actor.
 pub(crate) fn add_region(
@@ -31,6 +32,51 @@ pub(crate) fn add_region(
             regions.create(region, mapping);
             Ok(())
         }
+        None => unreachable!(),
+    }
+}
+
+// Cuts a region of an actor in two.
+pub(crate) fn split_region(
+    spaces: &mut [Option<RegionMap>],
+    actor: ActorId,
+    region: RegionId,
+    pages: u32,
+    fresh: RegionId,
+) -> Result<(), NoMemory>
+    requires alive { IsSome (numbered spaces.old actor.0) }
+    requires some { 1 ≤ pages }
+    requires fewer { (s : AddressSpace) → numbered spaces.old actor.0 ≡ Some s
+        → IsSomeAnd (region_among region.0 s.regions) (λ r. pages < r.pages) }
+    ensures ok { (s : AddressSpace) → numbered spaces.old actor.0 ≡ Some s → OnOk result
+        (IsChanged actor.0 (replace_region region.0 (split_at s.page_bytes pages fresh.0))
+        spaces.old spaces.new) }
+    ensures err { OnErr result (IsChanged actor.0 (λ rs. rs) spaces.old spaces.new) }
+{
+    match &mut spaces[actor.0 as usize - 1] {
+        Some(regions) => {
+            regions.reserve()?;
+            regions.split(region, pages, fresh);
+            Ok(())
+        }
+        None => unreachable!(),
+    }
+}
+
+// Changes what a region of an actor allows.
+pub(crate) fn protect_region(
+    spaces: &mut [Option<RegionMap>],
+    actor: ActorId,
+    region: RegionId,
+    prot: Prot,
+)
+    requires alive { IsSome (numbered spaces.old actor.0) }
+    requires there { (s : AddressSpace) → numbered spaces.old actor.0 ≡ Some s
+        → IsSome (region_among region.0 s.regions) }
+    ensures { IsChanged actor.0 (replace_region region.0 (with_prot prot)) spaces.old spaces.new }
+{
+    match &mut spaces[actor.0 as usize - 1] {
+        Some(regions) => regions.protect(region, prot),
         None => unreachable!(),
     }
 }

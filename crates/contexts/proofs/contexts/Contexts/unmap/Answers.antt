@@ -1,15 +1,15 @@
-use Rattle.std.proofs.Common.{◌≡◌, List, Option, true, length, map, sym, ap, subst, ◌∙◌, arith}
-use Rattle.std.specs.Prelude.{IsSome, count_by, is_some, option_map}
+use Rattle.std.proofs.Common.{◌≡◌, List, Option, true, length, map, refl, sym, ap, subst, ◌∙◌, arith}
+use Rattle.std.specs.Prelude.{IsSome, option_map}
 use Rattle.std.proofs.lemmas.List.{with_items_is}
 use Rattle.vm_model.specs.Answering.{without_region}
 use Rattle.vm_model.specs.Machine.{Actor, numbered}
 use Rattle.regions.specs.AddressSpace.{AddressSpace}
 use Rattle.contexts.specs.Actors.{Actors, has_region}
-use Rattle.contexts.specs.Layout.{IsChanged, IsKept, regions_in}
+use Rattle.contexts.specs.Layout.{IsChanged, regions_in}
 use Rattle.contexts.proofs.Owners.{IsFor}
-use Rattle.contexts.proofs.Places.{Numbered}
 use Rattle.contexts.proofs.Gone.{alive_has, goes, not_at, with_actor, with_none}
-use Rattle.contexts.proofs.Kept.{alive_in, all_without, changed_kept, changed_living}
+use Rattle.contexts.proofs.Kept.{alive_in, all_without}
+use Rattle.contexts.proofs.Sound.{sound_same}
 use Rattle.contexts.proofs.contexts.Contexts.unmap.Goals as goal
 
 pub returns-in_default-clause-found : goal.returns-in_default-clause-found
@@ -28,22 +28,14 @@ remove_region-requires c =
 pub invariant_of-self : goal.invariant_of-self
 invariant_of-self c =
     let i = c.self.inside in
-    let k = c.self.invariant in
     let n = c.args.region.0 in
     let a = c.in-Some.actor.0 in
     let ys = c.remove_region.new.spaces in
-    let owners = i.owners.items in
-    let e : IsChanged a (without_region n) i.actors.items ys =
-    subst (λ (xs : List (Option AddressSpace)). IsChanged a (without_region n) xs ys) c.deref_mut.ensures.value c.remove_region.ensures in
     let items = with_items_is i.actors ys (omega (arith, c.remove_region.auto.spaces, c.deref_mut.ensures.len)) in
-    record {
-      some = k.some;
-      most = k.most;
-      living = k.living ∙ sym (changed_living a (without_region n) i.actors.items ys e) ∙ sym (ap (count_by is_some) items);
-      few = k.few;
-      kept = subst (Numbered (IsKept i.page owners)) (sym items)
-          (changed_kept a (without_region n) i.actors.items ys e i.page owners owners (λ j s h. h) (all_without (IsFor owners a) n e.space.regions) k.kept);
-    }
+    let change = subst (λ (xs : List (Option AddressSpace)). IsChanged a (without_region n) xs ys) c.deref_mut.ensures.value c.remove_region.ensures in
+    let e : IsChanged a (without_region n) i.actors.items (Rattle.std.specs.Vec.with_items i.actors ys).items =
+    subst (IsChanged a (without_region n) i.actors.items) (sym items) change in
+    sound_same i _ c.self.invariant refl refl a (without_region n) e refl (all_without (IsFor i.owners.items a) n e.space.regions)
 
 pub returns-clause-found : goal.returns-clause-found
 returns-clause-found c = sym (with_actor c.args.region.0 c.args.self.now.actors c.in-Some.actor.0 c.in-Some.ensures)
