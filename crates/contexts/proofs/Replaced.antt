@@ -19,7 +19,7 @@ all_replaced P n by r (x ∷ xs) e new h = go (x.number == n) e (λ found. all_r
         All-append P (by x) xs (subst (λ (y : model.Region). All P (by y)) (sym same) (new (subst P same (All-head P x xs h)))) (All-tail P x xs h)
     go false found rest = All-cons P x (replace_region n by xs) (All-head P x xs h) (rest found)
 
--- of the actors, where an actor that has the region stays as it is to be
+-- of the actors, where it is so of one that has the region after that region became others
 pub all_replaced_in : (Q : Option model.Actor → Type 0) (n : ℕ) (by : model.Region → List model.Region) (r : model.Region) (xs : List (Option model.Actor)) → region_with n xs ≡ Some r
     → ((rs : model.Actor) → region_among n rs ≡ Some r → Q (Some rs) → Q (Some (replace_region n by rs))) → All Q xs → All Q (replace_in n by xs)
 all_replaced_in Q n by r [] e step h = h

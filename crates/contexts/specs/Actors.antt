@@ -39,7 +39,7 @@ abbrev pub has_region : ℕ → Option Actor → Bool
 has_region region None = false
 has_region region (Some regions) = is_some (region_among region regions)
 
--- how the cut of a region behind its first so many pages is refused, where so many regions were made
+-- how it is refused to cut a region behind so many pages, where so many regions were made
 abbrev pub cut_refusal : ℕ → ℕ → Option Region → Option Refusal
 cut_refusal made pages None = Some NoRegion
 cut_refusal made pages (Some r) =
@@ -47,7 +47,7 @@ cut_refusal made pages (Some r) =
     else if nat_le MOST_MADE made then Some TooMany
     else None
 
--- the same of the region with this number
+-- the same, of the region with this number
 abbrev pub split_refusal : Actors → ℕ → ℕ → Option Refusal
 split_refusal a region pages = cut_refusal a.regions_made pages (region_with region a.actors)
 

@@ -1,6 +1,5 @@
-use Rattle.std.proofs.Common.{◌≡◌, ◌-◌, Some, ap, set, subst}
+use Rattle.std.proofs.Common.{◌-◌, Some, ap, set, subst}
 use Rattle.std.specs.Prelude.{IsSome}
-use Rattle.vm_model.specs.Regions.{replace_region, with_prot}
 use Rattle.regions.specs.AddressSpace.{AddressSpace}
 use Rattle.contexts.proofs.Places.{found_here}
 use Rattle.contexts.proofs.spaces.protect_region.Goals as goal
