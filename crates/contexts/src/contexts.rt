@@ -157,10 +157,11 @@ impl Contexts {
         Ok(region)
     }
 
-    /// Cuts a region in two. It keeps the first `pages` of its pages, and the others become the next
-    /// region of its actor, which allows the same and is locked where the region is. `NoRegion`
-    /// where no living actor has it, else `BadAddress` where it has no more pages than these, else
-    /// `TooMany` where 65,535 regions were made. After an error everything is as it was.
+    /// Cuts a region in two. It keeps the first `pages` of its pages, and the others become the
+    /// next region of its actor, which allows the same and is locked where the region is.
+    /// `NoRegion` where no living actor has it, else `BadAddress` where it has no more pages than
+    /// these, else `TooMany` where 65,535 regions were made. After an error everything is as it
+    /// was.
     pub fn split(&mut self, region: RegionId, pages: u32) -> Result<RegionId, Trouble>
         requires some { 1 ≤ pages }
         ensures refused { IfSome (split_refusal self.old region.0 pages)
