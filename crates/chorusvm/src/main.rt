@@ -1,9 +1,9 @@
 //! The program `chorusvm`: it replays a script of actors on standard input, and writes the replies to standard output.
 //!
 //! It is the top of the layers, and has no model of its own: what it answers is said by the contract of the one call
-//! that it makes, `replay::run`. Here stand only the adapters over the real streams and over the files of the working
-//! folder, and the messages on standard error. In that folder `swap` is the swap area, and `seg.N` would be segment N,
-//! which no command names yet.
+//! that it makes, `replay::run`. Here stand only the adapters over the real streams and over the files of a folder, and
+//! the messages on standard error. In that folder, which the words name, `swap` is the swap area, and `seg.N` is
+//! segment N.
 #![tactic(auto)]
 
 mod fault;

@@ -199,4 +199,3 @@ pub paged_out : (n : ℕ) (m next : Machine) (f : PageForest) (count : ℕ) (s :
     → Outcome m (Some f) (commands.PageOut count) s (answer_by (λ _. replies.Done) (victim result)) next (rises_between n c d)
 paged_out n m next f count s c d (Ok x) same cause = λ i. reply replies.Done (sym same i)
 paged_out n m next f count s c d (Err e) same cause = (same, grown_some n c.faults d.faults cause.faults, grown_some n c.pushes d.pushes cause.pushes, tt)
-

@@ -174,7 +174,7 @@ module _ (p : Manager) (h : Option Held) (nodes : IsWhole p.caches) (apart : Are
   valued n may =
       let r = has_home p.caches n may.home may.is in
       let value : value_of (forest_of p h) (name_of p.caches n) ≡ own_page (world_of p h) n = own_value p h nodes n r.held may.own_page in
-      by_told h (sym (ap shown value) )
+      by_told h (sym (ap shown value))
     where
       shown_own : (o : Option (Option (List ℕ))) → unwrap_or (unwrap_or o None) [] ≡ shown o
       shown_own None = refl

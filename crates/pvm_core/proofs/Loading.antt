@@ -172,7 +172,6 @@ at_le ts (suc k) t e = le_sum ts k t e
 pub size_le : (a : Arena) (n count : ℕ) → size_of a n ≡ Some count → count ≤ sum_by page_count a.caches
 size_le a n count e = let t = sized_table (table_of a n) count e in omega (arith, at_le a.caches n t.0 t.1, t.2)
 
-
 pub found_within : (found : Option FrameId) (P : FrameId → Type 0) (m n : ℕ) → m ≡ n → IfSome found (λ f. (f.0 < m) × P f) → IfSome found (λ f. f.0 < n)
 found_within None P m n e h = tt
 found_within (Some f) P m n e h = omega (arith, h.0, e)

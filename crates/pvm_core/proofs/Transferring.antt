@@ -145,13 +145,13 @@ module _ (p q : Manager) (h g : Option Held) (c d : MapperCounts) (span : Span) 
       let one : OneDenied (replaced span) h out.segment p.caches q.caches = out.denied in
       failed_at c d p q h g command (Err (troubles.Refused refusals.WriteDenied)) (one_denied out.segment.0 one.page) keeps.reach nodes then now forest.forest refl (T.reaches _) (T.quiet (machine_of p h) (segments_of g) _)
       (λ f. T.shut f (forest_shown (Some (forest_of p h)) (machine_by p f)) (one_denied out.segment.0 one.page)
-          (one_of (is_denied_page (machine_by p f) (one_denied out.segment.0 one.page) span.to.0) span.to_page.0 span.pages one.page one.asked.page_of.0 one.asked.page_of.1
-          (denied_there p f (one_denied out.segment.0 one.page) span.to.0 one.page out.segment out.named (denies_one out.segment.0 one.page)))
-          ∙ ap (λ (m : Machine). refuse m refusals.WriteDenied) (sym (keeps.by f)))
+      (one_of (is_denied_page (machine_by p f) (one_denied out.segment.0 one.page) span.to.0) span.to_page.0 span.pages one.page one.asked.page_of.0 one.asked.page_of.1
+      (denied_there p f (one_denied out.segment.0 one.page) span.to.0 one.page out.segment out.named (denies_one out.segment.0 one.page)))
+      ∙ ap (λ (m : Machine). refuse m refusals.WriteDenied) (sym (keeps.by f)))
       (λ f s told. T.shut f (forest_shown (Some (forest_of p h)) (machine_by p f)) s
-          (one_of (is_denied_page (machine_by p f) s span.to.0) span.to_page.0 span.pages one.page one.asked.page_of.0 one.asked.page_of.1
-          (denied_there p f s span.to.0 one.page out.segment out.named (denied_later h out.segment.0 one.page one.denied g s (reach_denied (machine_of p h) h g c d keeps.reach) told)))
-          ∙ ap (λ (m : Machine). refuse m refusals.WriteDenied) (sym (keeps.by f)))
+      (one_of (is_denied_page (machine_by p f) s span.to.0) span.to_page.0 span.pages one.page one.asked.page_of.0 one.asked.page_of.1
+      (denied_there p f s span.to.0 one.page out.segment out.named (denied_later h out.segment.0 one.page one.denied g s (reach_denied (machine_of p h) h g c d keeps.reach) told)))
+      ∙ ap (λ (m : Machine). refuse m refusals.WriteDenied) (sym (keeps.by f)))
 
   -- with a fault, the machine would have refused nothing else
   else_open : (f g' : PageForest) (s : Segments) (page : PageNo) (b : Bool) → is_any_denied (machine_by p f) s span ≡ b → NotRefusedButFor (faults.Access page) (answer_of (machine_by p f) g' command s).answer
@@ -163,13 +163,22 @@ module _ (p q : Manager) (h g : Option Held) (c d : MapperCounts) (span : Span) 
   access_call page forest out rose =
       let asked : IsAskedFor (replaced span) page.0 h out.segment p.caches q.caches = out.denied in
       failed_at c d p q h g command (Err (troubles.Mapper (faults.Access page))) no_segments keeps.reach nodes then now forest.forest refl (T.reaches _) (T.quiet (machine_of p h) (segments_of g) _)
-      (λ f. (keeps.by f, grown_some n c.faults d.faults rose,
-          T.access (machine_by p f) (Some (forest_of p h)) no_segments page (rises_between n c d) (named_in p f span.to.0 out.segment out.named) (asked.page_of.0, asked.page_of.1, λ r from below. undenied_blank p f span.to.0 r),
-          else_open f (forest_shown (Some (forest_of p h)) (machine_by p f)) no_segments page (is_any_denied (machine_by p f) no_segments span) refl))
-      (λ f s told. (keeps.by f, grown_some n c.faults d.faults rose,
-          T.access (machine_by p f) (Some (forest_of p h)) s page (rises_between n c d) (named_in p f span.to.0 out.segment out.named) (asked.page_of.0, asked.page_of.1,
-              λ r from below. denied_by p f s span.to.0 r ∙ allowed_there p span.to.0 out.segment out.named s r (allowed_later h out.segment.0 r (asked.allows r from below) g s (reach_denied (machine_of p h) h g c d keeps.reach) told)),
-          else_open f (forest_shown (Some (forest_of p h)) (machine_by p f)) s page (is_any_denied (machine_by p f) s span) refl))
+      (λ f. (
+        keeps.by f,
+        grown_some n c.faults d.faults rose,
+        T.access (machine_by p f) (Some (forest_of p h)) no_segments page (rises_between n c d) (named_in p f span.to.0 out.segment out.named) (asked.page_of.0, asked.page_of.1, λ r from below. undenied_blank p f span.to.0 r),
+        else_open f (forest_shown (Some (forest_of p h)) (machine_by p f)) no_segments page (is_any_denied (machine_by p f) no_segments span) refl,
+      ))
+      (λ f s told. (
+        keeps.by f,
+        grown_some n c.faults d.faults rose,
+        T.access (machine_by p f) (Some (forest_of p h)) s page (rises_between n c d) (named_in p f span.to.0 out.segment out.named) (
+          asked.page_of.0,
+          asked.page_of.1,
+          λ r from below. denied_by p f s span.to.0 r ∙ allowed_there p span.to.0 out.segment out.named s r (allowed_later h out.segment.0 r (asked.allows r from below) g s (reach_denied (machine_of p h) h g c d keeps.reach) told),
+        ),
+        else_open f (forest_shown (Some (forest_of p h)) (machine_by p f)) s page (is_any_denied (machine_by p f) s span) refl,
+      ))
 
   -- where the pages may be written, the machine would have refused nothing
   open_now : AreWritable (replaced span) q.caches → (f : PageForest) (s : Segments) → segments_of g ≡ Some s → is_any_denied (machine_by p f) s span ≡ false

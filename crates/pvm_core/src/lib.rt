@@ -13,11 +13,11 @@ mod maps;
 mod nodes;
 mod pieces;
 mod pvm;
-mod segments;
 mod saving;
+mod segments;
 mod spans;
-mod writes;
 #[cfg(test)]
 mod tests;
+mod writes;
 
 pub use pvm::Pvm;

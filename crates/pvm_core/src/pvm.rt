@@ -29,8 +29,8 @@ use residency::Store;
 use std::alloc::Global;
 use std::marker::Model;
 use vm_ids::{
-    ActorId, CacheId, ChainList, Command, Counts, Extent, FaultAt, Mapping, NoMemory, PageNo, Piece,
-    Refusal, RegionId, Reply, Span, Trouble,
+    ActorId, CacheId, ChainList, Command, Counts, Extent, FaultAt, Mapping, NoMemory, PageNo,
+    Piece, Refusal, RegionId, Reply, Span, Trouble,
 };
 use vm_model::{LIVE_PAGES, MOST_MADE};
 use vm_port::{Chooser, Mapper};
@@ -156,7 +156,11 @@ impl Pvm {
         if self.contexts.maps(cache) {
             return Err(Trouble::Refused(Refusal::InUse));
         }
-        let all = Extent { cache, first: PageNo(0), pages };
+        let all = Extent {
+            cache,
+            first: PageNo(0),
+            pages,
+        };
         self.write_back(all, mapper, chooser)?;
         destroy_pages(&mut self.store, &mut self.caches, cache, pages);
         self.caches.remove(cache);

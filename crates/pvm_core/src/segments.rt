@@ -212,7 +212,14 @@ impl Pvm {
         if let Some(refusal) = extent_refusal(&self.caches, extent) {
             return Err(Trouble::Refused(refusal));
         }
-        match push_range(&mut self.store, &mut self.caches, extent, give_up, mapper, chooser) {
+        match push_range(
+            &mut self.store,
+            &mut self.caches,
+            extent,
+            give_up,
+            mapper,
+            chooser,
+        ) {
             Ok(()) => Ok(()),
             Err(page) => Err(Trouble::Mapper(FaultAt::Page(page))),
         }

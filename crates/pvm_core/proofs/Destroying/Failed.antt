@@ -97,9 +97,12 @@ module _ (p q : Manager) (h g : Option Held) (c d : MapperCounts) (cache : Cache
       let seg = named_of (table_of p.caches cache.0) out.named in
       let same : forest_of q g ≡ saves done (page_names cache 0 (pages_in (cache_of (machine_of p h) cache.0))) (forest_of p h) = out.forest ∙ ap (λ (k : ℕ). saves done (page_names cache 0 k) (forest_of p h)) (sym (touched (forest_of p h))) in
       let told : (f : PageForest) (s : Segments) → Outcome (machine_by p f) (Some (forest_of p h)) (commands.Destroy cache) s (Err (troubles.Mapper (faults.Save done))) (machine_by q f) (rises_between n c d)
-      = λ f s. (keeps.by f, grown_some n c.faults d.faults rose,
-          (named_in p f cache.0 seg.0 seg.1, subst (λ (k : ℕ). CanFailAtSave (Some (forest_of p h)) (page_names cache 0 k) done) (sym (touched f)) out.left),
-          not_refused f (faults.Save done)) in
+      = λ f s. (
+        keeps.by f,
+        grown_some n c.faults d.faults rose,
+        (named_in p f cache.0 seg.0 seg.1, subst (λ (k : ℕ). CanFailAtSave (Some (forest_of p h)) (page_names cache 0 k) done) (sym (touched f)) out.left),
+        not_refused f (faults.Save done),
+      ) in
       call_is c d p q h g (commands.Destroy cache) (Err (troubles.Mapper (faults.Save done))) keeps.reach now tt
       (subst (λ (k : ℕ). ArePushed (machine_of p h) (segments_of g) cache.0 0 k) (let e : 0 + pages ≡ pages = omega arith in e ∙ sym (touched (forest_of p h))) pushed) same
       (outcome_by p q h g (commands.Destroy cache) (Err (troubles.Mapper (faults.Save done))) (rises_between n c d) no_segments nodes then (reach_told (machine_of p h) h g c d keeps.reach) keeps.machine

@@ -68,8 +68,8 @@ module _ (p : Manager) (h : Option Held) (e : Extent) (x : IsExtent p.caches e) 
       let same : x.segment.0 ≡ seg = cc two in
       ap (λ (k : ℕ). page_named (machine_of p h) k page) (sym same)
       ∙ ap (option_and_then (λ (c : Cache). slice_get c.pages page)) (
-          cache_of_segment p apart (forest_of p h) e.cache.0 x.table x.there x.segment x.of
-          ∙ sym (numbered-caches (forest_of p h) p.caches.caches e.cache.0 ∙ ap (option_map (cache_shown (forest_of p h) e.cache.0)) x.there))
+      cache_of_segment p apart (forest_of p h) e.cache.0 x.table x.there x.segment x.of
+      ∙ sym (numbered-caches (forest_of p h) p.caches.caches e.cache.0 ∙ ap (option_map (cache_shown (forest_of p h) e.cache.0)) x.there))
 
   there : (page : ℕ) → page < e.first.0 + e.pages → IsSome (page_in (machine_of p h) e.cache.0 page)
   there page less = subst IsSome (sym (page_shown (forest_of p h) p e.cache page x.table x.there (omega (arith, less, x.ends)))) refl

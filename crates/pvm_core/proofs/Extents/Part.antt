@@ -104,8 +104,8 @@ module _ (b : Arena) (s : Store) (g : Option Held) (e : Extent) (x : IsExtent b 
       let t = there_at k is page low in
       slice_get-get_or (part_for g x.segment e) i [] (omega (arith, less, part_many g x.segment e))
       ∙ ap (λ (q : Page). Some q) (
-          get_or-map-range_with_len (λ page. page_with page (held_of g x.segment)) e.first.0 e.pages i page [] less (omega (arith, first))
-          ∙ ap (λ (o : Option Held). page_with page (held_of o x.segment)) is ∙ ap (λ (o : Option Page). unwrap_or o []) t.1)
+      get_or-map-range_with_len (λ page. page_with page (held_of g x.segment)) e.first.0 e.pages i page [] less (omega (arith, first))
+      ∙ ap (λ (o : Option Held). page_with page (held_of o x.segment)) is ∙ ap (λ (o : Option Page). unwrap_or o []) t.1)
       ∙ sym t.1
 
   -- and is what its segment holds of it

@@ -58,9 +58,9 @@ module _ (p : Manager) (h : Option Held) (apart : AreApart p.caches) (e : Extent
       let home = home_now page n listed.1 in
       let there : IsSome (segment_page (segments_in k) x.segment.0 page) = subst (λ (o : Option Held). IfSome o (λ k. IsSome (page_at k (record { segment = x.segment; page = record { 0 = page } })))) is (right.tied.backed.lies n (record { segment = x.segment; page = record { 0 = page } }) home) in
       let held : worlds.home_page (world g None b t) n ≡ segment_page (segments_in k) x.segment.0 page =
-          ap (λ (o : Option Home). option_and_then (λ h. option_and_then (page_at h) o) g) home ∙ ap (λ (o : Option Held). option_and_then (λ h. page_at h (record { segment = x.segment; page = record { 0 = page } })) o) is in
+      ap (λ (o : Option Home). option_and_then (λ h. option_and_then (page_at h) o) g) home ∙ ap (λ (o : Option Held). option_and_then (λ h. page_at h (record { segment = x.segment; page = record { 0 = page } })) o) is in
       let value : value_of (forest_of p h) (page_name e.cache page) ≡ Some (segment_page (segments_in k) x.segment.0 page) =
-          ap (λ f. value_of f (page_name e.cache page)) (sym forest) ∙ ap (value_of (store_forest (world g None b t))) (sym listed.1) ∙ (synced n found.1).page ∙ ap Some held in
+      ap (λ f. value_of f (page_name e.cache page)) (sym forest) ∙ ap (value_of (store_forest (world g None b t))) (sym listed.1) ∙ (synced n found.1).page ∙ ap Some held in
       sym (page_shown (forest_of p h) p e.cache page x.table x.there low ∙ ap (λ o. Some (shown o)) value ∙ told_page (segment_page (segments_in k) x.segment.0 page) there)
     where
       told_page : (o : Option (List ℕ)) → IsSome o → Some (shown (Some o)) ≡ o

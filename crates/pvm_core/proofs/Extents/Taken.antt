@@ -162,8 +162,8 @@ module _ (p : Manager) (h g : Option Held) (b d : Arena) (s u : Store) (t : Acto
   nodes_are : segment_pages (world g None b s) (extent_names e) ≡ nodes_in e (Some (put (forest_of p h) (part_for g x.segment e)))
   nodes_are = part_nodes b s g e x t.page_bytes k.actors.some v.sized v.full
       ∙ ap (λ ps. Rattle.vm_ids.specs.Forest.Commands.pages_at e.cache e.first.0 (map Rattle.vm_model.specs.PageForest.told ps)) (sym (
-          ap (λ (n : ℕ). take n (drop e.first.0 (overwrite e.first.0 (part_for g x.segment e) (cache_shown (forest_of p h) e.cache.0 x.table).pages))) (sym count)
-          ∙ part_of_overwrite e.first.0 (part_for g x.segment e) (cache_shown (forest_of p h) e.cache.0 x.table).pages (omega (arith, ends))))
+      ap (λ (n : ℕ). take n (drop e.first.0 (overwrite e.first.0 (part_for g x.segment e) (cache_shown (forest_of p h) e.cache.0 x.table).pages))) (sym count)
+      ∙ part_of_overwrite e.first.0 (part_for g x.segment e) (cache_shown (forest_of p h) e.cache.0 x.table).pages (omega (arith, ends))))
 
   names : extent_names e ≡ firsts (nodes_in e (Some (put (forest_of p h) (part_for g x.segment e))))
   names = sym (with_firsts (Rattle.page_release.specs.Homes.named_page (world g None b s)) (extent_names e)) ∙ ap firsts nodes_are

@@ -102,10 +102,18 @@ module _ (p q : Manager) (h : Option Held) (seg : SegId) (n : ℕ) (free : IsOpe
   pub lacking : live + n ≤ LIVE_PAGES → AnswerIs (state_at p h) (commands.OpenSegment seg) (Err troubles.Memory) [] no_counts (state_at q h)
   lacking room = stayed p q h (commands.OpenSegment seg) (Err troubles.Memory) no_counts valid forest refl tt tt
       (outcome_over p q h (zeros_in seg p.page_bytes n) (commands.OpenSegment seg) (Err troubles.Memory) no_counts nodes then
-      (λ f. (by f, tt, (
-        let row = ap (open_of (machine_by p f) seg.0) (zeros_there seg p.page_bytes n) ∙ open_row p f seg (λ k e. free (k, e)) few (replicate n (zero_page p.page_bytes)) live is (omega (arith, room, length-replicate n (zero_page p.page_bytes))) in
-        rw row tt)))
-      (λ k e. (machine, tt, (
-        let row = ap (open_of (machine_of p h) seg.0) (held_for k seg p.page_bytes n (subst (λ g. HasSegment g seg p.page_bytes n) e has))
+      (λ f. (
+        by f,
+        tt,
+        (
+            let row = ap (open_of (machine_by p f) seg.0) (zeros_there seg p.page_bytes n) ∙ open_row p f seg (λ k e. free (k, e)) few (replicate n (zero_page p.page_bytes)) live is (omega (arith, room, length-replicate n (zero_page p.page_bytes))) in
+            rw row tt),
+      ))
+      (λ k e. (
+        machine,
+        tt,
+        (
+            let row = ap (open_of (machine_of p h) seg.0) (held_for k seg p.page_bytes n (subst (λ g. HasSegment g seg p.page_bytes n) e has))
             ∙ open_row p (forest_of p h) seg (λ k e. free (k, e)) few (pages_for (Some k) seg n) live is (omega (arith, room, many (Some k) seg p.page_bytes n (subst (λ g. HasSegment g seg p.page_bytes n) e has))) in
-        rw row tt))))
+            rw row tt),
+      )))

@@ -89,7 +89,7 @@ returns-in_err-make_ready-clause-answers g c =
     let trouble = c.in_err-make_ready.field-0.0 in
     let is : c.from_residual.result ≡ Err trouble = gave.1 ∙ ap (λ t. Err t) gave.2 in
     let wrong : IsNotReady (replaced s) p h q k trouble = subst (λ (e : Extent). IsNotReady e p h q k trouble) c.destination.ensures
-        (subst (λ (p : Manager). IsNotReady c.destination.result p h q k trouble) (sym c.self.view_is) (subst (λ (r : Result _ Trouble). IfErr r (IsNotReady c.destination.result c.args.self.now h q k)) c.in_err-make_ready.was x0.not_ready)) in
+    (subst (λ (p : Manager). IsNotReady c.destination.result p h q k trouble) (sym c.self.view_is) (subst (λ (r : Result _ Trouble). IfErr r (IsNotReady c.destination.result c.args.self.now h q k)) c.in_err-make_ready.was x0.not_ready)) in
     subst (λ (p : Manager). CallIs before after (state_at p h) (commands.Copy s) (done_by c.from_residual.result) (state_at q k)) c.self.view_is
     (subst (λ (r : Result _ Trouble). CallIs before after (state_at p h) (commands.Copy s) (done_by r) (state_at q k)) (sym is)
     (transfer_failed p q h k before after s (commands.Copy s) transfer keeps0 c.self.invariant.nodes x0.whole valid0 x0.valid open0.to open0.to_is open0.to_ends trouble wrong (λ at e. x0.cause at (c.in_err-make_ready.was ∙ ap (λ t. Err t) e))))
@@ -115,7 +115,7 @@ returns-in_err-make_ready-clause-made g c =
     let trouble = c.in_err-make_ready.field-0.0 in
     let is : c.from_residual.result ≡ Err trouble = gave.1 ∙ ap (λ t. Err t) gave.2 in
     let wrong : IsNotReady (replaced s) p h q k trouble = subst (λ (e : Extent). IsNotReady e p h q k trouble) c.destination.ensures
-        (subst (λ (p : Manager). IsNotReady c.destination.result p h q k trouble) (sym c.self.view_is) (subst (λ (r : Result _ Trouble). IfErr r (IsNotReady c.destination.result c.args.self.now h q k)) c.in_err-make_ready.was x0.not_ready)) in
+    (subst (λ (p : Manager). IsNotReady c.destination.result p h q k trouble) (sym c.self.view_is) (subst (λ (r : Result _ Trouble). IfErr r (IsNotReady c.destination.result c.args.self.now h q k)) c.in_err-make_ready.was x0.not_ready)) in
     subst (λ (p : Manager). RaisesMade (machine_of p h) (commands.Copy s) (done_by c.from_residual.result) (numbered p) (numbered q)) c.self.view_is
     (subst (λ (r : Result _ Trouble). RaisesMade (machine_of p h) (commands.Copy s) (done_by r) (numbered p) (numbered q)) (sym is) (failed_made p q h k before after s (commands.Copy s) transfer keeps0 c.self.invariant.nodes trouble wrong))
 
@@ -140,7 +140,7 @@ returns-in_err-make_ready-clause-copies g c =
     let trouble = c.in_err-make_ready.field-0.0 in
     let is : c.from_residual.result ≡ Err trouble = gave.1 ∙ ap (λ t. Err t) gave.2 in
     let wrong : IsNotReady (replaced s) p h q k trouble = subst (λ (e : Extent). IsNotReady e p h q k trouble) c.destination.ensures
-        (subst (λ (p : Manager). IsNotReady c.destination.result p h q k trouble) (sym c.self.view_is) (subst (λ (r : Result _ Trouble). IfErr r (IsNotReady c.destination.result c.args.self.now h q k)) c.in_err-make_ready.was x0.not_ready)) in
+    (subst (λ (p : Manager). IsNotReady c.destination.result p h q k trouble) (sym c.self.view_is) (subst (λ (r : Result _ Trouble). IfErr r (IsNotReady c.destination.result c.args.self.now h q k)) c.in_err-make_ready.was x0.not_ready)) in
     subst (λ (p : Manager). CopiesSaved (replaced s) p h q c.from_residual.result) c.self.view_is
     (subst (λ (r : Result _ Trouble). CopiesSaved (replaced s) p h q r) (sym is) (failed_copied p q h k before after s (commands.Copy s) transfer keeps0 c.self.invariant.nodes trouble wrong))
 
@@ -165,7 +165,7 @@ returns-in_err-make_ready-clause-refused g c =
     let trouble = c.in_err-make_ready.field-0.0 in
     let is : c.from_residual.result ≡ Err trouble = gave.1 ∙ ap (λ t. Err t) gave.2 in
     let wrong : IsNotReady (replaced s) p h q k trouble = subst (λ (e : Extent). IsNotReady e p h q k trouble) c.destination.ensures
-        (subst (λ (p : Manager). IsNotReady c.destination.result p h q k trouble) (sym c.self.view_is) (subst (λ (r : Result _ Trouble). IfErr r (IsNotReady c.destination.result c.args.self.now h q k)) c.in_err-make_ready.was x0.not_ready)) in
+    (subst (λ (p : Manager). IsNotReady c.destination.result p h q k trouble) (sym c.self.view_is) (subst (λ (r : Result _ Trouble). IfErr r (IsNotReady c.destination.result c.args.self.now h q k)) c.in_err-make_ready.was x0.not_ready)) in
     λ r e other. absurd (failed_refused p q h k before after s (commands.Copy s) transfer keeps0 c.self.invariant.nodes trouble wrong r (let x : Err trouble ≡ Err (troubles.Refused r) = sym is ∙ e in cc x) other)
 
 pub returns-in_err-make_ready-clause-idle : goal.returns-in_err-make_ready-clause-idle
@@ -189,7 +189,7 @@ returns-in_err-make_ready-clause-idle g c =
     let trouble = c.in_err-make_ready.field-0.0 in
     let is : c.from_residual.result ≡ Err trouble = gave.1 ∙ ap (λ t. Err t) gave.2 in
     let wrong : IsNotReady (replaced s) p h q k trouble = subst (λ (e : Extent). IsNotReady e p h q k trouble) c.destination.ensures
-        (subst (λ (p : Manager). IsNotReady c.destination.result p h q k trouble) (sym c.self.view_is) (subst (λ (r : Result _ Trouble). IfErr r (IsNotReady c.destination.result c.args.self.now h q k)) c.in_err-make_ready.was x0.not_ready)) in
+    (subst (λ (p : Manager). IsNotReady c.destination.result p h q k trouble) (sym c.self.view_is) (subst (λ (r : Result _ Trouble). IfErr r (IsNotReady c.destination.result c.args.self.now h q k)) c.in_err-make_ready.was x0.not_ready)) in
     λ nothing.
     let idle = x0.idle (subst (NeedsNothing c.args.self.now.caches) (sym c.destination.ensures) nothing) in (
       idle.0,
@@ -222,7 +222,7 @@ copy_pages-requires-clause-tied g c =
     let valid : IsValid b k = subst (λ (p : Manager). IsValid p k) (sym v2) x0.valid in
     let keeps : KeepsMachine p b h k before after = subst (λ (r : Manager). KeepsMachine p r h k before after) (sym v2) keeps0 in
     let ready : IsReady (replaced s) (2 * c.args.span.pages) p b h k = subst (λ (e : Extent). IsReady e (2 * c.args.span.pages) p b h k) c.destination.ensures
-        (subst (λ (r : Manager). IsReady c.destination.result (2 * c.args.span.pages) p r h k) (sym v2) (subst (λ (p : Manager). IsReady c.destination.result (2 * c.args.span.pages) p q h k) (sym c.self.view_is) c.in_ok-make_ready.ensures.ready)) in
+    (subst (λ (r : Manager). IsReady c.destination.result (2 * c.args.span.pages) p r h k) (sym v2) (subst (λ (p : Manager). IsReady c.destination.result (2 * c.args.span.pages) p q h k) (sym c.self.view_is) c.in_ok-make_ready.ensures.ready)) in
     let out : IsOpen (size_of j.caches s.from.0) (size_of j.caches s.to.0) s = record {
       from = open0.from;
       to = open0.to;
@@ -259,7 +259,7 @@ copy_pages-requires-clause-can g c =
     let valid : IsValid b k = subst (λ (p : Manager). IsValid p k) (sym v2) x0.valid in
     let keeps : KeepsMachine p b h k before after = subst (λ (r : Manager). KeepsMachine p r h k before after) (sym v2) keeps0 in
     let ready : IsReady (replaced s) (2 * c.args.span.pages) p b h k = subst (λ (e : Extent). IsReady e (2 * c.args.span.pages) p b h k) c.destination.ensures
-        (subst (λ (r : Manager). IsReady c.destination.result (2 * c.args.span.pages) p r h k) (sym v2) (subst (λ (p : Manager). IsReady c.destination.result (2 * c.args.span.pages) p q h k) (sym c.self.view_is) c.in_ok-make_ready.ensures.ready)) in
+    (subst (λ (r : Manager). IsReady c.destination.result (2 * c.args.span.pages) p r h k) (sym v2) (subst (λ (p : Manager). IsReady c.destination.result (2 * c.args.span.pages) p q h k) (sym c.self.view_is) c.in_ok-make_ready.ensures.ready)) in
     let out : IsOpen (size_of j.caches s.from.0) (size_of j.caches s.to.0) s = record {
       from = open0.from;
       to = open0.to;
@@ -296,7 +296,7 @@ copy_pages-requires-clause-saved g c =
     let valid : IsValid b k = subst (λ (p : Manager). IsValid p k) (sym v2) x0.valid in
     let keeps : KeepsMachine p b h k before after = subst (λ (r : Manager). KeepsMachine p r h k before after) (sym v2) keeps0 in
     let ready : IsReady (replaced s) (2 * c.args.span.pages) p b h k = subst (λ (e : Extent). IsReady e (2 * c.args.span.pages) p b h k) c.destination.ensures
-        (subst (λ (r : Manager). IsReady c.destination.result (2 * c.args.span.pages) p r h k) (sym v2) (subst (λ (p : Manager). IsReady c.destination.result (2 * c.args.span.pages) p q h k) (sym c.self.view_is) c.in_ok-make_ready.ensures.ready)) in
+    (subst (λ (r : Manager). IsReady c.destination.result (2 * c.args.span.pages) p r h k) (sym v2) (subst (λ (p : Manager). IsReady c.destination.result (2 * c.args.span.pages) p q h k) (sym c.self.view_is) c.in_ok-make_ready.ensures.ready)) in
     let out : IsOpen (size_of j.caches s.from.0) (size_of j.caches s.to.0) s = record {
       from = open0.from;
       to = open0.to;
@@ -333,7 +333,7 @@ copy_pages-requires-clause-granted g c =
     let valid : IsValid b k = subst (λ (p : Manager). IsValid p k) (sym v2) x0.valid in
     let keeps : KeepsMachine p b h k before after = subst (λ (r : Manager). KeepsMachine p r h k before after) (sym v2) keeps0 in
     let ready : IsReady (replaced s) (2 * c.args.span.pages) p b h k = subst (λ (e : Extent). IsReady e (2 * c.args.span.pages) p b h k) c.destination.ensures
-        (subst (λ (r : Manager). IsReady c.destination.result (2 * c.args.span.pages) p r h k) (sym v2) (subst (λ (p : Manager). IsReady c.destination.result (2 * c.args.span.pages) p q h k) (sym c.self.view_is) c.in_ok-make_ready.ensures.ready)) in
+    (subst (λ (r : Manager). IsReady c.destination.result (2 * c.args.span.pages) p r h k) (sym v2) (subst (λ (p : Manager). IsReady c.destination.result (2 * c.args.span.pages) p q h k) (sym c.self.view_is) c.in_ok-make_ready.ensures.ready)) in
     let out : IsOpen (size_of j.caches s.from.0) (size_of j.caches s.to.0) s = record {
       from = open0.from;
       to = open0.to;
@@ -370,7 +370,7 @@ copy_pages-requires-clause-few g c =
     let valid : IsValid b k = subst (λ (p : Manager). IsValid p k) (sym v2) x0.valid in
     let keeps : KeepsMachine p b h k before after = subst (λ (r : Manager). KeepsMachine p r h k before after) (sym v2) keeps0 in
     let ready : IsReady (replaced s) (2 * c.args.span.pages) p b h k = subst (λ (e : Extent). IsReady e (2 * c.args.span.pages) p b h k) c.destination.ensures
-        (subst (λ (r : Manager). IsReady c.destination.result (2 * c.args.span.pages) p r h k) (sym v2) (subst (λ (p : Manager). IsReady c.destination.result (2 * c.args.span.pages) p q h k) (sym c.self.view_is) c.in_ok-make_ready.ensures.ready)) in
+    (subst (λ (r : Manager). IsReady c.destination.result (2 * c.args.span.pages) p r h k) (sym v2) (subst (λ (p : Manager). IsReady c.destination.result (2 * c.args.span.pages) p q h k) (sym c.self.view_is) c.in_ok-make_ready.ensures.ready)) in
     let out : IsOpen (size_of j.caches s.from.0) (size_of j.caches s.to.0) s = record {
       from = open0.from;
       to = open0.to;
@@ -407,7 +407,7 @@ copy_pages-requires-clause-within g c =
     let valid : IsValid b k = subst (λ (p : Manager). IsValid p k) (sym v2) x0.valid in
     let keeps : KeepsMachine p b h k before after = subst (λ (r : Manager). KeepsMachine p r h k before after) (sym v2) keeps0 in
     let ready : IsReady (replaced s) (2 * c.args.span.pages) p b h k = subst (λ (e : Extent). IsReady e (2 * c.args.span.pages) p b h k) c.destination.ensures
-        (subst (λ (r : Manager). IsReady c.destination.result (2 * c.args.span.pages) p r h k) (sym v2) (subst (λ (p : Manager). IsReady c.destination.result (2 * c.args.span.pages) p q h k) (sym c.self.view_is) c.in_ok-make_ready.ensures.ready)) in
+    (subst (λ (r : Manager). IsReady c.destination.result (2 * c.args.span.pages) p r h k) (sym v2) (subst (λ (p : Manager). IsReady c.destination.result (2 * c.args.span.pages) p q h k) (sym c.self.view_is) c.in_ok-make_ready.ensures.ready)) in
     let out : IsOpen (size_of j.caches s.from.0) (size_of j.caches s.to.0) s = record {
       from = open0.from;
       to = open0.to;
@@ -444,7 +444,7 @@ copy_pages-requires-clause-room g c =
     let valid : IsValid b k = subst (λ (p : Manager). IsValid p k) (sym v2) x0.valid in
     let keeps : KeepsMachine p b h k before after = subst (λ (r : Manager). KeepsMachine p r h k before after) (sym v2) keeps0 in
     let ready : IsReady (replaced s) (2 * c.args.span.pages) p b h k = subst (λ (e : Extent). IsReady e (2 * c.args.span.pages) p b h k) c.destination.ensures
-        (subst (λ (r : Manager). IsReady c.destination.result (2 * c.args.span.pages) p r h k) (sym v2) (subst (λ (p : Manager). IsReady c.destination.result (2 * c.args.span.pages) p q h k) (sym c.self.view_is) c.in_ok-make_ready.ensures.ready)) in
+    (subst (λ (r : Manager). IsReady c.destination.result (2 * c.args.span.pages) p r h k) (sym v2) (subst (λ (p : Manager). IsReady c.destination.result (2 * c.args.span.pages) p q h k) (sym c.self.view_is) c.in_ok-make_ready.ensures.ready)) in
     let out : IsOpen (size_of j.caches s.from.0) (size_of j.caches s.to.0) s = record {
       from = open0.from;
       to = open0.to;
@@ -481,7 +481,7 @@ copy_pages-requires-clause-made g c =
     let valid : IsValid b k = subst (λ (p : Manager). IsValid p k) (sym v2) x0.valid in
     let keeps : KeepsMachine p b h k before after = subst (λ (r : Manager). KeepsMachine p r h k before after) (sym v2) keeps0 in
     let ready : IsReady (replaced s) (2 * c.args.span.pages) p b h k = subst (λ (e : Extent). IsReady e (2 * c.args.span.pages) p b h k) c.destination.ensures
-        (subst (λ (r : Manager). IsReady c.destination.result (2 * c.args.span.pages) p r h k) (sym v2) (subst (λ (p : Manager). IsReady c.destination.result (2 * c.args.span.pages) p q h k) (sym c.self.view_is) c.in_ok-make_ready.ensures.ready)) in
+    (subst (λ (r : Manager). IsReady c.destination.result (2 * c.args.span.pages) p r h k) (sym v2) (subst (λ (p : Manager). IsReady c.destination.result (2 * c.args.span.pages) p q h k) (sym c.self.view_is) c.in_ok-make_ready.ensures.ready)) in
     let out : IsOpen (size_of j.caches s.from.0) (size_of j.caches s.to.0) s = record {
       from = open0.from;
       to = open0.to;
@@ -518,7 +518,7 @@ invariant_of-self g c =
     let valid : IsValid b k = subst (λ (p : Manager). IsValid p k) (sym v2) x0.valid in
     let keeps : KeepsMachine p b h k before after = subst (λ (r : Manager). KeepsMachine p r h k before after) (sym v2) keeps0 in
     let ready : IsReady (replaced s) (2 * c.args.span.pages) p b h k = subst (λ (e : Extent). IsReady e (2 * c.args.span.pages) p b h k) c.destination.ensures
-        (subst (λ (r : Manager). IsReady c.destination.result (2 * c.args.span.pages) p r h k) (sym v2) (subst (λ (p : Manager). IsReady c.destination.result (2 * c.args.span.pages) p q h k) (sym c.self.view_is) c.in_ok-make_ready.ensures.ready)) in
+    (subst (λ (r : Manager). IsReady c.destination.result (2 * c.args.span.pages) p r h k) (sym v2) (subst (λ (p : Manager). IsReady c.destination.result (2 * c.args.span.pages) p q h k) (sym c.self.view_is) c.in_ok-make_ready.ensures.ready)) in
     let out : IsOpen (size_of j.caches s.from.0) (size_of j.caches s.to.0) s = record {
       from = open0.from;
       to = open0.to;
@@ -562,7 +562,7 @@ returns-clause-valid g c =
     let valid : IsValid b k = subst (λ (p : Manager). IsValid p k) (sym v2) x0.valid in
     let keeps : KeepsMachine p b h k before after = subst (λ (r : Manager). KeepsMachine p r h k before after) (sym v2) keeps0 in
     let ready : IsReady (replaced s) (2 * c.args.span.pages) p b h k = subst (λ (e : Extent). IsReady e (2 * c.args.span.pages) p b h k) c.destination.ensures
-        (subst (λ (r : Manager). IsReady c.destination.result (2 * c.args.span.pages) p r h k) (sym v2) (subst (λ (p : Manager). IsReady c.destination.result (2 * c.args.span.pages) p q h k) (sym c.self.view_is) c.in_ok-make_ready.ensures.ready)) in
+    (subst (λ (r : Manager). IsReady c.destination.result (2 * c.args.span.pages) p r h k) (sym v2) (subst (λ (p : Manager). IsReady c.destination.result (2 * c.args.span.pages) p q h k) (sym c.self.view_is) c.in_ok-make_ready.ensures.ready)) in
     let out : IsOpen (size_of j.caches s.from.0) (size_of j.caches s.to.0) s = record {
       from = open0.from;
       to = open0.to;
@@ -606,7 +606,7 @@ returns-clause-answers g c =
     let valid : IsValid b k = subst (λ (p : Manager). IsValid p k) (sym v2) x0.valid in
     let keeps : KeepsMachine p b h k before after = subst (λ (r : Manager). KeepsMachine p r h k before after) (sym v2) keeps0 in
     let ready : IsReady (replaced s) (2 * c.args.span.pages) p b h k = subst (λ (e : Extent). IsReady e (2 * c.args.span.pages) p b h k) c.destination.ensures
-        (subst (λ (r : Manager). IsReady c.destination.result (2 * c.args.span.pages) p r h k) (sym v2) (subst (λ (p : Manager). IsReady c.destination.result (2 * c.args.span.pages) p q h k) (sym c.self.view_is) c.in_ok-make_ready.ensures.ready)) in
+    (subst (λ (r : Manager). IsReady c.destination.result (2 * c.args.span.pages) p r h k) (sym v2) (subst (λ (p : Manager). IsReady c.destination.result (2 * c.args.span.pages) p q h k) (sym c.self.view_is) c.in_ok-make_ready.ensures.ready)) in
     let out : IsOpen (size_of j.caches s.from.0) (size_of j.caches s.to.0) s = record {
       from = open0.from;
       to = open0.to;
@@ -659,7 +659,7 @@ returns-clause-made g c =
     let valid : IsValid b k = subst (λ (p : Manager). IsValid p k) (sym v2) x0.valid in
     let keeps : KeepsMachine p b h k before after = subst (λ (r : Manager). KeepsMachine p r h k before after) (sym v2) keeps0 in
     let ready : IsReady (replaced s) (2 * c.args.span.pages) p b h k = subst (λ (e : Extent). IsReady e (2 * c.args.span.pages) p b h k) c.destination.ensures
-        (subst (λ (r : Manager). IsReady c.destination.result (2 * c.args.span.pages) p r h k) (sym v2) (subst (λ (p : Manager). IsReady c.destination.result (2 * c.args.span.pages) p q h k) (sym c.self.view_is) c.in_ok-make_ready.ensures.ready)) in
+    (subst (λ (r : Manager). IsReady c.destination.result (2 * c.args.span.pages) p r h k) (sym v2) (subst (λ (p : Manager). IsReady c.destination.result (2 * c.args.span.pages) p q h k) (sym c.self.view_is) c.in_ok-make_ready.ensures.ready)) in
     let out : IsOpen (size_of j.caches s.from.0) (size_of j.caches s.to.0) s = record {
       from = open0.from;
       to = open0.to;
@@ -705,7 +705,7 @@ returns-clause-copies g c =
     let valid : IsValid b k = subst (λ (p : Manager). IsValid p k) (sym v2) x0.valid in
     let keeps : KeepsMachine p b h k before after = subst (λ (r : Manager). KeepsMachine p r h k before after) (sym v2) keeps0 in
     let ready : IsReady (replaced s) (2 * c.args.span.pages) p b h k = subst (λ (e : Extent). IsReady e (2 * c.args.span.pages) p b h k) c.destination.ensures
-        (subst (λ (r : Manager). IsReady c.destination.result (2 * c.args.span.pages) p r h k) (sym v2) (subst (λ (p : Manager). IsReady c.destination.result (2 * c.args.span.pages) p q h k) (sym c.self.view_is) c.in_ok-make_ready.ensures.ready)) in
+    (subst (λ (r : Manager). IsReady c.destination.result (2 * c.args.span.pages) p r h k) (sym v2) (subst (λ (p : Manager). IsReady c.destination.result (2 * c.args.span.pages) p q h k) (sym c.self.view_is) c.in_ok-make_ready.ensures.ready)) in
     let out : IsOpen (size_of j.caches s.from.0) (size_of j.caches s.to.0) s = record {
       from = open0.from;
       to = open0.to;
@@ -750,7 +750,7 @@ returns-clause-idle g c =
     let valid : IsValid b k = subst (λ (p : Manager). IsValid p k) (sym v2) x0.valid in
     let keeps : KeepsMachine p b h k before after = subst (λ (r : Manager). KeepsMachine p r h k before after) (sym v2) keeps0 in
     let ready : IsReady (replaced s) (2 * c.args.span.pages) p b h k = subst (λ (e : Extent). IsReady e (2 * c.args.span.pages) p b h k) c.destination.ensures
-        (subst (λ (r : Manager). IsReady c.destination.result (2 * c.args.span.pages) p r h k) (sym v2) (subst (λ (p : Manager). IsReady c.destination.result (2 * c.args.span.pages) p q h k) (sym c.self.view_is) c.in_ok-make_ready.ensures.ready)) in
+    (subst (λ (r : Manager). IsReady c.destination.result (2 * c.args.span.pages) p r h k) (sym v2) (subst (λ (p : Manager). IsReady c.destination.result (2 * c.args.span.pages) p q h k) (sym c.self.view_is) c.in_ok-make_ready.ensures.ready)) in
     let out : IsOpen (size_of j.caches s.from.0) (size_of j.caches s.to.0) s = record {
       from = open0.from;
       to = open0.to;
@@ -777,4 +777,3 @@ returns-clause-idle g c =
       (let x : CopiesNothing c.args.self.now z = record { copies = e.copies ∙ was.copies; held = λ f on. was.held f (gives.held f on); bytes = gives.bytes ∙ was.bytes } in x),
       tt,
     )
-

@@ -196,8 +196,8 @@ returns-in_err-write_back-clause-idle g c =
     let is : c.from_residual.result ≡ Err trouble = gave.1 ∙ ap (λ t. Err t) gave.2 in
     let wrong : IsNotWrittenBack all p h q k trouble = subst (λ (p : Manager). IsNotWrittenBack all p h q k trouble) (sym c.self.view_is) (subst (λ (r : Result _ Trouble). IfErr r (IsNotWrittenBack all c.args.self.now h q k)) c.in_err-write_back.was x.not_written) in
     λ none. absurd (
-      let t = x.temporary none in
-      let fine : IsOk {T = Unit {0}} (Err trouble) = subst (λ (r : Result (Unit {0}) Trouble). IsOk r) c.in_err-write_back.was t.0 in cc fine)
+    let t = x.temporary none in
+    let fine : IsOk {T = Unit {0}} (Err trouble) = subst (λ (r : Result (Unit {0}) Trouble). IsOk r) c.in_err-write_back.was t.0 in cc fine)
 
 pub destroy_pages-requires-clause-tied : goal.destroy_pages-requires-clause-tied
 destroy_pages-requires-clause-tied g c =
@@ -489,8 +489,8 @@ returns-clause-answers g c =
     let named = named_machine p (forest_of p h) c.args.cache.0 in
     let after_is : forest_of z k ≡ forest_after (forest_of p h) (machine_of p h) command answer (machine_of z k)
     = follows j.caches b.caches d j.store b.store j.contexts j.live c.args.cache pages sound size2 free2 e.kept.sizes e.kept.gives_back tied r.changed whole bounded k valid e.right e.forest e.kept.sound.kept.listed e.empty t.0 t.1 t.2 (is_named i.caches c.args.cache.0) (forest_of p h) written.forest
-        ∙ ap (λ (n : ℕ). destroy (is_named i.caches c.args.cache.0) (page_names c.args.cache 0 n) (forest_of p h)) (sym many)
-        ∙ ap (λ (x : Bool). destroy x (page_names c.args.cache 0 (pages_in (cache_of (machine_of p h) c.args.cache.0))) (forest_of p h)) (sym named) in
+    ∙ ap (λ (n : ℕ). destroy (is_named i.caches c.args.cache.0) (page_names c.args.cache 0 n) (forest_of p h)) (sym many)
+    ∙ ap (λ (x : Bool). destroy x (page_names c.args.cache 0 (pages_in (cache_of (machine_of p h) c.args.cache.0))) (forest_of p h)) (sym named) in
     let outcome : OutcomeAt (segments_of k) (machine_of p h) (Some (forest_of p h)) command answer (machine_of z k) rises
     = subst (λ (m : Machine). OutcomeAt (segments_of k) m (Some (forest_of p h)) command answer (machine_of z k) rises) keeps.machine (taken j.caches b.caches d j.store b.store j.contexts j.live c.args.cache pages sound size2 free2 e.kept.sizes e.kept.gives_back tied r.changed whole bounded k valid e.right e.forest e.kept.sound.kept.listed e.empty t.0 t.1 t.2 (forest_of p h) rises) in
     subst (λ (p : Manager). CallIs before after (state_at p h) command answer (state_at z k)) c.self.view_is
@@ -620,4 +620,3 @@ returns-clause-idle g c =
       (let out : CopiesNothing c.args.self.now z = subst (λ (p : Manager). CopiesNothing p z) same (record { copies = ap (λ k. k.copies) r.changed ∙ e.copies; held = gives.held; bytes = gives.bytes }) in out),
       tt,
     )
-

@@ -153,8 +153,8 @@ invalidate_pages-requires-clause-nodes g c =
     let k = c.self-2.invariant in
     let view = sym c.self-2.view_is in
     let ready : IsTaking p h z j.caches j.store j.contexts c.args.extent before after = taking p (seen b i.store i.contexts) h z before after j.caches j.store j.contexts c.args.extent x (ap (λ a. a.caches) r.kept) (ap (λ a. a.made) r.kept) (ap (λ (s : State). s.machine) (roomy.state h)) roomy.by (roomy.forest h)
-        (subst (λ (m : Manager). IsValid m z) view c.save.ensures.valid) (subst (λ (m : Manager). KeepsMachine (seen b i.store i.contexts) m h z before after) view c.save.ensures.keeps)
-        (ap (λ (m : Manager). m.caches.caches) c.self-2.view_is ∙ c.save.ensures.tables) (ap (λ (m : Manager). forest_of m z) c.self-2.view_is ∙ c.in-Ok.ensures.saved) in
+    (subst (λ (m : Manager). IsValid m z) view c.save.ensures.valid) (subst (λ (m : Manager). KeepsMachine (seen b i.store i.contexts) m h z before after) view c.save.ensures.keeps)
+    (ap (λ (m : Manager). m.caches.caches) c.self-2.view_is ∙ c.save.ensures.tables) (ap (λ (m : Manager). forest_of m z) c.self-2.view_is ∙ c.in-Ok.ensures.saved) in
     range_there j.caches k.nodes c.args.extent.cache c.args.extent.first.0 c.args.extent.pages (length ready.extent.table.pages) (ap (option_map (λ (t : Table). length t.pages)) ready.extent.there) ready.extent.ends
 
 pub invalidate_pages-requires-clause-saved : goal.invalidate_pages-requires-clause-saved
@@ -174,8 +174,8 @@ invalidate_pages-requires-clause-saved g c = λ named.
     let k = c.self-2.invariant in
     let view = sym c.self-2.view_is in
     let ready : IsTaking p h z j.caches j.store j.contexts c.args.extent before after = taking p (seen b i.store i.contexts) h z before after j.caches j.store j.contexts c.args.extent x (ap (λ a. a.caches) r.kept) (ap (λ a. a.made) r.kept) (ap (λ (s : State). s.machine) (roomy.state h)) roomy.by (roomy.forest h)
-        (subst (λ (m : Manager). IsValid m z) view c.save.ensures.valid) (subst (λ (m : Manager). KeepsMachine (seen b i.store i.contexts) m h z before after) view c.save.ensures.keeps)
-        (ap (λ (m : Manager). m.caches.caches) c.self-2.view_is ∙ c.save.ensures.tables) (ap (λ (m : Manager). forest_of m z) c.self-2.view_is ∙ c.in-Ok.ensures.saved) in
+    (subst (λ (m : Manager). IsValid m z) view c.save.ensures.valid) (subst (λ (m : Manager). KeepsMachine (seen b i.store i.contexts) m h z before after) view c.save.ensures.keeps)
+    (ap (λ (m : Manager). m.caches.caches) c.self-2.view_is ∙ c.save.ensures.tables) (ap (λ (m : Manager). forest_of m z) c.self-2.view_is ∙ c.in-Ok.ensures.saved) in
     taking_saved p h z j.caches j.store j.contexts c.args.extent before after c.self.invariant.nodes ready k.nodes
 
 pub invalidate_pages-requires-clause-few : goal.invalidate_pages-requires-clause-few
@@ -195,8 +195,8 @@ invalidate_pages-requires-clause-few g c =
     let k = c.self-2.invariant in
     let view = sym c.self-2.view_is in
     let ready : IsTaking p h z j.caches j.store j.contexts c.args.extent before after = taking p (seen b i.store i.contexts) h z before after j.caches j.store j.contexts c.args.extent x (ap (λ a. a.caches) r.kept) (ap (λ a. a.made) r.kept) (ap (λ (s : State). s.machine) (roomy.state h)) roomy.by (roomy.forest h)
-        (subst (λ (m : Manager). IsValid m z) view c.save.ensures.valid) (subst (λ (m : Manager). KeepsMachine (seen b i.store i.contexts) m h z before after) view c.save.ensures.keeps)
-        (ap (λ (m : Manager). m.caches.caches) c.self-2.view_is ∙ c.save.ensures.tables) (ap (λ (m : Manager). forest_of m z) c.self-2.view_is ∙ c.in-Ok.ensures.saved) in
+    (subst (λ (m : Manager). IsValid m z) view c.save.ensures.valid) (subst (λ (m : Manager). KeepsMachine (seen b i.store i.contexts) m h z before after) view c.save.ensures.keeps)
+    (ap (λ (m : Manager). m.caches.caches) c.self-2.view_is ∙ c.save.ensures.tables) (ap (λ (m : Manager). forest_of m z) c.self-2.view_is ∙ c.in-Ok.ensures.saved) in
     omega (arith, forest_len j.caches, nodes_most k, k.few, k.counted, size_le j.caches c.args.extent.cache.0 (length ready.extent.table.pages) (ap (option_map (λ (t : Table). length t.pages)) ready.extent.there), ready.extent.ends)
 
 pub invariant_of-self-3 : goal.invariant_of-self-3
@@ -216,8 +216,8 @@ invariant_of-self-3 g c =
     let k = c.self-2.invariant in
     let view = sym c.self-2.view_is in
     let ready : IsTaking p h z j.caches j.store j.contexts c.args.extent before after = taking p (seen b i.store i.contexts) h z before after j.caches j.store j.contexts c.args.extent x (ap (λ a. a.caches) r.kept) (ap (λ a. a.made) r.kept) (ap (λ (s : State). s.machine) (roomy.state h)) roomy.by (roomy.forest h)
-        (subst (λ (m : Manager). IsValid m z) view c.save.ensures.valid) (subst (λ (m : Manager). KeepsMachine (seen b i.store i.contexts) m h z before after) view c.save.ensures.keeps)
-        (ap (λ (m : Manager). m.caches.caches) c.self-2.view_is ∙ c.save.ensures.tables) (ap (λ (m : Manager). forest_of m z) c.self-2.view_is ∙ c.in-Ok.ensures.saved) in
+    (subst (λ (m : Manager). IsValid m z) view c.save.ensures.valid) (subst (λ (m : Manager). KeepsMachine (seen b i.store i.contexts) m h z before after) view c.save.ensures.keeps)
+    (ap (λ (m : Manager). m.caches.caches) c.self-2.view_is ∙ c.save.ensures.tables) (ap (λ (m : Manager). forest_of m z) c.self-2.view_is ∙ c.in-Ok.ensures.saved) in
     let e = c.invalidate_pages.ensures in
     changed_sound j.caches c.invalidate_pages.new.caches j.store c.invalidate_pages.new.store j.contexts j.live k e.kept.sizes e.kept.gives_back (tied_right z None j.caches j.store ready.valid.right) e.whole e.bounded
 
@@ -238,8 +238,8 @@ returns-clause-valid g c =
     let k = c.self-2.invariant in
     let view = sym c.self-2.view_is in
     let ready : IsTaking p h z j.caches j.store j.contexts c.args.extent before after = taking p (seen b i.store i.contexts) h z before after j.caches j.store j.contexts c.args.extent x (ap (λ a. a.caches) r.kept) (ap (λ a. a.made) r.kept) (ap (λ (s : State). s.machine) (roomy.state h)) roomy.by (roomy.forest h)
-        (subst (λ (m : Manager). IsValid m z) view c.save.ensures.valid) (subst (λ (m : Manager). KeepsMachine (seen b i.store i.contexts) m h z before after) view c.save.ensures.keeps)
-        (ap (λ (m : Manager). m.caches.caches) c.self-2.view_is ∙ c.save.ensures.tables) (ap (λ (m : Manager). forest_of m z) c.self-2.view_is ∙ c.in-Ok.ensures.saved) in
+    (subst (λ (m : Manager). IsValid m z) view c.save.ensures.valid) (subst (λ (m : Manager). KeepsMachine (seen b i.store i.contexts) m h z before after) view c.save.ensures.keeps)
+    (ap (λ (m : Manager). m.caches.caches) c.self-2.view_is ∙ c.save.ensures.tables) (ap (λ (m : Manager). forest_of m z) c.self-2.view_is ∙ c.in-Ok.ensures.saved) in
     let e = c.invalidate_pages.ensures in
     let d = c.invalidate_pages.new.caches in
     let u = c.invalidate_pages.new.store in
@@ -264,8 +264,8 @@ returns-clause-answers g c =
     let k = c.self-2.invariant in
     let view = sym c.self-2.view_is in
     let ready : IsTaking p h z j.caches j.store j.contexts c.args.extent before after = taking p (seen b i.store i.contexts) h z before after j.caches j.store j.contexts c.args.extent x (ap (λ a. a.caches) r.kept) (ap (λ a. a.made) r.kept) (ap (λ (s : State). s.machine) (roomy.state h)) roomy.by (roomy.forest h)
-        (subst (λ (m : Manager). IsValid m z) view c.save.ensures.valid) (subst (λ (m : Manager). KeepsMachine (seen b i.store i.contexts) m h z before after) view c.save.ensures.keeps)
-        (ap (λ (m : Manager). m.caches.caches) c.self-2.view_is ∙ c.save.ensures.tables) (ap (λ (m : Manager). forest_of m z) c.self-2.view_is ∙ c.in-Ok.ensures.saved) in
+    (subst (λ (m : Manager). IsValid m z) view c.save.ensures.valid) (subst (λ (m : Manager). KeepsMachine (seen b i.store i.contexts) m h z before after) view c.save.ensures.keeps)
+    (ap (λ (m : Manager). m.caches.caches) c.self-2.view_is ∙ c.save.ensures.tables) (ap (λ (m : Manager). forest_of m z) c.self-2.view_is ∙ c.in-Ok.ensures.saved) in
     let e = c.invalidate_pages.ensures in
     let d = c.invalidate_pages.new.caches in
     let u = c.invalidate_pages.new.store in
@@ -291,8 +291,8 @@ returns-clause-made g c =
     let k = c.self-2.invariant in
     let view = sym c.self-2.view_is in
     let ready : IsTaking p h z j.caches j.store j.contexts c.args.extent before after = taking p (seen b i.store i.contexts) h z before after j.caches j.store j.contexts c.args.extent x (ap (λ a. a.caches) r.kept) (ap (λ a. a.made) r.kept) (ap (λ (s : State). s.machine) (roomy.state h)) roomy.by (roomy.forest h)
-        (subst (λ (m : Manager). IsValid m z) view c.save.ensures.valid) (subst (λ (m : Manager). KeepsMachine (seen b i.store i.contexts) m h z before after) view c.save.ensures.keeps)
-        (ap (λ (m : Manager). m.caches.caches) c.self-2.view_is ∙ c.save.ensures.tables) (ap (λ (m : Manager). forest_of m z) c.self-2.view_is ∙ c.in-Ok.ensures.saved) in
+    (subst (λ (m : Manager). IsValid m z) view c.save.ensures.valid) (subst (λ (m : Manager). KeepsMachine (seen b i.store i.contexts) m h z before after) view c.save.ensures.keeps)
+    (ap (λ (m : Manager). m.caches.caches) c.self-2.view_is ∙ c.save.ensures.tables) (ap (λ (m : Manager). forest_of m z) c.self-2.view_is ∙ c.in-Ok.ensures.saved) in
     let e = c.invalidate_pages.ensures in
     let d = c.invalidate_pages.new.caches in
     let u = c.invalidate_pages.new.store in
@@ -319,8 +319,8 @@ returns-clause-taken g c =
     let k = c.self-2.invariant in
     let view = sym c.self-2.view_is in
     let ready : IsTaking p h z j.caches j.store j.contexts c.args.extent before after = taking p (seen b i.store i.contexts) h z before after j.caches j.store j.contexts c.args.extent x (ap (λ a. a.caches) r.kept) (ap (λ a. a.made) r.kept) (ap (λ (s : State). s.machine) (roomy.state h)) roomy.by (roomy.forest h)
-        (subst (λ (m : Manager). IsValid m z) view c.save.ensures.valid) (subst (λ (m : Manager). KeepsMachine (seen b i.store i.contexts) m h z before after) view c.save.ensures.keeps)
-        (ap (λ (m : Manager). m.caches.caches) c.self-2.view_is ∙ c.save.ensures.tables) (ap (λ (m : Manager). forest_of m z) c.self-2.view_is ∙ c.in-Ok.ensures.saved) in
+    (subst (λ (m : Manager). IsValid m z) view c.save.ensures.valid) (subst (λ (m : Manager). KeepsMachine (seen b i.store i.contexts) m h z before after) view c.save.ensures.keeps)
+    (ap (λ (m : Manager). m.caches.caches) c.self-2.view_is ∙ c.save.ensures.tables) (ap (λ (m : Manager). forest_of m z) c.self-2.view_is ∙ c.in-Ok.ensures.saved) in
     let e = c.invalidate_pages.ensures in
     let d = c.invalidate_pages.new.caches in
     let u = c.invalidate_pages.new.store in

@@ -179,13 +179,13 @@ returns-in_err-grant_range-clause-idle g c =
       copies = e0.nodes.copies;
     } in
     λ nothing. absurd (
-      let out : IsNotGranted c.args.range h0 i.caches a c.in_err-grant_range.field-0.0 = subst (λ (x : Result _ Trouble). IfErr x (IsNotGranted c.args.range h0 i.caches a)) c.in_err-grant_range.was e0.refused in
-      elim (subst (λ (p : Manager). NeedsNothing p.caches c.args.range) (sym c.self.view_is) nothing) [
-        | inl none ↦ (
-            let t = e0.temporary (unnamed_of (table_of i.caches c.args.range.cache.0) c.requires.range.pages (subst (λ (p : Manager). size_of p.caches c.args.range.cache.0 ≡ Some c.requires.range.pages) (sym c.self.view_is) c.requires.range.size) none) in
-            let k : Err c.in_err-grant_range.field-0.0 ≡ Ok tt = sym c.in_err-grant_range.was ∙ t.0 in cc k)
-        | inr all ↦ (let t = e0.idle all.0 in let k : Err c.in_err-grant_range.field-0.0 ≡ Ok tt = sym c.in_err-grant_range.was ∙ t.0 in cc k)
-      ])
+    let out : IsNotGranted c.args.range h0 i.caches a c.in_err-grant_range.field-0.0 = subst (λ (x : Result _ Trouble). IfErr x (IsNotGranted c.args.range h0 i.caches a)) c.in_err-grant_range.was e0.refused in
+    elim (subst (λ (p : Manager). NeedsNothing p.caches c.args.range) (sym c.self.view_is) nothing) [
+      | inl none ↦ (
+          let t = e0.temporary (unnamed_of (table_of i.caches c.args.range.cache.0) c.requires.range.pages (subst (λ (p : Manager). size_of p.caches c.args.range.cache.0 ≡ Some c.requires.range.pages) (sym c.self.view_is) c.requires.range.size) none) in
+          let k : Err c.in_err-grant_range.field-0.0 ≡ Ok tt = sym c.in_err-grant_range.was ∙ t.0 in cc k)
+      | inr all ↦ (let t = e0.idle all.0 in let k : Err c.in_err-grant_range.field-0.0 ≡ Ok tt = sym c.in_err-grant_range.was ∙ t.0 in cc k)
+    ])
 
 pub invariant_of-self-in_err-reserve : goal.invariant_of-self-in_err-reserve
 invariant_of-self-in_err-reserve g c =
@@ -402,8 +402,7 @@ returns-in_err-reserve-clause-idle g c =
     let still : (a ≡ i.caches) × (m ≡ c.args.mapper.now) = elim (subst (λ (p : Manager). NeedsNothing p.caches c.args.range) (sym c.self.view_is) nothing) [
       | inl none ↦ (let t = e0.temporary (unnamed_of (table_of i.caches c.args.range.cache.0) c.requires.range.pages (subst (λ (p : Manager). size_of p.caches c.args.range.cache.0 ≡ Some c.requires.range.pages) (sym c.self.view_is) c.requires.range.size) none) in (t.1, t.2))
       | inr all ↦ (let t = e0.idle all.0 in (t.1, t.2))
-    ] in
-    (
+    ] in (
       still.1,
       refl,
       subst (λ (p : Manager). HasMoreRoom p p2) c.self.view_is (more_room i.caches a b i.store i.contexts still.0 r.kept),
@@ -585,13 +584,13 @@ returns-clause-ready g c =
     let after = g.M.Mapper.counts c.save.new.mapper in
     let named = named_same i.caches b keeps2.same c.args.range.cache.0 in
     subst (λ (p : Manager). OnOk c.save.result (IsReady c.args.range c.args.nodes p q h0 k)) c.self.view_is (on_ok_by c.save.result (λ f. (
-      let rule : forest_of q k ≡ saved (is_named i.caches c.args.range.cache.0) (extent_names c.args.range) (forest_of p h0) = f ∙ (λ j. saved (named j) (extent_names c.args.range) (forest2.forest j)) in
-      record {
-        forest = rule;
-        writable = writable_same b q.caches c.args.range s.tables (writable_same a b c.args.range (ap (λ (k : Arena). k.caches) r.kept) c.in_ok-grant_range.ensures.granted);
-        saved_now = saved_all q k c.args.range (forest_of p h0) s.whole (consistent_of p h0 c.self.invariant.nodes) (is_named i.caches c.args.range.cache.0) (named_same b q.caches (sizes_same b q.caches s.tables) c.args.range.cache.0 ∙ named) rule;
-        room = subst (λ (x : Room). c.args.nodes ≤ x.nodes) (sym s.room) c.in_ok-reserve.ensures.nodes;
-      })) s.saved)
+    let rule : forest_of q k ≡ saved (is_named i.caches c.args.range.cache.0) (extent_names c.args.range) (forest_of p h0) = f ∙ (λ j. saved (named j) (extent_names c.args.range) (forest2.forest j)) in
+    record {
+      forest = rule;
+      writable = writable_same b q.caches c.args.range s.tables (writable_same a b c.args.range (ap (λ (k : Arena). k.caches) r.kept) c.in_ok-grant_range.ensures.granted);
+      saved_now = saved_all q k c.args.range (forest_of p h0) s.whole (consistent_of p h0 c.self.invariant.nodes) (is_named i.caches c.args.range.cache.0) (named_same b q.caches (sizes_same b q.caches s.tables) c.args.range.cache.0 ∙ named) rule;
+      room = subst (λ (x : Room). c.args.nodes ≤ x.nodes) (sym s.room) c.in_ok-reserve.ensures.nodes;
+    })) s.saved)
 
 pub returns-clause-not_ready : goal.returns-clause-not_ready
 returns-clause-not_ready g c =
@@ -817,4 +816,3 @@ returns-clause-idle g c =
       idle.2,
       subst (λ (p : Manager). HasMoreRoom p q) c.self.view_is (subst (HasMoreRoom p) (sym idle.0) (more_room i.caches a b i.store i.contexts still.0 r.kept)),
     )
-

@@ -106,8 +106,8 @@ returns-in-Ok-None-clause-answers g c =
           (outcome_over p p h no_segments (commands.OpenSegment c.args.seg) answer no_counts i.nodes i.nodes
           (λ f. ap (Rattle.vm_model.specs.Answering.open_of (machine_by p f) c.args.seg.0) (get-empty nat_cmp c.args.seg.0) ∙ none_held p f c.args.seg (λ n e. c.is_opened.ensures.free c.if-is_opened.false (n, e)) few)
           (λ k e.
-              ap (Rattle.vm_model.specs.Answering.open_of (machine_of p h) c.args.seg.0) (no_segment (get k.segments c.args.seg.0) (subst (λ (o : Option Held). IfSome o (λ h. None ≡ option_map (λ (ps : List Page). length ps) (get h.segments c.args.seg.0))) e (counted h c.args.seg.0 c.in-Ok-None.field-0-is c.in-Ok-None.ensures.pages)))
-              ∙ none_held p (forest_of p h) c.args.seg (λ n e. c.is_opened.ensures.free c.if-is_opened.false (n, e)) few))));
+          ap (Rattle.vm_model.specs.Answering.open_of (machine_of p h) c.args.seg.0) (no_segment (get k.segments c.args.seg.0) (subst (λ (o : Option Held). IfSome o (λ h. None ≡ option_map (λ (ps : List Page). length ps) (get h.segments c.args.seg.0))) e (counted h c.args.seg.0 c.in-Ok-None.field-0-is c.in-Ok-None.ensures.pages)))
+          ∙ none_held p (forest_of p h) c.args.seg (λ n e. c.is_opened.ensures.free c.if-is_opened.false (n, e)) few))));
     }
 
 pub returns-in-Err-clause-answers : goal.returns-in-Err-clause-answers

@@ -157,4 +157,3 @@ returns-clause-failed g c =
         copies = b.in-Err.ensures.copied;
       })
     ])
-

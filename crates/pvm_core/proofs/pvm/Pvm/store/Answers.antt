@@ -171,16 +171,16 @@ returns-in_err-grant_range-clause-answers g c =
           subst (λ (t : Trouble). CallIs asked before (state_at p h0) (commands.Store c.args.actor c.args.address c.args.piece.now) (Err t) (state_at q h)) (sym w.0)
           (failed_at asked before p q h0 h (commands.Store c.args.actor c.args.address c.args.piece.now) (Err (troubles.Refused refusals.WriteDenied)) (one_denied out.segment.0 pl.page.0) reach c.self.invariant.nodes sound.nodes valid forest refl tt tt
           (λ f. store_denied (machine_by p f) c.args.actor.0 c.args.address c.args.piece.now (one_denied out.segment.0 pl.page.0) at (is_at f) may (denied_there p f (one_denied out.segment.0 pl.page.0) pl.cache.0 pl.page.0 out.segment out.named (denies_one out.segment.0 pl.page.0))
-              ∙ ap (λ (n : Machine). refuse n refusals.WriteDenied) (sym (by f)))
+          ∙ ap (λ (n : Machine). refuse n refusals.WriteDenied) (sym (by f)))
           (λ f s told. store_denied (machine_by p f) c.args.actor.0 c.args.address c.args.piece.now s at (is_at f) may
-              (denied_there p f s pl.cache.0 pl.page.0 out.segment out.named (ap (denies s.denied out.segment.0) page ∙ told_denied h0 out.segment.0 w.1.page w.1.denied s (sym (ap segments_of e0.held) ∙ told)))
-              ∙ ap (λ (n : Machine). refuse n refusals.WriteDenied) (sym (by f)))))
+          (denied_there p f s pl.cache.0 pl.page.0 out.segment out.named (ap (denies s.denied out.segment.0) page ∙ told_denied h0 out.segment.0 w.1.page w.1.denied s (sym (ap segments_of e0.held) ∙ told)))
+          ∙ ap (λ (n : Machine). refuse n refusals.WriteDenied) (sym (by f)))))
       | inr w ↦ (
           let page : pl.page.0 ≡ w.0.0 = omega (arith, w.2.page_of.0, w.2.page_of.1) in
           subst (λ (t : Trouble). CallIs asked before (state_at p h0) (commands.Store c.args.actor c.args.address c.args.piece.now) (Err t) (state_at q h)) (sym w.1)
           (failed asked before p q h0 h (commands.Store c.args.actor c.args.address c.args.piece.now) (Err (troubles.Mapper (faults.Access w.0))) reach c.self.invariant.nodes sound.nodes valid forest refl tt tt
           (λ f s. access_fault (length reach.pushes) (machine_by p f) (machine_by q f) (forest_of p h0) c.args.actor c.args.address c.args.piece.now s asked before w.0 at (by f) (is_at f) may page (named_in p f pl.cache.0 out.segment out.named)
-              (e0.cause (faults.Access w.0) (c.in_err-grant_range.was ∙ ap (λ t. Err t) w.1)))))
+          (e0.cause (faults.Access w.0) (c.in_err-grant_range.was ∙ ap (λ t. Err t) w.1)))))
     ]))
 
 pub returns-in_err-grant_range-clause-made : goal.returns-in_err-grant_range-clause-made
@@ -562,7 +562,7 @@ returns-in-Err-clause-answers g c =
     (failed_at before after p q h k (commands.Store c.args.actor c.args.address c.args.piece.now) answer no_segments reach sound.nodes then.nodes now forest (not_saved c.in-Err.miss page (forest_of p h) (machine_of p h) (commands.Store c.args.actor c.args.address c.args.piece.now) (machine_of q k)) tt tt
     (λ f. store_fault (length reach.pushes) (machine_by p f) (machine_by q f) (forest_of p h) c.args.actor c.args.address c.args.piece.now no_segments before after c.in-Err.miss page at (by f) (is f) may (undenied_blank p f pl.cache.0 pl.page.0) refl c.in-Err.ensures.missed.cause)
     (λ f s told. store_fault (length reach.pushes) (machine_by p f) (machine_by q f) (forest_of p h) c.args.actor c.args.address c.args.piece.now s before after c.in-Err.miss page at (by f) (is f) may
-        (undenied p h sound.nodes valid.right pl.cache pl.page.0 r.count there r.less writable f k s (reach_denied (machine_of p h) h k before after reach) told) refl c.in-Err.ensures.missed.cause)))))
+    (undenied p h sound.nodes valid.right pl.cache pl.page.0 r.count there r.less writable f k s (reach_denied (machine_of p h) h k before after reach) told) refl c.in-Err.ensures.missed.cause)))))
 
 pub returns-in-Err-clause-copies : goal.returns-in-Err-clause-copies
 returns-in-Err-clause-copies g c =
@@ -609,4 +609,3 @@ returns-in-Err-clause-made g c =
     let p : Manager = seen a i.store i.contexts in
     let reach = reached p h sound.nodes sound.apart size then_size n.caches n.store k before after e.answered.later e.answered.told in
     omega (arith, kept_copies h k size then_size a n.caches i.store n.store c.in-Err.ensures.missed.forest, e.answered.kept.made, e0.nodes.made, e0.nodes.copies, ap numbered c.self.view_is)
-

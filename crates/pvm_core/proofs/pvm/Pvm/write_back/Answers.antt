@@ -285,12 +285,12 @@ returns-clause-written g c =
     let rule : PushRule (machine_of p h) (segments_of k) t.keeps.reach.pushes (segments_of l) = subst (λ (m : Machine). PushRule m (segments_of k) t.keeps.reach.pushes (segments_of l)) keeps.machine t.keeps.reach.rule in
     let still : IsPushed s p h l = still_pushed p h s x c.self.invariant.apart k l t.keeps.reach.pushes rule pushed in
     subst (λ (p : Manager). OnOk c.save.result (IsWrittenBack s p r h l)) c.self.view_is (on_ok_by c.save.result (λ f. (
-      let then : forest_of r l ≡ saved (is_named i.caches s.cache.0) (extent_names s) (forest_of p h) = f ∙ (λ j. saved (named_q j) (extent_names s) (forest j)) in
-      record {
-        forest = then;
-        pushed = still;
-        saved_now = saved_all r l s (forest_of p h) t.whole (consistent_of p h c.self.invariant.nodes) (is_named i.caches s.cache.0) (named_same n.caches r.caches (sizes_same n.caches r.caches t.tables) s.cache.0 ∙ named_q) then;
-      })) t.saved)
+    let then : forest_of r l ≡ saved (is_named i.caches s.cache.0) (extent_names s) (forest_of p h) = f ∙ (λ j. saved (named_q j) (extent_names s) (forest j)) in
+    record {
+      forest = then;
+      pushed = still;
+      saved_now = saved_all r l s (forest_of p h) t.whole (consistent_of p h c.self.invariant.nodes) (is_named i.caches s.cache.0) (named_same n.caches r.caches (sizes_same n.caches r.caches t.tables) s.cache.0 ∙ named_q) then;
+    })) t.saved)
 
 pub returns-clause-not_written : goal.returns-clause-not_written
 returns-clause-not_written g c =
@@ -328,4 +328,3 @@ returns-clause-not_written g c =
     let rule : PushRule (machine_of p h) (segments_of k) t.keeps.reach.pushes (segments_of l) = subst (λ (m : Machine). PushRule m (segments_of k) t.keeps.reach.pushes (segments_of l)) keeps.machine t.keeps.reach.rule in
     let still : IsPushed s p h l = still_pushed p h s x c.self.invariant.apart k l t.keeps.reach.pushes rule pushed in
     subst (λ (p : Manager). IfErr c.save.result (IsNotWrittenBack s p h r l)) c.self.view_is (if_err_by c.save.result (unsaved_written s p q r h k l named_q kept still) t.failed)
-
