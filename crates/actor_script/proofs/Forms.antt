@@ -6,7 +6,7 @@ use Rattle.vm_model.specs.Run.{Read}
 use Rattle.actor_script.specs.Words.{words_of}
 use Rattle.vm_ids.specs.declared.command.Command.{Command}
 use Rattle.vm_ids.specs.declared.command.Command.TheVariants as commands
-use Rattle.actor_script.specs.Forms.{command_of, form_of, verb_form, actor_form, temp_form, open_form, destroy_form, span_of, copy_form, move_form, map_form, unmap_form, load_form, store_form, extent_of, sync_form, flush_form, invalidate_form, pageout_form, chain_form, stat_form}
+use Rattle.actor_script.specs.Forms.{command_of, form_of, verb_form, actor_form, exit_form, temp_form, open_form, destroy_form, span_of, copy_form, move_form, map_form, split_form, protect_form, unmap_form, status_form, find_form, load_form, store_form, extent_of, sync_form, flush_form, invalidate_form, pageout_form, chain_form, stat_form}
 
 neither : (b : Bool) (o p : Option Command) → o ≡ None → p ≡ None → (if b then o else p) ≡ None
 neither true o p e f = e
@@ -16,6 +16,12 @@ no_actor : (xs : List (List ℕ)) → 6 < length xs → actor_form xs ≡ None
 unfolding actor_form
 no_actor [] h = absurd (omega arith)
 no_actor (a ∷ xs) h = refl
+
+no_exit : (xs : List (List ℕ)) → 6 < length xs → exit_form xs ≡ None
+unfolding exit_form
+no_exit [] h = absurd (omega arith)
+no_exit (a ∷ []) h = absurd (omega arith)
+no_exit (a ∷ b ∷ xs) h = refl
 
 no_temp : (xs : List (List ℕ)) → 6 < length xs → temp_form xs ≡ None
 unfolding temp_form
@@ -64,11 +70,38 @@ no_map (a ∷ b ∷ c ∷ d ∷ e ∷ []) h = absurd (omega arith)
 no_map (a ∷ b ∷ c ∷ d ∷ e ∷ f ∷ []) h = absurd (omega arith)
 no_map (a ∷ b ∷ c ∷ d ∷ e ∷ f ∷ g ∷ xs) h = refl
 
+no_split : (xs : List (List ℕ)) → 6 < length xs → split_form xs ≡ None
+unfolding split_form
+no_split [] h = absurd (omega arith)
+no_split (a ∷ []) h = absurd (omega arith)
+no_split (a ∷ b ∷ []) h = absurd (omega arith)
+no_split (a ∷ b ∷ c ∷ xs) h = refl
+
+no_protect : (xs : List (List ℕ)) → 6 < length xs → protect_form xs ≡ None
+unfolding protect_form
+no_protect [] h = absurd (omega arith)
+no_protect (a ∷ []) h = absurd (omega arith)
+no_protect (a ∷ b ∷ []) h = absurd (omega arith)
+no_protect (a ∷ b ∷ c ∷ xs) h = refl
+
 no_unmap : (xs : List (List ℕ)) → 6 < length xs → unmap_form xs ≡ None
 unfolding unmap_form
 no_unmap [] h = absurd (omega arith)
 no_unmap (a ∷ []) h = absurd (omega arith)
 no_unmap (a ∷ b ∷ xs) h = refl
+
+no_status : (xs : List (List ℕ)) → 6 < length xs → status_form xs ≡ None
+unfolding status_form
+no_status [] h = absurd (omega arith)
+no_status (a ∷ []) h = absurd (omega arith)
+no_status (a ∷ b ∷ xs) h = refl
+
+no_find : (xs : List (List ℕ)) → 6 < length xs → find_form xs ≡ None
+unfolding find_form
+no_find [] h = absurd (omega arith)
+no_find (a ∷ []) h = absurd (omega arith)
+no_find (a ∷ b ∷ []) h = absurd (omega arith)
+no_find (a ∷ b ∷ c ∷ xs) h = refl
 
 no_load : (xs : List (List ℕ)) → 6 < length xs → load_form xs ≡ None
 unfolding load_form
@@ -129,13 +162,18 @@ no_verb : (verb : List ℕ) (xs : List (List ℕ)) → 6 < length xs → verb_fo
 unfolding verb_form
 no_verb verb xs h =
     neither (bytes_eq verb (codes "actor")) _ _ (no_actor xs h) (
+    neither (bytes_eq verb (codes "exit")) _ _ (no_exit xs h) (
     neither (bytes_eq verb (codes "temp")) _ _ (no_temp xs h) (
     neither (bytes_eq verb (codes "open")) _ _ (no_open xs h) (
     neither (bytes_eq verb (codes "destroy")) _ _ (no_destroy xs h) (
     neither (bytes_eq verb (codes "copy")) _ _ (no_copy xs h) (
     neither (bytes_eq verb (codes "move")) _ _ (no_move xs h) (
     neither (bytes_eq verb (codes "map")) _ _ (no_map xs h) (
+    neither (bytes_eq verb (codes "split")) _ _ (no_split xs h) (
+    neither (bytes_eq verb (codes "protect")) _ _ (no_protect xs h) (
     neither (bytes_eq verb (codes "unmap")) _ _ (no_unmap xs h) (
+    neither (bytes_eq verb (codes "status")) _ _ (no_status xs h) (
+    neither (bytes_eq verb (codes "find")) _ _ (no_find xs h) (
     neither (bytes_eq verb (codes "load")) _ _ (no_load xs h) (
     neither (bytes_eq verb (codes "store")) _ _ (no_store xs h) (
     neither (bytes_eq verb (codes "sync")) _ _ (no_sync xs h) (
@@ -143,7 +181,7 @@ no_verb verb xs h =
     neither (bytes_eq verb (codes "invalidate")) _ _ (no_invalidate xs h) (
     neither (bytes_eq verb (codes "pageout")) _ _ (no_pageout xs h) (
     neither (bytes_eq verb (codes "chain")) _ _ (no_chain xs h) (
-    neither (bytes_eq verb (codes "stat")) _ _ (no_stat xs h) refl)))))))))))))))
+    neither (bytes_eq verb (codes "stat")) _ _ (no_stat xs h) refl))))))))))))))))))))
 
 no_longer_form : (words : List (List ℕ)) → 7 < length words → form_of words ≡ None
 no_longer_form [] h = absurd (omega arith)

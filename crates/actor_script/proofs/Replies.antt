@@ -15,6 +15,7 @@ short_answer (Ok (replies.Actor n)) e = refl
 short_answer (Ok (replies.Cache n)) e = refl
 short_answer (Ok (replies.Region n)) e = refl
 short_answer (Ok (replies.Bytes b)) e = refl
+short_answer (Ok (replies.Status status)) e = refl
 short_answer (Ok (replies.Chain items)) e = absurd (cc e)
 short_answer (Ok (replies.Stat counts)) e = refl
 short_answer (Err trouble) e = refl
@@ -26,6 +27,7 @@ long_answer (Ok (replies.Actor n)) items e = absurd (cc e)
 long_answer (Ok (replies.Cache n)) items e = absurd (cc e)
 long_answer (Ok (replies.Region n)) items e = absurd (cc e)
 long_answer (Ok (replies.Bytes b)) items e = absurd (cc e)
+long_answer (Ok (replies.Status status)) items e = absurd (cc e)
 long_answer (Ok (replies.Chain all)) items e = let same : all ≡ items = cc e in ap (λ (xs : List ChainItem). codes "chain" ++ (flat_map item_text xs ++ codes "*")) same
 long_answer (Ok (replies.Stat counts)) items e = absurd (cc e)
 long_answer (Err trouble) items e = absurd (cc e)

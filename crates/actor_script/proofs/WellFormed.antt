@@ -11,7 +11,7 @@ use Rattle.vm_model.specs.Asking.{IsWellFormed}
 use Rattle.std.proofs.lemmas.Bool.{leb-true, eqb-false}
 use Rattle.actor_script.specs.Words.{words_of}
 use Rattle.actor_script.specs.Operands.{number_of, count_of, unless_zero, length_of, if_few, lettered, address_of, bytes_of, mode_of}
-use Rattle.actor_script.specs.Forms.{form_of, command_of, verb_form, actor_form, temp_form, open_form, destroy_form, span_of, copy_form, move_form, map_form, unmap_form, load_form, store_form, extent_of, sync_form, flush_form, invalidate_form, pageout_form, chain_form, stat_form}
+use Rattle.actor_script.specs.Forms.{form_of, command_of, verb_form, actor_form, exit_form, temp_form, open_form, destroy_form, span_of, copy_form, move_form, map_form, split_form, protect_form, unmap_form, status_form, find_form, load_form, store_form, extent_of, sync_form, flush_form, invalidate_form, pageout_form, chain_form, stat_form}
 
 -- what holds of all that a step gives, whatever it is given
 any_then : {A B : Type 0} (o : Option A) (f : A → Option B) (P : B → Type 0) → ((x : A) → IfSome (f x) P) → IfSome (option_and_then f o) P
@@ -43,6 +43,12 @@ actor_is : (xs : List (List ℕ)) → IfSome (actor_form xs) IsWellFormed
 unfolding actor_form
 actor_is [] = tt
 actor_is (a ∷ xs) = tt
+
+exit_is : (xs : List (List ℕ)) → IfSome (exit_form xs) IsWellFormed
+unfolding exit_form
+exit_is [] = tt
+exit_is (a ∷ []) = any_then (lettered 97 a) _ IsWellFormed (λ n. tt)
+exit_is (a ∷ b ∷ xs) = tt
 
 temp_is : (xs : List (List ℕ)) → IfSome (temp_form xs) IsWellFormed
 unfolding temp_form
@@ -107,11 +113,40 @@ map_is (a ∷ b ∷ c ∷ d ∷ e ∷ f ∷ []) =
     any_then (mode_of f) _ IsWellFormed (λ n. some))))))
 map_is (a ∷ b ∷ c ∷ d ∷ e ∷ f ∷ g ∷ xs) = tt
 
+split_is : (xs : List (List ℕ)) → IfSome (split_form xs) IsWellFormed
+unfolding split_form
+split_is [] = tt
+split_is (a ∷ []) = tt
+split_is (a ∷ b ∷ []) =
+    any_then (lettered 114 a) _ IsWellFormed (λ n.
+    such_then (count_of b) _ (λ n. 1 ≤ n) IsWellFormed (counts b) (λ n some. some))
+split_is (a ∷ b ∷ c ∷ xs) = tt
+
+protect_is : (xs : List (List ℕ)) → IfSome (protect_form xs) IsWellFormed
+unfolding protect_form
+protect_is [] = tt
+protect_is (a ∷ []) = tt
+protect_is (a ∷ b ∷ []) = any_then (lettered 114 a) _ IsWellFormed (λ n. any_then (mode_of b) _ IsWellFormed (λ n. tt))
+protect_is (a ∷ b ∷ c ∷ xs) = tt
+
 unmap_is : (xs : List (List ℕ)) → IfSome (unmap_form xs) IsWellFormed
 unfolding unmap_form
 unmap_is [] = tt
 unmap_is (a ∷ []) = any_then (lettered 114 a) _ IsWellFormed (λ n. tt)
 unmap_is (a ∷ b ∷ xs) = tt
+
+status_is : (xs : List (List ℕ)) → IfSome (status_form xs) IsWellFormed
+unfolding status_form
+status_is [] = tt
+status_is (a ∷ []) = any_then (lettered 114 a) _ IsWellFormed (λ n. tt)
+status_is (a ∷ b ∷ xs) = tt
+
+find_is : (xs : List (List ℕ)) → IfSome (find_form xs) IsWellFormed
+unfolding find_form
+find_is [] = tt
+find_is (a ∷ []) = tt
+find_is (a ∷ b ∷ []) = any_then (lettered 97 a) _ IsWellFormed (λ n. any_then (address_of b) _ IsWellFormed (λ n. tt))
+find_is (a ∷ b ∷ c ∷ xs) = tt
 
 load_is : (xs : List (List ℕ)) → IfSome (load_form xs) IsWellFormed
 unfolding load_form
@@ -181,13 +216,18 @@ verb_is : (verb : List ℕ) (xs : List (List ℕ)) → IfSome (verb_form verb xs
 unfolding verb_form
 verb_is verb xs =
     if_true (bytes_eq verb (codes "actor")) _ _ IsWellFormed (λ e. actor_is xs) (λ e.
+    if_true (bytes_eq verb (codes "exit")) _ _ IsWellFormed (λ e. exit_is xs) (λ e.
     if_true (bytes_eq verb (codes "temp")) _ _ IsWellFormed (λ e. temp_is xs) (λ e.
     if_true (bytes_eq verb (codes "open")) _ _ IsWellFormed (λ e. open_is xs) (λ e.
     if_true (bytes_eq verb (codes "destroy")) _ _ IsWellFormed (λ e. destroy_is xs) (λ e.
     if_true (bytes_eq verb (codes "copy")) _ _ IsWellFormed (λ e. copy_is xs) (λ e.
     if_true (bytes_eq verb (codes "move")) _ _ IsWellFormed (λ e. move_is xs) (λ e.
     if_true (bytes_eq verb (codes "map")) _ _ IsWellFormed (λ e. map_is xs) (λ e.
+    if_true (bytes_eq verb (codes "split")) _ _ IsWellFormed (λ e. split_is xs) (λ e.
+    if_true (bytes_eq verb (codes "protect")) _ _ IsWellFormed (λ e. protect_is xs) (λ e.
     if_true (bytes_eq verb (codes "unmap")) _ _ IsWellFormed (λ e. unmap_is xs) (λ e.
+    if_true (bytes_eq verb (codes "status")) _ _ IsWellFormed (λ e. status_is xs) (λ e.
+    if_true (bytes_eq verb (codes "find")) _ _ IsWellFormed (λ e. find_is xs) (λ e.
     if_true (bytes_eq verb (codes "load")) _ _ IsWellFormed (λ e. load_is xs) (λ e.
     if_true (bytes_eq verb (codes "store")) _ _ IsWellFormed (λ e. store_is xs) (λ e.
     if_true (bytes_eq verb (codes "sync")) _ _ IsWellFormed (λ e. sync_is xs) (λ e.
@@ -195,7 +235,7 @@ verb_is verb xs =
     if_true (bytes_eq verb (codes "invalidate")) _ _ IsWellFormed (λ e. invalidate_is xs) (λ e.
     if_true (bytes_eq verb (codes "pageout")) _ _ IsWellFormed (λ e. pageout_is xs) (λ e.
     if_true (bytes_eq verb (codes "chain")) _ _ IsWellFormed (λ e. chain_is xs) (λ e.
-    if_true (bytes_eq verb (codes "stat")) _ _ IsWellFormed (λ e. stat_is xs) (λ e. tt))))))))))))))))
+    if_true (bytes_eq verb (codes "stat")) _ _ IsWellFormed (λ e. stat_is xs) (λ e. tt)))))))))))))))))))))
 
 pub form : (words : List (List ℕ)) → IfSome (form_of words) IsWellFormed
 form [] = tt

@@ -22,6 +22,13 @@ unfoldable pub actor_form : List (List ℕ) → Option Command
 actor_form [] = Some commands.MakeActor
 actor_form _ = None
 
+-- `exit A`
+unfoldable pub exit_form : List (List ℕ) → Option Command
+exit_form (actor ∷ []) = do
+  a ← lettered 97 actor
+  Some (commands.ExitActor (record { 0 = a }))
+exit_form _ = None
+
 -- `temp N`
 unfoldable pub temp_form : List (List ℕ) → Option Command
 temp_form (pages ∷ []) = do
@@ -84,12 +91,43 @@ map_form (actor ∷ cache ∷ first ∷ pages ∷ address ∷ mode ∷ []) = do
   }))
 map_form _ = None
 
+-- `split R N`
+unfoldable pub split_form : List (List ℕ) → Option Command
+split_form (region ∷ pages ∷ []) = do
+  r ← lettered 114 region
+  n ← count_of pages
+  Some (commands.Split (record { 0 = r }) n)
+split_form _ = None
+
+-- `protect R MODE`
+unfoldable pub protect_form : List (List ℕ) → Option Command
+protect_form (region ∷ mode ∷ []) = do
+  r ← lettered 114 region
+  prot ← mode_of mode
+  Some (commands.Protect (record { 0 = r }) prot)
+protect_form _ = None
+
 -- `unmap R`
 unfoldable pub unmap_form : List (List ℕ) → Option Command
 unmap_form (region ∷ []) = do
   r ← lettered 114 region
   Some (commands.Unmap (record { 0 = r }))
 unmap_form _ = None
+
+-- `status R`
+unfoldable pub status_form : List (List ℕ) → Option Command
+status_form (region ∷ []) = do
+  r ← lettered 114 region
+  Some (commands.Status (record { 0 = r }))
+status_form _ = None
+
+-- `find A ADDR`
+unfoldable pub find_form : List (List ℕ) → Option Command
+find_form (actor ∷ address ∷ []) = do
+  a ← lettered 97 actor
+  at ← address_of address
+  Some (commands.Find (record { 0 = a }) at)
+find_form _ = None
 
 -- `load A ADDR LEN`
 unfoldable pub load_form : List (List ℕ) → Option Command
@@ -154,13 +192,18 @@ stat_form _ = None
 unfoldable pub verb_form : List ℕ → List (List ℕ) → Option Command
 verb_form verb operands =
     if bytes_eq verb (codes "actor") then actor_form operands
+    else if bytes_eq verb (codes "exit") then exit_form operands
     else if bytes_eq verb (codes "temp") then temp_form operands
     else if bytes_eq verb (codes "open") then open_form operands
     else if bytes_eq verb (codes "destroy") then destroy_form operands
     else if bytes_eq verb (codes "copy") then copy_form operands
     else if bytes_eq verb (codes "move") then move_form operands
     else if bytes_eq verb (codes "map") then map_form operands
+    else if bytes_eq verb (codes "split") then split_form operands
+    else if bytes_eq verb (codes "protect") then protect_form operands
     else if bytes_eq verb (codes "unmap") then unmap_form operands
+    else if bytes_eq verb (codes "status") then status_form operands
+    else if bytes_eq verb (codes "find") then find_form operands
     else if bytes_eq verb (codes "load") then load_form operands
     else if bytes_eq verb (codes "store") then store_form operands
     else if bytes_eq verb (codes "sync") then sync_form operands

@@ -1,10 +1,13 @@
 -- The texts of replies.
-use Rattle.std.specs.Prelude.{ℕ, List, ◌++◌, codes, decimal, Ok, Err}
+use Rattle.std.specs.Prelude.{ℕ, List, ◌++◌, Bool, false, codes, decimal, Ok, Err, if◌then◌else◌}
+use Rattle.std.specs.Fmt.{digits}
 use Rattle.std.specs.List.{flat_map}
 use Rattle.hex.specs.Hex.{encode_lower}
 use Rattle.vm_ids.specs.declared.chain.ChainItem.{ChainItem}
 use Rattle.vm_ids.specs.declared.node_name.NodeName.{NodeName}
 use Rattle.vm_ids.specs.declared.node_name.NodeName.TheVariants as names
+use Rattle.vm_ids.specs.declared.command.Prot.{Prot}
+use Rattle.vm_ids.specs.declared.reply.RegionStatus.{RegionStatus}
 use Rattle.vm_ids.specs.declared.reply.Reply.{Reply}
 use Rattle.vm_ids.specs.declared.reply.Reply.TheVariants as replies
 use Rattle.vm_ids.specs.declared.reply.FaultAt.{FaultAt}
@@ -47,12 +50,33 @@ name_text (names.Working number) = codes "w" ++ decimal number
 abbrev pub item_text : ChainItem → List ℕ
 item_text item = codes " " ++ name_text item.name ++ codes "+" ++ decimal item.children
 
+-- a number in hexadecimal, in lower case and without leading zeros
+abbrev pub hexadecimal : ℕ → List ℕ
+hexadecimal n = digits 16 false n
+
+-- what a region allows: `r` for reading, `rw` for writing too
+abbrev pub mode_text : Prot → List ℕ
+mode_text prot = if prot.write then codes "rw" else codes "r"
+
+abbrev pub lock_text : Bool → List ℕ
+lock_text locked = if locked then codes "locked" else codes "unlocked"
+
+-- A region: its actor, address, pages and mode, its cache and first page there, and its lock.
+abbrev pub status_text : RegionStatus → List ℕ
+status_text status =
+    let mapping = status.mapping in
+    codes "ok a" ++ decimal status.actor.0 ++ codes " " ++ hexadecimal mapping.address
+    ++ codes " " ++ decimal mapping.extent.pages ++ codes " " ++ mode_text mapping.prot
+    ++ codes " c" ++ decimal mapping.extent.cache.0
+    ++ codes " " ++ decimal mapping.extent.first.0 ++ codes " " ++ lock_text status.locked
+
 abbrev pub ok_text : Reply → List ℕ
 ok_text replies.Done = codes "ok"
 ok_text (replies.Actor actor) = codes "ok a" ++ decimal actor.0
 ok_text (replies.Cache cache) = codes "ok c" ++ decimal cache.0
 ok_text (replies.Region region) = codes "ok r" ++ decimal region.0
 ok_text (replies.Bytes bytes) = codes "ok " ++ encode_lower bytes
+ok_text (replies.Status status) = status_text status
 ok_text (replies.Chain items) = codes "chain" ++ flat_map item_text items ++ codes "*"
 ok_text (replies.Stat counts) =
     codes "stat live " ++ decimal counts.live ++ codes " working " ++ decimal counts.working

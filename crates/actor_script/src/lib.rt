@@ -10,6 +10,7 @@
 //! The replay of scripts stands on it. It keeps nothing and takes no memory.
 #![tactic(auto)]
 
+mod draft;
 mod reading;
 #[cfg(test)]
 mod tests;

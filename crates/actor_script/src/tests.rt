@@ -2,7 +2,8 @@
 // of answer.
 use crate::{read_line, write_reply};
 use vm_ids::{
-    ActorId, Answer, CacheId, Counts, FaultAt, NoMemory, PageNo, Refusal, RegionId, Reply, Trouble,
+    ActorId, Answer, CacheId, Counts, Extent, FaultAt, Mapping, NoMemory, PageNo, Prot, Refusal,
+    RegionId, RegionStatus, Reply, Trouble,
 };
 use vm_port::MemorySink;
 
@@ -47,7 +48,32 @@ fn lines_outside_the_grammar_are_refused(rt: HostRuntime) {
         b"copy c1 0 c2 0 1 1",
         b"Actor",
         b"ACTOR",
-        b"status r1",
+        b"exit",
+        b"exit 1",
+        b"exit r1",
+        b"exit a1 a2",
+        b"split r1",
+        b"split r1 0",
+        b"split r1 01",
+        b"split a1 1",
+        b"split r1 1 1",
+        b"protect r1",
+        b"protect r1 w",
+        b"protect r1 RW",
+        b"protect c1 r",
+        b"protect r1 r w",
+        b"status",
+        b"status 1",
+        b"status a1",
+        b"status r01",
+        b"status r4294967296",
+        b"status r1 1",
+        b"find a1",
+        b"find r1 10000",
+        b"find a1 1000000000000",
+        b"find a1 1000g",
+        b"find a1 0x1000",
+        b"find a1 10000 1",
         b"stat 1",
         b"chain c1",
         b"chain c1 0 1",
@@ -74,13 +100,45 @@ fn lines_outside_the_grammar_are_refused(rt: HostRuntime) {
     }
 }
 
+// A region of these pages, which is of actor 1 and shows cache 2.
+fn region(address: u64, first: u32, pages: u32, write: bool, locked: bool) -> Answer {
+    let extent = Extent {
+        cache: CacheId(2),
+        first: PageNo(first),
+        pages,
+    };
+    let mapping = Mapping {
+        extent,
+        address,
+        prot: Prot { write },
+    };
+    Ok(Reply::Status(RegionStatus {
+        actor: ActorId(1),
+        mapping,
+        locked,
+    }))
+}
+
 #[test]
 fn answers_have_their_texts(rt: HostRuntime) -> Result<(), NoMemory> {
-    let answers: [(Answer, &str); 12] = [
+    let answers: [(Answer, &str); 16] = [
         (Ok(Reply::Done), "7 ok\n"),
         (Ok(Reply::Actor(ActorId(1))), "7 ok a1\n"),
         (Ok(Reply::Cache(CacheId(12))), "7 ok c12\n"),
         (Ok(Reply::Region(RegionId(65535))), "7 ok r65535\n"),
+        (
+            region(0x600000, 0, 10, true, false),
+            "7 ok a1 600000 10 rw c2 0 unlocked\n",
+        ),
+        (region(0, 5, 1, false, true), "7 ok a1 0 1 r c2 5 locked\n"),
+        (
+            region(0xfedcba98700f, 4294967295, 1, true, true),
+            "7 ok a1 fedcba98700f 1 rw c2 4294967295 locked\n",
+        ),
+        (
+            region(u64::MAX, 4294967295, 4294967295, true, false),
+            "7 ok a1 ffffffffffffffff 4294967295 rw c2 4294967295 unlocked\n",
+        ),
         (
             Ok(Reply::Stat(Counts {
                 live: 3,

@@ -1,7 +1,7 @@
 // The forms of lines.
 ghost use Rattle.std.specs.Prelude.{◌≡◌, map, IfOk};
 ghost use Rattle.vm_model.specs.Asking.{IsWellFormed};
-ghost use Rattle.actor_script.specs.Forms.{command_of, form_of, verb_form, actor_form, temp_form, open_form, destroy_form, span_of, copy_form, move_form, map_form, unmap_form, load_form, store_form, extent_of, sync_form, flush_form, invalidate_form, pageout_form, chain_form, stat_form};
+ghost use Rattle.actor_script.specs.Forms.{command_of, form_of, verb_form, actor_form, exit_form, temp_form, open_form, destroy_form, span_of, copy_form, move_form, map_form, split_form, protect_form, unmap_form, status_form, find_form, load_form, store_form, extent_of, sync_form, flush_form, invalidate_form, pageout_form, chain_form, stat_form};
 ghost use Rattle.actor_script.specs.Operands.{mode_of};
 
 use super::hexadecimal::{read_address, read_bytes};
@@ -21,6 +21,17 @@ fn read_actor(operands: &[&[u8]]) -> Option<Command>
 {
     match operands {
         [] => Some(Command::MakeActor),
+        _ => None,
+    }
+}
+
+// `exit A`
+#[tactic(auto, unfolding(crate::specs::Forms::exit_form))]
+fn read_exit(operands: &[&[u8]]) -> Option<Command>
+    ensures { result ≡ exit_form (map (λ w. w.now) operands.now) }
+{
+    match operands {
+        [actor] => Some(Command::ExitActor(ActorId(read_lettered(b'a', actor)?))),
         _ => None,
     }
 }
@@ -143,6 +154,36 @@ fn read_map(operands: &[&[u8]]) -> Option<Command>
     }
 }
 
+// `split R N`
+#[tactic(auto, unfolding(crate::specs::Forms::split_form))]
+fn read_split(operands: &[&[u8]]) -> Option<Command>
+    ensures { result ≡ split_form (map (λ w. w.now) operands.now) }
+{
+    match operands {
+        [region, pages] => {
+            let region = RegionId(read_lettered(b'r', region)?);
+            let pages = read_count(pages)?;
+            Some(Command::Split(region, pages))
+        }
+        _ => None,
+    }
+}
+
+// `protect R MODE`
+#[tactic(auto, unfolding(crate::specs::Forms::protect_form))]
+fn read_protect(operands: &[&[u8]]) -> Option<Command>
+    ensures { result ≡ protect_form (map (λ w. w.now) operands.now) }
+{
+    match operands {
+        [region, mode] => {
+            let region = RegionId(read_lettered(b'r', region)?);
+            let prot = read_mode(mode)?;
+            Some(Command::Protect(region, prot))
+        }
+        _ => None,
+    }
+}
+
 // `unmap R`
 #[tactic(auto, unfolding(crate::specs::Forms::unmap_form))]
 fn read_unmap(operands: &[&[u8]]) -> Option<Command>
@@ -150,6 +191,32 @@ fn read_unmap(operands: &[&[u8]]) -> Option<Command>
 {
     match operands {
         [region] => Some(Command::Unmap(RegionId(read_lettered(b'r', region)?))),
+        _ => None,
+    }
+}
+
+// `status R`
+#[tactic(auto, unfolding(crate::specs::Forms::status_form))]
+fn read_status(operands: &[&[u8]]) -> Option<Command>
+    ensures { result ≡ status_form (map (λ w. w.now) operands.now) }
+{
+    match operands {
+        [region] => Some(Command::Status(RegionId(read_lettered(b'r', region)?))),
+        _ => None,
+    }
+}
+
+// `find A ADDR`
+#[tactic(auto, unfolding(crate::specs::Forms::find_form))]
+fn read_find(operands: &[&[u8]]) -> Option<Command>
+    ensures { result ≡ find_form (map (λ w. w.now) operands.now) }
+{
+    match operands {
+        [actor, address] => {
+            let actor = ActorId(read_lettered(b'a', actor)?);
+            let address = read_address(address)?;
+            Some(Command::Find(actor, address))
+        }
         _ => None,
     }
 }
@@ -274,6 +341,8 @@ fn read_verb(verb: &[u8], operands: &[&[u8]]) -> Option<Command>
 {
     if verb == b"actor".as_slice() {
         read_actor(operands)
+    } else if verb == b"exit".as_slice() {
+        read_exit(operands)
     } else if verb == b"temp".as_slice() {
         read_temp(operands)
     } else if verb == b"open".as_slice() {
@@ -286,8 +355,16 @@ fn read_verb(verb: &[u8], operands: &[&[u8]]) -> Option<Command>
         read_move(operands)
     } else if verb == b"map".as_slice() {
         read_map(operands)
+    } else if verb == b"split".as_slice() {
+        read_split(operands)
+    } else if verb == b"protect".as_slice() {
+        read_protect(operands)
     } else if verb == b"unmap".as_slice() {
         read_unmap(operands)
+    } else if verb == b"status".as_slice() {
+        read_status(operands)
+    } else if verb == b"find".as_slice() {
+        read_find(operands)
     } else if verb == b"load".as_slice() {
         read_load(operands)
     } else if verb == b"store".as_slice() {

@@ -8,9 +8,10 @@ ghost use Rattle.actor_script.specs.Writing.{chain_in, Wrote};
 mod bytes;
 mod texts;
 
+use crate::draft::{put, put_number};
 use arrayvec::ArrayVec;
 use bytes::write_all;
-use texts::{put, put_answer, put_item, put_number};
+use texts::{put_answer, put_item};
 use vm_ids::{Answer, ChainItem, Reply};
 use vm_port::{Failed, Sink};
 

@@ -1,63 +1,13 @@
-// The texts of answers, in a line that stands on the stack.
-ghost use Rattle.std.specs.Prelude.{◌≡◌, ◌≤◌, ◌+◌, ◌*◌, ◌++◌, length, decimal};
+// The texts of answers.
+ghost use Rattle.std.specs.Prelude.{◌≡◌, ◌≤◌, ◌+◌, ◌++◌, length};
 ghost use Rattle.arrayvec.specs.ArrayVec.{array_vec_len};
-ghost use Rattle.hex.specs.Hex.{encode_lower};
-ghost use Rattle.actor_script.specs.Text.{ok_text, trouble_text, fault_text, item_text, name_text, refusal_name};
+ghost use Rattle.actor_script.specs.Text.{ok_text, status_text, mode_text, lock_text, trouble_text, fault_text, item_text, name_text, refusal_name};
 ghost use Rattle.actor_script.specs.Writing.{answer_front, reply_front};
 
-use arrayvec::ArrayVec;
-use itoa::Buffer;
-use vm_ids::{Answer, ChainItem, Counts, FaultAt, NodeName, Piece, Refusal, Reply, Trouble};
-
-// The longest line is that of 64 bytes loaded: a number of at most 10 digits, a space, three
-// letters, 128 digits and a line feed.
-const LONGEST: usize = 143;
-
-/// The line of a reply, as far as it has come.
-pub type Line = ArrayVec<u8, LONGEST>;
-
-/// Appends these letters.
-pub fn put(line: &mut Line, letters: &[u8])
-    requires { array_vec_len line.old + length letters.now ≤ LONGEST }
-    ensures { line.new.items ≡ line.old.items ++ letters.now }
-{
-    let _ = line.try_extend_from_slice(letters);
-}
-
-/// Appends a number in decimal.
-pub fn put_number(line: &mut Line, number: u32)
-    requires { array_vec_len line.old + 10 ≤ LONGEST }
-    ensures text { line.new.items ≡ line.old.items ++ decimal number }
-    ensures short { array_vec_len line.new ≤ array_vec_len line.old + 10 }
-{
-    let mut buffer = Buffer::new();
-    put(line, buffer.format(number).as_bytes());
-}
-
-// Appends some letters and a number.
-fn put_numbered(line: &mut Line, letters: &[u8], number: u32)
-    requires { array_vec_len line.old + length letters.now + 10 ≤ LONGEST }
-    ensures text { line.new.items ≡ line.old.items ++ (letters.now ++ decimal number) }
-    ensures short { array_vec_len line.new ≤ array_vec_len line.old + length letters.now + 10 }
-{
-    put(line, letters);
-    put_number(line, number);
-}
-
-// Appends bytes as hexadecimal digits.
-fn put_bytes(line: &mut Line, piece: &Piece)
-    requires { array_vec_len line.old + 128 ≤ LONGEST }
-    ensures text { line.new.items ≡ line.old.items ++ encode_lower piece.now }
-    ensures short { array_vec_len line.new ≤ array_vec_len line.old + 128 }
-{
-    let bytes = piece.as_slice();
-    let mut digits = [0u8; 128];
-    let text = &mut digits[..2 * bytes.len()];
-    match hex::encode_to_slice(bytes, text) {
-        Ok(()) => put(line, text),
-        Err(_) => unreachable!(),
-    }
-}
+use crate::draft::{Draft, LONGEST, put, put_bytes, put_hexadecimal, put_large, put_numbered};
+use vm_ids::{
+    Answer, ChainItem, Counts, FaultAt, NodeName, Prot, Refusal, RegionStatus, Reply, Trouble,
+};
 
 fn refusal_name(refusal: Refusal) -> &'static [u8]
     ensures name { result.now ≡ refusal_name refusal }
@@ -87,7 +37,7 @@ fn refusal_name(refusal: Refusal) -> &'static [u8]
     }
 }
 
-fn put_refusal(line: &mut Line, refusal: Refusal)
+fn put_refusal(line: &mut Draft, refusal: Refusal)
     requires { array_vec_len line.old + 15 ≤ LONGEST }
     ensures text { line.new.items ≡ line.old.items ++ trouble_text (Trouble.Refused refusal) }
     ensures short { array_vec_len line.new ≤ array_vec_len line.old + 15 }
@@ -96,7 +46,7 @@ fn put_refusal(line: &mut Line, refusal: Refusal)
     put(line, refusal_name(refusal));
 }
 
-fn put_fault(line: &mut Line, at: FaultAt)
+fn put_fault(line: &mut Draft, at: FaultAt)
     requires { array_vec_len line.old + 30 ≤ LONGEST }
     ensures text { line.new.items ≡ line.old.items ++ fault_text at }
     ensures short { array_vec_len line.new ≤ array_vec_len line.old + 30 }
@@ -110,7 +60,7 @@ fn put_fault(line: &mut Line, at: FaultAt)
     }
 }
 
-fn put_trouble(line: &mut Line, trouble: Trouble)
+fn put_trouble(line: &mut Draft, trouble: Trouble)
     requires { array_vec_len line.old + 30 ≤ LONGEST }
     ensures text { line.new.items ≡ line.old.items ++ trouble_text trouble }
     ensures short { array_vec_len line.new ≤ array_vec_len line.old + 30 }
@@ -122,17 +72,7 @@ fn put_trouble(line: &mut Line, trouble: Trouble)
     }
 }
 
-// Appends a large number in decimal.
-fn put_large(line: &mut Line, number: u64)
-    requires { array_vec_len line.old + 20 ≤ LONGEST }
-    ensures text { line.new.items ≡ line.old.items ++ decimal number }
-    ensures short { array_vec_len line.new ≤ array_vec_len line.old + 20 }
-{
-    let mut buffer = Buffer::new();
-    put(line, buffer.format(number).as_bytes());
-}
-
-fn put_counts(line: &mut Line, counts: &Counts)
+fn put_counts(line: &mut Draft, counts: &Counts)
     requires { array_vec_len line.old + 131 ≤ LONGEST }
     ensures text { line.new.items ≡ line.old.items ++ ok_text (Reply.Stat counts.now) }
     ensures short { array_vec_len line.new ≤ array_vec_len line.old + 131 }
@@ -143,7 +83,41 @@ fn put_counts(line: &mut Line, counts: &Counts)
     put_large(line, counts.copies);
 }
 
-fn put_name(line: &mut Line, name: NodeName)
+// What a region allows, in a word.
+fn mode_text(prot: Prot) -> &'static [u8]
+    ensures text { result.now ≡ mode_text prot }
+    ensures short { length result.now ≤ 2 }
+{
+    if prot.write { b"rw" } else { b"r" }
+}
+
+// Whether a region is locked, in a word.
+fn lock_text(locked: bool) -> &'static [u8]
+    ensures text { result.now ≡ lock_text locked }
+    ensures short { length result.now ≤ 8 }
+{
+    if locked { b"locked" } else { b"unlocked" }
+}
+
+fn put_status(line: &mut Draft, status: &RegionStatus)
+    requires { array_vec_len line.old + 131 ≤ LONGEST }
+    ensures text { line.new.items ≡ line.old.items ++ status_text status.now }
+    ensures short { array_vec_len line.new ≤ array_vec_len line.old + 131 }
+{
+    let mapping = status.mapping;
+    put_numbered(line, b"ok a", status.actor.0);
+    put(line, b" ");
+    put_hexadecimal(line, mapping.address);
+    put_numbered(line, b" ", mapping.extent.pages);
+    put(line, b" ");
+    put(line, mode_text(mapping.prot));
+    put_numbered(line, b" c", mapping.extent.cache.0);
+    put_numbered(line, b" ", mapping.extent.first.0);
+    put(line, b" ");
+    put(line, lock_text(status.locked));
+}
+
+fn put_name(line: &mut Draft, name: NodeName)
     requires { array_vec_len line.old + 22 ≤ LONGEST }
     ensures text { line.new.items ≡ line.old.items ++ name_text name }
     ensures short { array_vec_len line.new ≤ array_vec_len line.old + 22 }
@@ -161,7 +135,7 @@ fn put_name(line: &mut Line, name: NodeName)
 }
 
 /// Appends a node of a chain.
-pub fn put_item(line: &mut Line, item: &ChainItem)
+pub fn put_item(line: &mut Draft, item: &ChainItem)
     requires { array_vec_len line.old + 34 ≤ LONGEST }
     ensures { line.new.items ≡ line.old.items ++ item_text item.now }
 {
@@ -171,7 +145,7 @@ pub fn put_item(line: &mut Line, item: &ChainItem)
 }
 
 // Appends the text of a reply, up to the nodes of a chain.
-fn put_reply(line: &mut Line, reply: &Reply)
+fn put_reply(line: &mut Draft, reply: &Reply)
     requires { array_vec_len line.old + 131 ≤ LONGEST }
     ensures text { line.new.items ≡ line.old.items ++ reply_front reply.now }
     ensures short { array_vec_len line.new ≤ array_vec_len line.old + 131 }
@@ -183,15 +157,16 @@ fn put_reply(line: &mut Line, reply: &Reply)
         Reply::Region(region) => put_numbered(line, b"ok r", region.0),
         Reply::Bytes(piece) => {
             put(line, b"ok ");
-            put_bytes(line, piece);
+            put_bytes(line, piece.as_slice());
         }
+        Reply::Status(status) => put_status(line, status),
         Reply::Chain(_) => put(line, b"chain"),
         Reply::Stat(counts) => put_counts(line, counts),
     }
 }
 
 /// Appends the text of an answer, up to the nodes of a chain.
-pub fn put_answer(line: &mut Line, answer: &Answer)
+pub fn put_answer(line: &mut Draft, answer: &Answer)
     requires { array_vec_len line.old + 131 ≤ LONGEST }
     ensures text { line.new.items ≡ line.old.items ++ answer_front answer.now }
     ensures short { array_vec_len line.new ≤ array_vec_len line.old + 131 }
