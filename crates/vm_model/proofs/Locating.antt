@@ -5,11 +5,10 @@ use Rattle.std.specs.List.{All}
 use Rattle.std.specs.Option.{option_or}
 use Rattle.std.proofs.lemmas.Bool.Decides.{nat_tests}
 use Rattle.std.proofs.Math.Seq.{map-set_same}
-use Rattle.std.proofs.lemmas.List.{append-nil, drop_all, length-map, length-take-le, map-append, map_push, take_all, take_more}
+use Rattle.std.proofs.lemmas.List.{append-nil, length-map, length-take-le, map-append, map_push, take_more}
 use Rattle.std.proofs.lemmas.List.Elements.{All-append, All-drop, All-get_or, All-same, All-take}
 use Rattle.std.proofs.lemmas.List.Sums.{sum_by-cons}
 use Rattle.std.proofs.lemmas.Option.{get_or_from_slice_get, slice_get-get_or, slice_get_within}
-use Rattle.vm_ids.specs.declared.reply.RegionStatus.{RegionStatus}
 use Rattle.vm_model.specs.Machine as model
 use Rattle.vm_model.specs.Machine.{numbered}
 use Rattle.vm_model.specs.Answering.{change_region}

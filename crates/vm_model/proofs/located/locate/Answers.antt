@@ -1,4 +1,4 @@
-use Rattle.std.proofs.Common.{◌≡◌, ◌+◌, None, [], ◌∷◌, map, List, Option, ap, ◌∙◌, subst, sym}
+use Rattle.std.proofs.Common.{◌≡◌, ◌+◌, None, [], ◌∷◌, map, List, Option, ap, ◌∙◌, subst}
 use Rattle.std.specs.Option.{option_or}
 use Rattle.vm_model.specs.Machine as model
 use Rattle.vm_model.specs.Regions.{region_among, region_with}
