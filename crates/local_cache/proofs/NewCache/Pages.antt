@@ -15,8 +15,9 @@ use Rattle.vm_ids.specs.declared.numbers.NodeId.{NodeId}
 use Rattle.vm_ids.specs.declared.numbers.SegId.{SegId}
 use Rattle.local_cache.specs.declared.own_state.OwnState.{OwnState}
 use Rattle.local_cache.specs.declared.page_table.PageEntry.{PageEntry}
-use Rattle.local_cache.specs.Arena.{Arena, Cell, HasPage, IsFilled, HasNode, IsMade, Table, blank, cell, entry_for, find, is_granted, new_cell, new_table, node_at, table_of}
+use Rattle.local_cache.specs.Arena.{Arena, Cell, HasPage, IsFilled, HasNode, IsMade, Table, blank, cell, entry_for, find, is_granted, locked_count, locks_of, new_cell, new_table, node_at, table_of}
 use Rattle.local_cache.specs.Own.{own_of}
+use Rattle.local_cache.proofs.Tables.Locked.{locked_made}
 use Rattle.local_cache.specs.Whole.{segment_of}
 use Rattle.local_cache.proofs.Nodes.Slots.{tied, apart}
 
@@ -66,14 +67,22 @@ last_table old new cache segment own ns m =
     ∙ get_or-append_seam old.caches (Some t) [] None
 
 -- no page of it is granted
-none_granted : (n page : ℕ) → unwrap_or (slice_get (replicate n false) page) false ≡ false
-none_granted zero page = refl
-none_granted (suc n) zero = refl
-none_granted (suc n) (suc page) = none_granted n page
+alike : {X : Type 0} (x : X) (n page : ℕ) → unwrap_or (slice_get (replicate n x) page) x ≡ x
+alike x zero page = refl
+alike x (suc n) zero = refl
+alike x (suc n) (suc page) = alike x n page
 
 pub made_ungranted : (old new : Arena) (cache : CacheId) (segment : Option SegId) (own : OwnState) (ns : List NodeId) (page : ℕ) → IsMade old new cache segment own ns → is_granted new cache.0 page ≡ false
 made_ungranted old new cache segment own ns page m =
-    ap (λ (o : Option Table). unwrap_or (option_and_then (λ (t : Table). slice_get t.grants page) o) false) (last_table old new cache segment own ns m) ∙ none_granted (length ns) page
+    ap (λ (o : Option Table). unwrap_or (option_and_then (λ (t : Table). slice_get t.grants page) o) false) (last_table old new cache segment own ns m) ∙ alike false (length ns) page
+
+-- and none is locked
+pub made_unlocked : (old new : Arena) (cache : CacheId) (segment : Option SegId) (own : OwnState) (ns : List NodeId) (page : ℕ) → IsMade old new cache segment own ns → locks_of new cache.0 page ≡ 0
+made_unlocked old new cache segment own ns page m =
+    ap (λ (o : Option Table). unwrap_or (option_and_then (λ (t : Table). slice_get t.locks page) o) 0) (last_table old new cache segment own ns m) ∙ alike 0 (length ns) page
+
+pub made_locked_count : (old new : Arena) (cache : CacheId) (segment : Option SegId) (own : OwnState) (ns : List NodeId) → IsMade old new cache segment own ns → locked_count new ≡ locked_count old
+made_locked_count old new cache segment own ns m = locked_made old.caches new.caches segment ns m.caches
 
 -- its segment
 pub made_segment : (old new : Arena) (cache : CacheId) (segment : Option SegId) (own : OwnState) (ns : List NodeId) → IsMade old new cache segment own ns → segment_of new cache.0 ≡ Some segment
