@@ -1,5 +1,5 @@
 -- Pages are locked and unlocked.
-use Rattle.std.proofs.Common.{◌≡◌, ◌≢◌, ℕ, zero, suc, ◌+◌, ◌-◌, ◌<◌, ◌≤◌, Bool, true, false, cond, List, [], ◌∷◌, length, length-set, get_or, set, count_by, sum_by, Option, Some, None, unwrap_or, option_map, slice_get, refl, sym, ap, ◌∙◌, arith, add-one, inl, inr}
+use Rattle.std.proofs.Common.{◌≡◌, ◌≢◌, ℕ, zero, suc, ◌+◌, ◌-◌, false, List, [], ◌∷◌, length-set, get_or, set, count_by, sum_by, Option, Some, None, unwrap_or, option_map, slice_get, refl, sym, ap, ◌∙◌, arith, add-one, inl, inr}
 use Rattle.std.specs.Prelude.{if◌then◌else◌, option_and_then}
 use Rattle.std.proofs.lemmas.Bool.{cases_eq}
 use Rattle.std.proofs.lemmas.List.Sums.{sum_by-cons}
@@ -49,7 +49,19 @@ locks-same a b same cache page = part-same (λ (t : Table). t.locks) 0 a b same 
 pub locks-tables_with : (a b : Arena) (x : NodeName) (o : Option NodeId) → b.caches ≡ tables_with a.caches x o → (cache page : ℕ) → locks_of b cache page ≡ locks_of a cache page
 locks-tables_with a b x o is cache page = part-tables_with (λ (t : Table). t.locks) 0 (λ p n t. refl) a b x o is cache page
 
--- where a cache went, those of the other caches
+-- where a cache went, the locks of its pages are gone, and those of others stay
+pub locks-gone : (a b : Arena) (gone : CacheId) → b ≡ without_cache a gone → (page : ℕ) → locks_of b gone.0 page ≡ 0
+locks-gone a b gone e page = ap (λ x. locks_of x gone.0 page) e ∙ go a.caches gone.0
+  where
+    left : (ts : List (Option Table)) (k : ℕ) → get_or (set ts k None) k None ≡ None
+    left [] k = refl
+    left (t ∷ ts) zero = refl
+    left (t ∷ ts) (suc k) = left ts k
+
+    go : (ts : List (Option Table)) (gone : ℕ) → unwrap_or (option_and_then (λ (t : Table). slice_get t.locks page) (table_at (tables_without ts gone) gone)) 0 ≡ 0
+    go ts zero = refl
+    go ts (suc k) = ap (λ (o : Option Table). unwrap_or (option_and_then (λ (t : Table). slice_get t.locks page) o) 0) (left ts k)
+
 pub locks-without_cache : (a b : Arena) (gone : CacheId) → b ≡ without_cache a gone → (cache page : ℕ) → cache ≢ gone.0 → locks_of b cache page ≡ locks_of a cache page
 locks-without_cache a b gone e cache page apart = ap (λ x. locks_of x cache page) e ∙ go gone.0 cache apart
   where

@@ -1,5 +1,5 @@
 -- The caches after the locks of a page were set.
-use Rattle.std.proofs.Common.{◌≡◌, ℕ, zero, ◌+◌, ◌-◌, ◌<◌, ◌≤◌, ◌^◌, get_or, length, length-set, List, Option, Some, IsSome, refl, sym, ap, ◌∙◌, subst, arith}
+use Rattle.std.proofs.Common.{◌≡◌, ℕ, ◌+◌, ◌-◌, ◌<◌, ◌≤◌, ◌^◌, get_or, length, length-set, Some, IsSome, refl, sym, ap, ◌∙◌, subst, arith}
 use Rattle.std.proofs.lemmas.List.{get_or-set_same}
 use Rattle.local_cache.specs.declared.caches.Caches.TheInside.{Inside}
 use Rattle.local_cache.specs.declared.page_table.CacheEntry.{CacheEntry}

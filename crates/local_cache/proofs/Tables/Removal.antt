@@ -1,5 +1,5 @@
 -- The arena after a cache was removed.
-use Rattle.std.proofs.Common.{◌≡◌, ℕ, zero, suc, ◌+◌, ◌-◌, ◌≤◌, List, length, get_or, set, Option, Some, None, option_map, refl, sym, ap, ◌∙◌, arith, length-set, Vec, Global}
+use Rattle.std.proofs.Common.{◌≡◌, ℕ, zero, suc, ◌+◌, ◌-◌, List, length, get_or, set, Option, Some, None, option_map, refl, sym, ap, ◌∙◌, arith, length-set, Vec, Global}
 use Rattle.local_cache.specs.Lists.{AreClosed, Lists}
 use Rattle.std.specs.Vec.{vec_len, vec_capacity}
 use Rattle.vm_ids.specs.declared.numbers.CacheId.{CacheId}

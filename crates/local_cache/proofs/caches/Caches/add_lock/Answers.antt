@@ -1,4 +1,4 @@
-use Rattle.std.proofs.Common.{◌+◌, ap, ◌∙◌, arith}
+use Rattle.std.proofs.Common.{◌+◌, ap, ◌∙◌}
 use Rattle.local_cache.specs.Arena.{locks_of, with_locks}
 use Rattle.local_cache.proofs.Changes.Locked.{locked_count_more, locked_forest, locked_sound}
 use Rattle.local_cache.proofs.caches.Caches.add_lock.Goals as goal

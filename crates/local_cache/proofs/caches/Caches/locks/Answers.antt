@@ -1,9 +1,8 @@
-use Rattle.std.proofs.Common.{◌≡◌, ◌<◌, ◌≤◌, List, Option, Some, None, unwrap_or, slice_get, option_map, sym, ap, ◌∙◌, arith}
-use Rattle.std.specs.Prelude.{option_and_then}
+use Rattle.std.proofs.Common.{◌≡◌, List, Option, Some, sym, ap, ◌∙◌, arith}
 use Rattle.local_cache.specs.declared.page_table.CacheEntry.{CacheEntry}
-use Rattle.local_cache.specs.Arena.{Arena, Table}
-use Rattle.local_cache.specs.Layout.{entry_at, table_in}
-use Rattle.local_cache.proofs.Tables.Entries.{entry_within, locks_are, locks_past, table_is, there_is}
+use Rattle.local_cache.specs.Arena.{Arena}
+use Rattle.local_cache.specs.Layout.{entry_at}
+use Rattle.local_cache.proofs.Tables.Entries.{entry_within, locks_are, locks_past, there_is}
 use Rattle.local_cache.proofs.caches.Caches.locks.Goals as goal
 
 pub locks-requires : goal.locks-requires

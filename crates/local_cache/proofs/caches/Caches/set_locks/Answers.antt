@@ -24,8 +24,11 @@ overflow_sub-self c =
 pub overflow_add-self : goal.overflow_add-self
 overflow_add-self c =
     let found : entry_at c.self.inside.caches.items c.args.cache.0 ≡ Some c.unwrap-entry.result = ap (λ (es : List (Option CacheEntry)). entry_at es c.args.cache.0) (sym c.deref.ensures.value) ∙ sym c.entry_of.ensures ∙ c.unwrap-entry.ensures in
-    omega (arith, added_fits c.self.inside c.args.self.now c.self.view_is c.self.invariant c.args.cache.0 c.args.page.0 c.unwrap-entry.result found c.requires
-    c.args.count c.locked_of.result c.locked_of-2.result c.set_locks.new.self c.set_locks.ensures (c.locked_of.ensures ∙ ap bit c.locks-before.ensures) c.locked_of-2.ensures)
+    omega (
+      arith,
+      added_fits c.self.inside c.args.self.now c.self.view_is c.self.invariant c.args.cache.0 c.args.page.0 c.unwrap-entry.result found c.requires
+          c.args.count c.locked_of.result c.locked_of-2.result c.set_locks.new.self c.set_locks.ensures (c.locked_of.ensures ∙ ap bit c.locks-before.ensures) c.locked_of-2.ensures,
+    )
 
 pub invariant_of-self : goal.invariant_of-self
 invariant_of-self c =
