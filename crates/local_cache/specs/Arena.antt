@@ -1,5 +1,5 @@
 -- What a contract sees of the caches: page nodes by number, and of each cache the table of its pages.
-use Rattle.std.specs.Prelude.{◌≡◌, ℕ, zero, suc, ◌+◌, ◌-◌, ◌≤◌, ◌<◌, List, [], ◌∷◌, ◌++◌, length, map, replicate, Bool, true, false, Option, Some, None, unwrap_or, IsSome, option_and_then, option_map, slice_get, slice_index_or, slice_set}
+use Rattle.std.specs.Prelude.{◌≡◌, ℕ, zero, suc, ◌+◌, ◌-◌, ◌≤◌, ◌<◌, List, [], ◌∷◌, ◌++◌, length, map, replicate, count_by, sum_by, Bool, true, false, Option, Some, None, unwrap_or, IsSome, option_and_then, option_map, slice_get, slice_index_or, slice_set}
 use Rattle.std.specs.Ordering.{nat_cmp}
 use Rattle.std.specs.FinMap.{FinMap}
 use Rattle.std.specs.FinMap as ids
@@ -21,12 +21,13 @@ pub record Cell : Type 0 where
   pub links : Links
   pub tree : List NodeId
 
--- a live cache: the segment that names it, or none, and for each of its pages an entry, and whether
--- the mapper granted that it is written
+-- a live cache: the segment that names it, or none, and for each of its pages an entry, whether the
+-- mapper granted that it is written, and how many locked regions hold it
 pub record Table : Type 0 where
   pub segment : Option SegId
   pub pages : List PageEntry
   pub grants : List Bool
+  pub locks : List ℕ
 
 -- how many more nodes, caches and entries of tables fit before memory is taken
 pub record Room : Type 0 where
@@ -172,6 +173,34 @@ abbrev pub is_granted : Arena → ℕ → ℕ → Bool
 is_granted a cache page =
     unwrap_or (option_and_then (λ t. slice_get t.grants page) (table_of a cache)) false
 
+-- the table with so many locks on a page, where it has this page
+abbrev pub table_locking : ℕ → ℕ → Table → Table
+table_locking page count t = record t { locks = slice_set t.locks page count }
+
+-- the arena with so many locks on a page, where there is a live cache with this page
+abbrev pub with_locks : Arena → ℕ → ℕ → ℕ → Arena
+with_locks a cache page count =
+    record a { caches = changed_at a.caches cache (table_locking page count) }
+
+-- how many locked regions hold a page; 0 where there is no live cache with this page
+abbrev pub locks_of : Arena → ℕ → ℕ → ℕ
+locks_of a cache page =
+    unwrap_or (option_and_then (λ t. slice_get t.locks page) (table_of a cache)) 0
+
+-- a page that so many locked regions hold is locked
+abbrev pub is_locked : ℕ → Bool
+is_locked zero = false
+is_locked (suc k) = true
+
+-- how many pages of a cache are locked, none where it isn't live
+abbrev pub locked_pages : Option Table → ℕ
+locked_pages None = 0
+locked_pages (Some t) = count_by is_locked t.locks
+
+-- how many pages of all live caches are locked
+abbrev pub locked_count : Arena → ℕ
+locked_count a = sum_by locked_pages a.caches
+
 -- a live cache has this page
 abbrev pub HasPlace : Arena → CacheId → PageNo → Type 0
 HasPlace a cache page = IsSome (entry_at a.caches cache.0 page.0)
@@ -200,13 +229,14 @@ without_cache a cache = record a {
 abbrev pub entry_for : NodeId → PageEntry
 entry_for n = record { node = Some n }
 
--- a table whose pages have these nodes, none of them granted
+-- a table whose pages have these nodes, none of them granted or locked
 abbrev pub new_table : Option SegId → List NodeId → Table
 new_table segment nodes =
     record {
       segment = segment;
       pages = map entry_for nodes;
       grants = replicate (length nodes) false;
+      locks = replicate (length nodes) 0;
     }
 
 -- the cells with a new node for each page of a cache from one page on, all of one own state
@@ -218,7 +248,7 @@ IsFilled cells cache page own (n ∷ ns) after =
     × IsFilled (ids.insert cells n.0 (new_cell (Live cache (record { 0 = page })) own)) cache
     (page + 1) own ns after
 
--- a cache was made, whose pages have these nodes, each of one own state, and none of them granted
+-- a cache was made, whose pages have these nodes, each of one own state, none granted or locked
 pub record IsMade (old new : Arena) (cache : CacheId) (segment : Option SegId) (own : OwnState)
     (nodes : List NodeId) : Type 0 where
   pub number : cache.0 ≡ length old.caches + 1

@@ -108,10 +108,11 @@ entry_code =
 
 abbrev pub table_code : Coded Table
 table_code =
-    code_by (Option SegId × (List PageEntry × List Bool))
-    (coded× (coded_option segment_code) (coded× (coded_list entry_code) (coded_list coded_bool)))
-    (λ t. (t.segment, (t.pages, t.grants)))
-    (λ t. record { segment = t.0; pages = t.1.0; grants = t.1.1 }) (λ _. refl)
+    code_by (Option SegId × (List PageEntry × (List Bool × List ℕ)))
+    (coded× (coded_option segment_code)
+    (coded× (coded_list entry_code) (coded× (coded_list coded_bool) (coded_list coded_ℕ))))
+    (λ t. (t.segment, (t.pages, (t.grants, t.locks))))
+    (λ t. record { segment = t.0; pages = t.1.0; grants = t.1.1.0; locks = t.1.1.1 }) (λ _. refl)
 
 abbrev pub room_code : Coded Room
 room_code =

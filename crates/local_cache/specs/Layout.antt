@@ -1,5 +1,5 @@
 -- What the fields of the caches stand for.
-use Rattle.std.specs.Prelude.{◌≡◌, ℕ, zero, suc, ◌+◌, ◌-◌, ◌<◌, ◌≤◌, ◌^◌, min, List, [], ◌∷◌, length, map, sum_by, take, drop, Option, Some, None, option_map, slice_index_or}
+use Rattle.std.specs.Prelude.{◌≡◌, ℕ, zero, suc, ◌+◌, ◌-◌, ◌<◌, ◌≤◌, ◌^◌, min, List, [], ◌∷◌, length, map, count_by, sum_by, take, drop, Option, Some, None, option_map, slice_index_or}
 use Rattle.std.specs.Ordering.{nat_cmp}
 use Rattle.std.specs.FinMap.{FinMap}
 use Rattle.std.specs.FinMap as ids
@@ -10,9 +10,9 @@ use Rattle.vm_ids.specs.declared.node_name.NodeName.{NodeName}
 use Rattle.vm_ids.specs.declared.node_name.NodeName.TheVariants.{Live, Working}
 use Rattle.local_cache.specs.declared.page_table.CacheEntry.{CacheEntry}
 use Rattle.local_cache.specs.Heap.{Heap}
-use Rattle.local_cache.specs.Lists.{Lists}
+use Rattle.local_cache.specs.Lists.{HasFewPages, Lists}
 use Rattle.local_cache.specs.Queue.{IsQueued}
-use Rattle.local_cache.specs.Arena.{Arena, Cell, Table}
+use Rattle.local_cache.specs.Arena.{Arena, Cell, Table, is_locked}
 
 abbrev pub cells_of : Slab Cell → FinMap nat_cmp Cell
 cells_of s = ids.from_entries (entries s)
@@ -28,6 +28,7 @@ table_in lists e =
       segment = e.segment;
       pages = part_of e lists.entries;
       grants = part_of e lists.grants;
+      locks = part_of e lists.locks;
     }
 
 abbrev pub tables_in : Lists → List (Option CacheEntry) → List (Option Table)
@@ -52,11 +53,13 @@ AreInRow from [] end = from ≤ end
 AreInRow from (None ∷ es) end = AreInRow from es end
 AreInRow from (Some e ∷ es) end = (from ≤ e.first) × AreInRow (e.first + e.pages) es end
 
--- The lists have a place for each page of a live cache, and are of one length.
+-- The lists have a place for each page of a live cache, are of one length, and don't get too long.
 pub record IsLaidOut (nodes : Slab Cell) (caches : List (Option CacheEntry))
     (lists : Lists) : Type 0 where
   pub row : AreInRow 0 caches (length lists.entries)
   pub grants : length lists.grants ≡ length lists.entries
+  pub locks : length lists.locks ≡ length lists.entries
+  pub pages : HasFewPages lists
   pub few : length caches < 2 ^ 32
   pub fits : slab_len nodes ≤ nodes.capacity
 
@@ -85,12 +88,22 @@ pub record IsCounted (nodes : Slab Cell) (thin_room working : ℕ) : Type 0 wher
   pub counter : working ≡ working_len nodes
   pub few : thin_room < 2 ^ 32
 
+-- how many pages of a cache are locked, by the locks of all pages
+abbrev pub locked_part : List ℕ → Option CacheEntry → ℕ
+locked_part locks None = 0
+locked_part locks (Some e) = count_by is_locked (part_of e locks)
+
+-- how many pages of all live caches are locked
+abbrev pub locked_len : Lists → List (Option CacheEntry) → ℕ
+locked_len lists caches = sum_by (locked_part lists.locks) caches
+
 -- what holds of all fields
 pub record IsRight (nodes : Slab Cell) (caches : List (Option CacheEntry))
-    (lists : Lists) (thin : Heap) (thin_room working : ℕ) : Type 0 where
+    (lists : Lists) (thin : Heap) (thin_room working locked : ℕ) : Type 0 where
   pub laid : IsLaidOut nodes caches lists
   pub ready : IsReady nodes thin thin_room
   pub counted : IsCounted nodes thin_room working
+  pub locked_is : locked ≡ locked_len lists caches
 
 -- the entry of a cache, counted from 1
 abbrev pub entry_at : List (Option CacheEntry) → ℕ → Option CacheEntry

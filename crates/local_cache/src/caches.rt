@@ -1,8 +1,8 @@
 // The page nodes and the tables of the caches.
-ghost use Rattle.std.specs.Prelude.{◌≡◌, ℕ, ◌+◌, ◌-◌, ◌<◌, ◌≤◌, ◌^◌, [], List, length, true, None, Some, option_and_then, option_map, IsOk, OnOk, OnErr, IsSome, slice_get};
+ghost use Rattle.std.specs.Prelude.{◌≡◌, ℕ, ◌+◌, ◌-◌, ◌<◌, ◌≤◌, ◌^◌, [], List, length, true, None, Some, option_and_then, option_map, if◌then◌else◌, IsOk, OnOk, OnErr, IsSome, slice_get};
 ghost use Rattle.vm_ids.specs.declared.numbers.NodeId.{NodeId};
 ghost use Rattle.slab.specs.Slab.{HasRoomFor, slab_len};
-ghost use Rattle.local_cache.specs.Arena.{HasPlace, IsFilled, HasNode, IsVacant, as_working, cell, find, hung, is_granted, node_at, table_of, with_grant, with_links, with_name, with_new, with_own, with_tree, with_working, without, without_cache, HasPages, MakesCache, NodesStay, CellsStay, TablesStay, HasNoLess};
+ghost use Rattle.local_cache.specs.Arena.{HasPlace, IsFilled, HasNode, IsVacant, as_working, cell, find, hung, is_granted, is_locked, locked_count, locks_of, node_at, table_of, with_grant, with_links, with_locks, with_name, with_new, with_own, with_tree, with_working, without, without_cache, HasPages, MakesCache, NodesStay, CellsStay, TablesStay, HasNoLess};
 ghost use Rattle.vm_ids.specs.Forest.Changes.{count_copy};
 ghost use Rattle.vm_ids.specs.Forest.Commands.{make, page_names};
 ghost use Rattle.vm_ids.specs.Forest.NameMap.{len};
@@ -18,7 +18,7 @@ ghost use Rattle.local_cache.specs.Sound.{IsSound, MakesPages};
 ghost use Rattle.local_cache.specs.Thin.{IsLeastThin};
 
 use crate::entry_heap::EntryHeap;
-use crate::page_lists::PageLists;
+use crate::page_lists::{PageLists, locked_of};
 use crate::page_node::{PageNode, working_of};
 use crate::page_table::{CacheEntry, entry_of, lower, set_node};
 use crate::thin_nodes::{number_at, queue};
@@ -42,6 +42,8 @@ pub struct Caches {
     copies: u64,
     // how many of the nodes are working ones
     working: u32,
+    // how many pages have a count of locks above 0
+    locked: u32,
 }
 
 impl Model for Caches {
@@ -56,7 +58,7 @@ impl Model for Caches {
 
     ghost view = { λ a. arena_of a.nodes a.caches a.lists a.thin_room a.made a.copies };
 
-    ghost invariant = { λ a. IsRight a.nodes a.caches.items a.lists a.thin a.thin_room a.working };
+    ghost invariant = { λ a. IsRight a.nodes a.caches.items a.lists a.thin a.thin_room a.working a.locked };
 }
 
 // Makes a node for each page of a cache, and appends each to the lists of all pages.
@@ -104,11 +106,13 @@ impl Caches {
             made: 0,
             copies: 0,
             working: 0,
+            locked: 0,
         }
     }
 
     /// Takes memory for so many more caches and so many more pages. It can fail only where there is too little room, and
-    /// it does where there would be 2^32 nodes or more in all. After an error what was there is there still.
+    /// it does where there would be 2^32 nodes, or pages of caches, or more in all. After an error what was there is
+    /// there still.
     #[tactic(auto, using(crate::proofs::Changes::SameCells::roomier_forest))]
     pub fn reserve(&mut self, caches: u32, nodes: u32) -> Result<(), NoMemory>
         ensures nodes { OnOk result (nodes ≤ self.new.room.nodes) }
@@ -171,8 +175,8 @@ impl Caches {
         self.make(Some(seg), OwnState::OnSegment, pages)
     }
 
-    /// Gives back a cache whose pages have no nodes any more, and with it the room for its pages. Its number isn't used
-    /// again. It takes time for the pages of the caches that were made later.
+    /// Gives back a cache whose pages have no nodes any more, and with it the room for its pages, their grants and their
+    /// locks. Its number isn't used again. It takes time for its pages and for those of the caches that were made later.
     pub fn remove(&mut self, cache: CacheId)
         requires live { IsSome (table_of self.old cache.0) }
         requires retired { (page : ℕ) → node_at self.old cache.0 page ≡ None }
@@ -182,6 +186,7 @@ impl Caches {
     {
         let gap = entry_of(&self.caches, cache).unwrap();
         let index = cache.0 as usize - 1;
+        self.locked -= self.lists.locked(gap);
         self.caches[index] = None;
         self.lists.close_gap(gap);
         lower(&mut self.caches, index + 1, gap.pages as usize);
@@ -260,6 +265,60 @@ impl Caches {
     {
         let entry = entry_of(&self.caches, cache).unwrap();
         self.lists.granted(entry, page)
+    }
+
+    /// Locks a page of a live cache once more: one more locked region holds it. A lock is on the page of the cache,
+    /// whatever its node, and stays where the page gets another one, until it is dropped or the cache goes.
+    pub fn add_lock(&mut self, cache: CacheId, page: PageNo)
+        requires place { HasPlace self.old cache page }
+        requires few { locks_of self.old cache.0 page.0 + 1 < 2 ^ 32 }
+        ensures changed { self.new
+            ≡ with_locks self.old cache.0 page.0 (locks_of self.old cache.0 page.0 + 1) }
+        ensures locks { locks_of self.new cache.0 page.0 ≡ locks_of self.old cache.0 page.0 + 1 }
+        ensures locked { locked_count self.new
+            ≡ locked_count self.old + (if is_locked (locks_of self.old cache.0 page.0) then 0 else 1) }
+        ensures forest { forest_of self.new ≡ forest_of self.old }
+        ensures sound { IsSound self.old → IsSound self.new }
+        ensures stays { CellsStay self.old self.new }
+    {
+        let count = self.locks(cache, page);
+        self.set_locks(cache, page, count + 1);
+    }
+
+    /// Unlocks a locked page once: one locked region less holds it.
+    pub fn drop_lock(&mut self, cache: CacheId, page: PageNo)
+        requires { 0 < locks_of self.old cache.0 page.0 }
+        ensures changed { self.new
+            ≡ with_locks self.old cache.0 page.0 (locks_of self.old cache.0 page.0 - 1) }
+        ensures locks { locks_of self.new cache.0 page.0 + 1 ≡ locks_of self.old cache.0 page.0 }
+        ensures locked { locked_count self.old
+            ≡ locked_count self.new + (if is_locked (locks_of self.new cache.0 page.0) then 0 else 1) }
+        ensures forest { forest_of self.new ≡ forest_of self.old }
+        ensures sound { IsSound self.old → IsSound self.new }
+        ensures stays { CellsStay self.old self.new }
+    {
+        let count = self.locks(cache, page);
+        self.set_locks(cache, page, count - 1);
+    }
+
+    /// How many locked regions hold a page: 0 where it was never locked, where its locks were dropped, and where no live
+    /// cache has such a page.
+    pub fn locks(&self, cache: CacheId, page: PageNo) -> u32
+        ensures count { result ≡ locks_of self.now cache.0 page.0 }
+        ensures place { 0 < result → HasPlace self.now cache page }
+    {
+        match entry_of(&self.caches, cache) {
+            Some(entry) if page.0 < entry.pages => self.lists.locks(entry, page),
+            _ => 0,
+        }
+    }
+
+    /// How many pages of all live caches are locked, each counted once however often it is locked. It takes constant
+    /// time.
+    pub fn locked(&self) -> u32
+        ensures { result ≡ locked_count self.now }
+    {
+        self.locked
     }
 
     /// The name of a node.
@@ -464,6 +523,18 @@ impl Caches {
             pages,
         }));
         cache
+    }
+
+    // Puts so many locks on a page of a live cache.
+    fn set_locks(&mut self, cache: CacheId, page: PageNo, count: u32)
+        requires { HasPlace self.old cache page }
+        ensures changed { self.new ≡ with_locks self.old cache.0 page.0 count }
+        ensures locks { locks_of self.new cache.0 page.0 ≡ count }
+    {
+        let entry = entry_of(&self.caches, cache).unwrap();
+        let before = self.lists.locks(entry, page);
+        self.lists.set_locks(entry, page, count);
+        self.locked = self.locked - locked_of(before) + locked_of(count);
     }
 
     // Makes a node under a name, in the tables too.

@@ -1,9 +1,9 @@
 //! The local caches: page nodes under their numbers, and for each cache the table of its pages' nodes.
 //!
 //! A local cache is the pages of one object, a segment or something temporary, as far as the manager keeps them
-//! (Abrossimov, Rozier and Shapiro, SOSP 1989). Here it is a table: for each page the number of its node, and whether
-//! the mapper let it be written. A page node has a name and says where its own page is: in a frame, in a swap slot, on
-//! its segment, a page of zeros, or nowhere.
+//! (Abrossimov, Rozier and Shapiro, SOSP 1989). Here it is a table: for each page the number of its node, whether the
+//! mapper let it be written, and how many locked regions hold it. A page node has a name and says where its own page is:
+//! in a frame, in a swap slot, on its segment, a page of zeros, or nowhere.
 //!
 //! The model is `Arena` of `specs`: a map from the numbers of nodes to cells, the caches in the order of making, two
 //! counters, and three numbers of spare room, which say how many nodes, caches and entries of tables can be made

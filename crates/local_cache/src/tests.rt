@@ -92,6 +92,24 @@ fn a_page_of_a_segment_is_granted(rt: HostRuntime) -> Result<(), Fail> {
 }
 
 #[test]
+fn a_page_locked_twice_is_unlocked_twice(rt: HostRuntime) -> Result<(), Fail> {
+    let mut caches = Caches::new(rt.alloc());
+    caches.reserve(1, 2)?;
+    let cache = caches.make_temp(2);
+    caches.add_lock(cache, PageNo(1));
+    caches.add_lock(cache, PageNo(1));
+    assert_eq!(rt; caches.locks(cache, PageNo(0)), 0);
+    assert_eq!(rt; caches.locks(cache, PageNo(1)), 2);
+    caches.drop_lock(cache, PageNo(1));
+    assert_eq!(rt; caches.locks(cache, PageNo(1)), 1);
+    assert_eq!(rt; caches.locked(), 1);
+    caches.drop_lock(cache, PageNo(1));
+    assert_eq!(rt; caches.locks(cache, PageNo(1)), 0);
+    assert_eq!(rt; caches.locked(), 0);
+    Ok(())
+}
+
+#[test]
 fn a_node_has_a_home(rt: HostRuntime) -> Result<(), Fail> {
     let mut caches = Caches::new(rt.alloc());
     caches.reserve(1, 2)?;

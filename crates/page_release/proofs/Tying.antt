@@ -4,7 +4,7 @@
 pub mod Tied
 -- What lies outside of the frames is there still, where nodes keep their homes or lose them.
 pub mod Backed
--- The pages of segments through a step, and what is granted.
+-- The pages of segments through a step, and what is granted and locked.
 pub mod Homes
 -- Every node has its own state: the store is as it was.
 pub mod States

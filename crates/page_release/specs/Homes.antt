@@ -6,7 +6,7 @@ use Rattle.vm_ids.specs.declared.numbers.NodeId.{NodeId}
 use Rattle.vm_ids.specs.Forest.NameLists.{◌∈◌}
 use Rattle.vm_ids.specs.Forest.Saving.{is_unsaved}
 use Rattle.local_cache.specs.declared.own_state.OwnState.{OwnState}
-use Rattle.local_cache.specs.Arena.{Arena, is_granted, table_of}
+use Rattle.local_cache.specs.Arena.{Arena, is_granted, locks_of, table_of}
 use Rattle.local_cache.specs.Home.{home_named, home_of}
 use Rattle.local_cache.specs.Own.{own_of}
 use Rattle.local_cache.specs.Reading.{forest_of, name_of}
@@ -55,8 +55,9 @@ pub record WasThere (names : List NodeName) (a b : Arena) (n : NodeId) : Type 0 
   pub named : name_of a node ≡ name_of b n
   pub clean : (is_clean (own_of b n) ≡ is_clean (own_of a node)) ⊎ (name_of b n ∈ names)
 
--- From a to b no page of a segment is new, and what was granted stays. But for the pages of the
--- list each is the one that its segment holds just where it was.
+-- From a to b no page of a segment is new, and grants and locks stay. But for the pages of the list
+-- each is the one that its segment holds just where it was.
 pub record KeepsHomes (names : List NodeName) (a b : Arena) : Type 0 where
   pub nodes : (n : NodeId) → IsSome (home_of b n) → WasThere names a b n
   pub grants : (cache page : ℕ) → is_granted b cache page ≡ is_granted a cache page
+  pub locks : (cache page : ℕ) → locks_of b cache page ≡ locks_of a cache page

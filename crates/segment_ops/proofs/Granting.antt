@@ -2,7 +2,7 @@
 use Rattle.std.proofs.Common.{◌≡◌, ℕ, zero, suc, ◌+◌, ◌<◌, ◌≤◌, Bool, true, false, List, [], ◌∷◌, map, length, set, get_or, Option, Some, None, is_some, refl, sym, ap, ◌∙◌, subst, arith, inl, inr, ◌⊎◌}
 use Rattle.std.specs.List.{count_by}
 use Rattle.std.specs.Option.{IfSome, IsSome}
-use Rattle.std.specs.Prelude.{not, option_map, option_and_then, Result}
+use Rattle.std.specs.Prelude.{not, option_map, option_and_then, slice_get, unwrap_or, Result}
 use Rattle.std.proofs.lemmas.Bool.{cases_eq}
 use Rattle.vm_ids.specs.Counting.{Counted, MapperCounts}
 use Rattle.vm_ids.specs.Denying.{denies}
@@ -19,7 +19,7 @@ use Rattle.vm_ids.specs.Forest.PageMap.{bare}
 use Rattle.vm_ids.proofs.Places.{bit}
 use Rattle.local_cache.specs.declared.home.Home.{Home}
 use Rattle.local_cache.specs.declared.own_state.OwnState.{OwnState}
-use Rattle.local_cache.specs.Arena.{Arena, HasPlace, Table, find, changed_at, is_granted, node_at, table_granting, table_of, with_grant}
+use Rattle.local_cache.specs.Arena.{Arena, HasPlace, Table, find, changed_at, is_granted, locks_of, node_at, table_at, table_granting, table_of, with_grant}
 use Rattle.local_cache.specs.Home.{home_named, home_of}
 use Rattle.local_cache.specs.Own.{is_in_slot, is_resident, is_slot, own_of, own_states}
 use Rattle.local_cache.specs.Reading.{name_of}
@@ -218,6 +218,23 @@ granted_then range at a b c low grants is now = record {
   rest = ap (λ (x : Arena). record x { caches = a.caches }) is ∙ grants.rest;
   none = λ first. absurd (omega (arith, low, first));
 }
+
+-- what else a table has of a page stays: its locks
+locks_in : ℕ → Option Table → ℕ
+locks_in page o = unwrap_or (option_and_then (λ (t : Table). slice_get t.locks page) o) 0
+
+locks_left : (page : ℕ) (o : Option Table) → locks_in page (option_map without_grants o) ≡ locks_in page o
+locks_left page None = refl
+locks_left page (Some t) = refl
+
+locks_seen : (ts : List (Option Table)) (cache page : ℕ) → locks_in page (table_at (map (option_map without_grants) ts) cache) ≡ locks_in page (table_at ts cache)
+locks_seen ts zero page = refl
+locks_seen [] (suc k) page = refl
+locks_seen (t ∷ ts) (suc zero) page = locks_left page t
+locks_seen (t ∷ ts) (suc (suc k)) page = locks_seen ts (suc k) page
+
+pub granted_locks : (range : Extent) (past : ℕ) (a b : Arena) → GrantsBefore range past a b → (cache page : ℕ) → locks_of b cache page ≡ locks_of a cache page
+granted_locks range past a b grants cache page = sym (locks_seen b.caches cache page) ∙ ap (λ (ts : List (Option Table)). locks_in page (table_at ts cache)) grants.tables ∙ locks_seen a.caches cache page
 
 pub allows_then : (range : Extent) (at : ℕ) (told : Option Held) (segment : SegId) → AllowsBefore range at told segment → IfSome told (λ h. denies h.denied segment.0 at ≡ false) → AllowsBefore range (at + 1) told segment
 allows_then range at told segment allows now page from below = elim (cases_eq page at) [

@@ -13,7 +13,7 @@ use Rattle.local_cache.specs.declared.home.Home.{Home}
 use Rattle.local_cache.specs.declared.links.Links.{Links}
 use Rattle.local_cache.specs.declared.own_state.OwnState.{OwnState}
 use Rattle.local_cache.specs.declared.own_state.OwnState.TheVariants.{Absent}
-use Rattle.local_cache.specs.Arena.{Arena, Cell, HasPage, HasNode, IsMade, Table, as_working, blank, cell, find, new_cell, put, table_at, tables_with, tables_without, with_grant, with_links, with_name, with_new, with_own, with_tree, with_working, without, without_cache}
+use Rattle.local_cache.specs.Arena.{Arena, Cell, HasPage, HasNode, IsMade, Table, as_working, blank, cell, find, new_cell, put, table_at, tables_with, tables_without, with_grant, with_links, with_locks, with_name, with_new, with_own, with_tree, with_working, without, without_cache}
 use Rattle.local_cache.specs.Changes.{Like}
 use Rattle.local_cache.specs.Home.{home_named, home_of}
 use Rattle.local_cache.specs.Reading.{name_of}
@@ -21,11 +21,12 @@ use Rattle.local_cache.specs.Sound.{IsListed}
 use Rattle.local_cache.specs.Whole.{SameCaches, segment_of}
 use Rattle.local_cache.proofs.Changes.SameNodes.{caches-put, id_cases}
 use Rattle.local_cache.proofs.Changes.Granted.{granted_cell}
+use Rattle.local_cache.proofs.Changes.Locked.{locked_cell}
 use Rattle.local_cache.proofs.NewCache.Pages.{made_stays, made_tables}
 use Rattle.local_cache.proofs.Nodes.Cells.{cell-put, cell-put_other, find-with_new}
 use Rattle.local_cache.proofs.Nodes.Slots.{apart, tied}
 use Rattle.local_cache.proofs.Tables.Listing.{node_in, read_other}
-use Rattle.local_cache.proofs.Tables.Sizes.{each_table, sizes_granted}
+use Rattle.local_cache.proofs.Tables.Sizes.{each_table, sizes_granted, sizes_locked}
 
 -- What a home depends on -----------------------------------------------------------------------
 
@@ -91,6 +92,11 @@ home-with_tree a n ts = home-put a n (record (cell a n) { tree = ts }) refl
 
 pub home-with_grant : (a : Arena) (cache page : ℕ) (m : NodeId) → home_of (with_grant a cache page) m ≡ home_of a m
 home-with_grant a cache page m = home_kept a (with_grant a cache page) (sizes_granted a (with_grant a cache page) cache page refl) m (ap (λ (c : Cell). c.name) (granted_cell a (with_grant a cache page) cache page refl m))
+
+pub home-with_locks : (a : Arena) (cache page count : ℕ) (m : NodeId) → home_of (with_locks a cache page count) m ≡ home_of a m
+home-with_locks a cache page count m =
+    let b : Arena = with_locks a cache page count in
+    home_kept a b (sizes_locked a b cache page count refl) m (ap (λ (c : Cell). c.name) (locked_cell a b cache page count refl m))
 
 -- a page has another node, or none
 named-tables_with : (ts : List (Option Table)) (y : NodeName) (o : Option NodeId) (x : NodeName) → home_named (tables_with ts y o) x ≡ home_named ts x

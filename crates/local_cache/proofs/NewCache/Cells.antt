@@ -34,8 +34,9 @@ one_more lists ns n =
     let entries = append_assoc lists.entries (map entry_for ns) (entry_for n ∷ []) ∙ ap (λ xs. lists.entries ++ xs) (sym (map-append entry_for ns (n ∷ []))) in
     let long : length (ns ++ n ∷ []) ≡ length ns + 1 = length-append ns (n ∷ []) in
     let grants = append_assoc lists.grants (replicate (length ns) false) (false ∷ []) ∙ ap (λ xs. lists.grants ++ xs) (replicate-append-replicate (length ns) 1 false ∙ ap (λ k. replicate k false) (sym long)) in
+    let locks = append_assoc lists.locks (replicate (length ns) 0) (0 ∷ []) ∙ ap (λ xs. lists.locks ++ xs) (replicate-append-replicate (length ns) 1 0 ∙ ap (λ k. replicate k 0) (sym long)) in
     let room : lists.room - length ns - length (n ∷ []) ≡ lists.room - length (ns ++ n ∷ []) = omega (arith, long) in
-    λ i. record { entries = entries i; grants = grants i; room = room i }
+    λ i. record { entries = entries i; grants = grants i; locks = locks i; room = room i }
 
 -- the nodes of so many pages
 abbrev pub Filled : Slab Cell → Lists → CacheId → OwnState → Slab Cell → Lists → ℕ → Type 0

@@ -1,5 +1,5 @@
 -- What is found after a cache was made.
-use Rattle.std.proofs.Common.{◌≡◌, ◌⊎◌, ℕ, zero, suc, ◌+◌, ◌<◌, ◌≤◌, Bool, false, cond, replicate, option_map, List, [], ◌∷◌, length, get_or, map, Option, Some, None, IsSome, unwrap_or, refl, sym, ap, ◌∙◌, inl, inr, arith, add-one, zero-add}
+use Rattle.std.proofs.Common.{◌≡◌, ◌⊎◌, ℕ, zero, suc, ◌+◌, ◌<◌, ◌≤◌, Bool, false, cond, replicate, option_map, List, [], ◌∷◌, ◌++◌, length, get_or, map, Option, Some, None, IsSome, unwrap_or, refl, sym, ap, ◌∙◌, inl, inr, arith, add-one, zero-add}
 use Rattle.std.specs.Prelude.{option_and_then, slice_get, is_some}
 use Rattle.std.specs.Ordering.{nat_cmp}
 use Rattle.std.specs.Cmp.{nat_cmp_total}
@@ -15,7 +15,7 @@ use Rattle.vm_ids.specs.declared.numbers.NodeId.{NodeId}
 use Rattle.vm_ids.specs.declared.numbers.SegId.{SegId}
 use Rattle.local_cache.specs.declared.own_state.OwnState.{OwnState}
 use Rattle.local_cache.specs.declared.page_table.PageEntry.{PageEntry}
-use Rattle.local_cache.specs.Arena.{Arena, Cell, HasPage, IsFilled, HasNode, IsMade, Table, blank, cell, entry_for, find, is_granted, new_cell, new_table, node_at, table_of}
+use Rattle.local_cache.specs.Arena.{Arena, Cell, HasPage, IsFilled, HasNode, IsMade, Table, blank, cell, entry_for, find, is_granted, locks_of, new_cell, new_table, node_at, table_of}
 use Rattle.local_cache.specs.Own.{own_of}
 use Rattle.local_cache.specs.Whole.{segment_of}
 use Rattle.local_cache.proofs.Nodes.Slots.{tied, apart}
@@ -66,14 +66,33 @@ last_table old new cache segment own ns m =
     ∙ get_or-append_seam old.caches (Some t) [] None
 
 -- no page of it is granted
-none_granted : (n page : ℕ) → unwrap_or (slice_get (replicate n false) page) false ≡ false
-none_granted zero page = refl
-none_granted (suc n) zero = refl
-none_granted (suc n) (suc page) = none_granted n page
+alike : {X : Type 0} (x : X) (n page : ℕ) → unwrap_or (slice_get (replicate n x) page) x ≡ x
+alike x zero page = refl
+alike x (suc n) zero = refl
+alike x (suc n) (suc page) = alike x n page
 
 pub made_ungranted : (old new : Arena) (cache : CacheId) (segment : Option SegId) (own : OwnState) (ns : List NodeId) (page : ℕ) → IsMade old new cache segment own ns → is_granted new cache.0 page ≡ false
 made_ungranted old new cache segment own ns page m =
-    ap (λ (o : Option Table). unwrap_or (option_and_then (λ (t : Table). slice_get t.grants page) o) false) (last_table old new cache segment own ns m) ∙ none_granted (length ns) page
+    ap (λ (o : Option Table). unwrap_or (option_and_then (λ (t : Table). slice_get t.grants page) o) false) (last_table old new cache segment own ns m) ∙ alike false (length ns) page
+
+-- and none is locked
+pub made_unlocked : (old new : Arena) (cache : CacheId) (segment : Option SegId) (own : OwnState) (ns : List NodeId) (page : ℕ) → IsMade old new cache segment own ns → locks_of new cache.0 page ≡ 0
+made_unlocked old new cache segment own ns page m =
+    ap (λ (o : Option Table). unwrap_or (option_and_then (λ (t : Table). slice_get t.locks page) o) 0) (last_table old new cache segment own ns m) ∙ alike 0 (length ns) page
+
+-- the locks of all pages stay
+pub made_locks : (old new : Arena) (cache : CacheId) (segment : Option SegId) (own : OwnState) (ns : List NodeId) → IsMade old new cache segment own ns → (other page : ℕ) → locks_of new other page ≡ locks_of old other page
+made_locks old new cache segment own ns m zero page = refl
+made_locks old new cache segment own ns m (suc k) page = ap (λ (ts : List (Option Table)). locks_in (get_or ts k None)) m.caches ∙ go old.caches k
+  where
+    locks_in : Option Table → ℕ
+    locks_in o = unwrap_or (option_and_then (λ (t : Table). slice_get t.locks page) o) 0
+
+    go : (ts : List (Option Table)) (k : ℕ) → locks_in (get_or (ts ++ Some (new_table segment ns) ∷ []) k None) ≡ locks_in (get_or ts k None)
+    go [] zero = alike 0 (length ns) page
+    go [] (suc k) = refl
+    go (t ∷ ts) zero = refl
+    go (t ∷ ts) (suc k) = go ts k
 
 -- its segment
 pub made_segment : (old new : Arena) (cache : CacheId) (segment : Option SegId) (own : OwnState) (ns : List NodeId) → IsMade old new cache segment own ns → segment_of new cache.0 ≡ Some segment

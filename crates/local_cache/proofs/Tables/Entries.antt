@@ -1,17 +1,17 @@
 -- The tables of the caches.
-use Rattle.std.proofs.Common.{◌≡◌, ◌⊎◌, inl, inr, Bool, true, false, map, replicate, unwrap_or, ℕ, zero, suc, ◌+◌, ◌-◌, ◌<◌, ◌≤◌, List, [], ◌∷◌, ◌++◌, length, take, drop, get_or, set, Option, Some, None, IsSome, option_map, slice_get, refl, sym, ap, ◌∙◌, subst, arith, length-take, length-drop}
+use Rattle.std.proofs.Common.{◌≡◌, ◌⊎◌, inl, inr, true, false, map, replicate, unwrap_or, ℕ, zero, suc, ◌+◌, ◌-◌, ◌<◌, ◌≤◌, List, [], ◌∷◌, ◌++◌, length, take, drop, get_or, set, Option, Some, None, IsSome, is_some, option_map, slice_get, refl, sym, ap, ◌∙◌, subst, arith, length-take, length-drop}
 use Rattle.std.proofs.lemmas.List.{get_or-take, get_or-drop, length-map, length-replicate, map-append, take-append-le, drop-append-le, drop_at, drop-set-add, drop-set-lt, set-get_or, take_all, take-set-le}
 use Rattle.std.proofs.Math.Seq.{take-set-lt}
-use Rattle.std.proofs.lemmas.Option.{slice_get-get_or}
+use Rattle.std.proofs.lemmas.Option.{slice_get-get_or, slice_get_past}
 use Rattle.std.specs.Prelude.{option_and_then}
 use Rattle.local_cache.specs.declared.page_table.CacheEntry.{CacheEntry}
 use Rattle.local_cache.specs.declared.page_table.PageEntry.{PageEntry}
 use Rattle.vm_ids.specs.declared.numbers.NodeId.{NodeId}
 use Rattle.vm_ids.specs.declared.node_name.NodeName.{NodeName}
-use Rattle.local_cache.specs.Arena.{Arena, Table, cache_with, changed_at, entry_for, is_granted, new_table, node_at, table_granting, table_of, table_with, tables_with}
+use Rattle.local_cache.specs.Arena.{Arena, Table, cache_with, changed_at, entry_for, is_granted, locks_of, new_table, node_at, table_granting, table_locking, table_of, table_with, tables_with}
 use Rattle.local_cache.specs.Arena as arena
 use Rattle.local_cache.specs.Layout.{AreInRow, entry_at, part_of, table_in, tables_in}
-use Rattle.local_cache.specs.Lists.{Lists, granting, with_node, with_pages}
+use Rattle.local_cache.specs.Lists.{Lists, granting, locking, with_node, with_pages}
 
 -- a live cache ends within the table of all pages
 pub row_end : (from : ℕ) (es : List (Option CacheEntry)) (end : ℕ) → AreInRow from es end → from ≤ end
@@ -104,11 +104,31 @@ module _ (a : Arena) (lists : Lists) (es : List (Option CacheEntry)) (cache page
         is = λ d. found ∙ read_is (λ (x : PageEntry). x.node) part page d inside ∙ ap (λ (x : PageEntry). x.node) (part-get lists.entries e page d less);
       }
 
+  -- what another list has of it
+  read_part : {X : Type 0} (part : Table → List X) (xs : List X) (d : X) → part (table_in lists e) ≡ part_of e xs → length xs ≡ length lists.entries → page < e.pages
+      → unwrap_or (option_and_then (λ (t : Table). slice_get (part t) page) (table_of a cache)) d ≡ get_or xs (e.first + page) d
+  read_part {X} part xs d has long less =
+      let inside : page < length (part_of e xs) = omega (arith, less, part_len xs e (omega (arith, long, entry_within es (length lists.entries) cache e row is))) in
+      ap (λ (o : Option Table). unwrap_or (option_and_then (λ (t : Table). slice_get (part t) page) o) d) table ∙ ap (λ (ys : List X). unwrap_or (slice_get ys page) d) has
+      ∙ ap (λ (o : Option X). unwrap_or o d) (slice_get-get_or (part_of e xs) page d inside) ∙ part-get xs e page d less
+
   pub granted_is : length lists.grants ≡ length lists.entries → page < e.pages → is_granted a cache page ≡ get_or lists.grants (e.first + page) false
-  granted_is long less =
-      let inside : page < length (part_of e lists.grants) = omega (arith, less, part_len lists.grants e (omega (arith, long, entry_within es (length lists.entries) cache e row is))) in
-      ap (λ (o : Option Table). unwrap_or (option_and_then (λ (t : Table). slice_get t.grants page) o) false) table
-      ∙ ap (λ (o : Option Bool). unwrap_or o false) (slice_get-get_or (part_of e lists.grants) page false inside) ∙ part-get lists.grants e page false less
+  granted_is long less = read_part (λ (t : Table). t.grants) lists.grants false refl long less
+
+  pub locks_are : length lists.locks ≡ length lists.entries → page < e.pages → locks_of a cache page ≡ get_or lists.locks (e.first + page) 0
+  locks_are long less = read_part (λ (t : Table). t.locks) lists.locks 0 refl long less
+
+  -- a page that it has is there
+  pub there_is : page < e.pages → IsSome (arena.entry_at a.caches cache page)
+  there_is less =
+      let inside : page < length (part_of e lists.entries) = omega (arith, less, size) in
+      ap (λ (o : Option Table). is_some (option_and_then (λ (t : Table). slice_get t.pages page) o)) table ∙ ap is_some (slice_get-get_or (part_of e lists.entries) page (record { node = None }) inside)
+
+  -- one that it doesn't have isn't locked
+  pub locks_past : e.pages ≤ page → locks_of a cache page ≡ 0
+  locks_past past =
+      let short : length (part_of e lists.locks) ≤ page = omega (arith, length-take e.pages (drop e.first lists.locks), past) in
+      ap (λ (o : Option Table). unwrap_or (option_and_then (λ (t : Table). slice_get t.locks page) o) 0) table ∙ ap (λ (o : Option ℕ). unwrap_or o 0) (slice_get_past (part_of e lists.locks) page short)
 
 -- a cache that is made behind the others
 pub row_more : (from : ℕ) (es : List (Option CacheEntry)) (end : ℕ) (e : CacheEntry) (after : ℕ) → AreInRow from es end → e.first ≡ end → e.first + e.pages ≡ after → AreInRow from (es ++ Some e ∷ []) after
@@ -124,7 +144,7 @@ part_more xs more e h =
 last_part : {X : Type 0} (xs more : List X) (e : CacheEntry) → e.first ≡ length xs → e.pages ≡ length more → part_of e (xs ++ more) ≡ more
 last_part xs more e first pages = ap (take e.pages) (drop_at xs more e.first (sym first)) ∙ ap (λ (k : ℕ). take k more) pages ∙ take_all (length more) more (omega arith)
 
-module _ (lists : Lists) (ns : List NodeId) (long : length lists.grants ≡ length lists.entries) where
+module _ (lists : Lists) (ns : List NodeId) (long : length lists.grants ≡ length lists.entries) (as_long : length lists.locks ≡ length lists.entries) where
   pub tables_more : (from : ℕ) (es : List (Option CacheEntry)) → AreInRow from es (length lists.entries) → tables_in (with_pages lists ns) es ≡ tables_in lists es
   tables_more from [] row = refl
   tables_more from (None ∷ es) row = ap (λ (ts : List (Option Table)). None ∷ ts) (tables_more from es row)
@@ -132,17 +152,19 @@ module _ (lists : Lists) (ns : List NodeId) (long : length lists.grants ≡ leng
       let end : e.first + e.pages ≤ length lists.entries = row_end (e.first + e.pages) es (length lists.entries) row.1 in
       let pages = part_more lists.entries (map entry_for ns) e end in
       let grants = part_more lists.grants (replicate (length ns) false) e (omega (arith, end, long)) in
+      let locks = part_more lists.locks (replicate (length ns) 0) e (omega (arith, end, as_long)) in
       let rest : tables_in (with_pages lists ns) es ≡ tables_in lists es = tables_more (e.first + e.pages) es row.1 in
-      λ i. Some (record { segment = e.segment; pages = pages i; grants = grants i }) ∷ rest i
+      λ i. Some (record { segment = e.segment; pages = pages i; grants = grants i; locks = locks i }) ∷ rest i
 
   pub tables_made : (es : List (Option CacheEntry)) (e : CacheEntry) → AreInRow 0 es (length lists.entries) → e.first ≡ length lists.entries → e.pages ≡ length ns
       → tables_in (with_pages lists ns) (es ++ Some e ∷ []) ≡ tables_in lists es ++ Some (new_table e.segment ns) ∷ []
   tables_made es e row first count =
       let pages = last_part lists.entries (map entry_for ns) e first (count ∙ sym (length-map ns entry_for)) in
       let grants = last_part lists.grants (replicate (length ns) false) e (first ∙ sym long) (count ∙ sym (length-replicate (length ns) false)) in
+      let locks = last_part lists.locks (replicate (length ns) 0) e (first ∙ sym as_long) (count ∙ sym (length-replicate {A = ℕ} (length ns) 0)) in
       map-append (λ o. option_map (table_in (with_pages lists ns)) o) es (Some e ∷ [])
       ∙ ap (λ (ts : List (Option Table)). ts ++ Some (table_in (with_pages lists ns) e) ∷ []) (tables_more 0 es row)
-      ∙ (λ i. tables_in lists es ++ Some (record { segment = e.segment; pages = pages i; grants = grants i }) ∷ [])
+      ∙ (λ i. tables_in lists es ++ Some (record { segment = e.segment; pages = pages i; grants = grants i; locks = locks i }) ∷ [])
 
 -- a place that isn't one of a cache's
 abbrev IsApart : ℕ → CacheEntry → Type 0
@@ -213,6 +235,13 @@ pub tables_granting : (es : List (Option CacheEntry)) (lists : Lists) (cache : �
 tables_granting es lists cache e page row is h =
     tables_changed lists (granting lists (e.first + page)) (e.first + page) (λ d apart. (let same = part_other lists.grants d (e.first + page) true apart in λ i. record (table_in lists d) { grants = same i }))
     es (length lists.entries) cache e (table_granting page) row is (omega arith) (omega (arith, h)) (let now = part_at lists.grants e page true h in λ i. record (table_in lists e) { grants = now i })
+
+-- so many locks on such a page
+pub tables_locking : (es : List (Option CacheEntry)) (lists : Lists) (cache : ℕ) (e : CacheEntry) (page count : ℕ) → AreInRow 0 es (length lists.entries) → entry_at es cache ≡ Some e → page < e.pages
+    → tables_in (locking lists (e.first + page) count) es ≡ changed_at (tables_in lists es) cache (table_locking page count)
+tables_locking es lists cache e page count row is h =
+    tables_changed lists (locking lists (e.first + page) count) (e.first + page) (λ d apart. (let same = part_other lists.locks d (e.first + page) count apart in λ i. record (table_in lists d) { locks = same i }))
+    es (length lists.entries) cache e (table_locking page count) row is (omega arith) (omega (arith, h)) (let now = part_at lists.locks e page count h in λ i. record (table_in lists e) { locks = now i })
 
 -- the node of a page that it doesn't have
 pub tables_past : (es : List (Option CacheEntry)) (lists : Lists) (cache : ℕ) (e : CacheEntry) (page : ℕ) (o : Option NodeId) → entry_at es cache ≡ Some e → e.pages ≤ page

@@ -83,7 +83,7 @@ module _ {X : Type 0} (gap : CacheEntry) (xs ys : List X) (fits : gap.first + ga
       part-get ys (lowered gap.pages e) i d within ∙ closed.behind (e.first - gap.pages + i) d (omega (arith, h)) ∙ ap (λ k. get_or xs k d) place ∙ sym (part-get xs e i d within))
 
 -- where the entry of one cache went
-module _ (es after : List (Option CacheEntry)) (old new : Lists) (index : ℕ) (gap : CacheEntry) (row : AreInRow 0 es (length old.entries)) (long : length old.grants ≡ length old.entries) (found : get_or es index None ≡ Some gap)
+module _ (es after : List (Option CacheEntry)) (old new : Lists) (index : ℕ) (gap : CacheEntry) (row : AreInRow 0 es (length old.entries)) (long : length old.grants ≡ length old.entries) (as_long : length old.locks ≡ length old.entries) (found : get_or es index None ≡ Some gap)
     (closed : AreClosed gap.first gap.pages old new) (low : AreLowered (index + 1) gap.pages (set es index None) after) where
   abbrev n : ℕ
   n = gap.pages
@@ -103,6 +103,9 @@ module _ (es after : List (Option CacheEntry)) (old new : Lists) (index : ℕ) (
   grants_fit : gap.first + gap.pages ≤ length old.grants
   grants_fit = omega (arith, fits, long)
 
+  locks_fit : gap.first + gap.pages ≤ length old.locks
+  locks_fit = omega (arith, fits, as_long)
+
   len : length new.entries + gap.pages ≡ length old.entries
   len = closed.entries.len
 
@@ -121,7 +124,8 @@ module _ (es after : List (Option CacheEntry)) (old new : Lists) (index : ℕ) (
       (let before = p.apart k index e gap h is found in
       let entries = list_front gap old.entries new.entries fits closed.entries e before in
       let grants = list_front gap old.grants new.grants grants_fit closed.grants e before in
-      λ i. Some (record { segment = e.segment; pages = entries i; grants = grants i }))
+      let locks = list_front gap old.locks new.locks locks_fit closed.locks e before in
+      λ i. Some (record { segment = e.segment; pages = entries i; grants = grants i; locks = locks i }))
 
   table_behind : (k : ℕ) → index < k → (o : Option CacheEntry) → get_or es k None ≡ o → option_map (table_in new) (option_map (lowered n) o) ≡ option_map (table_in old) o
   table_behind k h None is = refl
@@ -130,7 +134,8 @@ module _ (es after : List (Option CacheEntry)) (old new : Lists) (index : ℕ) (
       let end = (p.inside k e is).1 in
       let entries = list_behind gap old.entries new.entries fits closed.entries e behind end in
       let grants = list_behind gap old.grants new.grants grants_fit closed.grants e behind (omega (arith, end, long)) in
-      λ i. Some (record { segment = e.segment; pages = entries i; grants = grants i }))
+      let locks = list_behind gap old.locks new.locks locks_fit closed.locks e behind (omega (arith, end, as_long)) in
+      λ i. Some (record { segment = e.segment; pages = entries i; grants = grants i; locks = locks i }))
 
   pub tables_closed : tables_in new after ≡ set (tables_in old es) index None
   tables_closed = ext_get_or None (tables_in new after) (set (tables_in old es) index None) sizes (λ k less. each k)

@@ -6,8 +6,9 @@ use Rattle.vm_ids.specs.declared.numbers.CacheId.{CacheId}
 use Rattle.local_cache.specs.declared.caches.Caches.TheInside.{Inside}
 use Rattle.local_cache.specs.declared.page_table.CacheEntry.{CacheEntry}
 use Rattle.local_cache.specs.Arena.{Arena, page_count, table_of, tables_without, without_cache}
-use Rattle.local_cache.specs.Layout.{AreLowered, IsRight, entry_at, table_in, tables_in}
+use Rattle.local_cache.specs.Layout.{AreLowered, IsRight, entry_at, locked_len, locked_part, table_in, tables_in}
 use Rattle.local_cache.proofs.Tables.Gaps.{row_closed, tables_closed}
+use Rattle.local_cache.proofs.Tables.Locked.{locked_closed}
 use Rattle.local_cache.proofs.Nodes.Slots.{seen}
 use Rattle.local_cache.proofs.Tables.Entries.{entry_within, part_len, table_is}
 
@@ -23,23 +24,33 @@ pub record Left (i : Inside) (cache : ℕ) (gap : CacheEntry) (after : Vec (Opti
   pub lowered_len : vec_len after ≡ vec_len i.caches
   pub lowered_capacity : vec_capacity after ≡ vec_capacity i.caches
 
-module _ (i : Inside) (cache : ℕ) (gap : CacheEntry) (after : Vec (Option CacheEntry) Global) (new : Lists) (right : IsRight i.nodes i.caches.items i.lists i.thin i.thin_room i.working) (left : Left i cache gap after new) where
-  tables : tables_in new after.items ≡ tables_without (tables_in i.lists i.caches.items) cache
-  tables =
-      let at = at_index i.caches.items cache gap left.found in
-      tables_closed i.caches.items after.items i.lists new (cache - 1) gap right.laid.row right.laid.grants at.0 left.closed left.lowered
-      ∙ ap (tables_without (tables_in i.lists i.caches.items)) (sym at.1)
+module _ (i : Inside) (cache : ℕ) (gap : CacheEntry) (after : Vec (Option CacheEntry) Global) (new : Lists) (right : IsRight i.nodes i.caches.items i.lists i.thin i.thin_room i.working i.locked) (left : Left i cache gap after new) where
+  index_is : get_or i.caches.items (cache - 1) None ≡ Some gap
+  index_is = (at_index i.caches.items cache gap left.found).0
 
-  pub right_left : IsRight i.nodes after.items new i.thin i.thin_room i.working
-  right_left = record {
+  closed : tables_in new after.items ≡ set (tables_in i.lists i.caches.items) (cache - 1) None
+  closed = tables_closed i.caches.items after.items i.lists new (cache - 1) gap right.laid.row right.laid.grants right.laid.locks index_is left.closed left.lowered
+
+  tables : tables_in new after.items ≡ tables_without (tables_in i.lists i.caches.items) cache
+  tables = closed ∙ ap (tables_without (tables_in i.lists i.caches.items)) (sym (at_index i.caches.items cache gap left.found).1)
+
+  -- the locks of the cache fall away
+  locked_both : locked_len new after.items + locked_part i.lists.locks (Some gap) ≡ i.locked
+  locked_both = locked_closed i.lists new i.caches.items after.items (cache - 1) gap index_is closed ∙ sym right.locked_is
+
+  pub right_left : (fell : ℕ) → fell ≡ locked_part i.lists.locks (Some gap) → IsRight i.nodes after.items new i.thin i.thin_room i.working (i.locked - fell)
+  right_left fell is = record {
     laid = record {
-      row = row_closed i.caches.items after.items i.lists new (cache - 1) gap right.laid.row right.laid.grants (at_index i.caches.items cache gap left.found).0 left.closed left.lowered;
+      row = row_closed i.caches.items after.items i.lists new (cache - 1) gap right.laid.row right.laid.grants right.laid.locks index_is left.closed left.lowered;
       grants = omega (arith, right.laid.grants, left.closed.entries.len, left.closed.grants.len);
+      locks = omega (arith, right.laid.locks, left.closed.entries.len, left.closed.locks.len);
+      pages = omega (arith, right.laid.pages, left.closed.entries.len, left.closed.room);
       few = omega (arith, right.laid.few, left.lowered.length, length-set i.caches.items (cache - 1) None);
       fits = right.laid.fits;
     };
     ready = right.ready;
     counted = right.counted;
+    locked_is = omega (arith, locked_both, is);
   }
 
   pub removed : (a : Arena) (c : CacheId) → c.0 ≡ cache → seen i ≡ a → seen (record i { caches = after; lists = new }) ≡ without_cache a c

@@ -4,7 +4,7 @@ use Rattle.vm_ids.specs.declared.node_name.NodeName.{NodeName}
 use Rattle.vm_ids.specs.declared.node_name.NodeName.TheVariants.{Live, Working}
 use Rattle.vm_ids.specs.declared.numbers.NodeId.{NodeId}
 use Rattle.vm_ids.specs.declared.numbers.SegId.{SegId}
-use Rattle.local_cache.specs.Arena.{Arena, Table, changed_at, table_at, table_granting, table_with, tables_with, with_grant}
+use Rattle.local_cache.specs.Arena.{Arena, Table, changed_at, table_at, table_granting, table_locking, table_with, tables_with, with_grant, with_locks}
 use Rattle.local_cache.specs.Whole.{SameCaches}
 
 -- what each table keeps that a change of one leaves
@@ -60,15 +60,23 @@ sizes_same a b e = record {
   segments = λ cache. ap (λ (ts : List (Option Table)). option_map segment (table_at ts cache)) e;
 }
 
+-- where the table of a cache changes in other things
+sizes_changed : (change : Table → Table) → ((t : Table) → (change t).pages ≡ t.pages) → ((t : Table) → (change t).segment ≡ t.segment) → (a b : Arena) (at : ℕ) → b ≡ record a { caches = changed_at a.caches at change } → SameCaches a b
+sizes_changed change pages named a b at e =
+    let changed = ap (λ (x : Arena). x.caches) e in
+    record {
+      count = ap length changed ∙ changed_count a.caches at change;
+      sizes = λ other. ap (λ (ts : List (Option Table)). option_map size (table_at ts other)) changed ∙ each_changed size change (λ t. ap length (pages t)) a.caches at other;
+      segments = λ other. ap (λ (ts : List (Option Table)). option_map segment (table_at ts other)) changed ∙ each_changed segment change named a.caches at other;
+    }
+
 -- after the grant of a page
 pub sizes_granted : (a b : Arena) (cache page : ℕ) → b ≡ with_grant a cache page → SameCaches a b
-sizes_granted a b cache page e =
-    let granted = ap (λ (x : Arena). x.caches) e in
-    record {
-      count = ap length granted ∙ changed_count a.caches cache (table_granting page);
-      sizes = λ other. ap (λ (ts : List (Option Table)). option_map size (table_at ts other)) granted ∙ each_changed size (table_granting page) (λ t. refl) a.caches cache other;
-      segments = λ other. ap (λ (ts : List (Option Table)). option_map segment (table_at ts other)) granted ∙ each_changed segment (table_granting page) (λ t. refl) a.caches cache other;
-    }
+sizes_granted a b cache page e = sizes_changed (table_granting page) (λ t. refl) (λ t. refl) a b cache e
+
+-- with other locks on a page
+pub sizes_locked : (a b : Arena) (cache page count : ℕ) → b ≡ with_locks a cache page count → SameCaches a b
+sizes_locked a b cache page count e = sizes_changed (table_locking page count) (λ t. refl) (λ t. refl) a b cache e
 
 pub sizes_then : (a b c : Arena) → SameCaches a b → SameCaches b c → SameCaches a c
 sizes_then a b c f g = record {

@@ -14,7 +14,7 @@ use Rattle.vm_ids.specs.Forest.Nodes.Hang.{Root}
 use Rattle.vm_ids.specs.Forest.Rules.{detach, retire}
 use Rattle.local_cache.specs.declared.own_state.OwnState.{OwnState}
 use Rattle.local_cache.specs.declared.own_state.OwnState.TheVariants.{Absent, Zero, Resident, Slot, OnSegment}
-use Rattle.local_cache.specs.Arena.{Arena, HasNode, IsVacant, find, is_granted, with_new}
+use Rattle.local_cache.specs.Arena.{Arena, HasNode, IsVacant, find, is_granted, locks_of, tables_with, with_new}
 use Rattle.local_cache.specs.Home.{home_named, home_of}
 use Rattle.local_cache.specs.Own.{own_of}
 use Rattle.local_cache.specs.Reading.{IsNamed, name_of}
@@ -22,6 +22,7 @@ use Rattle.local_cache.specs.ReadingBy.{forest_by}
 use Rattle.local_cache.specs.Sound.{IsKept, IsSound}
 use Rattle.local_cache.specs.Whole.{SameCaches}
 use Rattle.local_cache.proofs.Changes.Granted.{grants-tables_with}
+use Rattle.local_cache.proofs.Changes.Locked.{locks-tables_with}
 use Rattle.local_cache.proofs.Names.Homes.{home-with_new_other}
 use Rattle.local_cache.proofs.NewNode.States.{fresh_name, fresh_name_other, fresh_own, fresh_own_other, other_node}
 use Rattle.local_cache.proofs.Nodes.OwnStates.{id_cases}
@@ -64,8 +65,14 @@ module _ (s : Store) (a : Arena) (d : NodeId) (free : find a d ≡ None) (cache 
       ∙ ap (λ o. put (forest_by (own_page w) a) x (childless o Root)) (fresh_page_is w d free x state fresh))
       named
 
+  fresh_tables : c.caches ≡ tables_with a.caches (Live cache no) (Some d)
+  fresh_tables = ap (λ (k : Arena). k.caches) is ∙ new_tables a d (Live cache no) state
+
   pub fresh_grants : (page place : ℕ) → is_granted c page place ≡ is_granted a page place
-  fresh_grants = grants-tables_with a c (Live cache no) (Some d) (ap (λ (k : Arena). k.caches) is ∙ new_tables a d (Live cache no) state)
+  fresh_grants = grants-tables_with a c (Live cache no) (Some d) fresh_tables
+
+  pub fresh_locks : (page place : ℕ) → locks_of c page place ≡ locks_of a page place
+  fresh_locks = locks-tables_with a c (Live cache no) (Some d) fresh_tables
 
   pub fresh_is : (name_of c d ≡ Live cache no) × (own_of c d ≡ state)
   fresh_is = (ap (λ k. name_of k d) is ∙ fresh_name a d free (Live cache no) state, ap (λ k. own_of k d) is ∙ fresh_own a d free (Live cache no) state)
@@ -130,6 +137,7 @@ module _ (s : Store) (a : Arena) (tied : IsStoreTied s a) (cache : CacheId) (no 
   detach_homes = record {
     nodes = detach_was;
     grants = λ page place. fresh_grants t b d free cache no state fresh_now c is page place ∙ kept.homes.grants page place;
+    locks = λ page place. fresh_locks t b d free cache no state fresh_now c is page place ∙ kept.homes.locks page place;
   }
 
   pub detach_kept : IsSound c → Kept (cleaned state (Live cache no)) s a t c

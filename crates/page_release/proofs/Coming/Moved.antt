@@ -12,11 +12,12 @@ use Rattle.vm_ids.specs.Forest.Nodes.Hang.{Root}
 use Rattle.vm_ids.specs.Forest.Rules.{move_page, retire}
 use Rattle.local_cache.specs.declared.own_state.OwnState.TheVariants.{Absent, Zero, Resident, Slot, OnSegment}
 use Rattle.vm_ids.specs.declared.numbers.NodeId.{NodeId}
-use Rattle.local_cache.specs.Arena.{Arena, Cell, HasNode, cell, is_granted, tables_with, with_name}
+use Rattle.local_cache.specs.Arena.{Arena, Cell, HasNode, cell, is_granted, locks_of, tables_with, with_name}
 use Rattle.local_cache.specs.Home.{home_named, home_of}
 use Rattle.local_cache.specs.Own.{own_of}
 use Rattle.local_cache.specs.Whole.{SameCaches}
 use Rattle.local_cache.proofs.Changes.Granted.{grants-tables_with}
+use Rattle.local_cache.proofs.Changes.Locked.{locks-tables_with}
 use Rattle.local_cache.proofs.Names.PageName.{name_other, renamed_own, renamed_sizes}
 use Rattle.local_cache.proofs.Nodes.Cells.{cell-put}
 use Rattle.local_cache.proofs.Nodes.OwnStates.{id_cases}
@@ -38,7 +39,7 @@ use Rattle.page_release.proofs.Tying.Kept.{gives_then, named_then, unpinned_by}
 use Rattle.page_release.proofs.Leaving.Retired.{retire_back, retire_can, retire_forest, retire_homes, retire_named}
 use Rattle.page_release.proofs.Coming.Taken.{free_homeless, retired_free}
 use Rattle.page_release.proofs.Coming.Renamed.{renamed_back, renamed_bytes, renamed_home_other, renamed_pinned, renamed_unclean}
-use Rattle.page_release.proofs.Coming.Detached.{fresh_back, fresh_forest, fresh_grants, fresh_is, fresh_named, fresh_others}
+use Rattle.page_release.proofs.Coming.Detached.{fresh_back, fresh_forest, fresh_grants, fresh_is, fresh_locks, fresh_named, fresh_others}
 
 -- What is done in the store for a node that went doesn't look at the caches ------------------
 
@@ -71,6 +72,12 @@ renamed_grants : (b : Arena) (n : NodeId) (x : NodeName) (cache page : ℕ) → 
 renamed_grants b n x cache page =
     let emptied : Arena = record b { caches = tables_with b.caches (name_of b n) None } in
     grants-tables_with emptied (with_name b n x) x (Some n) refl cache page ∙ grants-tables_with b emptied (name_of b n) None refl cache page
+
+-- and so do the locks
+renamed_locks : (b : Arena) (n : NodeId) (x : NodeName) (cache page : ℕ) → locks_of (with_name b n x) cache page ≡ locks_of b cache page
+renamed_locks b n x cache page =
+    let emptied : Arena = record b { caches = tables_with b.caches (name_of b n) None } in
+    locks-tables_with emptied (with_name b n x) x (Some n) refl cache page ∙ locks-tables_with b emptied (name_of b n) None refl cache page
 
 module _ (s : Store) (a : Arena) (sound : IsSound a) (tied : IsStoreTied s a) (from : CacheId) (from_page : PageNo) (to : CacheId) (to_page : PageNo) (unpinned : IsUnpinned s a (Live to to_page)) (unclean : IsUnclean a (Live to to_page)) (r : Released) (d : Arena) (m : IsMoved a d from from_page to to_page r) where
   abbrev x : NodeName
@@ -197,6 +204,11 @@ module _ (s : Store) (a : Arena) (sound : IsSound a) (tied : IsStoreTied s a) (f
         fresh_grants t c m.fresh m.free from from_page Zero refl d m.is cache page
         ∙ renamed_grants b m.origin x cache page ∙ cleared_homes.grants cache page
 
+    move_locks : (cache page : ℕ) → locks_of d cache page ≡ locks_of a cache page
+    move_locks cache page =
+        fresh_locks t c m.fresh m.free from from_page Zero refl d m.is cache page
+        ∙ renamed_locks b m.origin x cache page ∙ cleared_homes.locks cache page
+
     pub move_kept : IsSound d → IsUnpinned s a (Live from from_page) → Kept [] s a t d
     move_kept sound_d out = record {
       gives_back = move_back;
@@ -204,5 +216,5 @@ module _ (s : Store) (a : Arena) (sound : IsSound a) (tied : IsStoreTied s a) (f
       tied = (move_back None None tied).tied;
       pinned = move_named out;
       sizes = moved_sizes;
-      homes = record { nodes = move_was; grants = move_grants };
+      homes = record { nodes = move_was; grants = move_grants; locks = move_locks };
     }

@@ -22,6 +22,7 @@ use Rattle.local_cache.specs.Reading.{forest_of, name_of, page_of}
 use Rattle.local_cache.specs.ReadingBy.{forest_by}
 use Rattle.local_cache.specs.Sound.{IsKept, IsSound}
 use Rattle.local_cache.proofs.Changes.Granted.{grants-same}
+use Rattle.local_cache.proofs.Changes.Locked.{locks-same}
 use Rattle.local_cache.proofs.Changes.OneNode.{own-forest, own-kept}
 use Rattle.local_cache.proofs.Changes.SameNodes.{caches-put, like-put}
 use Rattle.local_cache.proofs.Forest.Reading.{node-forest_of}
@@ -186,7 +187,7 @@ module _ (s : Store) (a : Arena) (sound : IsSound a) (tied : IsStoreTied s a) (n
         homes = named_kept (x ∷ []) a b (λ m some. name_same m) (λ m some. elim (id_cases m n) [
           | inl e ↦ inr (inl (name_same m ∙ ap (name_of a) e ∙ named))
           | inr d ↦ inl (ap is_clean (own_others m d))
-        ]) (grants-same a b caches_same);
+        ]) (grants-same a b caches_same) (locks-same a b caches_same);
       }
 
       pub forget_unclean : IsUnclean b x

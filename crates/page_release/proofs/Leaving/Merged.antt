@@ -18,6 +18,7 @@ use Rattle.local_cache.specs.Sound.{IsSound}
 use Rattle.local_cache.proofs.Nodes.OwnStates.{id_cases}
 use Rattle.local_cache.proofs.Names.Homes.{home_none}
 use Rattle.local_cache.proofs.Changes.Granted.{grants-tables_with}
+use Rattle.local_cache.proofs.Changes.Locked.{locks-tables_with}
 use Rattle.local_cache.proofs.Tables.Sizes.{sizes_by}
 use Rattle.residency.specs.declared.store.Store.{Store}
 use Rattle.residency.specs.StoreForest.{store_forest}
@@ -87,7 +88,7 @@ module _ (a b : Arena) (sound : IsSound a) (r : Released) (is : IsMerged a b r) 
     merged_stay = others_stay a b is.node is.gone.name merged_sizes (home_none b is.node is.gone.gone) (ap is_clean (gone_own b is.node is.gone.gone)) (own_as r (merged_at a b sound r is) rel)
 
     merged_homes : KeepsHomes [] a b
-    merged_homes = others_kept a b is.node is.gone.name merged_sizes (home_none b is.node is.gone.gone) (clean_as r (merged_at a b sound r is) rel) (grants-tables_with a b (name_of a is.node) None is.gone.caches)
+    merged_homes = others_kept a b is.node is.gone.name merged_sizes (home_none b is.node is.gone.gone) (clean_as r (merged_at a b sound r is) rel) (grants-tables_with a b (name_of a is.node) None is.gone.caches) (locks-tables_with a b (name_of a is.node) None is.gone.caches)
 
     merged_loose : IsLoose s.frames s.map r
     merged_loose = merge_loose s (loose_frame s a is.node tied (λ f pin on. unpinned working.0 f is.node pin on working.1)) r (merged_at a b sound r is)

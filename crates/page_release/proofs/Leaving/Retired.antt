@@ -17,6 +17,7 @@ use Rattle.local_cache.specs.Sound.{IsSound}
 use Rattle.local_cache.proofs.Nodes.OwnStates.{id_cases}
 use Rattle.local_cache.proofs.Names.Homes.{home-as_working, home_none}
 use Rattle.local_cache.proofs.Changes.Granted.{grants-tables_with}
+use Rattle.local_cache.proofs.Changes.Locked.{locks-tables_with}
 use Rattle.residency.specs.declared.store.Store.{Store}
 use Rattle.residency.specs.StoreForest.{store_forest}
 use Rattle.residency.specs.World.{IsTied, is_clean, own_page, world}
@@ -125,7 +126,7 @@ module _ (a b : Arena) (n : NodeId) (r : Released) (is : IsRetired a b n r) wher
     retired_stay = others_stay a b n retire_name (sizes_retired a b n r is) retired_home retired_unclean (λ m d k. retired_own rel m d)
 
     pub retired_homes : KeepsHomes [] a b
-    retired_homes = others_kept a b n retire_name (sizes_retired a b n r is) retired_home (λ m d. ap is_clean (retired_own rel m d)) (grants-tables_with a b (name_of a n) None retired_tables)
+    retired_homes = others_kept a b n retire_name (sizes_retired a b n r is) retired_home (λ m d. ap is_clean (retired_own rel m d)) (grants-tables_with a b (name_of a n) None retired_tables) (locks-tables_with a b (name_of a n) None retired_tables)
 
 -- of the node of a page
 module _ (s : Store) (a b : Arena) (n : NodeId) (x : NodeName) (there : HasNode a n) (named : name_of a n ≡ x) (r : Released) (is : IsRetired a b n r) (rel : IsReleased a b r) (tied : IsStoreTied s a) (unpinned : IsUnpinned s a x) (unclean : IsUnclean a x) where

@@ -25,6 +25,7 @@ use Rattle.local_cache.proofs.Forest.Reading.{IsNode-forest_of, forest_of-IsNode
 use Rattle.local_cache.specs.Home.{home_named, home_of}
 use Rattle.local_cache.proofs.Names.Homes.{home-like, home_kept, home_none}
 use Rattle.local_cache.proofs.Changes.Granted.{grants-same}
+use Rattle.local_cache.proofs.Changes.Locked.{locks-same}
 use Rattle.local_cache.proofs.Tables.Sizes.{sizes_same}
 use Rattle.local_cache.proofs.Nodes.Values.{same_own_states}
 use Rattle.page_stubs.proofs.Rules.OtherPages.{stub-by}
@@ -54,7 +55,7 @@ module _ (a b : Arena) (links : Relinked a b) where
   relinked_stay = same_homes a b links.own (home-like a b links.like)
 
   relinked_homes : KeepsHomes [] a b
-  relinked_homes = named_kept [] a b (λ m some. links.like.name m) (λ m some. inl (ap is_clean (links.own m))) (grants-same a b links.like.caches)
+  relinked_homes = named_kept [] a b (λ m some. links.like.name m) (λ m some. inl (ap is_clean (links.own m))) (grants-same a b links.like.caches) (locks-same a b links.like.caches)
 
   relinked_named : (s : Store) → PinnedStayNamed s a b
   relinked_named s f n pin at = links.like.name n
@@ -185,7 +186,7 @@ module _ (a b : Arena) (sound : IsSound a) (after : IsSound b) (grown : IsGrown 
       go false p = absurd (let none : home_of b m ≡ None = home_stays m ∙ home_none a m (none_of (find a m) p) in cc)
 
   grown_homes : KeepsHomes [] a b
-  grown_homes = named_kept [] a b name_stays (λ m some. inl (ap is_clean (grown_own m))) (grants-same a b grown.tables)
+  grown_homes = named_kept [] a b name_stays (λ m some. inl (ap is_clean (grown_own m))) (grants-same a b grown.tables) (locks-same a b grown.tables)
 
   grown_named : (s : Store) → IsStoreTied s a → PinnedStayNamed s a b
   grown_named s tied f n pin at =

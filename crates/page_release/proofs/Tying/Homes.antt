@@ -1,4 +1,4 @@
--- The pages of segments through a step, and what is granted.
+-- The pages of segments through a step, and what is granted and locked.
 use Rattle.std.proofs.Common.{◌≡◌, ◌≢◌, ℕ, ◌+◌, Bool, true, false, List, [], Option, Some, None, IsSome, is_some, refl, sym, ap, ◌∙◌, subst, inl, inr}
 use Rattle.std.proofs.lemmas.Bool.{false≢true}
 use Rattle.std.specs.Prelude.{◌⊎◌}
@@ -11,7 +11,7 @@ use Rattle.vm_ids.specs.declared.numbers.CacheId.{CacheId}
 use Rattle.vm_ids.specs.Forest.Commands.{page_names}
 use Rattle.vm_ids.proofs.Forest.Laws.Ranges.{ranges_hold_their_pages}
 use Rattle.local_cache.specs.Sound.{IsListed}
-use Rattle.local_cache.specs.Arena.{Arena, Cell, HasNode, find, is_granted, node_at}
+use Rattle.local_cache.specs.Arena.{Arena, Cell, HasNode, find, is_granted, locks_of, node_at}
 use Rattle.local_cache.specs.Home.{home_named, home_of}
 use Rattle.local_cache.specs.Own.{own_of}
 use Rattle.local_cache.specs.Reading.{name_of}
@@ -66,23 +66,25 @@ module _ (a b : Arena) (n : NodeId) (names : (m : NodeId) → m ≢ n → name_o
       apart : (m : NodeId) → is_clean (own_of b m) ≡ true → m ≢ n
       apart m k e = false≢true (sym (ap (λ (i : NodeId). is_clean (own_of b i)) e ∙ unclean) ∙ k)
 
-  pub others_kept : ((m : NodeId) → m ≢ n → is_clean (own_of b m) ≡ is_clean (own_of a m)) → ((cache page : ℕ) → is_granted b cache page ≡ is_granted a cache page) → KeepsHomes [] a b
-  others_kept clean grants = record {
+  pub others_kept : ((m : NodeId) → m ≢ n → is_clean (own_of b m) ≡ is_clean (own_of a m)) → ((cache page : ℕ) → is_granted b cache page ≡ is_granted a cache page) → ((cache page : ℕ) → locks_of b cache page ≡ locks_of a cache page) → KeepsHomes [] a b
+  others_kept clean grants locks = record {
     nodes = λ m some. elim (id_cases m n) [
       | inl is ↦ absurd (no_home m is some)
       | inr d ↦ record { node = m; named = sym (names m d); clean = inl (clean m d) }
     ];
     grants = grants;
+    locks = locks;
   }
 
 -- Every node has its name -----------------------------------------------------------------------
 
 -- where no node came to its segment, or left it, but for those of the list
 pub named_kept : (xs : List NodeName) (a b : Arena) → ((m : NodeId) → IsSome (home_of b m) → name_of b m ≡ name_of a m) → ((m : NodeId) → IsSome (home_of b m) → (is_clean (own_of b m) ≡ is_clean (own_of a m)) ⊎ (name_of b m ∈ xs))
-    → ((cache page : ℕ) → is_granted b cache page ≡ is_granted a cache page) → KeepsHomes xs a b
-named_kept xs a b names clean grants = record {
+    → ((cache page : ℕ) → is_granted b cache page ≡ is_granted a cache page) → ((cache page : ℕ) → locks_of b cache page ≡ locks_of a cache page) → KeepsHomes xs a b
+named_kept xs a b names clean grants locks = record {
   nodes = λ m some. record { node = m; named = sym (names m some); clean = clean m some };
   grants = grants;
+  locks = locks;
 }
 
 -- where none of the list is there still
@@ -90,6 +92,7 @@ pub unlisted : (xs : List NodeName) (a b : Arena) → KeepsHomes xs a b → ((n 
 unlisted xs a b homes none = record {
   nodes = λ n some. let k = homes.nodes n some in record { node = k.node; named = k.named; clean = elim k.clean [ inl e ↦ inl e | inr i ↦ absurd (none n some i) ] };
   grants = homes.grants;
+  locks = homes.locks;
 }
 
 -- One after the other ---------------------------------------------------------------------------
@@ -116,7 +119,11 @@ module _ (xs ys zs : List NodeName) (a b c : Arena) (f : KeepsHomes xs a b) (g :
       }
 
   pub homes_then : KeepsHomes zs a c
-  homes_then = record { nodes = was_there; grants = λ cache page. g.grants cache page ∙ f.grants cache page }
+  homes_then = record {
+    nodes = was_there;
+    grants = λ cache page. g.grants cache page ∙ f.grants cache page;
+    locks = λ cache page. g.locks cache page ∙ f.locks cache page;
+  }
 
 -- What the relation says ------------------------------------------------------------------------
 

@@ -37,7 +37,7 @@ kept_none xs s a sound tied = record {
   tied = tied;
   pinned = λ f n pin at. refl;
   sizes = sizes_same a a refl;
-  homes = named_kept xs a a (λ m some. refl) (λ m some. inl refl) (λ cache page. refl);
+  homes = named_kept xs a a (λ m some. refl) (λ m some. inl refl) (λ cache page. refl) (λ cache page. refl);
 }
 
 -- One after the other -------------------------------------------------------------------------

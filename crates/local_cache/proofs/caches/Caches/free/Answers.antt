@@ -34,5 +34,6 @@ invariant_of-self c =
     record {
       laid = search rules;
       ready = search rules;
+      locked_is = search rules;
       counted = counted_less i.nodes i.thin_room i.working c.self.invariant.counted _ c.args.node.0 c.remove-freed.result _ c.remove-freed.ensures.value c.remove-freed.ensures.updates (ap (λ k. i.working - k) (c.working_of.ensures ∙ ap working_of c.name.ensures));
     }

@@ -30,6 +30,7 @@ invariant_of-self c =
     record {
       laid = search rules;
       ready = search rules;
+      locked_is = search rules;
       counted = counted_more i.nodes i.thin_room i.working c.self.invariant.counted _ c.insert_reserved-place.result c.new.result c.args.name _ c.insert_reserved-place.ensures.was_vacant c.insert_reserved-place.ensures.updates (ap (λ d. d.name) c.new.ensures) (ap (λ k. i.working + k) c.working_of.ensures);
     }
 

@@ -35,6 +35,7 @@ after c = record {
   made = refl;
   copies = refl;
   working = refl;
+  locked = refl;
   working_len = c.add_pages.ensures.working;
 }
 
@@ -42,7 +43,7 @@ pub invariant_of-self : goal.invariant_of-self
 invariant_of-self c =
     let i : Inside = c.self.inside in
     let count : length c.args.self.now.caches ≡ length i.caches.items = ap (λ (a : Arena). length a.caches) (sym c.self.view_is) ∙ length-map i.caches.items _ in
-    right_after i (fields c) (number c) c.args.segment c.args.own c.args.pages (entry c) c.self.invariant (after c) (omega (arith, c.requires.number)) (omega (arith, ap (λ (a : Arena). a.room.nodes) c.self.view_is))
+    right_after i (fields c) (number c) c.args.segment c.args.own c.args.pages (entry c) c.self.invariant (after c) (omega (arith, c.requires.number)) (omega (arith, ap (λ (a : Arena). a.room.nodes) c.self.view_is)) (omega (arith, ap (λ (a : Arena). a.room.entries) c.self.view_is))
 
 pub returns-clause-made : goal.returns-clause-made
 returns-clause-made c = made c.self.inside (fields c) c.args.self.now (number c) c.args.segment c.args.own c.args.pages (entry c) c.self.view_is c.self.invariant (after c) (ap (λ k. k + 1) c.len.ensures)

@@ -7,6 +7,12 @@ use Rattle.local_cache.proofs.Tables.Removal.{Left, at_index, removed, right_lef
 use Rattle.local_cache.proofs.Tables.Entries.{entry_within}
 use Rattle.local_cache.proofs.caches.Caches.remove.Goals as goal
 
+pub locked-requires : goal.locked-requires
+locked-requires c =
+    let i = c.self.inside in
+    let found : entry_at i.caches.items c.args.cache.0 ≡ Some c.unwrap-gap.result = ap (λ (es : List (Option CacheEntry)). entry_at es c.args.cache.0) (sym c.deref.ensures.value) ∙ sym c.entry_of.ensures ∙ c.unwrap-gap.ensures in
+    omega (arith, entry_within i.caches.items (length i.lists.entries) c.args.cache.0 c.unwrap-gap.result c.self.invariant.laid.row found)
+
 pub close_gap-requires : goal.close_gap-requires
 close_gap-requires c =
     let i = c.self.inside in
@@ -29,7 +35,7 @@ left c = record {
 }
 
 pub invariant_of-self : goal.invariant_of-self
-invariant_of-self c = right_left c.self.inside c.args.cache.0 c.unwrap-gap.result c.lower.new.caches c.close_gap.new.self c.self.invariant (left c)
+invariant_of-self c = right_left c.self.inside c.args.cache.0 c.unwrap-gap.result c.lower.new.caches c.close_gap.new.self c.self.invariant (left c) c.locked.result c.locked.ensures
 
 pub returns-clause-changed : goal.returns-clause-changed
 returns-clause-changed c = removed c.self.inside c.args.cache.0 c.unwrap-gap.result c.lower.new.caches c.close_gap.new.self c.self.invariant (left c) c.args.self.now c.args.cache refl c.self.view_is

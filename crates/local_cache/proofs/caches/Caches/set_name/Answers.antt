@@ -41,6 +41,7 @@ invariant_of-self c =
     record {
       laid = grind (arith, common_steps);
       ready = grind (arith, common_steps);
+      locked_is = grind (arith, common_steps);
       counted = counted_named i.nodes i.thin_room i.working c.self.invariant.counted c.args.node.0 old c.set_name.new.self _ (c.index_mut.ensures.value) (omega (arith, gone, come));
     }
 
