@@ -8,7 +8,7 @@ use Rattle.vm_model.specs.Answering.{without_region}
 use Rattle.vm_model.specs.Regions.{region_among, region_with}
 use Rattle.vm_model.specs.Machine as model
 use Rattle.vm_model.specs.Machine.{numbered}
-use Rattle.vm_model.proofs.Lists.{at_number, numbered_place}
+use Rattle.vm_model.proofs.Parts.Lists.{at_number, numbered_place}
 use Rattle.regions.specs.AddressSpace.{AddressSpace}
 use Rattle.contexts.specs.Actors.{has_region}
 use Rattle.contexts.specs.Layout.{IsChanged, IsKept, owner_of, regions_in}

@@ -10,7 +10,7 @@ use Rattle.vm_ids.specs.declared.numbers.ActorId.{ActorId}
 use Rattle.vm_model.specs.Answering.{without_region}
 use Rattle.vm_model.specs.Machine as model
 use Rattle.vm_model.specs.Machine.{numbered}
-use Rattle.vm_model.proofs.Lists.{at_number, numbered-map, numbered_place}
+use Rattle.vm_model.proofs.Parts.Lists.{at_number, numbered-map, numbered_place}
 use Rattle.regions.specs.AddressSpace.{AddressSpace}
 use Rattle.contexts.specs.Layout.{IsChanged, IsKept, regions_in}
 use Rattle.contexts.proofs.Living.{regions_of, stays}

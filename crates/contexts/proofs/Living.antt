@@ -5,12 +5,12 @@ use Rattle.std.proofs.lemmas.List.{length-map}
 use Rattle.std.proofs.lemmas.List.Sums.{sum_by-cons, sum_by_push}
 use Rattle.vm_model.specs.Machine as model
 use Rattle.vm_model.specs.Machine.{numbered}
-use Rattle.vm_model.proofs.Lists.{at_number, is_there}
+use Rattle.vm_model.proofs.Parts.Lists.{at_number, is_there}
 use Rattle.vm_model.specs.declared.limits.TheConstants.{LIVING_ACTORS, MOST_MADE}
 use Rattle.regions.specs.AddressSpace.{AddressSpace}
 use Rattle.contexts.specs.Actors.{is_full}
 use Rattle.contexts.specs.Layout.{regions_in}
-use Rattle.vm_model.proofs.Lists.{sum_by_same, sum_by_swap}
+use Rattle.vm_model.proofs.Parts.Lists.{sum_by_same, sum_by_swap}
 
 abbrev pub regions_of : AddressSpace → model.Actor
 regions_of s = s.regions

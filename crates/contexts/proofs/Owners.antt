@@ -9,7 +9,7 @@ use Rattle.vm_model.specs.Answering.{insert_region}
 use Rattle.vm_model.specs.Regions.{region_among}
 use Rattle.vm_model.specs.Machine as model
 use Rattle.vm_model.specs.Machine.{numbered}
-use Rattle.vm_model.proofs.Lists.{numbered-map}
+use Rattle.vm_model.proofs.Parts.Lists.{numbered-map}
 use Rattle.regions.specs.AddressSpace.{AddressSpace}
 use Rattle.contexts.specs.Actors.{has_region}
 use Rattle.contexts.specs.Layout.{IsKept, owner_of, regions_in}

@@ -4,7 +4,7 @@ use Rattle.std.specs.Prelude.{IsSome, option_and_then, slice_get}
 use Rattle.std.proofs.lemmas.Bool.Decides.{nat_tests}
 use Rattle.std.proofs.lemmas.Option.{get_or_from_slice_get}
 use Rattle.vm_model.specs.Machine.{numbered}
-use Rattle.vm_model.proofs.Lists.{at_number, is_there}
+use Rattle.vm_model.proofs.Parts.Lists.{at_number, is_there}
 
 one_deeper : {A : Type 0} (ys xs : List A) (y x v : A) (i j : ℕ) → (slice_get ys j ≡ slice_get xs j) ⊎ ((j ≡ i) × (slice_get ys j ≡ Some v))
     → (slice_get (y ∷ ys) (suc j) ≡ slice_get (x ∷ xs) (suc j)) ⊎ ((suc j ≡ suc i) × (slice_get (y ∷ ys) (suc j) ≡ Some v))

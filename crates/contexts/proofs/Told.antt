@@ -10,7 +10,7 @@ use Rattle.vm_model.specs.Machine as model
 use Rattle.vm_model.specs.Machine.{numbered}
 use Rattle.vm_model.specs.Regions.{region_among, region_with, replace_in, replace_region, status_in, status_with}
 use Rattle.vm_model.specs.declared.limits.TheConstants.{MOST_MADE}
-use Rattle.vm_model.proofs.Lists.{is_there, numbered-map}
+use Rattle.vm_model.proofs.Parts.Lists.{is_there, numbered-map}
 use Rattle.regions.specs.AddressSpace.{AddressSpace, view_of}
 use Rattle.regions.specs.declared.region.RegionView.{RegionView}
 use Rattle.contexts.specs.Actors.{Actors, cut_refusal, has_region, split_refusal}

@@ -1,15 +1,8 @@
-pub mod Answered
-pub mod Costs
-pub mod DirtyPage
-pub mod ForestSize
-pub mod FoundPage
-pub mod GatheredFrames
-pub mod Heirs
-pub mod Kept
-pub mod OneFrame
-pub mod OneFrameForest
-pub mod OwnPage
-pub mod OwningRules
-pub mod ReadyForest
-pub mod SettledFrame
-pub mod TwoFrames
+-- What a call keeps, answers and costs.
+pub mod Calls
+-- Frames that are gathered, and become those of nodes.
+pub mod Frames
+-- The page that is read, one that is owned, and one that becomes dirty.
+pub mod Pages
+-- The rules of the page forest that the calls come to.
+pub mod Rules

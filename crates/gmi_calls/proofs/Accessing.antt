@@ -22,7 +22,7 @@ use Rattle.vm_model.specs.PageForest.{plain_forest}
 use Rattle.vm_model.specs.Allowed.{AwaitsAccess, AllowedOutcome, is_denied}
 use Rattle.vm_model.specs.Answering.{Answer, Answered, answer_of, is_denied_page}
 use Rattle.vm_model.specs.Outcome.{IsNamed, IsNotRefused, MayFault, NotRefusedButFor, Outcome}
-use Rattle.vm_model.proofs.Naming.{segment_cache}
+use Rattle.vm_model.proofs.Parts.Naming.{segment_cache}
 use Rattle.gmi_calls.specs.Backing.{IsReady}
 use Rattle.gmi_calls.specs.Reaching.{HasPages}
 use Rattle.gmi_calls.proofs.Asking.{denied_is, granted_is}

@@ -25,10 +25,10 @@ use Rattle.vm_model.specs.Place.{place}
 use Rattle.vm_model.specs.PageForest.{PageForest, forest_shown}
 use Rattle.vm_model.specs.Outcome.{Outcome}
 use Rattle.vm_model.specs.Answering.{Answer, Answered, answer_of, chain_answer, copy_of, destroy_of, exit_actor_of, find_of, flush_of, held_for, held_part, invalidate_of, is_denied_page, load_of, make_actor_of, make_temp_of, map_of, move_of, open_of, opened, overwrite, page_at, passes_end, protect_of, put_cache, put_page, put_pages, split_of, status_of, store_of, sync_of, temporary, unmap_of}
-use Rattle.vm_model.proofs.Lists.{get_set_other, length-overwrite, numbered-set, numbered_place}
-use Rattle.vm_model.proofs.ListParts.{numbered_push, numbered_pushed, numbered_set, numbered_set_other, overwrite_before, overwrite_behind, overwrite_in}
-use Rattle.vm_model.proofs.Naming.{names_none, only_named, segment_cache}
-use Rattle.vm_model.proofs.Rows.{each_unless, each_some, each_ok}
+use Rattle.vm_model.proofs.Parts.Lists.{get_set_other, length-overwrite, numbered-set, numbered_place}
+use Rattle.vm_model.proofs.Parts.ListParts.{numbered_push, numbered_pushed, numbered_set, numbered_set_other, overwrite_before, overwrite_behind, overwrite_in}
+use Rattle.vm_model.proofs.Parts.Naming.{names_none, only_named, segment_cache}
+use Rattle.vm_model.proofs.Outcomes.Rows.{each_unless, each_some, each_ok}
 use Rattle.gmi_calls.specs.Backing.{AreBacked, Backs}
 
 module _ (cs : List (Option Cache)) (s : Segments) (B : AreBacked cs s) where

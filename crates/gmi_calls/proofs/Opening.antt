@@ -15,8 +15,8 @@ use Rattle.vm_ids.specs.declared.command.Command.{Command}
 use Rattle.vm_model.specs.Machine.{Machine, Page, cache_of, pages_in, segment_of, zero_page}
 use Rattle.vm_model.specs.Answering.{Answer, held_for, held_part}
 use Rattle.vm_model.specs.Outcome.{Outcome, seen_at}
-use Rattle.vm_model.proofs.Naming.{segment_cache}
-use Rattle.vm_model.proofs.Sound.{all_from_map}
+use Rattle.vm_model.proofs.Parts.Naming.{segment_cache}
+use Rattle.vm_model.proofs.Machines.Sound.{all_from_map}
 use Rattle.std.proofs.lemmas.List.Elements.{All-replicate}
 use Rattle.gmi_calls.specs.Calling.{Fits}
 use Rattle.gmi_calls.specs.Backing.{IsReady}

@@ -6,7 +6,7 @@ use Rattle.std.proofs.lemmas.List.{length-map}
 use Rattle.std.proofs.lemmas.List.Elements.{All-set, All-get_or}
 use Rattle.std.proofs.lemmas.Option.{slice_get-map}
 use Rattle.vm_ids.specs.Held.{Held, page_of}
-use Rattle.vm_model.proofs.Lists.{get_set_same, get_set_other}
+use Rattle.vm_model.proofs.Parts.Lists.{get_set_same, get_set_other}
 use Rattle.gmi_calls.specs.Reaching.{ArePagesOf, HasPages}
 
 -- The first so many of the pages are the segment's, and each has as many bytes as before.

@@ -18,9 +18,9 @@ use Rattle.vm_model.specs.Outcome.{HasWholePages, IsWhole}
 use Rattle.vm_model.specs.PageForest.{page_in}
 use Rattle.vm_model.specs.Pushing.{MayPush, PushRule, page_named, segments_after}
 use Rattle.vm_model.specs.Synchronised.{ArePushed}
-use Rattle.vm_model.proofs.Lists.{get_set_other, get_set_same}
-use Rattle.vm_model.proofs.Naming.{segment_cache}
-use Rattle.vm_model.proofs.Sound.{numbered-all}
+use Rattle.vm_model.proofs.Parts.Lists.{get_set_other, get_set_same}
+use Rattle.vm_model.proofs.Parts.Naming.{segment_cache}
+use Rattle.vm_model.proofs.Machines.Sound.{numbered-all}
 use Rattle.gmi_calls.specs.Backing.{AreBacked, Backs, IsReady}
 use Rattle.gmi_calls.specs.Calling.{Fits}
 use Rattle.gmi_calls.specs.Reaching.{Pushed}

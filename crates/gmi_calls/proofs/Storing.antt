@@ -12,7 +12,7 @@ use Rattle.vm_model.specs.Machine.{Machine, cache_of, pages_in, segment_of}
 use Rattle.vm_model.specs.Place.{Place, place}
 use Rattle.vm_model.specs.Allowed.{is_denied_place, numbers_of, segment_place}
 use Rattle.vm_model.specs.Outcome.{IsAccessed, IsNamed, IsNamedAccess}
-use Rattle.vm_model.proofs.Naming.{segment_names}
+use Rattle.vm_model.proofs.Parts.Naming.{segment_names}
 use Rattle.gmi_calls.specs.Backing.{IsReady}
 use Rattle.gmi_calls.specs.Reaching.{HasPages}
 use Rattle.gmi_calls.proofs.Accessing.{allows, asked_pages, denies_that, segments_for}

@@ -17,8 +17,8 @@ use Rattle.local_cache.specs.Sound as arena_sound
 use Rattle.residency.specs.declared.store.Store.{Store}
 use Rattle.residency.specs.StoreForest.{store_forest}
 use Rattle.residency.specs.World.{IsStoreRight, World, world}
-use Rattle.residency.proofs.After.{slots_right}
-use Rattle.residency.proofs.Made.{made_right}
+use Rattle.residency.proofs.Worlds.After.{slots_right}
+use Rattle.residency.proofs.NewCaches.Made.{made_right}
 use Rattle.local_cache.specs.Whole.{SameCaches, segment_of, size_of}
 use Rattle.local_cache.proofs.NewCache.Whole.{pages_with, whole_begun}
 use Rattle.local_cache.proofs.Tables.Sizes.{sizes_same}

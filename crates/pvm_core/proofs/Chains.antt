@@ -14,7 +14,7 @@ use Rattle.vm_ids.specs.Forest.PageMap.{map_entries, map_node, map_pages, map_va
 use Rattle.vm_ids.specs.Forest.Reading.{chain_of, counts_of}
 use Rattle.vm_ids.proofs.Forest.PageMap.{copies-map, path_of-map, stubs-map, tree-map}
 use Rattle.local_cache.specs.Reading as arena
-use Rattle.fault_path.proofs.Kept.{store_bare}
+use Rattle.fault_path.proofs.Calls.Kept.{store_bare}
 use Rattle.local_cache.specs.Whole.{IsWhole}
 use Rattle.vm_model.specs.Answering.{chain_answer, refuse, reply, unless, with_some}
 use Rattle.vm_model.specs.Machine.{Cache, Machine, cache_of}

@@ -12,7 +12,7 @@ use Rattle.local_cache.specs.Own.{own_of}
 use Rattle.residency.specs.declared.store.Store.{Store}
 use Rattle.residency.specs.Causes.{Traffic, pulls_for}
 use Rattle.residency.specs.World.{HoldsPage, IsStoreRight, is_pulled, world}
-use Rattle.residency.proofs.Homes.{home}
+use Rattle.residency.proofs.Worlds.Homes.{home}
 use Rattle.fault_path.specs.Faults.{IsFound, is_at_hand, is_zero}
 use Rattle.contexts.specs.Actors.{Actors}
 use Rattle.pvm_core.specs.Access.{IsFoundIn}

@@ -25,9 +25,9 @@ use Rattle.local_cache.proofs.Nodes.Values.{same_keys}
 use Rattle.residency.specs.declared.store.Store.{Store}
 use Rattle.residency.specs.StoreForest.{store_forest}
 use Rattle.residency.specs.World.{IsStoreRight, Still, world}
-use Rattle.residency.proofs.StillForest.{still_forest}
+use Rattle.residency.proofs.Forests.StillForest.{still_forest}
 use Rattle.fault_path.specs.Faults.{Kept}
-use Rattle.fault_path.proofs.Kept.{still_kept}
+use Rattle.fault_path.proofs.Calls.Kept.{still_kept}
 use Rattle.local_cache.proofs.Nodes.Count.{forest_len}
 use Rattle.local_cache.specs.Whole.{segment_of, size_of}
 use Rattle.vm_model.specs.Machine.{Machine}

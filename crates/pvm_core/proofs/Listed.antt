@@ -23,7 +23,7 @@ use Rattle.vm_model.specs.Regions.{region_among, region_with}
 use Rattle.vm_model.specs.Outcome.{Outcome}
 use Rattle.vm_model.specs.PageForest.{PageForest}
 use Rattle.vm_model.specs.Place.{Place, holds, place_in, place_of_actor, placed, region_at}
-use Rattle.vm_model.proofs.Sound.{numbered-all}
+use Rattle.vm_model.proofs.Machines.Sound.{numbered-all}
 use Rattle.regions.specs.AddressSpace.{access_to, place_told}
 use Rattle.regions.specs.declared.region.Place as regions
 use Rattle.contexts.specs.Actors.{Actors, is_full, next_region, with_region}

@@ -27,8 +27,8 @@ use Rattle.local_cache.specs.declared.home.Home.{Home}
 use Rattle.residency.specs.declared.store.Store.{Store}
 use Rattle.residency.specs.StoreForest.{store_forest}
 use Rattle.residency.specs.World.{frame_page, own_page, page_by, world, home_page, page_at}
-use Rattle.residency.proofs.Telling.{tells}
-use Rattle.fault_path.proofs.Kept.{store_bare, store_page}
+use Rattle.residency.proofs.Worlds.Telling.{tells}
+use Rattle.fault_path.proofs.Calls.Kept.{store_bare, store_page}
 
 -- The rule goes with every change of pages ----------------------------------------------------
 

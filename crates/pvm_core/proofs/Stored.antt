@@ -27,8 +27,8 @@ use Rattle.residency.specs.declared.store.Store.{Store}
 use Rattle.residency.specs.Causes.{HasMissCause}
 use Rattle.residency.specs.StoreForest.{store_forest}
 use Rattle.residency.specs.World.{IsStoreRight, World, is_clean, is_name_granted, world}
-use Rattle.residency.proofs.After.{written_right}
-use Rattle.residency.proofs.WrittenForest.{store_copies}
+use Rattle.residency.proofs.Worlds.After.{written_right}
+use Rattle.residency.proofs.Forests.WrittenForest.{store_copies}
 use Rattle.fault_path.specs.Faults.{readied}
 use Rattle.local_cache.specs.declared.own_state.OwnState.TheVariants.{Resident}
 use Rattle.local_cache.specs.Home.{home_named}
@@ -52,8 +52,8 @@ use Rattle.vm_model.specs.Laws.{IsFollowed}
 use Rattle.vm_model.specs.Machine.{Cache, Machine, Page, cache_of}
 use Rattle.vm_model.specs.Outcome.{IsWhole as IsWholeCache}
 use Rattle.vm_model.specs.Answering.{put_page}
-use Rattle.vm_model.proofs.Lists.{length-overwrite}
-use Rattle.vm_model.proofs.Sound.{numbered-all}
+use Rattle.vm_model.proofs.Parts.Lists.{length-overwrite}
+use Rattle.vm_model.proofs.Machines.Sound.{numbered-all}
 use Rattle.vm_model.specs.Outcome.{HasWholePages, IsNamed, NotRefusedButFor, Outcome, OutcomeAt, blank}
 use Rattle.vm_model.specs.PageForest.{PageForest}
 use Rattle.vm_model.specs.Place.{Place, place}

@@ -17,11 +17,11 @@ use Rattle.local_cache.specs.Arena.{Table, table_at, table_of}
 use Rattle.local_cache.specs.Reading.{name_of}
 use Rattle.residency.specs.StoreForest.{store_forest}
 use Rattle.residency.specs.World.{World}
-use Rattle.residency.proofs.Homes.{page_here}
-use Rattle.residency.proofs.Homes.{IsHome, home}
-use Rattle.residency.proofs.WrittenForest.{written_forest}
+use Rattle.residency.proofs.Worlds.Homes.{page_here}
+use Rattle.residency.proofs.Worlds.Homes.{IsHome, home}
+use Rattle.residency.proofs.Forests.WrittenForest.{written_forest}
 use Rattle.fault_path.specs.Faults.{Kept, readied}
-use Rattle.fault_path.proofs.Kept.{store_page}
+use Rattle.fault_path.proofs.Calls.Kept.{store_page}
 use Rattle.vm_model.specs.Answering.{is_denied_page, overwrite, refuse, reply, store_of, unless, with_ok, write_at}
 use Rattle.vm_model.specs.Machine.{Cache, Machine, cache_of}
 use Rattle.vm_model.specs.Place.{Place, place}
@@ -38,7 +38,7 @@ use Rattle.pvm_core.proofs.Loading.{page_at_is}
 use Rattle.std.proofs.Math.Seq.{map-set_same}
 use Rattle.vm_model.specs.Laws.{IsFollowed}
 use Rattle.vm_model.specs.Outcome.{blank, blank_cache}
-use Rattle.vm_model.proofs.Following.{stored_followed}
+use Rattle.vm_model.proofs.Forests.Following.{stored_followed}
 use Rattle.pvm_core.proofs.Shown.{get-caches, get-pages, id_of, length-pages, numbered-caches, shown_made}
 
 -- Rows ------------------------------------------------------------------------------------------

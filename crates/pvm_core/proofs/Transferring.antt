@@ -44,7 +44,7 @@ use Rattle.pvm_core.specs.Keeping.{CopiesNothing, HasMoreRoom}
 use Rattle.pvm_core.proofs.Copies.{saves_copied}
 use Rattle.pvm_core.proofs.Values.{consistent_of}
 use Rattle.gmi_calls.specs.Calling.{RaisesMade}
-use Rattle.residency.proofs.WrittenForest.{store_copies}
+use Rattle.residency.proofs.Forests.WrittenForest.{store_copies}
 use Rattle.vm_ids.specs.declared.numbers.CacheId.{CacheId}
 use Rattle.vm_ids.specs.declared.refusal.Refusal.{Refusal}
 use Rattle.vm_ids.specs.Forest.NameLists.{◌∈◌}

@@ -26,9 +26,9 @@ use Rattle.vm_model.specs.Machine.{Cache, Machine, Page, cache_of}
 use Rattle.vm_model.specs.Outcome.{HasWholePages, OutcomeAt, blank}
 use Rattle.vm_model.specs.PageForest.{PageForest, page_in, told}
 use Rattle.vm_model.specs.Laws.{IsFollowed}
-use Rattle.vm_model.proofs.Following.{IsAllowed, copied_followed, moved_followed, source_left, zero_left}
-use Rattle.vm_model.proofs.Lists.{length-overwrite, at_number, numbered-set}
-use Rattle.vm_model.proofs.Sound.{numbered-all}
+use Rattle.vm_model.proofs.Forests.Following.{IsAllowed, copied_followed, moved_followed, source_left, zero_left}
+use Rattle.vm_model.proofs.Parts.Lists.{length-overwrite, at_number, numbered-set}
+use Rattle.vm_model.proofs.Machines.Sound.{numbered-all}
 use Rattle.contexts.specs.Actors.{Actors}
 use Rattle.pvm_core.specs.Manager.{IsSound, IsValid, Manager, cache_shown, caches_shown, forest_of, machine_by, machine_of}
 use Rattle.pvm_core.proofs.Answered.{no_segments}

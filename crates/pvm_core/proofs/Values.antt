@@ -33,8 +33,8 @@ use Rattle.local_cache.proofs.Forest.Reading.{IsNode-forest_of, get-forest_by_no
 use Rattle.local_cache.proofs.Forest.ReadingBy.{page-at}
 use Rattle.residency.specs.StoreForest.{store_forest}
 use Rattle.residency.specs.World.{World, frame_page, own_page, page_at, page_by, zero_page}
-use Rattle.residency.proofs.WrittenForest.{store_made}
-use Rattle.fault_path.proofs.Kept.{store_bare, store_page, store_shaped}
+use Rattle.residency.proofs.Forests.WrittenForest.{store_made}
+use Rattle.fault_path.proofs.Calls.Kept.{store_bare, store_page, store_shaped}
 use Rattle.local_cache.specs.Whole.{IsWhole, size_of}
 use Rattle.local_cache.proofs.Whole.Pages.{no_node}
 use Rattle.vm_model.specs.Machine.{Cache, Machine, Page, cache_of}
@@ -42,7 +42,7 @@ use Rattle.vm_model.specs.Outcome as outcome
 use Rattle.vm_model.specs.Outcome.{HasWholePages, blank}
 use Rattle.vm_model.specs.PageForest.{PageForest, page_in, told}
 use Rattle.vm_model.specs.Laws.{IsFollowed}
-use Rattle.vm_model.proofs.Sound.{numbered-all}
+use Rattle.vm_model.proofs.Machines.Sound.{numbered-all}
 use Rattle.std.proofs.lemmas.List.Elements.{All-get_or}
 use Rattle.pvm_core.specs.Manager.{Manager, cache_shown, forest_of, machine_by, machine_of, pages_shown, shown, world_of}
 use Rattle.pvm_core.proofs.Shown.{blank_shown, get-pages, id_of, length-pages, numbered-caches, whole_caches}

@@ -12,7 +12,7 @@ use Rattle.vm_model.specs.Machine.{Machine, live_pages, start}
 use Rattle.vm_model.specs.PageForest.{PageForest}
 use Rattle.vm_model.specs.Run.{Read, Step, State, RunOf, lines_answered, numbered_from}
 use Rattle.vm_model.specs.declared.limits.TheConstants.{LIVE_PAGES}
-use Rattle.vm_model.proofs.Runs.{runs_are_followed}
+use Rattle.vm_model.proofs.WholeRuns.Runs.{runs_are_followed}
 use Rattle.actor_script.specs.Forms.{command_of}
 use Rattle.replay.specs.Script.{most_bytes, lines_of}
 use Rattle.replay.specs.Ending.{Scene, Took, Ends, RunEnds, page_size}

@@ -1,19 +1,10 @@
-pub mod After
-pub mod Arms
-pub mod Brought
-pub mod Claimed
-pub mod Composed
-pub mod Counted
-pub mod Evicted
-pub mod Homes
-pub mod Left
-pub mod Made
-pub mod MadeNamed
-pub mod New
-pub mod Nodes
-pub mod Outside
-pub mod Picked
-pub mod StillForest
-pub mod Telling
-pub mod Told
-pub mod WrittenForest
+-- What holds of a store, and goes on from one moment to the next.
+pub mod Worlds
+-- The page forest that is read off a store.
+pub mod Forests
+-- A new store, and caches that are made.
+pub mod NewCaches
+-- A page comes to a frame, or leaves it.
+pub mod Moves
+-- What the mapper holds after a push.
+pub mod Pushes

@@ -14,8 +14,8 @@ use Rattle.local_cache.proofs.Nodes.OwnStates.{own_same}
 use Rattle.residency.specs.Causes.{Later, Traffic}
 use Rattle.residency.specs.Evicting.{HasLeft, IsEvicted}
 use Rattle.residency.specs.World.{OthersStay, Still, World, is_clean}
-use Rattle.residency.proofs.StillForest.{still_like}
-use Rattle.fault_path.proofs.Kept.{still_kept}
+use Rattle.residency.proofs.Forests.StillForest.{still_like}
+use Rattle.fault_path.proofs.Calls.Kept.{still_kept}
 use Rattle.segment_ops.specs.Keeping.{StaysWhole}
 use Rattle.segment_ops.specs.Pushing.{TellsValues}
 use Rattle.segment_ops.specs.Synced.{AreLoose}

@@ -33,8 +33,8 @@ use Rattle.local_cache.proofs.Whole.Pages.{whole_same}
 use Rattle.residency.specs.Causes.{Later, Traffic}
 use Rattle.residency.specs.World.{AreGranted, IsAllowed, IsStoreRight, World, frame_page, home_page, is_clean, is_name_granted, own_page, page_at, page_by, zero_page}
 use Rattle.residency.specs.StoreForest.{store_forest}
-use Rattle.residency.proofs.Telling.{tells}
-use Rattle.fault_path.proofs.Kept.{store_bare, store_page}
+use Rattle.residency.proofs.Worlds.Telling.{tells}
+use Rattle.fault_path.proofs.Calls.Kept.{store_bare, store_page}
 use Rattle.segment_ops.specs.Access.{AllowsBefore, GrantsBefore, without_grants, IsGranted}
 use Rattle.segment_ops.proofs.Unsaved.{node_named}
 

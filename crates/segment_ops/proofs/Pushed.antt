@@ -16,9 +16,9 @@ use Rattle.local_cache.specs.Own.{is_in_slot, is_resident, is_slot, own_of, own_
 use Rattle.local_cache.proofs.Nodes.OwnStates.{id_cases, own_count, own_length, own_other, own_same}
 use Rattle.local_cache.proofs.Names.Homes.{home-with_own}
 use Rattle.residency.specs.World.{IsStoreRight, Still, World, brought_in, frame_page, home_page, is_clean, own_page, page_at, page_by, zero_page}
-use Rattle.residency.proofs.Homes.{resident_not_in_slot, resident_not_slot}
-use Rattle.residency.proofs.Nodes.{own_granted, same, with_own_same}
-use Rattle.residency.proofs.Outside.{home_told, homes_elsewhere, none_denied, put_at, same_denied, same_told, there_homes}
+use Rattle.residency.proofs.Worlds.Homes.{resident_not_in_slot, resident_not_slot}
+use Rattle.residency.proofs.Worlds.Nodes.{own_granted, same, with_own_same}
+use Rattle.residency.proofs.Pushes.Outside.{home_told, homes_elsewhere, none_denied, put_at, same_denied, same_told, there_homes}
 use Rattle.segment_ops.specs.Pushing.{TellsValues, put_value, value_at, value_bytes}
 
 none_then : {X : Type 0} (told : Option Held) → option_and_then {T = Held} {U = X} (λ _. None) told ≡ None

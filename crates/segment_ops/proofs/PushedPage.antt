@@ -22,17 +22,17 @@ use Rattle.residency.specs.declared.miss.Miss.TheVariants.{Victim}
 use Rattle.residency.specs.Pushing.{TellsOn}
 use Rattle.residency.specs.StoreForest.{store_forest}
 use Rattle.residency.specs.World.{IsFrameOf, IsStoreRight, OthersStay, OthersStayBut, StaysOrLeaves, Still, World, brought_in, home_page, is_clean, own_page}
-use Rattle.residency.proofs.After.{absent_stays, held_stays}
-use Rattle.residency.proofs.Composed.{still_then}
-use Rattle.residency.proofs.Homes.{home, page_here}
-use Rattle.residency.proofs.Nodes.{same_home}
-use Rattle.residency.proofs.Outside.{put_at}
-use Rattle.residency.proofs.StillForest.{still_forest, still_like}
+use Rattle.residency.proofs.Worlds.After.{absent_stays, held_stays}
+use Rattle.residency.proofs.Worlds.Composed.{still_then}
+use Rattle.residency.proofs.Worlds.Homes.{home, page_here}
+use Rattle.residency.proofs.Worlds.Nodes.{same_home}
+use Rattle.residency.proofs.Pushes.Outside.{put_at}
+use Rattle.residency.proofs.Forests.StillForest.{still_forest, still_like}
 use Rattle.fault_path.specs.Answers.{IsForestRight}
 use Rattle.fault_path.specs.Faults.{IsOwner}
-use Rattle.fault_path.proofs.Answered.{cause_then}
-use Rattle.fault_path.proofs.FoundPage.{found_frame}
-use Rattle.fault_path.proofs.Kept.{absent_is}
+use Rattle.fault_path.proofs.Calls.Answered.{cause_then}
+use Rattle.fault_path.proofs.Pages.FoundPage.{found_frame}
+use Rattle.fault_path.proofs.Calls.Kept.{absent_is}
 use Rattle.segment_ops.specs.Pushing.{TellsValues, value_at}
 use Rattle.segment_ops.specs.Saving.{HasFailed}
 use Rattle.segment_ops.specs.Synced.{CleanStays, IsSynced, is_settled}

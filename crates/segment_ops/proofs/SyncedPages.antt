@@ -22,11 +22,11 @@ use Rattle.local_cache.specs.Sound.{IsSound}
 use Rattle.local_cache.specs.Whole.{segment_of}
 use Rattle.residency.specs.Causes.{Later}
 use Rattle.residency.specs.World.{IsStoreRight, Still, World, home_page, is_clean, page_at}
-use Rattle.residency.proofs.After.{absent_stays, held_stays}
-use Rattle.residency.proofs.Outside.{home_elsewhere, home_here}
-use Rattle.residency.proofs.StillForest.{still_caches_sound, still_like}
+use Rattle.residency.proofs.Worlds.After.{absent_stays, held_stays}
+use Rattle.residency.proofs.Pushes.Outside.{home_elsewhere, home_here}
+use Rattle.residency.proofs.Forests.StillForest.{still_caches_sound, still_like}
 use Rattle.fault_path.specs.Costs.{MadeAtMost}
-use Rattle.fault_path.proofs.Kept.{still_shaped}
+use Rattle.fault_path.proofs.Calls.Kept.{still_shaped}
 use Rattle.segment_ops.specs.Pushing.{TellsValues, put_value, segments_with, value_bytes}
 use Rattle.segment_ops.specs.Synced.{AreSynced, CleanStays, IsSynced, is_settled, unclean, unclean_at, unclean_count}
 use Rattle.segment_ops.proofs.Granting.{range_home}

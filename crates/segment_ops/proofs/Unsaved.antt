@@ -34,7 +34,7 @@ use Rattle.local_cache.proofs.Tables.Sizes.{sizes_same}
 use Rattle.local_cache.proofs.Whole.Pages.{page_there, pages_once}
 use Rattle.residency.specs.StoreForest.{store_forest}
 use Rattle.residency.specs.World.{HasOwnPage, World, own_page}
-use Rattle.fault_path.proofs.Kept.{store_bare}
+use Rattle.fault_path.proofs.Calls.Kept.{store_bare}
 use Rattle.segment_ops.specs.Ranges.{HasRange}
 use Rattle.segment_ops.specs.Saving.{AreSaved, AreSavedNow, SavesEnd}
 use Rattle.segment_ops.proofs.Saves.{all_saved, first_unsaved, none_unsaved, saved_now, saved_stays, saves_before, saves_left}

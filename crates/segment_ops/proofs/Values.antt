@@ -21,8 +21,8 @@ use Rattle.residency.specs.Causes.{Later}
 use Rattle.residency.specs.Pushing.{MayPush, TellsOn, put_home, segments_pushed}
 use Rattle.residency.specs.StoreForest.{store_forest}
 use Rattle.residency.specs.World.{World, own_page}
-use Rattle.fault_path.proofs.Heirs.{has_own}
-use Rattle.fault_path.proofs.Kept.{store_page, store_shaped}
+use Rattle.fault_path.proofs.Rules.Heirs.{has_own}
+use Rattle.fault_path.proofs.Calls.Kept.{store_page, store_shaped}
 use Rattle.segment_ops.specs.Pushing.{MayPushValue, TellsValues, put_value, segments_with, value_at, value_bytes}
 
 pub values_none : (a b : World) (c d : MapperCounts) → segments_of b.told ≡ segments_of a.told → c.pushes ≤ d.pushes → TellsValues a b c d

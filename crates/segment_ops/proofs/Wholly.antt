@@ -13,8 +13,8 @@ use Rattle.local_cache.proofs.Whole.Like.{like_whole}
 use Rattle.residency.specs.StoreForest.{store_forest}
 use Rattle.residency.specs.World.{World}
 use Rattle.fault_path.specs.Answers.{IsAnswered}
-use Rattle.fault_path.proofs.Answered.{later_then}
-use Rattle.fault_path.proofs.TwoFrames.{kept_then}
+use Rattle.fault_path.proofs.Calls.Answered.{later_then}
+use Rattle.fault_path.proofs.Frames.TwoFrames.{kept_then}
 use Rattle.segment_ops.specs.Keeping.{StaysWhole}
 use Rattle.segment_ops.proofs.Values.{ReadsOn, tells_values, values_then}
 

@@ -19,9 +19,9 @@ use Rattle.vm_model.specs.declared.tables.Cache.{Cache}
 use Rattle.vm_model.specs.declared.tables.Region.{Region}
 use Rattle.vm_model.specs.declared.tables.Tables.{Tables}
 use Rattle.vm_model.specs.Seen.{actor_seen, actors_seen, region_seen, machine_seen, ArePlaced, IsLocated, IsPlaced, IsPlaceOf, IsReplaced, IsSound}
-use Rattle.vm_model.proofs.Lists.{found_is, numbered_place}
-use Rattle.vm_model.proofs.ListParts.{at_some}
-use Rattle.vm_model.proofs.Sound.{numbered-all, placed-set, sound-actors}
+use Rattle.vm_model.proofs.Parts.Lists.{found_is, numbered_place}
+use Rattle.vm_model.proofs.Parts.ListParts.{at_some}
+use Rattle.vm_model.proofs.Machines.Sound.{numbered-all, placed-set, sound-actors}
 
 -- a list around one of its places
 around : {A : Type 0} (xs : List A) (k : ℕ) (x : A) → slice_get xs k ≡ Some x → xs ≡ take k xs ++ x ∷ drop (suc k) xs

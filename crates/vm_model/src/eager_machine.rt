@@ -64,7 +64,7 @@ impl EagerMachine {
     }
 
     /// Makes an actor without regions. Refused as `TooMany` exactly where 256 actors are alive or 65,535 were made.
-    #[tactic(auto, using(crate::proofs::Sound::whole))]
+    #[tactic(auto, using(crate::proofs::Machines::Sound::whole))]
     pub fn make_actor(&mut self) -> Result<ActorId, Trouble>
         ensures outcome { PlainOutcome self.old Command.MakeActor
             (answer_by Reply.Actor result) self.new }
@@ -75,7 +75,7 @@ impl EagerMachine {
 
     /// Ends an actor, and takes its regions away. Refused as `NoActor` exactly where no living
     /// actor has the number. It takes no memory.
-    #[tactic(auto, using(crate::proofs::Sound::whole))]
+    #[tactic(auto, using(crate::proofs::Machines::Sound::whole))]
     pub fn exit_actor(&mut self, actor: ActorId) -> Result<(), Trouble>
         ensures outcome { PlainOutcome self.old (Command.ExitActor actor)
             (answer_by (λ _. Reply.Done) result) self.new }
@@ -86,7 +86,7 @@ impl EagerMachine {
 
     /// Makes a temporary cache of so many zero pages, at least one. Refused as `TooMany` exactly where 65,535 caches
     /// were made or the live pages would be more than 4,194,304. `Memory` where there is none for the pages.
-    #[tactic(auto, using(crate::proofs::Sound::whole))]
+    #[tactic(auto, using(crate::proofs::Machines::Sound::whole))]
     pub fn make_temp(&mut self, pages: u32) -> Result<CacheId, Trouble>
         requires { 1 ≤ pages }
         ensures outcome { PlainOutcome self.old (Command.MakeTemp pages)
@@ -128,7 +128,7 @@ impl EagerMachine {
 
     /// Makes a cache that the segment names, with these pages, which are the segment's. `Memory`
     /// where there is none.
-    #[tactic(auto, using(crate::proofs::Sound::whole))]
+    #[tactic(auto, using(crate::proofs::Machines::Sound::whole))]
     pub fn open_segment(&mut self, seg: SegId, pages: Vec<Vec<u8>>) -> Result<CacheId, Trouble>
         requires open { CanOpen self.old seg }
         requires room { live_pages self.old + length pages.items ≤ LIVE_PAGES }
@@ -193,7 +193,7 @@ impl EagerMachine {
     /// Copies pages from one place to another, all at once, where the mapper denies none of the
     /// destination. Refused as `NoCache`, `OutOfCache` or `Overlap`, in this order; no page of this
     /// machine is locked. `Memory` where there is none for the copies.
-    #[tactic(auto, using(crate::proofs::Sound::whole))]
+    #[tactic(auto, using(crate::proofs::Machines::Sound::whole))]
     pub fn copy_pages(&mut self, span: &Span) -> Result<(), Trouble>
         requires { 1 ≤ span.now.pages }
         ensures outcome { AllowedOutcome self.old (Command.Copy span.now)
@@ -205,7 +205,7 @@ impl EagerMachine {
 
     /// Maps pages of a cache into an actor. Refused as `NoActor`, `NoCache`, `Unaligned`, `BadAddress`, `OutOfCache`,
     /// `Overlap` or `TooMany`, in this order. `Memory` where there is none for the region.
-    #[tactic(auto, using(crate::proofs::Sound::whole))]
+    #[tactic(auto, using(crate::proofs::Machines::Sound::whole))]
     pub fn map(&mut self, actor: ActorId, mapping: &Mapping) -> Result<RegionId, Trouble>
         requires { 1 ≤ mapping.now.extent.pages }
         ensures outcome { PlainOutcome self.old (Command.Map actor mapping.now)
@@ -219,7 +219,7 @@ impl EagerMachine {
     /// the same, has the others. Refused as `NoRegion`, as `BadAddress` where the region hasn't
     /// more pages, or as `TooMany` where 65,535 regions were made, in this order. `Memory` where
     /// there is none for the new region.
-    #[tactic(auto, using(crate::proofs::Sound::whole))]
+    #[tactic(auto, using(crate::proofs::Machines::Sound::whole))]
     pub fn split(&mut self, region: RegionId, pages: u32) -> Result<RegionId, Trouble>
         requires { 1 ≤ pages }
         ensures outcome { PlainOutcome self.old (Command.Split region pages)
@@ -231,7 +231,7 @@ impl EagerMachine {
 
     /// Changes what a region allows beside reading. Refused as `NoRegion` exactly where no region
     /// of a living actor has the number. It takes no memory.
-    #[tactic(auto, using(crate::proofs::Sound::whole))]
+    #[tactic(auto, using(crate::proofs::Machines::Sound::whole))]
     pub fn protect(&mut self, region: RegionId, prot: Prot) -> Result<(), Trouble>
         ensures outcome { PlainOutcome self.old (Command.Protect region prot)
             (answer_by (λ _. Reply.Done) result) self.new }
@@ -277,7 +277,7 @@ impl EagerMachine {
 
     /// Stores bytes at an address of an actor, where the mapper doesn't deny the page. Refused as
     /// `NoActor`, `Crosses`, `BadAddress` or `Protection`, in this order. It takes no memory.
-    #[tactic(auto, using(crate::proofs::Sound::whole))]
+    #[tactic(auto, using(crate::proofs::Machines::Sound::whole))]
     pub fn store(&mut self, actor: ActorId, address: u64, piece: &Piece) -> Result<(), Trouble>
         ensures outcome { AllowedOutcome self.old (Command.Store actor address piece.now)
             (answer_by (λ _. Reply.Done) result) self.new }
@@ -298,7 +298,7 @@ impl EagerMachine {
 
     /// Takes a cache away, with all its pages, and pushes none of them. Refused as `NoCache` or
     /// `InUse`, in this order. It takes no memory.
-    #[tactic(auto, using(crate::proofs::Sound::whole))]
+    #[tactic(auto, using(crate::proofs::Machines::Sound::whole))]
     pub fn destroy(&mut self, cache: CacheId) -> Result<(), Trouble>
         ensures outcome { PlainOutcome self.old (Command.Destroy cache)
             (answer_by (λ _. Reply.Done) result) self.new }
@@ -327,7 +327,7 @@ impl EagerMachine {
     /// zeros are left where they were. Refused as `NoCache`, `OutOfCache`, `NotTemp` or `Overlap`,
     /// in this order; no page of this machine is locked. `Memory` where there is none for the
     /// pages.
-    #[tactic(auto, using(crate::proofs::Sound::whole))]
+    #[tactic(auto, using(crate::proofs::Machines::Sound::whole))]
     pub fn move_pages(&mut self, span: &Span) -> Result<(), Trouble>
         requires { 1 ≤ span.now.pages }
         ensures outcome { AllowedOutcome self.old (Command.Move span.now)
@@ -338,7 +338,7 @@ impl EagerMachine {
     }
 
     /// Takes a region away. Refused as `NoRegion`; no region of this machine is locked. It takes no memory.
-    #[tactic(auto, using(crate::proofs::Sound::whole))]
+    #[tactic(auto, using(crate::proofs::Machines::Sound::whole))]
     pub fn unmap(&mut self, region: RegionId) -> Result<(), Trouble>
         ensures outcome { PlainOutcome self.old (Command.Unmap region)
             (answer_by (λ _. Reply.Done) result) self.new }
@@ -387,7 +387,7 @@ impl EagerMachine {
 
     /// Puts these pages, which are the segment's, in the cache that the segment names. It takes no
     /// memory.
-    #[tactic(auto, using(crate::proofs::Sound::whole))]
+    #[tactic(auto, using(crate::proofs::Machines::Sound::whole))]
     pub fn invalidate(&mut self, extent: &Extent, pages: Vec<Vec<u8>>)
         requires named { IsSome (segment_of self.old extent.now.cache.0) }
         requires within { extent.now.first.0 + extent.now.pages

@@ -15,7 +15,7 @@ use vm_ids::{Command, Extent, Refusal, Reply, SegId, Trouble};
 
 // The segment that names the cache of these pages. A sync and a flush change nothing of the
 // machine.
-#[tactic(auto, using(crate::proofs::Sound::unlocked), unfolding(crate::specs::Answering::sync_of, crate::specs::Answering::flush_of, crate::specs::Answering::invalidate_of, crate::specs::Answering::with_some, crate::specs::Answering::unless))]
+#[tactic(auto, using(crate::proofs::Machines::Sound::unlocked), unfolding(crate::specs::Answering::sync_of, crate::specs::Answering::flush_of, crate::specs::Answering::invalidate_of, crate::specs::Answering::with_some, crate::specs::Answering::unless))]
 pub(crate) fn check_extent(tables: &Tables, extent: &Extent) -> Result<SegId, Trouble>
     requires { IsSound tables.now }
     ensures sync { PlainOutcome (machine_seen tables.now) (Command.Sync extent.now)

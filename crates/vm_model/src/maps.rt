@@ -37,7 +37,7 @@ fn overlaps_any(regions: &[Region], page_bytes: u64, address: u64, pages: u32) -
 }
 
 // The place of a region among the others, in order of start address.
-#[tactic(auto, using(crate::proofs::Regions::goes_on, crate::proofs::Regions::goes_here, crate::proofs::Regions::goes_last))]
+#[tactic(auto, using(crate::proofs::Machines::Regions::goes_on, crate::proofs::Machines::Regions::goes_here, crate::proofs::Machines::Regions::goes_last))]
 fn place_for(regions: &[Region], region: &Region) -> usize
     ensures within { result ≤ length regions.now }
     ensures place { insert_region (region_seen region.now) (map region_seen regions.now)

@@ -29,7 +29,7 @@ use Rattle.local_cache.proofs.Nodes.OwnStates.{id_cases}
 use Rattle.residency.specs.declared.store.Store.{Store}
 use Rattle.residency.specs.StoreForest.{store_forest}
 use Rattle.residency.specs.World.{IsTied, is_clean, own_page, page_at, page_by, world}
-use Rattle.residency.proofs.Telling.{tells}
+use Rattle.residency.proofs.Worlds.Telling.{tells}
 use Rattle.tree_merge.specs.declared.released.Released.{Released}
 use Rattle.tree_merge.specs.Releasing.{IsRetired}
 use Rattle.vm_ids.proofs.Places.{true_below}

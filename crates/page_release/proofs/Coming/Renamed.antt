@@ -22,7 +22,7 @@ use Rattle.local_cache.proofs.Nodes.Values.{same_own_states}
 use Rattle.residency.specs.declared.store.Store.{Store}
 use Rattle.residency.specs.StoreForest.{store_forest}
 use Rattle.residency.specs.World.{IsTied, home_page, is_clean, own_page, world}
-use Rattle.residency.proofs.Telling.{tells}
+use Rattle.residency.proofs.Worlds.Telling.{tells}
 use Rattle.page_release.specs.Steps.{GivesBack, IsUnpinned, PinnedStayNamed}
 use Rattle.page_release.proofs.Tying.Backed.{homeless}
 use Rattle.page_release.proofs.Tying.States.{SameStates, caches_give, states_page, states_tied}

@@ -18,7 +18,7 @@ use Rattle.local_cache.specs.Sound.{IsSound}
 use Rattle.local_cache.specs.Whole.{IsWhole}
 use Rattle.local_cache.specs.declared.own_state.OwnState.TheVariants.{Zero}
 use Rattle.residency.specs.World.{SameNodes}
-use Rattle.residency.proofs.Nodes.{still_like}
+use Rattle.residency.proofs.Worlds.Nodes.{still_like}
 use Rattle.page_release.specs.Steps.{forgotten_where}
 use Rattle.local_cache.proofs.Whole.Like.{like_whole}
 

@@ -20,7 +20,7 @@ use Rattle.local_cache.specs.Own.{is_in_slot, is_resident, is_slot, own_of, own_
 use Rattle.local_cache.proofs.Nodes.OwnStates.{id_apart, id_cases, own_count, own_other, own_same}
 use Rattle.residency.specs.World.{IsTied, World, frame_page, is_clean, is_slot_held, own_page}
 use Rattle.page_release.proofs.Tying.Tied.{held_after, slot_is_held}
-use Rattle.residency.proofs.Homes.{IsHome, resident_not_in_slot, resident_not_slot}
+use Rattle.residency.proofs.Worlds.Homes.{IsHome, resident_not_in_slot, resident_not_slot}
 use Rattle.tree_merge.specs.Releasing.{Went}
 use Rattle.page_release.proofs.Tying.Backed.{HomesStay, own_page_as, stay_backed}
 use Rattle.page_release.proofs.Leaving.Counting.{went_count}

@@ -16,7 +16,7 @@ use Rattle.local_cache.proofs.Nodes.OwnStates.{id_apart, id_cases}
 use Rattle.local_cache.proofs.Nodes.Values.{same_own_states}
 use Rattle.residency.specs.declared.store.Store.{Store}
 use Rattle.residency.specs.World.{IsTied, World, is_bound, is_clean, own_page, world}
-use Rattle.residency.proofs.Homes.{IsHome}
+use Rattle.residency.proofs.Worlds.Homes.{IsHome}
 use Rattle.tree_merge.specs.declared.released.Released.{Released}
 use Rattle.tree_merge.specs.declared.released.Released.TheVariants.{Nothing, Dropped, Moved}
 use Rattle.tree_merge.specs.Releasing.{IsPassed, IsReleased, IsStill, Went}

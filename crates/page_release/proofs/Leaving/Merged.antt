@@ -23,7 +23,7 @@ use Rattle.local_cache.proofs.Tables.Sizes.{sizes_by}
 use Rattle.residency.specs.declared.store.Store.{Store}
 use Rattle.residency.specs.StoreForest.{store_forest}
 use Rattle.residency.specs.World.{is_clean, own_page, world}
-use Rattle.residency.proofs.Telling.{tells}
+use Rattle.residency.proofs.Worlds.Telling.{tells}
 use Rattle.tree_merge.specs.declared.released.Released.{Released}
 use Rattle.tree_merge.specs.declared.released.Released.TheVariants.{Nothing, Dropped, Moved}
 use Rattle.tree_merge.specs.Releasing.{IsMerged, IsReleased}

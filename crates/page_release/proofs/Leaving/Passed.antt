@@ -17,7 +17,7 @@ use Rattle.local_cache.specs.Own.{is_in_slot, is_resident, is_slot, own_of, own_
 use Rattle.local_cache.proofs.Changes.SameNodes.{like-put}
 use Rattle.local_cache.proofs.Nodes.OwnStates.{id_apart, id_cases, own_count, own_length, own_other, own_same}
 use Rattle.residency.specs.World.{IsTied, World, frame_page, is_bound, is_clean, own_page}
-use Rattle.residency.proofs.Homes.{IsHome}
+use Rattle.residency.proofs.Worlds.Homes.{IsHome}
 use Rattle.tree_merge.specs.Releasing.{Went}
 use Rattle.page_release.proofs.Tying.Tied.{home}
 use Rattle.page_release.proofs.Tying.Backed.{HomesStay, own_page_as, stay_backed}

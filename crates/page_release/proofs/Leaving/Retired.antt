@@ -21,7 +21,7 @@ use Rattle.local_cache.proofs.Changes.Locked.{locks-tables_with}
 use Rattle.residency.specs.declared.store.Store.{Store}
 use Rattle.residency.specs.StoreForest.{store_forest}
 use Rattle.residency.specs.World.{IsTied, is_clean, own_page, world}
-use Rattle.residency.proofs.Telling.{tells}
+use Rattle.residency.proofs.Worlds.Telling.{tells}
 use Rattle.tree_merge.specs.declared.released.Released.{Released}
 use Rattle.tree_merge.specs.Releasing.{IsReleased, IsRetired, IsStill, own_after}
 use Rattle.tree_merge.proofs.Leaving.Sizes.{sizes_retired}

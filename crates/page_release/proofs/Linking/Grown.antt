@@ -32,7 +32,7 @@ use Rattle.page_stubs.proofs.Rules.OtherPages.{stub-by}
 use Rattle.residency.specs.declared.store.Store.{Store}
 use Rattle.residency.specs.StoreForest.{store_forest}
 use Rattle.residency.specs.World.{is_clean, own_page, world}
-use Rattle.residency.proofs.Telling.{tells}
+use Rattle.residency.proofs.Worlds.Telling.{tells}
 use Rattle.tree_merge.specs.Releasing.{Went}
 use Rattle.page_release.specs.Steps.{ForAnyMapper, IsStoreTied, Kept, PinnedStayNamed}
 use Rattle.page_release.specs.Homes.{KeepsHomes}

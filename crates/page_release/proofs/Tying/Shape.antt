@@ -16,7 +16,7 @@ use Rattle.local_cache.specs.Sound.{IsSound}
 use Rattle.local_cache.proofs.Forest.ReadingBy.{bare-of}
 use Rattle.residency.specs.StoreForest.{store_forest}
 use Rattle.residency.specs.World.{World, own_page}
-use Rattle.residency.proofs.Telling.{tells}
+use Rattle.residency.proofs.Worlds.Telling.{tells}
 
 -- without its pages the forest of a store is that of the own states
 pub store_bare : (w : World) → IsSound w.caches → bare (forest_of w.caches) ≡ bare (store_forest w)

@@ -15,7 +15,7 @@ use Rattle.local_cache.specs.Arena.{Arena, HasNode}
 use Rattle.local_cache.specs.Own.{is_resident, is_slot, own_of}
 use Rattle.local_cache.proofs.Nodes.OwnStates.{own_held, own_some}
 use Rattle.residency.specs.World.{IsStoreRight, IsTied, World, is_clean, is_slot_held, page_by, world}
-use Rattle.residency.proofs.Homes.{IsHome}
+use Rattle.residency.proofs.Worlds.Homes.{IsHome}
 use Rattle.page_release.specs.Steps.{IsStoreTied}
 
 pub tied_of : (w : World) → IsStoreRight w → IsTied w

@@ -36,7 +36,7 @@ use Rattle.vm_model.specs.Outcome as outcome
 use Rattle.vm_model.specs.Following.{forest_after}
 use Rattle.vm_model.specs.PageForest.{PageForest}
 use Rattle.vm_model.specs.Laws.{IsFollowed}
-use Rattle.vm_model.proofs.Following.{destroyed_followed}
+use Rattle.vm_model.proofs.Forests.Following.{destroyed_followed}
 use Rattle.contexts.specs.Actors.{Actors}
 use Rattle.pvm_core.specs.Placed.{ArePlaced, IsPlaced}
 use Rattle.pvm_core.specs.Manager.{IsSound, IsValid, Manager, cache_shown, caches_shown, forest_of, live_in, machine_by, machine_of}

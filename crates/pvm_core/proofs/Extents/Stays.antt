@@ -10,7 +10,7 @@ use Rattle.vm_model.specs.Machine.{Cache, Machine, Page, cache_named, cache_of, 
 use Rattle.vm_model.specs.PageForest.{page_in}
 use Rattle.vm_model.specs.Pushing.{MayPush, PushRule, page_named, segments_after}
 use Rattle.vm_model.specs.Synchronised.{ArePushed}
-use Rattle.vm_model.proofs.Lists.{get_set_other, get_set_same}
+use Rattle.vm_model.proofs.Parts.Lists.{get_set_other, get_set_same}
 use Rattle.local_cache.proofs.Nodes.Slots.{apart, tied}
 use Rattle.pvm_core.proofs.Sized.{same_or_not}
 

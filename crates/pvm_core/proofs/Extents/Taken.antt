@@ -28,11 +28,11 @@ use Rattle.vm_model.specs.Outcome.{HasWholePages, OutcomeAt, blank}
 use Rattle.vm_model.specs.PageForest.{PageForest, nodes_in}
 use Rattle.vm_model.specs.Laws.{IsFollowed}
 use Rattle.vm_model.specs.Run.{CallIs}
-use Rattle.vm_model.proofs.Following.{invalidated_followed, invalidated_there}
-use Rattle.vm_model.proofs.ListParts.{overwrite_in}
-use Rattle.vm_model.proofs.Lists.{length-overwrite}
+use Rattle.vm_model.proofs.Forests.Following.{invalidated_followed, invalidated_there}
+use Rattle.vm_model.proofs.Parts.ListParts.{overwrite_in}
+use Rattle.vm_model.proofs.Parts.Lists.{length-overwrite}
 use Rattle.vm_model.specs.Synchronised.{ArePushed}
-use Rattle.vm_model.proofs.Sound.{numbered-all}
+use Rattle.vm_model.proofs.Machines.Sound.{numbered-all}
 use Rattle.contexts.specs.Actors.{Actors}
 use Rattle.pvm_core.specs.Manager.{IsSound, IsValid, Manager, cache_shown, caches_shown, forest_of, machine_by, machine_of, state_at}
 use Rattle.pvm_core.specs.Reaching.{Reach}

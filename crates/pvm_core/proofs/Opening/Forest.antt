@@ -23,8 +23,8 @@ use Rattle.local_cache.proofs.Forest.ReadingBy.{lifted}
 use Rattle.residency.specs.declared.store.Store.{Store}
 use Rattle.residency.specs.StoreForest.{store_forest}
 use Rattle.residency.specs.World.{own_page, world}
-use Rattle.residency.proofs.Telling.{tells}
-use Rattle.fault_path.proofs.Kept.{store_bare, store_page}
+use Rattle.residency.proofs.Worlds.Telling.{tells}
+use Rattle.fault_path.proofs.Calls.Kept.{store_bare, store_page}
 use Rattle.vm_model.specs.Machine.{Page}
 use Rattle.vm_model.specs.PageForest.{told}
 

@@ -11,8 +11,8 @@ use Rattle.vm_model.specs.Machine.{Cache, Machine, cache_of}
 use Rattle.vm_model.specs.Outcome.{HasWholePages, IsWhole, blank, blank_cache}
 use Rattle.vm_model.specs.PageForest.{PageForest, nodes_of}
 use Rattle.vm_model.specs.Laws.{IsFollowed}
-use Rattle.vm_model.proofs.Following.{made_followed}
-use Rattle.vm_model.proofs.ListParts.{numbered_pushed}
+use Rattle.vm_model.proofs.Forests.Following.{made_followed}
+use Rattle.vm_model.proofs.Parts.ListParts.{numbered_pushed}
 use Rattle.pvm_core.specs.Manager.{Manager, caches_shown, forest_of, machine_of}
 use Rattle.pvm_core.proofs.Determined.{IsShaped, followed_is}
 use Rattle.pvm_core.proofs.Shown.{length-pages, shown_made}

@@ -2,13 +2,13 @@ use Rattle.std.proofs.Common.{sym, ap, ◌∙◌, ◌≡◌, ◌<◌, arith, len
 use Rattle.global_map.specs.Pairs.{node_of}
 use Rattle.residency.specs.declared.store.Store.{Store}
 use Rattle.residency.specs.World.{World, world}
-use Rattle.residency.proofs.Homes.{home}
-use Rattle.residency.proofs.Told.{tells_then}
-use Rattle.fault_path.proofs.GatheredFrames.{bound_below, doubled_page, same_home, then_gathered}
+use Rattle.residency.proofs.Worlds.Homes.{home}
+use Rattle.residency.proofs.Pushes.Told.{tells_then}
+use Rattle.fault_path.proofs.Frames.GatheredFrames.{bound_below, doubled_page, same_home, then_gathered}
 use Rattle.local_cache.specs.declared.own_state.OwnState.{OwnState}
 use Rattle.local_cache.specs.Own.{own_of}
 use Rattle.residency.specs.Causes.{frames_to_bring}
-use Rattle.fault_path.proofs.Costs.{brought_more, brought_taken, failed_most, most_more, pulls_most, taken_then}
+use Rattle.fault_path.proofs.Calls.Costs.{brought_more, brought_taken, failed_most, most_more, pulls_most, taken_then}
 use Rattle.fault_path.proofs.gathering.brought_out.Goals as goal
 
 pub returns-clause-copied : goal.returns-clause-copied

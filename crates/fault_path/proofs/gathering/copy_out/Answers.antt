@@ -5,8 +5,8 @@ use Rattle.local_cache.specs.declared.own_state.OwnState.TheVariants.{Zero}
 use Rattle.local_cache.specs.Own.{own_of}
 use Rattle.residency.specs.Causes.{pushes_for}
 use Rattle.fault_path.specs.Costs.{frames_to_copy, free_count, pulls_to_copy}
-use Rattle.residency.proofs.Arms.{on_ok, on_ok_then}
-use Rattle.fault_path.proofs.Costs.{pulls_is, pulls_most, pushes_free}
+use Rattle.residency.proofs.Worlds.Arms.{on_ok, on_ok_then}
+use Rattle.fault_path.proofs.Calls.Costs.{pulls_is, pulls_most, pushes_free}
 use Rattle.fault_path.proofs.gathering.copy_out.Goals as goal
 
 pub returns-in-Zero-clause-held : goal.returns-in-Zero-clause-held

@@ -3,7 +3,7 @@ use Rattle.frame_pool.specs.Pool.{bytes_of}
 use Rattle.residency.specs.declared.store.Store.{Store}
 use Rattle.residency.specs.World.{World, world}
 use Rattle.fault_path.specs.Gathering.{IsGathered}
-use Rattle.fault_path.proofs.GatheredFrames.{filled_gathered}
+use Rattle.fault_path.proofs.Frames.GatheredFrames.{filled_gathered}
 use Rattle.fault_path.proofs.gathering.double.Goals as goal
 
 pub returns-clause-doubled : goal.returns-clause-doubled

@@ -3,10 +3,10 @@ use Rattle.frame_pool.specs.Pool.{is_pinned}
 use Rattle.residency.specs.declared.store.Store.{Store}
 use Rattle.residency.specs.World.{IsMadeFree, Still, World, world}
 use Rattle.residency.specs.Pushing.{TellsOn}
-use Rattle.residency.proofs.After.{pin_set}
+use Rattle.residency.proofs.Worlds.After.{pin_set}
 use Rattle.fault_path.specs.Gathering.{IsGathered, NoneGathered}
-use Rattle.residency.proofs.Arms.{if_ok, on_err_then}
-use Rattle.fault_path.proofs.GatheredFrames.{beside_gathered, beside_none, beside_told}
+use Rattle.residency.proofs.Worlds.Arms.{if_ok, on_err_then}
+use Rattle.fault_path.proofs.Frames.GatheredFrames.{beside_gathered, beside_none, beside_told}
 use Rattle.fault_path.proofs.gathering.make_free_beside.Goals as goal
 
 pub returns-clause-gathered : goal.returns-clause-gathered

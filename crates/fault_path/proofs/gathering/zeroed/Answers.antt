@@ -2,9 +2,9 @@ use Rattle.std.proofs.Common.{sym, ap, subst, ◌∙◌, ◌≡◌, true, false,
 use Rattle.local_cache.specs.Own.{is_resident}
 use Rattle.residency.specs.declared.store.Store.{Store}
 use Rattle.residency.specs.World.{World, world}
-use Rattle.residency.proofs.Homes.{home}
+use Rattle.residency.proofs.Worlds.Homes.{home}
 use Rattle.fault_path.specs.Gathering.{IsGathered}
-use Rattle.fault_path.proofs.GatheredFrames.{bound_below, filled_gathered, free_gathered}
+use Rattle.fault_path.proofs.Frames.GatheredFrames.{bound_below, filled_gathered, free_gathered}
 use Rattle.fault_path.proofs.gathering.zeroed.Goals as goal
 
 pub returns-clause-copied : goal.returns-clause-copied

@@ -6,10 +6,10 @@ use Rattle.local_cache.specs.Own.{is_resident, own_of}
 use Rattle.residency.specs.Causes.{Traffic, dirtied, dirty_count, failed_victims, pulls_for, pushes_to_bring}
 use Rattle.residency.specs.declared.miss.Miss.{Miss}
 use Rattle.residency.specs.World.{HoldsPage, World, world}
-use Rattle.residency.proofs.StillForest.{still_forest}
+use Rattle.residency.proofs.Forests.StillForest.{still_forest}
 use Rattle.fault_path.specs.Faults.{IsOwner, is_at_hand, is_zero}
-use Rattle.fault_path.proofs.Answered.{still_answered}
-use Rattle.fault_path.proofs.FoundPage.{found_frame, found_zero, owner_same, resident_is, zero_is}
+use Rattle.fault_path.proofs.Calls.Answered.{still_answered}
+use Rattle.fault_path.proofs.Pages.FoundPage.{found_frame, found_zero, owner_same, resident_is, zero_is}
 use Rattle.fault_path.proofs.reading.read_fault.Goals as goal
 
 pub returns-then-is_zero-clause-frame : goal.returns-then-is_zero-clause-frame

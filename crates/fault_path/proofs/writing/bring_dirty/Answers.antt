@@ -5,20 +5,20 @@ use Rattle.local_cache.proofs.Nodes.OwnStates.{own_same}
 use Rattle.local_cache.specs.declared.own_state.OwnState.TheVariants.{Resident}
 use Rattle.residency.specs.StoreForest.{store_forest}
 use Rattle.residency.specs.World.{Still, World, world}
-use Rattle.residency.proofs.After.{held_stays}
-use Rattle.residency.proofs.Composed.{still_then}
-use Rattle.residency.proofs.Homes.{home}
-use Rattle.residency.proofs.StillForest.{still_forest, still_like}
+use Rattle.residency.proofs.Worlds.After.{held_stays}
+use Rattle.residency.proofs.Worlds.Composed.{still_then}
+use Rattle.residency.proofs.Worlds.Homes.{home}
+use Rattle.residency.proofs.Forests.StillForest.{still_forest, still_like}
 use Rattle.fault_path.specs.Faults.{Kept}
-use Rattle.fault_path.proofs.DirtyPage.{dirtied, dirty_still, may_like}
-use Rattle.fault_path.proofs.Kept.{still_kept}
-use Rattle.fault_path.proofs.ReadyForest.{kept_ready}
+use Rattle.fault_path.proofs.Pages.DirtyPage.{dirtied, dirty_still, may_like}
+use Rattle.fault_path.proofs.Calls.Kept.{still_kept}
+use Rattle.fault_path.proofs.Rules.ReadyForest.{kept_ready}
 use Rattle.local_cache.proofs.Changes.SameNodes.{copies-put}
-use Rattle.residency.proofs.StillForest.{still_copies}
+use Rattle.residency.proofs.Forests.StillForest.{still_copies}
 use Rattle.local_cache.specs.declared.own_state.OwnState.{OwnState}
-use Rattle.fault_path.proofs.Costs.{bring_most, brought_made, copy_most, failed_most, most_more, pulls_most}
-use Rattle.fault_path.proofs.Answered.{still_answered, still_missed_by}
-use Rattle.residency.proofs.Told.{tells_as}
+use Rattle.fault_path.proofs.Calls.Costs.{bring_most, brought_made, copy_most, failed_most, most_more, pulls_most}
+use Rattle.fault_path.proofs.Calls.Answered.{still_answered, still_missed_by}
+use Rattle.residency.proofs.Pushes.Told.{tells_as}
 use Rattle.fault_path.proofs.writing.bring_dirty.Goals as goal
 
 pub returns-in_err-frame-clause-answered : goal.returns-in_err-frame-clause-answered

@@ -2,14 +2,14 @@ use Rattle.std.proofs.Common.{refl, sym, ap, subst, ◌∙◌, rules}
 use Rattle.residency.specs.declared.store.Store.{Store}
 use Rattle.residency.specs.StoreForest.{store_forest}
 use Rattle.residency.specs.World.{World, world}
-use Rattle.residency.proofs.StillForest.{still_caches_sound}
+use Rattle.residency.proofs.Forests.StillForest.{still_caches_sound}
 use Rattle.fault_path.specs.Faults.{Kept}
-use Rattle.fault_path.proofs.Kept.{still_absent}
-use Rattle.fault_path.proofs.Heirs.{has_own, heir_absent, still_heir, unbound}
-use Rattle.fault_path.proofs.OneFrameForest.{hand_forest, hand_kept}
-use Rattle.fault_path.proofs.OneFrameForest.{hand_copies}
-use Rattle.fault_path.proofs.Answered.{still_answered, still_missed_by}
-use Rattle.residency.proofs.Told.{tells_as}
+use Rattle.fault_path.proofs.Calls.Kept.{still_absent}
+use Rattle.fault_path.proofs.Rules.Heirs.{has_own, heir_absent, still_heir, unbound}
+use Rattle.fault_path.proofs.Rules.OneFrameForest.{hand_forest, hand_kept}
+use Rattle.fault_path.proofs.Rules.OneFrameForest.{hand_copies}
+use Rattle.fault_path.proofs.Calls.Answered.{still_answered, still_missed_by}
+use Rattle.residency.proofs.Pushes.Told.{tells_as}
 use Rattle.fault_path.proofs.writing.hand_over.Goals as goal
 
 pub returns-in_err-frame-clause-answered : goal.returns-in_err-frame-clause-answered

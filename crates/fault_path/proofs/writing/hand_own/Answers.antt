@@ -5,27 +5,27 @@ use Rattle.local_cache.proofs.Nodes.OwnStates.{own_same}
 use Rattle.local_cache.specs.declared.own_state.OwnState.TheVariants.{Resident}
 use Rattle.residency.specs.StoreForest.{store_forest}
 use Rattle.residency.specs.World.{Still, World, world}
-use Rattle.residency.proofs.After.{held_stays}
-use Rattle.residency.proofs.Homes.{home}
-use Rattle.residency.proofs.StillForest.{still_caches_sound, still_forest, still_like}
+use Rattle.residency.proofs.Worlds.After.{held_stays}
+use Rattle.residency.proofs.Worlds.Homes.{home}
+use Rattle.residency.proofs.Forests.StillForest.{still_caches_sound, still_forest, still_like}
 use Rattle.vm_ids.specs.Forest.Rules.{heir_gets}
 use Rattle.global_map.specs.Pairs.{node_of}
 use Rattle.local_cache.specs.Reading.{name_of}
 use Rattle.fault_path.specs.Faults.{Kept}
-use Rattle.fault_path.proofs.DirtyPage.{dirtied, dirty_still, may_like}
-use Rattle.fault_path.proofs.Kept.{still_kept, still_shaped}
-use Rattle.fault_path.proofs.ReadyForest.{handed_ready}
-use Rattle.fault_path.proofs.GatheredFrames.{bound_below}
-use Rattle.fault_path.proofs.Heirs.{still_heir}
-use Rattle.fault_path.proofs.TwoFrames.{kept_then}
+use Rattle.fault_path.proofs.Pages.DirtyPage.{dirtied, dirty_still, may_like}
+use Rattle.fault_path.proofs.Calls.Kept.{still_kept, still_shaped}
+use Rattle.fault_path.proofs.Rules.ReadyForest.{handed_ready}
+use Rattle.fault_path.proofs.Frames.GatheredFrames.{bound_below}
+use Rattle.fault_path.proofs.Rules.Heirs.{still_heir}
+use Rattle.fault_path.proofs.Frames.TwoFrames.{kept_then}
 use Rattle.local_cache.proofs.Changes.SameNodes.{copies-put}
-use Rattle.residency.proofs.StillForest.{still_copies}
+use Rattle.residency.proofs.Forests.StillForest.{still_copies}
 use Rattle.local_cache.specs.declared.own_state.OwnState.{OwnState}
 use Rattle.residency.specs.Causes.{HasMissCause, frames_to_bring}
-use Rattle.fault_path.proofs.Costs.{bring_most, brought_made, brought_more, brought_taken, copy_most, failed_most, most_more, most_then, pulls_most, pushes_then, resident_copies, resident_takes}
-use Rattle.residency.proofs.Composed.{still_then}
-use Rattle.fault_path.proofs.Answered.{answered_then, cause_then, later_then, still_answered, still_missed_by}
-use Rattle.residency.proofs.Told.{tells_as, tells_then}
+use Rattle.fault_path.proofs.Calls.Costs.{bring_most, brought_made, brought_more, brought_taken, copy_most, failed_most, most_more, most_then, pulls_most, pushes_then, resident_copies, resident_takes}
+use Rattle.residency.proofs.Worlds.Composed.{still_then}
+use Rattle.fault_path.proofs.Calls.Answered.{answered_then, cause_then, later_then, still_answered, still_missed_by}
+use Rattle.residency.proofs.Pushes.Told.{tells_as, tells_then}
 use Rattle.fault_path.proofs.writing.hand_own.Goals as goal
 
 pub returns-in_err-frame-clause-answered : goal.returns-in_err-frame-clause-answered

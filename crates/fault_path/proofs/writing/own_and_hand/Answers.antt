@@ -5,21 +5,21 @@ use Rattle.local_cache.specs.Reading.{forest_of, name_of}
 use Rattle.residency.specs.declared.store.Store.{Store}
 use Rattle.residency.specs.StoreForest.{store_forest}
 use Rattle.residency.specs.World.{World, world}
-use Rattle.residency.proofs.Composed.{still_then}
-use Rattle.residency.proofs.StillForest.{still_caches_sound}
+use Rattle.residency.proofs.Worlds.Composed.{still_then}
+use Rattle.residency.proofs.Forests.StillForest.{still_caches_sound}
 use Rattle.fault_path.specs.Faults.{IsOwner, Kept}
-use Rattle.fault_path.proofs.Heirs.{heir_absent, unbound}
-use Rattle.fault_path.proofs.TwoFrames.{released_pins, released_still, step_copies, step_gives, step_heir, step_there, two_bound, two_copies, two_forest, two_kept, two_resident}
+use Rattle.fault_path.proofs.Rules.Heirs.{heir_absent, unbound}
+use Rattle.fault_path.proofs.Frames.TwoFrames.{released_pins, released_still, step_copies, step_gives, step_heir, step_there, two_bound, two_copies, two_forest, two_kept, two_resident}
 use Rattle.fault_path.specs.Answers.{IsAnswered, IsMissed}
 use Rattle.residency.specs.declared.miss.Miss.TheVariants.{Victim}
-use Rattle.fault_path.proofs.Answered.{cause_then, later_then, still_answered, still_missed, still_missed_by}
-use Rattle.residency.proofs.Told.{tells_as, tells_then}
+use Rattle.fault_path.proofs.Calls.Answered.{cause_then, later_then, still_answered, still_missed, still_missed_by}
+use Rattle.residency.proofs.Pushes.Told.{tells_as, tells_then}
 use Rattle.vm_ids.specs.declared.numbers.NodeId.{NodeId}
 use Rattle.local_cache.specs.Own.{own_of}
 use Rattle.fault_path.specs.Costs.{Pulls, frames_to_copy, free_count, pulls_to_copy}
-use Rattle.fault_path.proofs.FoundPage.{owner_same}
+use Rattle.fault_path.proofs.Pages.FoundPage.{owner_same}
 use Rattle.local_cache.specs.declared.own_state.OwnState.{OwnState}
-use Rattle.fault_path.proofs.Costs.{copy_most, pulls_more, pulls_most}
+use Rattle.fault_path.proofs.Calls.Costs.{copy_most, pulls_more, pulls_most}
 use Rattle.fault_path.proofs.writing.own_and_hand.Goals as goal
 
 pub returns-in_err-frame-clause-answered : goal.returns-in_err-frame-clause-answered

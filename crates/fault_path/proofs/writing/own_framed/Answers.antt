@@ -2,15 +2,15 @@ use Rattle.std.proofs.Common.{refl, sym, ap, subst, ◌∙◌, ◌-◌, rules}
 use Rattle.residency.specs.declared.store.Store.{Store}
 use Rattle.residency.specs.StoreForest.{store_forest}
 use Rattle.residency.specs.World.{World, world}
-use Rattle.residency.proofs.StillForest.{still_caches_sound}
+use Rattle.residency.proofs.Forests.StillForest.{still_caches_sound}
 use Rattle.fault_path.specs.Faults.{Kept, IsOwner}
-use Rattle.fault_path.proofs.Answered.{still_answered, still_missed_by}
-use Rattle.residency.proofs.Told.{tells_as}
-use Rattle.fault_path.proofs.OneFrameForest.{own_copies, own_forest, own_gives, own_kept}
+use Rattle.fault_path.proofs.Calls.Answered.{still_answered, still_missed_by}
+use Rattle.residency.proofs.Pushes.Told.{tells_as}
+use Rattle.fault_path.proofs.Rules.OneFrameForest.{own_copies, own_forest, own_gives, own_kept}
 use Rattle.vm_ids.specs.declared.numbers.NodeId.{NodeId}
 use Rattle.local_cache.specs.Own.{own_of}
 use Rattle.fault_path.specs.Costs.{Pulls, frames_to_copy, free_count, pulls_to_copy}
-use Rattle.fault_path.proofs.FoundPage.{owner_same}
+use Rattle.fault_path.proofs.Pages.FoundPage.{owner_same}
 use Rattle.fault_path.proofs.writing.own_framed.Goals as goal
 
 pub returns-in_err-frame-clause-answered : goal.returns-in_err-frame-clause-answered

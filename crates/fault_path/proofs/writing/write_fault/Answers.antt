@@ -2,11 +2,11 @@ use Rattle.std.proofs.Common.{sym, ap, ◌∙◌, ◌≡◌, true}
 use Rattle.vm_ids.specs.Forest.Rules as forest
 use Rattle.local_cache.specs.Own.{is_absent, own_of}
 use Rattle.residency.specs.World.{World, world}
-use Rattle.residency.proofs.Arms.{if_ok}
+use Rattle.residency.proofs.Worlds.Arms.{if_ok}
 use Rattle.fault_path.specs.Answers.{IsFramed}
 use Rattle.fault_path.specs.Faults.{readied}
-use Rattle.fault_path.proofs.Kept.{absent_is}
-use Rattle.fault_path.proofs.ReadyForest.{own_ready}
+use Rattle.fault_path.proofs.Calls.Kept.{absent_is}
+use Rattle.fault_path.proofs.Rules.ReadyForest.{own_ready}
 use Rattle.fault_path.proofs.writing.write_fault.Goals as goal
 
 pub returns-in-None-clause-ready : goal.returns-in-None-clause-ready

@@ -4,7 +4,7 @@ use Rattle.local_cache.specs.declared.own_state.OwnState.TheVariants.{Zero}
 use Rattle.local_cache.specs.Own.{is_absent, own_states}
 use Rattle.local_cache.proofs.Nodes.OwnStates.{own_length}
 use Rattle.residency.specs.World.{SameNodes, world}
-use Rattle.residency.proofs.Nodes.{with_own_same, same}
+use Rattle.residency.proofs.Worlds.Nodes.{with_own_same, same}
 use Rattle.page_release.specs.Following.{CanLeave, without_page}
 use Rattle.page_release.proofs.Forgotten.One.{absent_forest, absent_nodes, absent_unclean, forget_can, forget_forest, forget_kept, forget_nodes, forget_unclean, unclean_named}
 use Rattle.page_release.proofs.Tying.Kept.{kept_none}

@@ -9,7 +9,7 @@ use Rattle.local_cache.specs.declared.own_state.OwnState.TheVariants.{Zero}
 use Rattle.local_cache.specs.Reading.{forest_of}
 use Rattle.residency.specs.StoreForest.{store_forest}
 use Rattle.residency.specs.World.{world}
-use Rattle.residency.proofs.Nodes.{same, same_then}
+use Rattle.residency.proofs.Worlds.Nodes.{same, same_then}
 use Rattle.page_release.specs.Homes.{IsUnclean}
 use Rattle.page_release.specs.Steps.{zeros_told}
 use Rattle.page_release.proofs.Forgotten.Range.{forgotten_by, in_range, names_end, names_start, range_stays, same_place}

@@ -16,7 +16,7 @@ use Rattle.local_cache.proofs.Changes.SameNodes.{forest_of-copies}
 use Rattle.local_cache.proofs.Whole.Commands.{whole_copied}
 use Rattle.residency.specs.StoreForest.{store_forest}
 use Rattle.residency.specs.World.{world}
-use Rattle.residency.proofs.Nodes.{still_like}
+use Rattle.residency.proofs.Worlds.Nodes.{still_like}
 use Rattle.page_release.specs.Homes.{HasHome, IsClean, named_page}
 use Rattle.page_release.specs.Steps.{forgotten_where, on_segment, segment_pages, zeros_told}
 use Rattle.page_release.proofs.Tying.Kept.{kept_then, unpinned_kept}

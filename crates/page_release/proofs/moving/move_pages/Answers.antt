@@ -14,7 +14,7 @@ use Rattle.local_cache.proofs.Changes.SameNodes.{forest_of-copies}
 use Rattle.local_cache.proofs.Whole.Commands.{whole_copied}
 use Rattle.residency.specs.StoreForest.{store_forest}
 use Rattle.residency.specs.World.{world}
-use Rattle.residency.proofs.Nodes.{still_like}
+use Rattle.residency.proofs.Worlds.Nodes.{still_like}
 use Rattle.page_release.specs.Homes.{is_named}
 use Rattle.page_release.specs.Steps.{forgotten_where, zeros_told}
 use Rattle.page_release.proofs.Forgotten.Law.{move_forgotten}

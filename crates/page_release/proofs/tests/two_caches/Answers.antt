@@ -15,9 +15,9 @@ use Rattle.local_cache.specs.Own.{own_states}
 use Rattle.local_cache.specs.Reading.{forest_of}
 use Rattle.residency.specs.World.{HasNoNodes, IsStoreRight, world}
 use Rattle.residency.specs.declared.store.Store.{Store}
-use Rattle.residency.proofs.After.{slots_right}
-use Rattle.residency.proofs.Made.{made_right}
-use Rattle.residency.proofs.New.{no_states}
+use Rattle.residency.proofs.Worlds.After.{slots_right}
+use Rattle.residency.proofs.NewCaches.Made.{made_right}
+use Rattle.residency.proofs.NewCaches.New.{no_states}
 use Rattle.local_cache.proofs.NewCache.Whole.{none_len, none_whole, pages_with, whole_begun}
 use Rattle.local_cache.proofs.Nodes.Count.{states_most}
 use Rattle.vm_ids.proofs.Forest.Lengths.{put_len}

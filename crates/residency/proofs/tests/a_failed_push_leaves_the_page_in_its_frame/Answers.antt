@@ -1,7 +1,7 @@
 use Rattle.std.proofs.Common.{rules, ◌<◌, length, subst, sym, arith}
 use Rattle.std.proofs.lemmas.List.Elements.{All-get_or}
 use Rattle.vm_ids.specs.declared.numbers.NodeId.{NodeId}
-use Rattle.residency.proofs.Claimed.{evictable}
+use Rattle.residency.proofs.Moves.Claimed.{evictable}
 use Rattle.residency.specs.World.{HasOwnPage}
 use Rattle.residency.proofs.tests.a_failed_push_leaves_the_page_in_its_frame.Goals as goal
 

@@ -2,10 +2,10 @@ use Rattle.std.proofs.Common.{rules, ◌<◌, ◌∙◌, length, subst, sym, ari
 use Rattle.std.proofs.lemmas.List.Elements.{All-get_or}
 use Rattle.vm_ids.specs.declared.numbers.NodeId.{NodeId}
 use Rattle.local_cache.specs.Arena.{HasNode}
-use Rattle.residency.proofs.Claimed.{evictable}
+use Rattle.residency.proofs.Moves.Claimed.{evictable}
 use Rattle.residency.specs.World.{HasOwnPage}
-use Rattle.residency.proofs.After.{held_stays}
-use Rattle.residency.proofs.Homes.{slot_is_held}
+use Rattle.residency.proofs.Worlds.After.{held_stays}
+use Rattle.residency.proofs.Worlds.Homes.{slot_is_held}
 use Rattle.residency.proofs.tests.a_slot_comes_back.Goals as goal
 
 pub own_state-requires : goal.own_state-requires

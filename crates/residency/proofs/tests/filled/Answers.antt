@@ -5,9 +5,9 @@ use Rattle.local_cache.specs.Arena.{Arena, find}
 use Rattle.local_cache.specs.Own.{own_states}
 use Rattle.residency.specs.World.{HasNoNodes, IsStoreRight, world}
 use Rattle.residency.specs.declared.store.Store.{Store}
-use Rattle.residency.proofs.After.{slots_right}
-use Rattle.residency.proofs.Made.{home_alike, made_right}
-use Rattle.residency.proofs.New.{homeless, no_states}
+use Rattle.residency.proofs.Worlds.After.{slots_right}
+use Rattle.residency.proofs.NewCaches.Made.{home_alike, made_right}
+use Rattle.residency.proofs.NewCaches.New.{homeless, no_states}
 use Rattle.residency.proofs.tests.filled.Goals as goal
 
 pub returns-clause-right : goal.returns-clause-right

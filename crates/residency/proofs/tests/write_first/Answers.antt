@@ -1,7 +1,7 @@
 use Rattle.std.proofs.Common.{◌∙◌}
 use Rattle.residency.specs.World.{World, world}
-use Rattle.residency.proofs.After.{homeless_dirty, own_page_stays, written_right}
-use Rattle.residency.proofs.Nodes.{same_home}
+use Rattle.residency.proofs.Worlds.After.{homeless_dirty, own_page_stays, written_right}
+use Rattle.residency.proofs.Worlds.Nodes.{same_home}
 use Rattle.residency.proofs.tests.write_first.Goals as goal
 
 pub returns-clause-homeless : goal.returns-clause-homeless

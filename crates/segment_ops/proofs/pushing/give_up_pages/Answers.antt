@@ -6,10 +6,10 @@ use Rattle.local_cache.specs.Arena.{node_at}
 use Rattle.local_cache.specs.Own.{is_resident, own_of}
 use Rattle.local_cache.proofs.Tables.Sizes.{sizes_same}
 use Rattle.residency.specs.World.{World, world}
-use Rattle.residency.proofs.Composed.{still_then}
-use Rattle.residency.proofs.StillForest.{still_caches_sound, still_like}
-use Rattle.fault_path.proofs.Answered.{later_then}
-use Rattle.fault_path.proofs.Kept.{still_shaped}
+use Rattle.residency.proofs.Worlds.Composed.{still_then}
+use Rattle.residency.proofs.Forests.StillForest.{still_caches_sound, still_like}
+use Rattle.fault_path.proofs.Calls.Answered.{later_then}
+use Rattle.fault_path.proofs.Calls.Kept.{still_shaped}
 use Rattle.segment_ops.proofs.GivenUp.{loose_stays, made_then}
 use Rattle.segment_ops.proofs.Granting.{range_home}
 use Rattle.segment_ops.proofs.PushedPage.{others_clean}

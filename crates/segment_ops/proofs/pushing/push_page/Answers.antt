@@ -5,8 +5,8 @@ use Rattle.local_cache.specs.declared.own_state.OwnState.TheVariants.{Resident}
 use Rattle.local_cache.specs.Arena.{Arena, with_own}
 use Rattle.local_cache.specs.Own.{is_absent, own_of}
 use Rattle.residency.specs.World.{Still, World, world}
-use Rattle.residency.proofs.Arms.{on_err}
-use Rattle.residency.proofs.Outside.{put_at}
+use Rattle.residency.proofs.Worlds.Arms.{on_err}
+use Rattle.residency.proofs.Pushes.Outside.{put_at}
 use Rattle.fault_path.specs.Faults.{IsOwner}
 use Rattle.segment_ops.specs.Pushing.{TellsValues}
 use Rattle.segment_ops.specs.Synced.{CleanStays, IsSynced}

@@ -4,10 +4,10 @@ use Rattle.local_cache.specs.Arena.{node_at}
 use Rattle.local_cache.specs.Own.{own_of}
 use Rattle.local_cache.proofs.Tables.Sizes.{sizes_same}
 use Rattle.residency.specs.World.{World, world}
-use Rattle.residency.proofs.Composed.{still, still_then}
-use Rattle.residency.proofs.StillForest.{still_caches_sound, still_like}
-use Rattle.fault_path.proofs.Answered.{later_then}
-use Rattle.fault_path.proofs.Kept.{still_shaped}
+use Rattle.residency.proofs.Worlds.Composed.{still, still_then}
+use Rattle.residency.proofs.Forests.StillForest.{still_caches_sound, still_like}
+use Rattle.fault_path.proofs.Calls.Answered.{later_then}
+use Rattle.fault_path.proofs.Calls.Kept.{still_shaped}
 use Rattle.segment_ops.proofs.Granting.{range_home}
 use Rattle.segment_ops.proofs.PushedPage.{failed_then, still_reads}
 use Rattle.segment_ops.proofs.SyncedPages.{costs_most, costs_then, none_made, same_node, synced_kept, synced_then}

@@ -1,9 +1,9 @@
 use Rattle.std.proofs.Common.{ap, ◌∙◌}
 use Rattle.vm_ids.specs.Held.{segments_of}
 use Rattle.residency.specs.World.{World, world}
-use Rattle.residency.proofs.Composed.{still_then}
-use Rattle.residency.proofs.StillForest.{still_forest}
-use Rattle.fault_path.proofs.Answered.{later_then}
+use Rattle.residency.proofs.Worlds.Composed.{still_then}
+use Rattle.residency.proofs.Forests.StillForest.{still_forest}
+use Rattle.fault_path.proofs.Calls.Answered.{later_then}
 use Rattle.segment_ops.proofs.GivenUp.{still_stays}
 use Rattle.segment_ops.proofs.PushedPage.{still_reads}
 use Rattle.segment_ops.proofs.Values.{values_none, values_then}

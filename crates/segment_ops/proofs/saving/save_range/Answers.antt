@@ -9,8 +9,8 @@ use Rattle.local_cache.specs.Reading.{forest_of, name_of}
 use Rattle.local_cache.specs.Sound.{IsSound}
 use Rattle.residency.specs.StoreForest.{store_forest}
 use Rattle.residency.specs.World.{World, world}
-use Rattle.residency.proofs.Composed.{still}
-use Rattle.fault_path.proofs.Kept.{still_kept, store_heir, store_shaped}
+use Rattle.residency.proofs.Worlds.Composed.{still}
+use Rattle.fault_path.proofs.Calls.Kept.{still_kept, store_heir, store_shaped}
 use Rattle.segment_ops.proofs.Unsaved.{all_done, failed_here, copies_then, few_done, measured, node_named, no_saves, nodes_by, not_idle, one_more, range_fits, range_node, still_in_range, saved_on, saved_then, unsaved_by, unsaved_owns}
 use Rattle.segment_ops.proofs.Values.{values_none}
 use Rattle.segment_ops.proofs.Wholly.{saves_read, stays_then}

@@ -5,7 +5,7 @@ use Rattle.local_cache.specs.Own.{own_of}
 use Rattle.local_cache.proofs.Tables.Sizes.{sizes_same}
 use Rattle.local_cache.proofs.Whole.Like.{like_whole}
 use Rattle.residency.specs.World.{World, is_clean, world}
-use Rattle.residency.proofs.After.{written_right}
+use Rattle.residency.proofs.Worlds.After.{written_right}
 use Rattle.segment_ops.proofs.Unsaved.{range_node, sized_range, still_in_range}
 use Rattle.segment_ops.proofs.tests.a_flush_pushes_what_was_stored_and_frees_the_frame.Goals as goal
 

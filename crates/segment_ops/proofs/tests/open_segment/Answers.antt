@@ -13,9 +13,9 @@ use Rattle.local_cache.proofs.NewCache.Pages.{made_segment}
 use Rattle.local_cache.proofs.NewCache.Whole.{none_len, none_whole, whole_begun}
 use Rattle.residency.specs.World.{HasNoNodes, IsStoreRight, world}
 use Rattle.residency.specs.declared.store.Store.{Store}
-use Rattle.residency.proofs.After.{slots_right}
-use Rattle.residency.proofs.MadeNamed.{opened_right}
-use Rattle.residency.proofs.New.{no_states}
+use Rattle.residency.proofs.Worlds.After.{slots_right}
+use Rattle.residency.proofs.NewCaches.MadeNamed.{opened_right}
+use Rattle.residency.proofs.NewCaches.New.{no_states}
 use Rattle.segment_ops.proofs.Tried.{first_size, no_segment, two_pages}
 use Rattle.segment_ops.proofs.tests.open_segment.Goals as goal
 

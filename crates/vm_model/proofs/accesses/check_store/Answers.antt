@@ -4,8 +4,8 @@ use Rattle.vm_ids.specs.declared.command.Command.TheVariants as commands
 use Rattle.vm_model.specs.Answering.{reply, write_at}
 use Rattle.vm_ids.specs.declared.reply.Reply.TheVariants.{Done}
 use Rattle.vm_model.specs.Seen.{machine_seen, place_seen}
-use Rattle.vm_model.proofs.Awaiting.{awaits, store_unless}
-use Rattle.vm_model.proofs.Taking.{pages_live}
+use Rattle.vm_model.proofs.Machines.Awaiting.{awaits, store_unless}
+use Rattle.vm_model.proofs.Machines.Taking.{pages_live}
 use Rattle.vm_model.proofs.accesses.check_store.Goals as goal
 
 pub prove-unreachable-requires : goal.prove-unreachable-requires

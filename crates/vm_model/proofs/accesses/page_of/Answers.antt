@@ -2,7 +2,7 @@ use Rattle.std.proofs.Common.{◌≡◌, List, map, length, Option, ap, ◌∙�
 use Rattle.std.specs.Prelude.{option_and_then, slice_get}
 use Rattle.vm_model.specs.Machine.{numbered}
 use Rattle.vm_model.specs.declared.tables.Cache.{Cache}
-use Rattle.vm_model.proofs.Sound.{page_there}
+use Rattle.vm_model.proofs.Machines.Sound.{page_there}
 use Rattle.vm_model.proofs.accesses.page_of.Goals as goal
 
 pub returns-clause-length : goal.returns-clause-length

@@ -3,7 +3,7 @@ use Rattle.vm_ids.specs.declared.reply.Reply.TheVariants.{Done}
 use Rattle.vm_ids.specs.declared.refusal.Refusal.TheVariants.{WriteDenied}
 use Rattle.vm_model.specs.Answering.{reply, unless, write_at}
 use Rattle.vm_model.specs.Seen.{machine_seen, place_seen}
-use Rattle.vm_model.proofs.Awaiting.{store_unless, unless_false}
+use Rattle.vm_model.proofs.Machines.Awaiting.{store_unless, unless_false}
 use Rattle.vm_model.proofs.accesses.store.Goals as goal
 
 pub returns-in-Ok-clause-outcome : goal.returns-in-Ok-clause-outcome

@@ -2,7 +2,7 @@ use Rattle.std.proofs.Common.{◌≡◌, ◌-◌, ◌<◌, Some, ap, sym, ◌∙
 use Rattle.vm_model.specs.Machine.{numbered}
 use Rattle.vm_model.specs.declared.tables.Cache.{Cache}
 use Rattle.vm_model.specs.Seen.{HasPages, region_seen}
-use Rattle.vm_model.proofs.Sound.{sound-put, seen-put, whole-written, length-written, seen-written, found_is, numbered-all}
+use Rattle.vm_model.proofs.Machines.Sound.{sound-put, seen-put, whole-written, length-written, seen-written, found_is, numbered-all}
 use Rattle.vm_model.proofs.accesses.write_place.Goals as goal
 
 pub returns-clause-sound : goal.returns-clause-sound

@@ -3,8 +3,8 @@ use Rattle.std.proofs.lemmas.Option.{slice_get_within}
 use Rattle.std.specs.Vec.{with_item}
 use Rattle.vm_model.specs.Machine.{numbered}
 use Rattle.vm_model.specs.declared.tables.Actor.{Actor}
-use Rattle.vm_model.proofs.Lists.{at_number, read_there}
-use Rattle.vm_model.proofs.Taking.{exit_row, some_living, sound_ended}
+use Rattle.vm_model.proofs.Parts.Lists.{at_number, read_there}
+use Rattle.vm_model.proofs.Machines.Taking.{exit_row, some_living, sound_ended}
 use Rattle.vm_model.proofs.actors.exit_actor.Goals as goal
 
 pub overflow_sub-tables : goal.overflow_sub-tables

@@ -3,7 +3,7 @@ use Rattle.std.proofs.lemmas.List.{length-map}
 use Rattle.std.proofs.lemmas.List.Elements.{All-push}
 use Rattle.vm_model.specs.declared.tables.Cache.{Cache}
 use Rattle.vm_model.specs.Seen.{HasPages}
-use Rattle.vm_model.proofs.Sound.{placed-push, live-push}
+use Rattle.vm_model.proofs.Machines.Sound.{placed-push, live-push}
 use Rattle.vm_model.proofs.caches.add_cache.Goals as goal
 
 pub returns-clause-sound : goal.returns-clause-sound

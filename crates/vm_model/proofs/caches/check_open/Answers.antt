@@ -5,7 +5,7 @@ use Rattle.vm_model.specs.Allowed.{CanOpen}
 use Rattle.vm_model.specs.Machine.{cache_named}
 use Rattle.vm_model.specs.Seen.{cache_seen, machine_seen}
 use Rattle.vm_model.specs.declared.tables.Cache.{Cache}
-use Rattle.vm_model.proofs.Awaiting.{open_fails}
+use Rattle.vm_model.proofs.Machines.Awaiting.{open_fails}
 use Rattle.vm_model.proofs.caches.check_open.Goals as goal
 
 pub returns-clause-fault : goal.returns-clause-fault

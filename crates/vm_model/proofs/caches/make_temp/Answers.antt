@@ -1,5 +1,5 @@
 use Rattle.std.proofs.Common.{None}
-use Rattle.vm_model.proofs.Sound.{zeros_whole}
+use Rattle.vm_model.proofs.Machines.Sound.{zeros_whole}
 use Rattle.vm_model.proofs.caches.make_temp.Goals as goal
 
 pub add_cache-requires-clause-whole : goal.add_cache-requires-clause-whole

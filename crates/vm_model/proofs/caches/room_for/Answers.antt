@@ -1,5 +1,5 @@
 use Rattle.std.proofs.Common.{None}
-use Rattle.vm_model.proofs.Sound.{zeros_whole}
+use Rattle.vm_model.proofs.Machines.Sound.{zeros_whole}
 use Rattle.vm_model.proofs.caches.room_for.Goals as goal
 
 pub returns-in-Ok-clause-whole : goal.returns-in-Ok-clause-whole

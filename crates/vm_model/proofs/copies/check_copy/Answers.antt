@@ -3,8 +3,8 @@ use Rattle.vm_ids.specs.declared.command.Command.TheVariants as commands
 use Rattle.vm_ids.specs.declared.reply.Reply.TheVariants.{Done}
 use Rattle.vm_model.specs.Answering.{put_span, reply}
 use Rattle.vm_model.specs.Seen.{cache_seen, machine_seen}
-use Rattle.vm_model.proofs.Awaiting.{awaits, copy_overlaps, copy_unless, seen_there}
-use Rattle.vm_model.proofs.Sound.{unlocked}
+use Rattle.vm_model.proofs.Machines.Awaiting.{awaits, copy_overlaps, copy_unless, seen_there}
+use Rattle.vm_model.proofs.Machines.Sound.{unlocked}
 use Rattle.vm_model.proofs.copies.check_copy.Goals as goal
 
 pub returns-then-overlaps-clause-refused : goal.returns-then-overlaps-clause-refused

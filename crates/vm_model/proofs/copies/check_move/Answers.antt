@@ -4,8 +4,8 @@ use Rattle.vm_ids.specs.declared.command.Command.TheVariants as commands
 use Rattle.vm_ids.specs.declared.reply.Reply.TheVariants.{Done}
 use Rattle.vm_model.specs.Answering.{put_span, reply, zero_source}
 use Rattle.vm_model.specs.Seen.{cache_seen, machine_seen}
-use Rattle.vm_model.proofs.Awaiting.{awaits, is_some-numbers, move_named, move_overlaps, move_unless, none_named, seen_there, segment_there}
-use Rattle.vm_model.proofs.Sound.{unlocked}
+use Rattle.vm_model.proofs.Machines.Awaiting.{awaits, is_some-numbers, move_named, move_overlaps, move_unless, none_named, seen_there, segment_there}
+use Rattle.vm_model.proofs.Machines.Sound.{unlocked}
 use Rattle.vm_model.proofs.copies.check_move.Goals as goal
 
 pub returns-then-is_some-clause-refused : goal.returns-then-is_some-clause-refused

@@ -2,7 +2,7 @@ use Rattle.std.proofs.Common.{◌≡◌, ◌+◌, ◌≤◌, List, Option, Some,
 use Rattle.std.proofs.lemmas.Bool.Decides.{nat_tests}
 use Rattle.vm_model.specs.Machine.{numbered}
 use Rattle.vm_model.specs.declared.tables.Cache.{Cache}
-use Rattle.vm_model.proofs.Taking.{pages_live, within}
+use Rattle.vm_model.proofs.Machines.Taking.{pages_live, within}
 use Rattle.vm_model.proofs.copies.check_span.Goals as goal
 
 pub returns-clause-spanned : goal.returns-clause-spanned

@@ -5,8 +5,8 @@ use Rattle.vm_ids.specs.declared.reply.Reply.TheVariants.{Done}
 use Rattle.vm_model.specs.Answering.{put_span, reply, unless}
 use Rattle.vm_model.specs.Seen.{cache_seen, machine_seen, pages_seen}
 use Rattle.vm_model.specs.declared.tables.Cache.{Cache}
-use Rattle.vm_model.proofs.Awaiting.{copy_unless, seen_there, unless_false}
-use Rattle.vm_model.proofs.Sound.{seen_copied, unlocked}
+use Rattle.vm_model.proofs.Machines.Awaiting.{copy_unless, seen_there, unless_false}
+use Rattle.vm_model.proofs.Machines.Sound.{seen_copied, unlocked}
 use Rattle.vm_model.proofs.copies.copy_pages.Goals as goal
 
 pub returns-clause-outcome : goal.returns-clause-outcome

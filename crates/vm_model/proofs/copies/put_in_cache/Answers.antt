@@ -6,8 +6,8 @@ use Rattle.vm_model.specs.Machine.{numbered}
 use Rattle.vm_model.specs.Answering.{put_pages}
 use Rattle.vm_model.specs.declared.tables.Cache.{Cache}
 use Rattle.vm_model.specs.Seen.{HasPages, cache_seen, machine_seen, pages_seen}
-use Rattle.vm_model.proofs.Lists.{length-overwrite, some_and}
-use Rattle.vm_model.proofs.Sound.{sound-put, seen-put, whole-put, found_is, numbered-all}
+use Rattle.vm_model.proofs.Parts.Lists.{length-overwrite, some_and}
+use Rattle.vm_model.proofs.Machines.Sound.{sound-put, seen-put, whole-put, found_is, numbered-all}
 use Rattle.vm_model.proofs.copies.put_in_cache.Goals as goal
 
 pub returns-clause-sound : goal.returns-clause-sound

@@ -2,7 +2,7 @@ use Rattle.std.proofs.Common.{◌≡◌, ℕ, ◌+◌, ◌≤◌, ◌<◌, ◌++
 use Rattle.std.proofs.lemmas.List.{map-set, map_push, length-map, length-set, length-append}
 use Rattle.vm_model.specs.Answering.{overwrite}
 use Rattle.vm_model.specs.Seen.{pages_seen}
-use Rattle.vm_model.proofs.Lists.{overwrite-set}
+use Rattle.vm_model.proofs.Parts.Lists.{overwrite-set}
 use Rattle.vm_model.proofs.copies.put_pages.Goals as goal
 
 pub loop-page-preserved : goal.loop-page-preserved

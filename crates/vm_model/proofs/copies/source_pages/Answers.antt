@@ -3,8 +3,8 @@ use Rattle.std.specs.Option.{option_map_or}
 use Rattle.vm_model.specs.Machine.{numbered}
 use Rattle.vm_model.specs.Seen.{HasPages, pages_seen}
 use Rattle.vm_model.specs.declared.tables.Cache.{Cache}
-use Rattle.vm_model.proofs.Lists.{weaker_ok}
-use Rattle.vm_model.proofs.Sound.{numbered-all, part_seen, whole_part}
+use Rattle.vm_model.proofs.Parts.Lists.{weaker_ok}
+use Rattle.vm_model.proofs.Machines.Sound.{numbered-all, part_seen, whole_part}
 use Rattle.vm_model.proofs.copies.source_pages.Goals as goal
 
 pub returns-clause-pages : goal.returns-clause-pages

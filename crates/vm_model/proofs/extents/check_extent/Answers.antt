@@ -4,9 +4,9 @@ use Rattle.std.specs.Prelude.{option_map}
 use Rattle.vm_model.specs.Machine.{numbered}
 use Rattle.vm_model.specs.Seen.{cache_seen, machine_seen}
 use Rattle.vm_model.specs.declared.tables.Cache.{Cache}
-use Rattle.vm_model.proofs.Awaiting.{flush_row, invalidate_awaits, seen_there, segment_there}
-use Rattle.vm_model.proofs.Sound.{unlocked}
-use Rattle.vm_model.proofs.Taking.{counted, pages_live, within}
+use Rattle.vm_model.proofs.Machines.Awaiting.{flush_row, invalidate_awaits, seen_there, segment_there}
+use Rattle.vm_model.proofs.Machines.Sound.{unlocked}
+use Rattle.vm_model.proofs.Machines.Taking.{counted, pages_live, within}
 use Rattle.vm_model.proofs.extents.check_extent.Goals as goal
 
 pub returns-clause-flush : goal.returns-clause-flush

@@ -3,9 +3,9 @@ use Rattle.std.proofs.lemmas.List.{length-map}
 use Rattle.vm_ids.specs.declared.reply.Reply.TheVariants.{Done}
 use Rattle.vm_model.specs.Answering.{held_for, put_cache, put_pages, reply}
 use Rattle.vm_model.specs.Seen.{cache_seen, machine_seen}
-use Rattle.vm_model.proofs.Awaiting.{inside_end, invalidate_unless, named_there, seen_there}
-use Rattle.vm_model.proofs.Sound.{seen_copied, unlocked}
-use Rattle.vm_model.proofs.Taking.{counted}
+use Rattle.vm_model.proofs.Machines.Awaiting.{inside_end, invalidate_unless, named_there, seen_there}
+use Rattle.vm_model.proofs.Machines.Sound.{seen_copied, unlocked}
+use Rattle.vm_model.proofs.Machines.Taking.{counted}
 use Rattle.vm_model.proofs.extents.invalidate.Goals as goal
 
 pub returns-clause-outcome : goal.returns-clause-outcome

@@ -1,5 +1,5 @@
 use Rattle.std.proofs.Common.{◌∷◌, []}
-use Rattle.vm_model.proofs.Lists.{err_weaker, ok_weaker}
+use Rattle.vm_model.proofs.Parts.Lists.{err_weaker, ok_weaker}
 use Rattle.vm_model.proofs.Locating.{kept, kept_placed, place_within, replaced}
 use Rattle.vm_model.proofs.located.divide.Goals as goal
 

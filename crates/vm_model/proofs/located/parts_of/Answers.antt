@@ -1,6 +1,6 @@
 use Rattle.std.proofs.Common.{◌≡◌, ℕ, ◌+◌, ◌-◌, ◌*◌, ◌≤◌, length, sym, ap, ◌∙◌, arith}
 use Rattle.std.proofs.Math.Nat.{mul-add}
-use Rattle.vm_model.proofs.Taking.{pages_live}
+use Rattle.vm_model.proofs.Machines.Taking.{pages_live}
 use Rattle.vm_model.proofs.located.parts_of.Goals as goal
 
 -- the bytes of the first pages and those of the others are those of all

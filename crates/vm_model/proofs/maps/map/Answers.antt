@@ -12,7 +12,7 @@ use Rattle.vm_model.specs.declared.tables.Actor.{Actor}
 use Rattle.vm_model.specs.declared.tables.Cache.{Cache}
 use Rattle.vm_model.specs.declared.tables.Region.{Region}
 use Rattle.vm_model.specs.Seen.{actor_seen, cache_seen, region_seen}
-use Rattle.vm_model.proofs.Sound.{map_row, seen_added}
+use Rattle.vm_model.proofs.Machines.Sound.{map_row, seen_added}
 use Rattle.vm_model.proofs.maps.map.Goals as goal
 
 same_zero : (n : ℕ) → n ≡ 0 → (n == 0) ≡ true

@@ -8,8 +8,8 @@ use Rattle.vm_model.specs.Machine.{numbered}
 use Rattle.vm_model.specs.Answering.{insert_region}
 use Rattle.vm_model.specs.declared.tables.Actor.{Actor}
 use Rattle.vm_model.specs.Seen.{ArePlaced, actor_seen, region_seen}
-use Rattle.vm_model.proofs.Lists.{err_weaker, found_is, is_there, at_number, ok_weaker}
-use Rattle.vm_model.proofs.Sound.{numbered-all, placed-added, placed-set}
+use Rattle.vm_model.proofs.Parts.Lists.{err_weaker, found_is, is_there, at_number, ok_weaker}
+use Rattle.vm_model.proofs.Machines.Sound.{numbered-all, placed-added, placed-set}
 use Rattle.vm_model.proofs.maps.place_region.Goals as goal
 
 pub returns-clause-seen : goal.returns-clause-seen

@@ -2,7 +2,7 @@ use Rattle.std.proofs.Common.{◌+◌, length, map, ap, sym, ◌∙◌}
 use Rattle.std.specs.Prelude.{option_map, Ok}
 use Rattle.std.proofs.lemmas.List.{length-map, length-set}
 use Rattle.vm_model.specs.Seen.{actor_seen}
-use Rattle.vm_model.proofs.Sound.{living-added, sound-actors}
+use Rattle.vm_model.proofs.Machines.Sound.{living-added, sound-actors}
 use Rattle.vm_model.proofs.maps.put_region.Goals as goal
 
 pub returns-clause-sound : goal.returns-clause-sound

@@ -4,8 +4,8 @@ use Rattle.std.proofs.lemmas.Bool.Decides.{nat_tests}
 use Rattle.vm_model.specs.Machine.{numbered, pages_in}
 use Rattle.vm_model.specs.Seen.{cache_seen}
 use Rattle.vm_model.specs.declared.tables.Cache.{Cache}
-use Rattle.vm_model.proofs.Lists.{numbered-map}
-use Rattle.vm_model.proofs.Taking.{counted, pages_live}
+use Rattle.vm_model.proofs.Parts.Lists.{numbered-map}
+use Rattle.vm_model.proofs.Machines.Taking.{counted, pages_live}
 use Rattle.vm_model.proofs.place.page_count.Goals as goal
 
 pub prove-unreachable-requires : goal.prove-unreachable-requires

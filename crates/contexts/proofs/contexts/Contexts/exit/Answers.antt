@@ -2,7 +2,7 @@ use Rattle.std.proofs.Common.{◌≡◌, ◌-◌, List, Option, None, length, se
 use Rattle.std.specs.Prelude.{IsSome, option_map}
 use Rattle.std.proofs.lemmas.List.{map-set}
 use Rattle.vm_model.specs.Machine.{Actor, numbered}
-use Rattle.vm_model.proofs.Lists.{is_there, numbered_place}
+use Rattle.vm_model.proofs.Parts.Lists.{is_there, numbered_place}
 use Rattle.regions.specs.AddressSpace.{AddressSpace}
 use Rattle.contexts.specs.Actors.{Actors}
 use Rattle.contexts.specs.Layout.{IsKept, regions_in}

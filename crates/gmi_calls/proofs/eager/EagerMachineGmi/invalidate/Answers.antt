@@ -8,7 +8,7 @@ use Rattle.vm_ids.specs.declared.command.Command.TheVariants as commands
 use Rattle.vm_ids.specs.declared.reply.FaultAt.TheVariants as faults
 use Rattle.vm_ids.specs.declared.reply.Reply.TheVariants.{Done}
 use Rattle.vm_ids.specs.declared.reply.Trouble.TheVariants as troubles
-use Rattle.vm_model.proofs.Naming.{segment_names}
+use Rattle.vm_model.proofs.Parts.Naming.{segment_names}
 use Rattle.gmi_calls.specs.Backing.{IsReady}
 use Rattle.gmi_calls.specs.Reaching.{ArePagesOf}
 use Rattle.gmi_calls.proofs.Accessing.{asked_pages}

@@ -5,7 +5,7 @@ use Rattle.vm_ids.specs.Forest.Commands.{extent_names}
 use Rattle.vm_ids.specs.Forest.Saving.{saved}
 use Rattle.local_cache.specs.Arena.{Table}
 use Rattle.local_cache.proofs.Tables.Sizes.{sizes_same}
-use Rattle.residency.proofs.WrittenForest.{store_copies}
+use Rattle.residency.proofs.Forests.WrittenForest.{store_copies}
 use Rattle.segment_ops.specs.Ranges.{HasRange}
 use Rattle.vm_model.specs.Machine.{Machine}
 use Rattle.vm_model.specs.Pushing.{PushRule}

@@ -1,7 +1,7 @@
 use Rattle.std.proofs.Common.{◌≡◌, ℕ, Bool, true, List, length, ap, subst, arith}
 use Rattle.std.specs.Prelude.{Some, slice_get}
 use Rattle.frame_pool.proofs.Evictable.{length-evictable_frames}
-use Rattle.residency.proofs.Picked.{contains_evictable, picked_may, picked_within}
+use Rattle.residency.proofs.Moves.Picked.{contains_evictable, picked_may, picked_within}
 use Rattle.residency.proofs.marks.Marks.pick.Goals as goal
 
 pub pick-frame-requires-clause-lengths : goal.pick-frame-requires-clause-lengths

@@ -3,10 +3,10 @@ use Rattle.vm_ids.specs.Counting.{RoseBy}
 use Rattle.local_cache.specs.Own.{own_of}
 use Rattle.residency.specs.Evicting.{HasLeft, IsEvicted, IsInSlot}
 use Rattle.residency.specs.World.{World, is_clean, world}
-use Rattle.residency.proofs.Arms.{on_ok_then}
-use Rattle.residency.proofs.Evicted.{evicts_dirty, evicts_others, evicts_still}
-use Rattle.residency.proofs.Homes.{home_of_held, unchanged}
-use Rattle.residency.proofs.Told.{evicts_told}
+use Rattle.residency.proofs.Worlds.Arms.{on_ok_then}
+use Rattle.residency.proofs.Moves.Evicted.{evicts_dirty, evicts_others, evicts_still}
+use Rattle.residency.proofs.Worlds.Homes.{home_of_held, unchanged}
+use Rattle.residency.proofs.Pushes.Told.{evicts_told}
 use Rattle.residency.proofs.store.Store.evict.Goals as goal
 
 pub home-requires : goal.home-requires

@@ -1,9 +1,9 @@
 use Rattle.std.proofs.Common.{ap, ◌∙◌, List, Bool, false, slice_set}
 use Rattle.vm_ids.proofs.Places.{back}
 use Rattle.residency.specs.World.{OthersStay, World, world}
-use Rattle.residency.proofs.Arms.{on_err_then}
-use Rattle.residency.proofs.Claimed.{taken_then}
-use Rattle.residency.proofs.Composed.{others_then, others_then_but}
+use Rattle.residency.proofs.Worlds.Arms.{on_err_then}
+use Rattle.residency.proofs.Moves.Claimed.{taken_then}
+use Rattle.residency.proofs.Worlds.Composed.{others_then, others_then_but}
 use Rattle.residency.proofs.store.Store.fetch.Goals as goal
 
 pub returns-in-Ok-clause-pinned : goal.returns-in-Ok-clause-pinned

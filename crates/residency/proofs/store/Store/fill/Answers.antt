@@ -11,8 +11,8 @@ use Rattle.residency.specs.declared.miss.Miss.{Miss}
 use Rattle.residency.specs.Causes.{dirtied, dirty_count}
 use Rattle.residency.specs.World.{OthersStayBut, StillBut, World, brought_in, world}
 use Rattle.residency.specs.declared.store.Store.{Store}
-use Rattle.residency.proofs.Homes.{world_is}
-use Rattle.residency.proofs.Brought.{brought, brought_dirty, brought_others, zero_brought, zero_left, zeros_there}
+use Rattle.residency.proofs.Worlds.Homes.{world_is}
+use Rattle.residency.proofs.Moves.Brought.{brought, brought_dirty, brought_others, zero_brought, zero_left, zeros_there}
 use Rattle.residency.proofs.store.Store.fill.Goals as goal
 
 pub returns-in_default-clause-still : goal.returns-in_default-clause-still

@@ -1,8 +1,8 @@
 use Rattle.std.proofs.Common.{arith, ◌≡◌, ◌+◌, ap}
 use Rattle.frame_pool.specs.Pool.{Frames, held_count}
 use Rattle.residency.specs.Causes.{pushes_for}
-use Rattle.residency.proofs.Arms.{on_ok}
-use Rattle.residency.proofs.Claimed.{pushes_when_full}
+use Rattle.residency.proofs.Worlds.Arms.{on_ok}
+use Rattle.residency.proofs.Moves.Claimed.{pushes_when_full}
 use Rattle.residency.proofs.store.Store.make_free.Goals as goal
 
 pub returns-in-None-clause-few : goal.returns-in-None-clause-few

@@ -1,5 +1,5 @@
 use Rattle.std.proofs.Common.{◌≡◌, ◌<◌, length, false, get_or}
-use Rattle.residency.proofs.Claimed.{may_evict, took, freed}
+use Rattle.residency.proofs.Moves.Claimed.{may_evict, took, freed}
 use Rattle.residency.proofs.store.Store.make_room.Goals as goal
 
 pub pick-victim-requires-clause-some : goal.pick-victim-requires-clause-some

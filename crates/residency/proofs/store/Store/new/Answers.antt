@@ -1,8 +1,8 @@
 use Rattle.std.proofs.Common.{ap, List, Bool, sym, subst, refl, length, false, ◌∙◌}
 use Rattle.std.proofs.lemmas.List.{length-replicate}
 use Rattle.residency.specs.World.{IsStoreRight}
-use Rattle.residency.proofs.Homes.{world_is}
-use Rattle.residency.proofs.New.{new_right}
+use Rattle.residency.proofs.Worlds.Homes.{world_is}
+use Rattle.residency.proofs.NewCaches.New.{new_right}
 use Rattle.residency.proofs.store.Store.new.Goals as goal
 
 pub returns-clause-right : goal.returns-clause-right

@@ -5,14 +5,14 @@ use Rattle.vm_ids.proofs.Places.{bit-le}
 use Rattle.global_map.specs.Pairs.{node_of}
 use Rattle.local_cache.specs.Own.{own_of}
 use Rattle.residency.specs.Causes.{is_dirty}
-use Rattle.residency.proofs.Told.{tells_marks, tells_then}
+use Rattle.residency.proofs.Pushes.Told.{tells_marks, tells_then}
 use Rattle.frame_pool.specs.Pool.{held_count, pinned_count}
 use Rattle.residency.specs.World.{World, world}
 use Rattle.residency.specs.declared.store.Store.{Store}
-use Rattle.residency.proofs.Arms.{on_err}
-use Rattle.residency.proofs.Counted.{one_fewer, pinned_held, none_left, some_left}
-use Rattle.residency.proofs.Picked.{none_counted, some_counted}
-use Rattle.residency.proofs.Composed.{others_marks, others_then, still_marks, still_then}
+use Rattle.residency.proofs.Worlds.Arms.{on_err}
+use Rattle.residency.proofs.Worlds.Counted.{one_fewer, pinned_held, none_left, some_left}
+use Rattle.residency.proofs.Moves.Picked.{none_counted, some_counted}
+use Rattle.residency.proofs.Worlds.Composed.{others_marks, others_then, still_marks, still_then}
 use Rattle.residency.proofs.store.Store.page_out.Goals as goal
 
 pub returns-then-evictable_count-eq0-clause-fewer : goal.returns-then-evictable_count-eq0-clause-fewer

@@ -12,9 +12,9 @@ use Rattle.residency.specs.declared.miss.Miss.{Miss}
 use Rattle.residency.specs.Causes.{dirtied, dirty_count}
 use Rattle.residency.specs.World.{OthersStay, OthersStayBut, StillBut, World, brought_in, world}
 use Rattle.residency.specs.declared.store.Store.{Store}
-use Rattle.residency.proofs.Homes.{slot_is_held, world_is}
-use Rattle.residency.proofs.Composed.{others_but}
-use Rattle.residency.proofs.Brought.{brought, brought_dirty, brought_others, given_there, given_up, given_up_others, given_up_still, refill_same, slot_brought}
+use Rattle.residency.proofs.Worlds.Homes.{slot_is_held, world_is}
+use Rattle.residency.proofs.Worlds.Composed.{others_but}
+use Rattle.residency.proofs.Moves.Brought.{brought, brought_dirty, brought_others, given_there, given_up, given_up_others, given_up_still, refill_same, slot_brought}
 use Rattle.residency.proofs.store.Store.pull_slot.Goals as goal
 
 pub swap_in-requires-clause-there : goal.swap_in-requires-clause-there

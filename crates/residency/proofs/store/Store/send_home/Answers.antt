@@ -1,5 +1,5 @@
 use Rattle.residency.specs.World.{World, world}
-use Rattle.residency.proofs.Homes.{home_of_held}
+use Rattle.residency.proofs.Worlds.Homes.{home_of_held}
 use Rattle.residency.proofs.store.Store.send_home.Goals as goal
 
 pub own_state-requires : goal.own_state-requires

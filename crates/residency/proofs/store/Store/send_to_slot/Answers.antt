@@ -1,7 +1,7 @@
 use Rattle.std.proofs.Common.{rules}
 use Rattle.vm_ids.proofs.Places.{back}
 use Rattle.residency.specs.World.{World, world}
-use Rattle.residency.proofs.Homes.{home_of_held, room}
+use Rattle.residency.proofs.Worlds.Homes.{home_of_held, room}
 use Rattle.residency.proofs.store.Store.send_to_slot.Goals as goal
 
 pub take-slot-requires : goal.take-slot-requires

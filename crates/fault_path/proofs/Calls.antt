@@ -1,0 +1,4 @@
+-- What a call keeps, answers and costs.
+pub mod Answered
+pub mod Costs
+pub mod Kept

@@ -1,0 +1,5 @@
+-- Frames that are gathered, and become those of nodes.
+pub mod GatheredFrames
+pub mod SettledFrame
+pub mod OneFrame
+pub mod TwoFrames

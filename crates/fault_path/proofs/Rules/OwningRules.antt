@@ -1,0 +1,142 @@
+-- What own and heir_gets ask of the calls that they make.
+use Rattle.std.proofs.Common.{◌≡◌, ◌≢◌, ◌+◌, ◌≤◌, ◌⊎◌, [], Option, Some, None, IsSome, refl, sym, ap, ◌∙◌, subst, inl, inr, arith}
+use Rattle.std.proofs.lemmas.Bool.{false≢true}
+use Rattle.vm_ids.specs.declared.node_name.NodeName.{NodeName}
+use Rattle.vm_ids.specs.declared.numbers.NodeId.{NodeId}
+use Rattle.vm_ids.specs.Forest.NameLists.{◌∈◌}
+use Rattle.vm_ids.specs.Forest.NameMap.{len}
+use Rattle.vm_ids.specs.Forest.Nodes.{Forest, IsNode, node, parent_of}
+use Rattle.vm_ids.specs.Forest.Nodes.Hang.{Root, TreeOf, StubOf}
+use Rattle.vm_ids.specs.Forest.Changes.{count_copy}
+use Rattle.vm_ids.specs.Forest.Reading.{owner_of, value_of}
+use Rattle.vm_ids.specs.Forest.Rules.{gets, hand_stubs, heir, heir_gets, own}
+use Rattle.vm_ids.specs.Forest.Shape.{IsLinked, IsWellShaped}
+use Rattle.vm_ids.specs.Forest.Values.IsValue.{itself}
+use Rattle.vm_ids.proofs.Forest.Columns.{gets-hang, unstub}
+use Rattle.vm_ids.proofs.Forest.Counters.{gets-counters}
+use Rattle.vm_ids.proofs.Forest.Laws.Owning.{with_heir}
+use Rattle.vm_ids.proofs.Forest.Laws.Reading.{owners_own_values}
+use Rattle.vm_ids.proofs.Forest.NamesAfter.{gets-names}
+use Rattle.vm_ids.proofs.Forest.Owning.{apart_of_heir}
+use Rattle.vm_ids.proofs.Forest.Reading.{value-IsValue}
+use Rattle.vm_ids.proofs.Forest.Values.{handed, heir_hangs}
+use Rattle.local_cache.specs.declared.own_state.OwnState.{OwnState}
+use Rattle.local_cache.specs.declared.own_state.OwnState.TheVariants.{Absent, Zero, Resident, Slot, OnSegment}
+use Rattle.local_cache.specs.Arena.{Arena, cell, HasNode}
+use Rattle.local_cache.specs.Changes.{Like}
+use Rattle.local_cache.specs.Reading.{forest_of, name_of, page_of}
+use Rattle.local_cache.specs.Sound.{IsSound}
+use Rattle.local_cache.proofs.Changes.SameNodes.{forest_of-copies, like_then}
+use Rattle.local_cache.proofs.Forest.Reading.{IsNode-forest_of, node-forest_of}
+use Rattle.page_stubs.specs.Under.{IsUnder}
+use Rattle.page_stubs.specs.Under.IsUnder.{itself as the_same, below as lower}
+use Rattle.page_stubs.proofs.Rules.Ranks.{under_ranked}
+use Rattle.fault_path.proofs.Rules.ForestSize.{more_names}
+
+-- the own state of the owner is the page that a node reads
+pub owner_page : (a : Arena) → IsSound a → IsWellShaped (forest_of a) → (n o : NodeId) → HasNode a n → HasNode a o → name_of a o ≡ owner_of (forest_of a) (name_of a n) → (s : OwnState) → s ≡ (cell a o).own → page_of s ≡ value_of (forest_of a) (name_of a n)
+owner_page a sound shaped n o hn ho named s is =
+    ap page_of is ∙ sym (ap (λ m. m.own) (node-forest_of a sound.kept.named o ho)) ∙ ap (λ x. (node (forest_of a) x).own) named ∙ owners_own_values (forest_of a) shaped (name_of a n) (IsNode-forest_of a sound.kept.named n hn)
+
+-- an own page is the page that a node reads
+pub own_page : (a : Arena) → IsSound a → (n : NodeId) → HasNode a n → IsSome (node (forest_of a) (name_of a n)).own → (s : OwnState) → s ≡ (cell a n).own → page_of s ≡ value_of (forest_of a) (name_of a n)
+own_page a sound n hn some s is = ap page_of is ∙ sym (ap (λ m. m.own) (node-forest_of a sound.kept.named n hn)) ∙ go (node (forest_of a) (name_of a n)).own refl some
+  where
+    go : (o : Option OwnState) → (node (forest_of a) (name_of a n)).own ≡ o → IsSome o → (node (forest_of a) (name_of a n)).own ≡ value_of (forest_of a) (name_of a n)
+    go None e some = absurd (false≢true some)
+    go (Some v) e some = e ∙ sym (value-IsValue (forest_of a) sound.linked (itself e))
+
+module _ {P : Type 0} where
+  -- The heir of x, once it has the page, isn't under a stub that is left at x.
+  module _ (f : Forest P) (linked : IsLinked f) (x h : NodeName) (is : heir f x ≡ Some h) (v : Option P) (after : IsLinked (gets f h v)) where
+    hangs : ((node (gets f h v) h).hang ≡ TreeOf x) ⊎ ((node (gets f h v) h).hang ≡ Root)
+    hangs = elim (heir_hangs f linked x h is).1 [ inl t ↦ inl (gets-hang f h v ∙ ap unstub t) | inr s ↦ inr (gets-hang f h v ∙ ap unstub s) ]
+
+    -- a stub that is left at x is above nothing that the heir is under
+    below_stub : (y : NodeName) → (node (gets f h v) y).hang ≡ StubOf x → IsUnder (gets f h v) x y → ⊥
+    below_stub y s u =
+        let high = under_ranked (gets f h v) after.order.0 after.order.1 u in
+        let low = after.order.1 y x (ap parent_of s) in
+        absurd (omega arith)
+
+    same_hang : (y : NodeName) → h ≡ y → (node (gets f h v) h).hang ≡ (node (gets f h v) y).hang
+    same_hang y e = ap (λ z. (node (gets f h v) z).hang) e
+
+    from_heir : (y : NodeName) → (node (gets f h v) y).hang ≡ StubOf x → ((node (gets f h v) h).hang ≡ TreeOf x) ⊎ ((node (gets f h v) h).hang ≡ Root) → IsUnder (gets f h v) h y → ⊥
+    from_heir y s (inl t) the_same = let e : TreeOf x ≡ StubOf x = sym t ∙ s in cc e
+    from_heir y s (inr r) the_same = let e : Root ≡ StubOf x = sym r ∙ s in cc e
+    from_heir y s (inl t) (lower {p = p} up u) = let two : Some p ≡ Some x = sym up ∙ ap parent_of t in let same : p ≡ x = cc two in below_stub y s (subst (λ z. IsUnder (gets f h v) z y) same u)
+    from_heir y s (inr r) (lower {p = p} up u) = let two : Some p ≡ None = sym up ∙ ap parent_of r in absurd (cc two)
+
+    pub heir_clear : (y : NodeName) → y ∈ (node (gets f h v) x).stubs → IsUnder (gets f h v) h y → ⊥
+    heir_clear y i = from_heir y ((after.stub_links y x).0 i) hangs
+
+  -- no node comes or goes where one gets a page
+  pub gets_len : (f : Forest P) → IsLinked f → (x : NodeName) (v : Option P) → IsNode f x → len (gets f x v).nodes ≤ len f.nodes
+  gets_len f linked x v is = let most = more_names f (gets f x v) [] (λ z there. inr (sym (gets-names f linked x v is z) ∙ there)) in omega (arith, most)
+
+  -- heir_gets, where there is an heir, and where there is none
+  pub handed_on : (f : Forest P) (x h : NodeName) → heir f x ≡ Some h → count_copy (hand_stubs (gets f h (value_of f x)) x h) ≡ heir_gets f x
+  unfolding handed
+  handed_on f x h e = sym (with_heir f x h e)
+
+  pub without_heir : (f : Forest P) (x : NodeName) → heir f x ≡ None → f ≡ heir_gets f x
+  unfolding heir_gets
+  without_heir f x e = go (heir f x) e
+    where
+      go : (o : Option NodeName) → o ≡ None → ◌≡◌ {A = Forest P} f (elim o [ None ↦ f | Some h ↦ count_copy (hand_stubs (gets f h (value_of f x)) x h) ])
+      go None e = refl
+      go (Some h) e = absurd (cc e)
+
+-- giving a page counts nothing
+pub copies_given : (a b : Arena) (n : NodeId) (s : OwnState) → forest_of b ≡ gets (forest_of a) (name_of a n) (page_of s) → b.copies ≡ a.copies
+copies_given a b n s forest = sym (forest_of-copies b) ∙ ap (λ (f : Forest OwnState). f.copies) forest ∙ (gets-counters (forest_of a) (name_of a n) (page_of s)).copies ∙ forest_of-copies a
+
+-- a page that is got and counted is owned
+pub owned : {P : Type 0} (f : Forest P) (x : NodeName) (v : Option P) → v ≡ value_of f x → count_copy (gets f x v) ≡ own f x
+unfolding own
+owned f x v is = ap (λ w. count_copy (gets f x w)) is
+
+-- The node h is the heir of n, and got its page.
+module _ (a b : Arena) (sound : IsSound a) (n h : NodeId) (hn : HasNode a n) (hh : HasNode a h) (is : heir (forest_of a) (name_of a n) ≡ Some (name_of a h)) (s : OwnState)
+    (forest : forest_of b ≡ gets (forest_of a) (name_of a h) (page_of s)) (after : IsSound b) (like : Like a b) where
+  pub apart : h ≢ n
+  apart e = apart_of_heir (forest_of a) sound.linked (name_of a n) (name_of a h) is (sym (ap (name_of a) e))
+
+  pub clear : (y : NodeName) → y ∈ (node (forest_of b) (name_of b n)).stubs → IsUnder (forest_of b) (name_of b h) y → ⊥
+  clear y i u =
+      heir_clear (forest_of a) sound.linked (name_of a n) (name_of a h) is (page_of s) (subst IsLinked forest after.linked) y
+      (subst (λ g. y ∈ (node g (name_of a n)).stubs) forest (subst (λ x. y ∈ (node (forest_of b) x).stubs) (like.name n) i))
+      (subst (λ g. IsUnder g (name_of a h) y) forest (subst (λ x. IsUnder (forest_of b) x y) (like.name h) u))
+
+  pub few : len (forest_of b).nodes ≤ len (forest_of a).nodes
+  few = subst (λ g. len g.nodes ≤ len (forest_of a).nodes) (sym forest) (gets_len (forest_of a) sound.linked (name_of a h) (page_of s) (IsNode-forest_of a sound.kept.named h hh))
+
+  -- the other stubs handed over, and the copy counted
+  pub handed_forest : IsSome (node (forest_of a) (name_of a n)).own → s ≡ (cell a n).own → (c : Forest OwnState) → c ≡ hand_stubs (forest_of b) (name_of b n) (name_of b h) → count_copy c ≡ heir_gets (forest_of a) (name_of a n)
+  handed_forest some page c changed =
+      let v : page_of s ≡ value_of (forest_of a) (name_of a n) = own_page a sound n hn some s page in
+      ap (λ g. count_copy g) (changed ∙ ap (λ x. hand_stubs (forest_of b) x (name_of b h)) (like.name n) ∙ ap (hand_stubs (forest_of b) (name_of a n)) (like.name h)
+      ∙ ap (λ g. hand_stubs g (name_of a n) (name_of a h)) forest ∙ ap (λ w. hand_stubs (gets (forest_of a) (name_of a h) w) (name_of a n) (name_of a h)) v)
+      ∙ handed_on (forest_of a) (name_of a n) (name_of a h) is
+
+-- a copy that is counted changes no node
+like_counted : (a : Arena) → Like a (record a { copies = a.copies + 1 })
+unfolding cell
+like_counted a = record { held = λ n. refl; name = λ n. refl; caches = refl }
+
+pub counted_like : (a b c : Arena) → Like a b → c ≡ record b { copies = b.copies + 1 } → Like a c
+counted_like a b c like is = like_then a b c like (subst (Like b) (sym is) (like_counted b))
+
+-- an own page is its own state
+pub page_told : (s : OwnState) → IsSome (page_of s) → page_of s ≡ Some s
+page_told Absent h = absurd (false≢true h)
+page_told Zero h = refl
+page_told (Resident d) h = refl
+page_told (Slot k) h = refl
+page_told OnSegment h = refl
+
+-- what a page of a cache holds
+pub page_loaded : (a : Arena) → IsSound a → IsWellShaped (forest_of a) → (n o : NodeId) → HasNode a n → HasNode a o → name_of a o ≡ owner_of (forest_of a) (name_of a n) → IsSome (page_of (cell a o).own) → (s : OwnState) → s ≡ (cell a o).own
+    → (x : NodeName) → name_of a n ≡ x → Some s ≡ value_of (forest_of a) x
+page_loaded a sound shaped n o hn ho owner own s is x name = sym (page_told s (subst (λ k. IsSome (page_of k)) (sym is) own)) ∙ owner_page a sound shaped n o hn ho owner s is ∙ ap (value_of (forest_of a)) name

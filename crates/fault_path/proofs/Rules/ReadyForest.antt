@@ -1,0 +1,41 @@
+-- A forest that is ready for a write, where there is no heir.
+use Rattle.std.proofs.Common.{◌≡◌, true, Some, None, is_some, option_map, sym, ap, ◌∙◌}
+use Rattle.vm_ids.specs.declared.numbers.NodeId.{NodeId}
+use Rattle.vm_ids.specs.declared.node_name.NodeName.{NodeName}
+use Rattle.vm_ids.specs.Forest.Changes.{edit, put, with_own}
+use Rattle.vm_ids.specs.Forest.Nodes.{Forest, node}
+use Rattle.vm_ids.specs.Forest.Rules.{heir, heir_gets, own, write}
+use Rattle.vm_ids.specs.Forest.Shape.{IsWellShaped}
+use Rattle.local_cache.specs.declared.own_state.OwnState.TheVariants.{Absent}
+use Rattle.local_cache.specs.Arena.{HasNode}
+use Rattle.local_cache.specs.Own.{own_of}
+use Rattle.local_cache.specs.Reading.{forest_of, name_of}
+use Rattle.local_cache.specs.Sound.{IsSound}
+use Rattle.residency.specs.StoreForest.{store_forest}
+use Rattle.residency.specs.World.{HasOwnPage, World}
+use Rattle.fault_path.specs.Faults.{readied}
+use Rattle.fault_path.proofs.Rules.OwningRules.{without_heir}
+use Rattle.fault_path.proofs.Rules.Heirs.{has_own, no_heir}
+use Rattle.fault_path.proofs.Calls.Kept.{store_heir, store_page, store_shaped}
+use Rattle.fault_path.proofs.Frames.TwoFrames.{absent_none, heir-own, readied_bare, readied_own}
+
+module _ (w : World) (sound : IsSound w.caches) (shaped : IsWellShaped (forest_of w.caches)) (n : NodeId) (there : HasNode w.caches n) where
+  pub own_ready : own_of w.caches n ≡ Absent → heir (forest_of w.caches) (name_of w.caches n) ≡ None → own (store_forest w) (name_of w.caches n) ≡ readied (store_forest w) (name_of w.caches n)
+  own_ready absent none =
+      let k = store_shaped w sound shaped in
+      without_heir (own (store_forest w) (name_of w.caches n)) (name_of w.caches n) (heir-own (store_forest w) k.linked (name_of w.caches n) ∙ store_heir w sound (name_of w.caches n) ∙ none)
+      ∙ readied_bare (store_forest w) (name_of w.caches n) (store_page w sound n there ∙ absent_none w n absent)
+
+  some_own : HasOwnPage w.caches n → is_some (node (store_forest w) (name_of w.caches n)).own ≡ true
+  some_own own = ap is_some (store_page w sound n there) ∙ has_own w n own.own_page
+
+  pub kept_ready : HasOwnPage w.caches n → heir (forest_of w.caches) (name_of w.caches n) ≡ None → store_forest w ≡ readied (store_forest w) (name_of w.caches n)
+  kept_ready own none = no_heir w sound (name_of w.caches n) none ∙ readied_own (store_forest w) (name_of w.caches n) (some_own own)
+
+  pub handed_ready : HasOwnPage w.caches n → heir_gets (store_forest w) (name_of w.caches n) ≡ readied (store_forest w) (name_of w.caches n)
+  handed_ready own = readied_own (store_forest w) (name_of w.caches n) (some_own own)
+
+-- The bytes of a node that is ready are written: that is the rule write.
+pub written : {P : Type 0} (f : Forest P) (x : NodeName) (v u : P) → (node (readied f x) x).own ≡ Some u → edit (readied f x) x (with_own (Some v)) ≡ write f x (λ _. v)
+unfolding write
+written f x v u own = ap (λ o. put (readied f x) x (with_own (option_map (λ _. v) o) (node (readied f x) x))) (sym own)

@@ -1,0 +1,3 @@
+-- The page forest that is read off a store.
+pub mod StillForest
+pub mod WrittenForest

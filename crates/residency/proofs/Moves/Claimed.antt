@@ -1,0 +1,156 @@
+-- A free frame that is given to a taker.
+use Rattle.std.proofs.Common.{◌≡◌, ℕ, ◌<◌, ◌||◌, ◌&&◌, Bool, true, false, not, cond, List, [], ◌∷◌, length, get_or, set, Option, Some, None, refl, sym, ap, ◌∙◌, arith, inl, inr, length-set}
+use Rattle.std.specs.Prelude.{is_some, MatchOption}
+use Rattle.std.specs.Option.{IsSome}
+use Rattle.std.specs.List.{All, list_all}
+use Rattle.std.proofs.lemmas.Bool.{cases_eq}
+use Rattle.std.proofs.lemmas.List.{get_or-set_same, get_or-set_other}
+use Rattle.std.proofs.lemmas.List.Elements.{All-get_or, All-head, All-tail}
+use Rattle.vm_ids.specs.declared.numbers.NodeId.{NodeId}
+use Rattle.vm_ids.proofs.Places.{some_false, true_below}
+use Rattle.frame_pool.specs.Pool.{Frames, is_evictable, is_held, is_pinned}
+use Rattle.global_map.specs.Pairs.{node_of}
+use Rattle.residency.specs.Causes.{pushes_for}
+use Rattle.residency.specs.World.{World, HasUnpinned, IsMadeFree, IsStoreRight, OthersStay, PinnedStays, Still, StillBut, is_bound}
+use Rattle.residency.proofs.Worlds.Composed.{stays_then}
+use Rattle.residency.proofs.Worlds.Nodes.{same}
+
+abbrev pub claimed : World → ℕ → World
+claimed w f = record w { frames = record w.frames { held = set w.frames.held f true; pinned = set w.frames.pinned f true } }
+
+-- a frame that isn't held is neither bound nor pinned
+neither : (o : Option NodeId) (p : Bool) → false ≡ (is_some o || p) → (o ≡ None) × (p ≡ false)
+neither None false e = (refl, refl)
+neither None true e = absurd (cc)
+neither (Some n) p e = absurd (cc)
+
+free_frame : (w : World) (f : ℕ) → IsStoreRight w → is_held w.frames f ≡ false → (node_of w.map f ≡ None) × (is_pinned w.frames f ≡ false)
+free_frame w f right free = neither (node_of w.map f) (is_pinned w.frames f) (sym free ∙ right.tied.placed.held f)
+
+true_or : (b : Bool) → true ≡ (b || true)
+true_or true = refl
+true_or false = refl
+
+held_after : (w : World) (f : ℕ) → IsStoreRight w → f < length w.frames.held → (g : ℕ) → get_or (set w.frames.held f true) g false ≡ (is_bound w g || get_or (set w.frames.pinned f true) g false)
+held_after w f right within g =
+    let pin : f < length w.frames.pinned = omega (arith, right.tied.fitted.pinned_frames) in
+    elim (cases_eq g f) [
+      | inl e ↦ (
+          let left : get_or (set w.frames.held f true) g false ≡ true = ap (λ (k : ℕ). get_or (set w.frames.held f true) k false) e ∙ get_or-set_same w.frames.held f true false within in
+          let here : get_or (set w.frames.pinned f true) g false ≡ true = ap (λ (k : ℕ). get_or (set w.frames.pinned f true) k false) e ∙ get_or-set_same w.frames.pinned f true false pin in
+          left ∙ true_or (is_bound w g) ∙ sym (ap (λ (b : Bool). is_bound w g || b) here))
+      | inr d ↦ get_or-set_other w.frames.held f g true false d ∙ right.tied.placed.held g ∙ ap (λ (b : Bool). is_bound w g || b) (sym (get_or-set_other w.frames.pinned f g true false d))
+    ]
+
+pinned_after : (w : World) (f : ℕ) → is_pinned w.frames f ≡ false → (g : ℕ) → is_pinned w.frames g ≡ true → PinnedStays w (claimed w f) g
+pinned_after w f loose g pinned = record {
+  pinned = get_or-set_other w.frames.pinned f g true false (λ e. absurd (let t : is_pinned w.frames g ≡ false = ap (is_pinned w.frames) e ∙ loose in cc)) ∙ pinned;
+  bytes = refl;
+  node = refl;
+}
+
+pub claimed_still : (w : World) (f : ℕ) → IsStoreRight w → f < length w.frames.held → is_held w.frames f ≡ false → Still w (claimed w f)
+claimed_still w f right within free = record {
+  stays = record {
+    right = record {
+      tied = record {
+        placed = record {
+          bound = right.tied.placed.bound;
+          held = held_after w f right within;
+          slots = right.tied.placed.slots;
+          in_slots = right.tied.placed.in_slots;
+        };
+        backed = record {
+          there = right.tied.backed.there;
+          homes = right.tied.backed.homes;
+          apart = right.tied.backed.apart;
+          lies = right.tied.backed.lies;
+          clean = right.tied.backed.clean;
+        };
+        fitted = record {
+          map_frames = right.tied.fitted.map_frames ∙ sym (length-set w.frames.held f true);
+          bytes_frames = right.tied.fitted.bytes_frames ∙ sym (length-set w.frames.held f true);
+          pinned_frames = length-set w.frames.pinned f true ∙ right.tied.fitted.pinned_frames ∙ sym (length-set w.frames.held f true);
+          marks_frames = right.tied.fitted.marks_frames ∙ sym (length-set w.frames.held f true);
+          few = omega (arith, length-set w.frames.held f true, right.tied.fitted.few);
+          page = right.tied.fitted.page;
+        };
+      };
+      granted = record { granted = right.granted.granted; allowed = right.granted.allowed };
+      capacity = right.capacity;
+    };
+    pages = λ n. refl;
+    caches = same w.caches;
+    page_bytes = refl;
+    frames = length-set w.frames.held f true;
+    page = refl;
+    slots = refl;
+  };
+  pinned = pinned_after w f (free_frame w f right free).1;
+}
+
+pub claimed_others : (w : World) (f : ℕ) → OthersStay w (claimed w f)
+claimed_others w f = record { frames = λ g _. record { bytes = refl; node = refl }; states = λ m. record { away = λ _. refl; here = λ _. refl } }
+
+pub claimed_free : (w : World) (f : ℕ) → IsStoreRight w → f < length w.frames.held → is_held w.frames f ≡ false → IsMadeFree f w (claimed w f)
+claimed_free w f right within free = record {
+  within = within;
+  loose = (free_frame w f right free).1;
+  pinned = refl;
+  held = get_or-set_same w.frames.held f true false within;
+  unbound = (free_frame w f right free).0;
+}
+
+-- after an eviction
+pub free_then : (a b c : World) (f : ℕ) → length b.frames.held ≡ length a.frames.held → b.frames.pinned ≡ a.frames.pinned → IsMadeFree f b c → IsMadeFree f a c
+free_then a b c f frames pinned m = record {
+  within = omega (arith, m.within);
+  loose = ap (λ (xs : List Bool). get_or xs f false) (sym pinned) ∙ m.loose;
+  pinned = m.pinned ∙ ap (λ (xs : List Bool). set xs f true) pinned;
+  held = m.held;
+  unbound = m.unbound;
+}
+
+-- and after its taker filled it or gave it up
+pub taken_then : (a b c : World) (f : ℕ) → Still a b → IsMadeFree f a b → StillBut f b c → Still a c
+taken_then a b c f p m q = record {
+  stays = stays_then a b c p.stays q.stays;
+  pinned = λ g h. (
+      let i = p.pinned g h in
+      let j = q.pinned g (λ e. absurd (let t : is_pinned a.frames g ≡ false = ap (is_pinned a.frames) e ∙ m.loose in cc)) i.pinned in
+      record { pinned = j.pinned; bytes = j.bytes ∙ i.bytes; node = j.node ∙ i.node });
+}
+
+-- where all frames are held, one may be evicted
+pub may_evict : (p : Frames) → length p.pinned ≡ length p.held → All (λ h. h ≡ true) p.held → HasUnpinned p → (f : ℕ) × (f < length p.held) × (is_evictable p f ≡ true)
+may_evict p same all some =
+    let loose : (f : ℕ) × (f < length p.pinned) × (get_or p.pinned f false ≡ false) = some_false p.pinned some in
+    let within : loose.0 < length p.held = omega (arith, loose.1) in
+    (loose.0, within, ap (λ (b : Bool). b && not (is_pinned p loose.0)) (All-get_or (λ h. h ≡ true) p.held loose.0 false within all) ∙ ap not loose.2)
+
+-- a pool with a free frame gives one
+pub took : {X : Type 0} (A : Type 0) (Q : X → Type 0) (r : Option X) (held : List Bool) (v : ℕ) → MatchOption r (A × All (λ h. h ≡ true) held) Q → v < length held → get_or held v false ≡ false → IsSome r
+took A Q None held v m below e = absurd (let t : get_or held v false ≡ true = All-get_or (λ h. h ≡ true) held v false below m.1 in cc)
+took A Q (Some x) held v m below e = refl
+
+both_true : (a b : Bool) → (a && not b) ≡ true → (a ≡ true) × (b ≡ false)
+both_true true false e = (refl, refl)
+both_true true true e = absurd (cc)
+both_true false b e = absurd (cc)
+
+pub evictable : (p : Frames) (f : ℕ) → is_evictable p f ≡ true → (is_held p f ≡ true) × (is_pinned p f ≡ false)
+evictable p f e = both_true (is_held p f) (is_pinned p f) e
+
+-- an evicted frame is free
+pub freed : (p : Frames) (f : ℕ) (after : List Bool) → is_evictable p f ≡ true → after ≡ set p.held f false → (f < length after) × (get_or after f false ≡ false)
+freed p f after e is =
+    let within : f < length p.held = true_below p.held f (evictable p f e).0 in
+    let same : length after ≡ length p.held = ap (λ (xs : List Bool). length xs) is ∙ length-set p.held f false in
+    (omega arith, ap (λ (xs : List Bool). get_or xs f false) is ∙ get_or-set_same p.held f false false within)
+
+all_held : (xs : List Bool) → All (λ h. h ≡ true) xs → list_all (λ h. h) xs ≡ true
+all_held [] h = refl
+all_held (x ∷ xs) h = ap (λ (b : Bool). b && list_all (λ h. h) xs) (All-head (λ h. h ≡ true) x xs h) ∙ all_held xs (All-tail (λ h. h ≡ true) x xs h)
+
+pub pushes_when_full : (held : List Bool) → All (λ h. h ≡ true) held → pushes_for held ≡ 1
+pushes_when_full held h = ap (λ (b : Bool). cond {A = ℕ} b 1 0) (all_held held h)

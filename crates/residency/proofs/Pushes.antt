@@ -1,0 +1,3 @@
+-- What the mapper holds after a push.
+pub mod Outside
+pub mod Told

@@ -1,0 +1,7 @@
+-- The page forest follows each answer.
+pub mod Plain
+pub mod PlainFollows
+pub mod Following
+pub mod Followed
+pub mod Blank
+pub mod Untold

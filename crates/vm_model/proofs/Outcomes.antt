@@ -1,0 +1,5 @@
+-- What each answer leaves of a machine.
+pub mod Rows
+pub mod Sizes
+pub mod Kept
+pub mod Laid

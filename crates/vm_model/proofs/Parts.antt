@@ -1,0 +1,4 @@
+-- Lists, and what has a number in them.
+pub mod Lists
+pub mod ListParts
+pub mod Naming

@@ -1,0 +1,3 @@
+-- Whole runs, and worked scripts.
+pub mod Runs
+pub mod Played
