@@ -112,6 +112,13 @@ fn scripts_have_their_replies_however_they_are_cut(rt: HostRuntime) -> Result<()
             rows::MOVE_INSIDE_ONE_CACHE_REPLIES,
         ),
         ("8", rows::OVERLAP, rows::OVERLAP_REPLIES),
+        ("8", rows::REFUSALS, rows::REFUSALS_REPLIES),
+        (
+            "8",
+            rows::TRANSLATION_TO_THE_SOURCE,
+            rows::TRANSLATION_TO_THE_SOURCE_REPLIES,
+        ),
+        ("8", rows::COUNTS_OF_ACTORS, rows::COUNTS_OF_ACTORS_REPLIES),
         ("3", rows::COPY_EXAMPLE, rows::COPY_EXAMPLE_REPLIES),
         ("3", rows::FORK_EXAMPLE, rows::FORK_EXAMPLE_REPLIES),
         ("3", rows::MESSAGES_EXAMPLE, rows::MESSAGES_EXAMPLE_REPLIES),
@@ -124,6 +131,20 @@ fn scripts_have_their_replies_however_they_are_cut(rt: HostRuntime) -> Result<()
         has_its_replies(&rt, rt.alloc(), frames, script, replies)?;
     }
     Ok(())
+}
+
+#[test]
+fn at_most_256_actors_are_alive(rt: HostRuntime) -> Result<(), NoMemory> {
+    let mut script = String::new(rt.alloc());
+    let mut replies = String::new(rt.alloc());
+    for actor in 1..257u32 {
+        script.push_str("actor\n")?;
+        let reply = format!(in rt.alloc(); "{actor} ok a{actor}\n")?;
+        replies.push_str(reply.as_str())?;
+    }
+    script.push_str("actor\nexit a1\nactor\n")?;
+    replies.push_str("257 no TooMany\n258 ok\n259 ok a257\n")?;
+    has_its_replies(&rt, rt.alloc(), "8", script.as_str(), replies.as_str())
 }
 
 #[test]

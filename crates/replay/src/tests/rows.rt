@@ -1032,3 +1032,81 @@ pub const MESSAGES_EXAMPLE_REPLIES: &str = "1 ok a1
 22 ok
 23 stat live 24 working 0 copies 1
 ";
+
+// A refusal of each kind, and a region that is split.
+pub const REFUSALS: &str = "actor
+temp 2
+map a1 c1 0 2 10000 rw
+map a1 c1 0 1 30001 rw
+map a1 c1 1 2 40000 rw
+map a1 c1 0 1 11000 r
+split r1 2
+split r1 1
+destroy c1
+invalidate c1 0 1
+open 9
+chain c1 2
+temp 4194303
+copy c1 0 c2 0 1
+load a2 10000 1
+unmap r9
+load a1 10000 65
+
+grow
+";
+
+pub const REFUSALS_REPLIES: &str = "1 ok a1
+2 ok c1
+3 ok r1
+4 no Unaligned
+5 no OutOfCache
+6 no Overlap
+7 no BadAddress
+8 ok r2
+9 no InUse
+10 no NotNamed
+11 no NoSegment
+12 no OutOfCache
+13 no TooMany
+14 no NoCache
+15 no NoActor
+16 no NoRegion
+17 no BadLine
+18 no BadLine
+19 no BadLine
+";
+
+// A page of a copy that is loaded before its source is stored to.
+pub const TRANSLATION_TO_THE_SOURCE: &str = "actor
+temp 9
+temp 9
+map a1 c1 0 9 10000 rw
+map a1 c2 0 9 20000 rw
+store a1 10000 01
+copy c1 0 c2 0 9
+chain c2 0
+load a1 20000 1
+store a1 10000 02
+load a1 20000 1
+load a1 10000 1
+chain c2 0
+chain c1 0
+stat
+";
+
+pub const TRANSLATION_TO_THE_SOURCE_REPLIES: &str = "1 ok a1
+2 ok c1
+3 ok c2
+4 ok r1
+5 ok r2
+6 ok
+7 ok
+8 chain c2:0+0 c1:0+1*
+9 ok 01
+10 ok
+11 ok 01
+12 ok 02
+13 chain c2:0+0*
+14 chain c1:0+1*
+15 stat live 18 working 0 copies 1
+";

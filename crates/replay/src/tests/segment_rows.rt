@@ -34,7 +34,8 @@ pub const SEGMENT_REOPENED_REPLIES: &str = "1 ok a1
 14 stat live 2 working 0 copies 1
 ";
 
-// A page that is denied for writing, and an inherited page that is pushed and stays inherited.
+// A page that is denied for writing, an inherited page that is pushed and stays inherited, and a
+// region that is no more for writing.
 pub const DENIED_PAGE: &str = "open 1
 temp 2
 actor
@@ -49,6 +50,8 @@ map a1 c1 0 2 10000 rw
 load a1 10000 1
 load a1 11000 1
 store a1 11000 01
+protect r2 r
+store a1 10000 01
 ";
 
 pub const DENIED_PAGE_REPLIES: &str = "1 ok c1
@@ -65,6 +68,8 @@ pub const DENIED_PAGE_REPLIES: &str = "1 ok c1
 12 ok 77
 13 ok 42
 14 no WriteDenied
+15 ok
+16 no Protection
 ";
 
 // Pages of a segment are moved nowhere.
@@ -169,4 +174,75 @@ pub const MAPPED_FILE_EXAMPLE_REPLIES: &str = "1 ok a1
 16 ok
 17 no NoSegment
 18 stat live 1 working 0 copies 1
+";
+
+// Text that two actors share, and data that is forked three times, in six frames.
+pub const TEXT_SHARED_AND_DATA_FORKED: &str = "actor
+open 1
+map a1 c1 0 2 400000 r
+temp 10
+map a1 c2 0 10 600000 rw
+store a1 600000 11
+store a1 609000 22
+actor
+map a2 c1 0 2 400000 r
+temp 10
+copy c2 0 c3 0 10
+map a2 c3 0 10 600000 rw
+store a2 600000 33
+temp 10
+copy c2 0 c4 0 10
+pageout 100
+store a1 600000 44
+temp 10
+copy c2 0 c5 0 10
+store a1 609000 55
+load a1 400000 2
+load a2 400000 2
+load a1 600000 1
+load a2 600000 1
+load a2 609000 1
+chain c3 9
+chain c4 0
+chain c5 0
+exit a2
+destroy c3
+stat
+find a1 609000
+status r2
+";
+
+pub const TEXT_SHARED_AND_DATA_FORKED_REPLIES: &str = "1 ok a1
+2 ok c1
+3 ok r1
+4 ok c2
+5 ok r2
+6 ok
+7 ok
+8 ok a2
+9 ok r3
+10 ok c3
+11 ok
+12 ok r4
+13 ok
+14 ok c4
+15 ok
+16 ok
+17 ok
+18 ok c5
+19 ok
+20 ok
+21 ok 7f45
+22 ok 7f45
+23 ok 44
+24 ok 33
+25 ok 22
+26 chain c3:9+0 w10+2 w20+2*
+27 chain c4:0+0 w1+2*
+28 chain c5:0+0 w11+2 c2:0+1*
+29 ok
+30 ok
+31 stat live 32 working 10 copies 3
+32 ok r2
+33 ok a1 600000 10 rw c2 0 unlocked
 ";
