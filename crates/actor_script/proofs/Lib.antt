@@ -1,7 +1,9 @@
 pub mod Forms
+pub mod Generated
 pub mod Hexadecimal
 pub mod Numbers
 pub mod Replies
 pub mod Splitting
 pub mod WellFormed
+pub mod Worked
 pub mod Written

@@ -1,4 +1,5 @@
 pub mod Forms
+pub mod Generator
 pub mod Operands
 pub mod Text
 pub mod Words

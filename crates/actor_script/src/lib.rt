@@ -11,10 +11,13 @@
 #![tactic(auto)]
 
 mod draft;
+mod generator;
+pub mod laws;
 mod reading;
 #[cfg(test)]
 mod tests;
 mod writing;
 
+pub use generator::{Gen, Line};
 pub use reading::{read_line, read_number};
 pub use writing::write_reply;

@@ -1,6 +1,6 @@
 // The language by values from outside: lines that are none of its forms, and the text of each kind
 // of answer.
-use crate::{read_line, write_reply};
+use crate::{Gen, read_line, write_reply};
 use vm_ids::{
     ActorId, Answer, CacheId, Counts, Extent, FaultAt, Mapping, NoMemory, PageNo, Prot, Refusal,
     RegionId, RegionStatus, Reply, Trouble,
@@ -177,4 +177,48 @@ fn answers_have_their_texts(rt: HostRuntime) -> Result<(), NoMemory> {
         assert_eq!(&rt; sink.written(), text.as_bytes());
     }
     Ok(())
+}
+
+#[test]
+fn a_number_makes_its_lines(rt: HostRuntime) {
+    let mut lines = Gen::new(0);
+    for _ in 0..10 {
+        let _ = lines.next_line();
+    }
+    assert_eq!(&rt; lines.next_line().as_slice(), b"pageout 1".as_slice());
+    let mut lines = Gen::new(1);
+    for line in [
+        "actor",
+        "actor",
+        "temp 64",
+        "temp 64",
+        "temp 64",
+        "temp 64",
+        "map a1 c1 0 64 100000 rw",
+        "map a1 c2 0 64 200000 rw",
+        "map a2 c3 0 64 100000 rw",
+        "map a2 c4 0 64 200000 rw",
+        "store a1 20cae6 5a",
+        "store a2 136529 ba",
+        "load a2 13c320 1",
+        "load a1 11a61f 1",
+        "store a1 22bd8d de",
+        "store a1 230f24 a0",
+        "store a1 11f512 1c",
+        "store a2 11a2ca 6a",
+        "copy c2 50 c1 40 5",
+        "copy c3 41 c4 11 6",
+        "load a1 13c7c2 1",
+        "copy c1 17 c4 26 4",
+        "load a2 12ce35 1",
+        "load a2 233878 1",
+        "store a2 222b1d f1",
+        "copy c4 29 c3 30 10",
+        "store a1 22b5b7 42",
+        "store a1 2388f3 38",
+        "move c3 37 c1 17 16",
+        "store a1 20451b 20",
+    ] {
+        assert_eq!(&rt; lines.next_line().as_slice(), line.as_bytes());
+    }
 }

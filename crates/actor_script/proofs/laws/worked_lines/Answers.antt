@@ -1,0 +1,11 @@
+use Rattle.actor_script.proofs.Worked.{draw, of_zero, of_one}
+use Rattle.actor_script.proofs.laws.worked_lines.Goals as goal
+
+pub returns-clause-draw : goal.returns-clause-draw
+returns-clause-draw c = draw
+
+pub returns-clause-of_zero : goal.returns-clause-of_zero
+returns-clause-of_zero c = of_zero
+
+pub returns-clause-of_one : goal.returns-clause-of_one
+returns-clause-of_one c = of_one
