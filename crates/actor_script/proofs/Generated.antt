@@ -1,8 +1,8 @@
 -- The lines of a generator, one after another.
-use Rattle.std.proofs.Common.{◌≡◌, ◌+◌, ◌-◌, ◌<◌, ℕ, suc, List, [], ◌∷◌, length, drop, drop_of_length-le, Some, None, refl, sym, ap, arith, add-one, inl, inr, ◌∙◌}
+use Rattle.std.proofs.Common.{◌≡◌, ◌+◌, ◌-◌, ◌<◌, ℕ, zero, suc, List, [], ◌∷◌, length, take, drop, drop_of_length-le, Some, None, refl, sym, ap, arith, add-one, inl, inr, ◌∙◌}
 use Rattle.std.specs.Prelude.{slice_get}
 use Rattle.std.proofs.Math.Seq.{take-nil}
-use Rattle.std.proofs.lemmas.List.{drop_more}
+use Rattle.std.proofs.lemmas.List.{drop_more, length-append, length-take}
 use Rattle.std.proofs.lemmas.Option.{get_or_from_slice_get, slice_get_cases, slice_get_within}
 use Rattle.actor_script.specs.Generator.{Position, drawn_line, drawn_lines, lines_from, opening}
 
@@ -48,3 +48,15 @@ drawn_more front i state count behind line e is =
 pub opening_within : (place : ℕ) (line : List ℕ) → slice_get opening place ≡ Some line → place < 10
 unfolding opening
 opening_within place line e = slice_get_within opening place line e
+
+drawn_so_many : (state count : ℕ) → length (drawn_lines state count) ≡ count
+unfolding drawn_lines
+drawn_so_many state zero = refl
+drawn_so_many state (suc count) = ap suc (drawn_so_many (drawn_line state).1 count)
+
+-- there are as many lines as are asked for
+pub length-lines_from : (at : Position) (count : ℕ) → length (lines_from at count) ≡ count
+unfolding lines_from
+length-lines_from at count =
+    let behind = count - length at.left in
+    omega (arith, length-append (take count at.left) (drawn_lines at.state behind), length-take count at.left, drawn_so_many at.state behind)
