@@ -16,6 +16,7 @@ use Rattle.vm_ids.specs.declared.command.Command.{Command}
 use Rattle.vm_ids.specs.declared.command.Command.TheVariants as commands
 use Rattle.vm_ids.specs.declared.command.Extent.{Extent}
 use Rattle.vm_ids.specs.declared.command.Mapping.{Mapping}
+use Rattle.vm_ids.specs.declared.command.Prot.{Prot}
 use Rattle.vm_ids.specs.declared.command.Span.{Span}
 use Rattle.vm_ids.specs.declared.numbers.CacheId.{CacheId}
 use Rattle.vm_ids.specs.declared.reply.Trouble.TheVariants as troubles
@@ -23,7 +24,7 @@ use Rattle.vm_model.specs.Machine.{Machine, Cache, Page, cache_of, cache_named, 
 use Rattle.vm_model.specs.Place.{place}
 use Rattle.vm_model.specs.PageForest.{PageForest, forest_shown}
 use Rattle.vm_model.specs.Outcome.{Outcome}
-use Rattle.vm_model.specs.Answering.{Answer, Answered, answer_of, chain_answer, copy_of, destroy_of, flush_of, held_for, held_part, invalidate_of, is_denied_page, load_of, make_actor_of, make_temp_of, map_of, move_of, open_of, opened, overwrite, page_at, passes_end, put_cache, put_page, put_pages, store_of, sync_of, temporary, unmap_of}
+use Rattle.vm_model.specs.Answering.{Answer, Answered, answer_of, chain_answer, copy_of, destroy_of, exit_actor_of, find_of, flush_of, held_for, held_part, invalidate_of, is_denied_page, load_of, make_actor_of, make_temp_of, map_of, move_of, open_of, opened, overwrite, page_at, passes_end, protect_of, put_cache, put_page, put_pages, split_of, status_of, store_of, sync_of, temporary, unmap_of}
 use Rattle.vm_model.proofs.Lists.{get_set_other, length-overwrite, numbered-set, numbered_place}
 use Rattle.vm_model.proofs.ListParts.{numbered_push, numbered_pushed, numbered_set, numbered_set_other, overwrite_before, overwrite_behind, overwrite_in}
 use Rattle.vm_model.proofs.Naming.{names_none, only_named, segment_cache}
@@ -250,6 +251,27 @@ module _ (m : Machine) (s : Segments) (B : AreBacked m.caches s) where
       each_unless RowBacked _ _ m _ B (λ apart.
       each_unless RowBacked _ _ m _ B (λ fewer. B)))))))
 
+  -- where the caches stay
+  exit_row : (actor : ℕ) → RowBacked (exit_actor_of m actor)
+  unfolding exit_actor_of
+  exit_row actor = each_some RowBacked _ _ m _ B (λ regions here. B)
+
+  split_row : (n pages : ℕ) → RowBacked (split_of m n pages)
+  unfolding split_of
+  split_row n pages = each_some RowBacked _ _ m _ B (λ r there. each_unless RowBacked _ _ m _ B (λ inside. each_unless RowBacked _ _ m _ B (λ fewer. B)))
+
+  protect_row : (n : ℕ) (prot : Prot) → RowBacked (protect_of m n prot)
+  unfolding protect_of
+  protect_row n prot = each_some RowBacked _ _ m _ B (λ r there. B)
+
+  status_row : (n : ℕ) → RowBacked (status_of m n)
+  unfolding status_of
+  status_row n = each_some RowBacked _ _ m _ B (λ told there. B)
+
+  find_row : (actor address : ℕ) → RowBacked (find_of m actor address)
+  unfolding find_of
+  find_row actor address = each_some RowBacked _ _ m _ B (λ regions here. each_some RowBacked _ _ m _ B (λ r there. B))
+
   unmap_row : (n : ℕ) → RowBacked (unmap_of m n)
   unfolding unmap_of
   unmap_row n = each_some RowBacked _ _ m _ B (λ r there. each_unless RowBacked _ _ m _ B (λ unlocked. B))
@@ -351,13 +373,18 @@ module _ (m : Machine) (s : Segments) (B : AreBacked m.caches s) where
 
   rows : (f : PageForest) (c : Command) → RowBacked m s B (answer_of m f c s)
   rows f commands.MakeActor = actor_row m s B
+  rows f (commands.ExitActor actor) = exit_row m s B actor.0
   rows f (commands.MakeTemp pages) = temp_row m s B pages
   rows f (commands.OpenSegment seg) = open_row m s B seg.0
   rows f (commands.Destroy cache) = destroy_row m s B cache.0
   rows f (commands.Copy span) = copy_row m s B span
   rows f (commands.Move span) = move_row m s B span
   rows f (commands.Map actor mapping) = map_row m s B actor.0 mapping
+  rows f (commands.Split region pages) = split_row m s B region.0 pages
+  rows f (commands.Protect region prot) = protect_row m s B region.0 prot
   rows f (commands.Unmap region) = unmap_row m s B region.0
+  rows f (commands.Status region) = status_row m s B region.0
+  rows f (commands.Find actor address) = find_row m s B actor.0 address
   rows f (commands.Load actor address length) = load_row m s B actor.0 address length
   rows f (commands.Store actor address piece) = store_row m s B actor.0 address piece
   rows f (commands.Sync extent) = sync_row m s B extent

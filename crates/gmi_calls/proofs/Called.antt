@@ -34,6 +34,7 @@ alike_same (Ok (replies.Actor n)) = refl
 alike_same (Ok (replies.Cache n)) = refl
 alike_same (Ok (replies.Region n)) = refl
 alike_same (Ok (replies.Bytes b)) = refl
+alike_same (Ok (replies.Status status)) = refl
 alike_same (Ok (replies.Chain items)) = refl
 alike_same (Ok (replies.Stat counts)) = refl
 alike_same (Err e) = refl

@@ -58,6 +58,10 @@ fn call<G: Gmi<M, C>, M: Mapper, C: Chooser>(
 {
     match command {
         Command::MakeActor => Ok(Reply::Actor(gmi.make_actor()?)),
+        Command::ExitActor(actor) => {
+            gmi.exit_actor(*actor)?;
+            Ok(Reply::Done)
+        }
         Command::MakeTemp(pages) => Ok(Reply::Cache(gmi.make_temp(*pages)?)),
         Command::OpenSegment(seg) => Ok(Reply::Cache(gmi.open_segment(*seg, mapper)?)),
         Command::Destroy(cache) => {
@@ -73,10 +77,17 @@ fn call<G: Gmi<M, C>, M: Mapper, C: Chooser>(
             Ok(Reply::Done)
         }
         Command::Map(actor, mapping) => Ok(Reply::Region(gmi.map(*actor, *mapping)?)),
+        Command::Split(region, pages) => Ok(Reply::Region(gmi.split(*region, *pages)?)),
+        Command::Protect(region, prot) => {
+            gmi.protect(*region, *prot)?;
+            Ok(Reply::Done)
+        }
         Command::Unmap(region) => {
             gmi.unmap(*region)?;
             Ok(Reply::Done)
         }
+        Command::Status(region) => Ok(Reply::Status(gmi.status(*region)?)),
+        Command::Find(actor, address) => Ok(Reply::Region(gmi.find(*actor, *address)?)),
         Command::Load(actor, address, bytes) => {
             let piece = gmi.load(*actor, *address, *bytes, mapper, chooser)?;
             Ok(Reply::Bytes(piece))

@@ -8,8 +8,8 @@ ghost use Rattle.vm_model.specs.Run.{state_of};
 ghost use Rattle.gmi_calls.specs.Calling.{Answers, Calls, Fits, Numbers, RaisesMade, StaysValid, done_by};
 
 use vm_ids::{
-    ActorId, CacheId, ChainList, Command, Counts, Extent, Mapping, PageNo, Piece, RegionId, Reply,
-    SegId, Span, Trouble,
+    ActorId, CacheId, ChainList, Command, Counts, Extent, Mapping, PageNo, Piece, Prot, RegionId,
+    RegionStatus, Reply, SegId, Span, Trouble,
 };
 use vm_port::{Chooser, Mapper};
 
@@ -47,6 +47,17 @@ pub trait Gmi<M: Mapper, C: Chooser> {
             Command.MakeActor (answer_by Reply.Actor result) self.new }
         ensures made { Numbers valid machine made self.old
             Command.MakeActor (answer_by Reply.Actor result) self.new };
+
+    /// Ends an actor, and takes its regions away. Refused as `NoActor` exactly where no living
+    /// actor has the number.
+    fn exit_actor(&mut self, actor: ActorId) -> Result<(), Trouble>
+        requires valid { (h : Option Held) × valid self.old h }
+        requires made { made self.old ≤ 2 ^ 62 }
+        ensures valid { StaysValid valid self.old self.new }
+        ensures answers { Answers valid (state_of machine forest) self.old
+            (Command.ExitActor actor) (done_by result) self.new }
+        ensures made { Numbers valid machine made self.old
+            (Command.ExitActor actor) (done_by result) self.new };
 
     /// Makes a temporary cache of so many zero pages. Refused as `TooMany` exactly where 65,535
     /// caches were made or the live pages would be too many.
@@ -129,6 +140,30 @@ pub trait Gmi<M: Mapper, C: Chooser> {
         ensures made { Numbers valid machine made self.old
             (Command.Map actor mapping) (answer_by Reply.Region result) self.new };
 
+    /// Cuts a region in two: it keeps so many pages, and a new region, which allows the same, has
+    /// the others. Refused as `NoRegion`, as `BadAddress` where the region doesn't have more pages
+    /// than it is to keep, or as `TooMany` where 65,535 regions were made, in this order.
+    fn split(&mut self, region: RegionId, pages: u32) -> Result<RegionId, Trouble>
+        requires some { 1 ≤ pages }
+        requires valid { (h : Option Held) × valid self.old h }
+        requires made { made self.old ≤ 2 ^ 62 }
+        ensures valid { StaysValid valid self.old self.new }
+        ensures answers { Answers valid (state_of machine forest) self.old
+            (Command.Split region pages) (answer_by Reply.Region result) self.new }
+        ensures made { Numbers valid machine made self.old
+            (Command.Split region pages) (answer_by Reply.Region result) self.new };
+
+    /// Changes what a region allows beside reading. Refused as `NoRegion` exactly where no region of
+    /// a living actor has the number.
+    fn protect(&mut self, region: RegionId, prot: Prot) -> Result<(), Trouble>
+        requires valid { (h : Option Held) × valid self.old h }
+        requires made { made self.old ≤ 2 ^ 62 }
+        ensures valid { StaysValid valid self.old self.new }
+        ensures answers { Answers valid (state_of machine forest) self.old
+            (Command.Protect region prot) (done_by result) self.new }
+        ensures made { Numbers valid machine made self.old
+            (Command.Protect region prot) (done_by result) self.new };
+
     /// Takes a region away. Refused as `NoRegion` or `Locked`, in this order.
     fn unmap(&mut self, region: RegionId) -> Result<(), Trouble>
         requires valid { (h : Option Held) × valid self.old h }
@@ -138,6 +173,18 @@ pub trait Gmi<M: Mapper, C: Chooser> {
             (Command.Unmap region) (done_by result) self.new }
         ensures made { Numbers valid machine made self.old
             (Command.Unmap region) (done_by result) self.new };
+
+    /// What there is to tell of a region: its actor, its mapping, and whether it is locked. Refused
+    /// as `NoRegion` exactly where no region of a living actor has the number.
+    fn status(&self, region: RegionId) -> Result<RegionStatus, Trouble>
+        ensures answers { Answers valid (state_of machine forest) self.now
+            (Command.Status region) (answer_by Reply.Status result) self.now };
+
+    /// The region of an actor that holds an address. Refused as `NoActor`, or as `BadAddress` where
+    /// no region of the actor holds the address, in this order.
+    fn find(&self, actor: ActorId, address: u64) -> Result<RegionId, Trouble>
+        ensures answers { Answers valid (state_of machine forest) self.now
+            (Command.Find actor address) (answer_by Reply.Region result) self.now };
 
     /// Loads so many bytes, 1 to 64, at an address of an actor. Refused as `NoActor`, `Crosses` or
     /// `BadAddress`, in this order.

@@ -10,7 +10,7 @@ use std::process::Abort;
 use std::test::Fail;
 use vm_ids::{
     ActorId, Answer, CacheId, Command, Counts, Extent, FaultAt, Mapping, PageNo, Piece, Prot,
-    Refusal, RegionId, Reply, SegId, Span, Trouble,
+    Refusal, RegionId, RegionStatus, Reply, SegId, Span, Trouble,
 };
 use vm_model::EagerMachine;
 use vm_port::{CallKind, CallNo, Chooser, Fifo, Mapper, MemoryMapper};
@@ -23,6 +23,7 @@ enum Shown {
     Cache(u32),
     Region(u32),
     Two(u8, u8),
+    Status(RegionStatus),
     // How many nodes a chain has.
     Chain(usize),
     Stat(Counts),
@@ -38,6 +39,7 @@ fn seen(answer: Answer) -> Shown {
         Ok(Reply::Cache(CacheId(n))) => Shown::Cache(n),
         Ok(Reply::Region(RegionId(n))) => Shown::Region(n),
         Ok(Reply::Bytes(piece)) => two(piece.as_slice()),
+        Ok(Reply::Status(status)) => Shown::Status(status),
         Err(Trouble::Refused(refusal)) => Shown::Refused(refusal),
         Err(Trouble::Mapper(at)) => Shown::Fault(at),
         Ok(Reply::Chain(chain)) => Shown::Chain(chain.as_slice().len()),
@@ -263,6 +265,89 @@ fn extent(cache: u32, pages: u32) -> Extent
         first: PageNo(0),
         pages,
     }
+}
+
+// A region is cut in two, and the one behind it protected, until their actor ends.
+#[test]
+fn regions_are_cut_protected_and_told(rt: HostRuntime) -> Result<(), Fail> {
+    let mut gmi = EagerMachine::new(rt.alloc(), 3, 4096);
+    let mut mapper = MemoryMapper::new(rt.alloc(), &[], &[], 0, &[], 4096)?;
+    let (mapper, chooser) = (&mut mapper, &mut Fifo::new());
+    let mapping = Mapping {
+        extent: extent(1, 2),
+        address: 0x10000,
+        prot: Prot { write: true },
+    };
+    let protection = Prot { write: false };
+    let behind = Extent {
+        cache: CacheId(1),
+        first: PageNo(1),
+        pages: 1,
+    };
+    assert_eq!(rt;
+        seen(answer(&mut gmi, &Command::MakeActor, mapper, chooser)),
+        Shown::Actor(1)
+    );
+    assert_eq!(rt;
+        seen(answer(&mut gmi, &Command::MakeTemp(2), mapper, chooser)),
+        Shown::Cache(1)
+    );
+    assert_eq!(rt;
+        seen(answer(
+            &mut gmi,
+            &Command::Map(ActorId(1), mapping),
+            mapper,
+            chooser
+        )),
+        Shown::Region(1)
+    );
+    assert_eq!(rt;
+        seen(answer(&mut gmi, &Command::Split(RegionId(1), 2), mapper, chooser)),
+        Shown::Refused(Refusal::BadAddress)
+    );
+    assert_eq!(rt;
+        seen(answer(&mut gmi, &Command::Split(RegionId(1), 1), mapper, chooser)),
+        Shown::Region(2)
+    );
+    assert_eq!(rt;
+        seen(answer(
+            &mut gmi,
+            &Command::Protect(RegionId(2), protection),
+            mapper,
+            chooser
+        )),
+        Shown::Done
+    );
+    assert_eq!(rt;
+        seen(answer(&mut gmi, &Command::Status(RegionId(2)), mapper, chooser)),
+        Shown::Status(RegionStatus {
+            actor: ActorId(1),
+            mapping: Mapping {
+                extent: behind,
+                address: 0x11000,
+                prot: protection
+            },
+            locked: false
+        })
+    );
+    assert_eq!(rt;
+        seen(answer(
+            &mut gmi,
+            &Command::Find(ActorId(1), 0x10fff),
+            mapper,
+            chooser
+        )),
+        Shown::Region(1)
+    );
+    assert_eq!(rt;
+        seen(answer(&mut gmi, &Command::ExitActor(ActorId(1)), mapper, chooser)),
+        Shown::Done
+    );
+    assert_eq!(rt;
+        seen(answer(&mut gmi, &Command::Status(RegionId(1)), mapper, chooser)),
+        Shown::Refused(Refusal::NoRegion)
+    );
+    Ok(())
 }
 
 // A segment, and what becomes of it: what is stored to its cache goes to it by a sync or a flush,

@@ -121,6 +121,7 @@ pub sound-put : (t : Tables) (n : ℕ) (c d : Cache) (caches : Vec (Option Cache
 sound-put t n c d caches items there same pages s = record {
   some = s.some;
   most = s.most;
+  few = s.few;
   living = s.living;
   live = rw items (s.live ∙ sym (live_still t.caches.items n c d there same));
   whole = rw items (All-set (HasPages t.page_bytes) t.caches.items (n - 1) (Some d) pages s.whole);
@@ -228,10 +229,11 @@ placed-added b cs r before after (Ok x) ok err p h = All-same (IsPlaced b cs) af
 placed-added b cs r before after (Err e) ok err p h = All-same (IsPlaced b cs) after before err h
 
 -- the tables stay sound where the actors change, if as many live and all their regions are placed
-pub sound-actors : (t : Tables) (actors : Vec (Option Actor) Global) (made : ℕ) → count_by is_some (map (option_map actor_seen) actors.items) ≡ count_by is_some (map (option_map actor_seen) t.actors.items) → All (ArePlaced t.page_bytes t.caches.items) actors.items → IsSound t → IsSound (record t { actors = actors; regions_made = made })
-sound-actors t actors made living placed s = record {
+pub sound-actors : (t : Tables) (actors : Vec (Option Actor) Global) (made : ℕ) → length actors.items ≡ length t.actors.items → count_by is_some (map (option_map actor_seen) actors.items) ≡ count_by is_some (map (option_map actor_seen) t.actors.items) → All (ArePlaced t.page_bytes t.caches.items) actors.items → IsSound t → IsSound (record t { actors = actors; regions_made = made })
+sound-actors t actors made many living placed s = record {
   some = s.some;
   most = s.most;
+  few = omega (arith, many, s.few);
   living = s.living ∙ sym living;
   live = s.live;
   whole = s.whole;

@@ -1,6 +1,6 @@
 -- Worked scripts, as runs of the machine and of the page forest that follows it: what each command answers, and whether
 -- the last forest has the last machine's pages. A page has two bytes here. The definitions compute each of them.
-use Rattle.std.specs.Prelude.{◌≡◌, ℕ, List, [], ◌∷◌, map, true, Some, Ok, Err}
+use Rattle.std.specs.Prelude.{◌≡◌, ℕ, Bool, true, false, List, [], ◌∷◌, map, Some, Ok, Err}
 use Rattle.std.specs.FinMap.{empty, insert}
 use Rattle.vm_ids.specs.Held.{Segments}
 use Rattle.vm_ids.specs.declared.chain.ChainItem.{ChainItem}
@@ -109,6 +109,21 @@ map_ c n address = commands.Map (record { 0 = 1 }) (record {
 abbrev pub unmap : ℕ → Command
 unmap region = commands.Unmap (record { 0 = region })
 
+abbrev pub split : ℕ → ℕ → Command
+split region pages = commands.Split (record { 0 = region }) pages
+
+abbrev pub protect : ℕ → Bool → Command
+protect region write = commands.Protect (record { 0 = region }) (record { write = write })
+
+abbrev pub status : ℕ → Command
+status region = commands.Status (record { 0 = region })
+
+abbrev pub find : ℕ → ℕ → Command
+find actor address = commands.Find (record { 0 = actor }) address
+
+abbrev pub exit_ : ℕ → Command
+exit_ actor = commands.ExitActor (record { 0 = actor })
+
 -- one byte of the first actor
 abbrev pub store : ℕ → ℕ → Command
 store address byte = commands.Store (record { 0 = 1 }) address (byte ∷ [])
@@ -145,6 +160,14 @@ ok_c n = Ok (replies.Cache (record { 0 = n }))
 
 abbrev pub ok_r : ℕ → Answer
 ok_r n = Ok (replies.Region (record { 0 = n }))
+
+-- a region of the first actor, unlocked
+abbrev pub ok_status : Extent → ℕ → Bool → Answer
+ok_status pages address write = Ok (replies.Status (record {
+  actor = record { 0 = 1 };
+  mapping = record { extent = pages; address = address; prot = record { write = write } };
+  locked = false;
+}))
 
 abbrev pub ok_byte : ℕ → Answer
 ok_byte byte = Ok (replies.Bytes (byte ∷ []))
@@ -230,6 +253,33 @@ RefusedCommands = Answers
     ∷ no refusals.NoCache ∷ no refusals.NoRegion
     ∷ no refusals.NoCache ∷ no refusals.OutOfCache ∷ ok ∷ ok ∷ no refusals.NoCache ∷ ok_stat 0 0 0
     ∷ [])
+
+-- A region is cut in two and the one behind it protected; each is told, found and refused as its
+-- row says, until their actor ends.
+abbrev pub SplitProtectedAndExited : Type 0
+SplitProtectedAndExited = Answers
+    (commands.MakeActor ∷ temp 4 ∷ temp 1 ∷ map_ 1 4 65536 ∷ map_ 2 1 131072 ∷ store 131072 9
+    ∷ split 3 1 ∷ split 1 4 ∷ status 1
+    ∷ split 1 1 ∷ status 1 ∷ status 3
+    ∷ protect 4 false ∷ protect 3 false ∷ status 3
+    ∷ status 4 ∷ store 65537 7 ∷ store 65538 8 ∷ load 65537 ∷ load 65538
+    ∷ find 2 65536 ∷ find 1 65535 ∷ find 1 65544
+    ∷ find 1 65537 ∷ find 1 65538 ∷ find 1 131073
+    ∷ split 3 1 ∷ status 4 ∷ unmap 3 ∷ find 1 65538 ∷ find 1 65540
+    ∷ destroy 1 ∷ exit_ 2 ∷ exit_ 1 ∷ exit_ 1
+    ∷ status 1 ∷ protect 1 true ∷ split 1 1 ∷ find 1 65536
+    ∷ load 131072 ∷ destroy 1 ∷ [])
+    (ok_a 1 ∷ ok_c 1 ∷ ok_c 2 ∷ ok_r 1 ∷ ok_r 2 ∷ ok
+    ∷ no refusals.NoRegion ∷ no refusals.BadAddress ∷ ok_status (extent 1 0 4) 65536 true
+    ∷ ok_r 3 ∷ ok_status (extent 1 0 1) 65536 true ∷ ok_status (extent 1 1 3) 65538 true
+    ∷ no refusals.NoRegion ∷ ok ∷ ok_status (extent 1 1 3) 65538 false
+    ∷ no refusals.NoRegion ∷ ok ∷ no refusals.Protection ∷ ok_byte 7 ∷ ok_byte 0
+    ∷ no refusals.NoActor ∷ no refusals.BadAddress ∷ no refusals.BadAddress
+    ∷ ok_r 1 ∷ ok_r 3 ∷ ok_r 2
+    ∷ ok_r 4 ∷ ok_status (extent 1 2 2) 65540 false ∷ ok ∷ no refusals.BadAddress ∷ ok_r 4
+    ∷ no refusals.InUse ∷ no refusals.NoActor ∷ ok ∷ no refusals.NoActor
+    ∷ no refusals.NoRegion ∷ no refusals.NoRegion ∷ no refusals.NoRegion ∷ no refusals.NoActor
+    ∷ no refusals.NoActor ∷ ok ∷ [])
 
 -- The page that a store changed is lost where it is invalidated, and a copy that was made before
 -- keeps it.

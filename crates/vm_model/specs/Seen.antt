@@ -1,15 +1,18 @@
 -- The machine that the tables of the eager machine are, and what holds of them.
-use Rattle.std.specs.Prelude.{◌≡◌, ℕ, ◌+◌, ◌*◌, ◌≤◌, ◌^◌, false, List, map, length, All, Option, Some, None, option_map, Result, Ok, Err}
+use Rattle.std.specs.Prelude.{◌≡◌, ℕ, ◌+◌, ◌-◌, ◌*◌, ◌≤◌, ◌^◌, false, List, map, length, take, All, Option, Some, None, option_map, slice_get, Result, Ok, Err}
 use Rattle.vm_ids.specs.declared.command.Span.{Span}
 use Rattle.vm_ids.specs.declared.refusal.Refusal.{Refusal}
 use Rattle.vm_model.specs.Machine as model
 use Rattle.vm_model.specs.Place as model_place
 use Rattle.vm_model.specs.Answering.{passes_end}
+use Rattle.vm_model.specs.Regions.{region_among, region_with, replace_in}
+use Rattle.vm_model.specs.declared.limits.TheConstants.{MOST_MADE}
 use Rattle.vm_model.specs.declared.tables.Actor.{Actor}
 use Rattle.vm_model.specs.declared.tables.Cache.{Cache}
 use Rattle.vm_model.specs.declared.tables.Region.{Region}
 use Rattle.vm_model.specs.declared.tables.Tables.{Tables}
 use Rattle.vm_model.specs.declared.place.Found.{Found}
+use Rattle.vm_model.specs.declared.located.Located.{Located}
 
 abbrev pub region_seen : Region → model.Region
 region_seen r =
@@ -51,6 +54,20 @@ abbrev pub found_seen : Result Found Refusal → Result model_place.Place Refusa
 found_seen (Ok f) = Ok (place_seen f)
 found_seen (Err e) = Err e
 
+-- The first of these regions with this number stands at this place.
+pub record IsPlaceOf (number : ℕ) (regions : List Region) (place : ℕ) (region : Region)
+    : Type 0 where
+  pub there : slice_get regions place ≡ Some region
+  pub is : region.number.0 ≡ number
+  pub first : region_among number (map region_seen (take place regions)) ≡ None
+
+-- The first of these actors that has a region with this number has it at this place.
+pub record IsLocated (number : ℕ) (actors : List (Option Actor)) (l : Located) : Type 0 where
+  pub actor : Actor
+  pub there : model.numbered actors l.actor.0 ≡ Some actor
+  pub place : IsPlaceOf number actor.regions.items l.place l.region
+  pub first : region_with number (actors_seen (take (l.actor.0 - 1) actors)) ≡ None
+
 -- a region ends within the addresses, and its pages are those of a live cache
 pub record IsPlaced (page_bytes : ℕ) (caches : List (Option Cache)) (r : Region) : Type 0 where
   pub ends : r.start + page_bytes * r.pages ≤ 2 ^ 48
@@ -61,6 +78,16 @@ pub record IsPlaced (page_bytes : ℕ) (caches : List (Option Cache)) (r : Regio
 abbrev pub ArePlaced : ℕ → List (Option Cache) → Option Actor → Type 0
 ArePlaced page_bytes caches None = Unit {0}
 ArePlaced page_bytes caches (Some a) = All (IsPlaced page_bytes caches) a.regions.items
+
+-- The region that was located, and nothing else, became these; they are placed where the others are.
+pub record IsReplaced (l : Located) (parts : List Region) (before after : List (Option Actor))
+    : Type 0 where
+  pub seen : (by : model.Region → List model.Region)
+      → by (region_seen l.region) ≡ map region_seen parts
+      → actors_seen after ≡ replace_in l.region.number.0 by (actors_seen before)
+  pub placed : (page_bytes : ℕ) (caches : List (Option Cache))
+      → All (IsPlaced page_bytes caches) parts → All (ArePlaced page_bytes caches) before
+      → All (ArePlaced page_bytes caches) after
 
 -- The pages of a copy or a move are there.
 pub record IsSpanned (t : Tables) (s : Span) : Type 0 where
@@ -79,6 +106,7 @@ HasPages page_bytes (Some c) = All (λ p. length p.items ≡ page_bytes) c.pages
 pub record IsSound (t : Tables) : Type 0 where
   pub some : 1 ≤ t.page_bytes
   pub most : t.page_bytes ≤ 2 ^ 16
+  pub few : length t.actors.items ≤ MOST_MADE
   pub living : t.living ≡ model.living_actors (machine_seen t)
   pub live : t.live ≡ model.live_pages (machine_seen t)
   pub whole : All (HasPages t.page_bytes) t.caches.items

@@ -12,12 +12,12 @@ ghost use Rattle.vm_model.specs.Place.{place};
 ghost use Rattle.vm_model.specs.Seen.{machine_seen, IsSound};
 
 use crate::tables::Tables;
-use crate::{LIVE_PAGES, accesses, actors, caches, copies, extents, maps, place, telling};
+use crate::{LIVE_PAGES, accesses, actors, caches, copies, extents, located, maps, place, telling};
 use std::alloc::Global;
 use std::marker::Model;
 use vm_ids::{
-    ActorId, CacheId, ChainList, Command, Counts, Extent, Mapping, NoMemory, PageNo, Piece,
-    RegionId, Reply, SegId, Span, Trouble,
+    ActorId, CacheId, ChainList, Command, Counts, Extent, Mapping, NoMemory, PageNo, Piece, Prot,
+    RegionId, RegionStatus, Reply, SegId, Span, Trouble,
 };
 
 /// The machine itself, run plainly: each cache is a vector of pages, and a copy copies at once. It is the yardstick of
@@ -71,6 +71,17 @@ impl EagerMachine {
         ensures whole { HasWholePages self.new }
     {
         actors::make_actor(&mut self.tables)
+    }
+
+    /// Ends an actor, and takes its regions away. Refused as `NoActor` exactly where no living
+    /// actor has the number. It takes no memory.
+    #[tactic(auto, using(crate::proofs::Sound::whole))]
+    pub fn exit_actor(&mut self, actor: ActorId) -> Result<(), Trouble>
+        ensures outcome { PlainOutcome self.old (Command.ExitActor actor)
+            (answer_by (λ _. Reply.Done) result) self.new }
+        ensures whole { HasWholePages self.new }
+    {
+        actors::exit_actor(&mut self.tables, actor)
     }
 
     /// Makes a temporary cache of so many zero pages, at least one. Refused as `TooMany` exactly where 65,535 caches
@@ -204,6 +215,31 @@ impl EagerMachine {
         maps::map(&mut self.tables, actor, mapping)
     }
 
+    /// Cuts a region in two: it keeps so many pages, at least one, and a new region, which allows
+    /// the same, has the others. Refused as `NoRegion`, as `BadAddress` where the region hasn't
+    /// more pages, or as `TooMany` where 65,535 regions were made, in this order. `Memory` where
+    /// there is none for the new region.
+    #[tactic(auto, using(crate::proofs::Sound::whole))]
+    pub fn split(&mut self, region: RegionId, pages: u32) -> Result<RegionId, Trouble>
+        requires { 1 ≤ pages }
+        ensures outcome { PlainOutcome self.old (Command.Split region pages)
+            (answer_by Reply.Region result) self.new }
+        ensures whole { HasWholePages self.new }
+    {
+        located::split(&mut self.tables, region, pages)
+    }
+
+    /// Changes what a region allows beside reading. Refused as `NoRegion` exactly where no region
+    /// of a living actor has the number. It takes no memory.
+    #[tactic(auto, using(crate::proofs::Sound::whole))]
+    pub fn protect(&mut self, region: RegionId, prot: Prot) -> Result<(), Trouble>
+        ensures outcome { PlainOutcome self.old (Command.Protect region prot)
+            (answer_by (λ _. Reply.Done) result) self.new }
+        ensures whole { HasWholePages self.new }
+    {
+        located::protect(&mut self.tables, region, prot)
+    }
+
     /// Loads so many bytes, 1 to 64, at an address of an actor. Refused as `NoActor`, `Crosses` or `BadAddress`, in
     /// this order. It takes no memory.
     pub fn load(&self, actor: ActorId, address: u64, bytes: u8) -> Result<Piece, Trouble>
@@ -309,6 +345,24 @@ impl EagerMachine {
         ensures whole { HasWholePages self.new }
     {
         maps::unmap(&mut self.tables, region)
+    }
+
+    /// What there is to tell of a region, which this machine never locks. Refused as `NoRegion`
+    /// exactly where no region of a living actor has the number. It takes no memory.
+    pub fn status(&self, region: RegionId) -> Result<RegionStatus, Trouble>
+        ensures { PlainOutcome self.now (Command.Status region)
+            (answer_by Reply.Status result) self.now }
+    {
+        telling::status(&self.tables, region)
+    }
+
+    /// The region of an actor that holds an address. Refused as `NoActor` or `BadAddress`, in this
+    /// order. It takes no memory.
+    pub fn find(&self, actor: ActorId, address: u64) -> Result<RegionId, Trouble>
+        ensures { PlainOutcome self.now (Command.Find actor address)
+            (answer_by Reply.Region result) self.now }
+    {
+        telling::find(&self.tables, actor, address)
     }
 
     /// The segment that names the cache of these pages. Refused as `NoCache`, `NotNamed` or

@@ -17,6 +17,7 @@ mod eager_machine;
 mod extents;
 pub mod laws;
 mod limits;
+mod located;
 mod maps;
 mod numbering;
 mod place;

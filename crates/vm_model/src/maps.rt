@@ -1,13 +1,13 @@
 // Regions are mapped and taken away.
-ghost use Rattle.std.specs.Prelude.{None, ◌==◌, not, filter, is_some, ◌≡◌, ℕ, ◌+◌, ◌-◌, ◌*◌, ◌^◌, ◌≤◌, ◌<◌, map, length, insert, nat_lt, All, OnOk, OnErr, IsSome, List, Option, option_map, slice_set};
+ghost use Rattle.std.specs.Prelude.{None, ◌==◌, not, filter, ◌≡◌, ℕ, ◌+◌, ◌-◌, ◌*◌, ◌^◌, ◌≤◌, ◌<◌, map, length, insert, nat_lt, All, OnOk, OnErr, IsSome, List, Option, option_map, slice_set};
 ghost use Rattle.std.specs.List.{list_any};
 ghost use Rattle.vm_model.specs.Answering.{answer_by, insert_region, overlaps, region_of, without_region};
-ghost use Rattle.vm_model.specs.Regions.{region_among, region_with};
 ghost use Rattle.vm_model.specs.Machine.{numbered};
 ghost use Rattle.vm_model.specs.Outcome.{PlainOutcome};
 ghost use Rattle.vm_model.specs.Seen.{ArePlaced, IsPlaced, IsSound, actor_seen, actors_seen, machine_seen, region_seen};
 
 use crate::MOST_MADE;
+use crate::located::locate;
 use crate::place::{actor_at, cache_at, passes_end};
 use crate::tables::{Actor, Cache, Region, Tables};
 use vm_ids::{ADDRESS_END, ActorId, Command, Mapping, NoMemory, Refusal, RegionId, Reply, Trouble};
@@ -156,32 +156,6 @@ pub(crate) fn map(
     }
 }
 
-// Whether one of these regions has the number.
-fn has_region(regions: &[Region], number: RegionId) -> bool
-    ensures { result ≡ is_some (region_among number.0 (map region_seen regions.now)) }
-{
-    for region in regions {
-        if region.number == number {
-            return true;
-        }
-    }
-    false
-}
-
-// Whether a region of a living actor has the number.
-fn is_region(actors: &[Option<Actor>], number: RegionId) -> bool
-    ensures { result ≡ is_some (region_with number.0 (actors_seen actors.now)) }
-{
-    for actor in actors {
-        if let Some(actor) = actor {
-            if has_region(&actor.regions, number) {
-                return true;
-            }
-        }
-    }
-    false
-}
-
 // The regions but for the one with the number.
 fn drop_from(regions: &mut Vec<Region>, number: RegionId)
     ensures { regions.new.items
@@ -222,7 +196,7 @@ pub(crate) fn unmap(tables: &mut Tables, region: RegionId) -> Result<(), Trouble
     ensures outcome { PlainOutcome (machine_seen tables.old) (Command.Unmap region)
         (answer_by (λ _. Reply.Done) result) (machine_seen tables.new) }
 {
-    if !is_region(&tables.actors, region) {
+    if locate(tables, region).is_none() {
         return Err(Trouble::Refused(Refusal::NoRegion));
     }
     drop_region(&mut tables.actors, region);

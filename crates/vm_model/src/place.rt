@@ -62,7 +62,7 @@ pub(crate) fn passes_end(cache: &Cache, first: u32, pages: u32) -> bool
 }
 
 // The region that holds the address.
-fn region_holding(regions: &[Region], page_bytes: u64, address: u64) -> Option<Region>
+pub(crate) fn region_holding(regions: &[Region], page_bytes: u64, address: u64) -> Option<Region>
     requires bytes { page_bytes ≤ 2 ^ 16 }
     requires ends { All (λ r. r.start + page_bytes * r.pages ≤ 2 ^ 48) regions.now }
     ensures found { option_map region_seen result

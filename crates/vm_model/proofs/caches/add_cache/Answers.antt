@@ -15,6 +15,7 @@ returns-clause-sound c =
     record {
       some = sound.some;
       most = sound.most;
+      few = sound.few;
       living = sound.living;
       live = rw items (omega (arith, sound.live, c.len-pages.ensures, made.pages.ok.0, c.requires.room, live-push t.caches.items (Some made), length-map made.pages.items (λ p. p.items)));
       whole = rw items (All-push (HasPages t.page_bytes) t.caches.items (Some made) sound.whole c.requires.whole);
