@@ -20,7 +20,7 @@ use Rattle.local_cache.specs.Arena.{Arena}
 use Rattle.local_cache.specs.Whole.{IsWhole}
 use Rattle.residency.specs.declared.store.Store.{Store}
 use Rattle.contexts.specs.Actors.{Actors}
-use Rattle.pvm_core.specs.Manager.{IsValid, Manager, caches_shown, forest_of, state_at}
+use Rattle.pvm_core.specs.Manager.{IsValid, Manager, caches_shown, forest_of, machine_of, state_at}
 use Rattle.pvm_core.proofs.Answered.{seated}
 use Rattle.pvm_core.proofs.Kept.{seated_valid, seen}
 use Rattle.pvm_core.proofs.Listed.{machine_with}
@@ -40,20 +40,20 @@ module _ (a : Arena) (s : Store) (t : Actors) (p : Manager) (view : seen a s t �
   module _ (command : Command) (of : IsOfActors command) (answer : Answer) (nodes : IsWhole a) where
     -- a call that changes actors
     pub acted : (u : Actors) → u.page_bytes ≡ t.page_bytes
-        → ((f : PageForest) (k : Segments) → Outcome (machine_with (caches_shown f 1 a.caches) (length s.frames.held) t) (Some (forest_of (seen a s t) h)) command k answer
+        → ((f : PageForest) (g : Option PageForest) (k : Segments) → Outcome (machine_with (caches_shown f 1 a.caches) (length s.frames.held) t) g command k answer
         (machine_with (caches_shown f 1 a.caches) (length s.frames.held) u) no_counts)
         → AnswerIs (state_at p h) command answer [] no_counts (state_at (seen a s u) h)
     acted u page outcome =
         subst (λ (p : Manager). AnswerIs (state_at p h) command answer [] no_counts (state_at (seen a s u) h)) view
-        (seated (seen a s t) (seen a s u) h command answer nodes nodes (acted_valid u page) refl of.none of.reaches (of.synchronised _ _ answer) (λ f. of.stays _ _ f) outcome)
+        (seated (seen a s t) (seen a s u) h command answer nodes nodes (acted_valid u page) refl of.none of.reaches (of.synchronised (machine_of (seen a s t) h) (segments_of h) answer) (of.stays (machine_of (seen a s t) h) (machine_of (seen a s u) h)) (λ f. outcome f (Some (forest_of (seen a s t) h))))
 
     -- a call that changes nothing
-    pub told : ((f : PageForest) (k : Segments) → Outcome (machine_with (caches_shown f 1 a.caches) (length s.frames.held) t) (Some (forest_of (seen a s t) h)) command k answer
+    pub told : ((f : PageForest) (g : Option PageForest) (k : Segments) → Outcome (machine_with (caches_shown f 1 a.caches) (length s.frames.held) t) g command k answer
         (machine_with (caches_shown f 1 a.caches) (length s.frames.held) t) no_counts)
         → AnswerIs (state_at p h) command answer [] no_counts (state_at p h)
     told outcome =
         subst (λ (p : Manager). AnswerIs (state_at p h) command answer [] no_counts (state_at p h)) view
-        (seated (seen a s t) (seen a s t) h command answer nodes nodes (acted_valid t refl) refl of.none of.reaches (of.synchronised _ _ answer) (λ f. of.stays _ _ f) outcome)
+        (seated (seen a s t) (seen a s t) h command answer nodes nodes (acted_valid t refl) refl of.none of.reaches (of.synchronised (machine_of (seen a s t) h) (segments_of h) answer) (of.stays (machine_of (seen a s t) h) (machine_of (seen a s t) h)) (λ f. outcome f (Some (forest_of (seen a s t) h))))
 
 -- The commands ------------------------------------------------------------------------------
 

@@ -181,11 +181,16 @@ module _ (caches : List (Option model.Cache)) (frames : ℕ) (t : Actors) where
       go (Some r) here e = absurd (cc e)
 
   module _ (f : Option PageForest) (h : Segments) where
-    pub status_outcome : (region : RegionId) (o : Option RegionStatus) → o ≡ status_with region.0 1 t.actors
-        → Outcome (machine_with caches frames t) f (commands.Status region) h (answer_by replies.Status (ok_or o (troubles.Refused refusals.NoRegion))) (machine_with caches frames t) no_counts
+    pub status_outcome : (region : RegionId) (o : Option RegionStatus) (result : Result RegionStatus Trouble) → o ≡ status_with region.0 1 t.actors → result ≡ ok_or o (troubles.Refused refusals.NoRegion)
+        → Outcome (machine_with caches frames t) f (commands.Status region) h (answer_by replies.Status result) (machine_with caches frames t) no_counts
     unfolding status_of with_some
-    status_outcome region None told = let e = sym told in rw e refl
-    status_outcome region (Some status) told = let e = sym told in rw e refl
+    status_outcome region o result told is =
+        subst (λ (r : Result RegionStatus Trouble). Outcome (machine_with caches frames t) f (commands.Status region) h (answer_by replies.Status r) (machine_with caches frames t) no_counts) (sym is) (go o told)
+      where
+        go : (o : Option RegionStatus) → o ≡ status_with region.0 1 t.actors
+            → Outcome (machine_with caches frames t) f (commands.Status region) h (answer_by replies.Status (ok_or o (troubles.Refused refusals.NoRegion))) (machine_with caches frames t) no_counts
+        go None told = let e = sym told in rw e refl
+        go (Some status) told = let e = sym told in rw e refl
 
     pub find_ok : (actor : ActorId) (address : ℕ) (region : RegionId) → Ok region ≡ holder_of t.page_bytes (numbered t.actors actor.0) address
         → Outcome (machine_with caches frames t) f (commands.Find actor address) h (Ok (replies.Region region)) (machine_with caches frames t) no_counts
@@ -200,10 +205,11 @@ module _ (caches : List (Option model.Cache)) (frames : ℕ) (t : Actors) where
             at None there e = absurd (cc e)
             at (Some r) there e = let same : id_of r ≡ region = cc e in rw (here, there) (ap (λ (x : RegionId). reply (replies.Region x) (machine_with caches frames t)) same)
 
-    pub find_err : (actor : ActorId) (address : ℕ) (refusal : Refusal) → Err refusal ≡ holder_of t.page_bytes (numbered t.actors actor.0) address
-        → Outcome (machine_with caches frames t) f (commands.Find actor address) h (Err (troubles.Refused refusal)) (machine_with caches frames t) no_counts
+    pub find_err : (actor : ActorId) (address : ℕ) (refusal : Refusal) (result : Result RegionId Trouble) → Err refusal ≡ holder_of t.page_bytes (numbered t.actors actor.0) address → result ≡ Err (troubles.Refused refusal)
+        → Outcome (machine_with caches frames t) f (commands.Find actor address) h (answer_by replies.Region result) (machine_with caches frames t) no_counts
     unfolding find_of with_some
-    find_err actor address refusal e = go (numbered t.actors actor.0) refl e
+    find_err actor address refusal result e is =
+        subst (λ (r : Result RegionId Trouble). Outcome (machine_with caches frames t) f (commands.Find actor address) h (answer_by replies.Region r) (machine_with caches frames t) no_counts) (sym is) (go (numbered t.actors actor.0) refl e)
       where
         go : (o : Option model.Actor) → numbered t.actors actor.0 ≡ o → Err refusal ≡ holder_of t.page_bytes o address → find_of (machine_with caches frames t) actor.0 address ≡ refuse (machine_with caches frames t) refusal
         go None here e = let same : refusals.NoActor ≡ refusal = cc e in rw here (ap (refuse (machine_with caches frames t)) same)

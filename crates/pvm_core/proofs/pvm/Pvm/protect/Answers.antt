@@ -24,7 +24,7 @@ returns-then-not-protect-clause-answers c = λ h v.
     let same = e.none none in
     acted i.caches i.store t _ c.self.view_is h v (commands.Protect c.args.region c.args.prot) (protected c.args.region c.args.prot) (Err (troubles.Refused refusals.NoRegion)) c.self.invariant.nodes c.protect.new.self
     (ap (λ (w : Actors). w.page_bytes) same)
-    (λ f k. let caches = caches_shown f 1 i.caches.caches in
+    (λ f g k. let caches = caches_shown f 1 i.caches.caches in
     let frames = length i.store.frames.held in
     protect_none caches frames t c.args.region.0 c.args.prot (sym e.found ∙ none) ∙ ap (λ (w : Actors). refuse (machine_with caches frames w) refusals.NoRegion) (sym same))
 
@@ -52,6 +52,6 @@ returns-clause-answers c = λ h v.
     let new = e.changed there in
     acted i.caches i.store t _ c.self.view_is h v (commands.Protect c.args.region c.args.prot) (protected c.args.region c.args.prot) (Ok replies.Done) c.self.invariant.nodes c.protect.new.self
     (ap (λ (w : Actors). w.page_bytes) new)
-    (λ f k. let caches = caches_shown f 1 i.caches.caches in
+    (λ f g k. let caches = caches_shown f 1 i.caches.caches in
     let frames = length i.store.frames.held in
     protect_row caches frames t c.args.region.0 c.args.prot (sym e.found ∙ there) ∙ ap (λ (w : Actors). reply replies.Done (machine_with caches frames w)) (sym new))

@@ -43,7 +43,7 @@ returns-clause-answers c = λ h v.
     let pages = c.args.pages in
     acted i.caches i.store t _ c.self.view_is h v (commands.Split region pages) (cut region pages) (answer_by replies.Region c.split.result) c.self.invariant.nodes u
     (after_either (λ (w : Actors). w.page_bytes ≡ t.page_bytes) t u (with_split t region.0 pages) c.split.result e.ok e.err refl refl)
-    (λ f k. split_outcome t u region pages (caches_shown f 1 i.caches.caches) (length i.store.frames.held) _ k (split_refusal t region.0 pages) c.split.result refl e.refused e.made e.ok e.err)
+    (λ f g k. split_outcome t u region pages (caches_shown f 1 i.caches.caches) (length i.store.frames.held) g k (split_refusal t region.0 pages) c.split.result refl e.refused e.made e.ok e.err)
 
 pub returns-clause-err : goal.returns-clause-err
 returns-clause-err c =
