@@ -38,6 +38,7 @@ alike_itself (Ok (replies.Actor x)) = refl
 alike_itself (Ok (replies.Cache x)) = refl
 alike_itself (Ok (replies.Region x)) = refl
 alike_itself (Ok (replies.Chain x)) = refl
+alike_itself (Ok (replies.Status x)) = refl
 alike_itself (Ok (replies.Stat x)) = refl
 alike_itself (Err e) = refl
 

@@ -1,5 +1,7 @@
 mod Found
 mod Listed
+mod RegionRows
+mod Acting
 mod Shown
 mod Empty
 mod Values

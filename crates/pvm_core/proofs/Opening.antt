@@ -1,7 +1,5 @@
 -- A segment is opened.
 
--- The store is right beside the cache that is made.
-pub mod Right
 -- The pages of a new cache in the forest of the store.
 pub mod Forest
 -- The machine with one cache more.

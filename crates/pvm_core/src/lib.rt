@@ -13,6 +13,7 @@ mod maps;
 mod nodes;
 mod pieces;
 mod pvm;
+mod region_calls;
 mod saving;
 mod segments;
 mod spans;

@@ -15,7 +15,6 @@ ghost use Rattle.pvm_core.specs.Saving.{CopiesSaved, NeedsNothing, RefusedOf, al
 ghost use Rattle.pvm_core.specs.Spans.{replaced};
 ghost use Rattle.pvm_core.specs.Manager.{IsValid, forest_of, machine_of, nodes_of, numbered, state_at};
 
-use crate::maps::map_refusal;
 use crate::nodes::{node_of, reserve};
 use crate::pieces::{fault_of, part_of, write_frame};
 use crate::spans::{copy_refusal, destination, move_refusal};
@@ -29,8 +28,8 @@ use residency::Store;
 use std::alloc::Global;
 use std::marker::Model;
 use vm_ids::{
-    ActorId, CacheId, ChainList, Command, Counts, Extent, FaultAt, Mapping, NoMemory, PageNo,
-    Piece, Refusal, RegionId, Reply, Span, Trouble,
+    ActorId, CacheId, ChainList, Command, Counts, Extent, FaultAt, NoMemory, PageNo, Piece,
+    Refusal, Reply, Span, Trouble,
 };
 use vm_model::{LIVE_PAGES, MOST_MADE};
 use vm_port::{Chooser, Mapper};
@@ -99,6 +98,22 @@ impl Pvm {
         ensures err { OnErr result (self.new ≡ self.old) }
     {
         self.contexts.make()
+    }
+
+    /// Ends an actor, and takes its regions away. Refused as `NoActor` exactly where it isn't alive.
+    pub fn exit_actor(&mut self, actor: ActorId) -> Result<(), Trouble>
+        ensures valid { StaysValid IsValid self.old self.new }
+        ensures answers { Answers IsValid state_at self.old
+            (Command.ExitActor actor) (done_by result) self.new }
+        ensures made { Numbers IsValid machine_of numbered self.old
+            (Command.ExitActor actor) (done_by result) self.new }
+        ensures err { OnErr result (self.new ≡ self.old) }
+    {
+        if self.contexts.regions(actor).is_none() {
+            return Err(Trouble::Refused(Refusal::NoActor));
+        }
+        self.contexts.exit(actor);
+        Ok(())
     }
 
     /// Makes a temporary cache of so many zero pages. Refused as `TooMany` exactly where 65,535 caches were made or
@@ -235,42 +250,6 @@ impl Pvm {
         }
         self.make_ready(destination(span), span.pages, mapper, chooser)?;
         move_pages(&mut self.store, &mut self.caches, span);
-        Ok(())
-    }
-
-    /// Maps pages of a cache into an actor. Refused as `NoActor`, `NoCache`, `Unaligned`, `BadAddress`, `OutOfCache`,
-    /// `Overlap` or `TooMany`, in this order.
-    pub fn map(&mut self, actor: ActorId, mapping: Mapping) -> Result<RegionId, Trouble>
-        requires some { 1 ≤ mapping.extent.pages }
-        ensures valid { StaysValid IsValid self.old self.new }
-        ensures answers { Answers IsValid state_at self.old
-            (Command.Map actor mapping) (answer_by Reply.Region result) self.new }
-        ensures made { Numbers IsValid machine_of numbered self.old
-            (Command.Map actor mapping) (answer_by Reply.Region result) self.new }
-        ensures err { OnErr result (self.new ≡ self.old) }
-    {
-        let count = self.caches.pages(mapping.extent.cache);
-        if let Some(refusal) = map_refusal(&self.contexts, actor, &mapping, count) {
-            return Err(Trouble::Refused(refusal));
-        }
-        match self.contexts.map(actor, mapping) {
-            Ok(region) => Ok(region),
-            Err(NoMemory) => Err(Trouble::Memory),
-        }
-    }
-
-    /// Takes a region away. Refused as `NoRegion` or `Locked`, in this order.
-    pub fn unmap(&mut self, region: RegionId) -> Result<(), Trouble>
-        ensures valid { StaysValid IsValid self.old self.new }
-        ensures answers { Answers IsValid state_at self.old
-            (Command.Unmap region) (done_by result) self.new }
-        ensures made { Numbers IsValid machine_of numbered self.old
-            (Command.Unmap region) (done_by result) self.new }
-        ensures err { OnErr result (self.new ≡ self.old) }
-    {
-        if !self.contexts.unmap(region) {
-            return Err(Trouble::Refused(Refusal::NoRegion));
-        }
         Ok(())
     }
 

@@ -27,7 +27,7 @@ const PAGES: u32 = 12;
 
 const PAGE: u32 = 4;
 
-// Four caches can be mapped, side by side, and behind them the one whose pages are looked at.
+// Four caches can be mapped, side by side.
 const PLACES: u32 = 4;
 
 const MAPPED: u32 = PLACES * PAGES * PAGE;
@@ -44,9 +44,12 @@ const SECOND: &[u8] = b"The second one's twelve pages, the last denied.\n";
 const DENIED: (SegId, PageNo) = (SegId(2), PageNo(PAGES - 1));
 
 // So many kinds of commands are counted, and each is to be done so often.
-const KINDS: usize = 12;
+const KINDS: usize = 17;
 
 const OFTEN: u32 = 20;
+
+// This actor looks, and another acts.
+const WATCHER: ActorId = ActorId(1);
 
 // Commands by a linear congruential generator. Now and then all pages of all caches are looked at:
 // each cache is mapped, loaded page by page, and unmapped.
@@ -56,14 +59,17 @@ struct Script {
     caches: u32,
     // The caches that the segments name, or named last.
     named: [CacheId; 2],
-    // The regions that were mapped last, one for each place.
-    regions: [RegionId; 5],
+    // The actor that acts, or none where it ended, and its region that was told last.
+    actor: Option<ActorId>,
+    region: RegionId,
     // So many commands come between two looks, and so many are left before the next.
     apart: u32,
     left: u32,
-    // The cache that is looked at, with those below it still to come, and the step of the look.
+    // The cache that is looked at, with those below it still to come, the step of the look, and the
+    // region through which it is seen.
     seen: u32,
     step: u32,
+    view: RegionId,
 }
 
 impl Script {
@@ -72,11 +78,13 @@ impl Script {
             state: seed,
             caches: 0,
             named: [CacheId(0); 2],
-            regions: [RegionId(0); 5],
+            actor: None,
+            region: RegionId(0),
             apart,
             left: apart,
             seen: 0,
             step: 0,
+            view: RegionId(0),
         }
     }
 
@@ -144,11 +152,20 @@ impl Script {
         self.below(MAPPED) as u64
     }
 
-    // A command.
+    fn prot(&mut self) -> Prot {
+        Prot {
+            write: self.below(8) > 0,
+        }
+    }
+
+    // A command. An actor that ended is followed by the next.
     fn command(&mut self) -> Result<Command, Fail>
         ensures { IfOk result (λ c. IsWellFormed c) }
     {
-        Ok(match self.below(32) {
+        let Some(actor) = self.actor else {
+            return Ok(Command::MakeActor);
+        };
+        Ok(match self.below(40) {
             0..=1 => Command::MakeTemp(PAGES),
             2..=3 => Command::OpenSegment(SegId(1 + self.below(2))),
             4 => Command::Destroy(self.of_segment()),
@@ -157,22 +174,24 @@ impl Script {
             11..=12 => Command::Move(self.span()),
             13..=15 => {
                 let cache = self.cache();
-                let prot = Prot {
-                    write: self.below(8) > 0,
-                };
-                Command::Map(ActorId(1), whole(cache, cache.0 % PLACES, prot))
+                Command::Map(actor, whole(cache, cache.0 % PLACES, self.prot()))
             }
-            16 => Command::Unmap(self.regions[self.below(PLACES) as usize]),
+            16 => Command::Unmap(self.region),
             17..=22 => {
                 let bytes = [self.below(256) as u8, self.below(256) as u8];
                 let piece = Piece::new(&bytes).ok_or("no piece")?;
-                Command::Store(ActorId(1), self.address(), piece)
+                Command::Store(actor, self.address(), piece)
             }
-            23..=26 => Command::Load(ActorId(1), self.address(), 1),
+            23..=26 => Command::Load(actor, self.address(), 1),
             27 => Command::Sync(self.extent()),
             28 => Command::Flush(self.extent()),
             29 => Command::Invalidate(self.extent()),
-            _ => Command::PageOut(1 + self.below(3)),
+            30..=31 => Command::PageOut(1 + self.below(3)),
+            32 => Command::Split(self.region, 1 + self.below(PAGES)),
+            33 => Command::Protect(self.region, self.prot()),
+            34 => Command::Status(self.region),
+            35..=38 => Command::Find(actor, self.address()),
+            _ => Command::ExitActor(actor),
         })
     }
 
@@ -184,15 +203,15 @@ impl Script {
         self.step = step.saturating_add(1);
         if step == 0 {
             let prot = Prot { write: false };
-            return Command::Map(ActorId(1), whole(CacheId(self.seen), PLACES, prot));
+            return Command::Map(WATCHER, whole(CacheId(self.seen), 0, prot));
         }
         if step <= PAGES {
-            let address = MAPPED + (step - 1) * PAGE;
-            return Command::Load(ActorId(1), address as u64, PAGE as u8);
+            let address = (step - 1) * PAGE;
+            return Command::Load(WATCHER, address as u64, PAGE as u8);
         }
         self.seen = self.seen.saturating_sub(1);
         self.step = 0;
-        Command::Unmap(self.regions[PLACES as usize])
+        Command::Unmap(self.view)
     }
 
     fn next(&mut self) -> Result<Command, Fail>
@@ -210,7 +229,7 @@ impl Script {
         Ok(Command::Stat)
     }
 
-    // What was made; and there is no look at a cache that isn't there.
+    // What was made or found; and there is no look at a cache that isn't there.
     fn hear(&mut self, command: &Command, answer: &Answer) {
         match (command, answer) {
             (Command::OpenSegment(seg), Ok(Reply::Cache(cache))) => {
@@ -218,8 +237,14 @@ impl Script {
                 put(&mut self.named, seg.0.saturating_sub(1) as usize, *cache);
             }
             (_, Ok(Reply::Cache(cache))) => self.caches = cache.0,
-            (Command::Map(_, mapping), Ok(Reply::Region(region))) => {
-                put(&mut self.regions, place_of(mapping), *region);
+            (_, Ok(Reply::Actor(actor))) => self.actor = Some(*actor),
+            (Command::ExitActor(_), Ok(_)) => self.actor = None,
+            (_, Ok(Reply::Region(region))) => {
+                if self.step > 0 {
+                    self.view = *region;
+                } else {
+                    self.region = *region;
+                }
             }
             (_, Err(_)) if self.step > 0 => {
                 self.seen = self.seen.saturating_sub(1);
@@ -232,7 +257,7 @@ impl Script {
 
 // A whole cache at a place.
 fn whole(cache: CacheId, place: u32, prot: Prot) -> Mapping
-    requires { place ≤ 4 }
+    requires { place < 4 }
     ensures { 1 ≤ result.extent.pages }
 {
     Mapping {
@@ -244,11 +269,6 @@ fn whole(cache: CacheId, place: u32, prot: Prot) -> Mapping
         address: (place * PAGES * PAGE) as u64,
         prot,
     }
-}
-
-// The place of a whole cache.
-fn place_of(mapping: &Mapping) -> usize {
-    (mapping.address / (PAGES * PAGE) as u64) as usize
 }
 
 // Puts one in its place, where there is such a place.
@@ -266,6 +286,7 @@ fn same(one: &Answer, other: &Answer) -> bool {
         (Ok(Reply::Cache(a)), Ok(Reply::Cache(b))) => a == b,
         (Ok(Reply::Region(a)), Ok(Reply::Region(b))) => a == b,
         (Ok(Reply::Bytes(a)), Ok(Reply::Bytes(b))) => a.as_slice() == b.as_slice(),
+        (Ok(Reply::Status(a)), Ok(Reply::Status(b))) => a == b,
         (Ok(Reply::Stat(a)), Ok(Reply::Stat(b))) => a.live == b.live,
         (Err(a), Err(b)) => a == b,
         _ => false,
@@ -369,6 +390,11 @@ impl Tally {
             (Command::Destroy(cache), _) => 6 + is_one_of(named, *cache) as usize,
             (Command::Copy(span), _) => 8 + is_one_of(named, span.to) as usize,
             (Command::Move(span), _) => 10 + is_one_of(named, span.to) as usize,
+            (Command::ExitActor(_), _) => 12,
+            (Command::Split(..), _) => 13,
+            (Command::Protect(..), _) => 14,
+            (Command::Status(_), _) => 15,
+            (Command::Find(..), _) => 16,
             _ => return,
         };
         self.done[kind] = self.done[kind].saturating_add(1);
@@ -497,11 +523,13 @@ fn succeeds<G: Gmi<M, C>, M: Mapper, C: Chooser>(
         prot: Prot { write: true },
     };
     let map = Command::Map(ActorId(1), mapping);
+    let split = Command::Split(RegionId(1), 1);
     let chain = Command::Chain(CacheId(2), PageNo(0));
     assert!(rt; answer(gmi, &Command::MakeActor, mapper, chooser).is_ok());
     assert!(rt; answer(gmi, &Command::MakeTemp(PAGES), mapper, chooser).is_ok());
     assert!(rt; answer(gmi, &Command::MakeTemp(PAGES), mapper, chooser).is_ok());
     assert!(rt; answer(gmi, &map, mapper, chooser).is_ok());
+    assert!(rt; answer(gmi, &split, mapper, chooser).is_ok());
     assert!(rt; answer(gmi, &Command::Copy(span), mapper, chooser).is_ok());
     assert!(rt; answer(gmi, &Command::Move(span), mapper, chooser).is_ok());
     assert!(rt; answer(gmi, &chain, mapper, chooser).is_ok());

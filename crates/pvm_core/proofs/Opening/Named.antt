@@ -23,6 +23,7 @@ use Rattle.local_cache.proofs.NewCache.Whole.{fresh, named_alike, pages_with}
 use Rattle.local_cache.proofs.Nodes.Count.{forest_len}
 use Rattle.residency.specs.declared.store.Store.{Store}
 use Rattle.residency.specs.World.{world}
+use Rattle.residency.proofs.MadeNamed.{opened_right, own_new, own_old}
 use Rattle.vm_model.specs.declared.limits.TheConstants.{LIVE_PAGES, MOST_MADE}
 use Rattle.vm_model.specs.Run.{AnswerIs}
 use Rattle.contexts.specs.Actors.{Actors}
@@ -32,7 +33,6 @@ use Rattle.pvm_core.proofs.Kept.{seen}
 use Rattle.pvm_core.proofs.Live.{nodes_most}
 use Rattle.pvm_core.proofs.Opening.Answer.{answer_opened, named_page, whole_opened}
 use Rattle.pvm_core.proofs.Opening.Forest.{made_forest, with_pages}
-use Rattle.pvm_core.proofs.Opening.Right.{opened_right, own_new, own_old}
 use Rattle.pvm_core.proofs.Opening.Sound.{opened_full, opened_sized, opened_sound}
 use Rattle.pvm_core.proofs.Values.{followed_of}
 
