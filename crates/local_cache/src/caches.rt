@@ -58,7 +58,8 @@ impl Model for Caches {
 
     ghost view = { λ a. arena_of a.nodes a.caches a.lists a.thin_room a.made a.copies };
 
-    ghost invariant = { λ a. IsRight a.nodes a.caches.items a.lists a.thin a.thin_room a.working a.locked };
+    ghost invariant = { λ a. IsRight a.nodes a.caches.items a.lists a.thin a.thin_room a.working
+        a.locked };
 }
 
 // Makes a node for each page of a cache, and appends each to the lists of all pages.
@@ -275,8 +276,8 @@ impl Caches {
         ensures changed { self.new
             ≡ with_locks self.old cache.0 page.0 (locks_of self.old cache.0 page.0 + 1) }
         ensures locks { locks_of self.new cache.0 page.0 ≡ locks_of self.old cache.0 page.0 + 1 }
-        ensures locked { locked_count self.new
-            ≡ locked_count self.old + (if is_locked (locks_of self.old cache.0 page.0) then 0 else 1) }
+        ensures locked { locked_count self.new ≡ locked_count self.old
+            + (if is_locked (locks_of self.old cache.0 page.0) then 0 else 1) }
         ensures forest { forest_of self.new ≡ forest_of self.old }
         ensures sound { IsSound self.old → IsSound self.new }
         ensures stays { CellsStay self.old self.new }
@@ -291,8 +292,8 @@ impl Caches {
         ensures changed { self.new
             ≡ with_locks self.old cache.0 page.0 (locks_of self.old cache.0 page.0 - 1) }
         ensures locks { locks_of self.new cache.0 page.0 + 1 ≡ locks_of self.old cache.0 page.0 }
-        ensures locked { locked_count self.old
-            ≡ locked_count self.new + (if is_locked (locks_of self.new cache.0 page.0) then 0 else 1) }
+        ensures locked { locked_count self.old ≡ locked_count self.new
+            + (if is_locked (locks_of self.new cache.0 page.0) then 0 else 1) }
         ensures forest { forest_of self.new ≡ forest_of self.old }
         ensures sound { IsSound self.old → IsSound self.new }
         ensures stays { CellsStay self.old self.new }

@@ -25,7 +25,8 @@ use Rattle.local_cache.specs.Own.{is_in_slot, is_resident, is_slot, own_of, own_
 use Rattle.local_cache.specs.Reading.{name_of}
 use Rattle.local_cache.specs.Sound.{IsSound}
 use Rattle.local_cache.specs.Whole.{IsWhole, segment_of}
-use Rattle.local_cache.proofs.Changes.Granted.{granted_cell, granted_forest, granted_other, granted_sound, node_place}
+use Rattle.local_cache.proofs.Changes.Granted.{granted_cell, granted_forest, granted_other, granted_sound}
+use Rattle.local_cache.proofs.Changes.Retabled.{node_place}
 use Rattle.local_cache.proofs.Forest.ReadingBy.{lifted}
 use Rattle.local_cache.proofs.Names.Homes.{home-with_grant}
 use Rattle.local_cache.proofs.Tables.Sizes.{sizes_granted}
