@@ -216,9 +216,9 @@ impl EagerMachine {
     }
 
     /// Cuts a region in two: it keeps so many pages, at least one, and a new region, which allows
-    /// the same, has the others. Refused as `NoRegion`, as `BadAddress` where the region hasn't
-    /// more pages, or as `TooMany` where 65,535 regions were made, in this order. `Memory` where
-    /// there is none for the new region.
+    /// the same, has the others. Refused as `NoRegion`, as `BadAddress` where the region doesn't
+    /// have more pages than it is to keep, or as `TooMany` where 65,535 regions were made, in this
+    /// order. `Memory` where there is none for the new region.
     #[tactic(auto, using(crate::proofs::Sound::whole))]
     pub fn split(&mut self, region: RegionId, pages: u32) -> Result<RegionId, Trouble>
         requires { 1 ≤ pages }
