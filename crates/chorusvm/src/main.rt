@@ -2,8 +2,8 @@
 //!
 //! It is the top of the layers, and has no model of its own: what it answers is said by the contract of the one call
 //! that it makes, `replay::run`. Here stand only the adapters over the real streams and over the files of a folder, and
-//! the messages on standard error. In that folder, which the words name, `swap` is the swap area, and `seg.N` is
-//! segment N.
+//! the messages on standard error. The words name the folder, which is the working folder where they don't, and the size
+//! of a page. In the folder the file `seg.N` is segment N, and `swap` is the swap area.
 #![tactic(auto)]
 
 mod fault;
@@ -16,12 +16,11 @@ mod tests;
 
 use fault::Fault;
 use file_mapper::FileMapper;
-use replay::{Status, folder, run};
+use replay::{Status, folder, page_size, run};
 use sink::StreamSink;
 use source::StreamSource;
 use std::env;
 use std::process::ExitCode;
-use vm_ids::PAGE;
 use vm_port::Clock;
 
 // The words behind the program's name. Words that can't be had as text are those of no run.
@@ -48,7 +47,7 @@ fn run_words(rt: &HostRuntime, words: &[String]) -> Status {
     }
     let mut source = StreamSource::new(rt.stdin());
     let mut sink = StreamSink::new(rt.stdout());
-    let Ok(mut mapper) = FileMapper::new(rt, rt.alloc(), folder(&texts), PAGE as u32) else {
+    let Ok(mut mapper) = FileMapper::new(rt, rt.alloc(), folder(&texts), page_size(&texts)) else {
         return Status::NoMemory;
     };
     let mut chooser = Clock::new();

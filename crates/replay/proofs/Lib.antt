@@ -10,5 +10,7 @@ pub mod Running
 pub mod OneByte
 -- The bytes taken so far, and one more piece or the end.
 pub mod Endings
+-- What a command line asks for, as the definition has it and as clap reads it.
+pub mod CommandLine
 -- What a run promises, from how its replay ends.
 pub mod Promise

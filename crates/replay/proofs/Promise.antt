@@ -1,5 +1,5 @@
 -- What a run promises, from how its replay ends.
-use Rattle.std.proofs.Common.{◌≡◌, ◌≤◌, ◌<◌, ◌+◌, ℕ, List, [], ◌∷◌, ◌++◌, length, Option, Some, None, refl, sym, ap, subst, arith, inl}
+use Rattle.std.proofs.Common.{◌≡◌, ◌≤◌, ◌<◌, ◌+◌, ℕ, List, [], ◌∷◌, ◌++◌, length, Option, Some, None, refl, sym, ap, subst, ◌∙◌, arith, inl}
 use Rattle.std.specs.Prelude.{◌⊎◌, ◌↔◌, map, IfOk, IfSome, IsSomeAnd}
 use Rattle.std.specs.List.{AllByRecursion}
 use Rattle.std.proofs.lemmas.List.{length-append}
@@ -15,9 +15,10 @@ use Rattle.vm_model.specs.declared.limits.TheConstants.{LIVE_PAGES}
 use Rattle.vm_model.proofs.WholeRuns.Runs.{runs_are_followed}
 use Rattle.actor_script.specs.Forms.{command_of}
 use Rattle.replay.specs.Script.{most_bytes, lines_of}
-use Rattle.replay.specs.Ending.{Scene, Took, Ends, RunEnds, page_size}
+use Rattle.replay.specs.Ending.{Scene, Took, Ends, RunEnds}
 use Rattle.gmi_calls.specs.Calling.{Fits}
 use Rattle.replay.specs.declared.status.Status.{Status}
+use Rattle.replay.specs.declared.words.Asked.{Asked}
 use Rattle.replay.specs.declared.status.Status.TheVariants as statuses
 use Rattle.actor_script.proofs.WellFormed.{well_formed}
 
@@ -43,10 +44,10 @@ steps_formed first (r ∷ reads) (step ∷ steps) e h =
     let rest : lines_answered steps ≡ numbered_from (first + 1) reads = cc in
     (subst (λ (read : Read). IfOk read IsWellFormed) (sym same) h.0, steps_formed (first + 1) reads steps rest h.1)
 
-module _ (a : Scene) (frames : ℕ) (told : Option Segments) (begins : a.state ≡ record { machine = start frames page_size; forest = Some no_forest; segments = told }) where
+module _ (a : Scene) (frames page : ℕ) (some : 1 ≤ page) (told : Option Segments) (begins : a.state ≡ record { machine = start frames page; forest = Some no_forest; segments = told }) where
   run_followed : (reads : List Read) (steps : List Step) (after : State) → AreWellFormed reads → RunOf a.state reads steps after → IsSomeAnd after.forest (IsFollowed after.machine)
   run_followed reads steps after h run =
-      runs_are_followed frames page_size told reads steps after (omega arith) (steps_formed 1 reads steps run.order h) (subst (λ (s : State). RunOf s reads steps after) begins run)
+      runs_are_followed frames page told reads steps after some (steps_formed 1 reads steps run.order h) (subst (λ (s : State). RunOf s reads steps after) begins run)
 
   pub ends_followed : (status : Status) (b : Scene) (l k : Option (List ℕ)) → Ends status a b l k → IsSomeAnd b.state.forest (IsFollowed b.state.machine)
   ends_followed statuses.Done b l k h = run_followed _ h.answered.steps b.state (lines_formed (lines_of h.script)) h.answered.runs
@@ -59,14 +60,15 @@ module _ (a : Scene) (frames : ℕ) (told : Option Segments) (begins : a.state �
 
 -- the promise, from a replay that began with some machine and some forest, which were those of the
 -- start
-pub run_ends : (status : Status) (frames : ℕ) (old now : Machine → PageForest → Scene) (l k : Option (List ℕ)) (told : Option Segments) (m last : Machine) (f forest : PageForest)
+pub run_ends : (status : Status) (asked : Asked) (old now : Machine → PageForest → Scene) (l k : Option (List ℕ)) (told : Option Segments) (m last : Machine) (f forest : PageForest)
     → ((m : Machine) (f : PageForest) → (old m f).state ≡ record { machine = m; forest = Some f; segments = told })
     → ((m : Machine) (f : PageForest) → ((now m f).state.machine ≡ m) × ((now m f).state.forest ≡ Some f))
-    → m ≡ start frames page_size → f ≡ no_forest → Ends status (old m f) (now last forest) l k → RunEnds status frames old now l k
-run_ends status frames old now l k told m last f forest old_is now_is machine_is forest_is ends =
-    let from : Ends status (old (start frames page_size) no_forest) (now last forest) l k =
+    → 1 ≤ asked.page_bytes → m ≡ start asked.frames asked.page_bytes → f ≡ no_forest → Ends status (old m f) (now last forest) l k → RunEnds status asked old now l k
+run_ends status asked old now l k told m last f forest old_is now_is some machine_is forest_is ends =
+    let begun = start asked.frames asked.page_bytes in
+    let from : Ends status (old begun no_forest) (now last forest) l k =
     subst (λ (x : Machine). Ends status (old x no_forest) (now last forest) l k) machine_is (subst (λ (x : PageForest). Ends status (old m x) (now last forest) l k) forest_is ends) in
-    let followed : IsSomeAnd (now last forest).state.forest (IsFollowed (now last forest).state.machine) = ends_followed (old (start frames page_size) no_forest) frames told (old_is _ _) status (now last forest) l k from in
+    let followed : IsSomeAnd (now last forest).state.forest (IsFollowed (now last forest).state.machine) = ends_followed (old begun no_forest) asked.frames asked.page_bytes some told (old_is _ _) status (now last forest) l k from in
     let by_forest : IsSomeAnd (Some forest) (IsFollowed (now last forest).state.machine) = subst (λ (o : Option PageForest). IsSomeAnd o (IsFollowed (now last forest).state.machine)) (now_is last forest).1 followed in
     record {
       last = last;
@@ -75,8 +77,8 @@ run_ends status frames old now l k told m last f forest old_is now_is machine_is
       followed = subst (λ (x : Machine). IsFollowed x forest) (now_is last forest).0 by_forest;
     }
 
-pub as_asked : (frames : ℕ) (asked : Option ℕ) (P : ℕ → Type 0) → Some frames ≡ asked → P frames → IfSome asked P
-as_asked frames asked P is h = subst (λ (o : Option ℕ). IfSome o P) is h
+pub as_asked : (asked : Asked) (words : Option Asked) (P : Asked → Type 0) → Some asked ≡ words → P asked → IfSome words P
+as_asked asked words P is h = subst (λ (o : Option Asked). IfSome o P) is h
 
 -- how many bytes were taken
 taken : (l k : Option (List ℕ)) (script : List ℕ) → Took l k script → IfSome l (λ all. IfSome k (λ rest. length all ≡ length script + length rest))
@@ -132,12 +134,12 @@ complete statuses.NoMemory a b l k reads reads_now writes writes_now h sr kr few
 
 -- what it takes to answer the first line
 
-fits_told : (told : Option ℕ) (frames : ℕ) → IfSome told (λ bytes. bytes ≡ page_size) → Fits told (start frames page_size)
-fits_told None frames h = tt
-fits_told (Some bytes) frames h = h
+pub fits_start : (told : Option ℕ) (asked : Asked) (named : ℕ) (m : Machine) → IfSome told (λ bytes. bytes ≡ named) → named ≡ asked.page_bytes → m ≡ start asked.frames asked.page_bytes → Fits told m
+fits_start told asked named m h same e = subst (Fits told) (sym e) (by told h)
+  where
+    by : (told : Option ℕ) → IfSome told (λ bytes. bytes ≡ named) → Fits told (start asked.frames asked.page_bytes)
+    by None h = tt
+    by (Some bytes) h = h ∙ same
 
-pub fits_start : (told : Option ℕ) (frames : ℕ) (m : Machine) → IfSome told (λ bytes. bytes ≡ page_size) → m ≡ start frames page_size → Fits told m
-fits_start told frames m h e = subst (Fits told) (sym e) (fits_told told frames h)
-
-pub live_start : (frames : ℕ) (m : Machine) → m ≡ start frames page_size → live_pages m ≤ LIVE_PAGES
-live_start frames m e = subst (λ (x : Machine). live_pages x ≤ LIVE_PAGES) (sym e) (omega arith)
+pub live_start : (asked : Asked) (m : Machine) → m ≡ start asked.frames asked.page_bytes → live_pages m ≤ LIVE_PAGES
+live_start asked m e = subst (λ (x : Machine). live_pages x ≤ LIVE_PAGES) (sym e) (omega arith)

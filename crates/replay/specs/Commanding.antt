@@ -1,34 +1,129 @@
 -- The words of a command line, and the exit statuses.
-use Rattle.std.specs.Prelude.{◌&&◌, ℕ, nat_le, List, [], ◌∷◌, bytes_eq, codes, Option, Some, None, option_and_then, if◌then◌else◌}
+use Rattle.std.specs.Prelude.{◌==◌, ◌&&◌, ◌*◌, ℕ, Bool, true, false, not, nat_le, List, [], ◌∷◌, find, slice_get, bytes_eq, codes, Option, Some, None, option_map, option_and_then, unwrap_or, if◌then◌else◌}
+use Rattle.std.specs.List.{after_first, before_first, list_any}
+use Rattle.std.specs.Option.{option_map_or, option_or}
+use Rattle.vm_ids.specs.declared.numbers.TheConstants.{PAGE}
 use Rattle.actor_script.specs.Operands.{number_of}
 use Rattle.replay.specs.declared.status.Status.{Status}
 use Rattle.replay.specs.declared.status.Status.TheVariants as statuses
+use Rattle.replay.specs.declared.words.Asked.{Asked}
+use Rattle.replay.specs.declared.words.TheConstants.{LEAST_FRAMES, MOST_FRAMES, MOST_FRAME_BYTES, PAGE_SIZES}
+
+-- An option of a command line: its name, with the two hyphens, and its value.
+pub record CommandOption : Type 0 where
+  pub name : List ℕ
+  pub value : List ℕ
+
+-- the sign that joins a name and its value to one word
+abbrev pub is_equals : ℕ → Bool
+is_equals b = b == 61
+
+-- the option that one word gives, as `--page=512` does
+abbrev pub option_in : List ℕ → Option CommandOption
+option_in word =
+    if list_any is_equals word
+    then Some (record { name = before_first is_equals word; value = after_first is_equals word })
+    else None
+
+-- The options that words give, each by one such word or by two, its name and its value. None where
+-- a name has no value behind it.
+unfoldable pub options_of : List (List ℕ) → Option (List CommandOption)
+options_of [] = Some []
+options_of (word ∷ []) = option_map (λ o. o ∷ []) (option_in word)
+options_of (word ∷ next ∷ words) = option_map_or
+    (λ o. option_map (λ options. o ∷ options) (options_of (next ∷ words)))
+    (option_in word)
+    (option_map (λ options. record { name = word; value = next } ∷ options) (options_of words))
+
+-- the value of the first option of this name
+abbrev pub value_named : List ℕ → List CommandOption → Option (List ℕ)
+value_named name options = option_map (λ o. o.value) (find (λ o. bytes_eq o.name name) options)
+
+-- the names of the options of `run`
+abbrev pub option_names : List (List ℕ)
+option_names = codes "--frames" ∷ codes "--page" ∷ codes "--segments" ∷ []
+
+-- each option has one of these names, and no two have the same
+abbrev pub are_proper : List CommandOption → Bool
+are_proper [] = true
+are_proper (o ∷ options) = list_any (λ name. bytes_eq name o.name) option_names
+    && (not (list_any (λ later. bytes_eq o.name later.name) options) && are_proper options)
 
 -- a number of page frames, 3 to 65,536
 abbrev pub if_frames : ℕ → Option ℕ
-if_frames n = if nat_le 3 n && nat_le n 65536 then Some n else None
+if_frames n = if nat_le LEAST_FRAMES n && nat_le n MOST_FRAMES then Some n else None
 
--- The number of frames of the words `run --frames F`; other words with these in front ask no run.
-abbrev pub frames_in : List ℕ → List ℕ → List ℕ → Option ℕ
-frames_in command option frames =
-    if bytes_eq command (codes "run") && bytes_eq option (codes "--frames")
-    then option_and_then if_frames (number_of frames)
+-- the number of page frames that a word spells
+abbrev pub frames_of : List ℕ → Option ℕ
+frames_of word = option_and_then if_frames (number_of word)
+
+-- the sizes that a page may have
+abbrev pub page_sizes : List ℕ
+page_sizes = 512 ∷ 1024 ∷ 2048 ∷ 4096 ∷ 8192 ∷ 16384 ∷ 32768 ∷ 65536 ∷ []
+
+-- the bytes of a page, one of these sizes
+abbrev pub if_page : ℕ → Option ℕ
+if_page n = if list_any (λ size. size == n) PAGE_SIZES then Some n else None
+
+-- the size of a page that a word spells
+abbrev pub page_of : List ℕ → Option ℕ
+page_of word = option_and_then if_page (number_of word)
+
+-- the name of a folder isn't empty, and no hyphen begins it
+abbrev pub is_folder_name : List ℕ → Bool
+is_folder_name [] = false
+is_folder_name (b ∷ bs) = not (b == 45)
+
+-- so many page frames and bytes of a page, where all page frames have few enough bytes
+abbrev pub if_fitting : ℕ → ℕ → Option Asked
+if_fitting frames page = if nat_le (frames * page) MOST_FRAME_BYTES
+    then Some (record { frames = frames; page_bytes = page })
     else None
 
--- The number of frames of the words `run --frames F`, with or without `--segments DIR` behind them;
--- no other words ask a run.
-unfoldable pub frames_of : List (List ℕ) → Option ℕ
-frames_of (command ∷ option ∷ frames ∷ []) = frames_in command option frames
-frames_of (command ∷ option ∷ frames ∷ segments ∷ folder ∷ []) =
-    if bytes_eq segments (codes "--segments") then frames_in command option frames else None
-frames_of words = None
+-- what the values of `--frames`, `--page` and `--segments` ask for
+abbrev pub asked_for : Option (List ℕ) → Option (List ℕ) → Option (List ℕ) → Option Asked
+asked_for frames page folder = if option_map_or is_folder_name folder true
+    then option_and_then (λ f. option_and_then (if_fitting f) (option_map_or page_of page (Some PAGE)))
+    (option_and_then frames_of frames)
+    else None
 
--- The folder that the words name behind the first `--segments`, or the working folder.
+-- what options ask for
+abbrev pub asked_in : List CommandOption → Option Asked
+asked_in options = if are_proper options
+    then asked_for (value_named (codes "--frames") options) (value_named (codes "--page") options)
+    (value_named (codes "--segments") options)
+    else None
+
+-- what the words behind the command word ask for
+abbrev pub asked_behind : List (List ℕ) → Option Asked
+asked_behind words = option_and_then asked_in (options_of words)
+
+-- What the words of a command line ask for: they are `run` and its options. None for other words.
+unfoldable pub asked_by : List (List ℕ) → Option Asked
+asked_by [] = None
+asked_by (command ∷ words) =
+    if bytes_eq command (codes "run") then asked_behind words else None
+
+-- the value in one word, where its option has this name
+abbrev pub value_in : List ℕ → List ℕ → Option (List ℕ)
+value_in name word =
+    option_and_then (λ o. if bytes_eq o.name name then Some o.value else None) (option_in word)
+
+-- the value of the first option of this name, whatever else the words are
+abbrev pub first_value : List ℕ → List (List ℕ) → Option (List ℕ)
+first_value name [] = None
+first_value name (word ∷ words) = if bytes_eq word name
+    then slice_get words 0
+    else option_or (value_in name word) (first_value name words)
+
+-- the folder that words name, or the working folder
 abbrev pub folder_of : List (List ℕ) → List ℕ
-folder_of [] = codes "."
-folder_of (word ∷ []) = codes "."
-folder_of (word ∷ next ∷ words) =
-    if bytes_eq word (codes "--segments") then next else folder_of (next ∷ words)
+folder_of words = unwrap_or (first_value (codes "--segments") words) (codes ".")
+
+-- the bytes of a page that words name, where they are a size that a page may have, or 4,096
+abbrev pub page_size_of : List (List ℕ) → ℕ
+page_size_of words =
+    unwrap_or (option_and_then page_of (first_value (codes "--page") words)) PAGE
 
 -- the exit status of the program
 abbrev pub status_code : Status → ℕ

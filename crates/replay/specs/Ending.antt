@@ -15,6 +15,7 @@ use Rattle.gmi_calls.specs.declared.gmi.Gmi.{Ghosts as GhostsOfGmi}
 use Rattle.vm_port.specs.declared.traits.mapper.Mapper.{Ghosts as GhostsOfMapper}
 use Rattle.replay.specs.declared.status.Status.{Status}
 use Rattle.replay.specs.declared.status.Status.TheVariants as statuses
+use Rattle.replay.specs.declared.words.Asked.{Asked}
 
 -- What there is between two lines: the machine, its page forest and the mapper's segments, the
 -- mapper's counts, and what was written.
@@ -106,16 +107,13 @@ Ends statuses.TooLong before now left left_now =
 Ends statuses.Usage before now left left_now = ⊥
 Ends statuses.NoMemory before now left left_now = ⊥
 
--- the bytes of a page
-abbrev pub page_size : ℕ
-page_size = 4096
-
--- How a run over so many page frames ends, where the scenes at its begin and now are those of a
--- machine and a forest: it began with the empty machine and the empty page forest, and the last
--- forest has its shape and agrees with the last machine.
-pub record RunEnds (status : Status) (frames : ℕ) (before now : Machine → PageForest → Scene)
+-- How a run that was asked for ends, where the scenes at its begin and now are those of a machine
+-- and a forest: it began with the empty machine and the empty page forest, and the last forest has
+-- its shape and agrees with the last machine.
+pub record RunEnds (status : Status) (asked : Asked) (before now : Machine → PageForest → Scene)
     (left left_now : Option (List ℕ)) : Type 0 where
   pub last : Machine
   pub forest : PageForest
-  pub ends : Ends status (before (start frames page_size) no_forest) (now last forest) left left_now
+  pub ends : Ends status (before (start asked.frames asked.page_bytes) no_forest) (now last forest)
+      left left_now
   pub followed : IsFollowed last forest

@@ -3,8 +3,8 @@
 //!
 //! Its model is in specs/. What a reader must believe: the lines of a script (`Script`), the words
 //! of a command line (`Commanding`), and how a run ends (`Ending`). The rest serves the contracts of
-//! the parts alone: one line (`OneLine`), how far a replay has come (`Going`), and the replies that
-//! wait (`Waiting`).
+//! the parts alone: what clap reads (`Reading`), one line (`OneLine`), how far a replay has come
+//! (`Going`), and the replies that wait (`Waiting`).
 //!
 //! It stands on the script language, which says the command of a line and the line of a reply, on
 //! the interface of a manager and on the traits of the outside; only [`run`] names the manager,
@@ -26,4 +26,4 @@ mod words;
 
 pub use status::Status;
 pub use top::run;
-pub use words::folder;
+pub use words::{folder, page_size};

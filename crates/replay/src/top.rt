@@ -1,21 +1,21 @@
 // The one call that the program makes.
 ghost use Rattle.std.specs.Prelude.{◌≡◌, ◌≢◌, ◌↔◌, ◌⊎◌, ◌≤◌, ◌<◌, ◌+◌, length, map, None, IfSome, IsSome, IsSomeAnd};
 ghost use Rattle.vm_ids.specs.Counting.{Rose, last_count};
-ghost use Rattle.replay.specs.Commanding.{frames_of};
-ghost use Rattle.replay.specs.Ending.{page_size, scene_with, RunEnds};
+ghost use Rattle.replay.specs.Commanding.{asked_by, page_size_of};
+ghost use Rattle.replay.specs.Ending.{scene_with, RunEnds};
 ghost use Rattle.replay.specs.Script.{most_bytes};
 
 use crate::Status;
 use crate::replaying::replay;
-use crate::words::frames_asked;
+use crate::words::read_words;
 use pvm_core::Pvm;
 use std::alloc::Global;
-use vm_ids::PAGE;
 use vm_port::{Chooser, Mapper, Sink, Source};
 
-/// Runs the program for the words of a command line. For `run --frames F`, with or without
-/// `--segments DIR` behind, it replays the script that the source has left, over a demand-paged
-/// manager of F page frames of 4,096 bytes, and writes a reply for each line.
+/// Runs the program for the words of a command line. For `run --frames F [--page B]
+/// [--segments DIR]` it replays the script that the source has left, over a demand-paged manager of
+/// F page frames of B bytes, and writes a reply for each line. The mapper's pages have the size that
+/// the words name.
 ///
 /// Whatever the source, the sink, the mapper and the chooser: the lines written are the replies of
 /// a machine that keeps each cache as plain bytes and copies at once, a line once and in order, and
@@ -24,12 +24,16 @@ use vm_port::{Chooser, Mapper, Sink, Source};
 /// the end. However reads cut the script, it is the same script.
 ///
 /// - `Done`: the source has nothing left, and each line is answered.
-/// - `Usage` exactly where the words aren't those, with F from 3 to 65,536, decimal with no leading
-///   zero. Nothing was read or written.
+/// - `Usage` exactly where the words aren't those, but for want of memory. The options stand in any
+///   order, each once at most, as two words or as one with `=`; F is from 3 to 65,536; B is 512,
+///   1,024, 2,048, 4,096 (where it isn't given), 8,192, 16,384, 32,768 or 65,536; both are decimal
+///   with no leading zero, and F times B is 268,435,456 at most; DIR isn't empty, and no hyphen
+///   begins it. Nothing was read or written.
 /// - `SourceFault` only where the source's count of faults rose; each line that ended before is
 ///   answered.
 /// - `SinkFault` only where the sink's count of faults rose; a front of the replies was written.
-/// - `NoMemory` where there is none for the frames. Nothing was read or written.
+/// - `NoMemory` where there is none to read the words, or for the frames. Nothing was read or
+///   written.
 /// - `TooLong` exactly where byte 67,108,865 of the script was taken; each line that ended before
 ///   is answered.
 pub fn run<S: Source, K: Sink, M: Mapper, C: Chooser>(
@@ -40,17 +44,19 @@ pub fn run<S: Source, K: Sink, M: Mapper, C: Chooser>(
     mapper: &mut M,
     chooser: &mut C,
 ) -> Status
-    requires { IfSome (M.page_bytes mapper.old) (λ bytes. bytes ≡ page_size) }
+    requires { IfSome (M.page_bytes mapper.old)
+        (λ bytes. bytes ≡ page_size_of (map (λ w. w.now) words.now)) }
     // However it ends, but for want of memory at the start: from the empty machine and the empty
     // page forest on, each line that the status says is answered once and in order, and the replies
     // are written.
     ensures ends { result ≢ Status.NoMemory →
-        IfSome (frames_of (map (λ w. w.now) words.now)) (λ frames. RunEnds result frames
+        IfSome (asked_by (map (λ w. w.now) words.now)) (λ asked. RunEnds result asked
         (scene_with M.Mapper mapper.old (K.written sink.old))
         (scene_with M.Mapper mapper.new (K.written sink.new))
         (S.left source.old) (S.left source.new)) }
-    // Usage: exactly for other words.
-    ensures usage { (result ≡ Status.Usage) ↔ (frames_of (map (λ w. w.now) words.now) ≡ None) }
+    // Usage: exactly for other words, but for want of memory.
+    ensures usage { result ≢ Status.NoMemory →
+        (result ≡ Status.Usage) ↔ (asked_by (map (λ w. w.now) words.now) ≡ None) }
     // A fault is told only where one was counted.
     ensures source_fault { result ≡ Status.SourceFault →
         Rose (S.faults source.old) (S.faults source.new) }
@@ -66,17 +72,18 @@ pub fn run<S: Source, K: Sink, M: Mapper, C: Chooser>(
         × (mapper.new ≡ mapper.old) × (chooser.new ≡ chooser.old) }
     // Right words, a script within the limit, and no fault of source and sink: it is done, but for
     // want of memory.
-    ensures complete { IsSome (frames_of (map (λ w. w.now) words.now)) →
+    ensures complete { IsSome (asked_by (map (λ w. w.now) words.now)) →
         IsSomeAnd (S.left source.old) (λ all. length all ≤ most_bytes) →
         S.faults source.new ≡ S.faults source.old → S.faults source.new < last_count →
         K.faults sink.new ≡ K.faults sink.old → K.faults sink.new < last_count →
         (result ≡ Status.Done) ⊎ (result ≡ Status.NoMemory) }
 {
-    let frames = match frames_asked(words) {
-        Some(frames) => frames,
-        None => return Status::Usage,
+    let asked = match read_words(alloc, words) {
+        Ok(Some(asked)) => asked,
+        Ok(None) => return Status::Usage,
+        Err(_) => return Status::NoMemory,
     };
-    let mut manager = match Pvm::new(alloc, frames, PAGE as u32) {
+    let mut manager = match Pvm::new(alloc, asked.frames, asked.page_bytes) {
         Ok(manager) => manager,
         Err(_) => return Status::NoMemory,
     };

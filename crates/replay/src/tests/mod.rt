@@ -1,12 +1,12 @@
 // Whole runs over a mapper in memory, by values from outside.
-ghost use Rattle.std.specs.Prelude.{◌≡◌, ◌≤◌, None, IfOk};
-ghost use Rattle.replay.specs.Ending.{page_size};
+ghost use Rattle.std.specs.Prelude.{◌≡◌, ◌≤◌, ◌^◌, None, IfOk};
 
 mod rows;
 mod segment_rows;
 mod segments;
+mod words;
 
-use crate::{Status, folder, run};
+use crate::{Status, page_size, run};
 use std::alloc::Global;
 use std::cell::Cell;
 use std::process::Abort;
@@ -18,11 +18,13 @@ use vm_port::{
 // Slots enough for each script here.
 const SLOTS: u32 = 512;
 
-// A mapper without segments, which fails at these calls.
-fn swap_area(alloc: Global, fails: &[CallNo]) -> Result<MemoryMapper, NoMemory>
-    ensures { IfOk result (λ m. m.page_bytes ≡ page_size) }
+// A mapper without segments, whose pages have so many bytes, and which fails at these calls.
+fn swap_area(alloc: Global, page: u32, fails: &[CallNo]) -> Result<MemoryMapper, NoMemory>
+    requires least { 1 ≤ page }
+    requires most { page ≤ 2 ^ 16 }
+    ensures { IfOk result (λ m. m.page_bytes ≡ page) }
 {
-    MemoryMapper::new(alloc, &[], &[], SLOTS, fails, PAGE as u32)
+    MemoryMapper::new(alloc, &[], &[], SLOTS, fails, page)
 }
 
 // Runs these words over a source, with a swap area that never fails.
@@ -32,7 +34,7 @@ fn replay_source<S: Source, K: Sink>(
     source: &mut S,
     sink: &mut K,
 ) -> Result<Status, NoMemory> {
-    let mut mapper = swap_area(alloc, &[])?;
+    let mut mapper = swap_area(alloc, page_size(words), &[])?;
     let mut chooser = Clock::new();
     Ok(run(alloc, words, source, sink, &mut mapper, &mut chooser))
 }
@@ -153,7 +155,7 @@ fn a_victim_whose_push_fails_stays(rt: HostRuntime) -> Result<(), NoMemory> {
         kind: CallKind::SwapOut,
         nth: 1,
     }];
-    let mut mapper = swap_area(rt.alloc(), &fails)?;
+    let mut mapper = swap_area(rt.alloc(), PAGE as u32, &fails)?;
     let mut source = MemorySource::new(rows::VICTIMS_PUSH_FAILS.as_bytes(), &[]);
     let mut sink = MemorySink::new(rt.alloc(), 4096, &[])?;
     let words = ["run", "--frames", "3"];
@@ -179,7 +181,7 @@ fn a_copy_moves_no_bytes(rt: HostRuntime) -> Result<(), NoMemory> {
         let Some((front, _)) = rows::COPY_MOVES_NO_BYTES.split_once(behind) else {
             panic!(&rt; "no such line");
         };
-        let mut mapper = swap_area(rt.alloc(), &[])?;
+        let mut mapper = swap_area(rt.alloc(), PAGE as u32, &[])?;
         let mut source = MemorySource::new(front.as_bytes(), &[]);
         let mut sink = MemorySink::new(rt.alloc(), 4096, &[])?;
         let mut chooser = Clock::new();
@@ -366,42 +368,6 @@ fn the_replies_of_one_read_take_few_writes(rt: HostRuntime) -> Result<(), NoMemo
     let status = replay_source(rt.alloc(), &words, &mut source, &mut sink)?;
     assert_eq!(&rt; status, Status::Done);
     assert_eq!(&rt; (seen.writes.get(), seen.lines.get()), (2, 200));
-    Ok(())
-}
-
-#[test]
-fn other_words_read_and_write_nothing(rt: HostRuntime) -> Result<(), NoMemory> {
-    let mut source = MemorySource::new(rows::ZEROS.as_bytes(), &[]);
-    let mut sink = MemorySink::new(rt.alloc(), 4096, &[])?;
-    for words in [
-        [].as_slice(),
-        &["run"],
-        &["run", "--frames"],
-        &["run", "--frames", "2"],
-        &["run", "--frames", "65537"],
-        &["run", "--frames", "03"],
-        &["run", "--frames", "+3"],
-        &["run", "--frames", ""],
-        &["run", "--frames=3"],
-        &["--frames", "3", "run"],
-        &["run", "--frames", "3", "3"],
-        &["run", "--pages", "3"],
-        &["Run", "--frames", "3"],
-        &["run", "--frames", "3", "--segments"],
-        &["run", "--frames", "2", "--segments", "d"],
-        &["run", "--frames", "3", "--segment", "d"],
-        &["run", "--segments", "d", "--frames", "3"],
-        &["run", "--frames", "3", "--segments", "d", "d"],
-    ] {
-        let status = replay_source(rt.alloc(), words, &mut source, &mut sink)?;
-        assert_eq!(&rt; status, Status::Usage);
-    }
-    assert_eq!(&rt; sink.written(), b"".as_slice());
-    let words = ["run", "--frames", "65536", "--segments", "d"];
-    assert_eq!(&rt; (folder(&words), folder(&words[..4])), ("d", "."));
-    let status = replay_source(rt.alloc(), &words, &mut source, &mut sink)?;
-    assert_eq!(&rt; status, Status::Done);
-    assert_eq!(&rt; sink.written(), rows::ZEROS_REPLIES.as_bytes());
     Ok(())
 }
 

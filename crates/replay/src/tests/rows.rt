@@ -55,6 +55,25 @@ pub const BORDERS_REPLIES: &str = "1 ok a1
 6 no Crosses
 ";
 
+// Addresses and accesses at the borders of pages of 512 bytes.
+pub const PAGE_OF_512_BYTES: &str = "actor
+temp 1
+map a1 c1 0 1 10300 rw
+map a1 c1 0 1 10200 rw
+load a1 103ff 1
+load a1 103ff 2
+load a1 10400 1
+";
+
+pub const PAGE_OF_512_BYTES_REPLIES: &str = "1 ok a1
+2 ok c1
+3 no Unaligned
+4 ok r1
+5 ok 00
+6 no Crosses
+7 no BadAddress
+";
+
 // A copy of nine pages, whose source is then stored to.
 pub const TREE_COPY_OF_NINE_PAGES: &str = "actor
 temp 9

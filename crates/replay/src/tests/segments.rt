@@ -1,6 +1,5 @@
 // Whole runs over segments in memory: what is answered, and what the segments hold then.
 ghost use Rattle.std.specs.Prelude.{◌≡◌, ◌≤◌, ◌<◌, ◌*◌, ◌-◌, ◌^◌, length, All, IfOk};
-ghost use Rattle.replay.specs.Ending.{page_size};
 
 use super::{SLOTS, segment_rows as rows};
 use crate::{Status, run};
@@ -22,7 +21,7 @@ fn play(
     fails: &[CallNo],
 ) -> Result<MemoryMapper, NoMemory>
     requires few { length segments.now < 2 ^ 32 }
-    requires pages { All (λ s. length s.items ≤ (2 ^ 32 - 1) * page_size) segments.now }
+    requires pages { All (λ s. length s.items ≤ (2 ^ 32 - 1) * PAGE) segments.now }
 {
     let mut mapper = MemoryMapper::new(alloc, segments, denied, SLOTS, fails, PAGE as u32)?;
     let mut source = MemorySource::new(script.as_bytes(), &[]);
@@ -51,7 +50,7 @@ fn zeros(alloc: Global, bytes: usize) -> Result<Vec<u8>, NoMemory>
 
 // Two pages that begin with these bytes.
 fn two_pages(alloc: Global, first: u8, second: u8) -> Result<Vec<u8>, NoMemory>
-    ensures { IfOk result (λ v. length v.items ≡ 2 * page_size) }
+    ensures { IfOk result (λ v. length v.items ≡ 2 * PAGE) }
 {
     let mut bytes = zeros(alloc, 2 * PAGE)?;
     bytes[0] = first;

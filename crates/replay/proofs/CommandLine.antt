@@ -1,0 +1,10 @@
+pub mod Spelling
+pub mod Cutting
+pub mod Turns
+pub mod Walks
+pub mod Values
+pub mod Right
+pub mod Escapes
+pub mod First
+pub mod Command
+pub mod Worked

@@ -1,0 +1,189 @@
+// Command lines: what they ask for, and those that ask for no run.
+use super::{replay_source, rows};
+use crate::words::{Asked, read_words};
+use crate::{Status, folder, page_size};
+use vm_ids::NoMemory;
+use vm_port::{MemorySink, MemorySource};
+
+#[test]
+fn options_stand_in_any_order_and_in_two_spellings(rt: HostRuntime) -> Result<(), NoMemory> {
+    for (words, frames, page_bytes, segments) in [
+        (["run", "--frames", "8"].as_slice(), 8, 4096, "."),
+        (&["run", "--frames=65536"], 65536, 4096, "."),
+        (&["run", "--frames", "3", "--page", "512"], 3, 512, "."),
+        (&["run", "--page=1024", "--frames=3"], 3, 1024, "."),
+        (&["run", "--segments=a=b", "--frames", "3"], 3, 4096, "a=b"),
+        (
+            &["run", "--frames", "4096", "--page", "65536", "--segments", "d"],
+            4096,
+            65536,
+            "d",
+        ),
+        (
+            &["run", "--frames=8192", "--segments", "d", "--page=32768"],
+            8192,
+            32768,
+            "d",
+        ),
+        (
+            &["run", "--page", "16384", "--frames", "3", "--segments=d"],
+            3,
+            16384,
+            "d",
+        ),
+        (
+            &["run", "--page", "8192", "--segments", "d=", "--frames=3"],
+            3,
+            8192,
+            "d=",
+        ),
+        (
+            &["run", "--segments", "d/e", "--frames=3", "--page=4096"],
+            3,
+            4096,
+            "d/e",
+        ),
+        (
+            &["run", "--segments=d", "--page=2048", "--frames", "3"],
+            3,
+            2048,
+            "d",
+        ),
+    ] {
+        let asked = Some(Asked { frames, page_bytes });
+        assert_eq!(&rt; read_words(rt.alloc(), words), Ok(asked), "{words:?}");
+        assert_eq!(&rt; (page_size(words), folder(words)), (page_bytes, segments));
+    }
+    Ok(())
+}
+
+#[test]
+fn other_words_ask_for_nothing(rt: HostRuntime) {
+    for words in [
+        [].as_slice(),
+        // the command
+        &["run"],
+        &["Run", "--frames", "3"],
+        &["--frames", "3", "run"],
+        &["--frames", "3"],
+        &["run", "run", "--frames", "3"],
+        // the number of page frames
+        &["run", "--frames"],
+        &["run", "--frames="],
+        &["run", "--frames", ""],
+        &["run", "--frames", "2"],
+        &["run", "--frames", "65537"],
+        &["run", "--frames", "4294967299"],
+        &["run", "--frames", "03"],
+        &["run", "--frames", "+3"],
+        &["run", "--frames", "-3"],
+        &["run", "--frames", "3 "],
+        &["run", "--frames", "3", "3"],
+        &["run", "3", "--frames", "3"],
+        &["run", "--page", "512"],
+        // the size of a page
+        &["run", "--frames", "8", "--page"],
+        &["run", "--frames", "8", "--page", ""],
+        &["run", "--frames", "8", "--page", "1000"],
+        &["run", "--frames", "8", "--page=256"],
+        &["run", "--frames", "3", "--page", "131072"],
+        &["run", "--frames", "8", "--page", "0512"],
+        // both
+        &["run", "--frames", "4097", "--page", "65536"],
+        &["run", "--frames=65536", "--page=8192"],
+        // the folder
+        &["run", "--frames", "3", "--segments"],
+        &["run", "--frames", "3", "--segments="],
+        &["run", "--frames", "3", "--segments", ""],
+        &["run", "--frames", "3", "--segments", "-x"],
+        &["run", "--frames", "3", "--segments=-x"],
+        &["run", "--frames", "3", "--segments", "-"],
+        &["run", "--frames", "3", "--segments", "--page"],
+        &["run", "--frames", "2", "--segments", "d"],
+        &["run", "--frames", "3", "--segments", "d", "d"],
+        // an option twice
+        &["run", "--frames", "3", "--frames", "3"],
+        &["run", "--frames=3", "--page=512", "--page", "512"],
+        &["run", "--segments=d", "--frames=3", "--segments=d"],
+        // other options
+        &["run", "--frame", "3"],
+        &["run", "--fr=3"],
+        &["run", "--frames", "3", "--seg", "d"],
+        &["run", "--frames", "3", "--pages", "512"],
+        &["run", "-frames", "3"],
+        &["run", "-f", "3"],
+        &["run", "--Frames", "3"],
+        &["run", "--frames", "3", "--help"],
+        &["run", "--frames", "3", "-h"],
+        &["run", "--frames", "3", "--version"],
+        &["run", "--frames", "3", "-V"],
+        &["run", "--help"],
+        &["run", "help"],
+        &["help"],
+        // the end of the options
+        &["run", "--frames", "3", "--"],
+        &["run", "--", "--frames", "3"],
+        &["run", "--frames", "--", "3"],
+        &["run", "--frames", "3", "--segments", "--"],
+    ] {
+        assert_eq!(&rt; read_words(rt.alloc(), words), Ok(None), "{words:?}");
+    }
+}
+
+#[test]
+fn other_words_read_and_write_nothing(rt: HostRuntime) -> Result<(), NoMemory> {
+    let mut source = MemorySource::new(rows::ZEROS.as_bytes(), &[]);
+    let mut sink = MemorySink::new(rt.alloc(), 4096, &[])?;
+    for words in [
+        [].as_slice(),
+        &["run", "--frames", "2"],
+        &["run", "--frames", "8", "--page", "1000"],
+        &["run", "--frames", "4097", "--page", "65536"],
+    ] {
+        let status = replay_source(rt.alloc(), words, &mut source, &mut sink)?;
+        assert_eq!(&rt; status, Status::Usage, "{words:?}");
+    }
+    assert_eq!(&rt; sink.written(), b"".as_slice());
+    let words = ["run", "--segments", "d", "--frames=65536"];
+    let status = replay_source(rt.alloc(), &words, &mut source, &mut sink)?;
+    assert_eq!(&rt; status, Status::Done);
+    assert_eq!(&rt; sink.written(), rows::ZEROS_REPLIES.as_bytes());
+    Ok(())
+}
+
+#[test]
+fn the_first_value_counts_whatever_the_words(rt: HostRuntime) {
+    for (words, page_bytes, segments) in [
+        ([].as_slice(), 4096, "."),
+        (&["run", "--segments"], 4096, "."),
+        (&["--segments", "--page=512"], 512, "--page=512"),
+        (&["--page", "1000", "--page=512"], 4096, "."),
+        (&["--page=512", "--page", "1024", "--segments="], 512, ""),
+        (&["--page", "--segments=d", "--segments", "e"], 4096, "d"),
+    ] {
+        assert_eq!(&rt; (page_size(words), folder(words)), (page_bytes, segments), "{words:?}");
+    }
+}
+
+// All page frames have 268,435,456 bytes.
+#[test]
+fn page_frames_may_have_256_megabytes(rt: HostRuntime) -> Result<(), NoMemory> {
+    let mut source = MemorySource::new(b"", &[]);
+    let mut sink = MemorySink::new(rt.alloc(), 4096, &[])?;
+    let words = ["run", "--frames", "4096", "--page", "65536"];
+    let status = replay_source(rt.alloc(), &words, &mut source, &mut sink)?;
+    assert_eq!(&rt; status, Status::Done);
+    assert_eq!(&rt; sink.written(), b"".as_slice());
+    Ok(())
+}
+
+#[test]
+fn a_page_may_have_512_bytes(rt: HostRuntime) -> Result<(), NoMemory> {
+    let mut source = MemorySource::new(rows::PAGE_OF_512_BYTES.as_bytes(), &[]);
+    let mut sink = MemorySink::new(rt.alloc(), 4096, &[])?;
+    let words = ["run", "--frames", "3", "--page", "512"];
+    let status = replay_source(rt.alloc(), &words, &mut source, &mut sink)?;
+    assert_eq!(&rt; status, Status::Done);
+    assert_eq!(&rt; sink.written(), rows::PAGE_OF_512_BYTES_REPLIES.as_bytes());
+    Ok(())
+}
