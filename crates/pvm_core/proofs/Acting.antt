@@ -21,9 +21,9 @@ use Rattle.local_cache.specs.Whole.{IsWhole}
 use Rattle.residency.specs.declared.store.Store.{Store}
 use Rattle.contexts.specs.Actors.{Actors}
 use Rattle.pvm_core.specs.Manager.{IsValid, Manager, caches_shown, forest_of, machine_of, state_at}
-use Rattle.pvm_core.proofs.Answered.{seated}
-use Rattle.pvm_core.proofs.Kept.{seated_valid, seen}
-use Rattle.pvm_core.proofs.Listed.{machine_with}
+use Rattle.pvm_core.proofs.Answering.Answered.{seated}
+use Rattle.pvm_core.proofs.Answering.Kept.{seated_valid, seen}
+use Rattle.pvm_core.proofs.Answering.Listed.{machine_with}
 
 -- a command that saves nothing, reaches no mapper, and leaves the segments and the forest
 pub record IsOfActors (command : Command) : Type 1 where

@@ -1,41 +1,23 @@
-mod Found
-mod Listed
+-- The machine and the page forest that a manager stands for.
+pub mod Meaning
+-- What an answer is, with bytes and without, and what it keeps.
+pub mod Answering
+-- Loads and stores.
+pub mod Accesses
+-- Copies and moves.
+pub mod Spanning
+-- Caches that are made.
+pub mod NewCaches
+-- Pages of segments.
+pub mod Homes
+-- Pages are granted, and saved for their heirs, before they are replaced.
+pub mod Readiness
+-- Actors and their regions.
 mod RegionRows
 mod Acting
-mod Shown
-mod Empty
-mod Values
-mod Answered
-mod Kept
-mod Chains
-mod Rising
-mod Reaching
-mod Named
-mod Homed
-mod Pushed
-mod Sized
-mod Full
-mod Determined
-mod Making
-mod Begun
-mod NewCache
-mod Loading
-mod Zeros
-mod Storing
-mod Stored
-mod Live
-mod Same
+-- Caches that go.
 mod Destroying
-mod Changed
-mod SpanRows
-mod Transfers
-mod Spanned
-mod Reserved
+-- Segments that are opened.
 mod Opening
-mod Copies
+-- Pages that are pushed, and taken again.
 mod Extents
-mod Granted
-mod Denied
-mod Saved
-mod Transferring
-mod Readying

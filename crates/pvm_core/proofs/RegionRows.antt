@@ -29,7 +29,7 @@ use Rattle.regions.specs.AddressSpace.{id_of}
 use Rattle.contexts.specs.Actors.{Actors, cut_refusal, holder_of, split_refusal, with_split}
 use Rattle.contexts.proofs.Replaced.{all_replaced, all_replaced_in}
 use Rattle.pvm_core.specs.Placed.{ArePlaced, AreRight, IsPlaced}
-use Rattle.pvm_core.proofs.Listed.{machine_with}
+use Rattle.pvm_core.proofs.Answering.Listed.{machine_with}
 
 -- the actors without one of them
 abbrev pub without_actor : ℕ → Actors → Actors

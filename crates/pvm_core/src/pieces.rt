@@ -21,7 +21,7 @@ fn part(page: &[u8], byte: usize, bytes: u8) -> Piece
 }
 
 // The same of the page that a read fault found.
-#[tactic(auto, using(crate::proofs::Zeros::zeros_part, crate::proofs::Zeros::part_long))]
+#[tactic(auto, using(crate::proofs::Accesses::Zeros::zeros_part, crate::proofs::Accesses::Zeros::part_long))]
 pub(crate) fn part_of(store: &Store, found: Option<FrameId>, byte: u16, bytes: u8) -> Piece
     requires some { 1 ≤ bytes }
     requires few { bytes ≤ 64 }

@@ -36,7 +36,8 @@ fn overlaps_itself(span: Span) -> bool
 
 // How a copy or a move is refused by where its pages lie: `NoCache` or `OutOfCache`, in this order.
 fn ends_refusal(caches: &Caches, span: Span) -> Option<Refusal>
-    ensures { result ≡ ends_by (size_of caches.now span.from.0) (size_of caches.now span.to.0) span }
+    ensures { result
+        ≡ ends_by (size_of caches.now span.from.0) (size_of caches.now span.to.0) span }
 {
     let Some(from) = caches.pages(span.from) else {
         return Some(Refusal::NoCache);
@@ -54,7 +55,8 @@ fn ends_refusal(caches: &Caches, span: Span) -> Option<Refusal>
 
 // How a copy of these pages is refused before the mapper is asked: `NoCache`, `OutOfCache` or `Overlap`, in this order.
 pub(crate) fn copy_refusal(caches: &Caches, span: Span) -> Option<Refusal>
-    ensures { result ≡ copy_by (size_of caches.now span.from.0) (size_of caches.now span.to.0) span }
+    ensures { result
+        ≡ copy_by (size_of caches.now span.from.0) (size_of caches.now span.to.0) span }
 {
     if let Some(refusal) = ends_refusal(caches, span) {
         return Some(refusal);

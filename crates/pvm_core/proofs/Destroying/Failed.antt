@@ -25,14 +25,14 @@ use Rattle.vm_model.specs.Run.{CallIs}
 use Rattle.vm_model.specs.Synchronised.{ArePushed}
 use Rattle.pvm_core.specs.Manager.{IsValid, Manager, cache_shown, forest_of, machine_by, machine_of, numbered, state_at}
 use Rattle.pvm_core.specs.Saving.{CopiesSaved, FailedToPush, FailedToSave, IsNotWrittenBack, IsPushed, KeepsMachine}
-use Rattle.pvm_core.proofs.Answered.{call_is, failed, no_segments, outcome_by}
-use Rattle.pvm_core.proofs.Copies.{saves_copied}
+use Rattle.pvm_core.proofs.Answering.Answered.{call_is, failed, no_segments, outcome_by}
+use Rattle.pvm_core.proofs.Readiness.Copies.{saves_copied}
 use Rattle.pvm_core.proofs.Destroying.Rows.{destroy_row}
-use Rattle.pvm_core.proofs.Granted.{named_of}
-use Rattle.pvm_core.proofs.Reaching.{reach_told}
-use Rattle.pvm_core.proofs.Rising.{grown_some, rises_between}
-use Rattle.pvm_core.proofs.Shown.{length-pages, numbered-caches}
-use Rattle.pvm_core.proofs.Stored.{named_in}
+use Rattle.pvm_core.proofs.Readiness.Granted.{named_of}
+use Rattle.pvm_core.proofs.Answering.Reaching.{reach_told}
+use Rattle.pvm_core.proofs.Answering.Rising.{grown_some, rises_between}
+use Rattle.pvm_core.proofs.Meaning.Shown.{length-pages, numbered-caches}
+use Rattle.pvm_core.proofs.Accesses.Stored.{named_in}
 
 -- all pages of the cache
 abbrev pub of_cache : CacheId → ℕ → Extent

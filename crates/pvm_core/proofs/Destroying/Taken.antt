@@ -40,18 +40,18 @@ use Rattle.vm_model.proofs.Forests.Following.{destroyed_followed}
 use Rattle.contexts.specs.Actors.{Actors}
 use Rattle.pvm_core.specs.Placed.{ArePlaced, IsPlaced}
 use Rattle.pvm_core.specs.Manager.{IsSound, IsValid, Manager, cache_shown, caches_shown, forest_of, live_in, machine_by, machine_of}
-use Rattle.pvm_core.proofs.Answered.{no_segments}
-use Rattle.pvm_core.proofs.Determined.{followed_is}
-use Rattle.pvm_core.proofs.Kept.{seen}
-use Rattle.pvm_core.proofs.Loading.{size_le}
-use Rattle.pvm_core.proofs.Same.{live_same, set_shaped, shaped_same, shown_shaped}
-use Rattle.pvm_core.proofs.Shown.{length-pages, numbered-caches, shown_made}
-use Rattle.pvm_core.proofs.Sized.{same_or_not}
+use Rattle.pvm_core.proofs.Answering.Answered.{no_segments}
+use Rattle.pvm_core.proofs.Meaning.Determined.{followed_is}
+use Rattle.pvm_core.proofs.Answering.Kept.{seen}
+use Rattle.pvm_core.proofs.Accesses.Loading.{size_le}
+use Rattle.pvm_core.proofs.Meaning.Same.{live_same, set_shaped, shaped_same, shown_shaped}
+use Rattle.pvm_core.proofs.Meaning.Shown.{length-pages, numbered-caches, shown_made}
+use Rattle.pvm_core.proofs.Homes.Sized.{same_or_not}
 use Rattle.pvm_core.proofs.Destroying.Regions.{placed_actors}
 use Rattle.pvm_core.proofs.Destroying.Right.{not_named, without_right, without_store}
 use Rattle.pvm_core.proofs.Destroying.Rows.{destroy_row}
 use Rattle.pvm_core.proofs.Destroying.Tables.{gone, left, other_table, without_at}
-use Rattle.pvm_core.proofs.Values.{blank_of, followed_of, zeroed, zeroed_whole}
+use Rattle.pvm_core.proofs.Meaning.Values.{blank_of, followed_of, zeroed, zeroed_whole}
 
 module _ (a b d : Arena) (s u : Store) (t : Actors) (live : ℕ) (cache : CacheId) (n : ℕ) (i : IsSound a s t live) (size : size_of a cache.0 ≡ Some n) (free : list_any (maps_in cache.0) t.actors ≡ false)
     (same : SameCaches a b) (back : ForAnyMapper s a u b GivesBack) (tied : IsStoreTied s a) (is : d ≡ without_cache b cache) (whole : IsWhole d) (bounded : IsBounded (arena.forest_of d)) where

@@ -18,11 +18,11 @@ use Rattle.pvm_core.specs.Manager.{AreApart, Manager, cache_shown, forest_of, ma
 use Rattle.pvm_core.specs.Saving.{IsNotSaved, IsNotWrittenBack, IsPushed, IsWrittenBack, KeepsForest, is_named}
 use Rattle.pvm_core.proofs.Extents.Rows.{IsExtent}
 use Rattle.pvm_core.proofs.Extents.Stays.{pushed_stay}
-use Rattle.pvm_core.proofs.Named.{cache_of_segment, machine_segment}
-use Rattle.pvm_core.proofs.Readying.{failed_save}
-use Rattle.pvm_core.proofs.Saved.{none_saved}
-use Rattle.pvm_core.proofs.Shown.{numbered-caches}
-use Rattle.pvm_core.proofs.Values.{page_shown}
+use Rattle.pvm_core.proofs.Homes.Named.{cache_of_segment, machine_segment}
+use Rattle.pvm_core.proofs.Readiness.Readying.{failed_save}
+use Rattle.pvm_core.proofs.Readiness.Saved.{none_saved}
+use Rattle.pvm_core.proofs.Meaning.Shown.{numbered-caches}
+use Rattle.pvm_core.proofs.Meaning.Values.{page_shown}
 
 -- a range in a cache that a segment names
 pub extent_named : (a : Arena) (e : Extent) → HasRange a e → is_named a e.cache.0 ≡ true → IsExtent a e

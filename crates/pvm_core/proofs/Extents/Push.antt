@@ -29,11 +29,11 @@ use Rattle.vm_model.specs.Synchronised.{IsExtentPushed}
 use Rattle.gmi_calls.specs.Calling.{done_by}
 use Rattle.pvm_core.specs.Manager.{IsValid, Manager, forest_of, machine_by, machine_of, state_at}
 use Rattle.local_cache.specs.Whole.{IsWhole}
-use Rattle.pvm_core.proofs.Answered.{called}
+use Rattle.pvm_core.proofs.Answering.Answered.{called}
 use Rattle.pvm_core.proofs.Extents.Rows.{IsExtent, flush_row, sync_row}
 use Rattle.pvm_core.proofs.Extents.Synced.{are_pushed, synced_unsized}
 use Rattle.pvm_core.specs.Reaching.{Reach}
-use Rattle.pvm_core.proofs.Rising.{grown_some, rises_between}
+use Rattle.pvm_core.proofs.Answering.Rising.{grown_some, rises_between}
 
 -- a page at which the mapper failed, as a fault
 abbrev pub failing : Result (Unit {0}) PageNo → Result (Unit {0}) Trouble

@@ -14,7 +14,7 @@ use Rattle.vm_model.specs.Machine.{Cache, Machine, Page, cache_of, is_locked_pag
 use Rattle.vm_model.specs.PageForest.{PageForest}
 use Rattle.pvm_core.specs.Extents.{extent_refusal}
 use Rattle.pvm_core.specs.Manager.{Manager, cache_shown, machine_by}
-use Rattle.pvm_core.proofs.Shown.{length-pages, numbered-caches}
+use Rattle.pvm_core.proofs.Meaning.Shown.{length-pages, numbered-caches}
 
 -- the pages are those of a live cache that this segment names
 pub record IsExtent (a : Arena) (e : Extent) : Type 0 where

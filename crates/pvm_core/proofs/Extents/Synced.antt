@@ -26,9 +26,9 @@ use Rattle.vm_model.specs.PageForest.{PageForest, page_in}
 use Rattle.vm_model.specs.Synchronised.{ArePushed}
 use Rattle.pvm_core.specs.Manager.{AreApart, Manager, forest_of, machine_by, machine_of, shown}
 use Rattle.pvm_core.proofs.Extents.Rows.{IsExtent}
-use Rattle.pvm_core.proofs.Kept.{sizeless}
-use Rattle.pvm_core.proofs.Named.{machine_segment}
-use Rattle.pvm_core.proofs.Values.{page_shown}
+use Rattle.pvm_core.proofs.Answering.Kept.{sizeless}
+use Rattle.pvm_core.proofs.Homes.Named.{machine_segment}
+use Rattle.pvm_core.proofs.Meaning.Values.{page_shown}
 
 -- it doesn't depend on the size of the mapper's pages
 pub synced_unsized : (g : Option Held) (j : Option ℕ) (b : Arena) (t : Store) (e : Extent) (past : ℕ) → AreSynced e past (world g j b t) → AreSynced e past (world g None b t)

@@ -37,27 +37,27 @@ use Rattle.contexts.specs.Actors.{Actors}
 use Rattle.pvm_core.specs.Manager.{IsSound, IsValid, Manager, cache_shown, caches_shown, forest_of, machine_by, machine_of, state_at}
 use Rattle.pvm_core.specs.Reaching.{Reach}
 use Rattle.pvm_core.specs.Saving.{KeepsMachine, is_named}
-use Rattle.pvm_core.proofs.Answered.{call_is, no_segments}
-use Rattle.pvm_core.proofs.Changed.{blank_is, machine_is, put_shaped}
-use Rattle.pvm_core.proofs.Determined.{IsShaped}
+use Rattle.pvm_core.proofs.Answering.Answered.{call_is, no_segments}
+use Rattle.pvm_core.proofs.Answering.Changed.{blank_is, machine_is, put_shaped}
+use Rattle.pvm_core.proofs.Meaning.Determined.{IsShaped}
 use Rattle.pvm_core.proofs.Extents.Part.{held_of, part_for, part_get, part_many, part_nodes, part_of_overwrite, part_whole, with_firsts}
 use Rattle.pvm_core.proofs.Extents.Rows.{IsExtent, cache_there, extent_by, invalidate_row}
-use Rattle.pvm_core.proofs.Full.{full_same}
-use Rattle.pvm_core.proofs.Kept.{seen}
-use Rattle.pvm_core.proofs.Named.{machine_segment}
-use Rattle.pvm_core.proofs.Reaching.{reach_told}
-use Rattle.pvm_core.proofs.Same.{shown_shaped}
-use Rattle.pvm_core.proofs.Shown.{length-pages, shown_made}
-use Rattle.pvm_core.proofs.Sized.{sized_same}
-use Rattle.pvm_core.proofs.SpanRows.{unlocked_actors}
+use Rattle.pvm_core.proofs.Homes.Full.{full_same}
+use Rattle.pvm_core.proofs.Answering.Kept.{seen}
+use Rattle.pvm_core.proofs.Homes.Named.{machine_segment}
+use Rattle.pvm_core.proofs.Answering.Reaching.{reach_told}
+use Rattle.pvm_core.proofs.Meaning.Same.{shown_shaped}
+use Rattle.pvm_core.proofs.Meaning.Shown.{length-pages, shown_made}
+use Rattle.pvm_core.proofs.Homes.Sized.{sized_same}
+use Rattle.pvm_core.proofs.Spanning.SpanRows.{unlocked_actors}
 use Rattle.vm_ids.specs.declared.node_name.NodeName.{NodeName}
 use Rattle.vm_ids.specs.Forest.NameLists.{◌∈◌}
 use Rattle.vm_ids.specs.Forest.Saving.{is_unsaved}
 use Rattle.vm_ids.proofs.Forest.Saving.{save_range_ends}
 use Rattle.local_cache.specs.Reading as arena
 use Rattle.segment_ops.proofs.Unsaved.{unsaved_by}
-use Rattle.pvm_core.proofs.Copies.{extent_count, extent_live, forest_copies, saved_most}
-use Rattle.pvm_core.proofs.Values.{consistent_of, blank_of, followed_of, zeroed, zeroed_whole}
+use Rattle.pvm_core.proofs.Readiness.Copies.{extent_count, extent_live, forest_copies, saved_most}
+use Rattle.pvm_core.proofs.Meaning.Values.{consistent_of, blank_of, followed_of, zeroed, zeroed_whole}
 use Rattle.page_release.proofs.Tying.Tied.{tied_of}
 
 all_overwrite : {A : Type 0} (P : A → Type 0) (at : ℕ) (part whole : List A) → All P part → All P whole → All P (overwrite at part whole)

@@ -22,12 +22,12 @@ use Rattle.vm_model.specs.Run.{CallIs}
 use Rattle.gmi_calls.specs.Calling.{RaisesMade}
 use Rattle.pvm_core.specs.Manager.{IsValid, Manager, forest_of, machine_by, machine_of, numbered, state_at}
 use Rattle.pvm_core.specs.Saving.{FailedToSave, IsNotSaved, KeepsMachine}
-use Rattle.pvm_core.proofs.Answered.{call_is, no_segments}
-use Rattle.pvm_core.proofs.Copies.{extent_count, extent_live, forest_copies, saves_most}
+use Rattle.pvm_core.proofs.Answering.Answered.{call_is, no_segments}
+use Rattle.pvm_core.proofs.Readiness.Copies.{extent_count, extent_live, forest_copies, saves_most}
 use Rattle.pvm_core.proofs.Extents.Rows.{IsExtent, cache_there, invalidate_row}
-use Rattle.pvm_core.proofs.Reaching.{reach_told}
-use Rattle.pvm_core.proofs.Rising.{grown_some, rises_between}
-use Rattle.pvm_core.proofs.Values.{blank_of, consistent_of, zeroed, zeroed_whole}
+use Rattle.pvm_core.proofs.Answering.Reaching.{reach_told}
+use Rattle.pvm_core.proofs.Answering.Rising.{grown_some, rises_between}
+use Rattle.pvm_core.proofs.Meaning.Values.{blank_of, consistent_of, zeroed, zeroed_whole}
 
 module _ (p q : Manager) (h g : Option Held) (c d : MapperCounts) (e : Extent) (x : IsExtent p.caches e) (lock : (f : PageForest) (cache page : ℕ) → is_locked_page (machine_by p f) cache page ≡ false) (nodes : IsWhole p.caches) (valid : IsValid q g) (keeps : KeepsMachine p q h g c d) where
   named : (f : PageForest) → IsTrue (is_named (machine_by p f) e.cache.0)

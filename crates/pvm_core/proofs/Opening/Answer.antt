@@ -34,9 +34,9 @@ use Rattle.pvm_core.specs.Opening.{ArePagesOf, HasSegment, IsOpened}
 use Rattle.pvm_core.proofs.Opening.Forest.{named_pages, with_pages}
 use Rattle.pvm_core.proofs.Opening.Machine.{IsAdded, blank_added, forest_added, machine_added, whole_added, with_cache}
 use Rattle.pvm_core.proofs.Opening.Rows.{open_row}
-use Rattle.pvm_core.proofs.Reaching.{as_segments, no_push}
-use Rattle.pvm_core.proofs.Shown.{shown_made}
-use Rattle.pvm_core.proofs.Values.{blank_of, zeroed, zeroed_whole}
+use Rattle.pvm_core.proofs.Answering.Reaching.{as_segments, no_push}
+use Rattle.pvm_core.proofs.Meaning.Shown.{shown_made}
+use Rattle.pvm_core.proofs.Meaning.Values.{blank_of, zeroed, zeroed_whole}
 
 -- The pages of a segment ----------------------------------------------------------------------
 

@@ -14,8 +14,8 @@ use Rattle.vm_model.specs.Laws.{IsFollowed}
 use Rattle.vm_model.proofs.Forests.Following.{made_followed}
 use Rattle.vm_model.proofs.Parts.ListParts.{numbered_pushed}
 use Rattle.pvm_core.specs.Manager.{Manager, caches_shown, forest_of, machine_of}
-use Rattle.pvm_core.proofs.Determined.{IsShaped, followed_is}
-use Rattle.pvm_core.proofs.Shown.{length-pages, shown_made}
+use Rattle.pvm_core.proofs.Meaning.Determined.{IsShaped, followed_is}
+use Rattle.pvm_core.proofs.Meaning.Shown.{length-pages, shown_made}
 
 -- a machine with a cache more
 abbrev pub with_cache : Machine → Cache → Machine

@@ -23,18 +23,18 @@ use Rattle.local_cache.proofs.NewCache.Whole.{fresh, named_alike, pages_with}
 use Rattle.local_cache.proofs.Nodes.Count.{forest_len}
 use Rattle.residency.specs.declared.store.Store.{Store}
 use Rattle.residency.specs.World.{world}
-use Rattle.residency.proofs.MadeNamed.{opened_right, own_new, own_old}
+use Rattle.residency.proofs.NewCaches.MadeNamed.{opened_right, own_new, own_old}
 use Rattle.vm_model.specs.declared.limits.TheConstants.{LIVE_PAGES, MOST_MADE}
 use Rattle.vm_model.specs.Run.{AnswerIs}
 use Rattle.contexts.specs.Actors.{Actors}
 use Rattle.pvm_core.specs.Manager.{IsSound, IsValid, Manager, forest_of, state_at}
 use Rattle.pvm_core.specs.Opening.{ArePagesOf, HasSegment, IsOpened}
-use Rattle.pvm_core.proofs.Kept.{seen}
-use Rattle.pvm_core.proofs.Live.{nodes_most}
+use Rattle.pvm_core.proofs.Answering.Kept.{seen}
+use Rattle.pvm_core.proofs.Meaning.Live.{nodes_most}
 use Rattle.pvm_core.proofs.Opening.Answer.{answer_opened, named_page, whole_opened}
 use Rattle.pvm_core.proofs.Opening.Forest.{made_forest, with_pages}
 use Rattle.pvm_core.proofs.Opening.Sound.{opened_full, opened_sized, opened_sound}
-use Rattle.pvm_core.proofs.Values.{followed_of}
+use Rattle.pvm_core.proofs.Meaning.Values.{followed_of}
 
 module _ (b d : Arena) (u : Store) (t : Actors) (live n : ℕ) (cache : CacheId) (seg : SegId) (nodes : List NodeId) (size : length nodes ≡ n) (made : IsMade b d cache (Some seg) OnSegment nodes) (pages : HasPages d cache n OnSegment) (stays : CellsStay b d)
     (forest : arena.forest_of d ≡ make (pages_with OnSegment cache n) (arena.forest_of b)) (sound : arena_sound.IsSound d) (i : IsSound b u t live) (free : IsOpened b seg → ⊥) (few : live + n ≤ LIVE_PAGES) (slots : 2 * (live + n) ≤ length u.slots) where

@@ -24,11 +24,11 @@ use Rattle.vm_model.specs.Run.{AnswerIs}
 use Rattle.vm_model.specs.Synchronised.{IsSynchronised}
 use Rattle.pvm_core.specs.Manager.{IsValid, Manager, forest_of, machine_by, machine_of, state_at}
 use Rattle.pvm_core.specs.Opening.{HasSegment, IsOpened}
-use Rattle.pvm_core.proofs.Answered.{alike_itself, no_segments}
+use Rattle.pvm_core.proofs.Answering.Answered.{alike_itself, no_segments}
 use Rattle.pvm_core.proofs.Opening.Answer.{held_for, many, pages_for, zeros_in, zeros_there}
 use Rattle.pvm_core.proofs.Opening.Rows.{many_live, none_held, open_row}
-use Rattle.pvm_core.proofs.Reaching.{as_segments, no_push}
-use Rattle.pvm_core.proofs.Values.{blank_of, zeroed, zeroed_whole}
+use Rattle.pvm_core.proofs.Answering.Reaching.{as_segments, no_push}
+use Rattle.pvm_core.proofs.Meaning.Values.{blank_of, zeroed, zeroed_whole}
 
 -- Where the manager stands for the same, and the answer is that over these segments where none are told.
 pub outcome_over : (p q : Manager) (h : Option Held) (z : Segments) (command : Command) (answer : Answer) (rises : MapperCounts) → whole.IsWhole p.caches → whole.IsWhole q.caches

@@ -13,9 +13,9 @@ use Rattle.vm_model.specs.Answering.{open_of, opened, refuse, reply, unless, wit
 use Rattle.vm_model.specs.Machine.{Cache, Page, cache_named, is_named_by, live_pages}
 use Rattle.vm_model.specs.PageForest.{PageForest}
 use Rattle.pvm_core.specs.Manager.{Manager, cache_shown, caches_shown, machine_by}
-use Rattle.pvm_core.proofs.Named.{named_back}
+use Rattle.pvm_core.proofs.Homes.Named.{named_back}
 use Rattle.pvm_core.proofs.Opening.Machine.{with_cache}
-use Rattle.pvm_core.proofs.Shown.{shown_live, shown_made}
+use Rattle.pvm_core.proofs.Meaning.Shown.{shown_live, shown_made}
 
 itself : (n : ℕ) → (n == n) ≡ true
 itself n = grind (arith, nat_tests)

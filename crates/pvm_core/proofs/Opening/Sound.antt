@@ -25,8 +25,8 @@ use Rattle.contexts.specs.Actors.{Actors}
 use Rattle.pvm_core.specs.Manager.{AreFull, AreSized, IsSound, live_in}
 use Rattle.pvm_core.specs.Opening.{ArePagesOf, HasSegment, IsOpened}
 use Rattle.pvm_core.specs.Placed.{AreRight}
-use Rattle.pvm_core.proofs.Begun.{right_with, size_more}
-use Rattle.pvm_core.proofs.Live.{nodes_most}
+use Rattle.pvm_core.proofs.NewCaches.Begun.{right_with, size_more}
+use Rattle.pvm_core.proofs.Meaning.Live.{nodes_most}
 
 abbrev segment : Option Table → Option (Option SegId)
 segment o = option_map (λ (t : Table). t.segment) o

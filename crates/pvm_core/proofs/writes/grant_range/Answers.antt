@@ -3,7 +3,7 @@ use Rattle.std.specs.Prelude.{not, Result, Ok, Err}
 use Rattle.vm_ids.specs.declared.numbers.PageNo.{PageNo}
 use Rattle.local_cache.specs.Arena.{table_of}
 use Rattle.segment_ops.specs.Access.{AllGranted, IsAccess, IsAskedFor, OneDenied}
-use Rattle.pvm_core.proofs.Granted.{named_of, stays_granted}
+use Rattle.pvm_core.proofs.Readiness.Granted.{named_of, stays_granted}
 use Rattle.pvm_core.proofs.writes.grant_range.Goals as goal
 
 pub write_access-requires-clause-named : goal.write_access-requires-clause-named

@@ -16,8 +16,8 @@ use Rattle.local_cache.specs.Whole.{segment_of}
 use Rattle.vm_ids.specs.declared.numbers.SegId.{SegId}
 use Rattle.vm_model.specs.declared.limits.TheConstants.{MOST_MADE}
 use Rattle.pvm_core.specs.contracts.pvm.Pvm.{the_view}
-use Rattle.pvm_core.proofs.Begun.{roomy_by, roomy_forest, roomy_machine, roomy_sound, roomy_valid}
-use Rattle.pvm_core.proofs.Kept.{seen}
+use Rattle.pvm_core.proofs.NewCaches.Begun.{roomy_by, roomy_forest, roomy_machine, roomy_sound, roomy_valid}
+use Rattle.pvm_core.proofs.Answering.Kept.{seen}
 use Rattle.pvm_core.proofs.Opening.Named.{named_answer, named_sound, named_valid}
 use Rattle.pvm_core.proofs.Opening.Refused.{lacking, too_many}
 use Rattle.pvm_core.proofs.pvm.Pvm.add_named.Goals as goal

@@ -14,10 +14,10 @@ use Rattle.vm_ids.proofs.Forest.Laws.Reading.{chains_are_short}
 use Rattle.local_cache.specs.Reading.{name_of}
 use Rattle.pvm_core.specs.Manager.{nodes_of, Manager, forest_of, machine_by, state_at, IsValid}
 use Rattle.pvm_core.specs.contracts.pvm.Pvm.{the_view}
-use Rattle.pvm_core.proofs.Answered.{seated}
-use Rattle.pvm_core.proofs.Chains.{chain_no_cache, chain_out, chain_row, chains_of}
-use Rattle.pvm_core.proofs.Listed.{sized, unsized}
-use Rattle.pvm_core.proofs.Shown.{shown_size}
+use Rattle.pvm_core.proofs.Answering.Answered.{seated}
+use Rattle.pvm_core.proofs.Answering.Chains.{chain_no_cache, chain_out, chain_row, chains_of}
+use Rattle.pvm_core.proofs.Answering.Listed.{sized, unsized}
+use Rattle.pvm_core.proofs.Meaning.Shown.{shown_size}
 use Rattle.pvm_core.proofs.pvm.Pvm.chain.Goals as goal
 
 pub returns-in_default-clause-answers : goal.returns-in_default-clause-answers

@@ -29,18 +29,18 @@ use Rattle.pvm_core.specs.Keeping.{CopiesNothing}
 use Rattle.pvm_core.specs.Manager.{IsValid, Manager, forest_of, machine_by, machine_of, numbered, state_at}
 use Rattle.pvm_core.specs.Saving.{CopiesSaved, IsNotWrittenBack, IsPushed, IsWrittenBack, KeepsMachine, all_of, is_named}
 use Rattle.pvm_core.specs.contracts.pvm.Pvm.{the_view}
-use Rattle.pvm_core.proofs.Answered.{call_is, failed}
-use Rattle.pvm_core.proofs.Copies.{range_copied}
+use Rattle.pvm_core.proofs.Answering.Answered.{call_is, failed}
+use Rattle.pvm_core.proofs.Readiness.Copies.{range_copied}
 use Rattle.pvm_core.proofs.Destroying.Failed.{destroy_copied, destroy_failed, destroy_made, destroy_refused, of_cache, touched}
 use Rattle.pvm_core.proofs.Destroying.Rows.{destroy_in_use, destroy_no_cache}
 use Rattle.pvm_core.proofs.Destroying.Taken.{follows, taken, taken_sound, taken_valid}
-use Rattle.pvm_core.proofs.Kept.{seen}
-use Rattle.pvm_core.proofs.Listed.{sized, unsized}
-use Rattle.pvm_core.proofs.Loading.{size_le, sized_table}
-use Rattle.pvm_core.proofs.Reaching.{reach_none}
-use Rattle.pvm_core.proofs.Rising.{rises_between}
-use Rattle.pvm_core.proofs.Shown.{shown_size}
-use Rattle.pvm_core.proofs.Transfers.{named_machine}
+use Rattle.pvm_core.proofs.Answering.Kept.{seen}
+use Rattle.pvm_core.proofs.Answering.Listed.{sized, unsized}
+use Rattle.pvm_core.proofs.Accesses.Loading.{size_le, sized_table}
+use Rattle.pvm_core.proofs.Answering.Reaching.{reach_none}
+use Rattle.pvm_core.proofs.Answering.Rising.{rises_between}
+use Rattle.pvm_core.proofs.Meaning.Shown.{shown_size}
+use Rattle.pvm_core.proofs.Spanning.Transfers.{named_machine}
 use Rattle.pvm_core.proofs.pvm.Pvm.destroy.Goals as goal
 
 pub returns-in_default-clause-answers : goal.returns-in_default-clause-answers

@@ -18,17 +18,17 @@ use Rattle.vm_model.specs.Run.{CallIs, State}
 use Rattle.pvm_core.specs.Manager.{IsValid, Manager, forest_of, machine_by, machine_of, numbered, state_at}
 use Rattle.pvm_core.specs.Saving.{KeepsMachine}
 use Rattle.pvm_core.specs.contracts.pvm.Pvm.{the_view}
-use Rattle.pvm_core.proofs.Answered.{failed}
-use Rattle.pvm_core.proofs.Changed.{changed_sound, slots_enough}
+use Rattle.pvm_core.proofs.Answering.Answered.{failed}
+use Rattle.pvm_core.proofs.Answering.Changed.{changed_sound, slots_enough}
 use Rattle.pvm_core.proofs.Extents.Rows.{extent_by, extent_open, extent_refused, invalidate_row}
 use Rattle.pvm_core.proofs.Extents.Taken.{IsTaking, taken_is, taken_pushed, taken_valid, taking, taking_copies, taking_saved}
 use Rattle.pvm_core.proofs.Extents.Unsaved.{unsaved_is, unsaved_made}
-use Rattle.pvm_core.proofs.Kept.{seen}
-use Rattle.pvm_core.proofs.Live.{nodes_most}
-use Rattle.pvm_core.proofs.Loading.{size_le}
-use Rattle.pvm_core.proofs.Reaching.{reach_none}
-use Rattle.pvm_core.proofs.Reserved.{reserved}
-use Rattle.pvm_core.proofs.SpanRows.{unlocked_actors}
+use Rattle.pvm_core.proofs.Answering.Kept.{seen}
+use Rattle.pvm_core.proofs.Meaning.Live.{nodes_most}
+use Rattle.pvm_core.proofs.Accesses.Loading.{size_le}
+use Rattle.pvm_core.proofs.Answering.Reaching.{reach_none}
+use Rattle.pvm_core.proofs.Spanning.Reserved.{reserved}
+use Rattle.pvm_core.proofs.Spanning.SpanRows.{unlocked_actors}
 use Rattle.pvm_core.proofs.pvm.Pvm.invalidate.Goals as goal
 
 pub returns-in-Some-clause-answers : goal.returns-in-Some-clause-answers

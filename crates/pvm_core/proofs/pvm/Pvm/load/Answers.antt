@@ -15,7 +15,7 @@ use Rattle.residency.specs.declared.miss.Miss.{Miss}
 use Rattle.residency.specs.Causes.{Traffic, dirtied, dirty_count, failed_victims, pulls_for}
 use Rattle.fault_path.specs.Faults.{IsOwner}
 use Rattle.pvm_core.specs.Access.{IsAtHand, IsLoaded}
-use Rattle.pvm_core.proofs.Found.{found_in, given_in, pulled_for}
+use Rattle.pvm_core.proofs.Accesses.Found.{found_in, given_in, pulled_for}
 use Rattle.vm_model.specs.Answering.{Answer, answer_by}
 use Rattle.vm_model.specs.PageForest.{PageForest}
 use Rattle.vm_model.specs.Place.{Place, place}
@@ -23,12 +23,12 @@ use Rattle.vm_model.specs.Run.{CallIs}
 use Rattle.local_cache.specs.Whole.{size_of}
 use Rattle.pvm_core.specs.Manager.{IsValid, Manager, forest_of, machine_by, machine_of, nodes_of, state_at}
 use Rattle.pvm_core.specs.Pieces.{fault_at}
-use Rattle.pvm_core.proofs.Answered.{call_is, called}
-use Rattle.pvm_core.proofs.Homed.{reached}
-use Rattle.pvm_core.proofs.Reaching.{reach_none, reach_told}
-use Rattle.pvm_core.proofs.Kept.{kept_by, kept_forest, kept_machine, kept_sound, kept_valid, seen, sizeless}
-use Rattle.pvm_core.proofs.Listed.{found_at, refused_at, spot}
-use Rattle.pvm_core.proofs.Loading.{found_within, load_fault, load_refused, loaded, owner_there}
+use Rattle.pvm_core.proofs.Answering.Answered.{call_is, called}
+use Rattle.pvm_core.proofs.Homes.Homed.{reached}
+use Rattle.pvm_core.proofs.Answering.Reaching.{reach_none, reach_told}
+use Rattle.pvm_core.proofs.Answering.Kept.{kept_by, kept_forest, kept_machine, kept_sound, kept_valid, seen, sizeless}
+use Rattle.pvm_core.proofs.Answering.Listed.{found_at, refused_at, spot}
+use Rattle.pvm_core.proofs.Accesses.Loading.{found_within, load_fault, load_refused, loaded, owner_there}
 use Rattle.pvm_core.proofs.pvm.Pvm.load.Goals as goal
 use Rattle.pvm_core.proofs.pvm.Pvm.load.Goals.{in-Ok, in-Err}
 

@@ -10,9 +10,9 @@ use Rattle.contexts.specs.Actors.{Actors, is_full}
 use Rattle.pvm_core.specs.Placed.{AreRight}
 use Rattle.pvm_core.specs.Manager.{IsValid, Manager, caches_shown, forest_of, state_at}
 use Rattle.pvm_core.specs.contracts.pvm.Pvm.{the_view}
-use Rattle.pvm_core.proofs.Answered.{seated}
-use Rattle.pvm_core.proofs.Kept.{on_err, seated_same, seated_sound, seated_valid}
-use Rattle.pvm_core.proofs.Listed.{actor_outcome, after_either, right_made}
+use Rattle.pvm_core.proofs.Answering.Answered.{seated}
+use Rattle.pvm_core.proofs.Answering.Kept.{on_err, seated_same, seated_sound, seated_valid}
+use Rattle.pvm_core.proofs.Answering.Listed.{actor_outcome, after_either, right_made}
 use Rattle.pvm_core.proofs.pvm.Pvm.make_actor.Goals as goal
 
 abbrev more : Actors → Actors

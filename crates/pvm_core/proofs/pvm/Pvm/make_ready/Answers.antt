@@ -16,13 +16,13 @@ use Rattle.pvm_core.specs.Keeping.{HasMoreRoom}
 use Rattle.pvm_core.specs.Manager.{IsValid, Manager, forest_of, machine_of}
 use Rattle.pvm_core.specs.Saving.{IsNotReady, IsReady, KeepsForest, KeepsMachine, NeedsNothing, is_named}
 use Rattle.pvm_core.specs.Writes.{IsNotGranted}
-use Rattle.pvm_core.proofs.Denied.{denied_cases}
-use Rattle.pvm_core.proofs.Granted.{granted_by, granted_forest, granted_machine, granted_sound, granted_valid, unnamed_of}
-use Rattle.pvm_core.proofs.Kept.{seen}
-use Rattle.pvm_core.proofs.Reaching.{reach_none, reach_quiet}
-use Rattle.pvm_core.proofs.Readying.{more_room, ungranted_ready, if_err_by, keeps_then, named_same, on_ok_by, saved_all, unsaved_ready, writable_same}
-use Rattle.pvm_core.proofs.Reserved.{reserved}
-use Rattle.pvm_core.proofs.Values.{consistent_of}
+use Rattle.pvm_core.proofs.Readiness.Denied.{denied_cases}
+use Rattle.pvm_core.proofs.Readiness.Granted.{granted_by, granted_forest, granted_machine, granted_sound, granted_valid, unnamed_of}
+use Rattle.pvm_core.proofs.Answering.Kept.{seen}
+use Rattle.pvm_core.proofs.Answering.Reaching.{reach_none, reach_quiet}
+use Rattle.pvm_core.proofs.Readiness.Readying.{more_room, ungranted_ready, if_err_by, keeps_then, named_same, on_ok_by, saved_all, unsaved_ready, writable_same}
+use Rattle.pvm_core.proofs.Spanning.Reserved.{reserved}
+use Rattle.pvm_core.proofs.Meaning.Values.{consistent_of}
 use Rattle.pvm_core.proofs.pvm.Pvm.make_ready.Goals as goal
 
 pub invariant_of-self : goal.invariant_of-self

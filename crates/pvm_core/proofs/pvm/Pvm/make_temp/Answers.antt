@@ -14,12 +14,12 @@ use Rattle.local_cache.proofs.Names.Homes.{home-made_other}
 use Rattle.local_cache.specs.declared.own_state.OwnState.TheVariants.{Zero}
 use Rattle.pvm_core.specs.Manager.{IsValid, Manager, forest_of, state_at}
 use Rattle.pvm_core.specs.contracts.pvm.Pvm.{the_view}
-use Rattle.pvm_core.proofs.Answered.{answered}
-use Rattle.pvm_core.proofs.Begun.{begun_full, begun_right, begun_sized, begun_sound, roomy_by, roomy_forest, roomy_machine, roomy_sound, roomy_valid}
-use Rattle.pvm_core.proofs.Kept.{seen}
-use Rattle.pvm_core.proofs.Making.{all_with, made_store}
-use Rattle.pvm_core.proofs.NewCache.{answer_more, fresh_pages, many_live, many_made, temp_row, whole_more}
-use Rattle.pvm_core.proofs.Values.{followed_of}
+use Rattle.pvm_core.proofs.Answering.Answered.{answered}
+use Rattle.pvm_core.proofs.NewCaches.Begun.{begun_full, begun_right, begun_sized, begun_sound, roomy_by, roomy_forest, roomy_machine, roomy_sound, roomy_valid}
+use Rattle.pvm_core.proofs.Answering.Kept.{seen}
+use Rattle.pvm_core.proofs.NewCaches.Making.{all_with, made_store}
+use Rattle.pvm_core.proofs.NewCaches.NewCache.{answer_more, fresh_pages, many_live, many_made, temp_row, whole_more}
+use Rattle.pvm_core.proofs.Meaning.Values.{followed_of}
 use Rattle.pvm_core.proofs.pvm.Pvm.make_temp.Goals as goal
 use Rattle.pvm_core.proofs.pvm.Pvm.make_temp.Goals.{then-caches_made-ge-MOST_MADE-via-then-caches_made-ge-MOST_MADE, then-caches_made-ge-MOST_MADE-via-else-caches_made-ge-MOST_MADE+then-self-pages}
 

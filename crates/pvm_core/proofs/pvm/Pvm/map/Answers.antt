@@ -16,10 +16,10 @@ use Rattle.pvm_core.specs.Manager.{Manager, caches_shown, state_at, IsValid}
 use Rattle.pvm_core.specs.Maps.{map_refusal}
 use Rattle.pvm_core.specs.Placed.{AreRight}
 use Rattle.pvm_core.specs.contracts.pvm.Pvm.{the_view}
-use Rattle.pvm_core.proofs.Answered.{seated}
-use Rattle.pvm_core.proofs.Kept.{seated_sound, seated_valid}
-use Rattle.pvm_core.proofs.Listed.{IsMappable, after_either, is_mappable, machine_with, map_refused, map_row, next_placed, right_mapped, size_in}
-use Rattle.pvm_core.proofs.Shown.{shown_size}
+use Rattle.pvm_core.proofs.Answering.Answered.{seated}
+use Rattle.pvm_core.proofs.Answering.Kept.{seated_sound, seated_valid}
+use Rattle.pvm_core.proofs.Answering.Listed.{IsMappable, after_either, is_mappable, machine_with, map_refused, map_row, next_placed, right_mapped, size_in}
+use Rattle.pvm_core.proofs.Meaning.Shown.{shown_size}
 use Rattle.pvm_core.proofs.pvm.Pvm.map.Goals as goal
 use Rattle.pvm_core.proofs.pvm.Pvm.map.Goals.{in-Ok, in-Err}
 

@@ -32,21 +32,21 @@ use Rattle.pvm_core.specs.Manager.{IsValid, Manager, forest_of, machine_by, mach
 use Rattle.pvm_core.specs.Saving.{CopiesSaved, IsNotReady, IsReady, KeepsMachine, NeedsNothing, RefusedOf, is_named}
 use Rattle.pvm_core.specs.Spans.{copy_refusal, move_refusal, replaced}
 use Rattle.pvm_core.specs.contracts.pvm.Pvm.{the_view}
-use Rattle.pvm_core.proofs.Answered.{call_is, failed}
-use Rattle.pvm_core.proofs.Changed.{changed_sound, slots_enough}
-use Rattle.pvm_core.proofs.Copies.{range_copied}
-use Rattle.pvm_core.proofs.Kept.{seen}
-use Rattle.pvm_core.proofs.Live.{nodes_most}
-use Rattle.pvm_core.proofs.Loading.{size_le, sized_table}
-use Rattle.pvm_core.proofs.Reaching.{reach_none}
-use Rattle.pvm_core.proofs.Readying.{named_same}
-use Rattle.pvm_core.proofs.Reserved.{can_copy}
-use Rattle.pvm_core.proofs.Rising.{rises_between}
-use Rattle.pvm_core.proofs.Shown.{shown_size}
-use Rattle.pvm_core.proofs.SpanRows.{IsOpen, copy_refused, is_movable, is_open, move_refused, unlocked_actors}
-use Rattle.pvm_core.proofs.Spanned.{apart_of}
-use Rattle.pvm_core.proofs.Transferring.{copies_nothing, failed_copied, failed_made, failed_refused, names_written, transfer_failed, undenied_range}
-use Rattle.pvm_core.proofs.Transfers.{copied_outcome, copied_transfer, copied_valid, copy_follows, move_follows, moved_outcome, moved_transfer, moved_valid, named_machine, named_there}
+use Rattle.pvm_core.proofs.Answering.Answered.{call_is, failed}
+use Rattle.pvm_core.proofs.Answering.Changed.{changed_sound, slots_enough}
+use Rattle.pvm_core.proofs.Readiness.Copies.{range_copied}
+use Rattle.pvm_core.proofs.Answering.Kept.{seen}
+use Rattle.pvm_core.proofs.Meaning.Live.{nodes_most}
+use Rattle.pvm_core.proofs.Accesses.Loading.{size_le, sized_table}
+use Rattle.pvm_core.proofs.Answering.Reaching.{reach_none}
+use Rattle.pvm_core.proofs.Readiness.Readying.{named_same}
+use Rattle.pvm_core.proofs.Spanning.Reserved.{can_copy}
+use Rattle.pvm_core.proofs.Answering.Rising.{rises_between}
+use Rattle.pvm_core.proofs.Meaning.Shown.{shown_size}
+use Rattle.pvm_core.proofs.Spanning.SpanRows.{IsOpen, copy_refused, is_movable, is_open, move_refused, unlocked_actors}
+use Rattle.pvm_core.proofs.Spanning.Spanned.{apart_of}
+use Rattle.pvm_core.proofs.Spanning.Transferring.{copies_nothing, failed_copied, failed_made, failed_refused, names_written, transfer_failed, undenied_range}
+use Rattle.pvm_core.proofs.Spanning.Transfers.{copied_outcome, copied_transfer, copied_valid, copy_follows, move_follows, moved_outcome, moved_transfer, moved_valid, named_machine, named_there}
 use Rattle.pvm_core.proofs.pvm.Pvm.move_pages.Goals as goal
 
 pub returns-in-Some-clause-answers : goal.returns-in-Some-clause-answers

@@ -1,5 +1,5 @@
 use Rattle.std.proofs.Common.{None}
-use Rattle.pvm_core.proofs.Empty.{none_sound, none_forest, none_full, none_sized, none_whole}
+use Rattle.pvm_core.proofs.Meaning.Empty.{none_sound, none_forest, none_full, none_sized, none_whole}
 use Rattle.pvm_core.proofs.pvm.Pvm.new.Goals as goal
 
 pub invariant_of-result : goal.invariant_of-result

@@ -16,10 +16,10 @@ use Rattle.vm_model.specs.Machine.{Page}
 use Rattle.vm_model.specs.Run.{AnswerIs, CallIs}
 use Rattle.vm_model.specs.PageForest.{PageForest}
 use Rattle.pvm_core.specs.Manager.{IsValid, Manager, forest_of, machine_by, machine_of, state_at}
-use Rattle.pvm_core.proofs.Shown.{shown_made}
+use Rattle.pvm_core.proofs.Meaning.Shown.{shown_made}
 use Rattle.pvm_core.specs.Opening.{IsOpened}
 use Rattle.pvm_core.specs.contracts.pvm.Pvm.{the_view}
-use Rattle.pvm_core.proofs.Answered.{no_segments}
+use Rattle.pvm_core.proofs.Answering.Answered.{no_segments}
 use Rattle.pvm_core.proofs.Opening.Refused.{may_open, outcome_over, stayed}
 use Rattle.pvm_core.proofs.Opening.Rows.{in_use, many_made, none_held}
 use Rattle.pvm_core.proofs.Opening.Told.{failed_rise, has_segment, no_segment, one_fault, quiet, still_rise}

@@ -7,9 +7,9 @@ use Rattle.vm_ids.specs.declared.reply.Trouble.{Trouble}
 use Rattle.vm_model.specs.Answering.{answer_by}
 use Rattle.vm_model.specs.Run.{CallIs}
 use Rattle.pvm_core.specs.Manager.{IsValid, Manager, forest_of, machine_by, machine_of, state_at}
-use Rattle.pvm_core.proofs.Answered.{called, on_victim, paged_out, victim}
-use Rattle.pvm_core.proofs.Homed.{reached}
-use Rattle.pvm_core.proofs.Kept.{kept_by, seen, stilled, pinned_none, stilled_forest, stilled_machine, stilled_sound, stilled_valid}
+use Rattle.pvm_core.proofs.Answering.Answered.{called, on_victim, paged_out, victim}
+use Rattle.pvm_core.proofs.Homes.Homed.{reached}
+use Rattle.pvm_core.proofs.Answering.Kept.{kept_by, seen, stilled, pinned_none, stilled_forest, stilled_machine, stilled_sound, stilled_valid}
 use Rattle.pvm_core.proofs.pvm.Pvm.page_out.Goals as goal
 use Rattle.pvm_core.proofs.pvm.Pvm.page_out.Goals.{in-Ok, in-Err}
 

@@ -10,8 +10,8 @@ use Rattle.contexts.specs.Actors.{Actors}
 use Rattle.pvm_core.specs.Manager.{caches_shown}
 use Rattle.pvm_core.specs.Placed.{AreRight}
 use Rattle.pvm_core.proofs.Acting.{acted, acted_valid, protected}
-use Rattle.pvm_core.proofs.Kept.{seated_sound}
-use Rattle.pvm_core.proofs.Listed.{machine_with}
+use Rattle.pvm_core.proofs.Answering.Kept.{seated_sound}
+use Rattle.pvm_core.proofs.Answering.Listed.{machine_with}
 use Rattle.pvm_core.proofs.RegionRows.{protect_none, protect_row, right_with_allowed}
 use Rattle.pvm_core.proofs.pvm.Pvm.protect.Goals as goal
 

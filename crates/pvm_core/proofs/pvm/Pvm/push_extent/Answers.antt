@@ -14,14 +14,14 @@ use Rattle.gmi_calls.specs.Calling.{done_by}
 use Rattle.pvm_core.specs.Keeping.{SameMeaning}
 use Rattle.pvm_core.specs.Manager.{IsValid, Manager, machine_by, state_at, world_of}
 use Rattle.pvm_core.specs.contracts.pvm.Pvm.{the_view}
-use Rattle.pvm_core.proofs.Answered.{called}
+use Rattle.pvm_core.proofs.Answering.Answered.{called}
 use Rattle.pvm_core.proofs.Extents.Push.{all_unsized, failing, failing_ok, flush_is, stop_unsized, sync_is}
 use Rattle.pvm_core.proofs.Extents.Rows.{extent_open, extent_refused}
 use Rattle.pvm_core.proofs.Extents.Synced.{synced_unsized}
-use Rattle.pvm_core.proofs.Kept.{kept_by, kept_forest, kept_machine, kept_sound, kept_valid, seen}
-use Rattle.pvm_core.proofs.Pushed.{values_reached}
-use Rattle.pvm_core.proofs.Reaching.{reach_none}
-use Rattle.pvm_core.proofs.SpanRows.{unlocked_actors}
+use Rattle.pvm_core.proofs.Answering.Kept.{kept_by, kept_forest, kept_machine, kept_sound, kept_valid, seen}
+use Rattle.pvm_core.proofs.Homes.Pushed.{values_reached}
+use Rattle.pvm_core.proofs.Answering.Reaching.{reach_none}
+use Rattle.pvm_core.proofs.Spanning.SpanRows.{unlocked_actors}
 use Rattle.local_cache.specs.Whole.{size_of}
 use Rattle.pvm_core.proofs.pvm.Pvm.push_extent.Goals as goal
 use Rattle.pvm_core.proofs.pvm.Pvm.push_extent.Goals.{in-Ok, in-Err}

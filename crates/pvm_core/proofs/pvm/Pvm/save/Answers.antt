@@ -7,9 +7,9 @@ use Rattle.residency.specs.StoreForest.{store_forest}
 use Rattle.residency.specs.World.{World, world}
 use Rattle.pvm_core.specs.Manager.{IsValid, Manager, forest_of}
 use Rattle.pvm_core.specs.Saving.{IsNotSaved, KeepsMachine, is_named}
-use Rattle.pvm_core.proofs.Kept.{kept_sound, seen, sizeless}
-use Rattle.pvm_core.proofs.Pushed.{values_reached}
-use Rattle.pvm_core.proofs.Saved.{all_saved, saved_keeps, saved_valid, saves_done}
+use Rattle.pvm_core.proofs.Answering.Kept.{kept_sound, seen, sizeless}
+use Rattle.pvm_core.proofs.Homes.Pushed.{values_reached}
+use Rattle.pvm_core.proofs.Readiness.Saved.{all_saved, saved_keeps, saved_valid, saves_done}
 use Rattle.pvm_core.proofs.pvm.Pvm.save.Goals as goal
 use Rattle.pvm_core.proofs.pvm.Pvm.save.Goals.{in-Ok, in-Err}
 

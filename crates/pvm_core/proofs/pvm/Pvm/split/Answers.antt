@@ -8,8 +8,8 @@ use Rattle.contexts.specs.Actors.{Actors, split_refusal, with_split}
 use Rattle.pvm_core.specs.Manager.{IsValid, Manager, caches_shown, forest_of}
 use Rattle.pvm_core.specs.contracts.pvm.Pvm.{the_view}
 use Rattle.pvm_core.proofs.Acting.{acted, acted_valid, cut}
-use Rattle.pvm_core.proofs.Kept.{on_err, seated_same, seated_sound}
-use Rattle.pvm_core.proofs.Listed.{after_either}
+use Rattle.pvm_core.proofs.Answering.Kept.{on_err, seated_same, seated_sound}
+use Rattle.pvm_core.proofs.Answering.Listed.{after_either}
 use Rattle.pvm_core.proofs.RegionRows.{right_cut, split_outcome}
 use Rattle.pvm_core.proofs.pvm.Pvm.split.Goals as goal
 

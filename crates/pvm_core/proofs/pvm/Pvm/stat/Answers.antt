@@ -12,9 +12,9 @@ use Rattle.vm_model.specs.Run.{AnswerIs}
 use Rattle.pvm_core.specs.Keeping.{HasFewWorking, HoldsEachOnce}
 use Rattle.pvm_core.specs.Manager.{IsValid, Manager, machine_by, state_at}
 use Rattle.pvm_core.specs.contracts.pvm.Pvm.{the_view}
-use Rattle.pvm_core.proofs.Answered.{seated}
-use Rattle.pvm_core.proofs.Kept.{seen}
-use Rattle.pvm_core.proofs.Chains.{counts_are}
+use Rattle.pvm_core.proofs.Answering.Answered.{seated}
+use Rattle.pvm_core.proofs.Answering.Kept.{seen}
+use Rattle.pvm_core.proofs.Answering.Chains.{counts_are}
 use Rattle.pvm_core.proofs.pvm.Pvm.stat.Goals as goal
 
 unpinned_or : (a b : Bool) → b ≡ false → (a || b) ≡ a

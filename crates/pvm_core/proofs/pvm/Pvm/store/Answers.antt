@@ -34,19 +34,19 @@ use Rattle.regions.specs.AddressSpace.{place_told}
 use Rattle.pvm_core.specs.Manager.{IsValid, Manager, forest_of, machine_by, machine_of, numbered, state_at}
 use Rattle.pvm_core.specs.Pieces.{fault_at}
 use Rattle.pvm_core.specs.Writes.{IsNotGranted}
-use Rattle.pvm_core.proofs.Answered.{made_stays, call_is, call_later, failed, failed_at, no_segments}
-use Rattle.pvm_core.proofs.Denied.{denied_cases, denied_there, told_denied, denies_one, one_denied}
-use Rattle.pvm_core.proofs.Granted.{granted_forest, granted_machine, granted_sound, granted_state, granted_valid, granted_by, writable_node}
-use Rattle.pvm_core.proofs.Full.{full_after}
-use Rattle.pvm_core.proofs.Homed.{reached}
-use Rattle.pvm_core.proofs.Kept.{kept_by, kept_forest, kept_sound, kept_valid, seen, sizeless, unsized_right}
-use Rattle.pvm_core.proofs.Listed.{found_at, refused_at, spot}
-use Rattle.pvm_core.proofs.Loading.{sized_table}
-use Rattle.pvm_core.proofs.Reaching.{reach_denied, reach_none, reach_quiet, reach_told}
-use Rattle.pvm_core.proofs.Sized.{sized_after}
-use Rattle.pvm_core.proofs.Storing.{store_denied, store_protected, store_refused, stored_forest}
-use Rattle.pvm_core.proofs.Stored.{kept_copies, access_fault, bytes_right, bytes_sound, copied_most, denied_by, dirty_here, named_in, not_saved, store_fault, stored, undenied, undenied_blank, whole_stored}
-use Rattle.pvm_core.proofs.Values.{followed_of}
+use Rattle.pvm_core.proofs.Answering.Answered.{made_stays, call_is, call_later, failed, failed_at, no_segments}
+use Rattle.pvm_core.proofs.Readiness.Denied.{denied_cases, denied_there, told_denied, denies_one, one_denied}
+use Rattle.pvm_core.proofs.Readiness.Granted.{granted_forest, granted_machine, granted_sound, granted_state, granted_valid, granted_by, writable_node}
+use Rattle.pvm_core.proofs.Homes.Full.{full_after}
+use Rattle.pvm_core.proofs.Homes.Homed.{reached}
+use Rattle.pvm_core.proofs.Answering.Kept.{kept_by, kept_forest, kept_sound, kept_valid, seen, sizeless, unsized_right}
+use Rattle.pvm_core.proofs.Answering.Listed.{found_at, refused_at, spot}
+use Rattle.pvm_core.proofs.Accesses.Loading.{sized_table}
+use Rattle.pvm_core.proofs.Answering.Reaching.{reach_denied, reach_none, reach_quiet, reach_told}
+use Rattle.pvm_core.proofs.Homes.Sized.{sized_after}
+use Rattle.pvm_core.proofs.Accesses.Storing.{store_denied, store_protected, store_refused, stored_forest}
+use Rattle.pvm_core.proofs.Accesses.Stored.{kept_copies, access_fault, bytes_right, bytes_sound, copied_most, denied_by, dirty_here, named_in, not_saved, store_fault, stored, undenied, undenied_blank, whole_stored}
+use Rattle.pvm_core.proofs.Meaning.Values.{followed_of}
 use Rattle.pvm_core.proofs.pvm.Pvm.store.Goals as goal
 
 denied : (b : Bool) → not b ≡ true → b ≡ false

@@ -12,9 +12,9 @@ use Rattle.contexts.specs.Actors.{Actors}
 use Rattle.pvm_core.specs.Manager.{Manager, caches_shown, state_at, IsValid}
 use Rattle.pvm_core.specs.Placed.{AreRight}
 use Rattle.pvm_core.specs.contracts.pvm.Pvm.{the_view}
-use Rattle.pvm_core.proofs.Answered.{seated}
-use Rattle.pvm_core.proofs.Kept.{seated_sound, seated_valid}
-use Rattle.pvm_core.proofs.Listed.{machine_with, right_without, unmap_none, unmap_row}
+use Rattle.pvm_core.proofs.Answering.Answered.{seated}
+use Rattle.pvm_core.proofs.Answering.Kept.{seated_sound, seated_valid}
+use Rattle.pvm_core.proofs.Answering.Listed.{machine_with, right_without, unmap_none, unmap_row}
 use Rattle.pvm_core.proofs.pvm.Pvm.unmap.Goals as goal
 
 pub returns-then-not-unmap-clause-answers : goal.returns-then-not-unmap-clause-answers

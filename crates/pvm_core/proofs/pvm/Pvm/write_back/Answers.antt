@@ -14,10 +14,10 @@ use Rattle.pvm_core.specs.Manager.{IsValid, Manager, forest_of, machine_of, worl
 use Rattle.pvm_core.specs.Saving.{FailedToPush, IsNotWrittenBack, IsPushed, IsWrittenBack, KeepsForest, KeepsMachine, is_named}
 use Rattle.pvm_core.proofs.Destroying.Written.{extent_named, still_pushed, unnamed_written, unsaved_written}
 use Rattle.pvm_core.proofs.Extents.Synced.{are_pushed, synced_unsized}
-use Rattle.pvm_core.proofs.Kept.{kept_by, kept_forest, kept_machine, kept_sound, kept_valid, seen}
-use Rattle.pvm_core.proofs.Pushed.{values_reached}
-use Rattle.pvm_core.proofs.Readying.{if_err_by, keeps_then, named_same, on_ok_by, saved_all}
-use Rattle.pvm_core.proofs.Values.{consistent_of}
+use Rattle.pvm_core.proofs.Answering.Kept.{kept_by, kept_forest, kept_machine, kept_sound, kept_valid, seen}
+use Rattle.pvm_core.proofs.Homes.Pushed.{values_reached}
+use Rattle.pvm_core.proofs.Readiness.Readying.{if_err_by, keeps_then, named_same, on_ok_by, saved_all}
+use Rattle.pvm_core.proofs.Meaning.Values.{consistent_of}
 use Rattle.pvm_core.proofs.pvm.Pvm.write_back.Goals as goal
 
 pub returns-then-is_none-clause-written : goal.returns-then-is_none-clause-written

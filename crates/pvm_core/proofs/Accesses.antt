@@ -1,0 +1,6 @@
+-- Loads and stores.
+pub mod Found
+pub mod Loading
+pub mod Zeros
+pub mod Storing
+pub mod Stored

@@ -1,0 +1,8 @@
+-- What an answer is, with bytes and without, and what it keeps.
+pub mod Answered
+pub mod Chains
+pub mod Changed
+pub mod Kept
+pub mod Listed
+pub mod Rising
+pub mod Reaching

@@ -1,0 +1,130 @@
+-- Steps that keep the machine, one after the other.
+use Rattle.std.proofs.Common.{◌≡◌, ℕ, ◌+◌, ◌≤◌, Bool, true, false, List, Option, Some, None, is_some, refl, sym, ap, ◌∙◌, subst, unwrap_or, inl, inr}
+use Rattle.std.specs.Prelude.{IfErr, IfSome, IsSome, OnOk, Ok, Err, Result, option_map, option_and_then, slice_get}
+use Rattle.std.proofs.lemmas.List.{append-nil}
+use Rattle.vm_ids.specs.Counting.{MapperCounts}
+use Rattle.vm_ids.specs.Held.{Held}
+use Rattle.vm_ids.specs.declared.command.Extent.{Extent}
+use Rattle.vm_ids.specs.declared.node_name.NodeName.{NodeName}
+use Rattle.vm_ids.specs.declared.refusal.Refusal.TheVariants as refusals
+use Rattle.vm_ids.specs.declared.reply.FaultAt.TheVariants as faults
+use Rattle.vm_ids.specs.declared.reply.Trouble.{Trouble}
+use Rattle.vm_ids.specs.declared.reply.Trouble.TheVariants as troubles
+use Rattle.vm_ids.specs.Forest.Commands.{extent_names, page_name}
+use Rattle.vm_ids.specs.Forest.NameLists.{◌∈◌}
+use Rattle.vm_ids.specs.Forest.Saving.{is_unsaved, saved, saves, unsaved}
+use Rattle.vm_ids.specs.Forest.Shape.{IsConsistent}
+use Rattle.vm_ids.proofs.Forest.Saving.{save_range_ends}
+use Rattle.local_cache.specs.Arena.{Arena, Table, table_at, table_of}
+use Rattle.local_cache.specs.Home.{home_named}
+use Rattle.local_cache.specs.Reading as arena
+use Rattle.local_cache.specs.Whole.{IsWhole, SameCaches, segment_of}
+use Rattle.local_cache.proofs.Tables.Sizes.{sizes_same, sizes_then}
+use Rattle.page_release.specs.Homes.{AreSaved}
+use Rattle.segment_ops.specs.Ranges.{IsPageOf}
+use Rattle.segment_ops.proofs.Unsaved.{unsaved_by}
+use Rattle.vm_model.specs.Machine.{Machine}
+use Rattle.vm_model.specs.PageForest.{PageForest}
+use Rattle.pvm_core.specs.Manager.{IsValid, Manager, forest_of, machine_by, machine_of, world_of}
+use Rattle.pvm_core.specs.Reaching.{Reach}
+use Rattle.pvm_core.specs.Saving.{FailedToSave, IsNotReady, IsNotSaved, IsReady, KeepsForest, KeepsMachine, is_named}
+use Rattle.pvm_core.specs.Writes.{AreWritable, IsNotGranted}
+use Rattle.pvm_core.specs.Keeping.{HasMoreRoom}
+use Rattle.contexts.specs.Actors.{Actors}
+use Rattle.residency.specs.declared.store.Store.{Store}
+use Rattle.pvm_core.proofs.Readiness.Denied.{denied_cases}
+use Rattle.pvm_core.proofs.Answering.Kept.{seen}
+use Rattle.pvm_core.proofs.Answering.Reaching.{reach_none, reach_then}
+use Rattle.pvm_core.proofs.Meaning.Values.{consistent_of}
+
+pub keeps_then : (p q r : Manager) (h g k : Option Held) (c d e : MapperCounts) → KeepsMachine p q h g c d → KeepsMachine q r g k d e → KeepsMachine p r h k c e
+keeps_then p q r h g k c d e a b = record {
+  machine = b.machine ∙ a.machine;
+  by = λ f. b.by f ∙ a.by f;
+  same = sizes_then p.caches q.caches r.caches a.same b.same;
+  made = b.made ∙ a.made;
+  reach = reach_then (machine_of p h) h g k c d e a.reach (subst (λ (m : Machine). Reach m g k d e) a.machine b.reach);
+}
+
+-- a segment names the cache still
+pub named_same : (a b : Arena) → SameCaches a b → (n : ℕ) → is_named b n ≡ is_named a n
+named_same a b same n = sym (by_segment (table_of b n)) ∙ ap (λ (o : Option (Option _)). is_some (option_and_then (λ s. s) o)) (same.segments n) ∙ by_segment (table_of a n)
+  where
+    by_segment : (o : Option Table) → is_some (option_and_then (λ s. s) (option_map (λ (t : Table). t.segment) o)) ≡ is_some (option_and_then (λ (t : Table). t.segment) o)
+    by_segment None = refl
+    by_segment (Some t) = refl
+
+-- what may be written stays so where the tables stay
+pub writable_same : (a b : Arena) (range : Extent) → b.caches ≡ a.caches → AreWritable range a → AreWritable range b
+writable_same a b range e w page of = subst (λ (ts : List (Option Table)). IsSome (home_named ts (page_name range.cache page)) → unwrap_or (option_and_then (λ (t : Table). slice_get t.grants page) (table_at ts range.cache.0)) false ≡ true) (sym e) (w page of)
+
+-- behind the saves no page of the range has an own page and an heir
+pub saved_all : (q : Manager) (g : Option Held) (range : Extent) (f : PageForest) → IsWhole q.caches → IsConsistent f → (named : Bool) → is_named q.caches range.cache.0 ≡ named → forest_of q g ≡ saved named (extent_names range) f → AreSaved q.caches range.cache (extent_names range)
+saved_all q g range f whole shaped true e forest named x i =
+    sym (unsaved_by (world_of q g) whole.sound x) ∙ ap (λ k. is_unsaved k x) forest ∙ save_range_ends (extent_names range) f shaped.shaped x i
+saved_all q g range f whole shaped false e forest named x i = absurd (let k : true ≡ false = sym named ∙ e in cc k)
+
+pub on_ok_by : {T E P Q : Type 0} (r : Result T E) → (P → Q) → OnOk r P → OnOk r Q
+on_ok_by (Ok x) f p = f p
+on_ok_by (Err e) f p = tt
+
+pub if_err_by : {T E : Type 0} {P Q : E → Type 0} (r : Result T E) → ((e : E) → P e → Q e) → IfErr r P → IfErr r Q
+if_err_by (Ok x) f p = tt
+if_err_by (Err e) f p = f e p
+
+-- what failed where not all pages were saved is a save
+pub failed_save : (range : Extent) (p q : Manager) (h g : Option Held) (trouble : Trouble) → IsNotSaved range p h q g trouble → (done : ℕ) × (trouble ≡ troubles.Mapper (faults.Save done)) × FailedToSave range done p q h g
+failed_save range p q h g (troubles.Mapper (faults.Save done)) d = (done, refl, d)
+failed_save range p q h g troubles.Memory d = absurd d
+failed_save range p q h g (troubles.Mapper faults.Opening) d = absurd d
+failed_save range p q h g (troubles.Mapper (faults.Access page)) d = absurd d
+failed_save range p q h g (troubles.Mapper (faults.Page page)) d = absurd d
+failed_save range p q h g (troubles.Mapper faults.Victim) d = absurd d
+failed_save range p q h g (troubles.Refused refusals.BadLine) d = absurd d
+failed_save range p q h g (troubles.Refused refusals.NoActor) d = absurd d
+failed_save range p q h g (troubles.Refused refusals.NoCache) d = absurd d
+failed_save range p q h g (troubles.Refused refusals.NoRegion) d = absurd d
+failed_save range p q h g (troubles.Refused refusals.NoSegment) d = absurd d
+failed_save range p q h g (troubles.Refused refusals.SegmentInUse) d = absurd d
+failed_save range p q h g (troubles.Refused refusals.OutOfCache) d = absurd d
+failed_save range p q h g (troubles.Refused refusals.BadAddress) d = absurd d
+failed_save range p q h g (troubles.Refused refusals.Protection) d = absurd d
+failed_save range p q h g (troubles.Refused refusals.Overlap) d = absurd d
+failed_save range p q h g (troubles.Refused refusals.Unaligned) d = absurd d
+failed_save range p q h g (troubles.Refused refusals.Crosses) d = absurd d
+failed_save range p q h g (troubles.Refused refusals.Locked) d = absurd d
+failed_save range p q h g (troubles.Refused refusals.LockLimit) d = absurd d
+failed_save range p q h g (troubles.Refused refusals.InUse) d = absurd d
+failed_save range p q h g (troubles.Refused refusals.TooMany) d = absurd d
+failed_save range p q h g (troubles.Refused refusals.NotTemp) d = absurd d
+failed_save range p q h g (troubles.Refused refusals.NotNamed) d = absurd d
+failed_save range p q h g (troubles.Refused refusals.NotLocked) d = absurd d
+failed_save range p q h g (troubles.Refused refusals.WriteDenied) d = absurd d
+
+-- where a save failed, the pages weren't ready
+pub unsaved_ready : (range : Extent) (p q r : Manager) (h g k : Option Held) → is_named q.caches range.cache.0 ≡ is_named p.caches range.cache.0 → KeepsForest p q h g → AreWritable range r.caches → (trouble : Trouble) → IsNotSaved range q g r k trouble → IsNotReady range p h r k trouble
+unsaved_ready range p q r h g k named forest writable trouble out =
+    let s = failed_save range q r g k trouble out in
+    subst (IsNotReady range p h r k) (sym s.1) (
+      record {
+        named = sym named ∙ s.2.named;
+        forest = s.2.forest ∙ ap (saves s.0 (extent_names range)) forest.forest;
+        left = λ n less. subst (λ f. IsSome (unsaved (saves n (extent_names range) f) (extent_names range))) forest.forest (s.2.left n less);
+        copies = s.2.copies ∙ ap (λ n. n + s.0) forest.copies;
+      },
+      writable,
+    )
+
+-- where the pages may not be written, they aren't ready
+pub ungranted_ready : (range : Extent) (p q : Manager) (h g : Option Held) → KeepsForest p q h g → (trouble : Trouble) → IsNotGranted range h p.caches q.caches trouble → IsNotReady range p h q g trouble
+ungranted_ready range p q h g forest trouble out = elim (denied_cases range h out.segment p.caches q.caches trouble out.denied) [
+  | inl w ↦ subst (IsNotReady range p h q g) (sym w.0) (forest, record { segment = out.segment; named = out.named; denied = w.1 })
+  | inr w ↦ subst (IsNotReady range p h q g) (sym w.1) (forest, record { segment = out.segment; named = out.named; denied = w.2 })
+]
+
+-- more room alone
+pub more_room : (a b d : Arena) (s : Store) (t : Actors) → b ≡ a → d ≡ record b { room = d.room } → HasMoreRoom (seen a s t) (seen d s t)
+more_room a b d s t same kept = record {
+  same = (λ j. seen ((kept ∙ ap (λ (k : Arena). record k { room = d.room }) same) j) s t);
+  slots = (0, sym (append-nil s.slots));
+}

@@ -1,0 +1,6 @@
+-- Copies and moves.
+pub mod SpanRows
+pub mod Spanned
+pub mod Transfers
+pub mod Transferring
+pub mod Reserved
