@@ -152,7 +152,7 @@ fn other_words_read_and_write_nothing(rt: HostRuntime) -> Result<(), NoMemory> {
         assert_eq!(&rt; status, Status::Usage, "{words:?}");
     }
     assert_eq!(&rt; sink.written(), b"".as_slice());
-    let words = ["run", "--segments", "d", "--frames=65536"];
+    let words = ["run", "--segments", "d", "--frames=3"];
     let status = replay_source(rt.alloc(), &words, &mut source, &mut sink)?;
     assert_eq!(&rt; status, Status::Done);
     assert_eq!(&rt; sink.written(), rows::ZEROS_REPLIES.as_bytes());
