@@ -1,5 +1,5 @@
 -- What stretches say after a change, of each number.
-use Rattle.std.specs.Prelude.{◌≡◌, ℕ, true, ◌==◌, if◌then◌else◌, List, Option, Some, None}
+use Rattle.std.specs.Prelude.{◌≡◌, ℕ, true, ◌==◌, if◌then◌else◌, List, Some, None}
 use Rattle.stretches.specs.declared.says.Says.{Ghosts}
 use Rattle.stretches.specs.declared.stretch.Stretch.{Stretch}
 use Rattle.stretches.specs.Stretch.{is_in, value_at}

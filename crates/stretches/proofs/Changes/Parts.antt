@@ -5,8 +5,8 @@ use Rattle.stretches.specs.declared.says.Says.{Ghosts}
 use Rattle.stretches.specs.declared.stretch.Stretch.{Stretch}
 use Rattle.stretches.specs.GoingOn.{GoesOn}
 use Rattle.stretches.specs.Stretch.{Continues, IsFit, behind, front, shifted}
-use Rattle.stretches.specs.Stretches.{IsStretchFrom, IsStretchWith, said}
-use Rattle.stretches.proofs.Reading.Numbers.{high, low, out_before, out_behind, within}
+use Rattle.stretches.specs.Stretches.{said}
+use Rattle.stretches.proofs.Reading.Numbers.{out_before, out_behind, within}
 use Rattle.stretches.proofs.Reading.Sayings.{here, skip}
 
 module _ {V : Type 0} (S : Ghosts V) (laws : GoesOn S.after S.lasts) where
@@ -26,22 +26,6 @@ module _ {V : Type 0} (S : Ghosts V) (laws : GoesOn S.after S.lasts) where
 
   pub fit_front : (r : Stretch V) (a : ℕ) → 0 < a → a ≤ r.count → IsFit S r → IsFit S (front r a)
   fit_front r a some le fit = record { some = some; short = omega (arith, fit.short); ends = omega (arith, fit.ends); lasts = lasts_fewer r.value a r.count le fit.lasts }
-
-  -- what is left of a stretch from a number on
-  pub rest_from : (rs : List (Stretch V)) (n : ℕ) (r : Stretch V) → IsStretchWith S rs n r → IsStretchFrom S rs n (behind S r (n - r.first))
-  rest_from rs n r with_it =
-      let a = n - r.first in
-      let start : r.first + a ≡ n = omega (arith, low r n with_it.has) in
-      let less : a < r.count = omega (arith, low r n with_it.has, high r n with_it.has) in
-      record {
-        begins = start;
-        fit = fit_behind r a less with_it.fit;
-        said = λ m h.
-            let from : r.first + a ≤ m = low (behind S r a) m h in
-            let to : m < r.first + a + (r.count - a) = high (behind S r a) m h in
-            let same : a + (m - (r.first + a)) ≡ m - r.first = omega arith in
-            with_it.said m (within r m (omega arith) (omega arith)) ∙ ap (λ (k : ℕ). Some (S.after r.value k)) (sym same) ∙ ap (λ (x : V). Some x) (sym (laws.composes r.value a (m - (r.first + a))));
-      }
 
   -- the two parts of a stretch say together what it says
   pub two_say : (r : Stretch V) (rs : List (Stretch V)) (a : ℕ) → a ≤ r.count → (n : ℕ) → said S (front r a ∷ behind S r a ∷ rs) n ≡ said S (r ∷ rs) n

@@ -1,12 +1,12 @@
 -- What a list says of a number.
-use Rattle.std.proofs.Common.{◌≡◌, ℕ, zero, suc, ◌+◌, ◌-◌, ◌<◌, ◌≤◌, Bool, true, false, cond, List, [], ◌∷◌, length, get_or, Option, Some, None, IsSome, refl, sym, ap, subst, ◌∙◌, inl, inr, arith}
+use Rattle.std.proofs.Common.{◌≡◌, ℕ, zero, suc, ◌+◌, ◌-◌, ◌<◌, Bool, true, false, cond, List, [], ◌∷◌, length, get_or, Option, Some, None, IsSome, refl, ap, subst, ◌∙◌, inl, inr, arith}
 use Rattle.std.proofs.lemmas.Bool.{cases_Bool, cases_order, false≢true}
 use Rattle.stretches.specs.declared.says.Says.{Ghosts}
 use Rattle.stretches.specs.declared.stretch.Stretch.{Stretch}
 use Rattle.stretches.specs.Places.{HasAt, IsFirstBehind}
 use Rattle.stretches.specs.Stretch.{is_in, value_at}
 use Rattle.stretches.specs.Stretches.{AreInOrder, IsStretchWith, said}
-use Rattle.stretches.proofs.Reading.Numbers.{any_default, high, low, out_before, out_behind}
+use Rattle.stretches.proofs.Reading.Numbers.{any_default, low, out_before, out_behind}
 use Rattle.stretches.proofs.Reading.Order.{apart, fit_at, rises}
 
 module _ {V : Type 0} (S : Ghosts V) where

@@ -1,9 +1,9 @@
 -- Numbers that are in one stretch.
-use Rattle.std.proofs.Common.{◌≡◌, ℕ, ◌+◌, ◌-◌, ◌<◌, ◌≤◌, List, [], ◌∷◌, length, get_or, IsSome, refl, sym, ap, subst, arith}
+use Rattle.std.proofs.Common.{◌≡◌, ℕ, ◌+◌, ◌<◌, ◌≤◌, List, [], ◌∷◌, length, get_or, IsSome, refl, sym, ap, subst, arith}
 use Rattle.stretches.specs.declared.says.Says.{Ghosts}
 use Rattle.stretches.specs.declared.stretch.Stretch.{Stretch}
-use Rattle.stretches.specs.Places.{HasAt, IsPart, Stands}
-use Rattle.stretches.specs.Stretches.{AreInOrder, AreTogether, IsStretchWith, said}
+use Rattle.stretches.specs.Places.{HasAt, IsPart}
+use Rattle.stretches.specs.Stretches.{AreInOrder, AreTogether, said}
 use Rattle.stretches.proofs.Reading.Numbers.{any_default, high, low, within}
 use Rattle.stretches.proofs.Reading.Order.{one_place}
 use Rattle.stretches.proofs.Reading.Sayings.{said_at}
@@ -20,15 +20,6 @@ module _ {V : Type 0} where
     within = has.within;
     from = λ d. low (get_or rs at d) n (has.has d);
     to = λ d. omega (arith, high (get_or rs at d) n (has.has d));
-  }
-
-  -- the numbers of a stretch of the list
-  pub together_all : (rs : List (Stretch V)) (r : Stretch V) → Stands rs r → AreTogether rs r.first r.count
-  together_all rs r stands = record {
-    at = stands.at;
-    within = stands.within;
-    from = λ d. subst (λ (q : Stretch V). q.first ≤ r.first) (sym (stands.is d)) (omega arith);
-    to = λ d. subst (λ (q : Stretch V). r.first + r.count ≤ q.first + q.count) (sym (stands.is d)) (omega arith);
   }
 
   -- a stretch that begins at the number and has neither fewer nor more
@@ -53,14 +44,3 @@ module _ {V : Type 0} (S : Ghosts V) where
   pub together_said : (rs : List (Stretch V)) → AreInOrder S 0 rs → (first count : ℕ) → 0 < count → AreTogether rs first count → IsSome (said S rs first)
   together_said [] order first count some c = absurd (omega (arith, c.within))
   together_said (x ∷ rs) order first count some c = subst IsSome (sym (said_at S 0 (x ∷ rs) order c.at x first c.within ((together_has (x ∷ rs) first count some c).has x))) refl
-
-  -- what is left of a stretch of the list
-  pub together_from : (rs : List (Stretch V)) (n : ℕ) (r : Stretch V) → IsStretchWith S rs n r → Stands rs r → AreTogether rs n (r.count - (n - r.first))
-  together_from rs n r with_it stands = record {
-    at = stands.at;
-    within = stands.within;
-    from = λ d. subst (λ (q : Stretch V). q.first ≤ n) (sym (stands.is d)) (low r n with_it.has);
-    to = λ d.
-        let end : n + (r.count - (n - r.first)) ≤ r.first + r.count = omega (arith, low r n with_it.has, high r n with_it.has) in
-        subst (λ (q : Stretch V). n + (r.count - (n - r.first)) ≤ q.first + q.count) (sym (stands.is d)) end;
-  }
