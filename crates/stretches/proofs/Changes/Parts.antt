@@ -16,7 +16,7 @@ module _ {V : Type 0} (S : Ghosts V) (laws : GoesOn S.after S.lasts) where
       let sum : c ≡ a + (c - a) = omega arith in
       ((laws.splits v a (c - a)).0 (subst (S.lasts v) sum h)).0
 
-  pub lasts_behind : (v : V) (a c : ℕ) → a ≤ c → S.lasts v c → S.lasts (S.after v a) (c - a)
+  lasts_behind : (v : V) (a c : ℕ) → a ≤ c → S.lasts v c → S.lasts (S.after v a) (c - a)
   lasts_behind v a c le h =
       let sum : c ≡ a + (c - a) = omega arith in
       ((laws.splits v a (c - a)).0 (subst (S.lasts v) sum h)).1

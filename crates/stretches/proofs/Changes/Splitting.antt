@@ -25,7 +25,7 @@ module _ {V : Type 0} (S : Ghosts V) where
   behind_parted (x ∷ rs) zero a r less d = refl
   behind_parted (x ∷ rs) (suc at) a r less d = behind_parted rs at a r (omega arith) d
 
-  pub length_parted : (rs : List (Stretch V)) (at a : ℕ) (r : Stretch V) → at < length rs → suc at < length (parted rs at r a)
+  length_parted : (rs : List (Stretch V)) (at a : ℕ) (r : Stretch V) → at < length rs → suc at < length (parted rs at r a)
   length_parted [] at a r less = absurd (omega arith)
   length_parted (x ∷ rs) zero a r less = omega arith
   length_parted (x ∷ rs) (suc at) a r less = omega (arith, length_parted rs at a r (omega arith))

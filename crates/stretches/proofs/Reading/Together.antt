@@ -10,7 +10,7 @@ use Rattle.stretches.proofs.Reading.Sayings.{said_at}
 
 module _ {V : Type 0} where
   -- the stretch that has numbers together has the first one
-  pub together_has : (rs : List (Stretch V)) (first count : ℕ) → 0 < count → (c : AreTogether rs first count) → HasAt rs first c.at
+  together_has : (rs : List (Stretch V)) (first count : ℕ) → 0 < count → (c : AreTogether rs first count) → HasAt rs first c.at
   together_has rs first count some c = record { within = c.within; has = λ d. within (get_or rs c.at d) first (c.from d) (omega (arith, c.to d)) }
 
   -- one number that is in a stretch
