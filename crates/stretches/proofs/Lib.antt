@@ -1,0 +1,8 @@
+-- What stretches say of a number, and which stretch says it.
+pub mod Reading
+-- What they say after a change.
+pub mod Changes
+-- The map of the stretches has what they say, so an equation on the one is one on the other.
+pub mod Cells
+-- Changes step by step are changes stretch by stretch.
+pub mod Steps

@@ -1,0 +1,60 @@
+-- The order of the stretches of a list.
+use Rattle.std.proofs.Common.{◌≡◌, ℕ, zero, suc, ◌+◌, ◌<◌, ◌≤◌, true, false, leb, List, [], ◌∷◌, length, get_or, inl, inr, arith}
+use Rattle.std.specs.List.Sorted.{IsNonDecreasingBy, IsPartitionPoint}
+use Rattle.std.proofs.lemmas.Bool.{cases_order, leb-true, leb-false}
+use Rattle.stretches.specs.declared.says.Says.{Ghosts}
+use Rattle.stretches.specs.declared.stretch.Stretch.{Stretch}
+use Rattle.stretches.specs.Places.{HasAt, IsFirstBehind}
+use Rattle.stretches.specs.Stretch.{IsFit}
+use Rattle.stretches.specs.Stretches.{AreInOrder}
+use Rattle.stretches.proofs.Reading.Numbers.{high, low}
+
+module _ {V : Type 0} (S : Ghosts V) where
+  -- each stretch begins at the number or behind it
+  pub rises : (from : ℕ) (rs : List (Stretch V)) → AreInOrder S from rs → (k : ℕ) (d : Stretch V) → k < length rs → from ≤ (get_or rs k d).first
+  rises from [] order k d within = absurd (omega arith)
+  rises from (r ∷ rs) order zero d within = order.0
+  rises from (r ∷ rs) order (suc k) d within = omega (arith, order.0, rises (r.first + r.count) rs order.2 k d (omega arith))
+
+  -- each stretch is fit
+  pub fit_at : (from : ℕ) (rs : List (Stretch V)) → AreInOrder S from rs → (k : ℕ) (d : Stretch V) → k < length rs → IsFit S (get_or rs k d)
+  fit_at from [] order k d within = absurd (omega arith)
+  fit_at from (r ∷ rs) order zero d within = order.1
+  fit_at from (r ∷ rs) order (suc k) d within = fit_at (r.first + r.count) rs order.2 k d (omega arith)
+
+  -- a stretch ends before any later one begins
+  pub apart : (from : ℕ) (rs : List (Stretch V)) → AreInOrder S from rs → (j k : ℕ) (d : Stretch V) → j < k → k < length rs → (get_or rs j d).first + (get_or rs j d).count ≤ (get_or rs k d).first
+  apart from [] order j k d less within = absurd (omega arith)
+  apart from (r ∷ rs) order j zero d less within = absurd (omega arith)
+  apart from (r ∷ rs) order zero (suc k) d less within = rises (r.first + r.count) rs order.2 k d (omega arith)
+  apart from (r ∷ rs) order (suc j) (suc k) d less within = apart (r.first + r.count) rs order.2 j k d (omega arith) (omega arith)
+
+  -- the first numbers don't fall
+  pub first_rises : (from : ℕ) (rs : List (Stretch V)) → AreInOrder S from rs → (j k : ℕ) (d : Stretch V) → j ≤ k → k < length rs → (get_or rs j d).first ≤ (get_or rs k d).first
+  first_rises from [] order j k d le within = absurd (omega arith)
+  first_rises from (r ∷ rs) order zero zero d le within = omega arith
+  first_rises from (r ∷ rs) order (suc j) zero d le within = absurd (omega arith)
+  first_rises from (r ∷ rs) order zero (suc k) d le within = omega (arith, rises (r.first + r.count) rs order.2 k d (omega arith))
+  first_rises from (r ∷ rs) order (suc j) (suc k) d le within = first_rises (r.first + r.count) rs order.2 j k d (omega arith) (omega arith)
+
+  pub non_decreasing : (rs : List (Stretch V)) → AreInOrder S 0 rs → IsNonDecreasingBy (λ r. r.first) rs
+  non_decreasing rs order j k d le within = first_rises 0 rs order j k d le within
+
+  -- two stretches that have a number are one
+  pub one_place : (rs : List (Stretch V)) → AreInOrder S 0 rs → (n i j : ℕ) → HasAt rs n i → HasAt rs n j → (d : Stretch V) → i ≡ j
+  one_place rs order n i j has also d = elim (cases_order i j) [
+    | inl same ↦ same
+    | inr other ↦ elim other [
+      | inl less ↦ absurd (omega (arith, apart 0 rs order i j d less also.within, high (get_or rs i d) n (has.has d), low (get_or rs j d) n (also.has d)))
+      | inr more ↦ absurd (omega (arith, apart 0 rs order j i d more has.within, high (get_or rs j d) n (also.has d), low (get_or rs i d) n (has.has d)))
+    ]
+  ]
+
+module _ {V : Type 0} where
+  -- where a binary search by the first numbers ends
+  pub first_behind_from : (rs : List (Stretch V)) (n at : ℕ) → at ≤ length rs → IsPartitionPoint (λ (r : Stretch V). leb r.first n ≡ true) (λ (r : Stretch V). leb r.first n ≡ false) rs at → IsFirstBehind rs n at
+  first_behind_from rs n at within point = record {
+    within = within;
+    before = λ k d less. leb-true (get_or rs k d).first n (point.0 k d (omega arith) less);
+    behind = λ k d le less. leb-false (get_or rs k d).first n (point.1 k d le less);
+  }

@@ -1,0 +1,10 @@
+use Rattle.std.proofs.Common.{◌-◌, arith}
+use Rattle.stretches.proofs.Changes.Parts.{lasts_fewer}
+use Rattle.stretches.proofs.Reading.Numbers.{high}
+use Rattle.stretches.proofs.stretch_list.StretchList.stretch_from.Goals as goal
+
+pub behind-requires-clause-lasts : goal.behind-requires-clause-lasts
+behind-requires-clause-lasts g c =
+    let stretch = c.in-Some.stretch in
+    let found = c.in-Some.ensures.has in
+    lasts_fewer g.V.Says g.met.V.Says.laws stretch.value (c.args.number - stretch.first) stretch.count (omega (arith, high stretch c.args.number found.has)) found.fit.lasts
