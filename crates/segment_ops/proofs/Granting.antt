@@ -225,6 +225,7 @@ locks_in : ℕ → Option Table → ℕ
 locks_in page o = unwrap_or (option_and_then (λ (t : Table). slice_get t.locks page) o) 0
 
 locks_left : (page : ℕ) (o : Option Table) → locks_in page (option_map without_grants o) ≡ locks_in page o
+unfolding locks_in
 locks_left page None = refl
 locks_left page (Some t) = refl
 
@@ -235,6 +236,7 @@ locks_seen (t ∷ ts) (suc zero) page = locks_left page t
 locks_seen (t ∷ ts) (suc (suc k)) page = locks_seen ts (suc k) page
 
 pub granted_locks : (range : Extent) (past : ℕ) (a b : Arena) → GrantsBefore range past a b → (cache page : ℕ) → locks_of b cache page ≡ locks_of a cache page
+unfolding locks_in
 granted_locks range past a b grants cache page = sym (locks_seen b.caches cache page) ∙ ap (λ (ts : List (Option Table)). locks_in page (table_at ts cache)) grants.tables ∙ locks_seen a.caches cache page
 
 pub allows_then : (range : Extent) (at : ℕ) (told : Option Held) (segment : SegId) → AllowsBefore range at told segment → IfSome told (λ h. denies h.denied segment.0 at ≡ false) → AllowsBefore range (at + 1) told segment

@@ -12,7 +12,7 @@ use Rattle.local_cache.specs.declared.own_state.OwnState.TheVariants.{Zero}
 use Rattle.local_cache.specs.Arena.{Arena, HasPage, IsMade}
 use Rattle.local_cache.specs.Reading.{forest_of}
 use Rattle.local_cache.specs.Sound.{IsSound}
-use Rattle.local_cache.proofs.NewCache.Whole.{none_len, none_whole, whole_begun, zero_pages}
+use Rattle.local_cache.proofs.NewCache.Whole.{none_len, none_whole, pages_with, whole_begun}
 use Rattle.local_cache.proofs.Forest.Reading.{IsNode-forest_of}
 use Rattle.local_cache.proofs.Whole.Pages.{page_there}
 use Rattle.move_pages.proofs.tests.a_moved_page_keeps_its_node.Goals as goal
@@ -38,8 +38,8 @@ two_pages a sound cache first second = record {
   live_source = refl;
 }
 
-begun : (a b : Arena) → a.caches ≡ [] → forest_of a ≡ no_forest → IsSound a → (cache : CacheId) (nodes : List NodeId) → length nodes ≡ 2 → IsMade a b cache None Zero nodes → forest_of b ≡ make (zero_pages cache 2) (forest_of a) → IsSound b → IsConsistent (forest_of b)
-begun a b none empty sound cache nodes size made forest sound_b = (whole_begun a b (none_whole a none empty sound) cache 2 nodes size made forest sound_b (omega (arith, none_len (forest_of a) empty))).consistent
+begun : (a b : Arena) → a.caches ≡ [] → forest_of a ≡ no_forest → IsSound a → (cache : CacheId) (nodes : List NodeId) → length nodes ≡ 2 → IsMade a b cache None Zero nodes → forest_of b ≡ make (pages_with Zero cache 2) (forest_of a) → IsSound b → IsConsistent (forest_of b)
+begun a b none empty sound cache nodes size made forest sound_b = (whole_begun a b (none_whole a none empty sound) cache 2 None Zero nodes size made forest sound_b (omega (arith, none_len (forest_of a) empty))).consistent
 
 pub move_one-released-requires-clause-consistent : goal.move_one-released-requires-clause-consistent
 move_one-released-requires-clause-consistent g c =
