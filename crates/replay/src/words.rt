@@ -12,6 +12,7 @@ use vm_ids::{NoMemory, PAGE};
 
 // A run has so many page frames at least, and at most.
 const LEAST_FRAMES: u32 = 3;
+
 const MOST_FRAMES: u32 = 1 << 16;
 
 // All page frames of a run together have so many bytes at most.
@@ -134,11 +135,7 @@ fn value_in<'a>(name: &str, word: &'a str) -> Option<&'a str>
     ensures { option_map (λ w. w.now) result ≡ value_in name.now word.now }
 {
     let (before, after) = word.split_once('=')?;
-    if before == name {
-        Some(after)
-    } else {
-        None
-    }
+    if before == name { Some(after) } else { None }
 }
 
 // The value of the first option of this name, whatever else the words are.

@@ -20,8 +20,8 @@ cut_apart word value words options is e =
 
 -- What holds of no words and of one option more in either spelling holds of all words that are cut.
 module _ (P : List (List ℕ) → List CommandOption → Type 0) (none : P [] [])
-  (joined : (word : List ℕ) (words : List (List ℕ)) (o : CommandOption) (options : List CommandOption) → option_in word ≡ Some o → P words options → P (word ∷ words) (o ∷ options))
-  (apart : (word value : List ℕ) (words : List (List ℕ)) (options : List CommandOption) → option_in word ≡ None → P words options → P (word ∷ value ∷ words) (spelled word value ∷ options)) where
+    (joined : (word : List ℕ) (words : List (List ℕ)) (o : CommandOption) (options : List CommandOption) → option_in word ≡ Some o → P words options → P (word ∷ words) (o ∷ options))
+    (apart : (word value : List ℕ) (words : List (List ℕ)) (options : List CommandOption) → option_in word ≡ None → P words options → P (word ∷ value ∷ words) (spelled word value ∷ options)) where
   abbrev Holds : List (List ℕ) → Type 0
   Holds words = (options : List CommandOption) → options_of words ≡ Some options → P words options
 

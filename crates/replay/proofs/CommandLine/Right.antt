@@ -101,8 +101,7 @@ pub each_value : (P : List ℕ → Type 0) (options : List CommandOption) → ar
 each_value P [] e h = tt
 each_value P (o ∷ options) e h =
     let parts = and_both _ _ e in
-    let rest = and_both _ _ parts.1 in
-    (
+    let rest = and_both _ _ parts.1 in (
       h o.name o.value parts.0 (ap (λ (b : Bool). option_map (λ (x : CommandOption). x.value) (cond b (Some o) (find (λ (x : CommandOption). bytes_eq x.name o.name) options))) (same_bytes o.name)),
       each_value P options rest.1 (λ name x known found. h name x known (passed name x found (bytes_eq o.name name) refl (not_true _ rest.0))),
     )

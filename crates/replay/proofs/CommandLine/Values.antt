@@ -132,8 +132,7 @@ fits_proper rows [] fits = (refl, tt)
 fits_proper rows (o ∷ options) fits =
     let rest = fits_proper (rows ++ row_of o ∷ []) options fits.2 in
     let first = apart_first rows o options fits.0 (fits_known (rows ++ row_of o ∷ []) options fits.2) rest.1 in
-    let known : is_known o.name ≡ true = ap is_known fits.0.name_is ∙ option_known (id_of o) fits.0.option in
-    (
+    let known : is_known o.name ≡ true = ap is_known fits.0.name_is ∙ option_known (id_of o) fits.0.option in (
       ap (λ (b : Bool). b && (not (is_again o.name options) && are_proper options)) known ∙ ap (λ (b : Bool). not b && are_proper options) first.1 ∙ rest.0,
       (fits.1, first.0),
     )

@@ -68,7 +68,12 @@ fn begins(rt: &impl Abort, mapper: &MemoryMapper, seg: SegId, page: PageNo, byte
 fn a_copy_outlives_the_cache_of_its_segment(rt: HostRuntime) -> Result<(), NoMemory> {
     let alloc = rt.alloc();
     let zeros = [0u8].to_vec(alloc)?;
-    let segments = [zeros.clone()?, zeros.clone()?, zeros, [0x41u8, 0x42].to_vec(alloc)?];
+    let segments = [
+        zeros.clone()?,
+        zeros.clone()?,
+        zeros,
+        [0x41u8, 0x42].to_vec(alloc)?,
+    ];
     let mapper = play(
         &rt,
         alloc,

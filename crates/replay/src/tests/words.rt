@@ -14,7 +14,15 @@ fn options_stand_in_any_order_and_in_two_spellings(rt: HostRuntime) -> Result<()
         (&["run", "--page=1024", "--frames=3"], 3, 1024, "."),
         (&["run", "--segments=a=b", "--frames", "3"], 3, 4096, "a=b"),
         (
-            &["run", "--frames", "4096", "--page", "65536", "--segments", "d"],
+            &[
+                "run",
+                "--frames",
+                "4096",
+                "--page",
+                "65536",
+                "--segments",
+                "d",
+            ],
             4096,
             65536,
             "d",
@@ -161,7 +169,11 @@ fn the_first_value_counts_whatever_the_words(rt: HostRuntime) {
         (&["--page=512", "--page", "1024", "--segments="], 512, ""),
         (&["--page", "--segments=d", "--segments", "e"], 4096, "d"),
     ] {
-        assert_eq!(&rt; (page_size(words), folder(words)), (page_bytes, segments), "{words:?}");
+        assert_eq!(&rt;
+            (page_size(words), folder(words)),
+            (page_bytes, segments),
+            "{words:?}"
+        );
     }
 }
 
