@@ -7,7 +7,6 @@ use Rattle.actor_script.specs.Operands.{number_of}
 use Rattle.replay.specs.declared.status.Status.{Status}
 use Rattle.replay.specs.declared.status.Status.TheVariants as statuses
 use Rattle.replay.specs.declared.words.Asked.{Asked}
-use Rattle.replay.specs.declared.words.TheConstants.{LEAST_FRAMES, MOST_FRAMES, MOST_FRAME_BYTES, PAGE_SIZES}
 
 -- An option of a command line: its name, with the two hyphens, and its value.
 pub record CommandOption : Type 0 where
@@ -51,7 +50,7 @@ are_proper (o ∷ options) = list_any (λ name. bytes_eq name o.name) option_nam
 
 -- a number of page frames, 3 to 65,536
 abbrev pub if_frames : ℕ → Option ℕ
-if_frames n = if nat_le LEAST_FRAMES n && nat_le n MOST_FRAMES then Some n else None
+if_frames n = if nat_le 3 n && nat_le n 65536 then Some n else None
 
 -- the number of page frames that a word spells
 abbrev pub frames_of : List ℕ → Option ℕ
@@ -63,7 +62,7 @@ page_sizes = 512 ∷ 1024 ∷ 2048 ∷ 4096 ∷ 8192 ∷ 16384 ∷ 32768 ∷ 655
 
 -- the bytes of a page, one of these sizes
 abbrev pub if_page : ℕ → Option ℕ
-if_page n = if list_any (λ size. size == n) PAGE_SIZES then Some n else None
+if_page n = if list_any (λ size. size == n) page_sizes then Some n else None
 
 -- the size of a page that a word spells
 abbrev pub page_of : List ℕ → Option ℕ
@@ -74,9 +73,13 @@ abbrev pub is_folder_name : List ℕ → Bool
 is_folder_name [] = false
 is_folder_name (b ∷ bs) = not (b == 45)
 
--- so many page frames and bytes of a page, where all page frames have few enough bytes
+-- all page frames together have at most so many bytes
+abbrev pub most_frame_bytes : ℕ
+most_frame_bytes = 268435456
+
+-- so many page frames of so many bytes, where they are few enough
 abbrev pub if_fitting : ℕ → ℕ → Option Asked
-if_fitting frames page = if nat_le (frames * page) MOST_FRAME_BYTES
+if_fitting frames page = if nat_le (frames * page) most_frame_bytes
     then Some (record { frames = frames; page_bytes = page })
     else None
 

@@ -7,8 +7,7 @@ use Rattle.std.proofs.lemmas.Fmt.{decimal_nonempty, first_decimal}
 use Rattle.vm_ids.specs.declared.numbers.TheConstants.{PAGE}
 use Rattle.actor_script.specs.Operands.{number_if, number_of}
 use Rattle.replay.specs.declared.words.Asked.{Asked}
-use Rattle.replay.specs.declared.words.TheConstants.{LEAST_FRAMES, MOST_FRAMES, PAGE_SIZES}
-use Rattle.replay.specs.Commanding.{CommandOption, are_proper, asked_behind, asked_for, asked_in, frames_of, if_fitting, if_frames, if_page, is_folder_name, options_of, page_of, value_named}
+use Rattle.replay.specs.Commanding.{CommandOption, are_proper, asked_behind, asked_for, asked_in, frames_of, if_fitting, if_frames, if_page, is_folder_name, options_of, page_of, page_sizes, value_named}
 use Rattle.replay.proofs.CommandLine.Turns.{same_bytes}
 use Rattle.replay.proofs.CommandLine.Walks.{ArePlain}
 use Rattle.replay.proofs.CommandLine.Values.{and_both, is_again, is_known, not_true, same_text}
@@ -153,16 +152,16 @@ right_plain words asked r = proper_plain r.options asked r.proper r.forms
 
 -- bounds
 
-frames_within : (n f : ℕ) → if_frames n ≡ Some f → (LEAST_FRAMES ≤ f) × (f ≤ MOST_FRAMES)
-frames_within n f e = by (nat_le LEAST_FRAMES n) (nat_le n MOST_FRAMES) refl refl
+frames_within : (n f : ℕ) → if_frames n ≡ Some f → (3 ≤ f) × (f ≤ 65536)
+frames_within n f e = by (nat_le 3 n) (nat_le n 65536) refl refl
   where
-    by : (least most : Bool) → nat_le LEAST_FRAMES n ≡ least → nat_le n MOST_FRAMES ≡ most → (LEAST_FRAMES ≤ f) × (f ≤ MOST_FRAMES)
+    by : (least most : Bool) → nat_le 3 n ≡ least → nat_le n 65536 ≡ most → (3 ≤ f) × (f ≤ 65536)
     by true true s t =
-        let is : Some n ≡ Some f = sym (ap (λ (b : Bool). cond (b && nat_le n MOST_FRAMES) (Some n) None) s ∙ ap (λ (b : Bool). cond b (Some n) None) t) ∙ e in
+        let is : Some n ≡ Some f = sym (ap (λ (b : Bool). cond (b && nat_le n 65536) (Some n) None) s ∙ ap (λ (b : Bool). cond b (Some n) None) t) ∙ e in
         let same : n ≡ f = cc in
-        (subst (λ (k : ℕ). LEAST_FRAMES ≤ k) same (leb-true LEAST_FRAMES n s), subst (λ (k : ℕ). k ≤ MOST_FRAMES) same (leb-true n MOST_FRAMES t))
-    by true false s t = let none : None ≡ Some f = sym (ap (λ (b : Bool). cond (b && nat_le n MOST_FRAMES) (Some n) None) s ∙ ap (λ (b : Bool). cond b (Some n) None) t) ∙ e in absurd (cc)
-    by false most s t = let none : None ≡ Some f = sym (ap (λ (b : Bool). cond (b && nat_le n MOST_FRAMES) (Some n) None) s) ∙ e in absurd (cc)
+        (subst (λ (k : ℕ). 3 ≤ k) same (leb-true 3 n s), subst (λ (k : ℕ). k ≤ 65536) same (leb-true n 65536 t))
+    by true false s t = let none : None ≡ Some f = sym (ap (λ (b : Bool). cond (b && nat_le n 65536) (Some n) None) s ∙ ap (λ (b : Bool). cond b (Some n) None) t) ∙ e in absurd (cc)
+    by false most s t = let none : None ≡ Some f = sym (ap (λ (b : Bool). cond (b && nat_le n 65536) (Some n) None) s) ∙ e in absurd (cc)
 
 abbrev IsPageSize : ℕ → Type 0
 IsPageSize n = (1 ≤ n) × (n ≤ 2 ^ 16)
@@ -179,21 +178,21 @@ among (size ∷ sizes) n e all = by (size == n) refl e (and_both _ _ all) (among
     by false t e all rest = rest e all.1
 
 page_within : (n b : ℕ) → if_page n ≡ Some b → IsPageSize b
-page_within n b e = by (list_any (λ size. size == n) PAGE_SIZES) refl e
+page_within n b e = by (list_any (λ size. size == n) page_sizes) refl e
   where
-    by : (t : Bool) → list_any (λ size. size == n) PAGE_SIZES ≡ t → cond t (Some n) None ≡ Some b → IsPageSize b
-    by true t e = let same : n ≡ b = cc in subst IsPageSize same (among PAGE_SIZES n t refl)
+    by : (t : Bool) → list_any (λ size. size == n) page_sizes ≡ t → cond t (Some n) None ≡ Some b → IsPageSize b
+    by true t e = let same : n ≡ b = cc in subst IsPageSize same (among page_sizes n t refl)
     by false t e = absurd (cc)
 
 module _ (frames page folder : Option (List ℕ)) (asked : Asked) (h : HasForms frames page folder asked) where
-  pub few_frames : (LEAST_FRAMES ≤ asked.frames) × (asked.frames ≤ MOST_FRAMES)
+  pub few_frames : (3 ≤ asked.frames) × (asked.frames ≤ 65536)
   few_frames = by frames h.frames_are
     where
-      number : (o : Option ℕ) → option_and_then if_frames o ≡ Some asked.frames → (LEAST_FRAMES ≤ asked.frames) × (asked.frames ≤ MOST_FRAMES)
+      number : (o : Option ℕ) → option_and_then if_frames o ≡ Some asked.frames → (3 ≤ asked.frames) × (asked.frames ≤ 65536)
       number None e = absurd (cc)
       number (Some n) e = frames_within n asked.frames e
 
-      by : (o : Option (List ℕ)) → option_and_then frames_of o ≡ Some asked.frames → (LEAST_FRAMES ≤ asked.frames) × (asked.frames ≤ MOST_FRAMES)
+      by : (o : Option (List ℕ)) → option_and_then frames_of o ≡ Some asked.frames → (3 ≤ asked.frames) × (asked.frames ≤ 65536)
       by None e = absurd (cc)
       by (Some word) e = number (number_of word) e
 
