@@ -1,5 +1,5 @@
 -- The first value of a name in words that ask for something is that of the option of this name.
-use Rattle.std.proofs.Common.{◌≡◌, ◌==◌, ◌||◌, ℕ, Bool, true, false, cond, not, List, [], ◌∷◌, find, Option, Some, None, refl, sym, ap, ◌∙◌, codes, bytes_eq, option_map, option_and_then, slice_get, unwrap_or}
+use Rattle.std.proofs.Common.{◌≡◌, ◌==◌, ◌||◌, ◌≤◌, ◌^◌, ℕ, Bool, true, false, cond, not, List, [], ◌∷◌, find, Option, Some, None, refl, sym, ap, ◌∙◌, codes, bytes_eq, arith, option_map, option_and_then, slice_get, unwrap_or}
 use Rattle.std.specs.List.{after_first, before_first, list_any}
 use Rattle.std.specs.Option.{option_map_or, option_or}
 use Rattle.vm_ids.specs.declared.numbers.TheConstants.{PAGE}
@@ -9,7 +9,7 @@ use Rattle.replay.proofs.CommandLine.Spelling.{begins, spelled}
 use Rattle.replay.proofs.CommandLine.Cutting.{by_cut}
 use Rattle.replay.proofs.CommandLine.Walks.{ArePlain}
 use Rattle.replay.proofs.CommandLine.Values.{same_text}
-use Rattle.replay.proofs.CommandLine.Right.{Right, right, right_plain}
+use Rattle.replay.proofs.CommandLine.Right.{Right, few_frames, right, right_plain, small_page}
 
 -- a name that a hyphen begins, without the sign
 module _ (rest : List ℕ) (alone : option_in (45 ∷ rest) ≡ None) where
@@ -117,3 +117,18 @@ pub page_asked : (words : List (List ℕ)) (asked : Asked) → asked_by words �
 page_asked words asked e =
     let run = is_run words asked e in
     ap page_size_of run.words_are ∙ page_behind run.options asked run.asks
+
+-- The frames and the bytes of a page that words ask for are within what a manager takes.
+pub record HasBounds (asked : Asked) : Type 0 where
+  pub few : 3 ≤ asked.frames
+  pub frames : asked.frames ≤ 2 ^ 16
+  pub some : 1 ≤ asked.page_bytes
+  pub page : asked.page_bytes ≤ 2 ^ 16
+
+pub has_bounds : (words : List (List ℕ)) (asked : Asked) → asked_by words ≡ Some asked → HasBounds asked
+has_bounds words asked e =
+    let run = is_run words asked e in
+    let h = (right run.options asked run.asks).forms in
+    let frames = few_frames _ _ _ asked h in
+    let page = small_page _ _ _ asked h in
+    record { few = frames.0; frames = omega (arith, frames.1); some = page.0; page = page.1 }
