@@ -120,7 +120,6 @@ fn scripts_have_their_replies_however_they_are_cut(rt: HostRuntime) -> Result<()
             rows::TRANSLATION_TO_THE_SOURCE,
             rows::TRANSLATION_TO_THE_SOURCE_REPLIES,
         ),
-        ("8", rows::COUNTS_OF_ACTORS, rows::COUNTS_OF_ACTORS_REPLIES),
         ("3", rows::COPY_EXAMPLE, rows::COPY_EXAMPLE_REPLIES),
         ("3", rows::FORK_EXAMPLE, rows::FORK_EXAMPLE_REPLIES),
         ("3", rows::MESSAGES_EXAMPLE, rows::MESSAGES_EXAMPLE_REPLIES),
