@@ -8,8 +8,7 @@ ghost use Rattle.residency.specs.World.{IsStoreRight, world};
 ghost use Rattle.fault_path.specs.Faults.{HasLoose};
 ghost use Rattle.segment_ops.specs.Ranges.{HasRange, IsNamed};
 
-use crate::{push_range, save_range, write_access};
-use fault_path::write_fault;
+use crate::{save_range, write_access};
 use local_cache::Caches;
 use residency::Store;
 use std::alloc::Global;
@@ -62,42 +61,13 @@ fn open_segment(alloc: Global) -> Result<Opened, NoMemory>
 }
 
 #[test]
-fn writes_are_granted_up_to_a_denied_page(rt: HostRuntime) -> Result<(), Fail> {
+fn a_denied_page_is_not_granted(rt: HostRuntime) -> Result<(), Fail> {
     let mut opened = open_segment(rt.alloc())?;
-    let both = opened.range;
-    let first = Extent { pages: 1, ..both };
+    let range = opened.range;
     assert_eq!(&rt;
-        write_access(&opened.store, &mut opened.caches, both, &mut opened.mapper),
+        write_access(&opened.store, &mut opened.caches, range, &mut opened.mapper),
         Ok(false)
     );
-    assert_eq!(&rt;
-        write_access(&opened.store, &mut opened.caches, first, &mut opened.mapper),
-        Ok(true)
-    );
-    Ok(())
-}
-
-#[test]
-fn a_flush_pushes_what_was_stored_and_frees_the_frame(rt: HostRuntime) -> Result<(), Fail> {
-    let mut opened = open_segment(rt.alloc())?;
-    let first = Extent {
-        pages: 1,
-        ..opened.range
-    };
-    let (store, caches, mapper) = (&mut opened.store, &mut opened.caches, &mut opened.mapper);
-    let mut chooser = Fifo::new();
-    assert_eq!(&rt; write_access(store, caches, first, mapper), Ok(true));
-    let node = caches.node_of(first.cache, first.first);
-    let frame = write_fault(store, caches, node, mapper, &mut chooser)?;
-    store.bytes_mut(frame).copy_from_slice(b"sent");
-    assert_eq!(&rt; store.frames().free_count(), 2);
-    assert_eq!(&rt;
-        push_range(store, caches, first, true, mapper, &mut chooser),
-        Ok(())
-    );
-    assert_eq!(&rt; store.frames().free_count(), 3);
-    assert!(&rt; mapper.has_page(SEGMENT, PageNo(0)));
-    assert_eq!(&rt; mapper.page(SEGMENT, PageNo(0)), b"sent".as_slice());
     Ok(())
 }
 
