@@ -8,12 +8,11 @@ use std::process::Abort;
 use vm_ids::{NoMemory, PAGE, PageNo, SegId};
 use vm_port::{CallKind, CallNo, Clock, MemoryMapper, MemorySink, MemorySource};
 
-// A script over these segments at so many frames, where these pages are denied for writing and these
+// A script over these segments at six frames, where these pages are denied for writing and these
 // calls fail. It gives the mapper as it is then.
 fn play(
     rt: &impl Abort,
     alloc: Global,
-    frames: &str,
     script: &str,
     replies: &str,
     segments: &[Vec<u8>],
@@ -27,7 +26,7 @@ fn play(
     let mut source = MemorySource::new(script.as_bytes(), &[]);
     let mut sink = MemorySink::new(alloc, 4096, &[])?;
     let mut chooser = Clock::new();
-    let words = ["run", "--frames", frames];
+    let words = ["run", "--frames", "6"];
     let status = run(
         alloc,
         &words,
@@ -78,7 +77,6 @@ fn a_copy_outlives_the_cache_of_its_segment(rt: HostRuntime) -> Result<(), NoMem
     let mapper = play(
         &rt,
         alloc,
-        "8",
         rows::SEGMENT_REOPENED,
         rows::SEGMENT_REOPENED_REPLIES,
         &segments,
@@ -95,7 +93,6 @@ fn what_was_flushed_is_there_after_invalidate(rt: HostRuntime) -> Result<(), NoM
     let mapper = play(
         &rt,
         rt.alloc(),
-        "8",
         rows::INVALIDATE_AND_FLUSH,
         rows::INVALIDATE_AND_FLUSH_REPLIES,
         &segments,
@@ -106,7 +103,6 @@ fn what_was_flushed_is_there_after_invalidate(rt: HostRuntime) -> Result<(), NoM
     play(
         &rt,
         rt.alloc(),
-        "8",
         rows::REFUSED_MOVES,
         rows::REFUSED_MOVES_REPLIES,
         &segments,
@@ -122,7 +118,6 @@ fn a_denied_page_is_not_written(rt: HostRuntime) -> Result<(), NoMemory> {
     let mapper = play(
         &rt,
         rt.alloc(),
-        "8",
         rows::DENIED_PAGE,
         rows::DENIED_PAGE_REPLIES,
         &segments,
@@ -144,7 +139,6 @@ fn a_save_that_fails_leaves_the_cache(rt: HostRuntime) -> Result<(), NoMemory> {
     play(
         &rt,
         rt.alloc(),
-        "8",
         rows::A_SAVE_FAILS,
         rows::A_SAVE_FAILS_REPLIES,
         &segments,
@@ -160,7 +154,6 @@ fn a_mapped_file_is_written_by_sync_alone(rt: HostRuntime) -> Result<(), NoMemor
     let mapper = play(
         &rt,
         rt.alloc(),
-        "8",
         rows::MAPPED_FILE_EXAMPLE,
         rows::MAPPED_FILE_EXAMPLE_REPLIES,
         &segments,
@@ -179,7 +172,6 @@ fn text_is_shared_and_data_forked_in_six_frames(rt: HostRuntime) -> Result<(), N
     play(
         &rt,
         rt.alloc(),
-        "6",
         rows::TEXT_SHARED_AND_DATA_FORKED,
         rows::TEXT_SHARED_AND_DATA_FORKED_REPLIES,
         &[text],
