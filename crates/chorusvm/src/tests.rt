@@ -221,7 +221,7 @@ fn a_run_writes_a_mapped_file(rt: HostRuntime) -> io::Result<()> {
     );
     assert_eq!(&rt; status, Status::Done);
     assert_eq!(&rt; sink.written(), MAPS_REPLIES.as_bytes());
-    let bytes = fs::read(&rt, rt.alloc(), file.as_str())?;
+    let bytes = fs::read(&rt, file.as_str())?;
     assert_eq!(&rt;
         (bytes.len(), bytes.get(..6)),
         (PAGE, Some(b"Hello\0".as_slice()))
