@@ -1,9 +1,9 @@
 -- The numbers of refusals.
 use Rattle.std.specs.Prelude.{ℕ}
 use Rattle.vm_ids.specs.declared.refusal.Refusal.{Refusal}
-use Rattle.vm_ids.specs.declared.refusal.Refusal.TheVariants.{BadLine, NoActor, NoCache, NoRegion, NoSegment, SegmentInUse, OutOfCache, BadAddress, Protection, Overlap, Unaligned, Crosses, WriteDenied, Locked, LockLimit, InUse, TooMany, NotTemp, NotNamed, NotLocked}
+use Rattle.vm_ids.specs.declared.refusal.Refusal.TheVariants.{BadLine, NoActor, NoCache, NoRegion, NoSegment, SegmentInUse, OutOfCache, BadAddress, Protection, Overlap, Unaligned, Crosses, WriteDenied, Locked, LockLimit, InUse, TooMany, NotTemp, NotNamed, NotLocked, Full}
 
--- Each refusal has a number from 1 to 20.
+-- Each refusal has a number from 1 to 21.
 abbrev pub refusal_number : Refusal → ℕ
 refusal_number BadLine = 1
 refusal_number NoActor = 2
@@ -25,3 +25,4 @@ refusal_number TooMany = 17
 refusal_number NotTemp = 18
 refusal_number NotNamed = 19
 refusal_number NotLocked = 20
+refusal_number Full = 21

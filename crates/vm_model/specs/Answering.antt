@@ -1,5 +1,5 @@
 -- The machine's answer to a command, row by row: the first refusal that holds, or else the reply and the change.
-use Rattle.std.specs.Prelude.{◌==◌, ℕ, ◌+◌, ◌-◌, ◌*◌, ◌%◌, ◌^◌, ◌&&◌, ◌||◌, not, Bool, false, is_some, nat_lt, nat_le, List, [], ◌∷◌, ◌++◌, map, filter, length, take, drop, replicate, Option, Some, None, option_map, option_and_then, slice_get, slice_set, Result, Ok, Err, if◌then◌else◌, unwrap_or}
+use Rattle.std.specs.Prelude.{◌==◌, ℕ, ◌+◌, ◌-◌, ◌*◌, ◌%◌, ◌^◌, ◌&&◌, ◌||◌, not, Bool, false, true, is_some, nat_lt, nat_le, List, [], ◌∷◌, ◌++◌, map, filter, length, take, drop, replicate, Option, Some, None, option_map, option_and_then, slice_get, slice_set, Result, Ok, Err, if◌then◌else◌, unwrap_or}
 use Rattle.std.specs.List.{list_any, range_with_len}
 use Rattle.std.specs.FinMap.{get}
 use Rattle.std.specs.Option.{option_map_or}
@@ -21,10 +21,10 @@ use Rattle.vm_ids.specs.declared.numbers.CacheId.{CacheId}
 use Rattle.vm_ids.specs.Forest.Reading.{chain_of, counts_of}
 use Rattle.vm_ids.specs.Forest.Commands.{page_name}
 use Rattle.vm_model.specs.declared.limits.TheConstants.{LIVING_ACTORS, LIVE_PAGES, MOST_MADE}
-use Rattle.vm_model.specs.Machine.{Machine, Page, Cache, Region, Actor, zero_page, live_pages, living_actors, cache_of, cache_named, segment_of, actor_of, is_locked_page}
+use Rattle.vm_model.specs.Machine.{Machine, Page, Cache, Region, Actor, zero_page, live_pages, living_actors, cache_of, cache_named, segment_of, actor_of, is_locked_page, locked_pages}
 use Rattle.vm_model.specs.PageForest.{PageForest}
 use Rattle.vm_model.specs.Place.{Place, place, region_at}
-use Rattle.vm_model.specs.Regions.{region_with, replace_in, split_at, status_with, with_prot}
+use Rattle.vm_model.specs.Regions.{region_with, replace_in, split_at, status_with, with_lock, with_prot}
 
 -- what one command answers
 abbrev pub Answer : Type 0
@@ -268,6 +268,30 @@ protect_of m number prot =
     with_some (region_with number m.actors) refusals.NoRegion m (λ r.
     reply replies.Done (change_region m number (with_prot prot)))
 
+-- Accesses need so many page frames that no locked page takes.
+abbrev pub UNLOCKED_FRAMES : ℕ
+UNLOCKED_FRAMES = 3
+
+-- so many pages are locked that an access could lack a frame
+abbrev pub passes_lock_limit : Machine → Bool
+passes_lock_limit m = nat_lt (m.frames - UNLOCKED_FRAMES) (locked_pages m)
+
+-- lock: the region is locked, and its pages are held in page frames
+unfoldable pub lock_of : Machine → ℕ → Answered
+lock_of m number =
+    with_some (region_with number m.actors) refusals.NoRegion m (λ r.
+    unless r.locked refusals.Locked m
+    (let next = change_region m number (with_lock true) in
+    unless (passes_lock_limit next) refusals.LockLimit m
+    (reply replies.Done next)))
+
+-- unlock: the region isn't locked any more
+unfoldable pub unlock_of : Machine → ℕ → Answered
+unlock_of m number =
+    with_some (region_with number m.actors) refusals.NoRegion m (λ r.
+    unless (not r.locked) refusals.NotLocked m
+    (reply replies.Done (change_region m number (with_lock false))))
+
 abbrev pub without_region : ℕ → Actor → Actor
 without_region number regions = filter (λ (r : Region). not (r.number == number)) regions
 
@@ -379,6 +403,8 @@ answer_of m f (commands.Move span) h = move_of m span h
 answer_of m f (commands.Map actor mapping) h = map_of m actor.0 mapping
 answer_of m f (commands.Split region pages) h = split_of m region.0 pages
 answer_of m f (commands.Protect region prot) h = protect_of m region.0 prot
+answer_of m f (commands.Lock region) h = lock_of m region.0
+answer_of m f (commands.Unlock region) h = unlock_of m region.0
 answer_of m f (commands.Unmap region) h = unmap_of m region.0
 answer_of m f (commands.Status region) h = status_of m region.0
 answer_of m f (commands.Find actor address) h = find_of m actor.0 address

@@ -1,10 +1,12 @@
 -- What a caller of the commands keeps to, and what a command may do beside answering.
 use Rattle.std.specs.Prelude.{◌≡◌, ◌≤◌, ℕ, ◌+◌}
+use Rattle.std.specs.Option.{option_map_or}
 use Rattle.vm_ids.specs.Counting.{MapperCounts, no_counts}
 use Rattle.vm_ids.specs.declared.command.Command.{Command}
 use Rattle.vm_ids.specs.declared.command.Command.TheVariants as commands
 use Rattle.vm_ids.specs.declared.command.Span.{Span}
-use Rattle.vm_model.specs.Machine.{Machine, cache_of, pages_in}
+use Rattle.vm_model.specs.Machine.{Machine, Region, cache_of, pages_in}
+use Rattle.vm_model.specs.Regions.{region_with}
 
 -- counts of pages are at least 1, and a load is of 1 to 64 bytes
 abbrev pub IsWellFormed : Command → Type 0
@@ -28,12 +30,18 @@ ReachesMapper (commands.MakeTemp pages) rises = rises ≡ no_counts
 ReachesMapper (commands.Map actor mapping) rises = rises ≡ no_counts
 ReachesMapper (commands.Split region pages) rises = rises ≡ no_counts
 ReachesMapper (commands.Protect region prot) rises = rises ≡ no_counts
+ReachesMapper (commands.Unlock region) rises = rises ≡ no_counts
 ReachesMapper (commands.Unmap region) rises = rises ≡ no_counts
 ReachesMapper (commands.Status region) rises = rises ≡ no_counts
 ReachesMapper (commands.Find actor address) rises = rises ≡ no_counts
 ReachesMapper (commands.Chain cache page) rises = rises ≡ no_counts
 ReachesMapper commands.Stat rises = rises ≡ no_counts
 ReachesMapper command rises = Unit {0}
+
+-- the pages of the region with this number, where a living actor has it
+abbrev pub pages_of_region : Machine → ℕ → ℕ
+pages_of_region m number =
+    option_map_or (λ (r : Region). r.pages) (region_with number m.actors) 0
 
 -- the pages of two caches that a copy or move names, and those that it copies or moves
 abbrev pub pages_of_span : Machine → Span → ℕ
@@ -47,6 +55,7 @@ pages_touched m (commands.Copy span) = pages_of_span m span
 pages_touched m (commands.Move span) = pages_of_span m span
 pages_touched m (commands.Map actor mapping) =
     mapping.extent.pages + pages_in (cache_of m mapping.extent.cache.0)
+pages_touched m (commands.Lock region) = pages_of_region m region.0
 pages_touched m (commands.Load actor address length) = 1
 pages_touched m (commands.Store actor address piece) = 1
 pages_touched m (commands.Invalidate extent) =

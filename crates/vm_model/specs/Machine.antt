@@ -1,6 +1,6 @@
 -- The machine that keeps each cache as plain bytes: no frames, no trees, no swap.
 use Rattle.std.specs.Prelude.{◌==◌, ◌&&◌, ℕ, ◌+◌, ◌-◌, nat_le, nat_lt, Bool, false, List, [], ◌∷◌, length, Option, Some, None, option_and_then, slice_get, if◌then◌else◌, replicate, sum_by, count_by, is_some}
-use Rattle.std.specs.List.{list_any}
+use Rattle.std.specs.List.{list_any, range_with_len}
 use Rattle.std.specs.Option.{option_map_or}
 
 -- as many bytes as the machine's page size says
@@ -91,3 +91,12 @@ locks_any cache page (Some regions) = list_any (locks cache page) regions
 -- a page is locked where a locked region of a living actor covers it
 abbrev pub is_locked_page : Machine → ℕ → ℕ → Bool
 is_locked_page m cache page = list_any (locks_any cache page) m.actors
+
+-- how many pages of this cache are locked
+abbrev pub locked_in : Machine → ℕ → ℕ
+locked_in m cache =
+    count_by (is_locked_page m cache) (range_with_len 0 (pages_in (cache_of m cache)))
+
+-- The locked pages of all live caches. A page that several locked regions cover counts once.
+abbrev pub locked_pages : Machine → ℕ
+locked_pages m = sum_by (locked_in m) (range_with_len 1 (length m.caches))

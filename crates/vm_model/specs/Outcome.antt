@@ -1,5 +1,5 @@
 -- What a manager may answer to a command: the machine's answer, a mapper fault with its cause, or want of memory.
-use Rattle.std.specs.Prelude.{◌≡◌, ℕ, ◌+◌, ◌<◌, ◌≤◌, false, List, [], map, length, Option, Some, None, option_map, Ok, Err, All, IsSome, IsOkAnd}
+use Rattle.std.specs.Prelude.{◌≡◌, ℕ, ◌+◌, ◌<◌, ◌≤◌, false, List, [], map, length, Option, Some, None, option_map, Ok, Err, All, IsSome, IsSomeAnd, IsOkAnd}
 use Rattle.vm_ids.specs.Counting.{MapperCounts, no_counts}
 use Rattle.vm_ids.specs.Held.{Segments}
 use Rattle.vm_ids.specs.declared.command.Command.{Command}
@@ -17,8 +17,9 @@ use Rattle.vm_ids.specs.Forest.Saving.{saves, unsaved}
 use Rattle.vm_model.specs.declared.limits.TheConstants.{MOST_MADE}
 use Rattle.vm_model.specs.PageForest.{PageForest, forest_shown}
 use Rattle.vm_model.specs.Following.{pages_saved}
-use Rattle.vm_model.specs.Machine.{Machine, Cache, cache_of, pages_in}
+use Rattle.vm_model.specs.Machine.{Machine, Cache, Region, cache_of, pages_in}
 use Rattle.vm_model.specs.Place.{Place, place}
+use Rattle.vm_model.specs.Regions.{region_with}
 use Rattle.vm_model.specs.Answering.{Answer, answer_of, is_denied_page, is_named}
 
 -- The machine would refuse nothing; but a failed question for write access may hide that the write
@@ -61,6 +62,12 @@ CanFailAtSave (Some f) pages done = (n : ℕ) → n ≤ done → IsSome (unsaved
 abbrev pub IsPageOf : Machine → ℕ → ℕ → Type 0
 IsPageOf m cache p = p < pages_in (cache_of m cache)
 
+-- page p is a page under the region
+abbrev pub IsPageUnder : Machine → ℕ → ℕ → Type 0
+IsPageUnder m number p =
+    IsSomeAnd (region_with number m.actors)
+    (λ (r : Region). (r.offset ≤ p) × (p < r.offset + r.pages))
+
 -- page p is a page of the extent
 abbrev pub IsPageIn : Extent → ℕ → Type 0
 IsPageIn e p = (e.first.0 ≤ p) × (p < e.first.0 + e.pages)
@@ -82,6 +89,7 @@ MayFault m f (commands.Move span) h (faults.Access p) rises =
     IsNamed m span.to.0 × IsFirstAsked m h span p.0
 MayFault m f (commands.Move span) h (faults.Save done) rises =
     IsNamed m span.to.0 × CanFailAtSave f (pages_saved m (commands.Move span)) done
+MayFault m f (commands.Lock region) h (faults.Page p) rises = IsPageUnder m region.0 p.0
 MayFault m f (commands.Load actor address bytes) h (faults.Page p) rises =
     IsAccessed m actor.0 address bytes p.0 × (0 < rises.pulls)
 MayFault m f (commands.Load actor address bytes) h faults.Victim rises = 0 < rises.pushes

@@ -1,5 +1,5 @@
 -- What becomes of regions, and what is told of them.
-use Rattle.std.specs.Prelude.{ℕ, ◌==◌, ◌+◌, ◌-◌, ◌*◌, List, [], ◌∷◌, ◌++◌, Option, Some, None, is_some, option_map, if◌then◌else◌}
+use Rattle.std.specs.Prelude.{ℕ, Bool, ◌==◌, ◌+◌, ◌-◌, ◌*◌, List, [], ◌∷◌, ◌++◌, Option, Some, None, is_some, option_map, if◌then◌else◌}
 use Rattle.std.specs.Option.{option_or}
 use Rattle.vm_ids.specs.declared.command.Mapping.{Mapping}
 use Rattle.vm_ids.specs.declared.command.Prot.{Prot}
@@ -49,6 +49,9 @@ split_at page_bytes pages number r =
 
 abbrev pub with_prot : Prot → Region → List Region
 with_prot prot r = record r { may_write = prot.write } ∷ []
+
+abbrev pub with_lock : Bool → Region → List Region
+with_lock locked r = record r { locked = locked } ∷ []
 
 -- which pages a region shows, where, and what it allows
 abbrev pub mapping_of : Region → Mapping

@@ -15,6 +15,6 @@ mod policies;
 mod tests;
 mod traits;
 
-pub use memory::{CallKind, CallNo, MemoryMapper, MemorySink, MemorySource};
+pub use memory::{CallKind, CallNo, MemoryMapper, MemorySink, MemorySource, WrongMapper};
 pub use policies::{Clock, Fifo, Listed};
 pub use traits::{Chooser, Failed, Mapper, Sink, Source};

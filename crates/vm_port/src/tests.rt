@@ -1,7 +1,7 @@
 // Each object in memory once on its happy path, and its faults where it was told to have them.
 use crate::{
     CallKind, CallNo, Chooser, Clock, Failed, Fifo, Listed, Mapper, MemoryMapper, MemorySink,
-    MemorySource, Sink, Source,
+    MemorySource, Sink, Source, WrongMapper,
 };
 use std::test::Fail;
 use vm_ids::{PageNo, SegId, SlotId};
@@ -104,4 +104,19 @@ fn a_slot_gives_back_what_was_pushed(rt: HostRuntime) -> Result<(), Fail> {
     assert_eq!(rt; mapper.swap_in(SlotId(0), &mut page), Ok(()));
     assert_eq!(rt; page, [5, 6]);
     Ok(())
+}
+
+// Each page that it gives is of another byte, and what was pushed never comes back.
+#[test]
+fn a_lying_mapper(rt: HostRuntime) {
+    let mut mapper = WrongMapper::new(255);
+    let mut page = [0u8; 2];
+    assert_eq!(rt; mapper.size(SegId(7)), Ok(Some(2)));
+    assert_eq!(rt; mapper.get_write_access(SegId(7), PageNo(1)), Ok(true));
+    assert_eq!(rt; mapper.swap_out(SlotId(0), b"ab"), Ok(()));
+    assert_eq!(rt; mapper.swap_in(SlotId(0), &mut page), Ok(()));
+    assert_eq!(rt; page, [255, 255]);
+    assert_eq!(rt; mapper.push_out(SegId(1), PageNo(0), b"ab"), Ok(()));
+    assert_eq!(rt; mapper.pull_in(SegId(1), PageNo(0), &mut page), Ok(()));
+    assert_eq!(rt; page, [0, 0]);
 }

@@ -4,8 +4,10 @@ mod mapper;
 mod pages;
 mod sink;
 mod source;
+mod wrong;
 
 pub use calls::{CallKind, CallNo};
 pub use mapper::MemoryMapper;
 pub use sink::MemorySink;
 pub use source::MemorySource;
+pub use wrong::WrongMapper;
