@@ -38,7 +38,7 @@ ReachesMapper (commands.Chain cache page) rises = rises ≡ no_counts
 ReachesMapper commands.Stat rises = rises ≡ no_counts
 ReachesMapper command rises = Unit {0}
 
--- the pages of the region with this number that its cache can have, where a living actor has it
+-- the pages of the region with this number, where a living actor has it: no more than its cache has
 abbrev pub pages_of_region : Machine → ℕ → ℕ
 pages_of_region m number =
     option_map_or (λ (r : Region). min r.pages (pages_in (cache_of m r.cache)))

@@ -1,6 +1,6 @@
 -- Each answer is followed by the forest.
 use Rattle.std.proofs.Common.{◌≡◌, ℕ, zero, suc, ◌+◌, ◌-◌, ◌≤◌, true, false, List, [], ◌∷◌, ◌++◌, length, set, replicate, Option, Some, None, refl, sym, ap, subst, ◌∙◌, arith}
-use Rattle.std.specs.Prelude.{◌||◌, ◌↔◌, option_map, nat_lt, option_and_then, slice_get, unwrap_or, IsSome, IfOk, Result, Ok, Err, All}
+use Rattle.std.specs.Prelude.{◌||◌, nat_lt, option_and_then, slice_get, unwrap_or, IsSome, IfOk, Result, Ok, Err, All}
 use Rattle.std.specs.Option.{option_map_or}
 use Rattle.std.proofs.lemmas.Bool.Decides.{nat_tests}
 use Rattle.std.specs.FinMap.{get}
@@ -27,10 +27,9 @@ use Rattle.vm_ids.specs.declared.reply.FaultAt.{FaultAt}
 use Rattle.vm_ids.specs.declared.reply.FaultAt.TheVariants as faults
 use Rattle.vm_ids.specs.declared.reply.Trouble.TheVariants as troubles
 use Rattle.vm_ids.specs.Forest.Saving.{saves, unsaved}
-use Rattle.vm_ids.specs.Forest.Commands.{page_name, page_names, make, invalidate, destroy, lock}
-use Rattle.vm_ids.specs.Forest.Nodes.{IsNode}
+use Rattle.vm_ids.specs.Forest.Commands.{page_names, make, invalidate, destroy, lock}
 use Rattle.vm_ids.proofs.Forest.Saving.{no_more_saves}
-use Rattle.vm_model.specs.Machine.{Machine, Cache, Page, actor_of, cache_of, numbered, pages_in, zero_page}
+use Rattle.vm_model.specs.Machine.{Machine, Cache, Page, actor_of, cache_of, pages_in, zero_page}
 use Rattle.vm_model.specs.Place.{Place, place}
 use Rattle.vm_model.specs.Regions.{region_with, with_lock}
 use Rattle.vm_model.specs.PageForest.{PageForest, told, nodes_of, nodes_in, page_in}
