@@ -917,15 +917,18 @@ pub const COPY_MOVES_NO_BYTES_REPLIES: &str = "1 ok a1
 206 ok 63
 ";
 
-// A page is mapped, written, copied and written again. It lies in examples/ too.
+// Four pages are copied, one of them is written before and after, and all leave their frames. It lies
+// in examples/ too.
 pub const COPY_EXAMPLE: &str = "actor
-temp 1
-temp 1
-map a1 c1 0 1 10000 rw
-map a1 c2 0 1 20000 rw
+temp 4
+temp 4
+map a1 c1 0 4 10000 rw
+map a1 c2 0 4 20000 rw
 store a1 10000 6f6c64
-copy c1 0 c2 0 1
+copy c1 0 c2 0 4
+stat
 store a1 10000 6e6577
+pageout 3
 load a1 10000 3
 load a1 20000 3
 stat
@@ -938,10 +941,12 @@ pub const COPY_EXAMPLE_REPLIES: &str = "1 ok a1
 5 ok r2
 6 ok
 7 ok
-8 ok
-9 ok 6e6577
-10 ok 6f6c64
-11 stat live 2 working 0 copies 1
+8 stat live 8 working 0 copies 0
+9 ok
+10 ok
+11 ok 6e6577
+12 ok 6f6c64
+13 stat live 8 working 0 copies 1
 ";
 
 // A parent and two children of nine pages each, and each writes. It lies in examples/ too.
