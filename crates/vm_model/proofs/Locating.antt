@@ -242,11 +242,6 @@ module _ (n : ℕ) where
             old;
       }
 
-  -- what was looked for and is there
-  pub with_some_located : (xs : List (Option Actor)) (o : Option Located) → MatchOption o (region_with n (actors_seen xs) ≡ None) (IsLocated n xs) → is_some o ≡ true → (r : model.Region) × (region_with n (actors_seen xs) ≡ Some r)
-  with_some_located xs None none some = absurd (search rules)
-  with_some_located xs (Some l) here some = (region_seen l.region, with_is xs l here)
-
   -- where no living actor has the region, nothing is told
   pub nothing_told : (xs : List (Option model.Actor)) → region_with n xs ≡ None → status_with n 1 xs ≡ None
   nothing_told xs none = ap (status_with n 1) (sym (append-nil xs)) ∙ status_behind 1 xs [] none
