@@ -1,6 +1,6 @@
 -- The region with a number, where it stands, and what becomes of it.
 use Rattle.std.proofs.Common.{◌≡◌, ◌==◌, ℕ, zero, suc, ◌+◌, ◌-◌, ◌<◌, ◌≤◌, Bool, true, false, cond, List, [], ◌∷◌, ◌++◌, length, get_or, set, take, drop, map, Option, Some, None, refl, sym, ap, subst, ◌∙◌, arith, rules, Vec, Global}
-use Rattle.std.specs.Prelude.{MatchOption, count_by, insert, is_some, option_and_then, option_map, slice_get}
+use Rattle.std.specs.Prelude.{count_by, insert, is_some, option_and_then, option_map, slice_get}
 use Rattle.std.specs.List.{All}
 use Rattle.std.specs.Option.{option_or}
 use Rattle.std.proofs.lemmas.Bool.Decides.{nat_tests}

@@ -1,7 +1,7 @@
 -- What the tables are, before and after a change.
 use Rattle.std.proofs.Common.{◌≡◌, ◌==◌, ℕ, suc, zero, ◌+◌, ◌-◌, ◌<◌, ◌≤◌, Bool, true, false, cond, List, [], ◌∷◌, ◌++◌, length, get_or, set, take, drop, map, replicate, Option, Some, None, refl, sym, ap, subst, ◌∙◌, arith, rules, inl, inr, Vec, Global}
-use Rattle.std.specs.Prelude.{option_map, option_and_then, slice_get, unwrap_or, count_by, sum_by, is_some, insert, IsSome, Result, Ok, Err, OnOk, OnErr, nat_le, nat_lt, ◌%◌, ◌*◌, ◌^◌, ◌||◌}
-use Rattle.std.specs.List.{All, list_any, range_with_len}
+use Rattle.std.specs.Prelude.{option_map, option_and_then, slice_get, unwrap_or, count_by, sum_by, is_some, insert, IsSome, Result, Ok, Err, OnOk, OnErr, nat_le, nat_lt, ◌%◌, ◌*◌, ◌^◌}
+use Rattle.std.specs.List.{All, list_any}
 use Rattle.std.specs.Option.{option_map_or}
 use Rattle.std.proofs.lemmas.List.{take-map, drop-map, map-set, map_push, length-map, length-set, length-replicate}
 use Rattle.std.proofs.lemmas.List.Elements.{All-append, All-take, All-drop, All-set, All-get_or, All-nil, All-cons, All-head, All-tail, All-same, All-weaker, All-map, All-replicate}

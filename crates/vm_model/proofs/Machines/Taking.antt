@@ -2,7 +2,7 @@
 use Rattle.std.proofs.Common.{◌≡◌, ◌≢◌, ◌==◌, ℕ, suc, zero, ◌+◌, ◌-◌, ◌<◌, ◌≤◌, Bool, true, false, cond, not, List, [], ◌∷◌, ◌++◌, length, set, take, drop, map, filter, get_or, Option, Some, None, refl, sym, ap, subst, ◌∙◌, arith, rules, inl, inr, Vec, Global}
 use Rattle.std.specs.Prelude.{IsSomeAnd, option_map, count_by, is_some, ◌||◌, nat_lt}
 use Rattle.std.specs.List.{All, list_any}
-use Rattle.std.specs.Option.{option_or, option_map_or}
+use Rattle.std.specs.Option.{option_map_or}
 use Rattle.std.proofs.lemmas.Bool.Decides.{nat_tests}
 use Rattle.std.proofs.lemmas.List.{map-set, length-map, length-set, length-drop, length-take-le, append-nil, drop_all, take_all, get_or-map}
 use Rattle.std.proofs.lemmas.List.Elements.{All-set, All-same, All-nil, All-cons, All-head, All-tail}
@@ -16,7 +16,7 @@ use Rattle.vm_model.specs.Machine as model
 use Rattle.vm_model.specs.Machine.{numbered, pages_in, zero_page}
 use Rattle.vm_model.specs.PageForest.{plain_forest}
 use Rattle.vm_model.specs.Answering.{destroy_of, exit_actor_of, unmap_of, chain_answer, change_cache, maps_in, passes_end, put_cache, put_pages, reply, unless, with_some, without_region}
-use Rattle.vm_model.specs.Regions.{region_among, region_with}
+use Rattle.vm_model.specs.Regions.{region_with}
 use Rattle.vm_model.specs.declared.tables.Actor.{Actor}
 use Rattle.vm_model.specs.declared.tables.Cache.{Cache}
 use Rattle.vm_model.specs.declared.tables.Region.{Region}

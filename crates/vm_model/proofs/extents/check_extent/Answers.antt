@@ -2,7 +2,6 @@ use Rattle.std.proofs.lemmas.Bool.Decides.{nat_tests}
 use Rattle.std.proofs.Common.{◌≡◌, ◌+◌, ◌≤◌, List, Option, Some, ap, sym, ◌∙◌, arith}
 use Rattle.std.specs.Prelude.{option_map}
 use Rattle.vm_model.specs.Machine.{numbered}
-use Rattle.vm_model.specs.Seen.{cache_seen, machine_seen}
 use Rattle.vm_model.specs.declared.tables.Cache.{Cache}
 use Rattle.vm_model.proofs.Machines.Awaiting.{segment_there}
 use Rattle.vm_model.proofs.Machines.Taking.{counted, pages_live, within}

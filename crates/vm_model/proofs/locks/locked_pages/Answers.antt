@@ -1,8 +1,7 @@
-use Rattle.std.proofs.Common.{◌≡◌, ℕ, ◌+◌, ◌≤◌, length, ap, sym, ◌∙◌, arith}
+use Rattle.std.proofs.Common.{◌+◌, ◌≤◌, arith}
 use Rattle.std.specs.Prelude.{option_map}
 use Rattle.std.proofs.lemmas.Bool.Decides.{nat_tests}
 use Rattle.std.proofs.lemmas.List.{length-map}
-use Rattle.vm_model.specs.Machine.{live_pages, locked_in}
 use Rattle.vm_model.specs.Seen.{cache_seen, machine_seen}
 use Rattle.vm_model.proofs.Machines.Locks.{locked_within, one_cache_more}
 use Rattle.vm_model.proofs.locks.locked_pages.Goals as goal
