@@ -1,5 +1,5 @@
 -- The actors of a machine, and the regions of each.
-use Rattle.std.specs.Prelude.{ℕ, ◌+◌, ◌-◌, ◌||◌, Bool, false, nat_le, List, length, Option, Some, None, count_by, is_some, ok_or, option_map, slice_set, Result, Err, if◌then◌else◌}
+use Rattle.std.specs.Prelude.{ℕ, ◌==◌, ◌+◌, ◌-◌, ◌||◌, Bool, false, nat_le, List, length, Option, Some, None, count_by, sum_by, is_some, ok_or, option_map, slice_set, Result, Err, if◌then◌else◌}
 use Rattle.vm_ids.specs.declared.command.Mapping.{Mapping}
 use Rattle.vm_ids.specs.declared.numbers.RegionId.{RegionId}
 use Rattle.vm_ids.specs.declared.refusal.Refusal.{Refusal}
@@ -33,6 +33,15 @@ with_region a actor p = record a {
       (option_map (insert_region (next_region a p)) (numbered a.actors actor));
   regions_made = a.regions_made + 1;
 }
+
+-- how many regions of an actor have this number
+abbrev pub times_among : ℕ → Option Actor → ℕ
+times_among region None = 0
+times_among region (Some regions) = count_by (λ (r : Region). r.number == region) regions
+
+-- how many regions of living actors do
+abbrev pub times_made : ℕ → List (Option Actor) → ℕ
+times_made region actors = sum_by (times_among region) actors
 
 -- an actor that is alive and has a region with this number
 abbrev pub has_region : ℕ → Option Actor → Bool

@@ -4,7 +4,7 @@ use Rattle.vm_ids.specs.declared.numbers.ActorId.{ActorId}
 use Rattle.vm_model.specs.Machine.{Actor, numbered}
 use Rattle.vm_model.specs.declared.limits.TheConstants.{MOST_MADE}
 use Rattle.regions.specs.AddressSpace.{AddressSpace}
-use Rattle.contexts.specs.Actors.{Actors}
+use Rattle.contexts.specs.Actors.{Actors, times_among}
 use Rattle.contexts.specs.declared.contexts.Contexts.TheInside.{Inside}
 
 -- the regions of each actor, by its address space
@@ -22,10 +22,12 @@ actors_seen a = record {
 abbrev pub owner_of : List ActorId → ℕ → Option ActorId
 owner_of owners region = if region == 0 then None else slice_get owners (region - 1)
 
--- the space of an actor has pages of the one size, and its regions were made for the actor
+-- the space of an actor has pages of the one size, and its regions were made for the actor, each
+-- under a number of its own
 pub record IsKept (page : ℕ) (owners : List ActorId) (actor : ℕ) (s : AddressSpace) : Type 0 where
   pub page_bytes : s.page_bytes ≡ page
   pub owned : All (λ r. owner_of owners r.number ≡ Some (record { 0 = actor })) s.regions
+  pub once : (region : ℕ) → times_among region (Some s.regions) ≤ 1
 
 -- a page has 1 to 65,536 bytes, the living are counted, so many regions can have numbers, and each
 -- space is kept

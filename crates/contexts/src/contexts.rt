@@ -5,13 +5,13 @@ ghost use Rattle.vm_ids.specs.declared.refusal.Refusal.TheVariants.{TooMany};
 ghost use Rattle.vm_ids.specs.declared.reply.Trouble.TheVariants.{Memory, Refused};
 ghost use Rattle.regions.specs.AddressSpace.{place_told, IsWellFormed};
 ghost use Rattle.vm_model.specs.Answering.{maps_in, overlaps, without_region};
-ghost use Rattle.vm_model.specs.Regions.{region_with, replace_in, status_with, with_prot};
+ghost use Rattle.vm_model.specs.Regions.{region_with, replace_in, status_with, with_lock, with_prot};
 ghost use Rattle.vm_model.specs.Machine.{numbered};
 ghost use Rattle.vm_model.specs.Place.{place_of_actor};
-ghost use Rattle.contexts.specs.Actors.{has_region, holder_of, is_full, next_region, split_refusal, with_region, with_split};
+ghost use Rattle.contexts.specs.Actors.{has_region, holder_of, is_full, next_region, split_refusal, times_made, with_region, with_split};
 ghost use Rattle.contexts.specs.Layout.{owner_of};
 
-use crate::spaces::{add_region, maps_any, protect_region, remove_region, split_region};
+use crate::spaces::{add_region, lock_region, maps_any, protect_region, remove_region, split_region};
 use regions::{Place, RegionMap};
 use std::alloc::Global;
 use std::marker::Model;
@@ -224,9 +224,26 @@ impl Contexts {
         true
     }
 
-    /// Takes a region away. `false` exactly where no living actor has it, and then everything is as
-    /// it was.
+    /// Locks or unlocks a region. `false` exactly where no living actor has it, and then everything
+    /// is as it was.
+    pub fn set_locked(&mut self, region: RegionId, locked: bool) -> bool
+        ensures found { result ≡ is_some (region_with region.0 self.old.actors) }
+        ensures changed { result ≡ true → self.new ≡ record self.old {
+          actors = replace_in region.0 (with_lock locked) self.old.actors;
+        } }
+        ensures none { result ≡ false → self.new ≡ self.old }
+    {
+        let Some(status) = self.status(region) else {
+            return false;
+        };
+        lock_region(&mut self.actors, status.actor, region, locked);
+        true
+    }
+
+    /// Takes a region away, the only one with its number. `false` exactly where no living actor has
+    /// it, and then everything is as it was.
     pub fn unmap(&mut self, region: RegionId) -> bool
+        ensures once { times_made region.0 self.old.actors ≤ 1 }
         ensures found { result ≡ is_some (region_with region.0 self.old.actors) }
         ensures gone { result ≡ true → self.new ≡ record self.old {
           actors = map (option_map (without_region region.0)) self.old.actors;

@@ -3,7 +3,7 @@ ghost use Rattle.std.specs.Prelude.{◌≡◌, ◌<◌, ◌≤◌, false, IsSome
 ghost use Rattle.std.specs.List.{list_any};
 ghost use Rattle.vm_model.specs.Answering.{insert_region, maps_in, overlaps, region_of, without_region};
 ghost use Rattle.vm_model.specs.Machine.{numbered};
-ghost use Rattle.vm_model.specs.Regions.{region_among, replace_region, split_at, with_prot};
+ghost use Rattle.vm_model.specs.Regions.{region_among, replace_region, split_at, with_lock, with_prot};
 ghost use Rattle.regions.specs.AddressSpace.{AddressSpace, IsWellFormed};
 ghost use Rattle.contexts.specs.Layout.{regions_in, IsChanged};
 
@@ -77,6 +77,24 @@ pub(crate) fn protect_region(
 {
     match &mut spaces[actor.0 as usize - 1] {
         Some(regions) => regions.protect(region, prot),
+        None => unreachable!(),
+    }
+}
+
+// Locks or unlocks a region of an actor.
+pub(crate) fn lock_region(
+    spaces: &mut [Option<RegionMap>],
+    actor: ActorId,
+    region: RegionId,
+    locked: bool,
+)
+    requires alive { IsSome (numbered spaces.old actor.0) }
+    requires there { (s : AddressSpace) → numbered spaces.old actor.0 ≡ Some s
+        → IsSome (region_among region.0 s.regions) }
+    ensures { IsChanged actor.0 (replace_region region.0 (with_lock locked)) spaces.old spaces.new }
+{
+    match &mut spaces[actor.0 as usize - 1] {
+        Some(regions) => regions.set_locked(region, locked),
         None => unreachable!(),
     }
 }

@@ -1,3 +1,4 @@
 pub mod Backing
 pub mod Calling
 pub mod Reaching
+pub mod Room

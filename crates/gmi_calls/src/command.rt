@@ -4,7 +4,8 @@ ghost use Rattle.vm_model.specs.declared.limits.TheConstants.{LIVE_PAGES};
 ghost use Rattle.vm_model.specs.Machine.{live_pages};
 ghost use Rattle.vm_model.specs.Asking.{IsWellFormed};
 ghost use Rattle.vm_model.specs.Run.{state_of};
-ghost use Rattle.gmi_calls.specs.Calling.{Calls, Fits, RaisesMade};
+ghost use Rattle.gmi_calls.specs.Calling.{Fits, RaisesMade};
+ghost use Rattle.gmi_calls.specs.Room.{CallsWithin};
 
 use crate::Gmi;
 use vm_ids::{Answer, Command, Reply};
@@ -23,8 +24,8 @@ pub fn answer<G: Gmi<M, C>, M: Mapper, C: Chooser>(
     requires fits { Fits (M.page_bytes mapper.old) (G.machine gmi.old (M.held mapper.old)) }
     requires live { live_pages (G.machine gmi.old (M.held mapper.old)) ≤ LIVE_PAGES }
     ensures valid { G.valid gmi.new (M.held mapper.new) }
-    ensures answers { Calls M.counts M.held (state_of G.machine G.forest) mapper.old gmi.old
-        command.now result mapper.new gmi.new }
+    ensures answers { CallsWithin M.counts M.held (state_of G.machine G.forest) G.room
+        mapper.old gmi.old command.now result mapper.new gmi.new }
     ensures made { RaisesMade (G.machine gmi.old (M.held mapper.old)) command.now result
         (G.made gmi.old) (G.made gmi.new) }
     ensures page { M.page_bytes mapper.new ≡ M.page_bytes mapper.old }
@@ -50,8 +51,8 @@ fn call<G: Gmi<M, C>, M: Mapper, C: Chooser>(
     requires made { G.made gmi.old ≤ 2 ^ 62 }
     requires fits { Fits (M.page_bytes mapper.old) (G.machine gmi.old (M.held mapper.old)) }
     ensures valid { G.valid gmi.new (M.held mapper.new) }
-    ensures answers { Calls M.counts M.held (state_of G.machine G.forest) mapper.old gmi.old
-        command.now result mapper.new gmi.new }
+    ensures answers { CallsWithin M.counts M.held (state_of G.machine G.forest) G.room
+        mapper.old gmi.old command.now result mapper.new gmi.new }
     ensures made { RaisesMade (G.machine gmi.old (M.held mapper.old)) command.now result
         (G.made gmi.old) (G.made gmi.new) }
     ensures page { M.page_bytes mapper.new ≡ M.page_bytes mapper.old }
@@ -80,6 +81,14 @@ fn call<G: Gmi<M, C>, M: Mapper, C: Chooser>(
         Command::Split(region, pages) => Ok(Reply::Region(gmi.split(*region, *pages)?)),
         Command::Protect(region, prot) => {
             gmi.protect(*region, *prot)?;
+            Ok(Reply::Done)
+        }
+        Command::Lock(region) => {
+            gmi.lock(*region, mapper, chooser)?;
+            Ok(Reply::Done)
+        }
+        Command::Unlock(region) => {
+            gmi.unlock(*region)?;
             Ok(Reply::Done)
         }
         Command::Unmap(region) => {

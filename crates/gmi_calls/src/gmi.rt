@@ -5,7 +5,8 @@ ghost use Rattle.vm_model.specs.Answering.{answer_by};
 ghost use Rattle.vm_model.specs.Machine.{Machine};
 ghost use Rattle.vm_model.specs.PageForest.{PageForest};
 ghost use Rattle.vm_model.specs.Run.{state_of};
-ghost use Rattle.gmi_calls.specs.Calling.{Answers, Calls, Fits, Numbers, RaisesMade, StaysValid, done_by};
+ghost use Rattle.gmi_calls.specs.Calling.{Fits, Numbers, RaisesMade, StaysValid, done_by};
+ghost use Rattle.gmi_calls.specs.Room.{AnswersWithin, CallsWithin};
 
 use vm_ids::{
     ActorId, CacheId, ChainList, Command, Counts, Extent, Mapping, PageNo, Piece, Prot, RegionId,
@@ -37,13 +38,17 @@ pub trait Gmi<M: Mapper, C: Chooser> {
     /// the pages copied, so that none of them wraps.
     ghost made: { Self → ℕ };
 
+    /// For how many more pages there is room, where that is limited: in a manager that keeps each
+    /// page in a frame of its own. Such a manager refuses as `Full` what needs more.
+    ghost room: { Self → Option ℕ };
+
     /// Makes an actor without regions. Refused as `TooMany` exactly where 256 actors are alive or
     /// 65,535 were made.
     fn make_actor(&mut self) -> Result<ActorId, Trouble>
         requires valid { (h : Option Held) × valid self.old h }
         requires made { made self.old ≤ 2 ^ 62 }
         ensures valid { StaysValid valid self.old self.new }
-        ensures answers { Answers valid (state_of machine forest) self.old
+        ensures answers { AnswersWithin valid (state_of machine forest) room self.old
             Command.MakeActor (answer_by Reply.Actor result) self.new }
         ensures made { Numbers valid machine made self.old
             Command.MakeActor (answer_by Reply.Actor result) self.new };
@@ -54,7 +59,7 @@ pub trait Gmi<M: Mapper, C: Chooser> {
         requires valid { (h : Option Held) × valid self.old h }
         requires made { made self.old ≤ 2 ^ 62 }
         ensures valid { StaysValid valid self.old self.new }
-        ensures answers { Answers valid (state_of machine forest) self.old
+        ensures answers { AnswersWithin valid (state_of machine forest) room self.old
             (Command.ExitActor actor) (done_by result) self.new }
         ensures made { Numbers valid machine made self.old
             (Command.ExitActor actor) (done_by result) self.new };
@@ -66,7 +71,7 @@ pub trait Gmi<M: Mapper, C: Chooser> {
         requires valid { (h : Option Held) × valid self.old h }
         requires made { made self.old ≤ 2 ^ 62 }
         ensures valid { StaysValid valid self.old self.new }
-        ensures answers { Answers valid (state_of machine forest) self.old
+        ensures answers { AnswersWithin valid (state_of machine forest) room self.old
             (Command.MakeTemp pages) (answer_by Reply.Cache result) self.new }
         ensures made { Numbers valid machine made self.old
             (Command.MakeTemp pages) (answer_by Reply.Cache result) self.new };
@@ -80,8 +85,9 @@ pub trait Gmi<M: Mapper, C: Chooser> {
         requires made { made self.old ≤ 2 ^ 62 }
         requires fits { Fits (M.page_bytes mapper.old) (machine self.old (M.held mapper.old)) }
         ensures valid { valid self.new (M.held mapper.new) }
-        ensures answers { Calls M.counts M.held (state_of machine forest) mapper.old self.old
-            (Command.OpenSegment seg) (answer_by Reply.Cache result) mapper.new self.new }
+        ensures answers { CallsWithin M.counts M.held (state_of machine forest) room
+            mapper.old self.old (Command.OpenSegment seg) (answer_by Reply.Cache result)
+            mapper.new self.new }
         ensures made { RaisesMade (machine self.old (M.held mapper.old))
             (Command.OpenSegment seg) (answer_by Reply.Cache result)
             (made self.old) (made self.new) }
@@ -94,8 +100,8 @@ pub trait Gmi<M: Mapper, C: Chooser> {
         requires made { made self.old ≤ 2 ^ 62 }
         requires fits { Fits (M.page_bytes mapper.old) (machine self.old (M.held mapper.old)) }
         ensures valid { valid self.new (M.held mapper.new) }
-        ensures answers { Calls M.counts M.held (state_of machine forest) mapper.old self.old
-            (Command.Destroy cache) (done_by result) mapper.new self.new }
+        ensures answers { CallsWithin M.counts M.held (state_of machine forest) room
+            mapper.old self.old (Command.Destroy cache) (done_by result) mapper.new self.new }
         ensures made { RaisesMade (machine self.old (M.held mapper.old))
             (Command.Destroy cache) (done_by result) (made self.old) (made self.new) }
         ensures page { M.page_bytes mapper.new ≡ M.page_bytes mapper.old };
@@ -108,8 +114,8 @@ pub trait Gmi<M: Mapper, C: Chooser> {
         requires made { made self.old ≤ 2 ^ 62 }
         requires fits { Fits (M.page_bytes mapper.old) (machine self.old (M.held mapper.old)) }
         ensures valid { valid self.new (M.held mapper.new) }
-        ensures answers { Calls M.counts M.held (state_of machine forest) mapper.old self.old
-            (Command.Copy span) (done_by result) mapper.new self.new }
+        ensures answers { CallsWithin M.counts M.held (state_of machine forest) room
+            mapper.old self.old (Command.Copy span) (done_by result) mapper.new self.new }
         ensures made { RaisesMade (machine self.old (M.held mapper.old))
             (Command.Copy span) (done_by result) (made self.old) (made self.new) }
         ensures page { M.page_bytes mapper.new ≡ M.page_bytes mapper.old };
@@ -122,8 +128,8 @@ pub trait Gmi<M: Mapper, C: Chooser> {
         requires made { made self.old ≤ 2 ^ 62 }
         requires fits { Fits (M.page_bytes mapper.old) (machine self.old (M.held mapper.old)) }
         ensures valid { valid self.new (M.held mapper.new) }
-        ensures answers { Calls M.counts M.held (state_of machine forest) mapper.old self.old
-            (Command.Move span) (done_by result) mapper.new self.new }
+        ensures answers { CallsWithin M.counts M.held (state_of machine forest) room
+            mapper.old self.old (Command.Move span) (done_by result) mapper.new self.new }
         ensures made { RaisesMade (machine self.old (M.held mapper.old))
             (Command.Move span) (done_by result) (made self.old) (made self.new) }
         ensures page { M.page_bytes mapper.new ≡ M.page_bytes mapper.old };
@@ -135,7 +141,7 @@ pub trait Gmi<M: Mapper, C: Chooser> {
         requires valid { (h : Option Held) × valid self.old h }
         requires made { made self.old ≤ 2 ^ 62 }
         ensures valid { StaysValid valid self.old self.new }
-        ensures answers { Answers valid (state_of machine forest) self.old
+        ensures answers { AnswersWithin valid (state_of machine forest) room self.old
             (Command.Map actor mapping) (answer_by Reply.Region result) self.new }
         ensures made { Numbers valid machine made self.old
             (Command.Map actor mapping) (answer_by Reply.Region result) self.new };
@@ -148,7 +154,7 @@ pub trait Gmi<M: Mapper, C: Chooser> {
         requires valid { (h : Option Held) × valid self.old h }
         requires made { made self.old ≤ 2 ^ 62 }
         ensures valid { StaysValid valid self.old self.new }
-        ensures answers { Answers valid (state_of machine forest) self.old
+        ensures answers { AnswersWithin valid (state_of machine forest) room self.old
             (Command.Split region pages) (answer_by Reply.Region result) self.new }
         ensures made { Numbers valid machine made self.old
             (Command.Split region pages) (answer_by Reply.Region result) self.new };
@@ -159,17 +165,43 @@ pub trait Gmi<M: Mapper, C: Chooser> {
         requires valid { (h : Option Held) × valid self.old h }
         requires made { made self.old ≤ 2 ^ 62 }
         ensures valid { StaysValid valid self.old self.new }
-        ensures answers { Answers valid (state_of machine forest) self.old
+        ensures answers { AnswersWithin valid (state_of machine forest) room self.old
             (Command.Protect region prot) (done_by result) self.new }
         ensures made { Numbers valid machine made self.old
             (Command.Protect region prot) (done_by result) self.new };
+
+    /// Brings the pages of a region into page frames and holds them there. Each page is its cache's
+    /// own from then on. Refused as `NoRegion`, as `Locked` where the region is locked, or as
+    /// `LockLimit` where less than three page frames would be left to accesses, in this order. After
+    /// the fault `Page` the region isn't locked, and the pages before that one are their cache's own.
+    fn lock(&mut self, region: RegionId, mapper: &mut M, chooser: &mut C) -> Result<(), Trouble>
+        requires valid { valid self.old (M.held mapper.old) }
+        requires made { made self.old ≤ 2 ^ 62 }
+        requires fits { Fits (M.page_bytes mapper.old) (machine self.old (M.held mapper.old)) }
+        ensures valid { valid self.new (M.held mapper.new) }
+        ensures answers { CallsWithin M.counts M.held (state_of machine forest) room
+            mapper.old self.old (Command.Lock region) (done_by result) mapper.new self.new }
+        ensures made { RaisesMade (machine self.old (M.held mapper.old))
+            (Command.Lock region) (done_by result) (made self.old) (made self.new) }
+        ensures page { M.page_bytes mapper.new ≡ M.page_bytes mapper.old };
+
+    /// Lets the pages of a region go again; one that another locked region covers stays held. Refused
+    /// as `NoRegion`, or as `NotLocked` where the region isn't locked, in this order.
+    fn unlock(&mut self, region: RegionId) -> Result<(), Trouble>
+        requires valid { (h : Option Held) × valid self.old h }
+        requires made { made self.old ≤ 2 ^ 62 }
+        ensures valid { StaysValid valid self.old self.new }
+        ensures answers { AnswersWithin valid (state_of machine forest) room self.old
+            (Command.Unlock region) (done_by result) self.new }
+        ensures made { Numbers valid machine made self.old
+            (Command.Unlock region) (done_by result) self.new };
 
     /// Takes a region away. Refused as `NoRegion` or `Locked`, in this order.
     fn unmap(&mut self, region: RegionId) -> Result<(), Trouble>
         requires valid { (h : Option Held) × valid self.old h }
         requires made { made self.old ≤ 2 ^ 62 }
         ensures valid { StaysValid valid self.old self.new }
-        ensures answers { Answers valid (state_of machine forest) self.old
+        ensures answers { AnswersWithin valid (state_of machine forest) room self.old
             (Command.Unmap region) (done_by result) self.new }
         ensures made { Numbers valid machine made self.old
             (Command.Unmap region) (done_by result) self.new };
@@ -177,13 +209,13 @@ pub trait Gmi<M: Mapper, C: Chooser> {
     /// What there is to tell of a region: its actor, its mapping, and whether it is locked. Refused
     /// as `NoRegion` exactly where no region of a living actor has the number.
     fn status(&self, region: RegionId) -> Result<RegionStatus, Trouble>
-        ensures answers { Answers valid (state_of machine forest) self.now
+        ensures answers { AnswersWithin valid (state_of machine forest) room self.now
             (Command.Status region) (answer_by Reply.Status result) self.now };
 
     /// The region of an actor that holds an address. Refused as `NoActor`, or as `BadAddress` where
     /// no region of the actor holds the address, in this order.
     fn find(&self, actor: ActorId, address: u64) -> Result<RegionId, Trouble>
-        ensures answers { Answers valid (state_of machine forest) self.now
+        ensures answers { AnswersWithin valid (state_of machine forest) room self.now
             (Command.Find actor address) (answer_by Reply.Region result) self.now };
 
     /// Loads so many bytes, 1 to 64, at an address of an actor. Refused as `NoActor`, `Crosses` or
@@ -202,8 +234,9 @@ pub trait Gmi<M: Mapper, C: Chooser> {
         requires made { made self.old ≤ 2 ^ 62 }
         requires fits { Fits (M.page_bytes mapper.old) (machine self.old (M.held mapper.old)) }
         ensures valid { valid self.new (M.held mapper.new) }
-        ensures answers { Calls M.counts M.held (state_of machine forest) mapper.old self.old
-            (Command.Load actor address bytes) (answer_by Reply.Bytes result) mapper.new self.new }
+        ensures answers { CallsWithin M.counts M.held (state_of machine forest) room
+            mapper.old self.old (Command.Load actor address bytes) (answer_by Reply.Bytes result)
+            mapper.new self.new }
         ensures length { IfOk result (λ piece. length piece ≡ bytes) }
         ensures made { RaisesMade (machine self.old (M.held mapper.old))
             (Command.Load actor address bytes) (answer_by Reply.Bytes result)
@@ -224,8 +257,9 @@ pub trait Gmi<M: Mapper, C: Chooser> {
         requires made { made self.old ≤ 2 ^ 62 }
         requires fits { Fits (M.page_bytes mapper.old) (machine self.old (M.held mapper.old)) }
         ensures valid { valid self.new (M.held mapper.new) }
-        ensures answers { Calls M.counts M.held (state_of machine forest) mapper.old self.old
-            (Command.Store actor address piece.now) (done_by result) mapper.new self.new }
+        ensures answers { CallsWithin M.counts M.held (state_of machine forest) room
+            mapper.old self.old (Command.Store actor address piece.now) (done_by result)
+            mapper.new self.new }
         ensures made { RaisesMade (machine self.old (M.held mapper.old))
             (Command.Store actor address piece.now) (done_by result)
             (made self.old) (made self.new) }
@@ -241,8 +275,8 @@ pub trait Gmi<M: Mapper, C: Chooser> {
         requires made { made self.old ≤ 2 ^ 62 }
         requires fits { Fits (M.page_bytes mapper.old) (machine self.old (M.held mapper.old)) }
         ensures valid { valid self.new (M.held mapper.new) }
-        ensures answers { Calls M.counts M.held (state_of machine forest) mapper.old self.old
-            (Command.Sync extent) (done_by result) mapper.new self.new }
+        ensures answers { CallsWithin M.counts M.held (state_of machine forest) room
+            mapper.old self.old (Command.Sync extent) (done_by result) mapper.new self.new }
         ensures made { RaisesMade (machine self.old (M.held mapper.old))
             (Command.Sync extent) (done_by result) (made self.old) (made self.new) }
         ensures page { M.page_bytes mapper.new ≡ M.page_bytes mapper.old };
@@ -255,8 +289,8 @@ pub trait Gmi<M: Mapper, C: Chooser> {
         requires made { made self.old ≤ 2 ^ 62 }
         requires fits { Fits (M.page_bytes mapper.old) (machine self.old (M.held mapper.old)) }
         ensures valid { valid self.new (M.held mapper.new) }
-        ensures answers { Calls M.counts M.held (state_of machine forest) mapper.old self.old
-            (Command.Flush extent) (done_by result) mapper.new self.new }
+        ensures answers { CallsWithin M.counts M.held (state_of machine forest) room
+            mapper.old self.old (Command.Flush extent) (done_by result) mapper.new self.new }
         ensures made { RaisesMade (machine self.old (M.held mapper.old))
             (Command.Flush extent) (done_by result) (made self.old) (made self.new) }
         ensures page { M.page_bytes mapper.new ≡ M.page_bytes mapper.old };
@@ -270,8 +304,8 @@ pub trait Gmi<M: Mapper, C: Chooser> {
         requires made { made self.old ≤ 2 ^ 62 }
         requires fits { Fits (M.page_bytes mapper.old) (machine self.old (M.held mapper.old)) }
         ensures valid { valid self.new (M.held mapper.new) }
-        ensures answers { Calls M.counts M.held (state_of machine forest) mapper.old self.old
-            (Command.Invalidate extent) (done_by result) mapper.new self.new }
+        ensures answers { CallsWithin M.counts M.held (state_of machine forest) room
+            mapper.old self.old (Command.Invalidate extent) (done_by result) mapper.new self.new }
         ensures made { RaisesMade (machine self.old (M.held mapper.old))
             (Command.Invalidate extent) (done_by result) (made self.old) (made self.new) }
         ensures page { M.page_bytes mapper.new ≡ M.page_bytes mapper.old };
@@ -283,8 +317,8 @@ pub trait Gmi<M: Mapper, C: Chooser> {
         requires made { made self.old ≤ 2 ^ 62 }
         requires fits { Fits (M.page_bytes mapper.old) (machine self.old (M.held mapper.old)) }
         ensures valid { valid self.new (M.held mapper.new) }
-        ensures answers { Calls M.counts M.held (state_of machine forest) mapper.old self.old
-            (Command.PageOut count) (done_by result) mapper.new self.new }
+        ensures answers { CallsWithin M.counts M.held (state_of machine forest) room
+            mapper.old self.old (Command.PageOut count) (done_by result) mapper.new self.new }
         ensures made { RaisesMade (machine self.old (M.held mapper.old))
             (Command.PageOut count) (done_by result) (made self.old) (made self.new) }
         ensures page { M.page_bytes mapper.new ≡ M.page_bytes mapper.old };
@@ -292,11 +326,11 @@ pub trait Gmi<M: Mapper, C: Chooser> {
     /// The nodes from that of a page up to the one that has its bytes. Refused as `NoCache` or
     /// `OutOfCache`, in this order.
     fn chain(&self, cache: CacheId, page: PageNo) -> Result<ChainList, Trouble>
-        ensures answers { Answers valid (state_of machine forest) self.now
+        ensures answers { AnswersWithin valid (state_of machine forest) room self.now
             (Command.Chain cache page) (answer_by Reply.Chain result) self.now };
 
     /// How many live pages and working nodes there are, and how many pages were copied.
     fn stat(&self) -> Counts
-        ensures answers { Answers valid (state_of machine forest) self.now
+        ensures answers { AnswersWithin valid (state_of machine forest) room self.now
             Command.Stat (Ok (Reply.Stat result)) self.now };
 }

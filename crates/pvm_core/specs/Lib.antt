@@ -1,4 +1,5 @@
 pub mod Placed
+pub mod Locks
 pub mod Maps
 pub mod Manager
 pub mod Opening
@@ -8,6 +9,7 @@ pub mod Spans
 pub mod Extents
 pub mod Access
 pub mod Keeping
+pub mod Locks
 pub mod Reaching
 pub mod Writes
 pub mod Saving

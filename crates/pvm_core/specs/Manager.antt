@@ -1,5 +1,5 @@
 -- What a manager keeps, the page forest and the machine that it stands for, and what holds of it between two calls.
-use Rattle.std.specs.Prelude.{◌≡◌, ℕ, zero, suc, ◌+◌, ◌*◌, ◌≤◌, false, List, [], ◌∷◌, length, sum_by, All, Option, Some, None, option_map, IfSome}
+use Rattle.std.specs.Prelude.{◌≡◌, ℕ, zero, suc, ◌+◌, ◌*◌, ◌≤◌, List, [], ◌∷◌, length, sum_by, All, Option, Some, None, option_map, IfSome}
 use Rattle.std.specs.FinMap.{get}
 use Rattle.vm_ids.specs.Held.{Held, segments_of}
 use Rattle.vm_ids.specs.declared.numbers.SegId.{SegId}
@@ -7,7 +7,6 @@ use Rattle.vm_ids.specs.Forest.Commands.{page_name}
 use Rattle.vm_ids.specs.Forest.Nodes.{Forest}
 use Rattle.vm_ids.specs.Forest.Reading.{value_of}
 use Rattle.vm_ids.specs.Forest.Shape.{IsBounded}
-use Rattle.frame_pool.specs.Pool.{is_pinned}
 use Rattle.local_cache.specs.declared.own_state.OwnState.{OwnState}
 use Rattle.local_cache.specs.Arena.{Arena, Table, page_count}
 use Rattle.local_cache.specs.Reading as arena
@@ -22,6 +21,7 @@ use Rattle.vm_model.specs.PageForest.{PageForest}
 use Rattle.vm_model.specs.Run.{State}
 use Rattle.vm_model.specs.declared.limits.TheConstants.{LIVE_PAGES}
 use Rattle.contexts.specs.Actors.{Actors}
+use Rattle.pvm_core.specs.Locks.{AreHeld}
 use Rattle.pvm_core.specs.Placed.{AreRight}
 
 -- the caches with their page nodes, the store of frames and slots, the size of a page, and the actors with their regions
@@ -107,9 +107,9 @@ AreFull a page_bytes told = (cache : ℕ) (segment : SegId) → segment_of a cac
 --     bounded    the working nodes are fewer than the live ones, or there are none of either
 --     slots      there are slots for the nodes of twice the live pages
 --     counted    the live pages are counted, and are at most the limit
---     loose      there are three frames
---     unpinned   and no frame is pinned, since no command locks a region
---     actors     each region is unlocked, and of pages that a live cache has
+--     loose      three frames aren't pinned
+--     locked     locks hold their pages in frames
+--     actors     each region is of pages that a live cache has
 --     page       the actors and the frames have one page size
 pub record IsSound (a : Arena) (s : Store) (t : Actors) (live : ℕ) : Type 0 where
   pub nodes : IsWhole a
@@ -119,7 +119,7 @@ pub record IsSound (a : Arena) (s : Store) (t : Actors) (live : ℕ) : Type 0 wh
   pub counted : live ≡ live_in a
   pub few : live ≤ LIVE_PAGES
   pub loose : HasLoose 3 s.frames
-  pub unpinned : (frame : ℕ) → is_pinned s.frames frame ≡ false
+  pub locked : AreHeld a s t.actors
   pub actors : AreRight (size_of a) t
   pub page : t.page_bytes ≡ s.frames.page
 

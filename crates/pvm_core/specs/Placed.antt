@@ -1,12 +1,10 @@
 -- Where the regions of the actors lie.
-use Rattle.std.specs.Prelude.{◌≡◌, ℕ, ◌+◌, ◌≤◌, false, All, Option, Some, None}
+use Rattle.std.specs.Prelude.{◌≡◌, ℕ, ◌+◌, ◌≤◌, All, Option, Some, None}
 use Rattle.vm_model.specs.Machine.{Actor, Region}
 use Rattle.contexts.specs.Actors.{Actors}
 
--- a region isn't locked, since no command locks one, and its pages are those of a live cache, of
--- which `sizes` tells how many pages it has
+-- a region's pages are those of a live cache, of which `sizes` tells how many pages it has
 pub record IsPlaced (sizes : ℕ → Option ℕ) (r : Region) : Type 0 where
-  pub unlocked : r.locked ≡ false
   pub count : ℕ
   pub there : sizes r.cache ≡ Some count
   pub within : r.offset + r.pages ≤ count

@@ -9,9 +9,9 @@ use Rattle.std.proofs.lemmas.Bool.Decides.{nat_tests}
 use Rattle.vm_ids.specs.declared.command.Prot.{Prot}
 use Rattle.vm_model.specs.Machine as model
 use Rattle.vm_model.specs.Answering.{insert_region, overlaps, shares, without_region}
-use Rattle.vm_model.specs.Regions.{region_among, back_of, replace_region, split_at, with_prot}
+use Rattle.vm_model.specs.Regions.{region_among, back_of, replace_region, split_at, with_lock, with_prot}
 use Rattle.vm_model.specs.Place.{holds, region_at}
-use Rattle.regions.specs.AddressSpace.{AreInOrder, IsWellFormed, end_of, with_lock}
+use Rattle.regions.specs.AddressSpace.{AreInOrder, IsWellFormed, end_of}
 use Rattle.regions.specs.Seen.{region_seen, start_at, IsCountUpTo}
 use Rattle.regions.specs.declared.region.Region.{Region}
 

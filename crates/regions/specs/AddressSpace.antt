@@ -1,5 +1,5 @@
 -- The regions of one actor, in the plain machine's words.
-use Rattle.std.specs.Prelude.{◌≡◌, ℕ, ◌+◌, ◌*◌, ◌%◌, ◌^◌, ◌≤◌, Bool, List, [], ◌∷◌, Result, Ok, Err}
+use Rattle.std.specs.Prelude.{◌≡◌, ℕ, ◌+◌, ◌*◌, ◌%◌, ◌^◌, ◌≤◌, List, [], ◌∷◌, Result, Ok, Err}
 use Rattle.vm_ids.specs.declared.numbers.RegionId.{RegionId}
 use Rattle.vm_ids.specs.declared.refusal.Refusal.{Refusal}
 use Rattle.vm_model.specs.Machine.{Region, Actor}
@@ -30,9 +30,6 @@ abbrev pub AreInOrder : ℕ → ℕ → Actor → Type 0
 AreInOrder page_bytes from [] = Unit {0}
 AreInOrder page_bytes from (r ∷ rs) =
     (from ≤ r.start) × IsWellFormed page_bytes r × AreInOrder page_bytes (end_of page_bytes r) rs
-
-abbrev pub with_lock : Bool → Region → List Region
-with_lock locked r = record r { locked = locked } ∷ []
 
 abbrev pub id_of : Region → RegionId
 id_of r = record { 0 = r.number }

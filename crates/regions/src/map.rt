@@ -2,9 +2,9 @@
 ghost use Rattle.std.specs.Prelude.{◌≡◌, ◌==◌, ℕ, ◌-◌, ◌≤◌, ◌<◌, ◌^◌, ◌∷◌, [], false, not, option_map, IsOk, OnOk, OnErr, IsSomeAnd, IsSome};
 ghost use Rattle.std.specs.List.{list_any};
 ghost use Rattle.vm_model.specs.Answering.{insert_region, overlaps, region_of, without_region};
-ghost use Rattle.vm_model.specs.Regions.{region_among, replace_region, split_at, with_prot};
+ghost use Rattle.vm_model.specs.Regions.{region_among, replace_region, split_at, with_lock, with_prot};
 ghost use Rattle.vm_model.specs.Place.{place_among, region_at};
-ghost use Rattle.regions.specs.AddressSpace.{id_of, place_told, view_of, IsWellFormed, with_lock};
+ghost use Rattle.regions.specs.AddressSpace.{id_of, place_told, view_of, IsWellFormed};
 
 use crate::region::{Place, Region, RegionView};
 use crate::search::{count_up_to, known_place, maps_cache, overlaps_any, place_of, region_holding};
@@ -153,6 +153,24 @@ impl RegionMap {
             Some(place) => Some(self.regions[place].view),
             None => None,
         }
+    }
+
+    /// What there is to tell of the region at a place, from 0, in the order of addresses. `None`
+    /// exactly past the last.
+    pub fn nth(&self, place: usize) -> Option<RegionView>
+        ensures { result ≡ option_map view_of (slice_get self.now.regions place) }
+    {
+        match self.regions.get(place) {
+            Some(region) => Some(region.view),
+            None => None,
+        }
+    }
+
+    /// How many regions there are.
+    pub fn count(&self) -> usize
+        ensures { result ≡ length self.now.regions }
+    {
+        self.regions.len()
     }
 
     /// The region that holds an address. `None` exactly where none does.

@@ -1,8 +1,8 @@
 use Rattle.std.proofs.Common.{◌≡◌, ℕ, List, [], ◌∷◌, refl, ap, ◌∙◌, arith, true}
 use Rattle.vm_model.specs.Machine.{Region}
 use Rattle.vm_model.specs.Answering.{insert_region, region_of}
-use Rattle.regions.specs.AddressSpace.{AddressSpace, with_lock}
-use Rattle.vm_model.specs.Regions.{replace_region}
+use Rattle.regions.specs.AddressSpace.{AddressSpace}
+use Rattle.vm_model.specs.Regions.{replace_region, with_lock}
 use Rattle.regions.proofs.tests.regions_are_made_cut_and_taken_away.Goals as goal
 
 abbrev page : AddressSpace → ℕ

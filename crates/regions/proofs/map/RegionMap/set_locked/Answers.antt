@@ -1,7 +1,7 @@
 use Rattle.std.proofs.Common.{◌≡◌, ◌-◌, List, set, map, refl, sym, ap, subst}
 use Rattle.std.specs.Prelude.{vec_capacity, vec_len}
-use Rattle.regions.specs.AddressSpace.{AddressSpace, with_lock}
-use Rattle.vm_model.specs.Regions.{replace_region}
+use Rattle.regions.specs.AddressSpace.{AddressSpace}
+use Rattle.vm_model.specs.Regions.{replace_region, with_lock}
 use Rattle.regions.specs.Seen.{region_seen, IsPlaceOf}
 use Rattle.regions.specs.declared.region.Region.{Region}
 use Rattle.regions.proofs.Changed.{changed, same_space, space}
