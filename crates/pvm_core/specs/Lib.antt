@@ -9,7 +9,6 @@ pub mod Spans
 pub mod Extents
 pub mod Access
 pub mod Keeping
-pub mod Locks
 pub mod Reaching
 pub mod Writes
 pub mod Saving

@@ -9,6 +9,7 @@
 #![tactic(auto)]
 
 mod gmi;
+mod locks;
 mod maps;
 mod nodes;
 mod pieces;
