@@ -9,6 +9,8 @@
 #![tactic(auto)]
 
 mod gmi;
+mod holding;
+mod locks;
 mod maps;
 mod nodes;
 mod pieces;
