@@ -1,5 +1,15 @@
 pub mod Placed
 pub mod Locks
+pub mod Maps
+pub mod Manager
+pub mod Opening
+pub mod Codes
+pub mod Pieces
+pub mod Spans
+pub mod Extents
+pub mod Access
+pub mod Keeping
+pub mod Holding
 pub mod Reaching
 pub mod Writes
 pub mod Saving
