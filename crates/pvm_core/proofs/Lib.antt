@@ -21,3 +21,5 @@ mod Destroying
 mod Opening
 -- Pages that are pushed, and taken again.
 mod Extents
+-- What locks hold.
+pub mod Holding

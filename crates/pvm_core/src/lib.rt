@@ -16,6 +16,7 @@ mod nodes;
 mod pieces;
 mod pvm;
 mod region_calls;
+mod region_locks;
 mod saving;
 mod segments;
 mod spans;

@@ -62,6 +62,7 @@ use Rattle.pvm_core.specs.Manager.{IsSound, Manager, cache_shown, forest_of, mac
 use Rattle.pvm_core.specs.Pieces.{fault_at}
 use Rattle.pvm_core.proofs.Answering.Answered.{no_segments}
 use Rattle.pvm_core.proofs.Accesses.Loading.{zeros_long}
+use Rattle.pvm_core.proofs.Holding.Made.{held_by_store}
 use Rattle.pvm_core.proofs.Answering.Rising.{grown_some, rises_between}
 use Rattle.pvm_core.proofs.Meaning.Shown.{id_of, numbered-caches}
 use Rattle.pvm_core.proofs.Accesses.Storing.{blank_written, cache_is, machine_written, store_denied, store_row, write_is}
@@ -77,7 +78,7 @@ bytes_sound b s u t live f bytes e i = subst (λ (u : Store). IsSound b u t live
   counted = i.counted;
   few = i.few;
   loose = i.loose;
-  unpinned = i.unpinned;
+  locked = held_by_store b s (record s { frames = with_bytes s.frames f bytes }) t.actors refl refl refl i.locked;
   actors = i.actors;
   page = i.page;
 })
