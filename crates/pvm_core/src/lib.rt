@@ -9,12 +9,14 @@
 #![tactic(auto)]
 
 mod gmi;
+mod holding;
 mod locks;
 mod maps;
 mod nodes;
 mod pieces;
 mod pvm;
 mod region_calls;
+mod region_locks;
 mod saving;
 mod segments;
 mod spans;

@@ -101,22 +101,6 @@ impl Pvm {
         self.contexts.make()
     }
 
-    /// Ends an actor, and takes its regions away. Refused as `NoActor` exactly where it isn't alive.
-    pub fn exit_actor(&mut self, actor: ActorId) -> Result<(), Trouble>
-        ensures valid { StaysValid IsValid self.old self.new }
-        ensures answers { Answers IsValid state_at self.old
-            (Command.ExitActor actor) (done_by result) self.new }
-        ensures made { Numbers IsValid machine_of numbered self.old
-            (Command.ExitActor actor) (done_by result) self.new }
-        ensures err { OnErr result (self.new ≡ self.old) }
-    {
-        if self.contexts.regions(actor).is_none() {
-            return Err(Trouble::Refused(Refusal::NoActor));
-        }
-        self.contexts.exit(actor);
-        Ok(())
-    }
-
     /// Makes a temporary cache of so many zero pages. Refused as `TooMany` exactly where 65,535 caches were made or
     /// the live pages would be too many.
     pub fn make_temp(&mut self, pages: u32) -> Result<CacheId, Trouble>
