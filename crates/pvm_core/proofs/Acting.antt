@@ -71,3 +71,6 @@ told_of region = record { none = λ done m f s none. none; reaches = refl; synch
 
 pub found : (actor : ActorId) (address : ℕ) → IsOfActors (commands.Find actor address)
 found actor address = record { none = λ done m f s none. none; reaches = refl; synchronised = λ m s answer. tt; stays = λ m next f. refl }
+
+pub unmapped : (region : RegionId) → IsOfActors (commands.Unmap region)
+unmapped region = record { none = λ done m f s none. none; reaches = refl; synchronised = λ m s answer. tt; stays = λ m next f. refl }

@@ -6,10 +6,11 @@ use Rattle.std.proofs.lemmas.Bool.Decides.{nat_tests}
 use Rattle.std.proofs.lemmas.List.Elements.{All-head, All-tail}
 use Rattle.std.proofs.lemmas.List.Sums.{sum_by-cons}
 use Rattle.vm_ids.specs.declared.command.Extent.{Extent}
+use Rattle.vm_ids.specs.Forest.Nodes.{no_forest}
 use Rattle.vm_ids.proofs.Places.{bit, count_cons}
 use Rattle.local_cache.specs.Arena.{Arena, is_locked, locks_of}
 use Rattle.vm_model.specs.Answering.{is_any_locked}
-use Rattle.vm_model.specs.Machine.{Actor, Region, is_locked_page, locks, locks_any}
+use Rattle.vm_model.specs.Machine.{Actor, Machine, Region, is_locked_page, locks, locks_any}
 use Rattle.vm_model.specs.PageForest.{PageForest}
 use Rattle.pvm_core.specs.Locks.{any_locked, locks_by, locks_over}
 use Rattle.pvm_core.specs.Manager.{Manager, machine_by}
@@ -50,6 +51,12 @@ module _ (p : Manager) (f : PageForest) (counted : (cache page : ℕ) → locks_
 
   pub any_same : (e : Extent) → is_any_locked (machine_by p f) e.cache e.first.0 e.pages ≡ any_locked p.caches e
   any_same e = λ i. list_any (λ n. locked_same e.cache.0 n i) (range_with_len e.first.0 e.pages)
+
+-- the same pages of two managers are locked that stand for the same machine
+pub same_locked : (p q : Manager) → ((cache page : ℕ) → locks_of p.caches cache page ≡ locks_over p.actors cache page) → ((cache page : ℕ) → locks_of q.caches cache page ≡ locks_over q.actors cache page) → ((f : PageForest) → machine_by q f ≡ machine_by p f)
+    → (e : Extent) → any_locked q.caches e ≡ any_locked p.caches e
+same_locked p q before after by e =
+    sym (any_same q no_forest after e) ∙ ap (λ (m : Machine). is_any_locked m e.cache e.first.0 e.pages) (by no_forest) ∙ any_same p no_forest before e
 
 -- A page that is locked ---------------------------------------------------------------------
 

@@ -63,6 +63,7 @@ invariant_of-self g c =
     let i = c.self.inside in
     let n = c.read_fault.new in
     kept_sound i.caches n.caches i.store n.store (g.M.Mapper.held c.args.mapper.now) (g.M.Mapper.held n.mapper) (g.M.Mapper.page_bytes c.args.mapper.now) (g.M.Mapper.page_bytes n.mapper) c.read_fault.ensures.answered.kept i.contexts i.live c.self.invariant
+    (subst (λ (p : Manager). IsValid p (g.M.Mapper.held c.args.mapper.now)) (sym c.self.view_is) c.requires.valid).right.tied.placed.bound
 
 pub returns-clause-valid : goal.returns-clause-valid
 returns-clause-valid g c =
@@ -94,7 +95,8 @@ returns-clause-answers g c =
     let q : Manager = seen n.caches n.store i.contexts in
     let command = commands.Load c.args.actor c.args.address c.args.bytes in
     let nodes = c.self.invariant.nodes in
-    let then = kept_sound i.caches n.caches i.store n.store h k size then_size e.answered.kept i.contexts i.live c.self.invariant in
+    let then = kept_sound i.caches n.caches i.store n.store h k size then_size e.answered.kept i.contexts i.live c.self.invariant
+    (subst (λ (p : Manager). IsValid p h) (sym c.self.view_is) c.requires.valid).right.tied.placed.bound in
     let forest = kept_forest i.caches n.caches i.store n.store h k size then_size e.answered.kept i.contexts e.forest in
     let same = kept_machine i.caches n.caches i.store n.store h k size then_size e.answered.kept i.contexts e.forest in
     let by : (f : PageForest) → machine_by q f ≡ machine_by p f = kept_by i.caches n.caches i.store n.store h k size then_size e.answered.kept i.contexts in

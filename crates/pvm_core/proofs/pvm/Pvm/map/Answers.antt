@@ -11,9 +11,11 @@ use Rattle.vm_model.specs.Machine.{numbered}
 use Rattle.vm_model.specs.PageForest.{PageForest}
 use Rattle.vm_model.specs.Run.{AnswerIs}
 use Rattle.local_cache.specs.Whole.{size_of}
-use Rattle.contexts.specs.Actors.{Actors, with_region}
+use Rattle.contexts.specs.Actors.{Actors, next_region, with_region}
 use Rattle.pvm_core.specs.Manager.{Manager, caches_shown, state_at, IsValid}
+use Rattle.pvm_core.specs.Locks.{locks_over}
 use Rattle.pvm_core.specs.Maps.{map_refusal}
+use Rattle.pvm_core.proofs.Holding.Regions.{over_mapped}
 use Rattle.pvm_core.specs.Placed.{AreRight}
 use Rattle.pvm_core.specs.contracts.pvm.Pvm.{the_view}
 use Rattle.pvm_core.proofs.Answering.Answered.{seated}
@@ -52,6 +54,7 @@ invariant_of-self c =
     seated_sound i.caches i.store t u i.live
     (after_either (λ (w : Actors). w.page_bytes ≡ t.page_bytes) t u (with_region t actor x) c.map.result e.ok e.err refl refl)
     (after_either (AreRight sizes) t u (with_region t actor x) c.map.result e.ok e.err (right_mapped sizes t actor x new c.self.invariant.actors) c.self.invariant.actors)
+    (after_either (λ (w : Actors). (cache page : ℕ) → locks_over w.actors cache page ≡ locks_over t.actors cache page) t u (with_region t actor x) c.map.result e.ok e.err (λ cache page. over_mapped cache page t.actors actor k.regions (next_region t x) k.here refl) (λ cache page. refl))
     c.self.invariant
 
 pub returns-clause-answers : goal.returns-clause-answers
