@@ -4,7 +4,7 @@ ghost use Rattle.gmi_calls.specs.Calling.{Answers, Calls, Fits, Numbers, RaisesM
 ghost use Rattle.pvm_core.specs.Manager.{IsValid, machine_of, numbered, state_at};
 
 use crate::Pvm;
-use crate::holding::{hold_pages, let_all_go, let_go, passes_limit};
+use crate::page_locks::{hold_pages, let_all_go, let_go, passes_limit};
 use vm_ids::{ActorId, Command, FaultAt, Refusal, RegionId, Trouble};
 use vm_port::{Chooser, Mapper};
 

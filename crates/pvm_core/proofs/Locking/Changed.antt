@@ -163,12 +163,13 @@ module _ (a b : Arena) (s t : Store) (cache page count : ℕ) (is : b ≡ with_l
   changed_right : (told : Option Held) (size : Option ℕ) → IsStoreRight (world told size a s) → IsStoreRight (world told size b t)
   changed_right told size right = subst IsStoreRight (sym (at_end told size)) (repinned_right (middle told size) re.pins re.long re.others (relocked_right (before told size) b cache page count is right))
 
+  -- no page reads differently where frames are pinned
+  pins_unread : (told : Option Held) (size : Option ℕ) → store_forest (then told size) ≡ store_forest (middle told size)
+  unfolding store_forest
+  pins_unread told size = refl
+
   changed_forest : (told : Option Held) (size : Option ℕ) → store_forest (world told size b t) ≡ store_forest (world told size a s)
-  changed_forest told size = ap store_forest (at_end told size) ∙ same_pins ∙ relocked_forest (before told size) b cache page count is whole.sound
-    where
-      same_pins : store_forest (then told size) ≡ store_forest (middle told size)
-      unfolding store_forest
-      same_pins = refl
+  changed_forest told size = ap store_forest (at_end told size) ∙ pins_unread told size ∙ relocked_forest (before told size) b cache page count is whole.sound
 
   pub changed_pages : KeepsPages a b s t
   changed_pages = record {

@@ -149,8 +149,12 @@ locked_or : (n : ℕ) → bit (is_locked n) + bit (not (is_locked n)) ≡ 1
 locked_or zero = omega arith
 locked_or (suc n) = omega arith
 
-locked_now : (n : ℕ) → is_locked (n + 1) ≡ true
+pub locked_now : (n : ℕ) → is_locked (n + 1) ≡ true
 locked_now n = let e : n + 1 ≡ suc n = omega arith in ap is_locked e
+
+pub locked_above : (n : ℕ) → 0 < n → is_locked n ≡ true
+locked_above zero some = absurd (omega (arith, some))
+locked_above (suc n) some = refl
 
 abbrev more_at : (first n : ℕ) (xs ys : List ℕ) → Type 0
 more_at first n xs ys = (q : ℕ) → count_at ys q ≡ count_at xs q + bit (inside first n q)
@@ -190,6 +194,22 @@ counts_more (x ∷ xs) [] first n same =
     let as_one = grown first n x 0 xs [] (λ q. omega (arith, same q, padded q)) (λ f k s. counts_more xs [] f k s) in
     omega (arith, as_one, sum_by-cons (λ k. bit (is_locked k)) 0 [])
 counts_more (x ∷ xs) (y ∷ ys) first n same = grown first n x y xs ys same (λ f k s. counts_more xs ys f k s)
+
+-- Ranges ----------------------------------------------------------------------------------------
+
+-- one number more
+pub range_next : (g : ℕ → Bool) (a n : ℕ) → count_by g (range_with_len a (n + 1)) ≡ count_by g (range_with_len a n) + bit (g (a + n))
+range_next g a zero = let here : a ≡ a + 0 = omega arith in omega (arith, sum_by-cons (λ y. bit (g y)) a [], ap (λ j. bit (g j)) here)
+range_next g a (suc n) =
+    let e : suc n + 1 ≡ suc (n + 1) = omega arith in
+    let here : a + 1 + n ≡ a + suc n = omega arith in
+    omega (arith, ap (λ k. count_by g (range_with_len a k)) e, sum_by-cons (λ y. bit (g y)) a (range_with_len (a + 1) (n + 1)), sum_by-cons (λ y. bit (g y)) a (range_with_len (a + 1) n), range_next g (a + 1) n, ap (λ j. bit (g j)) here)
+
+-- the first of them are no more
+pub range_fewer : (g : ℕ → Bool) (a n k : ℕ) → n ≤ k → count_by g (range_with_len a n) ≤ count_by g (range_with_len a k)
+range_fewer g a zero k low = omega arith
+range_fewer g a (suc n) zero low = absurd (omega (arith, low))
+range_fewer g a (suc n) (suc k) low = omega (arith, sum_by-cons (λ y. bit (g y)) a (range_with_len (a + 1) n), sum_by-cons (λ y. bit (g y)) a (range_with_len (a + 1) k), range_fewer g (a + 1) n k (omega (arith, low)))
 
 -- Of tables -------------------------------------------------------------------------------------
 
