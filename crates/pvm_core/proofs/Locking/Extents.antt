@@ -1,5 +1,5 @@
 -- Locks on the pages of an extent: one page more of it, and how many pages are locked then.
-use Rattle.std.proofs.Common.{◌≡◌, ◌≢◌, ℕ, zero, suc, ◌+◌, ◌-◌, ◌<◌, ◌≤◌, ◌&&◌, ◌==◌, not, Bool, true, false, List, [], ◌∷◌, get_or, count_by, sum_by, Option, Some, None, unwrap_or, slice_get, refl, sym, ap, ◌∙◌, arith, inl, inr}
+use Rattle.std.proofs.Common.{◌≡◌, ◌≢◌, ℕ, zero, suc, ◌+◌, ◌-◌, ◌<◌, ◌≤◌, ◌&&◌, ◌==◌, not, Bool, true, false, List, [], ◌∷◌, get_or, count_by, sum_by, Option, Some, None, unwrap_or, slice_get, refl, sym, ap, ◌∙◌, subst, arith, inl, inr}
 use Rattle.std.specs.Prelude.{nat_le, nat_lt, option_and_then}
 use Rattle.std.specs.List.{range_with_len}
 use Rattle.std.proofs.lemmas.Bool.{cases_eq, cases_lt, eq-eqb, eqb-true, le-leb, le-ltb, leb-true, lt-leb, lt-ltb, ltb-true}
@@ -88,6 +88,19 @@ more_then cache first n a b d one two c p = omega (arith, one c p, two c p, cove
 -- the same where locks are dropped
 pub less_then : (cache : CacheId) (first n : ℕ) (a b d : Arena) → LocksMore (extent cache first n) b a → LocksMore (one_page cache (first + n)) d b → LocksMore (extent cache first (n + 1)) d a
 less_then cache first n a b d one two c p = omega (arith, one c p, two c p, covers_next cache first n c p)
+
+-- from a page on, up to another
+pub more_upto : (cache : CacheId) (first page : ℕ) → first ≤ page → (a b d : Arena) → LocksMore (extent cache first (page - first)) a b → LocksMore (one_page cache page) b d → LocksMore (extent cache first (page + 1 - first)) a d
+more_upto cache first page low a b d one two =
+    let next : page - first + 1 ≡ page + 1 - first = omega (arith, low) in
+    let here : page ≡ first + (page - first) = omega (arith, low) in
+    subst (λ n. LocksMore (extent cache first n) a d) next (more_then cache first (page - first) a b d one (subst (λ p. LocksMore (one_page cache p) b d) here two))
+
+pub less_upto : (cache : CacheId) (first page : ℕ) → first ≤ page → (a b d : Arena) → LocksMore (extent cache first (page - first)) b a → LocksMore (one_page cache page) d b → LocksMore (extent cache first (page + 1 - first)) d a
+less_upto cache first page low a b d one two =
+    let next : page - first + 1 ≡ page + 1 - first = omega (arith, low) in
+    let here : page ≡ first + (page - first) = omega (arith, low) in
+    subst (λ n. LocksMore (extent cache first n) d a) next (less_then cache first (page - first) a b d one (subst (λ p. LocksMore (one_page cache p) d b) here two))
 
 -- locks that were added are dropped again
 pub more_undone : (e : Extent) (a b d : Arena) → LocksMore e a b → LocksMore e d b → SameLocks a d
