@@ -82,7 +82,7 @@ module _ (p q : Manager) (h g : Option Held) (e : Extent) (x : IsExtent p.caches
       go (Err page) stopped cause = (by f, grown_some n c.faults d.faults (fault_rose c d cause.miss cause.cause), stopped.0, subst (λ a. NotRefusedButFor (faults.Page page) a.answer) (sym (flush_row p f e x (lock f))) tt)
 
   pub sync_is : CallIs c d (state_at p h) (commands.Sync e) (done_by (failing r)) (state_at q g)
-  sync_is = called c d p q h g (commands.Sync e) (done_by (failing r)) reach nodes then valid forest (λ done m f s none. none) tt pushed (λ f. refl) (sync_outcome (length reach.pushes))
+  sync_is = called c d p q h g (commands.Sync e) (done_by (failing r)) reach nodes then valid forest (λ done m f s none. none) tt pushed (λ f. refl) (λ page. refl) (sync_outcome (length reach.pushes))
 
   pub flush_is : ((f : PageForest) → is_any_locked (machine_by p f) e.cache e.first.0 e.pages ≡ false) → CallIs c d (state_at p h) (commands.Flush e) (done_by (failing r)) (state_at q g)
-  flush_is lock = called c d p q h g (commands.Flush e) (done_by (failing r)) reach nodes then valid forest (λ done m f s none. none) tt pushed (λ f. refl) (flush_outcome lock (length reach.pushes))
+  flush_is lock = called c d p q h g (commands.Flush e) (done_by (failing r)) reach nodes then valid forest (λ done m f s none. none) tt pushed (λ f. refl) (λ page. refl) (flush_outcome lock (length reach.pushes))

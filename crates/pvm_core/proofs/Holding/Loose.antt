@@ -1,5 +1,6 @@
 -- Frames of pages that aren't locked aren't pinned.
 use Rattle.std.proofs.Common.{◌≡◌, ℕ, zero, suc, ◌+◌, ◌-◌, ◌<◌, ◌≤◌, Bool, true, false, List, [], ◌∷◌, length, Option, Some, refl, sym, ap, ◌∙◌, subst, arith}
+use Rattle.std.specs.Prelude.{◌||◌}
 use Rattle.std.specs.List.{list_any, range_with_len}
 use Rattle.std.proofs.lemmas.List.Folds.{list_any_at}
 use Rattle.std.proofs.lemmas.List.FromFn.{get_or-range_with_len, length-range_with_len}
@@ -24,7 +25,26 @@ use Rattle.page_release.specs.Steps.{IsUnpinned, IsWorkingUnpinned}
 use Rattle.segment_ops.specs.Synced.{AreLoose}
 use Rattle.vm_model.specs.Machine.{Actor}
 use Rattle.pvm_core.specs.Locks.{AreHeld, any_locked}
-use Rattle.pvm_core.proofs.Holding.Kept.{HasLocked, locked_in}
+use Rattle.pvm_core.proofs.Holding.Counted.{locked_some, some_locked}
+use Rattle.pvm_core.proofs.Holding.Kept.{locked_in}
+
+-- a page of a range is locked
+pub any_at : (a : Arena) (e : Extent) (page : ℕ) → e.first.0 ≤ page → page < e.first.0 + e.pages → 0 < locks_of a e.cache.0 page → any_locked a e ≡ true
+any_at a e page first low some =
+    let i : ℕ = page - e.first.0 in
+    let less : i < e.pages = omega (arith, first, low) in
+    let there : i < length (range_with_len e.first.0 e.pages) = omega (arith, less, length-range_with_len e.first.0 e.pages) in
+    let same : e.first.0 + i ≡ page = omega (arith, first) in
+    let at = get_or-range_with_len e.first.0 e.pages i 0 less ∙ same in
+    list_any_at (λ n. is_locked (locks_of a e.cache.0 n)) (range_with_len e.first.0 e.pages) i 0 there (ap (λ n. is_locked (locks_of a e.cache.0 n)) at ∙ some_locked (locks_of a e.cache.0 page) some)
+
+none_from : (p : ℕ → Bool) (first n : ℕ) → ((k : ℕ) → first ≤ k → k < first + n → p k ≡ false) → list_any p (range_with_len first n) ≡ false
+none_from p first zero none = refl
+none_from p first (suc n) none = ap (λ b. b || list_any p (range_with_len (first + 1) n)) (none first (omega arith) (omega arith)) ∙ none_from p (first + 1) n (λ k low less. none k (omega (arith, low)) (omega (arith, less)))
+
+-- none is
+pub any_none : (a : Arena) (e : Extent) (end : ℕ) → end ≡ e.first.0 + e.pages → ((page : ℕ) → e.first.0 ≤ page → page < end → locks_of a e.cache.0 page ≡ 0) → any_locked a e ≡ false
+any_none a e end is none = none_from (λ n. is_locked (locks_of a e.cache.0 n)) e.first.0 e.pages (λ k low less. ap is_locked (none k low (omega (arith, less, is))))
 
 -- each page of a range of which none is locked
 pub unlocked_page : (a : Arena) (e : Extent) → any_locked a e ≡ false → (page : ℕ) → e.first.0 ≤ page → page < e.first.0 + e.pages → is_locked (locks_of a e.cache.0 page) ≡ false
@@ -32,14 +52,7 @@ unlocked_page a e none page first low = go (is_locked (locks_of a e.cache.0 page
   where
     go : (b : Bool) → is_locked (locks_of a e.cache.0 page) ≡ b → is_locked (locks_of a e.cache.0 page) ≡ false
     go false is = is
-    go true is =
-        let i : ℕ = page - e.first.0 in
-        let less : i < e.pages = omega (arith, first, low) in
-        let there : i < length (range_with_len e.first.0 e.pages) = omega (arith, less, length-range_with_len e.first.0 e.pages) in
-        let same : e.first.0 + i ≡ page = omega (arith, first) in
-        let at = get_or-range_with_len e.first.0 e.pages i 0 less ∙ same in
-        let any = list_any_at (λ n. is_locked (locks_of a e.cache.0 n)) (range_with_len e.first.0 e.pages) i 0 there (ap (λ n. is_locked (locks_of a e.cache.0 n)) at ∙ is) in
-        absurd (let both : true ≡ false = sym any ∙ none in cc both)
+    go true is = absurd (let both : true ≡ false = sym (any_at a e page first low (locked_some (locks_of a e.cache.0 page) is)) ∙ none in cc both)
 
 module _ (a : Arena) (s : Store) (actors : List (Option Actor)) (held : AreHeld a s actors) where
   -- the name of a node in a pinned frame

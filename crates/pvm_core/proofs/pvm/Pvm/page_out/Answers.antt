@@ -57,7 +57,7 @@ returns-clause-answers g c =
     ] in
     subst (λ (p : Manager). CallIs before after (state_at p h) command (answer_by (λ _. replies.Done) c.match-page_out.result) (state_at q k)) c.self.view_is
     (subst (λ (r : Result (Unit {0}) Trouble). CallIs before after (state_at p h) command (answer_by (λ _. replies.Done) r) (state_at q k)) turned
-    (called before after p q h k command (answer_by (λ _. replies.Done) (victim c.page_out.result)) reach c.self.invariant.nodes then.nodes valid forest (λ done m f s none. none) tt tt (λ f. refl)
+    (called before after p q h k command (answer_by (λ _. replies.Done) (victim c.page_out.result)) reach c.self.invariant.nodes then.nodes valid forest (λ done m f s none. none) tt tt (λ f. refl) (λ page. refl)
     (λ f s. paged_out (length reach.pushes) (machine_by p f) (machine_by q f) (forest_of p h) c.args.count s before after c.page_out.result (kept_by i.caches n.caches i.store n.self h k (g.M.Mapper.page_bytes c.args.mapper.now) (g.M.Mapper.page_bytes n.mapper) kept i.contexts f) e.cause)))
 
 pub returns-clause-machine : goal.returns-clause-machine

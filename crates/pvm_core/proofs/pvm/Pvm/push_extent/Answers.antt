@@ -44,7 +44,7 @@ returns-in-Some-clause-sync g c = λ keep.
     let i = c.self.invariant in
     let answer : Answer = Err (troubles.Refused c.in-Some.refusal) in
     subst (λ (p : Manager). CallIs before before (state_at p h) (commands.Sync c.args.extent) answer (state_at p h)) c.self.view_is
-    (called before before p p h h (commands.Sync c.args.extent) answer (reach_none _ h before) i.nodes i.nodes (subst (λ (p : Manager). IsValid p h) (sym c.self.view_is) c.requires.valid) refl (λ done m f s none. none) tt tt (λ f. refl)
+    (called before before p p h h (commands.Sync c.args.extent) answer (reach_none _ h before) i.nodes i.nodes (subst (λ (p : Manager). IsValid p h) (sym c.self.view_is) c.requires.valid) refl (λ done m f s none. none) tt tt (λ f. refl) (λ page. refl)
     (λ f s. sync_refused p f c.args.extent c.in-Some.refusal (any_or c.self.inside.caches c.args.extent false c.args.give_up (sym keep) ∙ sym c.extent_refusal.ensures ∙ c.in-Some.is)))
 
 pub returns-in-Some-clause-flush : goal.returns-in-Some-clause-flush
@@ -55,7 +55,7 @@ returns-in-Some-clause-flush g c = λ up.
     let i = c.self.invariant in
     let answer : Answer = Err (troubles.Refused c.in-Some.refusal) in
     subst (λ (p : Manager). CallIs before before (state_at p h) (commands.Flush c.args.extent) answer (state_at p h)) c.self.view_is
-    (called before before p p h h (commands.Flush c.args.extent) answer (reach_none _ h before) i.nodes i.nodes (subst (λ (p : Manager). IsValid p h) (sym c.self.view_is) c.requires.valid) refl (λ done m f s none. none) tt tt (λ f. refl)
+    (called before before p p h h (commands.Flush c.args.extent) answer (reach_none _ h before) i.nodes i.nodes (subst (λ (p : Manager). IsValid p h) (sym c.self.view_is) c.requires.valid) refl (λ done m f s none. none) tt tt (λ f. refl) (λ page. refl)
     (λ f s. flush_refused p f c.args.extent i.locked.counted c.in-Some.refusal (any_or c.self.inside.caches c.args.extent true c.args.give_up (sym up) ∙ sym c.extent_refusal.ensures ∙ c.in-Some.is)))
 
 pub push_range-requires-clause-range : goal.push_range-requires-clause-range

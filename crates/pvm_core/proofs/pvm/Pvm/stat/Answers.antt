@@ -29,7 +29,7 @@ returns-clause-answers c = λ h v.
     let p : Manager = the_view c.self.inside in
     let answer = Ok (replies.Stat c.counts.result) in
     subst (λ (p : Manager). AnswerIs (state_at p h) commands.Stat answer [] no_counts (state_at p h)) c.self.view_is
-    (seated p p h commands.Stat answer c.self.invariant.nodes c.self.invariant.nodes (subst (λ (p : Manager). IsValid p h) (sym c.self.view_is) v) refl (λ done m f s none. none) refl tt (λ f. refl)
+    (seated p p h commands.Stat answer c.self.invariant.nodes c.self.invariant.nodes (subst (λ (p : Manager). IsValid p h) (sym c.self.view_is) v) refl (λ done m f s none. none) refl tt (λ f. refl) (λ page. refl)
     (λ f s. ap (λ (k : Counts). reply (replies.Stat k) (machine_by p f)) (counts_are p h c.self.invariant.nodes ∙ sym c.counts.ensures.counts)))
 
 pub returns-clause-bounded : goal.returns-clause-bounded

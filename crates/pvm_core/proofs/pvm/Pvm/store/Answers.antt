@@ -559,7 +559,7 @@ returns-in-Err-clause-answers g c =
     (subst (λ (f : FaultAt). CallIs asked after (state_at (seen i.caches i.store i.contexts) h0) (commands.Store c.args.actor c.args.address c.args.piece.now) (Err (troubles.Mapper f)) (state_at q k)) (sym c.fault_of.ensures)
     (subst (λ (x : State). CallIs asked after x (commands.Store c.args.actor c.args.address c.args.piece.now) answer (state_at q k)) state
     (call_later asked before after (state_at p h) (state_at q k) (commands.Store c.args.actor c.args.address c.args.piece.now) answer e0.later e0.made
-    (failed_at before after p q h k (commands.Store c.args.actor c.args.address c.args.piece.now) answer no_segments reach sound.nodes then.nodes now forest (not_saved c.in-Err.miss page (forest_of p h) (machine_of p h) (commands.Store c.args.actor c.args.address c.args.piece.now) (machine_of q k)) tt tt
+    (failed_at before after p q h k (commands.Store c.args.actor c.args.address c.args.piece.now) answer no_segments reach sound.nodes then.nodes now forest (not_saved c.in-Err.miss page (forest_of p h) (machine_of p h) (commands.Store c.args.actor c.args.address c.args.piece.now) (machine_of q k) refl) tt tt
     (λ f. store_fault (length reach.pushes) (machine_by p f) (machine_by q f) (forest_of p h) c.args.actor c.args.address c.args.piece.now no_segments before after c.in-Err.miss page at (by f) (is f) may (undenied_blank p f pl.cache.0 pl.page.0) refl c.in-Err.ensures.missed.cause)
     (λ f s told. store_fault (length reach.pushes) (machine_by p f) (machine_by q f) (forest_of p h) c.args.actor c.args.address c.args.piece.now s before after c.in-Err.miss page at (by f) (is f) may
     (undenied p h sound.nodes valid.right pl.cache pl.page.0 r.count there r.less writable f k s (reach_denied (machine_of p h) h k before after reach) told) refl c.in-Err.ensures.missed.cause)))))
