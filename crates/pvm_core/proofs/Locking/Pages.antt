@@ -29,11 +29,12 @@ use Rattle.local_cache.specs.Sound.{IsSound}
 use Rattle.local_cache.specs.Whole.{IsWhole}
 use Rattle.local_cache.proofs.Changes.Locked.{locked_other, locked_sound}
 use Rattle.local_cache.proofs.Changes.Retabled.{changed_entry}
+use Rattle.local_cache.proofs.Forest.ReadingBy.{forest_by-copies}
 use Rattle.local_cache.proofs.Tables.Listing.{node_by_entry}
 use Rattle.residency.specs.declared.store.Store.{Store}
 use Rattle.residency.specs.Frames.{with_pinned}
 use Rattle.residency.specs.StoreForest.{store_forest}
-use Rattle.residency.specs.World.{IsStoreRight, World, world}
+use Rattle.residency.specs.World.{IsStoreRight, World, own_page, world}
 use Rattle.fault_path.proofs.Calls.Kept.{store_node, store_page, store_shaped}
 use Rattle.fault_path.proofs.Frames.TwoFrames.{absent_none}
 use Rattle.fault_path.proofs.Rules.Heirs.{has_own}
@@ -92,6 +93,21 @@ owned_copies f x = go (is_none (node f x).own)
 pub lock_copies : {P : Type 0} (cache : CacheId) (first n : ℕ) (f : Forest P) → (lock (page_names cache first n) f).copies ≤ f.copies + n
 lock_copies cache first zero f = omega arith
 lock_copies cache first (suc n) f = omega (arith, owned_copies f (page_name cache first), lock_copies cache (first + 1) n (owned f (page_name cache first)))
+
+-- the same, up to a page
+pub lock_upto : {P : Type 0} (cache : CacheId) (first page : ℕ) → first ≤ page → (f g h : Forest P) → g ≡ lock (page_names cache first (page - first)) f → h ≡ owned g (page_name cache page) → h ≡ lock (page_names cache first (page + 1 - first)) f
+lock_upto cache first page low f g h one two =
+    let next : page - first + 1 ≡ page + 1 - first = omega (arith, low) in
+    let here : first + (page - first) ≡ page = omega (arith, low) in
+    two ∙ ap (λ k. owned k (page_name cache page)) one ∙ ap (λ k. owned (lock (page_names cache first (page - first)) f) (page_name cache k)) (sym here) ∙ sym (lock_next cache first (page - first) f) ∙ ap (λ k. lock (page_names cache first k) f) next
+
+pub store_copies : (w : World) → (store_forest w).copies ≡ w.caches.copies
+unfolding store_forest
+store_copies w = forest_by-copies (own_page w) w.caches
+
+-- the nodes that were copied are counted
+pub owned_few : (old now : World) (cache : CacheId) (first n : ℕ) → store_forest now ≡ lock (page_names cache first n) (store_forest old) → now.caches.copies ≤ old.caches.copies + n
+owned_few old now cache first n e = omega (arith, store_copies old, store_copies now, ap (λ f. f.copies) e, lock_copies cache first n (store_forest old))
 
 -- A frame that has a node -----------------------------------------------------------------------
 
