@@ -52,7 +52,7 @@ in_range : (owners : List ActorId) (n : ℕ) (a : ActorId) → owner_of owners n
 in_range owners n a e = go (n == 0) refl e
   where
     go : (c : Bool) → (n == 0) ≡ c → cond c None (slice_get owners (n - 1)) ≡ Some a → (1 ≤ n) × (n ≤ length owners)
-    go true zero e = absurd (cc e)
+    go true none e = absurd (cc e)
     go false other e =
         let some : 1 ≤ n = elim (cases_eq n 0) [ inl q ↦ absurd (let t : false ≡ true = sym other ∙ eq-eqb n 0 q in cc t) | inr d ↦ omega (arith, d) ] in
         (some, (let low = slice_get_within owners (n - 1) a e in omega (arith, low, some)))

@@ -16,6 +16,8 @@ pub mod Holds
 pub mod Pages
 -- How many pages the machine has locked with one more region.
 pub mod Limit
+-- The regions of an actor, one after the other.
+pub mod Regions
 -- The rows of lock and unlock.
 pub mod Rows
 -- The manager at the end.

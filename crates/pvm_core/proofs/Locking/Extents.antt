@@ -3,7 +3,8 @@ use Rattle.std.proofs.Common.{◌≡◌, ◌≢◌, ℕ, zero, suc, ◌+◌, ◌
 use Rattle.std.specs.Prelude.{nat_le, nat_lt, option_and_then}
 use Rattle.std.specs.List.{range_with_len}
 use Rattle.std.proofs.lemmas.Bool.{cases_eq, cases_lt, eq-eqb, eqb-true, le-leb, le-ltb, leb-true, lt-leb, lt-ltb, ltb-true}
-use Rattle.std.proofs.lemmas.List.Sums.{sum_by-cons}
+use Rattle.std.proofs.lemmas.List.FromFn.{length-range_with_len}
+use Rattle.std.proofs.lemmas.List.Sums.{count_by-le-length, sum_by-cons}
 use Rattle.vm_ids.specs.declared.command.Extent.{Extent}
 use Rattle.vm_ids.specs.declared.numbers.CacheId.{CacheId}
 use Rattle.vm_ids.proofs.Places.{bit}
@@ -223,6 +224,17 @@ pub range_fewer : (g : ℕ → Bool) (a n k : ℕ) → n ≤ k → count_by g (r
 range_fewer g a zero k low = omega arith
 range_fewer g a (suc n) zero low = absurd (omega (arith, low))
 range_fewer g a (suc n) (suc k) low = omega (arith, sum_by-cons (λ y. bit (g y)) a (range_with_len (a + 1) n), sum_by-cons (λ y. bit (g y)) a (range_with_len (a + 1) k), range_fewer g (a + 1) n k (omega (arith, low)))
+
+-- of the pages of an extent, up to a page
+pub unlocked_upto : (a : Arena) (cache : CacheId) (first page : ℕ) → first ≤ page → unlocked_in a (extent cache first (page + 1 - first)) ≡ unlocked_in a (extent cache first (page - first)) + bit (not (is_locked (locks_of a cache.0 page)))
+unlocked_upto a cache first page low =
+    let g : ℕ → Bool = λ q. not (is_locked (locks_of a cache.0 q)) in
+    let next : page - first + 1 ≡ page + 1 - first = omega (arith, low) in
+    let here : first + (page - first) ≡ page = omega (arith, low) in
+    ap (λ n. count_by g (range_with_len first n)) (sym next) ∙ range_next g first (page - first) ∙ ap (λ k. count_by g (range_with_len first (page - first)) + bit (g k)) here
+
+pub unlocked_few : (a : Arena) (cache : CacheId) (first n : ℕ) → unlocked_in a (extent cache first n) ≤ n
+unlocked_few a cache first n = omega (arith, count_by-le-length (λ q. not (is_locked (locks_of a cache.0 q))) (range_with_len first n), length-range_with_len first n)
 
 -- Of tables -------------------------------------------------------------------------------------
 
