@@ -23,3 +23,5 @@ mod Opening
 mod Extents
 -- What locks hold.
 pub mod Holding
+-- Regions that are locked and unlocked.
+pub mod Locking

@@ -9,10 +9,11 @@
 #![tactic(auto)]
 
 mod gmi;
-mod holding;
+
 mod locks;
 mod maps;
 mod nodes;
+mod page_locks;
 mod pieces;
 mod pvm;
 mod region_calls;

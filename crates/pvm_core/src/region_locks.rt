@@ -4,8 +4,9 @@ ghost use Rattle.gmi_calls.specs.Calling.{Answers, Calls, Fits, Numbers, RaisesM
 ghost use Rattle.pvm_core.specs.Manager.{IsValid, machine_of, numbered, state_at};
 
 use crate::Pvm;
-use crate::holding::{hold_pages, let_all_go, let_go, passes_limit};
+use crate::page_locks::{hold_pages, let_all_go, let_go, passes_limit};
 use vm_ids::{ActorId, Command, FaultAt, Refusal, RegionId, Trouble};
+use vm_model::MOST_MADE;
 use vm_port::{Chooser, Mapper};
 
 impl Pvm {
@@ -41,13 +42,15 @@ impl Pvm {
         if passes_limit(&self.store, &self.caches, range) {
             return Err(Trouble::Refused(Refusal::LockLimit));
         }
+        // A page has no more locks than regions were made.
+        let made = self.contexts.regions_made();
+        prove!(made <= MOST_MADE);
         match hold_pages(&mut self.store, &mut self.caches, range, mapper, chooser) {
-            Ok(()) => {
-                self.contexts.set_locked(region, true);
-                Ok(())
-            }
-            Err(page) => Err(Trouble::Mapper(FaultAt::Page(page))),
+            Ok(()) => {}
+            Err(page) => return Err(Trouble::Mapper(FaultAt::Page(page))),
         }
+        self.contexts.set_locked(region, true);
+        Ok(())
     }
 
     /// Lets the pages of a region go again; one that another locked region covers stays held. Refused as `NoRegion`, or as

@@ -246,6 +246,10 @@ module _ (n : ℕ) where
   pub nothing_told : (xs : List (Option model.Actor)) → region_with n xs ≡ None → status_with n 1 xs ≡ None
   nothing_told xs none = ap (status_with n 1) (sym (append-nil xs)) ∙ status_behind 1 xs [] none
 
+  -- and nothing changes
+  pub nothing_changes : (m : model.Machine) (by : model.Region → List model.Region) → region_with n m.actors ≡ None → change_region m n by ≡ m
+  nothing_changes m by none = ap (λ xs. record m { actors = xs }) (ap (replace_in n by) (sym (append-nil m.actors)) ∙ in_behind by m.actors [] none ∙ append-nil m.actors)
+
   -- The tables after a region became others -------------------------------------------------
 
   as_many : (by : model.Region → List model.Region) (xs : List (Option model.Actor)) → length (replace_in n by xs) ≡ length xs

@@ -97,7 +97,7 @@ fn passes_lock_limit(tables: &Tables) -> bool
     locked_pages(tables) > tables.frames.saturating_sub(UNLOCKED_FRAMES)
 }
 
-// The region with this number, where there is one, is locked, or isn't.
+// The region with this number, where there is one, becomes locked or unlocked.
 fn set_lock(tables: &mut Tables, region: RegionId, locked: bool)
     requires { IsSound tables.old }
     ensures sound { IsSound tables.new }

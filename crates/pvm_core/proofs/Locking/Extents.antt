@@ -1,9 +1,10 @@
 -- Locks on the pages of an extent: one page more of it, and how many pages are locked then.
-use Rattle.std.proofs.Common.{◌≡◌, ◌≢◌, ℕ, zero, suc, ◌+◌, ◌-◌, ◌<◌, ◌≤◌, ◌&&◌, ◌==◌, not, Bool, true, false, List, [], ◌∷◌, get_or, count_by, sum_by, Option, Some, None, unwrap_or, slice_get, refl, sym, ap, ◌∙◌, arith, inl, inr}
+use Rattle.std.proofs.Common.{◌≡◌, ◌≢◌, ℕ, zero, suc, ◌+◌, ◌-◌, ◌<◌, ◌≤◌, ◌&&◌, ◌==◌, not, Bool, true, false, List, [], ◌∷◌, get_or, count_by, sum_by, Option, Some, None, unwrap_or, slice_get, refl, sym, ap, ◌∙◌, subst, arith, inl, inr}
 use Rattle.std.specs.Prelude.{nat_le, nat_lt, option_and_then}
 use Rattle.std.specs.List.{range_with_len}
 use Rattle.std.proofs.lemmas.Bool.{cases_eq, cases_lt, eq-eqb, eqb-true, le-leb, le-ltb, leb-true, lt-leb, lt-ltb, ltb-true}
-use Rattle.std.proofs.lemmas.List.Sums.{sum_by-cons}
+use Rattle.std.proofs.lemmas.List.FromFn.{length-range_with_len}
+use Rattle.std.proofs.lemmas.List.Sums.{count_by-le-length, sum_by-cons}
 use Rattle.vm_ids.specs.declared.command.Extent.{Extent}
 use Rattle.vm_ids.specs.declared.numbers.CacheId.{CacheId}
 use Rattle.vm_ids.proofs.Places.{bit}
@@ -89,6 +90,19 @@ more_then cache first n a b d one two c p = omega (arith, one c p, two c p, cove
 pub less_then : (cache : CacheId) (first n : ℕ) (a b d : Arena) → LocksMore (extent cache first n) b a → LocksMore (one_page cache (first + n)) d b → LocksMore (extent cache first (n + 1)) d a
 less_then cache first n a b d one two c p = omega (arith, one c p, two c p, covers_next cache first n c p)
 
+-- from a page on, up to another
+pub more_upto : (cache : CacheId) (first page : ℕ) → first ≤ page → (a b d : Arena) → LocksMore (extent cache first (page - first)) a b → LocksMore (one_page cache page) b d → LocksMore (extent cache first (page + 1 - first)) a d
+more_upto cache first page low a b d one two =
+    let next : page - first + 1 ≡ page + 1 - first = omega (arith, low) in
+    let here : page ≡ first + (page - first) = omega (arith, low) in
+    subst (λ n. LocksMore (extent cache first n) a d) next (more_then cache first (page - first) a b d one (subst (λ p. LocksMore (one_page cache p) b d) here two))
+
+pub less_upto : (cache : CacheId) (first page : ℕ) → first ≤ page → (a b d : Arena) → LocksMore (extent cache first (page - first)) b a → LocksMore (one_page cache page) d b → LocksMore (extent cache first (page + 1 - first)) d a
+less_upto cache first page low a b d one two =
+    let next : page - first + 1 ≡ page + 1 - first = omega (arith, low) in
+    let here : page ≡ first + (page - first) = omega (arith, low) in
+    subst (λ n. LocksMore (extent cache first n) d a) next (less_then cache first (page - first) a b d one (subst (λ p. LocksMore (one_page cache p) d b) here two))
+
 -- locks that were added are dropped again
 pub more_undone : (e : Extent) (a b d : Arena) → LocksMore e a b → LocksMore e d b → SameLocks a d
 more_undone e a b d one two c p = omega (arith, one c p, two c p)
@@ -149,8 +163,12 @@ locked_or : (n : ℕ) → bit (is_locked n) + bit (not (is_locked n)) ≡ 1
 locked_or zero = omega arith
 locked_or (suc n) = omega arith
 
-locked_now : (n : ℕ) → is_locked (n + 1) ≡ true
+pub locked_now : (n : ℕ) → is_locked (n + 1) ≡ true
 locked_now n = let e : n + 1 ≡ suc n = omega arith in ap is_locked e
+
+pub locked_above : (n : ℕ) → 0 < n → is_locked n ≡ true
+locked_above zero some = absurd (omega (arith, some))
+locked_above (suc n) some = refl
 
 abbrev more_at : (first n : ℕ) (xs ys : List ℕ) → Type 0
 more_at first n xs ys = (q : ℕ) → count_at ys q ≡ count_at xs q + bit (inside first n q)
@@ -190,6 +208,33 @@ counts_more (x ∷ xs) [] first n same =
     let as_one = grown first n x 0 xs [] (λ q. omega (arith, same q, padded q)) (λ f k s. counts_more xs [] f k s) in
     omega (arith, as_one, sum_by-cons (λ k. bit (is_locked k)) 0 [])
 counts_more (x ∷ xs) (y ∷ ys) first n same = grown first n x y xs ys same (λ f k s. counts_more xs ys f k s)
+
+-- Ranges ----------------------------------------------------------------------------------------
+
+-- one number more
+pub range_next : (g : ℕ → Bool) (a n : ℕ) → count_by g (range_with_len a (n + 1)) ≡ count_by g (range_with_len a n) + bit (g (a + n))
+range_next g a zero = let here : a ≡ a + 0 = omega arith in omega (arith, sum_by-cons (λ y. bit (g y)) a [], ap (λ j. bit (g j)) here)
+range_next g a (suc n) =
+    let e : suc n + 1 ≡ suc (n + 1) = omega arith in
+    let here : a + 1 + n ≡ a + suc n = omega arith in
+    omega (arith, ap (λ k. count_by g (range_with_len a k)) e, sum_by-cons (λ y. bit (g y)) a (range_with_len (a + 1) (n + 1)), sum_by-cons (λ y. bit (g y)) a (range_with_len (a + 1) n), range_next g (a + 1) n, ap (λ j. bit (g j)) here)
+
+-- the first of them are no more
+pub range_fewer : (g : ℕ → Bool) (a n k : ℕ) → n ≤ k → count_by g (range_with_len a n) ≤ count_by g (range_with_len a k)
+range_fewer g a zero k low = omega arith
+range_fewer g a (suc n) zero low = absurd (omega (arith, low))
+range_fewer g a (suc n) (suc k) low = omega (arith, sum_by-cons (λ y. bit (g y)) a (range_with_len (a + 1) n), sum_by-cons (λ y. bit (g y)) a (range_with_len (a + 1) k), range_fewer g (a + 1) n k (omega (arith, low)))
+
+-- of the pages of an extent, up to a page
+pub unlocked_upto : (a : Arena) (cache : CacheId) (first page : ℕ) → first ≤ page → unlocked_in a (extent cache first (page + 1 - first)) ≡ unlocked_in a (extent cache first (page - first)) + bit (not (is_locked (locks_of a cache.0 page)))
+unlocked_upto a cache first page low =
+    let g : ℕ → Bool = λ q. not (is_locked (locks_of a cache.0 q)) in
+    let next : page - first + 1 ≡ page + 1 - first = omega (arith, low) in
+    let here : first + (page - first) ≡ page = omega (arith, low) in
+    ap (λ n. count_by g (range_with_len first n)) (sym next) ∙ range_next g first (page - first) ∙ ap (λ k. count_by g (range_with_len first (page - first)) + bit (g k)) here
+
+pub unlocked_few : (a : Arena) (cache : CacheId) (first n : ℕ) → unlocked_in a (extent cache first n) ≤ n
+unlocked_few a cache first n = omega (arith, count_by-le-length (λ q. not (is_locked (locks_of a cache.0 q))) (range_with_len first n), length-range_with_len first n)
 
 -- Of tables -------------------------------------------------------------------------------------
 

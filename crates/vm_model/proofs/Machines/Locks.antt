@@ -121,24 +121,3 @@ module _ (n : ℕ) where
       → lock_of m n ≡ unless (passes_lock_limit (change_region m n (with_lock true))) LockLimit m (reply Done (change_region m n (with_lock true)))
   unfolding lock_of with_some unless
   lock_row m r e unlocked = rw (e, unlocked) refl
-
-  -- nothing changes where no region has the number
-  among_none : (by : Region → List Region) (rs : Actor) → region_among n rs ≡ None → replace_region n by rs ≡ rs
-  among_none by [] e = refl
-  among_none by (r ∷ rs) e = go (r.number == n) e (among_none by rs)
-    where
-      go : (b : Bool) → cond b (Some r) (region_among n rs) ≡ None → (region_among n rs ≡ None → replace_region n by rs ≡ rs) → cond b (by r ++ rs) (r ∷ replace_region n by rs) ≡ r ∷ rs
-      go true e rest = absurd (cc e)
-      go false e rest = ap (λ ys. r ∷ ys) (rest e)
-
-  in_none : (by : Region → List Region) (xs : List (Option Actor)) → region_with n xs ≡ None → replace_in n by xs ≡ xs
-  in_none by [] e = refl
-  in_none by (None ∷ xs) e = ap (λ ys. None ∷ ys) (in_none by xs e)
-  in_none by (Some rs ∷ xs) e = go (region_among n rs) e (in_none by xs)
-    where
-      go : (o : Option Region) → option_or o (region_with n xs) ≡ None → (region_with n xs ≡ None → replace_in n by xs ≡ xs) → cond (is_some o) (Some (replace_region n by rs) ∷ xs) (Some rs ∷ replace_in n by xs) ≡ Some rs ∷ xs
-      go None e rest = ap (λ ys. Some rs ∷ ys) (rest e)
-      go (Some r) e rest = absurd (cc e)
-
-  pub nothing_changes : (m : Machine) (by : Region → List Region) → region_with n m.actors ≡ None → change_region m n by ≡ m
-  nothing_changes m by none = ap (λ xs. record m { actors = xs }) (in_none by m.actors none)

@@ -3,8 +3,7 @@ use Rattle.std.proofs.lemmas.List.Elements.{All-cons, All-nil}
 use Rattle.vm_model.specs.Regions.{with_lock}
 use Rattle.vm_model.specs.Seen.{IsPlaced, machine_seen}
 use Rattle.vm_model.specs.declared.tables.Region.{Region}
-use Rattle.vm_model.proofs.Locating.{located_placed, seen_replaced, sound_replaced}
-use Rattle.vm_model.proofs.Machines.Locks.{nothing_changes}
+use Rattle.vm_model.proofs.Locating.{located_placed, nothing_changes, seen_replaced, sound_replaced}
 use Rattle.vm_model.proofs.locks.set_lock.Goals as goal
 
 pub returns-in-Some-clause-sound : goal.returns-in-Some-clause-sound
