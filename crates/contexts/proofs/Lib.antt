@@ -2,6 +2,7 @@ pub mod Living
 pub mod Places
 pub mod Owners
 pub mod Once
+pub mod Few
 pub mod Kept
 pub mod Sound
 pub mod Gone

@@ -152,7 +152,7 @@ module _ (page : ℕ) (owners : List ActorId) (xs : List (Option AddressSpace)) 
       let here = kept actor s at in
       (subst (All (IsFor owners actor)) same here.owned, subst AreOnce same here.once)
 
-  kept_at : (j : ℕ) (rs : model.Actor) → slice_get (regions_in xs) j ≡ Some (Some rs) → All (IsFor owners (j + 1)) rs × AreOnce rs
+  pub kept_at : (j : ℕ) (rs : model.Actor) → slice_get (regions_in xs) j ≡ Some (Some rs) → All (IsFor owners (j + 1)) rs × AreOnce rs
   kept_at j rs at = kept_by (numbered xs (j + 1)) (j + 1) rs refl (sym (numbered-map regions_of xs (j + 1)) ∙ number_at (regions_in xs) j rs at)
 
   few_at : (j : ℕ) (o : Option model.Actor) → slice_get (regions_in xs) j ≡ Some o → times_among n o ≤ 1

@@ -43,6 +43,15 @@ times_among region (Some regions) = count_by (λ (r : Region). r.number == regio
 abbrev pub times_made : ℕ → List (Option Actor) → ℕ
 times_made region actors = sum_by (times_among region) actors
 
+-- how many regions an actor has
+abbrev pub regions_among : Option Actor → ℕ
+regions_among None = 0
+regions_among (Some regions) = length regions
+
+-- how many regions living actors have
+abbrev pub region_count : List (Option Actor) → ℕ
+region_count actors = sum_by regions_among actors
+
 -- an actor that is alive and has a region with this number
 abbrev pub has_region : ℕ → Option Actor → Bool
 has_region region None = false

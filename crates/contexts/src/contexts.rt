@@ -8,7 +8,7 @@ ghost use Rattle.vm_model.specs.Answering.{maps_in, overlaps, without_region};
 ghost use Rattle.vm_model.specs.Regions.{region_with, replace_in, status_with, with_lock, with_prot};
 ghost use Rattle.vm_model.specs.Machine.{numbered};
 ghost use Rattle.vm_model.specs.Place.{place_of_actor};
-ghost use Rattle.contexts.specs.Actors.{has_region, holder_of, is_full, next_region, split_refusal, times_made, with_region, with_split};
+ghost use Rattle.contexts.specs.Actors.{has_region, holder_of, is_full, next_region, region_count, split_refusal, times_made, with_region, with_split};
 ghost use Rattle.contexts.specs.Layout.{owner_of};
 
 use crate::spaces::{
@@ -81,9 +81,10 @@ impl Contexts {
         self.page
     }
 
-    /// How many regions were made, at most 65,535.
+    /// How many regions were made, at most 65,535. Living actors have no more.
     pub fn regions_made(&self) -> u32
         ensures made { result ≡ self.now.regions_made }
+        ensures living { region_count self.now.actors ≤ result }
         ensures most { result ≤ MOST_MADE }
     {
         self.owners.len() as u32

@@ -21,3 +21,7 @@ mod Destroying
 mod Opening
 -- Pages that are pushed, and taken again.
 mod Extents
+-- What locks hold.
+pub mod Holding
+-- Regions that are locked and unlocked.
+pub mod Locking

@@ -28,7 +28,9 @@ use Rattle.vm_model.specs.Regions.{back_of, region_among, region_with, replace_i
 use Rattle.regions.specs.AddressSpace.{id_of}
 use Rattle.contexts.specs.Actors.{Actors, cut_refusal, holder_of, split_refusal, with_split}
 use Rattle.contexts.proofs.Replaced.{all_replaced, all_replaced_in}
+use Rattle.pvm_core.specs.Locks.{locks_over}
 use Rattle.pvm_core.specs.Placed.{ArePlaced, AreRight, IsPlaced}
+use Rattle.pvm_core.proofs.Holding.Regions.{cut_counts, over_replaced, prot_counts}
 use Rattle.pvm_core.proofs.Answering.Listed.{machine_with}
 
 -- the actors without one of them
@@ -59,7 +61,7 @@ module _ (sizes : ℕ → Option ℕ) where
       go (Some r) found e = record {
         some = k.some;
         placed = replaced_right n (with_prot prot) r t found
-            (λ p. All-cons (IsPlaced sizes) (record r { may_write = prot.write }) [] (record { unlocked = p.unlocked; count = p.count; there = p.there; within = p.within }) (All-nil (IsPlaced sizes))) k;
+            (λ p. All-cons (IsPlaced sizes) (record r { may_write = prot.write }) [] (record { count = p.count; there = p.there; within = p.within }) (All-nil (IsPlaced sizes))) k;
       }
 
   both_placed : (page_bytes pages number : ℕ) (r : model.Region) → pages < r.pages → IsPlaced sizes r → All (IsPlaced sizes) (split_at page_bytes pages number r)
@@ -67,8 +69,16 @@ module _ (sizes : ℕ → Option ℕ) where
       let within = p.within in
       let front : r.offset + pages ≤ p.count = omega (arith, within, fewer) in
       let back : r.offset + pages + (r.pages - pages) ≤ p.count = omega (arith, within, fewer) in
-      All-cons (IsPlaced sizes) (record r { pages = pages }) (back_of page_bytes pages number r ∷ []) (record { unlocked = p.unlocked; count = p.count; there = p.there; within = front })
-      (All-cons (IsPlaced sizes) (back_of page_bytes pages number r) [] (record { unlocked = p.unlocked; count = p.count; there = p.there; within = back }) (All-nil (IsPlaced sizes)))
+      All-cons (IsPlaced sizes) (record r { pages = pages }) (back_of page_bytes pages number r ∷ []) (record { count = p.count; there = p.there; within = front })
+      (All-cons (IsPlaced sizes) (back_of page_bytes pages number r) [] (record { count = p.count; there = p.there; within = back }) (All-nil (IsPlaced sizes)))
+
+-- as many locked regions cover each page after a region was protected
+pub over_allowed : (n : ℕ) (prot : Prot) (t : Actors) → is_some (region_with n t.actors) ≡ true → (cache page : ℕ) → locks_over (with_allowed n prot t).actors cache page ≡ locks_over t.actors cache page
+over_allowed n prot t some cache page = go (region_with n t.actors) refl some
+  where
+    go : (o : Option model.Region) → region_with n t.actors ≡ o → is_some o ≡ true → locks_over (with_allowed n prot t).actors cache page ≡ locks_over t.actors cache page
+    go None found e = absurd (cc e)
+    go (Some r) found e = over_replaced cache page n (with_prot prot) r (prot_counts cache page prot r) t.actors found
 
 -- A region that is cut ----------------------------------------------------------------------
 
@@ -101,6 +111,13 @@ module _ (t : Actors) (n pages : ℕ) where
         placed = replaced_right sizes n (split_at t.page_bytes pages (t.regions_made + 1)) c.region t c.found (both_placed sizes t.page_bytes pages (t.regions_made + 1) c.region fewer) k;
       }
 
+  -- as many locked regions cover each page
+  over_split : IsCut t n pages → (cache page : ℕ) → locks_over (with_split t n pages).actors cache page ≡ locks_over t.actors cache page
+  over_split c cache page =
+      let e = c.fewer in
+      let fewer : pages < c.region.pages = grind (arith, nat_tests) in
+      over_replaced cache page n (split_at t.page_bytes pages (t.regions_made + 1)) c.region (cut_counts cache page t.page_bytes pages (t.regions_made + 1) c.region fewer) t.actors c.found
+
   module _ (caches : List (Option model.Cache)) (frames : ℕ) where
     split_row : IsCut t n pages → split_of (machine_with caches frames t) n pages ≡ reply (replies.Region (record { 0 = t.regions_made + 1 })) (machine_with caches frames (with_split t n pages))
     unfolding split_of with_some unless
@@ -127,6 +144,12 @@ module _ (t u : Actors) (region : RegionId) (pages : ℕ) where
   right_cut sizes None (Ok fresh) is refused ok err k = subst (AreRight sizes) (sym ok) (right_split t region.0 pages sizes (is_cut t region.0 pages is) k)
   right_cut sizes (Some r) (Ok fresh) is refused ok err k = absurd (cc refused)
   right_cut sizes o (Err e) is refused ok err k = subst (AreRight sizes) (sym err) k
+
+  pub over_cut : (o : Option Refusal) (result : Result RegionId Trouble) → split_refusal t region.0 pages ≡ o → IfSome o (λ r. result ≡ Err (troubles.Refused r))
+      → OnOk result (u ≡ with_split t region.0 pages) → OnErr result (u ≡ t) → (cache page : ℕ) → locks_over u.actors cache page ≡ locks_over t.actors cache page
+  over_cut None (Ok fresh) is refused ok err cache page = ap (λ (w : Actors). locks_over w.actors cache page) ok ∙ over_split t region.0 pages (is_cut t region.0 pages is) cache page
+  over_cut (Some r) (Ok fresh) is refused ok err cache page = absurd (cc refused)
+  over_cut o (Err e) is refused ok err cache page = ap (λ (w : Actors). locks_over w.actors cache page) err
 
   module _ (caches : List (Option model.Cache)) (frames : ℕ) (f : Option PageForest) (h : Segments) where
     pub split_outcome : (o : Option Refusal) (result : Result RegionId Trouble) → split_refusal t region.0 pages ≡ o → IfSome o (λ r. result ≡ Err (troubles.Refused r))

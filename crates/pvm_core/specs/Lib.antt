@@ -9,7 +9,7 @@ pub mod Spans
 pub mod Extents
 pub mod Access
 pub mod Keeping
-pub mod Locks
+pub mod Holding
 pub mod Reaching
 pub mod Writes
 pub mod Saving

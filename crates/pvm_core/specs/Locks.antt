@@ -1,6 +1,8 @@
 -- How locks hold pages in page frames.
 use Rattle.std.specs.Prelude.{◌≡◌, ℕ, ◌+◌, ◌≤◌, Bool, true, false, List, length, count_by, sum_by, Option, Some, None}
+use Rattle.std.specs.List.{list_any, range_with_len}
 use Rattle.std.specs.Option.{option_map_or}
+use Rattle.vm_ids.specs.declared.command.Extent.{Extent}
 use Rattle.vm_ids.specs.declared.node_name.NodeName.{NodeName}
 use Rattle.vm_ids.specs.declared.node_name.NodeName.TheVariants.{Live, Working}
 use Rattle.vm_ids.specs.declared.numbers.NodeId.{NodeId}
@@ -44,3 +46,8 @@ pub record AreHeld (a : Arena) (s : Store) (actors : List (Option Actor)) : Type
   pub pinned : (frame : ℕ) → is_pinned s.frames frame ≡ has_locked a s.map frame
   pub pins : pinned_count s.frames ≡ locked_count a
   pub few : locked_count a + 3 ≤ length s.frames.held
+
+-- one of these pages is locked
+abbrev pub any_locked : Arena → Extent → Bool
+any_locked a range = list_any (λ page. is_locked (locks_of a range.cache.0 page))
+    (range_with_len range.first.0 range.pages)

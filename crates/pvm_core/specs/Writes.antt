@@ -8,17 +8,19 @@ use Rattle.vm_ids.specs.declared.reply.FaultAt.TheVariants.{Access}
 use Rattle.vm_ids.specs.declared.reply.Trouble.{Trouble}
 use Rattle.vm_ids.specs.declared.reply.Trouble.TheVariants.{Mapper, Refused}
 use Rattle.vm_ids.specs.Forest.Commands.{page_name}
-use Rattle.local_cache.specs.Arena.{Arena}
+use Rattle.local_cache.specs.Arena.{Arena, locks_of}
 use Rattle.local_cache.specs.Reading.{forest_of}
 use Rattle.local_cache.specs.Whole.{IsWhole, SameCaches}
 use Rattle.page_release.specs.Homes.{IsWritable}
 use Rattle.segment_ops.specs.Access.{IsAskedFor, OneDenied}
 use Rattle.segment_ops.specs.Ranges.{IsNamedBy, IsPageOf}
 
--- grants alone changed: the nodes stay, and so do the sizes and segments of the caches, the counters
--- and the room
+-- grants alone changed: the nodes stay, and so do the sizes and segments of the caches, the locks,
+-- the counters and the room
 pub record KeepsNodes (old new : Arena) : Type 0 where
   pub same : SameCaches old new
+  pub cells : new.cells ≡ old.cells
+  pub locks : (cache page : ℕ) → locks_of new cache page ≡ locks_of old cache page
   pub nodes : forest_of new ≡ forest_of old
   pub whole : IsWhole new
   pub made : new.made ≡ old.made

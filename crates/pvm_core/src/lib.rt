@@ -9,11 +9,15 @@
 #![tactic(auto)]
 
 mod gmi;
+
+mod locks;
 mod maps;
 mod nodes;
+mod page_locks;
 mod pieces;
 mod pvm;
 mod region_calls;
+mod region_locks;
 mod saving;
 mod segments;
 mod spans;

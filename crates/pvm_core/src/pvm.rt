@@ -6,6 +6,7 @@ ghost use Rattle.vm_ids.specs.Forest.Nodes.{no_forest};
 ghost use Rattle.vm_ids.specs.Forest.Reading.{live_count, working_count};
 ghost use Rattle.frame_pool.specs.Pool.{held_count};
 ghost use Rattle.residency.specs.Causes.{Traffic};
+ghost use Rattle.residency.specs.Frames.{evictable_count};
 ghost use Rattle.vm_model.specs.Answering.{answer_by};
 ghost use Rattle.vm_model.specs.Machine.{start};
 ghost use Rattle.gmi_calls.specs.Calling.{Answers, Calls, Fits, Numbers, RaisesMade, StaysValid, done_by};
@@ -98,22 +99,6 @@ impl Pvm {
         ensures err { OnErr result (self.new ≡ self.old) }
     {
         self.contexts.make()
-    }
-
-    /// Ends an actor, and takes its regions away. Refused as `NoActor` exactly where it isn't alive.
-    pub fn exit_actor(&mut self, actor: ActorId) -> Result<(), Trouble>
-        ensures valid { StaysValid IsValid self.old self.new }
-        ensures answers { Answers IsValid state_at self.old
-            (Command.ExitActor actor) (done_by result) self.new }
-        ensures made { Numbers IsValid machine_of numbered self.old
-            (Command.ExitActor actor) (done_by result) self.new }
-        ensures err { OnErr result (self.new ≡ self.old) }
-    {
-        if self.contexts.regions(actor).is_none() {
-            return Err(Trouble::Refused(Refusal::NoActor));
-        }
-        self.contexts.exit(actor);
-        Ok(())
     }
 
     /// Makes a temporary cache of so many zero pages. Refused as `TooMany` exactly where 65,535 caches were made or
@@ -339,7 +324,7 @@ impl Pvm {
         }
     }
 
-    /// Evicts so many page frames, or as many as can be.
+    /// Evicts so many page frames, or as many as can be: those that no locked page is in.
     pub fn page_out<M: Mapper, C: Chooser>(
         &mut self,
         count: u32,
@@ -360,7 +345,8 @@ impl Pvm {
         ensures forest { forest_of self.new (M.held mapper.new)
             ≡ forest_of self.old (M.held mapper.old) }
         ensures fewer { OnOk result (held_count self.new.store.frames
-            + min count (held_count self.old.store.frames) ≡ held_count self.old.store.frames) }
+            + min count (evictable_count self.old.store.frames)
+            ≡ held_count self.old.store.frames) }
     {
         match self
             .store

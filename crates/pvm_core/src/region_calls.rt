@@ -70,9 +70,13 @@ impl Pvm {
             (Command.Unmap region) (done_by result) self.new }
         ensures err { OnErr result (self.new ≡ self.old) }
     {
-        if !self.contexts.unmap(region) {
+        let Some(status) = self.contexts.status(region) else {
             return Err(Trouble::Refused(Refusal::NoRegion));
+        };
+        if status.locked {
+            return Err(Trouble::Refused(Refusal::Locked));
         }
+        self.contexts.unmap(region);
         Ok(())
     }
 

@@ -1,5 +1,5 @@
 // Segments are opened, and pages of the caches that they name pushed to them and taken from them.
-ghost use Rattle.std.specs.Prelude.{◌≡◌, ℕ, ◌+◌, ◌*◌, ◌^◌, ◌<◌, ◌≤◌, [], Option, Err, length, true, false, IfOk, OnErr, OnOk};
+ghost use Rattle.std.specs.Prelude.{◌≡◌, ℕ, ◌+◌, ◌*◌, ◌^◌, ◌<◌, ◌≤◌, ◌&&◌, [], Option, Err, length, true, false, IfOk, OnErr, OnOk};
 ghost use Rattle.vm_ids.specs.Counting.{no_counts};
 ghost use Rattle.vm_ids.specs.Held.{Held, segments_of};
 ghost use Rattle.vm_ids.specs.Forest.Commands.{extent_names};
@@ -14,11 +14,13 @@ ghost use Rattle.vm_model.specs.Run.{AnswerIs};
 ghost use Rattle.vm_model.specs.Synchronised.{ArePushed};
 ghost use Rattle.gmi_calls.specs.Calling.{Calls, Fits, RaisesMade, done_by};
 ghost use Rattle.pvm_core.specs.Extents.{extent_refusal as refusal_by};
+ghost use Rattle.pvm_core.specs.Locks.{any_locked};
 ghost use Rattle.pvm_core.specs.Keeping.{CopiesNothing, HasMoreRoom, SameMeaning};
 ghost use Rattle.pvm_core.specs.Manager.{IsValid, machine_of, nodes_of, numbered, state_at, world_of};
 ghost use Rattle.pvm_core.specs.Opening.{HasSegment, IsOpened, LieOnSegment};
 
 use crate::Pvm;
+use crate::locks::is_any_locked;
 use crate::maps::passes_end;
 use crate::nodes::reserve;
 use local_cache::Caches;
@@ -41,9 +43,11 @@ fn is_opened(caches: &Caches, seg: SegId) -> bool
     false
 }
 
-// How a call with pages of a named cache is refused: `NoCache`, `NotNamed` or `OutOfCache`, in this order.
-fn extent_refusal(caches: &Caches, extent: Extent) -> Option<Refusal>
-    ensures { result ≡ refusal_by (table_of caches.now extent.cache.0) extent }
+// How a call with pages of a named cache is refused: `NoCache`, `NotNamed`, `OutOfCache`, or `Locked` where the call needs
+// pages that aren't locked, in this order.
+fn extent_refusal(caches: &Caches, extent: Extent, needs_unlocked: bool) -> Option<Refusal>
+    ensures { result ≡ refusal_by (table_of caches.now extent.cache.0)
+        (needs_unlocked && any_locked caches.now extent) extent }
 {
     let Some(count) = caches.pages(extent.cache) else {
         return Some(Refusal::NoCache);
@@ -53,6 +57,9 @@ fn extent_refusal(caches: &Caches, extent: Extent) -> Option<Refusal>
     }
     if passes_end(count, extent.first.0, extent.pages) {
         return Some(Refusal::OutOfCache);
+    }
+    if needs_unlocked && is_any_locked(caches, extent) {
+        return Some(Refusal::Locked);
     }
     None
 }
@@ -192,9 +199,9 @@ impl Pvm {
         requires valid { IsValid self.old (M.held mapper.old) }
         requires fits { Fits (M.page_bytes mapper.old) (machine_of self.old (M.held mapper.old)) }
         ensures valid { IsValid self.new (M.held mapper.new) }
-        ensures sync { Calls M.counts M.held state_at mapper.old self.old
+        ensures sync { give_up ≡ false → Calls M.counts M.held state_at mapper.old self.old
             (Command.Sync extent) (done_by result) mapper.new self.new }
-        ensures flush { Calls M.counts M.held state_at mapper.old self.old
+        ensures flush { give_up ≡ true → Calls M.counts M.held state_at mapper.old self.old
             (Command.Flush extent) (done_by result) mapper.new self.new }
         ensures made { numbered self.new ≡ numbered self.old }
         ensures page { M.page_bytes mapper.new ≡ M.page_bytes mapper.old }
@@ -209,7 +216,7 @@ impl Pvm {
             (2 * unclean_count self.old.caches extent.cache.0 extent.first.0 extent.pages)
             (M.counts mapper.old) (M.counts mapper.new) }
     {
-        if let Some(refusal) = extent_refusal(&self.caches, extent) {
+        if let Some(refusal) = extent_refusal(&self.caches, extent, give_up) {
             return Err(Trouble::Refused(refusal));
         }
         match push_range(
@@ -254,7 +261,7 @@ impl Pvm {
         ensures refused { (r : Refusal) → result ≡ Err (Trouble.Refused r)
             → (self.new ≡ self.old) × (mapper.new ≡ mapper.old) }
     {
-        if let Some(refusal) = extent_refusal(&self.caches, extent) {
+        if let Some(refusal) = extent_refusal(&self.caches, extent, true) {
             return Err(Trouble::Refused(refusal));
         }
         self.caches.reserve(0, extent.pages)?;

@@ -14,7 +14,7 @@ use Rattle.vm_ids.specs.declared.refusal.Refusal.{Refusal}
 use Rattle.vm_ids.specs.declared.reply.Reply.TheVariants as replies
 use Rattle.vm_ids.specs.declared.reply.FaultAt.TheVariants as faults
 use Rattle.vm_ids.specs.declared.reply.Trouble.TheVariants as troubles
-use Rattle.vm_ids.specs.Forest.Commands.{page_name}
+use Rattle.vm_ids.specs.Forest.Commands.{lock, page_name}
 use Rattle.vm_ids.specs.Forest.Reading.{value_of}
 use Rattle.vm_ids.specs.Forest.Rules.{owned, write}
 use Rattle.vm_ids.specs.declared.node_name.NodeName.{NodeName}
@@ -43,7 +43,7 @@ use Rattle.vm_ids.specs.declared.numbers.SegId.{SegId}
 use Rattle.vm_model.specs.Answering.{is_denied_page, overwrite, reply, store_of, write_at}
 use Rattle.vm_model.specs.Answering.{Answer}
 use Rattle.vm_model.specs.Asking.{ReachesMapper}
-use Rattle.vm_model.specs.Following.{forest_after}
+use Rattle.vm_model.specs.Following.{forest_after, pages_passed}
 use Rattle.vm_model.specs.Run.{CallIs}
 use Rattle.vm_ids.specs.declared.command.Command.{Command}
 use Rattle.residency.specs.Causes.{Later}
@@ -62,6 +62,7 @@ use Rattle.pvm_core.specs.Manager.{IsSound, Manager, cache_shown, forest_of, mac
 use Rattle.pvm_core.specs.Pieces.{fault_at}
 use Rattle.pvm_core.proofs.Answering.Answered.{no_segments}
 use Rattle.pvm_core.proofs.Accesses.Loading.{zeros_long}
+use Rattle.pvm_core.proofs.Holding.Made.{held_by_store}
 use Rattle.pvm_core.proofs.Answering.Rising.{grown_some, rises_between}
 use Rattle.pvm_core.proofs.Meaning.Shown.{id_of, numbered-caches}
 use Rattle.pvm_core.proofs.Accesses.Storing.{blank_written, cache_is, machine_written, store_denied, store_row, write_is}
@@ -77,7 +78,7 @@ bytes_sound b s u t live f bytes e i = subst (λ (u : Store). IsSound b u t live
   counted = i.counted;
   few = i.few;
   loose = i.loose;
-  unpinned = i.unpinned;
+  locked = held_by_store b s (record s { frames = with_bytes s.frames f bytes }) t.actors refl refl refl i.locked;
   actors = i.actors;
   page = i.page;
 })
@@ -231,9 +232,9 @@ pub bytes_right : (g : Option Held) (b : Arena) (s u : Store) (f : ℕ) (bytes :
 bytes_right g b s u f bytes e right dirty = subst (λ (u : Store). IsStoreRight (world g None b u)) (sym e) (written_right (world g None b s) f bytes right dirty)
 
 -- a failed pull or push saves no page
-pub not_saved : (miss : Miss) (page : PageNo) (f : PageForest) (m : Machine) (command : Command) (next : Machine) → forest_after f m command (Err (troubles.Mapper (fault_at miss page))) next ≡ f
-not_saved Pull page f m command next = refl
-not_saved Victim page f m command next = refl
+pub not_saved : (miss : Miss) (page : PageNo) (f : PageForest) (m : Machine) (command : Command) (next : Machine) → pages_passed m command page.0 ≡ [] → forest_after f m command (Err (troubles.Mapper (fault_at miss page))) next ≡ f
+not_saved Pull page f m command next none = ap (λ xs. lock xs f) none
+not_saved Victim page f m command next none = refl
 
 -- the frame of a dirty page has no other node
 pub dirty_here : (b : Arena) (s : Store) (f : ℕ) (n : NodeId) → node_of s.map f ≡ Some n → own_of b n ≡ Resident true → (m : NodeId) → node_of s.map f ≡ Some m → is_clean (own_of b m) ≡ false

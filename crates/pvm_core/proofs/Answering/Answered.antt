@@ -13,7 +13,8 @@ use Rattle.vm_ids.specs.declared.reply.Trouble.TheVariants as troubles
 use Rattle.vm_port.specs.declared.traits.failed.Failed.{Failed}
 use Rattle.vm_model.specs.Answering.{Answer, answer_by, reply}
 use Rattle.vm_model.specs.Asking.{ReachesMapper}
-use Rattle.vm_model.specs.Following.{forest_after, followed}
+use Rattle.vm_ids.specs.Forest.Commands.{lock}
+use Rattle.vm_model.specs.Following.{forest_after, followed, pages_passed}
 use Rattle.vm_model.specs.Machine.{Machine}
 use Rattle.vm_model.specs.Outcome.{HasWholePages, IsAlike, MayFault, Outcome, OutcomeAt}
 use Rattle.vm_model.specs.PageForest.{PageForest}
@@ -72,17 +73,17 @@ pub outcome_by : (p q : Manager) (h g : Option Held) (command : Command) (answer
 outcome_by p q h g command answer rises untold nodes then same machine blind told by = outcome_at p q h g command answer rises untold nodes then same blind
     (λ s e. subst (λ (m : Machine). Outcome (machine_of p h) (Some (forest_of p h)) command s answer m rises) (by (forest_of p h) ∙ sym machine) (told s e))
 
--- The forest stays at each answer of a command that changes no page and saves none.
-pub stays_after : (m next : Machine) (f : PageForest) (command : Command) (answer : Answer) → followed f m command next ≡ f
+-- The forest stays at each answer of a command that changes no page, saves none, and locks none.
+pub stays_after : (m next : Machine) (f : PageForest) (command : Command) (answer : Answer) → followed f m command next ≡ f → ((page : ℕ) → pages_passed m command page ≡ [])
     → ((done : ℕ) → answer ≡ Err (troubles.Mapper (faults.Save done)) → ⊥) → forest_after f m command answer next ≡ f
-stays_after m next f command (Ok r) same none = same
-stays_after m next f command (Err (troubles.Refused r)) same none = refl
-stays_after m next f command (Err troubles.Memory) same none = refl
-stays_after m next f command (Err (troubles.Mapper (faults.Save done))) same none = absurd (none done refl)
-stays_after m next f command (Err (troubles.Mapper faults.Opening)) same none = refl
-stays_after m next f command (Err (troubles.Mapper (faults.Access p))) same none = refl
-stays_after m next f command (Err (troubles.Mapper (faults.Page p))) same none = refl
-stays_after m next f command (Err (troubles.Mapper faults.Victim)) same none = refl
+stays_after m next f command (Ok r) same passes none = same
+stays_after m next f command (Err (troubles.Refused r)) same passes none = refl
+stays_after m next f command (Err troubles.Memory) same passes none = refl
+stays_after m next f command (Err (troubles.Mapper (faults.Save done))) same passes none = absurd (none done refl)
+stays_after m next f command (Err (troubles.Mapper faults.Opening)) same passes none = refl
+stays_after m next f command (Err (troubles.Mapper (faults.Access p))) same passes none = refl
+stays_after m next f command (Err (troubles.Mapper (faults.Page p))) same passes none = ap (λ xs. lock xs f) (passes p.0)
+stays_after m next f command (Err (troubles.Mapper faults.Victim)) same passes none = refl
 
 pub no_save : (m next : Machine) (f : Option PageForest) (command : Command) (h : Segments) (answer : Answer) (rises : MapperCounts) → ((done : ℕ) → MayFault m f command h (faults.Save done) rises → ⊥)
     → Outcome m f command h answer next rises → (done : ℕ) → answer ≡ Err (troubles.Mapper (faults.Save done)) → ⊥
@@ -129,11 +130,11 @@ failed c d p q h g command answer reach nodes then valid forest stays reaches sy
 -- The same where the command saves nothing.
 pub called : (c d : MapperCounts) (p q : Manager) (h g : Option Held) (command : Command) (answer : Answer) (reach : Reach (machine_of p h) h g c d) → IsWhole p.caches → IsWhole q.caches → IsValid q g → forest_of q g ≡ forest_of p h
     → ((done : ℕ) (m : Machine) (f : Option PageForest) (s : Segments) → MayFault m f command s (faults.Save done) (rises_between (length reach.pushes) c d) → ⊥) → ReachesMapper command (rises_between (length reach.pushes) c d)
-    → IsSynchronised (machine_of p h) (segments_of g) command answer → ((f : PageForest) → followed f (machine_of p h) command (machine_of q g) ≡ f)
+    → IsSynchronised (machine_of p h) (segments_of g) command answer → ((f : PageForest) → followed f (machine_of p h) command (machine_of q g) ≡ f) → ((page : ℕ) → pages_passed (machine_of p h) command page ≡ [])
     → ((f : PageForest) (s : Segments) → Outcome (machine_by p f) (Some (forest_of p h)) command s answer (machine_by q f) (rises_between (length reach.pushes) c d))
     → CallIs c d (state_at p h) command answer (state_at q g)
-called c d p q h g command answer reach nodes then valid forest none reaches synchronised same outcome = failed c d p q h g command answer reach nodes then valid forest
-    (stays_after (machine_of p h) (machine_of q g) (forest_of p h) command answer (same (forest_of p h))
+called c d p q h g command answer reach nodes then valid forest none reaches synchronised same passes outcome = failed c d p q h g command answer reach nodes then valid forest
+    (stays_after (machine_of p h) (machine_of q g) (forest_of p h) command answer (same (forest_of p h)) passes
     (no_save (machine_of p h) (machine_by q (forest_of p h)) (Some (forest_of p h)) command no_segments answer (rises_between (length reach.pushes) c d) (λ done. none done (machine_of p h) (Some (forest_of p h)) no_segments) (outcome (forest_of p h) no_segments)))
     reaches synchronised outcome
 
@@ -155,11 +156,11 @@ answered p q h command answer nodes then valid forest stays reaches synchronised
 -- The same where the command saves nothing.
 pub seated : (p q : Manager) (h : Option Held) (command : Command) (answer : Answer) → IsWhole p.caches → IsWhole q.caches → IsValid q h → forest_of q h ≡ forest_of p h
     → ((done : ℕ) (m : Machine) (f : Option PageForest) (s : Segments) → MayFault m f command s (faults.Save done) no_counts → ⊥) → ReachesMapper command no_counts → IsSynchronised (machine_of p h) (segments_of h) command answer
-    → ((f : PageForest) → followed f (machine_of p h) command (machine_of q h) ≡ f)
+    → ((f : PageForest) → followed f (machine_of p h) command (machine_of q h) ≡ f) → ((page : ℕ) → pages_passed (machine_of p h) command page ≡ [])
     → ((f : PageForest) (s : Segments) → Outcome (machine_by p f) (Some (forest_of p h)) command s answer (machine_by q f) no_counts)
     → AnswerIs (state_at p h) command answer [] no_counts (state_at q h)
-seated p q h command answer nodes then valid forest none reaches synchronised same outcome = answered p q h command answer nodes then valid forest
-    (stays_after (machine_of p h) (machine_of q h) (forest_of p h) command answer (same (forest_of p h))
+seated p q h command answer nodes then valid forest none reaches synchronised same passes outcome = answered p q h command answer nodes then valid forest
+    (stays_after (machine_of p h) (machine_of q h) (forest_of p h) command answer (same (forest_of p h)) passes
     (no_save (machine_of p h) (machine_by q (forest_of p h)) (Some (forest_of p h)) command no_segments answer no_counts (λ done. none done (machine_of p h) (Some (forest_of p h)) no_segments) (outcome (forest_of p h) no_segments)))
     reaches synchronised outcome
 

@@ -1,7 +1,6 @@
 -- A command that leaves the caches' sizes: the manager after it, and the machine that its forest shows.
 use Rattle.std.proofs.Common.{◌≡◌, ℕ, zero, suc, ◌+◌, ◌*◌, ◌≤◌, Bool, false, List, [], ◌∷◌, get_or, set, length, map, Option, Some, None, option_map, refl, sym, ap, ◌∙◌, subst, arith}
 use Rattle.std.specs.Prelude.{count_by}
-use Rattle.std.specs.List.{slice_index_or}
 use Rattle.vm_ids.specs.Held.{Held}
 use Rattle.vm_ids.specs.Forest.Shape.{IsBounded}
 use Rattle.vm_ids.specs.Forest.Reading.{live_count}
@@ -16,6 +15,7 @@ use Rattle.vm_model.specs.Outcome.{blank, blank_cache}
 use Rattle.vm_model.specs.PageForest.{PageForest}
 use Rattle.vm_model.specs.Laws.{IsFollowed}
 use Rattle.contexts.specs.Actors.{Actors}
+use Rattle.pvm_core.specs.Locks.{AreHeld}
 use Rattle.pvm_core.specs.Manager.{IsSound, caches_shown, forest_of, machine_by, machine_of}
 use Rattle.pvm_core.proofs.NewCaches.Begun.{right_with}
 use Rattle.pvm_core.proofs.Meaning.Determined.{IsShaped, followed_is}
@@ -70,8 +70,8 @@ module _ (b d : Arena) (s u : Store) (t : Actors) (live : ℕ) (i : IsSound b s 
   gives : GivesBack (world None None b s) (world None None d u)
   gives = back None None tied
 
-  pub changed_sound : IsBounded (arena.forest_of d) → IsSound d u t live
-  changed_sound bounded = record {
+  pub changed_sound : IsBounded (arena.forest_of d) → AreHeld d u t.actors → IsSound d u t live
+  changed_sound bounded held = record {
     nodes = whole;
     apart = apart_same b d same.segments i.apart;
     bounded = bounded;
@@ -79,7 +79,7 @@ module _ (b d : Arena) (s u : Store) (t : Actors) (live : ℕ) (i : IsSound b s 
     counted = i.counted ∙ sym (live_same b d same);
     few = i.few;
     loose = subst (λ (ps : List Bool). count_by (λ p. p) ps + 3 ≤ length ps) (sym gives.pins) i.loose;
-    unpinned = λ f. subst (λ (ps : List Bool). slice_index_or ps f false ≡ false) (sym gives.pins) (i.unpinned f);
+    locked = held;
     actors = right_with (size_of b) (size_of d) (λ n k e. same.sizes n ∙ e) t i.actors;
     page = i.page ∙ sym gives.page;
   }

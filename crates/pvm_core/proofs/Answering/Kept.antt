@@ -1,7 +1,6 @@
 -- What stays where actors alone change, and where pages are moved about.
 use Rattle.std.proofs.Common.{◌≡◌, ℕ, suc, ◌+◌, ◌≤◌, Bool, true, false, cond, List, [], ◌∷◌, length, Option, Some, None, is_some, refl, sym, ap, ◌∙◌, subst, arith}
 use Rattle.std.specs.Prelude.{IfSome, OnErr, Result, Ok, Err, option_map, sum_by, count_by}
-use Rattle.std.specs.List.{slice_index_or}
 use Rattle.std.specs.FinMap as ids
 use Rattle.std.proofs.lemmas.List.{length-map}
 use Rattle.vm_ids.specs.Counting.{MapperCounts}
@@ -35,6 +34,10 @@ use Rattle.vm_model.specs.Outcome.{HasWholePages}
 use Rattle.vm_model.specs.PageForest.{PageForest}
 use Rattle.contexts.specs.Actors.{Actors}
 use Rattle.pvm_core.specs.Placed.{AreRight}
+use Rattle.pvm_core.proofs.Holding.Bound.{AreBound}
+use Rattle.pvm_core.proofs.Holding.Kept.{held_kept}
+use Rattle.pvm_core.proofs.Holding.Made.{held_by_actors}
+use Rattle.pvm_core.specs.Locks.{locks_over}
 use Rattle.pvm_core.proofs.Meaning.Live.{nodes_most}
 use Rattle.pvm_core.specs.Reaching.{Reach}
 use Rattle.pvm_core.proofs.Answering.Reaching.{as_told, reach_told}
@@ -42,8 +45,8 @@ use Rattle.pvm_core.proofs.Homes.Full.{full_after}
 use Rattle.pvm_core.proofs.Homes.Sized.{sized_after}
 use Rattle.pvm_core.specs.Manager.{IsSound, IsValid, Manager, caches_shown, forest_of, machine_by, machine_of}
 
-pub seated_sound : (a : Arena) (s : Store) (t u : Actors) (live : ℕ) → u.page_bytes ≡ t.page_bytes → AreRight (size_of a) u → IsSound a s t live → IsSound a s u live
-seated_sound a s t u live page right i = record {
+pub seated_sound : (a : Arena) (s : Store) (t u : Actors) (live : ℕ) → u.page_bytes ≡ t.page_bytes → AreRight (size_of a) u → ((cache page : ℕ) → locks_over u.actors cache page ≡ locks_over t.actors cache page) → IsSound a s t live → IsSound a s u live
+seated_sound a s t u live page right over i = record {
   nodes = i.nodes;
   apart = i.apart;
   bounded = i.bounded;
@@ -51,7 +54,7 @@ seated_sound a s t u live page right i = record {
   counted = i.counted;
   few = i.few;
   loose = i.loose;
-  unpinned = i.unpinned;
+  locked = held_by_actors a s t.actors u.actors over i.locked;
   actors = right;
   page = page ∙ i.page;
 }
@@ -168,8 +171,8 @@ module _ (a b : Arena) (s t : Store) (h g : Option Held) (i j : Option ℕ) (k :
   segment_at cache segment = subst (λ (ts : List (Option Table)). option_map (λ (t : Table). t.segment) (table_at ts cache) ≡ Some (Some segment)) k.nodes.caches
 
   -- each call that keeps nodes and tables keeps what holds of a manager's fields
-  pub kept_sound : IsSound b t actors live
-  kept_sound = record {
+  pub kept_sound : AreBound a s.map → IsSound b t actors live
+  kept_sound was = record {
     nodes = record {
       sound = k.sound;
       consistent = record {
@@ -185,7 +188,7 @@ module _ (a b : Arena) (s t : Store) (h g : Option Held) (i j : Option ℕ) (k :
     counted = sound.counted ∙ sym (ap (sum_by page_count) k.nodes.caches);
     few = sound.few;
     loose = subst (λ (ps : List Bool). count_by (λ p. p) ps + 3 ≤ length ps) (sym k.pins) sound.loose;
-    unpinned = λ f. subst (λ (ps : List Bool). slice_index_or ps f false ≡ false) (sym k.pins) (sound.unpinned f);
+    locked = held_kept a b s t h g i j k actors sound.nodes sound.actors was sound.locked;
     actors = subst (λ (ts : List (Option Table)). AreRight (λ n. option_map (λ (t : Table). length t.pages) (table_at ts n)) actors) (sym k.nodes.caches) sound.actors;
     page = sound.page ∙ sym k.page;
   }
@@ -230,8 +233,8 @@ module _ (a b : Arena) (s t : Store) (h g : Option Held) (i j : Option ℕ) (sti
   pub stilled : Kept (world h i a s) (world g j b t)
   stilled = still_kept (world h i a s) (world g j b t) still sound.nodes.sound sound.nodes.consistent.shaped pins
 
-  pub stilled_sound : IsSound b t actors live
-  stilled_sound = kept_sound a b s t h g i j stilled actors live sound
+  pub stilled_sound : AreBound a s.map → IsSound b t actors live
+  stilled_sound was = kept_sound a b s t h g i j stilled actors live sound was
 
   pub stilled_valid : (c d : MapperCounts) → Reach (machine_of (seen a s actors) h) h g c d → IsValid (seen a s actors) h → IsValid (seen b t actors) g
   stilled_valid c d reach v = kept_valid a b s t h g i j stilled actors (still_forest (world h i a s) (world g j b t) still) c d reach v
@@ -245,12 +248,6 @@ module _ (a b : Arena) (s t : Store) (h g : Option Held) (i j : Option ℕ) (sti
 -- actors that look the same
 pub seated_same : (a : Arena) (s : Store) (t u : Actors) → u ≡ t → seen a s u ≡ seen a s t
 seated_same a s t u e = ap (seen a s) e
-
--- no frame is pinned
-pub pinned_none : (ps : List Bool) → ((f : ℕ) → slice_index_or ps f false ≡ false) → count_by (λ p. p) ps ≡ 0
-pinned_none [] none = refl
-pinned_none (true ∷ ps) none = absurd (let e : true ≡ false = none 0 in cc e)
-pinned_none (false ∷ ps) none = pinned_none ps (λ f. none (suc f))
 
 pub on_err : {T E P Q : Type 0} (r : Result T E) → (P → Q) → OnErr r P → OnErr r Q
 on_err (Ok x) f p = tt

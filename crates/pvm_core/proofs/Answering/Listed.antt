@@ -19,7 +19,8 @@ use Rattle.vm_model.specs.declared.limits.TheConstants.{MOST_MADE}
 use Rattle.vm_model.specs.Machine as model
 use Rattle.vm_model.specs.Machine.{numbered}
 use Rattle.vm_model.specs.Answering.{answer_by, insert_region, make_actor_of, map_of, unmap_of, overlaps, passes_end, refuse, reply, unless, with_some, without_region}
-use Rattle.vm_model.specs.Regions.{region_among, region_with}
+use Rattle.vm_ids.specs.declared.reply.RegionStatus.{RegionStatus}
+use Rattle.vm_model.specs.Regions.{region_among, region_with, status_in, status_with}
 use Rattle.vm_model.specs.Outcome.{Outcome}
 use Rattle.vm_model.specs.PageForest.{PageForest}
 use Rattle.vm_model.specs.Place.{Place, holds, place_in, place_of_actor, placed, region_at}
@@ -131,7 +132,6 @@ module _ (t : Actors) (p : Mapping) where
   -- its region lies in the cache
   pub next_placed : (sizes : ℕ → Option ℕ) (o : Option model.Actor) (q : Option ℕ) → sizes p.extent.cache.0 ≡ q → IsMappable t o q p → IsPlaced sizes (next_region t p)
   next_placed sizes o q size k = record {
-    unlocked = refl;
     count = k.count;
     there = size ∙ k.there;
     within = (let inside = k.inside in grind (arith, nat_tests));
@@ -176,44 +176,36 @@ module _ (sizes : ℕ → Option ℕ) where
   pub right_without : (n : ℕ) (t : Actors) → AreRight sizes t → AreRight sizes (record t { actors = map (option_map (without_region n)) t.actors })
   right_without n t k = record { some = k.some; placed = placed_without n t.actors k.placed }
 
-  -- A region that goes ----------------------------------------------------------------------
+-- A region that goes --------------------------------------------------------------------------
 
-  open_here : (b : Bool) (r : model.Region) (o : Option model.Region) (x : model.Region) → r.locked ≡ false → ((y : model.Region) → o ≡ Some y → y.locked ≡ false) → cond b (Some r) o ≡ Some x → x.locked ≡ false
-  open_here true r o x here rest e = let same : r ≡ x = cc in sym (ap (λ (y : model.Region). y.locked) same) ∙ here
-  open_here false r o x here rest e = rest x e
+-- what is told of a region that is there
+pub locked_told : (n first : ℕ) (xs : List (Option model.Actor)) (s : RegionStatus) → status_with n first xs ≡ Some s → (r : model.Region) × (region_with n xs ≡ Some r) × (r.locked ≡ s.locked)
+locked_told n first [] s e = absurd (cc e)
+locked_told n first (None ∷ xs) s e = locked_told n (first + 1) xs s e
+locked_told n first (Some rs ∷ xs) s e = go (locked_told n (first + 1) xs s) (region_among n rs) e
+  where
+    go : (status_with n (first + 1) xs ≡ Some s → (r : model.Region) × (region_with n xs ≡ Some r) × (r.locked ≡ s.locked)) → (o : Option model.Region)
+        → option_or (option_map (status_in first) o) (status_with n (first + 1) xs) ≡ Some s → (r : model.Region) × (option_or o (region_with n xs) ≡ Some r) × (r.locked ≡ s.locked)
+    go rest None e = rest e
+    go rest (Some r) e = let same : status_in first r ≡ s = cc e in (r, refl, ap (λ (s : RegionStatus). s.locked) same)
 
-  open_among : (n : ℕ) (rs : model.Actor) → All (IsPlaced sizes) rs → (x : model.Region) → region_among n rs ≡ Some x → x.locked ≡ false
-  open_among n [] h x e = absurd (search rules)
-  open_among n (r ∷ rs) h x e = open_here (r.number == n) r (region_among n rs) x (All-head (IsPlaced sizes) r rs h).unlocked (open_among n rs (All-tail (IsPlaced sizes) r rs h)) e
-
-  open_or : (o p : Option model.Region) (x : model.Region) → ((y : model.Region) → o ≡ Some y → y.locked ≡ false) → ((y : model.Region) → p ≡ Some y → y.locked ≡ false) → option_or o p ≡ Some x → x.locked ≡ false
-  open_or None p x a b e = b x e
-  open_or (Some y) p x a b e = a x e
-
-  open_with : (n : ℕ) (xs : List (Option model.Actor)) → All (ArePlaced sizes) xs → (x : model.Region) → region_with n xs ≡ Some x → x.locked ≡ false
-  open_with n [] h x e = absurd (search rules)
-  open_with n (None ∷ xs) h x e = open_with n xs (All-tail (ArePlaced sizes) None xs h) x e
-  open_with n (Some rs ∷ xs) h x e =
-      open_or (region_among n rs) (region_with n xs) x (open_among n rs (All-head (ArePlaced sizes) (Some rs) xs h)) (open_with n xs (All-tail (ArePlaced sizes) (Some rs) xs h)) e
-
-  module _ (caches : List (Option model.Cache)) (frames : ℕ) (t : Actors) (n : ℕ) where
-    unmapped : (o : Option model.Region) → All (ArePlaced sizes) t.actors → region_with n t.actors ≡ o → is_some o ≡ true
-        → unmap_of (machine_with caches frames t) n ≡ reply replies.Done (machine_with caches frames (record t { actors = map (option_map (without_region n)) t.actors }))
+module _ (caches : List (Option model.Cache)) (frames : ℕ) (t : Actors) (n : ℕ) where
+  module _ (r : model.Region) (found : region_with n t.actors ≡ Some r) where
+    pub unmap_row : r.locked ≡ false → unmap_of (machine_with caches frames t) n ≡ reply replies.Done (machine_with caches frames (record t { actors = map (option_map (without_region n)) t.actors }))
     unfolding unmap_of with_some unless
-    unmapped None h e some = absurd (search rules)
-    unmapped (Some r) h e some = let free = open_with n t.actors h r e in rw (e, free) refl
+    unmap_row free = rw (found, free) refl
 
-    pub unmap_row : All (ArePlaced sizes) t.actors → is_some (region_with n t.actors) ≡ true
-        → unmap_of (machine_with caches frames t) n ≡ reply replies.Done (machine_with caches frames (record t { actors = map (option_map (without_region n)) t.actors }))
-    unmap_row h some = unmapped (region_with n t.actors) h refl some
+    pub unmap_locked : r.locked ≡ true → unmap_of (machine_with caches frames t) n ≡ refuse (machine_with caches frames t) refusals.Locked
+    unfolding unmap_of with_some unless
+    unmap_locked locked = rw (found, locked) refl
 
-    no_region : (o : Option model.Region) → region_with n t.actors ≡ o → is_some o ≡ false → unmap_of (machine_with caches frames t) n ≡ refuse (machine_with caches frames t) refusals.NoRegion
-    unfolding unmap_of with_some
-    no_region None e none = rw e refl
-    no_region (Some r) e none = absurd (search rules)
+  no_region : (o : Option model.Region) → region_with n t.actors ≡ o → is_some o ≡ false → unmap_of (machine_with caches frames t) n ≡ refuse (machine_with caches frames t) refusals.NoRegion
+  unfolding unmap_of with_some
+  no_region None e none = rw e refl
+  no_region (Some r) e none = absurd (search rules)
 
-    pub unmap_none : is_some (region_with n t.actors) ≡ false → unmap_of (machine_with caches frames t) n ≡ refuse (machine_with caches frames t) refusals.NoRegion
-    unmap_none none = no_region (region_with n t.actors) refl none
+  pub unmap_none : is_some (region_with n t.actors) ≡ false → unmap_of (machine_with caches frames t) n ≡ refuse (machine_with caches frames t) refusals.NoRegion
+  unmap_none none = no_region (region_with n t.actors) refl none
 
 -- A new actor -------------------------------------------------------------------------------
 

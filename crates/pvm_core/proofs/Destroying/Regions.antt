@@ -17,7 +17,7 @@ other_number n k e same = grind (arith, nat_tests)
 
 module _ (n : ℕ) (f g : ℕ → Option ℕ) (others : (k : ℕ) → k ≢ n → g k ≡ f k) where
   placed_region : (r : model.Region) → (r.cache == n) ≡ false → IsPlaced f r → IsPlaced g r
-  placed_region r apart p = record { unlocked = p.unlocked; count = p.count; there = others r.cache (other_number n r.cache apart) ∙ p.there; within = p.within }
+  placed_region r apart p = record { count = p.count; there = others r.cache (other_number n r.cache apart) ∙ p.there; within = p.within }
 
   placed_regions : (rs : model.Actor) → list_any (λ (r : model.Region). r.cache == n) rs ≡ false → All (IsPlaced f) rs → All (IsPlaced g) rs
   placed_regions [] none p = All-nil (IsPlaced g)

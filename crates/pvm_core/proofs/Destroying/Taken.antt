@@ -1,7 +1,7 @@
 -- A cache is gone: the manager after it.
 use Rattle.std.proofs.Common.{◌≡◌, ◌≢◌, ◌==◌, ℕ, zero, suc, ◌+◌, ◌-◌, ◌≤◌, Bool, true, false, List, [], ◌∷◌, get_or, set, length, length-set, Option, Some, None, is_some, option_map, refl, sym, ap, ◌∙◌, subst, arith, rules, inl, inr}
 use Rattle.std.specs.Prelude.{◌||◌, Ok, IfSome, sum_by, count_by}
-use Rattle.std.specs.List.{All, list_any, slice_index_or}
+use Rattle.std.specs.List.{All, list_any}
 use Rattle.std.specs.Option.{option_map_or}
 use Rattle.std.proofs.lemmas.Bool.Decides.{nat_tests}
 use Rattle.std.proofs.lemmas.List.{map-set}
@@ -38,12 +38,14 @@ use Rattle.vm_model.specs.PageForest.{PageForest}
 use Rattle.vm_model.specs.Laws.{IsFollowed}
 use Rattle.vm_model.proofs.Forests.Following.{destroyed_followed}
 use Rattle.contexts.specs.Actors.{Actors}
+use Rattle.pvm_core.specs.Locks.{AreHeld}
 use Rattle.pvm_core.specs.Placed.{ArePlaced, IsPlaced}
 use Rattle.pvm_core.specs.Manager.{IsSound, IsValid, Manager, cache_shown, caches_shown, forest_of, live_in, machine_by, machine_of}
 use Rattle.pvm_core.proofs.Answering.Answered.{no_segments}
 use Rattle.pvm_core.proofs.Meaning.Determined.{followed_is}
 use Rattle.pvm_core.proofs.Answering.Kept.{seen}
 use Rattle.pvm_core.proofs.Accesses.Loading.{size_le}
+use Rattle.pvm_core.proofs.Holding.Made.{held_gone}
 use Rattle.pvm_core.proofs.Meaning.Same.{live_same, set_shaped, shaped_same, shown_shaped}
 use Rattle.pvm_core.proofs.Meaning.Shown.{length-pages, numbered-caches, shown_made}
 use Rattle.pvm_core.proofs.Homes.Sized.{same_or_not}
@@ -83,8 +85,8 @@ module _ (a b d : Arena) (s u : Store) (t : Actors) (live : ℕ) (cache : CacheI
     | inr other ↦ (other, sym (segment_now k other) ∙ e)
   ]
 
-  pub taken_sound : IsSound d u t (live - n)
-  taken_sound = record {
+  pub taken_sound : IsListed b → AreHeld b u t.actors → IsSound d u t (live - n)
+  taken_sound listed held = record {
     nodes = whole;
     apart = λ k j seg e f. i.apart k j seg (left_segment k seg e).1 (left_segment j seg f).1;
     bounded = bounded;
@@ -92,7 +94,7 @@ module _ (a b d : Arena) (s u : Store) (t : Actors) (live : ℕ) (cache : CacheI
     counted = counted;
     few = omega (arith, i.few);
     loose = subst (λ (ps : List Bool). count_by (λ p. p) ps + 3 ≤ length ps) (sym gives.pins) i.loose;
-    unpinned = λ f. subst (λ (ps : List Bool). slice_index_or ps f false ≡ false) (sym gives.pins) (i.unpinned f);
+    locked = held_gone b d u t.actors cache is free listed whole.sound.kept.listed held;
     actors = record { some = i.actors.some; placed = placed_actors cache.0 (size_of a) (size_of d) others t.actors free i.actors.placed };
     page = i.page ∙ sym gives.page;
   }

@@ -20,8 +20,8 @@ use Rattle.residency.specs.World.{IsStoreRight, world}
 use Rattle.segment_ops.specs.Ranges as ranges
 use Rattle.segment_ops.specs.Saving.{HasFailed}
 use Rattle.segment_ops.specs.Synced.{AreSynced}
-use Rattle.vm_model.specs.Answering.{Answer, answer_by, reply}
-use Rattle.vm_model.specs.Machine.{Machine, is_locked_page}
+use Rattle.vm_model.specs.Answering.{Answer, answer_by, is_any_locked, reply}
+use Rattle.vm_model.specs.Machine.{Machine}
 use Rattle.vm_model.specs.Outcome.{NotRefusedButFor, Outcome}
 use Rattle.vm_model.specs.PageForest.{PageForest}
 use Rattle.vm_model.specs.Run.{CallIs}
@@ -57,7 +57,7 @@ pub stop_unsized : (g : Option Held) (j : Option ℕ) (b : Arena) (t : Store) (e
 stop_unsized g j b t e (Ok x) stopped = tt
 stop_unsized g j b t e (Err page) stopped = (stopped.0, synced_unsized g j b t e page.0 stopped.1)
 
-module _ (p q : Manager) (h g : Option Held) (e : Extent) (x : IsExtent p.caches e) (apart : Rattle.pvm_core.specs.Manager.AreApart p.caches) (lock : (f : PageForest) (cache page : ℕ) → is_locked_page (machine_by p f) cache page ≡ false) (c d : MapperCounts) (reach : Reach (machine_of p h) h g c d)
+module _ (p q : Manager) (h g : Option Held) (e : Extent) (x : IsExtent p.caches e) (apart : Rattle.pvm_core.specs.Manager.AreApart p.caches) (c d : MapperCounts) (reach : Reach (machine_of p h) h g c d)
     (nodes : IsWhole p.caches) (then : IsWhole q.caches) (valid : IsValid q g) (tables : q.caches.caches ≡ p.caches.caches) (forest : forest_of q g ≡ forest_of p h) (by : (f : PageForest) → machine_by q f ≡ machine_by p f)
     (r : Result (Unit {0}) PageNo) (synced : OnOk r (AreSynced e (e.first.0 + e.pages) (world g None q.caches q.store))) (stopped : IfErr r (λ page. ranges.IsPageOf e page.0 × AreSynced e page.0 (world g None q.caches q.store))) (cause : OnErr r (HasFailed c d)) where
   pushed : IsExtentPushed (machine_of p h) (segments_of g) e (done_by (failing r))
@@ -71,18 +71,18 @@ module _ (p q : Manager) (h g : Option Held) (e : Extent) (x : IsExtent p.caches
   sync_outcome n f s = go r stopped cause
     where
       go : (r : Result (Unit {0}) PageNo) → IfErr r (λ page. ranges.IsPageOf e page.0 × AreSynced e page.0 (world g None q.caches q.store)) → OnErr r (HasFailed c d) → Outcome (machine_by p f) (Some (forest_of p h)) (commands.Sync e) s (done_by (failing r)) (machine_by q f) (rises_between n c d)
-      go (Ok z) stopped cause = sync_row p f e x (lock f) ∙ ap (reply replies.Done) (sym (by f))
-      go (Err page) stopped cause = (by f, grown_some n c.faults d.faults (fault_rose c d cause.miss cause.cause), stopped.0, subst (λ a. NotRefusedButFor (faults.Page page) a.answer) (sym (sync_row p f e x (lock f))) tt)
+      go (Ok z) stopped cause = sync_row p f e x ∙ ap (reply replies.Done) (sym (by f))
+      go (Err page) stopped cause = (by f, grown_some n c.faults d.faults (fault_rose c d cause.miss cause.cause), stopped.0, subst (λ a. NotRefusedButFor (faults.Page page) a.answer) (sym (sync_row p f e x)) tt)
 
-  flush_outcome : (n : ℕ) (f : PageForest) (s : Segments) → Outcome (machine_by p f) (Some (forest_of p h)) (commands.Flush e) s (done_by (failing r)) (machine_by q f) (rises_between n c d)
-  flush_outcome n f s = go r stopped cause
+  flush_outcome : ((f : PageForest) → is_any_locked (machine_by p f) e.cache e.first.0 e.pages ≡ false) → (n : ℕ) (f : PageForest) (s : Segments) → Outcome (machine_by p f) (Some (forest_of p h)) (commands.Flush e) s (done_by (failing r)) (machine_by q f) (rises_between n c d)
+  flush_outcome lock n f s = go r stopped cause
     where
       go : (r : Result (Unit {0}) PageNo) → IfErr r (λ page. ranges.IsPageOf e page.0 × AreSynced e page.0 (world g None q.caches q.store)) → OnErr r (HasFailed c d) → Outcome (machine_by p f) (Some (forest_of p h)) (commands.Flush e) s (done_by (failing r)) (machine_by q f) (rises_between n c d)
       go (Ok z) stopped cause = flush_row p f e x (lock f) ∙ ap (reply replies.Done) (sym (by f))
       go (Err page) stopped cause = (by f, grown_some n c.faults d.faults (fault_rose c d cause.miss cause.cause), stopped.0, subst (λ a. NotRefusedButFor (faults.Page page) a.answer) (sym (flush_row p f e x (lock f))) tt)
 
   pub sync_is : CallIs c d (state_at p h) (commands.Sync e) (done_by (failing r)) (state_at q g)
-  sync_is = called c d p q h g (commands.Sync e) (done_by (failing r)) reach nodes then valid forest (λ done m f s none. none) tt pushed (λ f. refl) (sync_outcome (length reach.pushes))
+  sync_is = called c d p q h g (commands.Sync e) (done_by (failing r)) reach nodes then valid forest (λ done m f s none. none) tt pushed (λ f. refl) (λ page. refl) (sync_outcome (length reach.pushes))
 
-  pub flush_is : CallIs c d (state_at p h) (commands.Flush e) (done_by (failing r)) (state_at q g)
-  flush_is = called c d p q h g (commands.Flush e) (done_by (failing r)) reach nodes then valid forest (λ done m f s none. none) tt pushed (λ f. refl) (flush_outcome (length reach.pushes))
+  pub flush_is : ((f : PageForest) → is_any_locked (machine_by p f) e.cache e.first.0 e.pages ≡ false) → CallIs c d (state_at p h) (commands.Flush e) (done_by (failing r)) (state_at q g)
+  flush_is lock = called c d p q h g (commands.Flush e) (done_by (failing r)) reach nodes then valid forest (λ done m f s none. none) tt pushed (λ f. refl) (λ page. refl) (flush_outcome lock (length reach.pushes))

@@ -15,14 +15,14 @@ use Rattle.vm_ids.specs.Forest.Commands.{extent_names, firsts, invalidate, repla
 use Rattle.vm_ids.specs.Forest.Saving.{saved}
 use Rattle.vm_ids.specs.Forest.Settling.{settle}
 use Rattle.local_cache.specs.Arena.{Arena, Table, table_of}
-use Rattle.local_cache.specs.Whole.{IsWhole, SameCaches, size_of}
+use Rattle.local_cache.specs.Whole.{IsWhole, SameCaches}
 use Rattle.residency.specs.declared.store.Store.{Store}
 use Rattle.residency.specs.StoreForest.{store_forest}
 use Rattle.residency.specs.World.{world}
 use Rattle.page_release.specs.Steps.{ForAnyMapper, GivesBack, IsStoreTied, StaysRight, segment_pages}
-use Rattle.vm_model.specs.Answering.{held_for, held_part, invalidate_of, overwrite, put_pages, reply}
+use Rattle.vm_model.specs.Answering.{held_for, held_part, invalidate_of, is_any_locked, overwrite, put_pages, reply}
 use Rattle.vm_model.specs.Following.{forest_after}
-use Rattle.vm_model.specs.Machine.{Cache, Machine, Page, cache_of, is_locked_page, numbered}
+use Rattle.vm_model.specs.Machine.{Cache, Machine, Page, cache_of, numbered}
 use Rattle.vm_model.specs.Outcome as outcome
 use Rattle.vm_model.specs.Outcome.{HasWholePages, OutcomeAt, blank}
 use Rattle.vm_model.specs.PageForest.{PageForest, nodes_in}
@@ -49,7 +49,8 @@ use Rattle.pvm_core.proofs.Answering.Reaching.{reach_told}
 use Rattle.pvm_core.proofs.Meaning.Same.{shown_shaped}
 use Rattle.pvm_core.proofs.Meaning.Shown.{length-pages, shown_made}
 use Rattle.pvm_core.proofs.Homes.Sized.{sized_same}
-use Rattle.pvm_core.proofs.Spanning.SpanRows.{unlocked_actors}
+use Rattle.pvm_core.specs.Locks.{any_locked}
+use Rattle.pvm_core.proofs.Holding.Counted.{any_same}
 use Rattle.vm_ids.specs.declared.node_name.NodeName.{NodeName}
 use Rattle.vm_ids.specs.Forest.NameLists.{◌∈◌}
 use Rattle.vm_ids.specs.Forest.Saving.{is_unsaved}
@@ -105,12 +106,12 @@ module _ (p : Manager) (h g : Option Held) (b : Arena) (s : Store) (t : Actors) 
 
 -- From p, over what the mapper held then, pages were saved, which led to the caches b and the store s and to what the mapper
 -- holds now; and then those of the range were taken from their segment.
-module _ (p : Manager) (h g : Option Held) (b d : Arena) (s u : Store) (t : Actors) (live : ℕ) (k : IsSound b s t live) (v : IsValid (seen b s t) g) (e : Extent) (x : IsExtent b e)
+module _ (p : Manager) (h g : Option Held) (b d : Arena) (s u : Store) (t : Actors) (live : ℕ) (k : IsSound b s t live) (v : IsValid (seen b s t) g) (e : Extent) (x : IsExtent b e) (unlocked : any_locked b e ≡ false)
     (machine : machine_of (seen b s t) g ≡ machine_of p h) (by : (f : PageForest) → machine_by (seen b s t) f ≡ machine_by p f) (nodes : IsWhole p.caches) (old : IsValid p h) (saves_done : forest_of (seen b s t) g ≡ saved true (extent_names e) (forest_of p h))
     (same : SameCaches b d) (back : ForAnyMapper s b u d GivesBack) (tied : IsStoreTied s b) (whole : IsWhole d) (right : StaysRight s b u d)
     (rule : ForAnyMapper s b u d (λ old new. store_forest new ≡ settle (replace_pages (segment_pages old (extent_names e)) (store_forest old)))) where
-  lock : (f : PageForest) (cache page : ℕ) → is_locked_page (machine_by (seen b s t) f) cache page ≡ false
-  lock f cache page = unlocked_actors (size_of b) cache page t.actors k.actors.placed
+  lock : (f : PageForest) → is_any_locked (machine_by (seen b s t) f) e.cache e.first.0 e.pages ≡ false
+  lock f = any_same (seen b s t) f k.locked.counted e ∙ unlocked
 
   abbrev c : PageForest → Cache
   c f = cache_shown f e.cache.0 x.table
@@ -122,7 +123,7 @@ module _ (p : Manager) (h g : Option Held) (b d : Arena) (s u : Store) (t : Acto
   next f ps = set (caches_shown f 1 b.caches) (e.cache.0 - 1) (Some (put_pages e.first.0 ps (cache_shown f e.cache.0 x.table)))
 
   there : (f : PageForest) → cache_of (machine_by (seen b s t) f) e.cache.0 ≡ Some (cache_shown f e.cache.0 x.table)
-  there f = cache_there (seen b s t) f e x (lock f)
+  there f = cache_there (seen b s t) f e x
 
   long : (f : PageForest) → length (cache_shown f e.cache.0 x.table).pages ≡ length x.table.pages
   long f = length-pages f e.cache.0 0 (length x.table.pages)

@@ -14,8 +14,8 @@ use Rattle.vm_ids.specs.declared.reply.Trouble.TheVariants as troubles
 use Rattle.vm_ids.specs.Forest.Commands.{extent_names}
 use Rattle.local_cache.specs.Arena.{Arena}
 use Rattle.local_cache.specs.Whole.{IsWhole}
-use Rattle.vm_model.specs.Answering.{Answer, held_for, is_named}
-use Rattle.vm_model.specs.Machine.{Cache, is_locked_page}
+use Rattle.vm_model.specs.Answering.{Answer, held_for, is_any_locked, is_named}
+use Rattle.vm_model.specs.Machine.{Cache}
 use Rattle.vm_model.specs.Outcome.{NotRefusedButFor, OutcomeAt, blank}
 use Rattle.vm_model.specs.PageForest.{PageForest}
 use Rattle.vm_model.specs.Run.{CallIs}
@@ -29,9 +29,9 @@ use Rattle.pvm_core.proofs.Answering.Reaching.{reach_told}
 use Rattle.pvm_core.proofs.Answering.Rising.{grown_some, rises_between}
 use Rattle.pvm_core.proofs.Meaning.Values.{blank_of, consistent_of, zeroed, zeroed_whole}
 
-module _ (p q : Manager) (h g : Option Held) (c d : MapperCounts) (e : Extent) (x : IsExtent p.caches e) (lock : (f : PageForest) (cache page : ℕ) → is_locked_page (machine_by p f) cache page ≡ false) (nodes : IsWhole p.caches) (valid : IsValid q g) (keeps : KeepsMachine p q h g c d) where
+module _ (p q : Manager) (h g : Option Held) (c d : MapperCounts) (e : Extent) (x : IsExtent p.caches e) (lock : (f : PageForest) → is_any_locked (machine_by p f) e.cache e.first.0 e.pages ≡ false) (nodes : IsWhole p.caches) (valid : IsValid q g) (keeps : KeepsMachine p q h g c d) where
   named : (f : PageForest) → IsTrue (is_named (machine_by p f) e.cache.0)
-  named f = subst IsTrue (sym (ap (λ (o : Option Cache). option_map_or (λ (c : Cache). is_some c.segment) o false) (cache_there p f e x (lock f)) ∙ ap (λ (o : Option SegId). is_some (option_map (λ (s : SegId). s.0) o)) x.of)) refl
+  named f = subst IsTrue (sym (ap (λ (o : Option Cache). option_map_or (λ (c : Cache). is_some c.segment) o false) (cache_there p f e x) ∙ ap (λ (o : Option SegId). is_some (option_map (λ (s : SegId). s.0) o)) x.of)) refl
 
   -- a save failed
   not_saved : (done : ℕ) → FailedToSave e done p q h g → Rose c.faults d.faults → CallIs c d (state_at p h) (commands.Invalidate e) (Err (troubles.Mapper (faults.Save done))) (state_at q g)

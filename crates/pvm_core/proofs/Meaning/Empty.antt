@@ -1,6 +1,6 @@
 -- A manager without caches.
-use Rattle.std.proofs.Common.{◌≡◌, ℕ, zero, suc, ◌≤◌, ◌^◌, ◌+◌, List, [], length, Option, Some, None, is_some, option_map, refl, sym, ap, ◌∙◌, subst, arith, replicate, false}
-use Rattle.std.specs.Prelude.{IfSome, count_by, sum_by}
+use Rattle.std.proofs.Common.{◌≡◌, ℕ, zero, suc, ◌≤◌, ◌^◌, ◌+◌, List, [], length, Option, Some, None, is_some, option_map, unwrap_or, refl, sym, ap, ◌∙◌, subst, arith, replicate, true, false}
+use Rattle.std.specs.Prelude.{IfSome, count_by, option_and_then, slice_get, sum_by}
 use Rattle.std.specs.List.{All, slice_index_or}
 use Rattle.std.proofs.lemmas.Bool.{false≢true}
 use Rattle.std.proofs.lemmas.List.{length-replicate}
@@ -13,7 +13,8 @@ use Rattle.vm_ids.proofs.Forest.NameMap.{get-empty}
 use Rattle.vm_ids.proofs.Forest.PageMap.{same_forest}
 use Rattle.vm_ids.proofs.Places.{count-replicate_none}
 use Rattle.local_cache.specs.declared.own_state.OwnState.{OwnState}
-use Rattle.local_cache.specs.Arena.{Arena, Table, page_count, table_at}
+use Rattle.frame_pool.specs.Pool.{pinned_count}
+use Rattle.local_cache.specs.Arena.{Arena, Table, is_locked, locked_count, locked_pages, locks_of, page_count, table_at}
 use Rattle.local_cache.specs.Reading.{forest_of}
 use Rattle.local_cache.specs.ReadingBy.{forest_by}
 use Rattle.local_cache.specs.Sound.{IsSound}
@@ -26,6 +27,7 @@ use Rattle.local_cache.specs.Whole.{size_of}
 use Rattle.local_cache.proofs.Whole.Pages.{no_caches, no_nodes}
 use Rattle.vm_model.specs.Outcome.{IsWhole}
 use Rattle.contexts.specs.Actors.{Actors}
+use Rattle.pvm_core.specs.Locks.{has_locked, locks_over}
 use Rattle.pvm_core.specs.Placed.{ArePlaced}
 use Rattle.vm_ids.specs.declared.numbers.SegId.{SegId}
 use Rattle.pvm_core.specs.Manager as manager
@@ -36,9 +38,18 @@ none_pinned zero f = refl
 none_pinned (suc n) zero = refl
 none_pinned (suc n) (suc f) = none_pinned n f
 
+none_bound : (a : Arena) (n f : ℕ) → has_locked a (replicate n None) f ≡ false
+none_bound a zero f = refl
+none_bound a (suc n) zero = refl
+none_bound a (suc n) (suc f) = none_bound a n f
+
 none_at : (cache : ℕ) → table_at [] cache ≡ None
 none_at zero = refl
 none_at (suc k) = refl
+
+none_locked : (a : Arena) → a.caches ≡ [] → (cache page : ℕ) → locks_of a cache page ≡ 0
+none_locked a tables cache page = ap (λ (ts : List (Option Table)). unwrap_or (option_and_then (λ (t : Table). slice_get t.locks page) (table_at ts cache)) 0) tables
+    ∙ ap (λ (o : Option Table). unwrap_or (option_and_then (λ (t : Table). slice_get t.locks page) o) 0) (none_at cache)
 
 none_named : (ts : List (Option Table)) → ts ≡ [] → (cache : ℕ) (segment : SegId) → option_map (λ (t : Table). t.segment) (table_at ts cache) ≡ Some (Some segment) → ⊥
 none_named ts e cache segment is = (let q : None ≡ Some (Some segment) = sym (ap (λ (ts : List (Option Table)). option_map (λ (t : Table). t.segment) (table_at ts cache)) e ∙ ap (option_map (λ (t : Table). t.segment)) (none_at cache)) ∙ is in cc q)
@@ -66,7 +77,13 @@ none_sound frames page a s t three some most none tables forest sound is size it
   counted = sym (ap (sum_by page_count) tables);
   few = omega arith;
   loose = subst (λ (s : Store). count_by (λ p. p) s.frames.pinned + 3 ≤ length s.frames.pinned) (sym is) (omega (arith, three, length-replicate frames false, count-replicate_none (λ h. h) frames false refl));
-  unpinned = λ f. ap (λ (s : Store). slice_index_or s.frames.pinned f false) is ∙ none_pinned frames f;
+  locked = record {
+    counted = λ cache page. none_locked a tables cache page ∙ sym (ap (λ xs. locks_over xs cache page) items);
+    resident = λ cache page node at locked. absurd (let none : true ≡ false = sym locked ∙ ap is_locked (none_locked a tables cache page) in cc none);
+    pinned = λ f. ap (λ (s : Store). slice_index_or s.frames.pinned f false) is ∙ none_pinned frames f ∙ sym (ap (λ (s : Store). has_locked a s.map f) is ∙ none_bound a frames f);
+    pins = ap (λ (s : Store). pinned_count s.frames) is ∙ count-replicate_none (λ h. h) frames false refl ∙ sym (ap (sum_by locked_pages) tables);
+    few = subst (λ (s : Store). locked_count a + 3 ≤ length s.frames.held) (sym is) (omega (arith, three, length-replicate frames false, ap (sum_by locked_pages) tables));
+  };
   actors = record {
     some = subst (λ (n : ℕ). 1 ≤ n) (sym size) some;
     placed = All-same (ArePlaced (size_of a)) t.actors [] items (All-nil (ArePlaced (size_of a)));

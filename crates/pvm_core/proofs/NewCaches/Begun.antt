@@ -9,9 +9,8 @@ use Rattle.vm_ids.specs.Held.{Held}
 use Rattle.vm_ids.specs.declared.numbers.CacheId.{CacheId}
 use Rattle.vm_ids.specs.declared.numbers.NodeId.{NodeId}
 use Rattle.vm_ids.specs.declared.numbers.SegId.{SegId}
-use Rattle.frame_pool.specs.Pool.{is_pinned}
 use Rattle.local_cache.specs.declared.own_state.OwnState.TheVariants.{Zero}
-use Rattle.local_cache.specs.Arena.{Arena, IsMade, Room, Table, cell, entry_for, new_table, page_count, table_at}
+use Rattle.local_cache.specs.Arena.{Arena, CellsStay, IsMade, locks_of, Room, Table, cell, entry_for, new_table, page_count, table_at}
 use Rattle.local_cache.specs.Reading as arena
 use Rattle.local_cache.specs.Sound as arena_sound
 use Rattle.residency.specs.declared.store.Store.{Store}
@@ -36,6 +35,7 @@ use Rattle.pvm_core.specs.Placed.{ArePlaced, AreRight, IsPlaced}
 use Rattle.pvm_core.specs.Manager.{AreFull, AreSized, IsSound, IsValid, caches_shown, forest_of, live_in, machine_by, machine_of}
 use Rattle.local_cache.proofs.Nodes.Count.{forest_len}
 use Rattle.pvm_core.proofs.Answering.Kept.{seen}
+use Rattle.pvm_core.proofs.Holding.Made.{held_by_cells, held_by_store, held_made}
 use Rattle.pvm_core.proofs.Meaning.Live.{nodes_most}
 use Rattle.pvm_core.proofs.NewCaches.Making.{roomier_store}
 use Rattle.pvm_core.proofs.NewCaches.NewCache.{fresh_zeros}
@@ -83,7 +83,8 @@ module _ (a b : Arena) (s u : Store) (t : Actors) (live : ℕ) (room : b ≡ rec
     counted = i.counted ∙ sym (ap (sum_by page_count) tables);
     few = i.few;
     loose = subst (λ (s : Store). count_by (λ p. p) s.frames.pinned + 3 ≤ length s.frames.pinned) (sym slots) i.loose;
-    unpinned = λ f. subst (λ (s : Store). is_pinned s.frames f ≡ false) (sym slots) (i.unpinned f);
+    locked = held_by_cells a b u t.actors (ap (λ (k : Arena). k.cells) room) (λ cache page. ap (λ (k : Arena). locks_of k cache page) room) i.nodes.sound.kept.listed sound.kept.listed
+        (held_by_store a s u t.actors (ap (λ (s : Store). s.frames.pinned) slots) (ap (λ (s : Store). s.map) slots) (ap (λ (s : Store). length s.frames.held) slots) i.locked);
     actors = subst (λ (ts : List (Option Table)). AreRight (λ n. option_map (λ (t : Table). length t.pages) (table_at ts n)) t) (sym tables) i.actors;
     page = i.page ∙ sym (ap (λ (s : Store). s.frames.page) slots);
   }
@@ -122,7 +123,7 @@ module _ (a b : Arena) (s u : Store) (t : Actors) (live : ℕ) (room : b ≡ rec
 -- Regions stay placed where a cache is added ----------------------------------------------------
 
 placed_more : (f g : ℕ → Option ℕ) → ((n k : ℕ) → f n ≡ Some k → g n ≡ Some k) → (r : Region) → IsPlaced f r → IsPlaced g r
-placed_more f g up r p = record { unlocked = p.unlocked; count = p.count; there = up r.cache p.count p.there; within = p.within }
+placed_more f g up r p = record { count = p.count; there = up r.cache p.count p.there; within = p.within }
 
 actor_more : (f g : ℕ → Option ℕ) → ((n k : ℕ) → f n ≡ Some k → g n ≡ Some k) → (a : Option Actor) → ArePlaced f a → ArePlaced g a
 actor_more f g up None p = tt
@@ -163,7 +164,7 @@ some_size (Some t) s e = (length t.pages, refl)
 
 -- A cache more -----------------------------------------------------------------------------------
 
-module _ (b d : Arena) (u : Store) (t : Actors) (live n : ℕ) (cache : CacheId) (nodes : List NodeId) (size : length nodes ≡ n) (made : IsMade b d cache None Zero nodes) (forest : arena.forest_of d ≡ make (pages_with Zero cache n) (arena.forest_of b)) (sound : arena_sound.IsSound d)
+module _ (b d : Arena) (u : Store) (t : Actors) (live n : ℕ) (cache : CacheId) (nodes : List NodeId) (size : length nodes ≡ n) (made : IsMade b d cache None Zero nodes) (forest : arena.forest_of d ≡ make (pages_with Zero cache n) (arena.forest_of b)) (sound : arena_sound.IsSound d) (stays : CellsStay b d)
     (i : IsSound b u t live) (few : live + n ≤ Rattle.vm_model.specs.declared.limits.TheConstants.LIVE_PAGES) (room : 2 * (live + n) ≤ b.room.nodes) (slots : 2 * (live + n) ≤ length u.slots) where
   abbrev table : Table
   table = new_table None nodes
@@ -193,7 +194,7 @@ module _ (b d : Arena) (u : Store) (t : Actors) (live n : ℕ) (cache : CacheId)
         omega (arith, total, i.counted, length-map nodes entry_for, size));
     few = few;
     loose = i.loose;
-    unpinned = i.unpinned;
+    locked = held_made b d u t.actors cache None Zero nodes made stays i.nodes.sound.kept.listed sound.kept.listed i.locked;
     actors = subst (λ (ts : List (Option Table)). AreRight (λ k. option_map (λ (t : Table). length t.pages) (table_at ts k)) t) (sym made.caches)
         (right_with (size_of b) (λ k. option_map (λ (t : Table). length t.pages) (table_at (b.caches ++ Some table ∷ []) k)) (size_more b.caches (Some table)) t i.actors);
     page = i.page;

@@ -39,7 +39,7 @@ use Rattle.pvm_core.proofs.Meaning.Values.{followed_of}
 module _ (b d : Arena) (u : Store) (t : Actors) (live n : ℕ) (cache : CacheId) (seg : SegId) (nodes : List NodeId) (size : length nodes ≡ n) (made : IsMade b d cache (Some seg) OnSegment nodes) (pages : HasPages d cache n OnSegment) (stays : CellsStay b d)
     (forest : arena.forest_of d ≡ make (pages_with OnSegment cache n) (arena.forest_of b)) (sound : arena_sound.IsSound d) (i : IsSound b u t live) (free : IsOpened b seg → ⊥) (few : live + n ≤ LIVE_PAGES) (slots : 2 * (live + n) ≤ length u.slots) where
   pub named_sound : IsSound d u t (live + n)
-  named_sound = opened_sound b d u t live n cache seg nodes size made forest sound i free few slots
+  named_sound = opened_sound b d u t live n cache seg nodes size made forest sound stays i free few slots
 
   fresh_page : (x : NodeName) → x ∈ page_names cache 0 n → IsNode (arena.forest_of b) x → ⊥
   fresh_page x k is = ((fresh b d i.nodes cache n (Some seg) OnSegment nodes size made forest sound (omega (arith, forest_len b, nodes_most i, few))).fresh x (subst (λ xs. x ∈ xs) (sym (named_alike OnSegment (page_names cache 0 n))) k)).0 is
@@ -71,8 +71,8 @@ module _ (b d : Arena) (u : Store) (t : Actors) (live n : ℕ) (cache : CacheId)
     pub named_valid : IsValid (seen d u t) h
     named_valid = record {
       right = opened_right (world h None b u) d cache seg nodes v.right made i.nodes.sound sound apart there (omega (arith, nodes_most i, size, slots));
-      sized = opened_sized b d u t live n cache seg nodes size made forest sound i free few slots h has v.sized;
-      full = opened_full b d u t live n cache seg nodes size made forest sound i free few slots h has v.full;
+      sized = opened_sized b d u t live n cache seg nodes size made forest sound stays i free few slots h has v.sized;
+      full = opened_full b d u t live n cache seg nodes size made forest sound stays i free few slots h has v.full;
       whole = whole_opened (seen b u t) (seen d u t) h cache seg n nodes size made i.actors.some has (followed_of (seen b u t) h i.nodes i.actors.some v.whole) forest_now (refl, refl, refl, refl) v.whole;
     }
 

@@ -13,7 +13,7 @@ use Rattle.vm_ids.specs.Forest.Commands.{make}
 use Rattle.vm_ids.specs.Forest.Shape.{IsBounded}
 use Rattle.vm_ids.proofs.Forest.Laws.Commands.{make_keeps_bound}
 use Rattle.local_cache.specs.declared.own_state.OwnState.TheVariants.{OnSegment}
-use Rattle.local_cache.specs.Arena.{Arena, IsMade, Table, entry_for, new_table, page_count, table_at}
+use Rattle.local_cache.specs.Arena.{Arena, CellsStay, IsMade, Table, entry_for, new_table, page_count, table_at}
 use Rattle.local_cache.specs.Reading as arena
 use Rattle.local_cache.specs.Sound as arena_sound
 use Rattle.local_cache.specs.Whole.{segment_of, size_of}
@@ -26,6 +26,7 @@ use Rattle.pvm_core.specs.Manager.{AreFull, AreSized, IsSound, live_in}
 use Rattle.pvm_core.specs.Opening.{ArePagesOf, HasSegment, IsOpened}
 use Rattle.pvm_core.specs.Placed.{AreRight}
 use Rattle.pvm_core.proofs.NewCaches.Begun.{right_with, size_more}
+use Rattle.pvm_core.proofs.Holding.Made.{held_made}
 use Rattle.pvm_core.proofs.Meaning.Live.{nodes_most}
 
 abbrev segment : Option Table → Option (Option SegId)
@@ -50,7 +51,7 @@ some_size : (o : Option Table) (s : SegId) → segment o ≡ Some (Some s) → (
 some_size None s e = absurd (cc e)
 some_size (Some t) s e = (length t.pages, refl)
 
-module _ (b d : Arena) (u : Store) (t : Actors) (live n : ℕ) (cache : CacheId) (seg : SegId) (nodes : List NodeId) (size : length nodes ≡ n) (made : IsMade b d cache (Some seg) OnSegment nodes) (forest : arena.forest_of d ≡ make (pages_with OnSegment cache n) (arena.forest_of b)) (sound : arena_sound.IsSound d)
+module _ (b d : Arena) (u : Store) (t : Actors) (live n : ℕ) (cache : CacheId) (seg : SegId) (nodes : List NodeId) (size : length nodes ≡ n) (made : IsMade b d cache (Some seg) OnSegment nodes) (forest : arena.forest_of d ≡ make (pages_with OnSegment cache n) (arena.forest_of b)) (sound : arena_sound.IsSound d) (stays : CellsStay b d)
     (i : IsSound b u t live) (free : IsOpened b seg → ⊥) (few : live + n ≤ LIVE_PAGES) (slots : 2 * (live + n) ≤ length u.slots) where
   abbrev table : Table
   table = new_table (Some seg) nodes
@@ -90,7 +91,7 @@ module _ (b d : Arena) (u : Store) (t : Actors) (live n : ℕ) (cache : CacheId)
             omega (arith, total, i.counted, length-map nodes entry_for, size));
         few = few;
         loose = i.loose;
-        unpinned = i.unpinned;
+        locked = held_made b d u t.actors cache (Some seg) OnSegment nodes made stays i.nodes.sound.kept.listed sound.kept.listed i.locked;
         actors = subst (λ (ts : List (Option Table)). AreRight (λ k. option_map (λ (t : Table). length t.pages) (table_at ts k)) t) (sym made.caches)
             (right_with (size_of b) (λ k. option_map (λ (t : Table). length t.pages) (table_at (b.caches ++ Some (new_table (Some seg) nodes) ∷ []) k)) (size_more b.caches (Some (new_table (Some seg) nodes))) t i.actors);
         page = i.page;

@@ -52,6 +52,7 @@ module _ (range : Extent) (told : Option Held) (s : SegId) (a b : Arena) where
   denied_cases (Refused refusals.NotTemp) d = absurd d
   denied_cases (Refused refusals.NotNamed) d = absurd d
   denied_cases (Refused refusals.NotLocked) d = absurd d
+  denied_cases (Refused refusals.Full) d = absurd d
 
 -- segments of which this page alone is denied
 abbrev pub one_denied : ℕ → ℕ → Segments

@@ -27,6 +27,8 @@ use Rattle.vm_model.specs.PageForest.{PageForest}
 use Rattle.contexts.specs.Actors.{Actors}
 use Rattle.pvm_core.specs.Manager.{AreFull, AreSized, IsSound, IsValid, cache_shown, caches_shown, forest_of, machine_by, machine_of, pages_shown, state_at}
 use Rattle.pvm_core.specs.Writes.{KeepsNodes}
+use Rattle.segment_ops.proofs.Granting.{granted_locks}
+use Rattle.pvm_core.proofs.Holding.Made.{held_by_cells}
 use Rattle.pvm_core.proofs.NewCaches.Begun.{right_with}
 use Rattle.pvm_core.proofs.Homes.Full.{full_same}
 use Rattle.pvm_core.proofs.Answering.Kept.{seen, sizeless, unsized_right}
@@ -115,7 +117,7 @@ module _ (a b : Arena) (s : Store) (t : Actors) (live : ℕ) (stays : KeepsNodes
     counted = i.counted ∙ sym (live_same a b stays.same);
     few = i.few;
     loose = i.loose;
-    unpinned = i.unpinned;
+    locked = held_by_cells a b s t.actors stays.cells stays.locks i.nodes.sound.kept.listed stays.whole.sound.kept.listed i.locked;
     actors = right_with (size_of a) (size_of b) (λ n k e. stays.same.sizes n ∙ e) t i.actors;
     page = i.page;
   }
@@ -151,6 +153,8 @@ module _ (a b : Arena) (s : Store) (t : Actors) (live : ℕ) (stays : KeepsNodes
 pub stays_granted : (range : Extent) (past : ℕ) (a b : Arena) → GrantsBefore range past a b → arena.forest_of b ≡ arena.forest_of a → IsWhole b → KeepsNodes a b
 stays_granted range past a b g nodes whole = record {
   same = granted_same a b g.tables;
+  cells = ap (λ (k : Arena). k.cells) g.rest;
+  locks = granted_locks range past a b g;
   nodes = nodes;
   whole = whole;
   made = ap (λ (k : Arena). k.made) g.rest;
@@ -159,7 +163,7 @@ stays_granted range past a b g nodes whole = record {
 }
 
 pub stays_itself : (a : Arena) → IsWhole a → KeepsNodes a a
-stays_itself a whole = record { same = record { count = refl; sizes = λ n. refl; segments = λ n. refl }; nodes = refl; whole = whole; made = refl; copies = refl; room = refl }
+stays_itself a whole = record { same = record { count = refl; sizes = λ n. refl; segments = λ n. refl }; cells = refl; locks = λ cache page. refl; nodes = refl; whole = whole; made = refl; copies = refl; room = refl }
 
 -- the node of a page that may be written
 pub writable_node : (a : Arena) (n : NodeId) (cache : CacheId) (page : ℕ) → name_of a n ≡ page_name cache page → IsWritable a (page_name cache page) → MayWrite a n

@@ -99,6 +99,7 @@ failed_save range p q h g (troubles.Refused refusals.TooMany) d = absurd d
 failed_save range p q h g (troubles.Refused refusals.NotTemp) d = absurd d
 failed_save range p q h g (troubles.Refused refusals.NotNamed) d = absurd d
 failed_save range p q h g (troubles.Refused refusals.NotLocked) d = absurd d
+failed_save range p q h g (troubles.Refused refusals.Full) d = absurd d
 failed_save range p q h g (troubles.Refused refusals.WriteDenied) d = absurd d
 
 -- where a save failed, the pages weren't ready

@@ -1,5 +1,5 @@
 -- Room was taken for nodes: the manager stands for the same, and its pages can be copied and moved.
-use Rattle.std.proofs.Common.{◌≡◌, ℕ, ◌≤◌, ◌++◌, false, replicate, Option, Some, None, refl, sym}
+use Rattle.std.proofs.Common.{◌≡◌, ℕ, ◌≤◌, ◌++◌, Bool, false, replicate, Option, Some, None, refl, sym}
 use Rattle.std.proofs.lemmas.List.{append-nil}
 use Rattle.vm_ids.specs.Held.{Held, segments_of}
 use Rattle.vm_ids.specs.declared.command.Span.{Span}
@@ -48,5 +48,5 @@ reserved a b s t live kept no_less forest sound i =
       by = roomy_by a b s s t live kept refl more no_less forest sound i;
     }
 
-pub can_copy : (a : Arena) → IsWhole a → (s : Span) → IsOpen (size_of a s.from.0) (size_of a s.to.0) s → CanCopy (arena.forest_of a) (span_pairs s)
+pub can_copy : (a : Arena) → IsWhole a → (s : Span) {l : Bool} → IsOpen (size_of a s.from.0) (size_of a s.to.0) l s → CanCopy (arena.forest_of a) (span_pairs s)
 can_copy a whole s out = spans_can_be_copied (arena.forest_of a) s (range_there a whole s.from s.from_page.0 s.pages out.from out.from_is out.from_ends) (range_there a whole s.to s.to_page.0 s.pages out.to out.to_is out.to_ends) (apart_of s out.apart)

@@ -131,6 +131,7 @@ module _ (range : Extent) (p q : Manager) (h g : Option Held) where
   not_ready_cases (troubles.Refused refusals.NotTemp) d = absurd d
   not_ready_cases (troubles.Refused refusals.NotNamed) d = absurd d
   not_ready_cases (troubles.Refused refusals.NotLocked) d = absurd d
+  not_ready_cases (troubles.Refused refusals.Full) d = absurd d
 
 -- The answers ----------------------------------------------------------------------------------
 

@@ -19,7 +19,7 @@ use Rattle.residency.specs.World.{world}
 use Rattle.local_cache.specs.Whole.{IsWhole, SameCaches, size_of}
 use Rattle.page_release.specs.Steps.{ForAnyMapper, GivesBack, IsStoreTied, StaysRight, zeros_told}
 use Rattle.page_release.proofs.Tying.Tied.{tied_of}
-use Rattle.vm_model.specs.Answering.{copy_of, is_any_denied, overwrite, put_pages, reply, move_of, put_cache}
+use Rattle.vm_model.specs.Answering.{copy_of, is_any_denied, is_any_locked, overwrite, put_pages, reply, move_of, put_cache}
 use Rattle.vm_model.specs.Answering.{is_named as model_named}
 use Rattle.vm_model.specs.Following.{forest_after}
 use Rattle.vm_model.specs.Machine.{Cache, Machine, Page, cache_of}
@@ -37,9 +37,11 @@ use Rattle.pvm_core.proofs.Meaning.Determined.{IsShaped}
 use Rattle.pvm_core.proofs.Answering.Kept.{seen}
 use Rattle.pvm_core.proofs.Meaning.Same.{shown_shaped}
 use Rattle.pvm_core.proofs.Meaning.Shown.{length-pages, numbered-caches, shown_made}
-use Rattle.pvm_core.proofs.Spanning.SpanRows.{IsOpen, copy_denied, copy_row, move_denied, move_row, outside, unlocked_actors}
+use Rattle.pvm_core.proofs.Spanning.SpanRows.{IsOpen, copy_denied, copy_locked, copy_row, move_denied, move_locked, move_row, outside}
 use Rattle.pvm_core.proofs.Spanning.Transferring.{IsTransfer, undenied_any}
-use Rattle.pvm_core.specs.Spans.{replaced}
+use Rattle.pvm_core.specs.Locks.{any_locked}
+use Rattle.pvm_core.specs.Spans.{read_from, replaced}
+use Rattle.pvm_core.proofs.Holding.Counted.{any_same}
 use Rattle.pvm_core.proofs.Homes.Full.{full_same}
 use Rattle.pvm_core.proofs.Homes.Sized.{sized_same}
 use Rattle.pvm_core.specs.Saving.{is_named}
@@ -80,7 +82,7 @@ named_machine p f n = ap (λ (o : Option Cache). option_map_or (λ (c : Cache). 
 pub named_there : (p : Manager) (f : PageForest) (n : ℕ) (c : Cache) → cache_of (machine_by p f) n ≡ Some c → is_some c.segment ≡ is_named p.caches n
 named_there p f n c e = ap (λ (o : Option Cache). option_map_or (λ (c : Cache). is_some c.segment) o false) (sym e) ∙ named_machine p f n
 
-module _ (b : Arena) (s : Store) (t : Actors) (live : ℕ) (k : IsSound b s t live) (span : Span) (out : IsOpen (size_of b span.from.0) (size_of b span.to.0) span) (from to : Table) (from_is : table_of b span.from.0 ≡ Some from) (to_is : table_of b span.to.0 ≡ Some to) (from_long : length from.pages ≡ out.from) (to_long : length to.pages ≡ out.to) where
+module _ (b : Arena) (s : Store) (t : Actors) (live : ℕ) (k : IsSound b s t live) (span : Span) (out : IsOpen (size_of b span.from.0) (size_of b span.to.0) (any_locked b (replaced span)) span) (from to : Table) (from_is : table_of b span.from.0 ≡ Some from) (to_is : table_of b span.to.0 ≡ Some to) (from_long : length from.pages ≡ out.from) (to_long : length to.pages ≡ out.to) where
   abbrev source : PageForest → Cache
   source f = cache_shown f span.from.0 from
 
@@ -112,15 +114,21 @@ module _ (b : Arena) (s : Store) (t : Actors) (live : ℕ) (k : IsSound b s t li
   outside_not f = both (nat_lt (length (cache_shown f span.from.0 from).pages) (span.from_page.0 + span.pages)) (nat_lt (length (cache_shown f span.to.0 to).pages) (span.to_page.0 + span.pages))
       (inside (length (cache_shown f span.from.0 from).pages) (span.from_page.0 + span.pages) (omega (arith, source_long f, out.from_ends))) (inside (length (cache_shown f span.to.0 to).pages) (span.to_page.0 + span.pages) (omega (arith, destination_long f, out.to_ends)))
 
+  copy_free : (f : PageForest) → copy_locked (machine_by (seen b s t) f) span ≡ false
+  copy_free f = any_same (seen b s t) f k.locked.counted (replaced span) ∙ out.unlocked
+
+  move_free : any_locked b (read_from span) ≡ false → (f : PageForest) → move_locked (machine_by (seen b s t) f) span ≡ false
+  move_free still f = both (is_any_locked (machine_by (seen b s t) f) span.from span.from_page.0 span.pages) (copy_locked (machine_by (seen b s t) f) span) (any_same (seen b s t) f k.locked.counted (read_from span) ∙ still) (copy_free f)
+
   pub copied_row : (f : PageForest) (sg : Segments) → is_any_denied (machine_by (seen b s t) f) sg span ≡ false → copy_of (machine_by (seen b s t) f) span sg ≡ reply replies.Done (record (machine_by (seen b s t) f) { caches = next f })
-  copied_row f sg free = copy_row (machine_by (seen b s t) f) span sg (λ cache page. unlocked_actors (size_of b) cache page t.actors k.actors.placed) (cache_shown f span.from.0 from) (cache_shown f span.to.0 to) (source_there f) (destination_there f) (outside_not f) out.apart free
+  copied_row f sg free = copy_row (machine_by (seen b s t) f) span sg (cache_shown f span.from.0 from) (cache_shown f span.to.0 to) (source_there f) (destination_there f) (outside_not f) out.apart (copy_free f) free
 
   -- a copy of the span
   pub copied_transfer : IsTransfer (seen b s t) span (commands.Copy span)
   copied_transfer = record {
     next = λ f. record (machine_by (seen b s t) f) { caches = next f };
     row = λ f g sg free. copied_row f sg free;
-    shut = λ f g sg denied. copy_denied (machine_by (seen b s t) f) span sg (λ cache page. unlocked_actors (size_of b) cache page t.actors k.actors.placed) (cache_shown f span.from.0 from) (cache_shown f span.to.0 to) (source_there f) (destination_there f) (outside_not f) out.apart denied;
+    shut = λ f g sg denied. copy_denied (machine_by (seen b s t) f) span sg (cache_shown f span.from.0 from) (cache_shown f span.to.0 to) (source_there f) (destination_there f) (outside_not f) out.apart (copy_free f) denied;
     saved = λ m. refl;
     access = λ m f sg page rises named first. (named, first);
     save = λ m f sg done rises named can. (named, can);
@@ -210,16 +218,16 @@ module _ (b : Arena) (s : Store) (t : Actors) (live : ℕ) (k : IsSound b s t li
   unnamed_source : is_named b span.from.0 ≡ false → (f : PageForest) → is_some (cache_shown f span.from.0 from).segment ≡ false
   unnamed_source temp f = is_shown from.segment ∙ sym (ap (λ (o : Option Table). is_some (option_and_then (λ (t : Table). t.segment) o)) from_is) ∙ temp
 
-  pub moved_row : is_named b span.from.0 ≡ false → (f : PageForest) (sg : Segments) → is_any_denied (machine_by (seen b s t) f) sg span ≡ false → move_of (machine_by (seen b s t) f) span sg ≡ reply replies.Done (record (machine_by (seen b s t) f) { caches = moved f (replicate t.page_bytes 0) })
-  moved_row temp f sg free = move_row (machine_by (seen b s t) f) span sg (λ cache page. unlocked_actors (size_of b) cache page t.actors k.actors.placed) (cache_shown f span.from.0 from) (cache_shown f span.to.0 to) (source_there f) (destination_there f) (outside_not f) out.apart (unnamed_source temp f) free
+  pub moved_row : is_named b span.from.0 ≡ false → any_locked b (read_from span) ≡ false → (f : PageForest) (sg : Segments) → is_any_denied (machine_by (seen b s t) f) sg span ≡ false → move_of (machine_by (seen b s t) f) span sg ≡ reply replies.Done (record (machine_by (seen b s t) f) { caches = moved f (replicate t.page_bytes 0) })
+  moved_row temp still f sg free = move_row (machine_by (seen b s t) f) span sg (cache_shown f span.from.0 from) (cache_shown f span.to.0 to) (source_there f) (destination_there f) (outside_not f) out.apart (move_free still f) (unnamed_source temp f) free
       ∙ ap (λ (o : Option Cache). reply replies.Done (option_map_or (λ (c : Cache). put_cache (record (machine_by (seen b s t) f) { caches = next f }) span.from.0 (put_pages span.from_page.0 (replicate span.pages (replicate t.page_bytes 0)) c)) o (record (machine_by (seen b s t) f) { caches = next f }))) (copied_there f).1
 
   -- a move of the span
-  pub moved_transfer : is_named b span.from.0 ≡ false → IsTransfer (seen b s t) span (commands.Move span)
-  moved_transfer temp = record {
+  pub moved_transfer : is_named b span.from.0 ≡ false → any_locked b (read_from span) ≡ false → IsTransfer (seen b s t) span (commands.Move span)
+  moved_transfer temp still = record {
     next = λ f. record (machine_by (seen b s t) f) { caches = moved f (replicate t.page_bytes 0) };
-    row = λ f g sg free. moved_row temp f sg free;
-    shut = λ f g sg denied. move_denied (machine_by (seen b s t) f) span sg (λ cache page. unlocked_actors (size_of b) cache page t.actors k.actors.placed) (cache_shown f span.from.0 from) (cache_shown f span.to.0 to) (source_there f) (destination_there f) (outside_not f) out.apart (unnamed_source temp f) denied;
+    row = λ f g sg free. moved_row temp still f sg free;
+    shut = λ f g sg denied. move_denied (machine_by (seen b s t) f) span sg (cache_shown f span.from.0 from) (cache_shown f span.to.0 to) (source_there f) (destination_there f) (outside_not f) out.apart (move_free still f) (unnamed_source temp f) denied;
     saved = λ m. refl;
     access = λ m f sg page rises named first. (named, first);
     save = λ m f sg done rises named can. (named, can);
@@ -303,12 +311,12 @@ module _ (b : Arena) (s : Store) (t : Actors) (live : ℕ) (k : IsSound b s t li
             All-set (outcome.IsWhole t.page_bytes) (next g) (span.from.0 - 1) (Some (left g z))
             (all_overwrite P span.from_page.0 (replicate span.pages z) (copied_there g).0.pages (All-replicate P span.pages z (ap (λ k. length (zeros_for k t.page_bytes)) e ∙ length-replicate t.page_bytes 0)) lp) all
 
-    pub moved_outcome : is_named b span.from.0 ≡ false → (F : PageForest) (rises : MapperCounts) → ((sg : Segments) → segments_of h ≡ Some sg → is_any_denied (machine_of (seen b s t) h) sg span ≡ false)
+    pub moved_outcome : is_named b span.from.0 ≡ false → any_locked b (read_from span) ≡ false → (F : PageForest) (rises : MapperCounts) → ((sg : Segments) → segments_of h ≡ Some sg → is_any_denied (machine_of (seen b s t) h) sg span ≡ false)
         → OutcomeAt (segments_of h) (machine_of (seen b s t) h) (Some F) (commands.Move span) (Ok replies.Done) (machine_of (seen d u t) h) rises
-    moved_outcome temp F rises free = go h refl
+    moved_outcome temp still F rises free = go h refl
       where
         go : (o : Option Held) → h ≡ o → OutcomeAt (segments_of o) (machine_of (seen b s t) h) (Some F) (commands.Move span) (Ok replies.Done) (machine_of (seen d u t) h) rises
-        go (Some o) e = moved_row temp g (segments_in o) (free (segments_in o) (ap segments_of e)) ∙ ap (λ (m : Machine). reply replies.Done m) (ap (λ k. record (machine_of (seen b s t) h) { caches = moved g (zeros_for k t.page_bytes) }) (sym e) ∙ sym machine_moved)
+        go (Some o) e = moved_row temp still g (segments_in o) (free (segments_in o) (ap segments_of e)) ∙ ap (λ (m : Machine). reply replies.Done m) (ap (λ k. record (machine_of (seen b s t) h) { caches = moved g (zeros_for k t.page_bytes) }) (sym e) ∙ sym machine_moved)
         go None e = record {
           whole = machine_by (seen b s t) (zeroed (seen b s t) h);
           whole_next = record (machine_by (seen b s t) (zeroed (seen b s t) h)) { caches = moved (zeroed (seen b s t) h) (replicate t.page_bytes 0) };
@@ -318,5 +326,5 @@ module _ (b : Arena) (s : Store) (t : Actors) (live : ℕ) (k : IsSound b s t li
           is_next = blank_is b d s u t live k same back tied whole h (moved (zeroed (seen b s t) h) (replicate t.page_bytes 0)) (moved_many (zeroed (seen b s t) h) (replicate t.page_bytes 0)) (moved_shapes (zeroed (seen b s t) h) (replicate t.page_bytes 0)) (zeroed (seen b s t) h) e;
           pages = zeroed_whole (seen b s t) h k.nodes;
           alike = refl;
-          outcome = moved_row temp (zeroed (seen b s t) h) no_segments (undenied_any (seen b s t) (zeroed (seen b s t) h) span);
+          outcome = moved_row temp still (zeroed (seen b s t) h) no_segments (undenied_any (seen b s t) (zeroed (seen b s t) h) span);
         }

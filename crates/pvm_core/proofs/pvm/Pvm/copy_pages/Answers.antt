@@ -29,6 +29,10 @@ use Rattle.vm_model.specs.Run.{CallIs}
 use Rattle.pvm_core.specs.Keeping.{CopiesNothing, HasMoreRoom}
 use Rattle.pvm_core.specs.Manager.{IsValid, Manager, forest_of, machine_by, machine_of, numbered, state_at}
 use Rattle.pvm_core.specs.Saving.{CopiesSaved, IsNotReady, IsReady, KeepsMachine, NeedsNothing, RefusedOf, is_named}
+use Rattle.pvm_core.specs.Locks.{any_locked}
+use Rattle.pvm_core.proofs.Holding.Counted.{any_same, same_locked}
+use Rattle.pvm_core.proofs.Holding.Kept.{held_released}
+use Rattle.pvm_core.proofs.Holding.Loose.{unpinned_names, working_unpinned}
 use Rattle.pvm_core.specs.Spans.{copy_refusal, move_refusal, replaced}
 use Rattle.pvm_core.specs.contracts.pvm.Pvm.{the_view}
 use Rattle.pvm_core.proofs.Answering.Answered.{call_is, failed}
@@ -42,7 +46,7 @@ use Rattle.pvm_core.proofs.Readiness.Readying.{named_same}
 use Rattle.pvm_core.proofs.Spanning.Reserved.{can_copy}
 use Rattle.pvm_core.proofs.Answering.Rising.{rises_between}
 use Rattle.pvm_core.proofs.Meaning.Shown.{shown_size}
-use Rattle.pvm_core.proofs.Spanning.SpanRows.{IsOpen, copy_refused, is_movable, is_open, move_refused, unlocked_actors}
+use Rattle.pvm_core.proofs.Spanning.SpanRows.{IsOpen, copy_refused, is_movable, is_open, move_refused}
 use Rattle.pvm_core.proofs.Spanning.Spanned.{apart_of}
 use Rattle.pvm_core.proofs.Spanning.Transferring.{copies_nothing, failed_copied, failed_made, failed_refused, names_written, transfer_failed, undenied_range}
 use Rattle.pvm_core.proofs.Spanning.Transfers.{copied_outcome, copied_transfer, copied_valid, copy_follows, move_follows, moved_outcome, moved_transfer, moved_valid, named_machine}
@@ -57,14 +61,14 @@ returns-in-Some-clause-answers g c =
     let answer : Answer = Err (troubles.Refused c.in-Some.refusal) in
     subst (λ (p : Manager). CallIs counts counts (state_at p h) (commands.Copy c.args.span) answer (state_at p h)) c.self.view_is
     (failed counts counts p p h h (commands.Copy c.args.span) answer (reach_none (machine_of p h) h counts) c.self.invariant.nodes c.self.invariant.nodes (subst (λ (p : Manager). IsValid p h) (sym c.self.view_is) c.requires.valid) refl refl tt tt
-    (λ f sg. copy_refused (machine_by p f) s sg c.in-Some.refusal (cache_of (machine_by p f) s.from.0) (cache_of (machine_by p f) s.to.0) refl refl
-    ((λ j. copy_refusal (shown_size f p.caches.caches s.from.0 j) (shown_size f p.caches.caches s.to.0 j) s) ∙ sym c.copy_refusal.ensures ∙ c.in-Some.is)))
+    (λ f sg. copy_refused (machine_by p f) s sg c.in-Some.refusal (cache_of (machine_by p f) s.from.0) (cache_of (machine_by p f) s.to.0) (any_locked p.caches (replaced s)) refl refl (any_same p f c.self.invariant.locked.counted (replaced s))
+    ((λ j. copy_refusal (shown_size f p.caches.caches s.from.0 j) (shown_size f p.caches.caches s.to.0 j) (any_locked p.caches (replaced s)) s) ∙ sym c.copy_refusal.ensures ∙ c.in-Some.is)))
 
 pub make_ready-requires-clause-range : goal.make_ready-requires-clause-range
 make_ready-requires-clause-range g c =
     let i = c.self.inside in
     let s = c.args.span in
-    let open0 = is_open (size_of i.caches s.from.0) (size_of i.caches s.to.0) s (sym c.copy_refusal.ensures ∙ c.in_default.is) in
+    let open0 = is_open (size_of i.caches s.from.0) (size_of i.caches s.to.0) (any_locked i.caches (replaced s)) s (sym c.copy_refusal.ensures ∙ c.in_default.is) in
     let range : HasRange i.caches c.destination.result = subst (HasRange i.caches) (sym c.destination.ensures) (record { pages = open0.to; size = open0.to_is; within = open0.to_ends }) in
     subst (λ (p : Manager). HasRange p.caches c.destination.result) c.self.view_is range
 
@@ -72,7 +76,7 @@ pub returns-in_err-make_ready-clause-answers : goal.returns-in_err-make_ready-cl
 returns-in_err-make_ready-clause-answers g c =
     let i = c.self.inside in
     let s = c.args.span in
-    let open0 = is_open (size_of i.caches s.from.0) (size_of i.caches s.to.0) s (sym c.copy_refusal.ensures ∙ c.in_default.is) in
+    let open0 = is_open (size_of i.caches s.from.0) (size_of i.caches s.to.0) (any_locked i.caches (replaced s)) s (sym c.copy_refusal.ensures ∙ c.in_default.is) in
     let q = c.make_ready.new.self in
     let x0 = c.make_ready.ensures in
     let h = g.M.Mapper.held c.args.mapper.now in
@@ -98,7 +102,7 @@ pub returns-in_err-make_ready-clause-made : goal.returns-in_err-make_ready-claus
 returns-in_err-make_ready-clause-made g c =
     let i = c.self.inside in
     let s = c.args.span in
-    let open0 = is_open (size_of i.caches s.from.0) (size_of i.caches s.to.0) s (sym c.copy_refusal.ensures ∙ c.in_default.is) in
+    let open0 = is_open (size_of i.caches s.from.0) (size_of i.caches s.to.0) (any_locked i.caches (replaced s)) s (sym c.copy_refusal.ensures ∙ c.in_default.is) in
     let q = c.make_ready.new.self in
     let x0 = c.make_ready.ensures in
     let h = g.M.Mapper.held c.args.mapper.now in
@@ -123,7 +127,7 @@ pub returns-in_err-make_ready-clause-copies : goal.returns-in_err-make_ready-cla
 returns-in_err-make_ready-clause-copies g c =
     let i = c.self.inside in
     let s = c.args.span in
-    let open0 = is_open (size_of i.caches s.from.0) (size_of i.caches s.to.0) s (sym c.copy_refusal.ensures ∙ c.in_default.is) in
+    let open0 = is_open (size_of i.caches s.from.0) (size_of i.caches s.to.0) (any_locked i.caches (replaced s)) s (sym c.copy_refusal.ensures ∙ c.in_default.is) in
     let q = c.make_ready.new.self in
     let x0 = c.make_ready.ensures in
     let h = g.M.Mapper.held c.args.mapper.now in
@@ -148,7 +152,7 @@ pub returns-in_err-make_ready-clause-refused : goal.returns-in_err-make_ready-cl
 returns-in_err-make_ready-clause-refused g c =
     let i = c.self.inside in
     let s = c.args.span in
-    let open0 = is_open (size_of i.caches s.from.0) (size_of i.caches s.to.0) s (sym c.copy_refusal.ensures ∙ c.in_default.is) in
+    let open0 = is_open (size_of i.caches s.from.0) (size_of i.caches s.to.0) (any_locked i.caches (replaced s)) s (sym c.copy_refusal.ensures ∙ c.in_default.is) in
     let q = c.make_ready.new.self in
     let x0 = c.make_ready.ensures in
     let h = g.M.Mapper.held c.args.mapper.now in
@@ -172,7 +176,7 @@ pub returns-in_err-make_ready-clause-idle : goal.returns-in_err-make_ready-claus
 returns-in_err-make_ready-clause-idle g c =
     let i = c.self.inside in
     let s = c.args.span in
-    let open0 = is_open (size_of i.caches s.from.0) (size_of i.caches s.to.0) s (sym c.copy_refusal.ensures ∙ c.in_default.is) in
+    let open0 = is_open (size_of i.caches s.from.0) (size_of i.caches s.to.0) (any_locked i.caches (replaced s)) s (sym c.copy_refusal.ensures ∙ c.in_default.is) in
     let q = c.make_ready.new.self in
     let x0 = c.make_ready.ensures in
     let h = g.M.Mapper.held c.args.mapper.now in
@@ -202,7 +206,7 @@ pub copy_pages-requires-clause-tied : goal.copy_pages-requires-clause-tied
 copy_pages-requires-clause-tied g c =
     let i = c.self.inside in
     let s = c.args.span in
-    let open0 = is_open (size_of i.caches s.from.0) (size_of i.caches s.to.0) s (sym c.copy_refusal.ensures ∙ c.in_default.is) in
+    let open0 = is_open (size_of i.caches s.from.0) (size_of i.caches s.to.0) (any_locked i.caches (replaced s)) s (sym c.copy_refusal.ensures ∙ c.in_default.is) in
     let q = c.make_ready.new.self in
     let x0 = c.make_ready.ensures in
     let h = g.M.Mapper.held c.args.mapper.now in
@@ -223,7 +227,7 @@ copy_pages-requires-clause-tied g c =
     let keeps : KeepsMachine p b h k before after = subst (λ (r : Manager). KeepsMachine p r h k before after) (sym v2) keeps0 in
     let ready : IsReady (replaced s) (2 * c.args.span.pages) p b h k = subst (λ (e : Extent). IsReady e (2 * c.args.span.pages) p b h k) c.destination.ensures
     (subst (λ (r : Manager). IsReady c.destination.result (2 * c.args.span.pages) p r h k) (sym v2) (subst (λ (p : Manager). IsReady c.destination.result (2 * c.args.span.pages) p q h k) (sym c.self.view_is) c.in_ok-make_ready.ensures.ready)) in
-    let out : IsOpen (size_of j.caches s.from.0) (size_of j.caches s.to.0) s = record {
+    let out : IsOpen (size_of j.caches s.from.0) (size_of j.caches s.to.0) (any_locked j.caches (replaced s)) s = record {
       from = open0.from;
       to = open0.to;
       from_is = keeps.same.sizes s.from.0 ∙ open0.from_is;
@@ -231,6 +235,7 @@ copy_pages-requires-clause-tied g c =
       from_ends = open0.from_ends;
       to_ends = open0.to_ends;
       apart = open0.apart;
+      unlocked = same_locked p b c.self.invariant.locked.counted sound.locked.counted keeps.by (replaced s) ∙ open0.unlocked;
     } in
     let tied = tied_right k None j.caches j.store valid.right in
     tied
@@ -239,7 +244,7 @@ pub copy_pages-requires-clause-can : goal.copy_pages-requires-clause-can
 copy_pages-requires-clause-can g c =
     let i = c.self.inside in
     let s = c.args.span in
-    let open0 = is_open (size_of i.caches s.from.0) (size_of i.caches s.to.0) s (sym c.copy_refusal.ensures ∙ c.in_default.is) in
+    let open0 = is_open (size_of i.caches s.from.0) (size_of i.caches s.to.0) (any_locked i.caches (replaced s)) s (sym c.copy_refusal.ensures ∙ c.in_default.is) in
     let q = c.make_ready.new.self in
     let x0 = c.make_ready.ensures in
     let h = g.M.Mapper.held c.args.mapper.now in
@@ -260,7 +265,7 @@ copy_pages-requires-clause-can g c =
     let keeps : KeepsMachine p b h k before after = subst (λ (r : Manager). KeepsMachine p r h k before after) (sym v2) keeps0 in
     let ready : IsReady (replaced s) (2 * c.args.span.pages) p b h k = subst (λ (e : Extent). IsReady e (2 * c.args.span.pages) p b h k) c.destination.ensures
     (subst (λ (r : Manager). IsReady c.destination.result (2 * c.args.span.pages) p r h k) (sym v2) (subst (λ (p : Manager). IsReady c.destination.result (2 * c.args.span.pages) p q h k) (sym c.self.view_is) c.in_ok-make_ready.ensures.ready)) in
-    let out : IsOpen (size_of j.caches s.from.0) (size_of j.caches s.to.0) s = record {
+    let out : IsOpen (size_of j.caches s.from.0) (size_of j.caches s.to.0) (any_locked j.caches (replaced s)) s = record {
       from = open0.from;
       to = open0.to;
       from_is = keeps.same.sizes s.from.0 ∙ open0.from_is;
@@ -268,15 +273,38 @@ copy_pages-requires-clause-can g c =
       from_ends = open0.from_ends;
       to_ends = open0.to_ends;
       apart = open0.apart;
+      unlocked = same_locked p b c.self.invariant.locked.counted sound.locked.counted keeps.by (replaced s) ∙ open0.unlocked;
     } in
     let tied = tied_right k None j.caches j.store valid.right in
     can_copy j.caches sound.nodes s out
+
+pub copy_pages-requires-clause-unpinned : goal.copy_pages-requires-clause-unpinned
+copy_pages-requires-clause-unpinned g c = λ x is.
+    let i = c.self.inside in
+    let j = c.self-2.inside in
+    let s = c.args.span in
+    let q = c.make_ready.new.self in
+    let h = g.M.Mapper.held c.args.mapper.now in
+    let k = g.M.Mapper.held c.make_ready.new.mapper in
+    let before = g.M.Mapper.counts c.args.mapper.now in
+    let after = g.M.Mapper.counts c.make_ready.new.mapper in
+    let p : Manager = seen i.caches i.store i.contexts in
+    let b : Manager = seen j.caches j.store j.contexts in
+    let sound = c.self-2.invariant in
+    let keeps : KeepsMachine p b h k before after = subst (λ (r : Manager). KeepsMachine p r h k before after) (sym c.self-2.view_is) (subst (λ (p : Manager). KeepsMachine p q h k before after) (sym c.self.view_is) c.make_ready.ensures.keeps) in
+    let free : any_locked j.caches (replaced s) ≡ false = same_locked p b c.self.invariant.locked.counted sound.locked.counted keeps.by (replaced s) ∙ (is_open (size_of i.caches s.from.0) (size_of i.caches s.to.0) (any_locked i.caches (replaced s)) s (sym c.copy_refusal.ensures ∙ c.in_default.is)).unlocked in
+    unpinned_names j.caches j.store j.contexts.actors sound.locked (replaced s) free x (subst (λ (xs : List NodeName). x ∈ xs) (destination_names s) is)
+
+pub copy_pages-requires-clause-working : goal.copy_pages-requires-clause-working
+copy_pages-requires-clause-working g c =
+    let j = c.self-2.inside in
+    working_unpinned j.caches j.store j.contexts.actors c.self-2.invariant.locked
 
 pub copy_pages-requires-clause-saved : goal.copy_pages-requires-clause-saved
 copy_pages-requires-clause-saved g c =
     let i = c.self.inside in
     let s = c.args.span in
-    let open0 = is_open (size_of i.caches s.from.0) (size_of i.caches s.to.0) s (sym c.copy_refusal.ensures ∙ c.in_default.is) in
+    let open0 = is_open (size_of i.caches s.from.0) (size_of i.caches s.to.0) (any_locked i.caches (replaced s)) s (sym c.copy_refusal.ensures ∙ c.in_default.is) in
     let q = c.make_ready.new.self in
     let x0 = c.make_ready.ensures in
     let h = g.M.Mapper.held c.args.mapper.now in
@@ -297,7 +325,7 @@ copy_pages-requires-clause-saved g c =
     let keeps : KeepsMachine p b h k before after = subst (λ (r : Manager). KeepsMachine p r h k before after) (sym v2) keeps0 in
     let ready : IsReady (replaced s) (2 * c.args.span.pages) p b h k = subst (λ (e : Extent). IsReady e (2 * c.args.span.pages) p b h k) c.destination.ensures
     (subst (λ (r : Manager). IsReady c.destination.result (2 * c.args.span.pages) p r h k) (sym v2) (subst (λ (p : Manager). IsReady c.destination.result (2 * c.args.span.pages) p q h k) (sym c.self.view_is) c.in_ok-make_ready.ensures.ready)) in
-    let out : IsOpen (size_of j.caches s.from.0) (size_of j.caches s.to.0) s = record {
+    let out : IsOpen (size_of j.caches s.from.0) (size_of j.caches s.to.0) (any_locked j.caches (replaced s)) s = record {
       from = open0.from;
       to = open0.to;
       from_is = keeps.same.sizes s.from.0 ∙ open0.from_is;
@@ -305,6 +333,7 @@ copy_pages-requires-clause-saved g c =
       from_ends = open0.from_ends;
       to_ends = open0.to_ends;
       apart = open0.apart;
+      unlocked = same_locked p b c.self.invariant.locked.counted sound.locked.counted keeps.by (replaced s) ∙ open0.unlocked;
     } in
     let tied = tied_right k None j.caches j.store valid.right in
     subst (AreSaved j.caches s.to) (sym (destination_names s)) ready.saved_now
@@ -313,7 +342,7 @@ pub copy_pages-requires-clause-granted : goal.copy_pages-requires-clause-granted
 copy_pages-requires-clause-granted g c =
     let i = c.self.inside in
     let s = c.args.span in
-    let open0 = is_open (size_of i.caches s.from.0) (size_of i.caches s.to.0) s (sym c.copy_refusal.ensures ∙ c.in_default.is) in
+    let open0 = is_open (size_of i.caches s.from.0) (size_of i.caches s.to.0) (any_locked i.caches (replaced s)) s (sym c.copy_refusal.ensures ∙ c.in_default.is) in
     let q = c.make_ready.new.self in
     let x0 = c.make_ready.ensures in
     let h = g.M.Mapper.held c.args.mapper.now in
@@ -334,7 +363,7 @@ copy_pages-requires-clause-granted g c =
     let keeps : KeepsMachine p b h k before after = subst (λ (r : Manager). KeepsMachine p r h k before after) (sym v2) keeps0 in
     let ready : IsReady (replaced s) (2 * c.args.span.pages) p b h k = subst (λ (e : Extent). IsReady e (2 * c.args.span.pages) p b h k) c.destination.ensures
     (subst (λ (r : Manager). IsReady c.destination.result (2 * c.args.span.pages) p r h k) (sym v2) (subst (λ (p : Manager). IsReady c.destination.result (2 * c.args.span.pages) p q h k) (sym c.self.view_is) c.in_ok-make_ready.ensures.ready)) in
-    let out : IsOpen (size_of j.caches s.from.0) (size_of j.caches s.to.0) s = record {
+    let out : IsOpen (size_of j.caches s.from.0) (size_of j.caches s.to.0) (any_locked j.caches (replaced s)) s = record {
       from = open0.from;
       to = open0.to;
       from_is = keeps.same.sizes s.from.0 ∙ open0.from_is;
@@ -342,6 +371,7 @@ copy_pages-requires-clause-granted g c =
       from_ends = open0.from_ends;
       to_ends = open0.to_ends;
       apart = open0.apart;
+      unlocked = same_locked p b c.self.invariant.locked.counted sound.locked.counted keeps.by (replaced s) ∙ open0.unlocked;
     } in
     let tied = tied_right k None j.caches j.store valid.right in
     names_written j.caches s ready.writable
@@ -350,7 +380,7 @@ pub copy_pages-requires-clause-few : goal.copy_pages-requires-clause-few
 copy_pages-requires-clause-few g c =
     let i = c.self.inside in
     let s = c.args.span in
-    let open0 = is_open (size_of i.caches s.from.0) (size_of i.caches s.to.0) s (sym c.copy_refusal.ensures ∙ c.in_default.is) in
+    let open0 = is_open (size_of i.caches s.from.0) (size_of i.caches s.to.0) (any_locked i.caches (replaced s)) s (sym c.copy_refusal.ensures ∙ c.in_default.is) in
     let q = c.make_ready.new.self in
     let x0 = c.make_ready.ensures in
     let h = g.M.Mapper.held c.args.mapper.now in
@@ -371,7 +401,7 @@ copy_pages-requires-clause-few g c =
     let keeps : KeepsMachine p b h k before after = subst (λ (r : Manager). KeepsMachine p r h k before after) (sym v2) keeps0 in
     let ready : IsReady (replaced s) (2 * c.args.span.pages) p b h k = subst (λ (e : Extent). IsReady e (2 * c.args.span.pages) p b h k) c.destination.ensures
     (subst (λ (r : Manager). IsReady c.destination.result (2 * c.args.span.pages) p r h k) (sym v2) (subst (λ (p : Manager). IsReady c.destination.result (2 * c.args.span.pages) p q h k) (sym c.self.view_is) c.in_ok-make_ready.ensures.ready)) in
-    let out : IsOpen (size_of j.caches s.from.0) (size_of j.caches s.to.0) s = record {
+    let out : IsOpen (size_of j.caches s.from.0) (size_of j.caches s.to.0) (any_locked j.caches (replaced s)) s = record {
       from = open0.from;
       to = open0.to;
       from_is = keeps.same.sizes s.from.0 ∙ open0.from_is;
@@ -379,6 +409,7 @@ copy_pages-requires-clause-few g c =
       from_ends = open0.from_ends;
       to_ends = open0.to_ends;
       apart = open0.apart;
+      unlocked = same_locked p b c.self.invariant.locked.counted sound.locked.counted keeps.by (replaced s) ∙ open0.unlocked;
     } in
     let tied = tied_right k None j.caches j.store valid.right in
     omega (arith, forest_len j.caches, nodes_most sound, sound.few, sound.counted, size_le j.caches s.from.0 out.from out.from_is, out.from_ends)
@@ -387,7 +418,7 @@ pub copy_pages-requires-clause-within : goal.copy_pages-requires-clause-within
 copy_pages-requires-clause-within g c =
     let i = c.self.inside in
     let s = c.args.span in
-    let open0 = is_open (size_of i.caches s.from.0) (size_of i.caches s.to.0) s (sym c.copy_refusal.ensures ∙ c.in_default.is) in
+    let open0 = is_open (size_of i.caches s.from.0) (size_of i.caches s.to.0) (any_locked i.caches (replaced s)) s (sym c.copy_refusal.ensures ∙ c.in_default.is) in
     let q = c.make_ready.new.self in
     let x0 = c.make_ready.ensures in
     let h = g.M.Mapper.held c.args.mapper.now in
@@ -408,7 +439,7 @@ copy_pages-requires-clause-within g c =
     let keeps : KeepsMachine p b h k before after = subst (λ (r : Manager). KeepsMachine p r h k before after) (sym v2) keeps0 in
     let ready : IsReady (replaced s) (2 * c.args.span.pages) p b h k = subst (λ (e : Extent). IsReady e (2 * c.args.span.pages) p b h k) c.destination.ensures
     (subst (λ (r : Manager). IsReady c.destination.result (2 * c.args.span.pages) p r h k) (sym v2) (subst (λ (p : Manager). IsReady c.destination.result (2 * c.args.span.pages) p q h k) (sym c.self.view_is) c.in_ok-make_ready.ensures.ready)) in
-    let out : IsOpen (size_of j.caches s.from.0) (size_of j.caches s.to.0) s = record {
+    let out : IsOpen (size_of j.caches s.from.0) (size_of j.caches s.to.0) (any_locked j.caches (replaced s)) s = record {
       from = open0.from;
       to = open0.to;
       from_is = keeps.same.sizes s.from.0 ∙ open0.from_is;
@@ -416,6 +447,7 @@ copy_pages-requires-clause-within g c =
       from_ends = open0.from_ends;
       to_ends = open0.to_ends;
       apart = open0.apart;
+      unlocked = same_locked p b c.self.invariant.locked.counted sound.locked.counted keeps.by (replaced s) ∙ open0.unlocked;
     } in
     let tied = tied_right k None j.caches j.store valid.right in
     (omega (arith, sound.few, sound.counted, size_le j.caches s.from.0 out.from out.from_is, out.from_ends), omega (arith, sound.few, sound.counted, size_le j.caches s.to.0 out.to out.to_is, out.to_ends))
@@ -424,7 +456,7 @@ pub copy_pages-requires-clause-room : goal.copy_pages-requires-clause-room
 copy_pages-requires-clause-room g c =
     let i = c.self.inside in
     let s = c.args.span in
-    let open0 = is_open (size_of i.caches s.from.0) (size_of i.caches s.to.0) s (sym c.copy_refusal.ensures ∙ c.in_default.is) in
+    let open0 = is_open (size_of i.caches s.from.0) (size_of i.caches s.to.0) (any_locked i.caches (replaced s)) s (sym c.copy_refusal.ensures ∙ c.in_default.is) in
     let q = c.make_ready.new.self in
     let x0 = c.make_ready.ensures in
     let h = g.M.Mapper.held c.args.mapper.now in
@@ -445,7 +477,7 @@ copy_pages-requires-clause-room g c =
     let keeps : KeepsMachine p b h k before after = subst (λ (r : Manager). KeepsMachine p r h k before after) (sym v2) keeps0 in
     let ready : IsReady (replaced s) (2 * c.args.span.pages) p b h k = subst (λ (e : Extent). IsReady e (2 * c.args.span.pages) p b h k) c.destination.ensures
     (subst (λ (r : Manager). IsReady c.destination.result (2 * c.args.span.pages) p r h k) (sym v2) (subst (λ (p : Manager). IsReady c.destination.result (2 * c.args.span.pages) p q h k) (sym c.self.view_is) c.in_ok-make_ready.ensures.ready)) in
-    let out : IsOpen (size_of j.caches s.from.0) (size_of j.caches s.to.0) s = record {
+    let out : IsOpen (size_of j.caches s.from.0) (size_of j.caches s.to.0) (any_locked j.caches (replaced s)) s = record {
       from = open0.from;
       to = open0.to;
       from_is = keeps.same.sizes s.from.0 ∙ open0.from_is;
@@ -453,6 +485,7 @@ copy_pages-requires-clause-room g c =
       from_ends = open0.from_ends;
       to_ends = open0.to_ends;
       apart = open0.apart;
+      unlocked = same_locked p b c.self.invariant.locked.counted sound.locked.counted keeps.by (replaced s) ∙ open0.unlocked;
     } in
     let tied = tied_right k None j.caches j.store valid.right in
     ready.room
@@ -461,7 +494,7 @@ pub copy_pages-requires-clause-made : goal.copy_pages-requires-clause-made
 copy_pages-requires-clause-made g c =
     let i = c.self.inside in
     let s = c.args.span in
-    let open0 = is_open (size_of i.caches s.from.0) (size_of i.caches s.to.0) s (sym c.copy_refusal.ensures ∙ c.in_default.is) in
+    let open0 = is_open (size_of i.caches s.from.0) (size_of i.caches s.to.0) (any_locked i.caches (replaced s)) s (sym c.copy_refusal.ensures ∙ c.in_default.is) in
     let q = c.make_ready.new.self in
     let x0 = c.make_ready.ensures in
     let h = g.M.Mapper.held c.args.mapper.now in
@@ -482,7 +515,7 @@ copy_pages-requires-clause-made g c =
     let keeps : KeepsMachine p b h k before after = subst (λ (r : Manager). KeepsMachine p r h k before after) (sym v2) keeps0 in
     let ready : IsReady (replaced s) (2 * c.args.span.pages) p b h k = subst (λ (e : Extent). IsReady e (2 * c.args.span.pages) p b h k) c.destination.ensures
     (subst (λ (r : Manager). IsReady c.destination.result (2 * c.args.span.pages) p r h k) (sym v2) (subst (λ (p : Manager). IsReady c.destination.result (2 * c.args.span.pages) p q h k) (sym c.self.view_is) c.in_ok-make_ready.ensures.ready)) in
-    let out : IsOpen (size_of j.caches s.from.0) (size_of j.caches s.to.0) s = record {
+    let out : IsOpen (size_of j.caches s.from.0) (size_of j.caches s.to.0) (any_locked j.caches (replaced s)) s = record {
       from = open0.from;
       to = open0.to;
       from_is = keeps.same.sizes s.from.0 ∙ open0.from_is;
@@ -490,6 +523,7 @@ copy_pages-requires-clause-made g c =
       from_ends = open0.from_ends;
       to_ends = open0.to_ends;
       apart = open0.apart;
+      unlocked = same_locked p b c.self.invariant.locked.counted sound.locked.counted keeps.by (replaced s) ∙ open0.unlocked;
     } in
     let tied = tied_right k None j.caches j.store valid.right in
     omega (arith, keeps.made, c.requires.made, ap numbered c.self.view_is, sound.few, sound.counted, size_le j.caches s.from.0 out.from out.from_is, out.from_ends)
@@ -498,7 +532,7 @@ pub invariant_of-self : goal.invariant_of-self
 invariant_of-self g c =
     let i = c.self.inside in
     let s = c.args.span in
-    let open0 = is_open (size_of i.caches s.from.0) (size_of i.caches s.to.0) s (sym c.copy_refusal.ensures ∙ c.in_default.is) in
+    let open0 = is_open (size_of i.caches s.from.0) (size_of i.caches s.to.0) (any_locked i.caches (replaced s)) s (sym c.copy_refusal.ensures ∙ c.in_default.is) in
     let q = c.make_ready.new.self in
     let x0 = c.make_ready.ensures in
     let h = g.M.Mapper.held c.args.mapper.now in
@@ -519,7 +553,7 @@ invariant_of-self g c =
     let keeps : KeepsMachine p b h k before after = subst (λ (r : Manager). KeepsMachine p r h k before after) (sym v2) keeps0 in
     let ready : IsReady (replaced s) (2 * c.args.span.pages) p b h k = subst (λ (e : Extent). IsReady e (2 * c.args.span.pages) p b h k) c.destination.ensures
     (subst (λ (r : Manager). IsReady c.destination.result (2 * c.args.span.pages) p r h k) (sym v2) (subst (λ (p : Manager). IsReady c.destination.result (2 * c.args.span.pages) p q h k) (sym c.self.view_is) c.in_ok-make_ready.ensures.ready)) in
-    let out : IsOpen (size_of j.caches s.from.0) (size_of j.caches s.to.0) s = record {
+    let out : IsOpen (size_of j.caches s.from.0) (size_of j.caches s.to.0) (any_locked j.caches (replaced s)) s = record {
       from = open0.from;
       to = open0.to;
       from_is = keeps.same.sizes s.from.0 ∙ open0.from_is;
@@ -527,6 +561,7 @@ invariant_of-self g c =
       from_ends = open0.from_ends;
       to_ends = open0.to_ends;
       apart = open0.apart;
+      unlocked = same_locked p b c.self.invariant.locked.counted sound.locked.counted keeps.by (replaced s) ∙ open0.unlocked;
     } in
     let tied = tied_right k None j.caches j.store valid.right in
     let e = c.copy_pages.ensures in
@@ -537,12 +572,13 @@ invariant_of-self g c =
     let to = sized_table (table_of j.caches s.to.0) out.to out.to_is in
     let right = e.right (slots_enough j.caches d j.store u j.contexts j.live sound e.kept.sizes e.kept.gives_back tied e.whole) in
     changed_sound j.caches d j.store u j.contexts j.live sound e.kept.sizes e.kept.gives_back tied e.whole e.bounded
+    (held_released _ j.caches d j.store u e.kept tied j.contexts sound.nodes sound.actors sound.locked)
 
 pub returns-clause-valid : goal.returns-clause-valid
 returns-clause-valid g c =
     let i = c.self.inside in
     let s = c.args.span in
-    let open0 = is_open (size_of i.caches s.from.0) (size_of i.caches s.to.0) s (sym c.copy_refusal.ensures ∙ c.in_default.is) in
+    let open0 = is_open (size_of i.caches s.from.0) (size_of i.caches s.to.0) (any_locked i.caches (replaced s)) s (sym c.copy_refusal.ensures ∙ c.in_default.is) in
     let q = c.make_ready.new.self in
     let x0 = c.make_ready.ensures in
     let h = g.M.Mapper.held c.args.mapper.now in
@@ -563,7 +599,7 @@ returns-clause-valid g c =
     let keeps : KeepsMachine p b h k before after = subst (λ (r : Manager). KeepsMachine p r h k before after) (sym v2) keeps0 in
     let ready : IsReady (replaced s) (2 * c.args.span.pages) p b h k = subst (λ (e : Extent). IsReady e (2 * c.args.span.pages) p b h k) c.destination.ensures
     (subst (λ (r : Manager). IsReady c.destination.result (2 * c.args.span.pages) p r h k) (sym v2) (subst (λ (p : Manager). IsReady c.destination.result (2 * c.args.span.pages) p q h k) (sym c.self.view_is) c.in_ok-make_ready.ensures.ready)) in
-    let out : IsOpen (size_of j.caches s.from.0) (size_of j.caches s.to.0) s = record {
+    let out : IsOpen (size_of j.caches s.from.0) (size_of j.caches s.to.0) (any_locked j.caches (replaced s)) s = record {
       from = open0.from;
       to = open0.to;
       from_is = keeps.same.sizes s.from.0 ∙ open0.from_is;
@@ -571,6 +607,7 @@ returns-clause-valid g c =
       from_ends = open0.from_ends;
       to_ends = open0.to_ends;
       apart = open0.apart;
+      unlocked = same_locked p b c.self.invariant.locked.counted sound.locked.counted keeps.by (replaced s) ∙ open0.unlocked;
     } in
     let tied = tied_right k None j.caches j.store valid.right in
     let e = c.copy_pages.ensures in
@@ -586,7 +623,7 @@ pub returns-clause-answers : goal.returns-clause-answers
 returns-clause-answers g c =
     let i = c.self.inside in
     let s = c.args.span in
-    let open0 = is_open (size_of i.caches s.from.0) (size_of i.caches s.to.0) s (sym c.copy_refusal.ensures ∙ c.in_default.is) in
+    let open0 = is_open (size_of i.caches s.from.0) (size_of i.caches s.to.0) (any_locked i.caches (replaced s)) s (sym c.copy_refusal.ensures ∙ c.in_default.is) in
     let q = c.make_ready.new.self in
     let x0 = c.make_ready.ensures in
     let h = g.M.Mapper.held c.args.mapper.now in
@@ -607,7 +644,7 @@ returns-clause-answers g c =
     let keeps : KeepsMachine p b h k before after = subst (λ (r : Manager). KeepsMachine p r h k before after) (sym v2) keeps0 in
     let ready : IsReady (replaced s) (2 * c.args.span.pages) p b h k = subst (λ (e : Extent). IsReady e (2 * c.args.span.pages) p b h k) c.destination.ensures
     (subst (λ (r : Manager). IsReady c.destination.result (2 * c.args.span.pages) p r h k) (sym v2) (subst (λ (p : Manager). IsReady c.destination.result (2 * c.args.span.pages) p q h k) (sym c.self.view_is) c.in_ok-make_ready.ensures.ready)) in
-    let out : IsOpen (size_of j.caches s.from.0) (size_of j.caches s.to.0) s = record {
+    let out : IsOpen (size_of j.caches s.from.0) (size_of j.caches s.to.0) (any_locked j.caches (replaced s)) s = record {
       from = open0.from;
       to = open0.to;
       from_is = keeps.same.sizes s.from.0 ∙ open0.from_is;
@@ -615,6 +652,7 @@ returns-clause-answers g c =
       from_ends = open0.from_ends;
       to_ends = open0.to_ends;
       apart = open0.apart;
+      unlocked = same_locked p b c.self.invariant.locked.counted sound.locked.counted keeps.by (replaced s) ∙ open0.unlocked;
     } in
     let tied = tied_right k None j.caches j.store valid.right in
     let e = c.copy_pages.ensures in
@@ -639,7 +677,7 @@ pub returns-clause-made : goal.returns-clause-made
 returns-clause-made g c =
     let i = c.self.inside in
     let s = c.args.span in
-    let open0 = is_open (size_of i.caches s.from.0) (size_of i.caches s.to.0) s (sym c.copy_refusal.ensures ∙ c.in_default.is) in
+    let open0 = is_open (size_of i.caches s.from.0) (size_of i.caches s.to.0) (any_locked i.caches (replaced s)) s (sym c.copy_refusal.ensures ∙ c.in_default.is) in
     let q = c.make_ready.new.self in
     let x0 = c.make_ready.ensures in
     let h = g.M.Mapper.held c.args.mapper.now in
@@ -660,7 +698,7 @@ returns-clause-made g c =
     let keeps : KeepsMachine p b h k before after = subst (λ (r : Manager). KeepsMachine p r h k before after) (sym v2) keeps0 in
     let ready : IsReady (replaced s) (2 * c.args.span.pages) p b h k = subst (λ (e : Extent). IsReady e (2 * c.args.span.pages) p b h k) c.destination.ensures
     (subst (λ (r : Manager). IsReady c.destination.result (2 * c.args.span.pages) p r h k) (sym v2) (subst (λ (p : Manager). IsReady c.destination.result (2 * c.args.span.pages) p q h k) (sym c.self.view_is) c.in_ok-make_ready.ensures.ready)) in
-    let out : IsOpen (size_of j.caches s.from.0) (size_of j.caches s.to.0) s = record {
+    let out : IsOpen (size_of j.caches s.from.0) (size_of j.caches s.to.0) (any_locked j.caches (replaced s)) s = record {
       from = open0.from;
       to = open0.to;
       from_is = keeps.same.sizes s.from.0 ∙ open0.from_is;
@@ -668,6 +706,7 @@ returns-clause-made g c =
       from_ends = open0.from_ends;
       to_ends = open0.to_ends;
       apart = open0.apart;
+      unlocked = same_locked p b c.self.invariant.locked.counted sound.locked.counted keeps.by (replaced s) ∙ open0.unlocked;
     } in
     let tied = tied_right k None j.caches j.store valid.right in
     let e = c.copy_pages.ensures in
@@ -685,7 +724,7 @@ pub returns-clause-copies : goal.returns-clause-copies
 returns-clause-copies g c =
     let i = c.self.inside in
     let s = c.args.span in
-    let open0 = is_open (size_of i.caches s.from.0) (size_of i.caches s.to.0) s (sym c.copy_refusal.ensures ∙ c.in_default.is) in
+    let open0 = is_open (size_of i.caches s.from.0) (size_of i.caches s.to.0) (any_locked i.caches (replaced s)) s (sym c.copy_refusal.ensures ∙ c.in_default.is) in
     let q = c.make_ready.new.self in
     let x0 = c.make_ready.ensures in
     let h = g.M.Mapper.held c.args.mapper.now in
@@ -706,7 +745,7 @@ returns-clause-copies g c =
     let keeps : KeepsMachine p b h k before after = subst (λ (r : Manager). KeepsMachine p r h k before after) (sym v2) keeps0 in
     let ready : IsReady (replaced s) (2 * c.args.span.pages) p b h k = subst (λ (e : Extent). IsReady e (2 * c.args.span.pages) p b h k) c.destination.ensures
     (subst (λ (r : Manager). IsReady c.destination.result (2 * c.args.span.pages) p r h k) (sym v2) (subst (λ (p : Manager). IsReady c.destination.result (2 * c.args.span.pages) p q h k) (sym c.self.view_is) c.in_ok-make_ready.ensures.ready)) in
-    let out : IsOpen (size_of j.caches s.from.0) (size_of j.caches s.to.0) s = record {
+    let out : IsOpen (size_of j.caches s.from.0) (size_of j.caches s.to.0) (any_locked j.caches (replaced s)) s = record {
       from = open0.from;
       to = open0.to;
       from_is = keeps.same.sizes s.from.0 ∙ open0.from_is;
@@ -714,6 +753,7 @@ returns-clause-copies g c =
       from_ends = open0.from_ends;
       to_ends = open0.to_ends;
       apart = open0.apart;
+      unlocked = same_locked p b c.self.invariant.locked.counted sound.locked.counted keeps.by (replaced s) ∙ open0.unlocked;
     } in
     let tied = tied_right k None j.caches j.store valid.right in
     let e = c.copy_pages.ensures in
@@ -730,7 +770,7 @@ pub returns-clause-idle : goal.returns-clause-idle
 returns-clause-idle g c =
     let i = c.self.inside in
     let s = c.args.span in
-    let open0 = is_open (size_of i.caches s.from.0) (size_of i.caches s.to.0) s (sym c.copy_refusal.ensures ∙ c.in_default.is) in
+    let open0 = is_open (size_of i.caches s.from.0) (size_of i.caches s.to.0) (any_locked i.caches (replaced s)) s (sym c.copy_refusal.ensures ∙ c.in_default.is) in
     let q = c.make_ready.new.self in
     let x0 = c.make_ready.ensures in
     let h = g.M.Mapper.held c.args.mapper.now in
@@ -751,7 +791,7 @@ returns-clause-idle g c =
     let keeps : KeepsMachine p b h k before after = subst (λ (r : Manager). KeepsMachine p r h k before after) (sym v2) keeps0 in
     let ready : IsReady (replaced s) (2 * c.args.span.pages) p b h k = subst (λ (e : Extent). IsReady e (2 * c.args.span.pages) p b h k) c.destination.ensures
     (subst (λ (r : Manager). IsReady c.destination.result (2 * c.args.span.pages) p r h k) (sym v2) (subst (λ (p : Manager). IsReady c.destination.result (2 * c.args.span.pages) p q h k) (sym c.self.view_is) c.in_ok-make_ready.ensures.ready)) in
-    let out : IsOpen (size_of j.caches s.from.0) (size_of j.caches s.to.0) s = record {
+    let out : IsOpen (size_of j.caches s.from.0) (size_of j.caches s.to.0) (any_locked j.caches (replaced s)) s = record {
       from = open0.from;
       to = open0.to;
       from_is = keeps.same.sizes s.from.0 ∙ open0.from_is;
@@ -759,6 +799,7 @@ returns-clause-idle g c =
       from_ends = open0.from_ends;
       to_ends = open0.to_ends;
       apart = open0.apart;
+      unlocked = same_locked p b c.self.invariant.locked.counted sound.locked.counted keeps.by (replaced s) ∙ open0.unlocked;
     } in
     let tied = tied_right k None j.caches j.store valid.right in
     let e = c.copy_pages.ensures in

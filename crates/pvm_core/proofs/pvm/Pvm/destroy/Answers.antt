@@ -41,6 +41,10 @@ use Rattle.pvm_core.proofs.Answering.Reaching.{reach_none}
 use Rattle.pvm_core.proofs.Answering.Rising.{rises_between}
 use Rattle.pvm_core.proofs.Meaning.Shown.{shown_size}
 use Rattle.pvm_core.proofs.Spanning.Transfers.{named_machine}
+use Rattle.local_cache.specs.Arena.{is_locked}
+use Rattle.pvm_core.proofs.Holding.Kept.{held_released}
+use Rattle.pvm_core.proofs.Holding.Loose.{unpinned_page, working_unpinned}
+use Rattle.pvm_core.proofs.Holding.Regions.{over_none}
 use Rattle.pvm_core.proofs.pvm.Pvm.destroy.Goals as goal
 
 pub returns-in_default-clause-answers : goal.returns-in_default-clause-answers
@@ -257,6 +261,27 @@ destroy_pages-requires-clause-pages g c =
     let free2 : list_any (maps_in c.args.cache.0) j.contexts.actors ≡ false = subst (λ (m : Machine). is_mapped m c.args.cache.0 ≡ false) (sym keeps.machine) free in
     size2
 
+pub destroy_pages-requires-clause-unpinned : goal.destroy_pages-requires-clause-unpinned
+destroy_pages-requires-clause-unpinned g c = λ page.
+    let i = c.self.inside in
+    let j = c.self-2.inside in
+    let q = c.write_back.new.self in
+    let h = g.M.Mapper.held c.args.mapper.now in
+    let k = g.M.Mapper.held c.write_back.new.mapper in
+    let before = g.M.Mapper.counts c.args.mapper.now in
+    let after = g.M.Mapper.counts c.write_back.new.mapper in
+    let p : Manager = seen i.caches i.store i.contexts in
+    let m : Manager = seen j.caches j.store j.contexts in
+    let sound = c.self-2.invariant in
+    let keeps : KeepsMachine p m h k before after = subst (λ (r : Manager). KeepsMachine p r h k before after) (sym c.self-2.view_is) (subst (λ (p : Manager). KeepsMachine p q h k before after) (sym c.self.view_is) c.write_back.ensures.keeps) in
+    let free : list_any (maps_in c.args.cache.0) j.contexts.actors ≡ false = subst (λ (m : Machine). is_mapped m c.args.cache.0 ≡ false) (sym keeps.machine) (sym c.maps.ensures ∙ c.if-maps.false) in
+    unpinned_page j.caches j.store j.contexts.actors sound.locked c.args.cache (record { 0 = page }) (ap is_locked (sound.locked.counted c.args.cache.0 page ∙ over_none c.args.cache.0 page j.contexts.actors free))
+
+pub destroy_pages-requires-clause-working : goal.destroy_pages-requires-clause-working
+destroy_pages-requires-clause-working g c =
+    let j = c.self-2.inside in
+    working_unpinned j.caches j.store j.contexts.actors c.self-2.invariant.locked
+
 pub destroy_pages-requires-clause-saved : goal.destroy_pages-requires-clause-saved
 destroy_pages-requires-clause-saved g c =
     let i = c.self.inside in
@@ -408,7 +433,8 @@ invariant_of-self g c =
     let t = sized_table (table_of j.caches c.args.cache.0) pages size2 in
     let bounded = subst IsBounded (sym r.forest) e.bounded in
     let z : Manager = seen d b.store j.contexts in
-    taken_sound j.caches b.caches d j.store b.store j.contexts j.live c.args.cache pages sound size2 free2 e.kept.sizes e.kept.gives_back tied r.changed whole bounded
+    taken_sound j.caches b.caches d j.store b.store j.contexts j.live c.args.cache pages sound size2 free2 e.kept.sizes e.kept.gives_back tied r.changed whole bounded e.kept.sound.kept.listed
+    (held_released _ j.caches b.caches j.store b.store e.kept tied j.contexts sound.nodes sound.actors sound.locked)
 
 pub returns-clause-valid : goal.returns-clause-valid
 returns-clause-valid g c =

@@ -37,7 +37,7 @@ invariant_of-self c =
     let t : Actors = i.contexts in
     let gone = c.exit.ensures in
     seated_sound i.caches i.store t c.exit.new.self i.live (ap (λ (w : Actors). w.page_bytes) gone)
-    (subst (AreRight (size_of i.caches)) (sym gone) (right_without_actor (size_of i.caches) c.args.actor.0 t c.self.invariant.actors)) c.self.invariant
+    (subst (AreRight (size_of i.caches)) (sym gone) (right_without_actor (size_of i.caches) c.args.actor.0 t c.self.invariant.actors)) ? c.self.invariant
 
 pub returns-clause-valid : goal.returns-clause-valid
 returns-clause-valid c = λ h v.

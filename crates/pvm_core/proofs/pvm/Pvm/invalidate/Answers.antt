@@ -6,8 +6,7 @@ use Rattle.vm_ids.specs.declared.command.Command.TheVariants as commands
 use Rattle.vm_ids.specs.declared.reply.Reply.TheVariants as replies
 use Rattle.vm_ids.specs.declared.reply.Trouble.TheVariants as troubles
 use Rattle.vm_ids.specs.Forest.Commands.{extent_names}
-use Rattle.local_cache.specs.Arena.{Table}
-use Rattle.local_cache.specs.Whole.{size_of}
+use Rattle.local_cache.specs.Arena.{Table, table_of}
 use Rattle.local_cache.proofs.Nodes.Count.{forest_len}
 use Rattle.local_cache.proofs.Whole.Pages.{range_there}
 use Rattle.page_release.proofs.Tying.Tied.{tied_right}
@@ -20,7 +19,7 @@ use Rattle.pvm_core.specs.Saving.{KeepsMachine}
 use Rattle.pvm_core.specs.contracts.pvm.Pvm.{the_view}
 use Rattle.pvm_core.proofs.Answering.Answered.{failed}
 use Rattle.pvm_core.proofs.Answering.Changed.{changed_sound, slots_enough}
-use Rattle.pvm_core.proofs.Extents.Rows.{extent_by, extent_open, extent_refused, invalidate_row}
+use Rattle.pvm_core.proofs.Extents.Rows.{extent_by, extent_open, extent_unlocked, invalidate_refused, invalidate_row}
 use Rattle.pvm_core.proofs.Extents.Taken.{IsTaking, taken_is, taken_pushed, taken_valid, taking, taking_copies, taking_saved}
 use Rattle.pvm_core.proofs.Extents.Unsaved.{unsaved_is, unsaved_made}
 use Rattle.pvm_core.proofs.Answering.Kept.{seen}
@@ -28,7 +27,10 @@ use Rattle.pvm_core.proofs.Meaning.Live.{nodes_most}
 use Rattle.pvm_core.proofs.Accesses.Loading.{size_le}
 use Rattle.pvm_core.proofs.Answering.Reaching.{reach_none}
 use Rattle.pvm_core.proofs.Spanning.Reserved.{reserved}
-use Rattle.pvm_core.proofs.Spanning.SpanRows.{unlocked_actors}
+use Rattle.pvm_core.specs.Locks.{any_locked}
+use Rattle.pvm_core.proofs.Holding.Counted.{any_same, same_locked}
+use Rattle.pvm_core.proofs.Holding.Kept.{held_released}
+use Rattle.pvm_core.proofs.Holding.Loose.{unpinned_names, working_unpinned}
 use Rattle.pvm_core.proofs.pvm.Pvm.invalidate.Goals as goal
 
 pub returns-in-Some-clause-answers : goal.returns-in-Some-clause-answers
@@ -40,7 +42,7 @@ returns-in-Some-clause-answers g c =
     let answer : Answer = Err (troubles.Refused c.in-Some.refusal) in
     subst (λ (p : Manager). CallIs before before (state_at p h) (commands.Invalidate c.args.extent) answer (state_at p h)) c.self.view_is
     (failed before before p p h h (commands.Invalidate c.args.extent) answer (reach_none _ h before) i.nodes i.nodes (subst (λ (p : Manager). IsValid p h) (sym c.self.view_is) c.requires.valid) refl refl tt tt
-    (λ f s. (extent_refused p f c.args.extent (held_for (machine_by p f) s c.args.extent.cache.0) c.in-Some.refusal (sym c.extent_refusal.ensures ∙ c.in-Some.is)).2))
+    (λ f s. invalidate_refused p f c.args.extent i.locked.counted c.in-Some.refusal (sym c.extent_refusal.ensures ∙ c.in-Some.is) (held_for (machine_by p f) s c.args.extent.cache.0)))
 
 pub invariant_of-self : goal.invariant_of-self
 invariant_of-self g c =
@@ -67,7 +69,7 @@ returns-in_err-reserve-clause-answers g c =
     let q : Manager = seen b i.store i.contexts in
     let command = commands.Invalidate c.args.extent in
     let answer : Answer = Err troubles.Memory in
-    let x = extent_open i.caches c.args.extent (sym c.extent_refusal.ensures ∙ c.in_default.is) in
+    let x = extent_open i.caches c.args.extent (any_locked i.caches c.args.extent) (sym c.extent_refusal.ensures ∙ c.in_default.is) in
     let gave = err_from_is_err_and c.from_residual.result c.from_residual.ensures.1 in
     let is : c.from_residual.result ≡ Err troubles.Memory = gave.1 ∙ ap (λ t. Err t) gave.2 in
     subst (λ (p : Manager). CallIs before before (state_at p h) command (done_by c.from_residual.result) (state_at q h)) c.self.view_is
@@ -76,7 +78,7 @@ returns-in_err-reserve-clause-answers g c =
     (λ f s. (
       roomy.by f,
       tt,
-      subst (λ a. IsNotRefused a.answer) (sym (invalidate_row p f c.args.extent x (λ cache page. unlocked_actors (size_of i.caches) cache page i.contexts.actors c.self.invariant.actors.placed) (held_for (machine_by p f) s c.args.extent.cache.0))) tt,
+      subst (λ a. IsNotRefused a.answer) (sym (invalidate_row p f c.args.extent x (any_same p f c.self.invariant.locked.counted c.args.extent ∙ extent_unlocked (table_of i.caches c.args.extent.cache.0) c.args.extent (any_locked i.caches c.args.extent) (sym c.extent_refusal.ensures ∙ c.in_default.is)) (held_for (machine_by p f) s c.args.extent.cache.0))) tt,
     ))))
 
 pub invariant_of-self-2 : goal.invariant_of-self-2
@@ -94,7 +96,7 @@ save-requires-clause-valid g c =
 
 pub save-requires-clause-range : goal.save-requires-clause-range
 save-requires-clause-range g c =
-    let x = extent_by c.self.inside.caches c.reserve.new.self c.args.extent (ap (λ a. a.caches) c.reserve.ensures.kept) (extent_open c.self.inside.caches c.args.extent (sym c.extent_refusal.ensures ∙ c.in_default.is)) in
+    let x = extent_by c.self.inside.caches c.reserve.new.self c.args.extent (ap (λ a. a.caches) c.reserve.ensures.kept) (extent_open c.self.inside.caches c.args.extent (any_locked c.self.inside.caches c.args.extent) (sym c.extent_refusal.ensures ∙ c.in_default.is)) in
     record { pages = length x.table.pages; size = ap (option_map (λ (t : Table). length t.pages)) x.there; within = x.ends }
 
 pub returns-in-Err-clause-answers : goal.returns-in-Err-clause-answers
@@ -105,7 +107,7 @@ returns-in-Err-clause-answers g c =
     let b = c.reserve.new.self in
     let roomy = reserved i.caches b i.store i.contexts i.live r.kept r.no_less.0 r.forest (r.sound c.self.invariant.nodes.sound) c.self.invariant in
     let p : Manager = seen i.caches i.store i.contexts in
-    let x = extent_open i.caches c.args.extent (sym c.extent_refusal.ensures ∙ c.in_default.is) in
+    let x = extent_open i.caches c.args.extent (any_locked i.caches c.args.extent) (sym c.extent_refusal.ensures ∙ c.in_default.is) in
     let old : IsValid p h = subst (λ (p : Manager). IsValid p h) (sym c.self.view_is) c.requires.valid in
     let q : Manager = seen b i.store i.contexts in
     let z = g.M.Mapper.held c.save.new.mapper in
@@ -115,7 +117,7 @@ returns-in-Err-clause-answers g c =
     let command = commands.Invalidate c.args.extent in
     subst (λ (p : Manager). CallIs before after (state_at p h) command (Err c.in-Err.trouble) (state_at c.save.new.self z)) c.self.view_is
     (subst (λ (s : State). CallIs before after s command (Err c.in-Err.trouble) (state_at c.save.new.self z)) (roomy.state h)
-    (unsaved_is q c.save.new.self h z before after c.args.extent xb (λ f cache page. unlocked_actors (size_of b) cache page i.contexts.actors roomy.sound.actors.placed) roomy.sound.nodes c.save.ensures.valid c.save.ensures.keeps c.in-Err.trouble c.in-Err.ensures.failed c.in-Err.ensures.cause))
+    (unsaved_is q c.save.new.self h z before after c.args.extent xb (λ f. any_same q f roomy.sound.locked.counted c.args.extent ∙ same_locked p q c.self.invariant.locked.counted roomy.sound.locked.counted roomy.by c.args.extent ∙ extent_unlocked (table_of i.caches c.args.extent.cache.0) c.args.extent (any_locked i.caches c.args.extent) (sym c.extent_refusal.ensures ∙ c.in_default.is)) roomy.sound.nodes c.save.ensures.valid c.save.ensures.keeps c.in-Err.trouble c.in-Err.ensures.failed c.in-Err.ensures.cause))
 
 pub returns-in-Err-clause-made : goal.returns-in-Err-clause-made
 returns-in-Err-clause-made g c =
@@ -125,7 +127,7 @@ returns-in-Err-clause-made g c =
     let b = c.reserve.new.self in
     let roomy = reserved i.caches b i.store i.contexts i.live r.kept r.no_less.0 r.forest (r.sound c.self.invariant.nodes.sound) c.self.invariant in
     let p : Manager = seen i.caches i.store i.contexts in
-    let x = extent_open i.caches c.args.extent (sym c.extent_refusal.ensures ∙ c.in_default.is) in
+    let x = extent_open i.caches c.args.extent (any_locked i.caches c.args.extent) (sym c.extent_refusal.ensures ∙ c.in_default.is) in
     let old : IsValid p h = subst (λ (p : Manager). IsValid p h) (sym c.self.view_is) c.requires.valid in
     let q : Manager = seen b i.store i.contexts in
     let z = g.M.Mapper.held c.save.new.mapper in
@@ -134,7 +136,7 @@ returns-in-Err-clause-made g c =
     let xb = extent_by i.caches b c.args.extent (ap (λ a. a.caches) r.kept) x in
     let same : numbered q ≡ numbered c.args.self.now = ap (λ a. a.made + a.copies) r.kept ∙ ap numbered c.self.view_is in
     subst (λ (n : ℕ). RaisesMade (machine_of c.args.self.now h) (commands.Invalidate c.args.extent) (Err c.in-Err.trouble) n (numbered c.save.new.self)) same
-    (unsaved_made q c.save.new.self h z before after c.args.extent xb (λ f cache page. unlocked_actors (size_of b) cache page i.contexts.actors roomy.sound.actors.placed) roomy.sound.nodes c.save.ensures.valid c.save.ensures.keeps c.in-Err.trouble c.in-Err.ensures.failed (machine_of c.args.self.now h))
+    (unsaved_made q c.save.new.self h z before after c.args.extent xb (λ f. any_same q f roomy.sound.locked.counted c.args.extent ∙ same_locked p q c.self.invariant.locked.counted roomy.sound.locked.counted roomy.by c.args.extent ∙ extent_unlocked (table_of i.caches c.args.extent.cache.0) c.args.extent (any_locked i.caches c.args.extent) (sym c.extent_refusal.ensures ∙ c.in_default.is)) roomy.sound.nodes c.save.ensures.valid c.save.ensures.keeps c.in-Err.trouble c.in-Err.ensures.failed (machine_of c.args.self.now h))
 
 pub invalidate_pages-requires-clause-nodes : goal.invalidate_pages-requires-clause-nodes
 invalidate_pages-requires-clause-nodes g c =
@@ -144,7 +146,7 @@ invalidate_pages-requires-clause-nodes g c =
     let b = c.reserve.new.self in
     let roomy = reserved i.caches b i.store i.contexts i.live r.kept r.no_less.0 r.forest (r.sound c.self.invariant.nodes.sound) c.self.invariant in
     let p : Manager = seen i.caches i.store i.contexts in
-    let x = extent_open i.caches c.args.extent (sym c.extent_refusal.ensures ∙ c.in_default.is) in
+    let x = extent_open i.caches c.args.extent (any_locked i.caches c.args.extent) (sym c.extent_refusal.ensures ∙ c.in_default.is) in
     let old : IsValid p h = subst (λ (p : Manager). IsValid p h) (sym c.self.view_is) c.requires.valid in
     let before = g.M.Mapper.counts c.args.mapper.now in
     let after = g.M.Mapper.counts c.save.new.mapper in
@@ -157,6 +159,33 @@ invalidate_pages-requires-clause-nodes g c =
     (ap (λ (m : Manager). m.caches.caches) c.self-2.view_is ∙ c.save.ensures.tables) (ap (λ (m : Manager). forest_of m z) c.self-2.view_is ∙ c.in-Ok.ensures.saved) in
     range_there j.caches k.nodes c.args.extent.cache c.args.extent.first.0 c.args.extent.pages (length ready.extent.table.pages) (ap (option_map (λ (t : Table). length t.pages)) ready.extent.there) ready.extent.ends
 
+pub invalidate_pages-requires-clause-unpinned : goal.invalidate_pages-requires-clause-unpinned
+invalidate_pages-requires-clause-unpinned g c =
+    let h = g.M.Mapper.held c.args.mapper.now in
+    let i = c.self.inside in
+    let r = c.reserve.ensures in
+    let b = c.reserve.new.self in
+    let roomy = reserved i.caches b i.store i.contexts i.live r.kept r.no_less.0 r.forest (r.sound c.self.invariant.nodes.sound) c.self.invariant in
+    let p : Manager = seen i.caches i.store i.contexts in
+    let x = extent_open i.caches c.args.extent (any_locked i.caches c.args.extent) (sym c.extent_refusal.ensures ∙ c.in_default.is) in
+    let old : IsValid p h = subst (λ (p : Manager). IsValid p h) (sym c.self.view_is) c.requires.valid in
+    let before = g.M.Mapper.counts c.args.mapper.now in
+    let after = g.M.Mapper.counts c.save.new.mapper in
+    let z = g.M.Mapper.held c.save.new.mapper in
+    let j = c.self-2.inside in
+    let k = c.self-2.invariant in
+    let view = sym c.self-2.view_is in
+    let ready : IsTaking p h z j.caches j.store j.contexts c.args.extent before after = taking p (seen b i.store i.contexts) h z before after j.caches j.store j.contexts c.args.extent x (ap (λ a. a.caches) r.kept) (ap (λ a. a.made) r.kept) (ap (λ (s : State). s.machine) (roomy.state h)) roomy.by (roomy.forest h)
+    (subst (λ (m : Manager). IsValid m z) view c.save.ensures.valid) (subst (λ (m : Manager). KeepsMachine (seen b i.store i.contexts) m h z before after) view c.save.ensures.keeps)
+    (ap (λ (m : Manager). m.caches.caches) c.self-2.view_is ∙ c.save.ensures.tables) (ap (λ (m : Manager). forest_of m z) c.self-2.view_is ∙ c.in-Ok.ensures.saved) in
+    unpinned_names j.caches j.store j.contexts.actors k.locked c.args.extent
+    (same_locked p (seen j.caches j.store j.contexts) c.self.invariant.locked.counted k.locked.counted ready.by c.args.extent ∙ extent_unlocked (table_of i.caches c.args.extent.cache.0) c.args.extent (any_locked i.caches c.args.extent) (sym c.extent_refusal.ensures ∙ c.in_default.is))
+
+pub invalidate_pages-requires-clause-working : goal.invalidate_pages-requires-clause-working
+invalidate_pages-requires-clause-working g c =
+    let j = c.self-2.inside in
+    working_unpinned j.caches j.store j.contexts.actors c.self-2.invariant.locked
+
 pub invalidate_pages-requires-clause-saved : goal.invalidate_pages-requires-clause-saved
 invalidate_pages-requires-clause-saved g c = λ named.
     let h = g.M.Mapper.held c.args.mapper.now in
@@ -165,7 +194,7 @@ invalidate_pages-requires-clause-saved g c = λ named.
     let b = c.reserve.new.self in
     let roomy = reserved i.caches b i.store i.contexts i.live r.kept r.no_less.0 r.forest (r.sound c.self.invariant.nodes.sound) c.self.invariant in
     let p : Manager = seen i.caches i.store i.contexts in
-    let x = extent_open i.caches c.args.extent (sym c.extent_refusal.ensures ∙ c.in_default.is) in
+    let x = extent_open i.caches c.args.extent (any_locked i.caches c.args.extent) (sym c.extent_refusal.ensures ∙ c.in_default.is) in
     let old : IsValid p h = subst (λ (p : Manager). IsValid p h) (sym c.self.view_is) c.requires.valid in
     let before = g.M.Mapper.counts c.args.mapper.now in
     let after = g.M.Mapper.counts c.save.new.mapper in
@@ -186,7 +215,7 @@ invalidate_pages-requires-clause-few g c =
     let b = c.reserve.new.self in
     let roomy = reserved i.caches b i.store i.contexts i.live r.kept r.no_less.0 r.forest (r.sound c.self.invariant.nodes.sound) c.self.invariant in
     let p : Manager = seen i.caches i.store i.contexts in
-    let x = extent_open i.caches c.args.extent (sym c.extent_refusal.ensures ∙ c.in_default.is) in
+    let x = extent_open i.caches c.args.extent (any_locked i.caches c.args.extent) (sym c.extent_refusal.ensures ∙ c.in_default.is) in
     let old : IsValid p h = subst (λ (p : Manager). IsValid p h) (sym c.self.view_is) c.requires.valid in
     let before = g.M.Mapper.counts c.args.mapper.now in
     let after = g.M.Mapper.counts c.save.new.mapper in
@@ -207,7 +236,7 @@ invariant_of-self-3 g c =
     let b = c.reserve.new.self in
     let roomy = reserved i.caches b i.store i.contexts i.live r.kept r.no_less.0 r.forest (r.sound c.self.invariant.nodes.sound) c.self.invariant in
     let p : Manager = seen i.caches i.store i.contexts in
-    let x = extent_open i.caches c.args.extent (sym c.extent_refusal.ensures ∙ c.in_default.is) in
+    let x = extent_open i.caches c.args.extent (any_locked i.caches c.args.extent) (sym c.extent_refusal.ensures ∙ c.in_default.is) in
     let old : IsValid p h = subst (λ (p : Manager). IsValid p h) (sym c.self.view_is) c.requires.valid in
     let before = g.M.Mapper.counts c.args.mapper.now in
     let after = g.M.Mapper.counts c.save.new.mapper in
@@ -220,6 +249,7 @@ invariant_of-self-3 g c =
     (ap (λ (m : Manager). m.caches.caches) c.self-2.view_is ∙ c.save.ensures.tables) (ap (λ (m : Manager). forest_of m z) c.self-2.view_is ∙ c.in-Ok.ensures.saved) in
     let e = c.invalidate_pages.ensures in
     changed_sound j.caches c.invalidate_pages.new.caches j.store c.invalidate_pages.new.store j.contexts j.live k e.kept.sizes e.kept.gives_back (tied_right z None j.caches j.store ready.valid.right) e.whole e.bounded
+    (held_released _ j.caches c.invalidate_pages.new.caches j.store c.invalidate_pages.new.store e.kept (tied_right z None j.caches j.store ready.valid.right) j.contexts k.nodes k.actors k.locked)
 
 pub returns-clause-valid : goal.returns-clause-valid
 returns-clause-valid g c =
@@ -229,7 +259,7 @@ returns-clause-valid g c =
     let b = c.reserve.new.self in
     let roomy = reserved i.caches b i.store i.contexts i.live r.kept r.no_less.0 r.forest (r.sound c.self.invariant.nodes.sound) c.self.invariant in
     let p : Manager = seen i.caches i.store i.contexts in
-    let x = extent_open i.caches c.args.extent (sym c.extent_refusal.ensures ∙ c.in_default.is) in
+    let x = extent_open i.caches c.args.extent (any_locked i.caches c.args.extent) (sym c.extent_refusal.ensures ∙ c.in_default.is) in
     let old : IsValid p h = subst (λ (p : Manager). IsValid p h) (sym c.self.view_is) c.requires.valid in
     let before = g.M.Mapper.counts c.args.mapper.now in
     let after = g.M.Mapper.counts c.save.new.mapper in
@@ -245,7 +275,8 @@ returns-clause-valid g c =
     let u = c.invalidate_pages.new.store in
     let tied = tied_right z None j.caches j.store ready.valid.right in
     let right = e.right (slots_enough j.caches d j.store u j.contexts j.live k e.kept.sizes e.kept.gives_back tied e.whole) in
-    taken_valid p h z j.caches d j.store u j.contexts j.live k ready.valid c.args.extent ready.extent ready.machine ready.by c.self.invariant.nodes old ready.forest e.kept.sizes e.kept.gives_back tied e.whole right e.forest
+    taken_valid p h z j.caches d j.store u j.contexts j.live k ready.valid c.args.extent ready.extent
+    (same_locked p (seen j.caches j.store j.contexts) c.self.invariant.locked.counted k.locked.counted ready.by c.args.extent ∙ extent_unlocked (table_of i.caches c.args.extent.cache.0) c.args.extent (any_locked i.caches c.args.extent) (sym c.extent_refusal.ensures ∙ c.in_default.is)) ready.machine ready.by c.self.invariant.nodes old ready.forest e.kept.sizes e.kept.gives_back tied e.whole right e.forest
 
 pub returns-clause-answers : goal.returns-clause-answers
 returns-clause-answers g c =
@@ -255,7 +286,7 @@ returns-clause-answers g c =
     let b = c.reserve.new.self in
     let roomy = reserved i.caches b i.store i.contexts i.live r.kept r.no_less.0 r.forest (r.sound c.self.invariant.nodes.sound) c.self.invariant in
     let p : Manager = seen i.caches i.store i.contexts in
-    let x = extent_open i.caches c.args.extent (sym c.extent_refusal.ensures ∙ c.in_default.is) in
+    let x = extent_open i.caches c.args.extent (any_locked i.caches c.args.extent) (sym c.extent_refusal.ensures ∙ c.in_default.is) in
     let old : IsValid p h = subst (λ (p : Manager). IsValid p h) (sym c.self.view_is) c.requires.valid in
     let before = g.M.Mapper.counts c.args.mapper.now in
     let after = g.M.Mapper.counts c.save.new.mapper in
@@ -272,7 +303,8 @@ returns-clause-answers g c =
     let tied = tied_right z None j.caches j.store ready.valid.right in
     let right = e.right (slots_enough j.caches d j.store u j.contexts j.live k e.kept.sizes e.kept.gives_back tied e.whole) in
     subst (λ (p : Manager). CallIs before after (state_at p h) (commands.Invalidate c.args.extent) (Ok replies.Done) (state_at (seen d u j.contexts) z)) c.self.view_is
-    (taken_is p h z j.caches d j.store u j.contexts j.live k ready.valid c.args.extent ready.extent ready.machine ready.by c.self.invariant.nodes old ready.forest e.kept.sizes e.kept.gives_back tied e.whole right e.forest before after ready.reach)
+    (taken_is p h z j.caches d j.store u j.contexts j.live k ready.valid c.args.extent ready.extent
+    (same_locked p (seen j.caches j.store j.contexts) c.self.invariant.locked.counted k.locked.counted ready.by c.args.extent ∙ extent_unlocked (table_of i.caches c.args.extent.cache.0) c.args.extent (any_locked i.caches c.args.extent) (sym c.extent_refusal.ensures ∙ c.in_default.is)) ready.machine ready.by c.self.invariant.nodes old ready.forest e.kept.sizes e.kept.gives_back tied e.whole right e.forest before after ready.reach)
 
 pub returns-clause-made : goal.returns-clause-made
 returns-clause-made g c =
@@ -282,7 +314,7 @@ returns-clause-made g c =
     let b = c.reserve.new.self in
     let roomy = reserved i.caches b i.store i.contexts i.live r.kept r.no_less.0 r.forest (r.sound c.self.invariant.nodes.sound) c.self.invariant in
     let p : Manager = seen i.caches i.store i.contexts in
-    let x = extent_open i.caches c.args.extent (sym c.extent_refusal.ensures ∙ c.in_default.is) in
+    let x = extent_open i.caches c.args.extent (any_locked i.caches c.args.extent) (sym c.extent_refusal.ensures ∙ c.in_default.is) in
     let old : IsValid p h = subst (λ (p : Manager). IsValid p h) (sym c.self.view_is) c.requires.valid in
     let before = g.M.Mapper.counts c.args.mapper.now in
     let after = g.M.Mapper.counts c.save.new.mapper in
@@ -310,7 +342,7 @@ returns-clause-taken g c =
     let b = c.reserve.new.self in
     let roomy = reserved i.caches b i.store i.contexts i.live r.kept r.no_less.0 r.forest (r.sound c.self.invariant.nodes.sound) c.self.invariant in
     let p : Manager = seen i.caches i.store i.contexts in
-    let x = extent_open i.caches c.args.extent (sym c.extent_refusal.ensures ∙ c.in_default.is) in
+    let x = extent_open i.caches c.args.extent (any_locked i.caches c.args.extent) (sym c.extent_refusal.ensures ∙ c.in_default.is) in
     let old : IsValid p h = subst (λ (p : Manager). IsValid p h) (sym c.self.view_is) c.requires.valid in
     let before = g.M.Mapper.counts c.args.mapper.now in
     let after = g.M.Mapper.counts c.save.new.mapper in
@@ -326,4 +358,5 @@ returns-clause-taken g c =
     let u = c.invalidate_pages.new.store in
     let tied = tied_right z None j.caches j.store ready.valid.right in
     let right = e.right (slots_enough j.caches d j.store u j.contexts j.live k e.kept.sizes e.kept.gives_back tied e.whole) in
-    taken_pushed p h z j.caches d j.store u j.contexts j.live k ready.valid c.args.extent ready.extent ready.machine ready.by c.self.invariant.nodes old ready.forest e.kept.sizes e.kept.gives_back tied e.whole right e.forest
+    taken_pushed p h z j.caches d j.store u j.contexts j.live k ready.valid c.args.extent ready.extent
+    (same_locked p (seen j.caches j.store j.contexts) c.self.invariant.locked.counted k.locked.counted ready.by c.args.extent ∙ extent_unlocked (table_of i.caches c.args.extent.cache.0) c.args.extent (any_locked i.caches c.args.extent) (sym c.extent_refusal.ensures ∙ c.in_default.is)) ready.machine ready.by c.self.invariant.nodes old ready.forest e.kept.sizes e.kept.gives_back tied e.whole right e.forest

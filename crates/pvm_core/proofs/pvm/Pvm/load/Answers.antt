@@ -43,7 +43,7 @@ returns-in_err-place-clause-answers g c =
     let is : c.from_residual.result ≡ Err (troubles.Refused c.in_err-place.field-0.0) = gave.1 ∙ ap (λ t. Err t) gave.2 in
     subst (λ (p : Manager). CallIs counts counts (state_at p h) (commands.Load c.args.actor c.args.address c.args.bytes) (answer_by replies.Bytes c.from_residual.result) (state_at p h)) c.self.view_is
     (subst (λ (r : Result _ _). CallIs counts counts (state_at p h) (commands.Load c.args.actor c.args.address c.args.bytes) (answer_by replies.Bytes r) (state_at p h)) (sym is)
-    (called counts counts p p h h (commands.Load c.args.actor c.args.address c.args.bytes) answer (reach_none (machine_of p h) h counts) c.self.invariant.nodes c.self.invariant.nodes (subst (λ (p : Manager). IsValid p h) (sym c.self.view_is) c.requires.valid) refl (λ done m f s none. none) tt tt (λ f. refl)
+    (called counts counts p p h h (commands.Load c.args.actor c.args.address c.args.bytes) answer (reach_none (machine_of p h) h counts) c.self.invariant.nodes c.self.invariant.nodes (subst (λ (p : Manager). IsValid p h) (sym c.self.view_is) c.requires.valid) refl (λ done m f s none. none) tt tt (λ f. refl) (λ page. refl)
     (λ f s. load_refused (machine_by p f) c.args.actor.0 c.args.address c.args.bytes c.in_err-place.field-0.0 (refused_at (place (machine_by p f) c.args.actor.0 c.args.address c.args.bytes) c.in_err-place.field-0.0 (sym c.in_err-place.was ∙ c.locate.ensures)))))
 
 pub node_of-node-requires-clause-page : goal.node_of-node-requires-clause-page
@@ -63,6 +63,7 @@ invariant_of-self g c =
     let i = c.self.inside in
     let n = c.read_fault.new in
     kept_sound i.caches n.caches i.store n.store (g.M.Mapper.held c.args.mapper.now) (g.M.Mapper.held n.mapper) (g.M.Mapper.page_bytes c.args.mapper.now) (g.M.Mapper.page_bytes n.mapper) c.read_fault.ensures.answered.kept i.contexts i.live c.self.invariant
+    (subst (λ (p : Manager). IsValid p (g.M.Mapper.held c.args.mapper.now)) (sym c.self.view_is) c.requires.valid).right.tied.placed.bound
 
 pub returns-clause-valid : goal.returns-clause-valid
 returns-clause-valid g c =
@@ -94,7 +95,8 @@ returns-clause-answers g c =
     let q : Manager = seen n.caches n.store i.contexts in
     let command = commands.Load c.args.actor c.args.address c.args.bytes in
     let nodes = c.self.invariant.nodes in
-    let then = kept_sound i.caches n.caches i.store n.store h k size then_size e.answered.kept i.contexts i.live c.self.invariant in
+    let then = kept_sound i.caches n.caches i.store n.store h k size then_size e.answered.kept i.contexts i.live c.self.invariant
+    (subst (λ (p : Manager). IsValid p h) (sym c.self.view_is) c.requires.valid).right.tied.placed.bound in
     let forest = kept_forest i.caches n.caches i.store n.store h k size then_size e.answered.kept i.contexts e.forest in
     let same = kept_machine i.caches n.caches i.store n.store h k size then_size e.answered.kept i.contexts e.forest in
     let by : (f : PageForest) → machine_by q f ≡ machine_by p f = kept_by i.caches n.caches i.store n.store h k size then_size e.answered.kept i.contexts in
@@ -117,7 +119,7 @@ returns-clause-answers g c =
           let page : PageNo = pl.page in
           subst (λ (r : Result _ _). CallIs before after (state_at p h) command (answer_by replies.Bytes r) (state_at q k)) (sym w.result-is)
           (subst (λ (f : FaultAt). CallIs before after (state_at p h) command (Err (troubles.Mapper f)) (state_at q k)) (sym w.fault_of.ensures)
-          (called before after p q h k command (Err (troubles.Mapper (fault_at w.in-Err.miss page))) reach nodes then.nodes valid forest (λ done m f s none. none) tt tt (λ f. refl)
+          (called before after p q h k command (Err (troubles.Mapper (fault_at w.in-Err.miss page))) reach nodes then.nodes valid forest (λ done m f s none. none) tt tt (λ f. refl) (λ page. refl)
           (λ f s. load_fault (length reach.pushes) (machine_by p f) (machine_by q f) (forest_of p h) c.args.actor c.args.address c.args.bytes s before after w.in-Err.miss page at (by f) (is f) refl w.in-Err.ensures.cause))))
     ])
 

@@ -1,4 +1,4 @@
-use Rattle.std.proofs.Common.{◌≡◌, [], ◌∷◌, ◌++◌, Some, length, refl, sym, subst}
+use Rattle.std.proofs.Common.{◌≡◌, ℕ, [], ◌∷◌, ◌++◌, Some, length, refl, sym, subst}
 use Rattle.std.specs.Prelude.{OnErr}
 use Rattle.vm_ids.specs.Counting.{no_counts}
 use Rattle.vm_ids.specs.declared.command.Command.TheVariants as commands
@@ -7,7 +7,9 @@ use Rattle.vm_model.specs.Answering.{answer_by}
 use Rattle.vm_model.specs.Run.{AnswerIs}
 use Rattle.local_cache.specs.Whole.{size_of}
 use Rattle.contexts.specs.Actors.{Actors, is_full}
+use Rattle.pvm_core.specs.Locks.{locks_over}
 use Rattle.pvm_core.specs.Placed.{AreRight}
+use Rattle.pvm_core.proofs.Holding.Regions.{over_made}
 use Rattle.pvm_core.specs.Manager.{IsValid, Manager, caches_shown, forest_of, state_at}
 use Rattle.pvm_core.specs.contracts.pvm.Pvm.{the_view}
 use Rattle.pvm_core.proofs.Answering.Answered.{seated}
@@ -24,7 +26,8 @@ invariant_of-self c =
     let e = c.make.ensures in
     let u = c.make.new.self in
     seated_sound i.caches i.store i.contexts u i.live (after_either (λ (t : Actors). t.page_bytes ≡ i.contexts.page_bytes) i.contexts u (more i.contexts) c.make.result e.ok e.err refl refl)
-    (after_either (AreRight (size_of i.caches)) i.contexts u (more i.contexts) c.make.result e.ok e.err (right_made (size_of i.caches) i.contexts c.self.invariant.actors) c.self.invariant.actors) c.self.invariant
+    (after_either (AreRight (size_of i.caches)) i.contexts u (more i.contexts) c.make.result e.ok e.err (right_made (size_of i.caches) i.contexts c.self.invariant.actors) c.self.invariant.actors)
+    (after_either (λ (t : Actors). (cache page : ℕ) → locks_over t.actors cache page ≡ locks_over i.contexts.actors cache page) i.contexts u (more i.contexts) c.make.result e.ok e.err (λ cache page. over_made cache page i.contexts.actors) (λ cache page. refl)) c.self.invariant
 
 pub returns-clause-valid : goal.returns-clause-valid
 returns-clause-valid c = λ h v.
@@ -43,7 +46,7 @@ returns-clause-answers c = λ h v.
     let command = commands.MakeActor in
     let answer = answer_by replies.Actor c.make.result in
     subst (λ (p : Manager). AnswerIs (state_at p h) command answer [] no_counts (state_at q h)) c.self.view_is
-    (seated (the_view i) q h command answer c.self.invariant.nodes c.self.invariant.nodes (seated_valid (the_view i) q h refl refl (after_either (λ (t : Actors). t.page_bytes ≡ i.contexts.page_bytes) i.contexts u (more i.contexts) c.make.result e.ok e.err refl refl) (subst (λ (p : Manager). IsValid p h) (sym c.self.view_is) v)) refl (λ done m f s none. none) refl tt (λ f. refl)
+    (seated (the_view i) q h command answer c.self.invariant.nodes c.self.invariant.nodes (seated_valid (the_view i) q h refl refl (after_either (λ (t : Actors). t.page_bytes ≡ i.contexts.page_bytes) i.contexts u (more i.contexts) c.make.result e.ok e.err refl refl) (subst (λ (p : Manager). IsValid p h) (sym c.self.view_is) v)) refl (λ done m f s none. none) refl tt (λ f. refl) (λ page. refl)
     (λ f s. actor_outcome (caches_shown f 1 i.caches.caches) (length i.store.frames.held) i.contexts u (Some (forest_of (the_view i) h)) s (is_full i.contexts) c.make.result refl e.refused e.made e.ok e.err))
 
 pub returns-clause-err : goal.returns-clause-err

@@ -74,7 +74,7 @@ invariant_of-self-2 c =
     let e = c.reserve.ensures in
     let m = c.make_temp.ensures in
     let k = roomy_sound i.caches r.caches i.store r.store i.contexts i.live e.caches e.store e.slots e.no_less e.forest e.sound c.self.invariant in
-    begun_sound r.caches c.make_temp.new.self r.store i.contexts i.live c.args.pages c.make_temp.result m.made.0 m.made.1 m.made.2 (m.forest e.sound) (m.sound e.sound) k (omega (arith, c.if-self-pages.false))
+    begun_sound r.caches c.make_temp.new.self r.store i.contexts i.live c.args.pages c.make_temp.result m.made.0 m.made.1 m.made.2 (m.forest e.sound) (m.sound e.sound) m.stays k (omega (arith, c.if-self-pages.false))
     c.in_ok-reserve.ensures.nodes c.in_ok-reserve.ensures.capacity
 
 pub returns-clause-valid : goal.returns-clause-valid
@@ -91,9 +91,9 @@ returns-clause-valid c = λ h v.
     let low : i.live + c.args.pages ≤ Rattle.vm_model.specs.declared.limits.TheConstants.LIVE_PAGES = omega (arith, c.if-self-pages.false) in
     let forest = made_store h r.caches d r.store c.make_temp.result c.args.pages m.pages m.stays (home-made_other r.caches d c.make_temp.result None Zero m.made.0 m.made.2 k.nodes.sound.kept.listed) (m.forest e.sound) e.sound (m.sound e.sound) (fresh_pages r.caches d c.make_temp.result c.args.pages m.made.0 k.nodes m.made.2) in
     record {
-      right = begun_right r.caches d r.store i.contexts i.live c.args.pages c.make_temp.result m.made.0 m.made.1 m.made.2 (m.forest e.sound) (m.sound e.sound) k low c.in_ok-reserve.ensures.nodes c.in_ok-reserve.ensures.capacity h w.right;
-      sized = begun_sized r.caches d r.store i.contexts i.live c.args.pages c.make_temp.result m.made.0 m.made.1 m.made.2 (m.forest e.sound) (m.sound e.sound) k low c.in_ok-reserve.ensures.nodes c.in_ok-reserve.ensures.capacity h w.sized;
-      full = begun_full r.caches d r.store i.contexts i.live c.args.pages c.make_temp.result m.made.0 m.made.1 m.made.2 (m.forest e.sound) (m.sound e.sound) k low c.in_ok-reserve.ensures.nodes c.in_ok-reserve.ensures.capacity h w.full;
+      right = begun_right r.caches d r.store i.contexts i.live c.args.pages c.make_temp.result m.made.0 m.made.1 m.made.2 (m.forest e.sound) (m.sound e.sound) m.stays k low c.in_ok-reserve.ensures.nodes c.in_ok-reserve.ensures.capacity h w.right;
+      sized = begun_sized r.caches d r.store i.contexts i.live c.args.pages c.make_temp.result m.made.0 m.made.1 m.made.2 (m.forest e.sound) (m.sound e.sound) m.stays k low c.in_ok-reserve.ensures.nodes c.in_ok-reserve.ensures.capacity h w.sized;
+      full = begun_full r.caches d r.store i.contexts i.live c.args.pages c.make_temp.result m.made.0 m.made.1 m.made.2 (m.forest e.sound) (m.sound e.sound) m.stays k low c.in_ok-reserve.ensures.nodes c.in_ok-reserve.ensures.capacity h w.full;
       whole = whole_more p q h c.make_temp.result c.args.pages m.made.0 m.made.1 m.made.2 k.actors.some (followed_of p h k.nodes k.actors.some w.whole)
           (subst (λ (b : ℕ). forest_of q h ≡ make (all_with (option_map (λ _. replicate b 0) h) (page_names c.make_temp.result 0 c.args.pages)) (forest_of p h)) (sym k.page) forest) (refl, refl, refl, refl) w.whole;
     }

@@ -1,5 +1,5 @@
 use Rattle.std.proofs.Common.{◌≡◌, ◌≢◌, ℕ, ◌+◌, ◌*◌, ◌≤◌, Bool, true, false, List, [], Option, Some, None, is_some, length, refl, sym, ap, subst, ◌∙◌, arith}
-use Rattle.std.specs.Prelude.{IfErr, OnErr, Result, Ok, Err, option_and_then, unwrap_or}
+use Rattle.std.specs.Prelude.{◌||◌, IfErr, OnErr, Result, Ok, Err, option_and_then, unwrap_or}
 use Rattle.std.proofs.lemmas.Result.{err_from_is_err_and}
 use Rattle.gmi_calls.specs.Calling.{RaisesMade, done_by}
 use Rattle.vm_ids.specs.Held.{Segments, segments_of}
@@ -30,7 +30,12 @@ use Rattle.vm_model.specs.Run.{CallIs}
 use Rattle.pvm_core.specs.Keeping.{CopiesNothing, HasMoreRoom}
 use Rattle.pvm_core.specs.Manager.{IsValid, Manager, forest_of, machine_by, machine_of, numbered, state_at}
 use Rattle.pvm_core.specs.Saving.{CopiesSaved, IsNotReady, IsReady, KeepsMachine, NeedsNothing, RefusedOf, is_named}
-use Rattle.pvm_core.specs.Spans.{copy_refusal, move_refusal, replaced}
+use Rattle.vm_ids.proofs.Forest.Laws.Ranges.{pairs_read_sources}
+use Rattle.pvm_core.specs.Locks.{any_locked}
+use Rattle.pvm_core.proofs.Holding.Counted.{any_same, same_locked}
+use Rattle.pvm_core.proofs.Holding.Kept.{held_released}
+use Rattle.pvm_core.proofs.Holding.Loose.{unpinned_names, working_unpinned}
+use Rattle.pvm_core.specs.Spans.{copy_refusal, move_refusal, read_from, replaced}
 use Rattle.pvm_core.specs.contracts.pvm.Pvm.{the_view}
 use Rattle.pvm_core.proofs.Answering.Answered.{call_is, failed}
 use Rattle.pvm_core.proofs.Answering.Changed.{changed_sound, slots_enough}
@@ -43,7 +48,7 @@ use Rattle.pvm_core.proofs.Readiness.Readying.{named_same}
 use Rattle.pvm_core.proofs.Spanning.Reserved.{can_copy}
 use Rattle.pvm_core.proofs.Answering.Rising.{rises_between}
 use Rattle.pvm_core.proofs.Meaning.Shown.{shown_size}
-use Rattle.pvm_core.proofs.Spanning.SpanRows.{IsOpen, copy_refused, is_movable, is_open, move_refused, unlocked_actors}
+use Rattle.pvm_core.proofs.Spanning.SpanRows.{IsOpen, copy_refused, is_movable, is_open, move_refused}
 use Rattle.pvm_core.proofs.Spanning.Spanned.{apart_of}
 use Rattle.pvm_core.proofs.Spanning.Transferring.{copies_nothing, failed_copied, failed_made, failed_refused, names_written, transfer_failed, undenied_range}
 use Rattle.pvm_core.proofs.Spanning.Transfers.{copied_outcome, copied_transfer, copied_valid, copy_follows, move_follows, moved_outcome, moved_transfer, moved_valid, named_machine, named_there}
@@ -58,14 +63,15 @@ returns-in-Some-clause-answers g c =
     let answer : Answer = Err (troubles.Refused c.in-Some.refusal) in
     subst (λ (p : Manager). CallIs counts counts (state_at p h) (commands.Move c.args.span) answer (state_at p h)) c.self.view_is
     (failed counts counts p p h h (commands.Move c.args.span) answer (reach_none (machine_of p h) h counts) c.self.invariant.nodes c.self.invariant.nodes (subst (λ (p : Manager). IsValid p h) (sym c.self.view_is) c.requires.valid) refl refl tt tt
-    (λ f sg. move_refused (machine_by p f) s sg c.in-Some.refusal (cache_of (machine_by p f) s.from.0) (cache_of (machine_by p f) s.to.0) (is_named p.caches s.from.0) refl (λ x e. named_there p f s.from.0 x e) refl
-    ((λ j. move_refusal (shown_size f p.caches.caches s.from.0 j) (is_named p.caches s.from.0) (shown_size f p.caches.caches s.to.0 j) s) ∙ sym c.move_refusal.ensures ∙ c.in-Some.is)))
+    (λ f sg. move_refused (machine_by p f) s sg c.in-Some.refusal (cache_of (machine_by p f) s.from.0) (cache_of (machine_by p f) s.to.0) (is_named p.caches s.from.0) (any_locked p.caches (read_from s) || any_locked p.caches (replaced s)) refl (λ x e. named_there p f s.from.0 x e) refl
+    (λ j. any_same p f c.self.invariant.locked.counted (read_from s) j || any_same p f c.self.invariant.locked.counted (replaced s) j)
+    ((λ j. move_refusal (shown_size f p.caches.caches s.from.0 j) (is_named p.caches s.from.0) (shown_size f p.caches.caches s.to.0 j) (any_locked p.caches (read_from s) || any_locked p.caches (replaced s)) s) ∙ sym c.move_refusal.ensures ∙ c.in-Some.is)))
 
 pub make_ready-requires-clause-range : goal.make_ready-requires-clause-range
 make_ready-requires-clause-range g c =
     let i = c.self.inside in
     let s = c.args.span in
-    let open0 = is_open (size_of i.caches s.from.0) (size_of i.caches s.to.0) s (is_movable (size_of i.caches s.from.0) (size_of i.caches s.to.0) (is_named i.caches s.from.0) s (sym c.move_refusal.ensures ∙ c.in_default.is)).0 in
+    let open0 = is_open (size_of i.caches s.from.0) (size_of i.caches s.to.0) (any_locked i.caches (replaced s)) s (is_movable (size_of i.caches s.from.0) (size_of i.caches s.to.0) (is_named i.caches s.from.0) (any_locked i.caches (read_from s)) (any_locked i.caches (replaced s)) s (sym c.move_refusal.ensures ∙ c.in_default.is)).0 in
     let range : HasRange i.caches c.destination.result = subst (HasRange i.caches) (sym c.destination.ensures) (record { pages = open0.to; size = open0.to_is; within = open0.to_ends }) in
     subst (λ (p : Manager). HasRange p.caches c.destination.result) c.self.view_is range
 
@@ -73,7 +79,7 @@ pub returns-in_err-make_ready-clause-answers : goal.returns-in_err-make_ready-cl
 returns-in_err-make_ready-clause-answers g c =
     let i = c.self.inside in
     let s = c.args.span in
-    let open0 = is_open (size_of i.caches s.from.0) (size_of i.caches s.to.0) s (is_movable (size_of i.caches s.from.0) (size_of i.caches s.to.0) (is_named i.caches s.from.0) s (sym c.move_refusal.ensures ∙ c.in_default.is)).0 in
+    let open0 = is_open (size_of i.caches s.from.0) (size_of i.caches s.to.0) (any_locked i.caches (replaced s)) s (is_movable (size_of i.caches s.from.0) (size_of i.caches s.to.0) (is_named i.caches s.from.0) (any_locked i.caches (read_from s)) (any_locked i.caches (replaced s)) s (sym c.move_refusal.ensures ∙ c.in_default.is)).0 in
     let q = c.make_ready.new.self in
     let x0 = c.make_ready.ensures in
     let h = g.M.Mapper.held c.args.mapper.now in
@@ -84,7 +90,7 @@ returns-in_err-make_ready-clause-answers g c =
     let valid0 = (subst (λ (p : Manager). IsValid p h) (sym c.self.view_is) c.requires.valid) in
     let from0 = sized_table (table_of i.caches s.from.0) open0.from open0.from_is in
     let to0 = sized_table (table_of i.caches s.to.0) open0.to open0.to_is in
-    let transfer = moved_transfer i.caches i.store i.contexts i.live c.self.invariant s open0 from0.0 to0.0 from0.1 to0.1 from0.2 to0.2 (is_movable (size_of i.caches s.from.0) (size_of i.caches s.to.0) (is_named i.caches s.from.0) s (sym c.move_refusal.ensures ∙ c.in_default.is)).1 in
+    let transfer = moved_transfer i.caches i.store i.contexts i.live c.self.invariant s open0 from0.0 to0.0 from0.1 to0.1 from0.2 to0.2 (is_movable (size_of i.caches s.from.0) (size_of i.caches s.to.0) (is_named i.caches s.from.0) (any_locked i.caches (read_from s)) (any_locked i.caches (replaced s)) s (sym c.move_refusal.ensures ∙ c.in_default.is)).1 (is_movable (size_of i.caches s.from.0) (size_of i.caches s.to.0) (is_named i.caches s.from.0) (any_locked i.caches (read_from s)) (any_locked i.caches (replaced s)) s (sym c.move_refusal.ensures ∙ c.in_default.is)).2 in
     let keeps0 : KeepsMachine p q h k before after = subst (λ (p : Manager). KeepsMachine p q h k before after) (sym c.self.view_is) x0.keeps in
     let gave = err_from_is_err_and c.from_residual.result c.from_residual.ensures.1 in
     let trouble = c.in_err-make_ready.field-0.0 in
@@ -99,7 +105,7 @@ pub returns-in_err-make_ready-clause-made : goal.returns-in_err-make_ready-claus
 returns-in_err-make_ready-clause-made g c =
     let i = c.self.inside in
     let s = c.args.span in
-    let open0 = is_open (size_of i.caches s.from.0) (size_of i.caches s.to.0) s (is_movable (size_of i.caches s.from.0) (size_of i.caches s.to.0) (is_named i.caches s.from.0) s (sym c.move_refusal.ensures ∙ c.in_default.is)).0 in
+    let open0 = is_open (size_of i.caches s.from.0) (size_of i.caches s.to.0) (any_locked i.caches (replaced s)) s (is_movable (size_of i.caches s.from.0) (size_of i.caches s.to.0) (is_named i.caches s.from.0) (any_locked i.caches (read_from s)) (any_locked i.caches (replaced s)) s (sym c.move_refusal.ensures ∙ c.in_default.is)).0 in
     let q = c.make_ready.new.self in
     let x0 = c.make_ready.ensures in
     let h = g.M.Mapper.held c.args.mapper.now in
@@ -110,7 +116,7 @@ returns-in_err-make_ready-clause-made g c =
     let valid0 = (subst (λ (p : Manager). IsValid p h) (sym c.self.view_is) c.requires.valid) in
     let from0 = sized_table (table_of i.caches s.from.0) open0.from open0.from_is in
     let to0 = sized_table (table_of i.caches s.to.0) open0.to open0.to_is in
-    let transfer = moved_transfer i.caches i.store i.contexts i.live c.self.invariant s open0 from0.0 to0.0 from0.1 to0.1 from0.2 to0.2 (is_movable (size_of i.caches s.from.0) (size_of i.caches s.to.0) (is_named i.caches s.from.0) s (sym c.move_refusal.ensures ∙ c.in_default.is)).1 in
+    let transfer = moved_transfer i.caches i.store i.contexts i.live c.self.invariant s open0 from0.0 to0.0 from0.1 to0.1 from0.2 to0.2 (is_movable (size_of i.caches s.from.0) (size_of i.caches s.to.0) (is_named i.caches s.from.0) (any_locked i.caches (read_from s)) (any_locked i.caches (replaced s)) s (sym c.move_refusal.ensures ∙ c.in_default.is)).1 (is_movable (size_of i.caches s.from.0) (size_of i.caches s.to.0) (is_named i.caches s.from.0) (any_locked i.caches (read_from s)) (any_locked i.caches (replaced s)) s (sym c.move_refusal.ensures ∙ c.in_default.is)).2 in
     let keeps0 : KeepsMachine p q h k before after = subst (λ (p : Manager). KeepsMachine p q h k before after) (sym c.self.view_is) x0.keeps in
     let gave = err_from_is_err_and c.from_residual.result c.from_residual.ensures.1 in
     let trouble = c.in_err-make_ready.field-0.0 in
@@ -124,7 +130,7 @@ pub returns-in_err-make_ready-clause-copies : goal.returns-in_err-make_ready-cla
 returns-in_err-make_ready-clause-copies g c =
     let i = c.self.inside in
     let s = c.args.span in
-    let open0 = is_open (size_of i.caches s.from.0) (size_of i.caches s.to.0) s (is_movable (size_of i.caches s.from.0) (size_of i.caches s.to.0) (is_named i.caches s.from.0) s (sym c.move_refusal.ensures ∙ c.in_default.is)).0 in
+    let open0 = is_open (size_of i.caches s.from.0) (size_of i.caches s.to.0) (any_locked i.caches (replaced s)) s (is_movable (size_of i.caches s.from.0) (size_of i.caches s.to.0) (is_named i.caches s.from.0) (any_locked i.caches (read_from s)) (any_locked i.caches (replaced s)) s (sym c.move_refusal.ensures ∙ c.in_default.is)).0 in
     let q = c.make_ready.new.self in
     let x0 = c.make_ready.ensures in
     let h = g.M.Mapper.held c.args.mapper.now in
@@ -135,7 +141,7 @@ returns-in_err-make_ready-clause-copies g c =
     let valid0 = (subst (λ (p : Manager). IsValid p h) (sym c.self.view_is) c.requires.valid) in
     let from0 = sized_table (table_of i.caches s.from.0) open0.from open0.from_is in
     let to0 = sized_table (table_of i.caches s.to.0) open0.to open0.to_is in
-    let transfer = moved_transfer i.caches i.store i.contexts i.live c.self.invariant s open0 from0.0 to0.0 from0.1 to0.1 from0.2 to0.2 (is_movable (size_of i.caches s.from.0) (size_of i.caches s.to.0) (is_named i.caches s.from.0) s (sym c.move_refusal.ensures ∙ c.in_default.is)).1 in
+    let transfer = moved_transfer i.caches i.store i.contexts i.live c.self.invariant s open0 from0.0 to0.0 from0.1 to0.1 from0.2 to0.2 (is_movable (size_of i.caches s.from.0) (size_of i.caches s.to.0) (is_named i.caches s.from.0) (any_locked i.caches (read_from s)) (any_locked i.caches (replaced s)) s (sym c.move_refusal.ensures ∙ c.in_default.is)).1 (is_movable (size_of i.caches s.from.0) (size_of i.caches s.to.0) (is_named i.caches s.from.0) (any_locked i.caches (read_from s)) (any_locked i.caches (replaced s)) s (sym c.move_refusal.ensures ∙ c.in_default.is)).2 in
     let keeps0 : KeepsMachine p q h k before after = subst (λ (p : Manager). KeepsMachine p q h k before after) (sym c.self.view_is) x0.keeps in
     let gave = err_from_is_err_and c.from_residual.result c.from_residual.ensures.1 in
     let trouble = c.in_err-make_ready.field-0.0 in
@@ -149,7 +155,7 @@ pub returns-in_err-make_ready-clause-refused : goal.returns-in_err-make_ready-cl
 returns-in_err-make_ready-clause-refused g c =
     let i = c.self.inside in
     let s = c.args.span in
-    let open0 = is_open (size_of i.caches s.from.0) (size_of i.caches s.to.0) s (is_movable (size_of i.caches s.from.0) (size_of i.caches s.to.0) (is_named i.caches s.from.0) s (sym c.move_refusal.ensures ∙ c.in_default.is)).0 in
+    let open0 = is_open (size_of i.caches s.from.0) (size_of i.caches s.to.0) (any_locked i.caches (replaced s)) s (is_movable (size_of i.caches s.from.0) (size_of i.caches s.to.0) (is_named i.caches s.from.0) (any_locked i.caches (read_from s)) (any_locked i.caches (replaced s)) s (sym c.move_refusal.ensures ∙ c.in_default.is)).0 in
     let q = c.make_ready.new.self in
     let x0 = c.make_ready.ensures in
     let h = g.M.Mapper.held c.args.mapper.now in
@@ -160,7 +166,7 @@ returns-in_err-make_ready-clause-refused g c =
     let valid0 = (subst (λ (p : Manager). IsValid p h) (sym c.self.view_is) c.requires.valid) in
     let from0 = sized_table (table_of i.caches s.from.0) open0.from open0.from_is in
     let to0 = sized_table (table_of i.caches s.to.0) open0.to open0.to_is in
-    let transfer = moved_transfer i.caches i.store i.contexts i.live c.self.invariant s open0 from0.0 to0.0 from0.1 to0.1 from0.2 to0.2 (is_movable (size_of i.caches s.from.0) (size_of i.caches s.to.0) (is_named i.caches s.from.0) s (sym c.move_refusal.ensures ∙ c.in_default.is)).1 in
+    let transfer = moved_transfer i.caches i.store i.contexts i.live c.self.invariant s open0 from0.0 to0.0 from0.1 to0.1 from0.2 to0.2 (is_movable (size_of i.caches s.from.0) (size_of i.caches s.to.0) (is_named i.caches s.from.0) (any_locked i.caches (read_from s)) (any_locked i.caches (replaced s)) s (sym c.move_refusal.ensures ∙ c.in_default.is)).1 (is_movable (size_of i.caches s.from.0) (size_of i.caches s.to.0) (is_named i.caches s.from.0) (any_locked i.caches (read_from s)) (any_locked i.caches (replaced s)) s (sym c.move_refusal.ensures ∙ c.in_default.is)).2 in
     let keeps0 : KeepsMachine p q h k before after = subst (λ (p : Manager). KeepsMachine p q h k before after) (sym c.self.view_is) x0.keeps in
     let gave = err_from_is_err_and c.from_residual.result c.from_residual.ensures.1 in
     let trouble = c.in_err-make_ready.field-0.0 in
@@ -173,7 +179,7 @@ pub returns-in_err-make_ready-clause-idle : goal.returns-in_err-make_ready-claus
 returns-in_err-make_ready-clause-idle g c =
     let i = c.self.inside in
     let s = c.args.span in
-    let open0 = is_open (size_of i.caches s.from.0) (size_of i.caches s.to.0) s (is_movable (size_of i.caches s.from.0) (size_of i.caches s.to.0) (is_named i.caches s.from.0) s (sym c.move_refusal.ensures ∙ c.in_default.is)).0 in
+    let open0 = is_open (size_of i.caches s.from.0) (size_of i.caches s.to.0) (any_locked i.caches (replaced s)) s (is_movable (size_of i.caches s.from.0) (size_of i.caches s.to.0) (is_named i.caches s.from.0) (any_locked i.caches (read_from s)) (any_locked i.caches (replaced s)) s (sym c.move_refusal.ensures ∙ c.in_default.is)).0 in
     let q = c.make_ready.new.self in
     let x0 = c.make_ready.ensures in
     let h = g.M.Mapper.held c.args.mapper.now in
@@ -184,7 +190,7 @@ returns-in_err-make_ready-clause-idle g c =
     let valid0 = (subst (λ (p : Manager). IsValid p h) (sym c.self.view_is) c.requires.valid) in
     let from0 = sized_table (table_of i.caches s.from.0) open0.from open0.from_is in
     let to0 = sized_table (table_of i.caches s.to.0) open0.to open0.to_is in
-    let transfer = moved_transfer i.caches i.store i.contexts i.live c.self.invariant s open0 from0.0 to0.0 from0.1 to0.1 from0.2 to0.2 (is_movable (size_of i.caches s.from.0) (size_of i.caches s.to.0) (is_named i.caches s.from.0) s (sym c.move_refusal.ensures ∙ c.in_default.is)).1 in
+    let transfer = moved_transfer i.caches i.store i.contexts i.live c.self.invariant s open0 from0.0 to0.0 from0.1 to0.1 from0.2 to0.2 (is_movable (size_of i.caches s.from.0) (size_of i.caches s.to.0) (is_named i.caches s.from.0) (any_locked i.caches (read_from s)) (any_locked i.caches (replaced s)) s (sym c.move_refusal.ensures ∙ c.in_default.is)).1 (is_movable (size_of i.caches s.from.0) (size_of i.caches s.to.0) (is_named i.caches s.from.0) (any_locked i.caches (read_from s)) (any_locked i.caches (replaced s)) s (sym c.move_refusal.ensures ∙ c.in_default.is)).2 in
     let keeps0 : KeepsMachine p q h k before after = subst (λ (p : Manager). KeepsMachine p q h k before after) (sym c.self.view_is) x0.keeps in
     let gave = err_from_is_err_and c.from_residual.result c.from_residual.ensures.1 in
     let trouble = c.in_err-make_ready.field-0.0 in
@@ -203,7 +209,7 @@ pub move_pages-requires-clause-tied : goal.move_pages-requires-clause-tied
 move_pages-requires-clause-tied g c =
     let i = c.self.inside in
     let s = c.args.span in
-    let open0 = is_open (size_of i.caches s.from.0) (size_of i.caches s.to.0) s (is_movable (size_of i.caches s.from.0) (size_of i.caches s.to.0) (is_named i.caches s.from.0) s (sym c.move_refusal.ensures ∙ c.in_default.is)).0 in
+    let open0 = is_open (size_of i.caches s.from.0) (size_of i.caches s.to.0) (any_locked i.caches (replaced s)) s (is_movable (size_of i.caches s.from.0) (size_of i.caches s.to.0) (is_named i.caches s.from.0) (any_locked i.caches (read_from s)) (any_locked i.caches (replaced s)) s (sym c.move_refusal.ensures ∙ c.in_default.is)).0 in
     let q = c.make_ready.new.self in
     let x0 = c.make_ready.ensures in
     let h = g.M.Mapper.held c.args.mapper.now in
@@ -214,7 +220,7 @@ move_pages-requires-clause-tied g c =
     let valid0 = (subst (λ (p : Manager). IsValid p h) (sym c.self.view_is) c.requires.valid) in
     let from0 = sized_table (table_of i.caches s.from.0) open0.from open0.from_is in
     let to0 = sized_table (table_of i.caches s.to.0) open0.to open0.to_is in
-    let transfer = moved_transfer i.caches i.store i.contexts i.live c.self.invariant s open0 from0.0 to0.0 from0.1 to0.1 from0.2 to0.2 (is_movable (size_of i.caches s.from.0) (size_of i.caches s.to.0) (is_named i.caches s.from.0) s (sym c.move_refusal.ensures ∙ c.in_default.is)).1 in
+    let transfer = moved_transfer i.caches i.store i.contexts i.live c.self.invariant s open0 from0.0 to0.0 from0.1 to0.1 from0.2 to0.2 (is_movable (size_of i.caches s.from.0) (size_of i.caches s.to.0) (is_named i.caches s.from.0) (any_locked i.caches (read_from s)) (any_locked i.caches (replaced s)) s (sym c.move_refusal.ensures ∙ c.in_default.is)).1 (is_movable (size_of i.caches s.from.0) (size_of i.caches s.to.0) (is_named i.caches s.from.0) (any_locked i.caches (read_from s)) (any_locked i.caches (replaced s)) s (sym c.move_refusal.ensures ∙ c.in_default.is)).2 in
     let keeps0 : KeepsMachine p q h k before after = subst (λ (p : Manager). KeepsMachine p q h k before after) (sym c.self.view_is) x0.keeps in
     let j = c.self-2.inside in
     let v2 = c.self-2.view_is in
@@ -224,7 +230,7 @@ move_pages-requires-clause-tied g c =
     let keeps : KeepsMachine p b h k before after = subst (λ (r : Manager). KeepsMachine p r h k before after) (sym v2) keeps0 in
     let ready : IsReady (replaced s) c.args.span.pages p b h k = subst (λ (e : Extent). IsReady e c.args.span.pages p b h k) c.destination.ensures
     (subst (λ (r : Manager). IsReady c.destination.result c.args.span.pages p r h k) (sym v2) (subst (λ (p : Manager). IsReady c.destination.result c.args.span.pages p q h k) (sym c.self.view_is) c.in_ok-make_ready.ensures.ready)) in
-    let out : IsOpen (size_of j.caches s.from.0) (size_of j.caches s.to.0) s = record {
+    let out : IsOpen (size_of j.caches s.from.0) (size_of j.caches s.to.0) (any_locked j.caches (replaced s)) s = record {
       from = open0.from;
       to = open0.to;
       from_is = keeps.same.sizes s.from.0 ∙ open0.from_is;
@@ -232,6 +238,7 @@ move_pages-requires-clause-tied g c =
       from_ends = open0.from_ends;
       to_ends = open0.to_ends;
       apart = open0.apart;
+      unlocked = same_locked p b c.self.invariant.locked.counted sound.locked.counted keeps.by (replaced s) ∙ open0.unlocked;
     } in
     let tied = tied_right k None j.caches j.store valid.right in
     tied
@@ -240,7 +247,7 @@ pub move_pages-requires-clause-can : goal.move_pages-requires-clause-can
 move_pages-requires-clause-can g c =
     let i = c.self.inside in
     let s = c.args.span in
-    let open0 = is_open (size_of i.caches s.from.0) (size_of i.caches s.to.0) s (is_movable (size_of i.caches s.from.0) (size_of i.caches s.to.0) (is_named i.caches s.from.0) s (sym c.move_refusal.ensures ∙ c.in_default.is)).0 in
+    let open0 = is_open (size_of i.caches s.from.0) (size_of i.caches s.to.0) (any_locked i.caches (replaced s)) s (is_movable (size_of i.caches s.from.0) (size_of i.caches s.to.0) (is_named i.caches s.from.0) (any_locked i.caches (read_from s)) (any_locked i.caches (replaced s)) s (sym c.move_refusal.ensures ∙ c.in_default.is)).0 in
     let q = c.make_ready.new.self in
     let x0 = c.make_ready.ensures in
     let h = g.M.Mapper.held c.args.mapper.now in
@@ -251,7 +258,7 @@ move_pages-requires-clause-can g c =
     let valid0 = (subst (λ (p : Manager). IsValid p h) (sym c.self.view_is) c.requires.valid) in
     let from0 = sized_table (table_of i.caches s.from.0) open0.from open0.from_is in
     let to0 = sized_table (table_of i.caches s.to.0) open0.to open0.to_is in
-    let transfer = moved_transfer i.caches i.store i.contexts i.live c.self.invariant s open0 from0.0 to0.0 from0.1 to0.1 from0.2 to0.2 (is_movable (size_of i.caches s.from.0) (size_of i.caches s.to.0) (is_named i.caches s.from.0) s (sym c.move_refusal.ensures ∙ c.in_default.is)).1 in
+    let transfer = moved_transfer i.caches i.store i.contexts i.live c.self.invariant s open0 from0.0 to0.0 from0.1 to0.1 from0.2 to0.2 (is_movable (size_of i.caches s.from.0) (size_of i.caches s.to.0) (is_named i.caches s.from.0) (any_locked i.caches (read_from s)) (any_locked i.caches (replaced s)) s (sym c.move_refusal.ensures ∙ c.in_default.is)).1 (is_movable (size_of i.caches s.from.0) (size_of i.caches s.to.0) (is_named i.caches s.from.0) (any_locked i.caches (read_from s)) (any_locked i.caches (replaced s)) s (sym c.move_refusal.ensures ∙ c.in_default.is)).2 in
     let keeps0 : KeepsMachine p q h k before after = subst (λ (p : Manager). KeepsMachine p q h k before after) (sym c.self.view_is) x0.keeps in
     let j = c.self-2.inside in
     let v2 = c.self-2.view_is in
@@ -261,7 +268,7 @@ move_pages-requires-clause-can g c =
     let keeps : KeepsMachine p b h k before after = subst (λ (r : Manager). KeepsMachine p r h k before after) (sym v2) keeps0 in
     let ready : IsReady (replaced s) c.args.span.pages p b h k = subst (λ (e : Extent). IsReady e c.args.span.pages p b h k) c.destination.ensures
     (subst (λ (r : Manager). IsReady c.destination.result c.args.span.pages p r h k) (sym v2) (subst (λ (p : Manager). IsReady c.destination.result c.args.span.pages p q h k) (sym c.self.view_is) c.in_ok-make_ready.ensures.ready)) in
-    let out : IsOpen (size_of j.caches s.from.0) (size_of j.caches s.to.0) s = record {
+    let out : IsOpen (size_of j.caches s.from.0) (size_of j.caches s.to.0) (any_locked j.caches (replaced s)) s = record {
       from = open0.from;
       to = open0.to;
       from_is = keeps.same.sizes s.from.0 ∙ open0.from_is;
@@ -269,15 +276,55 @@ move_pages-requires-clause-can g c =
       from_ends = open0.from_ends;
       to_ends = open0.to_ends;
       apart = open0.apart;
+      unlocked = same_locked p b c.self.invariant.locked.counted sound.locked.counted keeps.by (replaced s) ∙ open0.unlocked;
     } in
     let tied = tied_right k None j.caches j.store valid.right in
     can_copy j.caches sound.nodes s out
+
+pub move_pages-requires-clause-unpinned : goal.move_pages-requires-clause-unpinned
+move_pages-requires-clause-unpinned g c = λ x is.
+    let i = c.self.inside in
+    let j = c.self-2.inside in
+    let s = c.args.span in
+    let q = c.make_ready.new.self in
+    let h = g.M.Mapper.held c.args.mapper.now in
+    let k = g.M.Mapper.held c.make_ready.new.mapper in
+    let before = g.M.Mapper.counts c.args.mapper.now in
+    let after = g.M.Mapper.counts c.make_ready.new.mapper in
+    let p : Manager = seen i.caches i.store i.contexts in
+    let b : Manager = seen j.caches j.store j.contexts in
+    let sound = c.self-2.invariant in
+    let keeps : KeepsMachine p b h k before after = subst (λ (r : Manager). KeepsMachine p r h k before after) (sym c.self-2.view_is) (subst (λ (p : Manager). KeepsMachine p q h k before after) (sym c.self.view_is) c.make_ready.ensures.keeps) in
+    let free : any_locked j.caches (replaced s) ≡ false = same_locked p b c.self.invariant.locked.counted sound.locked.counted keeps.by (replaced s) ∙ (is_open (size_of i.caches s.from.0) (size_of i.caches s.to.0) (any_locked i.caches (replaced s)) s (is_movable (size_of i.caches s.from.0) (size_of i.caches s.to.0) (is_named i.caches s.from.0) (any_locked i.caches (read_from s)) (any_locked i.caches (replaced s)) s (sym c.move_refusal.ensures ∙ c.in_default.is)).0).unlocked in
+    unpinned_names j.caches j.store j.contexts.actors sound.locked (replaced s) free x (subst (λ (xs : List NodeName). x ∈ xs) (destination_names s) is)
+
+pub move_pages-requires-clause-sources : goal.move_pages-requires-clause-sources
+move_pages-requires-clause-sources g c = λ x is.
+    let i = c.self.inside in
+    let j = c.self-2.inside in
+    let s = c.args.span in
+    let q = c.make_ready.new.self in
+    let h = g.M.Mapper.held c.args.mapper.now in
+    let k = g.M.Mapper.held c.make_ready.new.mapper in
+    let before = g.M.Mapper.counts c.args.mapper.now in
+    let after = g.M.Mapper.counts c.make_ready.new.mapper in
+    let p : Manager = seen i.caches i.store i.contexts in
+    let b : Manager = seen j.caches j.store j.contexts in
+    let sound = c.self-2.invariant in
+    let keeps : KeepsMachine p b h k before after = subst (λ (r : Manager). KeepsMachine p r h k before after) (sym c.self-2.view_is) (subst (λ (p : Manager). KeepsMachine p q h k before after) (sym c.self.view_is) c.make_ready.ensures.keeps) in
+    let free : any_locked j.caches (read_from s) ≡ false = same_locked p b c.self.invariant.locked.counted sound.locked.counted keeps.by (read_from s) ∙ (is_movable (size_of i.caches s.from.0) (size_of i.caches s.to.0) (is_named i.caches s.from.0) (any_locked i.caches (read_from s)) (any_locked i.caches (replaced s)) s (sym c.move_refusal.ensures ∙ c.in_default.is)).2 in
+    unpinned_names j.caches j.store j.contexts.actors sound.locked (read_from s) free x (subst (λ (xs : List NodeName). x ∈ xs) (pairs_read_sources s.from s.to s.from_page.0 s.to_page.0 s.pages) is)
+
+pub move_pages-requires-clause-working : goal.move_pages-requires-clause-working
+move_pages-requires-clause-working g c =
+    let j = c.self-2.inside in
+    working_unpinned j.caches j.store j.contexts.actors c.self-2.invariant.locked
 
 pub move_pages-requires-clause-saved : goal.move_pages-requires-clause-saved
 move_pages-requires-clause-saved g c =
     let i = c.self.inside in
     let s = c.args.span in
-    let open0 = is_open (size_of i.caches s.from.0) (size_of i.caches s.to.0) s (is_movable (size_of i.caches s.from.0) (size_of i.caches s.to.0) (is_named i.caches s.from.0) s (sym c.move_refusal.ensures ∙ c.in_default.is)).0 in
+    let open0 = is_open (size_of i.caches s.from.0) (size_of i.caches s.to.0) (any_locked i.caches (replaced s)) s (is_movable (size_of i.caches s.from.0) (size_of i.caches s.to.0) (is_named i.caches s.from.0) (any_locked i.caches (read_from s)) (any_locked i.caches (replaced s)) s (sym c.move_refusal.ensures ∙ c.in_default.is)).0 in
     let q = c.make_ready.new.self in
     let x0 = c.make_ready.ensures in
     let h = g.M.Mapper.held c.args.mapper.now in
@@ -288,7 +335,7 @@ move_pages-requires-clause-saved g c =
     let valid0 = (subst (λ (p : Manager). IsValid p h) (sym c.self.view_is) c.requires.valid) in
     let from0 = sized_table (table_of i.caches s.from.0) open0.from open0.from_is in
     let to0 = sized_table (table_of i.caches s.to.0) open0.to open0.to_is in
-    let transfer = moved_transfer i.caches i.store i.contexts i.live c.self.invariant s open0 from0.0 to0.0 from0.1 to0.1 from0.2 to0.2 (is_movable (size_of i.caches s.from.0) (size_of i.caches s.to.0) (is_named i.caches s.from.0) s (sym c.move_refusal.ensures ∙ c.in_default.is)).1 in
+    let transfer = moved_transfer i.caches i.store i.contexts i.live c.self.invariant s open0 from0.0 to0.0 from0.1 to0.1 from0.2 to0.2 (is_movable (size_of i.caches s.from.0) (size_of i.caches s.to.0) (is_named i.caches s.from.0) (any_locked i.caches (read_from s)) (any_locked i.caches (replaced s)) s (sym c.move_refusal.ensures ∙ c.in_default.is)).1 (is_movable (size_of i.caches s.from.0) (size_of i.caches s.to.0) (is_named i.caches s.from.0) (any_locked i.caches (read_from s)) (any_locked i.caches (replaced s)) s (sym c.move_refusal.ensures ∙ c.in_default.is)).2 in
     let keeps0 : KeepsMachine p q h k before after = subst (λ (p : Manager). KeepsMachine p q h k before after) (sym c.self.view_is) x0.keeps in
     let j = c.self-2.inside in
     let v2 = c.self-2.view_is in
@@ -298,7 +345,7 @@ move_pages-requires-clause-saved g c =
     let keeps : KeepsMachine p b h k before after = subst (λ (r : Manager). KeepsMachine p r h k before after) (sym v2) keeps0 in
     let ready : IsReady (replaced s) c.args.span.pages p b h k = subst (λ (e : Extent). IsReady e c.args.span.pages p b h k) c.destination.ensures
     (subst (λ (r : Manager). IsReady c.destination.result c.args.span.pages p r h k) (sym v2) (subst (λ (p : Manager). IsReady c.destination.result c.args.span.pages p q h k) (sym c.self.view_is) c.in_ok-make_ready.ensures.ready)) in
-    let out : IsOpen (size_of j.caches s.from.0) (size_of j.caches s.to.0) s = record {
+    let out : IsOpen (size_of j.caches s.from.0) (size_of j.caches s.to.0) (any_locked j.caches (replaced s)) s = record {
       from = open0.from;
       to = open0.to;
       from_is = keeps.same.sizes s.from.0 ∙ open0.from_is;
@@ -306,6 +353,7 @@ move_pages-requires-clause-saved g c =
       from_ends = open0.from_ends;
       to_ends = open0.to_ends;
       apart = open0.apart;
+      unlocked = same_locked p b c.self.invariant.locked.counted sound.locked.counted keeps.by (replaced s) ∙ open0.unlocked;
     } in
     let tied = tied_right k None j.caches j.store valid.right in
     subst (AreSaved j.caches s.to) (sym (destination_names s)) ready.saved_now
@@ -314,7 +362,7 @@ pub move_pages-requires-clause-granted : goal.move_pages-requires-clause-granted
 move_pages-requires-clause-granted g c =
     let i = c.self.inside in
     let s = c.args.span in
-    let open0 = is_open (size_of i.caches s.from.0) (size_of i.caches s.to.0) s (is_movable (size_of i.caches s.from.0) (size_of i.caches s.to.0) (is_named i.caches s.from.0) s (sym c.move_refusal.ensures ∙ c.in_default.is)).0 in
+    let open0 = is_open (size_of i.caches s.from.0) (size_of i.caches s.to.0) (any_locked i.caches (replaced s)) s (is_movable (size_of i.caches s.from.0) (size_of i.caches s.to.0) (is_named i.caches s.from.0) (any_locked i.caches (read_from s)) (any_locked i.caches (replaced s)) s (sym c.move_refusal.ensures ∙ c.in_default.is)).0 in
     let q = c.make_ready.new.self in
     let x0 = c.make_ready.ensures in
     let h = g.M.Mapper.held c.args.mapper.now in
@@ -325,7 +373,7 @@ move_pages-requires-clause-granted g c =
     let valid0 = (subst (λ (p : Manager). IsValid p h) (sym c.self.view_is) c.requires.valid) in
     let from0 = sized_table (table_of i.caches s.from.0) open0.from open0.from_is in
     let to0 = sized_table (table_of i.caches s.to.0) open0.to open0.to_is in
-    let transfer = moved_transfer i.caches i.store i.contexts i.live c.self.invariant s open0 from0.0 to0.0 from0.1 to0.1 from0.2 to0.2 (is_movable (size_of i.caches s.from.0) (size_of i.caches s.to.0) (is_named i.caches s.from.0) s (sym c.move_refusal.ensures ∙ c.in_default.is)).1 in
+    let transfer = moved_transfer i.caches i.store i.contexts i.live c.self.invariant s open0 from0.0 to0.0 from0.1 to0.1 from0.2 to0.2 (is_movable (size_of i.caches s.from.0) (size_of i.caches s.to.0) (is_named i.caches s.from.0) (any_locked i.caches (read_from s)) (any_locked i.caches (replaced s)) s (sym c.move_refusal.ensures ∙ c.in_default.is)).1 (is_movable (size_of i.caches s.from.0) (size_of i.caches s.to.0) (is_named i.caches s.from.0) (any_locked i.caches (read_from s)) (any_locked i.caches (replaced s)) s (sym c.move_refusal.ensures ∙ c.in_default.is)).2 in
     let keeps0 : KeepsMachine p q h k before after = subst (λ (p : Manager). KeepsMachine p q h k before after) (sym c.self.view_is) x0.keeps in
     let j = c.self-2.inside in
     let v2 = c.self-2.view_is in
@@ -335,7 +383,7 @@ move_pages-requires-clause-granted g c =
     let keeps : KeepsMachine p b h k before after = subst (λ (r : Manager). KeepsMachine p r h k before after) (sym v2) keeps0 in
     let ready : IsReady (replaced s) c.args.span.pages p b h k = subst (λ (e : Extent). IsReady e c.args.span.pages p b h k) c.destination.ensures
     (subst (λ (r : Manager). IsReady c.destination.result c.args.span.pages p r h k) (sym v2) (subst (λ (p : Manager). IsReady c.destination.result c.args.span.pages p q h k) (sym c.self.view_is) c.in_ok-make_ready.ensures.ready)) in
-    let out : IsOpen (size_of j.caches s.from.0) (size_of j.caches s.to.0) s = record {
+    let out : IsOpen (size_of j.caches s.from.0) (size_of j.caches s.to.0) (any_locked j.caches (replaced s)) s = record {
       from = open0.from;
       to = open0.to;
       from_is = keeps.same.sizes s.from.0 ∙ open0.from_is;
@@ -343,6 +391,7 @@ move_pages-requires-clause-granted g c =
       from_ends = open0.from_ends;
       to_ends = open0.to_ends;
       apart = open0.apart;
+      unlocked = same_locked p b c.self.invariant.locked.counted sound.locked.counted keeps.by (replaced s) ∙ open0.unlocked;
     } in
     let tied = tied_right k None j.caches j.store valid.right in
     names_written j.caches s ready.writable
@@ -351,7 +400,7 @@ pub move_pages-requires-clause-few : goal.move_pages-requires-clause-few
 move_pages-requires-clause-few g c =
     let i = c.self.inside in
     let s = c.args.span in
-    let open0 = is_open (size_of i.caches s.from.0) (size_of i.caches s.to.0) s (is_movable (size_of i.caches s.from.0) (size_of i.caches s.to.0) (is_named i.caches s.from.0) s (sym c.move_refusal.ensures ∙ c.in_default.is)).0 in
+    let open0 = is_open (size_of i.caches s.from.0) (size_of i.caches s.to.0) (any_locked i.caches (replaced s)) s (is_movable (size_of i.caches s.from.0) (size_of i.caches s.to.0) (is_named i.caches s.from.0) (any_locked i.caches (read_from s)) (any_locked i.caches (replaced s)) s (sym c.move_refusal.ensures ∙ c.in_default.is)).0 in
     let q = c.make_ready.new.self in
     let x0 = c.make_ready.ensures in
     let h = g.M.Mapper.held c.args.mapper.now in
@@ -362,7 +411,7 @@ move_pages-requires-clause-few g c =
     let valid0 = (subst (λ (p : Manager). IsValid p h) (sym c.self.view_is) c.requires.valid) in
     let from0 = sized_table (table_of i.caches s.from.0) open0.from open0.from_is in
     let to0 = sized_table (table_of i.caches s.to.0) open0.to open0.to_is in
-    let transfer = moved_transfer i.caches i.store i.contexts i.live c.self.invariant s open0 from0.0 to0.0 from0.1 to0.1 from0.2 to0.2 (is_movable (size_of i.caches s.from.0) (size_of i.caches s.to.0) (is_named i.caches s.from.0) s (sym c.move_refusal.ensures ∙ c.in_default.is)).1 in
+    let transfer = moved_transfer i.caches i.store i.contexts i.live c.self.invariant s open0 from0.0 to0.0 from0.1 to0.1 from0.2 to0.2 (is_movable (size_of i.caches s.from.0) (size_of i.caches s.to.0) (is_named i.caches s.from.0) (any_locked i.caches (read_from s)) (any_locked i.caches (replaced s)) s (sym c.move_refusal.ensures ∙ c.in_default.is)).1 (is_movable (size_of i.caches s.from.0) (size_of i.caches s.to.0) (is_named i.caches s.from.0) (any_locked i.caches (read_from s)) (any_locked i.caches (replaced s)) s (sym c.move_refusal.ensures ∙ c.in_default.is)).2 in
     let keeps0 : KeepsMachine p q h k before after = subst (λ (p : Manager). KeepsMachine p q h k before after) (sym c.self.view_is) x0.keeps in
     let j = c.self-2.inside in
     let v2 = c.self-2.view_is in
@@ -372,7 +421,7 @@ move_pages-requires-clause-few g c =
     let keeps : KeepsMachine p b h k before after = subst (λ (r : Manager). KeepsMachine p r h k before after) (sym v2) keeps0 in
     let ready : IsReady (replaced s) c.args.span.pages p b h k = subst (λ (e : Extent). IsReady e c.args.span.pages p b h k) c.destination.ensures
     (subst (λ (r : Manager). IsReady c.destination.result c.args.span.pages p r h k) (sym v2) (subst (λ (p : Manager). IsReady c.destination.result c.args.span.pages p q h k) (sym c.self.view_is) c.in_ok-make_ready.ensures.ready)) in
-    let out : IsOpen (size_of j.caches s.from.0) (size_of j.caches s.to.0) s = record {
+    let out : IsOpen (size_of j.caches s.from.0) (size_of j.caches s.to.0) (any_locked j.caches (replaced s)) s = record {
       from = open0.from;
       to = open0.to;
       from_is = keeps.same.sizes s.from.0 ∙ open0.from_is;
@@ -380,6 +429,7 @@ move_pages-requires-clause-few g c =
       from_ends = open0.from_ends;
       to_ends = open0.to_ends;
       apart = open0.apart;
+      unlocked = same_locked p b c.self.invariant.locked.counted sound.locked.counted keeps.by (replaced s) ∙ open0.unlocked;
     } in
     let tied = tied_right k None j.caches j.store valid.right in
     omega (arith, forest_len j.caches, nodes_most sound, sound.few, sound.counted, size_le j.caches s.from.0 out.from out.from_is, out.from_ends)
@@ -388,7 +438,7 @@ pub move_pages-requires-clause-within : goal.move_pages-requires-clause-within
 move_pages-requires-clause-within g c =
     let i = c.self.inside in
     let s = c.args.span in
-    let open0 = is_open (size_of i.caches s.from.0) (size_of i.caches s.to.0) s (is_movable (size_of i.caches s.from.0) (size_of i.caches s.to.0) (is_named i.caches s.from.0) s (sym c.move_refusal.ensures ∙ c.in_default.is)).0 in
+    let open0 = is_open (size_of i.caches s.from.0) (size_of i.caches s.to.0) (any_locked i.caches (replaced s)) s (is_movable (size_of i.caches s.from.0) (size_of i.caches s.to.0) (is_named i.caches s.from.0) (any_locked i.caches (read_from s)) (any_locked i.caches (replaced s)) s (sym c.move_refusal.ensures ∙ c.in_default.is)).0 in
     let q = c.make_ready.new.self in
     let x0 = c.make_ready.ensures in
     let h = g.M.Mapper.held c.args.mapper.now in
@@ -399,7 +449,7 @@ move_pages-requires-clause-within g c =
     let valid0 = (subst (λ (p : Manager). IsValid p h) (sym c.self.view_is) c.requires.valid) in
     let from0 = sized_table (table_of i.caches s.from.0) open0.from open0.from_is in
     let to0 = sized_table (table_of i.caches s.to.0) open0.to open0.to_is in
-    let transfer = moved_transfer i.caches i.store i.contexts i.live c.self.invariant s open0 from0.0 to0.0 from0.1 to0.1 from0.2 to0.2 (is_movable (size_of i.caches s.from.0) (size_of i.caches s.to.0) (is_named i.caches s.from.0) s (sym c.move_refusal.ensures ∙ c.in_default.is)).1 in
+    let transfer = moved_transfer i.caches i.store i.contexts i.live c.self.invariant s open0 from0.0 to0.0 from0.1 to0.1 from0.2 to0.2 (is_movable (size_of i.caches s.from.0) (size_of i.caches s.to.0) (is_named i.caches s.from.0) (any_locked i.caches (read_from s)) (any_locked i.caches (replaced s)) s (sym c.move_refusal.ensures ∙ c.in_default.is)).1 (is_movable (size_of i.caches s.from.0) (size_of i.caches s.to.0) (is_named i.caches s.from.0) (any_locked i.caches (read_from s)) (any_locked i.caches (replaced s)) s (sym c.move_refusal.ensures ∙ c.in_default.is)).2 in
     let keeps0 : KeepsMachine p q h k before after = subst (λ (p : Manager). KeepsMachine p q h k before after) (sym c.self.view_is) x0.keeps in
     let j = c.self-2.inside in
     let v2 = c.self-2.view_is in
@@ -409,7 +459,7 @@ move_pages-requires-clause-within g c =
     let keeps : KeepsMachine p b h k before after = subst (λ (r : Manager). KeepsMachine p r h k before after) (sym v2) keeps0 in
     let ready : IsReady (replaced s) c.args.span.pages p b h k = subst (λ (e : Extent). IsReady e c.args.span.pages p b h k) c.destination.ensures
     (subst (λ (r : Manager). IsReady c.destination.result c.args.span.pages p r h k) (sym v2) (subst (λ (p : Manager). IsReady c.destination.result c.args.span.pages p q h k) (sym c.self.view_is) c.in_ok-make_ready.ensures.ready)) in
-    let out : IsOpen (size_of j.caches s.from.0) (size_of j.caches s.to.0) s = record {
+    let out : IsOpen (size_of j.caches s.from.0) (size_of j.caches s.to.0) (any_locked j.caches (replaced s)) s = record {
       from = open0.from;
       to = open0.to;
       from_is = keeps.same.sizes s.from.0 ∙ open0.from_is;
@@ -417,6 +467,7 @@ move_pages-requires-clause-within g c =
       from_ends = open0.from_ends;
       to_ends = open0.to_ends;
       apart = open0.apart;
+      unlocked = same_locked p b c.self.invariant.locked.counted sound.locked.counted keeps.by (replaced s) ∙ open0.unlocked;
     } in
     let tied = tied_right k None j.caches j.store valid.right in
     (omega (arith, sound.few, sound.counted, size_le j.caches s.from.0 out.from out.from_is, out.from_ends), omega (arith, sound.few, sound.counted, size_le j.caches s.to.0 out.to out.to_is, out.to_ends))
@@ -425,7 +476,7 @@ pub move_pages-requires-clause-temporary : goal.move_pages-requires-clause-tempo
 move_pages-requires-clause-temporary g c =
     let i = c.self.inside in
     let s = c.args.span in
-    let open0 = is_open (size_of i.caches s.from.0) (size_of i.caches s.to.0) s (is_movable (size_of i.caches s.from.0) (size_of i.caches s.to.0) (is_named i.caches s.from.0) s (sym c.move_refusal.ensures ∙ c.in_default.is)).0 in
+    let open0 = is_open (size_of i.caches s.from.0) (size_of i.caches s.to.0) (any_locked i.caches (replaced s)) s (is_movable (size_of i.caches s.from.0) (size_of i.caches s.to.0) (is_named i.caches s.from.0) (any_locked i.caches (read_from s)) (any_locked i.caches (replaced s)) s (sym c.move_refusal.ensures ∙ c.in_default.is)).0 in
     let q = c.make_ready.new.self in
     let x0 = c.make_ready.ensures in
     let h = g.M.Mapper.held c.args.mapper.now in
@@ -436,7 +487,7 @@ move_pages-requires-clause-temporary g c =
     let valid0 = (subst (λ (p : Manager). IsValid p h) (sym c.self.view_is) c.requires.valid) in
     let from0 = sized_table (table_of i.caches s.from.0) open0.from open0.from_is in
     let to0 = sized_table (table_of i.caches s.to.0) open0.to open0.to_is in
-    let transfer = moved_transfer i.caches i.store i.contexts i.live c.self.invariant s open0 from0.0 to0.0 from0.1 to0.1 from0.2 to0.2 (is_movable (size_of i.caches s.from.0) (size_of i.caches s.to.0) (is_named i.caches s.from.0) s (sym c.move_refusal.ensures ∙ c.in_default.is)).1 in
+    let transfer = moved_transfer i.caches i.store i.contexts i.live c.self.invariant s open0 from0.0 to0.0 from0.1 to0.1 from0.2 to0.2 (is_movable (size_of i.caches s.from.0) (size_of i.caches s.to.0) (is_named i.caches s.from.0) (any_locked i.caches (read_from s)) (any_locked i.caches (replaced s)) s (sym c.move_refusal.ensures ∙ c.in_default.is)).1 (is_movable (size_of i.caches s.from.0) (size_of i.caches s.to.0) (is_named i.caches s.from.0) (any_locked i.caches (read_from s)) (any_locked i.caches (replaced s)) s (sym c.move_refusal.ensures ∙ c.in_default.is)).2 in
     let keeps0 : KeepsMachine p q h k before after = subst (λ (p : Manager). KeepsMachine p q h k before after) (sym c.self.view_is) x0.keeps in
     let j = c.self-2.inside in
     let v2 = c.self-2.view_is in
@@ -446,7 +497,7 @@ move_pages-requires-clause-temporary g c =
     let keeps : KeepsMachine p b h k before after = subst (λ (r : Manager). KeepsMachine p r h k before after) (sym v2) keeps0 in
     let ready : IsReady (replaced s) c.args.span.pages p b h k = subst (λ (e : Extent). IsReady e c.args.span.pages p b h k) c.destination.ensures
     (subst (λ (r : Manager). IsReady c.destination.result c.args.span.pages p r h k) (sym v2) (subst (λ (p : Manager). IsReady c.destination.result c.args.span.pages p q h k) (sym c.self.view_is) c.in_ok-make_ready.ensures.ready)) in
-    let out : IsOpen (size_of j.caches s.from.0) (size_of j.caches s.to.0) s = record {
+    let out : IsOpen (size_of j.caches s.from.0) (size_of j.caches s.to.0) (any_locked j.caches (replaced s)) s = record {
       from = open0.from;
       to = open0.to;
       from_is = keeps.same.sizes s.from.0 ∙ open0.from_is;
@@ -454,15 +505,16 @@ move_pages-requires-clause-temporary g c =
       from_ends = open0.from_ends;
       to_ends = open0.to_ends;
       apart = open0.apart;
+      unlocked = same_locked p b c.self.invariant.locked.counted sound.locked.counted keeps.by (replaced s) ∙ open0.unlocked;
     } in
     let tied = tied_right k None j.caches j.store valid.right in
-    named_same i.caches j.caches keeps.same s.from.0 ∙ (is_movable (size_of i.caches s.from.0) (size_of i.caches s.to.0) (is_named i.caches s.from.0) s (sym c.move_refusal.ensures ∙ c.in_default.is)).1
+    named_same i.caches j.caches keeps.same s.from.0 ∙ (is_movable (size_of i.caches s.from.0) (size_of i.caches s.to.0) (is_named i.caches s.from.0) (any_locked i.caches (read_from s)) (any_locked i.caches (replaced s)) s (sym c.move_refusal.ensures ∙ c.in_default.is)).1
 
 pub move_pages-requires-clause-room : goal.move_pages-requires-clause-room
 move_pages-requires-clause-room g c =
     let i = c.self.inside in
     let s = c.args.span in
-    let open0 = is_open (size_of i.caches s.from.0) (size_of i.caches s.to.0) s (is_movable (size_of i.caches s.from.0) (size_of i.caches s.to.0) (is_named i.caches s.from.0) s (sym c.move_refusal.ensures ∙ c.in_default.is)).0 in
+    let open0 = is_open (size_of i.caches s.from.0) (size_of i.caches s.to.0) (any_locked i.caches (replaced s)) s (is_movable (size_of i.caches s.from.0) (size_of i.caches s.to.0) (is_named i.caches s.from.0) (any_locked i.caches (read_from s)) (any_locked i.caches (replaced s)) s (sym c.move_refusal.ensures ∙ c.in_default.is)).0 in
     let q = c.make_ready.new.self in
     let x0 = c.make_ready.ensures in
     let h = g.M.Mapper.held c.args.mapper.now in
@@ -473,7 +525,7 @@ move_pages-requires-clause-room g c =
     let valid0 = (subst (λ (p : Manager). IsValid p h) (sym c.self.view_is) c.requires.valid) in
     let from0 = sized_table (table_of i.caches s.from.0) open0.from open0.from_is in
     let to0 = sized_table (table_of i.caches s.to.0) open0.to open0.to_is in
-    let transfer = moved_transfer i.caches i.store i.contexts i.live c.self.invariant s open0 from0.0 to0.0 from0.1 to0.1 from0.2 to0.2 (is_movable (size_of i.caches s.from.0) (size_of i.caches s.to.0) (is_named i.caches s.from.0) s (sym c.move_refusal.ensures ∙ c.in_default.is)).1 in
+    let transfer = moved_transfer i.caches i.store i.contexts i.live c.self.invariant s open0 from0.0 to0.0 from0.1 to0.1 from0.2 to0.2 (is_movable (size_of i.caches s.from.0) (size_of i.caches s.to.0) (is_named i.caches s.from.0) (any_locked i.caches (read_from s)) (any_locked i.caches (replaced s)) s (sym c.move_refusal.ensures ∙ c.in_default.is)).1 (is_movable (size_of i.caches s.from.0) (size_of i.caches s.to.0) (is_named i.caches s.from.0) (any_locked i.caches (read_from s)) (any_locked i.caches (replaced s)) s (sym c.move_refusal.ensures ∙ c.in_default.is)).2 in
     let keeps0 : KeepsMachine p q h k before after = subst (λ (p : Manager). KeepsMachine p q h k before after) (sym c.self.view_is) x0.keeps in
     let j = c.self-2.inside in
     let v2 = c.self-2.view_is in
@@ -483,7 +535,7 @@ move_pages-requires-clause-room g c =
     let keeps : KeepsMachine p b h k before after = subst (λ (r : Manager). KeepsMachine p r h k before after) (sym v2) keeps0 in
     let ready : IsReady (replaced s) c.args.span.pages p b h k = subst (λ (e : Extent). IsReady e c.args.span.pages p b h k) c.destination.ensures
     (subst (λ (r : Manager). IsReady c.destination.result c.args.span.pages p r h k) (sym v2) (subst (λ (p : Manager). IsReady c.destination.result c.args.span.pages p q h k) (sym c.self.view_is) c.in_ok-make_ready.ensures.ready)) in
-    let out : IsOpen (size_of j.caches s.from.0) (size_of j.caches s.to.0) s = record {
+    let out : IsOpen (size_of j.caches s.from.0) (size_of j.caches s.to.0) (any_locked j.caches (replaced s)) s = record {
       from = open0.from;
       to = open0.to;
       from_is = keeps.same.sizes s.from.0 ∙ open0.from_is;
@@ -491,6 +543,7 @@ move_pages-requires-clause-room g c =
       from_ends = open0.from_ends;
       to_ends = open0.to_ends;
       apart = open0.apart;
+      unlocked = same_locked p b c.self.invariant.locked.counted sound.locked.counted keeps.by (replaced s) ∙ open0.unlocked;
     } in
     let tied = tied_right k None j.caches j.store valid.right in
     ready.room
@@ -499,7 +552,7 @@ pub move_pages-requires-clause-made : goal.move_pages-requires-clause-made
 move_pages-requires-clause-made g c =
     let i = c.self.inside in
     let s = c.args.span in
-    let open0 = is_open (size_of i.caches s.from.0) (size_of i.caches s.to.0) s (is_movable (size_of i.caches s.from.0) (size_of i.caches s.to.0) (is_named i.caches s.from.0) s (sym c.move_refusal.ensures ∙ c.in_default.is)).0 in
+    let open0 = is_open (size_of i.caches s.from.0) (size_of i.caches s.to.0) (any_locked i.caches (replaced s)) s (is_movable (size_of i.caches s.from.0) (size_of i.caches s.to.0) (is_named i.caches s.from.0) (any_locked i.caches (read_from s)) (any_locked i.caches (replaced s)) s (sym c.move_refusal.ensures ∙ c.in_default.is)).0 in
     let q = c.make_ready.new.self in
     let x0 = c.make_ready.ensures in
     let h = g.M.Mapper.held c.args.mapper.now in
@@ -510,7 +563,7 @@ move_pages-requires-clause-made g c =
     let valid0 = (subst (λ (p : Manager). IsValid p h) (sym c.self.view_is) c.requires.valid) in
     let from0 = sized_table (table_of i.caches s.from.0) open0.from open0.from_is in
     let to0 = sized_table (table_of i.caches s.to.0) open0.to open0.to_is in
-    let transfer = moved_transfer i.caches i.store i.contexts i.live c.self.invariant s open0 from0.0 to0.0 from0.1 to0.1 from0.2 to0.2 (is_movable (size_of i.caches s.from.0) (size_of i.caches s.to.0) (is_named i.caches s.from.0) s (sym c.move_refusal.ensures ∙ c.in_default.is)).1 in
+    let transfer = moved_transfer i.caches i.store i.contexts i.live c.self.invariant s open0 from0.0 to0.0 from0.1 to0.1 from0.2 to0.2 (is_movable (size_of i.caches s.from.0) (size_of i.caches s.to.0) (is_named i.caches s.from.0) (any_locked i.caches (read_from s)) (any_locked i.caches (replaced s)) s (sym c.move_refusal.ensures ∙ c.in_default.is)).1 (is_movable (size_of i.caches s.from.0) (size_of i.caches s.to.0) (is_named i.caches s.from.0) (any_locked i.caches (read_from s)) (any_locked i.caches (replaced s)) s (sym c.move_refusal.ensures ∙ c.in_default.is)).2 in
     let keeps0 : KeepsMachine p q h k before after = subst (λ (p : Manager). KeepsMachine p q h k before after) (sym c.self.view_is) x0.keeps in
     let j = c.self-2.inside in
     let v2 = c.self-2.view_is in
@@ -520,7 +573,7 @@ move_pages-requires-clause-made g c =
     let keeps : KeepsMachine p b h k before after = subst (λ (r : Manager). KeepsMachine p r h k before after) (sym v2) keeps0 in
     let ready : IsReady (replaced s) c.args.span.pages p b h k = subst (λ (e : Extent). IsReady e c.args.span.pages p b h k) c.destination.ensures
     (subst (λ (r : Manager). IsReady c.destination.result c.args.span.pages p r h k) (sym v2) (subst (λ (p : Manager). IsReady c.destination.result c.args.span.pages p q h k) (sym c.self.view_is) c.in_ok-make_ready.ensures.ready)) in
-    let out : IsOpen (size_of j.caches s.from.0) (size_of j.caches s.to.0) s = record {
+    let out : IsOpen (size_of j.caches s.from.0) (size_of j.caches s.to.0) (any_locked j.caches (replaced s)) s = record {
       from = open0.from;
       to = open0.to;
       from_is = keeps.same.sizes s.from.0 ∙ open0.from_is;
@@ -528,6 +581,7 @@ move_pages-requires-clause-made g c =
       from_ends = open0.from_ends;
       to_ends = open0.to_ends;
       apart = open0.apart;
+      unlocked = same_locked p b c.self.invariant.locked.counted sound.locked.counted keeps.by (replaced s) ∙ open0.unlocked;
     } in
     let tied = tied_right k None j.caches j.store valid.right in
     omega (arith, keeps.made, c.requires.made, ap numbered c.self.view_is, sound.few, sound.counted, size_le j.caches s.from.0 out.from out.from_is, out.from_ends)
@@ -536,7 +590,7 @@ pub invariant_of-self : goal.invariant_of-self
 invariant_of-self g c =
     let i = c.self.inside in
     let s = c.args.span in
-    let open0 = is_open (size_of i.caches s.from.0) (size_of i.caches s.to.0) s (is_movable (size_of i.caches s.from.0) (size_of i.caches s.to.0) (is_named i.caches s.from.0) s (sym c.move_refusal.ensures ∙ c.in_default.is)).0 in
+    let open0 = is_open (size_of i.caches s.from.0) (size_of i.caches s.to.0) (any_locked i.caches (replaced s)) s (is_movable (size_of i.caches s.from.0) (size_of i.caches s.to.0) (is_named i.caches s.from.0) (any_locked i.caches (read_from s)) (any_locked i.caches (replaced s)) s (sym c.move_refusal.ensures ∙ c.in_default.is)).0 in
     let q = c.make_ready.new.self in
     let x0 = c.make_ready.ensures in
     let h = g.M.Mapper.held c.args.mapper.now in
@@ -547,7 +601,7 @@ invariant_of-self g c =
     let valid0 = (subst (λ (p : Manager). IsValid p h) (sym c.self.view_is) c.requires.valid) in
     let from0 = sized_table (table_of i.caches s.from.0) open0.from open0.from_is in
     let to0 = sized_table (table_of i.caches s.to.0) open0.to open0.to_is in
-    let transfer = moved_transfer i.caches i.store i.contexts i.live c.self.invariant s open0 from0.0 to0.0 from0.1 to0.1 from0.2 to0.2 (is_movable (size_of i.caches s.from.0) (size_of i.caches s.to.0) (is_named i.caches s.from.0) s (sym c.move_refusal.ensures ∙ c.in_default.is)).1 in
+    let transfer = moved_transfer i.caches i.store i.contexts i.live c.self.invariant s open0 from0.0 to0.0 from0.1 to0.1 from0.2 to0.2 (is_movable (size_of i.caches s.from.0) (size_of i.caches s.to.0) (is_named i.caches s.from.0) (any_locked i.caches (read_from s)) (any_locked i.caches (replaced s)) s (sym c.move_refusal.ensures ∙ c.in_default.is)).1 (is_movable (size_of i.caches s.from.0) (size_of i.caches s.to.0) (is_named i.caches s.from.0) (any_locked i.caches (read_from s)) (any_locked i.caches (replaced s)) s (sym c.move_refusal.ensures ∙ c.in_default.is)).2 in
     let keeps0 : KeepsMachine p q h k before after = subst (λ (p : Manager). KeepsMachine p q h k before after) (sym c.self.view_is) x0.keeps in
     let j = c.self-2.inside in
     let v2 = c.self-2.view_is in
@@ -557,7 +611,7 @@ invariant_of-self g c =
     let keeps : KeepsMachine p b h k before after = subst (λ (r : Manager). KeepsMachine p r h k before after) (sym v2) keeps0 in
     let ready : IsReady (replaced s) c.args.span.pages p b h k = subst (λ (e : Extent). IsReady e c.args.span.pages p b h k) c.destination.ensures
     (subst (λ (r : Manager). IsReady c.destination.result c.args.span.pages p r h k) (sym v2) (subst (λ (p : Manager). IsReady c.destination.result c.args.span.pages p q h k) (sym c.self.view_is) c.in_ok-make_ready.ensures.ready)) in
-    let out : IsOpen (size_of j.caches s.from.0) (size_of j.caches s.to.0) s = record {
+    let out : IsOpen (size_of j.caches s.from.0) (size_of j.caches s.to.0) (any_locked j.caches (replaced s)) s = record {
       from = open0.from;
       to = open0.to;
       from_is = keeps.same.sizes s.from.0 ∙ open0.from_is;
@@ -565,6 +619,7 @@ invariant_of-self g c =
       from_ends = open0.from_ends;
       to_ends = open0.to_ends;
       apart = open0.apart;
+      unlocked = same_locked p b c.self.invariant.locked.counted sound.locked.counted keeps.by (replaced s) ∙ open0.unlocked;
     } in
     let tied = tied_right k None j.caches j.store valid.right in
     let e = c.move_pages.ensures in
@@ -575,12 +630,13 @@ invariant_of-self g c =
     let to = sized_table (table_of j.caches s.to.0) out.to out.to_is in
     let right = e.right (slots_enough j.caches d j.store u j.contexts j.live sound e.kept.sizes e.kept.gives_back tied e.whole) in
     changed_sound j.caches d j.store u j.contexts j.live sound e.kept.sizes e.kept.gives_back tied e.whole e.bounded
+    (held_released _ j.caches d j.store u e.kept tied j.contexts sound.nodes sound.actors sound.locked)
 
 pub returns-clause-valid : goal.returns-clause-valid
 returns-clause-valid g c =
     let i = c.self.inside in
     let s = c.args.span in
-    let open0 = is_open (size_of i.caches s.from.0) (size_of i.caches s.to.0) s (is_movable (size_of i.caches s.from.0) (size_of i.caches s.to.0) (is_named i.caches s.from.0) s (sym c.move_refusal.ensures ∙ c.in_default.is)).0 in
+    let open0 = is_open (size_of i.caches s.from.0) (size_of i.caches s.to.0) (any_locked i.caches (replaced s)) s (is_movable (size_of i.caches s.from.0) (size_of i.caches s.to.0) (is_named i.caches s.from.0) (any_locked i.caches (read_from s)) (any_locked i.caches (replaced s)) s (sym c.move_refusal.ensures ∙ c.in_default.is)).0 in
     let q = c.make_ready.new.self in
     let x0 = c.make_ready.ensures in
     let h = g.M.Mapper.held c.args.mapper.now in
@@ -591,7 +647,7 @@ returns-clause-valid g c =
     let valid0 = (subst (λ (p : Manager). IsValid p h) (sym c.self.view_is) c.requires.valid) in
     let from0 = sized_table (table_of i.caches s.from.0) open0.from open0.from_is in
     let to0 = sized_table (table_of i.caches s.to.0) open0.to open0.to_is in
-    let transfer = moved_transfer i.caches i.store i.contexts i.live c.self.invariant s open0 from0.0 to0.0 from0.1 to0.1 from0.2 to0.2 (is_movable (size_of i.caches s.from.0) (size_of i.caches s.to.0) (is_named i.caches s.from.0) s (sym c.move_refusal.ensures ∙ c.in_default.is)).1 in
+    let transfer = moved_transfer i.caches i.store i.contexts i.live c.self.invariant s open0 from0.0 to0.0 from0.1 to0.1 from0.2 to0.2 (is_movable (size_of i.caches s.from.0) (size_of i.caches s.to.0) (is_named i.caches s.from.0) (any_locked i.caches (read_from s)) (any_locked i.caches (replaced s)) s (sym c.move_refusal.ensures ∙ c.in_default.is)).1 (is_movable (size_of i.caches s.from.0) (size_of i.caches s.to.0) (is_named i.caches s.from.0) (any_locked i.caches (read_from s)) (any_locked i.caches (replaced s)) s (sym c.move_refusal.ensures ∙ c.in_default.is)).2 in
     let keeps0 : KeepsMachine p q h k before after = subst (λ (p : Manager). KeepsMachine p q h k before after) (sym c.self.view_is) x0.keeps in
     let j = c.self-2.inside in
     let v2 = c.self-2.view_is in
@@ -601,7 +657,7 @@ returns-clause-valid g c =
     let keeps : KeepsMachine p b h k before after = subst (λ (r : Manager). KeepsMachine p r h k before after) (sym v2) keeps0 in
     let ready : IsReady (replaced s) c.args.span.pages p b h k = subst (λ (e : Extent). IsReady e c.args.span.pages p b h k) c.destination.ensures
     (subst (λ (r : Manager). IsReady c.destination.result c.args.span.pages p r h k) (sym v2) (subst (λ (p : Manager). IsReady c.destination.result c.args.span.pages p q h k) (sym c.self.view_is) c.in_ok-make_ready.ensures.ready)) in
-    let out : IsOpen (size_of j.caches s.from.0) (size_of j.caches s.to.0) s = record {
+    let out : IsOpen (size_of j.caches s.from.0) (size_of j.caches s.to.0) (any_locked j.caches (replaced s)) s = record {
       from = open0.from;
       to = open0.to;
       from_is = keeps.same.sizes s.from.0 ∙ open0.from_is;
@@ -609,6 +665,7 @@ returns-clause-valid g c =
       from_ends = open0.from_ends;
       to_ends = open0.to_ends;
       apart = open0.apart;
+      unlocked = same_locked p b c.self.invariant.locked.counted sound.locked.counted keeps.by (replaced s) ∙ open0.unlocked;
     } in
     let tied = tied_right k None j.caches j.store valid.right in
     let e = c.move_pages.ensures in
@@ -624,7 +681,7 @@ pub returns-clause-answers : goal.returns-clause-answers
 returns-clause-answers g c =
     let i = c.self.inside in
     let s = c.args.span in
-    let open0 = is_open (size_of i.caches s.from.0) (size_of i.caches s.to.0) s (is_movable (size_of i.caches s.from.0) (size_of i.caches s.to.0) (is_named i.caches s.from.0) s (sym c.move_refusal.ensures ∙ c.in_default.is)).0 in
+    let open0 = is_open (size_of i.caches s.from.0) (size_of i.caches s.to.0) (any_locked i.caches (replaced s)) s (is_movable (size_of i.caches s.from.0) (size_of i.caches s.to.0) (is_named i.caches s.from.0) (any_locked i.caches (read_from s)) (any_locked i.caches (replaced s)) s (sym c.move_refusal.ensures ∙ c.in_default.is)).0 in
     let q = c.make_ready.new.self in
     let x0 = c.make_ready.ensures in
     let h = g.M.Mapper.held c.args.mapper.now in
@@ -635,7 +692,7 @@ returns-clause-answers g c =
     let valid0 = (subst (λ (p : Manager). IsValid p h) (sym c.self.view_is) c.requires.valid) in
     let from0 = sized_table (table_of i.caches s.from.0) open0.from open0.from_is in
     let to0 = sized_table (table_of i.caches s.to.0) open0.to open0.to_is in
-    let transfer = moved_transfer i.caches i.store i.contexts i.live c.self.invariant s open0 from0.0 to0.0 from0.1 to0.1 from0.2 to0.2 (is_movable (size_of i.caches s.from.0) (size_of i.caches s.to.0) (is_named i.caches s.from.0) s (sym c.move_refusal.ensures ∙ c.in_default.is)).1 in
+    let transfer = moved_transfer i.caches i.store i.contexts i.live c.self.invariant s open0 from0.0 to0.0 from0.1 to0.1 from0.2 to0.2 (is_movable (size_of i.caches s.from.0) (size_of i.caches s.to.0) (is_named i.caches s.from.0) (any_locked i.caches (read_from s)) (any_locked i.caches (replaced s)) s (sym c.move_refusal.ensures ∙ c.in_default.is)).1 (is_movable (size_of i.caches s.from.0) (size_of i.caches s.to.0) (is_named i.caches s.from.0) (any_locked i.caches (read_from s)) (any_locked i.caches (replaced s)) s (sym c.move_refusal.ensures ∙ c.in_default.is)).2 in
     let keeps0 : KeepsMachine p q h k before after = subst (λ (p : Manager). KeepsMachine p q h k before after) (sym c.self.view_is) x0.keeps in
     let j = c.self-2.inside in
     let v2 = c.self-2.view_is in
@@ -645,7 +702,7 @@ returns-clause-answers g c =
     let keeps : KeepsMachine p b h k before after = subst (λ (r : Manager). KeepsMachine p r h k before after) (sym v2) keeps0 in
     let ready : IsReady (replaced s) c.args.span.pages p b h k = subst (λ (e : Extent). IsReady e c.args.span.pages p b h k) c.destination.ensures
     (subst (λ (r : Manager). IsReady c.destination.result c.args.span.pages p r h k) (sym v2) (subst (λ (p : Manager). IsReady c.destination.result c.args.span.pages p q h k) (sym c.self.view_is) c.in_ok-make_ready.ensures.ready)) in
-    let out : IsOpen (size_of j.caches s.from.0) (size_of j.caches s.to.0) s = record {
+    let out : IsOpen (size_of j.caches s.from.0) (size_of j.caches s.to.0) (any_locked j.caches (replaced s)) s = record {
       from = open0.from;
       to = open0.to;
       from_is = keeps.same.sizes s.from.0 ∙ open0.from_is;
@@ -653,6 +710,7 @@ returns-clause-answers g c =
       from_ends = open0.from_ends;
       to_ends = open0.to_ends;
       apart = open0.apart;
+      unlocked = same_locked p b c.self.invariant.locked.counted sound.locked.counted keeps.by (replaced s) ∙ open0.unlocked;
     } in
     let tied = tied_right k None j.caches j.store valid.right in
     let e = c.move_pages.ensures in
@@ -668,7 +726,8 @@ returns-clause-answers g c =
     let now = moved_valid j.caches j.store j.contexts j.live sound s out from.0 to.0 from.1 to.1 from.2 to.2 d u e.kept.sizes e.kept.gives_back tied e.whole k valid right e.forest in
     let named = named_machine p (forest_of p h) s.to.0 in
     let outcome : OutcomeAt (segments_of k) (machine_of p h) (Some (forest_of p h)) (commands.Move s) answer (machine_of z k) rises
-    = subst (λ (m : Machine). OutcomeAt (segments_of k) m (Some (forest_of p h)) (commands.Move s) answer (machine_of z k) rises) keeps.machine (moved_outcome j.caches j.store j.contexts j.live sound s out from.0 to.0 from.1 to.1 from.2 to.2 d u e.kept.sizes e.kept.gives_back tied e.whole k valid right e.forest (named_same i.caches j.caches keeps.same s.from.0 ∙ (is_movable (size_of i.caches s.from.0) (size_of i.caches s.to.0) (is_named i.caches s.from.0) s (sym c.move_refusal.ensures ∙ c.in_default.is)).1) (forest_of p h) rises may) in
+    = subst (λ (m : Machine). OutcomeAt (segments_of k) m (Some (forest_of p h)) (commands.Move s) answer (machine_of z k) rises) keeps.machine (moved_outcome j.caches j.store j.contexts j.live sound s out from.0 to.0 from.1 to.1 from.2 to.2 d u e.kept.sizes e.kept.gives_back tied e.whole k valid right e.forest (named_same i.caches j.caches keeps.same s.from.0 ∙ (is_movable (size_of i.caches s.from.0) (size_of i.caches s.to.0) (is_named i.caches s.from.0) (any_locked i.caches (read_from s)) (any_locked i.caches (replaced s)) s (sym c.move_refusal.ensures ∙ c.in_default.is)).1)
+    (same_locked p b c.self.invariant.locked.counted sound.locked.counted keeps.by (read_from s) ∙ (is_movable (size_of i.caches s.from.0) (size_of i.caches s.to.0) (is_named i.caches s.from.0) (any_locked i.caches (read_from s)) (any_locked i.caches (replaced s)) s (sym c.move_refusal.ensures ∙ c.in_default.is)).2) (forest_of p h) rises may) in
     let follows : forest_of z k ≡ forest_after (forest_of p h) (machine_of p h) (commands.Move s) answer (machine_of z k) = move_follows j.caches j.store j.contexts j.live sound s out from.0 to.0 from.1 to.1 from.2 to.2 d u e.kept.sizes e.kept.gives_back tied e.whole k valid right e.forest c.requires.some (is_named i.caches s.to.0) (forest_of p h) ready.forest ∙ (λ x. move_ (sym named x) (told (unwrap_or (page_in (machine_of z k) s.from.0 s.from_page.0) [])) (span_pairs s) (forest_of p h)) in
     subst (λ (p : Manager). CallIs before after (state_at p h) (commands.Move s) answer (state_at z k)) c.self.view_is
     (call_is before after p z h k (commands.Move s) answer keeps.reach now tt tt follows outcome)
@@ -677,7 +736,7 @@ pub returns-clause-made : goal.returns-clause-made
 returns-clause-made g c =
     let i = c.self.inside in
     let s = c.args.span in
-    let open0 = is_open (size_of i.caches s.from.0) (size_of i.caches s.to.0) s (is_movable (size_of i.caches s.from.0) (size_of i.caches s.to.0) (is_named i.caches s.from.0) s (sym c.move_refusal.ensures ∙ c.in_default.is)).0 in
+    let open0 = is_open (size_of i.caches s.from.0) (size_of i.caches s.to.0) (any_locked i.caches (replaced s)) s (is_movable (size_of i.caches s.from.0) (size_of i.caches s.to.0) (is_named i.caches s.from.0) (any_locked i.caches (read_from s)) (any_locked i.caches (replaced s)) s (sym c.move_refusal.ensures ∙ c.in_default.is)).0 in
     let q = c.make_ready.new.self in
     let x0 = c.make_ready.ensures in
     let h = g.M.Mapper.held c.args.mapper.now in
@@ -688,7 +747,7 @@ returns-clause-made g c =
     let valid0 = (subst (λ (p : Manager). IsValid p h) (sym c.self.view_is) c.requires.valid) in
     let from0 = sized_table (table_of i.caches s.from.0) open0.from open0.from_is in
     let to0 = sized_table (table_of i.caches s.to.0) open0.to open0.to_is in
-    let transfer = moved_transfer i.caches i.store i.contexts i.live c.self.invariant s open0 from0.0 to0.0 from0.1 to0.1 from0.2 to0.2 (is_movable (size_of i.caches s.from.0) (size_of i.caches s.to.0) (is_named i.caches s.from.0) s (sym c.move_refusal.ensures ∙ c.in_default.is)).1 in
+    let transfer = moved_transfer i.caches i.store i.contexts i.live c.self.invariant s open0 from0.0 to0.0 from0.1 to0.1 from0.2 to0.2 (is_movable (size_of i.caches s.from.0) (size_of i.caches s.to.0) (is_named i.caches s.from.0) (any_locked i.caches (read_from s)) (any_locked i.caches (replaced s)) s (sym c.move_refusal.ensures ∙ c.in_default.is)).1 (is_movable (size_of i.caches s.from.0) (size_of i.caches s.to.0) (is_named i.caches s.from.0) (any_locked i.caches (read_from s)) (any_locked i.caches (replaced s)) s (sym c.move_refusal.ensures ∙ c.in_default.is)).2 in
     let keeps0 : KeepsMachine p q h k before after = subst (λ (p : Manager). KeepsMachine p q h k before after) (sym c.self.view_is) x0.keeps in
     let j = c.self-2.inside in
     let v2 = c.self-2.view_is in
@@ -698,7 +757,7 @@ returns-clause-made g c =
     let keeps : KeepsMachine p b h k before after = subst (λ (r : Manager). KeepsMachine p r h k before after) (sym v2) keeps0 in
     let ready : IsReady (replaced s) c.args.span.pages p b h k = subst (λ (e : Extent). IsReady e c.args.span.pages p b h k) c.destination.ensures
     (subst (λ (r : Manager). IsReady c.destination.result c.args.span.pages p r h k) (sym v2) (subst (λ (p : Manager). IsReady c.destination.result c.args.span.pages p q h k) (sym c.self.view_is) c.in_ok-make_ready.ensures.ready)) in
-    let out : IsOpen (size_of j.caches s.from.0) (size_of j.caches s.to.0) s = record {
+    let out : IsOpen (size_of j.caches s.from.0) (size_of j.caches s.to.0) (any_locked j.caches (replaced s)) s = record {
       from = open0.from;
       to = open0.to;
       from_is = keeps.same.sizes s.from.0 ∙ open0.from_is;
@@ -706,6 +765,7 @@ returns-clause-made g c =
       from_ends = open0.from_ends;
       to_ends = open0.to_ends;
       apart = open0.apart;
+      unlocked = same_locked p b c.self.invariant.locked.counted sound.locked.counted keeps.by (replaced s) ∙ open0.unlocked;
     } in
     let tied = tied_right k None j.caches j.store valid.right in
     let e = c.move_pages.ensures in
@@ -723,7 +783,7 @@ pub returns-clause-copies : goal.returns-clause-copies
 returns-clause-copies g c =
     let i = c.self.inside in
     let s = c.args.span in
-    let open0 = is_open (size_of i.caches s.from.0) (size_of i.caches s.to.0) s (is_movable (size_of i.caches s.from.0) (size_of i.caches s.to.0) (is_named i.caches s.from.0) s (sym c.move_refusal.ensures ∙ c.in_default.is)).0 in
+    let open0 = is_open (size_of i.caches s.from.0) (size_of i.caches s.to.0) (any_locked i.caches (replaced s)) s (is_movable (size_of i.caches s.from.0) (size_of i.caches s.to.0) (is_named i.caches s.from.0) (any_locked i.caches (read_from s)) (any_locked i.caches (replaced s)) s (sym c.move_refusal.ensures ∙ c.in_default.is)).0 in
     let q = c.make_ready.new.self in
     let x0 = c.make_ready.ensures in
     let h = g.M.Mapper.held c.args.mapper.now in
@@ -734,7 +794,7 @@ returns-clause-copies g c =
     let valid0 = (subst (λ (p : Manager). IsValid p h) (sym c.self.view_is) c.requires.valid) in
     let from0 = sized_table (table_of i.caches s.from.0) open0.from open0.from_is in
     let to0 = sized_table (table_of i.caches s.to.0) open0.to open0.to_is in
-    let transfer = moved_transfer i.caches i.store i.contexts i.live c.self.invariant s open0 from0.0 to0.0 from0.1 to0.1 from0.2 to0.2 (is_movable (size_of i.caches s.from.0) (size_of i.caches s.to.0) (is_named i.caches s.from.0) s (sym c.move_refusal.ensures ∙ c.in_default.is)).1 in
+    let transfer = moved_transfer i.caches i.store i.contexts i.live c.self.invariant s open0 from0.0 to0.0 from0.1 to0.1 from0.2 to0.2 (is_movable (size_of i.caches s.from.0) (size_of i.caches s.to.0) (is_named i.caches s.from.0) (any_locked i.caches (read_from s)) (any_locked i.caches (replaced s)) s (sym c.move_refusal.ensures ∙ c.in_default.is)).1 (is_movable (size_of i.caches s.from.0) (size_of i.caches s.to.0) (is_named i.caches s.from.0) (any_locked i.caches (read_from s)) (any_locked i.caches (replaced s)) s (sym c.move_refusal.ensures ∙ c.in_default.is)).2 in
     let keeps0 : KeepsMachine p q h k before after = subst (λ (p : Manager). KeepsMachine p q h k before after) (sym c.self.view_is) x0.keeps in
     let j = c.self-2.inside in
     let v2 = c.self-2.view_is in
@@ -744,7 +804,7 @@ returns-clause-copies g c =
     let keeps : KeepsMachine p b h k before after = subst (λ (r : Manager). KeepsMachine p r h k before after) (sym v2) keeps0 in
     let ready : IsReady (replaced s) c.args.span.pages p b h k = subst (λ (e : Extent). IsReady e c.args.span.pages p b h k) c.destination.ensures
     (subst (λ (r : Manager). IsReady c.destination.result c.args.span.pages p r h k) (sym v2) (subst (λ (p : Manager). IsReady c.destination.result c.args.span.pages p q h k) (sym c.self.view_is) c.in_ok-make_ready.ensures.ready)) in
-    let out : IsOpen (size_of j.caches s.from.0) (size_of j.caches s.to.0) s = record {
+    let out : IsOpen (size_of j.caches s.from.0) (size_of j.caches s.to.0) (any_locked j.caches (replaced s)) s = record {
       from = open0.from;
       to = open0.to;
       from_is = keeps.same.sizes s.from.0 ∙ open0.from_is;
@@ -752,6 +812,7 @@ returns-clause-copies g c =
       from_ends = open0.from_ends;
       to_ends = open0.to_ends;
       apart = open0.apart;
+      unlocked = same_locked p b c.self.invariant.locked.counted sound.locked.counted keeps.by (replaced s) ∙ open0.unlocked;
     } in
     let tied = tied_right k None j.caches j.store valid.right in
     let e = c.move_pages.ensures in
@@ -768,7 +829,7 @@ pub returns-clause-idle : goal.returns-clause-idle
 returns-clause-idle g c =
     let i = c.self.inside in
     let s = c.args.span in
-    let open0 = is_open (size_of i.caches s.from.0) (size_of i.caches s.to.0) s (is_movable (size_of i.caches s.from.0) (size_of i.caches s.to.0) (is_named i.caches s.from.0) s (sym c.move_refusal.ensures ∙ c.in_default.is)).0 in
+    let open0 = is_open (size_of i.caches s.from.0) (size_of i.caches s.to.0) (any_locked i.caches (replaced s)) s (is_movable (size_of i.caches s.from.0) (size_of i.caches s.to.0) (is_named i.caches s.from.0) (any_locked i.caches (read_from s)) (any_locked i.caches (replaced s)) s (sym c.move_refusal.ensures ∙ c.in_default.is)).0 in
     let q = c.make_ready.new.self in
     let x0 = c.make_ready.ensures in
     let h = g.M.Mapper.held c.args.mapper.now in
@@ -779,7 +840,7 @@ returns-clause-idle g c =
     let valid0 = (subst (λ (p : Manager). IsValid p h) (sym c.self.view_is) c.requires.valid) in
     let from0 = sized_table (table_of i.caches s.from.0) open0.from open0.from_is in
     let to0 = sized_table (table_of i.caches s.to.0) open0.to open0.to_is in
-    let transfer = moved_transfer i.caches i.store i.contexts i.live c.self.invariant s open0 from0.0 to0.0 from0.1 to0.1 from0.2 to0.2 (is_movable (size_of i.caches s.from.0) (size_of i.caches s.to.0) (is_named i.caches s.from.0) s (sym c.move_refusal.ensures ∙ c.in_default.is)).1 in
+    let transfer = moved_transfer i.caches i.store i.contexts i.live c.self.invariant s open0 from0.0 to0.0 from0.1 to0.1 from0.2 to0.2 (is_movable (size_of i.caches s.from.0) (size_of i.caches s.to.0) (is_named i.caches s.from.0) (any_locked i.caches (read_from s)) (any_locked i.caches (replaced s)) s (sym c.move_refusal.ensures ∙ c.in_default.is)).1 (is_movable (size_of i.caches s.from.0) (size_of i.caches s.to.0) (is_named i.caches s.from.0) (any_locked i.caches (read_from s)) (any_locked i.caches (replaced s)) s (sym c.move_refusal.ensures ∙ c.in_default.is)).2 in
     let keeps0 : KeepsMachine p q h k before after = subst (λ (p : Manager). KeepsMachine p q h k before after) (sym c.self.view_is) x0.keeps in
     let j = c.self-2.inside in
     let v2 = c.self-2.view_is in
@@ -789,7 +850,7 @@ returns-clause-idle g c =
     let keeps : KeepsMachine p b h k before after = subst (λ (r : Manager). KeepsMachine p r h k before after) (sym v2) keeps0 in
     let ready : IsReady (replaced s) c.args.span.pages p b h k = subst (λ (e : Extent). IsReady e c.args.span.pages p b h k) c.destination.ensures
     (subst (λ (r : Manager). IsReady c.destination.result c.args.span.pages p r h k) (sym v2) (subst (λ (p : Manager). IsReady c.destination.result c.args.span.pages p q h k) (sym c.self.view_is) c.in_ok-make_ready.ensures.ready)) in
-    let out : IsOpen (size_of j.caches s.from.0) (size_of j.caches s.to.0) s = record {
+    let out : IsOpen (size_of j.caches s.from.0) (size_of j.caches s.to.0) (any_locked j.caches (replaced s)) s = record {
       from = open0.from;
       to = open0.to;
       from_is = keeps.same.sizes s.from.0 ∙ open0.from_is;
@@ -797,6 +858,7 @@ returns-clause-idle g c =
       from_ends = open0.from_ends;
       to_ends = open0.to_ends;
       apart = open0.apart;
+      unlocked = same_locked p b c.self.invariant.locked.counted sound.locked.counted keeps.by (replaced s) ∙ open0.unlocked;
     } in
     let tied = tied_right k None j.caches j.store valid.right in
     let e = c.move_pages.ensures in

@@ -1,6 +1,7 @@
 use Rattle.std.proofs.Common.{◌≡◌, ℕ, refl, sym, ap, subst, ◌∙◌, arith}
 use Rattle.std.specs.Prelude.{◌+◌, ◌-◌, length, min, OnOk, Result}
-use Rattle.frame_pool.specs.Pool.{held_count, pinned_count}
+use Rattle.frame_pool.specs.Pool.{held_count}
+use Rattle.residency.specs.Frames.{evictable_count}
 use Rattle.vm_ids.specs.declared.command.Command.TheVariants as commands
 use Rattle.vm_ids.specs.declared.reply.Reply.TheVariants as replies
 use Rattle.vm_ids.specs.declared.reply.Trouble.{Trouble}
@@ -9,7 +10,7 @@ use Rattle.vm_model.specs.Run.{CallIs}
 use Rattle.pvm_core.specs.Manager.{IsValid, Manager, forest_of, machine_by, machine_of, state_at}
 use Rattle.pvm_core.proofs.Answering.Answered.{called, on_victim, paged_out, victim}
 use Rattle.pvm_core.proofs.Homes.Homed.{reached}
-use Rattle.pvm_core.proofs.Answering.Kept.{kept_by, seen, stilled, pinned_none, stilled_forest, stilled_machine, stilled_sound, stilled_valid}
+use Rattle.pvm_core.proofs.Answering.Kept.{kept_by, seen, stilled, stilled_forest, stilled_machine, stilled_sound, stilled_valid}
 use Rattle.pvm_core.proofs.pvm.Pvm.page_out.Goals as goal
 use Rattle.pvm_core.proofs.pvm.Pvm.page_out.Goals.{in-Ok, in-Err}
 
@@ -19,6 +20,7 @@ invariant_of-self g c =
     let n = c.page_out.new in
     let e = c.page_out.ensures in
     stilled_sound i.caches n.caches i.store n.self (g.M.Mapper.held c.args.mapper.now) (g.M.Mapper.held n.mapper) (g.M.Mapper.page_bytes c.args.mapper.now) (g.M.Mapper.page_bytes n.mapper) e.still e.pinned i.contexts i.live c.self.invariant
+    (subst (λ (p : Manager). IsValid p (g.M.Mapper.held c.args.mapper.now)) (sym c.self.view_is) c.requires.valid).right.tied.placed.bound
 
 pub returns-clause-valid : goal.returns-clause-valid
 returns-clause-valid g c =
@@ -44,7 +46,8 @@ returns-clause-answers g c =
     let q : Manager = seen n.caches n.self i.contexts in
     let command = commands.PageOut c.args.count in
     let kept = stilled i.caches n.caches i.store n.self h k (g.M.Mapper.page_bytes c.args.mapper.now) (g.M.Mapper.page_bytes n.mapper) e.still e.pinned i.contexts i.live c.self.invariant in
-    let then = stilled_sound i.caches n.caches i.store n.self h k (g.M.Mapper.page_bytes c.args.mapper.now) (g.M.Mapper.page_bytes n.mapper) e.still e.pinned i.contexts i.live c.self.invariant in
+    let then = stilled_sound i.caches n.caches i.store n.self h k (g.M.Mapper.page_bytes c.args.mapper.now) (g.M.Mapper.page_bytes n.mapper) e.still e.pinned i.contexts i.live c.self.invariant
+    (subst (λ (p : Manager). IsValid p h) (sym c.self.view_is) c.requires.valid).right.tied.placed.bound in
     let forest = stilled_forest i.caches n.caches i.store n.self h k (g.M.Mapper.page_bytes c.args.mapper.now) (g.M.Mapper.page_bytes n.mapper) e.still e.pinned i.contexts i.live c.self.invariant in
     let reach = reached p h c.self.invariant.nodes c.self.invariant.apart (g.M.Mapper.page_bytes c.args.mapper.now) (g.M.Mapper.page_bytes n.mapper) n.caches n.self k before after e.later e.told in
     let valid = stilled_valid i.caches n.caches i.store n.self h k (g.M.Mapper.page_bytes c.args.mapper.now) (g.M.Mapper.page_bytes n.mapper) e.still e.pinned i.contexts i.live c.self.invariant before after reach (subst (λ (p : Manager). IsValid p h) (sym c.self.view_is) c.requires.valid) in
@@ -54,7 +57,7 @@ returns-clause-answers g c =
     ] in
     subst (λ (p : Manager). CallIs before after (state_at p h) command (answer_by (λ _. replies.Done) c.match-page_out.result) (state_at q k)) c.self.view_is
     (subst (λ (r : Result (Unit {0}) Trouble). CallIs before after (state_at p h) command (answer_by (λ _. replies.Done) r) (state_at q k)) turned
-    (called before after p q h k command (answer_by (λ _. replies.Done) (victim c.page_out.result)) reach c.self.invariant.nodes then.nodes valid forest (λ done m f s none. none) tt tt (λ f. refl)
+    (called before after p q h k command (answer_by (λ _. replies.Done) (victim c.page_out.result)) reach c.self.invariant.nodes then.nodes valid forest (λ done m f s none. none) tt tt (λ f. refl) (λ page. refl)
     (λ f s. paged_out (length reach.pushes) (machine_by p f) (machine_by q f) (forest_of p h) c.args.count s before after c.page_out.result (kept_by i.caches n.caches i.store n.self h k (g.M.Mapper.page_bytes c.args.mapper.now) (g.M.Mapper.page_bytes n.mapper) kept i.contexts f) e.cause)))
 
 pub returns-clause-machine : goal.returns-clause-machine
@@ -88,8 +91,6 @@ returns-clause-fewer g c =
       | in-Ok w ↦ ap victim w.in-Ok.is ∙ sym w.result-is
       | in-Err w ↦ ap victim w.in-Err.is ∙ sym w.result-is
     ] in
-    let none = pinned_none i.store.frames.pinned c.self.invariant.unpinned in
-    let all : before - pinned_count i.store.frames ≡ before = omega (arith, none) in
-    subst (λ (p : Manager). OnOk c.match-page_out.result (held_count n.self.frames + min c.args.count (held_count p.store.frames) ≡ held_count p.store.frames)) c.self.view_is
-    (subst (λ (r : Result (Unit {0}) Trouble). OnOk r (held_count n.self.frames + min c.args.count before ≡ before)) turned
-    (on_victim _ c.page_out.result (subst (λ (k : ℕ). OnOk c.page_out.result (held_count n.self.frames + min c.args.count k ≡ before)) all c.page_out.ensures.fewer)))
+    subst (λ (p : Manager). OnOk c.match-page_out.result (held_count n.self.frames + min c.args.count (evictable_count p.store.frames) ≡ held_count p.store.frames)) c.self.view_is
+    (subst (λ (r : Result (Unit {0}) Trouble). OnOk r (held_count n.self.frames + min c.args.count (evictable_count i.store.frames) ≡ before)) turned
+    (on_victim _ c.page_out.result c.page_out.ensures.fewer))

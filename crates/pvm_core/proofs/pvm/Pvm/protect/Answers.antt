@@ -8,11 +8,12 @@ use Rattle.vm_model.specs.Answering.{refuse, reply}
 use Rattle.local_cache.specs.Whole.{size_of}
 use Rattle.contexts.specs.Actors.{Actors}
 use Rattle.pvm_core.specs.Manager.{caches_shown}
+use Rattle.pvm_core.specs.Locks.{locks_over}
 use Rattle.pvm_core.specs.Placed.{AreRight}
 use Rattle.pvm_core.proofs.Acting.{acted, acted_valid, protected}
 use Rattle.pvm_core.proofs.Answering.Kept.{seated_sound}
 use Rattle.pvm_core.proofs.Answering.Listed.{machine_with}
-use Rattle.pvm_core.proofs.RegionRows.{protect_none, protect_row, right_with_allowed}
+use Rattle.pvm_core.proofs.RegionRows.{over_allowed, protect_none, protect_row, right_with_allowed}
 use Rattle.pvm_core.proofs.pvm.Pvm.protect.Goals as goal
 
 pub returns-then-not-protect-clause-answers : goal.returns-then-not-protect-clause-answers
@@ -36,7 +37,8 @@ invariant_of-self-2 c =
     let there = c.if-not-protect.false in
     let new = e.changed there in
     seated_sound i.caches i.store t c.protect.new.self i.live (ap (λ (w : Actors). w.page_bytes) new)
-    (subst (AreRight (size_of i.caches)) (sym new) (right_with_allowed (size_of i.caches) c.args.region.0 c.args.prot t (sym e.found ∙ there) c.self.invariant.actors)) c.self.invariant
+    (subst (AreRight (size_of i.caches)) (sym new) (right_with_allowed (size_of i.caches) c.args.region.0 c.args.prot t (sym e.found ∙ there) c.self.invariant.actors))
+    (λ cache page. ap (λ (w : Actors). locks_over w.actors cache page) new ∙ over_allowed c.args.region.0 c.args.prot t (sym e.found ∙ there) cache page) c.self.invariant
 
 pub returns-clause-valid : goal.returns-clause-valid
 returns-clause-valid c = λ h v.

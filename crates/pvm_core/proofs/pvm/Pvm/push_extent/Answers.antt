@@ -1,68 +1,84 @@
-use Rattle.std.proofs.Common.{◌≡◌, ℕ, ◌+◌, None, Some, refl, sym, ap, subst, ◌∙◌}
-use Rattle.std.specs.Prelude.{OnOk, Err, IfErr, Result, option_map}
+use Rattle.std.proofs.Common.{◌≡◌, ℕ, ◌+◌, Bool, true, false, None, Some, refl, sym, ap, subst, ◌∙◌}
+use Rattle.std.specs.Prelude.{◌&&◌, OnOk, Err, IfErr, Result, option_map}
 use Rattle.vm_ids.specs.declared.command.Command.TheVariants as commands
+use Rattle.vm_ids.specs.declared.command.Extent.{Extent}
 use Rattle.vm_ids.specs.declared.numbers.PageNo.{PageNo}
 use Rattle.vm_ids.specs.declared.reply.Trouble.{Trouble}
 use Rattle.vm_ids.specs.declared.reply.Trouble.TheVariants as troubles
-use Rattle.local_cache.specs.Arena.{Table}
+use Rattle.local_cache.specs.Arena.{Arena, Table, table_of}
 use Rattle.segment_ops.specs.Ranges.{IsPageOf}
 use Rattle.segment_ops.specs.Synced.{AreSynced}
 use Rattle.residency.specs.World.{world}
 use Rattle.vm_model.specs.Answering.{Answer}
 use Rattle.vm_model.specs.Run.{CallIs}
 use Rattle.gmi_calls.specs.Calling.{done_by}
+use Rattle.pvm_core.specs.Extents.{extent_refusal}
 use Rattle.pvm_core.specs.Keeping.{SameMeaning}
+use Rattle.pvm_core.specs.Locks.{any_locked}
 use Rattle.pvm_core.specs.Manager.{IsValid, Manager, machine_by, state_at, world_of}
 use Rattle.pvm_core.specs.contracts.pvm.Pvm.{the_view}
 use Rattle.pvm_core.proofs.Answering.Answered.{called}
 use Rattle.pvm_core.proofs.Extents.Push.{all_unsized, failing, failing_ok, flush_is, stop_unsized, sync_is}
-use Rattle.pvm_core.proofs.Extents.Rows.{extent_open, extent_refused}
+use Rattle.pvm_core.proofs.Extents.Rows.{extent_open, extent_unlocked, flush_refused, sync_refused}
 use Rattle.pvm_core.proofs.Extents.Synced.{synced_unsized}
 use Rattle.pvm_core.proofs.Answering.Kept.{kept_by, kept_forest, kept_machine, kept_sound, kept_valid, seen}
 use Rattle.pvm_core.proofs.Homes.Pushed.{values_reached}
 use Rattle.pvm_core.proofs.Answering.Reaching.{reach_none}
-use Rattle.pvm_core.proofs.Spanning.SpanRows.{unlocked_actors}
-use Rattle.local_cache.specs.Whole.{size_of}
+use Rattle.pvm_core.proofs.Holding.Counted.{any_same}
+use Rattle.pvm_core.proofs.Holding.Loose.{loose_range}
 use Rattle.pvm_core.proofs.pvm.Pvm.push_extent.Goals as goal
 use Rattle.pvm_core.proofs.pvm.Pvm.push_extent.Goals.{in-Ok, in-Err}
 
+-- how the pages are refused, where it is known whether their frames are given up
+any_or : (a : Arena) (e : Extent) (b c : Bool) → b ≡ c → extent_refusal (table_of a e.cache.0) (b && any_locked a e) e ≡ extent_refusal (table_of a e.cache.0) (c && any_locked a e) e
+any_or a e b c same = ap (λ (b : Bool). extent_refusal (table_of a e.cache.0) (b && any_locked a e) e) same
+
+none_locked : (a : Arena) (e : Extent) (b : Bool) → b ≡ true → extent_refusal (table_of a e.cache.0) (b && any_locked a e) e ≡ None → any_locked a e ≡ false
+none_locked a e b up none = ap (λ (b : Bool). b && any_locked a e) (sym up) ∙ extent_unlocked (table_of a e.cache.0) e (b && any_locked a e) none
+
 pub returns-in-Some-clause-sync : goal.returns-in-Some-clause-sync
-returns-in-Some-clause-sync g c =
+returns-in-Some-clause-sync g c = λ keep.
     let h = g.M.Mapper.held c.args.mapper.now in
     let before = g.M.Mapper.counts c.args.mapper.now in
     let p : Manager = the_view c.self.inside in
     let i = c.self.invariant in
     let answer : Answer = Err (troubles.Refused c.in-Some.refusal) in
     subst (λ (p : Manager). CallIs before before (state_at p h) (commands.Sync c.args.extent) answer (state_at p h)) c.self.view_is
-    (called before before p p h h (commands.Sync c.args.extent) answer (reach_none _ h before) i.nodes i.nodes (subst (λ (p : Manager). IsValid p h) (sym c.self.view_is) c.requires.valid) refl (λ done m f s none. none) tt tt (λ f. refl)
-    (λ f s. (extent_refused p f c.args.extent None c.in-Some.refusal (sym c.extent_refusal.ensures ∙ c.in-Some.is)).0))
+    (called before before p p h h (commands.Sync c.args.extent) answer (reach_none _ h before) i.nodes i.nodes (subst (λ (p : Manager). IsValid p h) (sym c.self.view_is) c.requires.valid) refl (λ done m f s none. none) tt tt (λ f. refl) (λ page. refl)
+    (λ f s. sync_refused p f c.args.extent c.in-Some.refusal (any_or c.self.inside.caches c.args.extent false c.args.give_up (sym keep) ∙ sym c.extent_refusal.ensures ∙ c.in-Some.is)))
 
 pub returns-in-Some-clause-flush : goal.returns-in-Some-clause-flush
-returns-in-Some-clause-flush g c =
+returns-in-Some-clause-flush g c = λ up.
     let h = g.M.Mapper.held c.args.mapper.now in
     let before = g.M.Mapper.counts c.args.mapper.now in
     let p : Manager = the_view c.self.inside in
     let i = c.self.invariant in
     let answer : Answer = Err (troubles.Refused c.in-Some.refusal) in
     subst (λ (p : Manager). CallIs before before (state_at p h) (commands.Flush c.args.extent) answer (state_at p h)) c.self.view_is
-    (called before before p p h h (commands.Flush c.args.extent) answer (reach_none _ h before) i.nodes i.nodes (subst (λ (p : Manager). IsValid p h) (sym c.self.view_is) c.requires.valid) refl (λ done m f s none. none) tt tt (λ f. refl)
-    (λ f s. (extent_refused p f c.args.extent None c.in-Some.refusal (sym c.extent_refusal.ensures ∙ c.in-Some.is)).1))
+    (called before before p p h h (commands.Flush c.args.extent) answer (reach_none _ h before) i.nodes i.nodes (subst (λ (p : Manager). IsValid p h) (sym c.self.view_is) c.requires.valid) refl (λ done m f s none. none) tt tt (λ f. refl) (λ page. refl)
+    (λ f s. flush_refused p f c.args.extent i.locked.counted c.in-Some.refusal (any_or c.self.inside.caches c.args.extent true c.args.give_up (sym up) ∙ sym c.extent_refusal.ensures ∙ c.in-Some.is)))
 
 pub push_range-requires-clause-range : goal.push_range-requires-clause-range
 push_range-requires-clause-range g c =
-    let x = extent_open c.self.inside.caches c.args.extent (sym c.extent_refusal.ensures ∙ c.in_default.is) in
+    let x = extent_open c.self.inside.caches c.args.extent _ (sym c.extent_refusal.ensures ∙ c.in_default.is) in
     record { pages = Rattle.std.specs.Prelude.length x.table.pages; size = ap (option_map (λ (t : Table). Rattle.std.specs.Prelude.length t.pages)) x.there; within = x.ends }
 
 pub push_range-requires-clause-named : goal.push_range-requires-clause-named
 push_range-requires-clause-named g c =
-    let x = extent_open c.self.inside.caches c.args.extent (sym c.extent_refusal.ensures ∙ c.in_default.is) in
+    let x = extent_open c.self.inside.caches c.args.extent _ (sym c.extent_refusal.ensures ∙ c.in_default.is) in
     (x.segment, ap (option_map (λ (t : Table). t.segment)) x.there ∙ ap Some x.of)
+
+pub push_range-requires-clause-loose : goal.push_range-requires-clause-loose
+push_range-requires-clause-loose g c = λ up.
+    let i = c.self.inside in
+    loose_range i.caches i.store i.contexts.actors c.self.invariant.locked (g.M.Mapper.held c.args.mapper.now) (g.M.Mapper.page_bytes c.args.mapper.now) c.self.invariant.nodes.sound c.args.extent (none_locked i.caches c.args.extent c.args.give_up up (sym c.extent_refusal.ensures ∙ c.in_default.is))
 
 pub invariant_of-self : goal.invariant_of-self
 invariant_of-self g c =
     let i = c.self.inside in
     let n = c.push_range.new in
     kept_sound i.caches n.caches i.store n.store (g.M.Mapper.held c.args.mapper.now) (g.M.Mapper.held n.mapper) (g.M.Mapper.page_bytes c.args.mapper.now) (g.M.Mapper.page_bytes n.mapper) c.push_range.ensures.stays.kept i.contexts i.live c.self.invariant
+    (subst (λ (p : Manager). IsValid p (g.M.Mapper.held c.args.mapper.now)) (sym c.self.view_is) c.requires.valid).right.tied.placed.bound
 
 pub returns-clause-valid : goal.returns-clause-valid
 returns-clause-valid g c =
@@ -80,7 +96,7 @@ returns-clause-valid g c =
     kept_valid i.caches n.caches i.store n.store h k size now e.stays.kept i.contexts e.forest before after reach (subst (λ (p : Manager). IsValid p h) (sym c.self.view_is) c.requires.valid)
 
 pub returns-clause-sync : goal.returns-clause-sync
-returns-clause-sync g c =
+returns-clause-sync g c = λ keep.
     let i = c.self.inside in
     let n = c.push_range.new in
     let e = c.push_range.ensures in
@@ -92,7 +108,7 @@ returns-clause-sync g c =
     let after = g.M.Mapper.counts n.mapper in
     let p : Manager = seen i.caches i.store i.contexts in
     let q : Manager = seen n.caches n.store i.contexts in
-    let x = extent_open i.caches c.args.extent (sym c.extent_refusal.ensures ∙ c.in_default.is) in
+    let x = extent_open i.caches c.args.extent _ (sym c.extent_refusal.ensures ∙ c.in_default.is) in
     let reach = values_reached p h c.self.invariant.nodes c.self.invariant.apart size now n.caches n.store k before after e.stays.later e.stays.told in
     let valid = kept_valid i.caches n.caches i.store n.store h k size now e.stays.kept i.contexts e.forest before after reach (subst (λ (p : Manager). IsValid p h) (sym c.self.view_is) c.requires.valid) in
     let forest = kept_forest i.caches n.caches i.store n.store h k size now e.stays.kept i.contexts e.forest in
@@ -102,11 +118,11 @@ returns-clause-sync g c =
     ] in
     subst (λ (p : Manager). CallIs before after (state_at p h) (commands.Sync c.args.extent) (done_by c.match-push_range.result) (state_at q k)) c.self.view_is
     (subst (λ (r : Result (Unit {0}) Trouble). CallIs before after (state_at p h) (commands.Sync c.args.extent) (done_by r) (state_at q k)) turned
-    (sync_is p q h k c.args.extent x c.self.invariant.apart (λ f cache page. unlocked_actors (size_of i.caches) cache page i.contexts.actors c.self.invariant.actors.placed) before after reach c.self.invariant.nodes e.stays.whole valid e.stays.kept.nodes.caches forest
+    (sync_is p q h k c.args.extent x c.self.invariant.apart before after reach c.self.invariant.nodes e.stays.whole valid e.stays.kept.nodes.caches forest
     (kept_by i.caches n.caches i.store n.store h k size now e.stays.kept i.contexts) c.push_range.result (all_unsized k now n.caches n.store c.args.extent c.push_range.result e.synced) (stop_unsized k now n.caches n.store c.args.extent c.push_range.result e.failed) e.cause))
 
 pub returns-clause-flush : goal.returns-clause-flush
-returns-clause-flush g c =
+returns-clause-flush g c = λ up.
     let i = c.self.inside in
     let n = c.push_range.new in
     let e = c.push_range.ensures in
@@ -118,7 +134,7 @@ returns-clause-flush g c =
     let after = g.M.Mapper.counts n.mapper in
     let p : Manager = seen i.caches i.store i.contexts in
     let q : Manager = seen n.caches n.store i.contexts in
-    let x = extent_open i.caches c.args.extent (sym c.extent_refusal.ensures ∙ c.in_default.is) in
+    let x = extent_open i.caches c.args.extent _ (sym c.extent_refusal.ensures ∙ c.in_default.is) in
     let reach = values_reached p h c.self.invariant.nodes c.self.invariant.apart size now n.caches n.store k before after e.stays.later e.stays.told in
     let valid = kept_valid i.caches n.caches i.store n.store h k size now e.stays.kept i.contexts e.forest before after reach (subst (λ (p : Manager). IsValid p h) (sym c.self.view_is) c.requires.valid) in
     let forest = kept_forest i.caches n.caches i.store n.store h k size now e.stays.kept i.contexts e.forest in
@@ -128,8 +144,9 @@ returns-clause-flush g c =
     ] in
     subst (λ (p : Manager). CallIs before after (state_at p h) (commands.Flush c.args.extent) (done_by c.match-push_range.result) (state_at q k)) c.self.view_is
     (subst (λ (r : Result (Unit {0}) Trouble). CallIs before after (state_at p h) (commands.Flush c.args.extent) (done_by r) (state_at q k)) turned
-    (flush_is p q h k c.args.extent x c.self.invariant.apart (λ f cache page. unlocked_actors (size_of i.caches) cache page i.contexts.actors c.self.invariant.actors.placed) before after reach c.self.invariant.nodes e.stays.whole valid e.stays.kept.nodes.caches forest
-    (kept_by i.caches n.caches i.store n.store h k size now e.stays.kept i.contexts) c.push_range.result (all_unsized k now n.caches n.store c.args.extent c.push_range.result e.synced) (stop_unsized k now n.caches n.store c.args.extent c.push_range.result e.failed) e.cause))
+    (flush_is p q h k c.args.extent x c.self.invariant.apart before after reach c.self.invariant.nodes e.stays.whole valid e.stays.kept.nodes.caches forest
+    (kept_by i.caches n.caches i.store n.store h k size now e.stays.kept i.contexts) c.push_range.result (all_unsized k now n.caches n.store c.args.extent c.push_range.result e.synced) (stop_unsized k now n.caches n.store c.args.extent c.push_range.result e.failed) e.cause
+    (λ f. any_same p f c.self.invariant.locked.counted c.args.extent ∙ none_locked i.caches c.args.extent c.args.give_up up (sym c.extent_refusal.ensures ∙ c.in_default.is))))
 
 pub returns-clause-stays : goal.returns-clause-stays
 returns-clause-stays g c =

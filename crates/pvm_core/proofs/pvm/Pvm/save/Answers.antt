@@ -33,7 +33,7 @@ invariant_of-self g c =
     let reach = values_reached p h c.self.invariant.nodes c.self.invariant.apart size then_size n.caches n.store k before after e.stays.later e.stays.told in
     let named : is_named i.caches c.args.range.cache.0 ≡ true = ap is_some (sym c.segment.ensures) ∙ c.is_none.ensures ∙ ap not c.if-is_none.false in
     let done : (m : ℕ) × (store_forest v ≡ saves m xs (store_forest w)) = saves_done w v xs c.save_range.result e.saved e.failed in
-    kept_sound i.caches n.caches i.store n.store h k size then_size e.stays.kept i.contexts i.live c.self.invariant
+    kept_sound i.caches n.caches i.store n.store h k size then_size e.stays.kept i.contexts i.live c.self.invariant valid.right.tied.placed.bound
 
 pub returns-clause-valid : goal.returns-clause-valid
 returns-clause-valid g c =

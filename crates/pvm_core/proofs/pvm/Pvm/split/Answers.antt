@@ -10,7 +10,7 @@ use Rattle.pvm_core.specs.contracts.pvm.Pvm.{the_view}
 use Rattle.pvm_core.proofs.Acting.{acted, acted_valid, cut}
 use Rattle.pvm_core.proofs.Answering.Kept.{on_err, seated_same, seated_sound}
 use Rattle.pvm_core.proofs.Answering.Listed.{after_either}
-use Rattle.pvm_core.proofs.RegionRows.{right_cut, split_outcome}
+use Rattle.pvm_core.proofs.RegionRows.{over_cut, right_cut, split_outcome}
 use Rattle.pvm_core.proofs.pvm.Pvm.split.Goals as goal
 
 pub invariant_of-self : goal.invariant_of-self
@@ -22,7 +22,8 @@ invariant_of-self c =
     let region = c.args.region in
     seated_sound i.caches i.store t u i.live
     (after_either (λ (w : Actors). w.page_bytes ≡ t.page_bytes) t u (with_split t region.0 c.args.pages) c.split.result e.ok e.err refl refl)
-    (right_cut t u region c.args.pages (size_of i.caches) (split_refusal t region.0 c.args.pages) c.split.result refl e.refused e.ok e.err c.self.invariant.actors) c.self.invariant
+    (right_cut t u region c.args.pages (size_of i.caches) (split_refusal t region.0 c.args.pages) c.split.result refl e.refused e.ok e.err c.self.invariant.actors)
+    (over_cut t u region c.args.pages (split_refusal t region.0 c.args.pages) c.split.result refl e.refused e.ok e.err) c.self.invariant
 
 pub returns-clause-valid : goal.returns-clause-valid
 returns-clause-valid c = λ h v.

@@ -14,19 +14,22 @@ use Rattle.pvm_core.specs.Manager.{IsValid, Manager, machine_by, state_at}
 use Rattle.pvm_core.specs.contracts.pvm.Pvm.{the_view}
 use Rattle.pvm_core.proofs.Answering.Answered.{seated}
 use Rattle.pvm_core.proofs.Answering.Kept.{seen}
+use Rattle.pvm_core.proofs.Holding.Kept.{locked_in}
 use Rattle.pvm_core.proofs.Answering.Chains.{counts_are}
 use Rattle.pvm_core.proofs.pvm.Pvm.stat.Goals as goal
 
-unpinned_or : (a b : Bool) → b ≡ false → (a || b) ≡ a
-unpinned_or true b e = refl
-unpinned_or false b e = e
+-- a pinned frame is bound
+bound_or : (a b : Bool) → (b ≡ true → a ≡ true) → (a || b) ≡ a
+bound_or true b e = refl
+bound_or false true e = sym (e refl)
+bound_or false false e = refl
 
 pub returns-clause-answers : goal.returns-clause-answers
 returns-clause-answers c = λ h v.
     let p : Manager = the_view c.self.inside in
     let answer = Ok (replies.Stat c.counts.result) in
     subst (λ (p : Manager). AnswerIs (state_at p h) commands.Stat answer [] no_counts (state_at p h)) c.self.view_is
-    (seated p p h commands.Stat answer c.self.invariant.nodes c.self.invariant.nodes (subst (λ (p : Manager). IsValid p h) (sym c.self.view_is) v) refl (λ done m f s none. none) refl tt (λ f. refl)
+    (seated p p h commands.Stat answer c.self.invariant.nodes c.self.invariant.nodes (subst (λ (p : Manager). IsValid p h) (sym c.self.view_is) v) refl (λ done m f s none. none) refl tt (λ f. refl) (λ page. refl)
     (λ f s. ap (λ (k : Counts). reply (replies.Stat k) (machine_by p f)) (counts_are p h c.self.invariant.nodes ∙ sym c.counts.ensures.counts)))
 
 pub returns-clause-bounded : goal.returns-clause-bounded
@@ -39,6 +42,6 @@ returns-clause-once c = λ h v.
     let w = subst (λ (p : Manager). IsValid p h) (sym c.self.view_is) v in
     subst HoldsEachOnce c.self.view_is (record {
       bound = w.right.tied.placed.bound;
-      held = λ f. w.right.tied.placed.held f ∙ unpinned_or (is_some (node_of i.store.map f)) (is_pinned i.store.frames f) (c.self.invariant.unpinned f);
+      held = λ f. w.right.tied.placed.held f ∙ bound_or (is_some (node_of i.store.map f)) (is_pinned i.store.frames f) (λ pinned. ap is_some (locked_in i.caches i.store.map f (sym (c.self.invariant.locked.pinned f) ∙ pinned)).here);
       slots = w.right.tied.placed.slots;
     })

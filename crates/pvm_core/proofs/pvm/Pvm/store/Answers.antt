@@ -303,7 +303,7 @@ invariant_of-self-in-Ok g c =
     let p : Manager = seen a i.store i.contexts in
     let reach = reached p h sound.nodes sound.apart size then_size n.caches n.store k before after e.answered.later e.answered.told in
     bytes_sound n.caches n.store c.write_frame.new.store i.contexts i.live c.in-Ok.frame.0 _ c.write_frame.ensures
-    (kept_sound a n.caches i.store n.store h k size then_size e.answered.kept i.contexts i.live sound)
+    (kept_sound a n.caches i.store n.store h k size then_size e.answered.kept i.contexts i.live sound e0.right.tied.placed.bound)
 
 pub invariant_of-self-in-Err : goal.invariant_of-self-in-Err
 invariant_of-self-in-Err g c =
@@ -326,7 +326,7 @@ invariant_of-self-in-Err g c =
     let after = g.M.Mapper.counts n.mapper in
     let p : Manager = seen a i.store i.contexts in
     let reach = reached p h sound.nodes sound.apart size then_size n.caches n.store k before after e.answered.later e.answered.told in
-    kept_sound a n.caches i.store n.store h k size then_size e.answered.kept i.contexts i.live sound
+    kept_sound a n.caches i.store n.store h k size then_size e.answered.kept i.contexts i.live sound e0.right.tied.placed.bound
 
 pub returns-in-Ok-clause-valid : goal.returns-in-Ok-clause-valid
 returns-in-Ok-clause-valid g c =
@@ -361,7 +361,7 @@ returns-in-Ok-clause-valid g c =
     let new = overwrite pl.at c.args.piece.now (bytes_of n.store.frames c.in-Ok.frame.0) in
     let stored_at : c.write_frame.new.store ≡ record n.store { frames = with_bytes n.store.frames c.in-Ok.frame.0 new }
     = c.write_frame.ensures ∙ ap (λ xs. record n.store { frames = with_bytes n.store.frames c.in-Ok.frame.0 (overwrite pl.at xs (bytes_of n.store.frames c.in-Ok.frame.0)) }) bs in
-    let then = bytes_sound n.caches n.store c.write_frame.new.store i.contexts i.live c.in-Ok.frame.0 new stored_at (kept_sound a n.caches i.store n.store h k size then_size e.answered.kept i.contexts i.live sound) in
+    let then = bytes_sound n.caches n.store c.write_frame.new.store i.contexts i.live c.in-Ok.frame.0 new stored_at (kept_sound a n.caches i.store n.store h k size then_size e.answered.kept i.contexts i.live sound e0.right.tied.placed.bound) in
     let frames = ap (λ (s : Store). length s.frames.held) stored_at ∙ e.answered.kept.frames in
     let by : (f : PageForest) → machine_by q f ≡ machine_by p f = λ f. (λ j. machine_by (seen n.caches (stored_at j) i.contexts) f) ∙ kept_by a n.caches i.store n.store h k size then_size e.answered.kept i.contexts f in
     let ready = c.in-Ok.ensures.ready in
@@ -415,7 +415,7 @@ returns-in-Ok-clause-answers g c =
     let new = overwrite pl.at c.args.piece.now (bytes_of n.store.frames c.in-Ok.frame.0) in
     let stored_at : c.write_frame.new.store ≡ record n.store { frames = with_bytes n.store.frames c.in-Ok.frame.0 new }
     = c.write_frame.ensures ∙ ap (λ xs. record n.store { frames = with_bytes n.store.frames c.in-Ok.frame.0 (overwrite pl.at xs (bytes_of n.store.frames c.in-Ok.frame.0)) }) bs in
-    let then = bytes_sound n.caches n.store c.write_frame.new.store i.contexts i.live c.in-Ok.frame.0 new stored_at (kept_sound a n.caches i.store n.store h k size then_size e.answered.kept i.contexts i.live sound) in
+    let then = bytes_sound n.caches n.store c.write_frame.new.store i.contexts i.live c.in-Ok.frame.0 new stored_at (kept_sound a n.caches i.store n.store h k size then_size e.answered.kept i.contexts i.live sound e0.right.tied.placed.bound) in
     let frames = ap (λ (s : Store). length s.frames.held) stored_at ∙ e.answered.kept.frames in
     let by : (f : PageForest) → machine_by q f ≡ machine_by p f = λ f. (λ j. machine_by (seen n.caches (stored_at j) i.contexts) f) ∙ kept_by a n.caches i.store n.store h k size then_size e.answered.kept i.contexts f in
     let ready = c.in-Ok.ensures.ready in
@@ -513,7 +513,7 @@ returns-in-Err-clause-valid g c =
     let after = g.M.Mapper.counts n.mapper in
     let p : Manager = seen a i.store i.contexts in
     let reach = reached p h sound.nodes sound.apart size then_size n.caches n.store k before after e.answered.later e.answered.told in
-    let then = kept_sound a n.caches i.store n.store h k size then_size e.answered.kept i.contexts i.live sound in
+    let then = kept_sound a n.caches i.store n.store h k size then_size e.answered.kept i.contexts i.live sound e0.right.tied.placed.bound in
     let now = kept_valid a n.caches i.store n.store h k size then_size e.answered.kept i.contexts c.in-Err.ensures.missed.forest before after reach valid in
     now
 
@@ -538,7 +538,7 @@ returns-in-Err-clause-answers g c =
     let after = g.M.Mapper.counts n.mapper in
     let p : Manager = seen a i.store i.contexts in
     let reach = reached p h sound.nodes sound.apart size then_size n.caches n.store k before after e.answered.later e.answered.told in
-    let then = kept_sound a n.caches i.store n.store h k size then_size e.answered.kept i.contexts i.live sound in
+    let then = kept_sound a n.caches i.store n.store h k size then_size e.answered.kept i.contexts i.live sound e0.right.tied.placed.bound in
     let now = kept_valid a n.caches i.store n.store h k size then_size e.answered.kept i.contexts c.in-Err.ensures.missed.forest before after reach valid in
     let pl = c.in_ok-place.place in
     let bs : c.as_slice-bytes.result.now ≡ c.args.piece.now = c.as_slice-bytes.ensures.bytes in
@@ -559,7 +559,7 @@ returns-in-Err-clause-answers g c =
     (subst (λ (f : FaultAt). CallIs asked after (state_at (seen i.caches i.store i.contexts) h0) (commands.Store c.args.actor c.args.address c.args.piece.now) (Err (troubles.Mapper f)) (state_at q k)) (sym c.fault_of.ensures)
     (subst (λ (x : State). CallIs asked after x (commands.Store c.args.actor c.args.address c.args.piece.now) answer (state_at q k)) state
     (call_later asked before after (state_at p h) (state_at q k) (commands.Store c.args.actor c.args.address c.args.piece.now) answer e0.later e0.made
-    (failed_at before after p q h k (commands.Store c.args.actor c.args.address c.args.piece.now) answer no_segments reach sound.nodes then.nodes now forest (not_saved c.in-Err.miss page (forest_of p h) (machine_of p h) (commands.Store c.args.actor c.args.address c.args.piece.now) (machine_of q k)) tt tt
+    (failed_at before after p q h k (commands.Store c.args.actor c.args.address c.args.piece.now) answer no_segments reach sound.nodes then.nodes now forest (not_saved c.in-Err.miss page (forest_of p h) (machine_of p h) (commands.Store c.args.actor c.args.address c.args.piece.now) (machine_of q k) refl) tt tt
     (λ f. store_fault (length reach.pushes) (machine_by p f) (machine_by q f) (forest_of p h) c.args.actor c.args.address c.args.piece.now no_segments before after c.in-Err.miss page at (by f) (is f) may (undenied_blank p f pl.cache.0 pl.page.0) refl c.in-Err.ensures.missed.cause)
     (λ f s told. store_fault (length reach.pushes) (machine_by p f) (machine_by q f) (forest_of p h) c.args.actor c.args.address c.args.piece.now s before after c.in-Err.miss page at (by f) (is f) may
     (undenied p h sound.nodes valid.right pl.cache pl.page.0 r.count there r.less writable f k s (reach_denied (machine_of p h) h k before after reach) told) refl c.in-Err.ensures.missed.cause)))))

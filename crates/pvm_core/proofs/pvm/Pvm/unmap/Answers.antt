@@ -1,70 +1,71 @@
-use Rattle.std.proofs.Common.{[], length, refl, sym, subst, ap, ◌∙◌}
-use Rattle.vm_ids.specs.Counting.{no_counts}
+use Rattle.std.proofs.Common.{◌≡◌, true, length, refl, sym, subst, ap, ◌∙◌}
+use Rattle.std.specs.Prelude.{Ok, Err, is_some}
 use Rattle.vm_ids.specs.declared.command.Command.TheVariants as commands
 use Rattle.vm_ids.specs.declared.refusal.Refusal.TheVariants as refusals
 use Rattle.vm_ids.specs.declared.reply.Reply.TheVariants as replies
 use Rattle.vm_ids.specs.declared.reply.Trouble.TheVariants as troubles
-use Rattle.std.specs.Prelude.{Ok, Err}
-use Rattle.vm_model.specs.Answering.{Answer, reply}
-use Rattle.vm_model.specs.Run.{AnswerIs}
+use Rattle.vm_model.specs.Answering.{reply}
+use Rattle.vm_model.specs.Regions.{region_with}
 use Rattle.local_cache.specs.Whole.{size_of}
 use Rattle.contexts.specs.Actors.{Actors}
-use Rattle.pvm_core.specs.Manager.{Manager, caches_shown, state_at, IsValid}
+use Rattle.contexts.proofs.Told.{told_some}
+use Rattle.pvm_core.specs.Manager.{caches_shown}
+use Rattle.pvm_core.specs.Locks.{locks_over}
 use Rattle.pvm_core.specs.Placed.{AreRight}
-use Rattle.pvm_core.specs.contracts.pvm.Pvm.{the_view}
-use Rattle.pvm_core.proofs.Answering.Answered.{seated}
-use Rattle.pvm_core.proofs.Answering.Kept.{seated_sound, seated_valid}
-use Rattle.pvm_core.proofs.Answering.Listed.{machine_with, right_without, unmap_none, unmap_row}
+use Rattle.pvm_core.proofs.Acting.{acted, acted_valid, told, unmapped}
+use Rattle.pvm_core.proofs.Answering.Kept.{seated_sound}
+use Rattle.pvm_core.proofs.Answering.Listed.{locked_told, machine_with, right_without, unmap_locked, unmap_none, unmap_row}
+use Rattle.pvm_core.proofs.Holding.Regions.{over_unmapped}
 use Rattle.pvm_core.proofs.pvm.Pvm.unmap.Goals as goal
 
-pub returns-then-not-unmap-clause-answers : goal.returns-then-not-unmap-clause-answers
-returns-then-not-unmap-clause-answers c = λ h v.
+pub returns-in_default-clause-answers : goal.returns-in_default-clause-answers
+returns-in_default-clause-answers c = λ h v.
     let i = c.self.inside in
-    let u = c.unmap.new.self in
-    let e = c.unmap.ensures in
-    let p : Manager = the_view i in
-    let q : Manager = the_view (record i { contexts = u }) in
     let n = c.args.region.0 in
-    let not_there = c.if-not-unmap.true in
-    let same = e.none not_there in
-    let answer : Answer = Err (troubles.Refused refusals.NoRegion) in
-    subst (λ (p : Manager). AnswerIs (state_at p h) (commands.Unmap c.args.region) answer [] no_counts (state_at q h)) c.self.view_is
-    (seated p q h (commands.Unmap c.args.region) answer c.self.invariant.nodes c.self.invariant.nodes (seated_valid p q h refl refl (ap (λ (t : Actors). t.page_bytes) same) (subst (λ (p : Manager). IsValid p h) (sym c.self.view_is) v)) refl (λ done m f s none. none) refl tt (λ f. refl)
-    (λ f s. let caches = caches_shown f 1 i.caches.caches in
-    let frames = length i.store.frames.held in
-    unmap_none (size_of i.caches) caches frames i.contexts n (sym e.found ∙ not_there)
-    ∙ ap (λ (t : Actors). record { answer = answer; next = machine_with caches frames t }) (sym same)))
+    told i.caches i.store i.contexts _ c.self.view_is h v (commands.Unmap c.args.region) (unmapped c.args.region) (Err (troubles.Refused refusals.NoRegion)) c.self.invariant.nodes
+    (λ f g k. unmap_none (caches_shown f 1 i.caches.caches) (length i.store.frames.held) i.contexts n
+    (sym (told_some n 1 i.contexts.actors) ∙ ap is_some (sym c.status.ensures ∙ c.in_default.is)))
 
-pub invariant_of-self-2 : goal.invariant_of-self-2
-invariant_of-self-2 c =
+pub returns-then-status-clause-answers : goal.returns-then-status-clause-answers
+returns-then-status-clause-answers c = λ h v.
     let i = c.self.inside in
-    let u = c.unmap.new.self in
-    let e = c.unmap.ensures in
-    let gone = e.gone c.if-not-unmap.false in
-    seated_sound i.caches i.store i.contexts u i.live (ap (λ (t : Actors). t.page_bytes) gone)
-    (subst (AreRight (size_of i.caches)) (sym gone) (right_without (size_of i.caches) c.args.region.0 i.contexts c.self.invariant.actors)) c.self.invariant
-
-pub returns-clause-answers : goal.returns-clause-answers
-returns-clause-answers c = λ h v.
-    let i = c.self.inside in
-    let u = c.unmap.new.self in
-    let e = c.unmap.ensures in
-    let p : Manager = the_view i in
-    let q : Manager = the_view (record i { contexts = u }) in
     let n = c.args.region.0 in
-    let there = c.if-not-unmap.false in
-    let gone = e.gone there in
-    let answer : Answer = Ok replies.Done in
-    subst (λ (p : Manager). AnswerIs (state_at p h) (commands.Unmap c.args.region) answer [] no_counts (state_at q h)) c.self.view_is
-    (seated p q h (commands.Unmap c.args.region) answer c.self.invariant.nodes c.self.invariant.nodes (seated_valid p q h refl refl (ap (λ (t : Actors). t.page_bytes) gone) (subst (λ (p : Manager). IsValid p h) (sym c.self.view_is) v)) refl (λ done m f s none. none) refl tt (λ f. refl)
-    (λ f s. let caches = caches_shown f 1 i.caches.caches in
-    let frames = length i.store.frames.held in
-    unmap_row (size_of i.caches) caches frames i.contexts n c.self.invariant.actors.placed (sym e.found ∙ there)
-    ∙ ap (λ (t : Actors). reply replies.Done (machine_with caches frames t)) (sym gone)))
+    let r = locked_told n 1 i.contexts.actors c.in-Some.status (sym c.status.ensures ∙ c.in-Some.is) in
+    told i.caches i.store i.contexts _ c.self.view_is h v (commands.Unmap c.args.region) (unmapped c.args.region) (Err (troubles.Refused refusals.Locked)) c.self.invariant.nodes
+    (λ f g k. unmap_locked (caches_shown f 1 i.caches.caches) (length i.store.frames.held) i.contexts n r.0 r.1 (r.2 ∙ c.if-status.true))
+
+pub invariant_of-self : goal.invariant_of-self
+invariant_of-self c =
+    let i = c.self.inside in
+    let n = c.args.region.0 in
+    let t : Actors = i.contexts in
+    let u = c.unmap.new.self in
+    let r = locked_told n 1 t.actors c.in-Some.status (sym c.status.ensures ∙ c.in-Some.is) in
+    let there : is_some (region_with n t.actors) ≡ true = ap is_some r.1 in
+    let gone = c.unmap.ensures.gone (c.unmap.ensures.found ∙ there) in
+    seated_sound i.caches i.store t u i.live (ap (λ (t : Actors). t.page_bytes) gone)
+    (subst (AreRight (size_of i.caches)) (sym gone) (right_without (size_of i.caches) n t c.self.invariant.actors))
+    (λ cache page. ap (λ (w : Actors). locks_over w.actors cache page) gone ∙ over_unmapped cache page n r.0 t.actors c.unmap.ensures.once r.1 (r.2 ∙ c.if-status.false))
+    c.self.invariant
 
 pub returns-clause-valid : goal.returns-clause-valid
 returns-clause-valid c = λ h v.
     let i = c.self.inside in
-    let u = c.unmap.new.self in
-    let gone = c.unmap.ensures.gone c.if-not-unmap.false in
-    seated_valid (the_view i) (the_view (record i { contexts = u })) h refl refl (ap (λ (t : Actors). t.page_bytes) gone) (subst (λ (p : Manager). IsValid p h) (sym c.self.view_is) v)
+    let n = c.args.region.0 in
+    let r = locked_told n 1 i.contexts.actors c.in-Some.status (sym c.status.ensures ∙ c.in-Some.is) in
+    let there : is_some (region_with n i.contexts.actors) ≡ true = ap is_some r.1 in
+    acted_valid i.caches i.store i.contexts _ c.self.view_is h v c.unmap.new.self (ap (λ (t : Actors). t.page_bytes) (c.unmap.ensures.gone (c.unmap.ensures.found ∙ there)))
+
+pub returns-clause-answers : goal.returns-clause-answers
+returns-clause-answers c = λ h v.
+    let i = c.self.inside in
+    let n = c.args.region.0 in
+    let t : Actors = i.contexts in
+    let r = locked_told n 1 t.actors c.in-Some.status (sym c.status.ensures ∙ c.in-Some.is) in
+    let there : is_some (region_with n t.actors) ≡ true = ap is_some r.1 in
+    let gone = c.unmap.ensures.gone (c.unmap.ensures.found ∙ there) in
+    acted i.caches i.store t _ c.self.view_is h v (commands.Unmap c.args.region) (unmapped c.args.region) (Ok replies.Done) c.self.invariant.nodes c.unmap.new.self
+    (ap (λ (w : Actors). w.page_bytes) gone)
+    (λ f g k. let caches = caches_shown f 1 i.caches.caches in
+    let frames = length i.store.frames.held in
+    unmap_row caches frames t n r.0 r.1 (r.2 ∙ c.if-status.false) ∙ ap (λ (w : Actors). reply replies.Done (machine_with caches frames w)) (sym gone))

@@ -63,6 +63,7 @@ invariant_of-self g c =
     let named : is_named i.caches s.cache.0 ≡ true = ap is_some (sym c.segment.ensures) ∙ c.is_none.ensures ∙ ap not c.if-is_none.false in
     let x = extent_named i.caches s (subst (λ (p : Manager). HasRange p.caches s) (sym c.self.view_is) c.requires.range) named in
     kept_sound i.caches n.caches i.store n.store h k size now e.stays.kept i.contexts i.live c.self.invariant
+    (subst (λ (p : Manager). IsValid p h) (sym c.self.view_is) c.requires.valid).right.tied.placed.bound
 
 pub returns-in-Err-clause-valid : goal.returns-in-Err-clause-valid
 returns-in-Err-clause-valid g c =
@@ -186,6 +187,7 @@ invariant_of-self-2 g c =
     let named : is_named i.caches s.cache.0 ≡ true = ap is_some (sym c.segment.ensures) ∙ c.is_none.ensures ∙ ap not c.if-is_none.false in
     let x = extent_named i.caches s (subst (λ (p : Manager). HasRange p.caches s) (sym c.self.view_is) c.requires.range) named in
     kept_sound i.caches n.caches i.store n.store h k size now e.stays.kept i.contexts i.live c.self.invariant
+    (subst (λ (p : Manager). IsValid p h) (sym c.self.view_is) c.requires.valid).right.tied.placed.bound
 
 pub save-requires-clause-valid : goal.save-requires-clause-valid
 save-requires-clause-valid g c =
