@@ -34,6 +34,7 @@ fn refusal_name(refusal: Refusal) -> &'static [u8]
         Refusal::NotTemp => b"NotTemp",
         Refusal::NotNamed => b"NotNamed",
         Refusal::NotLocked => b"NotLocked",
+        Refusal::Full => b"Full",
     }
 }
 
