@@ -120,6 +120,8 @@ fn scripts_have_their_replies_however_they_are_cut(rt: HostRuntime) -> Result<()
             rows::TRANSLATION_TO_THE_SOURCE,
             rows::TRANSLATION_TO_THE_SOURCE_REPLIES,
         ),
+        ("8", rows::LOCKS, rows::LOCKS_REPLIES),
+        ("3", rows::LIVE_PAGE_LIMIT, rows::LIVE_PAGE_LIMIT_REPLIES),
         ("3", rows::COPY_EXAMPLE, rows::COPY_EXAMPLE_REPLIES),
         ("3", rows::FORK_EXAMPLE, rows::FORK_EXAMPLE_REPLIES),
         ("3", rows::MESSAGES_EXAMPLE, rows::MESSAGES_EXAMPLE_REPLIES),

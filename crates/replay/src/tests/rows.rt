@@ -1134,3 +1134,59 @@ pub const TRANSLATION_TO_THE_SOURCE_REPLIES: &str = "1 ok a1
 14 chain c1:0+1*
 15 stat live 18 working 0 copies 1
 ";
+
+// Regions of a copy are locked, as far as three frames are left; what a lock refuses is refused.
+pub const LOCKS: &str = "actor
+temp 6
+temp 6
+map a1 c1 0 6 10000 rw
+store a1 10000 01
+copy c1 0 c2 0 6
+map a1 c2 0 5 20000 rw
+map a1 c2 5 1 30000 rw
+lock r2
+lock r3
+lock r2
+unlock r3
+store a1 20000 02
+load a1 10000 1
+unmap r2
+copy c1 0 c2 0 1
+unlock r2
+lock r3
+stat
+";
+
+pub const LOCKS_REPLIES: &str = "1 ok a1
+2 ok c1
+3 ok c2
+4 ok r1
+5 ok
+6 ok
+7 ok r2
+8 ok r3
+9 ok
+10 no LockLimit
+11 no Locked
+12 no NotLocked
+13 ok
+14 ok 01
+15 no Locked
+16 no Locked
+17 ok
+18 ok
+19 stat live 12 working 0 copies 6
+";
+
+// As many pages as may be live, and room again once their cache is gone.
+pub const LIVE_PAGE_LIMIT: &str = "temp 4194304
+temp 1
+destroy c1
+temp 1
+";
+
+pub const LIVE_PAGE_LIMIT_REPLIES: &str = "1 ok c1
+2 no TooMany
+3 ok
+4 ok c2
+";
