@@ -165,7 +165,7 @@ impl Script {
         let Some(actor) = self.actor else {
             return Ok(Command::MakeActor);
         };
-        Ok(match self.below(40) {
+        Ok(match self.below(44) {
             0..=1 => Command::MakeTemp(PAGES),
             2..=3 => Command::OpenSegment(SegId(1 + self.below(2))),
             4 => Command::Destroy(self.of_segment()),
@@ -191,6 +191,8 @@ impl Script {
             33 => Command::Protect(self.region, self.prot()),
             34 => Command::Status(self.region),
             35..=38 => Command::Find(actor, self.address()),
+            39..=40 => Command::Lock(self.region),
+            41..=42 => Command::Unlock(self.region),
             _ => Command::ExitActor(actor),
         })
     }
