@@ -96,8 +96,8 @@ module _ (b d : Arena) (u : Store) (actors : List (Option Actor)) (cache : Cache
   locks_left : (c page : ℕ) → locks_of d c page ≡ locks_of b c page
   locks_left c page = elim (cases_eq c cache.0) [
     | inl here ↦
-      ap (λ (k : ℕ). locks_of d k page) here ∙ locks-gone b d cache is page
-      ∙ sym (ap (λ (k : ℕ). locks_of b k page) here ∙ held.counted cache.0 page ∙ over_none cache.0 page actors free)
+        ap (λ (k : ℕ). locks_of d k page) here ∙ locks-gone b d cache is page
+        ∙ sym (ap (λ (k : ℕ). locks_of b k page) here ∙ held.counted cache.0 page ∙ over_none cache.0 page actors free)
     | inr other ↦ locks-without_cache b d cache is c page other
   ]
 

@@ -1,6 +1,6 @@
 -- How many locked regions cover a page, after regions were mapped, cut, protected and taken away.
-use Rattle.std.proofs.Common.{◌≡◌, ◌==◌, ℕ, zero, suc, ◌+◌, ◌-◌, ◌<◌, ◌≤◌, Bool, true, false, cond, not, List, [], ◌∷◌, ◌++◌, get_or, set, length, map, Option, Some, None, refl, sym, ap, subst, ◌∙◌, arith, inl, inr}
-use Rattle.std.specs.Prelude.{◌&&◌, ◌||◌, count_by, filter, is_some, nat_le, nat_lt, option_map, sum_by}
+use Rattle.std.proofs.Common.{◌≡◌, ◌==◌, ℕ, ◌+◌, ◌-◌, ◌<◌, ◌≤◌, Bool, true, false, cond, not, List, [], ◌∷◌, ◌++◌, get_or, set, length, map, Option, Some, None, refl, sym, ap, ◌∙◌, arith, inl, inr}
+use Rattle.std.specs.Prelude.{◌&&◌, ◌||◌, count_by, is_some, nat_le, nat_lt, option_map}
 use Rattle.std.specs.List.{list_any}
 use Rattle.std.specs.Option.{option_or}
 use Rattle.std.proofs.lemmas.Bool.{cases_lt}
@@ -211,16 +211,16 @@ cut_at false c lo hi hf lb hb e = omega arith
 cut_numbers : (o n k p : ℕ) → k < n → bit (nat_le o p && nat_lt p (o + n)) ≡ bit (nat_le o p && nat_lt p (o + k)) + bit (nat_le (o + k) p && nat_lt p (o + k + (n - k)))
 cut_numbers o n k p less = elim (cases_lt p (o + k)) [
   | inl low ↦
-    let hf : nat_lt p (o + k) ≡ true = grind (arith, nat_tests) in
-    let hi : nat_lt p (o + n) ≡ true = grind (arith, nat_tests) in
-    let lb : nat_le (o + k) p ≡ false = grind (arith, nat_tests) in
-    rw (hf, hi, lb) (omega arith)
+      let hf : nat_lt p (o + k) ≡ true = grind (arith, nat_tests) in
+      let hi : nat_lt p (o + n) ≡ true = grind (arith, nat_tests) in
+      let lb : nat_le (o + k) p ≡ false = grind (arith, nat_tests) in
+      rw (hf, hi, lb) (omega arith)
   | inr past ↦
-    let hf : nat_lt p (o + k) ≡ false = grind (arith, nat_tests) in
-    let lo : nat_le o p ≡ true = grind (arith, nat_tests) in
-    let lb : nat_le (o + k) p ≡ true = grind (arith, nat_tests) in
-    let same : o + k + (n - k) ≡ o + n = omega arith in
-    rw (hf, lo, lb, same) (omega arith)
+      let hf : nat_lt p (o + k) ≡ false = grind (arith, nat_tests) in
+      let lo : nat_le o p ≡ true = grind (arith, nat_tests) in
+      let lb : nat_le (o + k) p ≡ true = grind (arith, nat_tests) in
+      let same : o + k + (n - k) ≡ o + n = omega arith in
+      rw (hf, lo, lb, same) (omega arith)
 ]
 
 -- the pages of a region that is cut are those of its parts
