@@ -30,7 +30,8 @@ use Rattle.contexts.specs.Actors.{Actors, cut_refusal, holder_of, split_refusal,
 use Rattle.contexts.proofs.Replaced.{all_replaced, all_replaced_in}
 use Rattle.pvm_core.specs.Locks.{locks_over}
 use Rattle.pvm_core.specs.Placed.{ArePlaced, AreRight, IsPlaced}
-use Rattle.pvm_core.proofs.Holding.Regions.{cut_counts, over_replaced, prot_counts}
+use Rattle.pvm_core.proofs.Holding.Actors.{over_replaced}
+use Rattle.pvm_core.proofs.Holding.Regions.{cut_counts, prot_counts}
 use Rattle.pvm_core.proofs.Answering.Listed.{machine_with}
 
 -- the actors without one of them

@@ -22,7 +22,7 @@ use Rattle.residency.specs.declared.store.Store.{Store}
 use Rattle.vm_model.specs.Answering.{maps_in}
 use Rattle.vm_model.specs.Machine.{Actor}
 use Rattle.pvm_core.specs.Locks.{AreHeld, has_locked, is_locked_name, locks_over}
-use Rattle.pvm_core.proofs.Holding.Regions.{over_none}
+use Rattle.pvm_core.proofs.Holding.Actors.{over_none}
 
 -- a node of a live page is a node
 pub named_there : (a : Arena) (n : NodeId) (cache : CacheId) (page : PageNo) → name_of a n ≡ Live cache page → HasNode a n

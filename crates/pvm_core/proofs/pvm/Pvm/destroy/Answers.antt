@@ -42,7 +42,7 @@ use Rattle.pvm_core.proofs.Spanning.Transfers.{named_machine}
 use Rattle.local_cache.specs.Arena.{is_locked}
 use Rattle.pvm_core.proofs.Holding.Kept.{held_released}
 use Rattle.pvm_core.proofs.Holding.Loose.{unpinned_page, working_unpinned}
-use Rattle.pvm_core.proofs.Holding.Regions.{over_none}
+use Rattle.pvm_core.proofs.Holding.Actors.{over_none}
 use Rattle.pvm_core.proofs.pvm.Pvm.destroy.Goals as goal
 
 pub returns-in_default-clause-answers : goal.returns-in_default-clause-answers
