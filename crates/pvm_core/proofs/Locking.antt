@@ -22,5 +22,7 @@ pub mod Regions
 pub mod Rows
 -- The manager at the end.
 pub mod Ends
+-- Locks that go.
+pub mod Gone
 -- The calls.
 pub mod Calls

@@ -1,5 +1,6 @@
 // Regions are locked, so that their pages stay in page frames, and unlocked.
-ghost use Rattle.std.specs.Prelude.{◌≡◌, ◌≤◌, ◌^◌, Err, OnErr};
+ghost use Rattle.std.specs.Prelude.{◌≡◌, ◌≤◌, ◌^◌, Err, OnErr, Option};
+ghost use Rattle.vm_ids.specs.Held.{Held};
 ghost use Rattle.gmi_calls.specs.Calling.{Answers, Calls, Fits, Numbers, RaisesMade, StaysValid, done_by};
 ghost use Rattle.pvm_core.specs.Manager.{IsValid, machine_of, numbered, state_at};
 
@@ -56,6 +57,7 @@ impl Pvm {
     /// Lets the pages of a region go again; one that another locked region covers stays held. Refused as `NoRegion`, or as
     /// `NotLocked` where the region isn't locked, in this order.
     pub fn unlock(&mut self, region: RegionId) -> Result<(), Trouble>
+        requires { (h : Option Held) × IsValid self.old h }
         ensures valid { StaysValid IsValid self.old self.new }
         ensures answers { Answers IsValid state_at self.old
             (Command.Unlock region) (done_by result) self.new }
@@ -77,6 +79,7 @@ impl Pvm {
     /// Ends an actor, and takes its regions away; the pages of those that were locked are let go. Refused as `NoActor` exactly
     /// where it isn't alive.
     pub fn exit_actor(&mut self, actor: ActorId) -> Result<(), Trouble>
+        requires { (h : Option Held) × IsValid self.old h }
         ensures valid { StaysValid IsValid self.old self.new }
         ensures answers { Answers IsValid state_at self.old
             (Command.ExitActor actor) (done_by result) self.new }

@@ -316,3 +316,32 @@ locked_more a b e more = go e.cache.0 refl
           others = λ j q d. others (suc j) q (λ f. d (let g : suc j ≡ suc k = f ∙ is in omega (arith, g)));
         }) in
         omega (arith, here, ap (λ k. count_by (λ q. not (is_locked (locks_of a k q))) (range_with_len e.first.0 e.pages)) is)
+
+-- No page has more locks ------------------------------------------------------------------------
+
+bit_fewer : (x y : ℕ) → y ≤ x → bit (is_locked y) ≤ bit (is_locked x)
+bit_fewer zero zero low = omega arith
+bit_fewer zero (suc y) low = absurd (omega (arith, low))
+bit_fewer (suc x) zero low = omega arith
+bit_fewer (suc x) (suc y) low = omega arith
+
+counts_fewer : (xs ys : List ℕ) → ((q : ℕ) → count_at ys q ≤ count_at xs q) → count_by is_locked ys ≤ count_by is_locked xs
+counts_fewer [] [] low = omega arith
+counts_fewer [] (y ∷ ys) low = omega (arith, sum_by-cons (λ k. bit (is_locked k)) y ys, bit_fewer 0 y (low 0), counts_fewer [] ys (λ q. low (suc q)))
+counts_fewer (x ∷ xs) [] low = omega (arith, sum_by-cons (λ k. bit (is_locked k)) x xs)
+counts_fewer (x ∷ xs) (y ∷ ys) low = omega (arith, sum_by-cons (λ k. bit (is_locked k)) x xs, sum_by-cons (λ k. bit (is_locked k)) y ys, bit_fewer x y (low 0), counts_fewer xs ys (λ q. low (suc q)))
+
+table_fewer : (o p : Option Table) → ((q : ℕ) → locks_in q p ≤ locks_in q o) → locked_pages p ≤ locked_pages o
+table_fewer None None low = omega arith
+table_fewer None (Some u) low = counts_fewer [] u.locks low
+table_fewer (Some t) None low = omega arith
+table_fewer (Some t) (Some u) low = counts_fewer t.locks u.locks low
+
+tables_fewer : (ts us : List (Option Table)) → ((j q : ℕ) → locks_in q (get_or us j None) ≤ locks_in q (get_or ts j None)) → sum_by locked_pages us ≤ sum_by locked_pages ts
+tables_fewer [] [] low = omega arith
+tables_fewer [] (u ∷ us) low = omega (arith, sum_by-cons locked_pages u us, table_fewer None u (low 0), tables_fewer [] us (λ j. low (suc j)))
+tables_fewer (t ∷ ts) [] low = omega (arith, sum_by-cons locked_pages t ts)
+tables_fewer (t ∷ ts) (u ∷ us) low = omega (arith, sum_by-cons locked_pages t ts, sum_by-cons locked_pages u us, table_fewer t u (low 0), tables_fewer ts us (λ j. low (suc j)))
+
+pub locked_fewer : (a b : Arena) → ((cache page : ℕ) → locks_of b cache page ≤ locks_of a cache page) → locked_count b ≤ locked_count a
+locked_fewer a b low = tables_fewer a.caches b.caches (λ j. low (suc j))

@@ -1,4 +1,4 @@
-use Rattle.std.proofs.Common.{◌≡◌, sym, arith}
+use Rattle.std.proofs.Common.{sym, arith}
 use Rattle.pvm_core.proofs.Holding.Loose.{any_at, any_none}
 use Rattle.pvm_core.proofs.locks.is_any_locked.Goals as goal
 

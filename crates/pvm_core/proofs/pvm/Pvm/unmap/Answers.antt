@@ -1,4 +1,4 @@
-use Rattle.std.proofs.Common.{◌≡◌, true, length, refl, sym, subst, ap, ◌∙◌}
+use Rattle.std.proofs.Common.{◌≡◌, true, length, sym, subst, ap, ◌∙◌}
 use Rattle.std.specs.Prelude.{Ok, Err, is_some}
 use Rattle.vm_ids.specs.declared.command.Command.TheVariants as commands
 use Rattle.vm_ids.specs.declared.refusal.Refusal.TheVariants as refusals
@@ -15,7 +15,7 @@ use Rattle.pvm_core.specs.Placed.{AreRight}
 use Rattle.pvm_core.proofs.Acting.{acted, acted_valid, told, unmapped}
 use Rattle.pvm_core.proofs.Answering.Kept.{seated_sound}
 use Rattle.pvm_core.proofs.Answering.Listed.{locked_told, machine_with, right_without, unmap_locked, unmap_none, unmap_row}
-use Rattle.pvm_core.proofs.Holding.Regions.{over_unmapped}
+use Rattle.pvm_core.proofs.Holding.Actors.{over_unmapped}
 use Rattle.pvm_core.proofs.pvm.Pvm.unmap.Goals as goal
 
 pub returns-in_default-clause-answers : goal.returns-in_default-clause-answers

@@ -1,0 +1,79 @@
+-- Locks go: after a region was unlocked, and after an actor ended.
+use Rattle.std.proofs.Common.{◌≡◌, ℕ, ◌+◌, ◌-◌, ◌≤◌, Bool, true, List, [], length, Option, Some, None, refl, sym, ap, ◌∙◌, subst, arith}
+use Rattle.std.specs.Prelude.{Ok, count_by, slice_set}
+use Rattle.std.proofs.lemmas.Option.{get_or_from_slice_get, slice_get_within}
+use Rattle.vm_ids.specs.Counting.{no_counts}
+use Rattle.vm_ids.specs.Held.{Held, Segments, segments_of}
+use Rattle.vm_ids.specs.declared.command.Command.{Command}
+use Rattle.vm_ids.specs.declared.reply.Reply.TheVariants as replies
+use Rattle.vm_ids.proofs.Places.{bit}
+use Rattle.local_cache.specs.Arena.{Arena, locks_of}
+use Rattle.local_cache.specs.Whole.{size_of}
+use Rattle.residency.specs.declared.store.Store.{Store}
+use Rattle.residency.specs.World.{IsStoreRight, world}
+use Rattle.vm_model.specs.Answering.{answer_of, reply}
+use Rattle.vm_model.specs.Asking.{ReachesMapper}
+use Rattle.vm_model.specs.Following.{followed}
+use Rattle.vm_model.specs.Machine as model
+use Rattle.vm_model.specs.Machine.{Region, locks, numbered}
+use Rattle.vm_model.specs.PageForest.{PageForest, forest_shown}
+use Rattle.vm_model.specs.Regions.{region_with}
+use Rattle.vm_model.specs.Run.{AnswerIs}
+use Rattle.vm_model.specs.Synchronised.{IsSynchronised}
+use Rattle.vm_model.proofs.Parts.Lists.{at_number}
+use Rattle.contexts.specs.Actors.{Actors}
+use Rattle.pvm_core.specs.Holding.{HoldsLocked, KeepsPages, LocksMore, covers}
+use Rattle.pvm_core.specs.Locks.{AreHeld, locks_over}
+use Rattle.pvm_core.specs.Manager.{IsSound, IsValid, Manager, caches_shown, forest_of, machine_of, numbered, state_at}
+use Rattle.pvm_core.specs.Placed.{AreRight}
+use Rattle.pvm_core.proofs.Answering.Answered.{answered}
+use Rattle.pvm_core.proofs.Answering.Kept.{seen, sizeless}
+use Rattle.pvm_core.proofs.Answering.Listed.{machine_with}
+use Rattle.pvm_core.proofs.Locking.Covered.{gone_over}
+use Rattle.pvm_core.proofs.Locking.Ends.{ends_by, ends_sound, ends_valid, held_of}
+use Rattle.pvm_core.proofs.Locking.Extents.{locked_fewer}
+use Rattle.pvm_core.proofs.Locking.Limit.{over_unlocked, pages_of}
+
+-- The locks of a region that is unlocked
+pub unlocked_counts : (a b : Arena) (t : Actors) (n : ℕ) (r : Region) → region_with n t.actors ≡ Some r → r.locked ≡ true → ((cache page : ℕ) → locks_of a cache page ≡ locks_over t.actors cache page) → LocksMore (pages_of r) b a
+    → (cache page : ℕ) → locks_of b cache page ≡ locks_over (Rattle.pvm_core.proofs.Locking.Limit.with_locked n Rattle.std.proofs.Common.false t).actors cache page
+unlocked_counts a b t n r found locked counted less cache page =
+    let one = over_unlocked n r t.actors found locked cache page in
+    omega (arith, one, counted cache page, less cache page)
+
+-- and those of an actor that ends
+pub ended_counts : (a b : Arena) (t : Actors) (actor : ℕ) (rs : model.Actor) → model.numbered t.actors actor ≡ Some rs → ((cache page : ℕ) → locks_of a cache page ≡ locks_over t.actors cache page) → ((cache page : ℕ) → locks_of a cache page ≡ locks_of b cache page + count_by (locks cache page) rs)
+    → (cache page : ℕ) → locks_of b cache page ≡ locks_over (slice_set t.actors (actor - 1) None) cache page
+ended_counts a b t actor rs here counted less cache page =
+    let place = at_number t.actors actor rs here in
+    let one = gone_over cache page (actor - 1) rs t.actors (slice_get_within t.actors (actor - 1) (Some rs) place) (get_or_from_slice_get t.actors (actor - 1) (Some rs) None place) in
+    omega (arith, one, counted cache page, less cache page)
+
+module _ (a b : Arena) (s u : Store) (k : KeepsPages a b s u) (holds : HoldsLocked b u) (t x : Actors) (live : ℕ) (sound : IsSound a s t live) (page : x.page_bytes ≡ t.page_bytes) (right : AreRight (size_of a) x)
+    (counted : (cache page : ℕ) → locks_of b cache page ≡ locks_over x.actors cache page) (low : (cache page : ℕ) → locks_of b cache page ≤ locks_of a cache page) (h : Option Held) (v : IsValid (seen a s t) h) where
+  alike : Rattle.pvm_core.specs.Holding.ReadsAlike (world h None a s) (world h None b u) no_counts no_counts
+  alike = k.alike h None no_counts v.right
+
+  held : AreHeld b u x.actors
+  held = held_of b u x.actors counted holds (omega (arith, locked_fewer a b low, sound.locked.few, alike.frames))
+
+  pub gone_sound : IsSound b u x live
+  gone_sound = ends_sound a b s u h h None None no_counts no_counts alike t live sound x page right held
+
+  pub gone_valid : IsValid (seen b u x) h
+  gone_valid = ends_valid a b s u h h None None no_counts no_counts alike t live sound x page v
+
+  gone_forest : forest_of (seen b u x) h ≡ forest_of (seen a s t) h
+  gone_forest = k.forest h None
+
+  -- no node was made, and no page copied
+  pub gone_numbered : Rattle.pvm_core.specs.Manager.numbered (seen b u x) ≡ Rattle.pvm_core.specs.Manager.numbered (seen a s t)
+  gone_numbered = omega (arith, alike.made, Rattle.pvm_core.proofs.Locking.Pages.store_copies (world h None a s), Rattle.pvm_core.proofs.Locking.Pages.store_copies (world h None b u), ap (λ f. f.copies) (k.forest h None))
+
+  pub gone_answer : (command : Command) → ReachesMapper command no_counts → ((m next : model.Machine) (f : PageForest) → followed f m command next ≡ f) → ((m : model.Machine) (g : Option Segments) → IsSynchronised m g command (Ok replies.Done))
+      → ((f : PageForest) (g : PageForest) (c : Segments) → answer_of (machine_with (caches_shown f 1 a.caches) (length s.frames.held) t) g command c ≡ reply replies.Done (machine_with (caches_shown f 1 a.caches) (length s.frames.held) x))
+      → AnswerIs (state_at (seen a s t) h) command (Ok replies.Done) [] no_counts (state_at (seen b u x) h)
+  gone_answer command reaches stays synchronised row =
+      answered (seen a s t) (seen b u x) h command (Ok replies.Done) sound.nodes alike.whole gone_valid gone_forest
+      (stays (machine_of (seen a s t) h) (machine_of (seen b u x) h) (forest_of (seen a s t) h)) reaches (synchronised (machine_of (seen a s t) h) (segments_of h))
+      (λ f c. row f (forest_of (seen a s t) h) c ∙ ap (reply replies.Done) (sym (ends_by a b s u h h None None no_counts no_counts alike t live sound x f)))
