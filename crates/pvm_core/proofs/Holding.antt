@@ -8,7 +8,9 @@ pub mod Counted
 pub mod Made
 -- Locks hold their pages still where pinned frames keep their nodes.
 pub mod Kept
--- How many locked regions cover a page, after regions changed.
+-- Regions that lock a page, counted among those of an actor.
 pub mod Regions
+-- How many locked regions of all actors cover a page, after regions changed.
+pub mod Actors
 -- Frames of pages that aren't locked aren't pinned.
 pub mod Loose

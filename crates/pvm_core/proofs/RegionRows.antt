@@ -1,7 +1,7 @@
 -- Actors that end, and regions that are cut, protected and told of: the rows of these commands, and where regions lie after
 -- them.
-use Rattle.std.proofs.Common.{◌≡◌, ℕ, ◌+◌, ◌-◌, ◌<◌, ◌≤◌, Bool, true, false, cond, List, [], ◌∷◌, length, Option, Some, None, refl, sym, ap, subst, ◌∙◌, arith}
-use Rattle.std.specs.Prelude.{IfSome, IsSome, MatchResult, OnErr, OnOk, Result, Ok, Err, is_some, nat_le, ok_or, option_map, slice_set}
+use Rattle.std.proofs.Common.{◌≡◌, ℕ, ◌+◌, ◌-◌, ◌<◌, ◌≤◌, Bool, true, false, cond, List, [], ◌∷◌, Option, Some, None, refl, sym, ap, subst, ◌∙◌, arith}
+use Rattle.std.specs.Prelude.{IfSome, MatchResult, OnErr, OnOk, Result, Ok, Err, is_some, nat_le, ok_or, option_map, slice_set}
 use Rattle.std.specs.List.{All}
 use Rattle.std.proofs.lemmas.Bool.Decides.{nat_tests}
 use Rattle.std.proofs.lemmas.List.Elements.{All-cons, All-nil, All-set}
@@ -30,7 +30,8 @@ use Rattle.contexts.specs.Actors.{Actors, cut_refusal, holder_of, split_refusal,
 use Rattle.contexts.proofs.Replaced.{all_replaced, all_replaced_in}
 use Rattle.pvm_core.specs.Locks.{locks_over}
 use Rattle.pvm_core.specs.Placed.{ArePlaced, AreRight, IsPlaced}
-use Rattle.pvm_core.proofs.Holding.Regions.{cut_counts, over_replaced, prot_counts}
+use Rattle.pvm_core.proofs.Holding.Actors.{over_replaced}
+use Rattle.pvm_core.proofs.Holding.Regions.{cut_counts, prot_counts}
 use Rattle.pvm_core.proofs.Answering.Listed.{machine_with}
 
 -- the actors without one of them

@@ -1,5 +1,5 @@
 -- What a store answers.
-use Rattle.std.proofs.Common.{◌≡◌, ℕ, zero, suc, ◌+◌, ◌-◌, ◌<◌, ◌≤◌, Bool, true, false, List, [], ◌∷◌, length, get_or, Option, Some, None, refl, sym, ap, ◌∙◌, subst, arith}
+use Rattle.std.proofs.Common.{◌≡◌, ℕ, ◌+◌, ◌-◌, ◌<◌, ◌≤◌, Bool, true, false, List, [], length, Option, Some, None, refl, sym, ap, ◌∙◌, subst, arith}
 use Rattle.std.specs.Prelude.{Result, Ok, Err, IfSome, IsOkAnd, is_some, option_map, option_and_then}
 use Rattle.std.specs.Option.{option_map_or}
 use Rattle.std.specs.List.{All}
@@ -20,7 +20,7 @@ use Rattle.vm_ids.specs.Forest.Rules.{owned, write}
 use Rattle.vm_ids.specs.declared.node_name.NodeName.{NodeName}
 use Rattle.vm_ids.proofs.Forest.Counters.{heir_gets-copies-most, owned-copies}
 use Rattle.frame_pool.specs.Pool.{with_bytes}
-use Rattle.local_cache.specs.Arena.{Arena, Table, table_at, table_of}
+use Rattle.local_cache.specs.Arena.{Arena, Table, table_of}
 use Rattle.residency.specs.declared.miss.Miss.{Miss}
 use Rattle.residency.specs.declared.miss.Miss.TheVariants.{Pull, Victim}
 use Rattle.residency.specs.declared.store.Store.{Store}
@@ -41,13 +41,8 @@ use Rattle.vm_ids.specs.declared.numbers.CacheId.{CacheId}
 use Rattle.vm_ids.specs.declared.numbers.NodeId.{NodeId}
 use Rattle.vm_ids.specs.declared.numbers.SegId.{SegId}
 use Rattle.vm_model.specs.Answering.{is_denied_page, overwrite, reply, store_of, write_at}
-use Rattle.vm_model.specs.Answering.{Answer}
-use Rattle.vm_model.specs.Asking.{ReachesMapper}
 use Rattle.vm_model.specs.Following.{forest_after, pages_passed}
-use Rattle.vm_model.specs.Run.{CallIs}
 use Rattle.vm_ids.specs.declared.command.Command.{Command}
-use Rattle.residency.specs.Causes.{Later}
-use Rattle.pvm_core.specs.Manager.{state_at}
 use Rattle.vm_model.specs.Laws.{IsFollowed}
 use Rattle.vm_model.specs.Machine.{Cache, Machine, Page, cache_of}
 use Rattle.vm_model.specs.Outcome.{IsWhole as IsWholeCache}

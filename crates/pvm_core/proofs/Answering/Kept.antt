@@ -1,5 +1,5 @@
 -- What stays where actors alone change, and where pages are moved about.
-use Rattle.std.proofs.Common.{◌≡◌, ℕ, suc, ◌+◌, ◌≤◌, Bool, true, false, cond, List, [], ◌∷◌, length, Option, Some, None, is_some, refl, sym, ap, ◌∙◌, subst, arith}
+use Rattle.std.proofs.Common.{◌≡◌, ℕ, ◌+◌, ◌≤◌, Bool, true, false, cond, List, [], ◌∷◌, length, Option, Some, None, is_some, refl, sym, ap, ◌∙◌, subst, arith}
 use Rattle.std.specs.Prelude.{IfSome, OnErr, Result, Ok, Err, option_map, sum_by, count_by}
 use Rattle.std.specs.FinMap as ids
 use Rattle.std.proofs.lemmas.List.{length-map}

@@ -1,5 +1,5 @@
 -- A cache doesn't go, since the mapper failed: the answers.
-use Rattle.std.proofs.Common.{◌≡◌, ◌⊎◌, ℕ, ◌+◌, ◌<◌, ◌≤◌, Bool, true, false, List, length, Option, Some, None, is_some, option_map, refl, sym, ap, ◌∙◌, subst, arith, inl, inr}
+use Rattle.std.proofs.Common.{◌≡◌, ◌⊎◌, ℕ, ◌+◌, false, length, Option, Some, option_map, refl, sym, ap, ◌∙◌, subst, arith, inl, inr}
 use Rattle.std.specs.Prelude.{Err}
 use Rattle.vm_ids.specs.Counting.{MapperCounts, Rose}
 use Rattle.vm_ids.specs.Held.{Held, Segments, segments_of}
@@ -18,8 +18,8 @@ use Rattle.local_cache.specs.Arena.{Table, table_of}
 use Rattle.local_cache.specs.Whole.{IsWhole}
 use Rattle.gmi_calls.specs.Calling.{RaisesMade}
 use Rattle.vm_model.specs.Answering.{is_mapped}
-use Rattle.vm_model.specs.Machine.{Cache, Machine, cache_of, pages_in}
-use Rattle.vm_model.specs.Outcome.{CanFailAtSave, IsNamed, NotRefusedButFor, Outcome}
+use Rattle.vm_model.specs.Machine.{cache_of, pages_in}
+use Rattle.vm_model.specs.Outcome.{CanFailAtSave, NotRefusedButFor, Outcome}
 use Rattle.vm_model.specs.PageForest.{PageForest}
 use Rattle.vm_model.specs.Run.{CallIs}
 use Rattle.vm_model.specs.Synchronised.{ArePushed}

@@ -1,45 +1,37 @@
 -- A cache is gone: the manager after it.
-use Rattle.std.proofs.Common.{◌≡◌, ◌≢◌, ◌==◌, ℕ, zero, suc, ◌+◌, ◌-◌, ◌≤◌, Bool, true, false, List, [], ◌∷◌, get_or, set, length, length-set, Option, Some, None, is_some, option_map, refl, sym, ap, ◌∙◌, subst, arith, rules, inl, inr}
-use Rattle.std.specs.Prelude.{◌||◌, Ok, IfSome, sum_by, count_by}
-use Rattle.std.specs.List.{All, list_any}
-use Rattle.std.specs.Option.{option_map_or}
-use Rattle.std.proofs.lemmas.Bool.Decides.{nat_tests}
+use Rattle.std.proofs.Common.{◌≡◌, ◌≢◌, ℕ, ◌+◌, ◌-◌, ◌≤◌, Bool, false, List, get_or, set, length, length-set, Option, Some, None, option_map, refl, sym, ap, ◌∙◌, subst, arith, inl, inr}
+use Rattle.std.specs.Prelude.{Ok, IfSome, sum_by, count_by}
+use Rattle.std.specs.List.{list_any}
 use Rattle.std.proofs.lemmas.List.{map-set}
-use Rattle.std.proofs.lemmas.List.Elements.{All-set, All-nil, All-cons, All-head, All-tail}
-use Rattle.std.proofs.lemmas.List.Sums.{sum_by-cons}
+use Rattle.std.proofs.lemmas.List.Elements.{All-set}
 use Rattle.vm_ids.specs.Counting.{MapperCounts}
 use Rattle.vm_ids.specs.Held.{Held, segments_of}
 use Rattle.vm_ids.specs.declared.command.Command.TheVariants as commands
 use Rattle.vm_ids.specs.declared.numbers.CacheId.{CacheId}
-use Rattle.vm_ids.specs.declared.refusal.Refusal.TheVariants as refusals
 use Rattle.vm_ids.specs.declared.reply.Reply.TheVariants as replies
 use Rattle.vm_ids.specs.Forest.Commands.{destroy, page_names}
 use Rattle.vm_ids.specs.Forest.Shape.{IsBounded}
 use Rattle.vm_ids.specs.Forest.Saving.{saved}
 use Rattle.vm_ids.specs.declared.numbers.SegId.{SegId}
 use Rattle.std.specs.FinMap.{get}
-use Rattle.local_cache.specs.Arena.{Arena, Table, cell, node_at, page_count, table_at, table_of, tables_without, without_cache}
+use Rattle.local_cache.specs.Arena.{Arena, Table, node_at, page_count, table_at, table_of, tables_without, without_cache}
 use Rattle.local_cache.specs.Reading as arena
 use Rattle.local_cache.specs.Sound.{IsListed}
-use Rattle.local_cache.specs.ReadingBy.{forest_by}
 use Rattle.residency.specs.declared.store.Store.{Store}
 use Rattle.residency.specs.StoreForest.{store_forest}
-use Rattle.residency.specs.World.{IsStoreRight, World, world}
+use Rattle.residency.specs.World.{IsStoreRight, world}
 use Rattle.local_cache.specs.Whole.{IsWhole, SameCaches, segment_of, size_of}
 use Rattle.page_release.specs.Steps.{ForAnyMapper, GivesBack, IsStoreTied, StaysRight}
 use Rattle.page_release.proofs.Tying.Tied.{tied_of}
-use Rattle.vm_model.specs.Answering.{destroy_of, is_mapped, is_named, maps_in, refuse, reply, unless, with_some}
-use Rattle.vm_model.specs.Machine as model
-use Rattle.vm_model.specs.Machine.{Cache, Machine, Page, cache_of, pages_in}
+use Rattle.vm_model.specs.Answering.{maps_in, reply}
+use Rattle.vm_model.specs.Machine.{Machine, Page, cache_of, pages_in}
 use Rattle.vm_model.specs.Outcome.{HasWholePages, OutcomeAt, blank, blank_cache}
 use Rattle.vm_model.specs.Outcome as outcome
-use Rattle.vm_model.specs.Following.{forest_after}
 use Rattle.vm_model.specs.PageForest.{PageForest}
 use Rattle.vm_model.specs.Laws.{IsFollowed}
 use Rattle.vm_model.proofs.Forests.Following.{destroyed_followed}
 use Rattle.contexts.specs.Actors.{Actors}
 use Rattle.pvm_core.specs.Locks.{AreHeld}
-use Rattle.pvm_core.specs.Placed.{ArePlaced, IsPlaced}
 use Rattle.pvm_core.specs.Manager.{IsSound, IsValid, Manager, cache_shown, caches_shown, forest_of, live_in, machine_by, machine_of}
 use Rattle.pvm_core.proofs.Answering.Answered.{no_segments}
 use Rattle.pvm_core.proofs.Meaning.Determined.{followed_is}

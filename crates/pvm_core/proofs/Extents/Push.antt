@@ -1,9 +1,8 @@
 -- The answers of a sync and a flush.
-use Rattle.std.proofs.Common.{◌≡◌, ℕ, ◌+◌, ◌<◌, ◌≤◌, false, List, length, Option, Some, None, refl, sym, ap, ◌∙◌, subst, arith}
+use Rattle.std.proofs.Common.{◌≡◌, ℕ, ◌+◌, false, length, Option, Some, None, refl, sym, ap, ◌∙◌, subst, arith}
 use Rattle.std.specs.Prelude.{Result, Ok, Err, IfErr, OnErr, OnOk}
 use Rattle.vm_ids.specs.Counting.{MapperCounts, Rose}
 use Rattle.vm_ids.specs.Held.{Held, Segments, segments_of}
-use Rattle.vm_ids.specs.declared.command.Command.{Command}
 use Rattle.vm_ids.specs.declared.command.Command.TheVariants as commands
 use Rattle.vm_ids.specs.declared.command.Extent.{Extent}
 use Rattle.vm_ids.specs.declared.numbers.PageNo.{PageNo}
@@ -16,12 +15,11 @@ use Rattle.residency.specs.Causes.{HasMissCause}
 use Rattle.residency.specs.declared.miss.Miss.{Miss}
 use Rattle.residency.specs.declared.miss.Miss.TheVariants.{Pull, Victim}
 use Rattle.residency.specs.declared.store.Store.{Store}
-use Rattle.residency.specs.World.{IsStoreRight, world}
+use Rattle.residency.specs.World.{world}
 use Rattle.segment_ops.specs.Ranges as ranges
 use Rattle.segment_ops.specs.Saving.{HasFailed}
 use Rattle.segment_ops.specs.Synced.{AreSynced}
-use Rattle.vm_model.specs.Answering.{Answer, answer_by, is_any_locked, reply}
-use Rattle.vm_model.specs.Machine.{Machine}
+use Rattle.vm_model.specs.Answering.{is_any_locked, reply}
 use Rattle.vm_model.specs.Outcome.{NotRefusedButFor, Outcome}
 use Rattle.vm_model.specs.PageForest.{PageForest}
 use Rattle.vm_model.specs.Run.{CallIs}

@@ -1,5 +1,5 @@
 -- The rows of the calls with an extent.
-use Rattle.std.proofs.Common.{◌≡◌, ℕ, ◌+◌, ◌<◌, ◌≤◌, Bool, true, false, cond, List, [], ◌∷◌, length, Option, Some, None, refl, sym, ap, ◌∙◌, arith}
+use Rattle.std.proofs.Common.{◌≡◌, ℕ, ◌+◌, ◌≤◌, Bool, true, false, cond, List, length, Option, Some, None, refl, sym, ap, ◌∙◌, arith}
 use Rattle.std.specs.Prelude.{is_none, nat_lt, option_map}
 use Rattle.std.proofs.lemmas.Bool.Decides.{nat_tests}
 use Rattle.vm_ids.specs.declared.command.Extent.{Extent}
@@ -104,8 +104,8 @@ module _ (p : Manager) (f : PageForest) (e : Extent) where
         of_end : (t : Table) (s : SegId) → table_of p.caches e.cache.0 ≡ Some t → t.segment ≡ Some s → (b k : Bool) → l ≡ k → nat_lt (length t.pages) (e.first.0 + e.pages) ≡ b → cond b (Some refusals.OutOfCache) (cond k (Some refusals.Locked) None) ≡ Some r → AreRefused l
         of_end t s there of true k at past is = all_refused l (past_end (cache_shown f e.cache.0 t) s.0 (shown t there) (ap (option_map (λ (s : SegId). s.0)) of) (ends t true past) is)
         of_end t s there of false true at past is = (
-            λ free. absurd (let both : true ≡ false = sym at ∙ free in cc both),
-            λ same. one_locked (cache_shown f e.cache.0 t) s.0 (shown t there) (ap (option_map (λ (s : SegId). s.0)) of) (ends t false past) (same ∙ at) is,
+          λ free. absurd (let both : true ≡ false = sym at ∙ free in cc both),
+          λ same. one_locked (cache_shown f e.cache.0 t) s.0 (shown t there) (ap (option_map (λ (s : SegId). s.0)) of) (ends t false past) (same ∙ at) is,
         )
         of_end t s there of false false at past is = absurd (cc is)
 

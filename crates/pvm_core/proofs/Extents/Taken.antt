@@ -22,7 +22,7 @@ use Rattle.residency.specs.World.{world}
 use Rattle.page_release.specs.Steps.{ForAnyMapper, GivesBack, IsStoreTied, StaysRight, segment_pages}
 use Rattle.vm_model.specs.Answering.{held_for, held_part, invalidate_of, is_any_locked, overwrite, put_pages, reply}
 use Rattle.vm_model.specs.Following.{forest_after}
-use Rattle.vm_model.specs.Machine.{Cache, Machine, Page, cache_of, numbered}
+use Rattle.vm_model.specs.Machine.{Cache, Machine, Page, cache_of}
 use Rattle.vm_model.specs.Outcome as outcome
 use Rattle.vm_model.specs.Outcome.{HasWholePages, OutcomeAt, blank}
 use Rattle.vm_model.specs.PageForest.{PageForest, nodes_in}
@@ -40,7 +40,7 @@ use Rattle.pvm_core.specs.Saving.{KeepsMachine, is_named}
 use Rattle.pvm_core.proofs.Answering.Answered.{call_is, no_segments}
 use Rattle.pvm_core.proofs.Answering.Changed.{blank_is, machine_is, put_shaped}
 use Rattle.pvm_core.proofs.Meaning.Determined.{IsShaped}
-use Rattle.pvm_core.proofs.Extents.Part.{held_of, part_for, part_get, part_many, part_nodes, part_of_overwrite, part_whole, with_firsts}
+use Rattle.pvm_core.proofs.Extents.Part.{part_for, part_get, part_many, part_nodes, part_of_overwrite, part_whole, with_firsts}
 use Rattle.pvm_core.proofs.Extents.Rows.{IsExtent, cache_there, extent_by, invalidate_row}
 use Rattle.pvm_core.proofs.Homes.Full.{full_same}
 use Rattle.pvm_core.proofs.Answering.Kept.{seen}

@@ -1,6 +1,6 @@
 -- Pages were not taken from their segment: the answers.
-use Rattle.std.proofs.Common.{◌≡◌, ℕ, ◌+◌, ◌<◌, ◌≤◌, Bool, true, false, List, length, Option, Some, None, is_some, refl, sym, ap, ◌∙◌, subst, arith}
-use Rattle.std.specs.Prelude.{Err, OnErr, option_map}
+use Rattle.std.proofs.Common.{◌≡◌, ℕ, ◌+◌, ◌≤◌, true, false, length, Option, Some, None, is_some, refl, sym, ap, ◌∙◌, subst, arith}
+use Rattle.std.specs.Prelude.{Err, option_map}
 use Rattle.std.specs.Bool.{IsTrue}
 use Rattle.std.specs.Option.{option_map_or}
 use Rattle.vm_ids.specs.Counting.{MapperCounts, Rose}
@@ -12,7 +12,6 @@ use Rattle.vm_ids.specs.declared.reply.FaultAt.TheVariants as faults
 use Rattle.vm_ids.specs.declared.reply.Trouble.{Trouble}
 use Rattle.vm_ids.specs.declared.reply.Trouble.TheVariants as troubles
 use Rattle.vm_ids.specs.Forest.Commands.{extent_names}
-use Rattle.local_cache.specs.Arena.{Arena}
 use Rattle.local_cache.specs.Whole.{IsWhole}
 use Rattle.vm_model.specs.Answering.{Answer, held_for, is_any_locked, is_named}
 use Rattle.vm_model.specs.Machine.{Cache}

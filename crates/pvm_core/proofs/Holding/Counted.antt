@@ -8,7 +8,7 @@ use Rattle.std.proofs.lemmas.List.Sums.{sum_by-cons}
 use Rattle.vm_ids.specs.declared.command.Extent.{Extent}
 use Rattle.vm_ids.specs.Forest.Nodes.{no_forest}
 use Rattle.vm_ids.proofs.Places.{bit, count_cons}
-use Rattle.local_cache.specs.Arena.{Arena, is_locked, locks_of}
+use Rattle.local_cache.specs.Arena.{is_locked, locks_of}
 use Rattle.vm_model.specs.Answering.{is_any_locked}
 use Rattle.vm_model.specs.Machine.{Actor, Machine, Region, is_locked_page, locks, locks_any}
 use Rattle.vm_model.specs.PageForest.{PageForest}

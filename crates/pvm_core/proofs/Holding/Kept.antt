@@ -1,5 +1,5 @@
 -- Locks hold their pages still where pinned frames keep their nodes.
-use Rattle.std.proofs.Common.{◌≡◌, ℕ, ◌+◌, ◌<◌, ◌≤◌, Bool, true, false, List, length, Option, Some, None, refl, sym, ap, ◌∙◌, subst, arith}
+use Rattle.std.proofs.Common.{◌≡◌, ℕ, Bool, true, false, List, length, Option, Some, None, refl, sym, ap, ◌∙◌, arith}
 use Rattle.std.specs.Prelude.{count_by}
 use Rattle.std.specs.List.{slice_index_or}
 use Rattle.std.specs.Option.{option_map_or}
@@ -12,8 +12,7 @@ use Rattle.vm_ids.specs.declared.numbers.PageNo.{PageNo}
 use Rattle.vm_ids.specs.Forest.Commands.{page_name}
 use Rattle.frame_pool.specs.Pool.{is_pinned}
 use Rattle.global_map.specs.Pairs.{frame_of, node_of}
-use Rattle.local_cache.specs.Arena.{Arena, HasNode, is_locked, locks_of, node_at}
-use Rattle.local_cache.specs.Own.{is_resident, own_of}
+use Rattle.local_cache.specs.Arena.{Arena, HasNode, is_locked, locks_of}
 use Rattle.local_cache.specs.Reading.{name_of}
 use Rattle.local_cache.specs.Sound.{IsSound}
 use Rattle.local_cache.specs.Whole.{IsWhole, size_of}

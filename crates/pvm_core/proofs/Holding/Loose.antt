@@ -1,5 +1,5 @@
 -- Frames of pages that aren't locked aren't pinned.
-use Rattle.std.proofs.Common.{◌≡◌, ℕ, zero, suc, ◌+◌, ◌-◌, ◌<◌, ◌≤◌, Bool, true, false, List, [], ◌∷◌, length, Option, Some, refl, sym, ap, ◌∙◌, subst, arith}
+use Rattle.std.proofs.Common.{◌≡◌, ℕ, zero, suc, ◌+◌, ◌-◌, ◌<◌, ◌≤◌, Bool, true, false, List, length, Option, Some, refl, sym, ap, ◌∙◌, subst, arith}
 use Rattle.std.specs.Prelude.{◌||◌}
 use Rattle.std.specs.List.{list_any, range_with_len}
 use Rattle.std.proofs.lemmas.List.Folds.{list_any_at}
@@ -43,8 +43,8 @@ none_from p first zero none = refl
 none_from p first (suc n) none = ap (λ b. b || list_any p (range_with_len (first + 1) n)) (none first (omega arith) (omega arith)) ∙ none_from p (first + 1) n (λ k low less. none k (omega (arith, low)) (omega (arith, less)))
 
 -- none is
-pub any_none : (a : Arena) (e : Extent) (end : ℕ) → end ≡ e.first.0 + e.pages → ((page : ℕ) → e.first.0 ≤ page → page < end → locks_of a e.cache.0 page ≡ 0) → any_locked a e ≡ false
-any_none a e end is none = none_from (λ n. is_locked (locks_of a e.cache.0 n)) e.first.0 e.pages (λ k low less. ap is_locked (none k low (omega (arith, less, is))))
+pub any_none : (a : Arena) (e : Extent) → ((page : ℕ) → e.first.0 ≤ page → page < e.first.0 + e.pages → locks_of a e.cache.0 page ≡ 0) → any_locked a e ≡ false
+any_none a e none = none_from (λ n. is_locked (locks_of a e.cache.0 n)) e.first.0 e.pages (λ k low less. ap is_locked (none k low less))
 
 -- each page of a range of which none is locked
 pub unlocked_page : (a : Arena) (e : Extent) → any_locked a e ≡ false → (page : ℕ) → e.first.0 ≤ page → page < e.first.0 + e.pages → is_locked (locks_of a e.cache.0 page) ≡ false

@@ -22,7 +22,7 @@ use Rattle.residency.specs.declared.store.Store.{Store}
 use Rattle.vm_model.specs.Answering.{maps_in}
 use Rattle.vm_model.specs.Machine.{Actor}
 use Rattle.pvm_core.specs.Locks.{AreHeld, has_locked, is_locked_name, locks_over}
-use Rattle.pvm_core.proofs.Holding.Regions.{over_none}
+use Rattle.pvm_core.proofs.Holding.Actors.{over_none}
 
 -- a node of a live page is a node
 pub named_there : (a : Arena) (n : NodeId) (cache : CacheId) (page : PageNo) → name_of a n ≡ Live cache page → HasNode a n
@@ -96,8 +96,8 @@ module _ (b d : Arena) (u : Store) (actors : List (Option Actor)) (cache : Cache
   locks_left : (c page : ℕ) → locks_of d c page ≡ locks_of b c page
   locks_left c page = elim (cases_eq c cache.0) [
     | inl here ↦
-      ap (λ (k : ℕ). locks_of d k page) here ∙ locks-gone b d cache is page
-      ∙ sym (ap (λ (k : ℕ). locks_of b k page) here ∙ held.counted cache.0 page ∙ over_none cache.0 page actors free)
+        ap (λ (k : ℕ). locks_of d k page) here ∙ locks-gone b d cache is page
+        ∙ sym (ap (λ (k : ℕ). locks_of b k page) here ∙ held.counted cache.0 page ∙ over_none cache.0 page actors free)
     | inr other ↦ locks-without_cache b d cache is c page other
   ]
 

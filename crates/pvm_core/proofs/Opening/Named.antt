@@ -1,5 +1,5 @@
 -- A manager with the cache of a segment more.
-use Rattle.std.proofs.Common.{◌≡◌, ℕ, ◌+◌, ◌*◌, ◌<◌, ◌≤◌, [], List, length, Option, Some, None, refl, sym, ap, ◌∙◌, subst, arith}
+use Rattle.std.proofs.Common.{◌≡◌, ℕ, ◌+◌, ◌*◌, ◌<◌, ◌≤◌, [], List, length, Option, Some, None, refl, sym, ap, subst, arith}
 use Rattle.std.specs.Prelude.{IfSome, IsSome, IsSomeAnd, Ok, option_and_then, slice_get}
 use Rattle.std.specs.FinMap.{get}
 use Rattle.std.proofs.lemmas.Option.{slice_get-get_or}
@@ -16,7 +16,6 @@ use Rattle.vm_ids.specs.Forest.NameLists.{◌∈◌}
 use Rattle.vm_ids.specs.Forest.Nodes.{IsNode}
 use Rattle.local_cache.specs.declared.own_state.OwnState.TheVariants.{OnSegment}
 use Rattle.local_cache.specs.Arena.{Arena, CellsStay, HasPages, IsMade}
-use Rattle.local_cache.specs.Own.{own_states}
 use Rattle.local_cache.specs.Reading as arena
 use Rattle.local_cache.specs.Sound as arena_sound
 use Rattle.local_cache.proofs.NewCache.Whole.{fresh, named_alike, pages_with}
@@ -27,7 +26,7 @@ use Rattle.residency.proofs.NewCaches.MadeNamed.{opened_right, own_new, own_old}
 use Rattle.vm_model.specs.declared.limits.TheConstants.{LIVE_PAGES, MOST_MADE}
 use Rattle.vm_model.specs.Run.{AnswerIs}
 use Rattle.contexts.specs.Actors.{Actors}
-use Rattle.pvm_core.specs.Manager.{IsSound, IsValid, Manager, forest_of, state_at}
+use Rattle.pvm_core.specs.Manager.{IsSound, IsValid, forest_of, state_at}
 use Rattle.pvm_core.specs.Opening.{ArePagesOf, HasSegment, IsOpened}
 use Rattle.pvm_core.proofs.Answering.Kept.{seen}
 use Rattle.pvm_core.proofs.Meaning.Live.{nodes_most}

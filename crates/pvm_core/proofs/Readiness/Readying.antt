@@ -1,41 +1,36 @@
 -- Steps that keep the machine, one after the other.
-use Rattle.std.proofs.Common.{◌≡◌, ℕ, ◌+◌, ◌≤◌, Bool, true, false, List, Option, Some, None, is_some, refl, sym, ap, ◌∙◌, subst, unwrap_or, inl, inr}
-use Rattle.std.specs.Prelude.{IfErr, IfSome, IsSome, OnOk, Ok, Err, Result, option_map, option_and_then, slice_get}
+use Rattle.std.proofs.Common.{◌≡◌, ℕ, ◌+◌, Bool, true, false, List, Option, Some, None, is_some, refl, sym, ap, ◌∙◌, subst, unwrap_or, inl, inr}
+use Rattle.std.specs.Prelude.{IfErr, IsSome, OnOk, Ok, Err, Result, option_map, option_and_then, slice_get}
 use Rattle.std.proofs.lemmas.List.{append-nil}
 use Rattle.vm_ids.specs.Counting.{MapperCounts}
 use Rattle.vm_ids.specs.Held.{Held}
 use Rattle.vm_ids.specs.declared.command.Extent.{Extent}
-use Rattle.vm_ids.specs.declared.node_name.NodeName.{NodeName}
 use Rattle.vm_ids.specs.declared.refusal.Refusal.TheVariants as refusals
 use Rattle.vm_ids.specs.declared.reply.FaultAt.TheVariants as faults
 use Rattle.vm_ids.specs.declared.reply.Trouble.{Trouble}
 use Rattle.vm_ids.specs.declared.reply.Trouble.TheVariants as troubles
 use Rattle.vm_ids.specs.Forest.Commands.{extent_names, page_name}
-use Rattle.vm_ids.specs.Forest.NameLists.{◌∈◌}
 use Rattle.vm_ids.specs.Forest.Saving.{is_unsaved, saved, saves, unsaved}
 use Rattle.vm_ids.specs.Forest.Shape.{IsConsistent}
 use Rattle.vm_ids.proofs.Forest.Saving.{save_range_ends}
 use Rattle.local_cache.specs.Arena.{Arena, Table, table_at, table_of}
 use Rattle.local_cache.specs.Home.{home_named}
-use Rattle.local_cache.specs.Reading as arena
-use Rattle.local_cache.specs.Whole.{IsWhole, SameCaches, segment_of}
-use Rattle.local_cache.proofs.Tables.Sizes.{sizes_same, sizes_then}
+use Rattle.local_cache.specs.Whole.{IsWhole, SameCaches}
+use Rattle.local_cache.proofs.Tables.Sizes.{sizes_then}
 use Rattle.page_release.specs.Homes.{AreSaved}
-use Rattle.segment_ops.specs.Ranges.{IsPageOf}
 use Rattle.segment_ops.proofs.Unsaved.{unsaved_by}
 use Rattle.vm_model.specs.Machine.{Machine}
 use Rattle.vm_model.specs.PageForest.{PageForest}
-use Rattle.pvm_core.specs.Manager.{IsValid, Manager, forest_of, machine_by, machine_of, world_of}
+use Rattle.pvm_core.specs.Manager.{Manager, forest_of, machine_of, world_of}
 use Rattle.pvm_core.specs.Reaching.{Reach}
-use Rattle.pvm_core.specs.Saving.{FailedToSave, IsNotReady, IsNotSaved, IsReady, KeepsForest, KeepsMachine, is_named}
+use Rattle.pvm_core.specs.Saving.{FailedToSave, IsNotReady, IsNotSaved, KeepsForest, KeepsMachine, is_named}
 use Rattle.pvm_core.specs.Writes.{AreWritable, IsNotGranted}
 use Rattle.pvm_core.specs.Keeping.{HasMoreRoom}
 use Rattle.contexts.specs.Actors.{Actors}
 use Rattle.residency.specs.declared.store.Store.{Store}
 use Rattle.pvm_core.proofs.Readiness.Denied.{denied_cases}
 use Rattle.pvm_core.proofs.Answering.Kept.{seen}
-use Rattle.pvm_core.proofs.Answering.Reaching.{reach_none, reach_then}
-use Rattle.pvm_core.proofs.Meaning.Values.{consistent_of}
+use Rattle.pvm_core.proofs.Answering.Reaching.{reach_then}
 
 pub keeps_then : (p q r : Manager) (h g k : Option Held) (c d e : MapperCounts) → KeepsMachine p q h g c d → KeepsMachine q r g k d e → KeepsMachine p r h k c e
 keeps_then p q r h g k c d e a b = record {

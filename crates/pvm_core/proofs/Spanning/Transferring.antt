@@ -1,13 +1,11 @@
 -- A copy or a move that isn't carried out, though nothing refuses it but the mapper: a write that is denied, a fault, or want
 -- of memory.
-use Rattle.std.proofs.Common.{◌≡◌, ◌≢◌, ◌⊎◌, ℕ, zero, suc, ◌+◌, ◌-◌, ◌<◌, ◌≤◌, Bool, true, false, List, length, Option, Some, None, is_some, refl, sym, ap, ◌∙◌, subst, arith, inl, inr}
-use Rattle.std.specs.Prelude.{Ok, Err, IfSome, IsSome, option_map, option_and_then}
+use Rattle.std.proofs.Common.{◌≡◌, ◌≢◌, ◌⊎◌, ℕ, ◌+◌, ◌-◌, ◌<◌, ◌≤◌, Bool, true, false, length, Option, Some, refl, sym, ap, ◌∙◌, subst, arith, inl, inr}
+use Rattle.std.specs.Prelude.{Err, option_map}
 use Rattle.std.specs.List.{list_any, range_with_len}
-use Rattle.std.specs.Option.{option_map_or}
 use Rattle.std.proofs.lemmas.List.Folds.{list_any_at, list_any_none}
 use Rattle.std.proofs.lemmas.List.FromFn.{get_or-range_with_len, length-range_with_len}
 use Rattle.vm_ids.specs.Counting.{MapperCounts, Rose}
-use Rattle.vm_ids.specs.Denying.{denies}
 use Rattle.vm_ids.specs.Held.{Held, Segments, segments_of}
 use Rattle.vm_ids.specs.declared.command.Command.{Command}
 use Rattle.vm_ids.specs.declared.command.Span.{Span}
@@ -20,14 +18,14 @@ use Rattle.vm_ids.specs.declared.reply.FaultAt.TheVariants as faults
 use Rattle.vm_ids.specs.declared.reply.Trouble.{Trouble}
 use Rattle.vm_ids.specs.declared.reply.Trouble.TheVariants as troubles
 use Rattle.vm_ids.specs.declared.node_name.NodeName.{NodeName}
-use Rattle.vm_ids.specs.Forest.Commands.{extent_names, firsts, page_names, span_pairs}
-use Rattle.vm_ids.specs.Forest.Saving.{saved, saves}
+use Rattle.vm_ids.specs.Forest.Commands.{extent_names, firsts, span_pairs}
+use Rattle.vm_ids.specs.Forest.Saving.{saves}
 use Rattle.local_cache.specs.Whole.{IsWhole, size_of}
 use Rattle.residency.specs.World.{IsStoreRight}
 use Rattle.segment_ops.specs.Access.{IsAskedFor, OneDenied}
 use Rattle.vm_model.specs.Answering.{Answer, answer_of, is_any_denied, is_denied_page, refuse, reply}
 use Rattle.vm_model.specs.Asking.{ReachesMapper, pages_touched}
-use Rattle.vm_model.specs.Following.{forest_after, pages_saved}
+use Rattle.vm_model.specs.Following.{pages_saved}
 use Rattle.vm_model.specs.Machine.{Machine}
 use Rattle.vm_model.specs.Outcome.{CanFailAtSave, IsFirstAsked, IsNamed, MayFault, MayLackMemory, NotRefusedButFor, Outcome}
 use Rattle.vm_model.specs.PageForest.{PageForest, forest_shown}
@@ -42,13 +40,9 @@ use Rattle.page_release.proofs.Walking.Ranges.{destination_names}
 use Rattle.vm_ids.proofs.Forest.Laws.Ranges.{ranges_hold_their_pages}
 use Rattle.pvm_core.specs.Keeping.{CopiesNothing, HasMoreRoom}
 use Rattle.pvm_core.proofs.Readiness.Copies.{saves_copied}
-use Rattle.pvm_core.proofs.Meaning.Values.{consistent_of}
 use Rattle.gmi_calls.specs.Calling.{RaisesMade}
-use Rattle.residency.proofs.Forests.WrittenForest.{store_copies}
-use Rattle.vm_ids.specs.declared.numbers.CacheId.{CacheId}
 use Rattle.vm_ids.specs.declared.refusal.Refusal.{Refusal}
 use Rattle.vm_ids.specs.Forest.NameLists.{◌∈◌}
-use Rattle.vm_ids.specs.Forest.Nodes.{is_live}
 use Rattle.pvm_core.specs.Spans.{replaced}
 use Rattle.pvm_core.specs.Writes.{AreWritable, IsNotGranted}
 use Rattle.pvm_core.proofs.Answering.Answered.{call_is, failed_at, no_segments, outcome_by}

@@ -21,7 +21,6 @@ use Rattle.page_release.specs.Steps.{ForAnyMapper, GivesBack, IsStoreTied, Stays
 use Rattle.page_release.proofs.Tying.Tied.{tied_of}
 use Rattle.vm_model.specs.Answering.{copy_of, is_any_denied, is_any_locked, overwrite, put_pages, reply, move_of, put_cache}
 use Rattle.vm_model.specs.Answering.{is_named as model_named}
-use Rattle.vm_model.specs.Following.{forest_after}
 use Rattle.vm_model.specs.Machine.{Cache, Machine, Page, cache_of}
 use Rattle.vm_model.specs.Outcome.{HasWholePages, OutcomeAt, blank}
 use Rattle.vm_model.specs.PageForest.{PageForest, page_in, told}

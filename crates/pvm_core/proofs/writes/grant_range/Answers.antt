@@ -1,5 +1,5 @@
-use Rattle.std.proofs.Common.{◌≡◌, Bool, true, false, sym, ap, subst, ◌∙◌, is_some}
-use Rattle.std.specs.Prelude.{not, Result, Ok, Err}
+use Rattle.std.proofs.Common.{Bool, sym, ap, subst, ◌∙◌, is_some}
+use Rattle.std.specs.Prelude.{not, Result, Ok}
 use Rattle.vm_ids.specs.declared.numbers.PageNo.{PageNo}
 use Rattle.local_cache.specs.Arena.{table_of}
 use Rattle.segment_ops.specs.Access.{AllGranted, IsAccess, IsAskedFor, OneDenied}

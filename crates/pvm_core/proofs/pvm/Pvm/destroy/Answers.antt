@@ -1,4 +1,4 @@
-use Rattle.std.proofs.Common.{◌≡◌, ℕ, ◌+◌, ◌≤◌, Bool, true, false, List, Option, Some, None, is_some, length, refl, sym, ap, subst, ◌∙◌, arith}
+use Rattle.std.proofs.Common.{◌≡◌, ℕ, ◌+◌, Bool, false, Option, Some, None, is_some, length, refl, sym, ap, subst, ◌∙◌, arith}
 use Rattle.std.specs.Prelude.{IfErr, IsOk, OnErr, Result, Ok, Err, unwrap_or}
 use Rattle.std.proofs.lemmas.Result.{err_from_is_err_and}
 use Rattle.gmi_calls.specs.Calling.{RaisesMade, done_by}
@@ -10,13 +10,11 @@ use Rattle.vm_ids.specs.declared.refusal.Refusal.TheVariants as refusals
 use Rattle.vm_ids.specs.declared.reply.Reply.TheVariants as replies
 use Rattle.vm_ids.specs.declared.reply.Trouble.{Trouble}
 use Rattle.vm_ids.specs.declared.reply.Trouble.TheVariants as troubles
-use Rattle.vm_ids.specs.Forest.Commands.{destroy, extent_names, page_names}
-use Rattle.vm_ids.specs.Forest.Saving.{saved}
+use Rattle.vm_ids.specs.Forest.Commands.{destroy, page_names}
 use Rattle.vm_ids.specs.Forest.Shape.{IsBounded}
 use Rattle.vm_ids.specs.Held.{segments_of}
 use Rattle.local_cache.specs.Arena.{table_of}
 use Rattle.local_cache.specs.Whole.{size_of}
-use Rattle.page_release.specs.Homes.{AreSaved}
 use Rattle.page_release.proofs.Tying.Tied.{tied_right}
 use Rattle.segment_ops.specs.Ranges.{HasRange}
 use Rattle.vm_model.specs.Answering.{Answer, is_mapped, maps_in}
@@ -27,7 +25,7 @@ use Rattle.vm_model.specs.Run.{CallIs}
 use Rattle.vm_model.specs.Synchronised.{ArePushed}
 use Rattle.pvm_core.specs.Keeping.{CopiesNothing}
 use Rattle.pvm_core.specs.Manager.{IsValid, Manager, forest_of, machine_by, machine_of, numbered, state_at}
-use Rattle.pvm_core.specs.Saving.{CopiesSaved, IsNotWrittenBack, IsPushed, IsWrittenBack, KeepsMachine, all_of, is_named}
+use Rattle.pvm_core.specs.Saving.{CopiesSaved, IsNotWrittenBack, IsWrittenBack, KeepsMachine, all_of, is_named}
 use Rattle.pvm_core.specs.contracts.pvm.Pvm.{the_view}
 use Rattle.pvm_core.proofs.Answering.Answered.{call_is, failed}
 use Rattle.pvm_core.proofs.Readiness.Copies.{range_copied}
@@ -44,7 +42,7 @@ use Rattle.pvm_core.proofs.Spanning.Transfers.{named_machine}
 use Rattle.local_cache.specs.Arena.{is_locked}
 use Rattle.pvm_core.proofs.Holding.Kept.{held_released}
 use Rattle.pvm_core.proofs.Holding.Loose.{unpinned_page, working_unpinned}
-use Rattle.pvm_core.proofs.Holding.Regions.{over_none}
+use Rattle.pvm_core.proofs.Holding.Actors.{over_none}
 use Rattle.pvm_core.proofs.pvm.Pvm.destroy.Goals as goal
 
 pub returns-in_default-clause-answers : goal.returns-in_default-clause-answers

@@ -9,7 +9,7 @@ use Rattle.local_cache.specs.Whole.{size_of}
 use Rattle.contexts.specs.Actors.{Actors, is_full}
 use Rattle.pvm_core.specs.Locks.{locks_over}
 use Rattle.pvm_core.specs.Placed.{AreRight}
-use Rattle.pvm_core.proofs.Holding.Regions.{over_made}
+use Rattle.pvm_core.proofs.Holding.Actors.{over_made}
 use Rattle.pvm_core.specs.Manager.{IsValid, Manager, caches_shown, forest_of, state_at}
 use Rattle.pvm_core.specs.contracts.pvm.Pvm.{the_view}
 use Rattle.pvm_core.proofs.Answering.Answered.{seated}

@@ -1,6 +1,5 @@
-use Rattle.std.proofs.Common.{◌≡◌, ◌⊎◌, ℕ, ◌++◌, ◌+◌, ◌≤◌, Bool, true, false, List, Option, Some, is_some, replicate, refl, sym, ap, subst, ◌∙◌, arith, inl, inr}
+use Rattle.std.proofs.Common.{◌≡◌, ◌≤◌, Some, refl, sym, ap, subst, ◌∙◌, inl, inr}
 use Rattle.std.specs.Prelude.{IfErr, OnOk, Ok, Err, Result}
-use Rattle.std.proofs.lemmas.List.{append-nil}
 use Rattle.std.proofs.lemmas.Result.{err_from_is_err_and}
 use Rattle.vm_ids.specs.Held.{segments_of}
 use Rattle.vm_ids.specs.declared.reply.Trouble.{Trouble}
@@ -11,12 +10,10 @@ use Rattle.local_cache.specs.Arena.{Arena, Room, table_of}
 use Rattle.local_cache.specs.Reading as arena
 use Rattle.local_cache.specs.Whole.{size_of}
 use Rattle.local_cache.proofs.Tables.Sizes.{sizes_same}
-use Rattle.segment_ops.specs.Ranges.{HasRange}
 use Rattle.pvm_core.specs.Keeping.{HasMoreRoom}
 use Rattle.pvm_core.specs.Manager.{IsValid, Manager, forest_of, machine_of}
 use Rattle.pvm_core.specs.Saving.{IsNotReady, IsReady, KeepsForest, KeepsMachine, NeedsNothing, is_named}
 use Rattle.pvm_core.specs.Writes.{IsNotGranted}
-use Rattle.pvm_core.proofs.Readiness.Denied.{denied_cases}
 use Rattle.pvm_core.proofs.Readiness.Granted.{granted_by, granted_forest, granted_machine, granted_sound, granted_valid, unnamed_of}
 use Rattle.pvm_core.proofs.Answering.Kept.{seen}
 use Rattle.pvm_core.proofs.Answering.Reaching.{reach_none, reach_quiet}

@@ -15,7 +15,7 @@ use Rattle.contexts.specs.Actors.{Actors, next_region, with_region}
 use Rattle.pvm_core.specs.Manager.{Manager, caches_shown, state_at, IsValid}
 use Rattle.pvm_core.specs.Locks.{locks_over}
 use Rattle.pvm_core.specs.Maps.{map_refusal}
-use Rattle.pvm_core.proofs.Holding.Regions.{over_mapped}
+use Rattle.pvm_core.proofs.Holding.Actors.{over_mapped}
 use Rattle.pvm_core.specs.Placed.{AreRight}
 use Rattle.pvm_core.specs.contracts.pvm.Pvm.{the_view}
 use Rattle.pvm_core.proofs.Answering.Answered.{seated}

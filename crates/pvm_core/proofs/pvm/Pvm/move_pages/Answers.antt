@@ -1,41 +1,38 @@
-use Rattle.std.proofs.Common.{◌≡◌, ◌≢◌, ℕ, ◌+◌, ◌*◌, ◌≤◌, Bool, true, false, List, [], Option, Some, None, is_some, length, refl, sym, ap, subst, ◌∙◌, arith}
-use Rattle.std.specs.Prelude.{◌||◌, IfErr, OnErr, Result, Ok, Err, option_and_then, unwrap_or}
+use Rattle.std.proofs.Common.{◌≡◌, false, List, [], Some, None, length, refl, sym, ap, subst, ◌∙◌, arith}
+use Rattle.std.specs.Prelude.{◌||◌, IfErr, OnErr, Result, Ok, Err, unwrap_or}
 use Rattle.std.proofs.lemmas.Result.{err_from_is_err_and}
 use Rattle.gmi_calls.specs.Calling.{RaisesMade, done_by}
 use Rattle.vm_ids.specs.Held.{Segments, segments_of}
 use Rattle.vm_ids.specs.declared.command.Command.TheVariants as commands
 use Rattle.vm_ids.specs.declared.command.Extent.{Extent}
 use Rattle.vm_ids.specs.declared.node_name.NodeName.{NodeName}
-use Rattle.vm_ids.specs.declared.refusal.Refusal.{Refusal}
 use Rattle.vm_ids.specs.declared.reply.Reply.TheVariants as replies
 use Rattle.vm_ids.specs.declared.reply.Trouble.{Trouble}
 use Rattle.vm_ids.specs.declared.reply.Trouble.TheVariants as troubles
-use Rattle.vm_ids.specs.Forest.Commands.{move_, extent_names, firsts, page_names, span_pairs}
+use Rattle.vm_ids.specs.Forest.Commands.{move_, span_pairs}
 use Rattle.vm_ids.specs.Forest.NameLists.{◌∈◌}
-use Rattle.vm_ids.specs.Forest.NameMap.{len}
-use Rattle.vm_ids.specs.Forest.Saving.{saved}
-use Rattle.local_cache.specs.Arena.{Arena, Table, table_of}
+use Rattle.local_cache.specs.Arena.{table_of}
 use Rattle.local_cache.specs.Whole.{size_of}
 use Rattle.local_cache.proofs.Nodes.Count.{forest_len}
-use Rattle.page_release.specs.Homes.{AreSaved, IsWritable}
+use Rattle.page_release.specs.Homes.{AreSaved}
 use Rattle.page_release.proofs.Tying.Tied.{tied_right}
 use Rattle.page_release.proofs.Walking.Ranges.{destination_names}
 use Rattle.segment_ops.specs.Ranges.{HasRange}
 use Rattle.vm_model.specs.Answering.{Answer, is_any_denied}
 use Rattle.vm_model.specs.Following.{forest_after}
-use Rattle.vm_model.specs.Machine.{Cache, Machine, cache_of}
+use Rattle.vm_model.specs.Machine.{Machine, cache_of}
 use Rattle.vm_model.specs.PageForest.{page_in, told}
 use Rattle.vm_model.specs.Outcome.{OutcomeAt}
 use Rattle.vm_model.specs.Run.{CallIs}
 use Rattle.pvm_core.specs.Keeping.{CopiesNothing, HasMoreRoom}
 use Rattle.pvm_core.specs.Manager.{IsValid, Manager, forest_of, machine_by, machine_of, numbered, state_at}
-use Rattle.pvm_core.specs.Saving.{CopiesSaved, IsNotReady, IsReady, KeepsMachine, NeedsNothing, RefusedOf, is_named}
+use Rattle.pvm_core.specs.Saving.{CopiesSaved, IsNotReady, IsReady, KeepsMachine, NeedsNothing, is_named}
 use Rattle.vm_ids.proofs.Forest.Laws.Ranges.{pairs_read_sources}
 use Rattle.pvm_core.specs.Locks.{any_locked}
 use Rattle.pvm_core.proofs.Holding.Counted.{any_same, same_locked}
 use Rattle.pvm_core.proofs.Holding.Kept.{held_released}
 use Rattle.pvm_core.proofs.Holding.Loose.{unpinned_names, working_unpinned}
-use Rattle.pvm_core.specs.Spans.{copy_refusal, move_refusal, read_from, replaced}
+use Rattle.pvm_core.specs.Spans.{move_refusal, read_from, replaced}
 use Rattle.pvm_core.specs.contracts.pvm.Pvm.{the_view}
 use Rattle.pvm_core.proofs.Answering.Answered.{call_is, failed}
 use Rattle.pvm_core.proofs.Answering.Changed.{changed_sound, slots_enough}
@@ -48,10 +45,9 @@ use Rattle.pvm_core.proofs.Readiness.Readying.{named_same}
 use Rattle.pvm_core.proofs.Spanning.Reserved.{can_copy}
 use Rattle.pvm_core.proofs.Answering.Rising.{rises_between}
 use Rattle.pvm_core.proofs.Meaning.Shown.{shown_size}
-use Rattle.pvm_core.proofs.Spanning.SpanRows.{IsOpen, copy_refused, is_movable, is_open, move_refused}
-use Rattle.pvm_core.proofs.Spanning.Spanned.{apart_of}
+use Rattle.pvm_core.proofs.Spanning.SpanRows.{IsOpen, is_movable, is_open, move_refused}
 use Rattle.pvm_core.proofs.Spanning.Transferring.{copies_nothing, failed_copied, failed_made, failed_refused, names_written, transfer_failed, undenied_range}
-use Rattle.pvm_core.proofs.Spanning.Transfers.{copied_outcome, copied_transfer, copied_valid, copy_follows, move_follows, moved_outcome, moved_transfer, moved_valid, named_machine, named_there}
+use Rattle.pvm_core.proofs.Spanning.Transfers.{move_follows, moved_outcome, moved_transfer, moved_valid, named_machine, named_there}
 use Rattle.pvm_core.proofs.pvm.Pvm.move_pages.Goals as goal
 
 pub returns-in-Some-clause-answers : goal.returns-in-Some-clause-answers

@@ -3,9 +3,8 @@ use Rattle.std.specs.Prelude.{Err, IfSome, List, option_map}
 use Rattle.std.specs.FinMap.{get, get-empty}
 use Rattle.std.specs.Ordering.{nat_cmp}
 use Rattle.vm_ids.specs.Counting.{no_counts}
-use Rattle.vm_ids.specs.Held.{Held, Segments, segments_in, segments_of}
+use Rattle.vm_ids.specs.Held.{Held}
 use Rattle.vm_ids.specs.declared.command.Command.TheVariants as commands
-use Rattle.vm_ids.specs.declared.refusal.Refusal.{Refusal}
 use Rattle.vm_ids.specs.declared.refusal.Refusal.TheVariants as refusals
 use Rattle.vm_ids.specs.declared.reply.FaultAt.TheVariants as faults
 use Rattle.vm_ids.specs.declared.reply.Reply.TheVariants as replies
@@ -13,11 +12,10 @@ use Rattle.vm_ids.specs.declared.reply.Trouble.TheVariants as troubles
 use Rattle.vm_model.specs.declared.limits.TheConstants.{MOST_MADE}
 use Rattle.vm_model.specs.Answering.{Answer, answer_by}
 use Rattle.vm_model.specs.Machine.{Page}
-use Rattle.vm_model.specs.Run.{AnswerIs, CallIs}
+use Rattle.vm_model.specs.Run.{AnswerIs}
 use Rattle.vm_model.specs.PageForest.{PageForest}
 use Rattle.pvm_core.specs.Manager.{IsValid, Manager, forest_of, machine_by, machine_of, state_at}
 use Rattle.pvm_core.proofs.Meaning.Shown.{shown_made}
-use Rattle.pvm_core.specs.Opening.{IsOpened}
 use Rattle.pvm_core.specs.contracts.pvm.Pvm.{the_view}
 use Rattle.pvm_core.proofs.Answering.Answered.{no_segments}
 use Rattle.pvm_core.proofs.Opening.Refused.{may_open, outcome_over, stayed}

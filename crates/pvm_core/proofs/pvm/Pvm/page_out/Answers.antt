@@ -1,5 +1,5 @@
-use Rattle.std.proofs.Common.{◌≡◌, ℕ, refl, sym, ap, subst, ◌∙◌, arith}
-use Rattle.std.specs.Prelude.{◌+◌, ◌-◌, length, min, OnOk, Result}
+use Rattle.std.proofs.Common.{◌≡◌, refl, sym, ap, subst, ◌∙◌}
+use Rattle.std.specs.Prelude.{◌+◌, length, min, OnOk, Result}
 use Rattle.frame_pool.specs.Pool.{held_count}
 use Rattle.residency.specs.Frames.{evictable_count}
 use Rattle.vm_ids.specs.declared.command.Command.TheVariants as commands

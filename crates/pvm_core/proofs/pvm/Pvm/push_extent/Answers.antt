@@ -1,12 +1,10 @@
-use Rattle.std.proofs.Common.{◌≡◌, ℕ, ◌+◌, Bool, true, false, None, Some, refl, sym, ap, subst, ◌∙◌}
+use Rattle.std.proofs.Common.{◌≡◌, ◌+◌, Bool, true, false, None, Some, refl, sym, ap, subst, ◌∙◌}
 use Rattle.std.specs.Prelude.{◌&&◌, OnOk, Err, IfErr, Result, option_map}
 use Rattle.vm_ids.specs.declared.command.Command.TheVariants as commands
 use Rattle.vm_ids.specs.declared.command.Extent.{Extent}
-use Rattle.vm_ids.specs.declared.numbers.PageNo.{PageNo}
 use Rattle.vm_ids.specs.declared.reply.Trouble.{Trouble}
 use Rattle.vm_ids.specs.declared.reply.Trouble.TheVariants as troubles
 use Rattle.local_cache.specs.Arena.{Arena, Table, table_of}
-use Rattle.segment_ops.specs.Ranges.{IsPageOf}
 use Rattle.segment_ops.specs.Synced.{AreSynced}
 use Rattle.residency.specs.World.{world}
 use Rattle.vm_model.specs.Answering.{Answer}
@@ -15,12 +13,11 @@ use Rattle.gmi_calls.specs.Calling.{done_by}
 use Rattle.pvm_core.specs.Extents.{extent_refusal}
 use Rattle.pvm_core.specs.Keeping.{SameMeaning}
 use Rattle.pvm_core.specs.Locks.{any_locked}
-use Rattle.pvm_core.specs.Manager.{IsValid, Manager, machine_by, state_at, world_of}
+use Rattle.pvm_core.specs.Manager.{IsValid, Manager, state_at}
 use Rattle.pvm_core.specs.contracts.pvm.Pvm.{the_view}
 use Rattle.pvm_core.proofs.Answering.Answered.{called}
 use Rattle.pvm_core.proofs.Extents.Push.{all_unsized, failing, failing_ok, flush_is, stop_unsized, sync_is}
 use Rattle.pvm_core.proofs.Extents.Rows.{extent_open, extent_unlocked, flush_refused, sync_refused}
-use Rattle.pvm_core.proofs.Extents.Synced.{synced_unsized}
 use Rattle.pvm_core.proofs.Answering.Kept.{kept_by, kept_forest, kept_machine, kept_sound, kept_valid, seen}
 use Rattle.pvm_core.proofs.Homes.Pushed.{values_reached}
 use Rattle.pvm_core.proofs.Answering.Reaching.{reach_none}

@@ -1,5 +1,5 @@
-use Rattle.std.proofs.Common.{◌≡◌, ℕ, Bool, true, false, Option, is_some, refl, sym, ap, subst, ◌∙◌}
-use Rattle.std.specs.Prelude.{IfErr, IsSome, OnOk, Ok, Err, Result, not}
+use Rattle.std.proofs.Common.{◌≡◌, ℕ, true, is_some, sym, ap, subst, ◌∙◌}
+use Rattle.std.specs.Prelude.{IfErr, IsSome, OnOk, Result, not}
 use Rattle.vm_ids.specs.Forest.Commands.{extent_names}
 use Rattle.vm_ids.specs.Forest.Saving.{saved, saves, unsaved}
 use Rattle.vm_ids.specs.declared.reply.Trouble.{Trouble}

@@ -5,7 +5,7 @@ use Rattle.vm_ids.specs.declared.reply.Reply.TheVariants as replies
 use Rattle.vm_model.specs.Answering.{answer_by}
 use Rattle.local_cache.specs.Whole.{size_of}
 use Rattle.contexts.specs.Actors.{Actors, split_refusal, with_split}
-use Rattle.pvm_core.specs.Manager.{IsValid, Manager, caches_shown, forest_of}
+use Rattle.pvm_core.specs.Manager.{Manager, caches_shown}
 use Rattle.pvm_core.specs.contracts.pvm.Pvm.{the_view}
 use Rattle.pvm_core.proofs.Acting.{acted, acted_valid, cut}
 use Rattle.pvm_core.proofs.Answering.Kept.{on_err, seated_same, seated_sound}

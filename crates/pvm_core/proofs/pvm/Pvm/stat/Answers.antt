@@ -21,7 +21,7 @@ use Rattle.pvm_core.proofs.pvm.Pvm.stat.Goals as goal
 -- a pinned frame is bound
 bound_or : (a b : Bool) → (b ≡ true → a ≡ true) → (a || b) ≡ a
 bound_or true b e = refl
-bound_or false true e = e refl
+bound_or false true e = sym (e refl)
 bound_or false false e = refl
 
 pub returns-clause-answers : goal.returns-clause-answers

@@ -1,9 +1,6 @@
-use Rattle.std.proofs.Common.{◌≡◌, length, subst, sym}
-use Rattle.std.specs.Prelude.{Result}
+use Rattle.std.proofs.Common.{length}
 use Rattle.vm_ids.specs.declared.command.Command.TheVariants as commands
-use Rattle.vm_ids.specs.declared.reply.RegionStatus.{RegionStatus}
 use Rattle.vm_ids.specs.declared.reply.Reply.TheVariants as replies
-use Rattle.vm_ids.specs.declared.reply.Trouble.{Trouble}
 use Rattle.vm_model.specs.Answering.{answer_by}
 use Rattle.pvm_core.specs.Manager.{caches_shown}
 use Rattle.pvm_core.proofs.Acting.{told, told_of}

@@ -1,13 +1,12 @@
-use Rattle.std.proofs.Common.{◌≡◌, ℕ, List, Option, ◌+◌, ◌<◌, ◌≤◌, Bool, true, false, None, Some, length, refl, sym, ap, subst, ◌∙◌, arith, inl, inr}
+use Rattle.std.proofs.Common.{◌≡◌, ℕ, List, Option, ◌+◌, ◌<◌, ◌≤◌, Bool, true, false, None, length, refl, sym, ap, subst, ◌∙◌, arith, inl, inr}
 use Rattle.std.specs.Prelude.{Result, Ok, Err, IfErr, not, option_map}
 use Rattle.std.proofs.lemmas.Result.{err_from_is_err_and}
 use Rattle.gmi_calls.specs.Calling.{RaisesMade, done_by}
 use Rattle.vm_ids.specs.Denying.{denies}
-use Rattle.vm_ids.specs.Held.{Segments, segments_in, segments_of}
+use Rattle.vm_ids.specs.Held.{segments_of}
 use Rattle.vm_ids.specs.declared.command.Command.TheVariants as commands
 use Rattle.vm_ids.specs.declared.command.Extent.{Extent}
 use Rattle.vm_ids.specs.declared.numbers.PageNo.{PageNo}
-use Rattle.vm_ids.specs.declared.refusal.Refusal.{Refusal}
 use Rattle.vm_ids.specs.declared.refusal.Refusal.TheVariants as refusals
 use Rattle.vm_ids.specs.declared.reply.FaultAt.{FaultAt}
 use Rattle.vm_ids.specs.declared.reply.FaultAt.TheVariants as faults
@@ -19,7 +18,6 @@ use Rattle.vm_ids.specs.Forest.Rules.{write}
 use Rattle.frame_pool.specs.Pool.{bytes_of, with_bytes}
 use Rattle.local_cache.specs.Arena.{Table, table_at, table_of}
 use Rattle.local_cache.specs.Whole.{size_of}
-use Rattle.residency.specs.Causes.{Traffic}
 use Rattle.residency.specs.declared.store.Store.{Store}
 use Rattle.residency.specs.StoreForest.{store_forest}
 use Rattle.residency.specs.World.{world}
@@ -36,7 +34,7 @@ use Rattle.pvm_core.specs.Pieces.{fault_at}
 use Rattle.pvm_core.specs.Writes.{IsNotGranted}
 use Rattle.pvm_core.proofs.Answering.Answered.{made_stays, call_is, call_later, failed, failed_at, no_segments}
 use Rattle.pvm_core.proofs.Readiness.Denied.{denied_cases, denied_there, told_denied, denies_one, one_denied}
-use Rattle.pvm_core.proofs.Readiness.Granted.{granted_forest, granted_machine, granted_sound, granted_state, granted_valid, granted_by, writable_node}
+use Rattle.pvm_core.proofs.Readiness.Granted.{granted_forest, granted_sound, granted_state, granted_valid, granted_by, writable_node}
 use Rattle.pvm_core.proofs.Homes.Full.{full_after}
 use Rattle.pvm_core.proofs.Homes.Homed.{reached}
 use Rattle.pvm_core.proofs.Answering.Kept.{kept_by, kept_forest, kept_sound, kept_valid, seen, sizeless, unsized_right}
@@ -45,7 +43,7 @@ use Rattle.pvm_core.proofs.Accesses.Loading.{sized_table}
 use Rattle.pvm_core.proofs.Answering.Reaching.{reach_denied, reach_none, reach_quiet, reach_told}
 use Rattle.pvm_core.proofs.Homes.Sized.{sized_after}
 use Rattle.pvm_core.proofs.Accesses.Storing.{store_denied, store_protected, store_refused, stored_forest}
-use Rattle.pvm_core.proofs.Accesses.Stored.{kept_copies, access_fault, bytes_right, bytes_sound, copied_most, denied_by, dirty_here, named_in, not_saved, store_fault, stored, undenied, undenied_blank, whole_stored}
+use Rattle.pvm_core.proofs.Accesses.Stored.{kept_copies, access_fault, bytes_right, bytes_sound, copied_most, dirty_here, named_in, not_saved, store_fault, stored, undenied, undenied_blank, whole_stored}
 use Rattle.pvm_core.proofs.Meaning.Values.{followed_of}
 use Rattle.pvm_core.proofs.pvm.Pvm.store.Goals as goal
 

@@ -1,4 +1,4 @@
-use Rattle.std.proofs.Common.{◌≡◌, true, length, refl, sym, subst, ap, ◌∙◌}
+use Rattle.std.proofs.Common.{◌≡◌, true, length, sym, subst, ap, ◌∙◌}
 use Rattle.std.specs.Prelude.{Ok, Err, is_some}
 use Rattle.vm_ids.specs.declared.command.Command.TheVariants as commands
 use Rattle.vm_ids.specs.declared.refusal.Refusal.TheVariants as refusals
@@ -15,7 +15,7 @@ use Rattle.pvm_core.specs.Placed.{AreRight}
 use Rattle.pvm_core.proofs.Acting.{acted, acted_valid, told, unmapped}
 use Rattle.pvm_core.proofs.Answering.Kept.{seated_sound}
 use Rattle.pvm_core.proofs.Answering.Listed.{locked_told, machine_with, right_without, unmap_locked, unmap_none, unmap_row}
-use Rattle.pvm_core.proofs.Holding.Regions.{over_unmapped}
+use Rattle.pvm_core.proofs.Holding.Actors.{over_unmapped}
 use Rattle.pvm_core.proofs.pvm.Pvm.unmap.Goals as goal
 
 pub returns-in_default-clause-answers : goal.returns-in_default-clause-answers
@@ -26,13 +26,13 @@ returns-in_default-clause-answers c = λ h v.
     (λ f g k. unmap_none (caches_shown f 1 i.caches.caches) (length i.store.frames.held) i.contexts n
     (sym (told_some n 1 i.contexts.actors) ∙ ap is_some (sym c.status.ensures ∙ c.in_default.is)))
 
-pub returns-then-status-locked-clause-answers : goal.returns-then-status-locked-clause-answers
-returns-then-status-locked-clause-answers c = λ h v.
+pub returns-then-status-clause-answers : goal.returns-then-status-clause-answers
+returns-then-status-clause-answers c = λ h v.
     let i = c.self.inside in
     let n = c.args.region.0 in
     let r = locked_told n 1 i.contexts.actors c.in-Some.status (sym c.status.ensures ∙ c.in-Some.is) in
     told i.caches i.store i.contexts _ c.self.view_is h v (commands.Unmap c.args.region) (unmapped c.args.region) (Err (troubles.Refused refusals.Locked)) c.self.invariant.nodes
-    (λ f g k. unmap_locked (caches_shown f 1 i.caches.caches) (length i.store.frames.held) i.contexts n r.0 r.1 (r.2 ∙ c.if-status-locked.true))
+    (λ f g k. unmap_locked (caches_shown f 1 i.caches.caches) (length i.store.frames.held) i.contexts n r.0 r.1 (r.2 ∙ c.if-status.true))
 
 pub invariant_of-self : goal.invariant_of-self
 invariant_of-self c =
@@ -45,7 +45,7 @@ invariant_of-self c =
     let gone = c.unmap.ensures.gone (c.unmap.ensures.found ∙ there) in
     seated_sound i.caches i.store t u i.live (ap (λ (t : Actors). t.page_bytes) gone)
     (subst (AreRight (size_of i.caches)) (sym gone) (right_without (size_of i.caches) n t c.self.invariant.actors))
-    (λ cache page. ap (λ (w : Actors). locks_over w.actors cache page) gone ∙ over_unmapped cache page n r.0 t.actors c.unmap.ensures.once r.1 (r.2 ∙ c.if-status-locked.false))
+    (λ cache page. ap (λ (w : Actors). locks_over w.actors cache page) gone ∙ over_unmapped cache page n r.0 t.actors c.unmap.ensures.once r.1 (r.2 ∙ c.if-status.false))
     c.self.invariant
 
 pub returns-clause-valid : goal.returns-clause-valid
@@ -68,4 +68,4 @@ returns-clause-answers c = λ h v.
     (ap (λ (w : Actors). w.page_bytes) gone)
     (λ f g k. let caches = caches_shown f 1 i.caches.caches in
     let frames = length i.store.frames.held in
-    unmap_row caches frames t n r.0 r.1 (r.2 ∙ c.if-status-locked.false) ∙ ap (λ (w : Actors). reply replies.Done (machine_with caches frames w)) (sym gone))
+    unmap_row caches frames t n r.0 r.1 (r.2 ∙ c.if-status.false) ∙ ap (λ (w : Actors). reply replies.Done (machine_with caches frames w)) (sym gone))

@@ -1,6 +1,5 @@
-use Rattle.std.proofs.Common.{◌≡◌, ℕ, ◌+◌, ◌≤◌, Bool, true, false, Some, None, is_some, refl, sym, ap, subst, ◌∙◌, arith}
-use Rattle.std.specs.Prelude.{IfErr, OnOk, Ok, Err, Result, not, option_map}
-use Rattle.vm_ids.specs.declared.reply.Trouble.{Trouble}
+use Rattle.std.proofs.Common.{◌≡◌, ◌+◌, true, false, Some, is_some, sym, ap, subst, ◌∙◌, arith}
+use Rattle.std.specs.Prelude.{IfErr, OnOk, not, option_map}
 use Rattle.vm_ids.specs.Forest.Commands.{extent_names}
 use Rattle.vm_ids.specs.Forest.Saving.{saved}
 use Rattle.local_cache.specs.Arena.{Table}
