@@ -1,15 +1,13 @@
 -- Lock, unlock and the end of an actor: what the manager keeps, and what it answers.
-use Rattle.std.proofs.Common.{◌≡◌, ℕ, zero, suc, ◌+◌, ◌-◌, ◌*◌, ◌<◌, ◌≤◌, ◌^◌, Bool, true, false, List, [], ◌∷◌, length, Option, Some, None, is_some, refl, sym, ap, ◌∙◌, subst, arith}
-use Rattle.std.specs.Prelude.{IfSome, IsSomeAnd, Result, Ok, Err, count_by, min, nat_lt, option_map, slice_get, sum_by, unwrap_or}
-use Rattle.std.specs.List.{All}
+use Rattle.std.proofs.Common.{◌≡◌, ℕ, ◌+◌, ◌-◌, ◌*◌, ◌<◌, ◌≤◌, ◌^◌, true, false, List, [], ◌∷◌, length, Option, Some, None, refl, sym, ap, ◌∙◌, subst, arith}
+use Rattle.std.specs.Prelude.{IsSomeAnd, Ok, Err, min, nat_lt, unwrap_or}
 use Rattle.std.specs.Option.{option_map_or}
 use Rattle.std.proofs.lemmas.Bool.{ltb-false}
 use Rattle.std.proofs.lemmas.List.Sums.{count_by-le-length, sum_by-cons}
-use Rattle.vm_ids.specs.Counting.{MapperCounts, Rose, no_counts}
-use Rattle.vm_ids.specs.Held.{Held, Segments, segments_of}
+use Rattle.vm_ids.specs.Counting.{MapperCounts, Rose}
+use Rattle.vm_ids.specs.Held.{Held, Segments}
 use Rattle.vm_ids.specs.declared.command.Command.TheVariants as commands
 use Rattle.vm_ids.specs.declared.command.Extent.{Extent}
-use Rattle.vm_ids.specs.declared.numbers.PageNo.{PageNo}
 use Rattle.vm_ids.specs.declared.numbers.RegionId.{RegionId}
 use Rattle.vm_ids.specs.declared.reply.FaultAt.TheVariants as faults
 use Rattle.vm_ids.specs.declared.reply.Reply.TheVariants as replies
@@ -22,23 +20,21 @@ use Rattle.local_cache.proofs.Changes.Locked.{locked_count_stays}
 use Rattle.segment_ops.specs.Ranges.{HasRange}
 use Rattle.segment_ops.proofs.Unsaved.{range_fits}
 use Rattle.residency.specs.declared.store.Store.{Store}
-use Rattle.residency.specs.StoreForest.{store_forest}
-use Rattle.residency.specs.World.{World, world}
-use Rattle.vm_model.specs.Answering.{Answer, Answered, answer_of, lock_of, passes_lock_limit, reply}
+use Rattle.residency.specs.World.{world}
+use Rattle.vm_model.specs.Answering.{Answer, Answered, lock_of, reply}
 use Rattle.vm_model.specs.Asking.{pages_of_region}
-use Rattle.vm_model.specs.Following.{forest_after, pages_locked, pages_passed, pages_under}
+use Rattle.vm_model.specs.Following.{pages_locked, pages_passed, pages_under}
 use Rattle.vm_model.specs.Machine as model
 use Rattle.vm_model.specs.Machine.{Machine, Region, locks}
 use Rattle.vm_model.specs.Outcome.{IsPageUnder, NotRefusedButFor, Outcome}
-use Rattle.vm_model.specs.PageForest.{PageForest, forest_shown}
+use Rattle.vm_model.specs.PageForest.{PageForest}
 use Rattle.vm_model.specs.Regions.{region_with}
 use Rattle.vm_model.specs.Run.{CallIs}
 use Rattle.vm_model.specs.declared.limits.TheConstants.{MOST_MADE, UNLOCKED_FRAMES}
 use Rattle.contexts.specs.Actors.{Actors, region_count, regions_among}
-use Rattle.pvm_core.specs.Holding.{AreOwned, FailedToHold, HoldsLocked, LocksMore, ReadsAlike, SameLocks, covers, unlocked_in}
+use Rattle.pvm_core.specs.Holding.{AreOwned, FailedToHold, HoldsLocked, LocksMore, ReadsAlike, covers, unlocked_in}
 use Rattle.pvm_core.specs.Locks.{AreHeld, locks_by, locks_over}
 use Rattle.pvm_core.specs.Manager.{IsSound, IsValid, Manager, caches_shown, forest_of, machine_by, machine_of, numbered, state_at}
-use Rattle.pvm_core.specs.Placed.{AreRight}
 use Rattle.pvm_core.proofs.Answering.Answered.{call_is, no_segments, outcome_at}
 use Rattle.pvm_core.proofs.Answering.Kept.{seen, sizeless}
 use Rattle.pvm_core.proofs.Answering.Listed.{machine_with}

@@ -1,21 +1,19 @@
 -- A manager whose pages read as they did, and whose locks hold the pages of other actors.
-use Rattle.std.proofs.Common.{◌≡◌, ℕ, zero, suc, ◌+◌, ◌≤◌, Bool, List, [], ◌∷◌, get_or, length, Option, Some, None, is_some, refl, sym, ap, ◌∙◌, subst, arith}
+use Rattle.std.proofs.Common.{◌≡◌, ℕ, zero, suc, ◌+◌, ◌≤◌, List, [], ◌∷◌, length, Option, Some, None, refl, sym, ap, ◌∙◌, subst, arith}
 use Rattle.std.specs.Prelude.{IfSome, option_map}
 use Rattle.vm_ids.specs.Counting.{MapperCounts}
 use Rattle.vm_ids.specs.Held.{Held}
 use Rattle.vm_ids.specs.declared.node_name.NodeName.{NodeName}
-use Rattle.vm_ids.specs.declared.numbers.NodeId.{NodeId}
 use Rattle.vm_ids.specs.Forest.Commands.{page_name}
 use Rattle.vm_ids.specs.Forest.Nodes.{IsNode}
 use Rattle.vm_ids.specs.Forest.Reading.{value_of}
 use Rattle.vm_ids.proofs.Forest.Agreeing.{bounded_from, live_count-le, working_count-le}
-use Rattle.local_cache.specs.Arena.{Arena, Table, find, table_at}
+use Rattle.local_cache.specs.Arena.{Arena, Table}
 use Rattle.local_cache.specs.Reading as arena
 use Rattle.local_cache.specs.Reading.{name_of}
 use Rattle.local_cache.proofs.Forest.Reading.{IsNode-forest_of, forest_of-IsNode}
 use Rattle.residency.specs.declared.store.Store.{Store}
-use Rattle.residency.specs.StoreForest.{store_forest}
-use Rattle.residency.specs.World.{World, world}
+use Rattle.residency.specs.World.{world}
 use Rattle.vm_model.specs.Machine as model
 use Rattle.vm_model.specs.Machine.{Machine}
 use Rattle.vm_model.specs.Outcome.{HasWholePages}
@@ -23,7 +21,7 @@ use Rattle.vm_model.specs.PageForest.{PageForest}
 use Rattle.contexts.specs.Actors.{Actors}
 use Rattle.pvm_core.specs.Holding.{HoldsLocked, ReadsAlike}
 use Rattle.pvm_core.specs.Locks.{AreHeld, locks_over}
-use Rattle.pvm_core.specs.Manager.{AreFull, IsSound, IsValid, Manager, cache_shown, caches_shown, forest_of, machine_by, machine_of, pages_shown, shown}
+use Rattle.pvm_core.specs.Manager.{AreFull, IsSound, IsValid, cache_shown, caches_shown, forest_of, machine_by, machine_of, pages_shown, shown}
 use Rattle.pvm_core.specs.Placed.{AreRight}
 use Rattle.pvm_core.specs.Reaching.{Reach}
 use Rattle.local_cache.specs.Arena.{locked_count, locks_of}

@@ -1,5 +1,5 @@
 -- Locks go: after a region was unlocked, and after an actor ended.
-use Rattle.std.proofs.Common.{◌≡◌, ℕ, ◌+◌, ◌-◌, ◌<◌, ◌≤◌, Bool, true, false, List, [], length, Option, Some, None, refl, sym, ap, ◌∙◌, subst, arith}
+use Rattle.std.proofs.Common.{◌≡◌, ℕ, ◌+◌, ◌-◌, ◌<◌, ◌≤◌, true, false, [], length, Option, Some, None, refl, sym, ap, ◌∙◌, arith}
 use Rattle.std.specs.Prelude.{Ok, count_by, is_some, option_map, slice_set}
 use Rattle.std.proofs.lemmas.Option.{get_or_from_slice_get, slice_get_within}
 use Rattle.vm_ids.specs.Counting.{no_counts}
@@ -13,24 +13,24 @@ use Rattle.vm_ids.proofs.Places.{bit}
 use Rattle.local_cache.specs.Arena.{Arena, locks_of}
 use Rattle.local_cache.specs.Whole.{size_of}
 use Rattle.residency.specs.declared.store.Store.{Store}
-use Rattle.residency.specs.World.{IsStoreRight, world}
+use Rattle.residency.specs.World.{world}
 use Rattle.vm_model.specs.Answering.{answer_of, reply}
 use Rattle.vm_model.specs.Asking.{ReachesMapper}
 use Rattle.vm_model.specs.Following.{followed}
 use Rattle.vm_model.specs.Machine as model
 use Rattle.vm_model.specs.Machine.{Region, locks}
-use Rattle.vm_model.specs.PageForest.{PageForest, forest_shown}
+use Rattle.vm_model.specs.PageForest.{PageForest}
 use Rattle.vm_model.specs.Regions.{region_with}
 use Rattle.vm_model.specs.Run.{AnswerIs}
 use Rattle.vm_model.specs.Synchronised.{IsSynchronised}
 use Rattle.vm_model.proofs.Parts.Lists.{at_number}
 use Rattle.contexts.specs.Actors.{Actors}
-use Rattle.pvm_core.specs.Holding.{HoldsLocked, KeepsPages, LocksMore, ReadsAlike, covers}
+use Rattle.pvm_core.specs.Holding.{HoldsLocked, KeepsPages, LocksMore, ReadsAlike}
 use Rattle.pvm_core.specs.Locks.{AreHeld, locks_over}
-use Rattle.pvm_core.specs.Manager.{IsSound, IsValid, Manager, caches_shown, forest_of, machine_of, numbered, state_at}
+use Rattle.pvm_core.specs.Manager.{IsSound, IsValid, caches_shown, forest_of, machine_of, numbered, state_at}
 use Rattle.pvm_core.specs.Placed.{ArePlaced, AreRight, IsPlaced}
 use Rattle.pvm_core.proofs.Answering.Answered.{answered}
-use Rattle.pvm_core.proofs.Answering.Kept.{seen, sizeless}
+use Rattle.pvm_core.proofs.Answering.Kept.{seen}
 use Rattle.pvm_core.proofs.Answering.Listed.{machine_with}
 use Rattle.pvm_core.proofs.Locking.Covered.{gone_over}
 use Rattle.pvm_core.proofs.Locking.Ends.{ends_by, ends_sound, ends_valid, held_of}

@@ -1,10 +1,9 @@
 -- The regions of an actor, one after the other.
-use Rattle.std.proofs.Common.{◌≡◌, ℕ, zero, suc, ◌+◌, ◌-◌, ◌<◌, ◌≤◌, Bool, true, false, ◌&&◌, ◌==◌, List, [], ◌∷◌, count_by, get_or, length, take, Option, Some, None, option_map, slice_get, refl, sym, ap, ◌∙◌, arith, subst}
+use Rattle.std.proofs.Common.{◌≡◌, ℕ, zero, suc, ◌+◌, ◌<◌, ◌≤◌, Bool, true, false, ◌&&◌, ◌==◌, List, [], ◌∷◌, count_by, take, Option, Some, None, option_map, slice_get, refl, ap, ◌∙◌, arith, subst}
 use Rattle.std.specs.Prelude.{nat_le, nat_lt}
 use Rattle.std.specs.List.{All}
 use Rattle.std.proofs.lemmas.List.Elements.{All-head, All-tail}
 use Rattle.std.proofs.lemmas.List.Sums.{sum_by-cons}
-use Rattle.vm_ids.specs.declared.command.Extent.{Extent}
 use Rattle.vm_ids.proofs.Places.{bit}
 use Rattle.vm_model.specs.Machine.{Actor, Region, locks}
 use Rattle.regions.specs.AddressSpace.{view_of}

@@ -1,5 +1,5 @@
-use Rattle.std.proofs.Common.{◌≡◌, ℕ, ◌+◌, ◌-◌, ◌≤◌, [], length, Option, Some, None, refl, sym, ap, subst, ◌∙◌, arith}
-use Rattle.std.specs.Prelude.{Ok, Err, is_some, option_map}
+use Rattle.std.proofs.Common.{◌≡◌, ◌+◌, ◌≤◌, [], length, Some, refl, sym, ap, subst, arith}
+use Rattle.std.specs.Prelude.{Ok, Err, is_some}
 use Rattle.vm_ids.specs.Counting.{no_counts}
 use Rattle.vm_ids.specs.declared.command.Command.TheVariants as commands
 use Rattle.vm_ids.specs.declared.refusal.Refusal.TheVariants as refusals
@@ -86,5 +86,5 @@ returns-clause-made c = λ h valid.
     let here : actor_numbered t.actors actor ≡ Some c.in-Some.regions.now.regions = mapped_is _ c.regions.result c.in-Some.regions _ c.regions.ensures.regions c.in-Some.is in
     let v = subst (λ (p : Manager). IsValid p h) (sym c.self.view_is) valid in
     let same = gone_numbered i.caches n.caches i.store n.store e.pages e.held t (without_actor actor t) i.live c.self.invariant refl (right_without_actor (size_of i.caches) actor t c.self.invariant.actors)
-        (ended_counts i.caches n.caches t actor c.in-Some.regions.now.regions here c.self.invariant.locked.counted e.locks) (λ cache page. omega (arith, e.locks cache page)) h v in
+    (ended_counts i.caches n.caches t actor c.in-Some.regions.now.regions here c.self.invariant.locked.counted e.locks) (λ cache page. omega (arith, e.locks cache page)) h v in
     subst (λ (p : Manager). numbered (seen n.caches n.store c.exit.new.self) ≤ numbered p + 0 + 8) c.self.view_is (omega (arith, same))

@@ -1,9 +1,7 @@
-use Rattle.std.proofs.Common.{◌≡◌, ℕ, ◌+◌, ◌-◌, ◌*◌, ◌<◌, ◌≤◌, ◌^◌, Bool, true, false, length, Option, refl, sym, ap, subst, ◌∙◌, arith}
+use Rattle.std.proofs.Common.{◌≡◌, ◌+◌, ◌-◌, ◌*◌, ◌<◌, ◌≤◌, ◌^◌, true, false, length, refl, sym, ap, subst, ◌∙◌, arith}
 use Rattle.std.specs.Prelude.{Ok, Err, is_some, nat_lt}
 use Rattle.vm_ids.specs.Counting.{MapperCounts}
-use Rattle.vm_ids.specs.Held.{Held}
 use Rattle.vm_ids.specs.declared.command.Command.TheVariants as commands
-use Rattle.vm_ids.specs.declared.command.Extent.{Extent}
 use Rattle.vm_ids.specs.declared.command.Mapping.{Mapping}
 use Rattle.vm_ids.specs.declared.refusal.Refusal.TheVariants as refusals
 use Rattle.vm_ids.specs.declared.reply.FaultAt.TheVariants as faults
@@ -14,7 +12,7 @@ use Rattle.vm_model.specs.Answering.{Answer}
 use Rattle.vm_model.specs.Asking.{pages_of_region}
 use Rattle.vm_model.specs.Run.{CallIs}
 use Rattle.vm_model.specs.declared.limits.TheConstants.{UNLOCKED_FRAMES}
-use Rattle.local_cache.specs.Arena.{locked_count, locks_of}
+use Rattle.local_cache.specs.Arena.{locked_count}
 use Rattle.local_cache.specs.Whole.{size_of}
 use Rattle.local_cache.proofs.Tables.Sizes.{sizes_same}
 use Rattle.residency.specs.World.{World, world}
@@ -28,7 +26,7 @@ use Rattle.pvm_core.proofs.Answering.Kept.{seen}
 use Rattle.pvm_core.proofs.Answering.Reaching.{reach_none}
 use Rattle.pvm_core.proofs.Locking.Calls.{fault_call, fault_numbered, fault_sound, fault_valid, few_locks, lock_call, lock_numbered, lock_sound, lock_valid, region_few}
 use Rattle.pvm_core.proofs.Locking.Covered.{placed_with}
-use Rattle.pvm_core.proofs.Locking.Limit.{limit_is, pages_of, with_locked}
+use Rattle.pvm_core.proofs.Locking.Limit.{limit_is, pages_of}
 use Rattle.pvm_core.proofs.Locking.Regions.{placed_range}
 use Rattle.pvm_core.proofs.Locking.Rows.{lock_limit, lock_locked, lock_none, told_of, untold_of}
 use Rattle.pvm_core.proofs.pvm.Pvm.lock.Goals as goal
@@ -73,7 +71,7 @@ returns-then-passes_limit-clause-answers g c =
     let r = told_of c.args.region.0 i.contexts c.in-Some.status (sym c.status.ensures ∙ c.in-Some.is) in
     let free = sym r.locked ∙ c.if-status.false in
     let high : nat_lt (length i.store.frames.held - UNLOCKED_FRAMES) (locked_count i.caches + unlocked_in i.caches (pages_of r.region)) ≡ true =
-        ap (λ (m : Mapping). nat_lt (length i.store.frames.held - UNLOCKED_FRAMES) (locked_count i.caches + unlocked_in i.caches m.extent)) (sym r.mapping) ∙ sym c.passes_limit.ensures ∙ c.if-passes_limit.true in
+    ap (λ (m : Mapping). nat_lt (length i.store.frames.held - UNLOCKED_FRAMES) (locked_count i.caches + unlocked_in i.caches m.extent)) (sym r.mapping) ∙ sym c.passes_limit.ensures ∙ c.if-passes_limit.true in
     let answer : Answer = Err (troubles.Refused refusals.LockLimit) in
     subst (λ (p : Manager). CallIs counts counts (state_at p h) (commands.Lock c.args.region) answer (state_at p h)) c.self.view_is
     (failed counts counts p p h h (commands.Lock c.args.region) answer (reach_none (machine_of p h) h counts) c.self.invariant.nodes c.self.invariant.nodes (subst (λ (p : Manager). IsValid p h) (sym c.self.view_is) c.requires.valid) refl refl tt tt
@@ -116,7 +114,7 @@ invariant_of-self g c =
     let r = told_of c.args.region.0 t c.in-Some.status (sym c.status.ensures ∙ c.in-Some.is) in
     let free = sym r.locked ∙ c.if-status.false in
     let low : nat_lt (length i.store.frames.held - UNLOCKED_FRAMES) (locked_count i.caches + unlocked_in i.caches (pages_of r.region)) ≡ false =
-        ap (λ (m : Mapping). nat_lt (length i.store.frames.held - UNLOCKED_FRAMES) (locked_count i.caches + unlocked_in i.caches m.extent)) (sym r.mapping) ∙ sym c.passes_limit.ensures ∙ c.if-passes_limit.false in
+    ap (λ (m : Mapping). nat_lt (length i.store.frames.held - UNLOCKED_FRAMES) (locked_count i.caches + unlocked_in i.caches m.extent)) (sym r.mapping) ∙ sym c.passes_limit.ensures ∙ c.if-passes_limit.false in
     let e = c.in-Err.ensures in
     let failed_at : FailedToHold (pages_of r.region) c.in-Err.page.0 old new = subst (λ (m : Mapping). FailedToHold m.extent c.in-Err.page.0 old new) r.mapping e.failed in
     fault_sound i.caches n.caches i.store n.store h k size now before after e.alike t i.live c.self.invariant c.args.region r.region r.found free low c.in-Err.page.0 e.held failed_at
@@ -137,7 +135,7 @@ returns-in-Err-clause-valid g c =
     let r = told_of c.args.region.0 t c.in-Some.status (sym c.status.ensures ∙ c.in-Some.is) in
     let free = sym r.locked ∙ c.if-status.false in
     let low : nat_lt (length i.store.frames.held - UNLOCKED_FRAMES) (locked_count i.caches + unlocked_in i.caches (pages_of r.region)) ≡ false =
-        ap (λ (m : Mapping). nat_lt (length i.store.frames.held - UNLOCKED_FRAMES) (locked_count i.caches + unlocked_in i.caches m.extent)) (sym r.mapping) ∙ sym c.passes_limit.ensures ∙ c.if-passes_limit.false in
+    ap (λ (m : Mapping). nat_lt (length i.store.frames.held - UNLOCKED_FRAMES) (locked_count i.caches + unlocked_in i.caches m.extent)) (sym r.mapping) ∙ sym c.passes_limit.ensures ∙ c.if-passes_limit.false in
     let e = c.in-Err.ensures in
     let failed_at : FailedToHold (pages_of r.region) c.in-Err.page.0 old new = subst (λ (m : Mapping). FailedToHold m.extent c.in-Err.page.0 old new) r.mapping e.failed in
     let v = subst (λ (p : Manager). IsValid p h) (sym c.self.view_is) c.requires.valid in
@@ -159,7 +157,7 @@ returns-in-Err-clause-answers g c =
     let r = told_of c.args.region.0 t c.in-Some.status (sym c.status.ensures ∙ c.in-Some.is) in
     let free = sym r.locked ∙ c.if-status.false in
     let low : nat_lt (length i.store.frames.held - UNLOCKED_FRAMES) (locked_count i.caches + unlocked_in i.caches (pages_of r.region)) ≡ false =
-        ap (λ (m : Mapping). nat_lt (length i.store.frames.held - UNLOCKED_FRAMES) (locked_count i.caches + unlocked_in i.caches m.extent)) (sym r.mapping) ∙ sym c.passes_limit.ensures ∙ c.if-passes_limit.false in
+    ap (λ (m : Mapping). nat_lt (length i.store.frames.held - UNLOCKED_FRAMES) (locked_count i.caches + unlocked_in i.caches m.extent)) (sym r.mapping) ∙ sym c.passes_limit.ensures ∙ c.if-passes_limit.false in
     let e = c.in-Err.ensures in
     let failed_at : FailedToHold (pages_of r.region) c.in-Err.page.0 old new = subst (λ (m : Mapping). FailedToHold m.extent c.in-Err.page.0 old new) r.mapping e.failed in
     let v = subst (λ (p : Manager). IsValid p h) (sym c.self.view_is) c.requires.valid in
@@ -182,7 +180,7 @@ returns-in-Err-clause-made g c =
     let r = told_of c.args.region.0 t c.in-Some.status (sym c.status.ensures ∙ c.in-Some.is) in
     let free = sym r.locked ∙ c.if-status.false in
     let low : nat_lt (length i.store.frames.held - UNLOCKED_FRAMES) (locked_count i.caches + unlocked_in i.caches (pages_of r.region)) ≡ false =
-        ap (λ (m : Mapping). nat_lt (length i.store.frames.held - UNLOCKED_FRAMES) (locked_count i.caches + unlocked_in i.caches m.extent)) (sym r.mapping) ∙ sym c.passes_limit.ensures ∙ c.if-passes_limit.false in
+    ap (λ (m : Mapping). nat_lt (length i.store.frames.held - UNLOCKED_FRAMES) (locked_count i.caches + unlocked_in i.caches m.extent)) (sym r.mapping) ∙ sym c.passes_limit.ensures ∙ c.if-passes_limit.false in
     let e = c.in-Err.ensures in
     let failed_at : FailedToHold (pages_of r.region) c.in-Err.page.0 old new = subst (λ (m : Mapping). FailedToHold m.extent c.in-Err.page.0 old new) r.mapping e.failed in
     subst (λ (p : Manager). numbered (seen n.caches n.store t) ≤ numbered p + 8 * pages_of_region (machine_of p h) c.args.region.0 + 8) c.self.view_is
@@ -204,7 +202,7 @@ invariant_of-self-2 g c =
     let r = told_of c.args.region.0 t c.in-Some.status (sym c.status.ensures ∙ c.in-Some.is) in
     let free = sym r.locked ∙ c.if-status.false in
     let low : nat_lt (length i.store.frames.held - UNLOCKED_FRAMES) (locked_count i.caches + unlocked_in i.caches (pages_of r.region)) ≡ false =
-        ap (λ (m : Mapping). nat_lt (length i.store.frames.held - UNLOCKED_FRAMES) (locked_count i.caches + unlocked_in i.caches m.extent)) (sym r.mapping) ∙ sym c.passes_limit.ensures ∙ c.if-passes_limit.false in
+    ap (λ (m : Mapping). nat_lt (length i.store.frames.held - UNLOCKED_FRAMES) (locked_count i.caches + unlocked_in i.caches m.extent)) (sym r.mapping) ∙ sym c.passes_limit.ensures ∙ c.if-passes_limit.false in
     let e = c.in-Ok.ensures in
     let more = subst (λ (m : Mapping). LocksMore m.extent i.caches n.caches) r.mapping e.locks in
     let owned : AreOwned (extent_names (pages_of r.region)) old new = subst (λ (m : Mapping). AreOwned (extent_names m.extent) old new) r.mapping e.owned in
@@ -227,7 +225,7 @@ returns-clause-valid g c =
     let r = told_of c.args.region.0 t c.in-Some.status (sym c.status.ensures ∙ c.in-Some.is) in
     let free = sym r.locked ∙ c.if-status.false in
     let low : nat_lt (length i.store.frames.held - UNLOCKED_FRAMES) (locked_count i.caches + unlocked_in i.caches (pages_of r.region)) ≡ false =
-        ap (λ (m : Mapping). nat_lt (length i.store.frames.held - UNLOCKED_FRAMES) (locked_count i.caches + unlocked_in i.caches m.extent)) (sym r.mapping) ∙ sym c.passes_limit.ensures ∙ c.if-passes_limit.false in
+    ap (λ (m : Mapping). nat_lt (length i.store.frames.held - UNLOCKED_FRAMES) (locked_count i.caches + unlocked_in i.caches m.extent)) (sym r.mapping) ∙ sym c.passes_limit.ensures ∙ c.if-passes_limit.false in
     let e = c.in-Ok.ensures in
     let more = subst (λ (m : Mapping). LocksMore m.extent i.caches n.caches) r.mapping e.locks in
     let owned : AreOwned (extent_names (pages_of r.region)) old new = subst (λ (m : Mapping). AreOwned (extent_names m.extent) old new) r.mapping e.owned in
@@ -251,7 +249,7 @@ returns-clause-answers g c =
     let r = told_of c.args.region.0 t c.in-Some.status (sym c.status.ensures ∙ c.in-Some.is) in
     let free = sym r.locked ∙ c.if-status.false in
     let low : nat_lt (length i.store.frames.held - UNLOCKED_FRAMES) (locked_count i.caches + unlocked_in i.caches (pages_of r.region)) ≡ false =
-        ap (λ (m : Mapping). nat_lt (length i.store.frames.held - UNLOCKED_FRAMES) (locked_count i.caches + unlocked_in i.caches m.extent)) (sym r.mapping) ∙ sym c.passes_limit.ensures ∙ c.if-passes_limit.false in
+    ap (λ (m : Mapping). nat_lt (length i.store.frames.held - UNLOCKED_FRAMES) (locked_count i.caches + unlocked_in i.caches m.extent)) (sym r.mapping) ∙ sym c.passes_limit.ensures ∙ c.if-passes_limit.false in
     let e = c.in-Ok.ensures in
     let more = subst (λ (m : Mapping). LocksMore m.extent i.caches n.caches) r.mapping e.locks in
     let owned : AreOwned (extent_names (pages_of r.region)) old new = subst (λ (m : Mapping). AreOwned (extent_names m.extent) old new) r.mapping e.owned in
@@ -277,7 +275,7 @@ returns-clause-made g c =
     let r = told_of c.args.region.0 t c.in-Some.status (sym c.status.ensures ∙ c.in-Some.is) in
     let free = sym r.locked ∙ c.if-status.false in
     let low : nat_lt (length i.store.frames.held - UNLOCKED_FRAMES) (locked_count i.caches + unlocked_in i.caches (pages_of r.region)) ≡ false =
-        ap (λ (m : Mapping). nat_lt (length i.store.frames.held - UNLOCKED_FRAMES) (locked_count i.caches + unlocked_in i.caches m.extent)) (sym r.mapping) ∙ sym c.passes_limit.ensures ∙ c.if-passes_limit.false in
+    ap (λ (m : Mapping). nat_lt (length i.store.frames.held - UNLOCKED_FRAMES) (locked_count i.caches + unlocked_in i.caches m.extent)) (sym r.mapping) ∙ sym c.passes_limit.ensures ∙ c.if-passes_limit.false in
     let e = c.in-Ok.ensures in
     let more = subst (λ (m : Mapping). LocksMore m.extent i.caches n.caches) r.mapping e.locks in
     let owned : AreOwned (extent_names (pages_of r.region)) old new = subst (λ (m : Mapping). AreOwned (extent_names m.extent) old new) r.mapping e.owned in

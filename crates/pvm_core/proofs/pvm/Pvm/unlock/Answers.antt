@@ -1,4 +1,4 @@
-use Rattle.std.proofs.Common.{◌≡◌, ℕ, ◌+◌, ◌<◌, ◌≤◌, true, false, [], length, Option, refl, sym, ap, subst, ◌∙◌, arith}
+use Rattle.std.proofs.Common.{ℕ, ◌+◌, ◌<◌, ◌≤◌, false, [], length, refl, sym, ap, subst, ◌∙◌, arith}
 use Rattle.std.specs.Prelude.{Ok, Err, is_some}
 use Rattle.std.proofs.lemmas.Bool.{not-false, not-true}
 use Rattle.vm_ids.specs.Counting.{no_counts}
@@ -115,5 +115,5 @@ returns-clause-made c = λ h valid.
     let less = subst (λ (m : Mapping). LocksMore m.extent n.caches i.caches) r.mapping e.locks in
     let v = subst (λ (p : Manager). IsValid p h) (sym c.self.view_is) valid in
     let same = gone_numbered i.caches n.caches i.store n.store e.pages e.held t (with_locked region false t) i.live c.self.invariant refl (right_with_locked (size_of i.caches) region false r.region t r.found c.self.invariant.actors)
-        (unlocked_counts i.caches n.caches t region r.region r.found locked c.self.invariant.locked.counted less) (λ cache page. omega (arith, less cache page)) h v in
+    (unlocked_counts i.caches n.caches t region r.region r.found locked c.self.invariant.locked.counted less) (λ cache page. omega (arith, less cache page)) h v in
     subst (λ (p : Manager). numbered (seen n.caches n.store c.set_locked.new.self) ≤ numbered p + 0 + 8) c.self.view_is (omega (arith, same))
