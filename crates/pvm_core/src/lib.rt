@@ -9,7 +9,6 @@
 #![tactic(auto)]
 
 mod gmi;
-
 mod locks;
 mod maps;
 mod nodes;

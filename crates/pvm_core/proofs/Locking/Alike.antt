@@ -1,12 +1,11 @@
 -- What reads alike from one moment to the next.
-use Rattle.std.proofs.Common.{◌≡◌, ℕ, ◌≤◌, length, Option, is_some, refl, sym, ap, ◌∙◌, arith}
+use Rattle.std.proofs.Common.{◌≡◌, length, is_some, refl, ap, ◌∙◌, arith}
 use Rattle.vm_ids.specs.Counting.{MapperCounts}
-use Rattle.vm_ids.specs.Held.{Held, segments_of}
+use Rattle.vm_ids.specs.Held.{segments_of}
 use Rattle.vm_ids.specs.declared.node_name.NodeName.{NodeName}
 use Rattle.vm_ids.specs.declared.numbers.NodeId.{NodeId}
-use Rattle.vm_ids.specs.Forest.Nodes.{Forest}
 use Rattle.vm_ids.specs.Forest.Reading.{value_of}
-use Rattle.local_cache.specs.Arena.{Arena, find}
+use Rattle.local_cache.specs.Arena.{find}
 use Rattle.local_cache.specs.Reading.{name_of}
 use Rattle.local_cache.specs.Whole.{IsWhole, SameCaches}
 use Rattle.local_cache.proofs.Names.Homes.{home_kept}

@@ -1,15 +1,13 @@
 -- Lock, unlock and the end of an actor: what the manager keeps, and what it answers.
-use Rattle.std.proofs.Common.{◌≡◌, ℕ, zero, suc, ◌+◌, ◌-◌, ◌*◌, ◌<◌, ◌≤◌, ◌^◌, Bool, true, false, List, [], ◌∷◌, length, Option, Some, None, is_some, refl, sym, ap, ◌∙◌, subst, arith}
-use Rattle.std.specs.Prelude.{IfSome, IsSomeAnd, Result, Ok, Err, count_by, min, nat_lt, option_map, slice_get, sum_by, unwrap_or}
-use Rattle.std.specs.List.{All}
+use Rattle.std.proofs.Common.{◌≡◌, ℕ, ◌+◌, ◌-◌, ◌*◌, ◌<◌, ◌≤◌, ◌^◌, true, false, List, [], ◌∷◌, length, Option, Some, None, refl, sym, ap, ◌∙◌, subst, arith}
+use Rattle.std.specs.Prelude.{IsSomeAnd, Ok, Err, min, nat_lt, unwrap_or}
 use Rattle.std.specs.Option.{option_map_or}
 use Rattle.std.proofs.lemmas.Bool.{ltb-false}
 use Rattle.std.proofs.lemmas.List.Sums.{count_by-le-length, sum_by-cons}
-use Rattle.vm_ids.specs.Counting.{MapperCounts, Rose, no_counts}
-use Rattle.vm_ids.specs.Held.{Held, Segments, segments_of}
+use Rattle.vm_ids.specs.Counting.{MapperCounts, Rose}
+use Rattle.vm_ids.specs.Held.{Held, Segments}
 use Rattle.vm_ids.specs.declared.command.Command.TheVariants as commands
 use Rattle.vm_ids.specs.declared.command.Extent.{Extent}
-use Rattle.vm_ids.specs.declared.numbers.PageNo.{PageNo}
 use Rattle.vm_ids.specs.declared.numbers.RegionId.{RegionId}
 use Rattle.vm_ids.specs.declared.reply.FaultAt.TheVariants as faults
 use Rattle.vm_ids.specs.declared.reply.Reply.TheVariants as replies
@@ -17,25 +15,26 @@ use Rattle.vm_ids.specs.declared.reply.Trouble.TheVariants as troubles
 use Rattle.vm_ids.specs.Forest.Commands.{extent_names, lock, page_names}
 use Rattle.vm_ids.proofs.Places.{bit}
 use Rattle.local_cache.specs.Arena.{Arena, locked_count, locks_of}
-use Rattle.local_cache.specs.Whole.{size_of}
+use Rattle.local_cache.specs.Whole.{IsWhole, size_of}
+use Rattle.local_cache.proofs.Changes.Locked.{locked_count_stays}
+use Rattle.segment_ops.specs.Ranges.{HasRange}
+use Rattle.segment_ops.proofs.Unsaved.{range_fits}
 use Rattle.residency.specs.declared.store.Store.{Store}
-use Rattle.residency.specs.StoreForest.{store_forest}
-use Rattle.residency.specs.World.{World, world}
-use Rattle.vm_model.specs.Answering.{Answer, answer_of, passes_lock_limit, reply}
+use Rattle.residency.specs.World.{world}
+use Rattle.vm_model.specs.Answering.{Answer, Answered, lock_of, reply}
 use Rattle.vm_model.specs.Asking.{pages_of_region}
-use Rattle.vm_model.specs.Following.{forest_after, pages_locked, pages_passed}
+use Rattle.vm_model.specs.Following.{pages_locked, pages_passed, pages_under}
 use Rattle.vm_model.specs.Machine as model
 use Rattle.vm_model.specs.Machine.{Machine, Region, locks}
-use Rattle.vm_model.specs.Outcome.{Outcome}
-use Rattle.vm_model.specs.PageForest.{PageForest, forest_shown}
+use Rattle.vm_model.specs.Outcome.{IsPageUnder, NotRefusedButFor, Outcome}
+use Rattle.vm_model.specs.PageForest.{PageForest}
 use Rattle.vm_model.specs.Regions.{region_with}
 use Rattle.vm_model.specs.Run.{CallIs}
 use Rattle.vm_model.specs.declared.limits.TheConstants.{MOST_MADE, UNLOCKED_FRAMES}
 use Rattle.contexts.specs.Actors.{Actors, region_count, regions_among}
-use Rattle.pvm_core.specs.Holding.{AreOwned, FailedToHold, HoldsLocked, LocksMore, ReadsAlike, SameLocks, covers, unlocked_in}
+use Rattle.pvm_core.specs.Holding.{AreOwned, FailedToHold, HoldsLocked, LocksMore, ReadsAlike, covers, unlocked_in}
 use Rattle.pvm_core.specs.Locks.{AreHeld, locks_by, locks_over}
 use Rattle.pvm_core.specs.Manager.{IsSound, IsValid, Manager, caches_shown, forest_of, machine_by, machine_of, numbered, state_at}
-use Rattle.pvm_core.specs.Placed.{AreRight}
 use Rattle.pvm_core.proofs.Answering.Answered.{call_is, no_segments, outcome_at}
 use Rattle.pvm_core.proofs.Answering.Kept.{seen, sizeless}
 use Rattle.pvm_core.proofs.Answering.Listed.{machine_with}
@@ -70,12 +69,12 @@ module _ (a b : Arena) (s u : Store) (h g : Option Held) (i j : Option ℕ) (c d
   after = with_locked region.0 true t
 
   -- all is well for the row
-  row : (f : PageForest) → Rattle.vm_model.specs.Answering.lock_of (machine_with (caches_shown f 1 a.caches) (length s.frames.held) t) region.0 ≡ reply replies.Done (machine_with (caches_shown f 1 a.caches) (length s.frames.held) (with_locked region.0 true t))
+  row : (f : PageForest) → lock_of (machine_with (caches_shown f 1 a.caches) (length s.frames.held) t) region.0 ≡ reply replies.Done (machine_with (caches_shown f 1 a.caches) (length s.frames.held) (with_locked region.0 true t))
   row f = lock_row (caches_shown f 1 a.caches) (length s.frames.held) t region.0 r found free (limit_is a t sound.locked.counted sound.actors region.0 r found free f (length s.frames.held) ∙ low)
 
   -- the pages that the region covers
   pub lock_names : pages_locked (machine_of (seen a s t) h) region.0 ≡ extent_names (pages_of r)
-  lock_names = ap (λ (o : Option Region). option_map_or (λ (r : Region). Rattle.vm_model.specs.Following.pages_under r.pages r) o []) found
+  lock_names = ap (λ (o : Option Region). option_map_or (λ (r : Region). pages_under r.pages r) o []) found
 
   size_is : min r.pages (model.pages_in (model.cache_of (machine_of (seen a s t) h) r.cache)) ≡ r.pages
   size_is =
@@ -120,7 +119,7 @@ module _ (a b : Arena) (s u : Store) (h g : Option Held) (i j : Option ℕ) (c d
   module _ (page : ℕ) (holds : HoldsLocked b u) (failed : FailedToHold (pages_of r) page (world h i a s) (world g j b u)) where
     held_still : AreHeld b u t.actors
     held_still = held_of b u t.actors (λ cache k. failed.locks cache k ∙ sound.locked.counted cache k) holds
-        (omega (arith, Rattle.local_cache.proofs.Changes.Locked.locked_count_stays a b failed.locks, sound.locked.few, alike.frames))
+        (omega (arith, locked_count_stays a b failed.locks, sound.locked.few, alike.frames))
 
     pub fault_sound : IsSound b u t live
     fault_sound = ends_sound a b s u h g i j c d alike t live sound t refl sound.actors held_still
@@ -130,18 +129,18 @@ module _ (a b : Arena) (s u : Store) (h g : Option Held) (i j : Option ℕ) (c d
 
     passed : pages_passed (machine_of (seen a s t) h) (commands.Lock region) page ≡ page_names (pages_of r).cache r.offset failed.before
     passed =
-        ap (λ (o : Option Region). option_map_or (λ (r : Region). Rattle.vm_model.specs.Following.pages_under (page - r.offset) r) o []) found
+        ap (λ (o : Option Region). option_map_or (λ (r : Region). pages_under (page - r.offset) r) o []) found
         ∙ ap (page_names (pages_of r).cache r.offset) (let e : page - r.offset ≡ failed.before = omega (arith, failed.passed) in e)
 
     fault_forest : forest_of (seen b u t) g ≡ lock (pages_passed (machine_of (seen a s t) h) (commands.Lock region) page) (forest_of (seen a s t) h)
     fault_forest = sym (sizeless g j b u) ∙ failed.owned ∙ ap (lock (page_names (pages_of r).cache r.offset failed.before)) (sizeless h i a s) ∙ ap (λ xs. lock xs (forest_of (seen a s t) h)) (sym passed)
 
-    under : (f : PageForest) → Rattle.vm_model.specs.Outcome.IsPageUnder (machine_with (caches_shown f 1 a.caches) (length s.frames.held) t) region.0 page
+    under : (f : PageForest) → IsPageUnder (machine_with (caches_shown f 1 a.caches) (length s.frames.held) t) region.0 page
     under f = subst (λ (o : Option Region). IsSomeAnd o (λ (r : Region). (r.offset ≤ page) × (page < r.offset + r.pages))) (sym found) failed.stop
 
     fault_outcome : (f : PageForest) (k : Segments) (rises : MapperCounts) → 0 < rises.faults → (next : Machine) → next ≡ machine_with (caches_shown f 1 a.caches) (length s.frames.held) t
         → Outcome (machine_with (caches_shown f 1 a.caches) (length s.frames.held) t) (Some (forest_of (seen a s t) h)) (commands.Lock region) k (Err (troubles.Mapper (faults.Page (record { 0 = page })))) next rises
-    fault_outcome f k rises rose next same = (same, rose, under f, subst (λ (x : Rattle.vm_model.specs.Answering.Answered). Rattle.vm_model.specs.Outcome.NotRefusedButFor (faults.Page (record { 0 = page })) x.answer) (sym (row f)) tt)
+    fault_outcome f k rises rose next same = (same, rose, under f, subst (λ (x : Answered). NotRefusedButFor (faults.Page (record { 0 = page })) x.answer) (sym (row f)) tt)
 
     pub fault_call : Rose c.faults d.faults → IsValid (seen a s t) h → CallIs c d (state_at (seen a s t) h) (commands.Lock region) (Err (troubles.Mapper (faults.Page (record { 0 = page })))) (state_at (seen b u t) g)
     fault_call cause v =
@@ -157,3 +156,10 @@ module _ (a b : Arena) (s u : Store) (h g : Option Held) (i j : Option ℕ) (c d
 
     pub fault_numbered : numbered (seen b u t) ≤ numbered (seen a s t) + 8 * pages_of_region (machine_of (seen a s t) h) region.0 + 8
     fault_numbered = omega (arith, alike.made, owned_few (world h i a s) (world g j b u) (pages_of r).cache (pages_of r).first.0 failed.before failed.owned, touched, failed.passed, failed.stop.1)
+
+-- where no more regions were made than may be, one lock more can be counted
+pub few_locks : (a : Arena) (t : Actors) → ((cache page : ℕ) → locks_of a cache page ≡ locks_over t.actors cache page) → (made : ℕ) → region_count t.actors ≤ made → made ≤ MOST_MADE → (cache page : ℕ) → locks_of a cache page + 1 < 2 ^ 32
+few_locks a t counted made living most cache page = omega (arith, counted cache page, over_few cache page t.actors, living, most)
+
+pub region_few : (a : Arena) → IsWhole a → (e : Extent) → HasRange a e → e.pages < 2 ^ 32
+region_few a whole e range = omega (arith, range_fits a whole e range)

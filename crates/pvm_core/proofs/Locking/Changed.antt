@@ -1,15 +1,13 @@
 -- A page has other locks, or a frame that has a node is pinned or not: the store is right still, and each page reads as it did.
-use Rattle.std.proofs.Common.{◌≡◌, ℕ, ◌≤◌, Bool, true, false, ◌||◌, List, length, count_by, Option, Some, None, is_some, refl, sym, ap, ◌∙◌, subst, arith}
+use Rattle.std.proofs.Common.{◌≡◌, ℕ, Bool, false, ◌||◌, List, length, count_by, Option, Some, None, is_some, refl, sym, ap, ◌∙◌, subst, arith}
 use Rattle.std.specs.Prelude.{option_map, option_and_then}
 use Rattle.std.specs.List.{slice_index_or}
-use Rattle.vm_ids.specs.Counting.{MapperCounts}
 use Rattle.vm_ids.specs.Held.{Held, slot_of}
 use Rattle.vm_ids.specs.declared.node_name.NodeName.{NodeName}
 use Rattle.vm_ids.specs.declared.node_name.NodeName.TheVariants.{Live, Working}
 use Rattle.vm_ids.specs.declared.numbers.NodeId.{NodeId}
 use Rattle.vm_ids.specs.Forest.Nodes.{node}
 use Rattle.vm_ids.specs.Forest.PageMap.{bare}
-use Rattle.vm_ids.specs.Forest.Reading.{value_of}
 use Rattle.vm_ids.proofs.Places.{bit}
 use Rattle.frame_pool.specs.Pool.{is_pinned}
 use Rattle.global_map.specs.Pairs.{node_of}
@@ -24,15 +22,14 @@ use Rattle.local_cache.specs.Whole.{IsWhole}
 use Rattle.local_cache.proofs.Changes.Locked.{locked_cell, locked_forest, locked_grants, locked_sound}
 use Rattle.local_cache.proofs.Forest.ReadingBy.{lifted}
 use Rattle.local_cache.proofs.Names.Homes.{home-with_locks}
-use Rattle.local_cache.proofs.Tables.Sizes.{sizes_locked, sizes_same}
+use Rattle.local_cache.proofs.Tables.Sizes.{sizes_locked}
 use Rattle.local_cache.proofs.Whole.Pages.{whole_same}
 use Rattle.residency.specs.declared.store.Store.{Store}
 use Rattle.residency.specs.StoreForest.{store_forest}
 use Rattle.residency.specs.World.{IsStoreRight, World, frame_page, home_page, is_clean, is_name_granted, own_page, page_at, page_by, world, zero_page}
 use Rattle.residency.proofs.Worlds.Telling.{tells}
 use Rattle.fault_path.proofs.Calls.Kept.{store_bare, store_page}
-use Rattle.segment_ops.proofs.Values.{values_none}
-use Rattle.pvm_core.specs.Holding.{KeepsPages, ReadsAlike}
+use Rattle.pvm_core.specs.Holding.{KeepsPages}
 use Rattle.pvm_core.proofs.Locking.Alike.{alike_still}
 
 -- A page has other locks ----------------------------------------------------------------------

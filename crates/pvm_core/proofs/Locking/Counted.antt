@@ -1,5 +1,5 @@
 -- How many pages are locked: by the tables of the caches, and by the regions of the machine.
-use Rattle.std.proofs.Common.{◌≡◌, ℕ, zero, suc, ◌+◌, ◌<◌, ◌≤◌, Bool, true, false, List, [], ◌∷◌, get_or, length, count_by, sum_by, Option, Some, None, option_map, unwrap_or, slice_get, refl, sym, ap, ◌∙◌, arith}
+use Rattle.std.proofs.Common.{◌≡◌, ℕ, zero, suc, ◌+◌, ◌<◌, ◌≤◌, Bool, false, List, [], ◌∷◌, get_or, length, count_by, sum_by, Option, Some, None, option_map, unwrap_or, slice_get, refl, sym, ap, ◌∙◌, arith}
 use Rattle.std.specs.Prelude.{option_and_then}
 use Rattle.std.specs.List.{All, range_with_len}
 use Rattle.std.proofs.lemmas.List.Sums.{sum_by-cons}
@@ -26,13 +26,24 @@ range_counted g zero k xs same out = sym (none_locked xs (λ i. out i (omega ari
 range_counted g (suc n) k [] same out =
     let here : k + 0 ≡ k = omega arith in
     let next : (i : ℕ) → k + 1 + i ≡ k + suc i = λ i. omega arith in
-    omega (arith, sum_by-cons (λ y. bit (g y)) k (range_with_len (k + 1) n), ap (λ j. bit (g j)) here, ap bit (same 0 (omega arith)),
-    range_counted g n (k + 1) [] (λ i less. ap g (next i) ∙ same (suc i) (omega arith)) (λ i past. refl))
+    omega (
+      arith,
+      sum_by-cons (λ y. bit (g y)) k (range_with_len (k + 1) n),
+      ap (λ j. bit (g j)) here,
+      ap bit (same 0 (omega arith)),
+      range_counted g n (k + 1) [] (λ i less. ap g (next i) ∙ same (suc i) (omega arith)) (λ i past. refl),
+    )
 range_counted g (suc n) k (x ∷ xs) same out =
     let here : k + 0 ≡ k = omega arith in
     let next : (i : ℕ) → k + 1 + i ≡ k + suc i = λ i. omega arith in
-    omega (arith, sum_by-cons (λ y. bit (g y)) k (range_with_len (k + 1) n), sum_by-cons (λ y. bit (is_locked y)) x xs, ap (λ j. bit (g j)) here, ap bit (same 0 (omega arith)),
-    range_counted g n (k + 1) xs (λ i less. ap g (next i) ∙ same (suc i) (omega arith)) (λ i past. out (suc i) (omega arith)))
+    omega (
+      arith,
+      sum_by-cons (λ y. bit (g y)) k (range_with_len (k + 1) n),
+      sum_by-cons (λ y. bit (is_locked y)) x xs,
+      ap (λ j. bit (g j)) here,
+      ap bit (same 0 (omega arith)),
+      range_counted g n (k + 1) xs (λ i less. ap g (next i) ∙ same (suc i) (omega arith)) (λ i past. out (suc i) (omega arith)),
+    )
 
 -- the sum over the numbers of a range is that over a list
 pub range_summed : {X : Type 0} (g : ℕ → ℕ) (f : Option X → ℕ) (xs : List (Option X)) (k : ℕ) → ((i : ℕ) → g (k + i) ≡ f (get_or xs i None)) → sum_by g (range_with_len k (length xs)) ≡ sum_by f xs

@@ -1,21 +1,19 @@
 -- A manager whose pages read as they did, and whose locks hold the pages of other actors.
-use Rattle.std.proofs.Common.{◌≡◌, ℕ, suc, ◌+◌, ◌≤◌, Bool, List, [], ◌∷◌, get_or, length, Option, Some, None, is_some, refl, sym, ap, ◌∙◌, subst, arith}
+use Rattle.std.proofs.Common.{◌≡◌, ℕ, zero, suc, ◌+◌, ◌≤◌, List, [], ◌∷◌, length, Option, Some, None, refl, sym, ap, ◌∙◌, subst, arith}
 use Rattle.std.specs.Prelude.{IfSome, option_map}
 use Rattle.vm_ids.specs.Counting.{MapperCounts}
 use Rattle.vm_ids.specs.Held.{Held}
 use Rattle.vm_ids.specs.declared.node_name.NodeName.{NodeName}
-use Rattle.vm_ids.specs.declared.numbers.NodeId.{NodeId}
 use Rattle.vm_ids.specs.Forest.Commands.{page_name}
 use Rattle.vm_ids.specs.Forest.Nodes.{IsNode}
 use Rattle.vm_ids.specs.Forest.Reading.{value_of}
 use Rattle.vm_ids.proofs.Forest.Agreeing.{bounded_from, live_count-le, working_count-le}
-use Rattle.local_cache.specs.Arena.{Arena, Table, find, table_at}
+use Rattle.local_cache.specs.Arena.{Arena, Table}
 use Rattle.local_cache.specs.Reading as arena
 use Rattle.local_cache.specs.Reading.{name_of}
 use Rattle.local_cache.proofs.Forest.Reading.{IsNode-forest_of, forest_of-IsNode}
 use Rattle.residency.specs.declared.store.Store.{Store}
-use Rattle.residency.specs.StoreForest.{store_forest}
-use Rattle.residency.specs.World.{World, world}
+use Rattle.residency.specs.World.{world}
 use Rattle.vm_model.specs.Machine as model
 use Rattle.vm_model.specs.Machine.{Machine}
 use Rattle.vm_model.specs.Outcome.{HasWholePages}
@@ -23,7 +21,7 @@ use Rattle.vm_model.specs.PageForest.{PageForest}
 use Rattle.contexts.specs.Actors.{Actors}
 use Rattle.pvm_core.specs.Holding.{HoldsLocked, ReadsAlike}
 use Rattle.pvm_core.specs.Locks.{AreHeld, locks_over}
-use Rattle.pvm_core.specs.Manager.{IsSound, IsValid, Manager, cache_shown, caches_shown, forest_of, machine_by, machine_of, pages_shown, shown}
+use Rattle.pvm_core.specs.Manager.{AreFull, IsSound, IsValid, cache_shown, caches_shown, forest_of, machine_by, machine_of, pages_shown, shown}
 use Rattle.pvm_core.specs.Placed.{AreRight}
 use Rattle.pvm_core.specs.Reaching.{Reach}
 use Rattle.local_cache.specs.Arena.{locked_count, locks_of}
@@ -46,7 +44,7 @@ module _ (f g : PageForest) (values : (x : NodeName) → value_of g x ≡ value_
   pages_alike cache page n = go page n
     where
       go : (page n : ℕ) → pages_shown g cache page n ≡ pages_shown f cache page n
-      go page 0 = refl
+      go page zero = refl
       go page (suc n) = λ i. shown (values (page_name (id_of cache) page) i) ∷ go (page + 1) n i
 
   cache_alike : (cache : ℕ) (o : Option Table) → option_map (cache_shown g cache) o ≡ option_map (cache_shown f cache) o
@@ -118,8 +116,8 @@ module _ (a b : Arena) (s u : Store) (h g : Option Held) (i j : Option ℕ) (c d
     whole = subst (λ (m : Machine). IfSome g (λ _. HasWholePages m)) (sym (ends_machine x)) (whole_by x.page_bytes page (as_told (HasWholePages (machine_of (seen a s t) h)) h g (reach_told (machine_of (seen a s t) h) h g c d ends_reach) v.whole));
   }
     where
-      full_by : (n : ℕ) → n ≡ t.page_bytes → Rattle.pvm_core.specs.Manager.AreFull b t.page_bytes g → Rattle.pvm_core.specs.Manager.AreFull b n g
-      full_by n e full = subst (λ k. Rattle.pvm_core.specs.Manager.AreFull b k g) (sym e) full
+      full_by : (n : ℕ) → n ≡ t.page_bytes → AreFull b t.page_bytes g → AreFull b n g
+      full_by n e full = subst (λ k. AreFull b k g) (sym e) full
 
       whole_by : (n : ℕ) → n ≡ t.page_bytes → IfSome g (λ _. HasWholePages (machine_of (seen a s t) h)) → IfSome g (λ _. HasWholePages (machine_with (caches_shown (forest_of (seen a s t) h) 1 a.caches) (length s.frames.held) (record x { page_bytes = n })))
       whole_by n e w = subst (λ k. IfSome g (λ _. HasWholePages (machine_with (caches_shown (forest_of (seen a s t) h) 1 a.caches) (length s.frames.held) (record x { page_bytes = k })))) (sym e) (any_actors g w)

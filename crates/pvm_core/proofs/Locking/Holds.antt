@@ -1,5 +1,5 @@
 -- Locked pages stay in pinned frames: where a fault comes, and where one page has other locks.
-use Rattle.std.proofs.Common.{◌≡◌, ◌≢◌, ℕ, ◌+◌, ◌<◌, ◌≤◌, Bool, true, false, List, length, count_by, Option, Some, None, refl, sym, ap, ◌∙◌, subst, arith, inl, inr}
+use Rattle.std.proofs.Common.{◌≡◌, ◌≢◌, ℕ, ◌+◌, Bool, true, false, List, count_by, Option, Some, None, refl, sym, ap, ◌∙◌, subst, arith, inl, inr}
 use Rattle.std.specs.List.{slice_index_or}
 use Rattle.std.specs.Option.{option_map_or}
 use Rattle.std.proofs.lemmas.Bool.{cases_eq}
@@ -10,11 +10,11 @@ use Rattle.vm_ids.specs.declared.numbers.NodeId.{NodeId}
 use Rattle.vm_ids.proofs.Places.{bit}
 use Rattle.frame_pool.specs.Pool.{is_pinned, pinned_count}
 use Rattle.global_map.specs.Pairs.{frame_of, node_of}
-use Rattle.local_cache.specs.Arena.{Arena, HasNode, Table, is_locked, locked_count, locks_of, node_at, with_locks}
+use Rattle.local_cache.specs.Arena.{Arena, Table, is_locked, locks_of, node_at, with_locks}
 use Rattle.local_cache.specs.Own.{is_resident, own_of}
 use Rattle.local_cache.specs.Reading.{name_of}
 use Rattle.local_cache.specs.Sound.{IsSound}
-use Rattle.local_cache.proofs.Changes.Locked.{locked_count_set, locked_count_stays, locked_other, locked_sound, locks-same}
+use Rattle.local_cache.proofs.Changes.Locked.{locked_count_set, locked_count_stays, locked_other, locks-same}
 use Rattle.residency.specs.declared.store.Store.{Store}
 use Rattle.residency.specs.World.{IsStoreRight, world}
 use Rattle.fault_path.specs.Faults.{Kept}

@@ -6,7 +6,7 @@ use Rattle.std.proofs.lemmas.Bool.{cases_lt}
 use Rattle.std.proofs.lemmas.List.Elements.{All-cons, All-nil}
 use Rattle.vm_ids.specs.declared.command.Extent.{Extent}
 use Rattle.vm_ids.proofs.Places.{bit}
-use Rattle.local_cache.specs.Arena.{Arena, Table, locked_count, locks_of, table_at, table_of}
+use Rattle.local_cache.specs.Arena.{Arena, Table, locked_count, locks_of, table_of}
 use Rattle.local_cache.specs.Whole.{size_of}
 use Rattle.vm_model.specs.Answering.{passes_lock_limit}
 use Rattle.vm_model.specs.Machine as model
@@ -24,7 +24,7 @@ use Rattle.pvm_core.proofs.Answering.Listed.{machine_with}
 use Rattle.pvm_core.proofs.Locking.Counted.{count_at, pages_counted}
 use Rattle.pvm_core.proofs.Locking.Covered.{as_locked, over_out, replaced_over}
 use Rattle.pvm_core.proofs.Locking.Extents.{locked_more}
-use Rattle.pvm_core.proofs.Meaning.Shown.{numbered-caches, shown_made, shown_size}
+use Rattle.pvm_core.proofs.Meaning.Shown.{shown_made, shown_size}
 
 -- Tables with other locks ---------------------------------------------------------------------
 

@@ -1,10 +1,8 @@
 -- One page is owned, locked and let go; and one after the other.
-use Rattle.std.proofs.Common.{◌≡◌, ◌≢◌, ℕ, zero, suc, ◌+◌, ◌-◌, ◌<◌, ◌≤◌, Bool, true, false, cond, List, [], ◌∷◌, get_or, length, length-set, set, count_by, Option, Some, None, is_none, is_some, refl, sym, ap, ◌∙◌, subst, arith, inl, inr}
+use Rattle.std.proofs.Common.{◌≡◌, ℕ, zero, suc, ◌+◌, ◌-◌, ◌<◌, ◌≤◌, Bool, true, false, cond, [], ◌∷◌, length, length-set, set, Option, Some, None, is_none, is_some, refl, sym, ap, ◌∙◌, subst, arith, inl, inr}
 use Rattle.std.specs.Prelude.{IsSome, MatchOption, option_and_then, OnOk, Result, Ok, Err}
-use Rattle.std.specs.List.{slice_index_or}
 use Rattle.std.proofs.lemmas.Bool.{cases_eq}
 use Rattle.std.proofs.lemmas.List.{get_or-set_other, get_or-set_same, set-get_or}
-use Rattle.vm_ids.specs.Held.{Held}
 use Rattle.vm_ids.specs.declared.numbers.CacheId.{CacheId}
 use Rattle.vm_ids.specs.declared.numbers.NodeId.{NodeId}
 use Rattle.vm_ids.specs.declared.numbers.PageNo.{PageNo}
@@ -18,7 +16,7 @@ use Rattle.vm_ids.specs.Forest.Shape.{IsWellShaped}
 use Rattle.vm_ids.proofs.Forest.Counters.{own-copies}
 use Rattle.vm_ids.proofs.Forest.Laws.Commands.{lock_keeps_values}
 use Rattle.vm_ids.proofs.Places.{bit, count-set}
-use Rattle.frame_pool.specs.Pool.{is_pinned, pinned_count}
+use Rattle.frame_pool.specs.Pool.{is_pinned}
 use Rattle.global_map.specs.Pairs.{node_of}
 use Rattle.local_cache.specs.declared.own_state.OwnState.TheVariants.{Absent}
 use Rattle.local_cache.specs.declared.page_table.PageEntry.{PageEntry}
@@ -27,19 +25,19 @@ use Rattle.local_cache.specs.Own.{is_absent, own_of}
 use Rattle.local_cache.specs.Reading.{forest_of, name_of}
 use Rattle.local_cache.specs.Sound.{IsSound}
 use Rattle.local_cache.specs.Whole.{IsWhole}
-use Rattle.local_cache.proofs.Changes.Locked.{locked_other, locked_sound}
+use Rattle.local_cache.proofs.Changes.Locked.{locked_other}
 use Rattle.local_cache.proofs.Changes.Retabled.{changed_entry}
 use Rattle.local_cache.proofs.Forest.ReadingBy.{forest_by-copies}
 use Rattle.local_cache.proofs.Tables.Listing.{node_by_entry}
 use Rattle.residency.specs.declared.store.Store.{Store}
 use Rattle.residency.specs.Frames.{with_pinned}
 use Rattle.residency.specs.StoreForest.{store_forest}
-use Rattle.residency.specs.World.{IsStoreRight, World, own_page, world}
+use Rattle.residency.specs.World.{World, own_page, world}
 use Rattle.fault_path.proofs.Calls.Kept.{store_node, store_page, store_shaped}
 use Rattle.fault_path.proofs.Frames.TwoFrames.{absent_none}
 use Rattle.fault_path.proofs.Rules.Heirs.{has_own}
-use Rattle.pvm_core.specs.Holding.{HoldsLocked, IsRight, KeepsPages, LocksMore, covers, one_page}
-use Rattle.pvm_core.specs.Locks.{has_locked, is_locked_name}
+use Rattle.pvm_core.specs.Holding.{HoldsLocked, IsRight, KeepsPages, LocksMore, one_page}
+use Rattle.pvm_core.specs.Locks.{is_locked_name}
 use Rattle.pvm_core.proofs.Holding.Kept.{has_name}
 use Rattle.pvm_core.proofs.Locking.Alike.{alike_then}
 use Rattle.pvm_core.proofs.Locking.Changed.{Repins, changed_pages, relocked_names, relocked_owns}

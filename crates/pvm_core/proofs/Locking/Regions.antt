@@ -1,10 +1,9 @@
 -- The regions of an actor, one after the other.
-use Rattle.std.proofs.Common.{◌≡◌, ℕ, zero, suc, ◌+◌, ◌-◌, ◌<◌, ◌≤◌, Bool, true, false, ◌&&◌, ◌==◌, List, [], ◌∷◌, count_by, get_or, length, take, Option, Some, None, option_map, slice_get, refl, sym, ap, ◌∙◌, arith, subst}
+use Rattle.std.proofs.Common.{◌≡◌, ℕ, zero, suc, ◌+◌, ◌<◌, ◌≤◌, Bool, true, false, ◌&&◌, ◌==◌, List, [], ◌∷◌, count_by, take, Option, Some, None, option_map, slice_get, refl, ap, ◌∙◌, arith, subst}
 use Rattle.std.specs.Prelude.{nat_le, nat_lt}
 use Rattle.std.specs.List.{All}
 use Rattle.std.proofs.lemmas.List.Elements.{All-head, All-tail}
 use Rattle.std.proofs.lemmas.List.Sums.{sum_by-cons}
-use Rattle.vm_ids.specs.declared.command.Extent.{Extent}
 use Rattle.vm_ids.proofs.Places.{bit}
 use Rattle.vm_model.specs.Machine.{Actor, Region, locks}
 use Rattle.regions.specs.AddressSpace.{view_of}
@@ -30,10 +29,10 @@ viewed rs place view e = go (slice_get rs place) refl e
     go None here e = absurd (cc e)
     go (Some r) here e = record { region = r; here = here; is = cc e }
 
-pub all_at : (P : Region → Type 0) (rs : Actor) (place : ℕ) (r : Region) → All P rs → slice_get rs place ≡ Some r → P r
-all_at P [] place r all here = absurd (cc here)
-all_at P (x ∷ xs) zero r all here = let same : x ≡ r = cc here in subst P same (All-head P x xs all)
-all_at P (x ∷ xs) (suc i) r all here = all_at P xs i r (All-tail P x xs all) here
+pub all_at : {X : Type 0} (P : X → Type 0) (xs : List X) (place : ℕ) (x : X) → All P xs → slice_get xs place ≡ Some x → P x
+all_at P [] place x all here = absurd (cc here)
+all_at P (y ∷ ys) zero x all here = let same : y ≡ x = cc here in subst P same (All-head P y ys all)
+all_at P (y ∷ ys) (suc i) x all here = all_at P ys i x (All-tail P y ys all) here
 
 -- so many regions of the first ones pass, and one more
 pub take_next : (p : Region → Bool) (rs : Actor) (i : ℕ) (r : Region) → slice_get rs i ≡ Some r → count_by p (take (i + 1) rs) ≡ count_by p (take i rs) + bit (p r)

@@ -1,9 +1,6 @@
-use Rattle.std.proofs.Common.{◌≡◌, true, false, refl, sym, ap, ◌∙◌, rules}
-use Rattle.vm_ids.specs.Forest.Rules.{owned}
+use Rattle.std.proofs.Common.{◌≡◌, false, sym, ap, ◌∙◌, rules}
 use Rattle.local_cache.specs.declared.own_state.OwnState.TheVariants.{Absent}
 use Rattle.local_cache.specs.Own.{is_absent, own_of}
-use Rattle.local_cache.specs.Reading.{name_of}
-use Rattle.residency.specs.StoreForest.{store_forest}
 use Rattle.residency.specs.World.{World, world}
 use Rattle.residency.proofs.Forests.StillForest.{still_forest}
 use Rattle.fault_path.proofs.Calls.Answered.{still_answered, still_missed_by}

@@ -1,4 +1,4 @@
-use Rattle.std.proofs.Common.{◌≡◌, ap, ◌∙◌}
+use Rattle.std.proofs.Common.{ap, ◌∙◌}
 use Rattle.vm_ids.specs.Forest.Reading.{value_of}
 use Rattle.local_cache.specs.Arena.{HasNode}
 use Rattle.local_cache.proofs.Whole.Like.{like_whole}
@@ -44,5 +44,5 @@ returns-clause-alike g c =
     let e = c.in_ok-bring_own.ensures in
     let there : HasNode c.args.caches.now c.node_of-node.result = c.node_of-node.ensures.held in
     let first = alike_answered old w (M.counts c.args.mapper.now) (M.counts n.mapper) c.requires.whole e.answered
-        (λ x. ap (λ f. value_of f x) e.forest ∙ owned_values old c.requires.whole.sound c.node_of-node.result there c.requires.whole.consistent.shaped x) in
+    (λ x. ap (λ f. value_of f x) e.forest ∙ owned_values old c.requires.whole.sound c.node_of-node.result there c.requires.whole.consistent.shaped x) in
     alike_then old w v (M.counts c.args.mapper.now) (M.counts n.mapper) (M.counts n.mapper) first (c.pin_page.ensures.pages.alike (M.held n.mapper) (M.page_bytes n.mapper) (M.counts n.mapper) first.right)

@@ -1,4 +1,4 @@
-use Rattle.std.proofs.Common.{◌≡◌, ◌+◌, ◌-◌, ◌<◌, ◌≤◌, ℕ, not, sym, ap, ◌∙◌, arith}
+use Rattle.std.proofs.Common.{◌-◌, ◌≤◌, ℕ, not, arith}
 use Rattle.vm_ids.specs.Counting.{MapperCounts}
 use Rattle.local_cache.specs.Arena.{is_locked, locks_of}
 use Rattle.residency.specs.StoreForest.{store_forest}

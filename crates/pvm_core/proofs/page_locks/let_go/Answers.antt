@@ -1,4 +1,4 @@
-use Rattle.std.proofs.Common.{◌≡◌, ◌+◌, ◌<◌, ◌≤◌, ◌∙◌, arith}
+use Rattle.std.proofs.Common.{◌∙◌, arith}
 use Rattle.vm_ids.specs.Counting.{no_counts}
 use Rattle.segment_ops.proofs.Unsaved.{range_fits}
 use Rattle.pvm_core.proofs.Locking.Extents.{less_upto}

@@ -1,6 +1,5 @@
 use Rattle.std.proofs.Common.{◌-◌}
 use Rattle.pvm_core.specs.Holding.{HoldsLocked, KeepsPages, LocksMore}
-use Rattle.local_cache.specs.Whole.{IsWhole}
 use Rattle.pvm_core.proofs.Locking.Extents.{extent}
 use Rattle.pvm_core.proofs.page_locks.let_go.Given as goal
 

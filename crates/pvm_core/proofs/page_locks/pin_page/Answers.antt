@@ -1,9 +1,9 @@
-use Rattle.std.proofs.Common.{◌≡◌, ℕ, ◌+◌, ◌<◌, ◌≤◌, true, List, length, Option, Some, refl, sym, ap, ◌∙◌, subst, arith}
+use Rattle.std.proofs.Common.{◌≡◌, ◌+◌, ◌<◌, ◌≤◌, true, List, length, Option, Some, sym, ap, subst, arith}
 use Rattle.vm_ids.specs.declared.numbers.FrameId.{FrameId}
 use Rattle.vm_ids.specs.declared.numbers.NodeId.{NodeId}
 use Rattle.vm_ids.proofs.Places.{bit_true}
 use Rattle.global_map.specs.Pairs.{bound_times, node_of}
-use Rattle.local_cache.specs.Arena.{is_locked, locks_of}
+use Rattle.local_cache.specs.Arena.{locks_of}
 use Rattle.local_cache.specs.Own.{is_resident, own_of}
 use Rattle.local_cache.proofs.Whole.Pages.{page_there}
 use Rattle.pvm_core.proofs.Locking.Extents.{locked_now}

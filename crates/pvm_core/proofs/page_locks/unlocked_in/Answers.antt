@@ -1,4 +1,4 @@
-use Rattle.std.proofs.Common.{◌≡◌, ◌≢◌, ℕ, ◌+◌, ◌-◌, ◌<◌, ◌≤◌, not, true, false, sym, ap, ◌∙◌, arith}
+use Rattle.std.proofs.Common.{◌≡◌, ◌-◌, ◌<◌, not, ap, arith}
 use Rattle.vm_ids.proofs.Places.{bit}
 use Rattle.local_cache.specs.Arena.{is_locked, locks_of}
 use Rattle.pvm_core.proofs.Locking.Extents.{locked_above, unlocked_few, unlocked_upto}

@@ -1,4 +1,4 @@
-use Rattle.std.proofs.Common.{◌≡◌, ◌-◌, ◌≤◌}
+use Rattle.std.proofs.Common.{◌≡◌, ◌-◌}
 use Rattle.pvm_core.specs.Holding.{unlocked_in}
 use Rattle.pvm_core.proofs.Locking.Extents.{extent}
 use Rattle.pvm_core.proofs.page_locks.unlocked_in.Given as goal

@@ -1,15 +1,15 @@
-use Rattle.std.proofs.Common.{◌≡◌, ℕ, suc, ◌+◌, ◌-◌, ◌<◌, ◌≤◌, ◌≢◌, true, false, List, length, Option, Some, refl, sym, ap, ◌∙◌, subst, arith}
+use Rattle.std.proofs.Common.{◌≡◌, ◌-◌, ◌<◌, ◌≤◌, true, false, List, length, Option, Some, sym, ap, subst, arith}
 use Rattle.vm_ids.specs.declared.numbers.FrameId.{FrameId}
 use Rattle.vm_ids.specs.declared.numbers.NodeId.{NodeId}
 use Rattle.vm_ids.proofs.Places.{bit_true}
-use Rattle.global_map.specs.Pairs.{bound_times, frame_of, node_of}
+use Rattle.global_map.specs.Pairs.{bound_times, node_of}
 use Rattle.local_cache.specs.Arena.{is_locked, locks_of}
 use Rattle.local_cache.specs.Own.{is_resident, own_of}
 use Rattle.local_cache.proofs.Whole.Pages.{page_there}
 use Rattle.pvm_core.proofs.Holding.Bound.{frame_within}
 use Rattle.pvm_core.proofs.Locking.Extents.{locked_above}
 use Rattle.pvm_core.proofs.Locking.Holds.{locked_frame}
-use Rattle.pvm_core.proofs.Locking.Pages.{found_at, found_some, one_less, paged_held, paged_kept, pinned_again, was_pinned}
+use Rattle.pvm_core.proofs.Locking.Pages.{found_at, found_some, one_less, paged_held, paged_kept, pinned_again}
 use Rattle.pvm_core.proofs.page_locks.unpin_page.Goals as goal
 
 pub node_of-node-requires : goal.node_of-node-requires

@@ -1,58 +1,90 @@
-use Rattle.std.proofs.Common.{◌≡◌, length, not, Option, Some, None, refl, sym, ap, subst, ◌∙◌}
-use Rattle.std.specs.Prelude.{Ok, Err, is_some, option_map}
+use Rattle.std.proofs.Common.{◌≡◌, ◌+◌, ◌≤◌, [], length, Some, refl, sym, ap, subst, arith}
+use Rattle.std.specs.Prelude.{Ok, Err, is_some}
+use Rattle.vm_ids.specs.Counting.{no_counts}
 use Rattle.vm_ids.specs.declared.command.Command.TheVariants as commands
 use Rattle.vm_ids.specs.declared.refusal.Refusal.TheVariants as refusals
 use Rattle.vm_ids.specs.declared.reply.Reply.TheVariants as replies
 use Rattle.vm_ids.specs.declared.reply.Trouble.TheVariants as troubles
-use Rattle.vm_model.specs.Answering.{reply}
+use Rattle.vm_model.specs.Machine.{numbered as actor_numbered}
+use Rattle.vm_model.specs.Run.{AnswerIs}
 use Rattle.local_cache.specs.Whole.{size_of}
 use Rattle.contexts.specs.Actors.{Actors}
-use Rattle.pvm_core.specs.Manager.{caches_shown}
-use Rattle.pvm_core.specs.Placed.{AreRight}
-use Rattle.pvm_core.proofs.Acting.{acted, acted_valid, exited, told}
-use Rattle.pvm_core.proofs.Answering.Kept.{seated_sound}
-use Rattle.pvm_core.proofs.Answering.Listed.{machine_with}
-use Rattle.pvm_core.proofs.RegionRows.{exit_none, exit_row, right_without_actor}
+use Rattle.pvm_core.specs.Manager.{IsSound, IsValid, Manager, caches_shown, numbered, state_at}
+use Rattle.pvm_core.proofs.Acting.{exited, told}
+use Rattle.pvm_core.proofs.Answering.Kept.{seen}
+use Rattle.pvm_core.proofs.Locking.Gone.{actor_locks, actor_placed, ended_counts, gone_answer, gone_numbered, gone_sound, gone_valid, mapped_is, mapped_none}
+use Rattle.pvm_core.proofs.RegionRows.{exit_none, exit_row, right_without_actor, without_actor}
 use Rattle.pvm_core.proofs.pvm.Pvm.exit_actor.Goals as goal
 
--- whether there is something stays
-some_mapped : {A B : Type 0} (f : A → B) (o : Option A) → is_some (option_map f o) ≡ is_some o
-some_mapped f None = refl
-some_mapped f (Some x) = refl
-
-pub exit-requires : goal.exit-requires
-exit-requires c = sym (ap is_some c.regions.ensures.regions) ∙ some_mapped _ c.regions.result ∙ c.is_none.ensures ∙ ap not c.if-is_none.false
-
-pub returns-then-is_none-clause-answers : goal.returns-then-is_none-clause-answers
-returns-then-is_none-clause-answers c = λ h v.
+pub returns-in_default-clause-answers : goal.returns-in_default-clause-answers
+returns-in_default-clause-answers c = λ h v.
     let i = c.self.inside in
-    let actor = c.args.actor in
-    told i.caches i.store i.contexts _ c.self.view_is h v (commands.ExitActor actor) (exited actor) (Err (troubles.Refused refusals.NoActor)) c.self.invariant.nodes
-    (λ f g k. exit_none (caches_shown f 1 i.caches.caches) (length i.store.frames.held) i.contexts actor.0
-    (sym (ap is_some c.regions.ensures.regions) ∙ some_mapped _ c.regions.result ∙ c.is_none.ensures ∙ ap not c.if-is_none.true))
+    told i.caches i.store i.contexts _ c.self.view_is h v (commands.ExitActor c.args.actor) (exited c.args.actor) (Err (troubles.Refused refusals.NoActor)) c.self.invariant.nodes
+    (λ f g k. exit_none (caches_shown f 1 i.caches.caches) (length i.store.frames.held) i.contexts c.args.actor.0
+    (mapped_none _ c.regions.result _ c.regions.ensures.regions c.in_default.is))
+
+pub let_all_go-requires-clause-placed : goal.let_all_go-requires-clause-placed
+let_all_go-requires-clause-placed c =
+    let i = c.self.inside in
+    actor_placed (size_of i.caches) i.contexts c.args.actor.0 c.in-Some.regions.now.regions (mapped_is _ c.regions.result c.in-Some.regions _ c.regions.ensures.regions c.in-Some.is) c.self.invariant.actors
+
+pub let_all_go-requires-clause-locked : goal.let_all_go-requires-clause-locked
+let_all_go-requires-clause-locked c =
+    let i = c.self.inside in
+    actor_locks i.caches i.contexts c.args.actor.0 c.in-Some.regions.now.regions (mapped_is _ c.regions.result c.in-Some.regions _ c.regions.ensures.regions c.in-Some.is) c.self.invariant.locked.counted
 
 pub invariant_of-self : goal.invariant_of-self
 invariant_of-self c =
     let i = c.self.inside in
     let t : Actors = i.contexts in
-    let gone = c.exit.ensures in
-    seated_sound i.caches i.store t c.exit.new.self i.live (ap (λ (w : Actors). w.page_bytes) gone)
-    (subst (AreRight (size_of i.caches)) (sym gone) (right_without_actor (size_of i.caches) c.args.actor.0 t c.self.invariant.actors)) ? c.self.invariant
+    let n = c.let_all_go.new in
+    let e = c.let_all_go.ensures in
+    let actor = c.args.actor.0 in
+    let here : actor_numbered t.actors actor ≡ Some c.in-Some.regions.now.regions = mapped_is _ c.regions.result c.in-Some.regions _ c.regions.ensures.regions c.in-Some.is in
+    let h = c.requires.0 in
+    let v = subst (λ (p : Manager). IsValid p h) (sym c.self.view_is) c.requires.1 in
+    subst (λ (x : Actors). IsSound n.caches n.store x i.live) (sym c.exit.ensures)
+    (gone_sound i.caches n.caches i.store n.store e.pages e.held t (without_actor actor t) i.live c.self.invariant refl (right_without_actor (size_of i.caches) actor t c.self.invariant.actors)
+    (ended_counts i.caches n.caches t actor c.in-Some.regions.now.regions here c.self.invariant.locked.counted e.locks) (λ cache page. omega (arith, e.locks cache page)) h v)
 
 pub returns-clause-valid : goal.returns-clause-valid
-returns-clause-valid c = λ h v.
-    let i = c.self.inside in
-    acted_valid i.caches i.store i.contexts _ c.self.view_is h v c.exit.new.self (ap (λ (w : Actors). w.page_bytes) c.exit.ensures)
-
-pub returns-clause-answers : goal.returns-clause-answers
-returns-clause-answers c = λ h v.
+returns-clause-valid c = λ h valid.
     let i = c.self.inside in
     let t : Actors = i.contexts in
-    let gone = c.exit.ensures in
-    let actor = c.args.actor in
-    acted i.caches i.store t _ c.self.view_is h v (commands.ExitActor actor) (exited actor) (Ok replies.Done) c.self.invariant.nodes c.exit.new.self
-    (ap (λ (w : Actors). w.page_bytes) gone)
-    (λ f g k. let caches = caches_shown f 1 i.caches.caches in
-    let frames = length i.store.frames.held in
-    exit_row caches frames t actor.0 (sym (ap is_some c.regions.ensures.regions) ∙ some_mapped _ c.regions.result ∙ c.is_none.ensures ∙ ap not c.if-is_none.false)
-    ∙ ap (λ (w : Actors). reply replies.Done (machine_with caches frames w)) (sym gone))
+    let n = c.let_all_go.new in
+    let e = c.let_all_go.ensures in
+    let actor = c.args.actor.0 in
+    let here : actor_numbered t.actors actor ≡ Some c.in-Some.regions.now.regions = mapped_is _ c.regions.result c.in-Some.regions _ c.regions.ensures.regions c.in-Some.is in
+    let v = subst (λ (p : Manager). IsValid p h) (sym c.self.view_is) valid in
+    subst (λ (x : Actors). IsValid (seen n.caches n.store x) h) (sym c.exit.ensures)
+    (gone_valid i.caches n.caches i.store n.store e.pages e.held t (without_actor actor t) i.live c.self.invariant refl (right_without_actor (size_of i.caches) actor t c.self.invariant.actors)
+    (ended_counts i.caches n.caches t actor c.in-Some.regions.now.regions here c.self.invariant.locked.counted e.locks) (λ cache page. omega (arith, e.locks cache page)) h v)
+
+pub returns-clause-answers : goal.returns-clause-answers
+returns-clause-answers c = λ h valid.
+    let i = c.self.inside in
+    let t : Actors = i.contexts in
+    let n = c.let_all_go.new in
+    let e = c.let_all_go.ensures in
+    let actor = c.args.actor.0 in
+    let here : actor_numbered t.actors actor ≡ Some c.in-Some.regions.now.regions = mapped_is _ c.regions.result c.in-Some.regions _ c.regions.ensures.regions c.in-Some.is in
+    let v = subst (λ (p : Manager). IsValid p h) (sym c.self.view_is) valid in
+    subst (λ (p : Manager). AnswerIs (state_at p h) (commands.ExitActor c.args.actor) (Ok replies.Done) [] no_counts (state_at (seen n.caches n.store c.exit.new.self) h)) c.self.view_is
+    (subst (λ (x : Actors). AnswerIs (state_at (seen i.caches i.store t) h) (commands.ExitActor c.args.actor) (Ok replies.Done) [] no_counts (state_at (seen n.caches n.store x) h)) (sym c.exit.ensures)
+    (gone_answer i.caches n.caches i.store n.store e.pages e.held t (without_actor actor t) i.live c.self.invariant refl (right_without_actor (size_of i.caches) actor t c.self.invariant.actors)
+    (ended_counts i.caches n.caches t actor c.in-Some.regions.now.regions here c.self.invariant.locked.counted e.locks) (λ cache page. omega (arith, e.locks cache page)) h v
+    (commands.ExitActor c.args.actor) refl (λ m next f. refl) (λ m g. tt)
+    (λ f g k. exit_row (caches_shown f 1 i.caches.caches) (length i.store.frames.held) t actor (ap is_some here))))
+
+pub returns-clause-made : goal.returns-clause-made
+returns-clause-made c = λ h valid.
+    let i = c.self.inside in
+    let t : Actors = i.contexts in
+    let n = c.let_all_go.new in
+    let e = c.let_all_go.ensures in
+    let actor = c.args.actor.0 in
+    let here : actor_numbered t.actors actor ≡ Some c.in-Some.regions.now.regions = mapped_is _ c.regions.result c.in-Some.regions _ c.regions.ensures.regions c.in-Some.is in
+    let v = subst (λ (p : Manager). IsValid p h) (sym c.self.view_is) valid in
+    let same = gone_numbered i.caches n.caches i.store n.store e.pages e.held t (without_actor actor t) i.live c.self.invariant refl (right_without_actor (size_of i.caches) actor t c.self.invariant.actors)
+    (ended_counts i.caches n.caches t actor c.in-Some.regions.now.regions here c.self.invariant.locked.counted e.locks) (λ cache page. omega (arith, e.locks cache page)) h v in
+    subst (λ (p : Manager). numbered (seen n.caches n.store c.exit.new.self) ≤ numbered p + 0 + 8) c.self.view_is (omega (arith, same))
