@@ -6,6 +6,8 @@ pub mod Covered
 pub mod Counted
 -- Locks on the pages of an extent.
 pub mod Extents
+-- How many pages are locked with those of an extent.
+pub mod Totals
 -- What reads alike from one moment to the next.
 pub mod Alike
 -- A page has other locks, and its frame is pinned or not.

@@ -42,7 +42,7 @@ use Rattle.pvm_core.proofs.Answering.Reaching.{reach_told}
 use Rattle.pvm_core.proofs.Answering.Rising.{grown_some, rises_between}
 use Rattle.pvm_core.proofs.Locking.Covered.{placed_with}
 use Rattle.pvm_core.proofs.Locking.Ends.{ends_by, ends_machine, ends_reach, ends_sound, ends_valid, held_of}
-use Rattle.pvm_core.proofs.Locking.Extents.{locked_more}
+use Rattle.pvm_core.proofs.Locking.Totals.{locked_more}
 use Rattle.pvm_core.proofs.Locking.Limit.{limit_is, over_locked, pages_of, right_with_locked, sizes_shown, with_locked}
 use Rattle.pvm_core.proofs.Locking.Pages.{owned_few}
 use Rattle.pvm_core.proofs.Locking.Rows.{lock_row}

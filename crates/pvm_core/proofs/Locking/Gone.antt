@@ -36,7 +36,8 @@ use Rattle.pvm_core.proofs.Locking.Covered.{gone_over}
 use Rattle.pvm_core.proofs.Locking.Ends.{ends_by, ends_sound, ends_valid, held_of}
 use Rattle.segment_ops.specs.Ranges.{IsPageOf}
 use Rattle.std.specs.List.{All}
-use Rattle.pvm_core.proofs.Locking.Extents.{covers_yes, locked_fewer}
+use Rattle.pvm_core.proofs.Locking.Extents.{covers_yes}
+use Rattle.pvm_core.proofs.Locking.Totals.{locked_fewer}
 use Rattle.pvm_core.proofs.Locking.Regions.{all_at}
 use Rattle.pvm_core.proofs.Locking.Limit.{over_unlocked, pages_of, with_locked}
 use Rattle.pvm_core.proofs.Locking.Pages.{store_copies}

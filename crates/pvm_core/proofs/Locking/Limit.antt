@@ -23,7 +23,7 @@ use Rattle.pvm_core.specs.Placed.{ArePlaced, AreRight, IsPlaced}
 use Rattle.pvm_core.proofs.Answering.Listed.{machine_with}
 use Rattle.pvm_core.proofs.Locking.Counted.{count_at, pages_counted}
 use Rattle.pvm_core.proofs.Locking.Covered.{as_locked, over_out, replaced_over}
-use Rattle.pvm_core.proofs.Locking.Extents.{locked_more}
+use Rattle.pvm_core.proofs.Locking.Totals.{locked_more}
 use Rattle.pvm_core.proofs.Meaning.Shown.{shown_made, shown_size}
 
 -- Tables with other locks ---------------------------------------------------------------------

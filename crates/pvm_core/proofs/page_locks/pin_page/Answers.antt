@@ -6,7 +6,7 @@ use Rattle.global_map.specs.Pairs.{bound_times, node_of}
 use Rattle.local_cache.specs.Arena.{locks_of}
 use Rattle.local_cache.specs.Own.{is_resident, own_of}
 use Rattle.local_cache.proofs.Whole.Pages.{page_there}
-use Rattle.pvm_core.proofs.Locking.Extents.{locked_now}
+use Rattle.pvm_core.proofs.Locking.Totals.{locked_now}
 use Rattle.pvm_core.proofs.Locking.Pages.{found_at, found_some, one_more, paged_held, paged_kept}
 use Rattle.pvm_core.proofs.page_locks.pin_page.Goals as goal
 

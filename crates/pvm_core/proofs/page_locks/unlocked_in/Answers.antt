@@ -1,7 +1,7 @@
 use Rattle.std.proofs.Common.{◌≡◌, ◌-◌, ◌<◌, not, ap, arith}
 use Rattle.vm_ids.proofs.Places.{bit}
 use Rattle.local_cache.specs.Arena.{is_locked, locks_of}
-use Rattle.pvm_core.proofs.Locking.Extents.{locked_above, unlocked_few, unlocked_upto}
+use Rattle.pvm_core.proofs.Locking.Totals.{locked_above, unlocked_few, unlocked_upto}
 use Rattle.pvm_core.proofs.page_locks.unlocked_in.Goals as goal
 use Rattle.pvm_core.proofs.page_locks.unlocked_in.Goals.{then-locks-eq0, else-locks-eq0}
 
