@@ -6,7 +6,7 @@ use Rattle.vm_model.specs.Run.{Read}
 use Rattle.actor_script.specs.Words.{words_of}
 use Rattle.vm_ids.specs.declared.command.Command.{Command}
 use Rattle.vm_ids.specs.declared.command.Command.TheVariants as commands
-use Rattle.actor_script.specs.Forms.{command_of, form_of, verb_form, actor_form, exit_form, temp_form, open_form, destroy_form, span_of, copy_form, move_form, map_form, split_form, protect_form, unmap_form, status_form, find_form, load_form, store_form, extent_of, sync_form, flush_form, invalidate_form, pageout_form, chain_form, stat_form}
+use Rattle.actor_script.specs.Forms.{command_of, form_of, verb_form, actor_form, exit_form, temp_form, open_form, destroy_form, span_of, copy_form, move_form, map_form, split_form, protect_form, lock_form, unlock_form, unmap_form, status_form, find_form, load_form, store_form, extent_of, sync_form, flush_form, invalidate_form, pageout_form, chain_form, stat_form}
 
 neither : (b : Bool) (o p : Option Command) → o ≡ None → p ≡ None → (if b then o else p) ≡ None
 neither true o p e f = e
@@ -83,6 +83,18 @@ no_protect [] h = absurd (omega arith)
 no_protect (a ∷ []) h = absurd (omega arith)
 no_protect (a ∷ b ∷ []) h = absurd (omega arith)
 no_protect (a ∷ b ∷ c ∷ xs) h = refl
+
+no_lock : (xs : List (List ℕ)) → 6 < length xs → lock_form xs ≡ None
+unfolding lock_form
+no_lock [] h = absurd (omega arith)
+no_lock (a ∷ []) h = absurd (omega arith)
+no_lock (a ∷ b ∷ xs) h = refl
+
+no_unlock : (xs : List (List ℕ)) → 6 < length xs → unlock_form xs ≡ None
+unfolding unlock_form
+no_unlock [] h = absurd (omega arith)
+no_unlock (a ∷ []) h = absurd (omega arith)
+no_unlock (a ∷ b ∷ xs) h = refl
 
 no_unmap : (xs : List (List ℕ)) → 6 < length xs → unmap_form xs ≡ None
 unfolding unmap_form
@@ -171,6 +183,8 @@ no_verb verb xs h =
     neither (bytes_eq verb (codes "map")) _ _ (no_map xs h) (
     neither (bytes_eq verb (codes "split")) _ _ (no_split xs h) (
     neither (bytes_eq verb (codes "protect")) _ _ (no_protect xs h) (
+    neither (bytes_eq verb (codes "lock")) _ _ (no_lock xs h) (
+    neither (bytes_eq verb (codes "unlock")) _ _ (no_unlock xs h) (
     neither (bytes_eq verb (codes "unmap")) _ _ (no_unmap xs h) (
     neither (bytes_eq verb (codes "status")) _ _ (no_status xs h) (
     neither (bytes_eq verb (codes "find")) _ _ (no_find xs h) (
@@ -181,7 +195,7 @@ no_verb verb xs h =
     neither (bytes_eq verb (codes "invalidate")) _ _ (no_invalidate xs h) (
     neither (bytes_eq verb (codes "pageout")) _ _ (no_pageout xs h) (
     neither (bytes_eq verb (codes "chain")) _ _ (no_chain xs h) (
-    neither (bytes_eq verb (codes "stat")) _ _ (no_stat xs h) refl))))))))))))))))))))
+    neither (bytes_eq verb (codes "stat")) _ _ (no_stat xs h) refl))))))))))))))))))))))
 
 no_longer_form : (words : List (List ℕ)) → 7 < length words → form_of words ≡ None
 no_longer_form [] h = absurd (omega arith)

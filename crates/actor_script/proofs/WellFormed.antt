@@ -11,7 +11,7 @@ use Rattle.vm_model.specs.Asking.{IsWellFormed}
 use Rattle.std.proofs.lemmas.Bool.{leb-true, eqb-false}
 use Rattle.actor_script.specs.Words.{words_of}
 use Rattle.actor_script.specs.Operands.{number_of, count_of, unless_zero, length_of, if_few, lettered, address_of, bytes_of, mode_of}
-use Rattle.actor_script.specs.Forms.{form_of, command_of, verb_form, actor_form, exit_form, temp_form, open_form, destroy_form, span_of, copy_form, move_form, map_form, split_form, protect_form, unmap_form, status_form, find_form, load_form, store_form, extent_of, sync_form, flush_form, invalidate_form, pageout_form, chain_form, stat_form}
+use Rattle.actor_script.specs.Forms.{form_of, command_of, verb_form, actor_form, exit_form, temp_form, open_form, destroy_form, span_of, copy_form, move_form, map_form, split_form, protect_form, lock_form, unlock_form, unmap_form, status_form, find_form, load_form, store_form, extent_of, sync_form, flush_form, invalidate_form, pageout_form, chain_form, stat_form}
 
 -- what holds of all that a step gives, whatever it is given
 any_then : {A B : Type 0} (o : Option A) (f : A → Option B) (P : B → Type 0) → ((x : A) → IfSome (f x) P) → IfSome (option_and_then f o) P
@@ -129,6 +129,18 @@ protect_is (a ∷ []) = tt
 protect_is (a ∷ b ∷ []) = any_then (lettered 114 a) _ IsWellFormed (λ n. any_then (mode_of b) _ IsWellFormed (λ n. tt))
 protect_is (a ∷ b ∷ c ∷ xs) = tt
 
+lock_is : (xs : List (List ℕ)) → IfSome (lock_form xs) IsWellFormed
+unfolding lock_form
+lock_is [] = tt
+lock_is (a ∷ []) = any_then (lettered 114 a) _ IsWellFormed (λ n. tt)
+lock_is (a ∷ b ∷ xs) = tt
+
+unlock_is : (xs : List (List ℕ)) → IfSome (unlock_form xs) IsWellFormed
+unfolding unlock_form
+unlock_is [] = tt
+unlock_is (a ∷ []) = any_then (lettered 114 a) _ IsWellFormed (λ n. tt)
+unlock_is (a ∷ b ∷ xs) = tt
+
 unmap_is : (xs : List (List ℕ)) → IfSome (unmap_form xs) IsWellFormed
 unfolding unmap_form
 unmap_is [] = tt
@@ -225,6 +237,8 @@ verb_is verb xs =
     if_true (bytes_eq verb (codes "map")) _ _ IsWellFormed (λ e. map_is xs) (λ e.
     if_true (bytes_eq verb (codes "split")) _ _ IsWellFormed (λ e. split_is xs) (λ e.
     if_true (bytes_eq verb (codes "protect")) _ _ IsWellFormed (λ e. protect_is xs) (λ e.
+    if_true (bytes_eq verb (codes "lock")) _ _ IsWellFormed (λ e. lock_is xs) (λ e.
+    if_true (bytes_eq verb (codes "unlock")) _ _ IsWellFormed (λ e. unlock_is xs) (λ e.
     if_true (bytes_eq verb (codes "unmap")) _ _ IsWellFormed (λ e. unmap_is xs) (λ e.
     if_true (bytes_eq verb (codes "status")) _ _ IsWellFormed (λ e. status_is xs) (λ e.
     if_true (bytes_eq verb (codes "find")) _ _ IsWellFormed (λ e. find_is xs) (λ e.
@@ -235,7 +249,7 @@ verb_is verb xs =
     if_true (bytes_eq verb (codes "invalidate")) _ _ IsWellFormed (λ e. invalidate_is xs) (λ e.
     if_true (bytes_eq verb (codes "pageout")) _ _ IsWellFormed (λ e. pageout_is xs) (λ e.
     if_true (bytes_eq verb (codes "chain")) _ _ IsWellFormed (λ e. chain_is xs) (λ e.
-    if_true (bytes_eq verb (codes "stat")) _ _ IsWellFormed (λ e. stat_is xs) (λ e. tt)))))))))))))))))))))
+    if_true (bytes_eq verb (codes "stat")) _ _ IsWellFormed (λ e. stat_is xs) (λ e. tt)))))))))))))))))))))))
 
 pub form : (words : List (List ℕ)) → IfSome (form_of words) IsWellFormed
 form [] = tt

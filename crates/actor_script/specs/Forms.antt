@@ -107,6 +107,20 @@ protect_form (region ∷ mode ∷ []) = do
   Some (commands.Protect (record { 0 = r }) prot)
 protect_form _ = None
 
+-- `lock R`
+unfoldable pub lock_form : List (List ℕ) → Option Command
+lock_form (region ∷ []) = do
+  r ← lettered 114 region
+  Some (commands.Lock (record { 0 = r }))
+lock_form _ = None
+
+-- `unlock R`
+unfoldable pub unlock_form : List (List ℕ) → Option Command
+unlock_form (region ∷ []) = do
+  r ← lettered 114 region
+  Some (commands.Unlock (record { 0 = r }))
+unlock_form _ = None
+
 -- `unmap R`
 unfoldable pub unmap_form : List (List ℕ) → Option Command
 unmap_form (region ∷ []) = do
@@ -201,6 +215,8 @@ verb_form verb operands =
     else if bytes_eq verb (codes "map") then map_form operands
     else if bytes_eq verb (codes "split") then split_form operands
     else if bytes_eq verb (codes "protect") then protect_form operands
+    else if bytes_eq verb (codes "lock") then lock_form operands
+    else if bytes_eq verb (codes "unlock") then unlock_form operands
     else if bytes_eq verb (codes "unmap") then unmap_form operands
     else if bytes_eq verb (codes "status") then status_form operands
     else if bytes_eq verb (codes "find") then find_form operands

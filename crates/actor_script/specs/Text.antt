@@ -39,6 +39,7 @@ refusal_name refusals.TooMany = codes "TooMany"
 refusal_name refusals.NotTemp = codes "NotTemp"
 refusal_name refusals.NotNamed = codes "NotNamed"
 refusal_name refusals.NotLocked = codes "NotLocked"
+refusal_name refusals.Full = codes "Full"
 
 -- The name of a page node: `cC:P` for page P of cache C, `wK` for a working node.
 abbrev pub name_text : NodeName → List ℕ

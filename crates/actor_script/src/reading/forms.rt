@@ -1,7 +1,7 @@
 // The forms of lines.
 ghost use Rattle.std.specs.Prelude.{◌≡◌, map, IfOk};
 ghost use Rattle.vm_model.specs.Asking.{IsWellFormed};
-ghost use Rattle.actor_script.specs.Forms.{command_of, form_of, verb_form, actor_form, exit_form, temp_form, open_form, destroy_form, span_of, copy_form, move_form, map_form, split_form, protect_form, unmap_form, status_form, find_form, load_form, store_form, extent_of, sync_form, flush_form, invalidate_form, pageout_form, chain_form, stat_form};
+ghost use Rattle.actor_script.specs.Forms.{command_of, form_of, verb_form, actor_form, exit_form, temp_form, open_form, destroy_form, span_of, copy_form, move_form, map_form, split_form, protect_form, lock_form, unlock_form, unmap_form, status_form, find_form, load_form, store_form, extent_of, sync_form, flush_form, invalidate_form, pageout_form, chain_form, stat_form};
 ghost use Rattle.actor_script.specs.Operands.{mode_of};
 
 use super::hexadecimal::{read_address, read_bytes};
@@ -184,6 +184,28 @@ fn read_protect(operands: &[&[u8]]) -> Option<Command>
     }
 }
 
+// `lock R`
+#[tactic(auto, unfolding(crate::specs::Forms::lock_form))]
+fn read_lock(operands: &[&[u8]]) -> Option<Command>
+    ensures { result ≡ lock_form (map (λ w. w.now) operands.now) }
+{
+    match operands {
+        [region] => Some(Command::Lock(RegionId(read_lettered(b'r', region)?))),
+        _ => None,
+    }
+}
+
+// `unlock R`
+#[tactic(auto, unfolding(crate::specs::Forms::unlock_form))]
+fn read_unlock(operands: &[&[u8]]) -> Option<Command>
+    ensures { result ≡ unlock_form (map (λ w. w.now) operands.now) }
+{
+    match operands {
+        [region] => Some(Command::Unlock(RegionId(read_lettered(b'r', region)?))),
+        _ => None,
+    }
+}
+
 // `unmap R`
 #[tactic(auto, unfolding(crate::specs::Forms::unmap_form))]
 fn read_unmap(operands: &[&[u8]]) -> Option<Command>
@@ -359,6 +381,10 @@ fn read_verb(verb: &[u8], operands: &[&[u8]]) -> Option<Command>
         read_split(operands)
     } else if verb == b"protect".as_slice() {
         read_protect(operands)
+    } else if verb == b"lock".as_slice() {
+        read_lock(operands)
+    } else if verb == b"unlock".as_slice() {
+        read_unlock(operands)
     } else if verb == b"unmap".as_slice() {
         read_unmap(operands)
     } else if verb == b"status".as_slice() {
