@@ -4,6 +4,7 @@ pub mod Hexadecimal
 pub mod Numbers
 pub mod Replies
 pub mod Splitting
+pub mod Tallied
 pub mod WellFormed
 pub mod Worked
 pub mod Written

@@ -44,7 +44,7 @@ fed_line line = append-nil (line ++ codes "\n")
 
 feeds_more : (given : List (List ℕ)) (line : List ℕ) → with_feeds given ++ (line ++ codes "\n") ≡ with_feeds (given ++ line ∷ [])
 feeds_more given line =
-    ap (λ (text : List ℕ). with_feeds given ++ text) (sym (fed_line line)) ∙ sym (flat_map-append (λ line. line ++ codes "\n") given (line ∷ []))
+    ap (λ (text : List ℕ). with_feeds given ++ text) (sym (fed_line line)) ∙ sym (flat_map-append (λ (line : List ℕ). line ++ codes "\n") given (line ∷ []))
 
 -- So many lines were given and written, or gathered.
 pub record Written (beginning here : Position) (count : ℕ) (old new : Option (List ℕ)) : Type 0 where
@@ -76,7 +76,7 @@ module _ (beginning here : Position) (count : ℕ) (old new : Option (List ℕ))
       let size : length given ≡ count + 1 = omega (arith, h.size, length-append h.given (line ∷ [])) in
       let behind = lines_from next (total - length given) in
       let whole : with_feeds given ++ with_feeds behind ≡ with_feeds (lines_from beginning total) =
-      sym (flat_map-append (λ line. line ++ codes "\n") given behind) ∙ ap with_feeds (sym (gave_rest beginning next given (gave_more beginning here h.given h.gave next line one) total (omega (arith, size, few)))) in
+      sym (flat_map-append (λ (line : List ℕ). line ++ codes "\n") given behind) ∙ ap with_feeds (sym (gave_rest beginning next given (gave_more beginning here h.given h.gave next line one) total (omega (arith, size, few)))) in
       let now = option_map (λ given. given ++ left) sink in
       short_of old sink left (with_feeds (lines_from beginning total)) grew
       (subst (WritesFront old now) whole (front_more old now (with_feeds given) (with_feeds behind)

@@ -1,6 +1,6 @@
 -- What a trial promises, from how its lines are answered.
-use Rattle.std.proofs.Common.{◌≡◌, ◌≤◌, ℕ, List, [], map, Option, Some, None, refl, sym, ap, subst, ◌∙◌}
-use Rattle.std.specs.Prelude.{IsSomeAnd, Ok}
+use Rattle.std.proofs.Common.{◌≡◌, ℕ, map, Option, Some, None, sym, ap, subst, ◌∙◌, arith}
+use Rattle.std.specs.Prelude.{IsSomeAnd, Ok, Err}
 use Rattle.vm_ids.specs.Counting.{no_counts}
 use Rattle.vm_ids.specs.Held.{Segments}
 use Rattle.vm_ids.specs.Forest.Nodes.{no_forest}
@@ -12,8 +12,8 @@ use Rattle.vm_ids.specs.declared.reply.Reply.TheVariants as replies
 use Rattle.vm_model.specs.Answering.{Answer, Answered}
 use Rattle.vm_model.specs.Laws.{IsFollowed}
 use Rattle.vm_model.specs.Machine.{Machine, start}
-use Rattle.vm_model.specs.Outcome.{BlankOutcome, OutcomeAt}
-use Rattle.vm_model.specs.PageForest.{PageForest, forest_shown}
+use Rattle.vm_model.specs.Outcome.{IsAlike, Outcome, OutcomeAt}
+use Rattle.vm_model.specs.PageForest.{PageForest}
 use Rattle.vm_model.specs.Run.{State}
 use Rattle.actor_script.specs.Forms.{command_of}
 use Rattle.replay.specs.Ending.{Scene, Summed, TrialEnds, lines_made}
@@ -24,15 +24,29 @@ use Rattle.replay.proofs.Promise.{lines_formed, run_followed}
 
 -- the counts that a manager tells are those of its forest
 
-counted : (m next : Machine) (f : PageForest) (counts : Counts) → (let all : Answered = record { answer = Ok (replies.Stat (counts_of f)); next = m } in all) ≡ record { answer = Ok (replies.Stat counts); next = next } → counts_of f ≡ counts
-counted m next f counts e = cc
+abbrev answered : Counts → Answer
+answered counts = Ok (replies.Stat counts)
+
+same_counts : (a b : Counts) → answered a ≡ answered b → a ≡ b
+same_counts a b e = cc
+
+counted : (m next : Machine) (f : PageForest) (counts : Counts) → (let all : Answered = record { answer = answered (counts_of f); next = m } in all) ≡ record { answer = answered counts; next = next } → counts_of f ≡ counts
+counted m next f counts e = same_counts (counts_of f) counts (ap (λ (x : Answered). x.answer) e)
 
 told_counts : (told : Option Segments) (m : Machine) (f : PageForest) (counts : Counts) → OutcomeAt told m (Some f) Stat (Ok (replies.Stat counts)) m no_counts → counts_of f ≡ counts
 told_counts (Some h) m f counts o = counted m m f counts o
 told_counts None m f counts o = by o.whole_answer o.alike o.outcome
   where
-    by : (a : Answer) → Rattle.vm_model.specs.Outcome.IsAlike a (Ok (replies.Stat counts)) → Rattle.vm_model.specs.Outcome.Outcome o.whole (Some f) Stat o.segments a o.whole_next no_counts → counts_of f ≡ counts
-    by a alike outcome = ?
+    by : (a : Answer) → IsAlike a (answered counts) → Outcome o.whole (Some f) Stat o.segments a o.whole_next no_counts → counts_of f ≡ counts
+    by (Err trouble) alike outcome = absurd (cc)
+    by (Ok replies.Done) alike outcome = absurd (cc)
+    by (Ok (replies.Actor actor)) alike outcome = absurd (cc)
+    by (Ok (replies.Cache cache)) alike outcome = absurd (cc)
+    by (Ok (replies.Region region)) alike outcome = absurd (cc)
+    by (Ok (replies.Bytes bytes)) alike outcome = absurd (cc)
+    by (Ok (replies.Status status)) alike outcome = absurd (cc)
+    by (Ok (replies.Chain items)) alike outcome = absurd (cc)
+    by (Ok (replies.Stat own)) alike outcome = counted o.whole o.whole_next f own outcome ∙ same_counts own counts alike
 
 pub counts_told : (s : State) (f : PageForest) (counts : Counts) → s.forest ≡ Some f → TellsCounts s counts → counts_of f ≡ counts
 counts_told s f counts shown tells = told_counts s.segments s.machine f counts (subst (λ (o : Option PageForest). OutcomeAt s.segments s.machine o Stat (Ok (replies.Stat counts)) s.machine no_counts) shown tells.outcome)
@@ -48,7 +62,7 @@ trial_ends status script frames old now told m last f forest counts old_is now_i
     let from : Summed status (old begun no_forest) (now last forest) reads counts =
     subst (λ (x : Machine). Summed status (old x no_forest) (now last forest) reads counts) machine_is (subst (λ (x : PageForest). Summed status (old m x) (now last forest) reads counts) forest_is summed) in
     let followed : IsSomeAnd (now last forest).state.forest (IsFollowed (now last forest).state.machine) =
-    run_followed (old begun no_forest) frames PAGE (omega Rattle.std.proofs.Common.arith) told (old_is _ _) reads from.steps (now last forest).state (lines_formed (lines_made script)) from.runs in
+    run_followed (old begun no_forest) frames PAGE (omega arith) told (old_is _ _) reads from.steps (now last forest).state (lines_formed (lines_made script)) from.runs in
     let by_forest : IsSomeAnd (Some forest) (IsFollowed (now last forest).state.machine) = subst (λ (o : Option PageForest). IsSomeAnd o (IsFollowed (now last forest).state.machine)) (now_is last forest).1 followed in
     record {
       last = last;

@@ -140,7 +140,7 @@ lines_made script = generated script.number script.lines
 
 -- each line, and a line feed behind it
 abbrev pub with_feeds : List (List ℕ) → List ℕ
-with_feeds lines = flat_map (λ line. line ++ codes "\n") lines
+with_feeds lines = flat_map (λ (line : List ℕ). line ++ codes "\n") lines
 
 -- The lines of the script were written, or a front of them, and nothing else happened.
 pub record GenerateEnds (status : Status) (script : Generated) (before now : Scene) : Type 0 where

@@ -18,7 +18,7 @@ fn write_lines<K: Sink>(script: Generated, sink: &mut K) -> Result<(), Failed>
 {
     let mut lines = Gen::new(script.number);
     let mut gathered = Gathered::new();
-    for _ in 0..script.lines {
+    for _line in 0..script.lines {
         gathered.put_line(lines.next_line().as_slice(), sink)?;
     }
     gathered.flush(sink)

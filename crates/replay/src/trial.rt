@@ -36,7 +36,7 @@ pub fn trial<G: Gmi<M, C>, M: Mapper, C: Chooser, K: Sink>(
 {
     let mut lines = Gen::new(script.number);
     let mut tally = Tally::new();
-    for _ in 0..script.lines {
+    for _line in 0..script.lines {
         let line = lines.next_line();
         let answer = answer_to(gmi, mapper, chooser, line.as_slice());
         tally.count(&answer);

@@ -57,12 +57,14 @@ IsKind words (asks.Trial script frames) = IsTrial words script frames
 trial_is : (rest : List (List ℕ)) (asked : Asked) → trial_behind rest ≡ Some asked → IsKind (codes "trial" ∷ rest) asked
 trial_is rest asked e = by (is_some (first_value (codes "--page") rest)) refl e
   where
-    by : (b : Bool) → is_some (first_value (codes "--page") rest) ≡ b → cond b None (option_and_then
-        (λ script. option_map (λ (size : Size). asks.Trial script size.frames) (asked_behind (options_among false rest))) (script_of (others_among false rest))) ≡ Some asked → IsKind (codes "trial" ∷ rest) asked
+    abbrev with_script : Generated → Option Asked
+    with_script script = option_map (λ (size : Size). asks.Trial script size.frames) (asked_behind (options_among false rest))
+
+    by : (b : Bool) → is_some (first_value (codes "--page") rest) ≡ b → cond b None (option_and_then with_script (script_of (others_among false rest))) ≡ Some asked → IsKind (codes "trial" ∷ rest) asked
     by true t e = absurd (cc)
     by false t e =
-        let script = made_by_then _ (script_of (others_among false rest)) asked e in
-        let size = made_by_map _ (asked_behind (options_among false rest)) asked script.holds in
+        let script = made_by_then with_script (script_of (others_among false rest)) asked e in
+        let size = made_by_map (λ (size : Size). asks.Trial script.value size.frames) (asked_behind (options_among false rest)) asked script.holds in
         subst (IsKind (codes "trial" ∷ rest)) size.holds (record {
           rest = rest;
           words_are = refl;
@@ -166,8 +168,8 @@ script_few : (words : List (List ℕ)) (script : Generated) → script_of words 
 script_few [] script e = absurd (cc)
 script_few (number ∷ []) script e = absurd (cc)
 script_few (number ∷ lines ∷ []) script e =
-    let n = made_by_then _ (number_of number) script e in
-    let l = made_by_map _ (line_count_of lines) script n.holds in
+    let n = made_by_then (λ (n : ℕ). option_map (λ (l : ℕ). (let s : Generated = record { number = n; lines = l } in s)) (line_count_of lines)) (number_of number) script e in
+    let l = made_by_map (λ (l : ℕ). (let s : Generated = record { number = n.value; lines = l } in s)) (line_count_of lines) script n.holds in
     let counted = made_by_then if_lines (number_of lines) l.value l.is in
     subst (λ (s : Generated). HasFewLines s.lines) l.holds (few_if counted.value l.value counted.holds)
 script_few (number ∷ lines ∷ word ∷ words) script e = absurd (cc)

@@ -49,9 +49,6 @@ module _ (all : Words) (i : ℕ) (flag : Bool) (options others : Words) (h : Par
   next_others : others_among false all ≡ others ++ others_among flag (word ∷ drop (i + 1) all)
   next_others = h.others_are ∙ ap (λ (words : Words). others ++ others_among flag words) is
 
-  abbrev behind : Words
-  behind = drop (i + 1) all
-
   longer : (front : Words) (rest : Words) → front ++ word ∷ rest ≡ (front ++ word ∷ []) ++ rest
   longer front rest = sym (append_assoc front (word ∷ []) rest)
 
