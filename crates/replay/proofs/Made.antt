@@ -16,8 +16,8 @@ use Rattle.replay.proofs.Gathering.{short_of}
 pub record Gave (beginning here : Position) (given : List (List ℕ)) : Type 0 where
   pub goes_on : (n : ℕ) → lines_from beginning (length given + n) ≡ given ++ lines_from here n
 
-pub gave_none : (at : Position) → Gave at at []
-gave_none at = record { goes_on = λ n. ap (lines_from at) (zero-add n) }
+pub gave_none : (at here : Position) → here ≡ at → Gave at here []
+gave_none at here same = record { goes_on = λ n. ap (lines_from at) (zero-add n) ∙ ap (λ (p : Position). lines_from p n) (sym same) }
 
 module _ (beginning here : Position) (given : List (List ℕ)) (h : Gave beginning here given) where
   pub gave_more : (next : Position) (line : List ℕ) → ((n : ℕ) → lines_from here (n + 1) ≡ line ∷ lines_from next n) → Gave beginning next (given ++ line ∷ [])
@@ -53,8 +53,8 @@ pub record Written (beginning here : Position) (count : ℕ) (old new : Option (
   pub gave : Gave beginning here given
   pub writes : Writes old new (with_feeds given)
 
-pub written_none : (at : Position) (old new : Option (List ℕ)) → new ≡ old → Written at at 0 old new
-written_none at old new same = record { given = []; size = omega arith; gave = gave_none at; writes = same ∙ writes_none old }
+pub written_none : (at here : Position) (old new : Option (List ℕ)) → here ≡ at → new ≡ old → Written at here 0 old new
+written_none at here old new begun same = record { given = []; size = omega arith; gave = gave_none at here begun; writes = same ∙ writes_none old }
 
 module _ (beginning here : Position) (count : ℕ) (old new : Option (List ℕ)) (h : Written beginning here count old new) where
   pub written_more : (next : Position) (line : List ℕ) (now : Option (List ℕ)) → ((n : ℕ) → lines_from here (n + 1) ≡ line ∷ lines_from next n) → Writes new now (line ++ codes "\n") → Written beginning next (count + 1) old now

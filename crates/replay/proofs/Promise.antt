@@ -15,12 +15,10 @@ use Rattle.vm_model.specs.declared.limits.TheConstants.{LIVE_PAGES}
 use Rattle.vm_model.proofs.WholeRuns.Runs.{runs_are_followed}
 use Rattle.actor_script.specs.Forms.{command_of}
 use Rattle.replay.specs.Script.{most_bytes, lines_of}
-use Rattle.replay.specs.Ending.{AskedEnds, Scene, Took, Ends, RunEnds, IsWithinLimit}
+use Rattle.replay.specs.Ending.{Scene, Took, Ends, RunEnds}
 use Rattle.gmi_calls.specs.Calling.{Fits}
 use Rattle.replay.specs.declared.status.Status.{Status}
 use Rattle.replay.specs.declared.asked.Asked.{Asked}
-use Rattle.replay.specs.declared.asked.Asked.TheVariants as asks
-use Rattle.replay.specs.declared.asked.Generated.{Generated}
 use Rattle.replay.specs.declared.asked.Size.{Size}
 use Rattle.replay.specs.declared.status.Status.TheVariants as statuses
 use Rattle.actor_script.proofs.WellFormed.{well_formed}
@@ -82,6 +80,9 @@ run_ends status size old now l k told m last f forest old_is now_is some machine
 
 pub as_asked : (asked : Asked) (words : Option Asked) (P : Asked → Type 0) → Some asked ≡ words → P asked → IfSome words P
 as_asked asked words P is h = subst (λ (o : Option Asked). IfSome o P) is h
+
+pub asked_holds : (asked : Asked) (words : Option Asked) (P : Asked → Type 0) → Some asked ≡ words → IsSomeAnd words P → P asked
+asked_holds asked words P is h = subst (λ (o : Option Asked). IsSomeAnd o P) (sym is) h
 
 -- how many bytes were taken
 taken : (l k : Option (List ℕ)) (script : List ℕ) → Took l k script → IfSome l (λ all. IfSome k (λ rest. length all ≡ length script + length rest))

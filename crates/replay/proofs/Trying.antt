@@ -1,20 +1,21 @@
 -- A trial, and one line more.
-use Rattle.std.proofs.Common.{◌≡◌, ◌+◌, ◌≤◌, ℕ, List, [], ◌∷◌, ◌++◌, length, map, Option, Some, None, Result, Ok, Err, refl, sym, ap, subst, ◌∙◌, arith}
+use Rattle.std.proofs.Common.{◌≡◌, ◌+◌, ◌≤◌, ℕ, List, [], ◌∷◌, ◌++◌, length, map, Option, None, Ok, refl, sym, ap, subst, ◌∙◌, arith}
 use Rattle.std.proofs.lemmas.List.{length-append, length-map, map-append}
 use Rattle.std.proofs.lemmas.List.Sums.{count_by-le-length}
-use Rattle.vm_ids.specs.Counting.{MapperCounts, Rise}
-use Rattle.vm_ids.specs.Forest.Reading.{counts_of}
+use Rattle.vm_ids.specs.Counting.{MapperCounts, Rise, no_counts}
+use Rattle.vm_ids.specs.declared.command.Command.TheVariants.{Stat}
 use Rattle.vm_ids.specs.declared.reply.Counts.{Counts}
+use Rattle.vm_ids.specs.declared.reply.Reply.TheVariants as replies
 use Rattle.vm_model.specs.Answering.{Answer}
-use Rattle.vm_model.specs.Machine.{Machine}
-use Rattle.vm_model.specs.PageForest.{PageForest}
 use Rattle.vm_model.specs.Run.{Read, RunOf, State, Step, rises_of}
 use Rattle.actor_script.specs.Forms.{command_of}
 use Rattle.actor_script.specs.Generator.{Position, lines_from}
-use Rattle.actor_script.specs.Summary.{is_ok, Tallies, tally_of}
+use Rattle.actor_script.specs.Summary.{is_ok, summary_of, Tallies, tally_of}
 use Rattle.actor_script.specs.declared.tally.Tally.{Tally}
-use Rattle.replay.specs.Ending.{tally_in}
+use Rattle.gmi_calls.specs.Room.{AnswerWithin}
+use Rattle.replay.specs.Ending.{Summed, tally_in, WritesAs}
 use Rattle.replay.specs.OneLine.{LineIs, TellsCounts}
+use Rattle.replay.specs.declared.status.Status.{Status}
 use Rattle.replay.proofs.Made.{Gave, gave_all, gave_more, gave_none}
 use Rattle.replay.proofs.Running.{rise_none, rise_then, rises-push, run_push, step_of_line}
 
@@ -30,11 +31,11 @@ pub record Tried (beginning here : Position) (count : ℕ) (c d : MapperCounts) 
   pub rose : Rise c d (rises_of steps)
   pub tally_is : tally ≡ tally_in steps
 
-pub tried_none : (at : Position) (c : MapperCounts) (before : State) (tally : Tally) → tally ≡ tally_in [] → Tried at at 0 c c before before tally
-tried_none at c before tally none = record {
+pub tried_none : (at here : Position) (c : MapperCounts) (before : State) (tally : Tally) → here ≡ at → tally ≡ tally_in [] → Tried at here 0 c c before before tally
+tried_none at here c before tally begun none = record {
   given = [];
   size = omega arith;
-  gave = gave_none at;
+  gave = gave_none at here begun;
   steps = [];
   many = omega arith;
   runs = record { chain = refl; order = refl };
@@ -69,3 +70,17 @@ module _ (beginning here : Position) (count : ℕ) (c d : MapperCounts) (before 
   -- the lines of the script are answered
   pub tried_all : (total : ℕ) → count ≡ total → RunOf before (map command_of (lines_from beginning total)) h.steps between
   tried_all total all = subst (λ (lines : List (List ℕ)). RunOf before (map command_of lines) h.steps between) (sym (gave_all beginning here h.given h.gave total (h.size ∙ all))) h.runs
+
+  -- the summary is written
+  pub summed : (status : Status) (total : ℕ) (counts : Counts) (old new : Option (List ℕ)) → count ≡ total → WritesAs status old new (summary_of tally counts)
+      → Summed status (record { state = before; counts = c; written = old }) (record { state = between; counts = d; written = new }) (map command_of (lines_from beginning total)) counts
+  summed status total counts old new all writes = record {
+    steps = h.steps;
+    runs = tried_all total all;
+    rose = h.rose;
+    writes = subst (λ (t : Tally). WritesAs status old new (summary_of t counts)) h.tally_is writes;
+  }
+
+-- the counts that a manager tells whose room isn't limited
+pub told_counts : (room : Option ℕ) (state : State) (counts : Counts) → room ≡ None → AnswerWithin room state Stat (Ok (replies.Stat counts)) [] no_counts state → TellsCounts state counts
+told_counts room state counts unlimited answers = subst (λ (o : Option ℕ). AnswerWithin o state Stat (Ok (replies.Stat counts)) [] no_counts state) unlimited answers

@@ -153,15 +153,18 @@ others_among false (word ∷ words) = if is_hyphened word
     then others_among (not (list_any is_equals word)) words
     else word ∷ others_among false words
 
+-- what the words of a script and those of options ask for
+abbrev pub trial_of : List (List ℕ) → List (List ℕ) → Option Asked
+trial_of words options = option_and_then
+    (λ script. option_map (λ (size : Size). asks.Trial script size.frames) (asked_behind options))
+    (script_of words)
+
 -- What the words behind `trial` ask for: a script, and the options of `run` but `--page`, before,
 -- between or behind its two words.
 abbrev pub trial_behind : List (List ℕ) → Option Asked
 trial_behind words = if is_some (first_value (codes "--page") words)
     then None
-    else option_and_then
-    (λ script. option_map (λ (size : Size). asks.Trial script size.frames)
-    (asked_behind (options_among false words)))
-    (script_of (others_among false words))
+    else trial_of (others_among false words) (options_among false words)
 
 -- What the words of a command line ask for: they are `run` and its options, `generate` and a
 -- script, or `trial`, a script and options. None for other words.

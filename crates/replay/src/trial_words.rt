@@ -1,6 +1,6 @@
 // The words of a script that a number makes, and those of a trial of it.
 ghost use Rattle.std.specs.Prelude.{◌≡◌, false, map, IfOk};
-ghost use Rattle.replay.specs.Commanding.{is_hyphened, line_count_of, options_among, others_among, script_of, trial_behind};
+ghost use Rattle.replay.specs.Commanding.{is_hyphened, line_count_of, options_among, others_among, script_of, trial_behind, trial_of};
 
 use crate::asked::{Asked, Generated};
 use crate::words::{asked_behind, first_value};
@@ -67,6 +67,24 @@ fn part<'a>(alloc: Global, words: &[&'a str]) -> Result<Parted<'a>, NoMemory>
     Ok(Parted { options, others })
 }
 
+// What a script and options ask for.
+fn trial_of(
+    alloc: Global,
+    script: &[&str],
+    options: &[&str],
+) -> Result<Option<Asked>, NoMemory>
+    ensures { IfOk result (λ asked. asked
+        ≡ trial_of (map (λ w. w.now) script.now) (map (λ w. w.now) options.now)) }
+{
+    let Some(script) = script_in(script) else {
+        return Ok(None);
+    };
+    match asked_behind(alloc, options)? {
+        Some(size) => Ok(Some(Asked::Trial(script, size.frames))),
+        None => Ok(None),
+    }
+}
+
 /// What the words behind `trial` ask for: a script, and options before, between or behind its two
 /// words. `None` exactly for other words.
 pub fn trial_behind(alloc: Global, words: &[&str]) -> Result<Option<Asked>, NoMemory>
@@ -75,12 +93,8 @@ pub fn trial_behind(alloc: Global, words: &[&str]) -> Result<Option<Asked>, NoMe
     if first_value("--page", words).is_some() {
         return Ok(None);
     }
-    let parted = part(alloc, words)?;
-    let Some(script) = script_in(&parted.others) else {
-        return Ok(None);
-    };
-    match asked_behind(alloc, &parted.options)? {
-        Some(size) => Ok(Some(Asked::Trial(script, size.frames))),
-        None => Ok(None),
+    match part(alloc, words) {
+        Ok(parted) => trial_of(alloc, &parted.others, &parted.options),
+        Err(error) => Err(error),
     }
 }

@@ -119,12 +119,14 @@ pub fn read_words(alloc: Global, words: &[&str]) -> Result<Option<Asked>, NoMemo
     ensures { IfOk result (λ asked. asked ≡ asked_by (map (λ w. w.now) words.now)) }
 {
     match words {
-        [command, options @ ..] if *command == "run" => {
-            Ok(asked_behind(alloc, options)?.map(Asked::Run))
-        }
-        [command, script @ ..] if *command == "generate" => {
-            Ok(script_in(script).map(Asked::Generate))
-        }
+        [command, options @ ..] if *command == "run" => match asked_behind(alloc, options)? {
+            Some(size) => Ok(Some(Asked::Run(size))),
+            None => Ok(None),
+        },
+        [command, script @ ..] if *command == "generate" => match script_in(script) {
+            Some(script) => Ok(Some(Asked::Generate(script))),
+            None => Ok(None),
+        },
         [command, rest @ ..] if *command == "trial" => trial_behind(alloc, rest),
         _ => Ok(None),
     }
