@@ -11,7 +11,7 @@
 //! which is the demand-paged one. The program stands on it. The way of a byte: `replaying` reads
 //! pieces, `feeding` finds lines, `answering` answers one line, `gathered` keeps its reply. The
 //! replies to one piece go out together, and before the next piece is read. The lines that a number
-//! makes are written by `generating`, and answered by `trial`, which writes their summary.
+//! makes are written by `generating`, and answered by `trying`, which writes their summary.
 #![tactic(auto)]
 
 mod answering;
@@ -25,8 +25,8 @@ mod status;
 #[cfg(test)]
 mod tests;
 mod top;
-mod trial;
 mod trial_words;
+mod trying;
 mod words;
 
 pub use status::Status;

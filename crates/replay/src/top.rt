@@ -9,7 +9,7 @@ use crate::Status;
 use crate::asked::Asked;
 use crate::generating::generate;
 use crate::replaying::replay;
-use crate::trial::trial;
+use crate::trying::trial;
 use crate::words::read_words;
 use pvm_core::Pvm;
 use std::alloc::Global;

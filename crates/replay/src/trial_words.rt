@@ -1,6 +1,7 @@
 // The words of a script that a number makes, and those of a trial of it.
 ghost use Rattle.std.specs.Prelude.{◌≡◌, false, map, IfOk};
-ghost use Rattle.replay.specs.Commanding.{is_hyphened, line_count_of, options_among, others_among, script_of, trial_behind, trial_of};
+ghost use Rattle.std.specs.List.{list_any};
+ghost use Rattle.replay.specs.Commanding.{is_equals, is_hyphened, line_count_of, options_among, others_among, script_of, trial_behind, trial_of};
 
 use crate::asked::{Asked, Generated};
 use crate::words::{asked_behind, first_value};
@@ -45,6 +46,20 @@ pub fn script_in(words: &[&str]) -> Option<Generated>
     }
 }
 
+// Whether a hyphen begins a word.
+fn is_hyphened(word: &str) -> bool
+    ensures { result ≡ is_hyphened word.now }
+{
+    word.starts_with('-')
+}
+
+// Whether an option has its value in its own word.
+fn has_value(word: &str) -> bool
+    ensures { result ≡ list_any is_equals word.now }
+{
+    word.as_bytes().contains(&b'=')
+}
+
 // Parts words into those of options and the others. A hyphen begins an option, and its value is
 // the next word unless it has one itself.
 fn part<'a>(alloc: Global, words: &[&'a str]) -> Result<Parted<'a>, NoMemory>
@@ -57,9 +72,9 @@ fn part<'a>(alloc: Global, words: &[&'a str]) -> Result<Parted<'a>, NoMemory>
     let mut others = Vec::new(alloc);
     let mut is_value = false;
     for word in words {
-        if is_value || word.starts_with('-') {
+        if is_value || is_hyphened(word) {
             options.push(*word)?;
-            is_value = !is_value && !word.contains('=');
+            is_value = !is_value && !has_value(word);
         } else {
             others.push(*word)?;
         }

@@ -3,7 +3,7 @@ use Rattle.vm_model.specs.Run.{state_of}
 use Rattle.actor_script.specs.Generator.{beginning}
 use Rattle.replay.specs.OneLine.{CanAnswer}
 use Rattle.replay.proofs.Trying.{Tried}
-use Rattle.replay.proofs.trial.trial.Given as goal
+use Rattle.replay.proofs.trying.trial.Given as goal
 
 abbrev pub invariant-loop-line : goal.invariant-loop-line
 invariant-loop-line g l =
