@@ -96,6 +96,15 @@ impl Gathered {
         write_reply(number, answer, sink)
     }
 
+    // Gathers a line and a line feed, for which there is room.
+    fn append(&mut self, line: &[u8])
+        requires { HasRoomFor self.old line.now }
+        ensures { self.new ≡ self.old ++ (line.now ++ codes "\n") }
+    {
+        let _ = self.bytes.try_extend_from_slice(line);
+        let _ = self.bytes.try_extend_from_slice(b"\n");
+    }
+
     /// Gathers a line and a line feed. Where no room is left behind what is gathered, that is
     /// written first.
     ///
@@ -108,11 +117,12 @@ impl Gathered {
         ensures grew { Grew (K.written sink.old) (K.written sink.new) }
         ensures cause { HasCause (K.faults sink.old) (K.faults sink.new) result }
     {
-        if self.bytes.remaining_capacity() <= line.len() {
-            self.flush(sink)?;
+        if line.len() < self.bytes.remaining_capacity() {
+            self.append(line);
+            return Ok(());
         }
-        let _ = self.bytes.try_extend_from_slice(line);
-        let _ = self.bytes.try_push(b'\n');
+        self.flush(sink)?;
+        self.append(line);
         Ok(())
     }
 }
