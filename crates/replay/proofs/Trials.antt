@@ -33,9 +33,9 @@ same_counts a b e = cc
 counted : (m next : Machine) (f : PageForest) (counts : Counts) → (let all : Answered = record { answer = answered (counts_of f); next = m } in all) ≡ record { answer = answered counts; next = next } → counts_of f ≡ counts
 counted m next f counts e = same_counts (counts_of f) counts (ap (λ (x : Answered). x.answer) e)
 
-told_counts : (told : Option Segments) (m : Machine) (f : PageForest) (counts : Counts) → OutcomeAt told m (Some f) Stat (Ok (replies.Stat counts)) m no_counts → counts_of f ≡ counts
-told_counts (Some h) m f counts o = counted m m f counts o
-told_counts None m f counts o = by o.whole_answer o.alike o.outcome
+counts_at : (told : Option Segments) (m : Machine) (f : PageForest) (counts : Counts) → OutcomeAt told m (Some f) Stat (Ok (replies.Stat counts)) m no_counts → counts_of f ≡ counts
+counts_at (Some h) m f counts o = counted m m f counts o
+counts_at None m f counts o = by o.whole_answer o.alike o.outcome
   where
     by : (a : Answer) → IsAlike a (answered counts) → Outcome o.whole (Some f) Stat o.segments a o.whole_next no_counts → counts_of f ≡ counts
     by (Err trouble) alike outcome = absurd (cc)
@@ -49,7 +49,7 @@ told_counts None m f counts o = by o.whole_answer o.alike o.outcome
     by (Ok (replies.Stat own)) alike outcome = counted o.whole o.whole_next f own outcome ∙ same_counts own counts alike
 
 pub counts_told : (s : State) (f : PageForest) (counts : Counts) → s.forest ≡ Some f → TellsCounts s counts → counts_of f ≡ counts
-counts_told s f counts shown tells = told_counts s.segments s.machine f counts (subst (λ (o : Option PageForest). OutcomeAt s.segments s.machine o Stat (Ok (replies.Stat counts)) s.machine no_counts) shown tells.outcome)
+counts_told s f counts shown tells = counts_at s.segments s.machine f counts (subst (λ (o : Option PageForest). OutcomeAt s.segments s.machine o Stat (Ok (replies.Stat counts)) s.machine no_counts) shown tells.outcome)
 
 -- from a trial that began with some machine and some forest, which were those of the start
 pub trial_ends : (status : Status) (script : Generated) (frames : ℕ) (old now : Machine → PageForest → Scene) (told : Option Segments) (m last : Machine) (f forest : PageForest) (counts : Counts)

@@ -32,12 +32,12 @@ made_by_then f (Some x) y e = record { value = x; is = refl; holds = e }
 pub record IsRun (words : List (List ℕ)) (size : Size) : Type 0 where
   pub options : List (List ℕ)
   pub words_are : words ≡ codes "run" ∷ options
-  pub asks : asked_behind options ≡ Some size
+  pub size_is : asked_behind options ≡ Some size
 
 -- `generate` and a script
 pub record IsGenerate (words : List (List ℕ)) (script : Generated) : Type 0 where
   pub rest : List (List ℕ)
-  pub asks : script_of rest ≡ Some script
+  pub script_is : script_of rest ≡ Some script
 
 -- `trial`, a script and options
 pub record IsTrial (words : List (List ℕ)) (script : Generated) (frames : ℕ) : Type 0 where
@@ -90,7 +90,7 @@ kind_of_words (command ∷ words) asked e = by_run (bytes_eq command (codes "run
     by_generate : (b : Bool) → cond b (option_map asks.Generate (script_of words)) (cond (bytes_eq command (codes "trial")) (trial_behind words) None) ≡ Some asked → IsKind (command ∷ words) asked
     by_generate true e =
         let script = made_by_map asks.Generate (script_of words) asked e in
-        subst (IsKind (command ∷ words)) script.holds (record { rest = words; asks = script.is })
+        subst (IsKind (command ∷ words)) script.holds (record { rest = words; script_is = script.is })
     by_generate false e = by_trial (bytes_eq command (codes "trial")) refl e
 
     by_run : (b : Bool) → bytes_eq command (codes "run") ≡ b
@@ -98,7 +98,7 @@ kind_of_words (command ∷ words) asked e = by_run (bytes_eq command (codes "run
     by_run true t e =
         let size = made_by_map asks.Run (asked_behind words) asked e in
         subst (λ (all : List (List ℕ)). IsKind all asked) (sym (with_command (codes "run") t))
-        (subst (IsKind (codes "run" ∷ words)) size.holds (record { options = words; words_are = refl; asks = size.is }))
+        (subst (IsKind (codes "run" ∷ words)) size.holds (record { options = words; words_are = refl; size_is = size.is }))
     by_run false t e = by_generate (bytes_eq command (codes "generate")) e
 
 pub is_run : (words : List (List ℕ)) (size : Size) → asked_by words ≡ Some (asks.Run size) → IsRun words size
@@ -115,7 +115,7 @@ is_trial words script frames e = kind_of_words words (asks.Trial script frames) 
 pub run_page : (words : List (List ℕ)) (size : Size) → asked_by words ≡ Some (asks.Run size) → page_size_of words ≡ size.page_bytes
 run_page words size e =
     let run = is_run words size e in
-    ap page_size_of run.words_are ∙ page_behind run.options size run.asks
+    ap page_size_of run.words_are ∙ page_behind run.options size run.size_is
 
 pub trial_page : (words : List (List ℕ)) (script : Generated) (frames : ℕ) → asked_by words ≡ Some (asks.Trial script frames) → page_size_of words ≡ PAGE
 trial_page words script frames e =
@@ -141,7 +141,7 @@ size_bounds options size e =
     record { few = frames.0; frames = omega (arith, frames.1); some = page.0; page = page.1 }
 
 pub run_bounds : (words : List (List ℕ)) (size : Size) → asked_by words ≡ Some (asks.Run size) → HasBounds size.frames size.page_bytes
-run_bounds words size e = let run = is_run words size e in size_bounds run.options size run.asks
+run_bounds words size e = let run = is_run words size e in size_bounds run.options size run.size_is
 
 pub trial_bounds : (words : List (List ℕ)) (script : Generated) (frames : ℕ) → asked_by words ≡ Some (asks.Trial script frames) → HasBounds frames PAGE
 trial_bounds words script frames e =
@@ -175,7 +175,7 @@ script_few (number ∷ lines ∷ []) script e =
 script_few (number ∷ lines ∷ word ∷ words) script e = absurd (cc)
 
 pub generate_few : (words : List (List ℕ)) (script : Generated) → asked_by words ≡ Some (asks.Generate script) → script.lines ≤ 1000000
-generate_few words script e = let generate = is_generate words script e in (script_few generate.rest script generate.asks).1
+generate_few words script e = let generate = is_generate words script e in (script_few generate.rest script generate.script_is).1
 
 pub trial_few : (words : List (List ℕ)) (script : Generated) (frames : ℕ) → asked_by words ≡ Some (asks.Trial script frames) → script.lines ≤ 1000000
 trial_few words script frames e = let trial = is_trial words script frames e in (script_few (others_among false trial.rest) script trial.script_is).1
