@@ -1,8 +1,7 @@
 -- A region that goes from the actor that has it goes from all.
 use Rattle.std.proofs.Common.{◌≡◌, ◌==◌, ℕ, zero, suc, ◌+◌, ◌-◌, ◌≤◌, Bool, true, false, cond, not, List, [], ◌∷◌, set, map, Option, Some, None, refl, sym, ap, subst, ◌∙◌, arith}
-use Rattle.std.specs.Prelude.{IsSome, is_some, option_and_then, option_map, slice_get}
+use Rattle.std.specs.Prelude.{IsSome, is_some, option_map, slice_get}
 use Rattle.std.specs.Option.{option_or}
-use Rattle.std.proofs.lemmas.Bool.Decides.{nat_tests}
 use Rattle.vm_ids.specs.declared.numbers.ActorId.{ActorId}
 use Rattle.vm_model.specs.Answering.{without_region}
 use Rattle.vm_model.specs.Regions.{region_among, region_with}
@@ -12,7 +11,7 @@ use Rattle.vm_model.proofs.Parts.Lists.{at_number, numbered_place}
 use Rattle.regions.specs.AddressSpace.{AddressSpace}
 use Rattle.contexts.specs.Actors.{has_region}
 use Rattle.contexts.specs.Layout.{IsChanged, IsKept, owner_of, regions_in}
-use Rattle.contexts.proofs.Places.{Numbered}
+use Rattle.contexts.proofs.Places.{Numbered, number_at}
 use Rattle.contexts.proofs.Owners.{had_by}
 use Rattle.contexts.proofs.Kept.{changed_seen}
 
@@ -80,14 +79,6 @@ pub with_none : (n : ℕ) (xs : List (Option model.Actor)) → HaveNot n xs (λ 
 with_none n [] f = refl
 with_none n (None ∷ xs) f = with_none n xs (λ j rs e off. f (suc j) rs e off)
 with_none n (Some rs ∷ xs) f = neither (region_among n rs) (region_with n xs) (f 0 rs refl (λ off. off)) (with_none n xs (λ j qs e off. f (suc j) qs e off))
-
--- what stands at a place has the number behind it
-pub number_at : {A : Type 0} (xs : List (Option A)) (j : ℕ) (x : A) → slice_get xs j ≡ Some (Some x) → numbered xs (j + 1) ≡ Some x
-number_at xs j x e =
-    let other : (j + 1 == 0) ≡ false = grind (arith, nat_tests) in
-    let place : j + 1 - 1 ≡ j = omega arith in
-    ap (λ (c : Bool). cond c None (option_and_then (λ y. y) (slice_get xs (j + 1 - 1)))) other
-    ∙ ap (λ (k : ℕ). option_and_then (λ y. y) (slice_get xs k)) place ∙ ap (option_and_then (λ y. y)) e
 
 pub not_at : (n : ℕ) (xs : List (Option model.Actor)) → ((a : ℕ) → has_region n (numbered xs a) ≡ false) → HaveNot n xs (λ _. ⊥)
 not_at n xs none j rs e off = sym (ap (has_region n) (number_at xs j rs e)) ∙ none (j + 1)

@@ -1,6 +1,7 @@
 pub mod Living
 pub mod Places
 pub mod Owners
+pub mod Once
 pub mod Kept
 pub mod Sound
 pub mod Gone

@@ -45,6 +45,7 @@ pub kept_before : (page : ℕ) (owners : List ActorId) (a : ActorId) (actor : �
 kept_before page owners a actor s k = record {
   page_bytes = k.page_bytes;
   owned = All-weaker (IsFor owners actor) (IsFor (owners ++ a ∷ []) actor) (λ r e. owner_before owners a r.number (record { 0 = actor }) e) s.regions k.owned;
+  once = k.once;
 }
 
 insert_here : (P : model.Region → Type 0) (c : Bool) (r x : model.Region) (xs ys : model.Actor) → P r → P x → All P xs → All P ys → All P (cond c (r ∷ x ∷ xs) (x ∷ ys))

@@ -72,6 +72,14 @@ module _ {A : Type 0} (P : ℕ → A → Type 0) where
               let at : length xs + 1 ≡ k = (let same = s.0 in omega (arith, same, big)) in
               subst (λ (j : ℕ). P j x) at (subst (P (length xs + 1)) is new)
 
+-- what stands at a place has the number behind it
+pub number_at : {A : Type 0} (xs : List (Option A)) (j : ℕ) (x : A) → slice_get xs j ≡ Some (Some x) → numbered xs (j + 1) ≡ Some x
+number_at xs j x e =
+    let other : (j + 1 == 0) ≡ false = grind (arith, nat_tests) in
+    let place : j + 1 - 1 ≡ j = omega arith in
+    ap (λ (c : Bool). cond c None (option_and_then (λ y. y) (slice_get xs (j + 1 - 1)))) other
+    ∙ ap (λ (k : ℕ). option_and_then (λ y. y) (slice_get xs k)) place ∙ ap (option_and_then (λ y. y)) e
+
 -- what is found at the place of a living actor is its space
 pub found_here : {A : Type 0} (xs : List (Option A)) (n : ℕ) (d o : Option A) → IsSome (numbered xs n) → get_or xs (n - 1) d ≡ o → numbered xs n ≡ o
 found_here xs n d o alive e =

@@ -1,5 +1,6 @@
 -- What the fields are, after one actor has other regions.
-use Rattle.std.proofs.Common.{◌≡◌, ℕ, ◌+◌, ◌<◌, ◌≤◌, ◌^◌, List, [], ◌∷◌, ◌++◌, length, Some, sym, ap, subst, ◌∙◌, arith}
+use Rattle.std.proofs.Common.{◌≡◌, ℕ, ◌+◌, ◌<◌, ◌≤◌, ◌^◌, List, [], ◌∷◌, ◌++◌, length, Option, Some, sym, ap, subst, ◌∙◌, arith}
+use Rattle.std.specs.Prelude.{count_by, is_some}
 use Rattle.std.specs.List.{All}
 use Rattle.std.proofs.lemmas.List.{length-append}
 use Rattle.std.proofs.lemmas.List.Elements.{All-weaker}
@@ -7,41 +8,59 @@ use Rattle.vm_ids.specs.declared.numbers.ActorId.{ActorId}
 use Rattle.vm_model.specs.Machine as model
 use Rattle.vm_model.specs.declared.limits.TheConstants.{MOST_MADE}
 use Rattle.regions.specs.AddressSpace.{AddressSpace}
+use Rattle.contexts.specs.Actors.{times_among}
 use Rattle.contexts.specs.Layout.{IsChanged, IsKept, IsSound, owner_of}
 use Rattle.contexts.specs.declared.contexts.Contexts.TheInside.{Inside}
 use Rattle.contexts.proofs.Owners.{IsFor, kept_before, owner_before, owner_next}
+use Rattle.contexts.proofs.Once.{AreOnce, once_more}
 use Rattle.contexts.proofs.Places.{Numbered}
 use Rattle.contexts.proofs.Kept.{changed_kept, changed_living}
 
 module _ (i j : Inside) (k : IsSound i) (page : j.page ≡ i.page) (living : j.living ≡ i.living) where
   sound_changed : (a : ℕ) (by : model.Actor → model.Actor) (e : IsChanged a by i.actors.items j.actors.items) → length j.owners.items ≤ MOST_MADE
       → ((n : ℕ) (s : AddressSpace) → IsKept i.page i.owners.items n s → IsKept i.page j.owners.items n s) → (All (IsFor i.owners.items a) e.space.regions → All (IsFor j.owners.items a) (by e.space.regions))
-      → IsSound j
-  sound_changed a by e few weaker this = record {
+      → (All (IsFor i.owners.items a) e.space.regions → AreOnce e.space.regions → AreOnce (by e.space.regions)) → IsSound j
+  sound_changed a by e few weaker this once = record {
     some = subst (λ (p : ℕ). 1 ≤ p) (sym page) k.some;
     most = subst (λ (p : ℕ). p ≤ 2 ^ 16) (sym page) k.most;
     living = living ∙ k.living ∙ sym (changed_living a by i.actors.items j.actors.items e);
     few = few;
     kept = subst (λ (p : ℕ). Numbered (IsKept p j.owners.items) j.actors.items) (sym page)
-        (changed_kept a by i.actors.items j.actors.items e i.page i.owners.items j.owners.items weaker this k.kept);
+        (changed_kept a by i.actors.items j.actors.items e i.page i.owners.items j.owners.items weaker this once k.kept);
+  }
+
+  -- the actors and the owners are as they were
+  pub sound_still : j.actors.items ≡ i.actors.items → j.owners.items ≡ i.owners.items → IsSound j
+  sound_still actors owners = record {
+    some = subst (λ (p : ℕ). 1 ≤ p) (sym page) k.some;
+    most = subst (λ (p : ℕ). p ≤ 2 ^ 16) (sym page) k.most;
+    living = living ∙ k.living ∙ sym (ap (count_by is_some) actors);
+    few = subst (λ (os : List ActorId). length os ≤ MOST_MADE) (sym owners) k.few;
+    kept = subst (λ (xs : List (Option AddressSpace)). Numbered (IsKept j.page j.owners.items) xs) (sym actors)
+        (subst (λ (os : List ActorId). Numbered (IsKept j.page os) i.actors.items) (sym owners)
+        (subst (λ (p : ℕ). Numbered (IsKept p i.owners.items) i.actors.items) (sym page) k.kept));
   }
 
   -- no region was made
   pub sound_same : (a : ℕ) (by : model.Actor → model.Actor) (e : IsChanged a by i.actors.items j.actors.items) → j.owners.items ≡ i.owners.items
-      → (All (IsFor i.owners.items a) e.space.regions → All (IsFor i.owners.items a) (by e.space.regions)) → IsSound j
-  sound_same a by e owners this =
+      → (All (IsFor i.owners.items a) e.space.regions → All (IsFor i.owners.items a) (by e.space.regions)) → (AreOnce e.space.regions → AreOnce (by e.space.regions)) → IsSound j
+  sound_same a by e owners this once =
       sound_changed a by e (subst (λ (os : List ActorId). length os ≤ MOST_MADE) (sym owners) k.few)
       (subst (λ (os : List ActorId). (n : ℕ) (s : AddressSpace) → IsKept i.page i.owners.items n s → IsKept i.page os n s) (sym owners) (λ n s h. h))
       (subst (λ (os : List ActorId). All (IsFor i.owners.items a) e.space.regions → All (IsFor os a) (by e.space.regions)) (sym owners) this)
+      (λ _. once)
 
   -- one was made for this actor
-  pub sound_more : (actor : ActorId) (by : model.Actor → model.Actor) (e : IsChanged actor.0 by i.actors.items j.actors.items) → j.owners.items ≡ i.owners.items ++ actor ∷ []
+  pub sound_more : (actor : ActorId) (fresh : model.Region) (by : model.Actor → model.Actor) (e : IsChanged actor.0 by i.actors.items j.actors.items) → j.owners.items ≡ i.owners.items ++ actor ∷ []
       → length i.owners.items < MOST_MADE
-      → ((P : ℕ → Type 0) → P (length i.owners.items + 1) → All (λ (r : model.Region). P r.number) e.space.regions → All (λ (r : model.Region). P r.number) (by e.space.regions)) → IsSound j
-  sound_more actor by e owners few this =
+      → fresh.number ≡ length i.owners.items + 1
+      → ((P : ℕ → Type 0) → P fresh.number → All (λ (r : model.Region). P r.number) e.space.regions → All (λ (r : model.Region). P r.number) (by e.space.regions))
+      → ((n : ℕ) → times_among n (Some (by e.space.regions)) ≡ times_among n (Some (fresh ∷ e.space.regions))) → IsSound j
+  sound_more actor fresh by e owners few next this more_by =
       let more : List ActorId = i.owners.items ++ actor ∷ [] in
       sound_changed actor.0 by e (omega (arith, few, ap length owners, length-append i.owners.items (actor ∷ [])))
       (subst (λ (os : List ActorId). (n : ℕ) (s : AddressSpace) → IsKept i.page i.owners.items n s → IsKept i.page os n s) (sym owners) (kept_before i.page i.owners.items actor))
       (λ h. subst (λ (os : List ActorId). All (IsFor os actor.0) (by e.space.regions)) (sym owners)
-      (this (λ n. owner_of more n ≡ Some actor) (owner_next i.owners.items actor)
+      (this (λ n. owner_of more n ≡ Some actor) (subst (λ (n : ℕ). owner_of more n ≡ Some actor) (sym next) (owner_next i.owners.items actor))
       (All-weaker (IsFor i.owners.items actor.0) (IsFor more actor.0) (λ r f. owner_before i.owners.items actor r.number actor f) e.space.regions h)))
+      (λ h once. once_more i.owners.items actor.0 fresh e.space.regions (by e.space.regions) next h more_by once)

@@ -16,10 +16,10 @@ use Rattle.regions.specs.declared.region.RegionView.{RegionView}
 use Rattle.contexts.specs.Actors.{Actors, cut_refusal, has_region, split_refusal}
 use Rattle.contexts.specs.Layout.{IsChanged, IsKept, owner_of, regions_in}
 use Rattle.contexts.proofs.Living.{regions_of}
-use Rattle.contexts.proofs.Places.{Numbered}
+use Rattle.contexts.proofs.Places.{Numbered, number_at}
 use Rattle.contexts.proofs.Owners.{had_by, nobody}
 use Rattle.contexts.proofs.Kept.{alive_in, changed_seen}
-use Rattle.contexts.proofs.Gone.{not_at, number_at, with_actor, with_none}
+use Rattle.contexts.proofs.Gone.{not_at, with_actor, with_none}
 
 -- something is told where some actor has the region
 pub told_some : (n first : ℕ) (xs : List (Option model.Actor)) → is_some (status_with n first xs) ≡ is_some (region_with n xs)

@@ -11,7 +11,9 @@ ghost use Rattle.vm_model.specs.Place.{place_of_actor};
 ghost use Rattle.contexts.specs.Actors.{has_region, holder_of, is_full, next_region, split_refusal, times_made, with_region, with_split};
 ghost use Rattle.contexts.specs.Layout.{owner_of};
 
-use crate::spaces::{add_region, lock_region, maps_any, protect_region, remove_region, split_region};
+use crate::spaces::{
+    add_region, lock_region, maps_any, protect_region, remove_region, split_region,
+};
 use regions::{Place, RegionMap};
 use std::alloc::Global;
 use std::marker::Model;

@@ -56,6 +56,8 @@ fn a_region_is_cut_in_two(rt: HostRuntime) -> Result<(), Fail> {
     let back = contexts.split(front, 1).expect(&rt, "a region");
     assert!(rt; contexts.protect(front, Prot { write: false }));
     assert!(rt; !contexts.protect(RegionId(3), Prot { write: false }));
+    assert!(rt; contexts.set_locked(back, true));
+    assert!(rt; !contexts.set_locked(RegionId(3), true));
     assert!(rt; contexts.find(actor, 8192) == Ok(front));
     assert!(rt; contexts.find(actor, 12_288) == Ok(back));
     assert!(rt; contexts.find(actor, 16_384) == Err(Refusal::BadAddress));
@@ -63,5 +65,6 @@ fn a_region_is_cut_in_two(rt: HostRuntime) -> Result<(), Fail> {
     assert_eq!(rt; status.actor, actor);
     assert_eq!(rt; status.mapping.address, 12_288);
     assert!(rt; status.mapping.prot.write);
+    assert!(rt; status.locked);
     Ok(())
 }

@@ -24,7 +24,7 @@ use Rattle.vm_model.specs.Machine.{Machine, Cache, Page, cache_of, cache_named, 
 use Rattle.vm_model.specs.Place.{place}
 use Rattle.vm_model.specs.PageForest.{PageForest, forest_shown}
 use Rattle.vm_model.specs.Outcome.{Outcome}
-use Rattle.vm_model.specs.Answering.{Answer, Answered, answer_of, chain_answer, copy_of, destroy_of, exit_actor_of, find_of, flush_of, held_for, held_part, invalidate_of, is_denied_page, load_of, make_actor_of, make_temp_of, map_of, move_of, open_of, opened, overwrite, page_at, passes_end, protect_of, put_cache, put_page, put_pages, split_of, status_of, store_of, sync_of, temporary, unmap_of}
+use Rattle.vm_model.specs.Answering.{Answer, Answered, answer_of, chain_answer, copy_of, destroy_of, exit_actor_of, find_of, flush_of, held_for, held_part, invalidate_of, is_denied_page, load_of, lock_of, make_actor_of, make_temp_of, map_of, move_of, open_of, opened, overwrite, page_at, passes_end, protect_of, put_cache, put_page, put_pages, split_of, status_of, store_of, sync_of, temporary, unlock_of, unmap_of}
 use Rattle.vm_model.proofs.Parts.Lists.{get_set_other, length-overwrite, numbered-set, numbered_place}
 use Rattle.vm_model.proofs.Parts.ListParts.{numbered_push, numbered_pushed, numbered_set, numbered_set_other, overwrite_before, overwrite_behind, overwrite_in}
 use Rattle.vm_model.proofs.Parts.Naming.{names_none, only_named, segment_cache}
@@ -264,6 +264,19 @@ module _ (m : Machine) (s : Segments) (B : AreBacked m.caches s) where
   unfolding protect_of
   protect_row n prot = each_some RowBacked _ _ m _ B (λ r there. B)
 
+  lock_row : (n : ℕ) → RowBacked (lock_of m n)
+  unfolding lock_of
+  lock_row n =
+      each_some RowBacked _ _ m _ B (λ r there.
+      each_unless RowBacked _ _ m _ B (λ unlocked.
+      each_unless RowBacked _ _ m _ B (λ few. B)))
+
+  unlock_row : (n : ℕ) → RowBacked (unlock_of m n)
+  unfolding unlock_of
+  unlock_row n =
+      each_some RowBacked _ _ m _ B (λ r there.
+      each_unless RowBacked _ _ m _ B (λ locked. B))
+
   status_row : (n : ℕ) → RowBacked (status_of m n)
   unfolding status_of
   status_row n = each_some RowBacked _ _ m _ B (λ told there. B)
@@ -382,6 +395,8 @@ module _ (m : Machine) (s : Segments) (B : AreBacked m.caches s) where
   rows f (commands.Map actor mapping) = map_row m s B actor.0 mapping
   rows f (commands.Split region pages) = split_row m s B region.0 pages
   rows f (commands.Protect region prot) = protect_row m s B region.0 prot
+  rows f (commands.Lock region) = lock_row m s B region.0
+  rows f (commands.Unlock region) = unlock_row m s B region.0
   rows f (commands.Unmap region) = unmap_row m s B region.0
   rows f (commands.Status region) = status_row m s B region.0
   rows f (commands.Find actor address) = find_row m s B actor.0 address

@@ -181,7 +181,7 @@ answer_each told m next c a reaches ready x f s = record {
 -- the same for a call that is handed the mapper and leaves it
 pub call_each : (counts : MapperCounts) (told : Option Held) (m next : Machine) (c : Command) (a : Answer) → ReachesMapper c no_counts → IsReady m told → HasWholePages next → PlainOutcome m c a next → IsSynchronised m (segments_of told) c a
     → CallIs counts counts (eager_state told m) c a (eager_state told next)
-call_each counts told m next c a reaches ready x f s = without_mapper counts (eager_state told m) (eager_state told next) c a (answer_each told m next c a reaches ready x f s)
+call_each counts told m next c a reaches ready x f s = without_mapper None counts (eager_state told m) (eager_state told next) c a (answer_each told m next c a reaches ready x f s)
 
 -- What is ready stays so --------------------------------------------------------------------
 

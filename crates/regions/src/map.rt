@@ -1,5 +1,5 @@
 // The regions of one actor.
-ghost use Rattle.std.specs.Prelude.{◌≡◌, ◌==◌, ℕ, ◌-◌, ◌≤◌, ◌<◌, ◌^◌, ◌∷◌, [], false, not, option_map, IsOk, OnOk, OnErr, IsSomeAnd, IsSome};
+ghost use Rattle.std.specs.Prelude.{◌≡◌, ◌==◌, ℕ, ◌-◌, ◌≤◌, ◌<◌, ◌^◌, ◌∷◌, [], false, length, not, option_map, slice_get, IsOk, OnOk, OnErr, IsSomeAnd, IsSome};
 ghost use Rattle.std.specs.List.{list_any};
 ghost use Rattle.vm_model.specs.Answering.{insert_region, overlaps, region_of, without_region};
 ghost use Rattle.vm_model.specs.Regions.{region_among, replace_region, split_at, with_lock, with_prot};

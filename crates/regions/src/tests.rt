@@ -55,6 +55,10 @@ fn regions_are_made_cut_and_taken_away(rt: HostRuntime) -> Result<(), Fail> {
     };
     assert!(rt; map.locate(0x7ff0, 16) == Ok(place));
     assert!(rt; map.locate(0x7ff0, 17) == Err(Refusal::Crosses));
+    assert_eq!(rt; map.count(), 3);
+    let first = map.nth(0).expect(&rt, "the first region");
+    assert_eq!(rt; first.mapping.address, 0x2000);
+    assert!(rt; map.nth(3).is_none());
     map.destroy(three);
     assert!(rt; map.status(three).is_none());
     assert!(rt; map.locate(0x7ff0, 16) == Err(Refusal::BadAddress));

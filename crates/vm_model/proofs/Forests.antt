@@ -2,6 +2,7 @@
 pub mod Plain
 pub mod PlainFollows
 pub mod Following
+pub mod Locked
 pub mod Followed
 pub mod Blank
 pub mod Untold

@@ -1,6 +1,6 @@
 -- The region with a number, where it stands, and what becomes of it.
 use Rattle.std.proofs.Common.{◌≡◌, ◌==◌, ℕ, zero, suc, ◌+◌, ◌-◌, ◌<◌, ◌≤◌, Bool, true, false, cond, List, [], ◌∷◌, ◌++◌, length, get_or, set, take, drop, map, Option, Some, None, refl, sym, ap, subst, ◌∙◌, arith, rules, Vec, Global}
-use Rattle.std.specs.Prelude.{MatchOption, count_by, insert, is_some, option_and_then, option_map, slice_get}
+use Rattle.std.specs.Prelude.{count_by, insert, is_some, option_and_then, option_map, slice_get}
 use Rattle.std.specs.List.{All}
 use Rattle.std.specs.Option.{option_or}
 use Rattle.std.proofs.lemmas.Bool.Decides.{nat_tests}
@@ -242,14 +242,13 @@ module _ (n : ℕ) where
             old;
       }
 
-  -- what was looked for and is there
-  pub with_some_located : (xs : List (Option Actor)) (o : Option Located) → MatchOption o (region_with n (actors_seen xs) ≡ None) (IsLocated n xs) → is_some o ≡ true → (r : model.Region) × (region_with n (actors_seen xs) ≡ Some r)
-  with_some_located xs None none some = absurd (search rules)
-  with_some_located xs (Some l) here some = (region_seen l.region, with_is xs l here)
-
   -- where no living actor has the region, nothing is told
   pub nothing_told : (xs : List (Option model.Actor)) → region_with n xs ≡ None → status_with n 1 xs ≡ None
   nothing_told xs none = ap (status_with n 1) (sym (append-nil xs)) ∙ status_behind 1 xs [] none
+
+  -- and nothing changes
+  pub nothing_changes : (m : model.Machine) (by : model.Region → List model.Region) → region_with n m.actors ≡ None → change_region m n by ≡ m
+  nothing_changes m by none = ap (λ xs. record m { actors = xs }) (ap (replace_in n by) (sym (append-nil m.actors)) ∙ in_behind by m.actors [] none ∙ append-nil m.actors)
 
   -- The tables after a region became others -------------------------------------------------
 

@@ -3,3 +3,4 @@ pub mod Sound
 pub mod Taking
 pub mod Regions
 pub mod Awaiting
+pub mod Locks

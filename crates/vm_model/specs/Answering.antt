@@ -20,7 +20,7 @@ use Rattle.vm_ids.specs.declared.refusal.Refusal.TheVariants as refusals
 use Rattle.vm_ids.specs.declared.numbers.CacheId.{CacheId}
 use Rattle.vm_ids.specs.Forest.Reading.{chain_of, counts_of}
 use Rattle.vm_ids.specs.Forest.Commands.{page_name}
-use Rattle.vm_model.specs.declared.limits.TheConstants.{LIVING_ACTORS, LIVE_PAGES, MOST_MADE}
+use Rattle.vm_model.specs.declared.limits.TheConstants.{LIVING_ACTORS, LIVE_PAGES, MOST_MADE, UNLOCKED_FRAMES}
 use Rattle.vm_model.specs.Machine.{Machine, Page, Cache, Region, Actor, zero_page, live_pages, living_actors, cache_of, cache_named, segment_of, actor_of, is_locked_page, locked_pages}
 use Rattle.vm_model.specs.PageForest.{PageForest}
 use Rattle.vm_model.specs.Place.{Place, place, region_at}
@@ -267,10 +267,6 @@ unfoldable pub protect_of : Machine → ℕ → Prot → Answered
 protect_of m number prot =
     with_some (region_with number m.actors) refusals.NoRegion m (λ r.
     reply replies.Done (change_region m number (with_prot prot)))
-
--- Accesses need so many page frames that no locked page takes.
-abbrev pub UNLOCKED_FRAMES : ℕ
-UNLOCKED_FRAMES = 3
 
 -- so many pages are locked that an access could lack a frame
 abbrev pub passes_lock_limit : Machine → Bool

@@ -1,5 +1,5 @@
 -- What a caller of the commands keeps to, and what a command may do beside answering.
-use Rattle.std.specs.Prelude.{◌≡◌, ◌≤◌, ℕ, ◌+◌}
+use Rattle.std.specs.Prelude.{◌≡◌, ◌≤◌, ℕ, ◌+◌, min}
 use Rattle.std.specs.Option.{option_map_or}
 use Rattle.vm_ids.specs.Counting.{MapperCounts, no_counts}
 use Rattle.vm_ids.specs.declared.command.Command.{Command}
@@ -38,10 +38,11 @@ ReachesMapper (commands.Chain cache page) rises = rises ≡ no_counts
 ReachesMapper commands.Stat rises = rises ≡ no_counts
 ReachesMapper command rises = Unit {0}
 
--- the pages of the region with this number, where a living actor has it
+-- the pages of the region with this number, where a living actor has it: no more than its cache has
 abbrev pub pages_of_region : Machine → ℕ → ℕ
 pages_of_region m number =
-    option_map_or (λ (r : Region). r.pages) (region_with number m.actors) 0
+    option_map_or (λ (r : Region). min r.pages (pages_in (cache_of m r.cache)))
+    (region_with number m.actors) 0
 
 -- the pages of two caches that a copy or move names, and those that it copies or moves
 abbrev pub pages_of_span : Machine → Span → ℕ

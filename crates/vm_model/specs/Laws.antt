@@ -86,7 +86,7 @@ abbrev pub AnswersAreFollowed : Type 0
 AnswersAreFollowed =
     (m next : Machine) (f : PageForest) (command : Command) (h : Segments) (answer : Answer)
     (rises : MapperCounts)
-    → 1 ≤ m.page_bytes → HasWholePages m → HasMappedPages m → IsWellFormed command → IsFollowed m f
+    → IsLaid m → HasWholePages m → IsWellFormed command → IsFollowed m f
     → Outcome m (Some f) command h answer next rises
     → IsFollowed next (forest_after f m command answer next)
 

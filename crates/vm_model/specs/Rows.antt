@@ -98,13 +98,23 @@ copy c o d q n = commands.Copy (span c o d q n)
 abbrev pub move_ : ℕ → ℕ → ℕ → ℕ → ℕ → Command
 move_ c o d q n = commands.Move (span c o d q n)
 
--- the first n pages of cache c, mapped for writing by the first actor
+abbrev pub extent : ℕ → ℕ → ℕ → Extent
+extent c o n = record { cache = record { 0 = c }; first = record { 0 = o }; pages = n }
+
+-- n pages of cache c, from page o on, mapped for writing by the first actor
+abbrev pub map_part : ℕ → ℕ → ℕ → ℕ → Command
+map_part c o n address = commands.Map (record { 0 = 1 })
+    (record { extent = extent c o n; address = address; prot = record { write = true } })
+
+-- the first n pages of cache c
 abbrev pub map_ : ℕ → ℕ → ℕ → Command
-map_ c n address = commands.Map (record { 0 = 1 }) (record {
-  extent = record { cache = record { 0 = c }; first = record { 0 = 0 }; pages = n };
-  address = address;
-  prot = record { write = true };
-})
+map_ c n address = map_part c 0 n address
+
+abbrev pub lock : ℕ → Command
+lock region = commands.Lock (record { 0 = region })
+
+abbrev pub unlock : ℕ → Command
+unlock region = commands.Unlock (record { 0 = region })
 
 abbrev pub unmap : ℕ → Command
 unmap region = commands.Unmap (record { 0 = region })
@@ -136,9 +146,6 @@ chain c p = commands.Chain (record { 0 = c }) (record { 0 = p })
 
 abbrev pub open_ : ℕ → Command
 open_ seg = commands.OpenSegment (record { 0 = seg })
-
-abbrev pub extent : ℕ → ℕ → ℕ → Extent
-extent c o n = record { cache = record { 0 = c }; first = record { 0 = o }; pages = n }
 
 abbrev pub invalidate : ℕ → ℕ → ℕ → Command
 invalidate c o n = commands.Invalidate (extent c o n)
@@ -280,6 +287,19 @@ SplitProtectedAndExited = Answers
     ∷ no refusals.InUse ∷ no refusals.NoActor ∷ ok ∷ no refusals.NoActor
     ∷ no refusals.NoRegion ∷ no refusals.NoRegion ∷ no refusals.NoRegion ∷ no refusals.NoActor
     ∷ no refusals.NoActor ∷ ok ∷ [])
+
+-- Five pages of a copy are locked, and with 8 frames a sixth can't be: until they are unlocked, they
+-- are neither unmapped nor copied to. A locked page is a copy of its own, and is stored into.
+abbrev pub LockedAndUnlocked : Type 0
+LockedAndUnlocked = Answers
+    (commands.MakeActor ∷ temp 6 ∷ temp 6 ∷ map_ 1 6 65536 ∷ store 65536 1 ∷ copy 1 0 2 0 6
+    ∷ map_part 2 0 5 131072 ∷ map_part 2 5 1 196608 ∷ lock 2 ∷ lock 3 ∷ lock 2 ∷ unlock 3
+    ∷ store 131072 2 ∷ load 65536 ∷ unmap 2 ∷ copy 1 0 2 0 1
+    ∷ unlock 2 ∷ lock 3 ∷ commands.Stat ∷ [])
+    (ok_a 1 ∷ ok_c 1 ∷ ok_c 2 ∷ ok_r 1 ∷ ok ∷ ok
+    ∷ ok_r 2 ∷ ok_r 3 ∷ ok ∷ no refusals.LockLimit ∷ no refusals.Locked ∷ no refusals.NotLocked
+    ∷ ok ∷ ok_byte 1 ∷ no refusals.Locked ∷ no refusals.Locked
+    ∷ ok ∷ ok ∷ ok_stat 12 0 6 ∷ [])
 
 -- The page that a store changed is lost where it is invalidated, and a copy that was made before
 -- keeps it.

@@ -23,7 +23,7 @@ region_seen r =
       may_write = r.may_write;
       cache = r.cache.0;
       offset = r.offset;
-      locked = false;
+      locked = r.locked;
     }
 
 abbrev pub pages_seen : Cache → List (List ℕ)
@@ -106,7 +106,8 @@ HasPages page_bytes (Some c) = All (λ p. length p.items ≡ page_bytes) c.pages
 pub record IsSound (t : Tables) : Type 0 where
   pub some : 1 ≤ t.page_bytes
   pub most : t.page_bytes ≤ 2 ^ 16
-  pub few : length t.actors.items ≤ MOST_MADE
+  pub few_actors : length t.actors.items ≤ MOST_MADE
+  pub few_caches : length t.caches.items ≤ MOST_MADE
   pub living : t.living ≡ model.living_actors (machine_seen t)
   pub live : t.live ≡ model.live_pages (machine_seen t)
   pub whole : All (HasPages t.page_bytes) t.caches.items

@@ -2,12 +2,13 @@
 ghost use Rattle.std.specs.Prelude.{None, ◌≡◌, ℕ, ◌+◌, ◌≤◌, ◌<◌, ◌^◌, ◌||◌, ◌&&◌, ◌==◌, List, map, length, take, drop, All, IfOk, IsSomeAnd, option_map, slice_set, ◌-◌, [], false, OnOk, OnErr};
 ghost use Rattle.std.specs.Option.{option_map_or};
 ghost use Rattle.vm_model.specs.Allowed.{AllowedOutcome, AwaitsAccess};
-ghost use Rattle.vm_model.specs.Answering.{answer_by, overlaps_itself, overwrite, put_pages, shares};
+ghost use Rattle.vm_model.specs.Answering.{answer_by, is_any_locked, overlaps_itself, overwrite, put_pages, shares};
 ghost use Rattle.vm_model.specs.Machine.{cache_of, numbered, pages_in, segment_of};
 ghost use Rattle.vm_model.specs.Outcome.{PlainOutcome};
 ghost use Rattle.vm_model.specs.Seen.{machine_seen, cache_seen, pages_seen, IsSound, IsSpanned};
 
 use crate::caches::zero_pages;
+use crate::locks::is_any_locked;
 use crate::place::{cache_at, passes_end, segment_of};
 use crate::tables::{Cache, Tables};
 use std::alloc::{AllocError, Global};
@@ -106,12 +107,17 @@ pub(crate) fn check_copy(tables: &Tables, span: &Span) -> Result<Option<SegId>, 
     ensures few { OnOk result (span.now.to_page.0 + span.now.pages < 2 ^ 32) }
     ensures spanned { OnOk result (IsSpanned tables.now span.now) }
     ensures apart { OnOk result (overlaps_itself span.now ≡ false) }
+    ensures unlocked { OnOk result (is_any_locked (machine_seen tables.now) span.now.to
+        span.now.to_page.0 span.now.pages ≡ false) }
 {
     if let Err(trouble) = check_span(tables, span) {
         return Err(trouble);
     }
     if overlaps(span) {
         return Err(Trouble::Refused(Refusal::Overlap));
+    }
+    if is_any_locked(tables, span.to, span.to_page, span.pages) {
+        return Err(Trouble::Refused(Refusal::Locked));
     }
     Ok(segment_of(tables, span.to))
 }
@@ -132,6 +138,10 @@ pub(crate) fn check_move(tables: &Tables, span: &Span) -> Result<Option<SegId>, 
     ensures temporary { OnOk result
         (segment_of (machine_seen tables.now) span.now.from.0 ≡ None) }
     ensures apart { OnOk result (overlaps_itself span.now ≡ false) }
+    ensures left { OnOk result (is_any_locked (machine_seen tables.now) span.now.from
+        span.now.from_page.0 span.now.pages ≡ false) }
+    ensures unlocked { OnOk result (is_any_locked (machine_seen tables.now) span.now.to
+        span.now.to_page.0 span.now.pages ≡ false) }
 {
     if let Err(trouble) = check_span(tables, span) {
         return Err(trouble);
@@ -141,6 +151,11 @@ pub(crate) fn check_move(tables: &Tables, span: &Span) -> Result<Option<SegId>, 
     }
     if overlaps(span) {
         return Err(Trouble::Refused(Refusal::Overlap));
+    }
+    if is_any_locked(tables, span.from, span.from_page, span.pages)
+        || is_any_locked(tables, span.to, span.to_page, span.pages)
+    {
+        return Err(Trouble::Refused(Refusal::Locked));
     }
     Ok(segment_of(tables, span.to))
 }

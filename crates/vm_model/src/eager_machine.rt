@@ -1,10 +1,10 @@
 // The eager machine: the plain one, computed.
-ghost use Rattle.std.specs.Prelude.{None, Some, Ok, ◌≡◌, ◌+◌, ◌≤◌, ◌<◌, ◌^◌, length, map, replicate, option_map, All, IfOk, IsOkAnd, IsSome, OnOk, OnErr};
+ghost use Rattle.std.specs.Prelude.{None, Some, Ok, false, ◌≡◌, ◌+◌, ◌≤◌, ◌<◌, ◌^◌, length, map, replicate, option_map, All, IfOk, IsOkAnd, IsSome, OnOk, OnErr};
 ghost use Rattle.std.specs.FinMap.{get};
 ghost use Rattle.vm_ids.specs.Counting.{no_counts};
 ghost use Rattle.vm_ids.specs.Held.{Segments};
 ghost use Rattle.vm_model.specs.Allowed.{AllowedOutcome, AwaitsAccess, CanOpen, MayFailToOpen, numbers_of, segment_place};
-ghost use Rattle.vm_model.specs.Answering.{answer_by, held_for, held_part};
+ghost use Rattle.vm_model.specs.Answering.{answer_by, held_for, held_part, is_any_locked};
 ghost use Rattle.vm_model.specs.Machine.{Machine, cache_of, live_pages, pages_in, segment_of, start, zero_page};
 ghost use Rattle.vm_model.specs.Outcome.{HasWholePages, Outcome, PlainOutcome};
 ghost use Rattle.vm_model.specs.PageForest.{page_in};
@@ -12,7 +12,9 @@ ghost use Rattle.vm_model.specs.Place.{place};
 ghost use Rattle.vm_model.specs.Seen.{machine_seen, IsSound};
 
 use crate::tables::Tables;
-use crate::{LIVE_PAGES, accesses, actors, caches, copies, extents, located, maps, place, telling};
+use crate::{
+    LIVE_PAGES, accesses, actors, caches, copies, extents, located, locks, maps, place, telling,
+};
 use std::alloc::Global;
 use std::marker::Model;
 use vm_ids::{
@@ -175,8 +177,7 @@ impl EagerMachine {
     }
 
     /// The segment whose pages a copy would change, or none where the destination is temporary.
-    /// Refused as `NoCache`, `OutOfCache` or `Overlap`, in this order; no page of this machine is
-    /// locked.
+    /// Refused as `NoCache`, `OutOfCache`, `Overlap` or `Locked`, in this order.
     pub fn check_copy(&self, span: &Span) -> Result<Option<SegId>, Trouble>
         ensures refused { OnErr result (PlainOutcome self.now (Command.Copy span.now)
             (answer_by (λ _. Reply.Done) result) self.now) }
@@ -191,8 +192,8 @@ impl EagerMachine {
     }
 
     /// Copies pages from one place to another, all at once, where the mapper denies none of the
-    /// destination. Refused as `NoCache`, `OutOfCache` or `Overlap`, in this order; no page of this
-    /// machine is locked. `Memory` where there is none for the copies.
+    /// destination. Refused as `NoCache`, `OutOfCache`, `Overlap` or `Locked`, in this order.
+    /// `Memory` where there is none for the copies.
     #[tactic(auto, using(crate::proofs::Machines::Sound::whole))]
     pub fn copy_pages(&mut self, span: &Span) -> Result<(), Trouble>
         requires { 1 ≤ span.now.pages }
@@ -308,8 +309,7 @@ impl EagerMachine {
     }
 
     /// The segment whose pages a move would change, or none where the destination is temporary.
-    /// Refused as `NoCache`, `OutOfCache`, `NotTemp` or `Overlap`, in this order; no page of this
-    /// machine is locked.
+    /// Refused as `NoCache`, `OutOfCache`, `NotTemp`, `Overlap` or `Locked`, in this order.
     pub fn check_move(&self, span: &Span) -> Result<Option<SegId>, Trouble>
         ensures refused { OnErr result (PlainOutcome self.now (Command.Move span.now)
             (answer_by (λ _. Reply.Done) result) self.now) }
@@ -324,9 +324,8 @@ impl EagerMachine {
     }
 
     /// Moves pages from one place to another, where the mapper denies none of the destination;
-    /// zeros are left where they were. Refused as `NoCache`, `OutOfCache`, `NotTemp` or `Overlap`,
-    /// in this order; no page of this machine is locked. `Memory` where there is none for the
-    /// pages.
+    /// zeros are left where they were. Refused as `NoCache`, `OutOfCache`, `NotTemp`, `Overlap` or
+    /// `Locked`, in this order. `Memory` where there is none for the pages.
     #[tactic(auto, using(crate::proofs::Machines::Sound::whole))]
     pub fn move_pages(&mut self, span: &Span) -> Result<(), Trouble>
         requires { 1 ≤ span.now.pages }
@@ -337,7 +336,31 @@ impl EagerMachine {
         copies::move_pages(&mut self.tables, span)
     }
 
-    /// Takes a region away. Refused as `NoRegion`; no region of this machine is locked. It takes no memory.
+    /// Locks a region. Refused as `NoRegion`, as `Locked` where it is locked, or as `LockLimit` where
+    /// fewer than three page frames would be left that no locked page takes, in this order. It takes
+    /// no memory.
+    #[tactic(auto, using(crate::proofs::Machines::Sound::whole))]
+    pub fn lock(&mut self, region: RegionId) -> Result<(), Trouble>
+        ensures outcome { PlainOutcome self.old (Command.Lock region)
+            (answer_by (λ _. Reply.Done) result) self.new }
+        ensures whole { HasWholePages self.new }
+    {
+        locks::lock(&mut self.tables, region)
+    }
+
+    /// Unlocks a region. Refused as `NoRegion`, or as `NotLocked` where it isn't locked, in this
+    /// order. It takes no memory.
+    #[tactic(auto, using(crate::proofs::Machines::Sound::whole))]
+    pub fn unlock(&mut self, region: RegionId) -> Result<(), Trouble>
+        ensures outcome { PlainOutcome self.old (Command.Unlock region)
+            (answer_by (λ _. Reply.Done) result) self.new }
+        ensures whole { HasWholePages self.new }
+    {
+        locks::unlock(&mut self.tables, region)
+    }
+
+    /// Takes a region away. Refused as `NoRegion`, or as `Locked` where it is locked, in this order.
+    /// It takes no memory.
     #[tactic(auto, using(crate::proofs::Machines::Sound::whole))]
     pub fn unmap(&mut self, region: RegionId) -> Result<(), Trouble>
         ensures outcome { PlainOutcome self.old (Command.Unmap region)
@@ -347,8 +370,8 @@ impl EagerMachine {
         maps::unmap(&mut self.tables, region)
     }
 
-    /// What there is to tell of a region, which this machine never locks. Refused as `NoRegion`
-    /// exactly where no region of a living actor has the number. It takes no memory.
+    /// What there is to tell of a region. Refused as `NoRegion` exactly where no region of a living
+    /// actor has the number. It takes no memory.
     pub fn status(&self, region: RegionId) -> Result<RegionStatus, Trouble>
         ensures { PlainOutcome self.now (Command.Status region)
             (answer_by Reply.Status result) self.now }
@@ -366,11 +389,22 @@ impl EagerMachine {
     }
 
     /// The segment that names the cache of these pages. Refused as `NoCache`, `NotNamed` or
-    /// `OutOfCache`, in this order; no page of this machine is locked. A sync and a flush change
-    /// nothing of the machine.
+    /// `OutOfCache`, in this order. A sync changes nothing of the machine.
     pub fn check_extent(&self, extent: &Extent) -> Result<SegId, Trouble>
         ensures sync { PlainOutcome self.now (Command.Sync extent.now)
             (answer_by (λ _. Reply.Done) result) self.now }
+        ensures segment { IfOk result
+            (λ seg. segment_of self.now extent.now.cache.0 ≡ Some seg.0) }
+        ensures within { OnOk result (extent.now.first.0 + extent.now.pages
+            ≤ pages_in (cache_of self.now extent.now.cache.0)) }
+        ensures few { OnOk result (extent.now.first.0 + extent.now.pages < 2 ^ 32) }
+    {
+        extents::check_extent(&self.tables, extent)
+    }
+
+    /// The same of a flush or an invalidate, for which no page may be locked: refused as `Locked`
+    /// last. A flush changes nothing of the machine.
+    pub fn check_flush(&self, extent: &Extent) -> Result<SegId, Trouble>
         ensures flush { PlainOutcome self.now (Command.Flush extent.now)
             (answer_by (λ _. Reply.Done) result) self.now }
         ensures refused { OnErr result (PlainOutcome self.now (Command.Invalidate extent.now)
@@ -381,17 +415,21 @@ impl EagerMachine {
         ensures within { OnOk result (extent.now.first.0 + extent.now.pages
             ≤ pages_in (cache_of self.now extent.now.cache.0)) }
         ensures few { OnOk result (extent.now.first.0 + extent.now.pages < 2 ^ 32) }
+        ensures unlocked { OnOk result (is_any_locked self.now extent.now.cache
+            extent.now.first.0 extent.now.pages ≡ false) }
     {
-        extents::check_extent(&self.tables, extent)
+        extents::check_flush(&self.tables, extent)
     }
 
-    /// Puts these pages, which are the segment's, in the cache that the segment names. It takes no
-    /// memory.
+    /// Puts these pages, which are the segment's, in the cache that the segment names. None of them
+    /// is locked. It takes no memory.
     #[tactic(auto, using(crate::proofs::Machines::Sound::whole))]
     pub fn invalidate(&mut self, extent: &Extent, pages: Vec<Vec<u8>>)
         requires named { IsSome (segment_of self.old extent.now.cache.0) }
         requires within { extent.now.first.0 + extent.now.pages
             ≤ pages_in (cache_of self.old extent.now.cache.0) }
+        requires unlocked { is_any_locked self.old extent.now.cache
+            extent.now.first.0 extent.now.pages ≡ false }
         requires many { length pages.items ≡ extent.now.pages }
         requires whole { All (λ p. length p.items ≡ self.old.page_bytes) pages.items }
         ensures outcome { (h : Segments)

@@ -18,6 +18,7 @@ mod extents;
 pub mod laws;
 mod limits;
 mod located;
+mod locks;
 mod maps;
 mod numbering;
 mod place;
@@ -27,5 +28,5 @@ mod telling;
 mod tests;
 
 pub use eager_machine::EagerMachine;
-pub use limits::{LIVE_PAGES, LIVING_ACTORS, MOST_MADE};
+pub use limits::{LIVE_PAGES, LIVING_ACTORS, MOST_MADE, UNLOCKED_FRAMES};
 pub use numbering::numbered;

@@ -52,7 +52,7 @@ pub(crate) fn locate(tables: &Tables, number: RegionId) -> Option<Located>
 }
 
 // Another region stands in the place of a located one.
-fn replace(actors: &mut Vec<Option<Actor>>, located: &Located, region: Region)
+pub(crate) fn replace(actors: &mut Vec<Option<Actor>>, located: &Located, region: Region)
     requires { IsLocated located.now.region.number.0 actors.old.items located.now }
     ensures { IsReplaced located.now (region ∷ []) actors.old.items actors.new.items }
 {

@@ -63,6 +63,7 @@ fn region_for(number: u32, mapping: &Mapping) -> Region
         may_write: mapping.prot.write,
         cache: mapping.extent.cache,
         offset: mapping.extent.first.0,
+        locked: false,
     }
 }
 
@@ -196,8 +197,11 @@ pub(crate) fn unmap(tables: &mut Tables, region: RegionId) -> Result<(), Trouble
     ensures outcome { PlainOutcome (machine_seen tables.old) (Command.Unmap region)
         (answer_by (λ _. Reply.Done) result) (machine_seen tables.new) }
 {
-    if locate(tables, region).is_none() {
+    let Some(located) = locate(tables, region) else {
         return Err(Trouble::Refused(Refusal::NoRegion));
+    };
+    if located.region.locked {
+        return Err(Trouble::Refused(Refusal::Locked));
     }
     drop_region(&mut tables.actors, region);
     Ok(())

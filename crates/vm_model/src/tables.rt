@@ -2,7 +2,7 @@
 use std::alloc::Global;
 use vm_ids::{CacheId, RegionId, SegId};
 
-// A region. None is locked, since no command locks one.
+// Pages of a cache, mapped at an address.
 #[derive(Clone, Copy, Debug, PartialEq, Eq)]
 pub(crate) struct Region {
     pub number: RegionId,
@@ -11,6 +11,7 @@ pub(crate) struct Region {
     pub may_write: bool,
     pub cache: CacheId,
     pub offset: u32,
+    pub locked: bool,
 }
 
 // A cache: temporary, or named by a segment.

@@ -14,7 +14,7 @@ use vm_ids::{
     Prot, Refusal, RegionId, RegionStatus, Reply, Trouble,
 };
 
-// What there is to tell of a region. No region is locked.
+// What there is to tell of a region.
 fn status_at(located: &Located) -> RegionStatus
     ensures { result ≡ status_in located.now.actor.0 (region_seen located.now.region) }
 {
@@ -33,7 +33,7 @@ fn status_at(located: &Located) -> RegionStatus
                 write: region.may_write,
             },
         },
-        locked: false,
+        locked: region.locked,
     }
 }
 

@@ -1,6 +1,6 @@
 -- Each answer is followed by the forest.
-use Rattle.std.proofs.Common.{◌≡◌, ℕ, zero, suc, ◌+◌, ◌-◌, ◌≤◌, false, List, [], ◌∷◌, ◌++◌, length, set, replicate, Option, Some, None, refl, sym, ap, subst, ◌∙◌, arith}
-use Rattle.std.specs.Prelude.{◌||◌, ◌↔◌, option_map, nat_lt, option_and_then, slice_get, unwrap_or, IsSome, IfOk, Result, Ok, Err, All}
+use Rattle.std.proofs.Common.{◌≡◌, ℕ, zero, suc, ◌+◌, ◌-◌, ◌≤◌, true, false, List, [], ◌∷◌, ◌++◌, length, set, replicate, Option, Some, None, refl, sym, ap, subst, ◌∙◌, arith}
+use Rattle.std.specs.Prelude.{◌||◌, nat_lt, option_and_then, slice_get, unwrap_or, IsSome, IfOk, Result, Ok, Err, All}
 use Rattle.std.specs.Option.{option_map_or}
 use Rattle.std.proofs.lemmas.Bool.Decides.{nat_tests}
 use Rattle.std.specs.FinMap.{get}
@@ -27,21 +27,23 @@ use Rattle.vm_ids.specs.declared.reply.FaultAt.{FaultAt}
 use Rattle.vm_ids.specs.declared.reply.FaultAt.TheVariants as faults
 use Rattle.vm_ids.specs.declared.reply.Trouble.TheVariants as troubles
 use Rattle.vm_ids.specs.Forest.Saving.{saves, unsaved}
-use Rattle.vm_ids.specs.Forest.Commands.{page_name, page_names, make, invalidate, destroy}
-use Rattle.vm_ids.specs.Forest.Nodes.{IsNode}
+use Rattle.vm_ids.specs.Forest.Commands.{page_names, make, invalidate, destroy, lock}
 use Rattle.vm_ids.proofs.Forest.Saving.{no_more_saves}
-use Rattle.vm_model.specs.Machine.{Machine, Cache, Page, actor_of, cache_of, numbered, pages_in, zero_page}
+use Rattle.vm_model.specs.Machine.{Machine, Cache, Page, actor_of, cache_of, pages_in, zero_page}
 use Rattle.vm_model.specs.Place.{Place, place}
+use Rattle.vm_model.specs.Regions.{region_with, with_lock}
 use Rattle.vm_model.specs.PageForest.{PageForest, told, nodes_of, nodes_in, page_in}
-use Rattle.vm_model.specs.Answering.{Answer, Answered, answer_of, is_named, make_actor_of, exit_actor_of, make_temp_of, open_of, opened, destroy_of, copy_of, move_of, map_of, split_of, protect_of, unmap_of, status_of, find_of, load_of, store_of, sync_of, flush_of, invalidate_of, held_for, held_part, chain_answer, overwrite, page_at, passes_end, put_cache, put_page, put_pages, temporary, write_at}
+use Rattle.vm_model.specs.Answering.{Answer, Answered, answer_of, change_region, is_named, make_actor_of, exit_actor_of, make_temp_of, open_of, opened, destroy_of, copy_of, move_of, map_of, split_of, protect_of, lock_of, unlock_of, unmap_of, status_of, find_of, load_of, store_of, sync_of, flush_of, invalidate_of, held_for, held_part, chain_answer, overwrite, page_at, passes_end, put_cache, put_page, put_pages, temporary, write_at}
 use Rattle.vm_model.specs.Asking.{IsWellFormed}
-use Rattle.vm_model.specs.Following.{followed, forest_after, pages_saved, written_at}
-use Rattle.vm_model.specs.Outcome.{HasWholePages, IsWhole, Outcome}
-use Rattle.vm_model.specs.Laws.{IsFollowed, HasMappedPages, AnswersAreFollowed, EarlierSavesWereLeft}
+use Rattle.vm_model.specs.Following.{followed, forest_after, pages_locked, pages_passed, pages_saved, written_at}
+use Rattle.vm_model.specs.Outcome.{HasWholePages, IsWhole, MayFault, Outcome}
+use Rattle.vm_model.specs.Laws.{IsFollowed, IsLaid, HasMappedPages, AnswersAreFollowed, EarlierSavesWereLeft}
 use Rattle.vm_model.proofs.Parts.ListParts.{numbered_pushed}
 use Rattle.vm_model.proofs.Machines.Sound.{numbered-all}
+use Rattle.vm_model.proofs.Outcomes.Laid.{laid_machines_are_mapped}
 use Rattle.vm_model.proofs.Outcomes.Rows.{each_unless, each_some, each_ok}
-use Rattle.vm_model.proofs.Forests.Following.{IsAllowed, copied_followed, copied_machine, destroyed_followed, invalidated_followed, invalidated_there, made_followed, moved_followed, moved_machine, saves_followed, source_left, stored_followed, zero_left}
+use Rattle.vm_model.proofs.Forests.Following.{IsAllowed, copied_followed, copied_machine, destroyed_followed, invalidated_followed, invalidated_there, made_followed, moved_followed, moved_machine, saves_followed, source_left, stays, stored_followed, zero_left}
+use Rattle.vm_model.proofs.Forests.Locked.{passed_locked, region_locked}
 
 -- the forest follows the row
 abbrev RowFollowed : PageForest → Machine → Command → Answered → Type 0
@@ -180,23 +182,13 @@ module _ (m : Machine) (f : PageForest) (F : IsFollowed m f) where
       subst (λ (n : Machine). IsFollowed n (followed f m (commands.Store actor address bytes) n)) (sym next)
       (subst (λ (o : Result Place Refusal). IsFollowed (put_cache m at.region.cache (put_page at.page (overwrite at.byte bytes p) c)) (written_at f o bytes)) (sym placed) all))))
 
-  -- the caches and their pages stay
-  pub stays : (next : Machine) → next.caches ≡ m.caches → IsFollowed next f
-  stays next same = record {
-    consistent = F.consistent;
-    agrees = record {
-      nodes = λ cache page. subst (λ (cs : List (Option Cache)). IsNode f (page_name cache page) ↔ IsSome (option_and_then (λ (c : Cache). slice_get c.pages page) (numbered cs cache.0))) (sym same) (F.agrees.nodes cache page);
-      values = λ cache page. F.agrees.values cache page ∙ ap (λ (cs : List (Option Cache)). option_map told (option_and_then (λ (c : Cache). slice_get c.pages page) (numbered cs cache.0))) (sym same);
-    };
-  }
-
   actor_row : RowFollowed f m commands.MakeActor (make_actor_of m)
   unfolding make_actor_of
-  actor_row = each_unless (RowFollowed f m commands.MakeActor) _ _ m _ F (λ e. stays _ refl)
+  actor_row = each_unless (RowFollowed f m commands.MakeActor) _ _ m _ F (λ e. stays m f F _ refl)
 
   exit_row : (actor : ActorId) → RowFollowed f m (commands.ExitActor actor) (exit_actor_of m actor.0)
   unfolding exit_actor_of
-  exit_row actor = each_some (RowFollowed f m (commands.ExitActor actor)) _ _ m _ F (λ regions here. stays _ refl)
+  exit_row actor = each_some (RowFollowed f m (commands.ExitActor actor)) _ _ m _ F (λ regions here. stays m f F _ refl)
 
   split_row : (region : RegionId) (pages : ℕ) → RowFollowed f m (commands.Split region pages) (split_of m region.0 pages)
   unfolding split_of
@@ -204,11 +196,26 @@ module _ (m : Machine) (f : PageForest) (F : IsFollowed m f) where
       let P : Answered → Type 0 = RowFollowed f m (commands.Split region pages) in
       each_some P _ _ m _ F (λ r there.
       each_unless P _ _ m _ F (λ fewer.
-      each_unless P _ _ m _ F (λ room. stays _ refl)))
+      each_unless P _ _ m _ F (λ room. stays m f F _ refl)))
 
   protect_row : (region : RegionId) (prot : Prot) → RowFollowed f m (commands.Protect region prot) (protect_of m region.0 prot)
   unfolding protect_of
-  protect_row region prot = each_some (RowFollowed f m (commands.Protect region prot)) _ _ m _ F (λ r there. stays _ refl)
+  protect_row region prot = each_some (RowFollowed f m (commands.Protect region prot)) _ _ m _ F (λ r there. stays m f F _ refl)
+
+  lock_row : IsLaid m → (region : RegionId) → RowFollowed f m (commands.Lock region) (lock_of m region.0)
+  unfolding lock_of
+  lock_row laid region =
+      let P : Answered → Type 0 = RowFollowed f m (commands.Lock region) in
+      each_some P (region_with region.0 m.actors) _ m _ F (λ r there.
+      each_unless P _ _ m _ F (λ free.
+      each_unless P _ _ m _ F (λ few.
+      stays m (lock (pages_locked m region.0) f) (region_locked m f F laid region.0 r there) (change_region m region.0 (with_lock true)) refl)))
+
+  unlock_row : (region : RegionId) → RowFollowed f m (commands.Unlock region) (unlock_of m region.0)
+  unfolding unlock_of
+  unlock_row region =
+      let P : Answered → Type 0 = RowFollowed f m (commands.Unlock region) in
+      each_some P _ _ m _ F (λ r there. each_unless P _ _ m _ F (λ locked. stays m f F _ refl))
 
   status_row : (region : RegionId) → RowFollowed f m (commands.Status region) (status_of m region.0)
   unfolding status_of
@@ -230,13 +237,13 @@ module _ (m : Machine) (f : PageForest) (F : IsFollowed m f) where
       each_unless P _ _ m _ F (λ below.
       each_unless P _ _ m _ F (λ inside.
       each_unless P _ _ m _ F (λ apart.
-      each_unless P _ _ m _ F (λ fewer. stays _ refl)))))))
+      each_unless P _ _ m _ F (λ fewer. stays m f F _ refl)))))))
 
   unmap_row : (region : RegionId) → RowFollowed f m (commands.Unmap region) (unmap_of m region.0)
   unfolding unmap_of
   unmap_row region =
       let P : Answered → Type 0 = RowFollowed f m (commands.Unmap region) in
-      each_some P _ _ m _ F (λ r there. each_unless P _ _ m _ F (λ unlocked. stays _ refl))
+      each_some P _ _ m _ F (λ r there. each_unless P _ _ m _ F (λ unlocked. stays m f F _ refl))
 
   load_row : (actor : ActorId) (address length : ℕ) → RowFollowed f m (commands.Load actor address length) (load_of m actor.0 address length)
   unfolding load_of
@@ -248,7 +255,7 @@ module _ (m : Machine) (f : PageForest) (F : IsFollowed m f) where
       let P : Answered → Type 0 = RowFollowed f m (commands.Chain cache page) in
       each_some P _ _ m _ F (λ c there. each_unless P _ _ m _ F (λ within. F))
 
-  module _ (some : 1 ≤ m.page_bytes) (whole : HasWholePages m) (mapped : HasMappedPages m) where
+  module _ (laid : IsLaid m) (whole : HasWholePages m) where
     rows : (c : Command) (h : Segments) → IsWellFormed c → RowFollowed f m c (answer_of m f c h)
     rows commands.MakeActor h w = actor_row
     rows (commands.ExitActor actor) h w = exit_row actor
@@ -260,11 +267,13 @@ module _ (m : Machine) (f : PageForest) (F : IsFollowed m f) where
     rows (commands.Map actor mapping) h w = map_row actor mapping
     rows (commands.Split region pages) h w = split_row region pages
     rows (commands.Protect region prot) h w = protect_row region prot
+    rows (commands.Lock region) h w = lock_row laid region
+    rows (commands.Unlock region) h w = unlock_row region
     rows (commands.Unmap region) h w = unmap_row region
     rows (commands.Status region) h w = status_row region
     rows (commands.Find actor address) h w = find_row actor address
     rows (commands.Load actor address length) h w = load_row actor address length
-    rows (commands.Store actor address piece) h w = store_row actor address piece h some whole mapped
+    rows (commands.Store actor address piece) h w = store_row actor address piece h laid.some whole (laid_machines_are_mapped m laid)
     rows (commands.Sync extent) h w = sync_row extent
     rows (commands.Flush extent) h w = flush_row extent
     rows (commands.Invalidate extent) h w = invalidate_row extent (held_for m h extent.cache.0)
@@ -272,21 +281,25 @@ module _ (m : Machine) (f : PageForest) (F : IsFollowed m f) where
     rows (commands.Chain cache page) h w = chain_row cache page
     rows commands.Stat h w = F
 
-    faulted : (c : Command) (at : FaultAt) → IsFollowed m (forest_after f m c (Err (troubles.Mapper at)) m)
-    faulted c faults.Opening = F
-    faulted c (faults.Access p) = F
-    faulted c (faults.Save done) = saves_followed m f F done (pages_saved m c)
-    faulted c (faults.Page p) = F
-    faulted c faults.Victim = F
+    page_faulted : (c : Command) (h : Segments) (p : PageNo) (rises : MapperCounts) → MayFault m (Some f) c h (faults.Page p) rises → IsFollowed m (lock (pages_passed m c p.0) f)
+    page_faulted (commands.Lock region) h p rises may = passed_locked m f F laid region.0 p.0 may
+    page_faulted c h p rises may = F
+
+    faulted : (c : Command) (h : Segments) (at : FaultAt) (rises : MapperCounts) → MayFault m (Some f) c h at rises → IsFollowed m (forest_after f m c (Err (troubles.Mapper at)) m)
+    faulted c h faults.Opening rises may = F
+    faulted c h (faults.Access p) rises may = F
+    faulted c h (faults.Save done) rises may = saves_followed m f F done (pages_saved m c)
+    faulted c h (faults.Page p) rises may = page_faulted c h p rises may
+    faulted c h faults.Victim rises may = F
 
     followed_by : (next : Machine) (c : Command) (h : Segments) (a : Answer) (rises : MapperCounts) → IsWellFormed c → Outcome m (Some f) c h a next rises → IsFollowed next (forest_after f m c a next)
     followed_by next c h (Ok r) rises w o = subst (RowFollowed f m c) o (rows c h w)
     followed_by next c h (Err (troubles.Refused r)) rises w o = subst (RowFollowed f m c) o (rows c h w)
-    followed_by next c h (Err (troubles.Mapper at)) rises w o = subst (λ (n : Machine). IsFollowed n (forest_after f m c (Err (troubles.Mapper at)) n)) (sym o.0) (faulted c at)
+    followed_by next c h (Err (troubles.Mapper at)) rises w o = subst (λ (n : Machine). IsFollowed n (forest_after f m c (Err (troubles.Mapper at)) n)) (sym o.0) (faulted c h at rises o.2)
     followed_by next c h (Err troubles.Memory) rises w o = subst (λ (n : Machine). IsFollowed n f) (sym o.0) F
 
 pub answers_are_followed : AnswersAreFollowed
-answers_are_followed m next f c h a rises some whole mapped w F o = followed_by m f F some whole mapped next c h a rises w o
+answers_are_followed m next f c h a rises laid whole w F o = followed_by m f F laid whole next c h a rises w o
 
 -- Saves ------------------------------------------------------------------------------------
 

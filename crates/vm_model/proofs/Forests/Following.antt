@@ -1,6 +1,6 @@
 -- The forest that follows agrees with the machine that follows.
 use Rattle.std.proofs.Common.{◌≡◌, ◌≢◌, ◌==◌, ◌⊎◌, ℕ, zero, suc, ◌+◌, ◌-◌, ◌<◌, ◌≤◌, Bool, true, false, cond, List, [], ◌∷◌, ◌++◌, length, set, take, drop, map, replicate, Option, Some, None, refl, sym, ap, subst, ◌∙◌, inl, inr, arith}
-use Rattle.std.specs.Prelude.{◌&&◌, option_map, option_and_then, slice_get, nat_lt, IsSome}
+use Rattle.std.specs.Prelude.{◌&&◌, ◌↔◌, option_map, option_and_then, slice_get, nat_lt, IsSome}
 use Rattle.std.specs.Option.{option_or}
 use Rattle.std.proofs.lemmas.Bool.{cases_eq, cases_lt}
 use Rattle.std.proofs.lemmas.Bool.Decides.{nat_tests}
@@ -28,7 +28,7 @@ use Rattle.vm_ids.proofs.Forest.Laws.Ranges.{ranges_hold_their_pages, ranges_hol
 use Rattle.vm_ids.proofs.Forest.Laws.Reading.{nodes_have_values}
 use Rattle.vm_ids.proofs.Forest.Laws.Writing.{write_keeps_consistency, write_changes_its_node, write_keeps_other_values}
 use Rattle.vm_ids.proofs.Forest.Laws.Commands.{make_keeps_consistency, make_gives_pages, copy_keeps_consistency, copy_copies, move_keeps_consistency, move_moves, invalidate_keeps_consistency, invalidate_gives_pages, destroy_keeps_consistency, destroy_destroys}
-use Rattle.vm_model.specs.Machine.{Machine, Cache, Page, cache_of}
+use Rattle.vm_model.specs.Machine.{Machine, Cache, Page, cache_of, numbered}
 use Rattle.vm_model.specs.Place.{Place}
 use Rattle.vm_model.specs.PageForest.{PageForest, told, nodes_of, nodes_in, page_in}
 use Rattle.vm_model.specs.Answering.{overwrite, put_cache, put_page, put_pages, shares}
@@ -67,6 +67,16 @@ module _ (m : Machine) (f : PageForest) (F : IsFollowed m f) where
   pub node_there : (cache : CacheId) (page : ℕ) (v : Page) → page_in m cache.0 page ≡ Some v → IsNode f (page_name cache page)
   node_there cache page v e = (F.agrees.nodes cache page).1 (subst IsSome (sym e) refl)
 
+  -- the caches and their pages stay
+  pub stays : (next : Machine) → next.caches ≡ m.caches → IsFollowed next f
+  stays next same = record {
+    consistent = F.consistent;
+    agrees = record {
+      nodes = λ cache page. subst (λ (cs : List (Option Cache)). IsNode f (page_name cache page) ↔ IsSome (option_and_then (λ (c : Cache). slice_get c.pages page) (numbered cs cache.0))) (sym same) (F.agrees.nodes cache page);
+      values = λ cache page. F.agrees.values cache page ∙ ap (λ (cs : List (Option Cache)). option_map told (option_and_then (λ (c : Cache). slice_get c.pages page) (numbered cs cache.0))) (sym same);
+    };
+  }
+
   -- so many saves of any pages
   pub saves_followed : (n : ℕ) (xs : List NodeName) → IsFollowed m (saves n xs f)
   saves_followed n xs = by_values m (saves n xs f) (saves_keep_consistency n xs f F.consistent) (λ cache page. saves_keep_values n xs f F.consistent.shaped (page_name cache page) ∙ F.agrees.values cache page)
@@ -75,7 +85,7 @@ module _ (m : Machine) (f : PageForest) (F : IsFollowed m f) where
 page_of_cache : (m : Machine) (n : ℕ) (c : Cache) (page : ℕ) → cache_of m n ≡ Some c → page_in m n page ≡ slice_get c.pages page
 page_of_cache m n c page there = ap (option_and_then (λ (c : Cache). slice_get c.pages page)) there
 
-there_within : (m : Machine) (n : ℕ) (c : Cache) (page : ℕ) → cache_of m n ≡ Some c → page < length c.pages → (v : Page) × (page_in m n page ≡ Some v)
+pub there_within : (m : Machine) (n : ℕ) (c : Cache) (page : ℕ) → cache_of m n ≡ Some c → page < length c.pages → (v : Page) × (page_in m n page ≡ Some v)
 there_within m n c page there less =
     let got = slice_get-get_or c.pages page [] less in
     (_, page_of_cache m n c page there ∙ got)

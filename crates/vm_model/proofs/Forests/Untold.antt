@@ -1,5 +1,5 @@
 -- Without bytes the forest follows too.
-use Rattle.std.proofs.Common.{◌≡◌, ℕ, ◌+◌, ◌-◌, ◌≤◌, false, List, [], ◌∷◌, ◌++◌, length, set, take, drop, map, replicate, Option, Some, None, refl, sym, ap, subst, ◌∙◌, arith, inl, inr}
+use Rattle.std.proofs.Common.{◌≡◌, ℕ, ◌+◌, ◌-◌, ◌≤◌, true, false, List, [], ◌∷◌, ◌++◌, length, set, take, drop, map, replicate, Option, Some, None, refl, sym, ap, subst, ◌∙◌, arith, inl, inr}
 use Rattle.std.specs.Prelude.{◌||◌, nat_lt, option_map, option_and_then, slice_get, unwrap_or, IsSome, IfOk, Result, Ok, Err}
 use Rattle.std.specs.Option.{option_map_or}
 use Rattle.std.proofs.lemmas.Bool.{cases_eq}
@@ -30,19 +30,21 @@ use Rattle.vm_ids.specs.declared.reply.Trouble.TheVariants as troubles
 use Rattle.vm_ids.specs.Forest.Nodes.{IsNode}
 use Rattle.vm_ids.specs.Forest.Reading.{value_of}
 use Rattle.vm_ids.specs.Forest.Rules.{write}
-use Rattle.vm_ids.specs.Forest.Commands.{page_name, page_names, span_pairs, make, copy, invalidate, destroy}
+use Rattle.vm_ids.specs.Forest.Commands.{page_name, page_names, span_pairs, make, copy, invalidate, destroy, lock}
 use Rattle.vm_ids.proofs.Forest.Laws.Writing.{write_keeps_consistency, write_changes_its_node, write_keeps_other_values}
 use Rattle.vm_model.specs.Machine.{Machine, Cache, Page, Region, actor_of, cache_of, numbered, pages_in, zero_page}
 use Rattle.vm_model.specs.Place.{Place, place}
+use Rattle.vm_model.specs.Regions.{region_with, with_lock}
 use Rattle.vm_model.specs.PageForest.{PageForest, told, nodes_of, nodes_in, page_in}
-use Rattle.vm_model.specs.Answering.{Answer, Answered, answer_of, is_named, make_actor_of, exit_actor_of, make_temp_of, open_of, opened, destroy_of, copy_of, move_of, map_of, split_of, protect_of, unmap_of, status_of, find_of, load_of, store_of, sync_of, flush_of, invalidate_of, held_for, held_part, chain_answer, overwrite, page_at, passes_end, put_cache, put_page, put_pages, temporary, write_at}
+use Rattle.vm_model.specs.Answering.{Answer, Answered, answer_of, change_region, is_named, make_actor_of, exit_actor_of, make_temp_of, open_of, opened, destroy_of, copy_of, move_of, map_of, split_of, protect_of, lock_of, unlock_of, unmap_of, status_of, find_of, load_of, store_of, sync_of, flush_of, invalidate_of, held_for, held_part, chain_answer, overwrite, page_at, passes_end, put_cache, put_page, put_pages, temporary, write_at}
 use Rattle.vm_model.specs.Asking.{IsWellFormed}
-use Rattle.vm_model.specs.Following.{followed, forest_after, pages_saved, written_at}
-use Rattle.vm_model.specs.Outcome.{IsAlike, Outcome, blank, blank_cache}
+use Rattle.vm_model.specs.Following.{followed, forest_after, pages_locked, pages_passed, pages_saved, written_at}
+use Rattle.vm_model.specs.Outcome.{IsAlike, MayFault, Outcome, blank, blank_cache}
 use Rattle.vm_model.specs.Laws.{HasMappedPages, IsFollowed, IsLaid, LiesIn, UntoldAnswersAreFollowed}
 use Rattle.vm_model.proofs.Forests.Blank.{blank_gone, blank_more, blank_pages, blank_part, blank_put, blank_replicate, blank_there, no_bytes}
-use Rattle.vm_model.proofs.Forests.Followed.{some_page, stays}
-use Rattle.vm_model.proofs.Forests.Following.{IsAllowed, by_values, copied_followed, destroyed_followed, invalidated_followed, invalidated_there, made_followed, moved_followed, moved_machine, node_there, number_of, of_number, same_page, saves_followed, source_left, zero_left}
+use Rattle.vm_model.proofs.Forests.Followed.{some_page}
+use Rattle.vm_model.proofs.Forests.Locked.{passed_locked, region_locked}
+use Rattle.vm_model.proofs.Forests.Following.{IsAllowed, by_values, copied_followed, destroyed_followed, invalidated_followed, invalidated_there, made_followed, moved_followed, moved_machine, node_there, number_of, of_number, same_page, saves_followed, source_left, stays, zero_left}
 use Rattle.vm_model.proofs.Parts.Lists.{numbered-set, numbered_place, numbered-map}
 use Rattle.vm_model.proofs.Parts.ListParts.{numbered_pushed}
 use Rattle.vm_model.proofs.Forests.Plain.{id_of}
@@ -257,6 +259,21 @@ module _ (w : Machine) (f : PageForest) (F : IsFollowed (blank w) f) where
   unfolding protect_of
   protect_row region prot = each_some (RowUntold (commands.Protect region prot)) _ _ w _ F (λ r there. stays (blank w) f F _ refl)
 
+  lock_row : IsLaid (blank w) → (region : RegionId) → RowUntold (commands.Lock region) (lock_of w region.0)
+  unfolding lock_of
+  lock_row laid region =
+      let P : Answered → Type 0 = RowUntold (commands.Lock region) in
+      each_some P (region_with region.0 w.actors) _ w _ F (λ r there.
+      each_unless P _ _ w _ F (λ free.
+      each_unless P _ _ w _ F (λ few.
+      stays (blank w) (lock (pages_locked (blank w) region.0) f) (region_locked (blank w) f F laid region.0 r there) (blank (change_region w region.0 (with_lock true))) refl)))
+
+  unlock_row : (region : RegionId) → RowUntold (commands.Unlock region) (unlock_of w region.0)
+  unfolding unlock_of
+  unlock_row region =
+      let P : Answered → Type 0 = RowUntold (commands.Unlock region) in
+      each_some P _ _ w _ F (λ r there. each_unless P _ _ w _ F (λ locked. stays (blank w) f F _ refl))
+
   status_row : (region : RegionId) → RowUntold (commands.Status region) (status_of w region.0)
   unfolding status_of
   status_row region = each_some (RowUntold (commands.Status region)) _ _ w _ F (λ status there. F)
@@ -311,41 +328,48 @@ module _ (w : Machine) (f : PageForest) (F : IsFollowed (blank w) f) where
       let P : Answered → Type 0 = RowUntold (commands.Chain cache page) in
       each_some P _ _ w _ F (λ c there. each_unless P _ _ w _ F (λ within. F))
 
-  rows : (c : Command) (h : Segments) → IsWellFormed c → HasMappedPages w → RowUntold c (answer_of w f c h)
-  rows commands.MakeActor h some mapped = actor_row
-  rows (commands.ExitActor actor) h some mapped = exit_row actor
-  rows (commands.MakeTemp pages) h some mapped = temp_row pages
-  rows (commands.OpenSegment seg) h some mapped = open_row seg (get h.pages seg.0)
-  rows (commands.Destroy cache) h some mapped = destroy_row cache
-  rows (commands.Copy span) h some mapped = copy_row span h
-  rows (commands.Move span) h some mapped = move_row span h some
-  rows (commands.Map actor mapping) h some mapped = map_row actor mapping
-  rows (commands.Split region pages) h some mapped = split_row region pages
-  rows (commands.Protect region prot) h some mapped = protect_row region prot
-  rows (commands.Unmap region) h some mapped = unmap_row region
-  rows (commands.Status region) h some mapped = status_row region
-  rows (commands.Find actor address) h some mapped = find_row actor address
-  rows (commands.Load actor address length) h some mapped = load_row actor address length
-  rows (commands.Store actor address piece) h some mapped = store_row actor address piece h mapped
-  rows (commands.Sync extent) h some mapped = sync_row extent
-  rows (commands.Flush extent) h some mapped = flush_row extent
-  rows (commands.Invalidate extent) h some mapped = invalidate_row extent (held_for w h extent.cache.0)
-  rows (commands.PageOut count) h some mapped = F
-  rows (commands.Chain cache page) h some mapped = chain_row cache page
-  rows commands.Stat h some mapped = F
+  module _ (laid : IsLaid (blank w)) (mapped : HasMappedPages w) where
+    rows : (c : Command) (h : Segments) → IsWellFormed c → RowUntold c (answer_of w f c h)
+    rows commands.MakeActor h some = actor_row
+    rows (commands.ExitActor actor) h some = exit_row actor
+    rows (commands.MakeTemp pages) h some = temp_row pages
+    rows (commands.OpenSegment seg) h some = open_row seg (get h.pages seg.0)
+    rows (commands.Destroy cache) h some = destroy_row cache
+    rows (commands.Copy span) h some = copy_row span h
+    rows (commands.Move span) h some = move_row span h some
+    rows (commands.Map actor mapping) h some = map_row actor mapping
+    rows (commands.Split region pages) h some = split_row region pages
+    rows (commands.Protect region prot) h some = protect_row region prot
+    rows (commands.Lock region) h some = lock_row laid region
+    rows (commands.Unlock region) h some = unlock_row region
+    rows (commands.Unmap region) h some = unmap_row region
+    rows (commands.Status region) h some = status_row region
+    rows (commands.Find actor address) h some = find_row actor address
+    rows (commands.Load actor address length) h some = load_row actor address length
+    rows (commands.Store actor address piece) h some = store_row actor address piece h mapped
+    rows (commands.Sync extent) h some = sync_row extent
+    rows (commands.Flush extent) h some = flush_row extent
+    rows (commands.Invalidate extent) h some = invalidate_row extent (held_for w h extent.cache.0)
+    rows (commands.PageOut count) h some = F
+    rows (commands.Chain cache page) h some = chain_row cache page
+    rows commands.Stat h some = F
 
-  faulted : (c : Command) (at : FaultAt) → IsFollowed (blank w) (forest_after f (blank w) c (Err (troubles.Mapper at)) (blank w))
-  faulted c faults.Opening = F
-  faulted c (faults.Access p) = F
-  faulted c (faults.Save done) = saves_followed (blank w) f F done (pages_saved (blank w) c)
-  faulted c (faults.Page p) = F
-  faulted c faults.Victim = F
+    page_faulted : (c : Command) (h : Segments) (p : PageNo) (rises : MapperCounts) → MayFault w (Some f) c h (faults.Page p) rises → IsFollowed (blank w) (lock (pages_passed (blank w) c p.0) f)
+    page_faulted (commands.Lock region) h p rises may = passed_locked (blank w) f F laid region.0 p.0 may
+    page_faulted c h p rises may = F
 
-  followed_by : (next : Machine) (c : Command) (h : Segments) (a : Answer) (rises : MapperCounts) → IsWellFormed c → HasMappedPages w → Outcome w (Some f) c h a next rises → IsFollowed (blank next) (forest_after f (blank w) c a (blank next))
-  followed_by next c h (Ok r) rises some mapped o = subst (RowUntold c) o (rows c h some mapped)
-  followed_by next c h (Err (troubles.Refused r)) rises some mapped o = subst (RowUntold c) o (rows c h some mapped)
-  followed_by next c h (Err (troubles.Mapper at)) rises some mapped o = subst (λ (n : Machine). IsFollowed (blank n) (forest_after f (blank w) c (Err (troubles.Mapper at)) (blank n))) (sym o.0) (faulted c at)
-  followed_by next c h (Err troubles.Memory) rises some mapped o = subst (λ (n : Machine). IsFollowed (blank n) f) (sym o.0) F
+    faulted : (c : Command) (h : Segments) (at : FaultAt) (rises : MapperCounts) → MayFault w (Some f) c h at rises → IsFollowed (blank w) (forest_after f (blank w) c (Err (troubles.Mapper at)) (blank w))
+    faulted c h faults.Opening rises may = F
+    faulted c h (faults.Access p) rises may = F
+    faulted c h (faults.Save done) rises may = saves_followed (blank w) f F done (pages_saved (blank w) c)
+    faulted c h (faults.Page p) rises may = page_faulted c h p rises may
+    faulted c h faults.Victim rises may = F
+
+    followed_by : (next : Machine) (c : Command) (h : Segments) (a : Answer) (rises : MapperCounts) → IsWellFormed c → Outcome w (Some f) c h a next rises → IsFollowed (blank next) (forest_after f (blank w) c a (blank next))
+    followed_by next c h (Ok r) rises some o = subst (RowUntold c) o (rows c h some)
+    followed_by next c h (Err (troubles.Refused r)) rises some o = subst (RowUntold c) o (rows c h some)
+    followed_by next c h (Err (troubles.Mapper at)) rises some o = subst (λ (n : Machine). IsFollowed (blank n) (forest_after f (blank w) c (Err (troubles.Mapper at)) (blank n))) (sym o.0) (faulted c h at rises o.2)
+    followed_by next c h (Err troubles.Memory) rises some o = subst (λ (n : Machine). IsFollowed (blank n) f) (sym o.0) F
 
 -- Any answer ---------------------------------------------------------------------------------
 
@@ -368,7 +392,7 @@ untold_answers_are_followed m next f c a rises laid well F o =
     let seen : IsFollowed (blank w) f = subst (λ (k : Machine). IsFollowed k f) o.is F in
     let old : IsLaid (blank w) = subst IsLaid o.is laid in
     let with_bytes : IsLaid w = record { some = old.some; lie = lie_still (blank w).caches w.caches (lies_back w) w.actors old.lie } in
-    let all = followed_by w f seen n c o.segments o.whole_answer rises well (laid_machines_are_mapped w with_bytes) o.outcome in
+    let all = followed_by w f seen old (laid_machines_are_mapped w with_bytes) n c o.segments o.whole_answer rises well o.outcome in
     let same : IsFollowed (blank n) (forest_after f (blank w) c a (blank n)) = subst (IsFollowed (blank n)) (alike_after f (blank w) c (blank n) o.whole_answer a o.alike) all in
     let left = machines_stay_laid w n f c o.segments o.whole_answer rises with_bytes o.outcome in
     let laid_next : IsLaid (blank n) = record { some = left.some; lie = lie_still n.caches (blank n).caches (lies_blank n) n.actors left.lie } in (

@@ -1,6 +1,6 @@
 -- Rows in which nothing but the mapper's denial can refuse the command.
 use Rattle.std.proofs.Common.{◌≡◌, Bool, true, false, ℕ, List, length, Option, Some, None, refl, sym, ap, subst, ◌∙◌, ◌+◌, ◌≤◌, arith}
-use Rattle.std.specs.Prelude.{is_some, nat_le, IsSome, option_map, option_and_then, Ok}
+use Rattle.std.specs.Prelude.{is_some, nat_le, IsSome, option_map, option_and_then, Ok, ◌||◌}
 use Rattle.std.specs.FinMap.{get}
 use Rattle.std.proofs.lemmas.Bool.Decides.{nat_tests}
 use Rattle.vm_ids.specs.Held.{Segments}
@@ -10,12 +10,12 @@ use Rattle.vm_ids.specs.declared.command.Extent.{Extent}
 use Rattle.vm_ids.specs.declared.command.Span.{Span}
 use Rattle.vm_ids.specs.declared.numbers.SegId.{SegId}
 use Rattle.vm_ids.specs.declared.refusal.Refusal.{Refusal}
-use Rattle.vm_ids.specs.declared.refusal.Refusal.TheVariants.{NotTemp, Overlap, WriteDenied}
+use Rattle.vm_ids.specs.declared.refusal.Refusal.TheVariants.{Locked, NotTemp, Overlap, WriteDenied}
 use Rattle.vm_ids.specs.declared.reply.FaultAt.TheVariants.{Opening}
 use Rattle.vm_ids.specs.declared.reply.Reply.TheVariants as replies
 use Rattle.vm_model.specs.declared.limits.TheConstants.{MOST_MADE}
 use Rattle.vm_model.specs.Allowed.{AwaitsAccess, CanOpen, MayFailToOpen, is_denied, is_denied_place}
-use Rattle.vm_model.specs.Machine.{Machine, Cache, Page, cache_of, numbered, segment_of}
+use Rattle.vm_model.specs.Machine.{Machine, Cache, Page, cache_of, numbered, pages_in, segment_of}
 use Rattle.vm_model.specs.Place.{Place, place}
 use Rattle.vm_model.specs.PageForest.{plain_forest}
 use Rattle.vm_model.specs.Answering.{Answered, answer_of, copy_of, flush_of, held_for, held_part, invalidate_of, is_any_denied, is_any_locked, move_of, open_of, overlaps_itself, passes_end, put_cache, put_pages, put_span, refuse, reply, store_of, unless, with_ok, with_some, write_at, zero_source}
@@ -94,6 +94,31 @@ pub move_overlaps : (m : Machine) (s : Span) (h : Segments) (source destination 
 unfolding move_of with_some unless
 move_overlaps m s h source destination from to inside within temporary shared = rw (from, to, inside, within, temporary, shared) refl
 
+pub copy_locked : (m : Machine) (s : Span) (h : Segments) (source destination : Cache) → cache_of m s.from.0 ≡ Some source → cache_of m s.to.0 ≡ Some destination
+    → passes_end source s.from_page.0 s.pages ≡ false → passes_end destination s.to_page.0 s.pages ≡ false → overlaps_itself s ≡ false → is_any_locked m s.to s.to_page.0 s.pages ≡ true
+    → copy_of m s h ≡ refuse m Locked
+unfolding copy_of with_some unless
+copy_locked m s h source destination from to inside within apart locked = rw (from, to, inside, within, apart, locked) refl
+
+pub move_locked : (m : Machine) (s : Span) (h : Segments) (source destination : Cache) → cache_of m s.from.0 ≡ Some source → cache_of m s.to.0 ≡ Some destination
+    → passes_end source s.from_page.0 s.pages ≡ false → passes_end destination s.to_page.0 s.pages ≡ false → source.segment ≡ None → overlaps_itself s ≡ false
+    → (is_any_locked m s.from s.from_page.0 s.pages || is_any_locked m s.to s.to_page.0 s.pages) ≡ true
+    → move_of m s h ≡ refuse m Locked
+unfolding move_of with_some unless
+move_locked m s h source destination from to inside within temporary apart locked = rw (from, to, inside, within, temporary, apart, locked) refl
+
+pub flush_locked : (m : Machine) (e : Extent) (c : Cache) (seg : ℕ) → cache_of m e.cache.0 ≡ Some c → c.segment ≡ Some seg
+    → passes_end c e.first.0 e.pages ≡ false → is_any_locked m e.cache e.first.0 e.pages ≡ true
+    → flush_of m e ≡ refuse m Locked
+unfolding flush_of with_some unless
+flush_locked m e c seg there named inside locked = rw (there, named, inside, locked) refl
+
+pub invalidate_locked : (m : Machine) (e : Extent) (held : Option (List Page)) (c : Cache) (seg : ℕ) → cache_of m e.cache.0 ≡ Some c → c.segment ≡ Some seg
+    → passes_end c e.first.0 e.pages ≡ false → is_any_locked m e.cache e.first.0 e.pages ≡ true
+    → invalidate_of m e held ≡ refuse m Locked
+unfolding invalidate_of with_some unless
+invalidate_locked m e held c seg there named inside locked = rw (there, named, inside, locked) refl
+
 pub flush_row : (m : Machine) (e : Extent) (c : Cache) (seg : ℕ) → cache_of m e.cache.0 ≡ Some c → c.segment ≡ Some seg
     → passes_end c e.first.0 e.pages ≡ false → is_any_locked m e.cache e.first.0 e.pages ≡ false
     → flush_of m e ≡ reply replies.Done m
@@ -113,6 +138,19 @@ open_fails m seg can h rises rose =
           (each_some P (get h.pages seg.0) _ m _ tt (λ pages holds.
           each_unless P _ _ m _ tt (λ room. tt)))),
     )
+
+pub inside_end : (first pages : ℕ) (c : Cache) → first + pages ≤ length c.pages → passes_end c first pages ≡ false
+inside_end first pages c h = grind (arith, nat_tests)
+
+-- the cache of an extent whose pages are there, and the segment that names it
+pub extent_there : (m : Machine) (e : Extent) (seg : ℕ) → segment_of m e.cache.0 ≡ Some seg → e.first.0 + e.pages ≤ pages_in (cache_of m e.cache.0)
+    → (c : Cache) × (cache_of m e.cache.0 ≡ Some c) × (c.segment ≡ Some seg) × (passes_end c e.first.0 e.pages ≡ false)
+extent_there m e seg = go (cache_of m e.cache.0) refl
+  where
+    go : (o : Option Cache) → cache_of m e.cache.0 ≡ o → option_and_then (λ (c : Cache). c.segment) o ≡ Some seg → e.first.0 + e.pages ≤ pages_in o
+        → (c : Cache) × (cache_of m e.cache.0 ≡ Some c) × (c.segment ≡ Some seg) × (passes_end c e.first.0 e.pages ≡ false)
+    go None there named within = absurd (cc named)
+    go (Some c) there named within = (c, there, named, inside_end e.first.0 e.pages c within)
 
 -- In the tables --------------------------------------------------------------------------------
 
@@ -139,6 +177,3 @@ named_there t n some = go (numbered t.caches.items n) refl
     go : (o : Option tables.Cache) → numbered t.caches.items n ≡ o → (c : tables.Cache) × (numbered t.caches.items n ≡ Some c) × (seg : ℕ) × ((cache_seen c).segment ≡ Some seg)
     go None e = absurd (let none : segment_of (machine_seen t) n ≡ None = ap (option_and_then (λ (c : Cache). c.segment)) (numbered-map cache_seen t.caches.items n ∙ ap (option_map cache_seen) e) in cc (none, some))
     go (Some c) e = let s = is_there ((cache_seen c).segment) (subst IsSome (segment_there t n c e) some) in (c, e, s.0, s.1)
-
-pub inside_end : (first pages : ℕ) (c : Cache) → first + pages ≤ length c.pages → passes_end c first pages ≡ false
-inside_end first pages c h = grind (arith, nat_tests)

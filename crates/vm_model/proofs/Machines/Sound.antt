@@ -1,7 +1,7 @@
 -- What the tables are, before and after a change.
 use Rattle.std.proofs.Common.{◌≡◌, ◌==◌, ℕ, suc, zero, ◌+◌, ◌-◌, ◌<◌, ◌≤◌, Bool, true, false, cond, List, [], ◌∷◌, ◌++◌, length, get_or, set, take, drop, map, replicate, Option, Some, None, refl, sym, ap, subst, ◌∙◌, arith, rules, inl, inr, Vec, Global}
-use Rattle.std.specs.Prelude.{option_map, option_and_then, slice_get, unwrap_or, count_by, sum_by, is_some, insert, IsSome, Result, Ok, Err, OnOk, OnErr, nat_le, nat_lt, ◌%◌, ◌*◌, ◌^◌, ◌||◌}
-use Rattle.std.specs.List.{All, list_any, range_with_len}
+use Rattle.std.specs.Prelude.{option_map, option_and_then, slice_get, unwrap_or, count_by, sum_by, is_some, insert, IsSome, Result, Ok, Err, OnOk, OnErr, nat_le, nat_lt, ◌%◌, ◌*◌, ◌^◌}
+use Rattle.std.specs.List.{All, list_any}
 use Rattle.std.specs.Option.{option_map_or}
 use Rattle.std.proofs.lemmas.List.{take-map, drop-map, map-set, map_push, length-map, length-set, length-replicate}
 use Rattle.std.proofs.lemmas.List.Elements.{All-append, All-take, All-drop, All-set, All-get_or, All-nil, All-cons, All-head, All-tail, All-same, All-weaker, All-map, All-replicate}
@@ -121,7 +121,8 @@ pub sound-put : (t : Tables) (n : ℕ) (c d : Cache) (caches : Vec (Option Cache
 sound-put t n c d caches items there same pages s = record {
   some = s.some;
   most = s.most;
-  few = s.few;
+  few_actors = s.few_actors;
+  few_caches = omega (arith, s.few_caches, ap length items, length-set t.caches.items (n - 1) (Some d));
   living = s.living;
   live = rw items (s.live ∙ sym (live_still t.caches.items n c d there same));
   whole = rw items (All-set (HasPages t.page_bytes) t.caches.items (n - 1) (Some d) pages s.whole);
@@ -162,26 +163,6 @@ seen-written t p c d bytes there named e =
 -- what an index finds is the cache with the number
 pub found_is : (cs : List (Option Cache)) (n : ℕ) (c d : Cache) (found : Option Cache) → numbered cs n ≡ Some c → found ≡ get_or cs (n - 1) found → found ≡ Some d → d ≡ c
 found_is cs n c d found there e is = let at = get_or_from_slice_get cs (n - 1) (Some c) found (at_number cs n c there) in cc
-
--- no region is locked
-unlocked_regions : (rs : List Region) (cache page : ℕ) → list_any (model.locks cache page) (map region_seen rs) ≡ false
-unlocked_regions [] cache page = refl
-unlocked_regions (r ∷ rs) cache page = unlocked_regions rs cache page
-
-unlocked_actor : (a : Option Actor) (cache page : ℕ) → model.locks_any cache page (option_map actor_seen a) ≡ false
-unlocked_actor None cache page = refl
-unlocked_actor (Some a) cache page = unlocked_regions a.regions.items cache page
-
-unlocked_actors : (xs : List (Option Actor)) (cache page : ℕ) → list_any (model.locks_any cache page) (map (option_map actor_seen) xs) ≡ false
-unlocked_actors [] cache page = refl
-unlocked_actors (x ∷ xs) cache page = ap (λ b. b || list_any (model.locks_any cache page) (map (option_map actor_seen) xs)) (unlocked_actor x cache page) ∙ unlocked_actors xs cache page
-
-none_of : (p : ℕ → Bool) → ((n : ℕ) → p n ≡ false) → (xs : List ℕ) → list_any p xs ≡ false
-none_of p h [] = refl
-none_of p h (x ∷ xs) = ap (λ b. b || list_any p xs) (h x) ∙ none_of p h xs
-
-pub unlocked : (t : Tables) (cache first pages : ℕ) → list_any (model.is_locked_page (machine_seen t) cache) (range_with_len first pages) ≡ false
-unlocked t cache first pages = none_of _ (unlocked_actors t.actors.items cache) (range_with_len first pages)
 
 -- a cache into which whole pages were put
 pub whole-put : (b : ℕ) (c d : Cache) (first : ℕ) (pages : List (Vec ℕ Global)) → HasPages b (Some c) → All (λ p. length p.items ≡ b) pages → pages_seen d ≡ overwrite first (map (λ p. p.items) pages) (pages_seen c) → HasPages b (Some d)
@@ -233,7 +214,8 @@ pub sound-actors : (t : Tables) (actors : Vec (Option Actor) Global) (made : ℕ
 sound-actors t actors made many living placed s = record {
   some = s.some;
   most = s.most;
-  few = omega (arith, many, s.few);
+  few_actors = omega (arith, many, s.few_actors);
+  few_caches = s.few_caches;
   living = s.living ∙ sym living;
   live = s.live;
   whole = s.whole;

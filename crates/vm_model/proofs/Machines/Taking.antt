@@ -2,7 +2,7 @@
 use Rattle.std.proofs.Common.{◌≡◌, ◌≢◌, ◌==◌, ℕ, suc, zero, ◌+◌, ◌-◌, ◌<◌, ◌≤◌, Bool, true, false, cond, not, List, [], ◌∷◌, ◌++◌, length, set, take, drop, map, filter, get_or, Option, Some, None, refl, sym, ap, subst, ◌∙◌, arith, rules, inl, inr, Vec, Global}
 use Rattle.std.specs.Prelude.{IsSomeAnd, option_map, count_by, is_some, ◌||◌, nat_lt}
 use Rattle.std.specs.List.{All, list_any}
-use Rattle.std.specs.Option.{option_or, option_map_or}
+use Rattle.std.specs.Option.{option_map_or}
 use Rattle.std.proofs.lemmas.Bool.Decides.{nat_tests}
 use Rattle.std.proofs.lemmas.List.{map-set, length-map, length-set, length-drop, length-take-le, append-nil, drop_all, take_all, get_or-map}
 use Rattle.std.proofs.lemmas.List.Elements.{All-set, All-same, All-nil, All-cons, All-head, All-tail}
@@ -16,7 +16,7 @@ use Rattle.vm_model.specs.Machine as model
 use Rattle.vm_model.specs.Machine.{numbered, pages_in, zero_page}
 use Rattle.vm_model.specs.PageForest.{plain_forest}
 use Rattle.vm_model.specs.Answering.{destroy_of, exit_actor_of, unmap_of, chain_answer, change_cache, maps_in, passes_end, put_cache, put_pages, reply, unless, with_some, without_region}
-use Rattle.vm_model.specs.Regions.{region_among, region_with}
+use Rattle.vm_model.specs.Regions.{region_with}
 use Rattle.vm_model.specs.declared.tables.Actor.{Actor}
 use Rattle.vm_model.specs.declared.tables.Cache.{Cache}
 use Rattle.vm_model.specs.declared.tables.Region.{Region}
@@ -73,7 +73,8 @@ sound-taken t n c caches live items there free left s =
     record {
       some = s.some;
       most = s.most;
-      few = s.few;
+      few_actors = s.few_actors;
+      few_caches = omega (arith, s.few_caches, ap length items, length-set t.caches.items (n - 1) None);
       living = s.living;
       live = rw items (rw map-set (omega (arith, left, s.live, swap, length-map c.pages.items (λ p. p.items))));
       whole = rw items (All-set (HasPages t.page_bytes) t.caches.items (n - 1) None tt s.whole);
@@ -107,7 +108,8 @@ pub sound_ended : (t : Tables) (n : ℕ) (a : Actor) (actors : Vec (Option Actor
 sound_ended t n a actors living items there left s = record {
   some = s.some;
   most = s.most;
-  few = omega (arith, s.few, ap length items, length-set t.actors.items (n - 1) None);
+  few_actors = omega (arith, s.few_actors, ap length items, length-set t.actors.items (n - 1) None);
+  few_caches = s.few_caches;
   living = let fewer : living ≡ count_by is_some (set (machine_seen t).actors (n - 1) None) = omega (arith, left, left_living t n a there s) in fewer ∙ ap (count_by is_some) (sym (ap (map (option_map actor_seen)) items ∙ map-set (option_map actor_seen) t.actors.items (n - 1) None));
   live = s.live;
   whole = s.whole;
@@ -123,30 +125,13 @@ exit_row t n a actors living there items =
 
 -- A region that goes ----------------------------------------------------------------------
 
-unlocked_if : (b : Bool) (r : Region) (o : Option model.Region) (x : model.Region) → ((y : model.Region) → o ≡ Some y → y.locked ≡ false) → cond b (Some (region_seen r)) o ≡ Some x → x.locked ≡ false
-unlocked_if true r o x rest e = let same : region_seen r ≡ x = cc in sym (ap (λ (y : model.Region). y.locked) same)
-unlocked_if false r o x rest e = rest x e
-
-unlocked_among : (n : ℕ) (rs : List Region) (x : model.Region) → region_among n (map region_seen rs) ≡ Some x → x.locked ≡ false
-unlocked_among n [] x e = absurd (search rules)
-unlocked_among n (r ∷ rs) x e = unlocked_if (r.number.0 == n) r (region_among n (map region_seen rs)) x (unlocked_among n rs) e
-
-unlocked_or : (o p : Option model.Region) (x : model.Region) → ((y : model.Region) → o ≡ Some y → y.locked ≡ false) → ((y : model.Region) → p ≡ Some y → y.locked ≡ false) → option_or o p ≡ Some x → x.locked ≡ false
-unlocked_or None p x a b e = b x e
-unlocked_or (Some y) p x a b e = a x e
-
-unlocked_with : (n : ℕ) (xs : List (Option Actor)) (x : model.Region) → region_with n (map (option_map actor_seen) xs) ≡ Some x → x.locked ≡ false
-unlocked_with n [] x e = absurd (search rules)
-unlocked_with n (None ∷ xs) x e = unlocked_with n xs x e
-unlocked_with n (Some a ∷ xs) x e = unlocked_or (region_among n (actor_seen a)) (region_with n (map (option_map actor_seen) xs)) x (unlocked_among n a.regions.items) (unlocked_with n xs) e
-
 abbrev without_row : Tables → ℕ → model.Machine
 without_row t n = record (machine_seen t) { actors = map (option_map (without_region n)) (machine_seen t).actors }
 
 -- an unmap that nothing refuses
-pub unmap_row : (t : Tables) (n : ℕ) (r : model.Region) → region_with n (machine_seen t).actors ≡ Some r → unmap_of (machine_seen t) n ≡ reply replies.Done (without_row t n)
+pub unmap_row : (t : Tables) (n : ℕ) (r : model.Region) → region_with n (machine_seen t).actors ≡ Some r → r.locked ≡ false → unmap_of (machine_seen t) n ≡ reply replies.Done (without_row t n)
 unfolding unmap_of with_some unless
-unmap_row t n r e = let open' = unlocked_with n t.actors.items r e in rw (e, open') refl
+unmap_row t n r e unlocked = rw (e, unlocked) refl
 
 -- a list whose front is changed, and one more
 pub mapped_more : {A : Type 0} (g : A → A) (xs : List A) (k : ℕ) (d : A) → k < length xs → set (map g (take k xs) ++ drop k xs) k (g (get_or (map g (take k xs) ++ drop k xs) k d)) ≡ map g (take (suc k) xs) ++ drop (suc k) xs

@@ -1,6 +1,7 @@
 -- What an outcome leaves of the page size, and how many pages it leaves and touches, with a record and without one.
 use Rattle.std.proofs.Common.{◌≡◌, ◌⊎◌, inl, inr, ℕ, ◌*◌, ◌≤◌, List, [], ◌∷◌, map, Option, Some, None, refl, sym, ap, subst, ◌∙◌, arith}
-use Rattle.std.specs.Prelude.{Ok, Err, option_map, sum_by}
+use Rattle.std.specs.Prelude.{Ok, Err, min, option_map, sum_by}
+use Rattle.std.specs.Option.{option_map_or}
 use Rattle.std.proofs.lemmas.List.{length-map}
 use Rattle.std.proofs.lemmas.List.Sums.{sum_by-cons}
 use Rattle.vm_ids.specs.Counting.{MapperCounts}
@@ -13,10 +14,11 @@ use Rattle.vm_ids.specs.declared.reply.FaultAt.TheVariants as faults
 use Rattle.vm_ids.specs.declared.reply.Trouble.TheVariants as troubles
 use Rattle.vm_ids.specs.declared.refusal.Refusal.TheVariants as refusals
 use Rattle.vm_model.specs.declared.limits.TheConstants.{LIVE_PAGES}
-use Rattle.vm_model.specs.Machine.{Machine, Cache, cache_of, live_pages, pages_in}
+use Rattle.vm_model.specs.Machine.{Machine, Cache, Region, cache_of, live_pages, pages_in}
+use Rattle.vm_model.specs.Regions.{region_with}
 use Rattle.vm_model.specs.PageForest.{PageForest, forest_shown}
 use Rattle.vm_model.specs.Answering.{Answer, Answered, answer_of}
-use Rattle.vm_model.specs.Asking.{pages_of_span, pages_touched}
+use Rattle.vm_model.specs.Asking.{pages_of_region, pages_of_span, pages_touched}
 use Rattle.vm_model.specs.Outcome.{MayFault, NotRefusedButFor, IsNotRefused, Outcome, BlankOutcome, OutcomeAt, IsAlike, blank, blank_cache}
 use Rattle.vm_model.proofs.Parts.Lists.{numbered-map}
 use Rattle.vm_model.proofs.Outcomes.Sizes.{HasSizes, sizes}
@@ -88,12 +90,22 @@ blank_pages m n = ap pages_in (numbered-map blank_cache m.caches n) ∙ same_pag
 blank_span : (m : Machine) (s : Span) → pages_of_span (blank m) s ≡ pages_of_span m s
 blank_span m s = omega (arith, blank_pages m s.from.0, blank_pages m s.to.0)
 
+blank_region : (m : Machine) (n : ℕ) → pages_of_region (blank m) n ≡ pages_of_region m n
+blank_region m n = go (region_with n m.actors)
+  where
+    go : (o : Option Region)
+        → option_map_or (λ (r : Region). min r.pages (pages_in (cache_of (blank m) r.cache))) o 0
+        ≡ option_map_or (λ (r : Region). min r.pages (pages_in (cache_of m r.cache))) o 0
+    go None = refl
+    go (Some r) = ap (min r.pages) (blank_pages m r.cache)
+
 blank_touched : (m : Machine) (c : Command) → pages_touched (blank m) c ≡ pages_touched m c
 blank_touched m (commands.MakeTemp pages) = refl
 blank_touched m (commands.Destroy cache) = blank_pages m cache.0
 blank_touched m (commands.Copy span) = blank_span m span
 blank_touched m (commands.Move span) = blank_span m span
 blank_touched m (commands.Map actor mapping) = omega (arith, blank_pages m mapping.extent.cache.0)
+blank_touched m (commands.Lock region) = blank_region m region.0
 blank_touched m (commands.Load actor address bytes) = refl
 blank_touched m (commands.Store actor address piece) = refl
 blank_touched m (commands.Invalidate extent) = omega (arith, blank_pages m extent.cache.0)

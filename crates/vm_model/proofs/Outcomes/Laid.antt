@@ -24,8 +24,8 @@ use Rattle.vm_ids.specs.declared.reply.Trouble.TheVariants as troubles
 use Rattle.vm_model.specs.Machine.{Machine, Cache, Page, Region, Actor, actor_of, cache_of, numbered, zero_page}
 use Rattle.vm_model.specs.Place.{Place, place, placed, place_among, place_of_actor, region_at, holds}
 use Rattle.vm_model.specs.PageForest.{PageForest, page_in}
-use Rattle.vm_model.specs.Answering.{Answered, answer_of, chain_answer, copy_of, destroy_of, flush_of, held_for, held_part, insert_region, invalidate_of, is_mapped, load_of, make_actor_of, exit_actor_of, make_temp_of, map_of, maps_in, move_of, open_of, opened, overwrite, page_at, passes_end, put_cache, put_page, put_pages, region_of, split_of, protect_of, status_of, find_of, store_of, sync_of, temporary, unmap_of, without_region, write_at}
-use Rattle.vm_model.specs.Regions.{back_of, region_among, region_with, replace_in, replace_region, split_at, with_prot}
+use Rattle.vm_model.specs.Answering.{Answered, answer_of, chain_answer, change_region, copy_of, destroy_of, flush_of, held_for, held_part, insert_region, invalidate_of, is_mapped, load_of, lock_of, make_actor_of, exit_actor_of, make_temp_of, map_of, maps_in, move_of, open_of, opened, overwrite, page_at, passes_end, put_cache, put_page, put_pages, region_of, split_of, protect_of, status_of, find_of, store_of, sync_of, temporary, unlock_of, unmap_of, without_region, write_at}
+use Rattle.vm_model.specs.Regions.{back_of, region_among, region_with, replace_in, replace_region, split_at, with_lock, with_prot}
 use Rattle.vm_model.specs.Laws.{IsLaid, LiesIn, LieIn, MachinesStayLaid, LaidMachinesAreMapped}
 use Rattle.vm_model.proofs.Parts.Lists.{length-overwrite, numbered-other, numbered-set, numbered_place, weaker_ok}
 use Rattle.vm_model.proofs.Outcomes.Rows.{each_unless, each_some, each_ok}
@@ -118,6 +118,16 @@ among_all P n r (x ∷ xs) e h = go (x.number == n) e (λ found. among_all P n r
     go : (b : Bool) → cond b (Some x) (region_among n xs) ≡ Some r → (region_among n xs ≡ Some r → P r) → P r
     go true found rest = let same : x ≡ r = cc found in subst P same (All-head P x xs h)
     go false found rest = rest found
+
+-- the region with a number lies in a live cache
+pub region_lies : (cs : List (Option Cache)) (n : ℕ) (r : Region) (xs : List (Option Actor)) → region_with n xs ≡ Some r → Lie cs xs → LiesIn cs r
+region_lies cs n r [] e h = absurd (cc e)
+region_lies cs n r (None ∷ xs) e h = region_lies cs n r xs e (All-tail (LieIn cs) None xs h)
+region_lies cs n r (Some rs ∷ xs) e h = go (region_among n rs) refl e (λ found. region_lies cs n r xs found (All-tail (LieIn cs) (Some rs) xs h))
+  where
+    go : (o : Option Region) → region_among n rs ≡ o → option_or o (region_with n xs) ≡ Some r → (region_with n xs ≡ Some r → LiesIn cs r) → LiesIn cs r
+    go None here found rest = rest found
+    go (Some x) here found rest = let same : x ≡ r = cc found in among_all (LiesIn cs) n r rs (here ∙ ap (λ (y : Region). Some y) same) (All-head (LieIn cs) (Some rs) xs h)
 
 -- one region becomes others
 replaced_all : (P : Region → Type 0) (n : ℕ) (by : Region → List Region) (r : Region) (rs : List Region) → region_among n rs ≡ Some r → All P (by r) → All P rs → All P (replace_region n by rs)
@@ -263,6 +273,27 @@ module _ (m : Machine) (P : IsLaid m) where
             (λ (p : LiesIn m.caches r). All-cons (LiesIn m.caches) (record r { may_write = prot.write }) [] (record { cache = p.cache; there = p.there; within = p.within }) (All-nil (LiesIn m.caches))) P.lie;
       })
 
+  -- a region that is locked, or isn't any more
+  lock_laid : (n : ℕ) (locked : Bool) (r : Region) → region_with n m.actors ≡ Some r → IsLaid (change_region m n (with_lock locked))
+  lock_laid n locked r there = record {
+    some = P.some;
+    lie = changed_lie m.caches n (with_lock locked) r m.actors there
+        (λ (p : LiesIn m.caches r). All-cons (LiesIn m.caches) (record r { locked = locked }) [] (record { cache = p.cache; there = p.there; within = p.within }) (All-nil (LiesIn m.caches))) P.lie;
+  }
+
+  lock_row : (n : ℕ) → RowLaid (lock_of m n)
+  unfolding lock_of
+  lock_row n =
+      each_some RowLaid (region_with n m.actors) _ m _ P (λ r there.
+      each_unless RowLaid _ _ m _ P (λ free.
+      each_unless RowLaid _ _ m _ P (λ few. lock_laid n true r there)))
+
+  unlock_row : (n : ℕ) → RowLaid (unlock_of m n)
+  unfolding unlock_of
+  unlock_row n =
+      each_some RowLaid (region_with n m.actors) _ m _ P (λ r there.
+      each_unless RowLaid _ _ m _ P (λ locked. lock_laid n false r there))
+
   status_row : (n : ℕ) → RowLaid (status_of m n)
   unfolding status_of
   status_row n = each_some RowLaid _ _ m _ P (λ status there. P)
@@ -394,6 +425,8 @@ module _ (m : Machine) (P : IsLaid m) where
   rows f (commands.Map actor mapping) h = map_row m P actor.0 mapping
   rows f (commands.Split region pages) h = split_row m P region.0 pages
   rows f (commands.Protect region prot) h = protect_row m P region.0 prot
+  rows f (commands.Lock region) h = lock_row m P region.0
+  rows f (commands.Unlock region) h = unlock_row m P region.0
   rows f (commands.Unmap region) h = unmap_row m P region.0
   rows f (commands.Status region) h = status_row m P region.0
   rows f (commands.Find actor address) h = find_row m P actor.0 address

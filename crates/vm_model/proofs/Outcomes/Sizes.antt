@@ -1,9 +1,10 @@
 -- What an answer leaves of the page size, and how many pages it leaves and touches.
 use Rattle.std.proofs.Common.{◌≡◌, ℕ, ◌+◌, ◌-◌, ◌*◌, ◌≤◌, false, List, length, take, drop, replicate, Option, Some, None, refl, sym, ap, ◌∙◌, inl, inr, arith}
-use Rattle.std.specs.Prelude.{◌||◌, nat_lt, nat_le}
+use Rattle.std.specs.Prelude.{◌||◌, nat_lt, nat_le, min}
 use Rattle.std.specs.Option.{option_map_or}
 use Rattle.std.proofs.lemmas.Bool.Decides.{nat_tests}
 use Rattle.std.proofs.lemmas.List.{length-replicate, length-set, length-take-le, length-drop}
+use Rattle.std.proofs.Math.Nat.{min-le_right}
 use Rattle.std.specs.FinMap.{get}
 use Rattle.std.proofs.lemmas.List.FromFn.{length-map-range_with_len}
 use Rattle.std.proofs.lemmas.List.Sums.{sum_by_push}
@@ -23,11 +24,12 @@ use Rattle.vm_ids.specs.declared.reply.Reply.{Reply}
 use Rattle.vm_ids.specs.declared.reply.FaultAt.TheVariants as faults
 use Rattle.vm_ids.specs.declared.refusal.Refusal.{Refusal}
 use Rattle.vm_model.specs.declared.limits.TheConstants.{LIVE_PAGES}
-use Rattle.vm_model.specs.Machine.{Machine, Cache, Page, zero_page, actor_of, cache_of, live_pages, pages_in}
+use Rattle.vm_model.specs.Machine.{Machine, Cache, Page, Region, zero_page, actor_of, cache_of, live_pages, pages_in}
 use Rattle.vm_model.specs.Place.{Place}
+use Rattle.vm_model.specs.Regions.{region_with}
 use Rattle.vm_model.specs.PageForest.{PageForest}
-use Rattle.vm_model.specs.Answering.{Answered, refuse, reply, answer_of, make_actor_of, exit_actor_of, make_temp_of, open_of, opened, destroy_of, copy_of, move_of, map_of, split_of, protect_of, unmap_of, status_of, find_of, load_of, store_of, sync_of, flush_of, invalidate_of, held_for, held_part, chain_answer, passes_end, temporary, overwrite, put_cache, put_pages, put_page, page_at}
-use Rattle.vm_model.specs.Asking.{pages_touched}
+use Rattle.vm_model.specs.Answering.{Answered, refuse, reply, answer_of, make_actor_of, exit_actor_of, make_temp_of, open_of, opened, destroy_of, copy_of, move_of, map_of, split_of, protect_of, lock_of, unlock_of, unmap_of, status_of, find_of, load_of, store_of, sync_of, flush_of, invalidate_of, held_for, held_part, chain_answer, passes_end, temporary, overwrite, put_cache, put_pages, put_page, page_at}
+use Rattle.vm_model.specs.Asking.{pages_of_region, pages_touched}
 use Rattle.vm_model.specs.Outcome.{NotRefusedButFor}
 use Rattle.vm_model.proofs.Parts.Lists.{length-overwrite, at_number, numbered-set, sum_by_same, sum_by_part, sum_by_less}
 use Rattle.vm_model.proofs.Outcomes.Rows.{each_unless, each_some, each_ok}
@@ -86,6 +88,20 @@ some_same c d e = cc
 -- no cache has more pages than all
 pages_few : (m : Machine) (n : ℕ) (c : Cache) → cache_of m n ≡ Some c → length c.pages ≤ live_pages m
 pages_few m n c e = sum_by_part pages_in m.caches (n - 1) (Some c) (at_number m.caches n c e)
+
+cache_few : (m : Machine) (n : ℕ) → pages_in (cache_of m n) ≤ live_pages m
+cache_few m n = go (cache_of m n) refl
+  where
+    go : (o : Option Cache) → cache_of m n ≡ o → pages_in o ≤ live_pages m
+    go None e = omega arith
+    go (Some c) e = pages_few m n c e
+
+region_few : (m : Machine) (number : ℕ) → pages_of_region m number ≤ live_pages m
+region_few m number = go (region_with number m.actors)
+  where
+    go : (o : Option Region) → option_map_or (λ (r : Region). min r.pages (pages_in (cache_of m r.cache))) o 0 ≤ live_pages m
+    go None = omega arith
+    go (Some r) = omega (arith, min-le_right r.pages (pages_in (cache_of m r.cache)), cache_few m r.cache)
 
 -- a cache is replaced by one with as many pages
 same_live : (m : Machine) (n : ℕ) (c d : Cache) → cache_of m n ≡ Some c → length d.pages ≡ length c.pages → live_pages (put_cache m n d) ≡ live_pages m
@@ -206,6 +222,22 @@ protect_sizes : (m : Machine) (region : RegionId) (prot : Prot) → HasSizes m (
 unfolding protect_of
 protect_sizes m region prot = each_some (HasSizes m (commands.Protect region prot)) _ _ m _ (refused m _ _ (λ h n. omega arith)) (λ r there. record { page = refl; live = λ h. h; touched = λ h n. omega arith })
 
+lock_sizes : (m : Machine) (region : RegionId) → HasSizes m (commands.Lock region) (lock_of m region.0)
+unfolding lock_of
+lock_sizes m region =
+    let P : Answered → Type 0 = HasSizes m (commands.Lock region) in
+    let few : live_pages m ≤ LIVE_PAGES → pages_touched m (commands.Lock region) ≤ 3 * LIVE_PAGES = (λ h. omega (arith, region_few m region.0)) in
+    each_some P _ _ m _ (refused m _ _ (λ h n. few h)) (λ r there.
+    each_unless P _ _ m _ (refused m _ _ (λ h n. few h)) (λ free.
+    each_unless P _ _ m _ (refused m _ _ (λ h n. few h)) (λ room. record { page = refl; live = λ h. h; touched = λ h n. few h })))
+
+unlock_sizes : (m : Machine) (region : RegionId) → HasSizes m (commands.Unlock region) (unlock_of m region.0)
+unfolding unlock_of
+unlock_sizes m region =
+    let P : Answered → Type 0 = HasSizes m (commands.Unlock region) in
+    each_some P _ _ m _ (refused m _ _ (λ h n. omega arith)) (λ r there.
+    each_unless P _ _ m _ (refused m _ _ (λ h n. omega arith)) (λ locked. record { page = refl; live = λ h. h; touched = λ h n. omega arith }))
+
 -- nothing changes, and nothing is touched
 told_sizes : (m : Machine) (r : Reply) (c : Command) → pages_touched m c ≡ 0 → HasSizes m c (reply r m)
 told_sizes m r c none = record { page = refl; live = λ h. h; touched = λ h n. omega (arith, none) }
@@ -300,6 +332,8 @@ sizes m f (commands.Move span) h = move_sizes m span h
 sizes m f (commands.Map actor mapping) h = map_sizes m actor mapping
 sizes m f (commands.Split region pages) h = split_sizes m region pages
 sizes m f (commands.Protect region prot) h = protect_sizes m region prot
+sizes m f (commands.Lock region) h = lock_sizes m region
+sizes m f (commands.Unlock region) h = unlock_sizes m region
 sizes m f (commands.Unmap region) h = unmap_sizes m region
 sizes m f (commands.Status region) h = status_sizes m region
 sizes m f (commands.Find actor address) h = find_sizes m actor address

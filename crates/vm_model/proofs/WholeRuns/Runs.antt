@@ -19,7 +19,7 @@ use Rattle.vm_model.specs.Laws.{IsFollowed, IsLaid, LieIn, RunsAreFollowed}
 use Rattle.vm_model.proofs.Forests.Followed.{answers_are_followed}
 use Rattle.vm_model.proofs.Forests.PlainFollows.{plain_forest_follows}
 use Rattle.vm_model.proofs.Forests.Untold.{untold_answers_are_followed}
-use Rattle.vm_model.proofs.Outcomes.Laid.{machines_stay_laid, laid_machines_are_mapped}
+use Rattle.vm_model.proofs.Outcomes.Laid.{machines_stay_laid}
 
 -- what holds between two answers, where the forest is told
 record Holds (s : State) : Type 0 where
@@ -56,7 +56,7 @@ answer_holds s t command answer pushes rises w H a = go s.segments refl H.whole
           told_forest = next;
           laid = machines_stay_laid s.machine t.machine H.forest command k.0 answer rises H.laid outcome;
           whole = a.whole;
-          follows = answers_are_followed s.machine t.machine H.forest command k.0 answer rises H.laid.some whole (laid_machines_are_mapped s.machine H.laid) w H.follows outcome;
+          follows = answers_are_followed s.machine t.machine H.forest command k.0 answer rises H.laid whole w H.follows outcome;
         }
     go None e whole =
         let untold : t.segments ≡ None = a.pushed.pushed ∙ still_untold s.machine pushes s.segments e in

@@ -2,10 +2,10 @@ use Rattle.gmi_calls.proofs.Ready.{fits_after, live_after, made_after}
 use Rattle.gmi_calls.proofs.command.answer.Goals as goal
 
 pub returns-clause-fits : goal.returns-clause-fits
-returns-clause-fits g c = fits_after _ _ _ _ _ _ _ _ c.call.ensures.answers c.call.ensures.page c.requires.fits
+returns-clause-fits g c = fits_after _ _ _ _ _ _ _ _ _ c.call.ensures.answers c.call.ensures.page c.requires.fits
 
 pub returns-clause-live : goal.returns-clause-live
-returns-clause-live g c = live_after _ _ _ _ _ _ c.call.ensures.answers c.requires.live
+returns-clause-live g c = live_after _ _ _ _ _ _ _ c.call.ensures.answers c.requires.live
 
 pub returns-clause-made_little : goal.returns-clause-made_little
-returns-clause-made_little g c = made_after _ _ _ _ _ _ _ _ c.call.ensures.answers c.requires.live c.call.ensures.made
+returns-clause-made_little g c = made_after _ _ _ _ _ _ _ _ _ c.call.ensures.answers c.requires.live c.call.ensures.made

@@ -1,5 +1,5 @@
-use Rattle.std.proofs.Common.{◌≡◌, [], ◌∷◌, ◌++◌, Some, rules, arith}
-use Rattle.std.proofs.lemmas.List.{length-map}
+use Rattle.std.proofs.Common.{◌≡◌, [], ◌∷◌, ◌++◌, Some, length, ap, rules, arith}
+use Rattle.std.proofs.lemmas.List.{length-append, length-map}
 use Rattle.std.proofs.lemmas.List.Elements.{All-push}
 use Rattle.vm_model.specs.declared.tables.Cache.{Cache}
 use Rattle.vm_model.specs.Seen.{HasPages}
@@ -15,7 +15,8 @@ returns-clause-sound c =
     record {
       some = sound.some;
       most = sound.most;
-      few = sound.few;
+      few_actors = sound.few_actors;
+      few_caches = omega (arith, c.requires.few, ap length items, length-append t.caches.items (Some made ∷ []));
       living = sound.living;
       live = rw items (omega (arith, sound.live, c.len-pages.ensures, made.pages.ok.0, c.requires.room, live-push t.caches.items (Some made), length-map made.pages.items (λ p. p.items)));
       whole = rw items (All-push (HasPages t.page_bytes) t.caches.items (Some made) sound.whole c.requires.whole);

@@ -2,28 +2,10 @@ use Rattle.std.proofs.lemmas.Bool.Decides.{nat_tests}
 use Rattle.std.proofs.Common.{◌≡◌, ◌+◌, ◌≤◌, List, Option, Some, ap, sym, ◌∙◌, arith}
 use Rattle.std.specs.Prelude.{option_map}
 use Rattle.vm_model.specs.Machine.{numbered}
-use Rattle.vm_model.specs.Seen.{cache_seen, machine_seen}
 use Rattle.vm_model.specs.declared.tables.Cache.{Cache}
-use Rattle.vm_model.proofs.Machines.Awaiting.{flush_row, invalidate_awaits, seen_there, segment_there}
-use Rattle.vm_model.proofs.Machines.Sound.{unlocked}
+use Rattle.vm_model.proofs.Machines.Awaiting.{segment_there}
 use Rattle.vm_model.proofs.Machines.Taking.{counted, pages_live, within}
 use Rattle.vm_model.proofs.extents.check_extent.Goals as goal
-
-pub returns-clause-flush : goal.returns-clause-flush
-returns-clause-flush c = λ h.
-    let t = c.args.tables.now in
-    let e = c.args.extent.now in
-    let found : Cache = c.in-Some.cache.now in
-    let there : numbered t.caches.items e.cache.0 ≡ Some found = sym (c.in-Some.ensures ∙ ap (λ (cs : List (Option Cache)). numbered cs e.cache.0) c.deref.ensures.value) in
-    flush_row (machine_seen t) e (cache_seen found) c.in-Some-segment.seg.0 (seen_there t e.cache.0 found there) (ap (option_map (λ s. s.0)) c.in-Some-segment.is) (sym c.if-passes_end.ensures) (unlocked t e.cache.0 e.first.0 e.pages)
-
-pub returns-clause-awaits : goal.returns-clause-awaits
-returns-clause-awaits c =
-    let t = c.args.tables.now in
-    let e = c.args.extent.now in
-    let found : Cache = c.in-Some.cache.now in
-    let there : numbered t.caches.items e.cache.0 ≡ Some found = sym (c.in-Some.ensures ∙ ap (λ (cs : List (Option Cache)). numbered cs e.cache.0) c.deref.ensures.value) in
-    invalidate_awaits (machine_seen t) e (cache_seen found) c.in-Some-segment.seg.0 (seen_there t e.cache.0 found there) (ap (option_map (λ s. s.0)) c.in-Some-segment.is) (sym c.if-passes_end.ensures) (unlocked t e.cache.0 e.first.0 e.pages)
 
 pub returns-clause-segment : goal.returns-clause-segment
 returns-clause-segment c =

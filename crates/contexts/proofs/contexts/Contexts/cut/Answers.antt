@@ -12,8 +12,9 @@ use Rattle.regions.specs.AddressSpace.{AddressSpace}
 use Rattle.contexts.specs.Actors.{Actors, with_split}
 use Rattle.contexts.specs.Layout.{IsChanged, regions_in}
 use Rattle.contexts.proofs.Kept.{changed_same, err_all}
+use Rattle.contexts.proofs.Once.{times_split}
 use Rattle.contexts.proofs.Replaced.{all_replaced}
-use Rattle.contexts.proofs.Sound.{sound_more, sound_same}
+use Rattle.contexts.proofs.Sound.{sound_more, sound_same, sound_still}
 use Rattle.contexts.proofs.Told.{is_told, told_alive, told_among, told_becomes, told_page, IsTold}
 use Rattle.contexts.proofs.contexts.Contexts.cut.Goals as goal
 
@@ -44,7 +45,7 @@ invariant_of-self-in_err-split_region c =
     let e : IsChanged a (λ rs. rs) i.actors.items ys =
     subst (λ (xs : List (Option AddressSpace)). IsChanged a (λ rs. rs) xs ys) c.deref_mut.ensures.value c.in_err-split_region.ensures.err in
     let items = with_items_is i.actors ys (omega (arith, c.split_region.auto.spaces, c.deref_mut.ensures.len)) in
-    sound_same i _ c.self.invariant refl refl a (λ rs. rs) (subst (IsChanged a (λ rs. rs) i.actors.items) (sym items) e) c.reserve.ensures.items (λ h. h)
+    sound_same i _ c.self.invariant refl refl a (λ rs. rs) (subst (IsChanged a (λ rs. rs) i.actors.items) (sym items) e) c.reserve.ensures.items (λ h. h) (λ h. h)
 
 pub returns-in_err-split_region-clause-err : goal.returns-in_err-split_region-clause-err
 returns-in_err-split_region-clause-err c =
@@ -79,8 +80,9 @@ invariant_of-self-2 c =
     let after : c.push_reserved.new.self.items ≡ i.owners.items ++ s.actor ∷ [] = c.push_reserved.ensures.items ∙ ap (λ (os : List ActorId). os ++ s.actor ∷ []) c.reserve.ensures.items in
     let number : fresh ≡ length i.owners.items + 1 = subst (λ (a : Actors). fresh ≡ a.regions_made + 1) (sym c.self.view_is) c.next_region-fresh.ensures in
     let few : length i.owners.items < MOST_MADE = subst (λ (a : Actors). a.regions_made < MOST_MADE) (sym c.self.view_is) c.requires.few in
-    sound_more i _ c.self.invariant refl refl s.actor (by i.page) e after few
-    (λ P new h. all_replaced (λ r. P r.number) n (cut i.page) t.region e.space.regions (told_among n xs s t e.space e.here) (both P t.region i.page fresh (subst P (sym number) new)) h)
+    sound_more i _ c.self.invariant refl refl s.actor (back_of i.page c.args.pages fresh t.region) (by i.page) e after few number
+    (λ P new h. all_replaced (λ r. P r.number) n (cut i.page) t.region e.space.regions (told_among n xs s t e.space e.here) (both P t.region i.page fresh new) h)
+    (λ k. times_split k n i.page c.args.pages fresh t.region e.space.regions (told_among n xs s t e.space e.here))
   where
     both : (P : ℕ → Type 0) (r : Region) (page fresh : ℕ) → P fresh → P r.number → All (λ (x : Region). P x.number) (split_at page c.args.pages fresh r)
     both P r page fresh new old =
@@ -108,3 +110,6 @@ returns-clause-ok c =
     ∙ ap (λ (k : ℕ). replace_in n (split_at i.page c.args.pages k) (regions_in xs)) number in
     subst (λ (a : Actors). (record { page_bytes = i.page; actors = regions_in (Rattle.std.specs.Vec.with_items i.actors ys).items; regions_made = length c.push_reserved.new.self.items }) ≡ with_split a n c.args.pages) c.self.view_is
     (λ j. record { page_bytes = i.page; actors = seen j; regions_made = made j })
+
+pub invariant_of-self : goal.invariant_of-self
+invariant_of-self c = sound_still c.self.inside _ c.self.invariant refl refl refl c.reserve.ensures.items

@@ -1,4 +1,4 @@
-use Rattle.std.proofs.Common.{◌≡◌, ◌+◌, ◌<◌, ◌≤◌, ℕ, Bool, true, false, [], length, sym, ap, subst, ◌∙◌, arith}
+use Rattle.std.proofs.Common.{◌≡◌, ◌+◌, ◌<◌, ◌≤◌, ℕ, Bool, true, false, [], length, refl, sym, ap, subst, ◌∙◌, arith}
 use Rattle.std.specs.Prelude.{◌||◌, count_by, is_some, nat_le}
 use Rattle.std.proofs.lemmas.Bool.Decides.{nat_tests}
 use Rattle.std.proofs.lemmas.List.Elements.{All-nil, All-same}
@@ -7,7 +7,9 @@ use Rattle.vm_model.specs.declared.limits.TheConstants.{LIVING_ACTORS, MOST_MADE
 use Rattle.contexts.specs.Actors.{Actors, is_full}
 use Rattle.contexts.specs.Layout.{IsKept}
 use Rattle.contexts.proofs.Owners.{IsFor}
+use Rattle.contexts.proofs.Once.{AreOnce, once_none}
 use Rattle.contexts.proofs.Places.{Numbered, numbered_more}
+use Rattle.contexts.proofs.Sound.{sound_still}
 use Rattle.contexts.proofs.Living.{full_by, more_living}
 use Rattle.contexts.proofs.contexts.Contexts.make.Goals as goal
 use Rattle.contexts.proofs.contexts.Contexts.make.Goals.{then-self-ge-LIVING_ACTORS-via-then-self-ge-LIVING_ACTORS, then-self-ge-LIVING_ACTORS-via-else-self-ge-LIVING_ACTORS+then-len}
@@ -54,6 +56,9 @@ returns-clause-refused c = λ closed.
     (full ∙ not_full i.living (length i.actors.items) (omega (arith, c.if-self-ge-LIVING_ACTORS.false)) (omega (arith, c.if-len.false, c.len.ensures))) in
     absurd (let f : true ≡ false = sym closed ∙ e in cc f)
 
+pub invariant_of-self : goal.invariant_of-self
+invariant_of-self c = sound_still c.self.inside _ c.self.invariant refl refl c.in-Err.ensures.items refl
+
 pub invariant_of-self-2 : goal.invariant_of-self-2
 invariant_of-self-2 c =
     let i = c.self.inside in
@@ -66,6 +71,7 @@ invariant_of-self-2 c =
     let new : IsKept i.page owners n s = record {
       page_bytes = c.new.ensures.page;
       owned = All-same (IsFor owners n) s.regions [] c.new.ensures.regions (All-nil (IsFor owners n));
+      once = subst AreOnce (sym c.new.ensures.regions) once_none;
     } in
     record {
       some = k.some;

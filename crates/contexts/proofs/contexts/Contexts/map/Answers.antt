@@ -1,16 +1,20 @@
-use Rattle.std.proofs.Common.{◌≡◌, ℕ, ◌+◌, ◌-◌, ◌<◌, ◌∷◌, ◌++◌, [], List, Option, length, refl, set, sym, ap, subst, ◌∙◌, arith}
-use Rattle.std.specs.Prelude.{option_map}
+use Rattle.std.proofs.Common.{◌≡◌, ℕ, ◌+◌, ◌-◌, ◌<◌, ◌∷◌, ◌++◌, [], false, List, Option, Some, length, refl, set, sym, ap, subst, ◌∙◌, arith}
+use Rattle.std.specs.Prelude.{IsSome, IsSomeAnd, option_map}
+use Rattle.std.specs.List.{list_any}
 use Rattle.std.proofs.lemmas.List.{length-append, with_items_is}
 use Rattle.vm_model.specs.declared.limits.TheConstants.{MOST_MADE}
+use Rattle.vm_ids.specs.declared.command.Mapping.{Mapping}
 use Rattle.vm_ids.specs.declared.numbers.ActorId.{ActorId}
-use Rattle.vm_model.specs.Answering.{insert_region, region_of}
-use Rattle.vm_model.specs.Machine.{Region, numbered}
+use Rattle.vm_model.specs.Answering.{insert_region, overlaps, region_of}
+use Rattle.vm_model.specs.Machine.{Actor, Region, numbered}
 use Rattle.regions.specs.AddressSpace.{AddressSpace}
 use Rattle.contexts.specs.Actors.{Actors, with_region}
-use Rattle.contexts.specs.Layout.{IsChanged, regions_in}
+use Rattle.contexts.specs.Layout.{IsChanged, actors_seen, regions_in}
+use Rattle.contexts.specs.declared.contexts.Contexts.TheInside.{Inside}
 use Rattle.contexts.proofs.Owners.{all_insert}
-use Rattle.contexts.proofs.Kept.{changed_same, changed_seen, err_all}
-use Rattle.contexts.proofs.Sound.{sound_more, sound_same}
+use Rattle.contexts.proofs.Once.{times_insert}
+use Rattle.contexts.proofs.Kept.{changed_same, changed_seen, err_all, seen_and}
+use Rattle.contexts.proofs.Sound.{sound_more, sound_same, sound_still}
 use Rattle.contexts.proofs.contexts.Contexts.map.Goals as goal
 
 pub invariant_of-self-in_err-add_region : goal.invariant_of-self-in_err-add_region
@@ -21,7 +25,7 @@ invariant_of-self-in_err-add_region c =
     let e : IsChanged a (λ rs. rs) i.actors.items ys =
     subst (λ (xs : List (Option AddressSpace)). IsChanged a (λ rs. rs) xs ys) c.deref_mut.ensures.value c.in_err-add_region.ensures.err in
     let items = with_items_is i.actors ys (omega (arith, c.add_region.auto.spaces, c.deref_mut.ensures.len)) in
-    sound_same i _ c.self.invariant refl refl a (λ rs. rs) (subst (IsChanged a (λ rs. rs) i.actors.items) (sym items) e) c.reserve.ensures.items (λ h. h)
+    sound_same i _ c.self.invariant refl refl a (λ rs. rs) (subst (IsChanged a (λ rs. rs) i.actors.items) (sym items) e) c.reserve.ensures.items (λ h. h) (λ h. h)
 
 pub invariant_of-self-2 : goal.invariant_of-self-2
 invariant_of-self-2 c =
@@ -36,8 +40,8 @@ invariant_of-self-2 c =
     let after : c.push_reserved.new.self.items ≡ i.owners.items ++ c.args.actor ∷ [] = c.push_reserved.ensures.items ∙ ap (λ (os : List ActorId). os ++ c.args.actor ∷ []) c.reserve.ensures.items in
     let number : r.number ≡ length i.owners.items + 1 = subst (λ (t : Actors). r.number ≡ t.regions_made + 1) (sym c.self.view_is) c.next_region-region.ensures in
     let few : length i.owners.items < MOST_MADE = subst (λ (t : Actors). t.regions_made < MOST_MADE) (sym c.self.view_is) c.requires.few in
-    sound_more i _ c.self.invariant refl refl c.args.actor (insert_region r) e after few
-    (λ P new h. all_insert (λ (x : Region). P x.number) r e.space.regions (subst P (sym number) new) h)
+    sound_more i _ c.self.invariant refl refl c.args.actor r (insert_region r) e after few number
+    (λ P new h. all_insert (λ (x : Region). P x.number) r e.space.regions new h) (λ n. times_insert n r e.space.regions)
 
 pub returns-in_err-add_region-clause-err : goal.returns-in_err-add_region-clause-err
 returns-in_err-add_region-clause-err c =
@@ -70,3 +74,30 @@ returns-clause-ok c =
     ∙ ap (λ (n : ℕ). set (regions_in i.actors.items) (a - 1) (option_map (insert_region (region_of n c.args.mapping)) (numbered (regions_in i.actors.items) a))) number in
     subst (λ (t : Actors). (record { page_bytes = i.page; actors = regions_in (Rattle.std.specs.Vec.with_items i.actors ys).items; regions_made = length c.push_reserved.new.self.items }) ≡ with_region t a c.args.mapping) c.self.view_is
     (λ j. record { page_bytes = i.page; actors = seen j; regions_made = made j })
+
+-- the pages share no address with a region of the actor
+abbrev IsFreeAt : Mapping → ℕ → ℕ → List (Option Actor) → Type 0
+IsFreeAt mapping a page actors = IsSomeAnd (numbered actors a) (λ rs. list_any (overlaps page mapping.address mapping.extent.pages) rs ≡ false)
+
+free_at : (mapping : Mapping) (a : ℕ) (i : Inside) (t : Actors) → actors_seen i ≡ t → IsFreeAt mapping a t.page_bytes t.actors
+    → IsSome (numbered i.actors.items a) × ((s : AddressSpace) → numbered i.actors.items a ≡ Some s → list_any (overlaps i.page mapping.address mapping.extent.pages) s.regions ≡ false)
+free_at mapping a i t is h =
+    seen_and (λ rs. list_any (overlaps i.page mapping.address mapping.extent.pages) rs ≡ false) i.actors.items a
+    (subst (λ (u : Actors). IsFreeAt mapping a u.page_bytes u.actors) (sym is) h)
+
+pub invariant_of-self : goal.invariant_of-self
+invariant_of-self c = sound_still c.self.inside _ c.self.invariant refl refl refl c.reserve.ensures.items
+
+pub add_region-requires-clause-alive : goal.add_region-requires-clause-alive
+add_region-requires-clause-alive c =
+    let a = c.args.actor.0 in
+    subst (λ (ys : List (Option AddressSpace)). IsSome (numbered ys a)) (sym c.deref_mut.ensures.value)
+    (free_at c.args.mapping a c.self.inside c.args.self.now c.self.view_is c.requires.fits).0
+
+pub add_region-requires-clause-fits : goal.add_region-requires-clause-fits
+add_region-requires-clause-fits c =
+    let a = c.args.actor.0 in
+    let p = c.args.mapping in
+    let free = free_at p a c.self.inside c.args.self.now c.self.view_is c.requires.fits in
+    subst (λ (ys : List (Option AddressSpace)). (s : AddressSpace) → numbered ys a ≡ Some s → list_any (overlaps s.page_bytes p.address p.extent.pages) s.regions ≡ false) (sym c.deref_mut.ensures.value)
+    (λ s here. subst (λ (page : ℕ). list_any (overlaps page p.address p.extent.pages) s.regions ≡ false) (sym (c.self.invariant.kept a s here).page_bytes) (free.1 s here))

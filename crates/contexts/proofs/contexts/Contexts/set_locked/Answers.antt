@@ -9,6 +9,7 @@ use Rattle.regions.specs.AddressSpace.{AddressSpace}
 use Rattle.contexts.specs.Actors.{Actors}
 use Rattle.contexts.specs.Layout.{IsChanged, regions_in}
 use Rattle.contexts.proofs.Owners.{IsFor}
+use Rattle.contexts.proofs.Once.{once_same}
 use Rattle.contexts.proofs.Replaced.{all_replaced}
 use Rattle.contexts.proofs.Sound.{sound_same}
 use Rattle.contexts.proofs.Told.{is_told, told_alive, told_among, told_becomes, told_some, IsTold}
@@ -52,6 +53,7 @@ invariant_of-self c =
     let P : Region → Type 0 = IsFor i.owners.items s.actor.0 in
     sound_same i _ c.self.invariant refl refl s.actor.0 by f refl
     (λ h. all_replaced P n (with_lock c.args.locked) t.region f.space.regions (told_among n xs s t f.space f.here) (λ p. All-cons P (record t.region { locked = c.args.locked }) [] p (All-nil P)) h)
+    (once_same n (with_lock c.args.locked) t.region f.space.regions (told_among n xs s t f.space f.here) (λ k. omega arith))
 
 pub returns-clause-found : goal.returns-clause-found
 returns-clause-found c =
