@@ -17,7 +17,7 @@ pub mod Promise
 -- The lines that a number makes, one after another.
 pub mod Made
 -- A trial, and one line more.
-pub mod Trying
+pub mod Tallying
 -- What a text that was to be written says of the status.
 pub mod Statuses
 -- What a trial promises, from how its lines are answered.

@@ -1,5 +1,5 @@
 use Rattle.std.proofs.Common.{arith, rules}
-use Rattle.replay.proofs.Trying.{summed, tally_lines, tally_ok, told_counts, tried_more, tried_none}
+use Rattle.replay.proofs.Tallying.{summed, tally_lines, tally_ok, told_counts, tried_more, tried_none}
 use Rattle.replay.proofs.trying.trial.Goals as goal
 
 pub loop-line-init : goal.loop-line-init

@@ -2,7 +2,7 @@ use Rattle.std.proofs.Common.{◌+◌}
 use Rattle.vm_model.specs.Run.{state_of}
 use Rattle.actor_script.specs.Generator.{beginning}
 use Rattle.replay.specs.OneLine.{CanAnswer}
-use Rattle.replay.proofs.Trying.{Tried}
+use Rattle.replay.proofs.Tallying.{Tried}
 use Rattle.replay.proofs.trying.trial.Given as goal
 
 abbrev pub invariant-loop-line : goal.invariant-loop-line
