@@ -10,5 +10,5 @@ invariant-loop-line g l =
     record {
       faults : K.faults l.fn.sink ≤ K.faults l.sink;
       grew : Grew (K.written l.fn.sink) (K.written l.sink);
-      written : Written (beginning l.fn.script.number) l.lines l.line (K.written l.fn.sink) (with_gathered (K.written l.sink) l.gathered);
+      written : Written (beginning l.fn.script.number) l.lines l._line (K.written l.fn.sink) (with_gathered (K.written l.sink) l.gathered);
     }

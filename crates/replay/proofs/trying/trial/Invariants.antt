@@ -10,7 +10,7 @@ invariant-loop-line g l =
     let G = g.G.Gmi in
     let M = g.M.Mapper in
     record {
-      able : CanAnswer G M (l.line + 1) l.gmi l.mapper;
-      tried : Tried (beginning l.fn.script.number) l.lines l.line (M.counts l.fn.mapper) (M.counts l.mapper)
+      able : CanAnswer G M (l._line + 1) l.gmi l.mapper;
+      tried : Tried (beginning l.fn.script.number) l.lines l._line (M.counts l.fn.mapper) (M.counts l.mapper)
           (state_of G.machine G.forest l.fn.gmi (M.held l.fn.mapper)) (state_of G.machine G.forest l.gmi (M.held l.mapper)) l.tally;
     }
