@@ -26,7 +26,7 @@ returns-in_err-put_line-clause-wrote g c =
     let p = err_from_is_err_and c.from_residual.result c.from_residual.ensures.1 in
     let written = g.K.Sink.written in
     let grew = grew_then (written c.args.sink.now) (written c.loop-line.sink) (written c.put_line.new.sink) c.loop-line.invariant.grew c.in_err-put_line.ensures.grew in
-    rw p.1 (written_short _ _ c.loop-line._line _ _ c.loop-line.invariant.written _ c.next_line.result c.args.script.lines (written c.put_line.new.sink) c.put_line.new.gathered (omega arith) c.next_line.ensures grew
+    rw p.1 (written_short _ _ c.loop-line._line _ _ c.loop-line.invariant.written _ c.next_line.result c.args.script.lines (written c.put_line.new.sink) c.put_line.new.self (omega arith) c.next_line.ensures grew
     (rw c.as_slice.ensures.bytes at c.in_err-put_line.ensures.wrote))
 
 pub returns-clause-wrote : goal.returns-clause-wrote
