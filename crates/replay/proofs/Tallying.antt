@@ -46,7 +46,7 @@ tried_none at here c before tally begun none = record {
 module _ (beginning here : Position) (count : ℕ) (c d : MapperCounts) (before between : State) (tally : Tally) (h : Tried beginning here count c d before between tally) where
   -- the tally is of so many lines
   pub tally_lines : tally.lines ≡ count
-  tally_lines = ap (λ (t : Tally). t.lines) h.tally_is ∙ length-map (λ (step : Step). step.answer) h.steps ∙ h.many
+  tally_lines = ap (λ (t : Tally). t.lines) h.tally_is ∙ length-map h.steps (λ (step : Step). step.answer) ∙ h.many
 
   pub tally_ok : tally.ok ≤ tally.lines
   tally_ok = subst (λ (t : Tally). t.ok ≤ t.lines) (sym h.tally_is) (count_by-le-length is_ok (map (λ (step : Step). step.answer) h.steps))
@@ -55,7 +55,7 @@ module _ (beginning here : Position) (count : ℕ) (c d : MapperCounts) (before 
       → LineIs d e between (command_of line) answer after → Tallies tally answer now → Tried beginning next (count + 1) c e before after now
   tried_more next line answer e after now one is tallies =
       let step = step_of_line (count + 1) (command_of line) answer is.pushes is.rises in
-      let number : count + 1 ≡ 1 + length (map command_of h.given) = omega (arith, h.size, length-map command_of h.given) in
+      let number : count + 1 ≡ 1 + length (map command_of h.given) = omega (arith, h.size, length-map h.given command_of) in
       record {
         given = h.given ++ line ∷ [];
         size = omega (arith, h.size, length-append h.given (line ∷ []));

@@ -1,6 +1,6 @@
 -- What words are that ask for something.
 use Rattle.std.proofs.Common.{◌≡◌, ◌≤◌, ◌^◌, ℕ, Bool, true, false, cond, List, [], ◌∷◌, Option, Some, None, is_some, refl, sym, ap, ◌∙◌, subst, codes, bytes_eq, arith, nat_le, option_map, option_and_then, unwrap_or}
-use Rattle.std.specs.Prelude.{◌&&◌}
+use Rattle.std.specs.Prelude.{◌&&◌, IfOk, Result, Ok, Err}
 use Rattle.std.proofs.lemmas.Bool.{leb-true}
 use Rattle.vm_ids.specs.declared.numbers.TheConstants.{PAGE}
 use Rattle.actor_script.specs.Operands.{number_of}
@@ -8,7 +8,7 @@ use Rattle.replay.specs.declared.asked.Asked.{Asked}
 use Rattle.replay.specs.declared.asked.Asked.TheVariants as asks
 use Rattle.replay.specs.declared.asked.Generated.{Generated}
 use Rattle.replay.specs.declared.asked.Size.{Size}
-use Rattle.replay.specs.Commanding.{asked_behind, asked_by, first_value, if_lines, line_count_of, options_among, others_among, page_of, page_size_of, script_of, trial_behind}
+use Rattle.replay.specs.Commanding.{asked_behind, asked_by, first_value, if_lines, line_count_of, options_among, others_among, page_of, page_size_of, script_of, trial_behind, trial_of}
 use Rattle.replay.proofs.CommandLine.First.{page_behind}
 use Rattle.replay.proofs.CommandLine.Right.{few_frames, right, small_page}
 use Rattle.replay.proofs.CommandLine.Values.{and_both, same_text}
@@ -179,3 +179,16 @@ generate_few words script e = let generate = is_generate words script e in (scri
 
 pub trial_few : (words : List (List ℕ)) (script : Generated) (frames : ℕ) → asked_by words ≡ Some (asks.Trial script frames) → script.lines ≤ 1000000
 trial_few words script frames e = let trial = is_trial words script frames e in (script_few (others_among false trial.rest) script trial.script_is).1
+
+-- what the code finds in the words of a trial
+
+pub is_some_map : {A B : Type 0} (f : A → B) (o : Option A) → is_some (option_map f o) ≡ is_some o
+is_some_map f None = refl
+is_some_map f (Some x) = refl
+
+pub trial_asks : {E : Type 0} (r : Result (Option Asked) E) (words others options : List (List ℕ)) → is_some (first_value (codes "--page") words) ≡ false → others ≡ others_among false words → options ≡ options_among false words
+    → IfOk r (λ asked. asked ≡ trial_of others options) → IfOk r (λ asked. asked ≡ trial_behind words)
+trial_asks (Err e) words others options none script rest h = tt
+trial_asks (Ok asked) words others options none script rest h =
+    h ∙ ap (λ (x : List (List ℕ)). trial_of x options) script ∙ ap (trial_of (others_among false words)) rest
+    ∙ sym (ap (λ (b : Bool). cond b None (trial_of (others_among false words) (options_among false words))) none)

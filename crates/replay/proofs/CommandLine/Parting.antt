@@ -60,7 +60,7 @@ part_option all i true options others word is option h = record {
   others_are = next_others all i true options others h word is ∙ ap (λ (words : Words). others ++ words) (value_others word (drop (i + 1) all));
 }
 part_option all i false options others word is option h = elim option [
-  | inl no ↦ absurd (cc)
+  | inl value ↦ absurd (cc)
   | inr e ↦ record {
     options_are = next_options all i false options others h word is ∙ ap (λ (words : Words). options ++ words) (option_options word (drop (i + 1) all) e) ∙ longer all i false options others h word is options (options_among (waits word) (drop (i + 1) all));
     others_are = next_others all i false options others h word is ∙ ap (λ (words : Words). others ++ words) (option_others word (drop (i + 1) all) e);
@@ -70,8 +70,8 @@ part_option all i false options others word is option h = elim option [
 -- another word
 pub part_other : (all : Words) (i : ℕ) (flag : Bool) (options others : Words) (word : List ℕ) → drop i all ≡ word ∷ drop (i + 1) all → flag ≡ false → is_hyphened word ≡ false → Parting all i flag options others
     → Parting all (i + 1) flag options (others ++ word ∷ [])
-part_other all i true options others word is no e h = absurd (cc)
-part_other all i false options others word is no e h = record {
+part_other all i true options others word is other e h = absurd (cc)
+part_other all i false options others word is other e h = record {
   options_are = next_options all i false options others h word is ∙ ap (λ (words : Words). options ++ words) (other_options word (drop (i + 1) all) e);
   others_are = next_others all i false options others h word is ∙ ap (λ (words : Words). others ++ words) (other_others word (drop (i + 1) all) e) ∙ longer all i false options others h word is others (others_among false (drop (i + 1) all));
 }

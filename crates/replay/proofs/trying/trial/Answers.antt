@@ -8,8 +8,8 @@ loop-line-init g c = record {
   tried = tried_none _ _ _ _ _ c.new-lines.ensures c.new-tally.ensures;
 }
 
-pub answer_to-requires-clause-made : goal.answer_to-requires-clause-made
-answer_to-requires-clause-made g c = omega (arith, c.loop-line.invariant.able.made)
+pub answer_to-answer-requires-clause-made : goal.answer_to-answer-requires-clause-made
+answer_to-answer-requires-clause-made g c = omega (arith, c.loop-line.invariant.able.made)
 
 pub count-requires-clause-lines : goal.count-requires-clause-lines
 count-requires-clause-lines g c = omega (arith, tally_lines _ _ _ _ _ _ _ _ c.loop-line.invariant.tried)
@@ -29,7 +29,7 @@ returns-in-Ok-clause-ends g c =
     let call = c.loop-line.invariant.able.call in
     let counts = c.stat-counts.result in (
       counts,
-      told_counts _ _ counts (call.unlimited c.loop-line.gmi) (c.stat-counts.ensures (M.held c.loop-line.mapper) call.valid),
+      told_counts _ _ counts (call.unlimited c.loop-line.gmi) (c.stat-counts.ensures.answers (M.held c.loop-line.mapper) call.valid),
       summed _ _ _ _ _ _ _ _ c.loop-line.invariant.tried _ c.args.script.lines counts _ _ (omega arith) c.in-Ok.ensures.wrote,
     )
 
@@ -39,6 +39,6 @@ returns-in-Err-clause-ends g c =
     let call = c.loop-line.invariant.able.call in
     let counts = c.stat-counts.result in (
       counts,
-      told_counts _ _ counts (call.unlimited c.loop-line.gmi) (c.stat-counts.ensures (M.held c.loop-line.mapper) call.valid),
+      told_counts _ _ counts (call.unlimited c.loop-line.gmi) (c.stat-counts.ensures.answers (M.held c.loop-line.mapper) call.valid),
       summed _ _ _ _ _ _ _ _ c.loop-line.invariant.tried _ c.args.script.lines counts _ _ (omega arith) c.in-Err.ensures.wrote,
     )
