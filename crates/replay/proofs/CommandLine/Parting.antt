@@ -1,7 +1,8 @@
 -- Words that are parted into those of options and the others.
-use Rattle.std.proofs.Common.{◌≡◌, ◌<◌, ◌≤◌, ◌+◌, ◌⊎◌, ◌&&◌, ℕ, Bool, true, false, not, cond, List, [], ◌∷◌, ◌++◌, length, get_or, drop, drop_of_length-le, refl, sym, ap, ◌∙◌, append-nil, append_assoc, inl, inr}
+use Rattle.std.proofs.Common.{◌≡◌, ◌<◌, ◌≤◌, ◌+◌, ◌⊎◌, ◌&&◌, ℕ, Bool, true, false, not, cond, List, [], ◌∷◌, ◌++◌, length, get_or, drop, drop_of_length-le, map, refl, sym, ap, subst, ◌∙◌, append-nil, append_assoc, arith, inl, inr}
 use Rattle.std.specs.List.{list_any}
-use Rattle.std.proofs.lemmas.List.{drop_more}
+use Rattle.std.specs.Borrow.{Bor}
+use Rattle.std.proofs.lemmas.List.{drop_more, get_or-map, length-map, map-append}
 use Rattle.replay.specs.Commanding.{is_equals, is_hyphened, options_among, others_among}
 
 abbrev Words : Type 0
@@ -23,7 +24,7 @@ value_others : (word : List ℕ) (words : Words) → others_among true (word ∷
 unfolding others_among
 value_others word words = refl
 
-abbrev waits : List ℕ → Bool
+abbrev pub waits : List ℕ → Bool
 waits word = not (list_any is_equals word)
 
 option_options : (word : List ℕ) (words : Words) → is_hyphened word ≡ true → options_among false (word ∷ words) ≡ word ∷ options_among (waits word) words
@@ -93,3 +94,29 @@ parted all i flag options others past h =
       sym (h.options_are ∙ ap (λ (words : Words). options ++ options_among flag words) none ∙ ap (λ (words : Words). options ++ words) (none_options flag) ∙ append-nil options),
       sym (h.others_are ∙ ap (λ (words : Words). others ++ others_among flag words) none ∙ ap (λ (words : Words). others ++ words) (none_others flag) ∙ append-nil others),
     )
+
+-- the same of words as the code has them
+
+abbrev pub texts : List (Bor (List ℕ)) → Words
+texts = map (λ w. w.now)
+
+pub word_at : (words : List (Bor (List ℕ))) (i : ℕ) (d : Bor (List ℕ)) → i < length words → drop i (texts words) ≡ (get_or words i d).now ∷ drop (i + 1) (texts words)
+word_at words i d less =
+    let now : Bor (List ℕ) → List ℕ = λ w. w.now in
+    drop_more (texts words) i [] (omega (arith, less, length-map words now)) ∙ ap (λ (x : List ℕ). x ∷ drop (i + 1) (texts words)) (get_or-map now words i d [] less)
+
+module _ (words : List (Bor (List ℕ))) (i : ℕ) (flag next : Bool) (options others more rest : List (Bor (List ℕ))) (word : Bor (List ℕ)) (is : drop i (texts words) ≡ word.now ∷ drop (i + 1) (texts words))
+    (h : Parting (texts words) i flag (texts options) (texts others)) where
+  pub put_option : (flag ≡ true) ⊎ (is_hyphened word.now ≡ true) → next ≡ (not flag && waits word.now) → more ≡ options ++ word ∷ [] → rest ≡ others → Parting (texts words) (i + 1) next (texts more) (texts rest)
+  put_option option next_is more_is rest_is =
+      subst (λ (b : Bool). Parting (texts words) (i + 1) b (texts more) (texts rest)) (sym next_is)
+      (subst (λ (os : List (Bor (List ℕ))). Parting (texts words) (i + 1) (not flag && waits word.now) (texts more) (texts os)) (sym rest_is)
+      (subst (λ (os : Words). Parting (texts words) (i + 1) (not flag && waits word.now) os (texts others)) (sym (ap texts more_is ∙ map-append (λ (w : Bor (List ℕ)). w.now) options (word ∷ [])))
+      (part_option (texts words) i flag (texts options) (texts others) word.now is option h)))
+
+  pub put_other : (flag ≡ false) × (is_hyphened word.now ≡ false) → next ≡ flag → more ≡ options → rest ≡ others ++ word ∷ [] → Parting (texts words) (i + 1) next (texts more) (texts rest)
+  put_other other next_is more_is rest_is =
+      subst (λ (b : Bool). Parting (texts words) (i + 1) b (texts more) (texts rest)) (sym next_is)
+      (subst (λ (os : List (Bor (List ℕ))). Parting (texts words) (i + 1) flag (texts os) (texts rest)) (sym more_is)
+      (subst (λ (os : Words). Parting (texts words) (i + 1) flag (texts options) os) (sym (ap texts rest_is ∙ map-append (λ (w : Bor (List ℕ)). w.now) others (word ∷ [])))
+      (part_other (texts words) i flag (texts options) (texts others) word.now is other.0 other.1 h)))

@@ -1,6 +1,7 @@
-use Rattle.std.proofs.Common.{arith}
+use Rattle.std.proofs.Common.{◌≡◌, ◌∙◌, ◌⊎◌, ◌&&◌, Bool, true, false, not, ap, sym, inl, inr, get_or, arith}
 use Rattle.std.proofs.lemmas.List.{length-map}
-use Rattle.replay.proofs.CommandLine.Parting.{part_option, part_other, parted, parting_none}
+use Rattle.replay.specs.Commanding.{is_hyphened}
+use Rattle.replay.proofs.CommandLine.Parting.{parted, parting_none, put_option, put_other, waits, word_at}
 use Rattle.replay.proofs.trial_words.part.Goals as goal
 use Rattle.replay.proofs.trial_words.part.Goals.{then-is_value, else-is_value, then-is_hyphened+in_ok-push+then-not-is_value, then-is_hyphened+in_ok-push+else-not-is_value, else-is_hyphened+in_ok-push-2}
 
@@ -8,11 +9,32 @@ pub loop-word-init : goal.loop-word-init
 loop-word-init c = rw (c.new-options.ensures.items, c.new-others.ensures.items) (parting_none _)
 
 pub loop-word-preserved : goal.loop-word-preserved
-loop-word-preserved c = elim c.if-is_hyphened.branch [
-  | then-is_hyphened+in_ok-push+then-not-is_value w ↦ let h = w.push in ?
-  | then-is_hyphened+in_ok-push+else-not-is_value w ↦ let h = w.in_ok-push in ?
-  | else-is_hyphened+in_ok-push-2 w ↦ let h = w.push-else-is_hyphened in ?
-]
+loop-word-preserved c =
+    let words = c.args.words.now in
+    let i = c.loop-word.word-index in
+    let flag = c.loop-word.is_value in
+    elim c.if-is_hyphened.branch [
+      | then-is_hyphened+in_ok-push+then-not-is_value w ↦
+          put_option words i flag c.if-is_hyphened.is_value _ _ _ _ _ (word_at words i _ c.loop-word-test.true) c.loop-word.invariant
+          (elim c.if-is_value.branch [
+            | then-is_value v ↦ inl v.if-is_value.true
+            | else-is_value v ↦ inr (sym v.is_hyphened.ensures ∙ sym v.value-is ∙ w.if-is_hyphened.true)
+          ])
+          (w.is_value-is ∙ ap not w.has_value.ensures ∙ sym (ap (λ (b : Bool). not b && _) w.if-not-is_value.true))
+          (ap (λ v. v.items) w.options-is ∙ (w.in_ok-push.ensures {u = tt}).items) (ap (λ v. v.items) w.others-is)
+      | then-is_hyphened+in_ok-push+else-not-is_value w ↦
+          put_option words i flag c.if-is_hyphened.is_value _ _ _ _ _ (word_at words i _ c.loop-word-test.true) c.loop-word.invariant
+          (inl w.if-not-is_value.false)
+          (w.is_value-is ∙ ap not w.if-not-is_value.false ∙ sym (ap (λ (b : Bool). not b && _) w.if-not-is_value.false))
+          (ap (λ v. v.items) w.options-is ∙ (w.in_ok-push.ensures {u = tt}).items) (ap (λ v. v.items) w.others-is)
+      | else-is_hyphened+in_ok-push-2 w ↦
+          put_other words i flag c.if-is_hyphened.is_value _ _ _ _ _ (word_at words i _ c.loop-word-test.true) c.loop-word.invariant
+          (elim c.if-is_value.branch [
+            | then-is_value v ↦ absurd (cc)
+            | else-is_value v ↦ (v.if-is_value.false, sym v.is_hyphened.ensures ∙ sym v.value-is ∙ w.if-is_hyphened.false)
+          ])
+          w.is_value-is (ap (λ v. v.items) w.options-is) (ap (λ v. v.items) w.others-is ∙ (w.in_ok-push-2.ensures {u = tt}).items)
+    ]
 
 pub returns : goal.returns
 returns c =
