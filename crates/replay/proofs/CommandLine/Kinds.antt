@@ -54,16 +54,16 @@ IsKind words (asks.Run size) = IsRun words size
 IsKind words (asks.Generate script) = IsGenerate words script
 IsKind words (asks.Trial script frames) = IsTrial words script frames
 
+abbrev with_script : List (List ℕ) → Generated → Option Asked
+with_script rest script = option_map (λ (size : Size). asks.Trial script size.frames) (asked_behind (options_among false rest))
+
 trial_is : (rest : List (List ℕ)) (asked : Asked) → trial_behind rest ≡ Some asked → IsKind (codes "trial" ∷ rest) asked
 trial_is rest asked e = by (is_some (first_value (codes "--page") rest)) refl e
   where
-    abbrev with_script : Generated → Option Asked
-    with_script script = option_map (λ (size : Size). asks.Trial script size.frames) (asked_behind (options_among false rest))
-
-    by : (b : Bool) → is_some (first_value (codes "--page") rest) ≡ b → cond b None (option_and_then with_script (script_of (others_among false rest))) ≡ Some asked → IsKind (codes "trial" ∷ rest) asked
+    by : (b : Bool) → is_some (first_value (codes "--page") rest) ≡ b → cond b None (option_and_then (with_script rest) (script_of (others_among false rest))) ≡ Some asked → IsKind (codes "trial" ∷ rest) asked
     by true t e = absurd (cc)
     by false t e =
-        let script = made_by_then with_script (script_of (others_among false rest)) asked e in
+        let script = made_by_then (with_script rest) (script_of (others_among false rest)) asked e in
         let size = made_by_map (λ (size : Size). asks.Trial script.value size.frames) (asked_behind (options_among false rest)) asked script.holds in
         subst (IsKind (codes "trial" ∷ rest)) size.holds (record {
           rest = rest;
