@@ -120,3 +120,13 @@ module _ (words : List (Bor (List ℕ))) (i : ℕ) (flag next : Bool) (options o
       (subst (λ (os : List (Bor (List ℕ))). Parting (texts words) (i + 1) flag (texts os) (texts rest)) (sym more_is)
       (subst (λ (os : Words). Parting (texts words) (i + 1) flag (texts options) os) (sym (ap texts rest_is ∙ map-append (λ (w : Bor (List ℕ)). w.now) others (word ∷ [])))
       (part_other (texts words) i flag (texts options) (texts others) word.now is other.0 other.1 h)))
+
+-- whether a value is next
+
+pub next_of_option : (word : List ℕ) (flag has next : Bool) → flag ≡ false → has ≡ list_any is_equals word → next ≡ not has → next ≡ (not flag && waits word)
+next_of_option word true has next first is e = absurd (cc)
+next_of_option word false has next first is e = e ∙ ap not is
+
+pub next_of_value : (word : List ℕ) (flag next : Bool) → flag ≡ true → next ≡ not flag → next ≡ (not flag && waits word)
+next_of_value word true next first e = e
+next_of_value word false next first e = absurd (cc)

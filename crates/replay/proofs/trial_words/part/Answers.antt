@@ -1,7 +1,6 @@
-use Rattle.std.proofs.Common.{◌≡◌, ◌∙◌, ◌⊎◌, ◌&&◌, Bool, true, false, not, ap, sym, inl, inr, get_or, arith}
+use Rattle.std.proofs.Common.{◌∙◌, ap, sym, inl, inr, arith}
 use Rattle.std.proofs.lemmas.List.{length-map}
-use Rattle.replay.specs.Commanding.{is_hyphened}
-use Rattle.replay.proofs.CommandLine.Parting.{parted, parting_none, put_option, put_other, waits, word_at}
+use Rattle.replay.proofs.CommandLine.Parting.{next_of_option, next_of_value, parted, parting_none, put_option, put_other, word_at}
 use Rattle.replay.proofs.trial_words.part.Goals as goal
 use Rattle.replay.proofs.trial_words.part.Goals.{then-is_value, else-is_value, then-is_hyphened+in_ok-push+then-not-is_value, then-is_hyphened+in_ok-push+else-not-is_value, else-is_hyphened+in_ok-push-2}
 
@@ -20,12 +19,12 @@ loop-word-preserved c =
             | then-is_value v ↦ inl v.if-is_value.true
             | else-is_value v ↦ inr (sym v.is_hyphened.ensures ∙ sym v.value-is ∙ w.if-is_hyphened.true)
           ])
-          (w.is_value-is ∙ ap not w.has_value.ensures ∙ sym (ap (λ (b : Bool). not b && _) w.if-not-is_value.true))
+          (next_of_option _ flag w.has_value.result _ w.if-not-is_value.true w.has_value.ensures w.is_value-is)
           (ap (λ v. v.items) w.options-is ∙ (w.in_ok-push.ensures {u = tt}).items) (ap (λ v. v.items) w.others-is)
       | then-is_hyphened+in_ok-push+else-not-is_value w ↦
           put_option words i flag c.if-is_hyphened.is_value _ _ _ _ _ (word_at words i _ c.loop-word-test.true) c.loop-word.invariant
           (inl w.if-not-is_value.false)
-          (w.is_value-is ∙ ap not w.if-not-is_value.false ∙ sym (ap (λ (b : Bool). not b && _) w.if-not-is_value.false))
+          (next_of_value _ flag _ w.if-not-is_value.false w.is_value-is)
           (ap (λ v. v.items) w.options-is ∙ (w.in_ok-push.ensures {u = tt}).items) (ap (λ v. v.items) w.others-is)
       | else-is_hyphened+in_ok-push-2 w ↦
           put_other words i flag c.if-is_hyphened.is_value _ _ _ _ _ (word_at words i _ c.loop-word-test.true) c.loop-word.invariant
