@@ -1,4 +1,5 @@
-//! The program `chorusvm`: it replays a script of actors on standard input, and writes the replies to standard output.
+//! The program `chorusvm`: it replays a script of actors on standard input, and writes the replies to standard output; or
+//! it writes the script that a number makes, or the summary of its replay.
 //!
 //! It is the top of the layers, and has no model of its own: what it answers is said by the contract of the one call
 //! that it makes, `replay::run`. Here stand only the adapters over the real streams and over the files of a folder, and
@@ -23,7 +24,7 @@ use std::env;
 use std::process::ExitCode;
 use vm_port::Clock;
 
-// The words behind the program's name. Words that can't be had as text are those of no run.
+// The words behind the program's name. Words that can't be had as text ask for nothing.
 fn words_given(rt: &HostRuntime) -> Result<Vec<String>, Status> {
     let Ok(given) = env::args(rt) else {
         return Err(Status::Usage);

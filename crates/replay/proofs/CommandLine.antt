@@ -6,5 +6,7 @@ pub mod Values
 pub mod Right
 pub mod Escapes
 pub mod First
+pub mod Kinds
 pub mod Command
+pub mod Parting
 pub mod Worked

@@ -37,7 +37,7 @@ front_given (Some a) b bytes n w =
     ∙ ap Some (append_assoc a (take n bytes) (drop n bytes) ∙ ap (λ (x : List ℕ). a ++ x) (take-append-drop n bytes))
 
 -- What was given is a front of what was answered, where what is gathered is its end.
-short_of : (a v : Option (List ℕ)) (left texts : List ℕ) → Grew a v → WritesFront a (option_map (λ given. given ++ left) v) texts → WritesFront a v texts
+pub short_of : (a v : Option (List ℕ)) (left texts : List ℕ) → Grew a v → WritesFront a (option_map (λ given. given ++ left) v) texts → WritesFront a v texts
 short_of None v left texts grew h = record { front = []; back = texts; parts = refl; writes = grew.1 }
 short_of (Some a) v left texts grew h =
     let all : Some ((a ++ grew.0) ++ left) ≡ Some (a ++ h.front) = ap (option_map (λ (x : List ℕ). x ++ left)) (sym grew.1) ∙ h.writes in
@@ -54,6 +54,14 @@ short_of (Some a) v left texts grew h =
 pub with_none : (a : Option (List ℕ)) → a ≡ option_map (λ given. given ++ []) a
 with_none None = refl
 with_none (Some a) = ap Some (sym (append-nil a))
+
+-- What is gathered is written, or a write fails.
+pub wrote_out : {T E : Type 0} (r : Result T E) (a w v : Option (List ℕ)) (left texts : List ℕ) → OnOk r (left ≡ []) → option_map (λ given. given ++ left) v ≡ w → Grew a v → Writes a w texts → Wrote r a v texts
+wrote_out (Ok x) a w v left texts empty kept grew h =
+    let same : v ≡ w = with_none v ∙ ap (λ (l : List ℕ). option_map (λ (given : List ℕ). given ++ l) v) (sym empty) ∙ kept in
+    same ∙ h
+wrote_out (Err e) a w v left texts empty kept grew h =
+    short_of a v left texts grew (record { front = texts; back = []; parts = sym (append-nil texts); writes = kept ∙ h })
 
 -- scenes that differ in what was written alone
 

@@ -14,3 +14,11 @@ pub mod Endings
 pub mod CommandLine
 -- What a run promises, from how its replay ends.
 pub mod Promise
+-- The lines that a number makes, one after another.
+pub mod Made
+-- A trial, and one line more.
+pub mod Tallying
+-- What a text that was to be written says of the status.
+pub mod Statuses
+-- What a trial promises, from how its lines are answered.
+pub mod Trials

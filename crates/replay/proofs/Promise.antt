@@ -18,7 +18,8 @@ use Rattle.replay.specs.Script.{most_bytes, lines_of}
 use Rattle.replay.specs.Ending.{Scene, Took, Ends, RunEnds}
 use Rattle.gmi_calls.specs.Calling.{Fits}
 use Rattle.replay.specs.declared.status.Status.{Status}
-use Rattle.replay.specs.declared.words.Asked.{Asked}
+use Rattle.replay.specs.declared.asked.Asked.{Asked}
+use Rattle.replay.specs.declared.asked.Size.{Size}
 use Rattle.replay.specs.declared.status.Status.TheVariants as statuses
 use Rattle.actor_script.proofs.WellFormed.{well_formed}
 
@@ -27,7 +28,7 @@ use Rattle.actor_script.proofs.WellFormed.{well_formed}
 abbrev AreWellFormed : List Read → Type 0
 AreWellFormed reads = AllByRecursion (λ (r : Read). IfOk r IsWellFormed) reads
 
-lines_formed : (lines : List (List ℕ)) → AreWellFormed (map command_of lines)
+pub lines_formed : (lines : List (List ℕ)) → AreWellFormed (map command_of lines)
 lines_formed [] = tt
 lines_formed (line ∷ lines) = (well_formed line, lines_formed lines)
 
@@ -45,7 +46,7 @@ steps_formed first (r ∷ reads) (step ∷ steps) e h =
     (subst (λ (read : Read). IfOk read IsWellFormed) (sym same) h.0, steps_formed (first + 1) reads steps rest h.1)
 
 module _ (a : Scene) (frames page : ℕ) (some : 1 ≤ page) (told : Option Segments) (begins : a.state ≡ record { machine = start frames page; forest = Some no_forest; segments = told }) where
-  run_followed : (reads : List Read) (steps : List Step) (after : State) → AreWellFormed reads → RunOf a.state reads steps after → IsSomeAnd after.forest (IsFollowed after.machine)
+  pub run_followed : (reads : List Read) (steps : List Step) (after : State) → AreWellFormed reads → RunOf a.state reads steps after → IsSomeAnd after.forest (IsFollowed after.machine)
   run_followed reads steps after h run =
       runs_are_followed frames page told reads steps after some (steps_formed 1 reads steps run.order h) (subst (λ (s : State). RunOf s reads steps after) begins run)
 
@@ -60,15 +61,15 @@ module _ (a : Scene) (frames page : ℕ) (some : 1 ≤ page) (told : Option Segm
 
 -- the promise, from a replay that began with some machine and some forest, which were those of the
 -- start
-pub run_ends : (status : Status) (asked : Asked) (old now : Machine → PageForest → Scene) (l k : Option (List ℕ)) (told : Option Segments) (m last : Machine) (f forest : PageForest)
+pub run_ends : (status : Status) (size : Size) (old now : Machine → PageForest → Scene) (l k : Option (List ℕ)) (told : Option Segments) (m last : Machine) (f forest : PageForest)
     → ((m : Machine) (f : PageForest) → (old m f).state ≡ record { machine = m; forest = Some f; segments = told })
     → ((m : Machine) (f : PageForest) → ((now m f).state.machine ≡ m) × ((now m f).state.forest ≡ Some f))
-    → 1 ≤ asked.page_bytes → m ≡ start asked.frames asked.page_bytes → f ≡ no_forest → Ends status (old m f) (now last forest) l k → RunEnds status asked old now l k
-run_ends status asked old now l k told m last f forest old_is now_is some machine_is forest_is ends =
-    let begun = start asked.frames asked.page_bytes in
+    → 1 ≤ size.page_bytes → m ≡ start size.frames size.page_bytes → f ≡ no_forest → Ends status (old m f) (now last forest) l k → RunEnds status size old now l k
+run_ends status size old now l k told m last f forest old_is now_is some machine_is forest_is ends =
+    let begun = start size.frames size.page_bytes in
     let from : Ends status (old begun no_forest) (now last forest) l k =
     subst (λ (x : Machine). Ends status (old x no_forest) (now last forest) l k) machine_is (subst (λ (x : PageForest). Ends status (old m x) (now last forest) l k) forest_is ends) in
-    let followed : IsSomeAnd (now last forest).state.forest (IsFollowed (now last forest).state.machine) = ends_followed (old begun no_forest) asked.frames asked.page_bytes some told (old_is _ _) status (now last forest) l k from in
+    let followed : IsSomeAnd (now last forest).state.forest (IsFollowed (now last forest).state.machine) = ends_followed (old begun no_forest) size.frames size.page_bytes some told (old_is _ _) status (now last forest) l k from in
     let by_forest : IsSomeAnd (Some forest) (IsFollowed (now last forest).state.machine) = subst (λ (o : Option PageForest). IsSomeAnd o (IsFollowed (now last forest).state.machine)) (now_is last forest).1 followed in
     record {
       last = last;
@@ -79,6 +80,9 @@ run_ends status asked old now l k told m last f forest old_is now_is some machin
 
 pub as_asked : (asked : Asked) (words : Option Asked) (P : Asked → Type 0) → Some asked ≡ words → P asked → IfSome words P
 as_asked asked words P is h = subst (λ (o : Option Asked). IfSome o P) is h
+
+pub asked_holds : (asked : Asked) (words : Option Asked) (P : Asked → Type 0) → Some asked ≡ words → IsSomeAnd words P → P asked
+asked_holds asked words P is h = subst (λ (o : Option Asked). IsSomeAnd o P) (sym is) h
 
 -- how many bytes were taken
 taken : (l k : Option (List ℕ)) (script : List ℕ) → Took l k script → IfSome l (λ all. IfSome k (λ rest. length all ≡ length script + length rest))
@@ -134,12 +138,12 @@ complete statuses.NoMemory a b l k reads reads_now writes writes_now h sr kr few
 
 -- what it takes to answer the first line
 
-pub fits_start : (told : Option ℕ) (asked : Asked) (named : ℕ) (m : Machine) → IfSome told (λ bytes. bytes ≡ named) → named ≡ asked.page_bytes → m ≡ start asked.frames asked.page_bytes → Fits told m
-fits_start told asked named m h same e = subst (Fits told) (sym e) (by told h)
+pub fits_start : (told : Option ℕ) (frames bytes named : ℕ) (m : Machine) → IfSome told (λ n. n ≡ named) → named ≡ bytes → m ≡ start frames bytes → Fits told m
+fits_start told frames bytes named m h same e = subst (Fits told) (sym e) (by told h)
   where
-    by : (told : Option ℕ) → IfSome told (λ bytes. bytes ≡ named) → Fits told (start asked.frames asked.page_bytes)
+    by : (told : Option ℕ) → IfSome told (λ n. n ≡ named) → Fits told (start frames bytes)
     by None h = tt
-    by (Some bytes) h = h ∙ same
+    by (Some n) h = h ∙ same
 
-pub live_start : (asked : Asked) (m : Machine) → m ≡ start asked.frames asked.page_bytes → live_pages m ≤ LIVE_PAGES
-live_start asked m e = subst (λ (x : Machine). live_pages x ≤ LIVE_PAGES) (sym e) (omega arith)
+pub live_start : (frames bytes : ℕ) (m : Machine) → m ≡ start frames bytes → live_pages m ≤ LIVE_PAGES
+live_start frames bytes m e = subst (λ (x : Machine). live_pages x ≤ LIVE_PAGES) (sym e) (omega arith)

@@ -1,5 +1,5 @@
 -- A run, and one line more.
-use Rattle.std.specs.Prelude.{Option}
+use Rattle.std.specs.Prelude.{Option, None}
 use Rattle.std.proofs.Common.{◌≡◌, ◌+◌, ℕ, List, [], ◌∷◌, ◌++◌, length, Result, Ok, Err, refl, sym, ap, subst, ◌∙◌, arith, add-zero, zero-add, add_assoc}
 use Rattle.std.proofs.lemmas.List.{append-nil, map-append}
 use Rattle.std.proofs.lemmas.List.Concat.{flat_map-append}
@@ -8,13 +8,14 @@ use Rattle.vm_ids.specs.declared.command.Command.{Command}
 use Rattle.vm_ids.specs.declared.refusal.Refusal.{Refusal}
 use Rattle.vm_ids.specs.declared.reply.Trouble.TheVariants.{Refused}
 use Rattle.vm_model.specs.Answering.{Answer}
+use Rattle.gmi_calls.specs.Room.{CallWithin}
 use Rattle.vm_model.specs.Run.{CallIs, Read, Step, State, StepIs, Chain, RunOf, numbered_from, rises_of}
 use Rattle.actor_script.specs.Forms.{command_of}
 use Rattle.actor_script.specs.Text.{text_of}
-use Rattle.actor_script.specs.Writing.{Writes, WritesFront, Wrote}
+use Rattle.actor_script.specs.Writing.{Writes, WritesFront}
 use Rattle.replay.specs.Ending.{Scene, Answered, texts_of}
 use Rattle.replay.specs.Going.{AnsweredOr}
-use Rattle.replay.specs.OneLine.{LineDone}
+use Rattle.replay.specs.OneLine.{LineDone, LineIs}
 use Rattle.actor_script.proofs.Written.{writes_none, writes_then, front_then}
 
 -- runs
@@ -30,7 +31,7 @@ numbered-push first (r ∷ reads) read =
     ap (λ (k : ℕ). (first, r) ∷ (numbered_from (first + 1) reads ++ (k, read) ∷ [])) same
     ∙ ap (λ (l : List (ℕ × Read)). (first, r) ∷ l) (numbered-push (first + 1) reads read)
 
-run_push : (s : State) (reads : List Read) (steps : List Step) (t : State) (step : Step) (u : State) → RunOf s reads steps t → step.number ≡ 1 + length reads → StepIs t step.read step.answer step.pushes step.rises u → RunOf s (reads ++ step.read ∷ []) (steps ++ step ∷ []) u
+pub run_push : (s : State) (reads : List Read) (steps : List Step) (t : State) (step : Step) (u : State) → RunOf s reads steps t → step.number ≡ 1 + length reads → StepIs t step.read step.answer step.pushes step.rises u → RunOf s (reads ++ step.read ∷ []) (steps ++ step ∷ []) u
 run_push s reads steps t step u run at is = record {
   chain = chain_then s steps t (step ∷ []) u run.chain (u, is, refl);
   order = map-append (λ (x : Step). (x.number, x.read)) steps (step ∷ [])
@@ -50,11 +51,11 @@ none_sum x = λ i. record { faults = sym (zero-add x.faults) i; pulls = sym (zer
 sum_assoc : (x y z : MapperCounts) → counts_sum (counts_sum x y) z ≡ counts_sum x (counts_sum y z)
 sum_assoc x y z = λ i. record { faults = add_assoc x.faults y.faults z.faults i; pulls = add_assoc x.pulls y.pulls z.pulls i; pushes = add_assoc x.pushes y.pushes z.pushes i }
 
-rises-push : (steps : List Step) (step : Step) → counts_sum (rises_of steps) step.rises ≡ rises_of (steps ++ step ∷ [])
+pub rises-push : (steps : List Step) (step : Step) → counts_sum (rises_of steps) step.rises ≡ rises_of (steps ++ step ∷ [])
 rises-push [] step = sym (none_sum step.rises) ∙ sym (sum_none step.rises)
 rises-push (x ∷ steps) step = sum_assoc x.rises (rises_of steps) step.rises ∙ ap (counts_sum x.rises) (rises-push steps step)
 
-rise_then : (a b c x y : MapperCounts) → Rise a b x → Rise b c y → Rise a c (counts_sum x y)
+pub rise_then : (a b c x y : MapperCounts) → Rise a b x → Rise b c y → Rise a c (counts_sum x y)
 rise_then a b c x y p q = record {
   faults_later = omega arith;
   pulls_later = omega arith;
@@ -64,7 +65,7 @@ rise_then a b c x y p q = record {
   pushes = λ h. omega (arith, p.pushes, q.pushes);
 }
 
-rise_none : (a : MapperCounts) → Rise a a no_counts
+pub rise_none : (a : MapperCounts) → Rise a a no_counts
 rise_none a = record {
   faults_later = omega arith;
   pulls_later = omega arith;
@@ -88,43 +89,46 @@ answered_none s = record {
   writes = writes_none s.written;
 }
 
+abbrev pub step_of_line : ℕ → Read → Answer → List (ℕ × ℕ) → MapperCounts → Step
+step_of_line number read answer pushes rises = record { number = number; read = read; answer = answer; pushes = pushes; rises = rises }
+
 -- a line more
 pub answered_more : {T E : Type 0} (r : Result T E) (a b c : Scene) (reads : List Read) (number : ℕ) (read : Read) → Answered a b reads → number ≡ 1 + length reads → LineDone r number read b c → AnsweredOr r a c (reads ++ read ∷ [])
-answered_more (Ok x) a b c reads number read h at line =
-    let step : Step = record { number = number; read = read; answer = line.answer; pushes = line.pushes; rises = line.rises } in
+answered_more (Ok x) a b c reads number read h at done =
+    let line = done.line in
+    let step = step_of_line number read done.answer line.pushes line.rises in
     record {
       steps = h.steps ++ step ∷ [];
       runs = run_push a.state reads h.steps b.state step c.state h.runs at line.is;
       rose = subst (Rise a.counts c.counts) (rises-push h.steps step) (rise_then a.counts b.counts c.counts (rises_of h.steps) step.rises h.rose line.rose);
-      writes = subst (Writes a.written c.written) (texts-push h.steps step) (writes_then a.written b.written c.written (texts_of h.steps) (text_of number line.answer) h.writes line.wrote);
+      writes = subst (Writes a.written c.written) (texts-push h.steps step) (writes_then a.written b.written c.written (texts_of h.steps) (text_of number done.answer) h.writes done.wrote);
     }
-answered_more (Err x) a b c reads number read h at line =
-    let step : Step = record { number = number; read = read; answer = line.answer; pushes = line.pushes; rises = line.rises } in
+answered_more (Err x) a b c reads number read h at done =
+    let line = done.line in
+    let step = step_of_line number read done.answer line.pushes line.rises in
     record {
       steps = h.steps ++ step ∷ [];
       runs = run_push a.state reads h.steps b.state step c.state h.runs at line.is;
       rose = subst (Rise a.counts c.counts) (rises-push h.steps step) (rise_then a.counts b.counts c.counts (rises_of h.steps) step.rises h.rose line.rose);
-      writes = subst (WritesFront a.written c.written) (texts-push h.steps step) (front_then a.written b.written c.written (texts_of h.steps) (text_of number line.answer) h.writes line.wrote);
+      writes = subst (WritesFront a.written c.written) (texts-push h.steps step) (front_then a.written b.written c.written (texts_of h.steps) (text_of number done.answer) h.writes done.wrote);
     }
 
--- the call of a command
-pub line_called : {T E : Type 0} (r : Result T E) (number : ℕ) (line : List ℕ) (command : Command) (answer : Answer) (a b : Scene) → Ok command ≡ command_of line → CallIs a.counts b.counts a.state command answer b.state → Wrote r a.written b.written (text_of number answer) → LineDone r number (command_of line) a b
-line_called r number line command answer a b is call wrote = record {
-  answer = answer;
-  pushes = call.pushes;
-  rises = call.rises;
-  rose = call.rose;
-  is = subst (λ (read : Read). StepIs a.state read answer call.pushes call.rises b.state) is call.is;
-  wrote = wrote;
-}
+-- the call of a command, by a manager whose room isn't limited
+pub line_called : (room : Option ℕ) (line : List ℕ) (command : Command) (answer : Answer) (c d : MapperCounts) (a b : State) → room ≡ None → Ok command ≡ command_of line → CallWithin room c d a command answer b → LineIs c d a (command_of line) answer b
+line_called room line command answer c d a b unlimited is called =
+    let call : CallIs c d a command answer b = subst (λ (o : Option ℕ). CallWithin o c d a command answer b) unlimited called in
+    record {
+      pushes = call.pushes;
+      rises = call.rises;
+      rose = call.rose;
+      is = subst (λ (read : Read). StepIs a read answer call.pushes call.rises b) is call.is;
+    }
 
 -- a line that is no command
-pub line_refused : {T E : Type 0} (r : Result T E) (number : ℕ) (line : List ℕ) (refusal : Refusal) (a : Scene) (written : Option (List ℕ)) → Err refusal ≡ command_of line → Wrote r a.written written (text_of number (Err (Refused refusal))) → LineDone r number (command_of line) a (record a { written = written })
-line_refused r number line refusal a written is wrote = record {
-  answer = Err (Refused refusal);
+pub line_refused : (line : List ℕ) (refusal : Refusal) (c : MapperCounts) (a : State) → Err refusal ≡ command_of line → LineIs c c a (command_of line) (Err (Refused refusal)) a
+line_refused line refusal c a is = record {
   pushes = [];
   rises = no_counts;
-  rose = rise_none a.counts;
-  is = subst (λ (read : Read). StepIs a.state read (Err (Refused refusal)) [] no_counts a.state) is (record { same = refl; refused = refl; no_push = refl; no_rise = refl });
-  wrote = wrote;
+  rose = rise_none c;
+  is = subst (λ (read : Read). StepIs a read (Err (Refused refusal)) [] no_counts a) is (record { same = refl; refused = refl; no_push = refl; no_rise = refl });
 }

@@ -1,12 +1,15 @@
 -- The words of a command line, and the exit statuses.
-use Rattle.std.specs.Prelude.{◌==◌, ◌&&◌, ◌*◌, ℕ, Bool, true, false, not, nat_le, List, [], ◌∷◌, find, slice_get, bytes_eq, codes, Option, Some, None, option_map, option_and_then, unwrap_or, if◌then◌else◌}
+use Rattle.std.specs.Prelude.{◌==◌, ◌&&◌, ◌*◌, ℕ, Bool, true, false, not, is_some, nat_le, List, [], ◌∷◌, find, slice_get, bytes_eq, codes, Option, Some, None, option_map, option_and_then, unwrap_or, if◌then◌else◌}
 use Rattle.std.specs.List.{after_first, before_first, list_any}
 use Rattle.std.specs.Option.{option_map_or, option_or}
 use Rattle.vm_ids.specs.declared.numbers.TheConstants.{PAGE}
 use Rattle.actor_script.specs.Operands.{number_of}
 use Rattle.replay.specs.declared.status.Status.{Status}
 use Rattle.replay.specs.declared.status.Status.TheVariants as statuses
-use Rattle.replay.specs.declared.words.Asked.{Asked}
+use Rattle.replay.specs.declared.asked.Asked.{Asked}
+use Rattle.replay.specs.declared.asked.Asked.TheVariants as asks
+use Rattle.replay.specs.declared.asked.Generated.{Generated}
+use Rattle.replay.specs.declared.asked.Size.{Size}
 
 -- An option of a command line: its name, with the two hyphens, and its value.
 pub record CommandOption : Type 0 where
@@ -78,34 +81,28 @@ abbrev pub most_frame_bytes : ℕ
 most_frame_bytes = 268435456
 
 -- so many page frames of so many bytes, where they are few enough
-abbrev pub if_fitting : ℕ → ℕ → Option Asked
+abbrev pub if_fitting : ℕ → ℕ → Option Size
 if_fitting frames page = if nat_le (frames * page) most_frame_bytes
     then Some (record { frames = frames; page_bytes = page })
     else None
 
 -- what the values of `--frames`, `--page` and `--segments` ask for
-abbrev pub asked_for : Option (List ℕ) → Option (List ℕ) → Option (List ℕ) → Option Asked
+abbrev pub asked_for : Option (List ℕ) → Option (List ℕ) → Option (List ℕ) → Option Size
 asked_for frames page folder = if option_map_or is_folder_name folder true
     then option_and_then (λ f. option_and_then (if_fitting f) (option_map_or page_of page (Some PAGE)))
     (option_and_then frames_of frames)
     else None
 
 -- what options ask for
-abbrev pub asked_in : List CommandOption → Option Asked
+abbrev pub asked_in : List CommandOption → Option Size
 asked_in options = if are_proper options
     then asked_for (value_named (codes "--frames") options) (value_named (codes "--page") options)
     (value_named (codes "--segments") options)
     else None
 
--- what the words behind the command word ask for
-abbrev pub asked_behind : List (List ℕ) → Option Asked
+-- what the words behind `run` ask for: each is an option, or its name or its value
+abbrev pub asked_behind : List (List ℕ) → Option Size
 asked_behind words = option_and_then asked_in (options_of words)
-
--- What the words of a command line ask for: they are `run` and its options. None for other words.
-unfoldable pub asked_by : List (List ℕ) → Option Asked
-asked_by [] = None
-asked_by (command ∷ words) =
-    if bytes_eq command (codes "run") then asked_behind words else None
 
 -- the value in one word, where its option has this name
 abbrev pub value_in : List ℕ → List ℕ → Option (List ℕ)
@@ -118,6 +115,66 @@ first_value name [] = None
 first_value name (word ∷ words) = if bytes_eq word name
     then slice_get words 0
     else option_or (value_in name word) (first_value name words)
+
+-- a script that a number makes has 1 to 1,000,000 lines
+abbrev pub if_lines : ℕ → Option ℕ
+if_lines n = if nat_le 1 n && nat_le n 1000000 then Some n else None
+
+-- the number of lines that a word spells
+abbrev pub line_count_of : List ℕ → Option ℕ
+line_count_of word = option_and_then if_lines (number_of word)
+
+-- the script that two words name: its number, and how many lines it has
+abbrev pub script_of : List (List ℕ) → Option Generated
+script_of (number ∷ lines ∷ []) = option_and_then
+    (λ n. option_map (λ l. record { number = n; lines = l }) (line_count_of lines))
+    (number_of number)
+script_of words = None
+
+-- a hyphen begins the word
+abbrev pub is_hyphened : List ℕ → Bool
+is_hyphened [] = false
+is_hyphened (b ∷ bs) = b == 45
+
+-- Those of some words that are options, or their names and values: a hyphen begins an option, and
+-- its value is the next word unless it has one itself. The flag says that the first is a value.
+unfoldable pub options_among : Bool → List (List ℕ) → List (List ℕ)
+options_among flag [] = []
+options_among true (word ∷ words) = word ∷ options_among false words
+options_among false (word ∷ words) = if is_hyphened word
+    then word ∷ options_among (not (list_any is_equals word)) words
+    else options_among false words
+
+-- the other words
+unfoldable pub others_among : Bool → List (List ℕ) → List (List ℕ)
+others_among flag [] = []
+others_among true (word ∷ words) = others_among false words
+others_among false (word ∷ words) = if is_hyphened word
+    then others_among (not (list_any is_equals word)) words
+    else word ∷ others_among false words
+
+-- what the words of a script and those of options ask for
+abbrev pub trial_of : List (List ℕ) → List (List ℕ) → Option Asked
+trial_of words options = option_and_then
+    (λ script. option_map (λ (size : Size). asks.Trial script size.frames) (asked_behind options))
+    (script_of words)
+
+-- What the words behind `trial` ask for: a script, and the options of `run` but `--page`, before,
+-- between or behind its two words.
+abbrev pub trial_behind : List (List ℕ) → Option Asked
+trial_behind words = if is_some (first_value (codes "--page") words)
+    then None
+    else trial_of (others_among false words) (options_among false words)
+
+-- What the words of a command line ask for: they are `run` and its options, `generate` and a
+-- script, or `trial`, a script and options. None for other words.
+unfoldable pub asked_by : List (List ℕ) → Option Asked
+asked_by [] = None
+asked_by (command ∷ words) =
+    if bytes_eq command (codes "run") then option_map asks.Run (asked_behind words)
+    else if bytes_eq command (codes "generate") then option_map asks.Generate (script_of words)
+    else if bytes_eq command (codes "trial") then trial_behind words
+    else None
 
 -- the folder that words name, or the working folder
 abbrev pub folder_of : List (List ℕ) → List ℕ

@@ -1,21 +1,31 @@
 -- What was answered and written when a replay ends.
-use Rattle.std.specs.Prelude.{◌≡◌, ◌≤◌, ℕ, ◌+◌, List, [], ◌++◌, length, take, Option, Some, option_map, IfSome}
+use Rattle.std.specs.Prelude.{◌≡◌, ◌≤◌, ℕ, ◌+◌, Bool, true, false, List, [], ◌++◌, length, map, take, codes, Option, Some, option_map, IfSome, IsSomeAnd}
 use Rattle.std.specs.List.{flat_map}
 use Rattle.vm_ids.specs.Counting.{MapperCounts, Rise}
 use Rattle.vm_ids.specs.Held.{segments_of}
 use Rattle.vm_ids.specs.Forest.Nodes.{no_forest}
+use Rattle.vm_ids.specs.Forest.Reading.{counts_of}
+use Rattle.vm_ids.specs.declared.numbers.TheConstants.{PAGE}
+use Rattle.vm_ids.specs.declared.reply.Counts.{Counts}
 use Rattle.vm_model.specs.Laws.{IsFollowed}
 use Rattle.vm_model.specs.Machine.{Machine, start}
 use Rattle.vm_model.specs.PageForest.{PageForest}
 use Rattle.vm_model.specs.Run.{Read, Step, State, RunOf, rises_of, state_of}
 use Rattle.replay.specs.Script.{commands_of, ended_commands_of, most_bytes, IsFront}
+use Rattle.actor_script.specs.Forms.{command_of}
+use Rattle.actor_script.specs.Generator.{generated}
+use Rattle.actor_script.specs.Summary.{summary_of, tally_of}
 use Rattle.actor_script.specs.Text.{text_of}
 use Rattle.actor_script.specs.Writing.{Writes, WritesFront}
+use Rattle.actor_script.specs.declared.tally.Tally.{Tally}
 use Rattle.gmi_calls.specs.declared.gmi.Gmi.{Ghosts as GhostsOfGmi}
 use Rattle.vm_port.specs.declared.traits.mapper.Mapper.{Ghosts as GhostsOfMapper}
 use Rattle.replay.specs.declared.status.Status.{Status}
 use Rattle.replay.specs.declared.status.Status.TheVariants as statuses
-use Rattle.replay.specs.declared.words.Asked.{Asked}
+use Rattle.replay.specs.declared.asked.Asked.{Asked}
+use Rattle.replay.specs.declared.asked.Asked.TheVariants as asks
+use Rattle.replay.specs.declared.asked.Generated.{Generated}
+use Rattle.replay.specs.declared.asked.Size.{Size}
 
 -- What there is between two lines: the machine, its page forest and the mapper's segments, the
 -- mapper's counts, and what was written.
@@ -110,10 +120,74 @@ Ends statuses.NoMemory before now left left_now = ⊥
 -- How a run that was asked for ends, where the scenes at its begin and now are those of a machine
 -- and a forest: it began with the empty machine and the empty page forest, and the last forest has
 -- its shape and agrees with the last machine.
-pub record RunEnds (status : Status) (asked : Asked) (before now : Machine → PageForest → Scene)
+pub record RunEnds (status : Status) (size : Size) (before now : Machine → PageForest → Scene)
     (left left_now : Option (List ℕ)) : Type 0 where
   pub last : Machine
   pub forest : PageForest
-  pub ends : Ends status (before (start asked.frames asked.page_bytes) no_forest) (now last forest)
+  pub ends : Ends status (before (start size.frames size.page_bytes) no_forest) (now last forest)
       left left_now
   pub followed : IsFollowed last forest
+
+-- All of a text was written; or, where a write failed, a front of it.
+abbrev pub WritesAs : Status → Option (List ℕ) → Option (List ℕ) → List ℕ → Type 0
+WritesAs statuses.Done before now text = Writes before now text
+WritesAs statuses.SinkFault before now text = WritesFront before now text
+WritesAs status before now text = ⊥
+
+-- the lines of a script that a number makes
+abbrev pub lines_made : Generated → List (List ℕ)
+lines_made script = generated script.number script.lines
+
+-- each line, and a line feed behind it
+abbrev pub with_feeds : List (List ℕ) → List ℕ
+with_feeds lines = flat_map (λ (line : List ℕ). line ++ codes "\n") lines
+
+-- The lines of the script were written, or a front of them, and nothing else happened.
+pub record GenerateEnds (status : Status) (script : Generated) (before now : Scene) : Type 0 where
+  pub writes : WritesAs status before.written now.written (with_feeds (lines_made script))
+  pub state : now.state ≡ before.state
+  pub counts : now.counts ≡ before.counts
+
+-- what all answers together come to
+abbrev pub tally_in : List Step → Tally
+tally_in steps = tally_of (map (λ (step : Step). step.answer) steps)
+
+-- These lines were answered, each once and in order. In place of the answers their summary was
+-- written, with these counts of pages, or a front of it. The mapper's counts rose by what the
+-- answers say.
+pub record Summed (status : Status) (before after : Scene) (reads : List Read)
+    (counts : Counts) : Type 0 where
+  pub steps : List Step
+  pub runs : RunOf before.state reads steps after.state
+  pub rose : Rise before.counts after.counts (rises_of steps)
+  pub writes : WritesAs status before.written after.written (summary_of (tally_in steps) counts)
+
+-- How a trial that was asked for ends: as a run over the lines of the script, whose summary is
+-- written with the counts of the last forest.
+pub record TrialEnds (status : Status) (script : Generated) (frames : ℕ)
+    (before now : Machine → PageForest → Scene) : Type 0 where
+  pub last : Machine
+  pub forest : PageForest
+  pub summed : Summed status (before (start frames PAGE) no_forest) (now last forest)
+      (map command_of (lines_made script)) (counts_of forest)
+  pub followed : IsFollowed last forest
+
+-- How each thing that may be asked for ends.
+abbrev pub AskedEnds : Status → Asked → (Machine → PageForest → Scene)
+    → (Machine → PageForest → Scene) → Option (List ℕ) → Option (List ℕ) → Type 0
+AskedEnds status (asks.Run size) before now left left_now =
+    RunEnds status size before now left left_now
+AskedEnds status (asks.Generate script) before now left left_now =
+    (m : Machine) (f : PageForest) → GenerateEnds status script (before m f) (now m f)
+AskedEnds status (asks.Trial script frames) before now left left_now =
+    TrialEnds status script frames before now
+
+-- only a run reads the source
+abbrev pub reads_source : Asked → Bool
+reads_source (asks.Run size) = true
+reads_source asked = false
+
+-- What is asked for reads no source, or one that tells no more bytes than a script may have.
+abbrev pub IsWithinLimit : Asked → Option (List ℕ) → Type 0
+IsWithinLimit (asks.Run size) left = IsSomeAnd left (λ all. length all ≤ most_bytes)
+IsWithinLimit asked left = Unit {0}

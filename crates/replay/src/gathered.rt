@@ -1,5 +1,5 @@
 // Replies that wait to be written.
-ghost use Rattle.std.specs.Prelude.{◌≡◌, ℕ, List, Some, [], ◌<◌, ◌≤◌, ◌++◌, length, take, option_map, if◌then◌else◌, IfOk, OnOk, OnErr, true, nat_le};
+ghost use Rattle.std.specs.Prelude.{◌≡◌, ℕ, List, Some, [], ◌<◌, ◌≤◌, ◌++◌, codes, length, take, option_map, if◌then◌else◌, IfOk, OnOk, OnErr, true, nat_le};
 ghost use Rattle.vm_ids.specs.Counting.{HasCause, last_count};
 ghost use Rattle.actor_script.specs.Text.{text_of};
 ghost use Rattle.actor_script.specs.Writing.{Wrote};
@@ -94,6 +94,36 @@ impl Gathered {
             return Ok(());
         }
         write_reply(number, answer, sink)
+    }
+
+    // Gathers a line and a line feed, for which there is room.
+    fn append(&mut self, line: &[u8])
+        requires { HasRoomFor self.old line.now }
+        ensures { self.new ≡ self.old ++ (line.now ++ codes "\n") }
+    {
+        let _ = self.bytes.try_extend_from_slice(line);
+        let _ = self.bytes.try_extend_from_slice(b"\n");
+    }
+
+    /// Gathers a line and a line feed. Where no room is left behind what is gathered, that is
+    /// written first.
+    ///
+    /// `Failed` only where the sink's count of faults rose; then a front of what was gathered was
+    /// written.
+    pub fn put_line<K: Sink>(&mut self, line: &[u8], sink: &mut K) -> Result<(), Failed>
+        requires { length line.now ≤ 256 }
+        ensures wrote { Wrote result (with_gathered (K.written sink.old) self.old)
+            (with_gathered (K.written sink.new) self.new) (line.now ++ codes "\n") }
+        ensures grew { Grew (K.written sink.old) (K.written sink.new) }
+        ensures cause { HasCause (K.faults sink.old) (K.faults sink.new) result }
+    {
+        if line.len() < self.bytes.remaining_capacity() {
+            self.append(line);
+            return Ok(());
+        }
+        self.flush(sink)?;
+        self.append(line);
+        Ok(())
     }
 }
 

@@ -10,18 +10,23 @@
 //! the interface of a manager and on the traits of the outside; only [`run`] names the manager,
 //! which is the demand-paged one. The program stands on it. The way of a byte: `replaying` reads
 //! pieces, `feeding` finds lines, `answering` answers one line, `gathered` keeps its reply. The
-//! replies to one piece go out together, and before the next piece is read.
+//! replies to one piece go out together, and before the next piece is read. The lines that a number
+//! makes are written by `generating`, and answered by `trying`, which writes their summary.
 #![tactic(auto)]
 
 mod answering;
+mod asked;
 mod feeding;
 mod gathered;
+mod generating;
 mod progress;
 mod replaying;
 mod status;
 #[cfg(test)]
 mod tests;
 mod top;
+mod trial_words;
+mod trying;
 mod words;
 
 pub use status::Status;

@@ -1,21 +1,30 @@
 // The one call that the program makes.
-ghost use Rattle.std.specs.Prelude.{◌≡◌, ◌≢◌, ◌↔◌, ◌⊎◌, ◌≤◌, ◌<◌, ◌+◌, length, map, None, IfSome, IsSome, IsSomeAnd};
+ghost use Rattle.std.specs.Prelude.{◌≡◌, ◌≢◌, ◌↔◌, ◌⊎◌, ◌<◌, ◌+◌, false, length, map, None, IfSome, IsSomeAnd};
 ghost use Rattle.vm_ids.specs.Counting.{Rose, last_count};
 ghost use Rattle.replay.specs.Commanding.{asked_by, page_size_of};
-ghost use Rattle.replay.specs.Ending.{scene_with, RunEnds};
+ghost use Rattle.replay.specs.Ending.{AskedEnds, IsWithinLimit, reads_source, scene_with};
 ghost use Rattle.replay.specs.Script.{most_bytes};
 
 use crate::Status;
+use crate::asked::Asked;
+use crate::generating::generate;
 use crate::replaying::replay;
+use crate::trying::trial;
 use crate::words::read_words;
 use pvm_core::Pvm;
 use std::alloc::Global;
+use vm_ids::PAGE;
 use vm_port::{Chooser, Mapper, Sink, Source};
 
-/// Runs the program for the words of a command line. For `run --frames F [--page B]
-/// [--segments DIR]` it replays the script that the source has left, over a demand-paged manager of
-/// F page frames of B bytes, and writes a reply for each line. The mapper's pages have the size that
-/// the words name.
+/// Runs the program for the words of a command line, which ask for one of three things:
+///
+/// - `run --frames F [--page B] [--segments DIR]` replays the script that the source has left, over
+///   a demand-paged manager of F page frames of B bytes, and writes a reply for each line. The
+///   mapper's pages have the size that the words name.
+/// - `generate N L` writes the L lines of the script that the number N makes.
+/// - `trial N L --frames F [--segments DIR]` replays these lines over a manager of F page frames of
+///   4,096 bytes. In place of the replies it writes their summary: how many there are, how many of
+///   them begin with `ok`, the sum of all bytes loaded modulo 2^64, and the counts of pages.
 ///
 /// Whatever the source, the sink, the mapper and the chooser: the lines written are the replies of
 /// a machine that keeps each cache as plain bytes and copies at once, a line once and in order, and
@@ -23,19 +32,21 @@ use vm_port::{Chooser, Mapper, Sink, Source};
 /// the page forest, which follows each answer by its command's rule and agrees with that machine at
 /// the end. However reads cut the script, it is the same script.
 ///
-/// - `Done`: the source has nothing left, and each line is answered.
+/// - `Done`: of a run the source has nothing left, and each line is answered; of the others all is
+///   written.
 /// - `Usage` exactly where the words aren't those, but for want of memory. The options stand in any
-///   order, each once at most, as two words or as one with `=`; F is from 3 to 65,536; B is 512,
-///   1,024, 2,048, 4,096 (where it isn't given), 8,192, 16,384, 32,768 or 65,536; both are decimal
+///   order, each once at most, as two words or as one with `=`, in a trial also before and between
+///   N and L. F is from 3 to 65,536; B is 512, 1,024, 2,048, 4,096 (where it isn't given), 8,192,
+///   16,384, 32,768 or 65,536; N is up to 4,294,967,295; L is from 1 to 1,000,000; all are decimal
 ///   with no leading zero, and F times B is 268,435,456 at most; DIR isn't empty, and no hyphen
 ///   begins it. Nothing was read or written.
-/// - `SourceFault` only where the source's count of faults rose; each line that ended before is
-///   answered.
-/// - `SinkFault` only where the sink's count of faults rose; a front of the replies was written.
+/// - `SourceFault`, of a run alone, only where the source's count of faults rose; each line that
+///   ended before is answered.
+/// - `SinkFault` only where the sink's count of faults rose; a front of the text was written.
 /// - `NoMemory` where there is none to read the words, or for the frames. Nothing was read or
 ///   written.
-/// - `TooLong` exactly where byte 67,108,865 of the script was taken; each line that ended before
-///   is answered.
+/// - `TooLong`, of a run alone, exactly where byte 67,108,865 of the script was taken; each line
+///   that ended before is answered.
 pub fn run<S: Source, K: Sink, M: Mapper, C: Chooser>(
     alloc: Global,
     words: &[&str],
@@ -48,9 +59,9 @@ pub fn run<S: Source, K: Sink, M: Mapper, C: Chooser>(
         (λ bytes. bytes ≡ page_size_of (map (λ w. w.now) words.now)) }
     // However it ends, but for want of memory at the start: from the empty machine and the empty
     // page forest on, each line that the status says is answered once and in order, and the replies
-    // are written.
+    // or their summary are written; or the lines that were asked for are written.
     ensures ends { result ≢ Status.NoMemory →
-        IfSome (asked_by (map (λ w. w.now) words.now)) (λ asked. RunEnds result asked
+        IfSome (asked_by (map (λ w. w.now) words.now)) (λ asked. AskedEnds result asked
         (scene_with M.Mapper mapper.old (K.written sink.old))
         (scene_with M.Mapper mapper.new (K.written sink.new))
         (S.left source.old) (S.left source.new)) }
@@ -70,10 +81,13 @@ pub fn run<S: Source, K: Sink, M: Mapper, C: Chooser>(
     ensures untouched { (result ≡ Status.Usage) ⊎ (result ≡ Status.NoMemory) →
         (source.new ≡ source.old) × (sink.new ≡ sink.old)
         × (mapper.new ≡ mapper.old) × (chooser.new ≡ chooser.old) }
+    // Only a run reads.
+    ensures unread { IsSomeAnd (asked_by (map (λ w. w.now) words.now))
+        (λ asked. reads_source asked ≡ false) → source.new ≡ source.old }
     // Right words, a script within the limit, and no fault of source and sink: it is done, but for
     // want of memory.
-    ensures complete { IsSome (asked_by (map (λ w. w.now) words.now)) →
-        IsSomeAnd (S.left source.old) (λ all. length all ≤ most_bytes) →
+    ensures complete { IsSomeAnd (asked_by (map (λ w. w.now) words.now))
+        (λ asked. IsWithinLimit asked (S.left source.old)) →
         S.faults source.new ≡ S.faults source.old → S.faults source.new < last_count →
         K.faults sink.new ≡ K.faults sink.old → K.faults sink.new < last_count →
         (result ≡ Status.Done) ⊎ (result ≡ Status.NoMemory) }
@@ -83,9 +97,21 @@ pub fn run<S: Source, K: Sink, M: Mapper, C: Chooser>(
         Ok(None) => return Status::Usage,
         Err(_) => return Status::NoMemory,
     };
-    let mut manager = match Pvm::new(alloc, asked.frames, asked.page_bytes) {
-        Ok(manager) => manager,
-        Err(_) => return Status::NoMemory,
-    };
-    replay(&mut manager, mapper, chooser, source, sink)
+    match asked {
+        Asked::Run(size) => {
+            let mut manager = match Pvm::new(alloc, size.frames, size.page_bytes) {
+                Ok(manager) => manager,
+                Err(_) => return Status::NoMemory,
+            };
+            replay(&mut manager, mapper, chooser, source, sink)
+        }
+        Asked::Generate(script) => generate(script, sink),
+        Asked::Trial(script, frames) => {
+            let mut manager = match Pvm::new(alloc, frames, PAGE as u32) {
+                Ok(manager) => manager,
+                Err(_) => return Status::NoMemory,
+            };
+            trial(&mut manager, mapper, chooser, sink, script)
+        }
+    }
 }

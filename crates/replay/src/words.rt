@@ -4,6 +4,8 @@ ghost use Rattle.clap.specs.Words.{kind_of};
 ghost use Rattle.replay.specs.Commanding.{asked_behind, asked_by, first_value, folder_of, frames_of, is_folder_name, page_of, page_size_of, value_in};
 ghost use Rattle.replay.specs.Reading.{asked_of, has_escape};
 
+use crate::asked::{Asked, Size};
+use crate::trial_words::{script_in, trial_behind};
 use actor_script::read_number;
 use clap::error::ErrorKind;
 use clap::{Arg, ArgMatches, Command, Error};
@@ -23,15 +25,6 @@ const PAGE_SIZES: [u32; 8] = [512, 1024, 2048, 4096, 8192, 16384, 32768, 65536];
 
 // The word behind which clap takes each word as it stands. It lets it stand last, too.
 const ESCAPE: &str = "--";
-
-/// What a command line asks for.
-#[derive(Clone, Copy, Debug, PartialEq, Eq)]
-pub struct Asked {
-    /// The number of page frames, 3 to 65,536.
-    pub frames: u32,
-    /// The bytes of a page, one of the eight sizes from 512 to 65,536.
-    pub page_bytes: u32,
-}
 
 // The number of page frames that a word spells.
 fn frames_in(word: &str) -> Option<u32>
@@ -65,7 +58,7 @@ fn is_folder_name(word: &str) -> bool
 }
 
 // What the values that clap found ask for: it knows the options, and this the forms of their values.
-fn asked_in(matches: &ArgMatches<'_>) -> Option<Asked>
+fn asked_in(matches: &ArgMatches<'_>) -> Option<Size>
     ensures { result ≡ asked_of matches.now }
 {
     if let Some(folder) = matches.get_str("segments") {
@@ -81,7 +74,7 @@ fn asked_in(matches: &ArgMatches<'_>) -> Option<Asked>
     if u64::from(frames) * u64::from(page_bytes) > MOST_FRAME_BYTES {
         return None;
     }
-    Some(Asked { frames, page_bytes })
+    Some(Size { frames, page_bytes })
 }
 
 // What clap reads in the words behind the command word.
@@ -104,8 +97,8 @@ fn matches_in<'a>(alloc: Global, words: &'a [&'a str]) -> Result<ArgMatches<'a>,
     command.try_get_matches_from(words)
 }
 
-// What the words behind the command word ask for.
-fn asked_behind(alloc: Global, words: &[&str]) -> Result<Option<Asked>, NoMemory>
+/// What the words behind `run` ask for, which are options: `None` exactly for other words.
+pub fn asked_behind(alloc: Global, words: &[&str]) -> Result<Option<Size>, NoMemory>
     ensures { IfOk result (λ asked. asked ≡ asked_behind (map (λ w. w.now) words.now)) }
 {
     if words.contains(&ESCAPE) {
@@ -118,14 +111,23 @@ fn asked_behind(alloc: Global, words: &[&str]) -> Result<Option<Asked>, NoMemory
     }
 }
 
-/// What the words of a command line ask for, which are `run --frames F [--page B] [--segments DIR]`:
-/// `None` exactly for other words. `NoMemory` where there is none to read them.
+/// What the words of a command line ask for, which are `run --frames F [--page B] [--segments DIR]`,
+/// `generate N L` or `trial N L --frames F [--segments DIR]`: `None` exactly for other words.
+/// `NoMemory` where there is none to read them.
 #[tactic(auto, unfolding(crate::specs::Commanding::asked_by))]
 pub fn read_words(alloc: Global, words: &[&str]) -> Result<Option<Asked>, NoMemory>
     ensures { IfOk result (λ asked. asked ≡ asked_by (map (λ w. w.now) words.now)) }
 {
     match words {
-        [command, options @ ..] if *command == "run" => asked_behind(alloc, options),
+        [command, options @ ..] if *command == "run" => match asked_behind(alloc, options)? {
+            Some(size) => Ok(Some(Asked::Run(size))),
+            None => Ok(None),
+        },
+        [command, script @ ..] if *command == "generate" => match script_in(script) {
+            Some(script) => Ok(Some(Asked::Generate(script))),
+            None => Ok(None),
+        },
+        [command, rest @ ..] if *command == "trial" => trial_behind(alloc, rest),
         _ => Ok(None),
     }
 }
@@ -138,8 +140,8 @@ fn value_in<'a>(name: &str, word: &'a str) -> Option<&'a str>
     if before == name { Some(after) } else { None }
 }
 
-// The value of the first option of this name, whatever else the words are.
-fn first_value<'a>(name: &str, words: &[&'a str]) -> Option<&'a str>
+/// The value of the first option of this name, whatever else the words are.
+pub fn first_value<'a>(name: &str, words: &[&'a str]) -> Option<&'a str>
     ensures { option_map (λ w. w.now) result
         ≡ first_value name.now (map (λ w. w.now) words.now) }
 {

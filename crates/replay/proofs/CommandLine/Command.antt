@@ -19,7 +19,7 @@ use Rattle.clap.specs.Kinds.{FailsBy}
 use Rattle.clap.specs.declared.error.Error.{Error}
 use Rattle.clap.specs.declared.parser.matches.ArgMatches.{ArgMatches}
 use Rattle.clap.proofs.WalkLemmas.{first_value-rows}
-use Rattle.replay.specs.declared.words.Asked.{Asked}
+use Rattle.replay.specs.declared.asked.Size.{Size}
 use Rattle.replay.specs.Commanding.{CommandOption, are_proper, asked_behind, asked_for, asked_in, frames_of, options_of, value_named}
 use Rattle.replay.specs.Reading.{asked_of, has_escape}
 use Rattle.replay.proofs.CommandLine.Turns.{held, none_both, none_first, none_then, opt, shape_with, standing}
@@ -92,7 +92,7 @@ some_value f (Some x) y e = refl
 
 -- clap takes what the definition takes
 
-pub taken : (words : List Text) (asked : Asked) → asked_behind words ≡ Some asked → fault_of run_app words ≡ []
+pub taken : (words : List Text) (asked : Size) → asked_behind words ≡ Some asked → fault_of run_app words ≡ []
 taken words asked e =
     let r = right words asked e in
     let known = proper_known r.options r.proper in
@@ -104,7 +104,7 @@ taken words asked e =
 
 -- the definition takes what clap takes, with the values that clap finds
 
-abbrev asked_from : List Row → Option Asked
+abbrev asked_from : List Row → Option Size
 asked_from rows = asked_for (first_of (codes "frames") rows) (first_of (codes "page") rows) (first_of (codes "segments") rows)
 
 asked_rows : (options : List CommandOption) → AreKnown options → asked_from (map row_of options) ≡ asked_for (value_named (codes "--frames") options) (value_named (codes "--page") options) (value_named (codes "--segments") options)
@@ -147,6 +147,6 @@ parse_refused (Err e) a words is fails = λ some. by (asked_behind words) refl s
     ]
     memory (k ∷ ks) none h = absurd (cc)
 
-    by : (o : Option Asked) → asked_behind words ≡ o → IsSome o → FailsBy {T = ArgMatches} (fault_of run_app words) (Err e) → kind_of e ≡ kind.OutOfMemory
+    by : (o : Option Size) → asked_behind words ≡ o → IsSome o → FailsBy {T = ArgMatches} (fault_of run_app words) (Err e) → kind_of e ≡ kind.OutOfMemory
     by None is some h = absurd (cc)
     by (Some asked) is some h = memory (fault_of run_app words) (taken words asked is) h

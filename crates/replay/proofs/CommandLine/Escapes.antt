@@ -1,6 +1,6 @@
 -- Words that ask for something have no `--` among them.
 use Rattle.std.proofs.Common.{◌≡◌, ◌||◌, ℕ, Bool, true, false, List, [], ◌∷◌, drop, Option, Some, None, refl, sym, ap, ◌∙◌, bytes_eq}
-use Rattle.replay.specs.declared.words.Asked.{Asked}
+use Rattle.replay.specs.declared.asked.Size.{Size}
 use Rattle.replay.specs.Commanding.{CommandOption, asked_behind, option_in}
 use Rattle.replay.specs.Reading.{has_escape}
 use Rattle.replay.proofs.CommandLine.Spelling.{hyphened, plain_word, spelled}
@@ -39,7 +39,7 @@ apart_without word value words options is go known plain =
 pub escape_asks_nothing : (words : List (List ℕ)) → has_escape words ≡ true → None ≡ asked_behind words
 escape_asks_nothing words e = by (asked_behind words) refl
   where
-    by : (o : Option Asked) → asked_behind words ≡ o → None ≡ o
+    by : (o : Option Size) → asked_behind words ≡ o → None ≡ o
     by None t = refl
     by (Some asked) t =
         let r = right words asked t in

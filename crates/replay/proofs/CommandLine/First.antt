@@ -3,13 +3,13 @@ use Rattle.std.proofs.Common.{◌≡◌, ◌==◌, ◌||◌, ◌≤◌, ◌^◌,
 use Rattle.std.specs.List.{after_first, before_first, list_any}
 use Rattle.std.specs.Option.{option_map_or, option_or}
 use Rattle.vm_ids.specs.declared.numbers.TheConstants.{PAGE}
-use Rattle.replay.specs.declared.words.Asked.{Asked}
-use Rattle.replay.specs.Commanding.{CommandOption, asked_behind, asked_by, first_value, is_equals, is_folder_name, option_in, options_of, page_of, page_size_of, value_in, value_named}
+use Rattle.replay.specs.declared.asked.Size.{Size}
+use Rattle.replay.specs.Commanding.{CommandOption, asked_behind, first_value, is_equals, is_folder_name, option_in, options_of, page_of, value_in, value_named}
 use Rattle.replay.proofs.CommandLine.Spelling.{begins, spelled}
 use Rattle.replay.proofs.CommandLine.Cutting.{by_cut}
 use Rattle.replay.proofs.CommandLine.Walks.{ArePlain}
 use Rattle.replay.proofs.CommandLine.Values.{same_text}
-use Rattle.replay.proofs.CommandLine.Right.{Right, few_frames, right, right_plain, small_page}
+use Rattle.replay.proofs.CommandLine.Right.{Right, right, right_plain}
 
 -- a name that a hyphen begins, without the sign
 module _ (rest : List ℕ) (alone : option_in (45 ∷ rest) ≡ None) where
@@ -89,7 +89,7 @@ module _ (rest : List ℕ) (alone : option_in (45 ∷ rest) ≡ None) where
 
 -- the page size that the words of `run` name is the one that they ask for
 
-page_behind : (words : List (List ℕ)) (asked : Asked) → asked_behind words ≡ Some asked → unwrap_or (option_and_then page_of (first_value (codes "--page") words)) PAGE ≡ asked.page_bytes
+pub page_behind : (words : List (List ℕ)) (asked : Size) → asked_behind words ≡ Some asked → unwrap_or (option_and_then page_of (first_value (codes "--page") words)) PAGE ≡ asked.page_bytes
 page_behind words asked e =
     let r = right words asked e in
     ap (λ (o : Option (List ℕ)). unwrap_or (option_and_then page_of o) PAGE) (finds (45 ∷ codes "page") refl words r.options r.cut (right_plain words asked r)) ∙ by (value_named (codes "--page") r.options) r.forms.page_is
@@ -97,38 +97,3 @@ page_behind words asked e =
     by : (o : Option (List ℕ)) → option_map_or page_of o (Some PAGE) ≡ Some asked.page_bytes → unwrap_or (option_and_then page_of o) PAGE ≡ asked.page_bytes
     by None e = cc
     by (Some word) e = ap (λ (p : Option ℕ). unwrap_or p PAGE) e
-
--- words that ask for something are `run` and more
-pub record IsRun (words : List (List ℕ)) (asked : Asked) : Type 0 where
-  pub options : List (List ℕ)
-  pub words_are : words ≡ codes "run" ∷ options
-  pub asks : asked_behind options ≡ Some asked
-
-pub is_run : (words : List (List ℕ)) (asked : Asked) → asked_by words ≡ Some asked → IsRun words asked
-unfolding asked_by
-is_run [] asked e = absurd (cc)
-is_run (command ∷ words) asked e = by (bytes_eq command (codes "run")) refl e
-  where
-    by : (b : Bool) → bytes_eq command (codes "run") ≡ b → cond b (asked_behind words) None ≡ Some asked → IsRun (command ∷ words) asked
-    by true t e = record { options = words; words_are = ap (λ (w : List ℕ). w ∷ words) (same_text command (codes "run") t); asks = e }
-    by false t e = absurd (cc)
-
-pub page_asked : (words : List (List ℕ)) (asked : Asked) → asked_by words ≡ Some asked → page_size_of words ≡ asked.page_bytes
-page_asked words asked e =
-    let run = is_run words asked e in
-    ap page_size_of run.words_are ∙ page_behind run.options asked run.asks
-
--- The frames and the bytes of a page that words ask for are within what a manager takes.
-pub record HasBounds (asked : Asked) : Type 0 where
-  pub few : 3 ≤ asked.frames
-  pub frames : asked.frames ≤ 2 ^ 16
-  pub some : 1 ≤ asked.page_bytes
-  pub page : asked.page_bytes ≤ 2 ^ 16
-
-pub has_bounds : (words : List (List ℕ)) (asked : Asked) → asked_by words ≡ Some asked → HasBounds asked
-has_bounds words asked e =
-    let run = is_run words asked e in
-    let h = (right run.options asked run.asks).forms in
-    let frames = few_frames _ _ _ asked h in
-    let page = small_page _ _ _ asked h in
-    record { few = frames.0; frames = omega (arith, frames.1); some = page.0; page = page.1 }

@@ -6,7 +6,7 @@ use Rattle.std.specs.Str.Parse.{digits_value}
 use Rattle.std.proofs.lemmas.Fmt.{decimal_nonempty, first_decimal}
 use Rattle.vm_ids.specs.declared.numbers.TheConstants.{PAGE}
 use Rattle.actor_script.specs.Operands.{number_if, number_of}
-use Rattle.replay.specs.declared.words.Asked.{Asked}
+use Rattle.replay.specs.declared.asked.Size.{Size}
 use Rattle.replay.specs.Commanding.{CommandOption, are_proper, asked_behind, asked_for, asked_in, frames_of, if_fitting, if_frames, if_page, is_folder_name, options_of, page_of, page_sizes, value_named}
 use Rattle.replay.proofs.CommandLine.Turns.{same_bytes}
 use Rattle.replay.proofs.CommandLine.Walks.{ArePlain}
@@ -51,16 +51,16 @@ tested_plain test word n none e = by (number_of word) refl e
 -- what the values of right options are
 
 -- where these values ask for something each has its form
-pub record HasForms (frames page folder : Option (List ℕ)) (asked : Asked) : Type 0 where
+pub record HasForms (frames page folder : Option (List ℕ)) (asked : Size) : Type 0 where
   pub frames_are : option_and_then frames_of frames ≡ Some asked.frames
   pub page_is : option_map_or page_of page (Some PAGE) ≡ Some asked.page_bytes
   pub folder_is : option_map_or is_folder_name folder true ≡ true
 
-pub forms : (frames page folder : Option (List ℕ)) (asked : Asked) → asked_for frames page folder ≡ Some asked → HasForms frames page folder asked
+pub forms : (frames page folder : Option (List ℕ)) (asked : Size) → asked_for frames page folder ≡ Some asked → HasForms frames page folder asked
 forms frames page folder asked e = by (option_map_or is_folder_name folder true) (option_and_then frames_of frames) (option_map_or page_of page (Some PAGE)) refl refl refl e
   where
     last : (f p : ℕ) (b : Bool) → cond b (Some (record { frames = f; page_bytes = p })) None ≡ Some asked → (f ≡ asked.frames) × (p ≡ asked.page_bytes)
-    last f p true e = let same : record { frames = f; page_bytes = p } ≡ asked = cc in (ap (λ (a : Asked). a.frames) same, ap (λ (a : Asked). a.page_bytes) same)
+    last f p true e = let same : record { frames = f; page_bytes = p } ≡ asked = cc in (ap (λ (a : Size). a.frames) same, ap (λ (a : Size). a.page_bytes) same)
     last f p false e = absurd (cc)
 
     by : (d : Bool) (f p : Option ℕ) → option_map_or is_folder_name folder true ≡ d → option_and_then frames_of frames ≡ f → option_map_or page_of page (Some PAGE) ≡ p
@@ -70,7 +70,7 @@ forms frames page folder asked e = by (option_map_or is_folder_name folder true)
     by true (Some f) None s t u e = absurd (cc)
     by true (Some f) (Some p) s t u e = let same = last f p _ e in record { frames_are = t ∙ ap Some same.0; page_is = u ∙ ap Some same.1; folder_is = s }
 
-module _ (frames page folder : Option (List ℕ)) (asked : Asked) (h : HasForms frames page folder asked) where
+module _ (frames page folder : Option (List ℕ)) (asked : Size) (h : HasForms frames page folder asked) where
   pub frames_plain : (word : List ℕ) → frames ≡ Some word → is_folder_name word ≡ true
   frames_plain word e = tested_plain if_frames word asked.frames refl (sym (ap (option_and_then frames_of) e) ∙ h.frames_are)
 
@@ -113,7 +113,7 @@ each_value P (o ∷ options) e h =
         absurd (cc)
     passed name x found false t none = ap (λ (b : Bool). option_map (λ (x : CommandOption). x.value) (cond b (Some o) (find (λ (x : CommandOption). bytes_eq x.name name) options))) t ∙ found
 
-pub proper_plain : (options : List CommandOption) (asked : Asked) → are_proper options ≡ true → HasForms (value_named (codes "--frames") options) (value_named (codes "--page") options) (value_named (codes "--segments") options) asked → ArePlain options
+pub proper_plain : (options : List CommandOption) (asked : Size) → are_proper options ≡ true → HasForms (value_named (codes "--frames") options) (value_named (codes "--page") options) (value_named (codes "--segments") options) asked → ArePlain options
 proper_plain options asked e h = each_value (λ (x : List ℕ). is_folder_name x ≡ true) options e plain
   where
     at : (known name x : List ℕ) → ((y : List ℕ) → value_named known options ≡ Some y → is_folder_name y ≡ true) → bytes_eq known name ≡ true → value_named name options ≡ Some x → is_folder_name x ≡ true
@@ -129,13 +129,13 @@ proper_plain options asked e h = each_value (λ (x : List ℕ). is_folder_name x
     plain name x known found = by name x found (bytes_eq (codes "--frames") name) (bytes_eq (codes "--page") name) (bytes_eq (codes "--segments") name) refl refl refl known
 
 -- where words ask for something: the options that they are cut into, and what is so of these
-pub record Right (words : List (List ℕ)) (asked : Asked) : Type 0 where
+pub record Right (words : List (List ℕ)) (asked : Size) : Type 0 where
   pub options : List CommandOption
   pub cut : options_of words ≡ Some options
   pub proper : are_proper options ≡ true
   pub forms : HasForms (value_named (codes "--frames") options) (value_named (codes "--page") options) (value_named (codes "--segments") options) asked
 
-pub right : (words : List (List ℕ)) (asked : Asked) → asked_behind words ≡ Some asked → Right words asked
+pub right : (words : List (List ℕ)) (asked : Size) → asked_behind words ≡ Some asked → Right words asked
 right words asked e = by (options_of words) refl e
   where
     in_options : (options : List CommandOption) → options_of words ≡ Some options → (b : Bool) → are_proper options ≡ b
@@ -147,7 +147,7 @@ right words asked e = by (options_of words) refl e
     by None cut e = absurd (cc)
     by (Some options) cut e = in_options options cut (are_proper options) refl e
 
-pub right_plain : (words : List (List ℕ)) (asked : Asked) (r : Right words asked) → ArePlain r.options
+pub right_plain : (words : List (List ℕ)) (asked : Size) (r : Right words asked) → ArePlain r.options
 right_plain words asked r = proper_plain r.options asked r.proper r.forms
 
 -- bounds
@@ -184,7 +184,7 @@ page_within n b e = by (list_any (λ size. size == n) page_sizes) refl e
     by true t e = let same : n ≡ b = cc in subst IsPageSize same (among page_sizes n t refl)
     by false t e = absurd (cc)
 
-module _ (frames page folder : Option (List ℕ)) (asked : Asked) (h : HasForms frames page folder asked) where
+module _ (frames page folder : Option (List ℕ)) (asked : Size) (h : HasForms frames page folder asked) where
   pub few_frames : (3 ≤ asked.frames) × (asked.frames ≤ 65536)
   few_frames = by frames h.frames_are
     where

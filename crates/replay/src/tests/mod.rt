@@ -1,6 +1,7 @@
 // Whole runs over a mapper in memory, by values from outside.
 ghost use Rattle.std.specs.Prelude.{◌≡◌, ◌≤◌, ◌^◌, None, IfOk};
 
+mod generated;
 mod rows;
 mod segment_rows;
 mod segments;

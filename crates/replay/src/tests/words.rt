@@ -1,6 +1,7 @@
-// Command lines: what they ask for, and those that ask for no run.
+// Command lines: what they ask for, and those that ask for nothing.
 use super::{replay_source, rows};
-use crate::words::{Asked, read_words};
+use crate::asked::{Asked, Generated, Size};
+use crate::words::read_words;
 use crate::{Status, folder, page_size};
 use vm_ids::NoMemory;
 use vm_port::{MemorySink, MemorySource};
@@ -58,11 +59,46 @@ fn options_stand_in_any_order_and_in_two_spellings(rt: HostRuntime) -> Result<()
             "d",
         ),
     ] {
-        let asked = Some(Asked { frames, page_bytes });
+        let asked = Some(Asked::Run(Size { frames, page_bytes }));
         assert_eq!(&rt; read_words(rt.alloc(), words), Ok(asked), "{words:?}");
         assert_eq!(&rt; (page_size(words), folder(words)), (page_bytes, segments));
     }
     Ok(())
+}
+
+#[test]
+fn the_script_of_a_trial_stands_anywhere(rt: HostRuntime) {
+    let script = Generated {
+        number: 4294967295,
+        lines: 1000000,
+    };
+    let words = ["generate", "4294967295", "1000000"];
+    let asked = Some(Asked::Generate(script));
+    assert_eq!(&rt; read_words(rt.alloc(), &words), Ok(asked));
+    for words in [
+        ["trial", "4294967295", "1000000", "--frames", "8"].as_slice(),
+        &["trial", "--frames", "8", "4294967295", "1000000"],
+        &["trial", "4294967295", "--frames=8", "1000000"],
+        &[
+            "trial",
+            "--segments",
+            "d",
+            "4294967295",
+            "--frames",
+            "8",
+            "1000000",
+        ],
+        &[
+            "trial",
+            "4294967295",
+            "--segments=d=e",
+            "1000000",
+            "--frames=8",
+        ],
+    ] {
+        let asked = Some(Asked::Trial(script, 8));
+        assert_eq!(&rt; read_words(rt.alloc(), words), Ok(asked), "{words:?}");
+    }
 }
 
 #[test]
@@ -133,6 +169,37 @@ fn other_words_ask_for_nothing(rt: HostRuntime) {
         &["run", "--", "--frames", "3"],
         &["run", "--frames", "--", "3"],
         &["run", "--frames", "3", "--segments", "--"],
+        // the script of a number
+        &["generate"],
+        &["generate", "0"],
+        &["generate", "0", "0"],
+        &["generate", "00", "1"],
+        &["generate", "0", "01"],
+        &["generate", "-1", "1"],
+        &["generate", "4294967296", "1"],
+        &["generate", "0", "1000001"],
+        &["generate", "0", "1", "1"],
+        &["generate", "0", "1", "--frames", "3"],
+        &["generate", "--", "0", "1"],
+        // its trial
+        &["trial"],
+        &["trial", "0", "1"],
+        &["trial", "0", "--frames", "3"],
+        &["trial", "0", "1", "1", "--frames", "3"],
+        &["trial", "0", "0", "--frames", "3"],
+        &["trial", "-1", "1", "--frames", "3"],
+        &["trial", "0", "1", "--frames", "2"],
+        &["trial", "0", "1", "--frames", "3", "--page", "4096"],
+        &["trial", "--page=4096", "0", "1", "--frames", "3"],
+        &["trial", "0", "1", "--frames", "3", "--frames", "3"],
+        &["trial", "0", "1", "--frames"],
+        &["trial", "--frames", "0", "1"],
+        &["trial", "0", "1", "--frames", "3", "--segments", "-x"],
+        &["trial", "0", "1", "--frame", "3"],
+        &["trial", "0", "1", "--frames", "3", "--"],
+        &["trial", "--", "0", "1", "--frames", "3"],
+        &["trial", "0", "1", "--frames", "3", "--help"],
+        &["trials", "0", "1", "--frames", "3"],
     ] {
         assert_eq!(&rt; read_words(rt.alloc(), words), Ok(None), "{words:?}");
     }

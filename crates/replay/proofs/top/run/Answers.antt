@@ -1,48 +1,90 @@
-use Rattle.std.proofs.Common.{◌∙◌, sym, refl, rules}
+use Rattle.std.proofs.Common.{◌≡◌, ◌∙◌, Some, ap, map, refl, rules, sym}
 use Rattle.vm_ids.specs.Held.{segments_of}
+use Rattle.replay.specs.Commanding.{asked_by}
+use Rattle.replay.specs.declared.asked.Asked.TheVariants as asks
 use Rattle.replay.specs.Ending.{scene_with}
-use Rattle.replay.proofs.CommandLine.First.{has_bounds, page_asked}
-use Rattle.replay.proofs.Promise.{as_asked, complete, fits_start, limited, live_start, run_ends}
+use Rattle.replay.proofs.CommandLine.Kinds.{run_bounds, run_page, trial_bounds, trial_few, trial_page}
+use Rattle.replay.proofs.Promise.{as_asked, asked_holds, complete, fits_start, limited, live_start, run_ends}
+use Rattle.replay.proofs.Trials.{trial_ends}
 use Rattle.replay.proofs.top.run.Goals as goal
 
 pub new-requires-clause-few : goal.new-requires-clause-few
-new-requires-clause-few g c = (has_bounds _ c.in-Ok-Some.asked (sym c.in-Ok-Some.ensures ∙ c.in-Ok-Some.field-0-is)).few
+new-requires-clause-few g c = (run_bounds _ c.in-Run.size (sym c.in-Ok-Some.ensures ∙ c.in-Ok-Some.field-0-is ∙ ap Some c.in-Run.is)).few
 
 pub new-requires-clause-frames : goal.new-requires-clause-frames
-new-requires-clause-frames g c = (has_bounds _ c.in-Ok-Some.asked (sym c.in-Ok-Some.ensures ∙ c.in-Ok-Some.field-0-is)).frames
+new-requires-clause-frames g c = (run_bounds _ c.in-Run.size (sym c.in-Ok-Some.ensures ∙ c.in-Ok-Some.field-0-is ∙ ap Some c.in-Run.is)).frames
 
 pub new-requires-clause-some : goal.new-requires-clause-some
-new-requires-clause-some g c = (has_bounds _ c.in-Ok-Some.asked (sym c.in-Ok-Some.ensures ∙ c.in-Ok-Some.field-0-is)).some
+new-requires-clause-some g c = (run_bounds _ c.in-Run.size (sym c.in-Ok-Some.ensures ∙ c.in-Ok-Some.field-0-is ∙ ap Some c.in-Run.is)).some
 
 pub new-requires-clause-page : goal.new-requires-clause-page
-new-requires-clause-page g c = (has_bounds _ c.in-Ok-Some.asked (sym c.in-Ok-Some.ensures ∙ c.in-Ok-Some.field-0-is)).page
+new-requires-clause-page g c = (run_bounds _ c.in-Run.size (sym c.in-Ok-Some.ensures ∙ c.in-Ok-Some.field-0-is ∙ ap Some c.in-Run.is)).page
 
 pub replay-requires : goal.replay-requires
 replay-requires g c =
     let M = g.M.Mapper in
     let told = M.held c.args.mapper.now in
-    let asked = c.in-Ok-Some.asked in
+    let size = c.in-Run.size in
     let starts = c.in-Ok.ensures.machine told in
     record {
-      valid = c.in-Ok.ensures.valid told;
-      fits = fits_start (M.page_bytes c.args.mapper.now) asked _ _ c.requires (page_asked _ asked (sym c.in-Ok-Some.ensures ∙ c.in-Ok-Some.field-0-is)) starts;
-      live = live_start asked _ starts;
+      call = record {
+        valid = c.in-Ok.ensures.valid told;
+        unlimited = λ manager. refl;
+        fits = fits_start (M.page_bytes c.args.mapper.now) size.frames size.page_bytes _ _ c.requires (run_page _ size (sym c.in-Ok-Some.ensures ∙ c.in-Ok-Some.field-0-is ∙ ap Some c.in-Run.is)) starts;
+        live = live_start size.frames size.page_bytes _ starts;
+      };
       made = search rules;
     }
 
-pub returns-clause-ends : goal.returns-clause-ends
-returns-clause-ends g c = λ some.
+pub new-requires-in-Trial-clause-few : goal.new-requires-in-Trial-clause-few
+new-requires-in-Trial-clause-few g c = (trial_bounds _ c.in-Trial.script c.in-Trial.frames (sym c.in-Ok-Some.ensures ∙ c.in-Ok-Some.field-0-is ∙ ap Some c.in-Trial.is)).few
+
+pub new-requires-in-Trial-clause-frames : goal.new-requires-in-Trial-clause-frames
+new-requires-in-Trial-clause-frames g c = (trial_bounds _ c.in-Trial.script c.in-Trial.frames (sym c.in-Ok-Some.ensures ∙ c.in-Ok-Some.field-0-is ∙ ap Some c.in-Trial.is)).frames
+
+pub trial-requires-clause-able : goal.trial-requires-clause-able
+trial-requires-clause-able g c =
+    let M = g.M.Mapper in
+    let told = M.held c.args.mapper.now in
+    let frames = c.in-Trial.frames in
+    let starts = c.in-Ok-new.ensures.machine told in
+    record {
+      call = record {
+        valid = c.in-Ok-new.ensures.valid told;
+        unlimited = λ manager. refl;
+        fits = fits_start (M.page_bytes c.args.mapper.now) frames 4096 _ _ c.requires (trial_page _ c.in-Trial.script frames (sym c.in-Ok-Some.ensures ∙ c.in-Ok-Some.field-0-is ∙ ap Some c.in-Trial.is)) starts;
+        live = live_start frames 4096 _ starts;
+      };
+      made = search rules;
+    }
+
+pub trial-requires-clause-few : goal.trial-requires-clause-few
+trial-requires-clause-few g c = trial_few _ c.in-Trial.script c.in-Trial.frames (sym c.in-Ok-Some.ensures ∙ c.in-Ok-Some.field-0-is ∙ ap Some c.in-Trial.is)
+
+pub returns-in-Ok-clause-ends : goal.returns-in-Ok-clause-ends
+returns-in-Ok-clause-ends g c = λ some.
     let M = g.M.Mapper in
     let K = g.K.Sink in
     let told = M.held c.args.mapper.now in
-    let asked = c.in-Ok-Some.asked in
-    as_asked asked _ _ (sym c.in-Ok-Some.field-0-is ∙ c.in-Ok-Some.ensures)
-    (run_ends c.replay.result asked (scene_with M c.args.mapper.now (K.written c.args.sink.now)) (scene_with M c.replay.new.mapper (K.written c.replay.new.sink)) _ _
-    (segments_of told) _ _ _ _ (λ m f. refl) (λ m f. (refl, refl)) (has_bounds _ asked (sym c.in-Ok-Some.ensures ∙ c.in-Ok-Some.field-0-is)).some (c.in-Ok.ensures.machine told) (c.in-Ok.ensures.forest told) c.replay.ensures.ends)
+    let size = c.in-Run.size in
+    as_asked (asks.Run size) _ _ (sym (ap Some c.in-Run.is) ∙ sym c.in-Ok-Some.field-0-is ∙ c.in-Ok-Some.ensures)
+    (run_ends c.replay.result size (scene_with M c.args.mapper.now (K.written c.args.sink.now)) (scene_with M c.replay.new.mapper (K.written c.replay.new.sink)) _ _
+    (segments_of told) _ _ _ _ (λ m f. refl) (λ m f. (refl, refl)) (run_bounds _ size (sym c.in-Ok-Some.ensures ∙ c.in-Ok-Some.field-0-is ∙ ap Some c.in-Run.is)).some (c.in-Ok.ensures.machine told) (c.in-Ok.ensures.forest told) c.replay.ensures.ends)
 
-pub returns-clause-too_long_exactly : goal.returns-clause-too_long_exactly
-returns-clause-too_long_exactly g c = limited c.replay.result _ _ _ _ c.replay.ensures.ends
+pub returns-in-Ok-clause-too_long_exactly : goal.returns-in-Ok-clause-too_long_exactly
+returns-in-Ok-clause-too_long_exactly g c = limited c.replay.result _ _ _ _ c.replay.ensures.ends
 
-pub returns-clause-complete : goal.returns-clause-complete
-returns-clause-complete g c = λ asked few reads readable writes writable.
+pub returns-in-Ok-clause-complete : goal.returns-in-Ok-clause-complete
+returns-in-Ok-clause-complete g c = λ short reads readable writes writable.
+    let few = asked_holds (asks.Run c.in-Run.size) _ _ (sym (ap Some c.in-Run.is) ∙ sym c.in-Ok-Some.field-0-is ∙ c.in-Ok-Some.ensures) short in
     complete c.replay.result _ _ _ _ _ _ _ _ c.replay.ensures.ends c.replay.ensures.source_fault c.replay.ensures.sink_fault few reads readable writes writable
+
+pub returns-in-Ok-new-clause-ends : goal.returns-in-Ok-new-clause-ends
+returns-in-Ok-new-clause-ends g c = λ some.
+    let M = g.M.Mapper in
+    let K = g.K.Sink in
+    let told = M.held c.args.mapper.now in
+    let ends = c.trial.ensures.ends in
+    as_asked (asks.Trial c.in-Trial.script c.in-Trial.frames) _ _ (sym (ap Some c.in-Trial.is) ∙ sym c.in-Ok-Some.field-0-is ∙ c.in-Ok-Some.ensures)
+    (trial_ends c.trial.result c.in-Trial.script c.in-Trial.frames (scene_with M c.args.mapper.now (K.written c.args.sink.now)) (scene_with M c.trial.new.mapper (K.written c.trial.new.sink))
+    (segments_of told) _ _ _ _ ends.0 (λ m f. refl) (λ m f. (refl, refl)) (c.in-Ok-new.ensures.machine told) (c.in-Ok-new.ensures.forest told) ends.1 ends.2)

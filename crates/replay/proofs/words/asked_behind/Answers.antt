@@ -4,7 +4,7 @@ use Rattle.clap.specs.contracts.error.kind.ErrorKind.{the_type}
 use Rattle.clap.specs.declared.error.ErrorKind.{ErrorKind}
 use Rattle.clap.specs.declared.error.ErrorKind.TheVariants as kind
 use Rattle.clap.specs.Values.{kind_of}
-use Rattle.replay.specs.declared.words.Asked.{Asked}
+use Rattle.replay.specs.declared.asked.Size.{Size}
 use Rattle.replay.specs.Commanding.{asked_behind}
 use Rattle.replay.specs.Reading.{has_escape}
 use Rattle.replay.proofs.CommandLine.Escapes.{escape_asks_nothing}
@@ -26,7 +26,7 @@ returns-in-Ok c =
 pub returns-in-Err-2 : goal.returns-in-Err-2
 returns-in-Err-2 c = by (asked_behind (map (λ w. w.now) c.args.words.now)) c.in-Err.ensures.refused
   where
-    by : (o : Option Asked) → (Rattle.std.specs.Prelude.IsSome o → kind_of c.in-Err.error ≡ kind.OutOfMemory) → None ≡ o
+    by : (o : Option Size) → (Rattle.std.specs.Prelude.IsSome o → kind_of c.in-Err.error ≡ kind.OutOfMemory) → None ≡ o
     by None refused = refl
     by (Some asked) refused =
         let same : sameb the_type c.kind.result kind.OutOfMemory ≡ true = ap (λ (k : ErrorKind). sameb the_type k kind.OutOfMemory) (c.kind.ensures ∙ refused refl) in

@@ -1,0 +1,194 @@
+-- What words are that ask for something.
+use Rattle.std.proofs.Common.{◌≡◌, ◌≤◌, ◌^◌, ℕ, Bool, true, false, cond, List, [], ◌∷◌, Option, Some, None, is_some, refl, sym, ap, ◌∙◌, subst, codes, bytes_eq, arith, nat_le, option_map, option_and_then, unwrap_or}
+use Rattle.std.specs.Prelude.{◌&&◌, IfOk, Result, Ok, Err}
+use Rattle.std.proofs.lemmas.Bool.{leb-true}
+use Rattle.vm_ids.specs.declared.numbers.TheConstants.{PAGE}
+use Rattle.actor_script.specs.Operands.{number_of}
+use Rattle.replay.specs.declared.asked.Asked.{Asked}
+use Rattle.replay.specs.declared.asked.Asked.TheVariants as asks
+use Rattle.replay.specs.declared.asked.Generated.{Generated}
+use Rattle.replay.specs.declared.asked.Size.{Size}
+use Rattle.replay.specs.Commanding.{asked_behind, asked_by, first_value, if_lines, line_count_of, options_among, others_among, page_of, page_size_of, script_of, trial_behind, trial_of}
+use Rattle.replay.proofs.CommandLine.First.{page_behind}
+use Rattle.replay.proofs.CommandLine.Right.{few_frames, right, small_page}
+use Rattle.replay.proofs.CommandLine.Values.{and_both, same_text}
+
+-- what an option that is there was made of
+
+pub record Made {A : Type 0} (o : Option A) (P : A → Type 0) : Type 0 where
+  pub value : A
+  pub is : o ≡ Some value
+  pub holds : P value
+
+pub made_by_map : {A B : Type 0} (f : A → B) (o : Option A) (y : B) → option_map f o ≡ Some y → Made o (λ x. f x ≡ y)
+made_by_map f None y e = absurd (cc)
+made_by_map f (Some x) y e = record { value = x; is = refl; holds = cc }
+
+pub made_by_then : {A B : Type 0} (f : A → Option B) (o : Option A) (y : B) → option_and_then f o ≡ Some y → Made o (λ x. f x ≡ Some y)
+made_by_then f None y e = absurd (cc)
+made_by_then f (Some x) y e = record { value = x; is = refl; holds = e }
+
+-- `run` and its options
+pub record IsRun (words : List (List ℕ)) (size : Size) : Type 0 where
+  pub options : List (List ℕ)
+  pub words_are : words ≡ codes "run" ∷ options
+  pub size_is : asked_behind options ≡ Some size
+
+-- `generate` and a script
+pub record IsGenerate (words : List (List ℕ)) (script : Generated) : Type 0 where
+  pub rest : List (List ℕ)
+  pub script_is : script_of rest ≡ Some script
+
+-- `trial`, a script and options
+pub record IsTrial (words : List (List ℕ)) (script : Generated) (frames : ℕ) : Type 0 where
+  pub rest : List (List ℕ)
+  pub words_are : words ≡ codes "trial" ∷ rest
+  pub no_page : is_some (first_value (codes "--page") rest) ≡ false
+  pub script_is : script_of (others_among false rest) ≡ Some script
+  pub size : Size
+  pub size_is : asked_behind (options_among false rest) ≡ Some size
+  pub frames_are : size.frames ≡ frames
+
+abbrev IsKind : List (List ℕ) → Asked → Type 0
+IsKind words (asks.Run size) = IsRun words size
+IsKind words (asks.Generate script) = IsGenerate words script
+IsKind words (asks.Trial script frames) = IsTrial words script frames
+
+abbrev with_script : List (List ℕ) → Generated → Option Asked
+with_script rest script = option_map (λ (size : Size). asks.Trial script size.frames) (asked_behind (options_among false rest))
+
+trial_is : (rest : List (List ℕ)) (asked : Asked) → trial_behind rest ≡ Some asked → IsKind (codes "trial" ∷ rest) asked
+trial_is rest asked e = by (is_some (first_value (codes "--page") rest)) refl e
+  where
+    by : (b : Bool) → is_some (first_value (codes "--page") rest) ≡ b → cond b None (option_and_then (with_script rest) (script_of (others_among false rest))) ≡ Some asked → IsKind (codes "trial" ∷ rest) asked
+    by true t e = absurd (cc)
+    by false t e =
+        let script = made_by_then (with_script rest) (script_of (others_among false rest)) asked e in
+        let size = made_by_map (λ (size : Size). asks.Trial script.value size.frames) (asked_behind (options_among false rest)) asked script.holds in
+        subst (IsKind (codes "trial" ∷ rest)) size.holds (record {
+          rest = rest;
+          words_are = refl;
+          no_page = t;
+          script_is = script.is;
+          size = size.value;
+          size_is = size.is;
+          frames_are = refl;
+        })
+
+kind_of_words : (words : List (List ℕ)) (asked : Asked) → asked_by words ≡ Some asked → IsKind words asked
+unfolding asked_by
+kind_of_words [] asked e = absurd (cc)
+kind_of_words (command ∷ words) asked e = by_run (bytes_eq command (codes "run")) refl e
+  where
+    with_command : (name : List ℕ) → bytes_eq command name ≡ true → command ∷ words ≡ name ∷ words
+    with_command name t = ap (λ (w : List ℕ). w ∷ words) (same_text command name t)
+
+    by_trial : (b : Bool) → bytes_eq command (codes "trial") ≡ b → cond b (trial_behind words) None ≡ Some asked → IsKind (command ∷ words) asked
+    by_trial true t e = subst (λ (all : List (List ℕ)). IsKind all asked) (sym (with_command (codes "trial") t)) (trial_is words asked e)
+    by_trial false t e = absurd (cc)
+
+    by_generate : (b : Bool) → cond b (option_map asks.Generate (script_of words)) (cond (bytes_eq command (codes "trial")) (trial_behind words) None) ≡ Some asked → IsKind (command ∷ words) asked
+    by_generate true e =
+        let script = made_by_map asks.Generate (script_of words) asked e in
+        subst (IsKind (command ∷ words)) script.holds (record { rest = words; script_is = script.is })
+    by_generate false e = by_trial (bytes_eq command (codes "trial")) refl e
+
+    by_run : (b : Bool) → bytes_eq command (codes "run") ≡ b
+        → cond b (option_map asks.Run (asked_behind words)) (cond (bytes_eq command (codes "generate")) (option_map asks.Generate (script_of words)) (cond (bytes_eq command (codes "trial")) (trial_behind words) None)) ≡ Some asked → IsKind (command ∷ words) asked
+    by_run true t e =
+        let size = made_by_map asks.Run (asked_behind words) asked e in
+        subst (λ (all : List (List ℕ)). IsKind all asked) (sym (with_command (codes "run") t))
+        (subst (IsKind (codes "run" ∷ words)) size.holds (record { options = words; words_are = refl; size_is = size.is }))
+    by_run false t e = by_generate (bytes_eq command (codes "generate")) e
+
+pub is_run : (words : List (List ℕ)) (size : Size) → asked_by words ≡ Some (asks.Run size) → IsRun words size
+is_run words size e = kind_of_words words (asks.Run size) e
+
+pub is_generate : (words : List (List ℕ)) (script : Generated) → asked_by words ≡ Some (asks.Generate script) → IsGenerate words script
+is_generate words script e = kind_of_words words (asks.Generate script) e
+
+pub is_trial : (words : List (List ℕ)) (script : Generated) (frames : ℕ) → asked_by words ≡ Some (asks.Trial script frames) → IsTrial words script frames
+is_trial words script frames e = kind_of_words words (asks.Trial script frames) e
+
+-- the page size that the words name is the one of what they ask for
+
+pub run_page : (words : List (List ℕ)) (size : Size) → asked_by words ≡ Some (asks.Run size) → page_size_of words ≡ size.page_bytes
+run_page words size e =
+    let run = is_run words size e in
+    ap page_size_of run.words_are ∙ page_behind run.options size run.size_is
+
+pub trial_page : (words : List (List ℕ)) (script : Generated) (frames : ℕ) → asked_by words ≡ Some (asks.Trial script frames) → page_size_of words ≡ PAGE
+trial_page words script frames e =
+    let trial = is_trial words script frames e in
+    ap page_size_of trial.words_are ∙ by (first_value (codes "--page") trial.rest) trial.no_page
+  where
+    by : (o : Option (List ℕ)) → is_some o ≡ false → unwrap_or (option_and_then page_of o) PAGE ≡ PAGE
+    by None t = refl
+    by (Some word) t = absurd (cc)
+
+-- The frames and the bytes of a page that words ask for are within what a manager takes.
+pub record HasBounds (count bytes : ℕ) : Type 0 where
+  pub few : 3 ≤ count
+  pub frames : count ≤ 2 ^ 16
+  pub some : 1 ≤ bytes
+  pub page : bytes ≤ 2 ^ 16
+
+size_bounds : (options : List (List ℕ)) (size : Size) → asked_behind options ≡ Some size → HasBounds size.frames size.page_bytes
+size_bounds options size e =
+    let h = (right options size e).forms in
+    let frames = few_frames _ _ _ size h in
+    let page = small_page _ _ _ size h in
+    record { few = frames.0; frames = omega (arith, frames.1); some = page.0; page = page.1 }
+
+pub run_bounds : (words : List (List ℕ)) (size : Size) → asked_by words ≡ Some (asks.Run size) → HasBounds size.frames size.page_bytes
+run_bounds words size e = let run = is_run words size e in size_bounds run.options size run.size_is
+
+pub trial_bounds : (words : List (List ℕ)) (script : Generated) (frames : ℕ) → asked_by words ≡ Some (asks.Trial script frames) → HasBounds frames PAGE
+trial_bounds words script frames e =
+    let trial = is_trial words script frames e in
+    let h = size_bounds (options_among false trial.rest) trial.size trial.size_is in
+    record { few = omega (arith, h.few, trial.frames_are); frames = omega (arith, h.frames, trial.frames_are); some = omega arith; page = omega arith }
+
+-- a script has 1 to 1,000,000 lines
+
+abbrev HasFewLines : ℕ → Type 0
+HasFewLines n = (1 ≤ n) × (n ≤ 1000000)
+
+few_if : (n lines : ℕ) → if_lines n ≡ Some lines → HasFewLines lines
+few_if n lines e = by (nat_le 1 n && nat_le n 1000000) refl e
+  where
+    by : (b : Bool) → (nat_le 1 n && nat_le n 1000000) ≡ b → cond b (Some n) None ≡ Some lines → HasFewLines lines
+    by true t e =
+        let same : n ≡ lines = cc in
+        let both = and_both _ _ t in
+        subst HasFewLines same (leb-true 1 n both.0, leb-true n 1000000 both.1)
+    by false t e = absurd (cc)
+
+script_few : (words : List (List ℕ)) (script : Generated) → script_of words ≡ Some script → HasFewLines script.lines
+script_few [] script e = absurd (cc)
+script_few (number ∷ []) script e = absurd (cc)
+script_few (number ∷ lines ∷ []) script e =
+    let n = made_by_then (λ (n : ℕ). option_map (λ (l : ℕ). (let s : Generated = record { number = n; lines = l } in s)) (line_count_of lines)) (number_of number) script e in
+    let l = made_by_map (λ (l : ℕ). (let s : Generated = record { number = n.value; lines = l } in s)) (line_count_of lines) script n.holds in
+    let counted = made_by_then if_lines (number_of lines) l.value l.is in
+    subst (λ (s : Generated). HasFewLines s.lines) l.holds (few_if counted.value l.value counted.holds)
+script_few (number ∷ lines ∷ word ∷ words) script e = absurd (cc)
+
+pub generate_few : (words : List (List ℕ)) (script : Generated) → asked_by words ≡ Some (asks.Generate script) → script.lines ≤ 1000000
+generate_few words script e = let generate = is_generate words script e in (script_few generate.rest script generate.script_is).1
+
+pub trial_few : (words : List (List ℕ)) (script : Generated) (frames : ℕ) → asked_by words ≡ Some (asks.Trial script frames) → script.lines ≤ 1000000
+trial_few words script frames e = let trial = is_trial words script frames e in (script_few (others_among false trial.rest) script trial.script_is).1
+
+-- what the code finds in the words of a trial
+
+pub is_some_map : {A B : Type 0} (f : A → B) (o : Option A) → is_some (option_map f o) ≡ is_some o
+is_some_map f None = refl
+is_some_map f (Some x) = refl
+
+pub trial_asks : {E : Type 0} (r : Result (Option Asked) E) (words others options : List (List ℕ)) → is_some (first_value (codes "--page") words) ≡ false → others ≡ others_among false words → options ≡ options_among false words
+    → IfOk r (λ asked. asked ≡ trial_of others options) → IfOk r (λ asked. asked ≡ trial_behind words)
+trial_asks (Err e) words others options none script rest h = tt
+trial_asks (Ok asked) words others options none script rest h =
+    h ∙ ap (λ (x : List (List ℕ)). trial_of x options) script ∙ ap (trial_of (others_among false words)) rest
+    ∙ sym (ap (λ (b : Bool). cond b None (trial_of (others_among false words) (options_among false words))) none)

@@ -1,0 +1,83 @@
+-- The lines that a number makes, one after another.
+use Rattle.std.proofs.Common.{◌≡◌, ◌+◌, ◌-◌, ◌≤◌, ℕ, List, [], ◌∷◌, ◌++◌, length, Option, Result, Ok, Err, sym, ap, subst, ◌∙◌, append-nil, append_assoc, zero-add, arith}
+use Rattle.std.specs.Prelude.{codes, option_map}
+use Rattle.std.specs.List.{flat_map}
+use Rattle.std.proofs.lemmas.List.{length-append}
+use Rattle.std.proofs.lemmas.List.Concat.{flat_map-append}
+use Rattle.actor_script.specs.Generator.{Position, lines_from}
+use Rattle.actor_script.specs.Writing.{Writes, WritesFront}
+use Rattle.actor_script.proofs.Generated.{lines_none}
+use Rattle.actor_script.proofs.Written.{front_more, front_then, writes_none, writes_then}
+use Rattle.replay.specs.Ending.{with_feeds}
+use Rattle.replay.specs.Waiting.{Grew}
+use Rattle.replay.proofs.Gathering.{short_of}
+
+-- From the beginning to here, these lines were given.
+pub record Gave (beginning here : Position) (given : List (List ℕ)) : Type 0 where
+  pub goes_on : (n : ℕ) → lines_from beginning (length given + n) ≡ given ++ lines_from here n
+
+pub gave_none : (at here : Position) → here ≡ at → Gave at here []
+gave_none at here same = record { goes_on = λ n. ap (lines_from at) (zero-add n) ∙ ap (λ (p : Position). lines_from p n) (sym same) }
+
+module _ (beginning here : Position) (given : List (List ℕ)) (h : Gave beginning here given) where
+  pub gave_more : (next : Position) (line : List ℕ) → ((n : ℕ) → lines_from here (n + 1) ≡ line ∷ lines_from next n) → Gave beginning next (given ++ line ∷ [])
+  gave_more next line one = record {
+    goes_on = λ n.
+        let many : length (given ++ line ∷ []) + n ≡ length given + (n + 1) = omega (arith, length-append given (line ∷ [])) in
+        ap (lines_from beginning) many ∙ h.goes_on (n + 1) ∙ ap (λ (lines : List (List ℕ)). given ++ lines) (one n) ∙ sym (append_assoc given (line ∷ []) (lines_from next n));
+  }
+
+  pub gave_all : (count : ℕ) → length given ≡ count → lines_from beginning count ≡ given
+  gave_all count size =
+      let many : count ≡ length given + 0 = omega (arith, size) in
+      ap (lines_from beginning) many ∙ h.goes_on 0 ∙ ap (λ (lines : List (List ℕ)). given ++ lines) (lines_none here) ∙ append-nil given
+
+  gave_rest : (count : ℕ) → length given ≤ count → lines_from beginning count ≡ given ++ lines_from here (count - length given)
+  gave_rest count few =
+      let many : count ≡ length given + (count - length given) = omega arith in
+      ap (lines_from beginning) many ∙ h.goes_on (count - length given)
+
+-- the lines that are given are written
+
+fed_line : (line : List ℕ) → with_feeds (line ∷ []) ≡ line ++ codes "\n"
+fed_line line = append-nil (line ++ codes "\n")
+
+feeds_more : (given : List (List ℕ)) (line : List ℕ) → with_feeds given ++ (line ++ codes "\n") ≡ with_feeds (given ++ line ∷ [])
+feeds_more given line =
+    ap (λ (text : List ℕ). with_feeds given ++ text) (sym (fed_line line)) ∙ sym (flat_map-append (λ (line : List ℕ). line ++ codes "\n") given (line ∷ []))
+
+-- So many lines were given and written, or gathered.
+pub record Written (beginning here : Position) (count : ℕ) (old new : Option (List ℕ)) : Type 0 where
+  pub given : List (List ℕ)
+  pub size : length given ≡ count
+  pub gave : Gave beginning here given
+  pub writes : Writes old new (with_feeds given)
+
+pub written_none : (at here : Position) (old new : Option (List ℕ)) → here ≡ at → new ≡ old → Written at here 0 old new
+written_none at here old new begun same = record { given = []; size = omega arith; gave = gave_none at here begun; writes = same ∙ writes_none old }
+
+module _ (beginning here : Position) (count : ℕ) (old new : Option (List ℕ)) (h : Written beginning here count old new) where
+  pub written_more : (next : Position) (line : List ℕ) (now : Option (List ℕ)) → ((n : ℕ) → lines_from here (n + 1) ≡ line ∷ lines_from next n) → Writes new now (line ++ codes "\n") → Written beginning next (count + 1) old now
+  written_more next line now one more = record {
+    given = h.given ++ line ∷ [];
+    size = omega (arith, h.size, length-append h.given (line ∷ []));
+    gave = gave_more beginning here h.given h.gave next line one;
+    writes = subst (Writes old now) (feeds_more h.given line) (writes_then old new now (with_feeds h.given) (line ++ codes "\n") h.writes more);
+  }
+
+  pub written_all : (total : ℕ) → count ≡ total → Writes old new (with_feeds (lines_from beginning total))
+  written_all total all = subst (λ (lines : List (List ℕ)). Writes old new (with_feeds lines)) (sym (gave_all beginning here h.given h.gave total (h.size ∙ all))) h.writes
+
+  -- a write failed at one more line
+  pub written_short : (next : Position) (line : List ℕ) (total : ℕ) (sink : Option (List ℕ)) (left : List ℕ) → count + 1 ≤ total → ((n : ℕ) → lines_from here (n + 1) ≡ line ∷ lines_from next n) → Grew old sink
+      → WritesFront new (option_map (λ given. given ++ left) sink) (line ++ codes "\n") → WritesFront old sink (with_feeds (lines_from beginning total))
+  written_short next line total sink left few one grew failed =
+      let given = h.given ++ line ∷ [] in
+      let size : length given ≡ count + 1 = omega (arith, h.size, length-append h.given (line ∷ [])) in
+      let behind = lines_from next (total - length given) in
+      let whole : with_feeds given ++ with_feeds behind ≡ with_feeds (lines_from beginning total) =
+      sym (flat_map-append (λ (line : List ℕ). line ++ codes "\n") given behind) ∙ ap with_feeds (sym (gave_rest beginning next given (gave_more beginning here h.given h.gave next line one) total (omega (arith, size, few)))) in
+      let now = option_map (λ given. given ++ left) sink in
+      short_of old sink left (with_feeds (lines_from beginning total)) grew
+      (subst (WritesFront old now) whole (front_more old now (with_feeds given) (with_feeds behind)
+      (subst (WritesFront old now) (feeds_more h.given line) (front_then old new now (with_feeds h.given) (line ++ codes "\n") h.writes failed))))

@@ -1,0 +1,72 @@
+-- What a trial promises, from how its lines are answered.
+use Rattle.std.proofs.Common.{◌≡◌, ℕ, map, Option, Some, None, sym, ap, subst, ◌∙◌, arith}
+use Rattle.std.specs.Prelude.{IsSomeAnd, Ok, Err}
+use Rattle.vm_ids.specs.Counting.{no_counts}
+use Rattle.vm_ids.specs.Held.{Segments}
+use Rattle.vm_ids.specs.Forest.Nodes.{no_forest}
+use Rattle.vm_ids.specs.Forest.Reading.{counts_of}
+use Rattle.vm_ids.specs.declared.command.Command.TheVariants.{Stat}
+use Rattle.vm_ids.specs.declared.numbers.TheConstants.{PAGE}
+use Rattle.vm_ids.specs.declared.reply.Counts.{Counts}
+use Rattle.vm_ids.specs.declared.reply.Reply.TheVariants as replies
+use Rattle.vm_model.specs.Answering.{Answer, Answered}
+use Rattle.vm_model.specs.Laws.{IsFollowed}
+use Rattle.vm_model.specs.Machine.{Machine, start}
+use Rattle.vm_model.specs.Outcome.{IsAlike, Outcome, OutcomeAt}
+use Rattle.vm_model.specs.PageForest.{PageForest}
+use Rattle.vm_model.specs.Run.{State}
+use Rattle.actor_script.specs.Forms.{command_of}
+use Rattle.replay.specs.Ending.{Scene, Summed, TrialEnds, lines_made}
+use Rattle.replay.specs.OneLine.{TellsCounts}
+use Rattle.replay.specs.declared.asked.Generated.{Generated}
+use Rattle.replay.specs.declared.status.Status.{Status}
+use Rattle.replay.proofs.Promise.{lines_formed, run_followed}
+
+-- the counts that a manager tells are those of its forest
+
+abbrev answered : Counts → Answer
+answered counts = Ok (replies.Stat counts)
+
+same_counts : (a b : Counts) → answered a ≡ answered b → a ≡ b
+same_counts a b e = cc
+
+counted : (m next : Machine) (f : PageForest) (counts : Counts) → (let all : Answered = record { answer = answered (counts_of f); next = m } in all) ≡ record { answer = answered counts; next = next } → counts_of f ≡ counts
+counted m next f counts e = same_counts (counts_of f) counts (ap (λ (x : Answered). x.answer) e)
+
+counts_at : (told : Option Segments) (m : Machine) (f : PageForest) (counts : Counts) → OutcomeAt told m (Some f) Stat (Ok (replies.Stat counts)) m no_counts → counts_of f ≡ counts
+counts_at (Some h) m f counts o = counted m m f counts o
+counts_at None m f counts o = by o.whole_answer o.alike o.outcome
+  where
+    by : (a : Answer) → IsAlike a (answered counts) → Outcome o.whole (Some f) Stat o.segments a o.whole_next no_counts → counts_of f ≡ counts
+    by (Err trouble) alike outcome = absurd (cc)
+    by (Ok replies.Done) alike outcome = absurd (cc)
+    by (Ok (replies.Actor actor)) alike outcome = absurd (cc)
+    by (Ok (replies.Cache cache)) alike outcome = absurd (cc)
+    by (Ok (replies.Region region)) alike outcome = absurd (cc)
+    by (Ok (replies.Bytes bytes)) alike outcome = absurd (cc)
+    by (Ok (replies.Status status)) alike outcome = absurd (cc)
+    by (Ok (replies.Chain items)) alike outcome = absurd (cc)
+    by (Ok (replies.Stat own)) alike outcome = counted o.whole o.whole_next f own outcome ∙ same_counts own counts alike
+
+pub counts_told : (s : State) (f : PageForest) (counts : Counts) → s.forest ≡ Some f → TellsCounts s counts → counts_of f ≡ counts
+counts_told s f counts shown tells = counts_at s.segments s.machine f counts (subst (λ (o : Option PageForest). OutcomeAt s.segments s.machine o Stat (Ok (replies.Stat counts)) s.machine no_counts) shown tells.outcome)
+
+-- from a trial that began with some machine and some forest, which were those of the start
+pub trial_ends : (status : Status) (script : Generated) (frames : ℕ) (old now : Machine → PageForest → Scene) (told : Option Segments) (m last : Machine) (f forest : PageForest) (counts : Counts)
+    → ((m : Machine) (f : PageForest) → (old m f).state ≡ record { machine = m; forest = Some f; segments = told })
+    → ((m : Machine) (f : PageForest) → ((now m f).state.machine ≡ m) × ((now m f).state.forest ≡ Some f))
+    → m ≡ start frames PAGE → f ≡ no_forest → TellsCounts (now last forest).state counts → Summed status (old m f) (now last forest) (map command_of (lines_made script)) counts → TrialEnds status script frames old now
+trial_ends status script frames old now told m last f forest counts old_is now_is machine_is forest_is tells summed =
+    let begun = start frames PAGE in
+    let reads = map command_of (lines_made script) in
+    let from : Summed status (old begun no_forest) (now last forest) reads counts =
+    subst (λ (x : Machine). Summed status (old x no_forest) (now last forest) reads counts) machine_is (subst (λ (x : PageForest). Summed status (old m x) (now last forest) reads counts) forest_is summed) in
+    let followed : IsSomeAnd (now last forest).state.forest (IsFollowed (now last forest).state.machine) =
+    run_followed (old begun no_forest) frames PAGE (omega arith) told (old_is _ _) reads from.steps (now last forest).state (lines_formed (lines_made script)) from.runs in
+    let by_forest : IsSomeAnd (Some forest) (IsFollowed (now last forest).state.machine) = subst (λ (o : Option PageForest). IsSomeAnd o (IsFollowed (now last forest).state.machine)) (now_is last forest).1 followed in
+    record {
+      last = last;
+      forest = forest;
+      summed = subst (Summed status (old begun no_forest) (now last forest) reads) (sym (counts_told (now last forest).state forest counts (now_is last forest).1 tells)) from;
+      followed = subst (λ (x : Machine). IsFollowed x forest) (now_is last forest).0 by_forest;
+    }
