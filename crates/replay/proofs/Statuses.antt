@@ -1,5 +1,5 @@
 -- What a text that was to be written says of the status.
-use Rattle.std.proofs.Common.{◌≡◌, ◌<◌, ℕ, List, Option, Result, Ok, Err, refl, arith, inl}
+use Rattle.std.proofs.Common.{◌≡◌, ◌<◌, ℕ, List, Option, Result, Ok, Err, refl, arith, inl, inr}
 use Rattle.std.specs.Prelude.{◌⊎◌}
 use Rattle.vm_ids.specs.Counting.{Rose, last_count}
 use Rattle.actor_script.specs.Writing.{Wrote}
@@ -41,6 +41,10 @@ module _ (a b : Option (List ℕ)) (text : List ℕ) where
   not_too_long statuses.SourceFault h e = h
   not_too_long statuses.NoMemory h e = h
   not_too_long statuses.TooLong h e = h
+
+  pub not_untouched : (status : Status) → WritesAs status a b text → (status ≡ statuses.Usage) ⊎ (status ≡ statuses.NoMemory) → ⊥
+  not_untouched status h (inl e) = not_usage status h e
+  not_untouched status h (inr e) = not_no_memory status h e
 
   -- where no write fails it is done
   pub all_written : (status : Status) (faults faults_now : ℕ) → WritesAs status a b text → (status ≡ statuses.SinkFault → Rose faults faults_now) → faults_now ≡ faults → faults_now < last_count

@@ -4,7 +4,8 @@ use Rattle.replay.specs.Commanding.{asked_by}
 use Rattle.replay.specs.declared.asked.Asked.TheVariants as asks
 use Rattle.replay.specs.Ending.{scene_with}
 use Rattle.replay.proofs.CommandLine.Kinds.{run_bounds, run_page, trial_bounds, trial_few, trial_page}
-use Rattle.replay.proofs.Promise.{as_asked, asked_holds, complete, fits_start, limited, live_start, run_ends}
+use Rattle.replay.proofs.Promise.{as_asked, asked_holds, complete, fits_start, limited, limited_same, live_start, run_ends}
+use Rattle.replay.proofs.Statuses.{all_written, not_too_long, not_untouched}
 use Rattle.replay.proofs.Trials.{trial_ends}
 use Rattle.replay.proofs.top.run.Goals as goal
 
@@ -88,3 +89,12 @@ returns-in-Ok-new-clause-ends g c = λ some.
     as_asked (asks.Trial c.in-Trial.script c.in-Trial.frames) _ _ (sym (ap Some c.in-Trial.is) ∙ sym c.in-Ok-Some.field-0-is ∙ c.in-Ok-Some.ensures)
     (trial_ends c.trial.result c.in-Trial.script c.in-Trial.frames (scene_with M c.args.mapper.now (K.written c.args.sink.now)) (scene_with M c.trial.new.mapper (K.written c.trial.new.sink))
     (segments_of told) _ _ _ _ ends.0 (λ m f. refl) (λ m f. (refl, refl)) (c.in-Ok-new.ensures.machine told) (c.in-Ok-new.ensures.forest told) ends.1 ends.2)
+
+pub returns-in-Ok-new-clause-too_long_exactly : goal.returns-in-Ok-new-clause-too_long_exactly
+returns-in-Ok-new-clause-too_long_exactly g c = limited_same _ _ (not_too_long _ _ _ c.trial.result c.trial.ensures.ends.2.writes)
+
+pub returns-in-Ok-new-clause-untouched : goal.returns-in-Ok-new-clause-untouched
+returns-in-Ok-new-clause-untouched g c = λ why. absurd (not_untouched _ _ _ c.trial.result c.trial.ensures.ends.2.writes why)
+
+pub returns-in-Ok-new-clause-complete : goal.returns-in-Ok-new-clause-complete
+returns-in-Ok-new-clause-complete g c = λ asked reads readable writes writable. all_written _ _ _ c.trial.result _ _ c.trial.ensures.ends.2.writes c.trial.ensures.sink_fault writes writable
