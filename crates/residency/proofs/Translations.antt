@@ -1,0 +1,3 @@
+-- Which translations stay.
+pub mod Dropped
+pub mod Lost
