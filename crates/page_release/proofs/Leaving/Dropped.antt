@@ -1,5 +1,5 @@
 -- A node lost its own page: its frame or its slot is given back.
-use Rattle.std.proofs.Common.{◌≡◌, ◌≢◌, ℕ, ◌+◌, ◌<◌, ◌==◌, Bool, true, false, List, [], length, get_or, set, Option, Some, None, refl, sym, ap, ◌∙◌, subst, arith, inl, inr, length-set}
+use Rattle.std.proofs.Common.{◌*◌, ◌≡◌, ◌≢◌, ℕ, ◌+◌, ◌<◌, ◌==◌, Bool, true, false, List, [], length, get_or, set, Option, Some, None, refl, sym, ap, ◌∙◌, subst, arith, inl, inr, length-set}
 use Rattle.std.specs.Prelude.{MatchOption}
 use Rattle.vm_ids.specs.declared.numbers.FrameId.{FrameId}
 use Rattle.std.specs.List.{count_by}
@@ -114,6 +114,7 @@ module _ (w : World) (b : Arena) (n : NodeId) (tied : IsTied w) (lost : HasLost 
         bytes_frames = tied.fitted.bytes_frames ∙ sym (length-set w.frames.held f false);
         pinned_frames = tied.fitted.pinned_frames ∙ sym (length-set w.frames.held f false);
         marks_frames = tied.fitted.marks_frames ∙ sym (length-set w.frames.held f false);
+        places_frames = tied.fitted.places_frames ∙ ap (λ (k : ℕ). 4 * k) (sym (length-set w.frames.held f false));
         few = omega (arith, length-set w.frames.held f false, tied.fitted.few);
         page = tied.fitted.page;
       };

@@ -154,6 +154,7 @@ module _ (w : World) (b : Arena) (from to : NodeId) (tied : IsTied w) (went : We
         bytes_frames = tied.fitted.bytes_frames;
         pinned_frames = tied.fitted.pinned_frames;
         marks_frames = tied.fitted.marks_frames;
+        places_frames = tied.fitted.places_frames;
         few = tied.fitted.few;
         page = tied.fitted.page;
       };

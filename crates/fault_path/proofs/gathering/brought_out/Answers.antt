@@ -1,4 +1,4 @@
-use Rattle.std.proofs.Common.{sym, ap, ◌∙◌, ◌≡◌, ◌<◌, arith, length, Some, ℕ}
+use Rattle.std.proofs.Common.{sym, ap, ◌∙◌, ◌≡◌, ◌<◌, arith, length, Some, ℕ, ◌||◌}
 use Rattle.global_map.specs.Pairs.{node_of}
 use Rattle.residency.specs.declared.store.Store.{Store}
 use Rattle.residency.specs.World.{World, world}
@@ -9,6 +9,10 @@ use Rattle.local_cache.specs.declared.own_state.OwnState.{OwnState}
 use Rattle.local_cache.specs.Own.{own_of}
 use Rattle.residency.specs.Causes.{frames_to_bring}
 use Rattle.fault_path.proofs.Calls.Costs.{brought_more, brought_taken, failed_most, most_more, pulls_most, taken_then}
+use Rattle.fault_path.proofs.Translations.Steps.{after_drops, brought_comes}
+use Rattle.fault_path.proofs.Translations.Combined.{comes_more, comes_then, drops_only, nobody_more}
+use Rattle.residency.specs.Translating.{nothing_else}
+use Rattle.fault_path.specs.Translating.{Comes, is_away, nobody}
 use Rattle.fault_path.proofs.gathering.brought_out.Goals as goal
 
 pub returns-clause-copied : goal.returns-clause-copied
@@ -77,3 +81,31 @@ pub returns-in_default-clause-told : goal.returns-in_default-clause-told
 returns-in_default-clause-told g c =
     let b = c.in_ok-home.ensures in
     tells_then _ _ b.still.stays _ _ _ _ c.double.ensures.later b.told c.double.ensures.told
+
+pub returns-clause-tables : goal.returns-clause-tables
+returns-clause-tables g c =
+    drops_only c.args.store.now c.bring_in.new.self c.double.new.store (after_drops nothing_else c.args.store.now c.bring_in.new.self c.bring_in.ensures.tables) c.double.ensures.tables c.double.ensures.comes
+
+pub returns-clause-comes : goal.returns-clause-comes
+returns-clause-comes g c =
+    let own : OwnState = own_of c.args.caches.now c.args.node in
+    let brought : Comes (is_away c.args.node own) c.args.store.now.map c.bring_in.new.self.map = brought_comes c.args.store.now.map c.bring_in.new.self.map c.args.node (own_of c.args.caches.now c.args.node) (λ f s d. (c.bring_in.ensures.others.frames f s d).node) (λ r. ap (λ (s : Store). s.map) (c.bring_in.ensures.idle r).1) in
+    comes_more (λ k. is_away c.args.node own k || nobody k) (is_away c.args.node own) c.args.store.now.map c.double.new.store.map (λ k h. nobody_more (is_away c.args.node own k) h)
+    (comes_then (is_away c.args.node own) nobody c.args.store.now.map c.bring_in.new.self.map c.double.new.store.map brought c.double.ensures.comes)
+
+pub returns-in_default-clause-tables : goal.returns-in_default-clause-tables
+returns-in_default-clause-tables g c =
+    drops_only c.args.store.now c.bring_in.new.self c.double.new.store (after_drops nothing_else c.args.store.now c.bring_in.new.self c.bring_in.ensures.tables) c.double.ensures.tables c.double.ensures.comes
+
+pub returns-in_default-clause-comes : goal.returns-in_default-clause-comes
+returns-in_default-clause-comes g c =
+    let own : OwnState = own_of c.args.caches.now c.args.node in
+    let brought : Comes (is_away c.args.node own) c.args.store.now.map c.bring_in.new.self.map = brought_comes c.args.store.now.map c.bring_in.new.self.map c.args.node (own_of c.args.caches.now c.args.node) (λ f s d. (c.bring_in.ensures.others.frames f s d).node) (λ r. ap (λ (s : Store). s.map) (c.bring_in.ensures.idle r).1) in
+    comes_more (λ k. is_away c.args.node own k || nobody k) (is_away c.args.node own) c.args.store.now.map c.double.new.store.map (λ k h. nobody_more (is_away c.args.node own k) h)
+    (comes_then (is_away c.args.node own) nobody c.args.store.now.map c.bring_in.new.self.map c.double.new.store.map brought c.double.ensures.comes)
+
+pub returns-in_err-home-clause-tables : goal.returns-in_err-home-clause-tables
+returns-in_err-home-clause-tables g c = after_drops nothing_else c.args.store.now c.bring_in.new.self c.bring_in.ensures.tables
+
+pub returns-in_err-home-clause-comes : goal.returns-in_err-home-clause-comes
+returns-in_err-home-clause-comes g c = brought_comes c.args.store.now.map c.bring_in.new.self.map c.args.node (own_of c.args.caches.now c.args.node) (λ f s d. (c.bring_in.ensures.others.frames f s d).node) (λ r. ap (λ (s : Store). s.map) (c.bring_in.ensures.idle r).1)

@@ -7,6 +7,9 @@ use Rattle.residency.specs.Causes.{pushes_for}
 use Rattle.fault_path.specs.Costs.{frames_to_copy, free_count, pulls_to_copy}
 use Rattle.residency.proofs.Worlds.Arms.{on_ok, on_ok_then}
 use Rattle.fault_path.proofs.Calls.Costs.{pulls_is, pulls_most, pushes_free}
+use Rattle.fault_path.proofs.Translations.Combined.{comes_more}
+use Rattle.fault_path.specs.Translating.{is_away, nobody}
+use Rattle.std.proofs.lemmas.Bool.{false≢true}
 use Rattle.fault_path.proofs.gathering.copy_out.Goals as goal
 
 pub returns-in-Zero-clause-held : goal.returns-in-Zero-clause-held
@@ -31,3 +34,7 @@ returns-in-Zero-clause-most g c =
     let zero : own ≡ Zero = sym c.own_state.ensures ∙ c.in-Zero.is in
     let one : frames_to_copy own ≡ 1 = ap frames_to_copy zero in
     pulls_most _ _ _ _ _ _ c.zeroed.ensures.made (omega arith) (omega (arith, one, pushes_free c.args.store.now.frames.held))
+
+pub returns-in-Zero-clause-comes : goal.returns-in-Zero-clause-comes
+returns-in-Zero-clause-comes g c =
+    comes_more nobody (is_away c.args.node (own_of c.args.caches.now c.args.node)) c.args.store.now.map c.zeroed.new.store.map (λ k h. absurd (false≢true h)) c.zeroed.ensures.comes

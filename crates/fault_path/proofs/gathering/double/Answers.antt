@@ -1,9 +1,12 @@
-use Rattle.std.proofs.Common.{sym, subst, rules}
+use Rattle.std.proofs.Common.{sym, subst, rules, refl, ap}
 use Rattle.frame_pool.specs.Pool.{bytes_of}
 use Rattle.residency.specs.declared.store.Store.{Store}
 use Rattle.residency.specs.World.{World, world}
 use Rattle.fault_path.specs.Gathering.{IsGathered}
 use Rattle.fault_path.proofs.Frames.GatheredFrames.{filled_gathered}
+use Rattle.fault_path.proofs.Translations.Combined.{drops_by}
+use Rattle.residency.specs.Translating.{nothing_else}
+use Rattle.fault_path.specs.Translating.{Comes, nobody}
 use Rattle.fault_path.proofs.gathering.double.Goals as goal
 
 pub returns-clause-doubled : goal.returns-clause-doubled
@@ -19,3 +22,10 @@ returns-clause-doubled g c =
       stays = search rules;
       bytes = search rules;
     }
+
+pub returns-clause-tables : goal.returns-clause-tables
+returns-clause-tables g c =
+    drops_by nothing_else c.args.store.now c.make_free_beside.new.store c.args.store.now c.copy.new.self refl refl (ap (λ (s : Store). s.map) c.copy.ensures) (ap (λ (s : Store). s.tables) c.copy.ensures) c.make_free_beside.ensures.tables
+
+pub returns-clause-comes : goal.returns-clause-comes
+returns-clause-comes g c = subst (λ (s : Store). Comes nobody c.args.store.now.map s.map) (sym c.copy.ensures) c.make_free_beside.ensures.comes

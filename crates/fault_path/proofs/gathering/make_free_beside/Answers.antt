@@ -7,6 +7,9 @@ use Rattle.residency.proofs.Worlds.After.{pin_set}
 use Rattle.fault_path.specs.Gathering.{IsGathered, NoneGathered}
 use Rattle.residency.proofs.Worlds.Arms.{if_ok, on_err_then}
 use Rattle.fault_path.proofs.Frames.GatheredFrames.{beside_gathered, beside_none, beside_told}
+use Rattle.fault_path.proofs.Translations.Steps.{after_drops, left_comes}
+use Rattle.residency.specs.Translating.{TablesAfter, nothing_else}
+use Rattle.fault_path.specs.Translating.{Comes, nobody}
 use Rattle.fault_path.proofs.gathering.make_free_beside.Goals as goal
 
 pub returns-clause-gathered : goal.returns-clause-gathered
@@ -49,3 +52,19 @@ returns-clause-told g c =
     let first : TellsOn (pin_set old c.args.frame.0 true) w (g.M.Mapper.counts c.args.mapper.now) (g.M.Mapper.counts c.make_free-fresh.new.mapper) = subst (λ (s : Store). TellsOn (pinned s) w (g.M.Mapper.counts c.args.mapper.now) (g.M.Mapper.counts c.make_free-fresh.new.mapper)) c.pin.ensures c.make_free-fresh.ensures.told in
     subst (λ (s : Store). TellsOn old (world told size c.make_free-fresh.new.caches s) (g.M.Mapper.counts c.args.mapper.now) (g.M.Mapper.counts c.make_free-fresh.new.mapper)) (sym c.unpin.ensures)
     (beside_told old w c.args.frame.0 c.requires.right c.requires.held loose still _ _ c.make_free-fresh.ensures.later first)
+
+pub returns-then-is_pinned-clause-tables : goal.returns-then-is_pinned-clause-tables
+returns-then-is_pinned-clause-tables g c = after_drops nothing_else c.args.store.now c.make_free.new.self c.make_free.ensures.tables
+
+pub returns-then-is_pinned-clause-comes : goal.returns-then-is_pinned-clause-comes
+returns-then-is_pinned-clause-comes g c = left_comes c.args.store.now.map c.make_free.new.self.map (λ f s. (c.make_free.ensures.others.frames f s).node)
+
+pub returns-clause-tables : goal.returns-clause-tables
+returns-clause-tables g c =
+    after_drops nothing_else c.args.store.now c.unpin.new.self (subst (λ (s : Store). TablesAfter nothing_else c.args.store.now s) (sym c.unpin.ensures)
+    (subst (λ (s : Store). TablesAfter nothing_else s c.make_free-fresh.new.self) c.pin.ensures c.make_free-fresh.ensures.tables))
+
+pub returns-clause-comes : goal.returns-clause-comes
+returns-clause-comes g c =
+    subst (λ (s : Store). Comes nobody c.args.store.now.map s.map) (sym c.unpin.ensures)
+    (subst (λ (s : Store). Comes nobody s.map c.make_free-fresh.new.self.map) c.pin.ensures (left_comes c.pin.new.self.map c.make_free-fresh.new.self.map (λ f s. (c.make_free-fresh.ensures.others.frames f s).node)))

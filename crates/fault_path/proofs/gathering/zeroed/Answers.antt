@@ -1,10 +1,14 @@
-use Rattle.std.proofs.Common.{sym, ap, subst, ◌∙◌, ◌≡◌, true, false, replicate, rules}
+use Rattle.std.proofs.Common.{sym, ap, subst, ◌∙◌, ◌≡◌, true, false, replicate, rules, refl}
 use Rattle.local_cache.specs.Own.{is_resident}
 use Rattle.residency.specs.declared.store.Store.{Store}
 use Rattle.residency.specs.World.{World, world}
 use Rattle.residency.proofs.Worlds.Homes.{home}
 use Rattle.fault_path.specs.Gathering.{IsGathered}
 use Rattle.fault_path.proofs.Frames.GatheredFrames.{bound_below, filled_gathered, free_gathered}
+use Rattle.fault_path.proofs.Translations.Combined.{drops_by}
+use Rattle.fault_path.proofs.Translations.Steps.{after_drops, left_comes}
+use Rattle.residency.specs.Translating.{nothing_else}
+use Rattle.fault_path.specs.Translating.{Comes, nobody}
 use Rattle.fault_path.proofs.gathering.zeroed.Goals as goal
 
 pub returns-clause-copied : goal.returns-clause-copied
@@ -22,3 +26,18 @@ returns-clause-copied g c =
           let no : true ≡ false = sym here.resident ∙ ap is_resident c.requires.zero in
           cc no);
     }
+
+pub returns-clause-tables : goal.returns-clause-tables
+returns-clause-tables g c =
+    drops_by nothing_else c.args.store.now c.make_free.new.self c.args.store.now c.zero.new.self refl refl (ap (λ (s : Store). s.map) c.zero.ensures) (ap (λ (s : Store). s.tables) c.zero.ensures)
+    (after_drops nothing_else c.args.store.now c.make_free.new.self c.make_free.ensures.tables)
+
+pub returns-clause-comes : goal.returns-clause-comes
+returns-clause-comes g c =
+    subst (λ (s : Store). Comes nobody c.args.store.now.map s.map) (sym c.zero.ensures) (left_comes c.args.store.now.map c.make_free.new.self.map (λ f s. (c.make_free.ensures.others.frames f s).node))
+
+pub returns-in_default-clause-tables : goal.returns-in_default-clause-tables
+returns-in_default-clause-tables g c = after_drops nothing_else c.args.store.now c.make_free.new.self c.make_free.ensures.tables
+
+pub returns-in_default-clause-comes : goal.returns-in_default-clause-comes
+returns-in_default-clause-comes g c = left_comes c.args.store.now.map c.make_free.new.self.map (λ f s. (c.make_free.ensures.others.frames f s).node)

@@ -1,4 +1,4 @@
-use Rattle.std.proofs.Common.{sym, ap, subst, ◌∙◌, ◌≡◌, ◌+◌, ◌-◌, ◌≤◌, true, false, Some, Ok, Err}
+use Rattle.std.proofs.Common.{sym, ap, subst, ◌∙◌, ◌≡◌, ◌+◌, ◌-◌, ◌≤◌, true, false, Some, Ok, Err, refl}
 use Rattle.std.proofs.lemmas.Bool.{false≢true}
 use Rattle.vm_ids.specs.declared.numbers.FrameId.{FrameId}
 use Rattle.vm_ids.specs.declared.numbers.NodeId.{NodeId}
@@ -10,6 +10,7 @@ use Rattle.residency.proofs.Forests.StillForest.{still_forest}
 use Rattle.fault_path.specs.Faults.{IsOwner, is_at_hand, is_zero}
 use Rattle.fault_path.proofs.Calls.Answered.{still_answered}
 use Rattle.fault_path.proofs.Pages.FoundPage.{found_frame, found_zero, owner_same, resident_is, zero_is}
+use Rattle.residency.proofs.Translations.Lost.{tables_same}
 use Rattle.fault_path.proofs.reading.read_fault.Goals as goal
 
 pub returns-then-is_zero-clause-frame : goal.returns-then-is_zero-clause-frame
@@ -152,3 +153,6 @@ returns-then-is_zero-clause-few g c =
     let owner : IsOwner c.args.caches.now c.args.node it = record { held = c.owner_of-owner.ensures.held; name = c.owner_of-owner.ensures.owner } in
     let zero : is_zero (own_of c.args.caches.now it) ≡ true = sym c.is_zero.ensures ∙ c.if-is_zero.true in
     λ o is out. absurd (false≢true (sym out ∙ ap (λ (m : NodeId). is_zero (own_of c.args.caches.now m)) (owner_same c.args.caches.now c.requires.right.sound c.args.node o it is owner) ∙ zero))
+
+pub returns-then-is_zero-clause-tables : goal.returns-then-is_zero-clause-tables
+returns-then-is_zero-clause-tables g c = tables_same c.args.store.now c.args.store.now refl refl

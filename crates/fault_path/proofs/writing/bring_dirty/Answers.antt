@@ -19,6 +19,8 @@ use Rattle.local_cache.specs.declared.own_state.OwnState.{OwnState}
 use Rattle.fault_path.proofs.Calls.Costs.{bring_most, brought_made, copy_most, failed_most, most_more, pulls_most}
 use Rattle.fault_path.proofs.Calls.Answered.{still_answered, still_missed_by}
 use Rattle.residency.proofs.Pushes.Told.{tells_as}
+use Rattle.fault_path.proofs.Translations.Steps.{after_drops}
+use Rattle.residency.specs.Translating.{nothing_else}
 use Rattle.fault_path.proofs.writing.bring_dirty.Goals as goal
 
 pub returns-in_err-frame-clause-answered : goal.returns-in_err-frame-clause-answered
@@ -92,3 +94,9 @@ returns-in_err-frame-clause-most g c =
     let bounds = copy_most own in
     let e = c.in_err-frame.ensures in
     most_more _ _ _ _ _ _ (failed_most own c.args.store.now.frames _ _ _ _ e.made e.few) bounds.0 (omega (arith, bring_most own))
+
+pub returns-clause-tables : goal.returns-clause-tables
+returns-clause-tables g c = after_drops nothing_else c.args.store.now c.bring_in.new.self c.bring_in.ensures.tables
+
+pub returns-in_err-frame-clause-tables : goal.returns-in_err-frame-clause-tables
+returns-in_err-frame-clause-tables g c = after_drops nothing_else c.args.store.now c.bring_in.new.self c.bring_in.ensures.tables

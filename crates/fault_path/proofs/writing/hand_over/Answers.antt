@@ -1,4 +1,4 @@
-use Rattle.std.proofs.Common.{refl, sym, ap, subst, ◌∙◌, rules}
+use Rattle.std.proofs.Common.{refl, sym, ap, subst, ◌∙◌, rules, ◌<◌, ◌==◌, ◌||◌, length, arith}
 use Rattle.residency.specs.declared.store.Store.{Store}
 use Rattle.residency.specs.StoreForest.{store_forest}
 use Rattle.residency.specs.World.{World, world}
@@ -10,6 +10,12 @@ use Rattle.fault_path.proofs.Rules.OneFrameForest.{hand_forest, hand_kept}
 use Rattle.fault_path.proofs.Rules.OneFrameForest.{hand_copies}
 use Rattle.fault_path.proofs.Calls.Answered.{still_answered, still_missed_by}
 use Rattle.residency.proofs.Pushes.Told.{tells_as}
+use Rattle.fault_path.proofs.Translations.Steps.{settled_comes, settled_drops}
+use Rattle.fault_path.proofs.Translations.Combined.{comes_then, drops_on, only_one, or_left}
+use Rattle.residency.specs.Translating.{nothing_else}
+use Rattle.fault_path.specs.Translating.{is_away}
+use Rattle.local_cache.specs.Own.{own_of}
+use Rattle.fault_path.proofs.Translations.Combined.{comes_more}
 use Rattle.fault_path.proofs.writing.hand_over.Goals as goal
 
 pub returns-in_err-frame-clause-answered : goal.returns-in_err-frame-clause-answered
@@ -78,3 +84,26 @@ returns-clause-copies g c =
     let k = c.in_ok-frame.ensures.copied.gathered in
     hand_copies old w c.in_ok-frame.frame.0 k.still k.taken c.requires.right.sound c.requires.right.shaped c.args.node c.args.next c.requires.own.node (has_own old c.args.node c.requires.own.own_page) c.requires.next c.requires.is
     (heir_absent c.args.caches.now c.requires.right.sound _ c.args.next c.requires.next c.requires.is) c.in_ok-frame.ensures.copied.page c.hand_page.new.caches c.hand_page.ensures
+
+pub returns-clause-tables : goal.returns-clause-tables
+returns-clause-tables g c =
+    let old : World = world (g.M.Mapper.held c.args.mapper.now) (g.M.Mapper.page_bytes c.args.mapper.now) c.args.caches.now c.args.store.now in
+    let k = c.in_ok-frame.ensures.copied.gathered in
+    let within : c.in_ok-frame.frame.0 < length c.copy_out.new.store.map = omega (arith, k.taken.within, k.still.stays.right.tied.fitted.map_frames) in
+    let map = ap (λ (s : Store). s.map) c.settle_in.ensures in
+    drops_on (λ number. number == c.args.next.0) c.args.store.now c.copy_out.new.store c.settle_in.new.store c.copy_out.ensures.tables
+    (settled_drops c.copy_out.new.store c.settle_in.new.store c.in_ok-frame.frame.0 c.args.next k.taken.unbound map (ap (λ (s : Store). s.tables) c.settle_in.ensures))
+    (settled_comes c.copy_out.new.store.map c.settle_in.new.store.map c.in_ok-frame.frame.0 c.args.next within map)
+    (only_one c.args.store.now.map c.args.next (unbound old c.requires.right.store c.args.next (heir_absent c.args.caches.now c.requires.right.sound _ c.args.next c.requires.next c.requires.is)))
+
+pub returns-clause-comes : goal.returns-clause-comes
+returns-clause-comes g c =
+    let k = c.in_ok-frame.ensures.copied.gathered in
+    let within : c.in_ok-frame.frame.0 < length c.copy_out.new.store.map = omega (arith, k.taken.within, k.still.stays.right.tied.fitted.map_frames) in
+    comes_then (is_away c.args.node (own_of c.args.caches.now c.args.node)) (λ number. number == c.args.next.0) c.args.store.now.map c.copy_out.new.store.map c.settle_in.new.store.map c.copy_out.ensures.comes
+    (settled_comes c.copy_out.new.store.map c.settle_in.new.store.map c.in_ok-frame.frame.0 c.args.next within (ap (λ (s : Store). s.map) c.settle_in.ensures))
+
+pub returns-in_err-frame-clause-comes : goal.returns-in_err-frame-clause-comes
+returns-in_err-frame-clause-comes g c =
+    let own = own_of c.args.caches.now c.args.node in
+    comes_more (is_away c.args.node own) (λ k. is_away c.args.node own k || (k == c.args.next.0)) c.args.store.now.map c.copy_out.new.store.map (λ k h. or_left (is_away c.args.node own k) (k == c.args.next.0) h) c.copy_out.ensures.comes

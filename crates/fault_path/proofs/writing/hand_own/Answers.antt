@@ -1,4 +1,4 @@
-use Rattle.std.proofs.Common.{sym, ap, subst, ◌∙◌, ◌≡◌, ◌+◌, arith, Some, refl, rules}
+use Rattle.std.proofs.Common.{sym, ap, subst, ◌∙◌, ◌≡◌, ◌+◌, arith, Some, refl, rules, ◌==◌, ◌&&◌, Bool, not}
 use Rattle.local_cache.specs.Arena.{Arena, HasNode}
 use Rattle.local_cache.specs.Own.{own_of}
 use Rattle.local_cache.proofs.Nodes.OwnStates.{own_same}
@@ -9,14 +9,14 @@ use Rattle.residency.proofs.Worlds.After.{held_stays}
 use Rattle.residency.proofs.Worlds.Homes.{home}
 use Rattle.residency.proofs.Forests.StillForest.{still_caches_sound, still_forest, still_like}
 use Rattle.vm_ids.specs.Forest.Rules.{heir_gets}
-use Rattle.global_map.specs.Pairs.{node_of}
+use Rattle.global_map.specs.Pairs.{node_of, bound_times}
 use Rattle.local_cache.specs.Reading.{name_of}
 use Rattle.fault_path.specs.Faults.{Kept}
 use Rattle.fault_path.proofs.Pages.DirtyPage.{dirtied, dirty_still, may_like}
 use Rattle.fault_path.proofs.Calls.Kept.{still_kept, still_shaped}
 use Rattle.fault_path.proofs.Rules.ReadyForest.{handed_ready}
 use Rattle.fault_path.proofs.Frames.GatheredFrames.{bound_below}
-use Rattle.fault_path.proofs.Rules.Heirs.{still_heir}
+use Rattle.fault_path.proofs.Rules.Heirs.{still_heir, heir_absent, unbound}
 use Rattle.fault_path.proofs.Frames.TwoFrames.{kept_then}
 use Rattle.local_cache.proofs.Changes.SameNodes.{copies-put}
 use Rattle.residency.proofs.Forests.StillForest.{still_copies}
@@ -26,6 +26,10 @@ use Rattle.fault_path.proofs.Calls.Costs.{bring_most, brought_made, brought_more
 use Rattle.residency.proofs.Worlds.Composed.{still_then}
 use Rattle.fault_path.proofs.Calls.Answered.{answered_then, cause_then, later_then, still_answered, still_missed_by}
 use Rattle.residency.proofs.Pushes.Told.{tells_as, tells_then}
+use Rattle.fault_path.proofs.Translations.Steps.{after_drops}
+use Rattle.fault_path.proofs.Translations.Combined.{drops_on, only_one, or_else}
+use Rattle.residency.specs.Translating.{nothing_else}
+use Rattle.fault_path.specs.Translating.{is_away, is_away_or}
 use Rattle.fault_path.proofs.writing.hand_own.Goals as goal
 
 pub returns-in_err-frame-clause-answered : goal.returns-in_err-frame-clause-answered
@@ -188,3 +192,26 @@ returns-in_err-frame-clause-most g c =
     let bounds = copy_most own in
     let e = c.in_err-frame.ensures in
     most_more _ _ _ _ _ _ (failed_most own c.args.store.now.frames _ _ _ _ e.made e.few) bounds.0 (omega (arith, bring_most own))
+
+pub returns-clause-tables : goal.returns-clause-tables
+returns-clause-tables g c =
+    let old : World = world (g.M.Mapper.held c.args.mapper.now) (g.M.Mapper.page_bytes c.args.mapper.now) c.args.caches.now c.args.store.now in
+    let w : World = world (g.M.Mapper.held c.bring_in.new.mapper) (g.M.Mapper.page_bytes c.bring_in.new.mapper) c.bring_in.new.caches c.bring_in.new.self in
+    let b = c.in_ok-frame.ensures in
+    let at = home w c.in_ok-frame.frame.0 c.args.node b.still.stays.right b.home.0 b.home.1 in
+    let free : bound_times c.args.store.now.map c.args.next.0 ≡ 0 = unbound old c.requires.right.store c.args.next (heir_absent c.args.caches.now c.requires.right.sound _ c.args.next c.requires.next c.requires.is) in
+    drops_on (is_away_or c.args.node (own_of c.bring_in.new.caches c.args.node) c.args.next) c.args.store.now c.bring_in.new.self c.hand_over.new.store (after_drops nothing_else c.args.store.now c.bring_in.new.self c.bring_in.ensures.tables) c.hand_over.ensures.tables c.hand_over.ensures.comes
+    (λ n e. only_one c.args.store.now.map c.args.next free n (or_else (is_away c.args.node (own_of c.bring_in.new.caches c.args.node) n.0) (n.0 == c.args.next.0) (ap (λ (r : Bool). not r && (n.0 == c.args.node.0)) at.resident) e))
+
+pub returns-in_err-hand_over-clause-tables : goal.returns-in_err-hand_over-clause-tables
+returns-in_err-hand_over-clause-tables g c =
+    let old : World = world (g.M.Mapper.held c.args.mapper.now) (g.M.Mapper.page_bytes c.args.mapper.now) c.args.caches.now c.args.store.now in
+    let w : World = world (g.M.Mapper.held c.bring_in.new.mapper) (g.M.Mapper.page_bytes c.bring_in.new.mapper) c.bring_in.new.caches c.bring_in.new.self in
+    let b = c.in_ok-frame.ensures in
+    let at = home w c.in_ok-frame.frame.0 c.args.node b.still.stays.right b.home.0 b.home.1 in
+    let free : bound_times c.args.store.now.map c.args.next.0 ≡ 0 = unbound old c.requires.right.store c.args.next (heir_absent c.args.caches.now c.requires.right.sound _ c.args.next c.requires.next c.requires.is) in
+    drops_on (is_away_or c.args.node (own_of c.bring_in.new.caches c.args.node) c.args.next) c.args.store.now c.bring_in.new.self c.hand_over.new.store (after_drops nothing_else c.args.store.now c.bring_in.new.self c.bring_in.ensures.tables) c.hand_over.ensures.tables c.hand_over.ensures.comes
+    (λ n e. only_one c.args.store.now.map c.args.next free n (or_else (is_away c.args.node (own_of c.bring_in.new.caches c.args.node) n.0) (n.0 == c.args.next.0) (ap (λ (r : Bool). not r && (n.0 == c.args.node.0)) at.resident) e))
+
+pub returns-in_err-frame-clause-tables : goal.returns-in_err-frame-clause-tables
+returns-in_err-frame-clause-tables g c = after_drops nothing_else c.args.store.now c.bring_in.new.self c.bring_in.ensures.tables

@@ -1,6 +1,6 @@
-use Rattle.std.proofs.Common.{refl, sym, ap, subst, ◌∙◌, ◌≡◌, arith, Some, set, false, ◌+◌, ◌-◌, rules}
+use Rattle.std.proofs.Common.{refl, sym, ap, subst, ◌∙◌, ◌≡◌, arith, Some, set, false, ◌+◌, ◌-◌, rules, ℕ, ◌<◌, ◌==◌, List, length, length-set, None, Option}
 use Rattle.vm_ids.proofs.Forest.Owning.{apart_of_heir}
-use Rattle.global_map.specs.Pairs.{bound_times}
+use Rattle.global_map.specs.Pairs.{bound_times, node_of}
 use Rattle.local_cache.specs.Reading.{forest_of, name_of}
 use Rattle.residency.specs.declared.store.Store.{Store}
 use Rattle.residency.specs.StoreForest.{store_forest}
@@ -20,6 +20,10 @@ use Rattle.fault_path.specs.Costs.{Pulls, frames_to_copy, free_count, pulls_to_c
 use Rattle.fault_path.proofs.Pages.FoundPage.{owner_same}
 use Rattle.local_cache.specs.declared.own_state.OwnState.{OwnState}
 use Rattle.fault_path.proofs.Calls.Costs.{copy_most, pulls_more, pulls_most}
+use Rattle.fault_path.proofs.Translations.Steps.{settled_comes, settled_drops}
+use Rattle.fault_path.proofs.Translations.Combined.{drops_by, drops_on, drops_only, only_one}
+use Rattle.residency.specs.Translating.{nothing_else}
+use Rattle.std.proofs.lemmas.List.{get_or-set_other}
 use Rattle.fault_path.proofs.writing.own_and_hand.Goals as goal
 
 pub returns-in_err-frame-clause-answered : goal.returns-in_err-frame-clause-answered
@@ -171,3 +175,32 @@ returns-in_default-clause-most g c =
     let sum : Pulls (pulls_to_copy own) (frames_to_copy own + 1 - free_count c.args.store.now.frames) (g.M.Mapper.counts c.args.mapper.now) (g.M.Mapper.counts c.double.new.mapper) = pulls_more (frames_to_copy own) (pulls_to_copy own) c.args.store.now.frames.held c.copy_out.new.store.frames.held _ _ _ whole.stays.frames first.held first.made c.double.ensures.made c.double.ensures.later in
     let bounds = copy_most own in
     pulls_most _ _ _ _ _ _ sum bounds.0 (omega (arith, bounds.1))
+
+pub returns-clause-tables : goal.returns-clause-tables
+returns-clause-tables g c =
+    let old : World = world (g.M.Mapper.held c.args.mapper.now) (g.M.Mapper.page_bytes c.args.mapper.now) c.args.caches.now c.args.store.now in
+    let one = c.in_ok-frame.ensures.copied.gathered in
+    let two = c.in-Ok.ensures.doubled in
+    let gathered = two.gathered in
+    let f1 : ℕ = c.in_ok-frame.frame.0 in
+    let f2 : ℕ = c.in-Ok.second.0 in
+    let free1 : node_of c.double.new.store.map f1 ≡ None = two.stays.node ∙ one.taken.unbound in
+    let within1 : f1 < length c.double.new.store.map = omega (arith, one.taken.within, gathered.still.stays.frames, gathered.still.stays.right.tied.fitted.map_frames) in
+    let map1 : c.settle_in.new.store.map ≡ set c.double.new.store.map f1 (Some c.args.node) = ap (λ (s : Store). s.map) c.settle_in.ensures in
+    let free2 : node_of c.settle_in.new.store.map f2 ≡ None = ap (λ (m : List (Option NodeId)). node_of m f2) map1 ∙ get_or-set_other c.double.new.store.map f1 f2 (Some c.args.node) None two.apart ∙ gathered.taken.unbound in
+    let within2 : f2 < length c.settle_in.new.store.map = omega (arith, gathered.taken.within, gathered.still.stays.right.tied.fitted.map_frames, ap (λ (m : List (Option NodeId)). length m) map1, length-set c.double.new.store.map f1 (Some c.args.node)) in
+    let map2 : c.settle_in-2.new.store.map ≡ set c.settle_in.new.store.map f2 (Some c.args.next) = ap (λ (s : Store). s.map) c.settle_in-2.ensures in
+    drops_on (λ number. number == c.args.next.0) c.args.store.now c.settle_in.new.store c.settle_in-2.new.store
+    (drops_on (λ number. number == c.args.node.0) c.args.store.now c.double.new.store c.settle_in.new.store
+    (drops_only c.args.store.now c.copy_out.new.store c.double.new.store c.copy_out.ensures.tables c.double.ensures.tables c.double.ensures.comes)
+    (settled_drops c.double.new.store c.settle_in.new.store f1 c.args.node free1 map1 (ap (λ (s : Store). s.tables) c.settle_in.ensures))
+    (settled_comes c.double.new.store.map c.settle_in.new.store.map f1 c.args.node within1 map1)
+    (only_one c.args.store.now.map c.args.node (unbound old c.requires.right.store c.args.node c.requires.bare)))
+    (settled_drops c.settle_in.new.store c.settle_in-2.new.store f2 c.args.next free2 map2 (ap (λ (s : Store). s.tables) c.settle_in-2.ensures))
+    (settled_comes c.settle_in.new.store.map c.settle_in-2.new.store.map f2 c.args.next within2 map2)
+    (only_one c.args.store.now.map c.args.next (unbound old c.requires.right.store c.args.next (heir_absent c.args.caches.now c.requires.right.sound _ c.args.next c.requires.next c.requires.is)))
+
+pub returns-in_default-clause-tables : goal.returns-in_default-clause-tables
+returns-in_default-clause-tables g c =
+    drops_by nothing_else c.args.store.now c.double.new.store c.args.store.now c.release.new.store refl refl (ap (λ (s : Store). s.map) c.release.ensures) (ap (λ (s : Store). s.tables) c.release.ensures)
+    (drops_only c.args.store.now c.copy_out.new.store c.double.new.store c.copy_out.ensures.tables c.double.ensures.tables c.double.ensures.comes)

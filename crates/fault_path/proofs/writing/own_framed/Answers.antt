@@ -1,4 +1,4 @@
-use Rattle.std.proofs.Common.{refl, sym, ap, subst, ◌∙◌, ◌-◌, rules}
+use Rattle.std.proofs.Common.{refl, sym, ap, subst, ◌∙◌, ◌-◌, rules, ◌<◌, ◌==◌, length, arith}
 use Rattle.residency.specs.declared.store.Store.{Store}
 use Rattle.residency.specs.StoreForest.{store_forest}
 use Rattle.residency.specs.World.{World, world}
@@ -11,6 +11,10 @@ use Rattle.vm_ids.specs.declared.numbers.NodeId.{NodeId}
 use Rattle.local_cache.specs.Own.{own_of}
 use Rattle.fault_path.specs.Costs.{Pulls, frames_to_copy, free_count, pulls_to_copy}
 use Rattle.fault_path.proofs.Pages.FoundPage.{owner_same}
+use Rattle.fault_path.proofs.Translations.Steps.{settled_comes, settled_drops}
+use Rattle.fault_path.proofs.Translations.Combined.{drops_on, only_one}
+use Rattle.residency.specs.Translating.{nothing_else}
+use Rattle.fault_path.proofs.Rules.Heirs.{unbound}
 use Rattle.fault_path.proofs.writing.own_framed.Goals as goal
 
 pub returns-in_err-frame-clause-answered : goal.returns-in_err-frame-clause-answered
@@ -78,3 +82,14 @@ returns-clause-made g c = λ o is. (
     let it : NodeId = c.owner_of-owner.result in
     let owner : IsOwner c.args.caches.now c.args.node it = record { held = c.owner_of-owner.ensures.held; name = c.owner_of-owner.ensures.owner } in
     subst (λ (m : NodeId). Pulls (pulls_to_copy (own_of c.args.caches.now m)) (frames_to_copy (own_of c.args.caches.now m) - free_count c.args.store.now.frames) (g.M.Mapper.counts c.args.mapper.now) (g.M.Mapper.counts c.copy_out.new.mapper)) (sym (owner_same c.args.caches.now c.requires.right.sound c.args.node o it is owner)) c.in_ok-frame.ensures.made)
+
+pub returns-clause-tables : goal.returns-clause-tables
+returns-clause-tables g c =
+    let old : World = world (g.M.Mapper.held c.args.mapper.now) (g.M.Mapper.page_bytes c.args.mapper.now) c.args.caches.now c.args.store.now in
+    let k = c.in_ok-frame.ensures.copied.gathered in
+    let within : c.in_ok-frame.frame.0 < length c.copy_out.new.store.map = omega (arith, k.taken.within, k.still.stays.right.tied.fitted.map_frames) in
+    let map = ap (λ (s : Store). s.map) c.settle_in.ensures in
+    drops_on (λ number. number == c.args.node.0) c.args.store.now c.copy_out.new.store c.settle_in.new.store c.copy_out.ensures.tables
+    (settled_drops c.copy_out.new.store c.settle_in.new.store c.in_ok-frame.frame.0 c.args.node k.taken.unbound map (ap (λ (s : Store). s.tables) c.settle_in.ensures))
+    (settled_comes c.copy_out.new.store.map c.settle_in.new.store.map c.in_ok-frame.frame.0 c.args.node within map)
+    (only_one c.args.store.now.map c.args.node (unbound old c.requires.right.store c.args.node c.requires.bare))

@@ -1,0 +1,39 @@
+use Rattle.std.proofs.Common.{◌≡◌, ◌∙◌, List, Option, ap, sym, subst, arith}
+use Rattle.fault_path.proofs.Translations.Steps.{forgets_then, forgot_world}
+use Rattle.residency.specs.Translating.{without}
+use Rattle.fault_path.specs.Translating.{is_home_of}
+use Rattle.fault_path.specs.Answers.{IsAnswered}
+use Rattle.residency.specs.World.{World, world}
+use Rattle.residency.specs.declared.store.Store.{Store}
+use Rattle.vm_ids.specs.declared.numbers.NodeId.{NodeId}
+use Rattle.fault_path.specs.Faults.{IsOwner}
+use Rattle.fault_path.proofs.Pages.FoundPage.{owner_same}
+use Rattle.residency.specs.StoreForest.{store_forest}
+use Rattle.fault_path.proofs.writing.own.Goals as goal
+
+pub drop_translations-requires : goal.drop_translations-requires
+drop_translations-requires g c =
+    let fitted = c.own_framed.ensures.answered.kept.right.tied.fitted in
+    omega (arith, fitted.places_frames, fitted.map_frames)
+
+pub returns-clause-answered : goal.returns-clause-answered
+returns-clause-answered g c =
+    let old : World = world (g.M.Mapper.held c.args.mapper.now) (g.M.Mapper.page_bytes c.args.mapper.now) c.args.caches.now c.args.store.now in
+    let same = forgot_world (g.M.Mapper.held c.own_framed.new.mapper) (g.M.Mapper.page_bytes c.own_framed.new.mapper) c.own_framed.new.caches c.own_framed.new.store c.drop_translations.new.store (is_home_of c.owner_of-owner.result c.args.node c.own_framed.new.store.map) c.drop_translations.ensures in
+    subst (λ (w : World). IsAnswered old w (g.M.Mapper.counts c.args.mapper.now) (g.M.Mapper.counts c.own_framed.new.mapper)) (sym same) c.own_framed.ensures.answered
+
+pub returns-clause-tables : goal.returns-clause-tables
+returns-clause-tables g c =
+    let store = c.drop_translations.ensures in
+    let map = ap (λ (s : Store). s.map) store in
+    let dropped : c.drop_translations.new.store.tables ≡ without (is_home_of c.owner_of-owner.result c.args.node c.own_framed.new.store.map) c.own_framed.new.store.tables = ap (λ (s : Store). s.tables) store in
+    let now : c.drop_translations.new.store.tables ≡ without (is_home_of c.owner_of-owner.result c.args.node c.drop_translations.new.store.map) c.own_framed.new.store.tables = dropped ∙ ap (λ (m : List (Option NodeId)). without (is_home_of c.owner_of-owner.result c.args.node m) c.own_framed.new.store.tables) (sym map) in
+    let it : IsOwner c.args.caches.now c.args.node c.owner_of-owner.result = record { held = c.owner_of-owner.ensures.held; name = c.owner_of-owner.ensures.owner } in
+    λ o is. forgets_then (is_home_of o c.args.node c.drop_translations.new.store.map) c.args.store.now c.own_framed.new.store c.drop_translations.new.store c.own_framed.ensures.tables map
+    (now ∙ ap (λ (m : NodeId). without (is_home_of m c.args.node c.drop_translations.new.store.map) c.own_framed.new.store.tables) (sym (owner_same c.args.caches.now c.requires.right.sound c.args.node o c.owner_of-owner.result is it)))
+
+pub returns-clause-forest : goal.returns-clause-forest
+returns-clause-forest g c =
+    let old : World = world (g.M.Mapper.held c.args.mapper.now) (g.M.Mapper.page_bytes c.args.mapper.now) c.args.caches.now c.args.store.now in
+    let same = forgot_world (g.M.Mapper.held c.own_framed.new.mapper) (g.M.Mapper.page_bytes c.own_framed.new.mapper) c.own_framed.new.caches c.own_framed.new.store c.drop_translations.new.store (is_home_of c.owner_of-owner.result c.args.node c.own_framed.new.store.map) c.drop_translations.ensures in
+    ap store_forest same ∙ c.in_ok-own_framed.ensures.owned.forest
