@@ -1,3 +1,5 @@
+-- Entries in leaves: the list that they are, and how many leaves they fill.
+pub mod Leaves
 -- What stretches say of a number, and which stretch says it.
 pub mod Reading
 -- What they say after a change.

@@ -1,8 +1,10 @@
 pub mod Cells
 pub mod Changes
 pub mod GoingOn
+pub mod Leaves
 pub mod Places
 pub mod Rising
+pub mod Spots
 pub mod Steps
 pub mod Stretch
 pub mod Stretches

@@ -19,10 +19,13 @@
 #![tactic(auto)]
 
 mod bounds;
+mod directory;
 mod laws;
+mod leaf;
 mod lookup;
 mod rising;
 mod says;
+mod spot;
 mod stretch;
 mod stretch_list;
 
