@@ -49,9 +49,10 @@ module _ {X : Type 0} where
   AreSpread ls = AreSpreadBehind 64 ls
 
   -- leaves in use and others in the pool, enough of both for the entries that they are kept for
-  pub record AreKept (used spare : List (List X)) (count places used_room spare_room : ℕ) : Type 0 where
+  pub record AreKept (used spare : List (List X)) (count places used_limit spare_limit : ℕ)
+      : Type 0 where
     pub spread : AreSpread used
     pub counted : count ≡ length (flat used)
     pub enough : 2 * places + 63 < 65 * (length used + length spare + 1)
-    pub used_room : length used + length spare ≤ used_room
-    pub spare_room : length used + length spare ≤ spare_room
+    pub used_room : length used + length spare ≤ used_limit
+    pub spare_room : length used + length spare ≤ spare_limit

@@ -21,7 +21,7 @@ module _ {X : Type 0} where
     pub at : p.at < length (leaf_at l.lists p.leaf)
 
   -- an entry stands at the spot or could be put there, before what stands there
-  pub record IsGap (l : Leaves X) (p : Spot) : Type 0 where
+  pub record IsSpot (l : Leaves X) (p : Spot) : Type 0 where
     pub leaf : 0 < length l.lists → p.leaf < length l.lists
     pub at : p.at ≤ length (leaf_at l.lists p.leaf)
 

@@ -1,7 +1,7 @@
 // Leaves in order, and a pool of others, so that an entry comes in with no memory taken.
 ghost use Rattle.std.specs.Prelude.{◌≡◌, ◌+◌, ◌<◌, ◌≤◌, [], ◌∷◌, length, insert, remove, slice_index_or, slice_set, IsOk, IfSome, MatchOption, OnOk, vec_capacity, vec_len};
 ghost use Rattle.stretches.specs.Leaves.{AreSpread, IsShortBehind, entries, flat, halved, joined, leaf_at};
-ghost use Rattle.stretches.specs.Spots.{IsGap, IsHeld, SameSpots, index};
+ghost use Rattle.stretches.specs.Spots.{IsSpot, IsHeld, SameSpots, index};
 
 use crate::leaf::{HALF, Leaf};
 use crate::spot::Spot;
@@ -92,7 +92,7 @@ impl<T: Copy> Directory<T> {
 
     // The spot of the entry before a spot, or `None` exactly where there is none.
     pub(crate) fn held_before(&self, spot: Spot) -> Option<Spot>
-        requires { IsGap self.now spot }
+        requires { IsSpot self.now spot }
         ensures { MatchOption result
             (index self.now spot ≡ 0)
             (λ p. IsHeld self.now p
@@ -116,7 +116,7 @@ impl<T: Copy> Directory<T> {
 
     // The spot of the entry at a spot or behind it, or `None` exactly where there is none.
     pub(crate) fn held_from(&self, spot: Spot) -> Option<Spot>
-        requires { IsGap self.now spot }
+        requires { IsSpot self.now spot }
         ensures { MatchOption result
             (index self.now spot ≡ length (entries self.now))
             (λ p. IsHeld self.now p
@@ -149,7 +149,7 @@ impl<T: Copy> Directory<T> {
 
     // Puts an entry at a spot, before the one that stands there. The spot where it is then.
     pub(crate) fn insert(&mut self, spot: Spot, entry: T) -> Spot
-        requires gap { IsGap self.old spot }
+        requires spot { IsSpot self.old spot }
         requires room { length (entries self.old) < self.old.places }
         ensures entries { entries self.new
             ≡ insert (entries self.old) (index self.old spot) entry }
@@ -199,7 +199,7 @@ impl<T: Copy> Directory<T> {
     // The spot behind an entry.
     fn behind(&self, spot: Spot) -> Spot
         requires { IsHeld self.now spot }
-        ensures gap { IsGap self.now result }
+        ensures spot { IsSpot self.now result }
         ensures index { index self.now result ≡ index self.now spot + 1 }
     {
         let last = self.used[spot.leaf].len() - 1;

@@ -6,6 +6,11 @@
 //! with a number in common, and finds one by halves. A stretch can be split at any number, and one
 //! that continues the one before it can be joined to it; neither changes what is said.
 //!
+//! The stretches stand in leaves of at most 128, and a directory has the leaves in order: so a
+//! stretch that comes or goes moves those of one leaf, and the directory's entries behind it. The
+//! leaves come from a pool, to which they go back. Any two neighbours have more than 64 stretches
+//! together, so few leaves are enough.
+//!
 //! The model is the list of stretches and the places reserved. `said` reads it as a function from
 //! numbers and `cells` as a finite map, and each call is an equation on both. None but `reserve`
 //! takes memory: there are never more stretches than numbers, so places for as many stretches as
@@ -35,5 +40,7 @@ pub use says::Says;
 pub use stretch::Stretch;
 pub use stretch_list::StretchList;
 
+#[cfg(test)]
+mod slow;
 #[cfg(test)]
 mod tests;

@@ -2,7 +2,7 @@
 ghost use Rattle.std.specs.Prelude.{◌≡◌, ℕ, ◌+◌, ◌<◌, ◌≤◌, nat_le, IfSome, MatchOption, None};
 ghost use Rattle.stretches.specs.Leaves.{entries};
 ghost use Rattle.stretches.specs.Places.{HasAt, IsFirstBehind, IsRising, Stands, first_of};
-ghost use Rattle.stretches.specs.Spots.{IsGap, IsHeld, IsPair, index};
+ghost use Rattle.stretches.specs.Spots.{IsSpot, IsHeld, IsPair, index};
 ghost use Rattle.stretches.specs.Stretches.{AreInOrder, IsNextFrom, IsStretchWith, said};
 
 use crate::directory::Directory;
@@ -15,7 +15,7 @@ pub(crate) fn first_behind<V: Says>(stretches: &Directory<Stretch<V>>, number: u
     requires { AreInOrder V.Says 0 (entries stretches.now) }
     ensures behind { IsFirstBehind (entries stretches.now) number
         (index stretches.now result) }
-    ensures gap { IsGap stretches.now result }
+    ensures spot { IsSpot stretches.now result }
 {
     let leaves = stretches.leaves();
     let behind = leaves.partition_point(|leaf| begins_by(leaf, number));

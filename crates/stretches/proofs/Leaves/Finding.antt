@@ -9,7 +9,7 @@ use Rattle.stretches.specs.Places.{IsFirstBehind, IsRising, first_of}
 use Rattle.stretches.specs.Spots.{index_at}
 use Rattle.stretches.specs.Stretches.{AreInOrder}
 use Rattle.stretches.proofs.Leaves.Entries.{any_entry, flat_none, get_flat}
-use Rattle.stretches.proofs.Leaves.Indexes.{index_end, index_first, index_gap, index_grows, index_next, index_turn, index_within, leaf_index_grows}
+use Rattle.stretches.proofs.Leaves.Indexes.{index_end, index_first, index_spot, index_grows, index_next, index_turn, index_within, leaf_index_grows}
 use Rattle.stretches.proofs.Leaves.Spread.{some_at}
 use Rattle.stretches.proofs.Reading.Order.{first_rises}
 
@@ -74,7 +74,7 @@ module _ {V : Type 0} (S : Ghosts V) (ls : List (List (Stretch V))) (order : Are
 
   pub first_behind_flat : (n j at : ℕ) → j < length ls → first_of (get_or ls j []) ≤ n → (suc j < length ls → n < first_of (get_or ls (suc j) [])) → IsFirstBehind (get_or ls j []) n at → IsFirstBehind (flat ls) n (index_at ls j at)
   first_behind_flat n j at less begun next place = record {
-    within = index_gap ls j at less place.within;
+    within = index_spot ls j at less place.within;
     before = before_flat n j at less begun place;
     behind = behind_flat n j at less next place;
   }

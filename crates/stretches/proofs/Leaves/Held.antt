@@ -1,13 +1,35 @@
 -- Spots where entries stand.
-use Rattle.std.proofs.Common.{◌≡◌, ℕ, ◌+◌, ◌<◌, ◌≤◌, List, length, get_or, sym, ap, subst, ◌∙◌, arith}
+use Rattle.std.proofs.Common.{◌≡◌, ℕ, zero, suc, ◌+◌, ◌-◌, ◌<◌, ◌≤◌, List, [], ◌∷◌, length, get_or, refl, ap, ◌∙◌, arith}
 use Rattle.stretches.specs.declared.spot.Spot.{Spot}
-use Rattle.stretches.specs.Leaves.{Leaves, entries}
-use Rattle.stretches.specs.Spots.{IsGap, IsHeld, index}
-use Rattle.stretches.proofs.Leaves.Indexes.{index_within}
+use Rattle.stretches.specs.Leaves.{AreSpread, Leaves, entries}
+use Rattle.stretches.specs.Spots.{IsHeld, IsSpot, index, index_at}
+use Rattle.stretches.proofs.Leaves.Indexes.{index_next, index_turn, index_within}
+use Rattle.stretches.proofs.Leaves.Spread.{some_at}
 
 module _ {X : Type 0} where
   pub held_within : (l : Leaves X) (p : Spot) → IsHeld l p → index l p < length (entries l)
   held_within l p held = index_within l.lists p.leaf p.at held.leaf held.at
 
-  pub held_gap : (l : Leaves X) (p : Spot) → IsHeld l p → IsGap l p
-  held_gap l p held = record { leaf = λ some. held.leaf; at = omega (arith, held.at) }
+  pub held_spot : (l : Leaves X) (p : Spot) → IsHeld l p → IsSpot l p
+  held_spot l p held = record { leaf = λ some. held.leaf; at = omega (arith, held.at) }
+
+  -- among no leaves
+  pub index_empty : (ls : List (List X)) (j k : ℕ) → length ls ≡ 0 → index_at ls j k ≡ k
+  index_empty [] j k none = refl
+  index_empty (l ∷ ls) j k none = absurd (omega arith)
+
+  -- one spot back in a leaf
+  pub index_last : (ls : List (List X)) (j k : ℕ) → 0 < k → index_at ls j (k - 1) + 1 ≡ index_at ls j k
+  index_last ls j zero some = absurd (omega arith)
+  index_last ls j (suc k) some =
+      let less : suc k - 1 ≡ k = omega arith in
+      ap (λ (q : ℕ). index_at ls j q + 1) less ∙ omega (arith, index_next ls j k)
+
+  -- back to the last entry of the leaf before
+  pub index_back : (ls : List (List X)) (j : ℕ) → 0 < j → j < length ls → AreSpread ls → index_at ls (j - 1) (length (get_or ls (j - 1) []) - 1) + 1 ≡ index_at ls j 0
+  index_back ls zero some less spread = absurd (omega arith)
+  index_back ls (suc j) some less spread =
+      let e : suc j - 1 ≡ j = omega arith in
+      ap (λ (q : ℕ). index_at ls q (length (get_or ls q []) - 1) + 1) e
+      ∙ index_last ls j (length (get_or ls j [])) (some_at 64 ls j (omega (arith, less)) spread)
+      ∙ index_turn ls j less

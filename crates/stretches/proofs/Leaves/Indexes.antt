@@ -50,10 +50,10 @@ module _ {X : Type 0} where
   index_end (l ∷ m ∷ ls) zero last = absurd (omega arith)
   index_end (l ∷ ls) (suc j) last = omega (arith, length-append l (flat ls), index_end ls j (omega arith))
 
-  pub index_gap : (ls : List (List X)) (j k : ℕ) → j < length ls → k ≤ length (get_or ls j []) → index_at ls j k ≤ length (flat ls)
-  index_gap [] j k less within = absurd (omega arith)
-  index_gap (l ∷ ls) zero k less within = omega (arith, length-append l (flat ls), within)
-  index_gap (l ∷ ls) (suc j) k less within = omega (arith, length-append l (flat ls), index_gap ls j k (omega arith) within)
+  pub index_spot : (ls : List (List X)) (j k : ℕ) → j < length ls → k ≤ length (get_or ls j []) → index_at ls j k ≤ length (flat ls)
+  index_spot [] j k less within = absurd (omega arith)
+  index_spot (l ∷ ls) zero k less within = omega (arith, length-append l (flat ls), within)
+  index_spot (l ∷ ls) (suc j) k less within = omega (arith, length-append l (flat ls), index_spot ls j k (omega arith) within)
 
   pub index_within : (ls : List (List X)) (j k : ℕ) → j < length ls → k < length (get_or ls j []) → index_at ls j k < length (flat ls)
   index_within [] j k less within = absurd (omega arith)

@@ -6,7 +6,7 @@ use Rattle.stretches.specs.Leaves.{AreKept, AreSpread, flat, halved}
 use Rattle.stretches.specs.Spots.{index_at}
 use Rattle.stretches.proofs.Leaves.Entries.{insert_flat, set_flat}
 use Rattle.stretches.proofs.Leaves.Halving.{flat_halved, length_halved, spread_halved}
-use Rattle.stretches.proofs.Leaves.Indexes.{index_gap}
+use Rattle.stretches.proofs.Leaves.Indexes.{index_spot}
 use Rattle.stretches.proofs.Leaves.Spread.{few_leaves, spread_more}
 
 module _ {X : Type 0} (used spare : List (List X)) (count places a b : ℕ) (kept : AreKept used spare count places a b) where
@@ -31,7 +31,7 @@ module _ {X : Type 0} (used spare : List (List X)) (count places a b : ℕ) (kep
       let all = ap length (insert_flat used j k x less within) in
       record {
         spread = spread_more 64 used j (insert leaf k x) (omega (arith, more)) kept.spread;
-        counted = omega (arith, kept.counted, all, length-insert (flat used) (index_at used j k) x (index_gap used j k less within));
+        counted = omega (arith, kept.counted, all, length-insert (flat used) (index_at used j k) x (index_spot used j k less within));
         enough = omega (arith, long, kept.enough);
         used_room = omega (arith, long, kept.used_room);
         spare_room = omega (arith, long, kept.spare_room);

@@ -1,4 +1,4 @@
-use Rattle.std.proofs.Common.{List, ap, arith, get_or, subst, sym, ◌+◌, ◌-◌, ◌∙◌, ◌≡◌, ◌≤◌}
+use Rattle.std.proofs.Common.{ℕ, ap, arith, get_or, subst, sym, ◌+◌, ◌-◌, ◌∙◌, ◌≡◌, ◌≤◌}
 use Rattle.stretches.specs.declared.stretch.Stretch.{Stretch}
 use Rattle.stretches.specs.Leaves.{entries}
 use Rattle.stretches.specs.Spots.{index}
@@ -20,7 +20,7 @@ returns-then-by-gt0-clause-begins g c d =
     let rs = entries c.args.stretches.now in
     let at = index c.args.stretches.now c.in-Some.at in
     let low_end : c.get-stretch.result.first ≤ c.args.number = subst (λ (r : Stretch _). r.first ≤ c.args.number) (sym c.get-stretch.ensures) (low (get_or rs at c.get-stretch.result) c.args.number (has.has c.get-stretch.result)) in
-    ap (λ (q : _). (get_or (entries c.split.new.stretches) q d).first) c.split.ensures.index
+    ap (λ (q : ℕ). (get_or (entries c.split.new.stretches) q d).first) c.split.ensures.index
     ∙ ap (λ (r : Stretch _). r.first) (c.split.ensures.behind d) ∙ omega (arith, low_end)
 
 -- the stretch goes on as far as what it has together, split or not
@@ -28,7 +28,7 @@ pub returns-then-by-gt0-clause-long : goal.returns-then-by-gt0-clause-long
 returns-then-by-gt0-clause-long g c count some together d =
     let to = reaches g.V.Says _ c.requires.order c.args.number count _ c.get-stretch.result some together c.in-Some.ensures.has c.get-stretch.ensures in
     let size : (get_or (entries c.split.new.stretches) (index c.split.new.stretches c.split.result) d).count ≡ c.get-stretch.result.count - (c.args.number - c.get-stretch.result.first) =
-        ap (λ (q : _). (get_or (entries c.split.new.stretches) q d).count) c.split.ensures.index
+        ap (λ (q : ℕ). (get_or (entries c.split.new.stretches) q d).count) c.split.ensures.index
         ∙ ap (λ (r : Stretch _). r.count) (c.split.ensures.behind d) in
     omega (arith, size, to, c.if-by-gt0.true)
 

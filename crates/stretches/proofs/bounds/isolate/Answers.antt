@@ -1,10 +1,10 @@
-use Rattle.std.proofs.Common.{◌≡◌, ◌+◌, ◌≤◌, ◌<◌, ◌∙◌, ap, subst, sym, arith, get_or}
+use Rattle.std.proofs.Common.{◌≡◌, ℕ, ◌+◌, ◌≤◌, ◌<◌, ◌∙◌, ap, subst, sym, arith, get_or}
 use Rattle.stretches.specs.declared.stretch.Stretch.{Stretch}
 use Rattle.stretches.specs.Leaves.{entries}
 use Rattle.stretches.specs.Places.{IsPart}
 use Rattle.stretches.specs.Spots.{index}
 use Rattle.stretches.specs.Stretches.{number_count}
-use Rattle.stretches.proofs.Leaves.Held.{held_gap, held_within}
+use Rattle.stretches.proofs.Leaves.Held.{held_spot, held_within}
 use Rattle.stretches.proofs.Reading.Counts.{room_for_part}
 use Rattle.stretches.proofs.Reading.Together.{part_from, together_said}
 use Rattle.stretches.proofs.bounds.isolate.Goals as goal
@@ -29,7 +29,7 @@ returns-in-Some-clause-part g c =
     let old = c.begin_at-at.new.stretches in
     let new = c.split-behind.new.stretches in
     let same : index new c.in-Some.at ≡ index old c.begin_at-at.result = omega (arith, c.in-Some.ensures.1, cut.index) in
-    subst (λ (q : _). IsPart (entries new) c.args.first c.args.count q) (sym same) (record {
+    subst (λ (q : ℕ). IsPart (entries new) c.args.first c.args.count q) (sym same) (record {
       within = omega (arith, held_within new c.in-Some.at c.in-Some.ensures.0, same);
       first = λ d. ap (λ (r : Stretch _). r.first) (cut.front d) ∙ ap (λ (r : Stretch _). r.first) c.get-stretch.ensures ∙ begun.begins c.get-stretch.result;
       count = λ d. ap (λ (r : Stretch _). r.count) (cut.front d);

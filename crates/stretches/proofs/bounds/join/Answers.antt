@@ -1,6 +1,5 @@
 use Rattle.std.proofs.Common.{◌≡◌, ℕ, ◌+◌, ◌<◌, suc, ◌∙◌, add-one, ap, subst, sym, arith, length, List, get_or, set}
 use Rattle.std.specs.List.{remove}
-use Rattle.std.proofs.lemmas.List.Edits.{length-remove}
 use Rattle.stretches.specs.declared.stretch.Stretch.{Stretch}
 use Rattle.stretches.specs.Leaves.{entries}
 use Rattle.stretches.specs.Spots.{index}
@@ -16,8 +15,9 @@ merged_is g c =
     let old = c.args.stretches.now in
     let at = index old c.args.pair.first in
     c.remove.ensures.entries
-    ∙ (λ i. remove (c.set.ensures.entries i) ((c.set.ensures.spots.indexes c.args.pair.second ∙ c.requires.pair.next ∙ add-one at) i))
-    ∙ (λ i. remove (set (entries old) at (c.front.ensures i)) (suc at))
+    ∙ (λ i. remove
+      ((c.set.ensures.entries ∙ ap (λ (r : Stretch _). set (entries old) at r) c.front.ensures) i)
+      ((c.set.ensures.spots.indexes c.args.pair.second ∙ c.requires.pair.next ∙ add-one at) i))
 
 second_within : (g : Over) (c : goal.After-remove g) → suc (index c.args.stretches.now c.args.pair.first) < length (entries c.args.stretches.now)
 second_within g c =

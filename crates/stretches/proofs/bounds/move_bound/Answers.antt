@@ -34,8 +34,10 @@ moved_is g c =
     let old = c.args.stretches.now in
     let at = index old c.args.pair.first in
     c.set-2.ensures.entries
-    ∙ (λ i. set (c.set.ensures.entries i) ((c.set.ensures.spots.indexes c.args.pair.second ∙ c.requires.pair.next ∙ add-one at) i) (c.behind.ensures i))
-    ∙ (λ i. set (set (entries old) at (c.front.ensures i)) (suc at) (c.behind.ensures 1))
+    ∙ (λ i. set
+      ((c.set.ensures.entries ∙ ap (λ (r : Stretch _). set (entries old) at r) c.front.ensures) i)
+      ((c.set.ensures.spots.indexes c.args.pair.second ∙ c.requires.pair.next ∙ add-one at) i)
+      (c.behind.ensures i))
 
 second_within : (g : Over) (c : goal.After-set-2 g) → suc (index c.args.stretches.now c.args.pair.first) < length (entries c.args.stretches.now)
 second_within g c =

@@ -1,4 +1,4 @@
-use Rattle.std.proofs.Common.{◌≡◌, ◌+◌, ◌<◌, ◌≤◌, ◌∙◌, add-one, ap, subst, sym, arith, length, List, get_or, set, length-set}
+use Rattle.std.proofs.Common.{◌≡◌, ℕ, ◌+◌, ◌≤◌, ◌∙◌, add-one, ap, subst, sym, arith, length, List, get_or, set, length-set}
 use Rattle.std.specs.List.{insert}
 use Rattle.stretches.specs.declared.stretch.Stretch.{Stretch}
 use Rattle.stretches.specs.Leaves.{entries}
@@ -37,9 +37,12 @@ insert_behind-requires-clause-room g c =
 parted_is : (g : Over) (c : goal.After-insert_behind g) → entries c.insert_behind.new.self ≡ parted g.V.Says (entries c.args.stretches.now) (index c.args.stretches.now c.args.at) c.args.stretch c.args.by
 parted_is g c =
     let old = c.args.stretches.now in
+    let at = index old c.args.at in
     c.insert_behind.ensures.entries
-    ∙ (λ i. insert (c.set.ensures.entries i) (c.set.ensures.spots.indexes c.args.at i + 1) (c.behind.ensures i))
-    ∙ (λ i. insert (set (entries old) (index old c.args.at) (c.front.ensures i)) (add-one (index old c.args.at) i) (c.behind.ensures 1))
+    ∙ (λ i. insert
+      ((c.set.ensures.entries ∙ ap (λ (r : Stretch _). set (entries old) at r) c.front.ensures) i)
+      ((ap (λ (q : ℕ). q + 1) (c.set.ensures.spots.indexes c.args.at) ∙ add-one at) i)
+      (c.behind.ensures i))
 
 pub returns-clause-order : goal.returns-clause-order
 returns-clause-order g c =
@@ -58,7 +61,7 @@ returns-clause-begins g c =
     subst (λ (rs : List (Stretch _)). BeginsAt rs (c.args.stretch.first + c.args.by)) (sym (parted_is g c)) (begins_parted g.V.Says _ (index old c.args.at) c.args.by c.args.stretch (held_within old c.args.at c.requires.held))
 
 pub returns-clause-index : goal.returns-clause-index
-returns-clause-index g c = c.insert_behind.ensures.index ∙ ap (λ (q : _). q + 1) (c.set.ensures.spots.indexes c.args.at)
+returns-clause-index g c = c.insert_behind.ensures.index ∙ ap (λ (q : ℕ). q + 1) (c.set.ensures.spots.indexes c.args.at)
 
 pub returns-clause-front : goal.returns-clause-front
 returns-clause-front g c d =
