@@ -8,3 +8,5 @@ pub mod NewCaches
 pub mod Moves
 -- What the mapper holds after a push.
 pub mod Pushes
+-- Which translations stay.
+pub mod Translations

@@ -1,5 +1,5 @@
 -- What a store, the caches and a mapper say together of each node's own page.
-use Rattle.std.specs.Prelude.{◌≡◌, ◌≢◌, ℕ, ◌<◌, ◌≤◌, ◌^◌, Bool, true, false, not, if◌then◌else◌, ◌||◌, List, length, replicate, Option, Some, None, option_map, option_and_then, is_some, IfSome, IsSome, slice_set, count_by}
+use Rattle.std.specs.Prelude.{◌≡◌, ◌≢◌, ℕ, ◌*◌, ◌<◌, ◌≤◌, ◌^◌, Bool, true, false, not, if◌then◌else◌, ◌||◌, List, length, replicate, Option, Some, None, option_map, option_and_then, is_some, IfSome, IsSome, slice_set, count_by}
 use Rattle.vm_ids.specs.Denying.{denies}
 use Rattle.vm_ids.specs.Held.{Held, page_of, slot_of}
 use Rattle.vm_ids.specs.declared.node_name.NodeName.{NodeName}
@@ -18,7 +18,7 @@ use Rattle.local_cache.specs.Reading.{name_of}
 use Rattle.residency.specs.declared.store.Store.{Store}
 
 -- What the mapper holds and the size of its pages, where it tells that; the caches; the parts of
--- the store, of whose marks no more than how many there are.
+-- the store, of whose marks and translations no more than how many there is room for.
 pub record World : Type 0 where
   pub told : Option Held
   pub page_bytes : Option ℕ
@@ -27,6 +27,7 @@ pub record World : Type 0 where
   pub slots : List Bool
   pub map : List (Option NodeId)
   pub marks : ℕ
+  pub places : ℕ
 
 abbrev pub world : Option Held → Option ℕ → Arena → Store → World
 world told page_bytes caches s = record {
@@ -37,6 +38,7 @@ world told page_bytes caches s = record {
   slots = s.slots;
   map = s.map;
   marks = length s.marks;
+  places = length s.tables;
 }
 
 abbrev pub zero_page : World → List ℕ
@@ -116,13 +118,15 @@ pub record IsBacked (w : World) : Type 0 where
   pub clean : (n : NodeId) → is_clean (own_of w.caches n) ≡ true
       → own_page w n ≡ Some (home_page w n)
 
--- the tables have an entry for each frame, and the mapper takes pages of this size
-pub record AreFitted (frames : Frames) (map : List (Option NodeId)) (marks : ℕ)
+-- the lists have an item for each frame, there are four places for translations for each, and the
+-- mapper takes pages of this size
+pub record AreFitted (frames : Frames) (map : List (Option NodeId)) (marks places : ℕ)
     (page_bytes : Option ℕ) : Type 0 where
   pub map_frames : length map ≡ length frames.held
   pub bytes_frames : length frames.bytes ≡ length frames.held
   pub pinned_frames : length frames.pinned ≡ length frames.held
   pub marks_frames : marks ≡ length frames.held
+  pub places_frames : places ≡ 4 * length frames.held
   pub few : length frames.held ≤ 2 ^ 16
   pub page : IfSome page_bytes (λ n. n ≡ frames.page)
 
@@ -130,7 +134,7 @@ pub record AreFitted (frames : Frames) (map : List (Option NodeId)) (marks : ℕ
 pub record IsTied (w : World) : Type 0 where
   pub placed : ArePlaced w.caches w.frames w.slots w.map
   pub backed : IsBacked w
-  pub fitted : AreFitted w.frames w.map w.marks w.page_bytes
+  pub fitted : AreFitted w.frames w.map w.marks w.places w.page_bytes
 
 -- it was granted to write the page of this name
 abbrev pub is_name_granted : Arena → NodeName → Bool

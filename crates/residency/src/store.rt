@@ -1,11 +1,13 @@
-// Frames, slots and the map, and the calls that move pages between them.
-ghost use Rattle.std.specs.Prelude.{◌≡◌, ◌≢◌, ℕ, ◌+◌, ◌-◌, ◌<◌, ◌≤◌, ◌^◌, ◌++◌, List, [], length, replicate, slice_set, min, true, false, Option, Some, None, IfSome, All, IfOk, IfErr, OnOk, OnErr, IsOk};
+// Frames, slots, page tables and the map, and the calls that move pages between them.
+ghost use Rattle.std.specs.Prelude.{◌≡◌, ◌≢◌, ℕ, ◌+◌, ◌-◌, ◌*◌, ◌<◌, ◌≤◌, ◌^◌, ◌++◌, List, [], length, map, replicate, slice_set, min, true, false, Option, Some, None, IfSome, All, IfOk, IfErr, OnOk, OnErr, IsOk};
 ghost use Rattle.std.specs.Borrow.{sem};
 ghost use Rattle.vm_ids.specs.Counting.{Counted};
 ghost use Rattle.vm_ids.specs.Held.{Held};
 ghost use Rattle.frame_pool.specs.Pool.{bytes_of, held_count, is_held, is_pinned, with_bytes};
 ghost use Rattle.slot_pool.specs.Slots as swap;
 ghost use Rattle.global_map.specs.Pairs.{bound_times, frame_of, node_of};
+ghost use Rattle.page_tables.specs.Entries.{is_in_frame};
+ghost use Rattle.page_tables.specs.Translations.{IsFrame, unless};
 ghost use Rattle.local_cache.specs.Arena.{Arena, HasNode, with_own};
 ghost use Rattle.local_cache.specs.Home.{home_of};
 ghost use Rattle.local_cache.specs.Own.{is_resident, own_of};
@@ -13,8 +15,9 @@ ghost use Rattle.residency.specs.Between.{Across, Between, RightStore};
 ghost use Rattle.residency.specs.Causes.{HasMissCause, Later, Traffic, PushFailed, dirtied, dirty_count, dirty_in, failed_pushes, failed_victims, frames_to_bring, is_victim, pulls_for, pushes_for, pushes_to_bring};
 ghost use Rattle.residency.specs.Evicting.{HasLeft, IsEvicted, IsInSlot};
 ghost use Rattle.residency.specs.Frames.{evictable_count, free_frames, with_held, with_pinned};
-ghost use Rattle.residency.specs.Lending.{LendsFrame};
+ghost use Rattle.residency.specs.Lending.{LendsFrame, LendsTables};
 ghost use Rattle.residency.specs.Pushing.{TellsOn};
+ghost use Rattle.residency.specs.Translating.{IsEmptied, TablesAfter, nothing_else};
 ghost use Rattle.residency.specs.World.{HasNoNodes, HasOwnPage, HoldsPage, HasUnpinned, IsAway, IsFrameOf, IsMadeFree, IsStoreRight, IsTaken, OthersStay, OthersStayBut, Still, StillBut, brought_in, is_clean, world};
 
 use crate::Miss;
@@ -22,22 +25,24 @@ use crate::marks::Marks;
 use frame_pool::FramePool;
 use global_map::GlobalMap;
 use local_cache::{Caches, Home, OwnState};
+use page_tables::PageTables;
 use slot_pool::SlotPool;
 use std::alloc::Global;
 use vm_ids::{FrameId, NoMemory, NodeId, SlotId};
 use vm_port::{Chooser, Failed, Mapper};
 
-/// The page frames, the swap slots and the map from page nodes to frames.
+/// The page frames, the swap slots, the page tables and the map from page nodes to frames.
 #[derive(Drop)]
 pub struct Store {
     frames: FramePool,
     slots: SlotPool,
     map: GlobalMap,
+    tables: PageTables,
     marks: Marks,
 }
 
 impl Store {
-    /// A store of so many free frames of `page` bytes each, without swap slots.
+    /// A store of so many free frames of `page` bytes each, without swap slots and translations.
     pub fn new(alloc: Global, frames: u32, page: u32) -> Result<Store, NoMemory>
         requires frames { frames ≤ 2 ^ 16 }
         requires page { page ≤ 2 ^ 16 }
@@ -45,6 +50,7 @@ impl Store {
           frames = free_frames frames page;
           slots = [];
           map = replicate frames None;
+          tables = replicate (4 * frames) None;
           marks = replicate frames false;
         }) }
         ensures right { IfOk result (λ s. (told : Option Held) (size : Option ℕ) (caches : Arena) →
@@ -53,11 +59,13 @@ impl Store {
     {
         let pool = FramePool::new(alloc, frames, page)?;
         let map = GlobalMap::new(alloc, frames)?;
+        let tables = PageTables::new(alloc, frames)?;
         let marks = Marks::new(alloc, frames)?;
         Ok(Store {
             frames: pool,
             slots: SlotPool::new(alloc),
             map,
+            tables,
             marks,
         })
     }
@@ -81,6 +89,21 @@ impl Store {
         ensures { result.now ≡ self.now.map }
     {
         &self.map
+    }
+
+    /// The page tables.
+    pub fn tables(&self) -> &PageTables
+        ensures { result.now ≡ self.now.tables }
+    {
+        &self.tables
+    }
+
+    /// The page tables, to be changed.
+    pub fn tables_mut(&mut self) -> &mut PageTables
+        ensures* writes_back { sem 𝓛 (LendsTables self.entry result) }
+        ensures tables { result.now ≡ self.old.tables }
+    {
+        &mut self.tables
     }
 
     /// The bytes of a frame, to be written.
@@ -152,14 +175,18 @@ impl Store {
         self.map.bind(node, frame);
     }
 
-    /// Unbinds a bound node from its frame.
+    /// Unbinds a bound node from its frame, whose translations are dropped.
     pub fn unbind(&mut self, node: NodeId)
-        requires { bound_times self.old.map node.0 ≡ 1 }
+        requires bound { bound_times self.old.map node.0 ≡ 1 }
+        requires tables { IsFrame self.old.tables (frame_of self.old.map node.0) }
         ensures { self.new ≡ record self.old {
           map = slice_set self.old.map (frame_of self.old.map node.0) None;
+          tables = map (unless (is_in_frame (frame_of self.old.map node.0))) self.old.tables;
         } }
     {
+        let emptied = self.map.get(node).unwrap();
         self.map.unbind(node);
+        self.tables.drop_frame(emptied);
     }
 
     /// Binds the unbound node `to` in place of the bound node `from`.
@@ -221,6 +248,7 @@ impl Store {
             mapper.old caches.old self.old mapper.new caches.new self.new) }
         ensures free { OnOk result (self.new.frames.held
             ≡ slice_set self.old.frames.held frame.0 false) }
+        ensures tables { TablesAfter nothing_else self.old self.new }
         ensures failed { OnErr result (self.new ≡ self.old) }
         ensures failed_caches { OnErr result (caches.new ≡ caches.old) }
         ensures failed_dirty { OnErr result (dirty_in caches.old self.old.map frame.0 ≡ 1) }
@@ -258,6 +286,7 @@ impl Store {
             (HasLeft (Some home) (is_clean (own_of caches.old node)) frame.0 node)
             M.held M.page_bytes
             mapper.old caches.old self.old mapper.new caches.new self.new) }
+        ensures emptied { OnOk result (IsEmptied frame.0 self.old self.new) }
         ensures failed { OnErr result (self.new ≡ self.old) }
         ensures failed_caches { OnErr result (caches.new ≡ caches.old) }
         ensures failed_held { OnErr result (M.held mapper.new ≡ M.held mapper.old) }
@@ -288,6 +317,7 @@ impl Store {
         requires home { home_of caches.old node ≡ None }
         ensures left { OnOk result (Between (IsInSlot frame.0 node) M.held M.page_bytes
             mapper.old caches.old self.old mapper.new caches.new self.new) }
+        ensures emptied { OnOk result (IsEmptied frame.0 self.old self.new) }
         ensures failed { OnErr result (self.new ≡ self.old) }
         ensures failed_caches { OnErr result (caches.new ≡ caches.old) }
         ensures failed_held { OnErr result (M.held mapper.new ≡ M.held mapper.old) }
@@ -308,21 +338,25 @@ impl Store {
         }
     }
 
-    // The frame of a node falls free, whose page is in this state then.
+    // The frame of a node falls free, whose page is in this state then. Its translations are
+    // dropped.
     fn leave(&mut self, caches: &mut Caches, node: NodeId, frame: FrameId, own: OwnState)
         requires node { HasNode caches.old node }
         requires held { is_held self.old.frames frame.0 ≡ true }
         requires unpinned { is_pinned self.old.frames frame.0 ≡ false }
         requires bound { bound_times self.old.map node.0 ≡ 1 }
         requires place { frame_of self.old.map node.0 ≡ frame.0 }
+        requires tables { IsFrame self.old.tables frame.0 }
         ensures caches { caches.new ≡ with_own caches.old node own }
         ensures store { self.new ≡ record self.old {
           frames = with_held self.old.frames frame.0 false;
           map = slice_set self.old.map frame.0 None;
+          tables = map (unless (is_in_frame frame.0)) self.old.tables;
         } }
     {
         caches.set_state(node, own);
         self.map.unbind(node);
+        self.tables.drop_frame(frame);
         self.frames.give_back(frame);
     }
 
@@ -342,6 +376,7 @@ impl Store {
             mapper.old caches.old self.old mapper.new caches.new self.new }
         ensures free { IfOk result (λ f. Between (IsMadeFree f.0) M.held M.page_bytes
             mapper.old caches.old self.old mapper.new caches.new self.new) }
+        ensures tables { TablesAfter nothing_else self.old self.new }
         ensures pinned { OnErr result (self.new.frames.pinned ≡ self.old.frames.pinned) }
         ensures held { OnOk result (held_count self.new.frames + pushes_for self.old.frames.held
             ≡ held_count self.old.frames + 1) }
@@ -385,6 +420,7 @@ impl Store {
             mapper.old caches.old self.old mapper.new caches.new self.new }
         ensures free { IfOk result (λ f. Between (IsMadeFree f.0) M.held M.page_bytes
             mapper.old caches.old self.old mapper.new caches.new self.new) }
+        ensures tables { TablesAfter nothing_else self.old self.new }
         ensures pinned { OnErr result (self.new.frames.pinned ≡ self.old.frames.pinned) }
         ensures held { held_count self.new.frames ≡ held_count self.old.frames }
         ensures others { Between OthersStay M.held M.page_bytes
@@ -435,6 +471,7 @@ impl Store {
             mapper.old caches.old self.old mapper.new caches.new self.new }
         ensures failed { OnErr result (Between OthersStay M.held M.page_bytes
             mapper.old caches.old self.old mapper.new caches.new self.new) }
+        ensures tables { TablesAfter nothing_else self.old self.new }
         ensures pinned { self.new.frames.pinned ≡ self.old.frames.pinned }
         ensures later { Later (M.counts mapper.old) (M.counts mapper.new) }
         ensures held { OnOk result (held_count self.new.frames
@@ -481,6 +518,7 @@ impl Store {
             mapper.old caches.old self.old mapper.new caches.new self.new }
         ensures failed { OnErr result (Between OthersStay M.held M.page_bytes
             mapper.old caches.old self.old mapper.new caches.new self.new) }
+        ensures tables { TablesAfter nothing_else self.old self.new }
         ensures pinned { self.new.frames.pinned ≡ self.old.frames.pinned }
         ensures later { Later (M.counts mapper.old) (M.counts mapper.new) }
         ensures held { OnOk result (held_count self.new.frames + pushes_for self.old.frames.held
@@ -526,6 +564,10 @@ impl Store {
             mapper.old caches.old self.old mapper.new caches.new self.new }
         ensures failed { OnErr result (Between OthersStay M.held M.page_bytes
             mapper.old caches.old self.old mapper.new caches.new self.new) }
+        ensures bound { OnOk result (
+            self.new.map ≡ slice_set self.old.map frame.0 (Some node)) }
+        ensures unbound { OnErr result (self.new.map ≡ self.old.map) }
+        ensures tables { self.new.tables ≡ self.old.tables }
         ensures pinned { self.new.frames.pinned ≡ slice_set self.old.frames.pinned frame.0 false }
         ensures later { Later (M.counts mapper.old) (M.counts mapper.new) }
         ensures held { OnOk result (self.new.frames.held ≡ self.old.frames.held) }
@@ -574,6 +616,10 @@ impl Store {
             mapper.old caches.old self.old mapper.new caches.new self.new }
         ensures failed { OnErr result (Between OthersStay M.held M.page_bytes
             mapper.old caches.old self.old mapper.new caches.new self.new) }
+        ensures bound { OnOk result (
+            self.new.map ≡ slice_set self.old.map frame.0 (Some node)) }
+        ensures unbound { OnErr result (self.new.map ≡ self.old.map) }
+        ensures tables { self.new.tables ≡ self.old.tables }
         ensures pinned { self.new.frames.pinned ≡ slice_set self.old.frames.pinned frame.0 false }
         ensures later { Later (M.counts mapper.old) (M.counts mapper.new) }
         ensures held { OnOk result (self.new.frames.held ≡ self.old.frames.held) }
@@ -622,6 +668,10 @@ impl Store {
             mapper.old caches.old self.old mapper.new caches.new self.new }
         ensures failed { OnErr result (Between OthersStay M.held M.page_bytes
             mapper.old caches.old self.old mapper.new caches.new self.new) }
+        ensures bound { OnOk result (
+            self.new.map ≡ slice_set self.old.map frame.0 (Some node)) }
+        ensures unbound { OnErr result (self.new.map ≡ self.old.map) }
+        ensures tables { self.new.tables ≡ self.old.tables }
         ensures pinned { self.new.frames.pinned ≡ slice_set self.old.frames.pinned frame.0 false }
         ensures later { Later (M.counts mapper.old) (M.counts mapper.new) }
         ensures held { OnOk result (self.new.frames.held ≡ self.old.frames.held) }
@@ -695,6 +745,7 @@ impl Store {
         ensures failed { OnErr result (
             held_count self.old.frames
             < held_count self.new.frames + min count (evictable_count self.old.frames)) }
+        ensures tables { TablesAfter nothing_else self.old self.new }
         ensures pinned { self.new.frames.pinned ≡ self.old.frames.pinned }
         ensures others { Between OthersStay M.held M.page_bytes
             mapper.old caches.old self.old mapper.new caches.new self.new }

@@ -1,5 +1,5 @@
 -- A page that is brought into a frame that its taker has.
-use Rattle.std.proofs.Common.{◌≡◌, ◌≢◌, ℕ, ◌+◌, ◌<◌, ◌≤◌, ◌==◌, ◌||◌, Bool, true, false, not, List, [], length, get_or, set, replicate, drop, Option, Some, None, refl, sym, ap, ◌∙◌, subst, arith, inl, inr, length-set}
+use Rattle.std.proofs.Common.{◌≡◌, ◌≢◌, ℕ, ◌*◌, ◌+◌, ◌<◌, ◌≤◌, ◌==◌, ◌||◌, Bool, true, false, not, List, [], length, get_or, set, replicate, drop, Option, Some, None, refl, sym, ap, ◌∙◌, subst, arith, inl, inr, length-set}
 use Rattle.std.specs.List.{count_by}
 use Rattle.std.specs.Option.{IfSome}
 use Rattle.std.specs.Prelude.{is_some, option_map, option_and_then}
@@ -221,6 +221,7 @@ module _ (w : World) (f : ℕ) (n : NodeId) (dirty : Bool) (after : List Bool) (
           bytes_frames = length-set w.frames.bytes f bytes ∙ right.tied.fitted.bytes_frames;
           pinned_frames = length-set w.frames.pinned f false ∙ right.tied.fitted.pinned_frames;
           marks_frames = right.tied.fitted.marks_frames;
+          places_frames = right.tied.fitted.places_frames;
           few = right.tied.fitted.few;
           page = right.tied.fitted.page;
         };
@@ -357,6 +358,7 @@ given_up_still w f bytes right taken = record {
           bytes_frames = length-set w.frames.bytes f bytes ∙ right.tied.fitted.bytes_frames ∙ sym (length-set w.frames.held f false);
           pinned_frames = length-set w.frames.pinned f false ∙ right.tied.fitted.pinned_frames ∙ sym (length-set w.frames.held f false);
           marks_frames = right.tied.fitted.marks_frames ∙ sym (length-set w.frames.held f false);
+          places_frames = right.tied.fitted.places_frames ∙ ap (λ (k : ℕ). 4 * k) (sym (length-set w.frames.held f false));
           few = omega (arith, length-set w.frames.held f false, right.tied.fitted.few);
           page = right.tied.fitted.page;
         };

@@ -1,5 +1,5 @@
 -- A free frame that is given to a taker.
-use Rattle.std.proofs.Common.{◌≡◌, ℕ, ◌<◌, ◌||◌, ◌&&◌, Bool, true, false, not, cond, List, [], ◌∷◌, length, get_or, set, Option, Some, None, refl, sym, ap, ◌∙◌, arith, inl, inr, length-set}
+use Rattle.std.proofs.Common.{◌≡◌, ℕ, ◌*◌, ◌<◌, ◌||◌, ◌&&◌, Bool, true, false, not, cond, List, [], ◌∷◌, length, get_or, set, Option, Some, None, refl, sym, ap, ◌∙◌, arith, inl, inr, length-set}
 use Rattle.std.specs.Prelude.{is_some, MatchOption}
 use Rattle.std.specs.Option.{IsSome}
 use Rattle.std.specs.List.{All, list_all}
@@ -72,6 +72,7 @@ claimed_still w f right within free = record {
           bytes_frames = right.tied.fitted.bytes_frames ∙ sym (length-set w.frames.held f true);
           pinned_frames = length-set w.frames.pinned f true ∙ right.tied.fitted.pinned_frames ∙ sym (length-set w.frames.held f true);
           marks_frames = right.tied.fitted.marks_frames ∙ sym (length-set w.frames.held f true);
+          places_frames = right.tied.fitted.places_frames ∙ ap (λ (k : ℕ). 4 * k) (sym (length-set w.frames.held f true));
           few = omega (arith, length-set w.frames.held f true, right.tied.fitted.few);
           page = right.tied.fitted.page;
         };

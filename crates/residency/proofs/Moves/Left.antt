@@ -1,5 +1,5 @@
 -- A page leaves its frame.
-use Rattle.std.proofs.Common.{◌≡◌, ◌≢◌, ℕ, ◌+◌, ◌<◌, ◌==◌, ◌||◌, Bool, true, false, List, length, get_or, set, Option, Some, None, refl, sym, ap, ◌∙◌, arith, inl, inr, length-set}
+use Rattle.std.proofs.Common.{◌≡◌, ◌≢◌, ℕ, ◌*◌, ◌+◌, ◌<◌, ◌==◌, ◌||◌, Bool, true, false, List, length, get_or, set, Option, Some, None, refl, sym, ap, ◌∙◌, arith, inl, inr, length-set}
 use Rattle.std.specs.List.{count_by}
 use Rattle.std.specs.Option.{IfSome, IsSome}
 use Rattle.std.specs.Prelude.{is_some, option_map, option_and_then}
@@ -177,6 +177,7 @@ module _ (w : World) (f : ℕ) (n : NodeId) (x : OwnState) (told : Option Held) 
           bytes_frames = right.tied.fitted.bytes_frames ∙ sym (length-set w.frames.held f false);
           pinned_frames = right.tied.fitted.pinned_frames ∙ sym (length-set w.frames.held f false);
           marks_frames = right.tied.fitted.marks_frames ∙ sym (length-set w.frames.held f false);
+          places_frames = right.tied.fitted.places_frames ∙ ap (λ (k : ℕ). 4 * k) (sym (length-set w.frames.held f false));
           few = omega (arith, length-set w.frames.held f false, right.tied.fitted.few);
           page = right.tied.fitted.page;
         };

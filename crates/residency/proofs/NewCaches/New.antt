@@ -1,5 +1,5 @@
 -- A new store is right.
-use Rattle.std.proofs.Common.{◌≡◌, ℕ, ◌≤◌, ◌^◌, ◌||◌, false, List, [], ◌∷◌, length, get_or, replicate, Option, None, unwrap_or, refl, sym, ap, ◌∙◌, arith}
+use Rattle.std.proofs.Common.{◌≡◌, ℕ, ◌*◌, ◌≤◌, ◌^◌, ◌||◌, false, List, [], ◌∷◌, length, get_or, replicate, Option, None, unwrap_or, refl, sym, ap, ◌∙◌, arith}
 use Rattle.std.specs.Prelude.{is_some, IfSome}
 use Rattle.std.specs.List.{count_by}
 use Rattle.std.specs.Ordering.{nat_cmp}
@@ -40,7 +40,7 @@ no_states a none =
     no_items (own_states a) (length-map (values a.cells) (λ c. c.own) ∙ length-map (entries a.cells) (λ e. e.1) ∙ few)
 
 pub new_right : (n page : ℕ) (told : Option Held) (size : Option ℕ) (a : Arena) → n ≤ 2 ^ 16 → HasNoNodes a → IfSome size (λ k. k ≡ page)
-    → IsStoreRight (record { told = told; page_bytes = size; caches = a; frames = record { page = page; held = replicate n false; pinned = replicate n false; bytes = replicate n (replicate page 0) }; slots = []; map = replicate n None; marks = n })
+    → IsStoreRight (record { told = told; page_bytes = size; caches = a; frames = record { page = page; held = replicate n false; pinned = replicate n false; bytes = replicate n (replicate page 0) }; slots = []; map = replicate n None; marks = n; places = 4 * n })
 new_right n page told size a few none fits =
     let states : own_states a ≡ [] = no_states a none in
     record {
@@ -63,6 +63,7 @@ new_right n page told size a few none fits =
           bytes_frames = length-replicate n (replicate page 0) ∙ sym (length-replicate n false);
           pinned_frames = refl;
           marks_frames = sym (length-replicate n false);
+          places_frames = ap (λ (k : ℕ). 4 * k) (sym (length-replicate n false));
           few = omega (arith, length-replicate n false);
           page = fits;
         };

@@ -79,6 +79,7 @@ pin_right w f t right bound = record {
       bytes_frames = right.tied.fitted.bytes_frames;
       pinned_frames = length-set w.frames.pinned f t ∙ right.tied.fitted.pinned_frames;
       marks_frames = right.tied.fitted.marks_frames;
+      places_frames = right.tied.fitted.places_frames;
       few = right.tied.fitted.few;
       page = right.tied.fitted.page;
     };
@@ -123,6 +124,7 @@ written_right w f bytes right loose = record {
       bytes_frames = length-set w.frames.bytes f bytes ∙ right.tied.fitted.bytes_frames;
       pinned_frames = right.tied.fitted.pinned_frames;
       marks_frames = right.tied.fitted.marks_frames;
+      places_frames = right.tied.fitted.places_frames;
       few = right.tied.fitted.few;
       page = right.tied.fitted.page;
     };

@@ -69,8 +69,8 @@ room w f n right h =
     let few : count_by is_in_slot (own_states w.caches) < length (own_states w.caches) = own_not_all is_in_slot w.caches n h.there (resident_not_in_slot (own_of w.caches n) h.resident) in
     omega (arith, right.tied.placed.in_slots, right.capacity)
 
-pub world_is : (a b : World) → a.told ≡ b.told → a.page_bytes ≡ b.page_bytes → a.caches ≡ b.caches → a.frames ≡ b.frames → a.slots ≡ b.slots → a.map ≡ b.map → a.marks ≡ b.marks → a ≡ b
-world_is a b told size caches frames slots map marks = λ i. record { told = told i; page_bytes = size i; caches = caches i; frames = frames i; slots = slots i; map = map i; marks = marks i }
+pub world_is : (a b : World) → a.told ≡ b.told → a.page_bytes ≡ b.page_bytes → a.caches ≡ b.caches → a.frames ≡ b.frames → a.slots ≡ b.slots → a.map ≡ b.map → a.marks ≡ b.marks → a.places ≡ b.places → a ≡ b
+world_is a b told size caches frames slots map marks places = λ i. record { told = told i; page_bytes = size i; caches = caches i; frames = frames i; slots = slots i; map = map i; marks = marks i; places = places i }
 
 -- after an error nothing changed
 pub unchanged : {T F : Type 0} (r : Result T F) (told now : Option Held) (size then : Option ℕ) (a b : Arena) (s t : Store) → OnErr r (t ≡ s) → OnErr r (b ≡ a) → OnErr r (now ≡ told) → then ≡ size

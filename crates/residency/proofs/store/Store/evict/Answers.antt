@@ -1,4 +1,4 @@
-use Rattle.std.proofs.Common.{Some, subst, sym, ◌∙◌}
+use Rattle.std.proofs.Common.{Some, is_some, ap, subst, sym, ◌∙◌}
 use Rattle.vm_ids.specs.Counting.{RoseBy}
 use Rattle.local_cache.specs.Own.{own_of}
 use Rattle.residency.specs.Evicting.{HasLeft, IsEvicted, IsInSlot}
@@ -7,6 +7,7 @@ use Rattle.residency.proofs.Worlds.Arms.{on_ok_then}
 use Rattle.residency.proofs.Moves.Evicted.{evicts_dirty, evicts_others, evicts_still}
 use Rattle.residency.proofs.Worlds.Homes.{home_of_held, unchanged}
 use Rattle.residency.proofs.Pushes.Told.{evicts_told}
+use Rattle.residency.proofs.Translations.Lost.{evicts_tables}
 use Rattle.residency.proofs.store.Store.evict.Goals as goal
 
 pub home-requires : goal.home-requires
@@ -85,3 +86,15 @@ returns-in-None-clause-told g c =
     evicts_told w v (g.M.Mapper.counts c.args.mapper.now) (g.M.Mapper.counts c.send_to_slot.new.mapper) c.args.frame.0 c.requires.right c.requires.held c.send_to_slot.result (returns-in-None-clause-evicted g c)
     (unchanged c.send_to_slot.result (g.M.Mapper.held c.args.mapper.now) (g.M.Mapper.held c.send_to_slot.new.mapper) (g.M.Mapper.page_bytes c.args.mapper.now) (g.M.Mapper.page_bytes c.send_to_slot.new.mapper) c.args.caches.now c.send_to_slot.new.caches c.args.self.now c.send_to_slot.new.self c.send_to_slot.ensures.failed c.send_to_slot.ensures.failed_caches c.send_to_slot.ensures.failed_held c.send_to_slot.ensures.page_bytes)
     c.send_to_slot.ensures.counts.pushes_later (subst (λ k. RoseBy k (g.M.Mapper.counts c.args.mapper.now).pushes (g.M.Mapper.counts c.send_to_slot.new.mapper).pushes) (sym c.send_to_slot.ensures.dirty) c.send_to_slot.ensures.counts.pushed)
+
+pub returns-in-Some-clause-tables : goal.returns-in-Some-clause-tables
+returns-in-Some-clause-tables g c =
+    let w : World = world (g.M.Mapper.held c.args.mapper.now) (g.M.Mapper.page_bytes c.args.mapper.now) c.args.caches.now c.args.self.now in
+    let home = home_of_held w c.args.frame.0 c.unwrap-node.result c.requires.right c.requires.held (sym c.node_at.ensures ∙ c.unwrap-node.ensures) in
+    evicts_tables c.send_home.result c.args.frame.0 c.args.self.now c.send_home.new.self home.frame (ap is_some home.node) c.send_home.ensures.emptied c.send_home.ensures.failed
+
+pub returns-in-None-clause-tables : goal.returns-in-None-clause-tables
+returns-in-None-clause-tables g c =
+    let w : World = world (g.M.Mapper.held c.args.mapper.now) (g.M.Mapper.page_bytes c.args.mapper.now) c.args.caches.now c.args.self.now in
+    let home = home_of_held w c.args.frame.0 c.unwrap-node.result c.requires.right c.requires.held (sym c.node_at.ensures ∙ c.unwrap-node.ensures) in
+    evicts_tables c.send_to_slot.result c.args.frame.0 c.args.self.now c.send_to_slot.new.self home.frame (ap is_some home.node) c.send_to_slot.ensures.emptied c.send_to_slot.ensures.failed

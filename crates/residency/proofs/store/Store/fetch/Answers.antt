@@ -1,9 +1,12 @@
-use Rattle.std.proofs.Common.{ap, ◌∙◌, List, Bool, false, slice_set}
+use Rattle.std.proofs.Common.{ap, ◌∙◌, ◌≡◌, ◌<◌, ℕ, List, Bool, false, cond, length, slice_set, arith}
 use Rattle.vm_ids.proofs.Places.{back}
+use Rattle.global_map.specs.Pairs.{bound_times}
 use Rattle.residency.specs.World.{OthersStay, World, world}
 use Rattle.residency.proofs.Worlds.Arms.{on_err_then}
 use Rattle.residency.proofs.Moves.Claimed.{taken_then}
 use Rattle.residency.proofs.Worlds.Composed.{others_then, others_then_but}
+use Rattle.residency.specs.Translating.{nothing_else}
+use Rattle.residency.proofs.Translations.Lost.{lost_filled, tables_to}
 use Rattle.residency.proofs.store.Store.fetch.Goals as goal
 
 pub returns-in-Ok-clause-pinned : goal.returns-in-Ok-clause-pinned
@@ -22,3 +25,11 @@ returns-in-Ok-clause-failed g c =
     let v : World = world (g.M.Mapper.held c.make_free.new.mapper) (g.M.Mapper.page_bytes c.make_free.new.mapper) c.make_free.new.caches c.make_free.new.self in
     let u : World = world (g.M.Mapper.held c.fill.new.mapper) (g.M.Mapper.page_bytes c.fill.new.mapper) c.fill.new.caches c.fill.new.self in
     on_err_then (OthersStay v u) (OthersStay w u) c.fill.result (others_then w v u c.make_free.ensures.still.stays.caches c.make_free.ensures.others) c.fill.ensures.failed
+
+pub returns-in-Ok-clause-tables : goal.returns-in-Ok-clause-tables
+returns-in-Ok-clause-tables g c =
+    let away : bound_times c.args.self.now.map c.args.node.0 ≡ 0 = c.requires.right.tied.placed.bound c.args.node ∙ ap (λ (b : Bool). cond {A = ℕ} b 1 0) c.requires.node.away in
+    let within : c.in-Ok.frame.0 < length c.make_free.new.self.map = omega (arith, c.in-Ok.ensures.free.within, c.make_free.ensures.still.stays.frames, c.make_free.ensures.still.stays.right.tied.fitted.map_frames) in
+    tables_to nothing_else c.args.self.now c.make_free.new.self c.fill.new.self
+    (lost_filled c.fill.result c.args.self.now.map c.make_free.new.self.map c.fill.new.self.map c.in-Ok.frame.0 c.args.node c.fill.ensures.bound c.fill.ensures.unbound away c.in-Ok.ensures.free.unbound within)
+    c.fill.ensures.tables c.make_free.ensures.tables

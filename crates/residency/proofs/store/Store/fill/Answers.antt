@@ -22,7 +22,7 @@ returns-in_default-clause-still g c =
     let then : World = brought w c.args.frame.0 c.args.node true c.args.self.now.slots (replicate c.args.self.now.frames.page 0) in
     let kept : StillBut c.args.frame.0 w then = zero_brought w c.args.frame.0 c.args.node c.requires.right c.requires.taken c.requires.node.node zero in
     subst (StillBut c.args.frame.0 w)
-    (sym (world_is _ then refl refl c.settle_in.ensures.caches (ap (λ (s : Store). s.frames) c.settle_in.ensures.store ∙ ap (λ (p : Frames). record p { pinned = set p.pinned c.args.frame.0 false }) c.zero.ensures) (ap (λ (s : Store). s.slots) c.settle_in.ensures.store) (ap (λ (s : Store). s.map) c.settle_in.ensures.store) (ap (λ (s : Store). length s.marks) c.settle_in.ensures.store)))
+    (sym (world_is _ then refl refl c.settle_in.ensures.caches (ap (λ (s : Store). s.frames) c.settle_in.ensures.store ∙ ap (λ (p : Frames). record p { pinned = set p.pinned c.args.frame.0 false }) c.zero.ensures) (ap (λ (s : Store). s.slots) c.settle_in.ensures.store) (ap (λ (s : Store). s.map) c.settle_in.ensures.store) (ap (λ (s : Store). length s.marks) c.settle_in.ensures.store) (ap (λ (s : Store). length s.tables) c.settle_in.ensures.store)))
     kept
 
 pub returns-in_default-clause-others : goal.returns-in_default-clause-others
@@ -30,7 +30,7 @@ returns-in_default-clause-others g c =
     let w : World = world (g.M.Mapper.held c.args.mapper.now) (g.M.Mapper.page_bytes c.args.mapper.now) c.args.caches.now c.args.self.now in
     let then : World = brought w c.args.frame.0 c.args.node true c.args.self.now.slots (replicate c.args.self.now.frames.page 0) in
     subst (OthersStayBut c.args.node w)
-    (sym (world_is _ then refl refl c.settle_in.ensures.caches (ap (λ (s : Store). s.frames) c.settle_in.ensures.store ∙ ap (λ (p : Frames). record p { pinned = set p.pinned c.args.frame.0 false }) c.zero.ensures) (ap (λ (s : Store). s.slots) c.settle_in.ensures.store) (ap (λ (s : Store). s.map) c.settle_in.ensures.store) (ap (λ (s : Store). length s.marks) c.settle_in.ensures.store)))
+    (sym (world_is _ then refl refl c.settle_in.ensures.caches (ap (λ (s : Store). s.frames) c.settle_in.ensures.store ∙ ap (λ (p : Frames). record p { pinned = set p.pinned c.args.frame.0 false }) c.zero.ensures) (ap (λ (s : Store). s.slots) c.settle_in.ensures.store) (ap (λ (s : Store). s.map) c.settle_in.ensures.store) (ap (λ (s : Store). length s.marks) c.settle_in.ensures.store) (ap (λ (s : Store). length s.tables) c.settle_in.ensures.store)))
     (brought_others w c.args.frame.0 c.args.node true c.args.self.now.slots (replicate c.args.self.now.frames.page 0) (omega (arith, c.requires.taken.within, c.requires.right.tied.fitted.map_frames)))
 
 pub returns-in_default-clause-page : goal.returns-in_default-clause-page

@@ -1,8 +1,9 @@
-use Rattle.std.proofs.Common.{arith, ◌≡◌, ◌+◌, ap}
+use Rattle.std.proofs.Common.{arith, ◌≡◌, ◌+◌, ap, refl}
 use Rattle.frame_pool.specs.Pool.{Frames, held_count}
 use Rattle.residency.specs.Causes.{pushes_for}
 use Rattle.residency.proofs.Worlds.Arms.{on_ok}
 use Rattle.residency.proofs.Moves.Claimed.{pushes_when_full}
+use Rattle.residency.proofs.Translations.Lost.{tables_same}
 use Rattle.residency.proofs.store.Store.make_free.Goals as goal
 
 pub returns-in-None-clause-few : goal.returns-in-None-clause-few
@@ -20,3 +21,6 @@ pub returns-in-None-clause-held : goal.returns-in-None-clause-held
 returns-in-None-clause-held g c =
     let once : pushes_for c.args.self.now.frames.held ≡ 1 = pushes_when_full c.args.self.now.frames.held c.in-None.ensures.1 in
     on_ok (held_count c.make_room.new.self.frames + pushes_for c.args.self.now.frames.held ≡ held_count c.args.self.now.frames + 1) c.make_room.result (omega (arith, once, c.make_room.ensures.held, ap (λ (p : Frames). held_count p) c.in-None.ensures.0))
+
+pub returns-in-Some-clause-tables : goal.returns-in-Some-clause-tables
+returns-in-Some-clause-tables g c = tables_same c.args.self.now c.args.self.now refl refl

@@ -43,7 +43,7 @@ returns-in-Ok-clause-still g c =
     (ap (λ (s : Store). s.frames) c.settle_in.ensures.store ∙ ap (λ (b : List ℕ). (brought w c.args.frame.0 c.args.node true slots b).frames) full)
     (ap (λ (s : Store). s.slots) c.settle_in.ensures.store ∙ c.give_back.ensures)
     (ap (λ (s : Store). s.map) c.settle_in.ensures.store)
-    (ap (λ (s : Store). length s.marks) c.settle_in.ensures.store)))
+    (ap (λ (s : Store). length s.marks) c.settle_in.ensures.store) (ap (λ (s : Store). length s.tables) c.settle_in.ensures.store)))
     kept
 
 pub returns-in-Ok-clause-others : goal.returns-in-Ok-clause-others
@@ -60,7 +60,7 @@ returns-in-Ok-clause-others g c =
     (ap (λ (s : Store). s.frames) c.settle_in.ensures.store ∙ ap (λ (b : List ℕ). (brought w c.args.frame.0 c.args.node true slots b).frames) full)
     (ap (λ (s : Store). s.slots) c.settle_in.ensures.store ∙ c.give_back.ensures)
     (ap (λ (s : Store). s.map) c.settle_in.ensures.store)
-    (ap (λ (s : Store). length s.marks) c.settle_in.ensures.store)))
+    (ap (λ (s : Store). length s.marks) c.settle_in.ensures.store) (ap (λ (s : Store). length s.tables) c.settle_in.ensures.store)))
     (brought_others w c.args.frame.0 c.args.node true slots bytes (omega (arith, c.requires.taken.within, c.requires.right.tied.fitted.map_frames)))
 
 pub returns-in-Ok-clause-page : goal.returns-in-Ok-clause-page
@@ -87,7 +87,7 @@ returns-in-Err-clause-still g c =
     let kept : StillBut c.args.frame.0 w (given_up w c.args.frame.0 bytes) = given_up_still w c.args.frame.0 bytes c.requires.right c.requires.taken in
     subst (StillBut c.args.frame.0 w)
     (sym (world_is _ (given_up w c.args.frame.0 bytes) c.swap_in.ensures.held c.swap_in.ensures.page refl
-    (ap (λ (s : Store). s.frames) c.give_up.ensures) (ap (λ (s : Store). s.slots) c.give_up.ensures) (ap (λ (s : Store). s.map) c.give_up.ensures) (ap (λ (s : Store). length s.marks) c.give_up.ensures)))
+    (ap (λ (s : Store). s.frames) c.give_up.ensures) (ap (λ (s : Store). s.slots) c.give_up.ensures) (ap (λ (s : Store). s.map) c.give_up.ensures) (ap (λ (s : Store). length s.marks) c.give_up.ensures) (ap (λ (s : Store). length s.tables) c.give_up.ensures)))
     kept
 
 pub returns-in-Err-clause-failed : goal.returns-in-Err-clause-failed
@@ -97,7 +97,7 @@ returns-in-Err-clause-failed g c =
     let kept : OthersStay w (given_up w c.args.frame.0 bytes) = given_up_others w c.args.frame.0 bytes c.requires.taken.unbound in
     subst (OthersStay w)
     (sym (world_is _ (given_up w c.args.frame.0 bytes) c.swap_in.ensures.held c.swap_in.ensures.page refl
-    (ap (λ (s : Store). s.frames) c.give_up.ensures) (ap (λ (s : Store). s.slots) c.give_up.ensures) (ap (λ (s : Store). s.map) c.give_up.ensures) (ap (λ (s : Store). length s.marks) c.give_up.ensures)))
+    (ap (λ (s : Store). s.frames) c.give_up.ensures) (ap (λ (s : Store). s.slots) c.give_up.ensures) (ap (λ (s : Store). s.map) c.give_up.ensures) (ap (λ (s : Store). length s.marks) c.give_up.ensures) (ap (λ (s : Store). length s.tables) c.give_up.ensures)))
     kept
 
 pub returns-in-Err-clause-others : goal.returns-in-Err-clause-others
@@ -107,5 +107,5 @@ returns-in-Err-clause-others g c =
     let kept : OthersStay w (given_up w c.args.frame.0 bytes) = given_up_others w c.args.frame.0 bytes c.requires.taken.unbound in
     subst (OthersStayBut c.args.node w)
     (sym (world_is _ (given_up w c.args.frame.0 bytes) c.swap_in.ensures.held c.swap_in.ensures.page refl
-    (ap (λ (s : Store). s.frames) c.give_up.ensures) (ap (λ (s : Store). s.slots) c.give_up.ensures) (ap (λ (s : Store). s.map) c.give_up.ensures) (ap (λ (s : Store). length s.marks) c.give_up.ensures)))
+    (ap (λ (s : Store). s.frames) c.give_up.ensures) (ap (λ (s : Store). s.slots) c.give_up.ensures) (ap (λ (s : Store). s.map) c.give_up.ensures) (ap (λ (s : Store). length s.marks) c.give_up.ensures) (ap (λ (s : Store). length s.tables) c.give_up.ensures)))
     (others_but c.args.node w _ kept)
