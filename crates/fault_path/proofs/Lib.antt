@@ -6,3 +6,5 @@ pub mod Frames
 pub mod Pages
 -- The rules of the page forest that the calls come to.
 pub mod Rules
+-- Which translations are dropped.
+pub mod Translations

@@ -1,5 +1,6 @@
 -- The rules of the page forest that the calls come to.
 pub mod Heirs
+pub mod KeptOwners
 pub mod ForestSize
 pub mod OneFrameForest
 pub mod OwningRules

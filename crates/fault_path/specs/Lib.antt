@@ -3,3 +3,4 @@ pub mod Costs
 pub mod Faults
 pub mod Gathering
 pub mod Giving
+pub mod Translating

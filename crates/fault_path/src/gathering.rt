@@ -10,6 +10,8 @@ ghost use Rattle.residency.specs.Pushing.{TellsOn};
 ghost use Rattle.residency.specs.World.{FrameStays, HasOwnPage};
 ghost use Rattle.fault_path.specs.Costs.{HoldsMore, Pulls, Takes, TakesAtMost, frames_to_copy, pulls_to_copy};
 ghost use Rattle.fault_path.specs.Faults.{HasLoose};
+ghost use Rattle.residency.specs.Translating.{Drops};
+ghost use Rattle.fault_path.specs.Translating.{Nobody};
 ghost use Rattle.fault_path.specs.Gathering.{IsCopiedOut, IsDoubled, IsGathered, NoneGathered};
 
 use local_cache::{Caches, OwnState};
@@ -37,6 +39,7 @@ fn make_free_beside<M: Mapper, C: Chooser>(
         mapper.old caches.old store.old mapper.new caches.new store.new) }
     ensures told { Across TellsOn M.held M.page_bytes M.counts
         mapper.old caches.old store.old mapper.new caches.new store.new }
+    ensures drops { Drops Nobody caches.old store.old caches.new store.new }
     ensures later { Later (M.counts mapper.old) (M.counts mapper.new) }
     ensures held { OnOk result (held_count store.new.frames + pushes_for store.old.frames.held
         ≡ held_count store.old.frames + 1) }
@@ -70,6 +73,7 @@ pub(crate) fn double<M: Mapper, C: Chooser>(
         mapper.old caches.old store.old mapper.new caches.new store.new) }
     ensures told { Across TellsOn M.held M.page_bytes M.counts
         mapper.old caches.old store.old mapper.new caches.new store.new }
+    ensures drops { Drops Nobody caches.old store.old caches.new store.new }
     ensures later { Later (M.counts mapper.old) (M.counts mapper.new) }
     ensures held { OnOk result (held_count store.new.frames + pushes_for store.old.frames.held
         ≡ held_count store.old.frames + 1) }
@@ -99,6 +103,7 @@ fn zeroed<M: Mapper, C: Chooser>(
         mapper.old caches.old store.old mapper.new caches.new store.new) }
     ensures told { Across TellsOn M.held M.page_bytes M.counts
         mapper.old caches.old store.old mapper.new caches.new store.new }
+    ensures drops { Drops Nobody caches.old store.old caches.new store.new }
     ensures later { Later (M.counts mapper.old) (M.counts mapper.new) }
     ensures held { OnOk result (held_count store.new.frames + pushes_for store.old.frames.held
         ≡ held_count store.old.frames + 1) }
@@ -130,6 +135,7 @@ fn brought_out<M: Mapper, C: Chooser>(
         mapper.old caches.old store.old mapper.new caches.new store.new) }
     ensures told { Across TellsOn M.held M.page_bytes M.counts
         mapper.old caches.old store.old mapper.new caches.new store.new }
+    ensures drops { Drops (λ n. n ≡ node) caches.old store.old caches.new store.new }
     ensures later { Later (M.counts mapper.old) (M.counts mapper.new) }
     ensures held { OnOk result (HoldsMore (frames_to_bring (own_of caches.old node) + 1)
         store.old.frames store.new.frames) }
@@ -165,6 +171,7 @@ pub(crate) fn copy_out<M: Mapper, C: Chooser>(
         mapper.old caches.old store.old mapper.new caches.new store.new) }
     ensures told { Across TellsOn M.held M.page_bytes M.counts
         mapper.old caches.old store.old mapper.new caches.new store.new }
+    ensures drops { Drops (λ n. n ≡ node) caches.old store.old caches.new store.new }
     ensures later { Later (M.counts mapper.old) (M.counts mapper.new) }
     ensures held { OnOk result (HoldsMore (frames_to_copy (own_of caches.old node))
         store.old.frames store.new.frames) }

@@ -1,5 +1,5 @@
 // A node gets its own page, in a frame that was gathered for it.
-ghost use Rattle.std.specs.Prelude.{◌≡◌, ◌+◌, ◌<◌, ◌^◌, true, false, length, None, Some, IsSome, slice_set};
+ghost use Rattle.std.specs.Prelude.{◌≡◌, ◌+◌, ◌*◌, ◌<◌, ◌≤◌, ◌^◌, true, false, length, None, Some, IsSome, slice_set};
 ghost use Rattle.vm_ids.specs.Forest.NameMap.{len};
 ghost use Rattle.vm_ids.specs.Forest.Nodes.{is_stub, node as node_named};
 ghost use Rattle.vm_ids.specs.Forest.Rules as forest;
@@ -8,8 +8,10 @@ ghost use Rattle.local_cache.specs.Arena.{HasNode};
 ghost use Rattle.local_cache.specs.Reading.{forest_of, name_of, node_of as read_node};
 ghost use Rattle.local_cache.specs.Sound.{IsSound};
 ghost use Rattle.residency.specs.Frames.{with_pinned};
+ghost use Rattle.residency.specs.Translating.{without};
 ghost use Rattle.fault_path.specs.Faults.{IsHeirOf};
 ghost use Rattle.fault_path.specs.Giving.{IsGiven, IsHanded, IsOwned};
+ghost use Rattle.fault_path.specs.Translating.{is_home, without_homes};
 
 use local_cache::{Caches, OwnState};
 use page_stubs::{cut_stub, hand_stubs};
@@ -75,4 +77,25 @@ pub(crate) fn settle_in(store: &mut Store, node: NodeId, frame: FrameId)
 {
     store.bind(node, frame);
     store.unpin(frame);
+}
+
+// The translations that lead to the page of a node are dropped.
+fn drop_one(store: &mut Store, node: NodeId)
+    requires { 4 * length store.old.map ≤ length store.old.tables }
+    ensures { store.new ≡ record store.old {
+      tables = without (is_home node store.old.map) store.old.tables;
+    } }
+{
+    if let Some(frame) = store.map().get(node) {
+        store.tables_mut().drop_frame(frame);
+    }
+}
+
+// The translations that lead to the pages of a node and of its owner are dropped.
+pub(crate) fn drop_translations(store: &mut Store, owner: NodeId, node: NodeId)
+    requires { 4 * length store.old.map ≤ length store.old.tables }
+    ensures { store.new ≡ without_homes owner node store.old }
+{
+    drop_one(store, owner);
+    drop_one(store, node);
 }

@@ -8,6 +8,7 @@ ghost use Rattle.local_cache.specs.Reading.{forest_of, name_of};
 ghost use Rattle.residency.specs.Causes.{HasMissCause, Traffic, dirtied, dirty_count, failed_victims, pulls_for, pushes_to_bring};
 ghost use Rattle.residency.specs.Between.{Across, Between};
 ghost use Rattle.residency.specs.World.{HasUnpinned, HoldsPage, Still, world};
+ghost use Rattle.residency.specs.Translating.{Drops};
 ghost use Rattle.fault_path.specs.Answers.{IsAnswered, RightForest};
 ghost use Rattle.fault_path.specs.Faults.{IsFound, IsOwner, IsValueFound, SameForest, is_at_hand};
 ghost use Rattle.fault_path.specs.Faults as faults;
@@ -43,6 +44,8 @@ pub fn read_fault<M: Mapper, C: Chooser>(
         mapper.old caches.old store.old mapper.new caches.new store.new }
     ensures still { Between Still M.held M.page_bytes
         mapper.old caches.old store.old mapper.new caches.new store.new }
+    ensures drops { (o : NodeId) → IsOwner caches.old node o
+        → Drops (λ n. n ≡ o) caches.old store.old caches.new store.new }
     ensures forest { Between SameForest M.held M.page_bytes
         mapper.old caches.old store.old mapper.new caches.new store.new }
     ensures frame { IfOk result (λ found. (o : NodeId) → IsOwner caches.old node o → IsFound

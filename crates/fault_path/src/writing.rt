@@ -1,5 +1,5 @@
 // A page is owned, saved for its heir, or made ready for a write.
-ghost use Rattle.std.specs.Prelude.{◌≡◌, ◌+◌, ◌<◌, ◌≤◌, ◌^◌, true, length, None, Some, IfErr, IfOk, OnOk};
+ghost use Rattle.std.specs.Prelude.{◌≡◌, ◌+◌, ◌<◌, ◌≤◌, ◌^◌, true, length, None, Some, IfErr, IfOk, OnErr, OnOk};
 ghost use Rattle.vm_ids.specs.declared.numbers.NodeId.{NodeId};
 ghost use Rattle.vm_ids.specs.Forest.NameMap.{len};
 ghost use Rattle.vm_ids.specs.Forest.Nodes.{is_live};
@@ -12,20 +12,24 @@ ghost use Rattle.local_cache.specs.Reading.{forest_of, name_of};
 ghost use Rattle.residency.specs.Causes.{frames_to_bring};
 ghost use Rattle.residency.specs.Between.{Across, Between};
 ghost use Rattle.residency.specs.World.{HasOwnPage};
+ghost use Rattle.residency.specs.Seeing.{IsAlone};
+ghost use Rattle.residency.specs.Translating.{Drops};
+ghost use Rattle.fault_path.specs.Translating.{MayCome, without_homes};
 ghost use Rattle.fault_path.specs.Answers.{IsAnswered, IsFramed, IsMissed, RightForest};
 ghost use Rattle.fault_path.specs.Costs.{Takes, TakesAtMost, frames_to_copy, frames_to_save, frames_to_write, heirs_to_save, pulls_to_copy, pulls_to_save, pulls_to_write};
 ghost use Rattle.fault_path.specs.Faults.{Follows, HasLoose, IsHeirOf, IsOwner, MayWrite, StaysHome, readied};
 
 use crate::gathering::{copy_out, double, release};
-use crate::giving::{hand_page, own_page, settle_in};
+use crate::giving::{drop_translations, hand_page, own_page, settle_in};
 use history_tree::{heir, owner_of};
 use local_cache::{Caches, OwnState};
 use residency::{Miss, Store};
 use vm_ids::{FrameId, NodeId};
 use vm_port::{Chooser, Mapper};
 
-/// A node without an own page gets the page that it reads as its own, in a frame. After a fault
-/// every page is where it was, or left its frame.
+/// A node without an own page gets the page that it reads as its own, in a frame. Translations that
+/// led to the page of its owner are dropped. After a fault every page is where it was, or left its
+/// frame.
 pub fn own<M: Mapper, C: Chooser>(
     store: &mut Store,
     caches: &mut Caches,
@@ -44,6 +48,8 @@ pub fn own<M: Mapper, C: Chooser>(
         Between (Follows forest.own (name_of caches.old node)) M.held M.page_bytes
         mapper.old caches.old store.old mapper.new caches.new store.new) }
     ensures resident { OnOk result (own_of caches.new node ≡ OwnState.Resident true) }
+    ensures drops { (o : NodeId) → IsOwner caches.old node o
+        → Drops (MayCome caches.old o) caches.old store.old caches.new store.new }
     ensures copies { OnOk result (caches.new.copies ≡ caches.old.copies + 1) }
     ensures missed { IfErr result (λ miss. Across (IsMissed miss) M.held M.page_bytes M.counts
         mapper.old caches.old store.old mapper.new caches.new store.new) }
@@ -52,11 +58,14 @@ pub fn own<M: Mapper, C: Chooser>(
         store.old.frames (M.counts mapper.old) (M.counts mapper.new)) }
     ensures most { TakesAtMost 1 2 store.old.frames (M.counts mapper.old) (M.counts mapper.new) }
 {
+    let owner = owner_of(caches, node);
     own_framed(store, caches, node, mapper, chooser)?;
+    drop_translations(store, owner, node);
     Ok(())
 }
 
-// The same, and the frame is told.
+// The same, and the frame is told. The translations that lead to the pages of the node and of its
+// owner are left to the caller.
 fn own_framed<M: Mapper, C: Chooser>(
     store: &mut Store,
     caches: &mut Caches,
@@ -75,6 +84,10 @@ fn own_framed<M: Mapper, C: Chooser>(
         mapper.old caches.old store.old mapper.new caches.new store.new) }
     ensures missed { IfErr result (λ miss. Across (IsMissed miss) M.held M.page_bytes M.counts
         mapper.old caches.old store.old mapper.new caches.new store.new) }
+    ensures drops { (o : NodeId) → IsOwner caches.old node o → OnOk result (Drops
+        (MayCome caches.old o) caches.old store.old caches.new (without_homes o node store.new)) }
+    ensures missed_drops { (o : NodeId) → IsOwner caches.old node o → OnErr result (Drops
+        (MayCome caches.old o) caches.old store.old caches.new store.new) }
     ensures copies { OnOk result (caches.new.copies ≡ caches.old.copies + 1) }
     ensures made { (o : NodeId) → IsOwner caches.old node o → OnOk result (Takes
         (pulls_to_copy (own_of caches.old o)) (frames_to_copy (own_of caches.old o))
@@ -88,8 +101,8 @@ fn own_framed<M: Mapper, C: Chooser>(
     Ok(frame)
 }
 
-/// The heir of a page, where there is one, gets the page as its own, in a frame. After a fault
-/// every page is where it was, or left its frame.
+/// The heir of a page, where there is one, gets the page as its own, in a frame. Translations that
+/// led to the page are dropped. After a fault every page is where it was, or left its frame.
 pub fn save<M: Mapper, C: Chooser>(
     store: &mut Store,
     caches: &mut Caches,
@@ -109,6 +122,42 @@ pub fn save<M: Mapper, C: Chooser>(
         mapper.old caches.old store.old mapper.new caches.new store.new) }
     ensures missed { IfErr result (λ miss. Across (IsMissed miss) M.held M.page_bytes M.counts
         mapper.old caches.old store.old mapper.new caches.new store.new) }
+    ensures drops { Drops (MayCome caches.old node) caches.old store.old caches.new store.new }
+    ensures copies { OnOk result (caches.new.copies ≤ caches.old.copies + 1) }
+    ensures made { OnOk result (Takes
+        (pulls_to_save caches.old node) (frames_to_save caches.old node)
+        store.old.frames (M.counts mapper.old) (M.counts mapper.new)) }
+    ensures most { TakesAtMost 1 2 store.old.frames (M.counts mapper.old) (M.counts mapper.new) }
+{
+    save_to_heir(store, caches, node, mapper, chooser)?;
+    drop_translations(store, node, node);
+    Ok(())
+}
+
+// The same, where the translations that lead to the page are left to the caller.
+fn save_to_heir<M: Mapper, C: Chooser>(
+    store: &mut Store,
+    caches: &mut Caches,
+    node: NodeId,
+    mapper: &mut M,
+    chooser: &mut C,
+) -> Result<(), Miss>
+    requires right { RightForest M.held M.page_bytes mapper.old caches.old store.old }
+    requires own { HasOwnPage caches.old node }
+    requires live { is_live (name_of caches.old node) ≡ true }
+    requires loose { HasLoose 2 store.old.frames }
+    requires copies { caches.old.copies < 2 ^ 63 }
+    ensures answered { Across IsAnswered M.held M.page_bytes M.counts
+        mapper.old caches.old store.old mapper.new caches.new store.new }
+    ensures forest { OnOk result (
+        Between (Follows forest.heir_gets (name_of caches.old node)) M.held M.page_bytes
+        mapper.old caches.old store.old mapper.new caches.new store.new) }
+    ensures missed { IfErr result (λ miss. Across (IsMissed miss) M.held M.page_bytes M.counts
+        mapper.old caches.old store.old mapper.new caches.new store.new) }
+    ensures drops { OnOk result (Drops (MayCome caches.old node)
+        caches.old store.old caches.new (without_homes node node store.new)) }
+    ensures missed_drops { OnErr result (Drops (MayCome caches.old node)
+        caches.old store.old caches.new store.new) }
     ensures copies { OnOk result (caches.new.copies ≤ caches.old.copies + 1) }
     ensures made { OnOk result (Takes
         (pulls_to_save caches.old node) (frames_to_save caches.old node)
@@ -144,6 +193,10 @@ fn hand_over<M: Mapper, C: Chooser>(
     ensures missed { IfErr result (λ miss. Across (IsMissed miss) M.held M.page_bytes M.counts
         mapper.old caches.old store.old mapper.new caches.new store.new) }
     ensures home { OnOk result (StaysHome node store.old.map store.new.map) }
+    ensures drops { OnOk result (Drops (MayCome caches.old node)
+        caches.old store.old caches.new (without_homes node node store.new)) }
+    ensures missed_drops { OnErr result (Drops (MayCome caches.old node)
+        caches.old store.old caches.new store.new) }
     ensures copies { OnOk result (caches.new.copies ≡ caches.old.copies + 1) }
     ensures made { OnOk result (Takes
         (pulls_to_copy (own_of caches.old node)) (frames_to_copy (own_of caches.old node))
@@ -160,9 +213,9 @@ fn hand_over<M: Mapper, C: Chooser>(
 
 /// The page of a node is made ready for a write: the node owns its page, in a frame, which is the
 /// answer, and its heir, where there is one, has the page as it is. The bytes of the frame may be
-/// written then, and the page is dirty; where it is one of a segment, that was granted before. All
-/// frames are gathered before anything changes, so that after a fault every page is where it was,
-/// or left its frame.
+/// written then, and the page is dirty; where it is one of a segment, that was granted before.
+/// Translations that led to the page, or to that of its owner, are dropped. All frames are gathered
+/// before anything changes, so that after a fault every page is where it was, or left its frame.
 pub fn write_fault<M: Mapper, C: Chooser>(
     store: &mut Store,
     caches: &mut Caches,
@@ -182,6 +235,46 @@ pub fn write_fault<M: Mapper, C: Chooser>(
         mapper.old caches.old store.old mapper.new caches.new store.new) }
     ensures missed { IfErr result (λ miss. Across (IsMissed miss) M.held M.page_bytes M.counts
         mapper.old caches.old store.old mapper.new caches.new store.new) }
+    ensures drops { (o : NodeId) → IsOwner caches.old node o
+        → Drops (MayCome caches.old o) caches.old store.old caches.new store.new }
+    ensures alone { OnOk result (IsAlone caches.new (name_of caches.new node)) }
+    ensures copies { OnOk result (caches.new.copies ≤ caches.old.copies + 2) }
+    ensures made { (o : NodeId) → IsOwner caches.old node o → OnOk result (Takes
+        (pulls_to_write caches.old node o) (frames_to_write caches.old node o)
+        store.old.frames (M.counts mapper.old) (M.counts mapper.new)) }
+    ensures most { TakesAtMost 1 3 store.old.frames (M.counts mapper.old) (M.counts mapper.new) }
+{
+    let owner = owner_of(caches, node);
+    let frame = make_ready(store, caches, node, mapper, chooser)?;
+    drop_translations(store, owner, node);
+    Ok(frame)
+}
+
+// The same, where the translations that lead to the pages of the node and of its owner are left to
+// the caller.
+fn make_ready<M: Mapper, C: Chooser>(
+    store: &mut Store,
+    caches: &mut Caches,
+    node: NodeId,
+    mapper: &mut M,
+    chooser: &mut C,
+) -> Result<FrameId, Miss>
+    requires right { RightForest M.held M.page_bytes mapper.old caches.old store.old }
+    requires node { HasNode caches.old node }
+    requires live { is_live (name_of caches.old node) ≡ true }
+    requires granted { MayWrite caches.old node }
+    requires loose { HasLoose 3 store.old.frames }
+    requires copies { caches.old.copies + 1 < 2 ^ 63 }
+    ensures answered { Across IsAnswered M.held M.page_bytes M.counts
+        mapper.old caches.old store.old mapper.new caches.new store.new }
+    ensures ready { IfOk result (λ f. Between (IsFramed readied node f.0) M.held M.page_bytes
+        mapper.old caches.old store.old mapper.new caches.new store.new) }
+    ensures missed { IfErr result (λ miss. Across (IsMissed miss) M.held M.page_bytes M.counts
+        mapper.old caches.old store.old mapper.new caches.new store.new) }
+    ensures drops { (o : NodeId) → IsOwner caches.old node o → OnOk result (Drops
+        (MayCome caches.old o) caches.old store.old caches.new (without_homes o node store.new)) }
+    ensures missed_drops { (o : NodeId) → IsOwner caches.old node o → OnErr result (Drops
+        (MayCome caches.old o) caches.old store.old caches.new store.new) }
     ensures copies { OnOk result (caches.new.copies ≤ caches.old.copies + 2) }
     ensures made { (o : NodeId) → IsOwner caches.old node o → OnOk result (Takes
         (pulls_to_write caches.old node o) (frames_to_write caches.old node o)
@@ -224,6 +317,10 @@ fn own_and_hand<M: Mapper, C: Chooser>(
         mapper.old caches.old store.old mapper.new caches.new store.new) }
     ensures missed { IfErr result (λ miss. Across (IsMissed miss) M.held M.page_bytes M.counts
         mapper.old caches.old store.old mapper.new caches.new store.new) }
+    ensures drops { (o : NodeId) → IsOwner caches.old node o → OnOk result (Drops
+        (MayCome caches.old o) caches.old store.old caches.new (without_homes o node store.new)) }
+    ensures missed_drops { (o : NodeId) → IsOwner caches.old node o → OnErr result (Drops
+        (MayCome caches.old o) caches.old store.old caches.new store.new) }
     ensures copies { OnOk result (caches.new.copies ≡ caches.old.copies + 2) }
     ensures made { (o : NodeId) → IsOwner caches.old node o → OnOk result (Takes
         (pulls_to_copy (own_of caches.old o)) (frames_to_copy (own_of caches.old o) + 1)
@@ -265,6 +362,10 @@ fn hand_own<M: Mapper, C: Chooser>(
         mapper.old caches.old store.old mapper.new caches.new store.new) }
     ensures missed { IfErr result (λ miss. Across (IsMissed miss) M.held M.page_bytes M.counts
         mapper.old caches.old store.old mapper.new caches.new store.new) }
+    ensures drops { OnOk result (Drops (MayCome caches.old node)
+        caches.old store.old caches.new (without_homes node node store.new)) }
+    ensures missed_drops { OnErr result (Drops (MayCome caches.old node)
+        caches.old store.old caches.new store.new) }
     ensures copies { OnOk result (caches.new.copies ≡ caches.old.copies + 1) }
     ensures made { OnOk result (Takes
         (pulls_to_copy (own_of caches.old node)) (frames_to_bring (own_of caches.old node) + 1)
@@ -296,6 +397,10 @@ fn bring_dirty<M: Mapper, C: Chooser>(
         mapper.old caches.old store.old mapper.new caches.new store.new) }
     ensures missed { IfErr result (λ miss. Across (IsMissed miss) M.held M.page_bytes M.counts
         mapper.old caches.old store.old mapper.new caches.new store.new) }
+    ensures drops { OnOk result (Drops (MayCome caches.old node)
+        caches.old store.old caches.new (without_homes node node store.new)) }
+    ensures missed_drops { OnErr result (Drops (MayCome caches.old node)
+        caches.old store.old caches.new store.new) }
     ensures copies { OnOk result (caches.new.copies ≡ caches.old.copies) }
     ensures made { OnOk result (Takes
         (pulls_to_copy (own_of caches.old node)) (frames_to_bring (own_of caches.old node))

@@ -1,5 +1,5 @@
 -- What a read fault finds.
-use Rattle.std.proofs.Common.{◌≡◌, ℕ, ◌<◌, true, false, length, Some, None, refl, sym, ap, ◌∙◌}
+use Rattle.std.proofs.Common.{◌≡◌, ℕ, ◌<◌, true, false, length, Some, None, is_none, refl, sym, ap, ◌∙◌}
 use Rattle.std.specs.Prelude.{option_map, option_and_then}
 use Rattle.vm_ids.specs.Held.{slot_of}
 use Rattle.vm_ids.specs.declared.numbers.NodeId.{NodeId}
@@ -13,6 +13,7 @@ use Rattle.local_cache.specs.Arena.{Arena, HasNode}
 use Rattle.local_cache.specs.Own.{is_absent, is_resident, own_of}
 use Rattle.local_cache.specs.Reading.{forest_of, name_of, page_of}
 use Rattle.local_cache.specs.Sound.{IsSound}
+use Rattle.history_tree.proofs.Upward.{itself_owns}
 use Rattle.residency.specs.StoreForest.{store_forest}
 use Rattle.residency.specs.World.{HasOwnPage, Still, World, frame_page, home_page, page_by, zero_page}
 use Rattle.residency.proofs.Forests.StillForest.{still_caches_sound, still_like}
@@ -23,6 +24,17 @@ use Rattle.std.specs.Option.{IsSome}
 
 pub owner_same : (a : Arena) → IsSound a → (n o p : NodeId) → IsOwner a n o → IsOwner a n p → o ≡ p
 owner_same a sound n o p x y = sound.kept.named.apart o p x.held y.held (x.name ∙ sym y.name)
+
+-- who has an own page is its owner
+pub itself_owner : (a : Arena) → IsSound a → IsWellShaped (forest_of a) → (n : NodeId) → HasOwnPage a n → IsOwner a n n
+itself_owner a sound shaped n own = record { held = own.node; name = sym (itself_owns a sound shaped n own.node (some_state (own_of a n) own.own_page)) }
+  where
+    some_state : (x : OwnState) → is_absent x ≡ false → is_none (page_of x) ≡ false
+    some_state Absent e = absurd (cc e)
+    some_state Zero e = refl
+    some_state (Resident d) e = refl
+    some_state (Slot s) e = refl
+    some_state OnSegment e = refl
 
 pub zero_is : (x : OwnState) → is_zero x ≡ true → x ≡ Zero
 zero_is Absent e = absurd (cc e)

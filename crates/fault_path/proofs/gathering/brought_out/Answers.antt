@@ -9,6 +9,8 @@ use Rattle.local_cache.specs.declared.own_state.OwnState.{OwnState}
 use Rattle.local_cache.specs.Own.{own_of}
 use Rattle.residency.specs.Causes.{frames_to_bring}
 use Rattle.fault_path.proofs.Calls.Costs.{brought_more, brought_taken, failed_most, most_more, pulls_most, taken_then}
+use Rattle.residency.proofs.Translations.Kept.{drops_trans, still_drops_but}
+use Rattle.fault_path.specs.Translating.{Nobody}
 use Rattle.fault_path.proofs.gathering.brought_out.Goals as goal
 
 pub returns-clause-copied : goal.returns-clause-copied
@@ -77,3 +79,16 @@ pub returns-in_default-clause-told : goal.returns-in_default-clause-told
 returns-in_default-clause-told g c =
     let b = c.in_ok-home.ensures in
     tells_then _ _ b.still.stays _ _ _ _ c.double.ensures.later b.told c.double.ensures.told
+
+pub returns-clause-drops : goal.returns-clause-drops
+returns-clause-drops g c =
+    drops_trans (λ n. n ≡ c.args.node) Nobody (λ n. n ≡ c.args.node) c.args.caches.now c.bring_in.new.caches c.double.new.caches c.args.store.now c.bring_in.new.self c.double.new.store (λ n e. e) (λ n e. absurd e)
+    (still_drops_but _ _ _ _ c.args.caches.now c.bring_in.new.caches c.args.store.now c.bring_in.new.self c.requires.right.tied c.bring_in.ensures.still.stays c.bring_in.ensures.tables c.args.node c.bring_in.ensures.others) c.double.ensures.drops
+
+pub returns-in_default-clause-drops : goal.returns-in_default-clause-drops
+returns-in_default-clause-drops g c =
+    drops_trans (λ n. n ≡ c.args.node) Nobody (λ n. n ≡ c.args.node) c.args.caches.now c.bring_in.new.caches c.double.new.caches c.args.store.now c.bring_in.new.self c.double.new.store (λ n e. e) (λ n e. absurd e)
+    (still_drops_but _ _ _ _ c.args.caches.now c.bring_in.new.caches c.args.store.now c.bring_in.new.self c.requires.right.tied c.bring_in.ensures.still.stays c.bring_in.ensures.tables c.args.node c.bring_in.ensures.others) c.double.ensures.drops
+
+pub returns-in_err-home-clause-drops : goal.returns-in_err-home-clause-drops
+returns-in_err-home-clause-drops g c = still_drops_but _ _ _ _ c.args.caches.now c.bring_in.new.caches c.args.store.now c.bring_in.new.self c.requires.right.tied c.bring_in.ensures.still.stays c.bring_in.ensures.tables c.args.node c.bring_in.ensures.others

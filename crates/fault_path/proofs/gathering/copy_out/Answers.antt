@@ -7,6 +7,8 @@ use Rattle.residency.specs.Causes.{pushes_for}
 use Rattle.fault_path.specs.Costs.{frames_to_copy, free_count, pulls_to_copy}
 use Rattle.residency.proofs.Worlds.Arms.{on_ok, on_ok_then}
 use Rattle.fault_path.proofs.Calls.Costs.{pulls_is, pulls_most, pushes_free}
+use Rattle.residency.proofs.Translations.Kept.{drops_more}
+use Rattle.fault_path.specs.Translating.{Nobody}
 use Rattle.fault_path.proofs.gathering.copy_out.Goals as goal
 
 pub returns-in-Zero-clause-held : goal.returns-in-Zero-clause-held
@@ -31,3 +33,6 @@ returns-in-Zero-clause-most g c =
     let zero : own ≡ Zero = sym c.own_state.ensures ∙ c.in-Zero.is in
     let one : frames_to_copy own ≡ 1 = ap frames_to_copy zero in
     pulls_most _ _ _ _ _ _ c.zeroed.ensures.made (omega arith) (omega (arith, one, pushes_free c.args.store.now.frames.held))
+
+pub returns-in-Zero-clause-drops : goal.returns-in-Zero-clause-drops
+returns-in-Zero-clause-drops g c = drops_more Nobody (λ n. n ≡ c.args.node) c.args.caches.now c.zeroed.new.caches c.args.store.now c.zeroed.new.store (λ n e. absurd e) c.zeroed.ensures.drops

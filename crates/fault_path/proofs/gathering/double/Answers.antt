@@ -1,9 +1,11 @@
-use Rattle.std.proofs.Common.{sym, subst, rules}
+use Rattle.std.proofs.Common.{sym, subst, rules, refl, ap}
 use Rattle.frame_pool.specs.Pool.{bytes_of}
 use Rattle.residency.specs.declared.store.Store.{Store}
 use Rattle.residency.specs.World.{World, world}
 use Rattle.fault_path.specs.Gathering.{IsGathered}
 use Rattle.fault_path.proofs.Frames.GatheredFrames.{filled_gathered}
+use Rattle.residency.proofs.Translations.Kept.{drops_by}
+use Rattle.fault_path.specs.Translating.{Nobody}
 use Rattle.fault_path.proofs.gathering.double.Goals as goal
 
 pub returns-clause-doubled : goal.returns-clause-doubled
@@ -19,3 +21,7 @@ returns-clause-doubled g c =
       stays = search rules;
       bytes = search rules;
     }
+
+pub returns-clause-drops : goal.returns-clause-drops
+returns-clause-drops g c =
+    drops_by Nobody c.args.caches.now c.make_free_beside.new.caches c.args.store.now c.make_free_beside.new.store c.args.store.now c.copy.new.self refl refl (ap (λ (s : Store). s.map) c.copy.ensures) (ap (λ (s : Store). s.tables) c.copy.ensures) c.make_free_beside.ensures.drops

@@ -1,12 +1,17 @@
-use Rattle.std.proofs.Common.{sym, ap, subst, ◌∙◌, ◌≡◌, true, false}
+use Rattle.std.proofs.Common.{is_some, inl, sym, ap, subst, ◌∙◌, ◌≡◌, true, false}
 use Rattle.frame_pool.specs.Pool.{is_pinned}
 use Rattle.residency.specs.declared.store.Store.{Store}
 use Rattle.residency.specs.World.{IsMadeFree, Still, World, world}
+use Rattle.global_map.specs.Pairs.{node_of}
 use Rattle.residency.specs.Pushing.{TellsOn}
 use Rattle.residency.proofs.Worlds.After.{pin_set}
 use Rattle.fault_path.specs.Gathering.{IsGathered, NoneGathered}
 use Rattle.residency.proofs.Worlds.Arms.{if_ok, on_err_then}
-use Rattle.fault_path.proofs.Frames.GatheredFrames.{beside_gathered, beside_none, beside_told}
+use Rattle.fault_path.proofs.Frames.GatheredFrames.{beside_gathered, beside_none, beside_still, beside_told}
+use Rattle.residency.specs.Frames.{with_pinned}
+use Rattle.residency.specs.Translating.{Drops, TablesAfter, nothing_else}
+use Rattle.residency.proofs.Translations.Kept.{still_drops, stays_drops}
+use Rattle.fault_path.specs.Translating.{Nobody}
 use Rattle.fault_path.proofs.gathering.make_free_beside.Goals as goal
 
 pub returns-clause-gathered : goal.returns-clause-gathered
@@ -49,3 +54,22 @@ returns-clause-told g c =
     let first : TellsOn (pin_set old c.args.frame.0 true) w (g.M.Mapper.counts c.args.mapper.now) (g.M.Mapper.counts c.make_free-fresh.new.mapper) = subst (λ (s : Store). TellsOn (pinned s) w (g.M.Mapper.counts c.args.mapper.now) (g.M.Mapper.counts c.make_free-fresh.new.mapper)) c.pin.ensures c.make_free-fresh.ensures.told in
     subst (λ (s : Store). TellsOn old (world told size c.make_free-fresh.new.caches s) (g.M.Mapper.counts c.args.mapper.now) (g.M.Mapper.counts c.make_free-fresh.new.mapper)) (sym c.unpin.ensures)
     (beside_told old w c.args.frame.0 c.requires.right c.requires.held loose still _ _ c.make_free-fresh.ensures.later first)
+
+pub returns-then-is_pinned-clause-drops : goal.returns-then-is_pinned-clause-drops
+returns-then-is_pinned-clause-drops g c = still_drops _ _ _ _ c.args.caches.now c.make_free.new.caches c.args.store.now c.make_free.new.self c.requires.right.tied c.make_free.ensures.still.stays c.make_free.ensures.tables c.make_free.ensures.others
+
+pub returns-clause-drops : goal.returns-clause-drops
+returns-clause-drops g c =
+    let old : World = world (g.M.Mapper.held c.args.mapper.now) (g.M.Mapper.page_bytes c.args.mapper.now) c.args.caches.now c.args.store.now in
+    let told = g.M.Mapper.held c.make_free-fresh.new.mapper in
+    let size = g.M.Mapper.page_bytes c.make_free-fresh.new.mapper in
+    let w : World = world told size c.make_free-fresh.new.caches c.make_free-fresh.new.self in
+    let pinned = λ (s : Store). world (g.M.Mapper.held c.args.mapper.now) (g.M.Mapper.page_bytes c.args.mapper.now) c.args.caches.now s in
+    let loose : is_pinned c.args.store.now.frames c.args.frame.0 ≡ false = sym (c.is_pinned.ensures ∙ ap (λ p. is_pinned p c.args.frame.0) c.frames.ensures) ∙ c.if-is_pinned.false in
+    let still : Still (pin_set old c.args.frame.0 true) w = subst (λ (s : Store). Still (pinned s) w) c.pin.ensures c.make_free-fresh.ensures.still in
+    let whole = beside_still old w c.args.frame.0 c.requires.right c.requires.held loose still in
+    let loosed : Store = record c.make_free-fresh.new.self { frames = with_pinned c.make_free-fresh.new.self.frames c.args.frame.0 false } in
+    let tables : TablesAfter nothing_else c.args.store.now loosed = subst (λ (s : Store). TablesAfter nothing_else s loosed) c.pin.ensures c.make_free-fresh.ensures.tables in
+    subst (λ (s : Store). Drops Nobody c.args.caches.now c.args.store.now c.make_free-fresh.new.caches s) (sym c.unpin.ensures)
+    (stays_drops _ _ _ _ c.args.caches.now c.make_free-fresh.new.caches c.args.store.now loosed c.requires.right.tied whole.stays tables Nobody
+    (λ f n at. inl (sym (ap (λ (s : Store). node_of s.map f) c.pin.ensures) ∙ sym (c.make_free-fresh.ensures.others.frames f (ap is_some at)).node ∙ at)))

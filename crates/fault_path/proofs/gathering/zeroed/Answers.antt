@@ -1,10 +1,12 @@
-use Rattle.std.proofs.Common.{sym, ap, subst, ◌∙◌, ◌≡◌, true, false, replicate, rules}
+use Rattle.std.proofs.Common.{sym, ap, subst, ◌∙◌, ◌≡◌, true, false, replicate, rules, refl}
 use Rattle.local_cache.specs.Own.{is_resident}
 use Rattle.residency.specs.declared.store.Store.{Store}
 use Rattle.residency.specs.World.{World, world}
 use Rattle.residency.proofs.Worlds.Homes.{home}
 use Rattle.fault_path.specs.Gathering.{IsGathered}
 use Rattle.fault_path.proofs.Frames.GatheredFrames.{bound_below, filled_gathered, free_gathered}
+use Rattle.residency.proofs.Translations.Kept.{drops_by, still_drops}
+use Rattle.fault_path.specs.Translating.{Nobody}
 use Rattle.fault_path.proofs.gathering.zeroed.Goals as goal
 
 pub returns-clause-copied : goal.returns-clause-copied
@@ -22,3 +24,11 @@ returns-clause-copied g c =
           let no : true ≡ false = sym here.resident ∙ ap is_resident c.requires.zero in
           cc no);
     }
+
+pub returns-clause-drops : goal.returns-clause-drops
+returns-clause-drops g c =
+    drops_by Nobody c.args.caches.now c.make_free.new.caches c.args.store.now c.make_free.new.self c.args.store.now c.zero.new.self refl refl (ap (λ (s : Store). s.map) c.zero.ensures) (ap (λ (s : Store). s.tables) c.zero.ensures)
+    (still_drops _ _ _ _ c.args.caches.now c.make_free.new.caches c.args.store.now c.make_free.new.self c.requires.right.tied c.make_free.ensures.still.stays c.make_free.ensures.tables c.make_free.ensures.others)
+
+pub returns-in_default-clause-drops : goal.returns-in_default-clause-drops
+returns-in_default-clause-drops g c = still_drops _ _ _ _ c.args.caches.now c.make_free.new.caches c.args.store.now c.make_free.new.self c.requires.right.tied c.make_free.ensures.still.stays c.make_free.ensures.tables c.make_free.ensures.others

@@ -10,6 +10,8 @@ use Rattle.residency.proofs.Forests.StillForest.{still_forest}
 use Rattle.fault_path.specs.Faults.{IsOwner, is_at_hand, is_zero}
 use Rattle.fault_path.proofs.Calls.Answered.{still_answered}
 use Rattle.fault_path.proofs.Pages.FoundPage.{found_frame, found_zero, owner_same, resident_is, zero_is}
+use Rattle.residency.specs.Translating.{Drops}
+use Rattle.residency.proofs.Translations.Kept.{same_drops, still_drops_but}
 use Rattle.fault_path.proofs.reading.read_fault.Goals as goal
 
 pub returns-then-is_zero-clause-frame : goal.returns-then-is_zero-clause-frame
@@ -152,3 +154,22 @@ returns-then-is_zero-clause-few g c =
     let owner : IsOwner c.args.caches.now c.args.node it = record { held = c.owner_of-owner.ensures.held; name = c.owner_of-owner.ensures.owner } in
     let zero : is_zero (own_of c.args.caches.now it) ≡ true = sym c.is_zero.ensures ∙ c.if-is_zero.true in
     λ o is out. absurd (false≢true (sym out ∙ ap (λ (m : NodeId). is_zero (own_of c.args.caches.now m)) (owner_same c.args.caches.now c.requires.right.sound c.args.node o it is owner) ∙ zero))
+
+pub returns-in-Ok-clause-drops : goal.returns-in-Ok-clause-drops
+returns-in-Ok-clause-drops g c =
+    let it : NodeId = c.owner_of-owner.result in
+    let owner : IsOwner c.args.caches.now c.args.node it = record { held = c.owner_of-owner.ensures.held; name = c.owner_of-owner.ensures.owner } in
+    let b = c.bring_in.ensures in
+    λ o is. subst (λ (m : NodeId). Drops (λ n. n ≡ m) c.args.caches.now c.args.store.now c.bring_in.new.caches c.bring_in.new.self) (sym (owner_same c.args.caches.now c.requires.right.sound c.args.node o it is owner))
+    (still_drops_but _ _ _ _ c.args.caches.now c.bring_in.new.caches c.args.store.now c.bring_in.new.self c.requires.right.store.tied b.still.stays b.tables it b.others)
+
+pub returns-in-Err-clause-drops : goal.returns-in-Err-clause-drops
+returns-in-Err-clause-drops g c =
+    let it : NodeId = c.owner_of-owner.result in
+    let owner : IsOwner c.args.caches.now c.args.node it = record { held = c.owner_of-owner.ensures.held; name = c.owner_of-owner.ensures.owner } in
+    let b = c.bring_in.ensures in
+    λ o is. subst (λ (m : NodeId). Drops (λ n. n ≡ m) c.args.caches.now c.args.store.now c.bring_in.new.caches c.bring_in.new.self) (sym (owner_same c.args.caches.now c.requires.right.sound c.args.node o it is owner))
+    (still_drops_but _ _ _ _ c.args.caches.now c.bring_in.new.caches c.args.store.now c.bring_in.new.self c.requires.right.store.tied b.still.stays b.tables it b.others)
+
+pub returns-then-is_zero-clause-drops : goal.returns-then-is_zero-clause-drops
+returns-then-is_zero-clause-drops g c = λ o is. same_drops (λ n. n ≡ o) c.args.caches.now c.args.store.now c.requires.right.store.tied.placed

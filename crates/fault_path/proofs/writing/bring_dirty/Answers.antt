@@ -1,4 +1,4 @@
-use Rattle.std.proofs.Common.{sym, ap, subst, ◌∙◌, refl, arith, rules}
+use Rattle.std.proofs.Common.{◌≡◌, inl, sym, ap, subst, ◌∙◌, refl, arith, rules}
 use Rattle.local_cache.specs.Arena.{Arena, HasNode}
 use Rattle.local_cache.specs.Own.{own_of}
 use Rattle.local_cache.proofs.Nodes.OwnStates.{own_same}
@@ -19,6 +19,12 @@ use Rattle.local_cache.specs.declared.own_state.OwnState.{OwnState}
 use Rattle.fault_path.proofs.Calls.Costs.{bring_most, brought_made, copy_most, failed_most, most_more, pulls_most}
 use Rattle.fault_path.proofs.Calls.Answered.{still_answered, still_missed_by}
 use Rattle.residency.proofs.Pushes.Told.{tells_as}
+use Rattle.residency.proofs.Translations.Kept.{drops_more, drops_trans, still_drops_but}
+use Rattle.residency.specs.Translating.{Drops}
+use Rattle.fault_path.specs.Translating.{MayCome, without_homes}
+use Rattle.fault_path.proofs.Translations.Given.{forgot_drops}
+use Rattle.fault_path.proofs.Translations.Whole.{dirtied_drops}
+use Rattle.residency.proofs.Worlds.Arms.{on_err}
 use Rattle.fault_path.proofs.writing.bring_dirty.Goals as goal
 
 pub returns-in_err-frame-clause-answered : goal.returns-in_err-frame-clause-answered
@@ -92,3 +98,29 @@ returns-in_err-frame-clause-most g c =
     let bounds = copy_most own in
     let e = c.in_err-frame.ensures in
     most_more _ _ _ _ _ _ (failed_most own c.args.store.now.frames _ _ _ _ e.made e.few) bounds.0 (omega (arith, bring_most own))
+
+pub returns-in_err-frame-clause-missed_drops : goal.returns-in_err-frame-clause-missed_drops
+returns-in_err-frame-clause-missed_drops g c =
+    on_err _ c.from_residual.result
+    (drops_more (λ n. n ≡ c.args.node) (MayCome c.args.caches.now c.args.node) c.args.caches.now c.bring_in.new.caches c.args.store.now c.bring_in.new.self (λ n e. inl e)
+    (still_drops_but _ _ _ _ c.args.caches.now c.bring_in.new.caches c.args.store.now c.bring_in.new.self c.requires.right.store.tied c.bring_in.ensures.still.stays c.bring_in.ensures.tables c.args.node c.bring_in.ensures.others))
+
+pub returns-clause-drops : goal.returns-clause-drops
+returns-clause-drops g c =
+    let old : World = world (g.M.Mapper.held c.args.mapper.now) (g.M.Mapper.page_bytes c.args.mapper.now) c.args.caches.now c.args.store.now in
+    let told = g.M.Mapper.held c.bring_in.new.mapper in
+    let size = g.M.Mapper.page_bytes c.bring_in.new.mapper in
+    let w : World = world told size c.bring_in.new.caches c.bring_in.new.self in
+    let b = c.in_ok-frame.ensures in
+    let first = b.still in
+    let there : HasNode w.caches c.args.node = held_stays old.caches w.caches first.stays.caches c.args.node c.requires.own.node in
+    let at = home w c.in_ok-frame.frame.0 c.args.node first.stays.right b.home.0 b.home.1 in
+    let dirty : Still w (dirtied w c.args.node) = dirty_still w c.args.node first.stays.right there at.resident (may_like old.caches w.caches (still_like old.caches w.caches first.stays.caches) c.args.node c.requires.granted) in
+    let may = MayCome c.args.caches.now c.args.node in
+    subst (λ (a : Arena). Drops may c.args.caches.now c.args.store.now a (without_homes c.args.node c.args.node c.bring_in.new.self)) (sym c.set_state.ensures.changed)
+    (drops_trans may may may c.args.caches.now c.bring_in.new.caches (dirtied w c.args.node).caches c.args.store.now c.bring_in.new.self (without_homes c.args.node c.args.node c.bring_in.new.self) (λ n e. e) (λ n e. e)
+    (drops_more (λ n. n ≡ c.args.node) (MayCome c.args.caches.now c.args.node) c.args.caches.now c.bring_in.new.caches c.args.store.now c.bring_in.new.self (λ n e. inl e)
+    (still_drops_but _ _ _ _ c.args.caches.now c.bring_in.new.caches c.args.store.now c.bring_in.new.self c.requires.right.store.tied c.bring_in.ensures.still.stays c.bring_in.ensures.tables c.args.node c.bring_in.ensures.others))
+    (drops_trans may may may c.bring_in.new.caches c.bring_in.new.caches (dirtied w c.args.node).caches c.bring_in.new.self (without_homes c.args.node c.args.node c.bring_in.new.self) (without_homes c.args.node c.args.node c.bring_in.new.self) (λ n e. e) (λ n e. e)
+    (forgot_drops may c.bring_in.new.caches c.bring_in.new.self c.args.node c.args.node first.stays.right.tied.placed (inl refl) (inl refl))
+    (dirtied_drops may told size c.bring_in.new.caches c.bring_in.new.self c.args.node c.args.node c.args.node first.stays.right dirty)))

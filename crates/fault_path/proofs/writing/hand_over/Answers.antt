@@ -1,4 +1,4 @@
-use Rattle.std.proofs.Common.{refl, sym, ap, subst, ◌∙◌, rules}
+use Rattle.std.proofs.Common.{◌≡◌, List, Option, inl, refl, sym, ap, subst, ◌∙◌, rules, ◌<◌, length, arith}
 use Rattle.residency.specs.declared.store.Store.{Store}
 use Rattle.residency.specs.StoreForest.{store_forest}
 use Rattle.residency.specs.World.{World, world}
@@ -10,6 +10,16 @@ use Rattle.fault_path.proofs.Rules.OneFrameForest.{hand_forest, hand_kept}
 use Rattle.fault_path.proofs.Rules.OneFrameForest.{hand_copies}
 use Rattle.fault_path.proofs.Calls.Answered.{still_answered, still_missed_by}
 use Rattle.residency.proofs.Pushes.Told.{tells_as}
+use Rattle.global_map.specs.Pairs.{node_of}
+use Rattle.local_cache.specs.Own.{is_absent}
+use Rattle.vm_ids.specs.declared.numbers.NodeId.{NodeId}
+use Rattle.residency.proofs.Translations.Kept.{drops_more}
+use Rattle.fault_path.specs.Answers.{IsAnswered}
+use Rattle.fault_path.specs.Translating.{MayCome}
+use Rattle.fault_path.proofs.Pages.FoundPage.{itself_owner}
+use Rattle.fault_path.proofs.Translations.Given.{may_come, settled_comes, settled_stays}
+use Rattle.fault_path.proofs.Translations.Whole.{heir_drops}
+use Rattle.residency.proofs.Worlds.Arms.{on_err}
 use Rattle.fault_path.proofs.writing.hand_over.Goals as goal
 
 pub returns-in_err-frame-clause-answered : goal.returns-in_err-frame-clause-answered
@@ -78,3 +88,23 @@ returns-clause-copies g c =
     let k = c.in_ok-frame.ensures.copied.gathered in
     hand_copies old w c.in_ok-frame.frame.0 k.still k.taken c.requires.right.sound c.requires.right.shaped c.args.node c.args.next c.requires.own.node (has_own old c.args.node c.requires.own.own_page) c.requires.next c.requires.is
     (heir_absent c.args.caches.now c.requires.right.sound _ c.args.next c.requires.next c.requires.is) c.in_ok-frame.ensures.copied.page c.hand_page.new.caches c.hand_page.ensures
+
+pub returns-in_err-frame-clause-missed_drops : goal.returns-in_err-frame-clause-missed_drops
+returns-in_err-frame-clause-missed_drops g c =
+    on_err _ c.from_residual.result
+    (drops_more (λ n. n ≡ c.args.node) (MayCome c.args.caches.now c.args.node) c.args.caches.now c.copy_out.new.caches c.args.store.now c.copy_out.new.store (λ n e. inl e) c.copy_out.ensures.drops)
+
+pub returns-clause-drops : goal.returns-clause-drops
+returns-clause-drops g c =
+    let old : World = world (g.M.Mapper.held c.args.mapper.now) (g.M.Mapper.page_bytes c.args.mapper.now) c.args.caches.now c.args.store.now in
+    let v : World = world (g.M.Mapper.held c.copy_out.new.mapper) (g.M.Mapper.page_bytes c.copy_out.new.mapper) c.hand_page.new.caches c.settle_in.new.store in
+    let k = c.in_ok-frame.ensures.copied.gathered in
+    let answered : IsAnswered old v (g.M.Mapper.counts c.args.mapper.now) (g.M.Mapper.counts c.copy_out.new.mapper) = returns-clause-answered g c in
+    let within : c.in_ok-frame.frame.0 < length c.copy_out.new.store.map = omega (arith, k.taken.within, k.still.stays.right.tied.fitted.map_frames) in
+    let map = ap (λ (s : Store). s.map) c.settle_in.ensures in
+    let absent = ap is_absent (heir_absent c.args.caches.now c.requires.right.sound _ c.args.next c.requires.next c.requires.is) in
+    heir_drops c.args.caches.now c.copy_out.new.caches c.hand_page.new.caches c.args.store.now c.copy_out.new.store c.settle_in.new.store c.requires.right k.still answered.kept c.args.node c.args.node c.requires.own.node
+    (itself_owner c.args.caches.now c.requires.right.sound c.requires.right.shaped c.args.node c.requires.own) c.copy_out.ensures.drops
+    (λ f p at. ap (λ (m : List (Option NodeId)). node_of m f) map ∙ settled_stays c.copy_out.new.store.map c.in_ok-frame.frame.0 c.args.next k.taken.unbound f p at)
+    (λ f p at. may_come c.args.caches.now c.args.node c.args.next p absent (settled_comes c.copy_out.new.store.map c.in_ok-frame.frame.0 c.args.next within f p (ap (λ (m : List (Option NodeId)). node_of m f) (sym map) ∙ at)))
+    (inl refl) (ap (λ (s : Store). s.tables) c.settle_in.ensures) c.requires.own.own_page refl (returns-clause-forest g c)

@@ -1,4 +1,4 @@
-use Rattle.std.proofs.Common.{sym, ap, subst, ◌∙◌, ◌≡◌, ◌+◌, arith, Some, refl, rules}
+use Rattle.std.proofs.Common.{sym, ap, subst, ◌∙◌, ◌≡◌, ◌+◌, arith, Some, inl, refl, rules}
 use Rattle.local_cache.specs.Arena.{Arena, HasNode}
 use Rattle.local_cache.specs.Own.{own_of}
 use Rattle.local_cache.proofs.Nodes.OwnStates.{own_same}
@@ -26,6 +26,11 @@ use Rattle.fault_path.proofs.Calls.Costs.{bring_most, brought_made, brought_more
 use Rattle.residency.proofs.Worlds.Composed.{still_then}
 use Rattle.fault_path.proofs.Calls.Answered.{answered_then, cause_then, later_then, still_answered, still_missed_by}
 use Rattle.residency.proofs.Pushes.Told.{tells_as, tells_then}
+use Rattle.residency.specs.Translating.{Drops}
+use Rattle.residency.proofs.Translations.Kept.{drops_more, drops_trans, still_drops_but}
+use Rattle.fault_path.specs.Translating.{MayCome, without_homes}
+use Rattle.fault_path.proofs.Translations.Whole.{dirtied_drops, may_before}
+use Rattle.residency.proofs.Worlds.Arms.{on_err}
 use Rattle.fault_path.proofs.writing.hand_own.Goals as goal
 
 pub returns-in_err-frame-clause-answered : goal.returns-in_err-frame-clause-answered
@@ -188,3 +193,47 @@ returns-in_err-frame-clause-most g c =
     let bounds = copy_most own in
     let e = c.in_err-frame.ensures in
     most_more _ _ _ _ _ _ (failed_most own c.args.store.now.frames _ _ _ _ e.made e.few) bounds.0 (omega (arith, bring_most own))
+
+pub returns-in_err-frame-clause-missed_drops : goal.returns-in_err-frame-clause-missed_drops
+returns-in_err-frame-clause-missed_drops g c =
+    on_err _ c.from_residual.result
+    (drops_more (λ n. n ≡ c.args.node) (MayCome c.args.caches.now c.args.node) c.args.caches.now c.bring_in.new.caches c.args.store.now c.bring_in.new.self (λ n e. inl e)
+    (still_drops_but _ _ _ _ c.args.caches.now c.bring_in.new.caches c.args.store.now c.bring_in.new.self c.requires.right.store.tied c.bring_in.ensures.still.stays c.bring_in.ensures.tables c.args.node c.bring_in.ensures.others))
+
+pub returns-in_err-hand_over-clause-missed_drops : goal.returns-in_err-hand_over-clause-missed_drops
+returns-in_err-hand_over-clause-missed_drops g c =
+    let old : World = world (g.M.Mapper.held c.args.mapper.now) (g.M.Mapper.page_bytes c.args.mapper.now) c.args.caches.now c.args.store.now in
+    let w : World = world (g.M.Mapper.held c.bring_in.new.mapper) (g.M.Mapper.page_bytes c.bring_in.new.mapper) c.bring_in.new.caches c.bring_in.new.self in
+    let may = MayCome c.args.caches.now c.args.node in
+    let may' = MayCome c.bring_in.new.caches c.args.node in
+    on_err _ c.from_residual-in_err-hand_over.result
+    (drops_trans may may' may c.args.caches.now c.bring_in.new.caches c.hand_over.new.caches c.args.store.now c.bring_in.new.self c.hand_over.new.store (λ n e. e) (may_before old w c.bring_in.ensures.still c.args.node)
+    (drops_more (λ n. n ≡ c.args.node) (MayCome c.args.caches.now c.args.node) c.args.caches.now c.bring_in.new.caches c.args.store.now c.bring_in.new.self (λ n e. inl e)
+    (still_drops_but _ _ _ _ c.args.caches.now c.bring_in.new.caches c.args.store.now c.bring_in.new.self c.requires.right.store.tied c.bring_in.ensures.still.stays c.bring_in.ensures.tables c.args.node c.bring_in.ensures.others))
+    c.in_err-hand_over.ensures.missed_drops)
+
+pub returns-clause-drops : goal.returns-clause-drops
+returns-clause-drops g c =
+    let old : World = world (g.M.Mapper.held c.args.mapper.now) (g.M.Mapper.page_bytes c.args.mapper.now) c.args.caches.now c.args.store.now in
+    let w : World = world (g.M.Mapper.held c.bring_in.new.mapper) (g.M.Mapper.page_bytes c.bring_in.new.mapper) c.bring_in.new.caches c.bring_in.new.self in
+    let told2 = g.M.Mapper.held c.hand_over.new.mapper in
+    let size2 = g.M.Mapper.page_bytes c.hand_over.new.mapper in
+    let v : World = world told2 size2 c.hand_over.new.caches c.hand_over.new.store in
+    let b = c.in_ok-frame.ensures in
+    let first = b.still in
+    let h = c.in_ok-hand_over.ensures in
+    let k = h.answered.kept in
+    let there : HasNode v.caches c.args.node = k.nodes.held c.args.node ∙ held_stays old.caches w.caches first.stays.caches c.args.node c.requires.own.node in
+    let bound : node_of v.map c.in_ok-frame.frame.0 ≡ Some c.args.node = h.home c.in_ok-frame.frame.0 b.home.1 in
+    let below = bound_below v.map c.in_ok-frame.frame.0 c.args.node bound in
+    let at = home v c.in_ok-frame.frame.0 c.args.node k.right below bound in
+    let dirty : Still v (dirtied v c.args.node) = dirty_still v c.args.node k.right there at.resident (may_like w.caches v.caches k.nodes c.args.node (may_like old.caches w.caches (still_like old.caches w.caches first.stays.caches) c.args.node c.requires.granted)) in
+    let may = MayCome c.args.caches.now c.args.node in
+    let may' = MayCome c.bring_in.new.caches c.args.node in
+    subst (λ (a : Arena). Drops may c.args.caches.now c.args.store.now a (without_homes c.args.node c.args.node c.hand_over.new.store)) (sym c.set_state.ensures.changed)
+    (drops_trans may may may c.args.caches.now c.bring_in.new.caches (dirtied v c.args.node).caches c.args.store.now c.bring_in.new.self (without_homes c.args.node c.args.node c.hand_over.new.store) (λ n e. e) (λ n e. e)
+    (drops_more (λ n. n ≡ c.args.node) (MayCome c.args.caches.now c.args.node) c.args.caches.now c.bring_in.new.caches c.args.store.now c.bring_in.new.self (λ n e. inl e)
+    (still_drops_but _ _ _ _ c.args.caches.now c.bring_in.new.caches c.args.store.now c.bring_in.new.self c.requires.right.store.tied c.bring_in.ensures.still.stays c.bring_in.ensures.tables c.args.node c.bring_in.ensures.others))
+    (drops_trans may' may may c.bring_in.new.caches c.hand_over.new.caches (dirtied v c.args.node).caches c.bring_in.new.self (without_homes c.args.node c.args.node c.hand_over.new.store) (without_homes c.args.node c.args.node c.hand_over.new.store) (may_before old w c.bring_in.ensures.still c.args.node) (λ n e. e)
+    h.drops
+    (dirtied_drops may told2 size2 c.hand_over.new.caches c.hand_over.new.store c.args.node c.args.node c.args.node k.right dirty)))

@@ -1,6 +1,6 @@
-use Rattle.std.proofs.Common.{refl, sym, ap, subst, ◌∙◌, ◌≡◌, arith, Some, set, false, ◌+◌, ◌-◌, rules}
+use Rattle.std.proofs.Common.{refl, sym, ap, subst, ◌∙◌, ◌≡◌, arith, Some, set, false, ◌+◌, ◌-◌, rules, ℕ, ◌<◌, List, inl, inr, length, length-set, None, Option}
 use Rattle.vm_ids.proofs.Forest.Owning.{apart_of_heir}
-use Rattle.global_map.specs.Pairs.{bound_times}
+use Rattle.global_map.specs.Pairs.{bound_times, node_of}
 use Rattle.local_cache.specs.Reading.{forest_of, name_of}
 use Rattle.residency.specs.declared.store.Store.{Store}
 use Rattle.residency.specs.StoreForest.{store_forest}
@@ -20,6 +20,18 @@ use Rattle.fault_path.specs.Costs.{Pulls, frames_to_copy, free_count, pulls_to_c
 use Rattle.fault_path.proofs.Pages.FoundPage.{owner_same}
 use Rattle.local_cache.specs.declared.own_state.OwnState.{OwnState}
 use Rattle.fault_path.proofs.Calls.Costs.{copy_most, pulls_more, pulls_most}
+use Rattle.std.proofs.lemmas.List.{get_or-set_other}
+use Rattle.local_cache.specs.Own.{is_absent}
+use Rattle.residency.specs.Translating.{Drops}
+use Rattle.residency.proofs.Translations.Kept.{drops_by, drops_more, drops_trans}
+use Rattle.fault_path.specs.Answers.{IsFramed}
+use Rattle.fault_path.specs.Faults.{readied}
+use Rattle.fault_path.specs.Translating.{MayCome, Nobody, without_homes}
+use Rattle.fault_path.proofs.Calls.Kept.{store_page}
+use Rattle.fault_path.proofs.Frames.TwoFrames.{absent_none, readied_bare}
+use Rattle.fault_path.proofs.Translations.Given.{may_come, settled_comes, settled_stays}
+use Rattle.fault_path.proofs.Translations.Whole.{both_drops}
+use Rattle.residency.proofs.Worlds.Arms.{on_err}
 use Rattle.fault_path.proofs.writing.own_and_hand.Goals as goal
 
 pub returns-in_err-frame-clause-answered : goal.returns-in_err-frame-clause-answered
@@ -171,3 +183,51 @@ returns-in_default-clause-most g c =
     let sum : Pulls (pulls_to_copy own) (frames_to_copy own + 1 - free_count c.args.store.now.frames) (g.M.Mapper.counts c.args.mapper.now) (g.M.Mapper.counts c.double.new.mapper) = pulls_more (frames_to_copy own) (pulls_to_copy own) c.args.store.now.frames.held c.copy_out.new.store.frames.held _ _ _ whole.stays.frames first.held first.made c.double.ensures.made c.double.ensures.later in
     let bounds = copy_most own in
     pulls_most _ _ _ _ _ _ sum bounds.0 (omega (arith, bounds.1))
+
+pub returns-in_err-frame-clause-missed_drops : goal.returns-in_err-frame-clause-missed_drops
+returns-in_err-frame-clause-missed_drops g c =
+    let it : NodeId = c.owner_of-owner.result in
+    let owner : IsOwner c.args.caches.now c.args.node it = record { held = c.owner_of-owner.ensures.held; name = c.owner_of-owner.ensures.owner } in
+    λ o is. on_err _ c.from_residual.result (drops_more (λ n. n ≡ it) (MayCome c.args.caches.now o) c.args.caches.now c.copy_out.new.caches c.args.store.now c.copy_out.new.store (λ n e. inl (e ∙ sym (owner_same c.args.caches.now c.requires.right.sound c.args.node o it is owner))) c.copy_out.ensures.drops)
+
+pub returns-in_default-clause-missed_drops : goal.returns-in_default-clause-missed_drops
+returns-in_default-clause-missed_drops g c =
+    let it : NodeId = c.owner_of-owner.result in
+    let owner : IsOwner c.args.caches.now c.args.node it = record { held = c.owner_of-owner.ensures.held; name = c.owner_of-owner.ensures.owner } in
+    let gathered : Drops (λ n. n ≡ it) c.args.caches.now c.args.store.now c.double.new.caches c.double.new.store = drops_trans (λ n. n ≡ it) Nobody (λ n. n ≡ it) c.args.caches.now c.copy_out.new.caches c.double.new.caches c.args.store.now c.copy_out.new.store c.double.new.store (λ n e. e) (λ n e. absurd e) c.copy_out.ensures.drops c.double.ensures.drops in
+    λ o is. drops_by (MayCome c.args.caches.now o) c.args.caches.now c.double.new.caches c.args.store.now c.double.new.store c.args.store.now c.release.new.store refl refl (ap (λ (s : Store). s.map) c.release.ensures) (ap (λ (s : Store). s.tables) c.release.ensures)
+    (drops_more (λ n. n ≡ it) (MayCome c.args.caches.now o) c.args.caches.now c.double.new.caches c.args.store.now c.double.new.store (λ n e. inl (e ∙ sym (owner_same c.args.caches.now c.requires.right.sound c.args.node o it is owner))) gathered)
+
+pub returns-clause-drops : goal.returns-clause-drops
+returns-clause-drops g c =
+    let it : NodeId = c.owner_of-owner.result in
+    let owner : IsOwner c.args.caches.now c.args.node it = record { held = c.owner_of-owner.ensures.held; name = c.owner_of-owner.ensures.owner } in
+    let old : World = world (g.M.Mapper.held c.args.mapper.now) (g.M.Mapper.page_bytes c.args.mapper.now) c.args.caches.now c.args.store.now in
+    let v : World = world (g.M.Mapper.held c.double.new.mapper) (g.M.Mapper.page_bytes c.double.new.mapper) c.hand_page.new.caches c.settle_in-2.new.store in
+    let one = c.in_ok-frame.ensures.copied.gathered in
+    let two = c.in-Ok.ensures.doubled in
+    let gathered = two.gathered in
+    let whole = still_then _ _ _ one.still gathered.still in
+    let f1 : ℕ = c.in_ok-frame.frame.0 in
+    let f2 : ℕ = c.in-Ok.second.0 in
+    let free1 : node_of c.double.new.store.map f1 ≡ None = two.stays.node ∙ one.taken.unbound in
+    let within1 : f1 < length c.double.new.store.map = omega (arith, one.taken.within, gathered.still.stays.frames, gathered.still.stays.right.tied.fitted.map_frames) in
+    let map1 : c.settle_in.new.store.map ≡ set c.double.new.store.map f1 (Some c.args.node) = ap (λ (s : Store). s.map) c.settle_in.ensures in
+    let free2 : node_of c.settle_in.new.store.map f2 ≡ None = ap (λ (m : List (Option NodeId)). node_of m f2) map1 ∙ get_or-set_other c.double.new.store.map f1 f2 (Some c.args.node) None two.apart ∙ gathered.taken.unbound in
+    let within2 : f2 < length c.settle_in.new.store.map = omega (arith, gathered.taken.within, gathered.still.stays.right.tied.fitted.map_frames, ap (λ (m : List (Option NodeId)). length m) map1, length-set c.double.new.store.map f1 (Some c.args.node)) in
+    let map2 : c.settle_in-2.new.store.map ≡ set c.settle_in.new.store.map f2 (Some c.args.next) = ap (λ (s : Store). s.map) c.settle_in-2.ensures in
+    let absent = ap is_absent (heir_absent c.args.caches.now c.requires.right.sound _ c.args.next c.requires.next c.requires.is) in
+    let answered : IsAnswered old v (g.M.Mapper.counts c.args.mapper.now) (g.M.Mapper.counts c.double.new.mapper) = returns-clause-answered g c in
+    let framed : IsFramed readied c.args.node f1 old v = returns-clause-ready g c in
+    let all : Drops (MayCome c.args.caches.now it) c.args.caches.now c.args.store.now c.hand_page.new.caches (without_homes it c.args.node c.settle_in-2.new.store) =
+    both_drops c.args.caches.now c.double.new.caches c.hand_page.new.caches c.args.store.now c.double.new.store c.settle_in-2.new.store c.requires.right whole answered.kept c.args.node it c.requires.node owner
+    (drops_trans (λ n. n ≡ it) Nobody (λ n. n ≡ it) c.args.caches.now c.copy_out.new.caches c.double.new.caches c.args.store.now c.copy_out.new.store c.double.new.store (λ n e. e) (λ n e. absurd e) c.copy_out.ensures.drops c.double.ensures.drops)
+    (λ f p at. ap (λ (m : List (Option NodeId)). node_of m f) map2 ∙ settled_stays c.settle_in.new.store.map f2 c.args.next free2 f p
+    (ap (λ (m : List (Option NodeId)). node_of m f) map1 ∙ settled_stays c.double.new.store.map f1 c.args.node free1 f p at))
+    (λ f p at. elim (settled_comes c.settle_in.new.store.map f2 c.args.next within2 f p (ap (λ (m : List (Option NodeId)). node_of m f) (sym map2) ∙ at)) [
+      | inl there ↦ may_come c.args.caches.now it c.args.node p (ap is_absent c.requires.bare) (settled_comes c.double.new.store.map f1 c.args.node within1 f p (ap (λ (m : List (Option NodeId)). node_of m f) (sym map1) ∙ there))
+      | inr e ↦ may_come c.args.caches.now it c.args.next p absent (inr e)
+    ])
+    (inr (ap is_absent c.requires.bare)) (ap (λ (s : Store). s.tables) c.settle_in-2.ensures ∙ ap (λ (s : Store). s.tables) c.settle_in.ensures)
+    (framed.forest ∙ sym (readied_bare (store_forest old) (name_of c.args.caches.now c.args.node) (store_page old c.requires.right.sound c.args.node c.requires.node ∙ absent_none old c.args.node c.requires.bare))) in
+    λ o is. subst (λ (m : NodeId). Drops (MayCome c.args.caches.now m) c.args.caches.now c.args.store.now c.hand_page.new.caches (without_homes m c.args.node c.settle_in-2.new.store)) (sym (owner_same c.args.caches.now c.requires.right.sound c.args.node o it is owner)) all

@@ -1,4 +1,4 @@
-use Rattle.std.proofs.Common.{refl, sym, ap, subst, ◌∙◌, ◌-◌, rules}
+use Rattle.std.proofs.Common.{◌≡◌, List, Option, inl, inr, refl, sym, ap, subst, ◌∙◌, ◌-◌, rules, ◌<◌, length, arith}
 use Rattle.residency.specs.declared.store.Store.{Store}
 use Rattle.residency.specs.StoreForest.{store_forest}
 use Rattle.residency.specs.World.{World, world}
@@ -8,9 +8,18 @@ use Rattle.fault_path.proofs.Calls.Answered.{still_answered, still_missed_by}
 use Rattle.residency.proofs.Pushes.Told.{tells_as}
 use Rattle.fault_path.proofs.Rules.OneFrameForest.{own_copies, own_forest, own_gives, own_kept}
 use Rattle.vm_ids.specs.declared.numbers.NodeId.{NodeId}
-use Rattle.local_cache.specs.Own.{own_of}
+use Rattle.vm_ids.specs.Forest.Rules as forest
+use Rattle.global_map.specs.Pairs.{node_of}
+use Rattle.local_cache.specs.Own.{is_absent, own_of}
 use Rattle.fault_path.specs.Costs.{Pulls, frames_to_copy, free_count, pulls_to_copy}
 use Rattle.fault_path.proofs.Pages.FoundPage.{owner_same}
+use Rattle.residency.specs.Translating.{Drops}
+use Rattle.residency.proofs.Translations.Kept.{drops_more}
+use Rattle.fault_path.specs.Answers.{IsAnswered, IsFramed}
+use Rattle.fault_path.specs.Translating.{MayCome, without_homes}
+use Rattle.fault_path.proofs.Translations.Given.{may_come, settled_comes, settled_stays}
+use Rattle.fault_path.proofs.Translations.Whole.{own_drops}
+use Rattle.residency.proofs.Worlds.Arms.{on_err}
 use Rattle.fault_path.proofs.writing.own_framed.Goals as goal
 
 pub returns-in_err-frame-clause-answered : goal.returns-in_err-frame-clause-answered
@@ -78,3 +87,27 @@ returns-clause-made g c = λ o is. (
     let it : NodeId = c.owner_of-owner.result in
     let owner : IsOwner c.args.caches.now c.args.node it = record { held = c.owner_of-owner.ensures.held; name = c.owner_of-owner.ensures.owner } in
     subst (λ (m : NodeId). Pulls (pulls_to_copy (own_of c.args.caches.now m)) (frames_to_copy (own_of c.args.caches.now m) - free_count c.args.store.now.frames) (g.M.Mapper.counts c.args.mapper.now) (g.M.Mapper.counts c.copy_out.new.mapper)) (sym (owner_same c.args.caches.now c.requires.right.sound c.args.node o it is owner)) c.in_ok-frame.ensures.made)
+
+pub returns-in_err-frame-clause-missed_drops : goal.returns-in_err-frame-clause-missed_drops
+returns-in_err-frame-clause-missed_drops g c =
+    let it : NodeId = c.owner_of-owner.result in
+    let owner : IsOwner c.args.caches.now c.args.node it = record { held = c.owner_of-owner.ensures.held; name = c.owner_of-owner.ensures.owner } in
+    λ o is. on_err _ c.from_residual.result (drops_more (λ n. n ≡ it) (MayCome c.args.caches.now o) c.args.caches.now c.copy_out.new.caches c.args.store.now c.copy_out.new.store (λ n e. inl (e ∙ sym (owner_same c.args.caches.now c.requires.right.sound c.args.node o it is owner))) c.copy_out.ensures.drops)
+
+pub returns-clause-drops : goal.returns-clause-drops
+returns-clause-drops g c =
+    let it : NodeId = c.owner_of-owner.result in
+    let owner : IsOwner c.args.caches.now c.args.node it = record { held = c.owner_of-owner.ensures.held; name = c.owner_of-owner.ensures.owner } in
+    let old : World = world (g.M.Mapper.held c.args.mapper.now) (g.M.Mapper.page_bytes c.args.mapper.now) c.args.caches.now c.args.store.now in
+    let v : World = world (g.M.Mapper.held c.copy_out.new.mapper) (g.M.Mapper.page_bytes c.copy_out.new.mapper) c.own_page.new.caches c.settle_in.new.store in
+    let k = c.in_ok-frame.ensures.copied.gathered in
+    let answered : IsAnswered old v (g.M.Mapper.counts c.args.mapper.now) (g.M.Mapper.counts c.copy_out.new.mapper) = returns-clause-answered g c in
+    let framed : IsFramed forest.own c.args.node c.in_ok-frame.frame.0 old v = returns-clause-owned g c in
+    let within : c.in_ok-frame.frame.0 < length c.copy_out.new.store.map = omega (arith, k.taken.within, k.still.stays.right.tied.fitted.map_frames) in
+    let map = ap (λ (s : Store). s.map) c.settle_in.ensures in
+    let whole : Drops (MayCome c.args.caches.now it) c.args.caches.now c.args.store.now c.own_page.new.caches (without_homes it c.args.node c.settle_in.new.store) =
+    own_drops c.args.caches.now c.copy_out.new.caches c.own_page.new.caches c.args.store.now c.copy_out.new.store c.settle_in.new.store c.requires.right k.still answered.kept c.args.node it c.requires.node owner c.copy_out.ensures.drops
+    (λ f p at. ap (λ (m : List (Option NodeId)). node_of m f) map ∙ settled_stays c.copy_out.new.store.map c.in_ok-frame.frame.0 c.args.node k.taken.unbound f p at)
+    (λ f p at. may_come c.args.caches.now it c.args.node p (ap is_absent c.requires.bare) (settled_comes c.copy_out.new.store.map c.in_ok-frame.frame.0 c.args.node within f p (ap (λ (m : List (Option NodeId)). node_of m f) (sym map) ∙ at)))
+    (inr (ap is_absent c.requires.bare)) (ap (λ (s : Store). s.tables) c.settle_in.ensures) framed.forest in
+    λ o is. subst (λ (m : NodeId). Drops (MayCome c.args.caches.now m) c.args.caches.now c.args.store.now c.own_page.new.caches (without_homes m c.args.node c.settle_in.new.store)) (sym (owner_same c.args.caches.now c.requires.right.sound c.args.node o it is owner)) whole

@@ -1,19 +1,45 @@
-use Rattle.std.proofs.Common.{sym, ap, ◌∙◌, ◌≡◌, true}
-use Rattle.vm_ids.specs.Forest.Rules as forest
-use Rattle.local_cache.specs.Own.{is_absent, own_of}
+use Rattle.std.proofs.Common.{◌∙◌, ap, sym, subst, arith}
+use Rattle.fault_path.specs.Answers.{IsAnswered}
 use Rattle.residency.specs.World.{World, world}
-use Rattle.residency.proofs.Worlds.Arms.{if_ok}
+use Rattle.residency.specs.declared.store.Store.{Store}
+use Rattle.vm_ids.specs.declared.numbers.NodeId.{NodeId}
+use Rattle.fault_path.specs.Faults.{IsOwner}
+use Rattle.fault_path.proofs.Pages.FoundPage.{owner_same}
 use Rattle.fault_path.specs.Answers.{IsFramed}
 use Rattle.fault_path.specs.Faults.{readied}
-use Rattle.fault_path.proofs.Calls.Kept.{absent_is}
-use Rattle.fault_path.proofs.Rules.ReadyForest.{own_ready}
+use Rattle.residency.specs.Translating.{Drops}
+use Rattle.fault_path.specs.Translating.{MayCome, without_homes}
+use Rattle.fault_path.proofs.Rules.ReadyForest.{ready_alone}
+use Rattle.fault_path.proofs.Translations.Given.{forgot_world}
 use Rattle.fault_path.proofs.writing.write_fault.Goals as goal
 
-pub returns-in-None-clause-ready : goal.returns-in-None-clause-ready
-returns-in-None-clause-ready g c =
+pub drop_translations-requires : goal.drop_translations-requires
+drop_translations-requires g c =
+    let fitted = c.make_ready.ensures.answered.kept.right.tied.fitted in
+    omega (arith, fitted.places_frames, fitted.map_frames)
+
+pub returns-clause-answered : goal.returns-clause-answered
+returns-clause-answered g c =
     let old : World = world (g.M.Mapper.held c.args.mapper.now) (g.M.Mapper.page_bytes c.args.mapper.now) c.args.caches.now c.args.store.now in
-    let w : World = world (g.M.Mapper.held c.own_framed.new.mapper) (g.M.Mapper.page_bytes c.own_framed.new.mapper) c.own_framed.new.caches c.own_framed.new.store in
-    let absent : is_absent (own_of c.args.caches.now c.args.node) ≡ true = sym (c.is_absent.ensures.absent ∙ ap is_absent c.own_state.ensures) ∙ c.if-is_absent.true in
-    let ready = own_ready old c.requires.right.sound c.requires.right.shaped c.args.node c.requires.node (absent_is _ absent) (sym c.in-None.ensures.heir) in
-    if_ok (λ f. IsFramed forest.own c.args.node f.0 old w) (λ f. IsFramed readied c.args.node f.0 old w) c.own_framed.result
-    (λ f owned. record { forest = owned.forest ∙ ready; bound = owned.bound; resident = owned.resident }) c.own_framed.ensures.owned
+    let same = forgot_world (g.M.Mapper.held c.make_ready.new.mapper) (g.M.Mapper.page_bytes c.make_ready.new.mapper) c.make_ready.new.caches c.make_ready.new.store c.drop_translations.new.store c.owner_of-owner.result c.args.node c.drop_translations.ensures in
+    subst (λ (w : World). IsAnswered old w (g.M.Mapper.counts c.args.mapper.now) (g.M.Mapper.counts c.make_ready.new.mapper)) (sym same) c.make_ready.ensures.answered
+
+pub returns-clause-ready : goal.returns-clause-ready
+returns-clause-ready g c =
+    let old : World = world (g.M.Mapper.held c.args.mapper.now) (g.M.Mapper.page_bytes c.args.mapper.now) c.args.caches.now c.args.store.now in
+    let same = forgot_world (g.M.Mapper.held c.make_ready.new.mapper) (g.M.Mapper.page_bytes c.make_ready.new.mapper) c.make_ready.new.caches c.make_ready.new.store c.drop_translations.new.store c.owner_of-owner.result c.args.node c.drop_translations.ensures in
+    subst (λ (w : World). IsFramed readied c.args.node c.in_ok-frame.frame.0 old w) (sym same) c.in_ok-frame.ensures.ready
+
+pub returns-clause-drops : goal.returns-clause-drops
+returns-clause-drops g c =
+    let it : NodeId = c.owner_of-owner.result in
+    let owner : IsOwner c.args.caches.now c.args.node it = record { held = c.owner_of-owner.ensures.held; name = c.owner_of-owner.ensures.owner } in
+    λ o is. subst (λ (s : Store). Drops (MayCome c.args.caches.now o) c.args.caches.now c.args.store.now c.make_ready.new.caches s)
+    (ap (λ (m : NodeId). without_homes m c.args.node c.make_ready.new.store) (owner_same c.args.caches.now c.requires.right.sound c.args.node o it is owner) ∙ sym c.drop_translations.ensures)
+    (c.in_ok-frame.ensures.drops o is)
+
+pub returns-clause-alone : goal.returns-clause-alone
+returns-clause-alone g c =
+    let old : World = world (g.M.Mapper.held c.args.mapper.now) (g.M.Mapper.page_bytes c.args.mapper.now) c.args.caches.now c.args.store.now in
+    let w : World = world (g.M.Mapper.held c.make_ready.new.mapper) (g.M.Mapper.page_bytes c.make_ready.new.mapper) c.make_ready.new.caches c.make_ready.new.store in
+    ready_alone old w c.requires.right.sound c.requires.right.shaped c.in_ok-frame.ensures.answered.kept c.args.node c.requires.node c.requires.live c.in_ok-frame.frame.0 c.in_ok-frame.ensures.ready

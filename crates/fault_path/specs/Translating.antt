@@ -1,0 +1,29 @@
+-- Which translations a fault drops.
+use Rattle.std.specs.Prelude.{◌≡◌, ℕ, Bool, true, ◌||◌, List, Option, ◌⊎◌}
+use Rattle.vm_ids.specs.declared.numbers.NodeId.{NodeId}
+use Rattle.global_map.specs.Pairs.{is_node, node_of}
+use Rattle.local_cache.specs.Arena.{Arena}
+use Rattle.local_cache.specs.Own.{is_absent, own_of}
+use Rattle.residency.specs.declared.store.Store.{Store}
+use Rattle.residency.specs.Translating.{without}
+
+-- a frame is that of node n
+abbrev pub is_home : NodeId → List (Option NodeId) → ℕ → Bool
+is_home n map frame = is_node n.0 (node_of map frame)
+
+-- it is that of one of two nodes
+abbrev pub is_home_of : NodeId → NodeId → List (Option NodeId) → ℕ → Bool
+is_home_of n m map frame = is_home n map frame || is_home m map frame
+
+-- the store without the translations that lead to the pages of two nodes
+abbrev pub without_homes : NodeId → NodeId → Store → Store
+without_homes n m s = record s { tables = without (is_home_of n m s.map) s.tables }
+
+-- no node
+abbrev pub Nobody : NodeId → Type 0
+Nobody n = ⊥
+
+-- The nodes that may come to a frame while a page is owned, saved or made ready for a write: its
+-- owner, and those that had no own page.
+abbrev pub MayCome : Arena → NodeId → NodeId → Type 0
+MayCome a owner n = (n ≡ owner) ⊎ (is_absent (own_of a n) ≡ true)
