@@ -17,10 +17,10 @@ use Rattle.vm_ids.specs.Forest.Shape.{IsWellShaped}
 use Rattle.vm_ids.specs.Forest.Values.IsValue.{itself}
 use Rattle.vm_ids.proofs.Forest.Columns.{gets-stubs, gets-tree, hand_stubs-stubs_other, hand_stubs-tree, left_stubs}
 use Rattle.vm_ids.proofs.Forest.Laws.Owning.{heir_gets_leaves_no_heir, with_heir}
-use Rattle.vm_ids.proofs.Forest.Names.{same_apart}
+use Rattle.vm_ids.proofs.Forest.Names.{name_cases, same_apart}
 use Rattle.vm_ids.proofs.Forest.Reading.{value-IsValue}
 use Rattle.vm_ids.proofs.Forest.Saving.{no_more_saves, save_range_ends}
-use Rattle.vm_ids.proofs.Forest.Values.{handed, heir_hangs, node-count_copy, own_kept}
+use Rattle.vm_ids.proofs.Forest.Values.{handed, heir_hangs, heir_own, node-count_copy, own_kept}
 
 both_false : (a : Bool) → (a && false) ≡ false
 both_false true = refl
@@ -42,6 +42,16 @@ module _ {P : Type 0} where
     -- another node than the heir has its page, or none
     own_stays : (y : NodeName) → y ≢ h → (node (heir_gets f x) y).own ≡ (node f y).own
     own_stays y apart = ap (λ g. (node g y).own) after ∙ ap (λ n. n.own) (node-count_copy (handed f x h) y) ∙ own_kept f shaped.linked x h v is_heir own_is value_is y apart
+
+    -- and who has none had none
+    pub owned_stays : (y : NodeName) → (node (heir_gets f x) y).own ≡ None → (node f y).own ≡ None
+    owned_stays y none = elim (name_cases y h) [
+      | inl e ↦ absurd (
+          let has : (node (heir_gets f x) h).own ≡ Some v = ap (λ g. (node g h).own) after ∙ ap (λ n. n.own) (node-count_copy (handed f x h) h) ∙ heir_own f shaped.linked x h v is_heir own_is value_is in
+          let gone : (node (heir_gets f x) h).own ≡ None = ap (λ z. (node (heir_gets f x) z).own) (sym e) ∙ none in
+          cc (has, gone))
+      | inr apart ↦ sym (own_stays y apart) ∙ none
+    ]
 
     tree_stays : (y : NodeName) → (node (heir_gets f x) y).tree ≡ (node f y).tree
     unfolding handed
@@ -77,6 +87,14 @@ module _ {P : Type 0} where
 
     pub saved_now : is_live x ≡ true → is_unsaved (heir_gets f x) x ≡ false
     saved_now live = ap (λ o. is_some (node (heir_gets f x) x).own && is_some o) (heir_gets_leaves_no_heir f shaped x v live own_is) ∙ both_false (is_some (node (heir_gets f x) x).own)
+
+  -- the same of a page that isn't saved yet
+  pub unowned_before : (f : Forest P) → IsWellShaped f → (x h : NodeName) → is_unsaved f x ≡ true → heir f x ≡ Some h → (y : NodeName) → (node (heir_gets f x) y).own ≡ None → (node f y).own ≡ None
+  unowned_before f shaped x h is is_heir y none = go (node f x).own refl is
+    where
+      go : (o : Option P) → (node f x).own ≡ o → (is_some (node f x).own && is_some (heir f x)) ≡ true → (node f y).own ≡ None
+      go None e t = absurd (let u : false ≡ true = sym (ap (λ p. is_some p && is_some (heir f x)) e) ∙ t in cc u)
+      go (Some v) e t = owned_stays f shaped x h v e is_heir y none
 
   -- Which one is next ------------------------------------------------------------------
 

@@ -4,3 +4,4 @@ pub mod Pushing
 pub mod Ranges
 pub mod Saving
 pub mod Synced
+pub mod Translating

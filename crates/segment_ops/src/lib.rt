@@ -13,6 +13,7 @@
 //! `StaysWhole` of `specs` says what the calls that reach the forest keep, and `TellsValues` in it
 //! that each page pushed to a segment is what its node reads. Of writes only the grants change
 //! (`GrantsBefore`), of pushes only where pages are (`Still`); the saves are those of the forest.
+//! Translations are dropped by frame, and what is left of them leads to where it led (`Drops`).
 //! The crate stands on `fault_path`, `history_tree`, `residency` and `local_cache`, and the manager
 //! stands on it.
 #![tactic(auto)]

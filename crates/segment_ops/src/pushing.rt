@@ -9,15 +9,18 @@ ghost use Rattle.local_cache.specs.Own.{is_resident, own_of};
 ghost use Rattle.local_cache.specs.Whole.{IsWhole};
 ghost use Rattle.residency.specs.Between.{Across, Between, RightStore};
 ghost use Rattle.residency.specs.Causes.{Later, Traffic};
+ghost use Rattle.residency.specs.Translating.{Drops};
 ghost use Rattle.residency.specs.World.{HasUnpinned, OthersStay, Still, is_clean as is_page_clean, world};
 ghost use Rattle.fault_path.specs.Answers.{RightForest};
 ghost use Rattle.fault_path.specs.Costs.{MadeAtMost};
-ghost use Rattle.fault_path.specs.Faults.{SameForest};
+ghost use Rattle.fault_path.specs.Faults.{IsOwner, SameForest};
+ghost use Rattle.fault_path.specs.Translating.{Nobody};
 ghost use Rattle.segment_ops.specs.Keeping.{StaysWhole};
 ghost use Rattle.segment_ops.specs.Pushing.{TellsValues};
 ghost use Rattle.segment_ops.specs.Ranges.{HasRange, IsNamed, IsPageOf};
 ghost use Rattle.segment_ops.specs.Saving.{HasFailed};
 ghost use Rattle.segment_ops.specs.Synced.{AreLoose, AreOut, AreSynced, CleanStays, IsSynced, is_settled, unclean, unclean_count};
+ghost use Rattle.segment_ops.specs.Translating.{IsReadBy};
 
 use history_tree::owner_of;
 use local_cache::{Caches, Home, OwnState};
@@ -50,6 +53,7 @@ fn push_page<M: Mapper, C: Chooser>(
         (world (M.held mapper.new) (M.page_bytes mapper.new) caches.new store.new) node) }
     ensures most { MadeAtMost 1 2 (M.counts mapper.old) (M.counts mapper.new) }
     ensures cause { OnErr result (HasFailed (M.counts mapper.old) (M.counts mapper.new)) }
+    ensures drops { Drops (IsOwner caches.old node) caches.old store.old caches.new store.new }
 {
     let owner = owner_of(caches, node);
     let Ok(frame) = store.bring_in(caches, owner, mapper, chooser) else {
@@ -96,6 +100,7 @@ fn sync_page<M: Mapper, C: Chooser>(
     ensures most { MadeAtMost (unclean (own_of caches.old node))
         (2 * unclean (own_of caches.old node)) (M.counts mapper.old) (M.counts mapper.new) }
     ensures cause { OnErr result (HasFailed (M.counts mapper.old) (M.counts mapper.new)) }
+    ensures drops { Drops (IsOwner caches.old node) caches.old store.old caches.new store.new }
 {
     if is_clean(caches, node) {
         return Ok(());
@@ -133,6 +138,7 @@ fn push_pages<M: Mapper, C: Chooser>(
         (2 * unclean_count caches.old range.cache.0 range.first.0 range.pages)
         (M.counts mapper.old) (M.counts mapper.new) }
     ensures cause { OnErr result (HasFailed (M.counts mapper.old) (M.counts mapper.new)) }
+    ensures drops { Drops (IsReadBy caches.old range) caches.old store.old caches.new store.new }
 {
     for number in range.first.0..range.first.0 + range.pages {
         let page = PageNo(number);
@@ -160,6 +166,7 @@ fn let_go<M: Mapper>(store: &mut Store, caches: &mut Caches, node: NodeId, mappe
     ensures later { Later (M.counts mapper.old) (M.counts mapper.new) }
     ensures made { Traffic 0 0 (M.counts mapper.old) (M.counts mapper.new) }
     ensures out { is_resident (own_of caches.new node) ≡ false }
+    ensures drops { Drops Nobody caches.old store.old caches.new store.new }
 {
     if let Some(frame) = store.map().get(node) {
         store.evict(caches, frame, mapper).unwrap();
@@ -185,6 +192,7 @@ fn give_up_pages<M: Mapper>(store: &mut Store, caches: &mut Caches, range: Exten
     ensures synced { AreSynced range (range.first.0 + range.pages)
         (world (M.held mapper.new) (M.page_bytes mapper.new) caches.new store.new) }
     ensures out { AreOut range caches.new }
+    ensures drops { Drops Nobody caches.old store.old caches.new store.new }
 {
     for number in range.first.0..range.first.0 + range.pages {
         let node = caches.node_of(range.cache, PageNo(number));
@@ -229,6 +237,7 @@ pub fn push_range<M: Mapper, C: Chooser>(
         (2 * unclean_count caches.old range.cache.0 range.first.0 range.pages)
         (M.counts mapper.old) (M.counts mapper.new) }
     ensures cause { OnErr result (HasFailed (M.counts mapper.old) (M.counts mapper.new)) }
+    ensures drops { Drops (IsReadBy caches.old range) caches.old store.old caches.new store.new }
 {
     push_pages(store, caches, range, mapper, chooser)?;
     if give_up {

@@ -10,10 +10,12 @@ ghost use Rattle.local_cache.specs.Reading.{forest_of, name_of};
 ghost use Rattle.local_cache.specs.Sound.{IsSound};
 ghost use Rattle.local_cache.specs.Whole.{IsWhole};
 ghost use Rattle.residency.specs.Between.{Across, Between, RightStore};
+ghost use Rattle.residency.specs.Translating.{Drops};
 ghost use Rattle.fault_path.specs.Faults.{HasLoose};
 ghost use Rattle.segment_ops.specs.Keeping.{StaysWhole};
 ghost use Rattle.segment_ops.specs.Ranges.{HasRange};
 ghost use Rattle.segment_ops.specs.Saving.{AreSaved, AreSavedNow, HasFailed, SavesEnd};
+ghost use Rattle.segment_ops.specs.Translating.{IsSavedOrAbsent};
 
 use fault_path::save;
 use history_tree::heir;
@@ -86,6 +88,8 @@ pub fn save_range<M: Mapper, C: Chooser>(
     ensures idle { AreSavedNow caches.old (extent_names range)
         → IsOk result × (store.new ≡ store.old) × (caches.new ≡ caches.old)
         × (mapper.new ≡ mapper.old) × (chooser.new ≡ chooser.old) }
+    ensures drops { Drops (IsSavedOrAbsent caches.old range)
+        caches.old store.old caches.new store.new }
 {
     let mut done = 0;
     let mut page = range.first.0;

@@ -1,4 +1,4 @@
-use Rattle.std.proofs.Common.{◌≡◌, ◌+◌, ℕ, Some, is_some, sym, ap, ◌∙◌, arith, inl, inr}
+use Rattle.std.proofs.Common.{◌≡◌, ◌+◌, ℕ, Some, is_some, refl, sym, ap, ◌∙◌, arith, inl, inr}
 use Rattle.std.proofs.lemmas.Bool.{cases_eq}
 use Rattle.vm_ids.specs.declared.numbers.NodeId.{NodeId}
 use Rattle.vm_ids.specs.Held.{segments_of}
@@ -6,12 +6,14 @@ use Rattle.local_cache.specs.Arena.{node_at}
 use Rattle.local_cache.specs.Own.{is_resident, own_of}
 use Rattle.local_cache.proofs.Tables.Sizes.{sizes_same}
 use Rattle.residency.specs.World.{World, world}
-use Rattle.residency.proofs.Worlds.Composed.{still_then}
+use Rattle.residency.proofs.Worlds.Composed.{still, still_then}
 use Rattle.residency.proofs.Forests.StillForest.{still_caches_sound, still_like}
 use Rattle.fault_path.proofs.Calls.Answered.{later_then}
 use Rattle.fault_path.proofs.Calls.Kept.{still_shaped}
+use Rattle.fault_path.specs.Translating.{Nobody}
 use Rattle.segment_ops.proofs.GivenUp.{loose_stays, made_then}
 use Rattle.segment_ops.proofs.Granting.{range_home}
+use Rattle.residency.proofs.Translations.Kept.{drops_trans, same_drops}
 use Rattle.segment_ops.proofs.PushedPage.{others_clean}
 use Rattle.segment_ops.proofs.SyncedPages.{same_node, synced_kept}
 use Rattle.segment_ops.proofs.Unsaved.{range_fits, range_node}
@@ -20,6 +22,22 @@ use Rattle.segment_ops.proofs.pushing.give_up_pages.Goals as goal
 
 pub overflow_add-number-end : goal.overflow_add-number-end
 overflow_add-number-end g c = omega (arith, range_fits c.args.caches.now c.requires.whole c.args.range c.requires.range)
+
+pub loop-number-init : goal.loop-number-init
+loop-number-init g c =
+    let M = g.M.Mapper in
+    let old : World = world (M.held c.args.mapper.now) (M.page_bytes c.args.mapper.now) c.args.caches.now c.args.store.now in
+    record {
+      still = still old c.requires.right;
+      held = refl;
+      pinned = refl;
+      later = record { faults = omega arith; pulls = omega arith; pushes = omega arith };
+      made = record { pulled = λ low. omega arith; pushed = λ low. omega arith };
+      synced = c.requires.synced;
+      loose = c.requires.loose;
+      drops = same_drops Nobody c.args.caches.now c.args.store.now c.requires.right.tied.placed;
+      out = λ page n from below at. absurd (omega (arith, from, below));
+    }
 
 pub node_of-node-requires : goal.node_of-node-requires
 node_of-node-requires g c =
@@ -77,6 +95,7 @@ loop-number-preserved g c =
       made = made_then _ _ _ i.made e.made;
       synced = synced_kept c.args.range (c.args.range.first.0 + c.args.range.pages) w v i.still.stays.right e.still sound shaped (others_clean w v i.still.stays.right e.others) _ _ told (c.requires.named.0, named) i.synced;
       loose = loose_stays c.args.range w v e.still e.others e.pinned i.loose;
+      drops = drops_trans Nobody Nobody Nobody c.args.caches.now c.loop-number.caches c.let_go.new.caches c.args.store.now c.loop-number.store c.let_go.new.store (λ n none. none) (λ n none. none) i.drops e.drops;
       out = λ page n from below at. elim (cases_eq page c.loop-number.number) [
         | inl q ↦ (
             let here : node_at w.caches c.args.range.cache.0 c.loop-number.number ≡ Some n = ap (node_at w.caches c.args.range.cache.0) (sym q) ∙ back page ∙ at in

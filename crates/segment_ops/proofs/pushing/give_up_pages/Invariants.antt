@@ -4,7 +4,9 @@ use Rattle.local_cache.specs.Arena.{node_at}
 use Rattle.local_cache.specs.Own.{is_resident, own_of}
 use Rattle.residency.specs.Causes.{Later, Traffic}
 use Rattle.residency.specs.World.{Still, World, world}
+use Rattle.residency.specs.Translating.{Drops}
 use Rattle.segment_ops.specs.Synced.{AreLoose, AreSynced}
+use Rattle.fault_path.specs.Translating.{Nobody}
 use Rattle.segment_ops.proofs.pushing.give_up_pages.Given as goal
 
 abbrev pub invariant-loop-number : goal.invariant-loop-number
@@ -20,5 +22,6 @@ invariant-loop-number g l =
       made : Traffic 0 0 (M.counts l.fn.mapper) (M.counts l.mapper);
       synced : AreSynced l.range (l.range.first.0 + l.range.pages) now;
       loose : AreLoose l.range now;
+      drops : Drops Nobody l.fn.caches l.fn.store l.caches l.store;
       out : (page : ℕ) (n : NodeId) → l.range.first.0 ≤ page → page < l.number → node_at l.caches l.range.cache.0 page ≡ Some n → is_resident (own_of l.caches n) ≡ false;
     }

@@ -7,9 +7,11 @@ use Rattle.local_cache.specs.Own.{is_absent, own_of}
 use Rattle.residency.specs.World.{Still, World, world}
 use Rattle.residency.proofs.Worlds.Arms.{on_err}
 use Rattle.residency.proofs.Pushes.Outside.{put_at}
+use Rattle.residency.specs.Translating.{Drops}
 use Rattle.fault_path.specs.Faults.{IsOwner}
 use Rattle.segment_ops.specs.Pushing.{TellsValues}
 use Rattle.segment_ops.specs.Synced.{CleanStays, IsSynced}
+use Rattle.segment_ops.proofs.Dropped.{failed_drops, owner_drops}
 use Rattle.segment_ops.proofs.PushedPage.{at_b, inherited_synced, others_clean, others_clean_but, own_clean, own_still, own_synced, page_still, page_told, push_failed, pushed_later, there_b}
 use Rattle.segment_ops.proofs.Values.{held_home, tells_values, values_as, values_failed}
 use Rattle.segment_ops.proofs.pushing.push_page.Goals as goal
@@ -193,3 +195,49 @@ returns-then-not-is_absent-clause-synced g c =
     let told : M.held c.push_out.new.self ≡ option_map (put_at c.args.home (bytes_of b.frames f)) b.told = p.ok ∙ ap (λ x. option_map (put_at c.args.home x) b.told) (c.bytes.ensures.bytes ∙ ap (λ fs. bytes_of fs f) c.frames.ensures) in
     let some : is_absent (own_of b.caches c.args.node) ≡ false = search rules in
     subst (λ (x : Arena). IsSynced (world (M.held c.push_out.new.self) (M.page_bytes c.push_out.new.self) x c.bring_in.new.self) c.args.node) (sym c.set_state.ensures.changed) (subst (λ t. IsSynced (world t (M.page_bytes c.push_out.new.self) (with_own c.bring_in.new.caches c.args.node (Resident false)) c.bring_in.new.self) c.args.node) (sym told) (subst (λ z. IsSynced (world (option_map (put_at c.args.home (bytes_of b.frames f)) b.told) z (with_own c.bring_in.new.caches c.args.node (Resident false)) c.bring_in.new.self) c.args.node) (sym p.page) (own_synced old b c.args.node o c.args.home f c.requires.right c.requires.home c.requires.unclean owner e.still e.home e.state some)))
+
+pub returns-in_default-clause-drops : goal.returns-in_default-clause-drops
+returns-in_default-clause-drops g c =
+    let M = g.M.Mapper in
+    let old : World = world (M.held c.args.mapper.now) (M.page_bytes c.args.mapper.now) c.args.caches.now c.args.store.now in
+    let b : World = world (M.held c.bring_in.new.mapper) (M.page_bytes c.bring_in.new.mapper) c.bring_in.new.caches c.bring_in.new.self in
+    let o = c.owner_of-owner.result in
+    let owner : IsOwner c.args.caches.now c.args.node o = record { held = c.owner_of-owner.ensures.held; name = c.owner_of-owner.ensures.owner } in
+    failed_drops old.told b.told old.page_bytes b.page_bytes c.args.caches.now c.bring_in.new.caches c.args.store.now c.bring_in.new.self c.args.node o owner c.requires.right.store c.bring_in.ensures.still c.bring_in.ensures.tables c.in_default.ensures.failed
+
+pub returns-in_err-push_out-clause-drops : goal.returns-in_err-push_out-clause-drops
+returns-in_err-push_out-clause-drops g c =
+    let M = g.M.Mapper in
+    let old : World = world (M.held c.args.mapper.now) (M.page_bytes c.args.mapper.now) c.args.caches.now c.args.store.now in
+    let b : World = world (M.held c.bring_in.new.mapper) (M.page_bytes c.bring_in.new.mapper) c.bring_in.new.caches c.bring_in.new.self in
+    let o = c.owner_of-owner.result in
+    let owner : IsOwner c.args.caches.now c.args.node o = record { held = c.owner_of-owner.ensures.held; name = c.owner_of-owner.ensures.owner } in
+    let f = c.in-Ok.frame.0 in
+    let e = c.in-Ok.ensures in
+    owner_drops old.told b.told old.page_bytes b.page_bytes c.args.caches.now c.bring_in.new.caches c.args.store.now c.bring_in.new.self c.args.node o owner c.requires.right.store e.still e.tables b.told b.page_bytes c.bring_in.new.caches e.others
+
+pub returns-else-not-is_absent-clause-drops : goal.returns-else-not-is_absent-clause-drops
+returns-else-not-is_absent-clause-drops g c =
+    let M = g.M.Mapper in
+    let old : World = world (M.held c.args.mapper.now) (M.page_bytes c.args.mapper.now) c.args.caches.now c.args.store.now in
+    let b : World = world (M.held c.bring_in.new.mapper) (M.page_bytes c.bring_in.new.mapper) c.bring_in.new.caches c.bring_in.new.self in
+    let o = c.owner_of-owner.result in
+    let owner : IsOwner c.args.caches.now c.args.node o = record { held = c.owner_of-owner.ensures.held; name = c.owner_of-owner.ensures.owner } in
+    let f = c.in-Ok.frame.0 in
+    let e = c.in-Ok.ensures in
+    owner_drops old.told b.told old.page_bytes b.page_bytes c.args.caches.now c.bring_in.new.caches c.args.store.now c.bring_in.new.self c.args.node o owner c.requires.right.store e.still e.tables b.told b.page_bytes c.bring_in.new.caches e.others
+
+pub returns-then-not-is_absent-clause-drops : goal.returns-then-not-is_absent-clause-drops
+returns-then-not-is_absent-clause-drops g c =
+    let M = g.M.Mapper in
+    let old : World = world (M.held c.args.mapper.now) (M.page_bytes c.args.mapper.now) c.args.caches.now c.args.store.now in
+    let b : World = world (M.held c.bring_in.new.mapper) (M.page_bytes c.bring_in.new.mapper) c.bring_in.new.caches c.bring_in.new.self in
+    let o = c.owner_of-owner.result in
+    let owner : IsOwner c.args.caches.now c.args.node o = record { held = c.owner_of-owner.ensures.held; name = c.owner_of-owner.ensures.owner } in
+    let f = c.in-Ok.frame.0 in
+    let e = c.in-Ok.ensures in
+    let some : is_absent (own_of b.caches c.args.node) ≡ false = search rules in
+    let clean : Arena = with_own b.caches c.args.node (Resident false) in
+    subst (λ (x : Arena). Drops (IsOwner c.args.caches.now c.args.node) c.args.caches.now c.args.store.now x c.bring_in.new.self) (sym c.set_state.ensures.changed)
+    (owner_drops old.told (option_map (put_at c.args.home (bytes_of b.frames f)) b.told) old.page_bytes b.page_bytes c.args.caches.now clean c.args.store.now c.bring_in.new.self c.args.node o owner c.requires.right.store
+    (own_still old b c.args.node o c.args.home f c.requires.right c.requires.home c.requires.unclean owner e.still e.home e.state some) e.tables b.told b.page_bytes c.bring_in.new.caches e.others)

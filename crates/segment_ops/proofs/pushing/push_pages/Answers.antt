@@ -8,7 +8,11 @@ use Rattle.residency.proofs.Worlds.Composed.{still, still_then}
 use Rattle.residency.proofs.Forests.StillForest.{still_caches_sound, still_like}
 use Rattle.fault_path.proofs.Calls.Answered.{later_then}
 use Rattle.fault_path.proofs.Calls.Kept.{still_shaped}
+use Rattle.fault_path.specs.Faults.{IsOwner}
+use Rattle.segment_ops.specs.Translating.{IsReadBy}
+use Rattle.segment_ops.proofs.Dropped.{owner_before}
 use Rattle.segment_ops.proofs.Granting.{range_home}
+use Rattle.residency.proofs.Translations.Kept.{drops_trans, same_drops}
 use Rattle.segment_ops.proofs.PushedPage.{failed_then, still_reads}
 use Rattle.segment_ops.proofs.SyncedPages.{costs_most, costs_then, none_made, same_node, synced_kept, synced_then}
 use Rattle.segment_ops.proofs.Unsaved.{range_fits, range_node}
@@ -29,6 +33,7 @@ loop-number-init g c =
       later = record { faults = omega arith; pulls = omega arith; pushes = omega arith };
       clean = λ m is. is;
       synced = λ page n from below at. absurd (omega (arith, from, below));
+      drops = same_drops (IsReadBy c.args.caches.now c.args.range) c.args.caches.now c.args.store.now c.requires.right.tied.placed;
       most = none_made c.args.caches.now c.args.range.cache.0 c.args.range.first.0 _;
     }
 
@@ -92,6 +97,8 @@ loop-number-preserved g c =
       later = later_then _ _ _ i.later e.later;
       clean = λ m is. e.clean m (i.clean m is);
       synced = synced_then c.args.range c.loop-number.number w v i.still.stays.right e.still sound shaped e.clean _ _ e.told (c.requires.named.0, named) i.synced c.node_of-node.result c.node_of-node.ensures c.in-Ok.ensures.synced;
+      drops = drops_trans (IsReadBy c.args.caches.now c.args.range) (IsOwner c.loop-number.caches c.node_of-node.result) (IsReadBy c.args.caches.now c.args.range) c.args.caches.now c.loop-number.caches c.sync_page.new.caches c.args.store.now c.loop-number.store c.sync_page.new.store
+          (λ n came. came) (λ n own. (c.node_of-node.result, (c.loop-number.number, (from, c.loop-number-test.true), here), owner_before old w i.still c.requires.whole.sound c.node_of-node.result n own)) i.drops e.drops;
       most = costs_then old.caches c.args.range c.loop-number.number c.node_of-node.result (own_of w.caches c.node_of-node.result) _ _ _ from here (i.clean c.node_of-node.result) i.most e.most e.later;
     }
 
@@ -173,3 +180,20 @@ pub returns-clause-most : goal.returns-clause-most
 returns-clause-most g c =
     let i = c.loop-number.invariant in
     costs_most c.args.caches.now c.args.range (c.loop-number.number - c.args.range.first.0) _ _ (omega (arith, c.loop-number.auto.number-end)) i.most
+
+pub returns-in_default-clause-drops : goal.returns-in_default-clause-drops
+returns-in_default-clause-drops g c =
+    let M = g.M.Mapper in
+    let old : World = world (M.held c.args.mapper.now) (M.page_bytes c.args.mapper.now) c.args.caches.now c.args.store.now in
+    let w : World = world (M.held c.loop-number.mapper) (M.page_bytes c.loop-number.mapper) c.loop-number.caches c.loop-number.store in
+    let i = c.loop-number.invariant in
+    let like = still_like old.caches w.caches i.still.stays.caches in
+    let sound = still_caches_sound old w i.still c.requires.whole.sound in
+    let shaped = still_shaped old w i.still c.requires.whole.sound c.requires.whole.consistent.shaped in
+    let named = (sizes_same old.caches w.caches like.caches).segments c.args.range.cache.0 ∙ c.requires.named.1 in
+    let v : World = world (M.held c.sync_page.new.mapper) (M.page_bytes c.sync_page.new.mapper) c.sync_page.new.caches c.sync_page.new.store in
+    let e = c.sync_page.ensures in
+    let from : c.args.range.first.0 ≤ c.loop-number.number = c.loop-number.auto.number in
+    let here : node_at old.caches c.args.range.cache.0 c.loop-number.number ≡ Some c.node_of-node.result = sym (same_node old.caches w.caches like c.args.range.cache.0 c.loop-number.number) ∙ c.node_of-node.ensures in
+    drops_trans (IsReadBy c.args.caches.now c.args.range) (IsOwner c.loop-number.caches c.node_of-node.result) (IsReadBy c.args.caches.now c.args.range) c.args.caches.now c.loop-number.caches c.sync_page.new.caches c.args.store.now c.loop-number.store c.sync_page.new.store
+    (λ n came. came) (λ n own. (c.node_of-node.result, (c.loop-number.number, (from, c.loop-number-test.true), here), owner_before old w i.still c.requires.whole.sound c.node_of-node.result n own)) i.drops e.drops

@@ -2,8 +2,10 @@ use Rattle.std.proofs.Common.{◌≡◌, ◌-◌, ◌*◌}
 use Rattle.residency.specs.Causes.{Later}
 use Rattle.residency.specs.World.{Still, World, world}
 use Rattle.fault_path.specs.Costs.{MadeAtMost}
+use Rattle.residency.specs.Translating.{Drops}
 use Rattle.segment_ops.specs.Pushing.{TellsValues}
 use Rattle.segment_ops.specs.Synced.{AreSynced, CleanStays, unclean_count}
+use Rattle.segment_ops.specs.Translating.{IsReadBy}
 use Rattle.segment_ops.proofs.pushing.push_pages.Given as goal
 
 abbrev pub invariant-loop-number : goal.invariant-loop-number
@@ -19,5 +21,6 @@ invariant-loop-number g l =
       later : Later (M.counts l.fn.mapper) (M.counts l.mapper);
       clean : CleanStays l.fn.caches l.caches;
       synced : AreSynced l.range l.number now;
+      drops : Drops (IsReadBy l.fn.caches l.range) l.fn.caches l.fn.store l.caches l.store;
       most : MadeAtMost some (2 * some) (M.counts l.fn.mapper) (M.counts l.mapper);
     }

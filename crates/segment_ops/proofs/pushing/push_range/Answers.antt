@@ -4,7 +4,10 @@ use Rattle.residency.specs.World.{World, world}
 use Rattle.residency.proofs.Worlds.Composed.{still_then}
 use Rattle.residency.proofs.Forests.StillForest.{still_forest}
 use Rattle.fault_path.proofs.Calls.Answered.{later_then}
+use Rattle.fault_path.specs.Translating.{Nobody}
+use Rattle.segment_ops.specs.Translating.{IsReadBy}
 use Rattle.segment_ops.proofs.GivenUp.{still_stays}
+use Rattle.residency.proofs.Translations.Kept.{drops_trans}
 use Rattle.segment_ops.proofs.PushedPage.{still_reads}
 use Rattle.segment_ops.proofs.Values.{values_none, values_then}
 use Rattle.segment_ops.proofs.pushing.push_range.Goals as goal
@@ -71,3 +74,10 @@ returns-then-give_up-clause-forest g c =
     let e = c.give_up_pages.ensures in
     let whole = still_then old w v p.still e.still in
     still_forest old v whole
+
+pub returns-then-give_up-clause-drops : goal.returns-then-give_up-clause-drops
+returns-then-give_up-clause-drops g c =
+    let p = c.push_pages.ensures in
+    let e = c.give_up_pages.ensures in
+    let came = IsReadBy c.args.caches.now c.args.range in
+    drops_trans came Nobody came c.args.caches.now c.push_pages.new.caches c.give_up_pages.new.caches c.args.store.now c.push_pages.new.store c.give_up_pages.new.store (λ n came. came) (λ n none. absurd none) p.drops e.drops

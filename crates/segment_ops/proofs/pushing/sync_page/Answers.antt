@@ -1,5 +1,7 @@
 use Rattle.std.proofs.Common.{rules}
 use Rattle.residency.specs.World.{World, world}
+use Rattle.fault_path.specs.Faults.{IsOwner}
+use Rattle.residency.proofs.Translations.Kept.{same_drops}
 use Rattle.segment_ops.proofs.SyncedPages.{clean_synced}
 use Rattle.segment_ops.proofs.Values.{home_held}
 use Rattle.segment_ops.proofs.pushing.sync_page.Goals as goal
@@ -18,3 +20,6 @@ pub home-requires : goal.home-requires
 home-requires g c =
     let old : World = world (g.M.Mapper.held c.args.mapper.now) (g.M.Mapper.page_bytes c.args.mapper.now) c.args.caches.now c.args.store.now in
     home_held old c.requires.right.sound c.requires.right.shaped c.args.node c.requires.home
+
+pub returns-then-is_clean-clause-drops : goal.returns-then-is_clean-clause-drops
+returns-then-is_clean-clause-drops g c = same_drops (IsOwner c.args.caches.now c.args.node) c.args.caches.now c.args.store.now c.requires.right.store.tied.placed

@@ -11,6 +11,11 @@ use Rattle.residency.specs.StoreForest.{store_forest}
 use Rattle.residency.specs.World.{World, world}
 use Rattle.residency.proofs.Worlds.Composed.{still}
 use Rattle.fault_path.proofs.Calls.Kept.{still_kept, store_heir, store_shaped}
+use Rattle.fault_path.specs.Translating.{MayCome}
+use Rattle.segment_ops.specs.Translating.{IsSavedOrAbsent}
+use Rattle.segment_ops.proofs.Dropped.{absent_before, saved_or_absent}
+use Rattle.residency.proofs.Translations.Kept.{drops_trans, same_drops}
+use Rattle.segment_ops.proofs.SyncedPages.{same_node}
 use Rattle.segment_ops.proofs.Unsaved.{all_done, failed_here, copies_then, few_done, measured, node_named, no_saves, nodes_by, not_idle, one_more, range_fits, range_node, still_in_range, saved_on, saved_then, unsaved_by, unsaved_owns}
 use Rattle.segment_ops.proofs.Values.{values_none}
 use Rattle.segment_ops.proofs.Wholly.{saves_read, stays_then}
@@ -32,6 +37,8 @@ loop-page-init g c =
       };
       forest = (let none : saves 0 (extent_names c.args.range) (store_forest old) ≡ store_forest old = no_saves (extent_names c.args.range) (store_forest old) in sym none);
       saved = λ p from below. absurd (omega (arith, from, below));
+      absent = λ n e. e;
+      drops = same_drops (IsSavedOrAbsent c.args.caches.now c.args.range) c.args.caches.now c.args.store.now c.requires.right.tied.placed;
       first = omega arith;
       end = omega arith;
       done = omega arith;
@@ -140,6 +147,9 @@ loop-page-preserved-in-Some g c =
       forest = more;
       saved = saved_then old w c.args.range c.loop-page.done c.loop-page.page i.forest i.first i.saved v h c.loop-page-test.true is is_heir after (store_shaped w i.stays.whole.sound i.stays.whole.consistent.shaped) c.next_page-page.result next.past
           (λ p from below other q. next.apart p from below other (k.nodes.name c.in-Some.heir ∙ q));
+      absent = λ n bare. i.absent n (absent_before w v i.stays.whole.sound k.sound (store_shaped w i.stays.whole.sound i.stays.whole.consistent.shaped) k.nodes (page_name c.args.range.cache c.loop-page.page) h is is_heir after n bare);
+      drops = drops_trans (IsSavedOrAbsent c.args.caches.now c.args.range) (MayCome c.loop-page.caches c.node_of-node.result) (IsSavedOrAbsent c.args.caches.now c.args.range) c.args.caches.now c.loop-page.caches c.save.new.caches c.args.store.now c.loop-page.store c.save.new.store
+          (λ n came. came) (saved_or_absent c.args.caches.now c.loop-page.caches c.args.range c.node_of-node.result (c.loop-page.page, (i.first, c.loop-page-test.true), sym (same_node c.args.caches.now c.loop-page.caches i.stays.kept.nodes c.args.range.cache.0 c.loop-page.page) ∙ c.node_of-node.ensures) i.absent) i.drops e.drops;
       first = next.first;
       end = omega (arith, next.past, c.loop-page-test.true);
       done = omega (arith, few);
@@ -159,6 +169,8 @@ loop-page-preserved g c =
       stays = i.stays;
       forest = i.forest;
       saved = saved_on old w c.args.range c.loop-page.done c.loop-page.page i.forest i.first i.saved is;
+      absent = i.absent;
+      drops = i.drops;
       first = omega (arith, i.first);
       end = omega (arith, c.loop-page-test.true);
       done = i.done;
@@ -185,3 +197,9 @@ returns-in_default-clause-idle g c = λ none.
     let i = c.loop-page.invariant in
     let at = node_named c.loop-page.caches i.stays.whole.sound c.args.range.cache c.loop-page.page c.node_of-node.result c.node_of-node.ensures in
     absurd (not_idle c.args.caches.now c.loop-page.caches c.args.range c.loop-page.page i.first c.loop-page-test.true none (i.idle none).1 (sym (ap (is_unsaved (forest_of c.loop-page.caches)) at.1) ∙ sym c.in-Some.ensures.unsaved))
+
+pub returns-in_default-clause-drops : goal.returns-in_default-clause-drops
+returns-in_default-clause-drops g c =
+    let i = c.loop-page.invariant in
+    drops_trans (IsSavedOrAbsent c.args.caches.now c.args.range) (MayCome c.loop-page.caches c.node_of-node.result) (IsSavedOrAbsent c.args.caches.now c.args.range) c.args.caches.now c.loop-page.caches c.save.new.caches c.args.store.now c.loop-page.store c.save.new.store
+    (λ n came. came) (saved_or_absent c.args.caches.now c.loop-page.caches c.args.range c.node_of-node.result (c.loop-page.page, (i.first, c.loop-page-test.true), sym (same_node c.args.caches.now c.loop-page.caches i.stays.kept.nodes c.args.range.cache.0 c.loop-page.page) ∙ c.node_of-node.ensures) i.absent) i.drops c.save.ensures.drops
