@@ -8,6 +8,14 @@ pub mod Linking
 pub mod Coming
 -- Own pages give way to pages of zeros, and the store follows.
 pub mod Forgotten
+-- In which frames pages are seen.
+pub mod Framing
+-- A page that is its node's alone stays so.
+pub mod Alone
+-- What becomes of translations while frames fall free.
+pub mod Freeing
+-- The translations that must not outlive a change of the pages that they lead to.
+pub mod Leading
 -- What is carried through the steps of a command.
 pub mod Walking
 -- What the tests know of their pages.

@@ -8,6 +8,7 @@ use Rattle.local_cache.specs.declared.own_state.OwnState.{OwnState}
 use Rattle.local_cache.specs.declared.own_state.OwnState.TheVariants.{Absent, Zero, Resident, Slot, OnSegment}
 use Rattle.local_cache.specs.Arena.{Arena, HasNode}
 use Rattle.local_cache.specs.Own.{own_of}
+use Rattle.page_tables.specs.Translations.{IsFrame}
 use Rattle.residency.specs.declared.store.Store.{Store}
 use Rattle.residency.specs.World.{World}
 use Rattle.tree_merge.specs.declared.released.Released.{Released}
@@ -39,7 +40,7 @@ CanLeave s n Absent = Unit {0}
 CanLeave s n Zero = Unit {0}
 CanLeave s n (Resident dirty) =
     (bound_times s.map n.0 ≡ 1) × (is_held s.frames (frame_of s.map n.0) ≡ true)
-    × (is_pinned s.frames (frame_of s.map n.0) ≡ false)
+    × (is_pinned s.frames (frame_of s.map n.0) ≡ false) × IsFrame s.tables (frame_of s.map n.0)
 CanLeave s n (Slot k) = swap.is_held s.slots k.0 ≡ true
 CanLeave s n OnSegment = Unit {0}
 

@@ -19,9 +19,11 @@ use Rattle.vm_ids.specs.Forest.Nodes.{Forest}
 use Rattle.vm_ids.specs.Forest.Settling.{settle_step}
 use Rattle.tree_merge.specs.declared.released.Released.{Released}
 use Rattle.tree_merge.specs.Releasing.{IsMerged}
+use Rattle.residency.specs.Seeing.{frame_forest}
 use Rattle.residency.specs.StoreForest.{store_forest}
 use Rattle.residency.specs.World.{IsStoreRight, IsTied, PinnedStays, World, is_slot_held, page_by, world, zero_page}
 use Rattle.page_release.specs.Homes.{KeepsHomes, named_page}
+use Rattle.page_release.specs.Translating.{DropsFreed}
 
 -- the store is tied to its caches, whatever a mapper holds
 abbrev pub IsStoreTied : Store → Arena → Type 0
@@ -72,12 +74,24 @@ pub record Kept (names : List NodeName) (s : Store) (a : Arena) (t : Store) (b :
   pub sizes : SameCaches a b
   pub homes : KeepsHomes names a b
 
+-- The same, and the translations of the frames that fell free are dropped, and no other.
+pub record Releases (names : List NodeName) (s : Store) (a : Arena) (t : Store) (b : Arena)
+    : Type 0 where
+  pub gives_back : ForAnyMapper s a t b GivesBack
+  pub tables : DropsFreed s t
+  pub sound : IsSound b
+  pub tied : IsStoreTied t b
+  pub pinned : PinnedStayNamed s a b
+  pub sizes : SameCaches a b
+  pub homes : KeepsHomes names a b
+
 -- One step of settle was done, in the nodes and in the store.
 pub record IsSettleStep (s : Store) (a : Arena) (t : Store) (b : Arena) : Type 0 where
   pub released : Released
   pub merged : IsMerged a b released
   pub forest : ForAnyMapper s a t b
       (λ old new. store_forest new ≡ settle_step (store_forest old) (name_of a merged.node))
+  pub frames : frame_forest b t.map ≡ settle_step (frame_forest a s.map) (name_of a merged.node)
 
 -- a page of zeros, where the mapper tells what pages hold
 abbrev pub zeros_told : World → Option (List ℕ)
@@ -96,6 +110,10 @@ is_fresh a x OnSegment = is_some (home_named a.caches x)
 abbrev pub fresh_page : World → NodeName → OwnState → Option (Option (List ℕ))
 fresh_page w x state = page_by (zeros_told w) None (λ slot. None) (named_page w x) state
 
+-- the frame that such a page is seen in: none
+abbrev pub fresh_frame : OwnState → Option (Option ℕ)
+fresh_frame state = page_by None None (λ slot. None) None state
+
 -- a store that was right is right still, whatever the mapper holds
 abbrev pub StaysRight : Store → Arena → Store → Arena → Type 0
 StaysRight s a t b = (told : Option Held) (size : Option ℕ) → IsStoreRight (world told size a s)
@@ -108,6 +126,10 @@ forgotten_where named names p f = if named then forgotten names p f else f
 -- each of these pages with the state of one that is on its segment
 abbrev pub on_segment : List NodeName → List (NodeName × OwnState)
 on_segment names = map (λ x. (x, OnSegment)) names
+
+-- each of these pages in no frame
+abbrev pub in_no_frame : List NodeName → List (NodeName × Option ℕ)
+in_no_frame names = map (λ x. (x, None)) names
 
 -- each of these pages with the one that its segment holds
 abbrev pub segment_pages : World → List NodeName → List (NodeName × Option (List ℕ))

@@ -1,7 +1,7 @@
 // The pages of a copy, and the store follows.
 ghost use Rattle.std.specs.Prelude.{◌≡◌, ℕ, ◌+◌, ◌*◌, ◌<◌, ◌≤◌, ◌^◌, false, [], leb, length};
 ghost use Rattle.vm_ids.specs.declared.node_name.NodeName.{NodeName};
-ghost use Rattle.vm_ids.specs.Forest.Commands.{copy as rule_copy, copy_pages as rule_copy_pages, firsts, small_copy, span_pairs};
+ghost use Rattle.vm_ids.specs.Forest.Commands.{copy as rule_copy, copy_pages as rule_copy_pages, firsts, seconds, small_copy, span_pairs};
 ghost use Rattle.vm_ids.specs.Forest.NameLists.{◌∈◌};
 ghost use Rattle.vm_ids.specs.Forest.Laws.Commands.{CanCopy};
 ghost use Rattle.vm_ids.specs.Forest.Laws.Linking.{ArePages};
@@ -13,14 +13,17 @@ ghost use Rattle.vm_ids.specs.Forest.Shape.{IsBounded, IsConsistent};
 ghost use Rattle.vm_ids.specs.Forest.Reading.{live_count};
 ghost use Rattle.local_cache.specs.Reading.{forest_of};
 ghost use Rattle.local_cache.specs.Sound.{IsSound};
+ghost use Rattle.residency.specs.Seeing.{frame_forest};
 ghost use Rattle.residency.specs.StoreForest.{store_forest};
 ghost use Rattle.local_cache.specs.Whole.{IsWhole};
 ghost use Rattle.page_release.specs.Homes.{AreSaved, IsUnclean, IsWritable};
-ghost use Rattle.page_release.specs.Steps.{ForAnyMapper, IsStoreTied, IsUnpinned, IsWorkingUnpinned, Kept, StaysRight};
+ghost use Rattle.page_release.specs.Steps.{ForAnyMapper, IsStoreTied, IsUnpinned, IsWorkingUnpinned, Kept, Releases, StaysRight};
+ghost use Rattle.page_release.specs.Translating.{Leaves, Replaces};
 
 use crate::forgetting::forget_named;
 use crate::settling::settle;
 use crate::steps::detach_page;
+use crate::translations::{drop_seen, narrow_own};
 use history_tree::link;
 use local_cache::{Caches, OwnState};
 use page_stubs::add_stub;
@@ -52,7 +55,10 @@ fn copy_page(
     ensures forest { ForAnyMapper store.old caches.old store.new caches.new
         (λ old new. store_forest new ≡ forest.copy_page is_small (store_forest old)
         (NodeName.Live to to_page) (NodeName.Live from from_page)) }
-    ensures kept { Kept [] store.old caches.old store.new caches.new }
+    ensures frames { frame_forest caches.new store.new.map
+        ≡ forest.copy_page is_small (frame_forest caches.old store.old.map)
+        (NodeName.Live to to_page) (NodeName.Live from from_page) }
+    ensures kept { Releases [] store.old caches.old store.new caches.new }
     ensures room { caches.old.room.nodes ≤ caches.new.room.nodes + 2 }
 {
     detach_page(store, caches, to, to_page, OwnState::Absent);
@@ -83,7 +89,10 @@ fn copy_each(store: &mut Store, caches: &mut Caches, span: Span)
     ensures forest { ForAnyMapper store.old caches.old store.new caches.new
         (λ old new. store_forest new ≡ rule_copy_pages (leb span.pages small_copy) (span_pairs span)
         (store_forest old)) }
-    ensures kept { Kept [] store.old caches.old store.new caches.new }
+    ensures frames { frame_forest caches.new store.new.map
+        ≡ rule_copy_pages (leb span.pages small_copy) (span_pairs span)
+        (frame_forest caches.old store.old.map) }
+    ensures kept { Releases [] store.old caches.old store.new caches.new }
     ensures consistent { IsConsistent (forest_of caches.new) }
     ensures stays { (x : NodeName) → IsNode (forest_of caches.old) x
         → IsNode (forest_of caches.new) x }
@@ -106,9 +115,47 @@ fn copy_each(store: &mut Store, caches: &mut Caches, span: Span)
     }
 }
 
+// The copy, once no translation leads to a page that it replaces, and none for writing to one that it copies.
+fn copy_and_settle(store: &mut Store, caches: &mut Caches, span: Span)
+    requires tied { IsStoreTied store.old caches.old }
+    requires whole { IsWhole caches.old }
+    requires can { CanCopy (forest_of caches.old) (span_pairs span) }
+    requires unpinned { (x : NodeName) → x ∈ firsts (span_pairs span)
+        → IsUnpinned store.old caches.old x }
+    requires saved { AreSaved caches.old span.to (firsts (span_pairs span)) }
+    requires granted { (x : NodeName) → x ∈ firsts (span_pairs span) → IsWritable caches.old x }
+    requires working { IsWorkingUnpinned store.old caches.old }
+    requires room { 2 * span.pages ≤ caches.old.room.nodes }
+    requires made { caches.old.made + 2 * span.pages < 2 ^ 63 }
+    requires few { len (forest_of caches.old).nodes + 2 * span.pages < 2 ^ 32 }
+    requires within { (span.from_page.0 + span.pages < 2 ^ 32)
+        × (span.to_page.0 + span.pages < 2 ^ 32) }
+    ensures nodes { forest_of caches.new ≡ rule_copy false (span_pairs span)
+        (forest_of caches.old) }
+    ensures forest { ForAnyMapper store.old caches.old store.new caches.new
+        (λ old new. store_forest new ≡ rule_copy false (span_pairs span) (store_forest old)) }
+    ensures kept { Releases (firsts (span_pairs span)) store.old caches.old store.new caches.new }
+    ensures whole { IsWhole caches.new }
+    ensures live { live_count (forest_of caches.new) ≡ live_count (forest_of caches.old) }
+    ensures right { 2 * live_count (forest_of caches.old) ≤ length store.old.slots
+        → StaysRight store.old caches.old store.new caches.new }
+    ensures settled { IsSettled (forest_of caches.new) }
+    ensures bounded { IsBounded (forest_of caches.new) }
+    ensures made { caches.new.made ≤ caches.old.made + 2 * span.pages }
+    ensures copies { caches.new.copies ≡ caches.old.copies }
+    ensures room { caches.old.room.nodes ≤ caches.new.room.nodes + 2 * span.pages }
+    ensures translations { Replaces (λ x. x ∈ firsts (span_pairs span))
+        (λ x. x ∈ seconds (span_pairs span)) caches.old store.old caches.new store.new }
+{
+    forget_named(store, caches, span.to, span.to_page, span.pages);
+    copy_each(store, caches, span);
+    settle(store, caches);
+}
+
 /// Each page of the destination, none of which is pinned, becomes a copy of its source: by stub links where they are few,
 /// and else by tree links. No page is copied, and none is brought in. Where the destination is named by a segment, each of
-/// its pages was granted, and its heirs have their saves: what it has is forgotten first.
+/// its pages was granted, and its heirs have their saves: what it has is forgotten first. No translation leads to where a
+/// page of the destination was seen, and none for writing to where a source that was its node's alone is.
 pub fn copy_pages(store: &mut Store, caches: &mut Caches, span: Span)
     requires tied { IsStoreTied store.old caches.old }
     requires whole { IsWhole caches.old }
@@ -137,8 +184,10 @@ pub fn copy_pages(store: &mut Store, caches: &mut Caches, span: Span)
     ensures made { caches.new.made ≤ caches.old.made + 2 * span.pages }
     ensures copies { caches.new.copies ≡ caches.old.copies }
     ensures room { caches.old.room.nodes ≤ caches.new.room.nodes + 2 * span.pages }
+    ensures translations { Leaves (λ x. x ∈ firsts (span_pairs span))
+        (λ x. x ∈ seconds (span_pairs span)) caches.old store.old caches.new store.new }
 {
-    forget_named(store, caches, span.to, span.to_page, span.pages);
-    copy_each(store, caches, span);
-    settle(store, caches);
+    drop_seen(store, caches, span.to, span.to_page, span.pages);
+    narrow_own(store, caches, span.from, span.from_page, span.pages);
+    copy_and_settle(store, caches, span);
 }

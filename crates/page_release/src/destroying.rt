@@ -10,14 +10,17 @@ ghost use Rattle.local_cache.specs.Arena.{Arena, node_at, without_cache};
 ghost use Rattle.local_cache.specs.Own.{own_states};
 ghost use Rattle.local_cache.specs.Reading.{forest_of};
 ghost use Rattle.local_cache.specs.Sound.{IsSound};
+ghost use Rattle.residency.specs.Seeing.{frame_forest};
 ghost use Rattle.residency.specs.StoreForest.{store_forest};
 ghost use Rattle.local_cache.specs.Whole.{IsWhole, size_of};
 ghost use Rattle.page_release.specs.Homes.{AreSaved, IsUnclean};
-ghost use Rattle.page_release.specs.Steps.{ForAnyMapper, IsStoreTied, IsUnpinned, IsWorkingUnpinned, Kept, StaysRight};
+ghost use Rattle.page_release.specs.Steps.{ForAnyMapper, IsStoreTied, IsUnpinned, IsWorkingUnpinned, Kept, Releases, StaysRight};
+ghost use Rattle.page_release.specs.Translating.{Leaves, Replaces};
 
 use crate::forgetting::forget_named;
 use crate::settling::settle;
 use crate::steps::retire_page;
+use crate::translations::drop_seen;
 use local_cache::Caches;
 use residency::Store;
 use vm_ids::{CacheId, PageNo};
@@ -34,7 +37,9 @@ fn retire_pages(store: &mut Store, caches: &mut Caches, cache: CacheId, pages: u
         (forest_of caches.old) }
     ensures forest { ForAnyMapper store.old caches.old store.new caches.new
         (λ old new. store_forest new ≡ retire_all (page_names cache 0 pages) (store_forest old)) }
-    ensures kept { Kept [] store.old caches.old store.new caches.new }
+    ensures frames { frame_forest caches.new store.new.map
+        ≡ retire_all (page_names cache 0 pages) (frame_forest caches.old store.old.map) }
+    ensures kept { Releases [] store.old caches.old store.new caches.new }
     ensures consistent { IsConsistent (forest_of caches.new) }
     ensures made { caches.new.made ≤ caches.old.made + pages }
     ensures few { len (forest_of caches.new).nodes ≤ len (forest_of caches.old).nodes }
@@ -46,8 +51,43 @@ fn retire_pages(store: &mut Store, caches: &mut Caches, cache: CacheId, pages: u
     }
 }
 
+// The pages go, once no translation leads to one of them.
+fn destroy_and_settle(store: &mut Store, caches: &mut Caches, cache: CacheId, pages: u32)
+    requires tied { IsStoreTied store.old caches.old }
+    requires whole { IsWhole caches.old }
+    requires pages { size_of caches.old cache.0 ≡ Some pages }
+    requires made { caches.old.made + pages < 2 ^ 63 }
+    requires unpinned { (page : ℕ) → IsUnpinned store.old caches.old (page_name cache page) }
+    requires saved { AreSaved caches.old cache (page_names cache 0 pages) }
+    requires working { IsWorkingUnpinned store.old caches.old }
+    ensures nodes { forest_of caches.new ≡ rule_destroy false (page_names cache 0 pages)
+        (forest_of caches.old) }
+    ensures forest { ForAnyMapper store.old caches.old store.new caches.new
+        (λ old new. store_forest new ≡ rule_destroy false (page_names cache 0 pages)
+        (store_forest old)) }
+    ensures kept { Releases [] store.old caches.old store.new caches.new }
+    ensures settled { IsSettled (forest_of caches.new) }
+    ensures consistent { IsConsistent (forest_of caches.new) }
+    ensures bounded { IsBounded (forest_of caches.new) }
+    ensures empty { (page : ℕ) → node_at caches.new cache.0 page ≡ None }
+    ensures whole { (after : Arena) → after ≡ without_cache caches.new cache → IsSound after
+        → forest_of after ≡ forest_of caches.new → IsWhole after }
+    ensures made { caches.new.made ≤ caches.old.made + pages }
+    ensures copies { caches.new.copies ≡ caches.old.copies }
+    ensures room { caches.old.room.nodes ≤ caches.new.room.nodes }
+    ensures fewer { length (own_states caches.new) ≤ length (own_states caches.old) }
+    ensures right { StaysRight store.old caches.old store.new caches.new }
+    ensures translations { Replaces (λ x. x ∈ page_names cache 0 pages) (λ x. ⊥)
+        caches.old store.old caches.new store.new }
+{
+    forget_named(store, caches, cache, PageNo(0), pages);
+    retire_pages(store, caches, cache, pages);
+    settle(store, caches);
+}
+
 /// Retires all pages of a live cache, none of which is pinned, and settles. The cache can be removed then. Where it is
-/// named by a segment the heirs of its pages have their saves: what it has is forgotten first.
+/// named by a segment the heirs of its pages have their saves: what it has is forgotten first. No translation leads to
+/// where a page of it was seen.
 pub fn destroy_pages(store: &mut Store, caches: &mut Caches, cache: CacheId, pages: u32)
     requires tied { IsStoreTied store.old caches.old }
     requires whole { IsWhole caches.old }
@@ -73,8 +113,9 @@ pub fn destroy_pages(store: &mut Store, caches: &mut Caches, cache: CacheId, pag
     ensures room { caches.old.room.nodes ≤ caches.new.room.nodes }
     ensures fewer { length (own_states caches.new) ≤ length (own_states caches.old) }
     ensures right { StaysRight store.old caches.old store.new caches.new }
+    ensures translations { Leaves (λ x. x ∈ page_names cache 0 pages) (λ x. ⊥)
+        caches.old store.old caches.new store.new }
 {
-    forget_named(store, caches, cache, PageNo(0), pages);
-    retire_pages(store, caches, cache, pages);
-    settle(store, caches);
+    drop_seen(store, caches, cache, PageNo(0), pages);
+    destroy_and_settle(store, caches, cache, pages);
 }

@@ -1,5 +1,5 @@
 // Own pages of a named cache give way to pages of zeros, and the store follows.
-ghost use Rattle.std.specs.Prelude.{◌≡◌, ◌+◌, ◌<◌, ◌^◌, [], ◌∷◌, IsSome, length};
+ghost use Rattle.std.specs.Prelude.{◌≡◌, ◌+◌, ◌<◌, ◌^◌, [], ◌∷◌, None, IsSome, length};
 ghost use Rattle.vm_ids.specs.declared.node_name.NodeName.{NodeName};
 ghost use Rattle.vm_ids.specs.Forest.Commands.{page_names};
 ghost use Rattle.vm_ids.specs.Forest.Forgetting.{forget, forgotten};
@@ -10,10 +10,11 @@ ghost use Rattle.local_cache.specs.Own.{own_states};
 ghost use Rattle.local_cache.specs.Reading.{forest_of};
 ghost use Rattle.local_cache.specs.Sound.{IsSound};
 ghost use Rattle.local_cache.specs.Whole.{IsWhole};
+ghost use Rattle.residency.specs.Seeing.{frame_forest};
 ghost use Rattle.residency.specs.StoreForest.{store_forest};
 ghost use Rattle.residency.specs.World.{SameNodes};
 ghost use Rattle.page_release.specs.Homes.{IsUnclean, is_named};
-ghost use Rattle.page_release.specs.Steps.{ForAnyMapper, IsStoreTied, IsUnpinned, Kept, forgotten_where, zeros_told};
+ghost use Rattle.page_release.specs.Steps.{ForAnyMapper, IsStoreTied, IsUnpinned, Releases, forgotten_where, zeros_told};
 
 use crate::following::drop_page;
 use local_cache::{Caches, OwnState};
@@ -32,7 +33,9 @@ fn forget_page(store: &mut Store, caches: &mut Caches, cache: CacheId, page: Pag
     ensures forest { ForAnyMapper store.old caches.old store.new caches.new
         (λ old new. store_forest new ≡ forget (store_forest old)
         (NodeName.Live cache page) (zeros_told old)) }
-    ensures kept { Kept (NodeName.Live cache page ∷ [])
+    ensures frames { frame_forest caches.new store.new.map
+        ≡ forget (frame_forest caches.old store.old.map) (NodeName.Live cache page) None }
+    ensures kept { Releases (NodeName.Live cache page ∷ [])
         store.old caches.old store.new caches.new }
     ensures same { SameNodes caches.old caches.new }
     ensures unclean { IsUnclean caches.new (NodeName.Live cache page) }
@@ -60,7 +63,10 @@ fn forget_pages(store: &mut Store, caches: &mut Caches, cache: CacheId, first: P
     ensures forest { ForAnyMapper store.old caches.old store.new caches.new
         (λ old new. store_forest new ≡ forgotten (page_names cache first.0 pages)
         (zeros_told old) (store_forest old)) }
-    ensures kept { Kept (page_names cache first.0 pages)
+    ensures frames { frame_forest caches.new store.new.map
+        ≡ forgotten (page_names cache first.0 pages) None
+        (frame_forest caches.old store.old.map) }
+    ensures kept { Releases (page_names cache first.0 pages)
         store.old caches.old store.new caches.new }
     ensures same { SameNodes caches.old caches.new }
     ensures unclean { (x : NodeName) → x ∈ page_names cache first.0 pages
@@ -91,7 +97,10 @@ pub(crate) fn forget_named(
     ensures forest { ForAnyMapper store.old caches.old store.new caches.new
         (λ old new. store_forest new ≡ forgotten_where (is_named caches.old cache)
         (page_names cache first.0 pages) (zeros_told old) (store_forest old)) }
-    ensures kept { Kept (page_names cache first.0 pages)
+    ensures frames { frame_forest caches.new store.new.map
+        ≡ forgotten_where (is_named caches.old cache) (page_names cache first.0 pages) None
+        (frame_forest caches.old store.old.map) }
+    ensures kept { Releases (page_names cache first.0 pages)
         store.old caches.old store.new caches.new }
     ensures same { SameNodes caches.old caches.new }
     ensures whole { IsWhole caches.new }

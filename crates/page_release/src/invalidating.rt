@@ -12,13 +12,16 @@ ghost use Rattle.vm_ids.specs.Forest.Settling.{settle as rule_settle};
 ghost use Rattle.vm_ids.specs.Forest.Shape.{IsBounded, IsConsistent};
 ghost use Rattle.local_cache.specs.Reading.{forest_of};
 ghost use Rattle.local_cache.specs.Whole.{IsWhole};
+ghost use Rattle.residency.specs.Seeing.{frame_forest};
 ghost use Rattle.residency.specs.StoreForest.{store_forest};
 ghost use Rattle.page_release.specs.Homes.{AreSaved, IsClean, IsUnclean, is_named};
-ghost use Rattle.page_release.specs.Steps.{ForAnyMapper, IsStoreTied, IsUnpinned, IsWorkingUnpinned, Kept, StaysRight, on_segment, segment_pages};
+ghost use Rattle.page_release.specs.Steps.{ForAnyMapper, IsStoreTied, IsUnpinned, IsWorkingUnpinned, Kept, Releases, StaysRight, in_no_frame, on_segment, segment_pages};
+ghost use Rattle.page_release.specs.Translating.{Leaves, Replaces};
 
 use crate::forgetting::forget_named;
 use crate::settling::settle;
 use crate::steps::detach_page;
+use crate::translations::drop_seen;
 use local_cache::{Caches, OwnState};
 use residency::Store;
 use vm_ids::{CacheId, NodeName, PageNo};
@@ -41,7 +44,10 @@ fn replace_each(store: &mut Store, caches: &mut Caches, cache: CacheId, first: P
     ensures forest { ForAnyMapper store.old caches.old store.new caches.new
         (λ old new. store_forest new
         ≡ replace_pages (segment_pages old (page_names cache first.0 pages)) (store_forest old)) }
-    ensures kept { Kept (page_names cache first.0 pages)
+    ensures frames { frame_forest caches.new store.new.map
+        ≡ replace_pages (in_no_frame (page_names cache first.0 pages))
+        (frame_forest caches.old store.old.map) }
+    ensures kept { Releases (page_names cache first.0 pages)
         store.old caches.old store.new caches.new }
     ensures clean { (x : NodeName) → x ∈ page_names cache first.0 pages → IsClean caches.new x }
     ensures consistent { IsConsistent (forest_of caches.new) }
@@ -62,8 +68,52 @@ fn replace_each(store: &mut Store, caches: &mut Caches, cache: CacheId, first: P
     }
 }
 
+// The pages are what their segment holds, once no translation leads to one of them.
+fn invalidate_and_settle(
+    store: &mut Store,
+    caches: &mut Caches,
+    cache: CacheId,
+    first: PageNo,
+    pages: u32,
+)
+    requires tied { IsStoreTied store.old caches.old }
+    requires whole { IsWhole caches.old }
+    requires named { is_named caches.old cache ≡ true }
+    requires within { first.0 + pages < 2 ^ 32 }
+    requires nodes { AreNodes (forest_of caches.old) cache first.0 pages }
+    requires unpinned { (x : NodeName) → x ∈ page_names cache first.0 pages
+        → IsUnpinned store.old caches.old x }
+    requires saved { AreSaved caches.old cache (page_names cache first.0 pages) }
+    requires working { IsWorkingUnpinned store.old caches.old }
+    requires room { pages ≤ caches.old.room.nodes }
+    requires made { caches.old.made + pages < 2 ^ 63 }
+    requires few { len (forest_of caches.old).nodes + pages < 2 ^ 32 }
+    ensures nodes { forest_of caches.new ≡ rule_settle
+        (replace_pages (on_segment (page_names cache first.0 pages)) (forest_of caches.old)) }
+    ensures forest { ForAnyMapper store.old caches.old store.new caches.new
+        (λ old new. store_forest new ≡ rule_settle
+        (replace_pages (segment_pages old (page_names cache first.0 pages)) (store_forest old))) }
+    ensures kept { Releases (page_names cache first.0 pages)
+        store.old caches.old store.new caches.new }
+    ensures whole { IsWhole caches.new }
+    ensures live { live_count (forest_of caches.new) ≡ live_count (forest_of caches.old) }
+    ensures right { 2 * live_count (forest_of caches.old) ≤ length store.old.slots
+        → StaysRight store.old caches.old store.new caches.new }
+    ensures settled { IsSettled (forest_of caches.new) }
+    ensures bounded { IsBounded (forest_of caches.new) }
+    ensures made { caches.new.made ≤ caches.old.made + pages }
+    ensures copies { caches.new.copies ≡ caches.old.copies }
+    ensures room { caches.old.room.nodes ≤ caches.new.room.nodes + pages }
+    ensures translations { Replaces (λ x. x ∈ page_names cache first.0 pages) (λ x. ⊥)
+        caches.old store.old caches.new store.new }
+{
+    forget_named(store, caches, cache, first, pages);
+    replace_each(store, caches, cache, first, pages);
+    settle(store, caches);
+}
+
 /// Each page of a range of a named cache, none of which is pinned, becomes what its segment holds. No page is brought in:
-/// what the pages have is forgotten, and their heirs have their saves.
+/// what the pages have is forgotten, and their heirs have their saves. No translation leads to where one of them was seen.
 pub fn invalidate_pages(
     store: &mut Store,
     caches: &mut Caches,
@@ -99,8 +149,9 @@ pub fn invalidate_pages(
     ensures made { caches.new.made ≤ caches.old.made + pages }
     ensures copies { caches.new.copies ≡ caches.old.copies }
     ensures room { caches.old.room.nodes ≤ caches.new.room.nodes + pages }
+    ensures translations { Leaves (λ x. x ∈ page_names cache first.0 pages) (λ x. ⊥)
+        caches.old store.old caches.new store.new }
 {
-    forget_named(store, caches, cache, first, pages);
-    replace_each(store, caches, cache, first, pages);
-    settle(store, caches);
+    drop_seen(store, caches, cache, first, pages);
+    invalidate_and_settle(store, caches, cache, first, pages);
 }

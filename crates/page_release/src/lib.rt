@@ -5,13 +5,18 @@
 //! or the swap slot of a node that went is given back, or becomes another node's. So frames and slots only fall free, each
 //! frame that is held has its bytes still, and the pages are those of the rules on the page forest.
 //!
+//! First the translations go that lead to pages which are replaced, and those that lead to pages which are copied are for
+//! reading alone from then on. Behind that the translations of a frame that falls free are dropped with it, and no others.
+//! Every page that a command doesn't replace is seen in the frame in which it was seen, as `Replaces` says: the forest of
+//! frames, `frame_forest`, goes by the rules too. What both make together is the record `Leaves`.
+//!
 //! A page that its segment holds is never that of a node that stands for no page of a segment. So where pages of a named
 //! cache are replaced or taken away, their own pages give way to pages of zeros first: behind the saves nobody reads them.
 //!
 //! The model is the forest of bytes, `store_forest`, beside that of the local caches. No call takes a mapper: what is said
-//! holds whatever the mapper holds, `ForAnyMapper`. What every call keeps is the record `Kept`. Within a command there may
-//! be more nodes than swap slots, so the store is `IsTied` there, and right again at the end. The crate stands on
-//! `residency`, `tree_merge`, `move_pages`, `page_stubs` and `history_tree`.
+//! holds whatever the mapper holds, `ForAnyMapper`. What every call keeps is the record `Kept`, and what its steps keep
+//! `Releases`. Within a command there may be more nodes than swap slots, so the store is `IsTied` there, and right again at
+//! the end. The crate stands on `residency`, `tree_merge`, `move_pages`, `page_stubs` and `history_tree`.
 #![tactic(auto)]
 
 mod copying;
@@ -22,6 +27,7 @@ mod invalidating;
 mod moving;
 mod settling;
 mod steps;
+mod translations;
 
 pub use copying::copy_pages;
 pub use destroying::destroy_pages;

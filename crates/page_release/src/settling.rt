@@ -6,8 +6,9 @@ ghost use Rattle.vm_ids.specs.Forest.Shape.{IsBounded, IsConsistent};
 ghost use Rattle.local_cache.specs.Own.{own_states};
 ghost use Rattle.local_cache.specs.Reading.{forest_of};
 ghost use Rattle.local_cache.specs.Sound.{IsSound};
+ghost use Rattle.residency.specs.Seeing.{frame_forest};
 ghost use Rattle.residency.specs.StoreForest.{store_forest};
-ghost use Rattle.page_release.specs.Steps.{ForAnyMapper, IsStoreTied, IsWorkingUnpinned, Kept};
+ghost use Rattle.page_release.specs.Steps.{ForAnyMapper, IsStoreTied, IsWorkingUnpinned, Releases};
 
 use crate::steps::settle_step;
 use local_cache::Caches;
@@ -22,7 +23,9 @@ pub(crate) fn settle(store: &mut Store, caches: &mut Caches)
     ensures nodes { forest_of caches.new ≡ rule_settle (forest_of caches.old) }
     ensures forest { ForAnyMapper store.old caches.old store.new caches.new
         (λ old new. store_forest new ≡ rule_settle (store_forest old)) }
-    ensures kept { Kept [] store.old caches.old store.new caches.new }
+    ensures frames { frame_forest caches.new store.new.map
+        ≡ rule_settle (frame_forest caches.old store.old.map) }
+    ensures kept { Releases [] store.old caches.old store.new caches.new }
     ensures settled { IsSettled (forest_of caches.new) }
     ensures consistent { IsConsistent (forest_of caches.new) }
     ensures bounded { IsBounded (forest_of caches.new) }

@@ -8,11 +8,12 @@ ghost use Rattle.local_cache.specs.Arena.{IsVacant, node_at};
 ghost use Rattle.local_cache.specs.Own.{own_states};
 ghost use Rattle.local_cache.specs.Reading.{forest_of, page_of};
 ghost use Rattle.local_cache.specs.Sound.{IsSound};
+ghost use Rattle.residency.specs.Seeing.{frame_forest};
 ghost use Rattle.residency.specs.StoreForest.{store_forest};
 ghost use Rattle.tree_merge.specs.declared.released.Released.{Released as Freed};
 ghost use Rattle.tree_merge.specs.Releasing.{IsDetached, IsRetired};
 ghost use Rattle.page_release.specs.Homes.{IsUnclean, cleaned};
-ghost use Rattle.page_release.specs.Steps.{ForAnyMapper, IsSettleStep, IsStoreTied, IsUnpinned, IsWorkingUnpinned, Kept, fresh_page, is_fresh};
+ghost use Rattle.page_release.specs.Steps.{ForAnyMapper, IsSettleStep, IsStoreTied, IsUnpinned, IsWorkingUnpinned, Releases, fresh_frame, fresh_page, is_fresh};
 
 use crate::following::follow;
 use local_cache::{Caches, OwnState};
@@ -33,7 +34,9 @@ pub(crate) fn retire_page(store: &mut Store, caches: &mut Caches, cache: CacheId
         (NodeName.Live cache page) }
     ensures forest { ForAnyMapper store.old caches.old store.new caches.new
         (λ old new. store_forest new ≡ rule_retire (store_forest old) (NodeName.Live cache page)) }
-    ensures kept { Kept [] store.old caches.old store.new caches.new }
+    ensures frames { frame_forest caches.new store.new.map
+        ≡ rule_retire (frame_forest caches.old store.old.map) (NodeName.Live cache page) }
+    ensures kept { Releases [] store.old caches.old store.new caches.new }
     ensures retired { (n : NodeId) → node_at caches.old cache.0 page.0 ≡ Some n → (released : Freed)
         × IsRetired caches.old caches.new n released }
     ensures vacant { IsVacant caches.new cache page }
@@ -66,7 +69,10 @@ pub(crate) fn detach_page(
     ensures forest { ForAnyMapper store.old caches.old store.new caches.new
         (λ old new. store_forest new ≡ rule_detach (store_forest old) (NodeName.Live cache page)
         (fresh_page old (NodeName.Live cache page) state)) }
-    ensures kept { Kept (cleaned state (NodeName.Live cache page))
+    ensures frames { frame_forest caches.new store.new.map
+        ≡ rule_detach (frame_forest caches.old store.old.map) (NodeName.Live cache page)
+        (fresh_frame state) }
+    ensures kept { Releases (cleaned state (NodeName.Live cache page))
         store.old caches.old store.new caches.new }
     ensures detached { (n : NodeId) → node_at caches.old cache.0 page.0 ≡ Some n
         → (released : Freed) × IsDetached caches.old caches.new n
@@ -88,7 +94,7 @@ pub(crate) fn settle_step(store: &mut Store, caches: &mut Caches) -> bool
     ensures step { result ≡ true → IsSettleStep store.old caches.old store.new caches.new }
     ensures idle { result ≡ false → IsSettled (forest_of caches.old) × (caches.new ≡ caches.old)
         × (store.new ≡ store.old) }
-    ensures kept { Kept [] store.old caches.old store.new caches.new }
+    ensures kept { Releases [] store.old caches.old store.new caches.new }
     ensures fewer { length (own_states caches.new) ≤ length (own_states caches.old) }
 {
     match tree_merge::settle_step(caches) {

@@ -34,7 +34,7 @@ use Rattle.tree_merge.specs.declared.released.Released.{Released}
 use Rattle.tree_merge.specs.Releasing.{IsRetired}
 use Rattle.vm_ids.proofs.Places.{true_below}
 use Rattle.page_release.specs.Homes.{IsUnclean, KeepsHomes, WasThere, cleaned}
-use Rattle.page_release.specs.Steps.{ForAnyMapper, GivesBack, IsStoreTied, Kept, PinnedStayNamed, fresh_page, is_fresh}
+use Rattle.page_release.specs.Steps.{ForAnyMapper, GivesBack, IsStoreTied, Releases, PinnedStayNamed, fresh_page, is_fresh}
 use Rattle.page_release.proofs.Coming.Fresh.{fresh-by, fresh_gives, fresh_page_is, fresh_page_other}
 use Rattle.page_release.proofs.Coming.Taken.{IsFreeHome, retired_free}
 use Rattle.page_release.proofs.Leaving.Tables.{new_tables, sizes_new}
@@ -91,14 +91,14 @@ clean_or_listed : (t : Bool) (x : NodeName) → (t ≡ false) ⊎ (x ∈ (if t t
 clean_or_listed true x = inr (inl refl)
 clean_or_listed false x = inl refl
 
-fresh_in : (a b : Arena) → SameCaches a b → (x : NodeName) (state : OwnState) → is_fresh a x state ≡ true → is_fresh b x state ≡ true
+pub fresh_in : (a b : Arena) → SameCaches a b → (x : NodeName) (state : OwnState) → is_fresh a x state ≡ true → is_fresh b x state ≡ true
 fresh_in a b same x Absent e = e
 fresh_in a b same x Zero e = e
 fresh_in a b same x (Resident dirty) e = e
 fresh_in a b same x (Slot k) e = e
 fresh_in a b same x OnSegment e = ap is_some (home_name a b same x) ∙ e
 
-module _ (s : Store) (a : Arena) (tied : IsStoreTied s a) (cache : CacheId) (no : PageNo) (unclean : IsUnclean a (Live cache no)) (n : NodeId) (named : name_of a n ≡ Live cache no) (t : Store) (b : Arena) (r : Released) (retired : IsRetired a b n r) (kept : Kept [] s a t b)
+module _ (s : Store) (a : Arena) (tied : IsStoreTied s a) (cache : CacheId) (no : PageNo) (unclean : IsUnclean a (Live cache no)) (n : NodeId) (named : name_of a n ≡ Live cache no) (t : Store) (b : Arena) (r : Released) (retired : IsRetired a b n r) (kept : Releases [] s a t b)
     (d : NodeId) (free : find b d ≡ None) (state : OwnState) (fresh : is_fresh a (Live cache no) state ≡ true) (c : Arena) (is : c ≡ with_new b d (Live cache no) state) where
   abbrev x : NodeName
   x = Live cache no
@@ -140,9 +140,10 @@ module _ (s : Store) (a : Arena) (tied : IsStoreTied s a) (cache : CacheId) (no 
     locks = λ page place. fresh_locks t b d free cache no state fresh_now c is page place ∙ kept.homes.locks page place;
   }
 
-  pub detach_kept : IsSound c → Kept (cleaned state (Live cache no)) s a t c
+  pub detach_kept : IsSound c → Releases (cleaned state (Live cache no)) s a t c
   detach_kept sound = record {
     gives_back = detach_back;
+    tables = kept.tables;
     sound = sound;
     tied = (detach_back None None tied).tied;
     pinned = named_then s a t b c kept.gives_back tied kept.pinned (fresh_named t b d free cache no state fresh_now c is kept.tied);

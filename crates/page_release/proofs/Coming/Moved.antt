@@ -33,7 +33,8 @@ use Rattle.tree_merge.proofs.Leaving.Sizes.{sizes_retired}
 use Rattle.move_pages.proofs.Moves.{move_sizes, moved_kept, moved_vacant, origin_held, origin_name}
 use Rattle.page_release.specs.Following.{CanFollow, followed}
 use Rattle.page_release.specs.Homes.{IsUnclean, KeepsHomes, WasThere}
-use Rattle.page_release.specs.Steps.{ForAnyMapper, GivesBack, IsStoreTied, IsUnpinned, Kept, PinnedStayNamed, zeros_told}
+use Rattle.page_release.specs.Steps.{ForAnyMapper, GivesBack, IsStoreTied, IsUnpinned, Releases, PinnedStayNamed, zeros_told}
+use Rattle.page_release.specs.Translating.{DropsFreed}
 use Rattle.page_release.proofs.Tying.Homes.{home_name}
 use Rattle.page_release.proofs.Tying.Kept.{gives_then, named_then, unpinned_by}
 use Rattle.page_release.proofs.Leaving.Retired.{retire_back, retire_can, retire_forest, retire_homes, retire_named}
@@ -92,16 +93,16 @@ module _ (s : Store) (a : Arena) (sound : IsSound a) (tied : IsStoreTied s a) (f
   abbrev c : Arena
   c = with_name m.between m.origin (Live to to_page)
 
-  was : HasNode a m.cleared.node
+  pub was : HasNode a m.cleared.node
   was = (sound.kept.listed.nodes to.0 to_page.0 m.cleared.node m.cleared.at).0
 
-  was_named : name_of a m.cleared.node ≡ Live to to_page
+  pub was_named : name_of a m.cleared.node ≡ Live to to_page
   was_named = (sound.kept.listed.nodes to.0 to_page.0 m.cleared.node m.cleared.at).1
 
-  there : HasNode m.between m.origin
+  pub there : HasNode m.between m.origin
   there = origin_held b m.cleared.sound to to_page m.cleared.vacant from from_page m.origin m.source c refl
 
-  there_named : name_of m.between m.origin ≡ Live from from_page
+  pub there_named : name_of m.between m.origin ≡ Live from from_page
   there_named = origin_name b m.cleared.sound to to_page m.cleared.vacant from from_page m.origin m.source c refl
 
   put_still : StaysPut r
@@ -120,15 +121,16 @@ module _ (s : Store) (a : Arena) (sound : IsSound a) (tied : IsStoreTied s a) (f
   moved_sizes : SameCaches a d
   moved_sizes = move_sizes b m.cleared.sound to to_page m.cleared.vacant from from_page m.origin m.source c refl m.fresh m.free d m.is a cleared_sizes
 
-  module _ (t : Store) (after : (told : Option Held) (size : Option ℕ) → world told size d t ≡ followed (world told size d s) r) (temporary : home_named a.caches (Live from from_page) ≡ None) where
-    before : (told : Option Held) (size : Option ℕ) → world told size b t ≡ followed (world told size b s) r
+  module _ (t : Store) (after : (told : Option Held) (size : Option ℕ) → world told size d t ≡ followed (world told size d s) r) where
+    pub before : (told : Option Held) (size : Option ℕ) → world told size m.between t ≡ followed (world told size m.between s) r
     before told size = ap (λ (w : World). record w { caches = b }) (after told size) ∙ without_with (world told size d s) b r put_still
 
+  module _ (t : Store) (after : (told : Option Held) (size : Option ℕ) → world told size d t ≡ followed (world told size d s) r) (temporary : home_named a.caches (Live from from_page) ≡ None) where
     cleared_back : ForAnyMapper s a t b GivesBack
-    cleared_back = retire_back s a b m.cleared.node x was was_named r m.cleared.retired m.cleared.told tied unpinned unclean t before
+    cleared_back = retire_back s a b m.cleared.node x was was_named r m.cleared.retired m.cleared.told tied unpinned unclean t (before t after)
 
     cleared_forest : ForAnyMapper s a t b (λ old now. store_forest now ≡ retire (store_forest old) (Live to to_page))
-    cleared_forest = retire_forest s a b m.cleared.node x was was_named r m.cleared.retired m.cleared.told tied unpinned unclean t before sound m.cleared.sound m.cleared.forest
+    cleared_forest = retire_forest s a b m.cleared.node x was was_named r m.cleared.retired m.cleared.told tied unpinned unclean t (before t after) sound m.cleared.sound m.cleared.forest
 
     cleared_named : PinnedStayNamed s a b
     cleared_named = retire_named s a b m.cleared.node x was was_named r m.cleared.retired m.cleared.told tied unpinned unclean
@@ -209,9 +211,10 @@ module _ (s : Store) (a : Arena) (sound : IsSound a) (tied : IsStoreTied s a) (f
         fresh_locks t c m.fresh m.free from from_page Zero refl d m.is cache page
         ∙ renamed_locks b m.origin x cache page ∙ cleared_homes.locks cache page
 
-    pub move_kept : IsSound d → IsUnpinned s a (Live from from_page) → Kept [] s a t d
-    move_kept sound_d out = record {
+    pub move_kept : IsSound d → IsUnpinned s a (Live from from_page) → DropsFreed s t → Releases [] s a t d
+    move_kept sound_d out tables = record {
       gives_back = move_back;
+      tables = tables;
       sound = sound_d;
       tied = (move_back None None tied).tied;
       pinned = move_named out;

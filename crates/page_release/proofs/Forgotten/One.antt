@@ -31,12 +31,16 @@ use Rattle.local_cache.proofs.Names.Homes.{home-with_own}
 use Rattle.local_cache.proofs.Nodes.OwnStates.{id_cases, own_held, own_other, own_same}
 use Rattle.local_cache.proofs.Tables.Sizes.{sizes_same}
 use Rattle.residency.specs.declared.store.Store.{Store}
+use Rattle.residency.specs.Seeing.{frame_forest, own_frame}
 use Rattle.residency.specs.StoreForest.{store_forest}
 use Rattle.residency.specs.World.{IsTied, frame_page, home_page, is_clean, own_page, page_by, world, zero_page}
 use Rattle.residency.proofs.Worlds.Telling.{tells}
 use Rattle.page_release.specs.Following.{CanLeave, without_page}
 use Rattle.page_release.specs.Homes.{IsUnclean}
-use Rattle.page_release.specs.Steps.{ForAnyMapper, GivesBack, IsStoreTied, IsUnpinned, Kept, zeros_told}
+use Rattle.page_release.specs.Steps.{ForAnyMapper, GivesBack, IsStoreTied, IsUnpinned, Releases, zeros_told}
+use Rattle.page_release.specs.Translating.{DropsFreed}
+use Rattle.page_release.proofs.Framing.Leaving.{dropped_frame}
+use Rattle.page_release.proofs.Framing.Pages.{frame_tells}
 use Rattle.page_release.proofs.Leaving.Dropped.{HasLost, zero_lost}
 use Rattle.page_release.proofs.Leaving.Followed.{can_leave, dropped_gives, dropped_page}
 use Rattle.page_release.proofs.Leaving.Retired.{loose_frame}
@@ -82,6 +86,10 @@ module _ (s : Store) (a : Arena) (sound : IsSound a) (tied : IsStoreTied s a) (n
   unfolding store_forest
   page_there told size = let w = world told size a s in ap (λ y. (node (forest_by (own_page w) a) y).own) (sym named) ∙ page-at (own_page w) a sound.kept.named n there
 
+  frame_there : (node (frame_forest a s.map) x).own ≡ own_frame a s.map n
+  unfolding frame_forest
+  frame_there = ap (λ y. (node (forest_by (own_frame a s.map) a) y).own) (sym named) ∙ page-at (own_frame a s.map) a sound.kept.named n there
+
   -- No page is there ----------------------------------------------------------------------------
   module _ (none : is_absent (own_of a n) ≡ true) where
     pub absent_nodes : forest_of a ≡ forget (forest_of a) x Zero
@@ -91,6 +99,9 @@ module _ (s : Store) (a : Arena) (sound : IsSound a) (tied : IsStoreTied s a) (n
     absent_forest told size =
         let w = world told size a s in
         sym (forget_none (store_forest w) x (zeros_told w) (page_there told size ∙ none_of (own_page w n) (tells w n ∙ ap is_some (no_page (own_of a n) none))))
+
+    pub absent_frames : frame_forest a s.map ≡ forget (frame_forest a s.map) x None
+    absent_frames = sym (forget_none (frame_forest a s.map) x None (frame_there ∙ none_of (own_frame a s.map n) (frame_tells a s.map n ∙ ap is_some (no_page (own_of a n) none))))
 
     absent_state : (t : OwnState) → is_absent t ≡ true → is_clean t ≡ false
     absent_state Absent e = refl
@@ -177,9 +188,22 @@ module _ (s : Store) (a : Arena) (sound : IsSound a) (tied : IsStoreTied s a) (n
               ap (page_by (option_map (λ _. zero_page v) told) (option_map (λ _. frame_page v n) told) (λ k. option_and_then (λ h. slot_of h k) told) (home_page v n)) own_now
               ∙ ap (λ (k : ℕ). Some (option_map (λ _. replicate k 0) told)) (forget_back told size fit).page
 
-      pub forget_kept : Kept (x ∷ []) s a t b
-      forget_kept = record {
+      pub forget_frames : frame_forest b t.map ≡ forget (frame_forest a s.map) x None
+      unfolding frame_forest
+      forget_frames =
+          let page = own_frame a s.map in
+          let z = some_of (own_frame a s.map n) (frame_tells a s.map n ∙ ap is_some (some_page (own_of a n) some).1) in
+          let none : own_frame b t.map n ≡ Some None = ap (page_by None (Some (frame_of t.map n.0)) (λ k. None) None) own_now in
+          subst (λ k. ((m : NodeId) → m ≢ n → own_frame k t.map m ≡ page m) → own_frame k t.map n ≡ Some None → forest_by (own_frame k t.map) k ≡ edit (forest_by page a) x (with_page (Some None))) (sym is)
+          (λ others now. own-forest_by page (own_frame (with_own a n Zero) t.map) a sound.kept n there Zero (frame_tells a s.map) (ap is_some now) others (frame_tells (with_own a n Zero) t.map)
+          ∙ (λ i. edit (forest_by page a) (named i) (with_page (now i))))
+          (λ m d. ap (λ v. own_frame b v.map m) (after None None) ∙ dropped_frame (world None None a s) b tied stay n lost loose (own_of a n) refl m d) none
+          ∙ sym (forget_there (forest_by page a) x None z.0 (frame_there ∙ z.1))
+
+      pub forget_kept : DropsFreed s t → Releases (x ∷ []) s a t b
+      forget_kept tables = record {
         gives_back = forget_back;
+        tables = tables;
         sound = forget_sound;
         tied = (forget_back None None tied).tied;
         pinned = λ f m pin at. name_same m;

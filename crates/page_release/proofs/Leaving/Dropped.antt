@@ -1,5 +1,5 @@
 -- A node lost its own page: its frame or its slot is given back.
-use Rattle.std.proofs.Common.{◌≡◌, ◌≢◌, ℕ, ◌+◌, ◌<◌, ◌==◌, Bool, true, false, List, [], length, get_or, set, Option, Some, None, refl, sym, ap, ◌∙◌, subst, arith, inl, inr, length-set}
+use Rattle.std.proofs.Common.{◌*◌, ◌≡◌, ◌≢◌, ℕ, ◌+◌, ◌<◌, ◌==◌, Bool, true, false, List, [], length, get_or, set, Option, Some, None, refl, sym, ap, ◌∙◌, subst, arith, inl, inr, length-set}
 use Rattle.std.specs.Prelude.{MatchOption}
 use Rattle.vm_ids.specs.declared.numbers.FrameId.{FrameId}
 use Rattle.std.specs.List.{count_by}
@@ -97,8 +97,11 @@ module _ (w : World) (b : Arena) (n : NodeId) (tied : IsTied w) (lost : HasLost 
         ]
 
     -- each other page in a frame is in the one that it was in
+    pub place_stays : (m : NodeId) → m ≢ n → frame_of (set w.map (frame_of w.map n.0) None) m.0 ≡ frame_of w.map m.0
+    place_stays m d = position_or_len-set (is_node m.0) w.map f None None (other_there m d)
+
     frame_stays : (m : NodeId) → m ≢ n → get_or w.frames.bytes (frame_of (set w.map (frame_of w.map n.0) None) m.0) [] ≡ frame_page w m
-    frame_stays m d = ap (λ (k : ℕ). get_or w.frames.bytes k []) (position_or_len-set (is_node m.0) w.map f None None (other_there m d))
+    frame_stays m d = ap (λ (k : ℕ). get_or w.frames.bytes k []) (place_stays m d)
 
     pub framed_right : IsTied (record w { caches = b; map = set w.map (frame_of w.map n.0) None; frames = record w.frames { held = set w.frames.held (frame_of w.map n.0) false } })
     framed_right = record {
@@ -114,6 +117,7 @@ module _ (w : World) (b : Arena) (n : NodeId) (tied : IsTied w) (lost : HasLost 
         bytes_frames = tied.fitted.bytes_frames ∙ sym (length-set w.frames.held f false);
         pinned_frames = tied.fitted.pinned_frames ∙ sym (length-set w.frames.held f false);
         marks_frames = tied.fitted.marks_frames ∙ sym (length-set w.frames.held f false);
+        places_frames = tied.fitted.places_frames ∙ ap (λ (k : ℕ). 4 * k) (sym (length-set w.frames.held f false));
         few = omega (arith, length-set w.frames.held f false, tied.fitted.few);
         page = tied.fitted.page;
       };

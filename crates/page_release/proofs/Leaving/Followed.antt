@@ -1,5 +1,5 @@
 -- What the caches released was followed in the store: it is tied to them again, and each node has its page.
-use Rattle.std.proofs.Common.{◌≡◌, ◌≢◌, ℕ, zero, suc, ◌==◌, ◌||◌, Bool, true, false, cond, List, [], ◌∷◌, get_or, set, Option, Some, None, is_some, refl, sym, ap, ◌∙◌, subst, inl, inr, length-set}
+use Rattle.std.proofs.Common.{arith, ◌≡◌, ◌≢◌, ℕ, zero, suc, ◌==◌, ◌||◌, Bool, true, false, cond, List, [], ◌∷◌, get_or, set, Option, Some, None, is_some, refl, sym, ap, ◌∙◌, subst, inl, inr, length-set}
 use Rattle.std.specs.List.{count_by}
 use Rattle.vm_ids.specs.declared.numbers.SlotId.{SlotId}
 use Rattle.std.proofs.lemmas.Bool.{false≢true}
@@ -63,7 +63,7 @@ module _ (w : World) (b : Arena) (tied : IsTied w) (stay : HomesStay w.caches b)
     still_page m = own_page_as w b w.frames.held w.slots w.map m m (still.own m) (λ r. refl) (λ k. stay.clean m (ap is_clean (still.own m) ∙ k))
 
   -- A page went ----------------------------------------------------------------------------
-  not_gone : {n : NodeId} → Went w.caches b n → (m : NodeId) → HasNode b m → m ≢ n
+  pub not_gone : {n : NodeId} → Went w.caches b n → (m : NodeId) → HasNode b m → m ≢ n
   not_gone went m h e = false≢true (sym (ap is_some went.gone) ∙ subst (HasNode b) e h)
 
   true_after : (xs : List Bool) (k j : ℕ) → get_or (set xs k false) j false ≡ true → get_or xs j false ≡ true
@@ -189,7 +189,7 @@ module _ (s : Store) (a b : Arena) (tied : IsTied (world None None a s)) where
   can_leave n (Resident t) was e loose =
       let at : IsHome w (frame_of s.map n.0) n = resident_home w n tied (ap is_resident e) in
       let bound : is_bound w (frame_of s.map n.0) ≡ true = ap is_some at.node in
-      (at.once, tied.placed.held (frame_of s.map n.0) ∙ ap (λ (t : Bool). t || is_pinned s.frames (frame_of s.map n.0)) bound, loose)
+      (at.once, tied.placed.held (frame_of s.map n.0) ∙ ap (λ (t : Bool). t || is_pinned s.frames (frame_of s.map n.0)) bound, loose, omega (arith, tied.fitted.places_frames, tied.fitted.map_frames, at.frame))
   can_leave n (Slot k) was e loose = slot_is_held w n k tied was e
   can_leave n OnSegment was e loose = tt
 

@@ -31,12 +31,14 @@ use Rattle.tree_merge.proofs.OtherPages.{settle_step-by}
 use Rattle.tree_merge.proofs.Releases.{ReleasedAt, merged_at}
 use Rattle.page_release.specs.Following.{CanFollow, followed}
 use Rattle.page_release.specs.Homes.{KeepsHomes}
-use Rattle.page_release.specs.Steps.{ForAnyMapper, GivesBack, IsSettleStep, IsStoreTied, IsWorkingUnpinned, Kept, PinnedStayNamed}
+use Rattle.page_release.specs.Steps.{ForAnyMapper, GivesBack, IsSettleStep, IsStoreTied, IsWorkingUnpinned, Releases, PinnedStayNamed}
+use Rattle.page_release.specs.Translating.{DropsFreed}
 use Rattle.page_release.proofs.Tying.Backed.{HomesStay, homeless}
 use Rattle.page_release.proofs.Tying.Homes.{others_kept, others_stay}
 use Rattle.page_release.proofs.Leaving.Passed.{gone_own}
 use Rattle.page_release.proofs.Leaving.Followed.{IsLoose, IsPassedUnclean, can_follow}
 use Rattle.page_release.proofs.Leaving.Retired.{loose_frame, steps_back, steps_page}
+use Rattle.page_release.proofs.Framing.Leaving.{merged_frames}
 
 module _ (a b : Arena) (sound : IsSound a) (r : Released) (is : IsMerged a b r) (rel : IsReleased a b r) where
   merge_loose : (s : Store) → is_pinned s.frames (frame_of s.map is.node.0) ≡ false → (q : Released) → ReleasedAt a is.node q → IsLoose s.frames s.map q
@@ -113,11 +115,13 @@ module _ (a b : Arena) (sound : IsSound a) (r : Released) (is : IsMerged a b r) 
         merged = is;
         forest = λ told size fit. settle_step-by (own_page (world told size a s)) a sound (tells (world told size a s)) b r is (own_page (world told size b t)) sound_b.kept.named (tells (world told size b t))
             (steps_page s a t b r rel merged_loose (passed_unclean r (merged_at a b sound r is)) merged_stay after told size fit);
+        frames = merged_frames s a t b r rel merged_loose (passed_unclean r (merged_at a b sound r is)) merged_stay after tied sound sound_b is;
       }
 
-      pub merged_kept : Kept [] s a t b
-      merged_kept = record {
+      pub merged_kept : DropsFreed s t → Releases [] s a t b
+      merged_kept tables = record {
         gives_back = merged_back;
+        tables = tables;
         sound = sound_b;
         tied = (merged_back None None tied).tied;
         pinned = merged_named;

@@ -134,8 +134,11 @@ module _ (w : World) (b : Arena) (from to : NodeId) (tied : IsTied w) (went : We
     ]
 
     -- each other page in a frame is in the one that it was in
+    pub place_stays : (m : NodeId) → m ≢ from → m ≢ to → frame_of (set w.map (frame_of w.map from.0) (Some to)) m.0 ≡ frame_of w.map m.0
+    place_stays m d e = position_or_len-set (is_node m.0) w.map f (Some to) None (other_number to.0 m.0 (λ q. id_apart m to e (sym q)) ∙ sym (ap (is_node m.0) at.node ∙ other_number from.0 m.0 (λ q. id_apart m from d (sym q))))
+
     frame_stays : (m : NodeId) → m ≢ from → m ≢ to → bytes_of w.frames (frame_of (set w.map (frame_of w.map from.0) (Some to)) m.0) ≡ frame_page w m
-    frame_stays m d e = ap (bytes_of w.frames) (position_or_len-set (is_node m.0) w.map f (Some to) None (other_number to.0 m.0 (λ q. id_apart m to e (sym q)) ∙ sym (ap (is_node m.0) at.node ∙ other_number from.0 m.0 (λ q. id_apart m from d (sym q)))))
+    frame_stays m d e = ap (bytes_of w.frames) (place_stays m d e)
 
     pub rekeyed_right : IsTied (record w { caches = b; map = set w.map (frame_of w.map from.0) (Some to) })
     rekeyed_right = record {
@@ -154,13 +157,14 @@ module _ (w : World) (b : Arena) (from to : NodeId) (tied : IsTied w) (went : We
         bytes_frames = tied.fitted.bytes_frames;
         pinned_frames = tied.fitted.pinned_frames;
         marks_frames = tied.fitted.marks_frames;
+        places_frames = tied.fitted.places_frames;
         few = tied.fitted.few;
         page = tied.fitted.page;
       };
     }
 
     -- the page goes with it, and every other one stays
-    place_to : frame_of (set w.map (frame_of w.map from.0) (Some to)) to.0 ≡ frame_of w.map from.0
+    pub place_to : frame_of (set w.map (frame_of w.map from.0) (Some to)) to.0 ≡ frame_of w.map from.0
     place_to = only_place (is_node to.0) (set w.map f (Some to)) f None (bound to ∙ ap (λ (x : OwnState). bit (is_resident x)) moved ∙ ap bit resident) (omega (arith, length-set w.map f (Some to), at.frame))
         (ap (is_node to.0) (get_or-set_same w.map f (Some to) None at.frame) ∙ same_number to.0)
 

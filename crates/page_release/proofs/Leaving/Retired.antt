@@ -29,7 +29,8 @@ use Rattle.tree_merge.proofs.OtherPages.{page_after, retire-by}
 use Rattle.tree_merge.proofs.Releases.{working_name}
 use Rattle.page_release.specs.Following.{CanFollow, followed}
 use Rattle.page_release.specs.Homes.{IsUnclean, KeepsHomes}
-use Rattle.page_release.specs.Steps.{ForAnyMapper, GivesBack, IsStoreTied, IsUnpinned, Kept, PinnedStayNamed}
+use Rattle.page_release.specs.Steps.{ForAnyMapper, GivesBack, IsStoreTied, IsUnpinned, Releases, PinnedStayNamed}
+use Rattle.page_release.specs.Translating.{DropsFreed}
 use Rattle.page_release.proofs.Tying.Backed.{HomesStay}
 use Rattle.page_release.proofs.Tying.Homes.{others_kept, others_stay}
 use Rattle.page_release.proofs.Leaving.Followed.{IsLoose, IsPassedUnclean, can_follow, follow_gives, follow_page}
@@ -83,7 +84,7 @@ module _ (a b : Arena) (n : NodeId) (r : Released) (is : IsRetired a b n r) wher
       go (suc k) e = ap (λ (x : Arena). name_of x m) (is.parent (omega (arith, e))).1 ∙ working_name a n m d
 
   -- what was released is no page of another node
-  retire_passed : IsPassedUnclean a r
+  pub retire_passed : IsPassedUnclean a r
   retire_passed = go (child_count (forest_of a) (name_of a n)) refl
     where
       go : (k : ℕ) → child_count (forest_of a) (name_of a n) ≡ k → IsPassedUnclean a r
@@ -162,9 +163,10 @@ module _ (s : Store) (a b : Arena) (n : NodeId) (x : NodeName) (there : HasNode 
         (forest ∙ ap (retire (forest_of a)) (sym named))
         ∙ ap (retire (store_forest w)) named
 
-    pub retire_kept : IsSound b → Kept [] s a t b
-    retire_kept sound_b = record {
+    pub retire_kept : IsSound b → DropsFreed s t → Releases [] s a t b
+    retire_kept sound_b tables = record {
       gives_back = retire_back;
+      tables = tables;
       sound = sound_b;
       tied = (retire_back None None tied).tied;
       pinned = retire_named;

@@ -34,13 +34,14 @@ use Rattle.residency.specs.StoreForest.{store_forest}
 use Rattle.residency.specs.World.{is_clean, own_page, world}
 use Rattle.residency.proofs.Worlds.Telling.{tells}
 use Rattle.tree_merge.specs.Releasing.{Went}
-use Rattle.page_release.specs.Steps.{ForAnyMapper, IsStoreTied, Kept, PinnedStayNamed}
+use Rattle.page_release.specs.Steps.{ForAnyMapper, IsStoreTied, Releases, PinnedStayNamed}
 use Rattle.page_release.specs.Homes.{KeepsHomes}
 use Rattle.page_release.proofs.Tying.Backed.{HomesStay, same_homes}
 use Rattle.page_release.proofs.Tying.Homes.{named_kept}
 use Rattle.page_release.proofs.Tying.States.{SameStates, states_back, states_stay}
 use Rattle.page_release.proofs.Leaving.Counting.{went_count}
 use Rattle.page_release.proofs.Leaving.Passed.{gone_own}
+use Rattle.page_release.proofs.Freeing.Freed.{same_freed}
 use Rattle.page_release.proofs.Tying.Tied.{home}
 
 -- A page that hangs by a stub link --------------------------------------------------------
@@ -60,9 +61,10 @@ module _ (a b : Arena) (links : Relinked a b) where
   relinked_named : (s : Store) → PinnedStayNamed s a b
   relinked_named s f n pin at = links.like.name n
 
-  pub relinked_kept : (s : Store) → IsStoreTied s a → IsSound b → Kept [] s a s b
+  pub relinked_kept : (s : Store) → IsStoreTied s a → IsSound b → Releases [] s a s b
   relinked_kept s tied sound = record {
     gives_back = states_back s a b relinked_states relinked_stay;
+    tables = same_freed s s refl refl;
     sound = sound;
     tied = (states_back s a b relinked_states relinked_stay None None tied).tied;
     pinned = relinked_named s;
@@ -139,7 +141,7 @@ module _ (a b : Arena) (sound : IsSound a) (after : IsSound b) (grown : IsGrown 
     | inr e ↦ e
   ]
 
-  grown_own : (m : NodeId) → own_of b m ≡ own_of a m
+  pub grown_own : (m : NodeId) → own_of b m ≡ own_of a m
   grown_own m = go (is_some (find a m)) (is_some (find b m)) refl refl
     where
       go : (s t : Bool) → is_some (find a m) ≡ s → is_some (find b m) ≡ t → own_of b m ≡ own_of a m
@@ -193,9 +195,10 @@ module _ (a b : Arena) (sound : IsSound a) (after : IsSound b) (grown : IsGrown 
       let within : f < length s.map = omega (arith, true_below s.frames.pinned f pin, tied.fitted.pinned_frames, tied.fitted.map_frames) in
       grown.names n (home (world None None a s) f n tied within at).there
 
-  pub grown_kept : (s : Store) → IsStoreTied s a → Kept [] s a s b
+  pub grown_kept : (s : Store) → IsStoreTied s a → Releases [] s a s b
   grown_kept s tied = record {
     gives_back = states_back s a b grown_states grown_stay;
+    tables = same_freed s s refl refl;
     sound = after;
     tied = (states_back s a b grown_states grown_stay None None tied).tied;
     pinned = grown_named s tied;

@@ -13,8 +13,9 @@ use Rattle.local_cache.proofs.Tables.Sizes.{sizes_same, sizes_then}
 use Rattle.residency.specs.declared.store.Store.{Store}
 use Rattle.residency.specs.World.{IsTied, World, world}
 use Rattle.page_release.specs.Homes.{IsUnclean}
-use Rattle.page_release.specs.Steps.{ForAnyMapper, GivesBack, IsStoreTied, IsUnpinned, Kept, PinnedStayNamed}
+use Rattle.page_release.specs.Steps.{ForAnyMapper, GivesBack, IsStoreTied, IsUnpinned, Releases, PinnedStayNamed}
 use Rattle.page_release.proofs.Tying.Homes.{homes_then, named_kept, unclean_then, unlisted}
+use Rattle.page_release.proofs.Freeing.Freed.{bound_was, drops_then, same_freed}
 
 -- Nothing happened ---------------------------------------------------------------------------
 pub gives_none : (w : World) → IsTied w → GivesBack w w
@@ -30,9 +31,10 @@ gives_none w fit = record {
   page = refl;
 }
 
-pub kept_none : (xs : List NodeName) (s : Store) (a : Arena) → IsSound a → IsStoreTied s a → Kept xs s a s a
+pub kept_none : (xs : List NodeName) (s : Store) (a : Arena) → IsSound a → IsStoreTied s a → Releases xs s a s a
 kept_none xs s a sound tied = record {
   gives_back = λ told size fit. gives_none (world told size a s) fit;
+  tables = same_freed s s refl refl;
   sound = sound;
   tied = tied;
   pinned = λ f n pin at. refl;
@@ -66,9 +68,10 @@ named_then s a t b c back tied f g k n pin at =
     let one = (back None None tied).pinned k pin in
     g k n one.pinned (one.node ∙ at) ∙ f k n pin at
 
-pub kept_then : (xs ys zs : List NodeName) (s : Store) (a : Arena) (t : Store) (b : Arena) (u : Store) (c : Arena) → IsStoreTied s a → ((x : NodeName) → x ∈ xs → x ∈ zs) → ((x : NodeName) → x ∈ ys → x ∈ zs) → Kept xs s a t b → Kept ys t b u c → Kept zs s a u c
+pub kept_then : (xs ys zs : List NodeName) (s : Store) (a : Arena) (t : Store) (b : Arena) (u : Store) (c : Arena) → IsStoreTied s a → ((x : NodeName) → x ∈ xs → x ∈ zs) → ((x : NodeName) → x ∈ ys → x ∈ zs) → Releases xs s a t b → Releases ys t b u c → Releases zs s a u c
 kept_then xs ys zs s a t b u c tied first second f g = record {
   gives_back = back_then s a t b u c f.gives_back g.gives_back;
+  tables = drops_then s t u (bound_was (world None None a s) (world None None b t) tied (f.gives_back None None tied)) (bound_was (world None None b t) (world None None c u) f.tied (g.gives_back None None f.tied)) f.tables g.tables;
   sound = g.sound;
   tied = g.tied;
   pinned = named_then s a t b c f.gives_back tied f.pinned g.pinned;
@@ -77,12 +80,12 @@ kept_then xs ys zs s a t b u c tied first second f g = record {
 }
 
 -- where no page of a segment ceased to be one
-pub kept_both : (s : Store) (a : Arena) (t : Store) (b : Arena) (u : Store) (c : Arena) → IsStoreTied s a → Kept [] s a t b → Kept [] t b u c → Kept [] s a u c
+pub kept_both : (s : Store) (a : Arena) (t : Store) (b : Arena) (u : Store) (c : Arena) → IsStoreTied s a → Releases [] s a t b → Releases [] t b u c → Releases [] s a u c
 kept_both s a t b u c tied f g = kept_then [] [] [] s a t b u c tied (λ x i. i) (λ x i. i) f g
 
 -- where none of the list is there still
-pub kept_unlisted : (xs : List NodeName) (s : Store) (a : Arena) (t : Store) (b : Arena) → Kept xs s a t b → ((n : NodeId) → IsSome (home_of b n) → name_of b n ∈ xs → ⊥) → Kept [] s a t b
-kept_unlisted xs s a t b kept none = record { gives_back = kept.gives_back; sound = kept.sound; tied = kept.tied; pinned = kept.pinned; sizes = kept.sizes; homes = unlisted xs a b kept.homes none }
+pub kept_unlisted : (xs : List NodeName) (s : Store) (a : Arena) (t : Store) (b : Arena) → Releases xs s a t b → ((n : NodeId) → IsSome (home_of b n) → name_of b n ∈ xs → ⊥) → Releases [] s a t b
+kept_unlisted xs s a t b kept none = record { gives_back = kept.gives_back; tables = kept.tables; sound = kept.sound; tied = kept.tied; pinned = kept.pinned; sizes = kept.sizes; homes = unlisted xs a b kept.homes none }
 
 -- What is kept --------------------------------------------------------------------------------
 
@@ -94,7 +97,7 @@ unpinned_by s a t b x tied back named out f n pin at e =
     let node : node_of s.map f ≡ Some n = sym (was.pinned f pinned).node ∙ at in
     out f n pinned node (sym (named f n pinned node) ∙ e)
 
-module _ (xs : List NodeName) (s : Store) (a : Arena) (t : Store) (b : Arena) (tied : IsStoreTied s a) (kept : Kept xs s a t b) where
+module _ (xs : List NodeName) (s : Store) (a : Arena) (t : Store) (b : Arena) (tied : IsStoreTied s a) (kept : Releases xs s a t b) where
   pub unpinned_kept : (x : NodeName) → IsUnpinned s a x → IsUnpinned t b x
   unpinned_kept x out = unpinned_by s a t b x tied kept.gives_back kept.pinned out
 

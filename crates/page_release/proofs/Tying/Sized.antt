@@ -27,7 +27,7 @@ use Rattle.tree_merge.specs.declared.released.Released.TheVariants.{Nothing, Dro
 use Rattle.tree_merge.specs.Releasing.{IsReleased}
 use Rattle.local_cache.specs.Whole.{IsWhole, SameCaches}
 use Rattle.local_cache.proofs.Whole.Pages.{node_page}
-use Rattle.page_release.specs.Steps.{Kept, StaysRight}
+use Rattle.page_release.specs.Steps.{Releases, StaysRight}
 use Rattle.page_release.proofs.Leaving.Counting.{went_length}
 use Rattle.page_release.proofs.Leaving.Passed.{passed_fewer}
 use Rattle.page_release.proofs.Tying.Homes.{granted_then}
@@ -43,7 +43,7 @@ module _ (a : Arena) (named : IsNamed a) where
       ]
 
 -- The store is right again where there are slots enough, and of the pages of segments that were changed each was granted.
-pub right_after : (xs : List NodeName) (s : Store) (a : Arena) (t : Store) (b : Arena) → Kept xs s a t b → ((n : NodeId) → IsSome (home_of b n) → name_of b n ∈ xs → is_clean (own_of b n) ≡ false → is_name_granted a (name_of b n) ≡ true)
+pub right_after : (xs : List NodeName) (s : Store) (a : Arena) (t : Store) (b : Arena) → Releases xs s a t b → ((n : NodeId) → IsSome (home_of b n) → name_of b n ∈ xs → is_clean (own_of b n) ≡ false → is_name_granted a (name_of b n) ≡ true)
     → (length (own_states a) ≤ length s.slots → length (own_states b) ≤ length s.slots) → StaysRight s a t b
 right_after xs s a t b kept listed enough told size right =
     let gives = kept.gives_back told size right.tied in

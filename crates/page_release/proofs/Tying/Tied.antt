@@ -79,6 +79,7 @@ untold told size a s tied = record {
     bytes_frames = tied.fitted.bytes_frames;
     pinned_frames = tied.fitted.pinned_frames;
     marks_frames = tied.fitted.marks_frames;
+    places_frames = tied.fitted.places_frames;
     few = tied.fitted.few;
     page = tt;
   };

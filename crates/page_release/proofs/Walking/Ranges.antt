@@ -23,3 +23,10 @@ destination_names s = pairs_fill_destinations s.from s.to s.from_page.0 s.to_pag
 
 pub destination_nodes : {P : Type 0} (f : Forest P) (s : Span) → CanCopy f (span_pairs s) → AreNodes f s.to s.to_page.0 s.pages
 destination_nodes f s can i low = (can.destinations.live (page_name s.to (s.to_page.0 + i)) (is_destination s i low)).0
+
+-- the pages that it takes them from
+pub source_names : (s : Span) → seconds (span_pairs s) ≡ page_names s.from s.from_page.0 s.pages
+source_names s = pairs_read_sources s.from s.to s.from_page.0 s.to_page.0 s.pages
+
+pub source_nodes : {P : Type 0} (f : Forest P) (s : Span) → CanCopy f (span_pairs s) → AreNodes f s.from s.from_page.0 s.pages
+source_nodes f s can i low = (can.sources (page_name s.from (s.from_page.0 + i)) (is_source s i low)).0

@@ -11,9 +11,11 @@ use Rattle.local_cache.specs.Arena.{Arena}
 use Rattle.local_cache.specs.Reading.{forest_of, name_of}
 use Rattle.local_cache.specs.Sound.{IsSound}
 use Rattle.residency.specs.declared.store.Store.{Store}
+use Rattle.residency.specs.Seeing.{frame_forest}
 use Rattle.residency.specs.StoreForest.{store_forest}
 use Rattle.residency.specs.World.{world}
 use Rattle.page_release.specs.Steps.{ForAnyMapper, IsSettleStep}
+use Rattle.page_release.proofs.Framing.Shape.{frame_consistent, frame_thin}
 use Rattle.page_release.proofs.Tying.Shape.{store_consistent, store_thin}
 
 -- A step of settle -------------------------------------------------------------------------
@@ -39,6 +41,11 @@ module _ (s : Store) (a : Arena) (t : Store) (b : Arena) (sound : IsSound a) (co
       ap settle (is.forest told size fit)
       ∙ sym (settle_by_steps f w (store_consistent (world told size a s) sound consistent) (sym (store_thin (world told size a s) sound) ∙ is.merged.least))
 
+  pub step_frames : settle (frame_forest b t.map) ≡ settle (frame_forest a s.map)
+  step_frames =
+      let f = frame_forest a s.map in
+      ap settle is.frames ∙ sym (settle_by_steps f w (frame_consistent a s.map sound consistent) (sym (frame_thin a s.map sound) ∙ is.merged.least))
+
 -- Nothing is thin ----------------------------------------------------------------------------
 module _ (s : Store) (a : Arena) (sound : IsSound a) (settled : IsSettled (forest_of a)) where
   pub end_nodes : settle (forest_of a) ≡ forest_of a
@@ -46,3 +53,6 @@ module _ (s : Store) (a : Arena) (sound : IsSound a) (settled : IsSettled (fores
 
   pub end_forest : (told : Option Held) (size : Option ℕ) → settle (store_forest (world told size a s)) ≡ store_forest (world told size a s)
   end_forest told size = settle_ends (store_forest (world told size a s)) (sym (store_thin (world told size a s) sound) ∙ settled_has_nothing_thin (forest_of a) settled)
+
+  pub end_frames : settle (frame_forest a s.map) ≡ frame_forest a s.map
+  end_frames = settle_ends (frame_forest a s.map) (sym (frame_thin a s.map sound) ∙ settled_has_nothing_thin (forest_of a) settled)

@@ -7,11 +7,13 @@ use Rattle.vm_ids.specs.Forest.Shape.{IsConsistent}
 use Rattle.vm_ids.proofs.Forest.Pages.{copy_page-consistent}
 use Rattle.local_cache.specs.Reading.{forest_of}
 use Rattle.local_cache.proofs.Changes.SameNodes.{forest_of-made}
+use Rattle.residency.specs.Seeing.{frame_forest}
 use Rattle.residency.specs.StoreForest.{store_forest}
 use Rattle.residency.specs.World.{world}
 use Rattle.vm_ids.proofs.Forest.Lengths.{copy_page_len, copy_page_stays}
 use Rattle.vm_ids.proofs.Forest.Made.{copy_page-made}
 use Rattle.vm_ids.proofs.Forest.Pairs.{can_by, copied_by, pages_now, pairs_start}
+use Rattle.page_release.proofs.Framing.Shape.{frame_can, frame_consistent}
 use Rattle.page_release.proofs.Tying.Kept.{kept_both, kept_none, unclean_kept, unpinned_kept}
 use Rattle.page_release.proofs.Tying.Shape.{store_can, store_consistent}
 use Rattle.page_release.proofs.Walking.Ranges.{is_destination}
@@ -25,6 +27,7 @@ loop-page-init c =
     record {
       nodes = ap (λ es. rule_copy_pages (leb s.pages small_copy) es (forest_of a)) (sym all);
       forest = λ told size fit. ap (λ es. rule_copy_pages (leb s.pages small_copy) es (store_forest (world told size a c.args.store.now))) (sym all);
+      frames = ap (λ es. rule_copy_pages (leb s.pages small_copy) es (frame_forest a c.args.store.now.map)) (sym all);
       kept = kept_none [] c.args.store.now a c.requires.whole.sound c.requires.tied;
       consistent = c.requires.whole.consistent;
       can = subst (CanCopy (forest_of a)) all c.requires.can;
@@ -80,6 +83,10 @@ loop-page-preserved c =
           let left = page_pairs s.from (s.from_page.0 + k) s.to (s.to_page.0 + k) (s.pages - k) in
           copied_by (store_forest w) (store_consistent w i.kept.sound i.consistent) is_small s.from s.from_page.0 s.to s.to_page.0 s.pages k low (store_can w i.kept.sound left i.can) (store_forest (world told size b u)) (e.forest told size now)
           ∙ i.forest told size fit;
+      frames =
+          let left = page_pairs s.from (s.from_page.0 + k) s.to (s.to_page.0 + k) (s.pages - k) in
+          copied_by (frame_forest a t.map) (frame_consistent a t.map i.kept.sound i.consistent) is_small s.from s.from_page.0 s.to s.to_page.0 s.pages k low (frame_can a t.map i.kept.sound left i.can) (frame_forest b u.map) e.frames
+          ∙ i.frames;
       kept = kept_both r z t a u b c.requires.tied i.kept e.kept;
       consistent = subst IsConsistent (sym e.nodes) (copy_page-consistent f i.consistent d o pages is_small);
       can = can_by f i.consistent is_small s.from s.from_page.0 s.to s.to_page.0 s.pages k low i.can (forest_of b) e.nodes;

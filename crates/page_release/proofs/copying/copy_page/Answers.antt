@@ -3,8 +3,10 @@ use Rattle.vm_ids.specs.declared.node_name.NodeName.TheVariants.{Live}
 use Rattle.vm_ids.specs.Forest.Rules.{detach, link, stub}
 use Rattle.local_cache.proofs.Whole.Pages.{page_there}
 use Rattle.local_cache.specs.Reading.{forest_of}
+use Rattle.residency.specs.Seeing.{frame_forest}
 use Rattle.residency.specs.StoreForest.{store_forest}
 use Rattle.residency.specs.World.{world}
+use Rattle.page_release.proofs.Framing.Linking.{linked_frames, stubbed_frames}
 use Rattle.page_release.proofs.Linking.Copied.{destination_there, fresh_apart, fresh_bare, fresh_name, links_of, made_after, origin_name, source_there}
 use Rattle.page_release.proofs.Linking.Grown.{grown_kept, linked_forest, relinked_kept, stubbed_forest}
 use Rattle.page_release.proofs.Tying.Kept.{kept_both}
@@ -78,6 +80,40 @@ returns-else-is_small-clause-forest c told size fit =
     let f = store_forest (world told size a s) in
     linked_forest b d e.kept.sound c.link.ensures.sound c.link.ensures.grown x y forest few t told size (e.kept.gives_back told size fit).tied
     ∙ ap (λ g. link g x y) (e.forest told size fit) ∙ ap (λ k. cond k (stub (detach f x None) x y) (link (detach f x None) x y)) (sym c.if-is_small.false)
+
+pub returns-then-is_small-clause-frames : goal.returns-then-is_small-clause-frames
+returns-then-is_small-clause-frames c =
+    let s = c.args.store.now in
+    let a = c.args.caches.now in
+    let t = c.detach_page.new.store in
+    let b = c.detach_page.new.caches in
+    let e = c.detach_page.ensures in
+    let x = Live c.args.to c.args.to_page in
+    let y = Live c.args.from c.args.from_page in
+    let n = fresh_name a b c.requires.consistent c.args.to c.args.from c.args.to_page c.args.from_page c.requires.pages c.detach_page.ensures.nodes c.detach_page.ensures.kept.sound c.node_of-fresh.result c.node_of-origin.result c.node_of-fresh.ensures c.node_of-origin.ensures in
+    let m = origin_name a b c.requires.consistent c.args.to c.args.from c.args.to_page c.args.from_page c.requires.pages c.detach_page.ensures.nodes c.detach_page.ensures.kept.sound c.node_of-fresh.result c.node_of-origin.result c.node_of-fresh.ensures c.node_of-origin.ensures in
+    let d = c.add_stub.new.caches in
+    let f = frame_forest a s.map in
+    stubbed_frames b d c.add_stub.ensures.links t.map e.kept.sound x y (c.add_stub.ensures.forest ∙ (λ i. stub (forest_of b) (n i) (m i)))
+    ∙ ap (λ g. stub g x y) e.frames ∙ ap (λ k. cond k (stub (detach f x None) x y) (link (detach f x None) x y)) (sym c.if-is_small.true)
+
+pub returns-else-is_small-clause-frames : goal.returns-else-is_small-clause-frames
+returns-else-is_small-clause-frames c =
+    let s = c.args.store.now in
+    let a = c.args.caches.now in
+    let t = c.detach_page.new.store in
+    let b = c.detach_page.new.caches in
+    let e = c.detach_page.ensures in
+    let x = Live c.args.to c.args.to_page in
+    let y = Live c.args.from c.args.from_page in
+    let n = fresh_name a b c.requires.consistent c.args.to c.args.from c.args.to_page c.args.from_page c.requires.pages c.detach_page.ensures.nodes c.detach_page.ensures.kept.sound c.node_of-fresh.result c.node_of-origin.result c.node_of-fresh.ensures c.node_of-origin.ensures in
+    let m = origin_name a b c.requires.consistent c.args.to c.args.from c.args.to_page c.args.from_page c.requires.pages c.detach_page.ensures.nodes c.detach_page.ensures.kept.sound c.node_of-fresh.result c.node_of-origin.result c.node_of-fresh.ensures c.node_of-origin.ensures in
+    let d = c.link.new.caches in
+    let forest = c.link.ensures.forest ∙ (λ i. link (forest_of b) (n i) (m i)) in
+    let few = links_of a b c.requires.consistent x y c.requires.pages e.nodes in
+    let f = frame_forest a s.map in
+    linked_frames b d e.kept.sound c.link.ensures.sound c.link.ensures.grown x y forest few t.map
+    ∙ ap (λ g. link g x y) e.frames ∙ ap (λ k. cond k (stub (detach f x None) x y) (link (detach f x None) x y)) (sym c.if-is_small.false)
 
 pub returns-then-is_small-clause-kept : goal.returns-then-is_small-clause-kept
 returns-then-is_small-clause-kept c =

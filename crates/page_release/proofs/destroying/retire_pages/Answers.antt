@@ -7,6 +7,7 @@ use Rattle.vm_ids.specs.Forest.Shape.{IsConsistent}
 use Rattle.vm_ids.proofs.Forest.Pages.{retire-consistent}
 use Rattle.local_cache.specs.Reading.{forest_of}
 use Rattle.local_cache.proofs.Changes.SameNodes.{forest_of-made}
+use Rattle.residency.specs.Seeing.{frame_forest}
 use Rattle.residency.specs.StoreForest.{store_forest}
 use Rattle.residency.specs.World.{world}
 use Rattle.vm_ids.proofs.Forest.Made.{retire-made}
@@ -15,6 +16,7 @@ use Rattle.vm_ids.proofs.Forest.CachePages.{names_start, page_now, pages_by, ret
 use Rattle.local_cache.proofs.Whole.Pages.{pages_once}
 use Rattle.local_cache.proofs.Whole.Pages.{page_there}
 use Rattle.page_release.proofs.Forgotten.Range.{in_range}
+use Rattle.page_release.proofs.Framing.Shape.{frame_consistent, frame_pages}
 use Rattle.page_release.proofs.Tying.Kept.{kept_both, kept_none, unclean_kept, unpinned_kept}
 use Rattle.page_release.proofs.Tying.Shape.{store_consistent, store_pages}
 use Rattle.page_release.proofs.destroying.retire_pages.Goals as goal
@@ -26,6 +28,7 @@ loop-page-init c =
     record {
       nodes = ap (λ xs. retire_all xs (forest_of a)) (sym all);
       forest = λ told size fit. ap (λ xs. retire_all xs (store_forest (world told size a c.args.store.now))) (sym all);
+      frames = ap (λ xs. retire_all xs (frame_forest a c.args.store.now.map)) (sym all);
       kept = kept_none [] c.args.store.now a c.requires.whole.sound c.requires.tied;
       consistent = c.requires.whole.consistent;
       pages = subst (ArePagesOnce (forest_of a)) all (pages_once a c.requires.whole c.args.cache c.args.pages c.requires.pages);
@@ -71,6 +74,9 @@ loop-page-preserved c =
           let now = (i.kept.gives_back told size fit).tied in
           retired_by (store_forest w) (store_consistent w i.kept.sound i.consistent) c.args.cache c.args.pages k low (store_pages w i.kept.sound (page_names c.args.cache k (c.args.pages - k)) i.pages) (store_forest (world told size b u)) (e.forest told size now)
           ∙ i.forest told size fit;
+      frames =
+          retired_by (frame_forest a t.map) (frame_consistent a t.map i.kept.sound i.consistent) c.args.cache c.args.pages k low (frame_pages a t.map i.kept.sound (page_names c.args.cache k (c.args.pages - k)) i.pages) (frame_forest b u.map) e.frames
+          ∙ i.frames;
       kept = kept_both s o t a u b c.requires.tied i.kept e.kept;
       consistent = subst IsConsistent (sym e.nodes) (retire-consistent (forest_of a) i.consistent x is refl);
       pages = pages_by (forest_of a) i.consistent c.args.cache c.args.pages k low i.pages (forest_of b) e.nodes;

@@ -6,7 +6,7 @@ use Rattle.local_cache.proofs.Nodes.OwnStates.{own_length}
 use Rattle.residency.specs.World.{SameNodes, world}
 use Rattle.residency.proofs.Worlds.Nodes.{with_own_same, same}
 use Rattle.page_release.specs.Following.{CanLeave, without_page}
-use Rattle.page_release.proofs.Forgotten.One.{absent_forest, absent_nodes, absent_unclean, forget_can, forget_forest, forget_kept, forget_nodes, forget_unclean, unclean_named}
+use Rattle.page_release.proofs.Forgotten.One.{absent_forest, absent_frames, absent_nodes, absent_unclean, forget_can, forget_forest, forget_frames, forget_kept, forget_nodes, forget_unclean, unclean_named}
 use Rattle.page_release.proofs.Tying.Kept.{kept_none}
 use Rattle.page_release.proofs.forgetting.forget_page.Goals as goal
 
@@ -23,7 +23,7 @@ returns-then-not-is_absent-clause-nodes c =
     let some = ap is_absent (sym c.own_state-state.ensures) ∙ sym c.is_absent.ensures.absent ∙ c.if-not-is_absent.true in
     forget_nodes c.args.store.now c.args.caches.now c.requires.sound c.requires.tied c.node_of-node.result at.0 (Live c.args.cache c.args.page) at.1 c.requires.unpinned some
     c.drop_page.new.store c.set_state.new.self c.set_state.ensures.changed
-    (λ told size. c.drop_page.ensures told size c.set_state.new.self ∙ ap (without_page (world told size c.set_state.new.self c.args.store.now) c.node_of-node.result) c.own_state-state.ensures)
+    (λ told size. c.drop_page.ensures.store told size c.set_state.new.self ∙ ap (without_page (world told size c.set_state.new.self c.args.store.now) c.node_of-node.result) c.own_state-state.ensures)
 
 pub returns-then-not-is_absent-clause-forest : goal.returns-then-not-is_absent-clause-forest
 returns-then-not-is_absent-clause-forest c =
@@ -31,7 +31,15 @@ returns-then-not-is_absent-clause-forest c =
     let some = ap is_absent (sym c.own_state-state.ensures) ∙ sym c.is_absent.ensures.absent ∙ c.if-not-is_absent.true in
     forget_forest c.args.store.now c.args.caches.now c.requires.sound c.requires.tied c.node_of-node.result at.0 (Live c.args.cache c.args.page) at.1 c.requires.unpinned some
     c.drop_page.new.store c.set_state.new.self c.set_state.ensures.changed
-    (λ told size. c.drop_page.ensures told size c.set_state.new.self ∙ ap (without_page (world told size c.set_state.new.self c.args.store.now) c.node_of-node.result) c.own_state-state.ensures)
+    (λ told size. c.drop_page.ensures.store told size c.set_state.new.self ∙ ap (without_page (world told size c.set_state.new.self c.args.store.now) c.node_of-node.result) c.own_state-state.ensures)
+
+pub returns-then-not-is_absent-clause-frames : goal.returns-then-not-is_absent-clause-frames
+returns-then-not-is_absent-clause-frames c =
+    let at = c.requires.sound.kept.listed.nodes c.args.cache.0 c.args.page.0 c.node_of-node.result c.node_of-node.ensures in
+    let some = ap is_absent (sym c.own_state-state.ensures) ∙ sym c.is_absent.ensures.absent ∙ c.if-not-is_absent.true in
+    forget_frames c.args.store.now c.args.caches.now c.requires.sound c.requires.tied c.node_of-node.result at.0 (Live c.args.cache c.args.page) at.1 c.requires.unpinned some
+    c.drop_page.new.store c.set_state.new.self c.set_state.ensures.changed
+    (λ told size. c.drop_page.ensures.store told size c.set_state.new.self ∙ ap (without_page (world told size c.set_state.new.self c.args.store.now) c.node_of-node.result) c.own_state-state.ensures)
 
 pub returns-then-not-is_absent-clause-kept : goal.returns-then-not-is_absent-clause-kept
 returns-then-not-is_absent-clause-kept c =
@@ -39,7 +47,7 @@ returns-then-not-is_absent-clause-kept c =
     let some = ap is_absent (sym c.own_state-state.ensures) ∙ sym c.is_absent.ensures.absent ∙ c.if-not-is_absent.true in
     forget_kept c.args.store.now c.args.caches.now c.requires.sound c.requires.tied c.node_of-node.result at.0 (Live c.args.cache c.args.page) at.1 c.requires.unpinned some
     c.drop_page.new.store c.set_state.new.self c.set_state.ensures.changed
-    (λ told size. c.drop_page.ensures told size c.set_state.new.self ∙ ap (without_page (world told size c.set_state.new.self c.args.store.now) c.node_of-node.result) c.own_state-state.ensures)
+    (λ told size. c.drop_page.ensures.store told size c.set_state.new.self ∙ ap (without_page (world told size c.set_state.new.self c.args.store.now) c.node_of-node.result) c.own_state-state.ensures) c.drop_page.ensures.tables
 
 pub returns-then-not-is_absent-clause-same : goal.returns-then-not-is_absent-clause-same
 returns-then-not-is_absent-clause-same c =
@@ -52,7 +60,7 @@ returns-then-not-is_absent-clause-unclean c =
     let some = ap is_absent (sym c.own_state-state.ensures) ∙ sym c.is_absent.ensures.absent ∙ c.if-not-is_absent.true in
     forget_unclean c.args.store.now c.args.caches.now c.requires.sound c.requires.tied c.node_of-node.result at.0 (Live c.args.cache c.args.page) at.1 c.requires.unpinned some
     c.drop_page.new.store c.set_state.new.self c.set_state.ensures.changed
-    (λ told size. c.drop_page.ensures told size c.set_state.new.self ∙ ap (without_page (world told size c.set_state.new.self c.args.store.now) c.node_of-node.result) c.own_state-state.ensures)
+    (λ told size. c.drop_page.ensures.store told size c.set_state.new.self ∙ ap (without_page (world told size c.set_state.new.self c.args.store.now) c.node_of-node.result) c.own_state-state.ensures)
 
 pub returns-then-not-is_absent-clause-count : goal.returns-then-not-is_absent-clause-count
 returns-then-not-is_absent-clause-count c =
@@ -70,6 +78,12 @@ returns-else-not-is_absent-clause-forest c told size fit =
     let at = c.requires.sound.kept.listed.nodes c.args.cache.0 c.args.page.0 c.node_of-node.result c.node_of-node.ensures in
     let none = ap is_absent (sym c.own_state-state.ensures) ∙ sym c.is_absent.ensures.absent ∙ c.if-not-is_absent.false in
     absent_forest c.args.store.now c.args.caches.now c.requires.sound c.requires.tied c.node_of-node.result at.0 (Live c.args.cache c.args.page) at.1 none told size
+
+pub returns-else-not-is_absent-clause-frames : goal.returns-else-not-is_absent-clause-frames
+returns-else-not-is_absent-clause-frames c =
+    let at = c.requires.sound.kept.listed.nodes c.args.cache.0 c.args.page.0 c.node_of-node.result c.node_of-node.ensures in
+    let none = ap is_absent (sym c.own_state-state.ensures) ∙ sym c.is_absent.ensures.absent ∙ c.if-not-is_absent.false in
+    absent_frames c.args.store.now c.args.caches.now c.requires.sound c.requires.tied c.node_of-node.result at.0 (Live c.args.cache c.args.page) at.1 none
 
 pub returns-else-not-is_absent-clause-kept : goal.returns-else-not-is_absent-clause-kept
 returns-else-not-is_absent-clause-kept c = kept_none (Live c.args.cache c.args.page ∷ []) c.args.store.now c.args.caches.now c.requires.sound c.requires.tied

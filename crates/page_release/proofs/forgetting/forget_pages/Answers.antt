@@ -1,4 +1,4 @@
-use Rattle.std.proofs.Common.{ℕ, ◌+◌, [], ◌∷◌, refl, sym, ap, ◌∙◌, subst, inl, inr, arith}
+use Rattle.std.proofs.Common.{ℕ, ◌+◌, [], ◌∷◌, None, refl, sym, ap, ◌∙◌, subst, inl, inr, arith}
 use Rattle.std.specs.Prelude.{option_map, replicate}
 use Rattle.vm_ids.specs.Forest.Commands.{page_name, page_names}
 use Rattle.vm_ids.specs.Forest.Forgetting.{forget, forgotten}
@@ -7,6 +7,7 @@ use Rattle.std.proofs.lemmas.Bool.{cases_eq}
 use Rattle.vm_ids.proofs.Forest.Laws.Ranges.{ranges_hold_their_pages}
 use Rattle.local_cache.specs.declared.own_state.OwnState.TheVariants.{Zero}
 use Rattle.local_cache.specs.Reading.{forest_of}
+use Rattle.residency.specs.Seeing.{frame_forest}
 use Rattle.residency.specs.StoreForest.{store_forest}
 use Rattle.residency.specs.World.{world}
 use Rattle.residency.proofs.Worlds.Nodes.{same, same_then}
@@ -24,6 +25,7 @@ loop-page-init c =
     record {
       nodes = ap (λ xs. forgotten xs Zero (forest_of a)) (sym start);
       forest = λ told size fit. let w = world told size a s in ap (λ xs. forgotten xs (zeros_told w) (store_forest w)) (sym start);
+      frames = ap (λ xs. forgotten xs None (frame_forest a s.map)) (sym start);
       kept = kept_none (page_names c.args.cache c.args.first.0 c.args.pages) s a c.requires.sound c.requires.tied;
       same = same a;
       unclean = λ i low. absurd (omega (arith, low));
@@ -63,6 +65,7 @@ loop-page-preserved c =
           forgotten_by (store_forest (world told size a t)) (store_forest (world told size b u)) cache p n k low (zeros_told (world told size o s))
           (e.forest told size one.tied ∙ ap (λ (m : ℕ). forget (store_forest (world told size a t)) x (option_map (λ _. replicate m 0) told)) one.page)
           ∙ i.forest told size fit;
+      frames = forgotten_by (frame_forest a t.map) (frame_forest b u.map) cache p n k low None e.frames ∙ i.frames;
       kept = kept_then all (x ∷ []) all s o t a u b c.requires.tied (λ y j. j) (λ y j. elim j [ inl is ↦ subst (λ z. z ∈ all) (sym is) (in_range cache p n k low) | inr none ↦ absurd none ]) i.kept e.kept;
       same = same_then o a b i.same e.same;
       unclean = λ j below. elim (cases_eq j k) [
@@ -81,6 +84,11 @@ pub returns-clause-forest : goal.returns-clause-forest
 returns-clause-forest c told size fit =
     let none = names_end c.args.cache (c.args.first.0 + c.loop-page.page) c.args.pages c.loop-page.page (omega (arith, c.loop-page-test.false)) in
     ap (λ xs. forgotten xs (zeros_told (world told size c.args.caches.now c.args.store.now)) (store_forest (world told size c.loop-page.caches c.loop-page.store))) (sym none) ∙ c.loop-page.invariant.forest told size fit
+
+pub returns-clause-frames : goal.returns-clause-frames
+returns-clause-frames c =
+    let none = names_end c.args.cache (c.args.first.0 + c.loop-page.page) c.args.pages c.loop-page.page (omega (arith, c.loop-page-test.false)) in
+    ap (λ xs. forgotten xs None (frame_forest c.loop-page.caches c.loop-page.store.map)) (sym none) ∙ c.loop-page.invariant.frames
 
 pub returns-clause-unclean : goal.returns-clause-unclean
 returns-clause-unclean c x j =

@@ -1,4 +1,4 @@
-use Rattle.std.proofs.Common.{◌≡◌, ℕ, ◌+◌, [], ◌∷◌, Some, refl, sym, ap, ◌∙◌, subst, inl, inr, arith}
+use Rattle.std.proofs.Common.{◌≡◌, ℕ, ◌+◌, [], ◌∷◌, Some, None, refl, sym, ap, ◌∙◌, subst, inl, inr, arith}
 use Rattle.std.proofs.lemmas.Bool.{cases_eq}
 use Rattle.vm_ids.specs.Forest.Commands.{page_name, page_names, replace_pages}
 use Rattle.vm_ids.specs.Forest.NameLists.{◌∈◌}
@@ -17,10 +17,11 @@ use Rattle.local_cache.specs.Reading.{forest_of}
 use Rattle.local_cache.proofs.NewCache.Pages.{some_of}
 use Rattle.local_cache.proofs.Changes.SameNodes.{forest_of-made}
 use Rattle.local_cache.proofs.Whole.Pages.{page_there}
+use Rattle.residency.specs.Seeing.{frame_forest}
 use Rattle.residency.specs.StoreForest.{store_forest}
 use Rattle.residency.specs.World.{world}
 use Rattle.page_release.specs.Homes.{HasHome, IsClean, named_page}
-use Rattle.page_release.specs.Steps.{on_segment, segment_pages}
+use Rattle.page_release.specs.Steps.{in_no_frame, on_segment, segment_pages}
 use Rattle.page_release.proofs.Forgotten.Range.{in_range, names_end, names_start, same_place}
 use Rattle.page_release.proofs.Tying.Kept.{kept_none, kept_then, unclean_kept, unpinned_kept}
 use Rattle.page_release.proofs.Tying.Named.{named_home, named_same}
@@ -35,6 +36,7 @@ loop-page-init c =
     record {
       nodes = ap (λ xs. replace_pages (on_segment xs) (forest_of a)) (sym start);
       forest = λ told size fit. let w = world told size a s in ap (λ xs. replace_pages (segment_pages w xs) (store_forest w)) (sym start);
+      frames = ap (λ xs. replace_pages (in_no_frame xs) (frame_forest a s.map)) (sym start);
       kept = kept_none (page_names c.args.cache c.args.first.0 c.args.pages) s a c.requires.whole.sound c.requires.tied;
       done = λ i low. absurd (omega (arith, low));
       unclean = λ i low below. c.requires.unclean (page_name c.args.cache (c.args.first.0 + i)) (in_range c.args.cache c.args.first.0 c.args.pages i below);
@@ -93,6 +95,7 @@ loop-page-preserved c =
           replaced_by (store_forest now) (store_forest (world told size b u)) (named_page w) cache p n k low
           (e.forest told size (i.kept.gives_back told size fit).tied ∙ ap (λ v. detach (store_forest now) x (Some v)) (named_page_same told size s o t a i.kept.sizes x))
           ∙ i.forest told size fit;
+      frames = replaced_by (frame_forest a t.map) (frame_forest b u.map) (λ _. None) cache p n k low e.frames ∙ i.frames;
       kept = kept_then all (x ∷ []) all s o t a u b c.requires.tied (λ y j. j) (λ y j. elim j [ inl same ↦ subst (λ z. z ∈ all) (sym same) (in_range cache p n k low) | inr none ↦ absurd none ]) i.kept e.kept;
       done = λ j below. elim (cases_eq j k) [
         | inl same ↦ subst (λ m. IsClean b (page_name cache (p + m))) (sym same) (detached_clean a b e.kept.sound node.0 cache (record { 0 = p + k }) d.0 d.1)
@@ -115,6 +118,11 @@ pub returns-clause-forest : goal.returns-clause-forest
 returns-clause-forest c told size fit =
     let none = names_end c.args.cache (c.args.first.0 + c.loop-page.page) c.args.pages c.loop-page.page (omega (arith, c.loop-page-test.false)) in
     ap (λ xs. replace_pages (segment_pages (world told size c.args.caches.now c.args.store.now) xs) (store_forest (world told size c.loop-page.caches c.loop-page.store))) (sym none) ∙ c.loop-page.invariant.forest told size fit
+
+pub returns-clause-frames : goal.returns-clause-frames
+returns-clause-frames c =
+    let none = names_end c.args.cache (c.args.first.0 + c.loop-page.page) c.args.pages c.loop-page.page (omega (arith, c.loop-page-test.false)) in
+    ap (λ xs. replace_pages (in_no_frame xs) (frame_forest c.loop-page.caches c.loop-page.store.map)) (sym none) ∙ c.loop-page.invariant.frames
 
 pub returns-clause-clean : goal.returns-clause-clean
 returns-clause-clean c x j =

@@ -5,9 +5,10 @@ use Rattle.vm_ids.specs.Forest.NameMap.{len}
 use Rattle.vm_ids.specs.Forest.Nodes.{IsNode}
 use Rattle.vm_ids.specs.Forest.Shape.{IsConsistent}
 use Rattle.local_cache.specs.Reading.{forest_of}
+use Rattle.residency.specs.Seeing.{frame_forest}
 use Rattle.residency.specs.StoreForest.{store_forest}
 use Rattle.page_release.specs.Homes.{IsClean, IsUnclean}
-use Rattle.page_release.specs.Steps.{ForAnyMapper, Kept, on_segment, segment_pages}
+use Rattle.page_release.specs.Steps.{ForAnyMapper, Releases, in_no_frame, on_segment, segment_pages}
 use Rattle.page_release.proofs.invalidating.replace_each.Given as goal
 
 abbrev pub invariant-loop-page : goal.invariant-loop-page
@@ -17,7 +18,8 @@ invariant-loop-page l =
     record {
       nodes : replace_pages (on_segment left) (forest_of l.caches) ≡ replace_pages (on_segment all) (forest_of l.fn.caches);
       forest : ForAnyMapper l.fn.store l.fn.caches l.store l.caches (λ old new. replace_pages (segment_pages old left) (store_forest new) ≡ replace_pages (segment_pages old all) (store_forest old));
-      kept : Kept all l.fn.store l.fn.caches l.store l.caches;
+      frames : replace_pages (in_no_frame left) (frame_forest l.caches l.store.map) ≡ replace_pages (in_no_frame all) (frame_forest l.fn.caches l.fn.store.map);
+      kept : Releases all l.fn.store l.fn.caches l.store l.caches;
       done : (i : ℕ) → i < l.page → IsClean l.caches (page_name l.cache (l.first.0 + i));
       unclean : (i : ℕ) → l.page ≤ i → i < l.pages → IsUnclean l.caches (page_name l.cache (l.first.0 + i));
       consistent : IsConsistent (forest_of l.caches);

@@ -1,4 +1,4 @@
-use Rattle.std.proofs.Common.{ℕ, [], sym, ap, ◌∙◌, subst, arith, ◌+◌}
+use Rattle.std.proofs.Common.{ℕ, [], None, sym, ap, ◌∙◌, subst, arith, ◌+◌}
 use Rattle.std.specs.Prelude.{option_map, replicate}
 use Rattle.vm_ids.specs.Forest.Commands.{move_pages as rule_move_pages, page_name}
 use Rattle.vm_ids.specs.Forest.Laws.Commands.{CanCopy}
@@ -10,6 +10,7 @@ use Rattle.vm_ids.proofs.Forest.Pages.{move_page-consistent}
 use Rattle.local_cache.specs.declared.own_state.OwnState.TheVariants.{Zero}
 use Rattle.local_cache.specs.Reading.{forest_of}
 use Rattle.local_cache.proofs.Changes.SameNodes.{forest_of-made}
+use Rattle.residency.specs.Seeing.{frame_forest}
 use Rattle.residency.specs.StoreForest.{store_forest}
 use Rattle.residency.specs.World.{world}
 use Rattle.vm_ids.proofs.Forest.Pairs.{can_move_by, move_now, moved_by, pairs_start}
@@ -29,6 +30,7 @@ loop-page-init c =
     record {
       nodes = ap (λ es. rule_move_pages Zero es (forest_of a)) (sym all);
       forest = λ told size fit. let w = world told size a c.args.store.now in ap (λ es. rule_move_pages (zeros_told w) es (store_forest w)) (sym all);
+      frames = ap (λ es. rule_move_pages None es (frame_forest a c.args.store.now.map)) (sym all);
       kept = kept_none [] c.args.store.now a c.requires.whole.sound c.requires.tied;
       consistent = c.requires.whole.consistent;
       can = subst (CanCopy (forest_of a)) all c.requires.can;
@@ -90,6 +92,7 @@ loop-page-preserved c =
           moved_by (zeros_told (world told size z r)) (store_forest w) s.from s.from_page.0 s.to s.to_page.0 s.pages k low (store_forest (world told size b u))
           (e.forest told size one.tied ∙ ap (λ (n : ℕ). move_page (store_forest w) d o (option_map (λ _. replicate n 0) told)) one.page)
           ∙ i.forest told size fit;
+      frames = moved_by None (frame_forest a t.map) s.from s.from_page.0 s.to s.to_page.0 s.pages k low (frame_forest b u.map) e.frames ∙ i.frames;
       kept = kept_both r z t a u b c.requires.tied i.kept e.kept;
       consistent = subst IsConsistent (sym e.nodes) (move_page-consistent f i.consistent d o pages Zero);
       can = can_move_by Zero f s.from s.from_page.0 s.to s.to_page.0 s.pages k low i.consistent i.can (forest_of b) e.nodes;

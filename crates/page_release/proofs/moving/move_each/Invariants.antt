@@ -1,4 +1,4 @@
-use Rattle.std.proofs.Common.{◌≡◌, ◌+◌, ◌-◌, ◌≤◌, []}
+use Rattle.std.proofs.Common.{◌≡◌, ◌+◌, ◌-◌, ◌≤◌, [], None}
 use Rattle.vm_ids.specs.Forest.Commands.{move_pages as rule_move_pages, page_pairs, span_pairs}
 use Rattle.vm_ids.specs.Forest.Laws.Commands.{CanCopy}
 use Rattle.vm_ids.specs.declared.node_name.NodeName.{NodeName}
@@ -7,8 +7,9 @@ use Rattle.vm_ids.specs.Forest.Nodes.{IsNode}
 use Rattle.vm_ids.specs.Forest.Shape.{IsConsistent}
 use Rattle.local_cache.specs.declared.own_state.OwnState.TheVariants.{Zero}
 use Rattle.local_cache.specs.Reading.{forest_of}
+use Rattle.residency.specs.Seeing.{frame_forest}
 use Rattle.residency.specs.StoreForest.{store_forest}
-use Rattle.page_release.specs.Steps.{ForAnyMapper, Kept, zeros_told}
+use Rattle.page_release.specs.Steps.{ForAnyMapper, Releases, zeros_told}
 use Rattle.page_release.proofs.moving.move_each.Given as goal
 
 abbrev pub invariant-loop-page : goal.invariant-loop-page
@@ -17,7 +18,8 @@ invariant-loop-page l =
     record {
       nodes : rule_move_pages Zero left (forest_of l.caches) ≡ rule_move_pages Zero (span_pairs l.span) (forest_of l.fn.caches);
       forest : ForAnyMapper l.fn.store l.fn.caches l.store l.caches (λ old new. rule_move_pages (zeros_told old) left (store_forest new) ≡ rule_move_pages (zeros_told old) (span_pairs l.span) (store_forest old));
-      kept : Kept [] l.fn.store l.fn.caches l.store l.caches;
+      frames : rule_move_pages None left (frame_forest l.caches l.store.map) ≡ rule_move_pages None (span_pairs l.span) (frame_forest l.fn.caches l.fn.store.map);
+      kept : Releases [] l.fn.store l.fn.caches l.store l.caches;
       consistent : IsConsistent (forest_of l.caches);
       can : CanCopy (forest_of l.caches) left;
       stays : (x : NodeName) → IsNode (forest_of l.fn.caches) x → IsNode (forest_of l.caches) x;

@@ -1,3 +1,4 @@
+use Rattle.page_release.proofs.Framing.Coming.{move_frames}
 use Rattle.page_release.proofs.Coming.Moved.{move_can, move_forest, move_kept}
 use Rattle.page_release.proofs.Tying.Named.{temporary_home}
 use Rattle.page_release.proofs.moving.move_one.Goals as goal
@@ -7,8 +8,12 @@ follow-requires c = move_can c.args.store.now c.args.caches.now c.requires.sound
 
 pub returns-clause-forest : goal.returns-clause-forest
 returns-clause-forest c = move_forest c.args.store.now c.args.caches.now c.requires.sound c.requires.tied c.args.from c.args.from_page c.args.to c.args.to_page c.requires.unpinned c.requires.unclean c.move_one-released.result c.move_one-released.new.caches c.move_one-released.ensures.moved
-    c.follow.new.store c.follow.ensures (temporary_home c.args.caches.now c.args.from c.requires.temporary c.args.from_page) c.move_one-released.ensures.sound
+    c.follow.new.store c.follow.ensures.store (temporary_home c.args.caches.now c.args.from c.requires.temporary c.args.from_page) c.move_one-released.ensures.sound
+
+pub returns-clause-frames : goal.returns-clause-frames
+returns-clause-frames c = move_frames c.args.store.now c.args.caches.now c.requires.sound c.requires.tied c.args.from c.args.from_page c.args.to c.args.to_page c.requires.unpinned c.requires.unclean c.move_one-released.result c.move_one-released.new.caches c.move_one-released.ensures.moved
+    c.follow.new.store c.follow.ensures.store c.move_one-released.ensures.sound
 
 pub returns-clause-kept : goal.returns-clause-kept
 returns-clause-kept c = move_kept c.args.store.now c.args.caches.now c.requires.sound c.requires.tied c.args.from c.args.from_page c.args.to c.args.to_page c.requires.unpinned c.requires.unclean c.move_one-released.result c.move_one-released.new.caches c.move_one-released.ensures.moved
-    c.follow.new.store c.follow.ensures (temporary_home c.args.caches.now c.args.from c.requires.temporary c.args.from_page) c.move_one-released.ensures.sound c.requires.source
+    c.follow.new.store c.follow.ensures.store (temporary_home c.args.caches.now c.args.from c.requires.temporary c.args.from_page) c.move_one-released.ensures.sound c.requires.source c.follow.ensures.tables

@@ -3,16 +3,19 @@ use Rattle.vm_ids.proofs.Forest.Laws.Settling.{settled_is_bounded}
 use Rattle.vm_ids.specs.declared.node_name.NodeName.TheVariants.{Working}
 use Rattle.vm_ids.specs.Forest.Shape.{IsBounded}
 use Rattle.local_cache.specs.Reading.{forest_of}
+use Rattle.residency.specs.Seeing.{frame_forest}
 use Rattle.residency.specs.StoreForest.{store_forest}
 use Rattle.residency.specs.World.{world}
+use Rattle.residency.specs.declared.store.Store.{Store}
 use Rattle.page_release.proofs.Tying.Kept.{kept_both, kept_none, unpinned_kept}
-use Rattle.page_release.proofs.Walking.Steps.{end_forest, end_nodes, step_consistent, step_fewer, step_forest, step_nodes, step_room}
+use Rattle.page_release.proofs.Walking.Steps.{end_forest, end_frames, end_nodes, step_consistent, step_fewer, step_forest, step_frames, step_nodes, step_room}
 use Rattle.page_release.proofs.settling.settle.Goals as goal
 
 pub loop-init : goal.loop-init
 loop-init c = record {
   nodes = refl;
   forest = λ told size fit. refl;
+  frames = refl;
   kept = kept_none [] c.args.store.now c.args.caches.now c.requires.sound c.requires.tied;
   consistent = c.requires.consistent;
   unpinned = c.requires.unpinned;
@@ -39,6 +42,7 @@ loop-preserved c =
     record {
       nodes = step_nodes t b u d i.kept.sound i.consistent is ∙ i.nodes;
       forest = λ told size fit. step_forest t b u d i.kept.sound i.consistent is told size (i.kept.gives_back told size fit).tied ∙ i.forest told size fit;
+      frames = step_frames t b u d i.kept.sound i.consistent is ∙ i.frames;
       kept = kept_both s a t b u d c.requires.tied i.kept e.kept;
       consistent = step_consistent t b u d i.kept.sound i.consistent is;
       unpinned = λ k. unpinned_kept [] t b u d i.kept.tied e.kept (Working k) (i.unpinned k);
@@ -60,6 +64,12 @@ returns-clause-forest c told size fit =
     let e = c.settle_step.ensures.idle c.loop-test.false in
     ap (λ k. store_forest (world told size k c.settle_step.new.store)) e.1 ∙ ap (λ k. store_forest (world told size c.loop.caches k)) e.2
     ∙ sym (end_forest c.loop.store c.loop.caches i.kept.sound e.0 told size) ∙ i.forest told size fit
+
+pub returns-clause-frames : goal.returns-clause-frames
+returns-clause-frames c =
+    let i = c.loop.invariant in
+    let e = c.settle_step.ensures.idle c.loop-test.false in
+    ap (λ k. frame_forest k c.settle_step.new.store.map) e.1 ∙ ap (λ (k : Store). frame_forest c.loop.caches k.map) e.2 ∙ sym (end_frames c.loop.store c.loop.caches i.kept.sound e.0) ∙ i.frames
 
 pub returns-clause-kept : goal.returns-clause-kept
 returns-clause-kept c = kept_both c.args.store.now c.args.caches.now c.loop.store c.loop.caches c.settle_step.new.store c.settle_step.new.caches c.requires.tied c.loop.invariant.kept c.settle_step.ensures.kept

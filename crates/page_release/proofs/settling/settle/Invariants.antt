@@ -4,15 +4,17 @@ use Rattle.vm_ids.specs.Forest.Settling.{settle as rule_settle}
 use Rattle.vm_ids.specs.Forest.Shape.{IsConsistent}
 use Rattle.local_cache.specs.Own.{own_states}
 use Rattle.local_cache.specs.Reading.{forest_of}
+use Rattle.residency.specs.Seeing.{frame_forest}
 use Rattle.residency.specs.StoreForest.{store_forest}
-use Rattle.page_release.specs.Steps.{ForAnyMapper, IsWorkingUnpinned, Kept}
+use Rattle.page_release.specs.Steps.{ForAnyMapper, IsWorkingUnpinned, Releases}
 use Rattle.page_release.proofs.settling.settle.Given as goal
 
 abbrev pub invariant-loop : goal.invariant-loop
 invariant-loop l = record {
   nodes : rule_settle (forest_of l.caches) ≡ rule_settle (forest_of l.fn.caches);
   forest : ForAnyMapper l.fn.store l.fn.caches l.store l.caches (λ old new. rule_settle (store_forest new) ≡ rule_settle (store_forest old));
-  kept : Kept [] l.fn.store l.fn.caches l.store l.caches;
+  frames : rule_settle (frame_forest l.caches l.store.map) ≡ rule_settle (frame_forest l.fn.caches l.fn.store.map);
+  kept : Releases [] l.fn.store l.fn.caches l.store l.caches;
   consistent : IsConsistent (forest_of l.caches);
   unpinned : IsWorkingUnpinned l.store l.caches;
   made : l.caches.made ≡ l.fn.caches.made;

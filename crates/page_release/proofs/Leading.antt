@@ -1,0 +1,10 @@
+-- The translations that must not outlive a change of the pages that they lead to.
+
+-- The frame in which a page is seen is that of the node that owns it.
+pub mod Seen
+-- The translations of a range, page by page.
+pub mod Ranges
+-- What is left of the translations.
+pub mod Left
+-- What is kept from before translations alone were dropped or narrowed.
+pub mod Behind
