@@ -25,3 +25,5 @@ mod Extents
 pub mod Holding
 -- Regions that are locked and unlocked.
 pub mod Locking
+-- Translations that stay right.
+pub mod Translating

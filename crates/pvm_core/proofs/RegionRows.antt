@@ -4,6 +4,7 @@ use Rattle.std.proofs.Common.{◌≡◌, ℕ, ◌+◌, ◌-◌, ◌<◌, ◌≤�
 use Rattle.std.specs.Prelude.{IfSome, MatchResult, OnErr, OnOk, Result, Ok, Err, is_some, nat_le, ok_or, option_map, slice_set}
 use Rattle.std.specs.List.{All}
 use Rattle.std.proofs.lemmas.Bool.Decides.{nat_tests}
+use Rattle.std.proofs.Math.Nat.{add-mul-mod_self_left}
 use Rattle.std.proofs.lemmas.List.Elements.{All-cons, All-nil, All-set}
 use Rattle.vm_ids.specs.Counting.{no_counts}
 use Rattle.vm_ids.specs.Held.{Segments}
@@ -29,7 +30,7 @@ use Rattle.regions.specs.AddressSpace.{id_of}
 use Rattle.contexts.specs.Actors.{Actors, cut_refusal, holder_of, split_refusal, with_split}
 use Rattle.contexts.proofs.Replaced.{all_replaced, all_replaced_in}
 use Rattle.pvm_core.specs.Locks.{locks_over}
-use Rattle.pvm_core.specs.Placed.{ArePlaced, AreRight, IsPlaced}
+use Rattle.pvm_core.specs.Placed.{ArePlaced, AreRight, EachRegion, IsAligned, IsPlaced}
 use Rattle.pvm_core.proofs.Holding.Actors.{over_replaced}
 use Rattle.pvm_core.proofs.Holding.Regions.{cut_counts, prot_counts}
 use Rattle.pvm_core.proofs.Answering.Listed.{machine_with}
@@ -46,24 +47,33 @@ with_allowed n prot t = record t { actors = replace_in n (with_prot prot) t.acto
 
 module _ (sizes : ℕ → Option ℕ) where
   pub right_without_actor : (actor : ℕ) (t : Actors) → AreRight sizes t → AreRight sizes (without_actor actor t)
-  right_without_actor actor t k = record { some = k.some; placed = All-set (ArePlaced sizes) t.actors (actor - 1) None tt k.placed }
+  right_without_actor actor t k = record {
+    some = k.some;
+    placed = All-set (ArePlaced sizes) t.actors (actor - 1) None tt k.placed;
+    aligned = All-set (EachRegion (IsAligned t.page_bytes)) t.actors (actor - 1) None tt k.aligned;
+  }
 
   -- a region became others, which lie where it lay
-  replaced_right : (n : ℕ) (by : model.Region → List model.Region) (r : model.Region) (t : Actors) → region_with n t.actors ≡ Some r → (IsPlaced sizes r → All (IsPlaced sizes) (by r)) → AreRight sizes t
-      → All (ArePlaced sizes) (replace_in n by t.actors)
-  replaced_right n by r t found new k =
-      all_replaced_in (ArePlaced sizes) n by r t.actors found (λ (rs : model.Actor) (here : region_among n rs ≡ Some r) (h : All (IsPlaced sizes) rs). all_replaced (IsPlaced sizes) n by r rs here new h) k.placed
+  pub replaced_right : (n : ℕ) (by : model.Region → List model.Region) (r : model.Region) (t : Actors) → region_with n t.actors ≡ Some r → (IsPlaced sizes r → All (IsPlaced sizes) (by r))
+      → (IsAligned t.page_bytes r → All (IsAligned t.page_bytes) (by r)) → AreRight sizes t
+      → AreRight sizes (record t { actors = replace_in n by t.actors })
+  replaced_right n by r t found placed aligned k = record {
+    some = k.some;
+    placed = each (IsPlaced sizes) placed k.placed;
+    aligned = each (IsAligned t.page_bytes) aligned k.aligned;
+  }
+    where
+      each : (P : model.Region → Type 0) → (P r → All P (by r)) → All (EachRegion P) t.actors → All (EachRegion P) (replace_in n by t.actors)
+      each P new h = all_replaced_in (EachRegion P) n by r t.actors found (λ (rs : model.Actor) (here : region_among n rs ≡ Some r) (h : All P rs). all_replaced P n by r rs here new h) h
 
   pub right_with_allowed : (n : ℕ) (prot : Prot) (t : Actors) → is_some (region_with n t.actors) ≡ true → AreRight sizes t → AreRight sizes (with_allowed n prot t)
   right_with_allowed n prot t some k = go (region_with n t.actors) refl some
     where
       go : (o : Option model.Region) → region_with n t.actors ≡ o → is_some o ≡ true → AreRight sizes (with_allowed n prot t)
       go None found e = absurd (cc e)
-      go (Some r) found e = record {
-        some = k.some;
-        placed = replaced_right n (with_prot prot) r t found
-            (λ p. All-cons (IsPlaced sizes) (record r { may_write = prot.write }) [] (record { count = p.count; there = p.there; within = p.within }) (All-nil (IsPlaced sizes))) k;
-      }
+      go (Some r) found e = replaced_right n (with_prot prot) r t found
+          (λ p. All-cons (IsPlaced sizes) (record r { may_write = prot.write }) [] (record { count = p.count; there = p.there; within = p.within }) (All-nil (IsPlaced sizes)))
+          (λ p. All-cons (IsAligned t.page_bytes) (record r { may_write = prot.write }) [] p (All-nil (IsAligned t.page_bytes))) k
 
   both_placed : (page_bytes pages number : ℕ) (r : model.Region) → pages < r.pages → IsPlaced sizes r → All (IsPlaced sizes) (split_at page_bytes pages number r)
   both_placed page_bytes pages number r fewer p =
@@ -72,6 +82,12 @@ module _ (sizes : ℕ → Option ℕ) where
       let back : r.offset + pages + (r.pages - pages) ≤ p.count = omega (arith, within, fewer) in
       All-cons (IsPlaced sizes) (record r { pages = pages }) (back_of page_bytes pages number r ∷ []) (record { count = p.count; there = p.there; within = front })
       (All-cons (IsPlaced sizes) (back_of page_bytes pages number r) [] (record { count = p.count; there = p.there; within = back }) (All-nil (IsPlaced sizes)))
+
+-- both parts of a region that is cut behind so many pages are of whole pages
+both_aligned : (page_bytes pages number : ℕ) (r : model.Region) → IsAligned page_bytes r → All (IsAligned page_bytes) (split_at page_bytes pages number r)
+both_aligned page_bytes pages number r e =
+    All-cons (IsAligned page_bytes) (record r { pages = pages }) (back_of page_bytes pages number r ∷ []) e
+    (All-cons (IsAligned page_bytes) (back_of page_bytes pages number r) [] (add-mul-mod_self_left r.start page_bytes pages ∙ e) (All-nil (IsAligned page_bytes)))
 
 -- as many locked regions cover each page after a region was protected
 pub over_allowed : (n : ℕ) (prot : Prot) (t : Actors) → is_some (region_with n t.actors) ≡ true → (cache page : ℕ) → locks_over (with_allowed n prot t).actors cache page ≡ locks_over t.actors cache page
@@ -107,10 +123,9 @@ module _ (t : Actors) (n pages : ℕ) where
   right_split sizes c k =
       let e = c.fewer in
       let fewer : pages < c.region.pages = grind (arith, nat_tests) in
-      record {
-        some = k.some;
-        placed = replaced_right sizes n (split_at t.page_bytes pages (t.regions_made + 1)) c.region t c.found (both_placed sizes t.page_bytes pages (t.regions_made + 1) c.region fewer) k;
-      }
+      let by = split_at t.page_bytes pages (t.regions_made + 1) in
+      let r = replaced_right sizes n by c.region t c.found (both_placed sizes t.page_bytes pages (t.regions_made + 1) c.region fewer) (both_aligned t.page_bytes pages (t.regions_made + 1) c.region) k in
+      record { some = r.some; placed = r.placed; aligned = r.aligned }
 
   -- as many locked regions cover each page
   over_split : IsCut t n pages → (cache page : ℕ) → locks_over (with_split t n pages).actors cache page ≡ locks_over t.actors cache page

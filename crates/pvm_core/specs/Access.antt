@@ -1,5 +1,5 @@
 -- The page that an access is at, and what a load finds there.
-use Rattle.std.specs.Prelude.{◌≡◌, ℕ, true, if◌then◌else◌, List, drop, take, Option, Some, None, Result, Ok, IfSome}
+use Rattle.std.specs.Prelude.{◌≡◌, ℕ, true, if◌then◌else◌, List, drop, take, Option, Some, None, option_map, Result, Ok, IfSome}
 use Rattle.vm_ids.specs.Counting.{MapperCounts, RoseBy}
 use Rattle.vm_ids.specs.declared.numbers.FrameId.{FrameId}
 use Rattle.vm_ids.specs.declared.numbers.NodeId.{NodeId}
@@ -17,6 +17,7 @@ use Rattle.fault_path.specs.Faults.{is_at_hand}
 use Rattle.vm_model.specs.Place.{Place, place}
 use Rattle.pvm_core.specs.Manager.{Manager, machine_by, nodes_of}
 use Rattle.pvm_core.specs.Pieces.{bytes_found}
+use Rattle.pvm_core.specs.Translated.{found_for}
 
 -- the place of an access of so many bytes at an address of an actor, which the regions alone tell
 abbrev pub place_of : Manager → ℕ → ℕ → ℕ → Result Place Refusal
@@ -42,12 +43,19 @@ IsFoundIn p o None = own_of p.caches o ≡ Zero
 IsFoundIn p o (Some f) =
     (is_resident (own_of p.caches o) ≡ true) × (node_of p.store.map f.0 ≡ Some o)
 
+-- an access has a translation that leads to this frame
+abbrev pub IsTranslated : Manager → ℕ → ℕ → ℕ → FrameId → Type 0
+IsTranslated p actor address length f =
+    option_map (λ seen. seen.frame) (found_for p.page_bytes p.store.tables actor address length)
+    ≡ Some f
+
 -- What a load gave, from the manager `old` to `new`, while the mapper's counts went from c to d:
 --     place, has     the access is at a place, and the owner had the page there
 --     found          the owner has it in a frame now, or it is zeros
 --     bytes          the bytes are those of that frame, or zeros
 --     pulled         a page was pulled exactly where it was in a slot or on its segment
 --     given          and what the mapper gave then, where it tells that, is what the frame holds
+--     translated     the next access to the page finds it in the frame
 pub record IsLoaded (c d : MapperCounts) (page_given : Option (List ℕ)) (old new : Manager)
     (actor address length : ℕ) (piece : List ℕ) : Type 0 where
   pub at : Place
@@ -60,3 +68,4 @@ pub record IsLoaded (c d : MapperCounts) (page_given : Option (List ℕ)) (old n
   pub pulled : RoseBy (if is_pulled (own_of old.caches owner) then 1 else 0) c.pulls d.pulls
   pub given : is_pulled (own_of old.caches owner) ≡ true
       → IfSome page_given (λ page. bytes_found new.store frame ≡ page)
+  pub translated : IfSome frame (IsTranslated new actor address length)

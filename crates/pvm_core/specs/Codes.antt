@@ -5,6 +5,7 @@ use Rattle.vm_ids.specs.declared.numbers.NodeId.{NodeId}
 use Rattle.frame_pool.specs.Pool.{Frames}
 use Rattle.local_cache.specs.Arena.{Arena}
 use Rattle.local_cache.specs.Codes.{arena_code}
+use Rattle.page_tables.specs.declared.entry.Entry.{Entry}
 use Rattle.residency.specs.declared.store.Store.{Store}
 use Rattle.vm_model.specs.Machine.{Actor, Region}
 use Rattle.pvm_core.specs.Manager.{Manager}
@@ -20,12 +21,31 @@ frames_code = code_by (ℕ × (List Bool × (List Bool × List (List ℕ))))
     (λ t. record { page = t.0; held = t.1.0; pinned = t.1.1.0; bytes = t.1.1.1 })
     (λ _. refl)
 
+abbrev entry_code : Coded Entry
+entry_code = code_by (ℕ × (ℕ × (ℕ × Bool)))
+    (coded× coded_ℕ (coded× coded_ℕ (coded× coded_ℕ coded_bool)))
+    (λ e. (e.actor.0, (e.page, (e.to.frame.0, e.to.writable))))
+    (λ t. record {
+      actor = record { 0 = t.0 };
+      page = t.1.0;
+      to = record { frame = record { 0 = t.1.1.0 }; writable = t.1.1.1 };
+    })
+    (λ _. refl)
+
 abbrev store_code : Coded Store
-store_code = code_by (Frames × (List Bool × (List (Option NodeId) × List Bool)))
+store_code = code_by
+    (Frames × (List Bool × (List (Option NodeId) × (List Bool × List (Option Entry)))))
     (coded× frames_code (coded× (coded_list coded_bool)
-    (coded× (coded_list (coded_option node_code)) (coded_list coded_bool))))
-    (λ s. (s.frames, (s.slots, (s.map, s.marks))))
-    (λ t. record { frames = t.0; slots = t.1.0; map = t.1.1.0; marks = t.1.1.1 })
+    (coded× (coded_list (coded_option node_code)) (coded× (coded_list coded_bool)
+    (coded_list (coded_option entry_code))))))
+    (λ s. (s.frames, (s.slots, (s.map, (s.marks, s.tables)))))
+    (λ t. record {
+      frames = t.0;
+      slots = t.1.0;
+      map = t.1.1.0;
+      marks = t.1.1.1.0;
+      tables = t.1.1.1.1;
+    })
     (λ _. refl)
 
 abbrev region_code : Coded Region

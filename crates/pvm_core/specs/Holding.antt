@@ -21,6 +21,7 @@ use Rattle.residency.specs.World.{IsStoreRight, World, world}
 use Rattle.segment_ops.specs.Pushing.{TellsValues}
 use Rattle.segment_ops.specs.Ranges.{IsPageOf}
 use Rattle.pvm_core.specs.Locks.{has_locked}
+use Rattle.pvm_core.specs.Translated.{KeepsTranslations}
 
 -- The locked pages are in frames, and these are pinned, and no others: `resident`, `pinned` and
 -- `pins` of `AreHeld`, of whatever locks there are.
@@ -76,13 +77,17 @@ abbrev pub IsRight : Arena → Store → Type 0
 IsRight a s = (told : Option Held) × (size : Option ℕ) × IsStoreRight (world told size a s)
 
 -- Locks and pins alone changed: whatever a mapper holds, each page reads as it did, and the page
--- forest stays.
+-- forest stays. So do the nodes, their frames and the translations, which are right still.
 pub record KeepsPages (a b : Arena) (s t : Store) : Type 0 where
   pub alike : (told : Option Held) (size : Option ℕ) (counts : MapperCounts)
       → IsStoreRight (world told size a s)
       → ReadsAlike (world told size a s) (world told size b t) counts counts
   pub forest : (told : Option Held) (size : Option ℕ)
       → store_forest (world told size b t) ≡ store_forest (world told size a s)
+  pub cells : b.cells ≡ a.cells
+  pub map : t.map ≡ s.map
+  pub tables : t.tables ≡ s.tables
+  pub translated : KeepsTranslations a b s t
 
 -- each of these pages that had no own page got the one that it read
 abbrev pub AreOwned : List NodeName → World → World → Type 0

@@ -8,6 +8,7 @@ use Rattle.slot_pool.specs.Slots as swap
 use Rattle.global_map.specs.Pairs.{bound_times, node_of}
 use Rattle.local_cache.specs.Own.{is_resident, is_slot, own_of, own_states}
 use Rattle.pvm_core.specs.Manager.{Manager, forest_of, machine_of}
+use Rattle.pvm_core.specs.Translated.{OnlySeen}
 
 -- no page was copied, and each frame that is held was held before, with the bytes that it has
 pub record CopiesNothing (old new : Manager) : Type 0 where
@@ -22,6 +23,11 @@ pub record HasMoreRoom (old new : Manager) : Type 0 where
     store = record old.store { slots = new.store.slots };
   }
   pub slots : (more : ℕ) × (new.store.slots ≡ old.store.slots ++ replicate more false)
+
+-- the manager is the same but for its translations and for the marks of frames that accesses found
+pub record SameButSeen (old new : Manager) : Type 0 where
+  pub same : new ≡ record old { store = new.store }
+  pub only : OnlySeen old.store new.store
 
 -- No frame and no slot is held twice, and none is lost:
 --     bound    a node is bound to one frame where its page is in a frame, and else to none

@@ -13,3 +13,4 @@ pub mod Holding
 pub mod Reaching
 pub mod Writes
 pub mod Saving
+pub mod Translated

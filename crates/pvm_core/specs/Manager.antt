@@ -23,6 +23,7 @@ use Rattle.vm_model.specs.declared.limits.TheConstants.{LIVE_PAGES}
 use Rattle.contexts.specs.Actors.{Actors}
 use Rattle.pvm_core.specs.Locks.{AreHeld}
 use Rattle.pvm_core.specs.Placed.{AreRight}
+use Rattle.pvm_core.specs.Translated.{AreTranslationsRight}
 
 -- the caches with their page nodes, the store of frames and slots, the size of a page, and the actors with their regions
 pub record Manager : Type 0 where
@@ -122,6 +123,11 @@ pub record IsSound (a : Arena) (s : Store) (t : Actors) (live : ℕ) : Type 0 wh
   pub locked : AreHeld a s t.actors
   pub actors : AreRight (size_of a) t
   pub page : t.page_bytes ≡ s.frames.page
+
+-- the same, and each translation is right
+pub record IsKept (a : Arena) (s : Store) (t : Actors) (live : ℕ) : Type 0 where
+  pub sound : IsSound a s t live
+  pub translated : AreTranslationsRight a s t
 
 -- What each call needs and keeps beside, which speaks of what the mapper holds:
 --     right    the store is right

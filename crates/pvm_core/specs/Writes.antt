@@ -1,5 +1,5 @@
 -- How pages of caches that segments name come to be written.
-use Rattle.std.specs.Prelude.{◌≡◌, ℕ, Option}
+use Rattle.std.specs.Prelude.{◌≡◌, ℕ, true, Option}
 use Rattle.vm_ids.specs.Held.{Held}
 use Rattle.vm_ids.specs.declared.command.Extent.{Extent}
 use Rattle.vm_ids.specs.declared.numbers.SegId.{SegId}
@@ -8,18 +8,20 @@ use Rattle.vm_ids.specs.declared.reply.FaultAt.TheVariants.{Access}
 use Rattle.vm_ids.specs.declared.reply.Trouble.{Trouble}
 use Rattle.vm_ids.specs.declared.reply.Trouble.TheVariants.{Mapper, Refused}
 use Rattle.vm_ids.specs.Forest.Commands.{page_name}
-use Rattle.local_cache.specs.Arena.{Arena, locks_of}
+use Rattle.local_cache.specs.Arena.{Arena, is_granted, locks_of}
 use Rattle.local_cache.specs.Reading.{forest_of}
 use Rattle.local_cache.specs.Whole.{IsWhole, SameCaches}
 use Rattle.page_release.specs.Homes.{IsWritable}
 use Rattle.segment_ops.specs.Access.{IsAskedFor, OneDenied}
 use Rattle.segment_ops.specs.Ranges.{IsNamedBy, IsPageOf}
 
--- grants alone changed: the nodes stay, and so do the sizes and segments of the caches, the locks,
--- the counters and the room
+-- grants alone changed, and none went: the nodes stay, and so do the sizes and segments of the
+-- caches, the locks, the counters and the room
 pub record KeepsNodes (old new : Arena) : Type 0 where
   pub same : SameCaches old new
   pub cells : new.cells ≡ old.cells
+  pub grants : (cache page : ℕ) → is_granted old cache page ≡ true
+      → is_granted new cache page ≡ true
   pub locks : (cache page : ℕ) → locks_of new cache page ≡ locks_of old cache page
   pub nodes : forest_of new ≡ forest_of old
   pub whole : IsWhole new

@@ -1,5 +1,5 @@
 // The manager.
-ghost use Rattle.std.specs.Prelude.{◌≡◌, ◌≢◌, ℕ, ◌+◌, ◌≤◌, ◌^◌, false, min, Option, length, Ok, Err, IfOk, IsOk, OnErr, OnOk};
+ghost use Rattle.std.specs.Prelude.{◌≡◌, ◌≢◌, ℕ, ◌+◌, ◌≤◌, ◌^◌, false, min, Option, length, Ok, Err, IfOk, IsOk, IsSome, OnErr, OnOk};
 ghost use Rattle.vm_ids.specs.Held.{Held};
 ghost use Rattle.vm_ids.specs.Forest.Laws.Settling.{IsSettled};
 ghost use Rattle.vm_ids.specs.Forest.Nodes.{no_forest};
@@ -11,20 +11,23 @@ ghost use Rattle.vm_model.specs.Answering.{answer_by};
 ghost use Rattle.vm_model.specs.Machine.{start};
 ghost use Rattle.gmi_calls.specs.Calling.{Answers, Calls, Fits, Numbers, RaisesMade, StaysValid, done_by};
 ghost use Rattle.pvm_core.specs.Access.{IsAtHand, IsLoaded};
-ghost use Rattle.pvm_core.specs.Keeping.{CopiesNothing, HasFewWorking, HasMoreRoom, HoldsEachOnce};
+ghost use Rattle.pvm_core.specs.Keeping.{CopiesNothing, HasFewWorking, HasMoreRoom, HoldsEachOnce, SameButSeen};
 ghost use Rattle.pvm_core.specs.Saving.{CopiesSaved, NeedsNothing, RefusedOf, all_of, is_named};
 ghost use Rattle.pvm_core.specs.Spans.{replaced};
+ghost use Rattle.pvm_core.specs.Translated.{found_for, frame_to_write};
 ghost use Rattle.pvm_core.specs.Manager.{IsValid, forest_of, machine_of, nodes_of, numbered, state_at};
 
 use crate::nodes::{node_of, reserve};
-use crate::pieces::{fault_of, part_of, write_frame};
+use crate::pieces::{fault_of, part_of, write_found, write_frame};
 use crate::spans::{copy_refusal, destination, move_refusal};
+use crate::translations::{byte_at, remember, remember_found, translated, translated_for_writing};
 use crate::writes::grant_range;
 use contexts::Contexts;
 use fault_path::{read_fault, write_fault};
 use history_tree::chain;
 use local_cache::Caches;
 use page_release::{copy_pages, destroy_pages, move_pages};
+use page_tables::Translation;
 use residency::Store;
 use std::alloc::Global;
 use std::marker::Model;
@@ -47,7 +50,7 @@ pub struct Pvm {
 }
 
 impl Model for Pvm {
-    ghost use Rattle.pvm_core.specs.Manager.{Manager, IsSound};
+    ghost use Rattle.pvm_core.specs.Manager.{IsKept, Manager};
     ghost use Rattle.pvm_core.specs.Codes.{manager_code};
 
     ghost Value = { Manager };
@@ -62,7 +65,7 @@ impl Model for Pvm {
       regions_made = p.contexts.regions_made;
     } };
 
-    ghost invariant = { λ p. IsSound p.caches p.store p.contexts p.live };
+    ghost invariant = { λ p. IsKept p.caches p.store p.contexts p.live };
 }
 
 impl Pvm {
@@ -265,14 +268,22 @@ impl Pvm {
             → (self.new ≡ self.old) × (mapper.new ≡ mapper.old) }
         // No page is pulled or pushed where the page is in a frame, or is zeros.
         ensures idle { IsAtHand self.old actor.0 address bytes
-            → IsOk result × (self.new ≡ self.old) × (mapper.new ≡ mapper.old) }
+            → IsOk result × SameButSeen self.old self.new × (mapper.new ≡ mapper.old) }
         ensures loaded { IfOk result (IsLoaded (M.counts mapper.old) (M.counts mapper.new)
             (M.given mapper.new) self.old self.new actor.0 address bytes) }
     {
+        if let Some(seen) = translated(&self.store, &self.contexts, actor, address, bytes) {
+            let byte = byte_at(&self.contexts, address);
+            self.store.touch(seen.frame);
+            return Ok(part_of(&self.store, Some(seen.frame), byte, bytes));
+        }
         let place = self.contexts.locate(actor, address, bytes)?;
         let node = node_of(&self.caches, place.cache, place.page);
         match read_fault(&mut self.store, &mut self.caches, node, mapper, chooser) {
-            Ok(found) => Ok(part_of(&self.store, found, place.at, bytes)),
+            Ok(found) => {
+                remember_found(&mut self.store, &self.contexts, actor, address, found);
+                Ok(part_of(&self.store, found, place.at, bytes))
+            }
             Err(miss) => Err(Trouble::Mapper(fault_of(miss, place.page))),
         }
     }
@@ -302,9 +313,23 @@ impl Pvm {
         ensures refused { (r : Refusal) → result ≡ Err (Trouble.Refused r)
             → (self.new ≡ self.old) × Traffic 0 0 (M.counts mapper.old) (M.counts mapper.new)
             × (r ≢ Refusal.WriteDenied → mapper.new ≡ mapper.old) }
+        ensures translated { OnOk result (IsSome (frame_to_write (found_for self.new.page_bytes
+            self.new.store.tables actor.0 address (length piece.now)))) }
     {
         let bytes = piece.as_slice();
-        let place = self.contexts.locate(actor, address, bytes.len() as u8)?;
+        let length = bytes.len() as u8;
+        if let Some(frame) = translated_for_writing(
+            &self.store,
+            &self.contexts,
+            actor,
+            address,
+            length,
+        ) {
+            let byte = byte_at(&self.contexts, address);
+            write_found(&mut self.store, &mut self.caches, frame, byte, bytes);
+            return Ok(());
+        }
+        let place = self.contexts.locate(actor, address, length)?;
         if !place.prot.write {
             return Err(Trouble::Refused(Refusal::Protection));
         }
@@ -318,6 +343,11 @@ impl Pvm {
         match write_fault(&mut self.store, &mut self.caches, node, mapper, chooser) {
             Ok(frame) => {
                 write_frame(&mut self.store, frame, place.at, bytes);
+                let to = Translation {
+                    frame,
+                    writable: true,
+                };
+                remember(&mut self.store, &self.contexts, actor, address, to);
                 Ok(())
             }
             Err(miss) => Err(Trouble::Mapper(fault_of(miss, place.page))),

@@ -39,7 +39,7 @@ module _ (g : Option Held) (j : Option ℕ) (a b : Arena) (s : Store) (t : Actor
   given_in last None f holds slot = absurd (let e : is_pulled (own_of a o) ≡ false = ap is_pulled (zero_is (own_of a o) f.zero) in let k : true ≡ false = sym slot ∙ e in cc k)
   given_in last (Some n) f holds slot = holds.given slot
 
-no_rise : (n : ℕ) → RoseBy 0 n n
+pub no_rise : (n : ℕ) → RoseBy 0 n n
 no_rise n = λ low. omega arith
 
 -- a page was pulled exactly where it was in a slot or on its segment

@@ -1,5 +1,5 @@
 -- What a load answers.
-use Rattle.std.proofs.Common.{◌≡◌, ℕ, zero, suc, ◌+◌, ◌<◌, ◌≤◌, List, [], ◌∷◌, length, take, drop, get_or, Option, Some, None, refl, sym, ap, ◌∙◌, subst, arith}
+use Rattle.std.proofs.Common.{◌≡◌, ℕ, zero, suc, ◌+◌, ◌*◌, ◌<◌, ◌≤◌, List, [], ◌∷◌, length, take, drop, get_or, Option, Some, None, refl, sym, ap, ◌∙◌, subst, arith}
 use Rattle.std.proofs.lemmas.List.Sums.{sum_by-cons}
 use Rattle.std.specs.Prelude.{Result, Ok, Err, IfSome, IsOkAnd, IsSome, is_some, sum_by, option_map, option_and_then, slice_get, unwrap_or}
 use Rattle.std.specs.Option.{option_map_or}
@@ -16,6 +16,7 @@ use Rattle.vm_ids.specs.declared.refusal.Refusal.{Refusal}
 use Rattle.vm_ids.specs.declared.reply.Reply.TheVariants as replies
 use Rattle.vm_ids.specs.declared.reply.Trouble.TheVariants as troubles
 use Rattle.vm_ids.specs.Forest.Commands.{page_name}
+use Rattle.vm_ids.specs.Forest.Shape.{IsWellShaped}
 use Rattle.vm_ids.specs.Forest.Reading.{owner_of, value_of}
 use Rattle.vm_ids.specs.declared.node_name.NodeName.{NodeName}
 use Rattle.vm_ids.specs.declared.numbers.NodeId.{NodeId}
@@ -35,6 +36,7 @@ use Rattle.residency.specs.declared.store.Store.{Store}
 use Rattle.residency.specs.Causes.{HasMissCause, Later}
 use Rattle.residency.specs.World.{world}
 use Rattle.fault_path.specs.Faults.{found_page}
+use Rattle.local_cache.specs.Sound.{IsSound}
 use Rattle.local_cache.specs.Whole.{IsWhole, size_of}
 use Rattle.vm_model.specs.Answering.{Answer, bytes_at, load_of, page_at, refuse, reply, with_ok}
 use Rattle.vm_model.specs.Asking.{ReachesMapper}
@@ -150,14 +152,17 @@ own_node f y some = go (get f.nodes y) refl some
     go (Some k) e s = ap is_some e
 
 -- each node has an owner
-pub owner_there : (a : Arena) → IsWhole a → (n : NodeId) → HasNode a n → (o : NodeId) × IsOwner a n o
-owner_there a w n held =
+pub owner_held : (a : Arena) → IsSound a → IsWellShaped (arena.forest_of a) → (n : NodeId) → HasNode a n → (o : NodeId) × IsOwner a n o
+owner_held a sound shaped n held =
     let f = arena.forest_of a in
     let x = name_of a n in
-    let is = IsNode-forest_of a w.sound.kept.named n held in
-    let some = subst IsSome (sym (owners_own_values f w.consistent.shaped x is)) ((nodes_have_values f w.consistent.shaped x).0 is) in
+    let is = IsNode-forest_of a sound.kept.named n held in
+    let some = subst IsSome (sym (owners_own_values f shaped x is)) ((nodes_have_values f shaped x).0 is) in
     let at = forest_of-IsNode a (owner_of f x) (own_node f (owner_of f x) some) in
     (at.0, record { held = at.1; name = at.2 })
+
+pub owner_there : (a : Arena) → IsWhole a → (n : NodeId) → HasNode a n → (o : NodeId) × IsOwner a n o
+owner_there a w = owner_held a w.sound w.consistent.shaped
 
 -- a cache has no more pages than there are live ones
 le_sum : (ts : List (Option Table)) (k : ℕ) (t : Table) → get_or ts k None ≡ Some t → length t.pages ≤ sum_by page_count ts
@@ -175,3 +180,8 @@ size_le a n count e = let t = sized_table (table_of a n) count e in omega (arith
 pub found_within : (found : Option FrameId) (P : FrameId → Type 0) (m n : ℕ) → m ≡ n → IfSome found (λ f. (f.0 < m) × P f) → IfSome found (λ f. f.0 < n)
 found_within None P m n e h = tt
 found_within (Some f) P m n e h = omega (arith, h.0, e)
+
+-- there are four places for translations for each frame
+pub found_place : (found : Option FrameId) (P : FrameId → Type 0) (m n places : ℕ) → m ≡ n → places ≡ 4 * n → IfSome found (λ f. (f.0 < m) × P f) → IfSome found (λ f. 4 * f.0 + 4 ≤ places)
+found_place None P m n places e many h = tt
+found_place (Some f) P m n places e many h = omega (arith, h.0, e, many)

@@ -119,6 +119,7 @@ unsized_right h i a s r = record {
       bytes_frames = r.tied.fitted.bytes_frames;
       pinned_frames = r.tied.fitted.pinned_frames;
       marks_frames = r.tied.fitted.marks_frames;
+      places_frames = r.tied.fitted.places_frames;
       few = r.tied.fitted.few;
       page = tt;
     };
@@ -143,6 +144,7 @@ sized_right h i a s fits r = record {
       bytes_frames = r.tied.fitted.bytes_frames;
       pinned_frames = r.tied.fitted.pinned_frames;
       marks_frames = r.tied.fitted.marks_frames;
+      places_frames = r.tied.fitted.places_frames;
       few = r.tied.fitted.few;
       page = fits;
     };

@@ -30,7 +30,7 @@ use Rattle.regions.specs.declared.region.Place as regions
 use Rattle.contexts.specs.Actors.{Actors, is_full, next_region, with_region}
 use Rattle.contexts.proofs.Owners.{all_insert}
 use Rattle.pvm_core.specs.Maps.{map_refusal}
-use Rattle.pvm_core.specs.Placed.{ArePlaced, AreRight, IsPlaced}
+use Rattle.pvm_core.specs.Placed.{ArePlaced, AreRight, EachRegion, IsAligned, IsPlaced}
 
 -- a cache with so many pages
 pub sized : (o : Option model.Cache) (n : ℕ) → option_map (λ (c : model.Cache). length c.pages) o ≡ Some n → (c : model.Cache) × (o ≡ Some c) × (length c.pages ≡ n)
@@ -129,52 +129,71 @@ module _ (t : Actors) (p : Mapping) where
             → map_of (machine_with caches frames t) actor p ≡ reply (replies.Region (record { 0 = t.regions_made + 1 })) (machine_with caches frames (with_region t actor p))
         row c rs here there aligned low inside apart few = rw (here, there, aligned, low, inside, apart, few) refl
 
-  -- its region lies in the cache
-  pub next_placed : (sizes : ℕ → Option ℕ) (o : Option model.Actor) (q : Option ℕ) → sizes p.extent.cache.0 ≡ q → IsMappable t o q p → IsPlaced sizes (next_region t p)
-  next_placed sizes o q size k = record {
-    count = k.count;
-    there = size ∙ k.there;
-    within = (let inside = k.inside in grind (arith, nat_tests));
-  }
+  -- its region lies in the cache, and is of whole pages
+  pub next_placed : (sizes : ℕ → Option ℕ) (o : Option model.Actor) (q : Option ℕ) → sizes p.extent.cache.0 ≡ q → IsMappable t o q p → IsPlaced sizes (next_region t p) × IsAligned t.page_bytes (next_region t p)
+  next_placed sizes o q size k = (
+    record {
+      count = k.count;
+      there = size ∙ k.there;
+      within = (let inside = k.inside in grind (arith, nat_tests));
+    },
+    (let e = k.aligned in grind (arith, nat_tests)),
+  )
 
 -- Where regions lie -------------------------------------------------------------------------
 
-module _ (sizes : ℕ → Option ℕ) where
+module _ (P : model.Region → Type 0) where
   -- those of an actor
-  pub placed_at : (xs : List (Option model.Actor)) (n : ℕ) → All (ArePlaced sizes) xs → ArePlaced sizes (numbered xs n)
-  placed_at xs n h = go (numbered xs n) refl
+  pub each_at : (xs : List (Option model.Actor)) (n : ℕ) → All (EachRegion P) xs → EachRegion P (numbered xs n)
+  each_at xs n h = go (numbered xs n) refl
     where
-      go : (o : Option model.Actor) → numbered xs n ≡ o → ArePlaced sizes o
+      go : (o : Option model.Actor) → numbered xs n ≡ o → EachRegion P o
       go None e = tt
-      go (Some rs) e = numbered-all (ArePlaced sizes) xs n rs e h
+      go (Some rs) e = numbered-all (EachRegion P) xs n rs e h
 
-  pub right_mapped : (t : Actors) (actor : ℕ) (p : Mapping) → IsPlaced sizes (next_region t p) → AreRight sizes t → AreRight sizes (with_region t actor p)
+  each_put : (r : model.Region) → P r → (o : Option model.Actor) → EachRegion P o → EachRegion P (option_map (insert_region r) o)
+  each_put r p None h = tt
+  each_put r p (Some rs) h = all_insert P r rs p h
+
+  each_more : (xs : List (Option model.Actor)) → All (EachRegion P) xs → All (EachRegion P) (xs ++ Some [] ∷ [])
+  each_more xs h = All-append (EachRegion P) xs (Some [] ∷ []) h (All-cons (EachRegion P) (Some []) [] (All-nil P) (All-nil (EachRegion P)))
+
+  each_without : (n : ℕ) (xs : List (Option model.Actor)) → All (EachRegion P) xs → All (EachRegion P) (map (option_map (without_region n)) xs)
+  each_without n [] h = All-nil (EachRegion P)
+  each_without n (x ∷ xs) h =
+      All-cons (EachRegion P) (option_map (without_region n) x) (map (option_map (without_region n)) xs) (one x (All-head (EachRegion P) x xs h)) (each_without n xs (All-tail (EachRegion P) x xs h))
+    where
+      one : (o : Option model.Actor) → EachRegion P o → EachRegion P (option_map (without_region n) o)
+      one None h = tt
+      one (Some rs) h = All-filter (λ (r : model.Region). not (r.number == n)) P rs h
+
+module _ (sizes : ℕ → Option ℕ) where
+  pub placed_at : (xs : List (Option model.Actor)) (n : ℕ) → All (ArePlaced sizes) xs → ArePlaced sizes (numbered xs n)
+  placed_at = each_at (IsPlaced sizes)
+
+  pub right_mapped : (t : Actors) (actor : ℕ) (p : Mapping) → IsPlaced sizes (next_region t p) × IsAligned t.page_bytes (next_region t p) → AreRight sizes t → AreRight sizes (with_region t actor p)
   right_mapped t actor p r k = record {
     some = k.some;
-    placed = All-set (ArePlaced sizes) t.actors (actor - 1) (option_map (insert_region (next_region t p)) (numbered t.actors actor)) (put (numbered t.actors actor) (placed_at t.actors actor k.placed)) k.placed;
+    placed = put (IsPlaced sizes) r.0 k.placed;
+    aligned = put (IsAligned t.page_bytes) r.1 k.aligned;
   }
     where
-      put : (o : Option model.Actor) → ArePlaced sizes o → ArePlaced sizes (option_map (insert_region (next_region t p)) o)
-      put None h = tt
-      put (Some rs) h = all_insert (IsPlaced sizes) (next_region t p) rs r h
+      put : (P : model.Region → Type 0) → P (next_region t p) → All (EachRegion P) t.actors → All (EachRegion P) (with_region t actor p).actors
+      put P r h = All-set (EachRegion P) t.actors (actor - 1) (option_map (insert_region (next_region t p)) (numbered t.actors actor)) (each_put P (next_region t p) r (numbered t.actors actor) (each_at P t.actors actor h)) h
 
   pub right_made : (t : Actors) → AreRight sizes t → AreRight sizes (record t { actors = t.actors ++ Some [] ∷ [] })
   right_made t k = record {
     some = k.some;
-    placed = All-append (ArePlaced sizes) t.actors (Some [] ∷ []) k.placed (All-cons (ArePlaced sizes) (Some []) [] (All-nil (IsPlaced sizes)) (All-nil (ArePlaced sizes)));
+    placed = each_more (IsPlaced sizes) t.actors k.placed;
+    aligned = each_more (IsAligned t.page_bytes) t.actors k.aligned;
   }
 
-  placed_without : (n : ℕ) (xs : List (Option model.Actor)) → All (ArePlaced sizes) xs → All (ArePlaced sizes) (map (option_map (without_region n)) xs)
-  placed_without n [] h = All-nil (ArePlaced sizes)
-  placed_without n (x ∷ xs) h =
-      All-cons (ArePlaced sizes) (option_map (without_region n) x) (map (option_map (without_region n)) xs) (one x (All-head (ArePlaced sizes) x xs h)) (placed_without n xs (All-tail (ArePlaced sizes) x xs h))
-    where
-      one : (o : Option model.Actor) → ArePlaced sizes o → ArePlaced sizes (option_map (without_region n) o)
-      one None h = tt
-      one (Some rs) h = All-filter (λ (r : model.Region). not (r.number == n)) (IsPlaced sizes) rs h
-
   pub right_without : (n : ℕ) (t : Actors) → AreRight sizes t → AreRight sizes (record t { actors = map (option_map (without_region n)) t.actors })
-  right_without n t k = record { some = k.some; placed = placed_without n t.actors k.placed }
+  right_without n t k = record {
+    some = k.some;
+    placed = each_without (IsPlaced sizes) n t.actors k.placed;
+    aligned = each_without (IsAligned t.page_bytes) n t.actors k.aligned;
+  }
 
 -- A region that goes --------------------------------------------------------------------------
 
@@ -259,7 +278,7 @@ pub refused_at : (x : Result Place Refusal) (r : Refusal) → Err r ≡ place_to
 refused_at (Ok p) r e = absurd (cc e)
 refused_at (Err s) r e = (let same : r ≡ s = cc e in ap (λ (q : Refusal). Err q) same)
 
-held_in : (b address : ℕ) (r : model.Region) → holds b address r ≡ true → (r.start ≤ address) × (address < r.start + b * r.pages)
+pub held_in : (b address : ℕ) (r : model.Region) → holds b address r ≡ true → (r.start ≤ address) × (address < r.start + b * r.pages)
 held_in b address r e = go (nat_le r.start address) (nat_lt address (r.start + b * r.pages)) refl refl e
   where
     go : (c d : Bool) → nat_le r.start address ≡ c → nat_lt address (r.start + b * r.pages) ≡ d → (c && d) ≡ true → (r.start ≤ address) × (address < r.start + b * r.pages)

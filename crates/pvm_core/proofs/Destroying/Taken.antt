@@ -87,7 +87,7 @@ module _ (a b d : Arena) (s u : Store) (t : Actors) (live : ℕ) (cache : CacheI
     few = omega (arith, i.few);
     loose = subst (λ (ps : List Bool). count_by (λ p. p) ps + 3 ≤ length ps) (sym gives.pins) i.loose;
     locked = held_gone b d u t.actors cache is free listed whole.sound.kept.listed held;
-    actors = record { some = i.actors.some; placed = placed_actors cache.0 (size_of a) (size_of d) others t.actors free i.actors.placed };
+    actors = record { some = i.actors.some; placed = placed_actors cache.0 (size_of a) (size_of d) others t.actors free i.actors.placed; aligned = i.actors.aligned };
     page = i.page ∙ sym gives.page;
   }
 

@@ -31,6 +31,8 @@ use Rattle.residency.proofs.Worlds.Telling.{tells}
 use Rattle.fault_path.proofs.Calls.Kept.{store_bare, store_page}
 use Rattle.pvm_core.specs.Holding.{KeepsPages}
 use Rattle.pvm_core.proofs.Locking.Alike.{alike_still}
+use Rattle.pvm_core.proofs.Translating.Cells.{cells_right}
+use Rattle.pvm_core.proofs.Translating.Writable.{granted_writable}
 
 -- A page has other locks ----------------------------------------------------------------------
 
@@ -130,6 +132,7 @@ module _ (w : World) (pins : List Bool) (long : length pins ≡ length w.frames.
         bytes_frames = right.tied.fitted.bytes_frames;
         pinned_frames = long ∙ right.tied.fitted.pinned_frames;
         marks_frames = right.tied.fitted.marks_frames;
+        places_frames = right.tied.fitted.places_frames;
         few = right.tied.fitted.few;
         page = right.tied.fitted.page;
       };
@@ -174,4 +177,9 @@ module _ (a b : Arena) (s t : Store) (cache page count : ℕ) (is : b ≡ with_l
         (sizes_locked a b cache page count is) (λ n. ap (λ (x : Arena). is_some (find x n)) is) (relocked_names (before told size) b cache page count is) (changed_forest told size)
         (ap (λ (x : Arena). x.made) is) (ap (λ (u : Store). length u.frames.held) re.is) (ap (λ (u : Store). u.frames.page) re.is) refl (ap (λ (u : Store). length u.slots) re.is) refl;
     forest = changed_forest;
+    cells = ap (λ (x : Arena). x.cells) is;
+    map = ap (λ (u : Store). u.map) re.is;
+    tables = ap (λ (u : Store). u.tables) re.is;
+    translated = cells_right a b (ap (λ (x : Arena). x.cells) is) (ap (λ (x : Arena). x.made) is) (ap (λ (x : Arena). x.copies) is) s t (ap (λ (u : Store). u.tables) re.is) (ap (λ (u : Store). u.map) re.is)
+        (granted_writable a b (sizes_locked a b cache page count is) (λ c p e. locked_grants a b cache page count is c p ∙ e));
   }

@@ -15,15 +15,15 @@ use Rattle.vm_model.specs.Regions.{mapping_of, region_among, region_with, replac
 use Rattle.vm_model.specs.PageForest.{PageForest}
 use Rattle.vm_model.specs.declared.limits.TheConstants.{UNLOCKED_FRAMES}
 use Rattle.contexts.specs.Actors.{Actors}
-use Rattle.contexts.proofs.Replaced.{all_replaced, all_replaced_in}
 use Rattle.pvm_core.specs.Holding.{LocksMore, covers, unlocked_in}
 use Rattle.pvm_core.specs.Locks.{locks_over}
 use Rattle.pvm_core.specs.Manager.{caches_shown}
-use Rattle.pvm_core.specs.Placed.{ArePlaced, AreRight, IsPlaced}
+use Rattle.pvm_core.specs.Placed.{ArePlaced, AreRight, IsAligned, IsPlaced}
 use Rattle.pvm_core.proofs.Answering.Listed.{machine_with}
 use Rattle.pvm_core.proofs.Locking.Counted.{count_at, pages_counted}
 use Rattle.pvm_core.proofs.Locking.Covered.{as_locked, over_out, replaced_over}
 use Rattle.pvm_core.proofs.Locking.Totals.{locked_more}
+use Rattle.pvm_core.proofs.RegionRows.{replaced_right}
 use Rattle.pvm_core.proofs.Meaning.Shown.{shown_made, shown_size}
 
 -- Tables with other locks ---------------------------------------------------------------------
@@ -103,12 +103,10 @@ abbrev pub with_locked : ℕ → Bool → Actors → Actors
 with_locked n b t = record t { actors = replace_in n (with_lock b) t.actors }
 
 pub right_with_locked : (sizes : ℕ → Option ℕ) (n : ℕ) (b : Bool) (r : Region) (t : Actors) → region_with n t.actors ≡ Some r → AreRight sizes t → AreRight sizes (with_locked n b t)
-right_with_locked sizes n b r t found k = record {
-  some = k.some;
-  placed = all_replaced_in (ArePlaced sizes) n (with_lock b) r t.actors found
-      (λ (rs : model.Actor) (here : region_among n rs ≡ Some r) (h : All (IsPlaced sizes) rs). all_replaced (IsPlaced sizes) n (with_lock b) r rs here
-      (λ p. All-cons (IsPlaced sizes) (as_locked b r) [] (record { count = p.count; there = p.there; within = p.within }) (All-nil (IsPlaced sizes))) h) k.placed;
-}
+right_with_locked sizes n b r t found k =
+    replaced_right sizes n (with_lock b) r t found
+    (λ p. All-cons (IsPlaced sizes) (as_locked b r) [] (record { count = p.count; there = p.there; within = p.within }) (All-nil (IsPlaced sizes)))
+    (λ p. All-cons (IsAligned t.page_bytes) (as_locked b r) [] p (All-nil (IsAligned t.page_bytes))) k
 
 -- what a region covers
 abbrev pub pages_of : Region → Extent

@@ -197,4 +197,8 @@ keeps_then a b d s t u one two = record {
       let first = one.alike told size counts right in
       alike_then (world told size a s) (world told size b t) (world told size d u) counts counts counts first (two.alike told size counts first.right);
   forest = λ told size. two.forest told size ∙ one.forest told size;
+  cells = two.cells ∙ one.cells;
+  map = two.map ∙ one.map;
+  tables = two.tables ∙ one.tables;
+  translated = λ u right. two.translated u (one.translated u right);
 }

@@ -1,5 +1,5 @@
 -- A manager without caches.
-use Rattle.std.proofs.Common.{◌≡◌, ℕ, zero, suc, ◌≤◌, ◌^◌, ◌+◌, List, [], length, Option, Some, None, is_some, option_map, unwrap_or, refl, sym, ap, ◌∙◌, subst, arith, replicate, true, false}
+use Rattle.std.proofs.Common.{◌≡◌, ℕ, zero, suc, ◌≤◌, ◌^◌, ◌+◌, ◌*◌, List, [], length, Option, Some, None, is_some, option_map, unwrap_or, refl, sym, ap, ◌∙◌, subst, arith, replicate, true, false}
 use Rattle.std.specs.Prelude.{IfSome, count_by, option_and_then, slice_get, sum_by}
 use Rattle.std.specs.List.{All, slice_index_or}
 use Rattle.std.proofs.lemmas.Bool.{false≢true}
@@ -28,7 +28,7 @@ use Rattle.local_cache.proofs.Whole.Pages.{no_caches, no_nodes}
 use Rattle.vm_model.specs.Outcome.{IsWhole}
 use Rattle.contexts.specs.Actors.{Actors}
 use Rattle.pvm_core.specs.Locks.{has_locked, locks_over}
-use Rattle.pvm_core.specs.Placed.{ArePlaced}
+use Rattle.pvm_core.specs.Placed.{ArePlaced, EachRegion, IsAligned}
 use Rattle.vm_ids.specs.declared.numbers.SegId.{SegId}
 use Rattle.pvm_core.specs.Manager as manager
 use Rattle.pvm_core.specs.Manager.{caches_shown}
@@ -62,7 +62,7 @@ pub none_sized : (a : Arena) (h : Option Held) → a.caches ≡ [] → manager.A
 none_sized a h tables cache segment is = absurd (none_named a.caches tables cache segment is)
 
 pub none_sound : (frames page : ℕ) (a : Arena) (s : Store) (t : Actors) → 3 ≤ frames → 1 ≤ page → page ≤ 2 ^ 16 → HasNoNodes a → a.caches ≡ [] → forest_of a ≡ no_forest → IsSound a
-    → s ≡ record { frames = record { page = page; held = replicate frames false; pinned = replicate frames false; bytes = replicate frames (replicate page 0) }; slots = []; map = replicate frames None; marks = replicate frames false }
+    → s ≡ record { frames = record { page = page; held = replicate frames false; pinned = replicate frames false; bytes = replicate frames (replicate page 0) }; slots = []; map = replicate frames None; marks = replicate frames false; tables = replicate (4 * frames) None }
     → t.page_bytes ≡ page → t.actors ≡ [] → manager.IsSound a s t 0
 none_sound frames page a s t three some most none tables forest sound is size items = record {
   nodes = record {
@@ -87,6 +87,7 @@ none_sound frames page a s t three some most none tables forest sound is size it
   actors = record {
     some = subst (λ (n : ℕ). 1 ≤ n) (sym size) some;
     placed = All-same (ArePlaced (size_of a)) t.actors [] items (All-nil (ArePlaced (size_of a)));
+    aligned = All-same (EachRegion (IsAligned t.page_bytes)) t.actors [] items (All-nil (EachRegion (IsAligned t.page_bytes)));
   };
   page = size ∙ sym (ap (λ (s : Store). s.frames.page) is);
 }

@@ -129,7 +129,7 @@ actor_more f g up None p = tt
 actor_more f g up (Some rs) p = All-weaker (IsPlaced f) (IsPlaced g) (placed_more f g up) rs p
 
 pub right_with : (f g : ℕ → Option ℕ) → ((n k : ℕ) → f n ≡ Some k → g n ≡ Some k) → (t : Actors) → AreRight f t → AreRight g t
-right_with f g up t r = record { some = r.some; placed = All-weaker (ArePlaced f) (ArePlaced g) (actor_more f g up) t.actors r.placed }
+right_with f g up t r = record { some = r.some; placed = All-weaker (ArePlaced f) (ArePlaced g) (actor_more f g up) t.actors r.placed; aligned = r.aligned }
 
 size : Option Table → Option ℕ
 size o = option_map (λ (t : Table). length t.pages) o

@@ -42,11 +42,11 @@ bare_with : {P : Type 0} (v : NodeName → P) (xs : List NodeName) → map (λ e
 bare_with v [] = refl
 bare_with v (x ∷ xs) = ap (λ es. (x, tt) ∷ es) (bare_with v xs)
 
-bare_make : {P : Type 0} (v : NodeName → P) (xs : List NodeName) (f : Forest P) → bare (make (with_pages v xs) f) ≡ make (with_pages (λ _. tt) xs) (bare f)
+pub bare_make : {P : Type 0} (v : NodeName → P) (xs : List NodeName) (f : Forest P) → bare (make (with_pages v xs) f) ≡ make (with_pages (λ _. tt) xs) (bare f)
 bare_make v xs f = make-map no_page (with_pages v xs) f ∙ ap (λ es. make es (bare f)) (bare_with v xs)
 
 module _ {P : Type 0} (v : NodeName → P) (f : Forest P) where
-  make_here : (xs : List NodeName) (x : NodeName) → x ∈ xs → (node (make (with_pages v xs) f) x).own ≡ Some (v x)
+  pub make_here : (xs : List NodeName) (x : NodeName) → x ∈ xs → (node (make (with_pages v xs) f) x).own ≡ Some (v x)
   make_here [] x i = absurd i
   make_here (y ∷ ys) x i = at (name_cases x y) i (make_here ys x)
     where
@@ -55,11 +55,11 @@ module _ {P : Type 0} (v : NodeName → P) (f : Forest P) where
       at (inr d) (inl e) rest = absurd (d e)
       at (inr d) (inr i) rest = ap (λ k. k.own) (node-put_other (make (with_pages v ys) f) y x (childless (Some (v y)) Root) d) ∙ rest i
 
-  make_other : (xs : List NodeName) (x : NodeName) → (x ∈ xs → ⊥) → node (make (with_pages v xs) f) x ≡ node f x
+  pub make_other : (xs : List NodeName) (x : NodeName) → (x ∈ xs → ⊥) → node (make (with_pages v xs) f) x ≡ node f x
   make_other [] x out = refl
   make_other (y ∷ ys) x out = node-put_other (make (with_pages v ys) f) y x (childless (Some (v y)) Root) (λ e. out (inl e)) ∙ make_other ys x (λ i. out (inr i))
 
-  make_cases : (xs : List NodeName) (x : NodeName) → IsNode (make (with_pages v xs) f) x → (x ∈ xs) ⊎ IsNode f x
+  pub make_cases : (xs : List NodeName) (x : NodeName) → IsNode (make (with_pages v xs) f) x → (x ∈ xs) ⊎ IsNode f x
   make_cases [] x is = inr is
   make_cases (y ∷ ys) x is = elim (IsNode-put_cases (make (with_pages v ys) f) y x (childless (Some (v y)) Root) is) [
     | inl e ↦ inl (inl e)

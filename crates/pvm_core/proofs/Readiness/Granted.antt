@@ -1,11 +1,12 @@
 -- The writes of a range were granted: the manager stands for the same.
-use Rattle.std.proofs.Common.{◌≡◌, ℕ, zero, suc, ◌+◌, true, false, List, [], ◌∷◌, get_or, length, map, Option, Some, None, is_some, refl, sym, ap, ◌∙◌, subst, arith}
+use Rattle.std.proofs.Common.{◌≡◌, ℕ, zero, suc, ◌+◌, true, false, List, [], ◌∷◌, get_or, length, map, Option, Some, None, is_some, refl, sym, ap, ◌∙◌, subst, arith, inl, inr}
 use Rattle.std.specs.Prelude.{IfSome, IsSome, option_map, option_and_then}
+use Rattle.std.proofs.lemmas.Bool.{cases_eq, cases_lt}
 use Rattle.vm_ids.specs.Held.{Held, segments_of}
 use Rattle.vm_ids.specs.declared.command.Extent.{Extent}
 use Rattle.vm_ids.specs.declared.numbers.SegId.{SegId}
 use Rattle.vm_ids.specs.Forest.Shape.{IsBounded}
-use Rattle.local_cache.specs.Arena.{Arena, Table, table_at}
+use Rattle.local_cache.specs.Arena.{Arena, Table, is_granted, table_at}
 use Rattle.vm_ids.specs.declared.node_name.NodeName.{NodeName}
 use Rattle.vm_ids.specs.declared.numbers.CacheId.{CacheId}
 use Rattle.vm_ids.specs.declared.numbers.NodeId.{NodeId}
@@ -148,11 +149,25 @@ module _ (a b : Arena) (s : Store) (t : Actors) (live : ℕ) (stays : KeepsNodes
       whole = subst (λ (m : Machine). IfSome g (λ _. HasWholePages m)) (sym granted_machine) (subst (λ (k : Option Held). IfSome k (λ _. HasWholePages (machine_of (seen a s t) h))) (sym told) v.whole);
     }
 
+-- no grant goes
+grants_stay : (range : Extent) (past : ℕ) (a b : Arena) → GrantsBefore range past a b → (cache page : ℕ) → is_granted a cache page ≡ true → is_granted b cache page ≡ true
+grants_stay range past a b g cache page e = elim (cases_eq cache range.cache.0) [
+  | inr d ↦ g.others cache page (λ same from below. d same) ∙ e
+  | inl same ↦ elim (cases_lt page past) [
+    | inr over ↦ g.others cache page (λ q from below. omega (arith, over, below)) ∙ e
+    | inl below ↦ elim (cases_lt page range.first.0) [
+      | inl before ↦ g.others cache page (λ q from less. omega (arith, before, from)) ∙ e
+      | inr from ↦ ap (λ k. is_granted b k page) same ∙ g.granted page from below
+    ]
+  ]
+]
+
 -- what was granted before a page of a range stays so
 pub stays_granted : (range : Extent) (past : ℕ) (a b : Arena) → GrantsBefore range past a b → arena.forest_of b ≡ arena.forest_of a → IsWhole b → KeepsNodes a b
 stays_granted range past a b g nodes whole = record {
   same = granted_same a b g.tables;
   cells = ap (λ (k : Arena). k.cells) g.rest;
+  grants = grants_stay range past a b g;
   locks = granted_locks range past a b g;
   nodes = nodes;
   whole = whole;
@@ -162,7 +177,7 @@ stays_granted range past a b g nodes whole = record {
 }
 
 pub stays_itself : (a : Arena) → IsWhole a → KeepsNodes a a
-stays_itself a whole = record { same = record { count = refl; sizes = λ n. refl; segments = λ n. refl }; cells = refl; locks = λ cache page. refl; nodes = refl; whole = whole; made = refl; copies = refl; room = refl }
+stays_itself a whole = record { same = record { count = refl; sizes = λ n. refl; segments = λ n. refl }; cells = refl; grants = λ cache page e. e; locks = λ cache page. refl; nodes = refl; whole = whole; made = refl; copies = refl; room = refl }
 
 -- the node of a page that may be written
 pub writable_node : (a : Arena) (n : NodeId) (cache : CacheId) (page : ℕ) → name_of a n ≡ page_name cache page → IsWritable a (page_name cache page) → MayWrite a n

@@ -5,7 +5,11 @@ use Rattle.residency.specs.World.{World, world}
 use Rattle.residency.proofs.Forests.StillForest.{still_forest}
 use Rattle.fault_path.proofs.Calls.Answered.{still_answered, still_missed_by}
 use Rattle.fault_path.proofs.Calls.Kept.{absent_is}
+use Rattle.pvm_core.proofs.Accesses.Loading.{owner_held}
 use Rattle.pvm_core.proofs.Locking.Pages.{on_ok, owned_bare, owned_has}
+use Rattle.pvm_core.proofs.Translating.Brought.{brought_right}
+use Rattle.pvm_core.proofs.Translating.Dropped.{dropped_right}
+use Rattle.pvm_core.proofs.Translating.Writable.{tables_writable}
 use Rattle.pvm_core.proofs.page_locks.bring_own.Goals as goal
 
 pub returns-then-is_absent-clause-forest : goal.returns-then-is_absent-clause-forest
@@ -47,3 +51,25 @@ returns-clause-forest g c =
     let w : World = world (M.held c.bring_in.new.mapper) (M.page_bytes c.bring_in.new.mapper) c.bring_in.new.caches c.bring_in.new.self in
     let some : is_absent (own_of c.args.caches.now c.args.node) ≡ false = sym (c.is_absent.ensures.absent ∙ ap is_absent c.own_state.ensures) ∙ c.if-is_absent.false in
     still_forest old w c.in_ok-bring_in.ensures.still ∙ owned_has old c.requires.right.sound c.args.node c.requires.node some
+
+pub returns-then-is_absent-clause-translated : goal.returns-then-is_absent-clause-translated
+returns-then-is_absent-clause-translated g c = λ u.
+    let a = c.args.caches.now in
+    let n = c.own.new in
+    let e = c.own.ensures in
+    let o = owner_held a c.requires.right.sound c.requires.right.shaped c.args.node c.requires.node in
+    dropped_right _ a n.caches c.args.store.now n.store u (e.drops o.0 o.1) (tables_writable a n.caches e.answered.kept.nodes.caches)
+
+pub returns-in_err-bring_in-clause-translated : goal.returns-in_err-bring_in-clause-translated
+returns-in_err-bring_in-clause-translated g c =
+    let M = g.M.Mapper in
+    let n = c.bring_in.new in
+    let e = c.in_err-bring_in.ensures in
+    brought_right (M.held c.args.mapper.now) (M.held n.mapper) (M.page_bytes c.args.mapper.now) (M.page_bytes n.mapper) c.args.caches.now n.caches c.args.store.now n.self c.args.node c.requires.right.store.tied e.still e.tables e.others
+
+pub returns-clause-translated : goal.returns-clause-translated
+returns-clause-translated g c =
+    let M = g.M.Mapper in
+    let n = c.bring_in.new in
+    let e = c.in_ok-bring_in.ensures in
+    brought_right (M.held c.args.mapper.now) (M.held n.mapper) (M.page_bytes c.args.mapper.now) (M.page_bytes n.mapper) c.args.caches.now n.caches c.args.store.now n.self c.args.node c.requires.right.store.tied e.still e.tables e.others

@@ -46,3 +46,6 @@ returns-clause-alike g c =
     let first = alike_answered old w (M.counts c.args.mapper.now) (M.counts n.mapper) c.requires.whole e.answered
     (λ x. ap (λ f. value_of f x) e.forest ∙ owned_values old c.requires.whole.sound c.node_of-node.result there c.requires.whole.consistent.shaped x) in
     alike_then old w v (M.counts c.args.mapper.now) (M.counts n.mapper) (M.counts n.mapper) first (c.pin_page.ensures.pages.alike (M.held n.mapper) (M.page_bytes n.mapper) (M.counts n.mapper) first.right)
+
+pub returns-clause-translated : goal.returns-clause-translated
+returns-clause-translated g c = λ u right. c.pin_page.ensures.pages.translated u (c.in_ok-bring_own.ensures.translated u right)

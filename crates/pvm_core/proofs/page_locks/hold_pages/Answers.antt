@@ -63,4 +63,8 @@ loop-number-preserved g c =
       held = e.held;
       locks = more_upto range.cache range.first.0 c.loop-number.number c.loop-number.auto.number c.args.caches.now c.loop-number.caches h.caches i.locks e.locks;
       owned = lock_upto range.cache range.first.0 c.loop-number.number c.loop-number.auto.number (store_forest old) (store_forest w) (store_forest v) i.owned e.forest;
+      translated = λ u right. e.translated u (i.translated u right);
     }
+
+pub returns-in_default-clause-translated : goal.returns-in_default-clause-translated
+returns-in_default-clause-translated g c = λ u right. c.let_go.ensures.pages.translated u (c.in_default.ensures.translated u (c.loop-number.invariant.translated u right))

@@ -3,6 +3,7 @@ use Rattle.vm_ids.specs.Forest.Commands.{lock, page_names}
 use Rattle.residency.specs.StoreForest.{store_forest}
 use Rattle.residency.specs.World.{World, world}
 use Rattle.pvm_core.specs.Holding.{HoldsLocked, LocksMore, ReadsAlike}
+use Rattle.pvm_core.specs.Translated.{KeepsTranslations}
 use Rattle.pvm_core.proofs.Locking.Extents.{extent}
 use Rattle.pvm_core.proofs.page_locks.hold_pages.Given as goal
 
@@ -16,4 +17,5 @@ invariant-loop-number g l =
       held : HoldsLocked l.caches l.store;
       locks : LocksMore (extent l.range.cache l.range.first.0 (l.number - l.range.first.0)) l.fn.caches l.caches;
       owned : store_forest now ≡ lock (page_names l.range.cache l.range.first.0 (l.number - l.range.first.0)) (store_forest old);
+      translated : KeepsTranslations l.fn.caches l.caches l.fn.store l.store;
     }

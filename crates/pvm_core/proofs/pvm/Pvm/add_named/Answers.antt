@@ -11,6 +11,7 @@ use Rattle.vm_model.specs.Answering.{Answer, answer_by}
 use Rattle.vm_model.specs.Run.{AnswerIs, State}
 use Rattle.pvm_core.specs.Manager.{IsValid, Manager, state_at}
 use Rattle.pvm_core.specs.Opening.{HasSegment, IsOpened}
+use Rattle.local_cache.specs.declared.own_state.OwnState.TheVariants.{OnSegment}
 use Rattle.local_cache.specs.Arena.{Arena}
 use Rattle.local_cache.specs.Whole.{segment_of}
 use Rattle.vm_ids.specs.declared.numbers.SegId.{SegId}
@@ -20,6 +21,7 @@ use Rattle.pvm_core.proofs.NewCaches.Begun.{roomy_by, roomy_forest, roomy_machin
 use Rattle.pvm_core.proofs.Answering.Kept.{seen}
 use Rattle.pvm_core.proofs.Opening.Named.{named_answer, named_sound, named_valid}
 use Rattle.pvm_core.proofs.Opening.Refused.{lacking, too_many}
+use Rattle.pvm_core.proofs.Translating.Made.{made_right, roomy_right}
 use Rattle.pvm_core.proofs.pvm.Pvm.add_named.Goals as goal
 
 -- what is asked of the caches, of the manager as it is seen
@@ -39,24 +41,28 @@ few_in a b e few = omega (arith, few, ap (λ (k : Arena). length k.caches) e)
 pub returns-then-self-pages-clause-answers : goal.returns-then-self-pages-clause-answers
 returns-then-self-pages-clause-answers c = λ h v has.
     let p : Manager = the_view c.self.inside in
-    let i = c.self.invariant in
+    let i = c.self.invariant.sound in
     subst (λ (p : Manager). AnswerIs (state_at p h) (commands.OpenSegment c.args.seg) (Err (troubles.Refused refusals.TooMany)) [] no_counts (state_at p h)) c.self.view_is
     (too_many p p h c.args.seg c.args.pages (free_of c.self.view_is c.requires.free) (few_of c.self.view_is c.requires.few)
     (subst (λ (p : Manager). HasSegment h c.args.seg p.page_bytes c.args.pages) (sym c.self.view_is) has) i.nodes i.nodes (subst (λ (p : Manager). IsValid p h) (sym c.self.view_is) v) refl (λ f. refl) c.self.inside.live i.counted (omega (arith, c.if-self-pages.true)))
 
 pub invariant_of-self : goal.invariant_of-self
-invariant_of-self c =
-    let i = c.self.inside in
-    let r = c.reserve.new in
-    let e = c.reserve.ensures in
-    roomy_sound i.caches r.caches i.store r.store i.contexts i.live e.caches e.store e.slots e.no_less e.forest e.sound c.self.invariant
+invariant_of-self c = record {
+  sound = (
+      let i = c.self.inside in
+      let r = c.reserve.new in
+      let e = c.reserve.ensures in
+      roomy_sound i.caches r.caches i.store r.store i.contexts i.live e.caches e.store e.slots e.no_less e.forest e.sound c.self.invariant.sound
+      );
+  translated = roomy_right c.self.inside.caches c.reserve.new.caches c.self.inside.store c.reserve.new.store c.reserve.ensures.caches c.reserve.ensures.store c.self.inside.contexts c.self.invariant.translated;
+}
 
 pub returns-in_err-reserve-clause-valid : goal.returns-in_err-reserve-clause-valid
 returns-in_err-reserve-clause-valid c = λ h v has.
     let i = c.self.inside in
     let r = c.reserve.new in
     let e = c.reserve.ensures in
-    roomy_valid i.caches r.caches i.store r.store i.contexts i.live e.caches e.store e.slots e.no_less e.forest e.sound c.self.invariant h (subst (λ (p : Manager). IsValid p h) (sym c.self.view_is) v)
+    roomy_valid i.caches r.caches i.store r.store i.contexts i.live e.caches e.store e.slots e.no_less e.forest e.sound c.self.invariant.sound h (subst (λ (p : Manager). IsValid p h) (sym c.self.view_is) v)
 
 pub returns-in_err-reserve-clause-answers : goal.returns-in_err-reserve-clause-answers
 returns-in_err-reserve-clause-answers c = λ h v has.
@@ -65,28 +71,40 @@ returns-in_err-reserve-clause-answers c = λ h v has.
     let e = c.reserve.ensures in
     let p : Manager = seen i.caches i.store i.contexts in
     let q : Manager = seen r.caches r.store i.contexts in
-    let k = roomy_sound i.caches r.caches i.store r.store i.contexts i.live e.caches e.store e.slots e.no_less e.forest e.sound c.self.invariant in
+    let k = roomy_sound i.caches r.caches i.store r.store i.contexts i.live e.caches e.store e.slots e.no_less e.forest e.sound c.self.invariant.sound in
     let answer : Answer = Err troubles.Memory in
     let gave = err_from_is_err_and c.from_residual.result c.from_residual.ensures.1 in
     let is : c.from_residual.result ≡ Err troubles.Memory = gave.1 ∙ ap (λ t. Err t) gave.2 in
     subst (λ (p : Manager). AnswerIs (state_at p h) (commands.OpenSegment c.args.seg) (answer_by replies.Cache c.from_residual.result) [] no_counts (state_at q h)) c.self.view_is
     (subst (λ (r : Result _ _). AnswerIs (state_at p h) (commands.OpenSegment c.args.seg) (answer_by replies.Cache r) [] no_counts (state_at q h)) (sym is)
     (lacking p q h c.args.seg c.args.pages (free_of c.self.view_is c.requires.free) (few_of c.self.view_is c.requires.few)
-    (subst (λ (p : Manager). HasSegment h c.args.seg p.page_bytes c.args.pages) (sym c.self.view_is) has) c.self.invariant.nodes k.nodes
-    (roomy_valid i.caches r.caches i.store r.store i.contexts i.live e.caches e.store e.slots e.no_less e.forest e.sound c.self.invariant h (subst (λ (p : Manager). IsValid p h) (sym c.self.view_is) v))
-    (roomy_forest i.caches r.caches i.store r.store i.contexts i.live e.caches e.store e.slots e.no_less e.forest e.sound c.self.invariant h)
-    (roomy_by i.caches r.caches i.store r.store i.contexts i.live e.caches e.store e.slots e.no_less e.forest e.sound c.self.invariant)
-    i.live c.self.invariant.counted (omega (arith, c.if-self-pages.false))))
+    (subst (λ (p : Manager). HasSegment h c.args.seg p.page_bytes c.args.pages) (sym c.self.view_is) has) c.self.invariant.sound.nodes k.nodes
+    (roomy_valid i.caches r.caches i.store r.store i.contexts i.live e.caches e.store e.slots e.no_less e.forest e.sound c.self.invariant.sound h (subst (λ (p : Manager). IsValid p h) (sym c.self.view_is) v))
+    (roomy_forest i.caches r.caches i.store r.store i.contexts i.live e.caches e.store e.slots e.no_less e.forest e.sound c.self.invariant.sound h)
+    (roomy_by i.caches r.caches i.store r.store i.contexts i.live e.caches e.store e.slots e.no_less e.forest e.sound c.self.invariant.sound)
+    i.live c.self.invariant.sound.counted (omega (arith, c.if-self-pages.false))))
 
 pub invariant_of-self-2 : goal.invariant_of-self-2
-invariant_of-self-2 c =
-    let i = c.self.inside in
-    let r = c.reserve.new in
-    let e = c.reserve.ensures in
-    let m = c.make_named.ensures in
-    let k = roomy_sound i.caches r.caches i.store r.store i.contexts i.live e.caches e.store e.slots e.no_less e.forest e.sound c.self.invariant in
-    named_sound r.caches c.make_named.new.self r.store i.contexts i.live c.args.pages c.make_named.result c.args.seg m.made.0 m.made.1 m.made.2 m.pages m.stays (m.forest e.sound) (m.sound e.sound) k
-    (free_in i.caches r.caches c.reserve.ensures.caches (free_of c.self.view_is c.requires.free)) (omega (arith, c.if-self-pages.false)) c.in_ok-reserve.ensures.capacity
+invariant_of-self-2 c = record {
+  sound = (
+      let i = c.self.inside in
+      let r = c.reserve.new in
+      let e = c.reserve.ensures in
+      let m = c.make_named.ensures in
+      let k = roomy_sound i.caches r.caches i.store r.store i.contexts i.live e.caches e.store e.slots e.no_less e.forest e.sound c.self.invariant.sound in
+      named_sound r.caches c.make_named.new.self r.store i.contexts i.live c.args.pages c.make_named.result c.args.seg m.made.0 m.made.1 m.made.2 m.pages m.stays (m.forest e.sound) (m.sound e.sound) k
+      (free_in i.caches r.caches c.reserve.ensures.caches (free_of c.self.view_is c.requires.free)) (omega (arith, c.if-self-pages.false)) c.in_ok-reserve.ensures.capacity
+      );
+  translated = (
+      let i = c.self.inside in
+      let r = c.reserve.new in
+      let e = c.reserve.ensures in
+      let m = c.make_named.ensures in
+      let k = roomy_sound i.caches r.caches i.store r.store i.contexts i.live e.caches e.store e.slots e.no_less e.forest e.sound c.self.invariant.sound in
+      made_right r.caches c.make_named.new.self r.store c.make_named.result c.args.pages OnSegment (λ f. refl) m.made.2.number m.pages m.stays m.tables (m.forest e.sound) k.nodes (m.sound e.sound) i.contexts
+      (roomy_right i.caches r.caches i.store r.store e.caches e.store i.contexts c.self.invariant.translated)
+      );
+}
 
 pub returns-clause-valid : goal.returns-clause-valid
 returns-clause-valid c = λ h v has.
@@ -94,8 +112,8 @@ returns-clause-valid c = λ h v has.
     let r = c.reserve.new in
     let e = c.reserve.ensures in
     let m = c.make_named.ensures in
-    let k = roomy_sound i.caches r.caches i.store r.store i.contexts i.live e.caches e.store e.slots e.no_less e.forest e.sound c.self.invariant in
-    let w = roomy_valid i.caches r.caches i.store r.store i.contexts i.live e.caches e.store e.slots e.no_less e.forest e.sound c.self.invariant h (subst (λ (p : Manager). IsValid p h) (sym c.self.view_is) v) in
+    let k = roomy_sound i.caches r.caches i.store r.store i.contexts i.live e.caches e.store e.slots e.no_less e.forest e.sound c.self.invariant.sound in
+    let w = roomy_valid i.caches r.caches i.store r.store i.contexts i.live e.caches e.store e.slots e.no_less e.forest e.sound c.self.invariant.sound h (subst (λ (p : Manager). IsValid p h) (sym c.self.view_is) v) in
     named_valid r.caches c.make_named.new.self r.store i.contexts i.live c.args.pages c.make_named.result c.args.seg m.made.0 m.made.1 m.made.2 m.pages m.stays (m.forest e.sound) (m.sound e.sound) k
     (free_in i.caches r.caches c.reserve.ensures.caches (free_of c.self.view_is c.requires.free)) (omega (arith, c.if-self-pages.false)) c.in_ok-reserve.ensures.capacity h w (subst (λ (p : Manager). HasSegment h c.args.seg p.page_bytes c.args.pages) (sym c.self.view_is) has)
 
@@ -105,15 +123,15 @@ returns-clause-answers c = λ h v has.
     let r = c.reserve.new in
     let e = c.reserve.ensures in
     let m = c.make_named.ensures in
-    let k = roomy_sound i.caches r.caches i.store r.store i.contexts i.live e.caches e.store e.slots e.no_less e.forest e.sound c.self.invariant in
+    let k = roomy_sound i.caches r.caches i.store r.store i.contexts i.live e.caches e.store e.slots e.no_less e.forest e.sound c.self.invariant.sound in
     let o : Manager = seen i.caches i.store i.contexts in
     let p : Manager = seen r.caches r.store i.contexts in
     let q : Manager = seen c.make_named.new.self r.store i.contexts in
-    let w = roomy_valid i.caches r.caches i.store r.store i.contexts i.live e.caches e.store e.slots e.no_less e.forest e.sound c.self.invariant h (subst (λ (p : Manager). IsValid p h) (sym c.self.view_is) v) in
+    let w = roomy_valid i.caches r.caches i.store r.store i.contexts i.live e.caches e.store e.slots e.no_less e.forest e.sound c.self.invariant.sound h (subst (λ (p : Manager). IsValid p h) (sym c.self.view_is) v) in
     let answer : Answer = Ok (replies.Cache c.make_named.result) in
     let same : state_at p h ≡ state_at o h = λ j. record {
-      machine = roomy_machine i.caches r.caches i.store r.store i.contexts i.live e.caches e.store e.slots e.no_less e.forest e.sound c.self.invariant h j;
-      forest = Some (roomy_forest i.caches r.caches i.store r.store i.contexts i.live e.caches e.store e.slots e.no_less e.forest e.sound c.self.invariant h j);
+      machine = roomy_machine i.caches r.caches i.store r.store i.contexts i.live e.caches e.store e.slots e.no_less e.forest e.sound c.self.invariant.sound h j;
+      forest = Some (roomy_forest i.caches r.caches i.store r.store i.contexts i.live e.caches e.store e.slots e.no_less e.forest e.sound c.self.invariant.sound h j);
       segments = segments_of h;
     } in
     subst (λ (p : Manager). AnswerIs (state_at p h) (commands.OpenSegment c.args.seg) answer [] no_counts (state_at q h)) c.self.view_is

@@ -26,7 +26,7 @@ returns-in_default-clause-answers c = λ h v.
     let command = commands.Chain c.args.cache c.args.page in
     let answer : Answer = Err (troubles.Refused refusals.NoCache) in
     subst (λ (p : Manager). AnswerIs (state_at p h) command answer [] no_counts (state_at p h)) c.self.view_is
-    (seated p p h command answer c.self.invariant.nodes c.self.invariant.nodes (subst (λ (p : Manager). IsValid p h) (sym c.self.view_is) v) refl (λ done m f s none. none) refl tt (λ f. refl) (λ page. refl)
+    (seated p p h command answer c.self.invariant.sound.nodes c.self.invariant.sound.nodes (subst (λ (p : Manager). IsValid p h) (sym c.self.view_is) v) refl (λ done m f s none. none) refl tt (λ f. refl) (λ page. refl)
     (λ f s. chain_no_cache (machine_by p f) (forest_of p h) c.args.cache c.args.page.0 (unsized _ (shown_size f p.caches.caches c.args.cache.0 ∙ sym c.pages.ensures ∙ c.in_default.is))))
 
 pub returns-then-page-count-clause-answers : goal.returns-then-page-count-clause-answers
@@ -35,7 +35,7 @@ returns-then-page-count-clause-answers c = λ h v.
     let command = commands.Chain c.args.cache c.args.page in
     let answer : Answer = Err (troubles.Refused refusals.OutOfCache) in
     subst (λ (p : Manager). AnswerIs (state_at p h) command answer [] no_counts (state_at p h)) c.self.view_is
-    (seated p p h command answer c.self.invariant.nodes c.self.invariant.nodes (subst (λ (p : Manager). IsValid p h) (sym c.self.view_is) v) refl (λ done m f s none. none) refl tt (λ f. refl) (λ page. refl)
+    (seated p p h command answer c.self.invariant.sound.nodes c.self.invariant.sound.nodes (subst (λ (p : Manager). IsValid p h) (sym c.self.view_is) v) refl (λ done m f s none. none) refl tt (λ f. refl) (λ page. refl)
     (λ f s. let k = sized _ c.in-Some.count (shown_size f p.caches.caches c.args.cache.0 ∙ sym c.pages.ensures ∙ c.in-Some.is) in
     chain_out (machine_by p f) (forest_of p h) c.args.cache c.args.page.0 k.0 k.1 (omega (arith, k.2, c.if-page-count.true))))
 
@@ -45,10 +45,10 @@ returns-in-Ok-clause-answers c = λ h v.
     let command = commands.Chain c.args.cache c.args.page in
     let answer : Answer = Ok (replies.Chain c.in-Ok.list) in
     subst (λ (p : Manager). AnswerIs (state_at p h) command answer [] no_counts (state_at p h)) c.self.view_is
-    (seated p p h command answer c.self.invariant.nodes c.self.invariant.nodes (subst (λ (p : Manager). IsValid p h) (sym c.self.view_is) v) refl (λ done m f s none. none) refl tt (λ f. refl) (λ page. refl)
+    (seated p p h command answer c.self.invariant.sound.nodes c.self.invariant.sound.nodes (subst (λ (p : Manager). IsValid p h) (sym c.self.view_is) v) refl (λ done m f s none. none) refl tt (λ f. refl) (λ page. refl)
     (λ f s. let k = sized _ c.in-Some.count (shown_size f p.caches.caches c.args.cache.0 ∙ sym c.pages.ensures ∙ c.in-Some.is) in
     chain_row (machine_by p f) (forest_of p h) c.args.cache c.args.page.0 k.0 k.1 (omega (arith, k.2, c.if-page-count.false))
-    ∙ ap (λ (items : List ChainItem). reply (replies.Chain items) (machine_by p f)) (chains_of p h c.self.invariant.nodes _ ∙ ap (chain_of (arena.forest_of p.caches)) (sym c.node_of-node.ensures.name) ∙ sym c.in-Ok.ensures)))
+    ∙ ap (λ (items : List ChainItem). reply (replies.Chain items) (machine_by p f)) (chains_of p h c.self.invariant.sound.nodes _ ∙ ap (chain_of (arena.forest_of p.caches)) (sym c.node_of-node.ensures.name) ∙ sym c.in-Ok.ensures)))
 
 pub returns-in-Err-clause-answers : goal.returns-in-Err-clause-answers
 returns-in-Err-clause-answers c = λ h v.
@@ -56,7 +56,7 @@ returns-in-Err-clause-answers c = λ h v.
     let command = commands.Chain c.args.cache c.args.page in
     let answer : Answer = Err troubles.Memory in
     subst (λ (p : Manager). AnswerIs (state_at p h) command answer [] no_counts (state_at p h)) c.self.view_is
-    (seated p p h command answer c.self.invariant.nodes c.self.invariant.nodes (subst (λ (p : Manager). IsValid p h) (sym c.self.view_is) v) refl (λ done m f s none. none) refl tt (λ f. refl) (λ page. refl)
+    (seated p p h command answer c.self.invariant.sound.nodes c.self.invariant.sound.nodes (subst (λ (p : Manager). IsValid p h) (sym c.self.view_is) v) refl (λ done m f s none. none) refl tt (λ f. refl) (λ page. refl)
     (λ f s. let k = sized _ c.in-Some.count (shown_size f p.caches.caches c.args.cache.0 ∙ sym c.pages.ensures ∙ c.in-Some.is) in
     let row = chain_row (machine_by p f) (forest_of p h) c.args.cache c.args.page.0 k.0 k.1 (omega (arith, k.2, c.if-page-count.false)) in
     (refl, tt, rw row tt)))

@@ -43,6 +43,9 @@ use Rattle.local_cache.specs.Arena.{is_locked}
 use Rattle.pvm_core.proofs.Holding.Kept.{held_released}
 use Rattle.pvm_core.proofs.Holding.Loose.{unpinned_page, working_unpinned}
 use Rattle.pvm_core.proofs.Holding.Actors.{over_none}
+use Rattle.pvm_core.proofs.Translating.Cells.{without_right}
+use Rattle.pvm_core.proofs.Translating.Left.{left_right}
+use Rattle.pvm_core.proofs.Translating.Writable.{homes_writable}
 use Rattle.pvm_core.proofs.pvm.Pvm.destroy.Goals as goal
 
 pub returns-in_default-clause-answers : goal.returns-in_default-clause-answers
@@ -53,7 +56,7 @@ returns-in_default-clause-answers g c =
     let command = commands.Destroy c.args.cache in
     let answer : Answer = Err (troubles.Refused refusals.NoCache) in
     subst (λ (p : Manager). CallIs counts counts (state_at p h) command answer (state_at p h)) c.self.view_is
-    (failed counts counts p p h h command answer (reach_none (machine_of p h) h counts) c.self.invariant.nodes c.self.invariant.nodes (subst (λ (p : Manager). IsValid p h) (sym c.self.view_is) c.requires.valid) refl refl tt tt
+    (failed counts counts p p h h command answer (reach_none (machine_of p h) h counts) c.self.invariant.sound.nodes c.self.invariant.sound.nodes (subst (λ (p : Manager). IsValid p h) (sym c.self.view_is) c.requires.valid) refl refl tt tt
     (λ f s. destroy_no_cache (machine_by p f) c.args.cache.0 (unsized _ (shown_size f p.caches.caches c.args.cache.0 ∙ sym c.pages.ensures ∙ c.in_default.is))))
 
 pub returns-then-maps-clause-answers : goal.returns-then-maps-clause-answers
@@ -64,7 +67,7 @@ returns-then-maps-clause-answers g c =
     let command = commands.Destroy c.args.cache in
     let answer : Answer = Err (troubles.Refused refusals.InUse) in
     subst (λ (p : Manager). CallIs counts counts (state_at p h) command answer (state_at p h)) c.self.view_is
-    (failed counts counts p p h h command answer (reach_none (machine_of p h) h counts) c.self.invariant.nodes c.self.invariant.nodes (subst (λ (p : Manager). IsValid p h) (sym c.self.view_is) c.requires.valid) refl refl tt tt
+    (failed counts counts p p h h command answer (reach_none (machine_of p h) h counts) c.self.invariant.sound.nodes c.self.invariant.sound.nodes (subst (λ (p : Manager). IsValid p h) (sym c.self.view_is) c.requires.valid) refl refl tt tt
     (λ f s. let k = sized _ c.in-Some.pages (shown_size f p.caches.caches c.args.cache.0 ∙ sym c.pages.ensures ∙ c.in-Some.is) in
     destroy_in_use (machine_by p f) c.args.cache.0 k.0 k.1
     (sym c.maps.ensures ∙ c.if-maps.true)))
@@ -101,7 +104,7 @@ returns-in_err-write_back-clause-answers g c =
     let wrong : IsNotWrittenBack all p h q k trouble = subst (λ (p : Manager). IsNotWrittenBack all p h q k trouble) (sym c.self.view_is) (subst (λ (r : Result _ Trouble). IfErr r (IsNotWrittenBack all c.args.self.now h q k)) c.in_err-write_back.was x.not_written) in
     subst (λ (p : Manager). CallIs before after (state_at p h) (commands.Destroy c.args.cache) (done_by c.from_residual.result) (state_at q k)) c.self.view_is
     (subst (λ (r : Result _ Trouble). CallIs before after (state_at p h) (commands.Destroy c.args.cache) (done_by r) (state_at q k)) (sym is)
-    (destroy_failed p q h k before after c.args.cache pages keeps0 c.self.invariant.nodes x.whole x.valid t0.0 t0.1 t0.2 (λ f. free) trouble wrong (subst (λ (r : Result _ Trouble). OnErr r (Rose before.faults after.faults)) c.in_err-write_back.was x.cause)))
+    (destroy_failed p q h k before after c.args.cache pages keeps0 c.self.invariant.sound.nodes x.whole x.valid t0.0 t0.1 t0.2 (λ f. free) trouble wrong (subst (λ (r : Result _ Trouble). OnErr r (Rose before.faults after.faults)) c.in_err-write_back.was x.cause)))
 
 pub returns-in_err-write_back-clause-made : goal.returns-in_err-write_back-clause-made
 returns-in_err-write_back-clause-made g c =
@@ -126,7 +129,7 @@ returns-in_err-write_back-clause-made g c =
     let wrong : IsNotWrittenBack all p h q k trouble = subst (λ (p : Manager). IsNotWrittenBack all p h q k trouble) (sym c.self.view_is) (subst (λ (r : Result _ Trouble). IfErr r (IsNotWrittenBack all c.args.self.now h q k)) c.in_err-write_back.was x.not_written) in
     subst (λ (p : Manager). RaisesMade (machine_of p h) (commands.Destroy c.args.cache) (done_by c.from_residual.result) (numbered p) (numbered q)) c.self.view_is
     (subst (λ (r : Result _ Trouble). RaisesMade (machine_of p h) (commands.Destroy c.args.cache) (done_by r) (numbered p) (numbered q)) (sym is)
-    (destroy_made p q h k before after c.args.cache pages keeps0 c.self.invariant.nodes x.whole x.valid t0.0 t0.1 t0.2 (λ f. free) trouble wrong))
+    (destroy_made p q h k before after c.args.cache pages keeps0 c.self.invariant.sound.nodes x.whole x.valid t0.0 t0.1 t0.2 (λ f. free) trouble wrong))
 
 pub returns-in_err-write_back-clause-copies : goal.returns-in_err-write_back-clause-copies
 returns-in_err-write_back-clause-copies g c =
@@ -221,7 +224,7 @@ destroy_pages-requires-clause-tied g c =
     let j = c.self-2.inside in
     let v2 = c.self-2.view_is in
     let m : Manager = seen j.caches j.store j.contexts in
-    let sound = c.self-2.invariant in
+    let sound = c.self-2.invariant.sound in
     let valid : IsValid m k = subst (λ (p : Manager). IsValid p k) (sym v2) x.valid in
     let keeps : KeepsMachine p m h k before after = subst (λ (r : Manager). KeepsMachine p r h k before after) (sym v2) keeps0 in
     let written : IsWrittenBack all p m h k = subst (λ (r : Manager). IsWrittenBack all p r h k) (sym v2) (subst (λ (p : Manager). IsWrittenBack all p q h k) (sym c.self.view_is) c.in_ok-write_back.ensures.written) in
@@ -250,7 +253,7 @@ destroy_pages-requires-clause-pages g c =
     let j = c.self-2.inside in
     let v2 = c.self-2.view_is in
     let m : Manager = seen j.caches j.store j.contexts in
-    let sound = c.self-2.invariant in
+    let sound = c.self-2.invariant.sound in
     let valid : IsValid m k = subst (λ (p : Manager). IsValid p k) (sym v2) x.valid in
     let keeps : KeepsMachine p m h k before after = subst (λ (r : Manager). KeepsMachine p r h k before after) (sym v2) keeps0 in
     let written : IsWrittenBack all p m h k = subst (λ (r : Manager). IsWrittenBack all p r h k) (sym v2) (subst (λ (p : Manager). IsWrittenBack all p q h k) (sym c.self.view_is) c.in_ok-write_back.ensures.written) in
@@ -270,7 +273,7 @@ destroy_pages-requires-clause-unpinned g c = λ page.
     let after = g.M.Mapper.counts c.write_back.new.mapper in
     let p : Manager = seen i.caches i.store i.contexts in
     let m : Manager = seen j.caches j.store j.contexts in
-    let sound = c.self-2.invariant in
+    let sound = c.self-2.invariant.sound in
     let keeps : KeepsMachine p m h k before after = subst (λ (r : Manager). KeepsMachine p r h k before after) (sym c.self-2.view_is) (subst (λ (p : Manager). KeepsMachine p q h k before after) (sym c.self.view_is) c.write_back.ensures.keeps) in
     let free : list_any (maps_in c.args.cache.0) j.contexts.actors ≡ false = subst (λ (m : Machine). is_mapped m c.args.cache.0 ≡ false) (sym keeps.machine) (sym c.maps.ensures ∙ c.if-maps.false) in
     unpinned_page j.caches j.store j.contexts.actors sound.locked c.args.cache (record { 0 = page }) (ap is_locked (sound.locked.counted c.args.cache.0 page ∙ over_none c.args.cache.0 page j.contexts.actors free))
@@ -278,7 +281,7 @@ destroy_pages-requires-clause-unpinned g c = λ page.
 pub destroy_pages-requires-clause-working : goal.destroy_pages-requires-clause-working
 destroy_pages-requires-clause-working g c =
     let j = c.self-2.inside in
-    working_unpinned j.caches j.store j.contexts.actors c.self-2.invariant.locked
+    working_unpinned j.caches j.store j.contexts.actors c.self-2.invariant.sound.locked
 
 pub destroy_pages-requires-clause-saved : goal.destroy_pages-requires-clause-saved
 destroy_pages-requires-clause-saved g c =
@@ -300,7 +303,7 @@ destroy_pages-requires-clause-saved g c =
     let j = c.self-2.inside in
     let v2 = c.self-2.view_is in
     let m : Manager = seen j.caches j.store j.contexts in
-    let sound = c.self-2.invariant in
+    let sound = c.self-2.invariant.sound in
     let valid : IsValid m k = subst (λ (p : Manager). IsValid p k) (sym v2) x.valid in
     let keeps : KeepsMachine p m h k before after = subst (λ (r : Manager). KeepsMachine p r h k before after) (sym v2) keeps0 in
     let written : IsWrittenBack all p m h k = subst (λ (r : Manager). IsWrittenBack all p r h k) (sym v2) (subst (λ (p : Manager). IsWrittenBack all p q h k) (sym c.self.view_is) c.in_ok-write_back.ensures.written) in
@@ -329,7 +332,7 @@ destroy_pages-requires-clause-made g c =
     let j = c.self-2.inside in
     let v2 = c.self-2.view_is in
     let m : Manager = seen j.caches j.store j.contexts in
-    let sound = c.self-2.invariant in
+    let sound = c.self-2.invariant.sound in
     let valid : IsValid m k = subst (λ (p : Manager). IsValid p k) (sym v2) x.valid in
     let keeps : KeepsMachine p m h k before after = subst (λ (r : Manager). KeepsMachine p r h k before after) (sym v2) keeps0 in
     let written : IsWrittenBack all p m h k = subst (λ (r : Manager). IsWrittenBack all p r h k) (sym v2) (subst (λ (p : Manager). IsWrittenBack all p q h k) (sym c.self.view_is) c.in_ok-write_back.ensures.written) in
@@ -358,7 +361,7 @@ remove-requires-clause-live g c =
     let j = c.self-2.inside in
     let v2 = c.self-2.view_is in
     let m : Manager = seen j.caches j.store j.contexts in
-    let sound = c.self-2.invariant in
+    let sound = c.self-2.invariant.sound in
     let valid : IsValid m k = subst (λ (p : Manager). IsValid p k) (sym v2) x.valid in
     let keeps : KeepsMachine p m h k before after = subst (λ (r : Manager). KeepsMachine p r h k before after) (sym v2) keeps0 in
     let written : IsWrittenBack all p m h k = subst (λ (r : Manager). IsWrittenBack all p r h k) (sym v2) (subst (λ (p : Manager). IsWrittenBack all p q h k) (sym c.self.view_is) c.in_ok-write_back.ensures.written) in
@@ -387,7 +390,7 @@ overflow_sub-self g c =
     let j = c.self-2.inside in
     let v2 = c.self-2.view_is in
     let m : Manager = seen j.caches j.store j.contexts in
-    let sound = c.self-2.invariant in
+    let sound = c.self-2.invariant.sound in
     let valid : IsValid m k = subst (λ (p : Manager). IsValid p k) (sym v2) x.valid in
     let keeps : KeepsMachine p m h k before after = subst (λ (r : Manager). KeepsMachine p r h k before after) (sym v2) keeps0 in
     let written : IsWrittenBack all p m h k = subst (λ (r : Manager). IsWrittenBack all p r h k) (sym v2) (subst (λ (p : Manager). IsWrittenBack all p q h k) (sym c.self.view_is) c.in_ok-write_back.ensures.written) in
@@ -397,42 +400,52 @@ overflow_sub-self g c =
     omega (arith, size_le j.caches c.args.cache.0 pages size2, sound.counted)
 
 pub invariant_of-self : goal.invariant_of-self
-invariant_of-self g c =
-    let i = c.self.inside in
-    let pages = c.in-Some.pages in
-    let all : Extent = of_cache c.args.cache pages in
-    let size : size_of i.caches c.args.cache.0 ≡ Some pages = sym c.pages.ensures ∙ c.in-Some.is in
-    let free = sym c.maps.ensures ∙ c.if-maps.false in
-    let q = c.write_back.new.self in
-    let x = c.write_back.ensures in
-    let h = g.M.Mapper.held c.args.mapper.now in
-    let k = g.M.Mapper.held c.write_back.new.mapper in
-    let before = g.M.Mapper.counts c.args.mapper.now in
-    let after = g.M.Mapper.counts c.write_back.new.mapper in
-    let p : Manager = seen i.caches i.store i.contexts in
-    let t0 = sized_table (table_of i.caches c.args.cache.0) pages size in
-    let keeps0 : KeepsMachine p q h k before after = subst (λ (p : Manager). KeepsMachine p q h k before after) (sym c.self.view_is) x.keeps in
-    let extent : all_of i.caches c.args.cache ≡ all = ap (λ (o : Option ℕ). of_cache c.args.cache (unwrap_or o 0)) size in
-    let j = c.self-2.inside in
-    let v2 = c.self-2.view_is in
-    let m : Manager = seen j.caches j.store j.contexts in
-    let sound = c.self-2.invariant in
-    let valid : IsValid m k = subst (λ (p : Manager). IsValid p k) (sym v2) x.valid in
-    let keeps : KeepsMachine p m h k before after = subst (λ (r : Manager). KeepsMachine p r h k before after) (sym v2) keeps0 in
-    let written : IsWrittenBack all p m h k = subst (λ (r : Manager). IsWrittenBack all p r h k) (sym v2) (subst (λ (p : Manager). IsWrittenBack all p q h k) (sym c.self.view_is) c.in_ok-write_back.ensures.written) in
-    let tied = tied_right k None j.caches j.store valid.right in
-    let size2 : size_of j.caches c.args.cache.0 ≡ Some pages = keeps.same.sizes c.args.cache.0 ∙ size in
-    let free2 : list_any (maps_in c.args.cache.0) j.contexts.actors ≡ false = subst (λ (m : Machine). is_mapped m c.args.cache.0 ≡ false) (sym keeps.machine) free in
-    let b = c.destroy_pages.new in
-    let e = c.destroy_pages.ensures in
-    let d = c.remove.new.self in
-    let r = c.remove.ensures in
-    let whole = e.whole d r.changed (r.sound e.kept.sound) r.forest in
-    let t = sized_table (table_of j.caches c.args.cache.0) pages size2 in
-    let bounded = subst IsBounded (sym r.forest) e.bounded in
-    let z : Manager = seen d b.store j.contexts in
-    taken_sound j.caches b.caches d j.store b.store j.contexts j.live c.args.cache pages sound size2 free2 e.kept.sizes e.kept.gives_back tied r.changed whole bounded e.kept.sound.kept.listed
-    (held_released _ j.caches b.caches j.store b.store e.kept tied j.contexts sound.nodes sound.actors sound.locked)
+invariant_of-self g c = record {
+  sound = (
+      let i = c.self.inside in
+      let pages = c.in-Some.pages in
+      let all : Extent = of_cache c.args.cache pages in
+      let size : size_of i.caches c.args.cache.0 ≡ Some pages = sym c.pages.ensures ∙ c.in-Some.is in
+      let free = sym c.maps.ensures ∙ c.if-maps.false in
+      let q = c.write_back.new.self in
+      let x = c.write_back.ensures in
+      let h = g.M.Mapper.held c.args.mapper.now in
+      let k = g.M.Mapper.held c.write_back.new.mapper in
+      let before = g.M.Mapper.counts c.args.mapper.now in
+      let after = g.M.Mapper.counts c.write_back.new.mapper in
+      let p : Manager = seen i.caches i.store i.contexts in
+      let t0 = sized_table (table_of i.caches c.args.cache.0) pages size in
+      let keeps0 : KeepsMachine p q h k before after = subst (λ (p : Manager). KeepsMachine p q h k before after) (sym c.self.view_is) x.keeps in
+      let extent : all_of i.caches c.args.cache ≡ all = ap (λ (o : Option ℕ). of_cache c.args.cache (unwrap_or o 0)) size in
+      let j = c.self-2.inside in
+      let v2 = c.self-2.view_is in
+      let m : Manager = seen j.caches j.store j.contexts in
+      let sound = c.self-2.invariant.sound in
+      let valid : IsValid m k = subst (λ (p : Manager). IsValid p k) (sym v2) x.valid in
+      let keeps : KeepsMachine p m h k before after = subst (λ (r : Manager). KeepsMachine p r h k before after) (sym v2) keeps0 in
+      let written : IsWrittenBack all p m h k = subst (λ (r : Manager). IsWrittenBack all p r h k) (sym v2) (subst (λ (p : Manager). IsWrittenBack all p q h k) (sym c.self.view_is) c.in_ok-write_back.ensures.written) in
+      let tied = tied_right k None j.caches j.store valid.right in
+      let size2 : size_of j.caches c.args.cache.0 ≡ Some pages = keeps.same.sizes c.args.cache.0 ∙ size in
+      let free2 : list_any (maps_in c.args.cache.0) j.contexts.actors ≡ false = subst (λ (m : Machine). is_mapped m c.args.cache.0 ≡ false) (sym keeps.machine) free in
+      let b = c.destroy_pages.new in
+      let e = c.destroy_pages.ensures in
+      let d = c.remove.new.self in
+      let r = c.remove.ensures in
+      let whole = e.whole d r.changed (r.sound e.kept.sound) r.forest in
+      let t = sized_table (table_of j.caches c.args.cache.0) pages size2 in
+      let bounded = subst IsBounded (sym r.forest) e.bounded in
+      let z : Manager = seen d b.store j.contexts in
+      taken_sound j.caches b.caches d j.store b.store j.contexts j.live c.args.cache pages sound size2 free2 e.kept.sizes e.kept.gives_back tied r.changed whole bounded e.kept.sound.kept.listed
+      (held_released _ j.caches b.caches j.store b.store e.kept tied j.contexts sound.nodes sound.actors sound.locked)
+      );
+  translated = (
+      let j = c.self-2.inside in
+      let e = c.destroy_pages.ensures in
+      let b = c.destroy_pages.new in
+      without_right b.caches c.remove.new.self b.store c.args.cache c.remove.ensures.changed j.contexts
+      (left_right _ _ j.caches b.caches j.store b.store j.contexts e.translations (homes_writable _ j.caches b.caches e.kept.sizes e.kept.homes) c.self-2.invariant.translated)
+      );
+}
 
 pub returns-clause-valid : goal.returns-clause-valid
 returns-clause-valid g c =
@@ -454,7 +467,7 @@ returns-clause-valid g c =
     let j = c.self-2.inside in
     let v2 = c.self-2.view_is in
     let m : Manager = seen j.caches j.store j.contexts in
-    let sound = c.self-2.invariant in
+    let sound = c.self-2.invariant.sound in
     let valid : IsValid m k = subst (λ (p : Manager). IsValid p k) (sym v2) x.valid in
     let keeps : KeepsMachine p m h k before after = subst (λ (r : Manager). KeepsMachine p r h k before after) (sym v2) keeps0 in
     let written : IsWrittenBack all p m h k = subst (λ (r : Manager). IsWrittenBack all p r h k) (sym v2) (subst (λ (p : Manager). IsWrittenBack all p q h k) (sym c.self.view_is) c.in_ok-write_back.ensures.written) in
@@ -491,7 +504,7 @@ returns-clause-answers g c =
     let j = c.self-2.inside in
     let v2 = c.self-2.view_is in
     let m : Manager = seen j.caches j.store j.contexts in
-    let sound = c.self-2.invariant in
+    let sound = c.self-2.invariant.sound in
     let valid : IsValid m k = subst (λ (p : Manager). IsValid p k) (sym v2) x.valid in
     let keeps : KeepsMachine p m h k before after = subst (λ (r : Manager). KeepsMachine p r h k before after) (sym v2) keeps0 in
     let written : IsWrittenBack all p m h k = subst (λ (r : Manager). IsWrittenBack all p r h k) (sym v2) (subst (λ (p : Manager). IsWrittenBack all p q h k) (sym c.self.view_is) c.in_ok-write_back.ensures.written) in
@@ -509,7 +522,7 @@ returns-clause-answers g c =
     let answer : Answer = Ok replies.Done in
     let command = commands.Destroy c.args.cache in
     let rises = rises_between (length keeps.reach.pushes) before after in
-    let many : pages_in (cache_of (machine_of p h) c.args.cache.0) ≡ pages = touched p m h k before after c.args.cache pages keeps c.self.invariant.nodes sound.nodes valid t0.0 t0.1 t0.2 (λ f. free) (forest_of p h) in
+    let many : pages_in (cache_of (machine_of p h) c.args.cache.0) ≡ pages = touched p m h k before after c.args.cache pages keeps c.self.invariant.sound.nodes sound.nodes valid t0.0 t0.1 t0.2 (λ f. free) (forest_of p h) in
     let named = named_machine p (forest_of p h) c.args.cache.0 in
     let after_is : forest_of z k ≡ forest_after (forest_of p h) (machine_of p h) command answer (machine_of z k)
     = follows j.caches b.caches d j.store b.store j.contexts j.live c.args.cache pages sound size2 free2 e.kept.sizes e.kept.gives_back tied r.changed whole bounded k valid e.right e.forest e.kept.sound.kept.listed e.empty t.0 t.1 t.2 (is_named i.caches c.args.cache.0) (forest_of p h) written.forest
@@ -541,7 +554,7 @@ returns-clause-made g c =
     let j = c.self-2.inside in
     let v2 = c.self-2.view_is in
     let m : Manager = seen j.caches j.store j.contexts in
-    let sound = c.self-2.invariant in
+    let sound = c.self-2.invariant.sound in
     let valid : IsValid m k = subst (λ (p : Manager). IsValid p k) (sym v2) x.valid in
     let keeps : KeepsMachine p m h k before after = subst (λ (r : Manager). KeepsMachine p r h k before after) (sym v2) keeps0 in
     let written : IsWrittenBack all p m h k = subst (λ (r : Manager). IsWrittenBack all p r h k) (sym v2) (subst (λ (p : Manager). IsWrittenBack all p q h k) (sym c.self.view_is) c.in_ok-write_back.ensures.written) in
@@ -556,8 +569,8 @@ returns-clause-made g c =
     let t = sized_table (table_of j.caches c.args.cache.0) pages size2 in
     let bounded = subst IsBounded (sym r.forest) e.bounded in
     let z : Manager = seen d b.store j.contexts in
-    let many : pages_in (cache_of (machine_of p h) c.args.cache.0) ≡ pages = touched p m h k before after c.args.cache pages keeps c.self.invariant.nodes sound.nodes valid t0.0 t0.1 t0.2 (λ f. free) (forest_of p h) in
-    let copied = range_copied p m h k all c.self.invariant.nodes (is_named i.caches c.args.cache.0) written.forest in
+    let many : pages_in (cache_of (machine_of p h) c.args.cache.0) ≡ pages = touched p m h k before after c.args.cache pages keeps c.self.invariant.sound.nodes sound.nodes valid t0.0 t0.1 t0.2 (λ f. free) (forest_of p h) in
+    let copied = range_copied p m h k all c.self.invariant.sound.nodes (is_named i.caches c.args.cache.0) written.forest in
     subst (λ (p : Manager). RaisesMade (machine_of p h) (commands.Destroy c.args.cache) (Ok replies.Done) (numbered p) (numbered z)) c.self.view_is
     (omega (arith, many, keeps.made, copied.1, e.made, e.copies, ap (λ a. a.made) r.changed, ap (λ a. a.copies) r.changed))
 
@@ -581,7 +594,7 @@ returns-clause-copies g c =
     let j = c.self-2.inside in
     let v2 = c.self-2.view_is in
     let m : Manager = seen j.caches j.store j.contexts in
-    let sound = c.self-2.invariant in
+    let sound = c.self-2.invariant.sound in
     let valid : IsValid m k = subst (λ (p : Manager). IsValid p k) (sym v2) x.valid in
     let keeps : KeepsMachine p m h k before after = subst (λ (r : Manager). KeepsMachine p r h k before after) (sym v2) keeps0 in
     let written : IsWrittenBack all p m h k = subst (λ (r : Manager). IsWrittenBack all p r h k) (sym v2) (subst (λ (p : Manager). IsWrittenBack all p q h k) (sym c.self.view_is) c.in_ok-write_back.ensures.written) in
@@ -596,7 +609,7 @@ returns-clause-copies g c =
     let t = sized_table (table_of j.caches c.args.cache.0) pages size2 in
     let bounded = subst IsBounded (sym r.forest) e.bounded in
     let z : Manager = seen d b.store j.contexts in
-    let copied = range_copied p m h k all c.self.invariant.nodes (is_named i.caches c.args.cache.0) written.forest in
+    let copied = range_copied p m h k all c.self.invariant.sound.nodes (is_named i.caches c.args.cache.0) written.forest in
     subst (λ (p : Manager). CopiesSaved (all_of p.caches c.args.cache) p h z (Ok tt)) c.self.view_is
     (subst (λ (e : Extent). CopiesSaved e p h z (Ok tt)) (sym extent) (ap (λ a. a.copies) r.changed ∙ e.copies ∙ copied.0))
 
@@ -620,7 +633,7 @@ returns-clause-idle g c =
     let j = c.self-2.inside in
     let v2 = c.self-2.view_is in
     let m : Manager = seen j.caches j.store j.contexts in
-    let sound = c.self-2.invariant in
+    let sound = c.self-2.invariant.sound in
     let valid : IsValid m k = subst (λ (p : Manager). IsValid p k) (sym v2) x.valid in
     let keeps : KeepsMachine p m h k before after = subst (λ (r : Manager). KeepsMachine p r h k before after) (sym v2) keeps0 in
     let written : IsWrittenBack all p m h k = subst (λ (r : Manager). IsWrittenBack all p r h k) (sym v2) (subst (λ (p : Manager). IsWrittenBack all p q h k) (sym c.self.view_is) c.in_ok-write_back.ensures.written) in

@@ -14,7 +14,7 @@ returns-in_err-find c = record {
   answers = λ h v.
       let i = c.self.inside in
       let gave = err_from_is_err_and c.from_residual.result c.from_residual.ensures.1 in
-      told i.caches i.store i.contexts _ c.self.view_is h v (commands.Find c.args.actor c.args.address) (found c.args.actor c.args.address) (answer_by replies.Region c.from_residual.result) c.self.invariant.nodes
+      told i.caches i.store i.contexts _ c.self.view_is h v (commands.Find c.args.actor c.args.address) (found c.args.actor c.args.address) (answer_by replies.Region c.from_residual.result) c.self.invariant.sound.nodes
       (λ f g k. find_err (caches_shown f 1 i.caches.caches) (length i.store.frames.held) i.contexts g k c.args.actor c.args.address c.in_err-find.field-0.0 c.from_residual.result
       (sym c.in_err-find.was ∙ c.find.ensures) (gave.1 ∙ ap (λ t. Err t) gave.2));
 }
@@ -23,6 +23,6 @@ pub returns : goal.returns
 returns c = record {
   answers = λ h v.
       let i = c.self.inside in
-      told i.caches i.store i.contexts _ c.self.view_is h v (commands.Find c.args.actor c.args.address) (found c.args.actor c.args.address) (Ok (replies.Region c.in_ok-find.field-0)) c.self.invariant.nodes
+      told i.caches i.store i.contexts _ c.self.view_is h v (commands.Find c.args.actor c.args.address) (found c.args.actor c.args.address) (Ok (replies.Region c.in_ok-find.field-0)) c.self.invariant.sound.nodes
       (λ f g k. find_ok (caches_shown f 1 i.caches.caches) (length i.store.frames.held) i.contexts g k c.args.actor c.args.address c.in_ok-find.field-0 (sym c.in_ok-find.was ∙ c.find.ensures));
 }

@@ -30,6 +30,9 @@ use Rattle.pvm_core.specs.Locks.{any_locked}
 use Rattle.pvm_core.proofs.Holding.Counted.{any_same, same_locked}
 use Rattle.pvm_core.proofs.Holding.Kept.{held_released}
 use Rattle.pvm_core.proofs.Holding.Loose.{unpinned_names, working_unpinned}
+use Rattle.pvm_core.proofs.Translating.Cells.{roomier_right}
+use Rattle.pvm_core.proofs.Translating.Left.{left_right}
+use Rattle.pvm_core.proofs.Translating.Writable.{homes_writable}
 use Rattle.pvm_core.proofs.pvm.Pvm.invalidate.Goals as goal
 
 pub returns-in-Some-clause-answers : goal.returns-in-Some-clause-answers
@@ -37,24 +40,31 @@ returns-in-Some-clause-answers g c =
     let h = g.M.Mapper.held c.args.mapper.now in
     let before = g.M.Mapper.counts c.args.mapper.now in
     let p : Manager = the_view c.self.inside in
-    let i = c.self.invariant in
+    let i = c.self.invariant.sound in
     let answer : Answer = Err (troubles.Refused c.in-Some.refusal) in
     subst (λ (p : Manager). CallIs before before (state_at p h) (commands.Invalidate c.args.extent) answer (state_at p h)) c.self.view_is
     (failed before before p p h h (commands.Invalidate c.args.extent) answer (reach_none _ h before) i.nodes i.nodes (subst (λ (p : Manager). IsValid p h) (sym c.self.view_is) c.requires.valid) refl refl tt tt
     (λ f s. invalidate_refused p f c.args.extent i.locked.counted c.in-Some.refusal (sym c.extent_refusal.ensures ∙ c.in-Some.is) (held_for (machine_by p f) s c.args.extent.cache.0)))
 
 pub invariant_of-self : goal.invariant_of-self
-invariant_of-self g c =
-    let i = c.self.inside in
-    let r = c.reserve.ensures in
-    (reserved i.caches c.reserve.new.self i.store i.contexts i.live r.kept r.no_less.0 r.forest (r.sound c.self.invariant.nodes.sound) c.self.invariant).sound
+invariant_of-self g c = record {
+  sound = (
+      let i = c.self.inside in
+      let r = c.reserve.ensures in
+      (reserved i.caches c.reserve.new.self i.store i.contexts i.live r.kept r.no_less.0 r.forest (r.sound c.self.invariant.sound.nodes.sound) c.self.invariant.sound).sound
+      );
+  translated = (
+      let i = c.self.inside in
+      roomier_right i.caches c.reserve.new.self i.store c.reserve.ensures.kept i.contexts c.self.invariant.translated
+      );
+}
 
 pub returns-in_err-reserve-clause-valid : goal.returns-in_err-reserve-clause-valid
 returns-in_err-reserve-clause-valid g c =
     let h = g.M.Mapper.held c.args.mapper.now in
     let i = c.self.inside in
     let r = c.reserve.ensures in
-    (reserved i.caches c.reserve.new.self i.store i.contexts i.live r.kept r.no_less.0 r.forest (r.sound c.self.invariant.nodes.sound) c.self.invariant).valid h (subst (λ (p : Manager). IsValid p h) (sym c.self.view_is) c.requires.valid)
+    (reserved i.caches c.reserve.new.self i.store i.contexts i.live r.kept r.no_less.0 r.forest (r.sound c.self.invariant.sound.nodes.sound) c.self.invariant.sound).valid h (subst (λ (p : Manager). IsValid p h) (sym c.self.view_is) c.requires.valid)
 
 pub returns-in_err-reserve-clause-answers : goal.returns-in_err-reserve-clause-answers
 returns-in_err-reserve-clause-answers g c =
@@ -63,7 +73,7 @@ returns-in_err-reserve-clause-answers g c =
     let i = c.self.inside in
     let r = c.reserve.ensures in
     let b = c.reserve.new.self in
-    let roomy = reserved i.caches b i.store i.contexts i.live r.kept r.no_less.0 r.forest (r.sound c.self.invariant.nodes.sound) c.self.invariant in
+    let roomy = reserved i.caches b i.store i.contexts i.live r.kept r.no_less.0 r.forest (r.sound c.self.invariant.sound.nodes.sound) c.self.invariant.sound in
     let p : Manager = seen i.caches i.store i.contexts in
     let q : Manager = seen b i.store i.contexts in
     let command = commands.Invalidate c.args.extent in
@@ -73,25 +83,32 @@ returns-in_err-reserve-clause-answers g c =
     let is : c.from_residual.result ≡ Err troubles.Memory = gave.1 ∙ ap (λ t. Err t) gave.2 in
     subst (λ (p : Manager). CallIs before before (state_at p h) command (done_by c.from_residual.result) (state_at q h)) c.self.view_is
     (subst (λ (r : Result _ _). CallIs before before (state_at p h) command (done_by r) (state_at q h)) (sym is)
-    (failed before before p q h h command answer (reach_none _ h before) c.self.invariant.nodes roomy.sound.nodes (roomy.valid h (subst (λ (p : Manager). IsValid p h) (sym c.self.view_is) c.requires.valid)) (roomy.forest h) refl tt tt
+    (failed before before p q h h command answer (reach_none _ h before) c.self.invariant.sound.nodes roomy.sound.nodes (roomy.valid h (subst (λ (p : Manager). IsValid p h) (sym c.self.view_is) c.requires.valid)) (roomy.forest h) refl tt tt
     (λ f s. (
       roomy.by f,
       tt,
-      subst (λ a. IsNotRefused a.answer) (sym (invalidate_row p f c.args.extent x (any_same p f c.self.invariant.locked.counted c.args.extent ∙ extent_unlocked (table_of i.caches c.args.extent.cache.0) c.args.extent (any_locked i.caches c.args.extent) (sym c.extent_refusal.ensures ∙ c.in_default.is)) (held_for (machine_by p f) s c.args.extent.cache.0))) tt,
+      subst (λ a. IsNotRefused a.answer) (sym (invalidate_row p f c.args.extent x (any_same p f c.self.invariant.sound.locked.counted c.args.extent ∙ extent_unlocked (table_of i.caches c.args.extent.cache.0) c.args.extent (any_locked i.caches c.args.extent) (sym c.extent_refusal.ensures ∙ c.in_default.is)) (held_for (machine_by p f) s c.args.extent.cache.0))) tt,
     ))))
 
 pub invariant_of-self-2 : goal.invariant_of-self-2
-invariant_of-self-2 g c =
-    let i = c.self.inside in
-    let r = c.reserve.ensures in
-    (reserved i.caches c.reserve.new.self i.store i.contexts i.live r.kept r.no_less.0 r.forest (r.sound c.self.invariant.nodes.sound) c.self.invariant).sound
+invariant_of-self-2 g c = record {
+  sound = (
+      let i = c.self.inside in
+      let r = c.reserve.ensures in
+      (reserved i.caches c.reserve.new.self i.store i.contexts i.live r.kept r.no_less.0 r.forest (r.sound c.self.invariant.sound.nodes.sound) c.self.invariant.sound).sound
+      );
+  translated = (
+      let i = c.self.inside in
+      roomier_right i.caches c.reserve.new.self i.store c.reserve.ensures.kept i.contexts c.self.invariant.translated
+      );
+}
 
 pub save-requires-clause-valid : goal.save-requires-clause-valid
 save-requires-clause-valid g c =
     let h = g.M.Mapper.held c.args.mapper.now in
     let i = c.self.inside in
     let r = c.reserve.ensures in
-    (reserved i.caches c.reserve.new.self i.store i.contexts i.live r.kept r.no_less.0 r.forest (r.sound c.self.invariant.nodes.sound) c.self.invariant).valid h (subst (λ (p : Manager). IsValid p h) (sym c.self.view_is) c.requires.valid)
+    (reserved i.caches c.reserve.new.self i.store i.contexts i.live r.kept r.no_less.0 r.forest (r.sound c.self.invariant.sound.nodes.sound) c.self.invariant.sound).valid h (subst (λ (p : Manager). IsValid p h) (sym c.self.view_is) c.requires.valid)
 
 pub save-requires-clause-range : goal.save-requires-clause-range
 save-requires-clause-range g c =
@@ -104,7 +121,7 @@ returns-in-Err-clause-answers g c =
     let i = c.self.inside in
     let r = c.reserve.ensures in
     let b = c.reserve.new.self in
-    let roomy = reserved i.caches b i.store i.contexts i.live r.kept r.no_less.0 r.forest (r.sound c.self.invariant.nodes.sound) c.self.invariant in
+    let roomy = reserved i.caches b i.store i.contexts i.live r.kept r.no_less.0 r.forest (r.sound c.self.invariant.sound.nodes.sound) c.self.invariant.sound in
     let p : Manager = seen i.caches i.store i.contexts in
     let x = extent_open i.caches c.args.extent (any_locked i.caches c.args.extent) (sym c.extent_refusal.ensures ∙ c.in_default.is) in
     let old : IsValid p h = subst (λ (p : Manager). IsValid p h) (sym c.self.view_is) c.requires.valid in
@@ -116,7 +133,7 @@ returns-in-Err-clause-answers g c =
     let command = commands.Invalidate c.args.extent in
     subst (λ (p : Manager). CallIs before after (state_at p h) command (Err c.in-Err.trouble) (state_at c.save.new.self z)) c.self.view_is
     (subst (λ (s : State). CallIs before after s command (Err c.in-Err.trouble) (state_at c.save.new.self z)) (roomy.state h)
-    (unsaved_is q c.save.new.self h z before after c.args.extent xb (λ f. any_same q f roomy.sound.locked.counted c.args.extent ∙ same_locked p q c.self.invariant.locked.counted roomy.sound.locked.counted roomy.by c.args.extent ∙ extent_unlocked (table_of i.caches c.args.extent.cache.0) c.args.extent (any_locked i.caches c.args.extent) (sym c.extent_refusal.ensures ∙ c.in_default.is)) roomy.sound.nodes c.save.ensures.valid c.save.ensures.keeps c.in-Err.trouble c.in-Err.ensures.failed c.in-Err.ensures.cause))
+    (unsaved_is q c.save.new.self h z before after c.args.extent xb (λ f. any_same q f roomy.sound.locked.counted c.args.extent ∙ same_locked p q c.self.invariant.sound.locked.counted roomy.sound.locked.counted roomy.by c.args.extent ∙ extent_unlocked (table_of i.caches c.args.extent.cache.0) c.args.extent (any_locked i.caches c.args.extent) (sym c.extent_refusal.ensures ∙ c.in_default.is)) roomy.sound.nodes c.save.ensures.valid c.save.ensures.keeps c.in-Err.trouble c.in-Err.ensures.failed c.in-Err.ensures.cause))
 
 pub returns-in-Err-clause-made : goal.returns-in-Err-clause-made
 returns-in-Err-clause-made g c =
@@ -124,7 +141,7 @@ returns-in-Err-clause-made g c =
     let i = c.self.inside in
     let r = c.reserve.ensures in
     let b = c.reserve.new.self in
-    let roomy = reserved i.caches b i.store i.contexts i.live r.kept r.no_less.0 r.forest (r.sound c.self.invariant.nodes.sound) c.self.invariant in
+    let roomy = reserved i.caches b i.store i.contexts i.live r.kept r.no_less.0 r.forest (r.sound c.self.invariant.sound.nodes.sound) c.self.invariant.sound in
     let p : Manager = seen i.caches i.store i.contexts in
     let x = extent_open i.caches c.args.extent (any_locked i.caches c.args.extent) (sym c.extent_refusal.ensures ∙ c.in_default.is) in
     let old : IsValid p h = subst (λ (p : Manager). IsValid p h) (sym c.self.view_is) c.requires.valid in
@@ -135,7 +152,7 @@ returns-in-Err-clause-made g c =
     let xb = extent_by i.caches b c.args.extent (ap (λ a. a.caches) r.kept) x in
     let same : numbered q ≡ numbered c.args.self.now = ap (λ a. a.made + a.copies) r.kept ∙ ap numbered c.self.view_is in
     subst (λ (n : ℕ). RaisesMade (machine_of c.args.self.now h) (commands.Invalidate c.args.extent) (Err c.in-Err.trouble) n (numbered c.save.new.self)) same
-    (unsaved_made q c.save.new.self h z before after c.args.extent xb (λ f. any_same q f roomy.sound.locked.counted c.args.extent ∙ same_locked p q c.self.invariant.locked.counted roomy.sound.locked.counted roomy.by c.args.extent ∙ extent_unlocked (table_of i.caches c.args.extent.cache.0) c.args.extent (any_locked i.caches c.args.extent) (sym c.extent_refusal.ensures ∙ c.in_default.is)) roomy.sound.nodes c.save.ensures.valid c.save.ensures.keeps c.in-Err.trouble c.in-Err.ensures.failed (machine_of c.args.self.now h))
+    (unsaved_made q c.save.new.self h z before after c.args.extent xb (λ f. any_same q f roomy.sound.locked.counted c.args.extent ∙ same_locked p q c.self.invariant.sound.locked.counted roomy.sound.locked.counted roomy.by c.args.extent ∙ extent_unlocked (table_of i.caches c.args.extent.cache.0) c.args.extent (any_locked i.caches c.args.extent) (sym c.extent_refusal.ensures ∙ c.in_default.is)) roomy.sound.nodes c.save.ensures.valid c.save.ensures.keeps c.in-Err.trouble c.in-Err.ensures.failed (machine_of c.args.self.now h))
 
 pub invalidate_pages-requires-clause-nodes : goal.invalidate_pages-requires-clause-nodes
 invalidate_pages-requires-clause-nodes g c =
@@ -143,7 +160,7 @@ invalidate_pages-requires-clause-nodes g c =
     let i = c.self.inside in
     let r = c.reserve.ensures in
     let b = c.reserve.new.self in
-    let roomy = reserved i.caches b i.store i.contexts i.live r.kept r.no_less.0 r.forest (r.sound c.self.invariant.nodes.sound) c.self.invariant in
+    let roomy = reserved i.caches b i.store i.contexts i.live r.kept r.no_less.0 r.forest (r.sound c.self.invariant.sound.nodes.sound) c.self.invariant.sound in
     let p : Manager = seen i.caches i.store i.contexts in
     let x = extent_open i.caches c.args.extent (any_locked i.caches c.args.extent) (sym c.extent_refusal.ensures ∙ c.in_default.is) in
     let old : IsValid p h = subst (λ (p : Manager). IsValid p h) (sym c.self.view_is) c.requires.valid in
@@ -151,7 +168,7 @@ invalidate_pages-requires-clause-nodes g c =
     let after = g.M.Mapper.counts c.save.new.mapper in
     let z = g.M.Mapper.held c.save.new.mapper in
     let j = c.self-2.inside in
-    let k = c.self-2.invariant in
+    let k = c.self-2.invariant.sound in
     let view = sym c.self-2.view_is in
     let ready : IsTaking p h z j.caches j.store j.contexts c.args.extent before after = taking p (seen b i.store i.contexts) h z before after j.caches j.store j.contexts c.args.extent x (ap (λ a. a.caches) r.kept) (ap (λ a. a.made) r.kept) (ap (λ (s : State). s.machine) (roomy.state h)) roomy.by (roomy.forest h)
     (subst (λ (m : Manager). IsValid m z) view c.save.ensures.valid) (subst (λ (m : Manager). KeepsMachine (seen b i.store i.contexts) m h z before after) view c.save.ensures.keeps)
@@ -164,7 +181,7 @@ invalidate_pages-requires-clause-unpinned g c =
     let i = c.self.inside in
     let r = c.reserve.ensures in
     let b = c.reserve.new.self in
-    let roomy = reserved i.caches b i.store i.contexts i.live r.kept r.no_less.0 r.forest (r.sound c.self.invariant.nodes.sound) c.self.invariant in
+    let roomy = reserved i.caches b i.store i.contexts i.live r.kept r.no_less.0 r.forest (r.sound c.self.invariant.sound.nodes.sound) c.self.invariant.sound in
     let p : Manager = seen i.caches i.store i.contexts in
     let x = extent_open i.caches c.args.extent (any_locked i.caches c.args.extent) (sym c.extent_refusal.ensures ∙ c.in_default.is) in
     let old : IsValid p h = subst (λ (p : Manager). IsValid p h) (sym c.self.view_is) c.requires.valid in
@@ -172,18 +189,18 @@ invalidate_pages-requires-clause-unpinned g c =
     let after = g.M.Mapper.counts c.save.new.mapper in
     let z = g.M.Mapper.held c.save.new.mapper in
     let j = c.self-2.inside in
-    let k = c.self-2.invariant in
+    let k = c.self-2.invariant.sound in
     let view = sym c.self-2.view_is in
     let ready : IsTaking p h z j.caches j.store j.contexts c.args.extent before after = taking p (seen b i.store i.contexts) h z before after j.caches j.store j.contexts c.args.extent x (ap (λ a. a.caches) r.kept) (ap (λ a. a.made) r.kept) (ap (λ (s : State). s.machine) (roomy.state h)) roomy.by (roomy.forest h)
     (subst (λ (m : Manager). IsValid m z) view c.save.ensures.valid) (subst (λ (m : Manager). KeepsMachine (seen b i.store i.contexts) m h z before after) view c.save.ensures.keeps)
     (ap (λ (m : Manager). m.caches.caches) c.self-2.view_is ∙ c.save.ensures.tables) (ap (λ (m : Manager). forest_of m z) c.self-2.view_is ∙ c.in-Ok.ensures.saved) in
     unpinned_names j.caches j.store j.contexts.actors k.locked c.args.extent
-    (same_locked p (seen j.caches j.store j.contexts) c.self.invariant.locked.counted k.locked.counted ready.by c.args.extent ∙ extent_unlocked (table_of i.caches c.args.extent.cache.0) c.args.extent (any_locked i.caches c.args.extent) (sym c.extent_refusal.ensures ∙ c.in_default.is))
+    (same_locked p (seen j.caches j.store j.contexts) c.self.invariant.sound.locked.counted k.locked.counted ready.by c.args.extent ∙ extent_unlocked (table_of i.caches c.args.extent.cache.0) c.args.extent (any_locked i.caches c.args.extent) (sym c.extent_refusal.ensures ∙ c.in_default.is))
 
 pub invalidate_pages-requires-clause-working : goal.invalidate_pages-requires-clause-working
 invalidate_pages-requires-clause-working g c =
     let j = c.self-2.inside in
-    working_unpinned j.caches j.store j.contexts.actors c.self-2.invariant.locked
+    working_unpinned j.caches j.store j.contexts.actors c.self-2.invariant.sound.locked
 
 pub invalidate_pages-requires-clause-saved : goal.invalidate_pages-requires-clause-saved
 invalidate_pages-requires-clause-saved g c = λ named.
@@ -191,7 +208,7 @@ invalidate_pages-requires-clause-saved g c = λ named.
     let i = c.self.inside in
     let r = c.reserve.ensures in
     let b = c.reserve.new.self in
-    let roomy = reserved i.caches b i.store i.contexts i.live r.kept r.no_less.0 r.forest (r.sound c.self.invariant.nodes.sound) c.self.invariant in
+    let roomy = reserved i.caches b i.store i.contexts i.live r.kept r.no_less.0 r.forest (r.sound c.self.invariant.sound.nodes.sound) c.self.invariant.sound in
     let p : Manager = seen i.caches i.store i.contexts in
     let x = extent_open i.caches c.args.extent (any_locked i.caches c.args.extent) (sym c.extent_refusal.ensures ∙ c.in_default.is) in
     let old : IsValid p h = subst (λ (p : Manager). IsValid p h) (sym c.self.view_is) c.requires.valid in
@@ -199,12 +216,12 @@ invalidate_pages-requires-clause-saved g c = λ named.
     let after = g.M.Mapper.counts c.save.new.mapper in
     let z = g.M.Mapper.held c.save.new.mapper in
     let j = c.self-2.inside in
-    let k = c.self-2.invariant in
+    let k = c.self-2.invariant.sound in
     let view = sym c.self-2.view_is in
     let ready : IsTaking p h z j.caches j.store j.contexts c.args.extent before after = taking p (seen b i.store i.contexts) h z before after j.caches j.store j.contexts c.args.extent x (ap (λ a. a.caches) r.kept) (ap (λ a. a.made) r.kept) (ap (λ (s : State). s.machine) (roomy.state h)) roomy.by (roomy.forest h)
     (subst (λ (m : Manager). IsValid m z) view c.save.ensures.valid) (subst (λ (m : Manager). KeepsMachine (seen b i.store i.contexts) m h z before after) view c.save.ensures.keeps)
     (ap (λ (m : Manager). m.caches.caches) c.self-2.view_is ∙ c.save.ensures.tables) (ap (λ (m : Manager). forest_of m z) c.self-2.view_is ∙ c.in-Ok.ensures.saved) in
-    taking_saved p h z j.caches j.store j.contexts c.args.extent before after c.self.invariant.nodes ready k.nodes
+    taking_saved p h z j.caches j.store j.contexts c.args.extent before after c.self.invariant.sound.nodes ready k.nodes
 
 pub invalidate_pages-requires-clause-few : goal.invalidate_pages-requires-clause-few
 invalidate_pages-requires-clause-few g c =
@@ -212,7 +229,7 @@ invalidate_pages-requires-clause-few g c =
     let i = c.self.inside in
     let r = c.reserve.ensures in
     let b = c.reserve.new.self in
-    let roomy = reserved i.caches b i.store i.contexts i.live r.kept r.no_less.0 r.forest (r.sound c.self.invariant.nodes.sound) c.self.invariant in
+    let roomy = reserved i.caches b i.store i.contexts i.live r.kept r.no_less.0 r.forest (r.sound c.self.invariant.sound.nodes.sound) c.self.invariant.sound in
     let p : Manager = seen i.caches i.store i.contexts in
     let x = extent_open i.caches c.args.extent (any_locked i.caches c.args.extent) (sym c.extent_refusal.ensures ∙ c.in_default.is) in
     let old : IsValid p h = subst (λ (p : Manager). IsValid p h) (sym c.self.view_is) c.requires.valid in
@@ -220,7 +237,7 @@ invalidate_pages-requires-clause-few g c =
     let after = g.M.Mapper.counts c.save.new.mapper in
     let z = g.M.Mapper.held c.save.new.mapper in
     let j = c.self-2.inside in
-    let k = c.self-2.invariant in
+    let k = c.self-2.invariant.sound in
     let view = sym c.self-2.view_is in
     let ready : IsTaking p h z j.caches j.store j.contexts c.args.extent before after = taking p (seen b i.store i.contexts) h z before after j.caches j.store j.contexts c.args.extent x (ap (λ a. a.caches) r.kept) (ap (λ a. a.made) r.kept) (ap (λ (s : State). s.machine) (roomy.state h)) roomy.by (roomy.forest h)
     (subst (λ (m : Manager). IsValid m z) view c.save.ensures.valid) (subst (λ (m : Manager). KeepsMachine (seen b i.store i.contexts) m h z before after) view c.save.ensures.keeps)
@@ -228,27 +245,37 @@ invalidate_pages-requires-clause-few g c =
     omega (arith, forest_len j.caches, nodes_most k, k.few, k.counted, size_le j.caches c.args.extent.cache.0 (length ready.extent.table.pages) (ap (option_map (λ (t : Table). length t.pages)) ready.extent.there), ready.extent.ends)
 
 pub invariant_of-self-3 : goal.invariant_of-self-3
-invariant_of-self-3 g c =
-    let h = g.M.Mapper.held c.args.mapper.now in
-    let i = c.self.inside in
-    let r = c.reserve.ensures in
-    let b = c.reserve.new.self in
-    let roomy = reserved i.caches b i.store i.contexts i.live r.kept r.no_less.0 r.forest (r.sound c.self.invariant.nodes.sound) c.self.invariant in
-    let p : Manager = seen i.caches i.store i.contexts in
-    let x = extent_open i.caches c.args.extent (any_locked i.caches c.args.extent) (sym c.extent_refusal.ensures ∙ c.in_default.is) in
-    let old : IsValid p h = subst (λ (p : Manager). IsValid p h) (sym c.self.view_is) c.requires.valid in
-    let before = g.M.Mapper.counts c.args.mapper.now in
-    let after = g.M.Mapper.counts c.save.new.mapper in
-    let z = g.M.Mapper.held c.save.new.mapper in
-    let j = c.self-2.inside in
-    let k = c.self-2.invariant in
-    let view = sym c.self-2.view_is in
-    let ready : IsTaking p h z j.caches j.store j.contexts c.args.extent before after = taking p (seen b i.store i.contexts) h z before after j.caches j.store j.contexts c.args.extent x (ap (λ a. a.caches) r.kept) (ap (λ a. a.made) r.kept) (ap (λ (s : State). s.machine) (roomy.state h)) roomy.by (roomy.forest h)
-    (subst (λ (m : Manager). IsValid m z) view c.save.ensures.valid) (subst (λ (m : Manager). KeepsMachine (seen b i.store i.contexts) m h z before after) view c.save.ensures.keeps)
-    (ap (λ (m : Manager). m.caches.caches) c.self-2.view_is ∙ c.save.ensures.tables) (ap (λ (m : Manager). forest_of m z) c.self-2.view_is ∙ c.in-Ok.ensures.saved) in
-    let e = c.invalidate_pages.ensures in
-    changed_sound j.caches c.invalidate_pages.new.caches j.store c.invalidate_pages.new.store j.contexts j.live k e.kept.sizes e.kept.gives_back (tied_right z None j.caches j.store ready.valid.right) e.whole e.bounded
-    (held_released _ j.caches c.invalidate_pages.new.caches j.store c.invalidate_pages.new.store e.kept (tied_right z None j.caches j.store ready.valid.right) j.contexts k.nodes k.actors k.locked)
+invariant_of-self-3 g c = record {
+  sound = (
+      let h = g.M.Mapper.held c.args.mapper.now in
+      let i = c.self.inside in
+      let r = c.reserve.ensures in
+      let b = c.reserve.new.self in
+      let roomy = reserved i.caches b i.store i.contexts i.live r.kept r.no_less.0 r.forest (r.sound c.self.invariant.sound.nodes.sound) c.self.invariant.sound in
+      let p : Manager = seen i.caches i.store i.contexts in
+      let x = extent_open i.caches c.args.extent (any_locked i.caches c.args.extent) (sym c.extent_refusal.ensures ∙ c.in_default.is) in
+      let old : IsValid p h = subst (λ (p : Manager). IsValid p h) (sym c.self.view_is) c.requires.valid in
+      let before = g.M.Mapper.counts c.args.mapper.now in
+      let after = g.M.Mapper.counts c.save.new.mapper in
+      let z = g.M.Mapper.held c.save.new.mapper in
+      let j = c.self-2.inside in
+      let k = c.self-2.invariant.sound in
+      let view = sym c.self-2.view_is in
+      let ready : IsTaking p h z j.caches j.store j.contexts c.args.extent before after = taking p (seen b i.store i.contexts) h z before after j.caches j.store j.contexts c.args.extent x (ap (λ a. a.caches) r.kept) (ap (λ a. a.made) r.kept) (ap (λ (s : State). s.machine) (roomy.state h)) roomy.by (roomy.forest h)
+      (subst (λ (m : Manager). IsValid m z) view c.save.ensures.valid) (subst (λ (m : Manager). KeepsMachine (seen b i.store i.contexts) m h z before after) view c.save.ensures.keeps)
+      (ap (λ (m : Manager). m.caches.caches) c.self-2.view_is ∙ c.save.ensures.tables) (ap (λ (m : Manager). forest_of m z) c.self-2.view_is ∙ c.in-Ok.ensures.saved) in
+      let e = c.invalidate_pages.ensures in
+      changed_sound j.caches c.invalidate_pages.new.caches j.store c.invalidate_pages.new.store j.contexts j.live k e.kept.sizes e.kept.gives_back (tied_right z None j.caches j.store ready.valid.right) e.whole e.bounded
+      (held_released _ j.caches c.invalidate_pages.new.caches j.store c.invalidate_pages.new.store e.kept (tied_right z None j.caches j.store ready.valid.right) j.contexts k.nodes k.actors k.locked)
+      );
+  translated = (
+      let j = c.self-2.inside in
+      let e = c.invalidate_pages.ensures in
+      let d = c.invalidate_pages.new.caches in
+      let u = c.invalidate_pages.new.store in
+      left_right _ _ j.caches d j.store u j.contexts e.translations (homes_writable _ j.caches d e.kept.sizes e.kept.homes) c.self-2.invariant.translated
+      );
+}
 
 pub returns-clause-valid : goal.returns-clause-valid
 returns-clause-valid g c =
@@ -256,7 +283,7 @@ returns-clause-valid g c =
     let i = c.self.inside in
     let r = c.reserve.ensures in
     let b = c.reserve.new.self in
-    let roomy = reserved i.caches b i.store i.contexts i.live r.kept r.no_less.0 r.forest (r.sound c.self.invariant.nodes.sound) c.self.invariant in
+    let roomy = reserved i.caches b i.store i.contexts i.live r.kept r.no_less.0 r.forest (r.sound c.self.invariant.sound.nodes.sound) c.self.invariant.sound in
     let p : Manager = seen i.caches i.store i.contexts in
     let x = extent_open i.caches c.args.extent (any_locked i.caches c.args.extent) (sym c.extent_refusal.ensures ∙ c.in_default.is) in
     let old : IsValid p h = subst (λ (p : Manager). IsValid p h) (sym c.self.view_is) c.requires.valid in
@@ -264,7 +291,7 @@ returns-clause-valid g c =
     let after = g.M.Mapper.counts c.save.new.mapper in
     let z = g.M.Mapper.held c.save.new.mapper in
     let j = c.self-2.inside in
-    let k = c.self-2.invariant in
+    let k = c.self-2.invariant.sound in
     let view = sym c.self-2.view_is in
     let ready : IsTaking p h z j.caches j.store j.contexts c.args.extent before after = taking p (seen b i.store i.contexts) h z before after j.caches j.store j.contexts c.args.extent x (ap (λ a. a.caches) r.kept) (ap (λ a. a.made) r.kept) (ap (λ (s : State). s.machine) (roomy.state h)) roomy.by (roomy.forest h)
     (subst (λ (m : Manager). IsValid m z) view c.save.ensures.valid) (subst (λ (m : Manager). KeepsMachine (seen b i.store i.contexts) m h z before after) view c.save.ensures.keeps)
@@ -275,7 +302,7 @@ returns-clause-valid g c =
     let tied = tied_right z None j.caches j.store ready.valid.right in
     let right = e.right (slots_enough j.caches d j.store u j.contexts j.live k e.kept.sizes e.kept.gives_back tied e.whole) in
     taken_valid p h z j.caches d j.store u j.contexts j.live k ready.valid c.args.extent ready.extent
-    (same_locked p (seen j.caches j.store j.contexts) c.self.invariant.locked.counted k.locked.counted ready.by c.args.extent ∙ extent_unlocked (table_of i.caches c.args.extent.cache.0) c.args.extent (any_locked i.caches c.args.extent) (sym c.extent_refusal.ensures ∙ c.in_default.is)) ready.machine ready.by c.self.invariant.nodes old ready.forest e.kept.sizes e.kept.gives_back tied e.whole right e.forest
+    (same_locked p (seen j.caches j.store j.contexts) c.self.invariant.sound.locked.counted k.locked.counted ready.by c.args.extent ∙ extent_unlocked (table_of i.caches c.args.extent.cache.0) c.args.extent (any_locked i.caches c.args.extent) (sym c.extent_refusal.ensures ∙ c.in_default.is)) ready.machine ready.by c.self.invariant.sound.nodes old ready.forest e.kept.sizes e.kept.gives_back tied e.whole right e.forest
 
 pub returns-clause-answers : goal.returns-clause-answers
 returns-clause-answers g c =
@@ -283,7 +310,7 @@ returns-clause-answers g c =
     let i = c.self.inside in
     let r = c.reserve.ensures in
     let b = c.reserve.new.self in
-    let roomy = reserved i.caches b i.store i.contexts i.live r.kept r.no_less.0 r.forest (r.sound c.self.invariant.nodes.sound) c.self.invariant in
+    let roomy = reserved i.caches b i.store i.contexts i.live r.kept r.no_less.0 r.forest (r.sound c.self.invariant.sound.nodes.sound) c.self.invariant.sound in
     let p : Manager = seen i.caches i.store i.contexts in
     let x = extent_open i.caches c.args.extent (any_locked i.caches c.args.extent) (sym c.extent_refusal.ensures ∙ c.in_default.is) in
     let old : IsValid p h = subst (λ (p : Manager). IsValid p h) (sym c.self.view_is) c.requires.valid in
@@ -291,7 +318,7 @@ returns-clause-answers g c =
     let after = g.M.Mapper.counts c.save.new.mapper in
     let z = g.M.Mapper.held c.save.new.mapper in
     let j = c.self-2.inside in
-    let k = c.self-2.invariant in
+    let k = c.self-2.invariant.sound in
     let view = sym c.self-2.view_is in
     let ready : IsTaking p h z j.caches j.store j.contexts c.args.extent before after = taking p (seen b i.store i.contexts) h z before after j.caches j.store j.contexts c.args.extent x (ap (λ a. a.caches) r.kept) (ap (λ a. a.made) r.kept) (ap (λ (s : State). s.machine) (roomy.state h)) roomy.by (roomy.forest h)
     (subst (λ (m : Manager). IsValid m z) view c.save.ensures.valid) (subst (λ (m : Manager). KeepsMachine (seen b i.store i.contexts) m h z before after) view c.save.ensures.keeps)
@@ -303,7 +330,7 @@ returns-clause-answers g c =
     let right = e.right (slots_enough j.caches d j.store u j.contexts j.live k e.kept.sizes e.kept.gives_back tied e.whole) in
     subst (λ (p : Manager). CallIs before after (state_at p h) (commands.Invalidate c.args.extent) (Ok replies.Done) (state_at (seen d u j.contexts) z)) c.self.view_is
     (taken_is p h z j.caches d j.store u j.contexts j.live k ready.valid c.args.extent ready.extent
-    (same_locked p (seen j.caches j.store j.contexts) c.self.invariant.locked.counted k.locked.counted ready.by c.args.extent ∙ extent_unlocked (table_of i.caches c.args.extent.cache.0) c.args.extent (any_locked i.caches c.args.extent) (sym c.extent_refusal.ensures ∙ c.in_default.is)) ready.machine ready.by c.self.invariant.nodes old ready.forest e.kept.sizes e.kept.gives_back tied e.whole right e.forest before after ready.reach)
+    (same_locked p (seen j.caches j.store j.contexts) c.self.invariant.sound.locked.counted k.locked.counted ready.by c.args.extent ∙ extent_unlocked (table_of i.caches c.args.extent.cache.0) c.args.extent (any_locked i.caches c.args.extent) (sym c.extent_refusal.ensures ∙ c.in_default.is)) ready.machine ready.by c.self.invariant.sound.nodes old ready.forest e.kept.sizes e.kept.gives_back tied e.whole right e.forest before after ready.reach)
 
 pub returns-clause-made : goal.returns-clause-made
 returns-clause-made g c =
@@ -311,7 +338,7 @@ returns-clause-made g c =
     let i = c.self.inside in
     let r = c.reserve.ensures in
     let b = c.reserve.new.self in
-    let roomy = reserved i.caches b i.store i.contexts i.live r.kept r.no_less.0 r.forest (r.sound c.self.invariant.nodes.sound) c.self.invariant in
+    let roomy = reserved i.caches b i.store i.contexts i.live r.kept r.no_less.0 r.forest (r.sound c.self.invariant.sound.nodes.sound) c.self.invariant.sound in
     let p : Manager = seen i.caches i.store i.contexts in
     let x = extent_open i.caches c.args.extent (any_locked i.caches c.args.extent) (sym c.extent_refusal.ensures ∙ c.in_default.is) in
     let old : IsValid p h = subst (λ (p : Manager). IsValid p h) (sym c.self.view_is) c.requires.valid in
@@ -319,7 +346,7 @@ returns-clause-made g c =
     let after = g.M.Mapper.counts c.save.new.mapper in
     let z = g.M.Mapper.held c.save.new.mapper in
     let j = c.self-2.inside in
-    let k = c.self-2.invariant in
+    let k = c.self-2.invariant.sound in
     let view = sym c.self-2.view_is in
     let ready : IsTaking p h z j.caches j.store j.contexts c.args.extent before after = taking p (seen b i.store i.contexts) h z before after j.caches j.store j.contexts c.args.extent x (ap (λ a. a.caches) r.kept) (ap (λ a. a.made) r.kept) (ap (λ (s : State). s.machine) (roomy.state h)) roomy.by (roomy.forest h)
     (subst (λ (m : Manager). IsValid m z) view c.save.ensures.valid) (subst (λ (m : Manager). KeepsMachine (seen b i.store i.contexts) m h z before after) view c.save.ensures.keeps)
@@ -329,7 +356,7 @@ returns-clause-made g c =
     let u = c.invalidate_pages.new.store in
     let tied = tied_right z None j.caches j.store ready.valid.right in
     let right = e.right (slots_enough j.caches d j.store u j.contexts j.live k e.kept.sizes e.kept.gives_back tied e.whole) in
-    let copies = taking_copies p h z j.caches j.store j.contexts c.args.extent before after c.self.invariant.nodes ready in
+    let copies = taking_copies p h z j.caches j.store j.contexts c.args.extent before after c.self.invariant.sound.nodes ready in
     subst (λ (p : Manager). numbered (seen d u j.contexts) ≤ numbered p + 8 * (c.args.extent.pages + pages_in (cache_of (machine_of p h) c.args.extent.cache.0)) + 8) c.self.view_is
     (omega (arith, copies, e.made, e.copies, ready.made))
 
@@ -339,7 +366,7 @@ returns-clause-taken g c =
     let i = c.self.inside in
     let r = c.reserve.ensures in
     let b = c.reserve.new.self in
-    let roomy = reserved i.caches b i.store i.contexts i.live r.kept r.no_less.0 r.forest (r.sound c.self.invariant.nodes.sound) c.self.invariant in
+    let roomy = reserved i.caches b i.store i.contexts i.live r.kept r.no_less.0 r.forest (r.sound c.self.invariant.sound.nodes.sound) c.self.invariant.sound in
     let p : Manager = seen i.caches i.store i.contexts in
     let x = extent_open i.caches c.args.extent (any_locked i.caches c.args.extent) (sym c.extent_refusal.ensures ∙ c.in_default.is) in
     let old : IsValid p h = subst (λ (p : Manager). IsValid p h) (sym c.self.view_is) c.requires.valid in
@@ -347,7 +374,7 @@ returns-clause-taken g c =
     let after = g.M.Mapper.counts c.save.new.mapper in
     let z = g.M.Mapper.held c.save.new.mapper in
     let j = c.self-2.inside in
-    let k = c.self-2.invariant in
+    let k = c.self-2.invariant.sound in
     let view = sym c.self-2.view_is in
     let ready : IsTaking p h z j.caches j.store j.contexts c.args.extent before after = taking p (seen b i.store i.contexts) h z before after j.caches j.store j.contexts c.args.extent x (ap (λ a. a.caches) r.kept) (ap (λ a. a.made) r.kept) (ap (λ (s : State). s.machine) (roomy.state h)) roomy.by (roomy.forest h)
     (subst (λ (m : Manager). IsValid m z) view c.save.ensures.valid) (subst (λ (m : Manager). KeepsMachine (seen b i.store i.contexts) m h z before after) view c.save.ensures.keeps)
@@ -358,4 +385,4 @@ returns-clause-taken g c =
     let tied = tied_right z None j.caches j.store ready.valid.right in
     let right = e.right (slots_enough j.caches d j.store u j.contexts j.live k e.kept.sizes e.kept.gives_back tied e.whole) in
     taken_pushed p h z j.caches d j.store u j.contexts j.live k ready.valid c.args.extent ready.extent
-    (same_locked p (seen j.caches j.store j.contexts) c.self.invariant.locked.counted k.locked.counted ready.by c.args.extent ∙ extent_unlocked (table_of i.caches c.args.extent.cache.0) c.args.extent (any_locked i.caches c.args.extent) (sym c.extent_refusal.ensures ∙ c.in_default.is)) ready.machine ready.by c.self.invariant.nodes old ready.forest e.kept.sizes e.kept.gives_back tied e.whole right e.forest
+    (same_locked p (seen j.caches j.store j.contexts) c.self.invariant.sound.locked.counted k.locked.counted ready.by c.args.extent ∙ extent_unlocked (table_of i.caches c.args.extent.cache.0) c.args.extent (any_locked i.caches c.args.extent) (sym c.extent_refusal.ensures ∙ c.in_default.is)) ready.machine ready.by c.self.invariant.sound.nodes old ready.forest e.kept.sizes e.kept.gives_back tied e.whole right e.forest

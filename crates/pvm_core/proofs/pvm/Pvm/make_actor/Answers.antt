@@ -11,7 +11,9 @@ use Rattle.pvm_core.specs.Locks.{locks_over}
 use Rattle.pvm_core.specs.Placed.{AreRight}
 use Rattle.pvm_core.proofs.Holding.Actors.{over_made}
 use Rattle.pvm_core.specs.Manager.{IsValid, Manager, caches_shown, forest_of, state_at}
+use Rattle.pvm_core.specs.Translated.{AreTranslationsRight}
 use Rattle.pvm_core.specs.contracts.pvm.Pvm.{the_view}
+use Rattle.pvm_core.proofs.Translating.Commands.{made_right}
 use Rattle.pvm_core.proofs.Answering.Answered.{seated}
 use Rattle.pvm_core.proofs.Answering.Kept.{on_err, seated_same, seated_sound, seated_valid}
 use Rattle.pvm_core.proofs.Answering.Listed.{actor_outcome, after_either, right_made}
@@ -21,13 +23,17 @@ abbrev more : Actors → Actors
 more t = record t { actors = t.actors ++ Some [] ∷ [] }
 
 pub invariant_of-self : goal.invariant_of-self
-invariant_of-self c =
-    let i = c.self.inside in
-    let e = c.make.ensures in
-    let u = c.make.new.self in
-    seated_sound i.caches i.store i.contexts u i.live (after_either (λ (t : Actors). t.page_bytes ≡ i.contexts.page_bytes) i.contexts u (more i.contexts) c.make.result e.ok e.err refl refl)
-    (after_either (AreRight (size_of i.caches)) i.contexts u (more i.contexts) c.make.result e.ok e.err (right_made (size_of i.caches) i.contexts c.self.invariant.actors) c.self.invariant.actors)
-    (after_either (λ (t : Actors). (cache page : ℕ) → locks_over t.actors cache page ≡ locks_over i.contexts.actors cache page) i.contexts u (more i.contexts) c.make.result e.ok e.err (λ cache page. over_made cache page i.contexts.actors) (λ cache page. refl)) c.self.invariant
+invariant_of-self c = record {
+  sound = (
+      let i = c.self.inside in
+      let e = c.make.ensures in
+      let u = c.make.new.self in
+      seated_sound i.caches i.store i.contexts u i.live (after_either (λ (t : Actors). t.page_bytes ≡ i.contexts.page_bytes) i.contexts u (more i.contexts) c.make.result e.ok e.err refl refl)
+      (after_either (AreRight (size_of i.caches)) i.contexts u (more i.contexts) c.make.result e.ok e.err (right_made (size_of i.caches) i.contexts c.self.invariant.sound.actors) c.self.invariant.sound.actors)
+      (after_either (λ (t : Actors). (cache page : ℕ) → locks_over t.actors cache page ≡ locks_over i.contexts.actors cache page) i.contexts u (more i.contexts) c.make.result e.ok e.err (λ cache page. over_made cache page i.contexts.actors) (λ cache page. refl)) c.self.invariant.sound
+      );
+  translated = after_either (λ (t : Actors). AreTranslationsRight c.self.inside.caches c.self.inside.store t) c.self.inside.contexts c.make.new.self (more c.self.inside.contexts) c.make.result c.make.ensures.ok c.make.ensures.err (made_right c.self.inside.caches c.self.inside.store c.self.inside.contexts c.self.invariant.translated) c.self.invariant.translated;
+}
 
 pub returns-clause-valid : goal.returns-clause-valid
 returns-clause-valid c = λ h v.
@@ -46,7 +52,7 @@ returns-clause-answers c = λ h v.
     let command = commands.MakeActor in
     let answer = answer_by replies.Actor c.make.result in
     subst (λ (p : Manager). AnswerIs (state_at p h) command answer [] no_counts (state_at q h)) c.self.view_is
-    (seated (the_view i) q h command answer c.self.invariant.nodes c.self.invariant.nodes (seated_valid (the_view i) q h refl refl (after_either (λ (t : Actors). t.page_bytes ≡ i.contexts.page_bytes) i.contexts u (more i.contexts) c.make.result e.ok e.err refl refl) (subst (λ (p : Manager). IsValid p h) (sym c.self.view_is) v)) refl (λ done m f s none. none) refl tt (λ f. refl) (λ page. refl)
+    (seated (the_view i) q h command answer c.self.invariant.sound.nodes c.self.invariant.sound.nodes (seated_valid (the_view i) q h refl refl (after_either (λ (t : Actors). t.page_bytes ≡ i.contexts.page_bytes) i.contexts u (more i.contexts) c.make.result e.ok e.err refl refl) (subst (λ (p : Manager). IsValid p h) (sym c.self.view_is) v)) refl (λ done m f s none. none) refl tt (λ f. refl) (λ page. refl)
     (λ f s. actor_outcome (caches_shown f 1 i.caches.caches) (length i.store.frames.held) i.contexts u (Some (forest_of (the_view i) h)) s (is_full i.contexts) c.make.result refl e.refused e.made e.ok e.err))
 
 pub returns-clause-err : goal.returns-clause-err

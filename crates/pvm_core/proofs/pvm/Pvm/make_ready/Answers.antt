@@ -20,37 +20,45 @@ use Rattle.pvm_core.proofs.Answering.Reaching.{reach_none, reach_quiet}
 use Rattle.pvm_core.proofs.Readiness.Readying.{more_room, ungranted_ready, if_err_by, keeps_then, named_same, on_ok_by, saved_all, unsaved_ready, writable_same}
 use Rattle.pvm_core.proofs.Spanning.Reserved.{reserved}
 use Rattle.pvm_core.proofs.Meaning.Values.{consistent_of}
+use Rattle.pvm_core.proofs.Translating.Cells.{granted_right, roomier_right}
 use Rattle.pvm_core.proofs.pvm.Pvm.make_ready.Goals as goal
 
 pub invariant_of-self : goal.invariant_of-self
-invariant_of-self g c =
-    let i = c.self.inside in
-    let e0 = c.grant_range.ensures in
-    let a = c.grant_range.new.caches in
-    let m = c.grant_range.new.mapper in
-    let h0 = g.M.Mapper.held c.args.mapper.now in
-    let h = g.M.Mapper.held m in
-    let size0 = g.M.Mapper.page_bytes c.args.mapper.now in
-    let size = g.M.Mapper.page_bytes m in
-    let asked = g.M.Mapper.counts c.args.mapper.now in
-    let before = g.M.Mapper.counts m in
-    let p : Manager = seen i.caches i.store i.contexts in
-    let p1 : Manager = seen a i.store i.contexts in
-    let valid0 = subst (λ (p : Manager). IsValid p h0) (sym c.self.view_is) c.requires.valid in
-    let sound = granted_sound i.caches a i.store i.contexts i.live e0.nodes c.self.invariant in
-    let valid = granted_valid i.caches a i.store i.contexts i.live e0.nodes c.self.invariant h0 h size0 size e0.held e0.forest e0.right valid0 in
-    let keeps : KeepsMachine p p1 h0 h asked before = record {
-      machine = granted_machine i.caches a i.store i.contexts i.live e0.nodes c.self.invariant h0 h size0 size e0.held e0.forest;
-      by = granted_by i.caches a i.store i.contexts i.live e0.nodes c.self.invariant;
-      same = e0.nodes.same;
-      made = e0.nodes.made;
-      reach = reach_quiet (machine_of p h0) h0 h asked before (ap segments_of e0.held) e0.later;
-    } in
-    let forest : KeepsForest p p1 h0 h = record {
-      forest = granted_forest i.caches a i.store i.contexts i.live e0.nodes c.self.invariant h0 h size0 size e0.held e0.forest;
-      copies = e0.nodes.copies;
-    } in
-    sound
+invariant_of-self g c = record {
+  sound = (
+      let i = c.self.inside in
+      let e0 = c.grant_range.ensures in
+      let a = c.grant_range.new.caches in
+      let m = c.grant_range.new.mapper in
+      let h0 = g.M.Mapper.held c.args.mapper.now in
+      let h = g.M.Mapper.held m in
+      let size0 = g.M.Mapper.page_bytes c.args.mapper.now in
+      let size = g.M.Mapper.page_bytes m in
+      let asked = g.M.Mapper.counts c.args.mapper.now in
+      let before = g.M.Mapper.counts m in
+      let p : Manager = seen i.caches i.store i.contexts in
+      let p1 : Manager = seen a i.store i.contexts in
+      let valid0 = subst (λ (p : Manager). IsValid p h0) (sym c.self.view_is) c.requires.valid in
+      let sound = granted_sound i.caches a i.store i.contexts i.live e0.nodes c.self.invariant.sound in
+      let valid = granted_valid i.caches a i.store i.contexts i.live e0.nodes c.self.invariant.sound h0 h size0 size e0.held e0.forest e0.right valid0 in
+      let keeps : KeepsMachine p p1 h0 h asked before = record {
+        machine = granted_machine i.caches a i.store i.contexts i.live e0.nodes c.self.invariant.sound h0 h size0 size e0.held e0.forest;
+        by = granted_by i.caches a i.store i.contexts i.live e0.nodes c.self.invariant.sound;
+        same = e0.nodes.same;
+        made = e0.nodes.made;
+        reach = reach_quiet (machine_of p h0) h0 h asked before (ap segments_of e0.held) e0.later;
+      } in
+      let forest : KeepsForest p p1 h0 h = record {
+        forest = granted_forest i.caches a i.store i.contexts i.live e0.nodes c.self.invariant.sound h0 h size0 size e0.held e0.forest;
+        copies = e0.nodes.copies;
+      } in
+      sound
+      );
+  translated = (
+      let i = c.self.inside in
+      granted_right i.caches c.grant_range.new.caches i.store c.grant_range.ensures.nodes i.contexts c.self.invariant.translated
+      );
+}
 
 pub returns-in_err-grant_range-clause-valid : goal.returns-in_err-grant_range-clause-valid
 returns-in_err-grant_range-clause-valid g c =
@@ -67,17 +75,17 @@ returns-in_err-grant_range-clause-valid g c =
     let p : Manager = seen i.caches i.store i.contexts in
     let p1 : Manager = seen a i.store i.contexts in
     let valid0 = subst (λ (p : Manager). IsValid p h0) (sym c.self.view_is) c.requires.valid in
-    let sound = granted_sound i.caches a i.store i.contexts i.live e0.nodes c.self.invariant in
-    let valid = granted_valid i.caches a i.store i.contexts i.live e0.nodes c.self.invariant h0 h size0 size e0.held e0.forest e0.right valid0 in
+    let sound = granted_sound i.caches a i.store i.contexts i.live e0.nodes c.self.invariant.sound in
+    let valid = granted_valid i.caches a i.store i.contexts i.live e0.nodes c.self.invariant.sound h0 h size0 size e0.held e0.forest e0.right valid0 in
     let keeps : KeepsMachine p p1 h0 h asked before = record {
-      machine = granted_machine i.caches a i.store i.contexts i.live e0.nodes c.self.invariant h0 h size0 size e0.held e0.forest;
-      by = granted_by i.caches a i.store i.contexts i.live e0.nodes c.self.invariant;
+      machine = granted_machine i.caches a i.store i.contexts i.live e0.nodes c.self.invariant.sound h0 h size0 size e0.held e0.forest;
+      by = granted_by i.caches a i.store i.contexts i.live e0.nodes c.self.invariant.sound;
       same = e0.nodes.same;
       made = e0.nodes.made;
       reach = reach_quiet (machine_of p h0) h0 h asked before (ap segments_of e0.held) e0.later;
     } in
     let forest : KeepsForest p p1 h0 h = record {
-      forest = granted_forest i.caches a i.store i.contexts i.live e0.nodes c.self.invariant h0 h size0 size e0.held e0.forest;
+      forest = granted_forest i.caches a i.store i.contexts i.live e0.nodes c.self.invariant.sound h0 h size0 size e0.held e0.forest;
       copies = e0.nodes.copies;
     } in
     valid
@@ -97,17 +105,17 @@ returns-in_err-grant_range-clause-keeps g c =
     let p : Manager = seen i.caches i.store i.contexts in
     let p1 : Manager = seen a i.store i.contexts in
     let valid0 = subst (λ (p : Manager). IsValid p h0) (sym c.self.view_is) c.requires.valid in
-    let sound = granted_sound i.caches a i.store i.contexts i.live e0.nodes c.self.invariant in
-    let valid = granted_valid i.caches a i.store i.contexts i.live e0.nodes c.self.invariant h0 h size0 size e0.held e0.forest e0.right valid0 in
+    let sound = granted_sound i.caches a i.store i.contexts i.live e0.nodes c.self.invariant.sound in
+    let valid = granted_valid i.caches a i.store i.contexts i.live e0.nodes c.self.invariant.sound h0 h size0 size e0.held e0.forest e0.right valid0 in
     let keeps : KeepsMachine p p1 h0 h asked before = record {
-      machine = granted_machine i.caches a i.store i.contexts i.live e0.nodes c.self.invariant h0 h size0 size e0.held e0.forest;
-      by = granted_by i.caches a i.store i.contexts i.live e0.nodes c.self.invariant;
+      machine = granted_machine i.caches a i.store i.contexts i.live e0.nodes c.self.invariant.sound h0 h size0 size e0.held e0.forest;
+      by = granted_by i.caches a i.store i.contexts i.live e0.nodes c.self.invariant.sound;
       same = e0.nodes.same;
       made = e0.nodes.made;
       reach = reach_quiet (machine_of p h0) h0 h asked before (ap segments_of e0.held) e0.later;
     } in
     let forest : KeepsForest p p1 h0 h = record {
-      forest = granted_forest i.caches a i.store i.contexts i.live e0.nodes c.self.invariant h0 h size0 size e0.held e0.forest;
+      forest = granted_forest i.caches a i.store i.contexts i.live e0.nodes c.self.invariant.sound h0 h size0 size e0.held e0.forest;
       copies = e0.nodes.copies;
     } in
     subst (λ (p : Manager). KeepsMachine p p1 h0 h asked before) c.self.view_is keeps
@@ -127,17 +135,17 @@ returns-in_err-grant_range-clause-not_ready g c =
     let p : Manager = seen i.caches i.store i.contexts in
     let p1 : Manager = seen a i.store i.contexts in
     let valid0 = subst (λ (p : Manager). IsValid p h0) (sym c.self.view_is) c.requires.valid in
-    let sound = granted_sound i.caches a i.store i.contexts i.live e0.nodes c.self.invariant in
-    let valid = granted_valid i.caches a i.store i.contexts i.live e0.nodes c.self.invariant h0 h size0 size e0.held e0.forest e0.right valid0 in
+    let sound = granted_sound i.caches a i.store i.contexts i.live e0.nodes c.self.invariant.sound in
+    let valid = granted_valid i.caches a i.store i.contexts i.live e0.nodes c.self.invariant.sound h0 h size0 size e0.held e0.forest e0.right valid0 in
     let keeps : KeepsMachine p p1 h0 h asked before = record {
-      machine = granted_machine i.caches a i.store i.contexts i.live e0.nodes c.self.invariant h0 h size0 size e0.held e0.forest;
-      by = granted_by i.caches a i.store i.contexts i.live e0.nodes c.self.invariant;
+      machine = granted_machine i.caches a i.store i.contexts i.live e0.nodes c.self.invariant.sound h0 h size0 size e0.held e0.forest;
+      by = granted_by i.caches a i.store i.contexts i.live e0.nodes c.self.invariant.sound;
       same = e0.nodes.same;
       made = e0.nodes.made;
       reach = reach_quiet (machine_of p h0) h0 h asked before (ap segments_of e0.held) e0.later;
     } in
     let forest : KeepsForest p p1 h0 h = record {
-      forest = granted_forest i.caches a i.store i.contexts i.live e0.nodes c.self.invariant h0 h size0 size e0.held e0.forest;
+      forest = granted_forest i.caches a i.store i.contexts i.live e0.nodes c.self.invariant.sound h0 h size0 size e0.held e0.forest;
       copies = e0.nodes.copies;
     } in
     let gave = err_from_is_err_and c.from_residual.result c.from_residual.ensures.1 in
@@ -162,17 +170,17 @@ returns-in_err-grant_range-clause-idle g c =
     let p : Manager = seen i.caches i.store i.contexts in
     let p1 : Manager = seen a i.store i.contexts in
     let valid0 = subst (λ (p : Manager). IsValid p h0) (sym c.self.view_is) c.requires.valid in
-    let sound = granted_sound i.caches a i.store i.contexts i.live e0.nodes c.self.invariant in
-    let valid = granted_valid i.caches a i.store i.contexts i.live e0.nodes c.self.invariant h0 h size0 size e0.held e0.forest e0.right valid0 in
+    let sound = granted_sound i.caches a i.store i.contexts i.live e0.nodes c.self.invariant.sound in
+    let valid = granted_valid i.caches a i.store i.contexts i.live e0.nodes c.self.invariant.sound h0 h size0 size e0.held e0.forest e0.right valid0 in
     let keeps : KeepsMachine p p1 h0 h asked before = record {
-      machine = granted_machine i.caches a i.store i.contexts i.live e0.nodes c.self.invariant h0 h size0 size e0.held e0.forest;
-      by = granted_by i.caches a i.store i.contexts i.live e0.nodes c.self.invariant;
+      machine = granted_machine i.caches a i.store i.contexts i.live e0.nodes c.self.invariant.sound h0 h size0 size e0.held e0.forest;
+      by = granted_by i.caches a i.store i.contexts i.live e0.nodes c.self.invariant.sound;
       same = e0.nodes.same;
       made = e0.nodes.made;
       reach = reach_quiet (machine_of p h0) h0 h asked before (ap segments_of e0.held) e0.later;
     } in
     let forest : KeepsForest p p1 h0 h = record {
-      forest = granted_forest i.caches a i.store i.contexts i.live e0.nodes c.self.invariant h0 h size0 size e0.held e0.forest;
+      forest = granted_forest i.caches a i.store i.contexts i.live e0.nodes c.self.invariant.sound h0 h size0 size e0.held e0.forest;
       copies = e0.nodes.copies;
     } in
     λ nothing. absurd (
@@ -185,46 +193,54 @@ returns-in_err-grant_range-clause-idle g c =
     ])
 
 pub invariant_of-self-in_err-reserve : goal.invariant_of-self-in_err-reserve
-invariant_of-self-in_err-reserve g c =
-    let i = c.self.inside in
-    let e0 = c.grant_range.ensures in
-    let a = c.grant_range.new.caches in
-    let m = c.grant_range.new.mapper in
-    let h0 = g.M.Mapper.held c.args.mapper.now in
-    let h = g.M.Mapper.held m in
-    let size0 = g.M.Mapper.page_bytes c.args.mapper.now in
-    let size = g.M.Mapper.page_bytes m in
-    let asked = g.M.Mapper.counts c.args.mapper.now in
-    let before = g.M.Mapper.counts m in
-    let p : Manager = seen i.caches i.store i.contexts in
-    let p1 : Manager = seen a i.store i.contexts in
-    let valid0 = subst (λ (p : Manager). IsValid p h0) (sym c.self.view_is) c.requires.valid in
-    let sound = granted_sound i.caches a i.store i.contexts i.live e0.nodes c.self.invariant in
-    let valid = granted_valid i.caches a i.store i.contexts i.live e0.nodes c.self.invariant h0 h size0 size e0.held e0.forest e0.right valid0 in
-    let keeps : KeepsMachine p p1 h0 h asked before = record {
-      machine = granted_machine i.caches a i.store i.contexts i.live e0.nodes c.self.invariant h0 h size0 size e0.held e0.forest;
-      by = granted_by i.caches a i.store i.contexts i.live e0.nodes c.self.invariant;
-      same = e0.nodes.same;
-      made = e0.nodes.made;
-      reach = reach_quiet (machine_of p h0) h0 h asked before (ap segments_of e0.held) e0.later;
-    } in
-    let forest : KeepsForest p p1 h0 h = record {
-      forest = granted_forest i.caches a i.store i.contexts i.live e0.nodes c.self.invariant h0 h size0 size e0.held e0.forest;
-      copies = e0.nodes.copies;
-    } in
-    let r = c.reserve.ensures in
-    let b = c.reserve.new.self in
-    let p2 : Manager = seen b i.store i.contexts in
-    let roomy = reserved a b i.store i.contexts i.live r.kept r.no_less.0 r.forest (r.sound sound.nodes.sound) sound in
-    let keeps2 : KeepsMachine p p2 h0 h asked before = keeps_then p p1 p2 h0 h h asked before before keeps (record {
-      machine = ap (λ s. s.machine) (roomy.state h);
-      by = roomy.by;
-      same = sizes_same a b (ap (λ (k : Arena). k.caches) r.kept);
-      made = ap (λ (k : Arena). k.made) r.kept;
-      reach = reach_none (machine_of p1 h) h before;
-    }) in
-    let forest2 : KeepsForest p p2 h0 h = record { forest = roomy.forest h ∙ forest.forest; copies = ap (λ (k : Arena). k.copies) r.kept ∙ forest.copies } in
-    roomy.sound
+invariant_of-self-in_err-reserve g c = record {
+  sound = (
+      let i = c.self.inside in
+      let e0 = c.grant_range.ensures in
+      let a = c.grant_range.new.caches in
+      let m = c.grant_range.new.mapper in
+      let h0 = g.M.Mapper.held c.args.mapper.now in
+      let h = g.M.Mapper.held m in
+      let size0 = g.M.Mapper.page_bytes c.args.mapper.now in
+      let size = g.M.Mapper.page_bytes m in
+      let asked = g.M.Mapper.counts c.args.mapper.now in
+      let before = g.M.Mapper.counts m in
+      let p : Manager = seen i.caches i.store i.contexts in
+      let p1 : Manager = seen a i.store i.contexts in
+      let valid0 = subst (λ (p : Manager). IsValid p h0) (sym c.self.view_is) c.requires.valid in
+      let sound = granted_sound i.caches a i.store i.contexts i.live e0.nodes c.self.invariant.sound in
+      let valid = granted_valid i.caches a i.store i.contexts i.live e0.nodes c.self.invariant.sound h0 h size0 size e0.held e0.forest e0.right valid0 in
+      let keeps : KeepsMachine p p1 h0 h asked before = record {
+        machine = granted_machine i.caches a i.store i.contexts i.live e0.nodes c.self.invariant.sound h0 h size0 size e0.held e0.forest;
+        by = granted_by i.caches a i.store i.contexts i.live e0.nodes c.self.invariant.sound;
+        same = e0.nodes.same;
+        made = e0.nodes.made;
+        reach = reach_quiet (machine_of p h0) h0 h asked before (ap segments_of e0.held) e0.later;
+      } in
+      let forest : KeepsForest p p1 h0 h = record {
+        forest = granted_forest i.caches a i.store i.contexts i.live e0.nodes c.self.invariant.sound h0 h size0 size e0.held e0.forest;
+        copies = e0.nodes.copies;
+      } in
+      let r = c.reserve.ensures in
+      let b = c.reserve.new.self in
+      let p2 : Manager = seen b i.store i.contexts in
+      let roomy = reserved a b i.store i.contexts i.live r.kept r.no_less.0 r.forest (r.sound sound.nodes.sound) sound in
+      let keeps2 : KeepsMachine p p2 h0 h asked before = keeps_then p p1 p2 h0 h h asked before before keeps (record {
+        machine = ap (λ s. s.machine) (roomy.state h);
+        by = roomy.by;
+        same = sizes_same a b (ap (λ (k : Arena). k.caches) r.kept);
+        made = ap (λ (k : Arena). k.made) r.kept;
+        reach = reach_none (machine_of p1 h) h before;
+      }) in
+      let forest2 : KeepsForest p p2 h0 h = record { forest = roomy.forest h ∙ forest.forest; copies = ap (λ (k : Arena). k.copies) r.kept ∙ forest.copies } in
+      roomy.sound
+      );
+  translated = (
+      let i = c.self.inside in
+      let a = c.grant_range.new.caches in
+      roomier_right a c.reserve.new.self i.store c.reserve.ensures.kept i.contexts (granted_right i.caches a i.store c.grant_range.ensures.nodes i.contexts c.self.invariant.translated)
+      );
+}
 
 pub returns-in_err-reserve-clause-valid : goal.returns-in_err-reserve-clause-valid
 returns-in_err-reserve-clause-valid g c =
@@ -241,17 +257,17 @@ returns-in_err-reserve-clause-valid g c =
     let p : Manager = seen i.caches i.store i.contexts in
     let p1 : Manager = seen a i.store i.contexts in
     let valid0 = subst (λ (p : Manager). IsValid p h0) (sym c.self.view_is) c.requires.valid in
-    let sound = granted_sound i.caches a i.store i.contexts i.live e0.nodes c.self.invariant in
-    let valid = granted_valid i.caches a i.store i.contexts i.live e0.nodes c.self.invariant h0 h size0 size e0.held e0.forest e0.right valid0 in
+    let sound = granted_sound i.caches a i.store i.contexts i.live e0.nodes c.self.invariant.sound in
+    let valid = granted_valid i.caches a i.store i.contexts i.live e0.nodes c.self.invariant.sound h0 h size0 size e0.held e0.forest e0.right valid0 in
     let keeps : KeepsMachine p p1 h0 h asked before = record {
-      machine = granted_machine i.caches a i.store i.contexts i.live e0.nodes c.self.invariant h0 h size0 size e0.held e0.forest;
-      by = granted_by i.caches a i.store i.contexts i.live e0.nodes c.self.invariant;
+      machine = granted_machine i.caches a i.store i.contexts i.live e0.nodes c.self.invariant.sound h0 h size0 size e0.held e0.forest;
+      by = granted_by i.caches a i.store i.contexts i.live e0.nodes c.self.invariant.sound;
       same = e0.nodes.same;
       made = e0.nodes.made;
       reach = reach_quiet (machine_of p h0) h0 h asked before (ap segments_of e0.held) e0.later;
     } in
     let forest : KeepsForest p p1 h0 h = record {
-      forest = granted_forest i.caches a i.store i.contexts i.live e0.nodes c.self.invariant h0 h size0 size e0.held e0.forest;
+      forest = granted_forest i.caches a i.store i.contexts i.live e0.nodes c.self.invariant.sound h0 h size0 size e0.held e0.forest;
       copies = e0.nodes.copies;
     } in
     let r = c.reserve.ensures in
@@ -283,17 +299,17 @@ returns-in_err-reserve-clause-keeps g c =
     let p : Manager = seen i.caches i.store i.contexts in
     let p1 : Manager = seen a i.store i.contexts in
     let valid0 = subst (λ (p : Manager). IsValid p h0) (sym c.self.view_is) c.requires.valid in
-    let sound = granted_sound i.caches a i.store i.contexts i.live e0.nodes c.self.invariant in
-    let valid = granted_valid i.caches a i.store i.contexts i.live e0.nodes c.self.invariant h0 h size0 size e0.held e0.forest e0.right valid0 in
+    let sound = granted_sound i.caches a i.store i.contexts i.live e0.nodes c.self.invariant.sound in
+    let valid = granted_valid i.caches a i.store i.contexts i.live e0.nodes c.self.invariant.sound h0 h size0 size e0.held e0.forest e0.right valid0 in
     let keeps : KeepsMachine p p1 h0 h asked before = record {
-      machine = granted_machine i.caches a i.store i.contexts i.live e0.nodes c.self.invariant h0 h size0 size e0.held e0.forest;
-      by = granted_by i.caches a i.store i.contexts i.live e0.nodes c.self.invariant;
+      machine = granted_machine i.caches a i.store i.contexts i.live e0.nodes c.self.invariant.sound h0 h size0 size e0.held e0.forest;
+      by = granted_by i.caches a i.store i.contexts i.live e0.nodes c.self.invariant.sound;
       same = e0.nodes.same;
       made = e0.nodes.made;
       reach = reach_quiet (machine_of p h0) h0 h asked before (ap segments_of e0.held) e0.later;
     } in
     let forest : KeepsForest p p1 h0 h = record {
-      forest = granted_forest i.caches a i.store i.contexts i.live e0.nodes c.self.invariant h0 h size0 size e0.held e0.forest;
+      forest = granted_forest i.caches a i.store i.contexts i.live e0.nodes c.self.invariant.sound h0 h size0 size e0.held e0.forest;
       copies = e0.nodes.copies;
     } in
     let r = c.reserve.ensures in
@@ -325,17 +341,17 @@ returns-in_err-reserve-clause-not_ready g c =
     let p : Manager = seen i.caches i.store i.contexts in
     let p1 : Manager = seen a i.store i.contexts in
     let valid0 = subst (λ (p : Manager). IsValid p h0) (sym c.self.view_is) c.requires.valid in
-    let sound = granted_sound i.caches a i.store i.contexts i.live e0.nodes c.self.invariant in
-    let valid = granted_valid i.caches a i.store i.contexts i.live e0.nodes c.self.invariant h0 h size0 size e0.held e0.forest e0.right valid0 in
+    let sound = granted_sound i.caches a i.store i.contexts i.live e0.nodes c.self.invariant.sound in
+    let valid = granted_valid i.caches a i.store i.contexts i.live e0.nodes c.self.invariant.sound h0 h size0 size e0.held e0.forest e0.right valid0 in
     let keeps : KeepsMachine p p1 h0 h asked before = record {
-      machine = granted_machine i.caches a i.store i.contexts i.live e0.nodes c.self.invariant h0 h size0 size e0.held e0.forest;
-      by = granted_by i.caches a i.store i.contexts i.live e0.nodes c.self.invariant;
+      machine = granted_machine i.caches a i.store i.contexts i.live e0.nodes c.self.invariant.sound h0 h size0 size e0.held e0.forest;
+      by = granted_by i.caches a i.store i.contexts i.live e0.nodes c.self.invariant.sound;
       same = e0.nodes.same;
       made = e0.nodes.made;
       reach = reach_quiet (machine_of p h0) h0 h asked before (ap segments_of e0.held) e0.later;
     } in
     let forest : KeepsForest p p1 h0 h = record {
-      forest = granted_forest i.caches a i.store i.contexts i.live e0.nodes c.self.invariant h0 h size0 size e0.held e0.forest;
+      forest = granted_forest i.caches a i.store i.contexts i.live e0.nodes c.self.invariant.sound h0 h size0 size e0.held e0.forest;
       copies = e0.nodes.copies;
     } in
     let r = c.reserve.ensures in
@@ -370,17 +386,17 @@ returns-in_err-reserve-clause-idle g c =
     let p : Manager = seen i.caches i.store i.contexts in
     let p1 : Manager = seen a i.store i.contexts in
     let valid0 = subst (λ (p : Manager). IsValid p h0) (sym c.self.view_is) c.requires.valid in
-    let sound = granted_sound i.caches a i.store i.contexts i.live e0.nodes c.self.invariant in
-    let valid = granted_valid i.caches a i.store i.contexts i.live e0.nodes c.self.invariant h0 h size0 size e0.held e0.forest e0.right valid0 in
+    let sound = granted_sound i.caches a i.store i.contexts i.live e0.nodes c.self.invariant.sound in
+    let valid = granted_valid i.caches a i.store i.contexts i.live e0.nodes c.self.invariant.sound h0 h size0 size e0.held e0.forest e0.right valid0 in
     let keeps : KeepsMachine p p1 h0 h asked before = record {
-      machine = granted_machine i.caches a i.store i.contexts i.live e0.nodes c.self.invariant h0 h size0 size e0.held e0.forest;
-      by = granted_by i.caches a i.store i.contexts i.live e0.nodes c.self.invariant;
+      machine = granted_machine i.caches a i.store i.contexts i.live e0.nodes c.self.invariant.sound h0 h size0 size e0.held e0.forest;
+      by = granted_by i.caches a i.store i.contexts i.live e0.nodes c.self.invariant.sound;
       same = e0.nodes.same;
       made = e0.nodes.made;
       reach = reach_quiet (machine_of p h0) h0 h asked before (ap segments_of e0.held) e0.later;
     } in
     let forest : KeepsForest p p1 h0 h = record {
-      forest = granted_forest i.caches a i.store i.contexts i.live e0.nodes c.self.invariant h0 h size0 size e0.held e0.forest;
+      forest = granted_forest i.caches a i.store i.contexts i.live e0.nodes c.self.invariant.sound h0 h size0 size e0.held e0.forest;
       copies = e0.nodes.copies;
     } in
     let r = c.reserve.ensures in
@@ -406,46 +422,54 @@ returns-in_err-reserve-clause-idle g c =
     )
 
 pub invariant_of-self-2 : goal.invariant_of-self-2
-invariant_of-self-2 g c =
-    let i = c.self.inside in
-    let e0 = c.grant_range.ensures in
-    let a = c.grant_range.new.caches in
-    let m = c.grant_range.new.mapper in
-    let h0 = g.M.Mapper.held c.args.mapper.now in
-    let h = g.M.Mapper.held m in
-    let size0 = g.M.Mapper.page_bytes c.args.mapper.now in
-    let size = g.M.Mapper.page_bytes m in
-    let asked = g.M.Mapper.counts c.args.mapper.now in
-    let before = g.M.Mapper.counts m in
-    let p : Manager = seen i.caches i.store i.contexts in
-    let p1 : Manager = seen a i.store i.contexts in
-    let valid0 = subst (λ (p : Manager). IsValid p h0) (sym c.self.view_is) c.requires.valid in
-    let sound = granted_sound i.caches a i.store i.contexts i.live e0.nodes c.self.invariant in
-    let valid = granted_valid i.caches a i.store i.contexts i.live e0.nodes c.self.invariant h0 h size0 size e0.held e0.forest e0.right valid0 in
-    let keeps : KeepsMachine p p1 h0 h asked before = record {
-      machine = granted_machine i.caches a i.store i.contexts i.live e0.nodes c.self.invariant h0 h size0 size e0.held e0.forest;
-      by = granted_by i.caches a i.store i.contexts i.live e0.nodes c.self.invariant;
-      same = e0.nodes.same;
-      made = e0.nodes.made;
-      reach = reach_quiet (machine_of p h0) h0 h asked before (ap segments_of e0.held) e0.later;
-    } in
-    let forest : KeepsForest p p1 h0 h = record {
-      forest = granted_forest i.caches a i.store i.contexts i.live e0.nodes c.self.invariant h0 h size0 size e0.held e0.forest;
-      copies = e0.nodes.copies;
-    } in
-    let r = c.reserve.ensures in
-    let b = c.reserve.new.self in
-    let p2 : Manager = seen b i.store i.contexts in
-    let roomy = reserved a b i.store i.contexts i.live r.kept r.no_less.0 r.forest (r.sound sound.nodes.sound) sound in
-    let keeps2 : KeepsMachine p p2 h0 h asked before = keeps_then p p1 p2 h0 h h asked before before keeps (record {
-      machine = ap (λ s. s.machine) (roomy.state h);
-      by = roomy.by;
-      same = sizes_same a b (ap (λ (k : Arena). k.caches) r.kept);
-      made = ap (λ (k : Arena). k.made) r.kept;
-      reach = reach_none (machine_of p1 h) h before;
-    }) in
-    let forest2 : KeepsForest p p2 h0 h = record { forest = roomy.forest h ∙ forest.forest; copies = ap (λ (k : Arena). k.copies) r.kept ∙ forest.copies } in
-    roomy.sound
+invariant_of-self-2 g c = record {
+  sound = (
+      let i = c.self.inside in
+      let e0 = c.grant_range.ensures in
+      let a = c.grant_range.new.caches in
+      let m = c.grant_range.new.mapper in
+      let h0 = g.M.Mapper.held c.args.mapper.now in
+      let h = g.M.Mapper.held m in
+      let size0 = g.M.Mapper.page_bytes c.args.mapper.now in
+      let size = g.M.Mapper.page_bytes m in
+      let asked = g.M.Mapper.counts c.args.mapper.now in
+      let before = g.M.Mapper.counts m in
+      let p : Manager = seen i.caches i.store i.contexts in
+      let p1 : Manager = seen a i.store i.contexts in
+      let valid0 = subst (λ (p : Manager). IsValid p h0) (sym c.self.view_is) c.requires.valid in
+      let sound = granted_sound i.caches a i.store i.contexts i.live e0.nodes c.self.invariant.sound in
+      let valid = granted_valid i.caches a i.store i.contexts i.live e0.nodes c.self.invariant.sound h0 h size0 size e0.held e0.forest e0.right valid0 in
+      let keeps : KeepsMachine p p1 h0 h asked before = record {
+        machine = granted_machine i.caches a i.store i.contexts i.live e0.nodes c.self.invariant.sound h0 h size0 size e0.held e0.forest;
+        by = granted_by i.caches a i.store i.contexts i.live e0.nodes c.self.invariant.sound;
+        same = e0.nodes.same;
+        made = e0.nodes.made;
+        reach = reach_quiet (machine_of p h0) h0 h asked before (ap segments_of e0.held) e0.later;
+      } in
+      let forest : KeepsForest p p1 h0 h = record {
+        forest = granted_forest i.caches a i.store i.contexts i.live e0.nodes c.self.invariant.sound h0 h size0 size e0.held e0.forest;
+        copies = e0.nodes.copies;
+      } in
+      let r = c.reserve.ensures in
+      let b = c.reserve.new.self in
+      let p2 : Manager = seen b i.store i.contexts in
+      let roomy = reserved a b i.store i.contexts i.live r.kept r.no_less.0 r.forest (r.sound sound.nodes.sound) sound in
+      let keeps2 : KeepsMachine p p2 h0 h asked before = keeps_then p p1 p2 h0 h h asked before before keeps (record {
+        machine = ap (λ s. s.machine) (roomy.state h);
+        by = roomy.by;
+        same = sizes_same a b (ap (λ (k : Arena). k.caches) r.kept);
+        made = ap (λ (k : Arena). k.made) r.kept;
+        reach = reach_none (machine_of p1 h) h before;
+      }) in
+      let forest2 : KeepsForest p p2 h0 h = record { forest = roomy.forest h ∙ forest.forest; copies = ap (λ (k : Arena). k.copies) r.kept ∙ forest.copies } in
+      roomy.sound
+      );
+  translated = (
+      let i = c.self.inside in
+      let a = c.grant_range.new.caches in
+      roomier_right a c.reserve.new.self i.store c.reserve.ensures.kept i.contexts (granted_right i.caches a i.store c.grant_range.ensures.nodes i.contexts c.self.invariant.translated)
+      );
+}
 
 pub save-requires-clause-valid : goal.save-requires-clause-valid
 save-requires-clause-valid g c =
@@ -462,17 +486,17 @@ save-requires-clause-valid g c =
     let p : Manager = seen i.caches i.store i.contexts in
     let p1 : Manager = seen a i.store i.contexts in
     let valid0 = subst (λ (p : Manager). IsValid p h0) (sym c.self.view_is) c.requires.valid in
-    let sound = granted_sound i.caches a i.store i.contexts i.live e0.nodes c.self.invariant in
-    let valid = granted_valid i.caches a i.store i.contexts i.live e0.nodes c.self.invariant h0 h size0 size e0.held e0.forest e0.right valid0 in
+    let sound = granted_sound i.caches a i.store i.contexts i.live e0.nodes c.self.invariant.sound in
+    let valid = granted_valid i.caches a i.store i.contexts i.live e0.nodes c.self.invariant.sound h0 h size0 size e0.held e0.forest e0.right valid0 in
     let keeps : KeepsMachine p p1 h0 h asked before = record {
-      machine = granted_machine i.caches a i.store i.contexts i.live e0.nodes c.self.invariant h0 h size0 size e0.held e0.forest;
-      by = granted_by i.caches a i.store i.contexts i.live e0.nodes c.self.invariant;
+      machine = granted_machine i.caches a i.store i.contexts i.live e0.nodes c.self.invariant.sound h0 h size0 size e0.held e0.forest;
+      by = granted_by i.caches a i.store i.contexts i.live e0.nodes c.self.invariant.sound;
       same = e0.nodes.same;
       made = e0.nodes.made;
       reach = reach_quiet (machine_of p h0) h0 h asked before (ap segments_of e0.held) e0.later;
     } in
     let forest : KeepsForest p p1 h0 h = record {
-      forest = granted_forest i.caches a i.store i.contexts i.live e0.nodes c.self.invariant h0 h size0 size e0.held e0.forest;
+      forest = granted_forest i.caches a i.store i.contexts i.live e0.nodes c.self.invariant.sound h0 h size0 size e0.held e0.forest;
       copies = e0.nodes.copies;
     } in
     let r = c.reserve.ensures in
@@ -504,17 +528,17 @@ returns-clause-keeps g c =
     let p : Manager = seen i.caches i.store i.contexts in
     let p1 : Manager = seen a i.store i.contexts in
     let valid0 = subst (λ (p : Manager). IsValid p h0) (sym c.self.view_is) c.requires.valid in
-    let sound = granted_sound i.caches a i.store i.contexts i.live e0.nodes c.self.invariant in
-    let valid = granted_valid i.caches a i.store i.contexts i.live e0.nodes c.self.invariant h0 h size0 size e0.held e0.forest e0.right valid0 in
+    let sound = granted_sound i.caches a i.store i.contexts i.live e0.nodes c.self.invariant.sound in
+    let valid = granted_valid i.caches a i.store i.contexts i.live e0.nodes c.self.invariant.sound h0 h size0 size e0.held e0.forest e0.right valid0 in
     let keeps : KeepsMachine p p1 h0 h asked before = record {
-      machine = granted_machine i.caches a i.store i.contexts i.live e0.nodes c.self.invariant h0 h size0 size e0.held e0.forest;
-      by = granted_by i.caches a i.store i.contexts i.live e0.nodes c.self.invariant;
+      machine = granted_machine i.caches a i.store i.contexts i.live e0.nodes c.self.invariant.sound h0 h size0 size e0.held e0.forest;
+      by = granted_by i.caches a i.store i.contexts i.live e0.nodes c.self.invariant.sound;
       same = e0.nodes.same;
       made = e0.nodes.made;
       reach = reach_quiet (machine_of p h0) h0 h asked before (ap segments_of e0.held) e0.later;
     } in
     let forest : KeepsForest p p1 h0 h = record {
-      forest = granted_forest i.caches a i.store i.contexts i.live e0.nodes c.self.invariant h0 h size0 size e0.held e0.forest;
+      forest = granted_forest i.caches a i.store i.contexts i.live e0.nodes c.self.invariant.sound h0 h size0 size e0.held e0.forest;
       copies = e0.nodes.copies;
     } in
     let r = c.reserve.ensures in
@@ -550,17 +574,17 @@ returns-clause-ready g c =
     let p : Manager = seen i.caches i.store i.contexts in
     let p1 : Manager = seen a i.store i.contexts in
     let valid0 = subst (λ (p : Manager). IsValid p h0) (sym c.self.view_is) c.requires.valid in
-    let sound = granted_sound i.caches a i.store i.contexts i.live e0.nodes c.self.invariant in
-    let valid = granted_valid i.caches a i.store i.contexts i.live e0.nodes c.self.invariant h0 h size0 size e0.held e0.forest e0.right valid0 in
+    let sound = granted_sound i.caches a i.store i.contexts i.live e0.nodes c.self.invariant.sound in
+    let valid = granted_valid i.caches a i.store i.contexts i.live e0.nodes c.self.invariant.sound h0 h size0 size e0.held e0.forest e0.right valid0 in
     let keeps : KeepsMachine p p1 h0 h asked before = record {
-      machine = granted_machine i.caches a i.store i.contexts i.live e0.nodes c.self.invariant h0 h size0 size e0.held e0.forest;
-      by = granted_by i.caches a i.store i.contexts i.live e0.nodes c.self.invariant;
+      machine = granted_machine i.caches a i.store i.contexts i.live e0.nodes c.self.invariant.sound h0 h size0 size e0.held e0.forest;
+      by = granted_by i.caches a i.store i.contexts i.live e0.nodes c.self.invariant.sound;
       same = e0.nodes.same;
       made = e0.nodes.made;
       reach = reach_quiet (machine_of p h0) h0 h asked before (ap segments_of e0.held) e0.later;
     } in
     let forest : KeepsForest p p1 h0 h = record {
-      forest = granted_forest i.caches a i.store i.contexts i.live e0.nodes c.self.invariant h0 h size0 size e0.held e0.forest;
+      forest = granted_forest i.caches a i.store i.contexts i.live e0.nodes c.self.invariant.sound h0 h size0 size e0.held e0.forest;
       copies = e0.nodes.copies;
     } in
     let r = c.reserve.ensures in
@@ -585,7 +609,7 @@ returns-clause-ready g c =
     record {
       forest = rule;
       writable = writable_same b q.caches c.args.range s.tables (writable_same a b c.args.range (ap (λ (k : Arena). k.caches) r.kept) c.in_ok-grant_range.ensures.granted);
-      saved_now = saved_all q k c.args.range (forest_of p h0) s.whole (consistent_of p h0 c.self.invariant.nodes) (is_named i.caches c.args.range.cache.0) (named_same b q.caches (sizes_same b q.caches s.tables) c.args.range.cache.0 ∙ named) rule;
+      saved_now = saved_all q k c.args.range (forest_of p h0) s.whole (consistent_of p h0 c.self.invariant.sound.nodes) (is_named i.caches c.args.range.cache.0) (named_same b q.caches (sizes_same b q.caches s.tables) c.args.range.cache.0 ∙ named) rule;
       room = subst (λ (x : Room). c.args.nodes ≤ x.nodes) (sym s.room) c.in_ok-reserve.ensures.nodes;
     })) s.saved)
 
@@ -604,17 +628,17 @@ returns-clause-not_ready g c =
     let p : Manager = seen i.caches i.store i.contexts in
     let p1 : Manager = seen a i.store i.contexts in
     let valid0 = subst (λ (p : Manager). IsValid p h0) (sym c.self.view_is) c.requires.valid in
-    let sound = granted_sound i.caches a i.store i.contexts i.live e0.nodes c.self.invariant in
-    let valid = granted_valid i.caches a i.store i.contexts i.live e0.nodes c.self.invariant h0 h size0 size e0.held e0.forest e0.right valid0 in
+    let sound = granted_sound i.caches a i.store i.contexts i.live e0.nodes c.self.invariant.sound in
+    let valid = granted_valid i.caches a i.store i.contexts i.live e0.nodes c.self.invariant.sound h0 h size0 size e0.held e0.forest e0.right valid0 in
     let keeps : KeepsMachine p p1 h0 h asked before = record {
-      machine = granted_machine i.caches a i.store i.contexts i.live e0.nodes c.self.invariant h0 h size0 size e0.held e0.forest;
-      by = granted_by i.caches a i.store i.contexts i.live e0.nodes c.self.invariant;
+      machine = granted_machine i.caches a i.store i.contexts i.live e0.nodes c.self.invariant.sound h0 h size0 size e0.held e0.forest;
+      by = granted_by i.caches a i.store i.contexts i.live e0.nodes c.self.invariant.sound;
       same = e0.nodes.same;
       made = e0.nodes.made;
       reach = reach_quiet (machine_of p h0) h0 h asked before (ap segments_of e0.held) e0.later;
     } in
     let forest : KeepsForest p p1 h0 h = record {
-      forest = granted_forest i.caches a i.store i.contexts i.live e0.nodes c.self.invariant h0 h size0 size e0.held e0.forest;
+      forest = granted_forest i.caches a i.store i.contexts i.live e0.nodes c.self.invariant.sound h0 h size0 size e0.held e0.forest;
       copies = e0.nodes.copies;
     } in
     let r = c.reserve.ensures in
@@ -652,17 +676,17 @@ returns-in_err-grant_range-clause-whole g c =
     let p : Manager = seen i.caches i.store i.contexts in
     let p1 : Manager = seen a i.store i.contexts in
     let valid0 = subst (λ (p : Manager). IsValid p h0) (sym c.self.view_is) c.requires.valid in
-    let sound = granted_sound i.caches a i.store i.contexts i.live e0.nodes c.self.invariant in
-    let valid = granted_valid i.caches a i.store i.contexts i.live e0.nodes c.self.invariant h0 h size0 size e0.held e0.forest e0.right valid0 in
+    let sound = granted_sound i.caches a i.store i.contexts i.live e0.nodes c.self.invariant.sound in
+    let valid = granted_valid i.caches a i.store i.contexts i.live e0.nodes c.self.invariant.sound h0 h size0 size e0.held e0.forest e0.right valid0 in
     let keeps : KeepsMachine p p1 h0 h asked before = record {
-      machine = granted_machine i.caches a i.store i.contexts i.live e0.nodes c.self.invariant h0 h size0 size e0.held e0.forest;
-      by = granted_by i.caches a i.store i.contexts i.live e0.nodes c.self.invariant;
+      machine = granted_machine i.caches a i.store i.contexts i.live e0.nodes c.self.invariant.sound h0 h size0 size e0.held e0.forest;
+      by = granted_by i.caches a i.store i.contexts i.live e0.nodes c.self.invariant.sound;
       same = e0.nodes.same;
       made = e0.nodes.made;
       reach = reach_quiet (machine_of p h0) h0 h asked before (ap segments_of e0.held) e0.later;
     } in
     let forest : KeepsForest p p1 h0 h = record {
-      forest = granted_forest i.caches a i.store i.contexts i.live e0.nodes c.self.invariant h0 h size0 size e0.held e0.forest;
+      forest = granted_forest i.caches a i.store i.contexts i.live e0.nodes c.self.invariant.sound h0 h size0 size e0.held e0.forest;
       copies = e0.nodes.copies;
     } in
     sound.nodes
@@ -682,17 +706,17 @@ returns-in_err-reserve-clause-whole g c =
     let p : Manager = seen i.caches i.store i.contexts in
     let p1 : Manager = seen a i.store i.contexts in
     let valid0 = subst (λ (p : Manager). IsValid p h0) (sym c.self.view_is) c.requires.valid in
-    let sound = granted_sound i.caches a i.store i.contexts i.live e0.nodes c.self.invariant in
-    let valid = granted_valid i.caches a i.store i.contexts i.live e0.nodes c.self.invariant h0 h size0 size e0.held e0.forest e0.right valid0 in
+    let sound = granted_sound i.caches a i.store i.contexts i.live e0.nodes c.self.invariant.sound in
+    let valid = granted_valid i.caches a i.store i.contexts i.live e0.nodes c.self.invariant.sound h0 h size0 size e0.held e0.forest e0.right valid0 in
     let keeps : KeepsMachine p p1 h0 h asked before = record {
-      machine = granted_machine i.caches a i.store i.contexts i.live e0.nodes c.self.invariant h0 h size0 size e0.held e0.forest;
-      by = granted_by i.caches a i.store i.contexts i.live e0.nodes c.self.invariant;
+      machine = granted_machine i.caches a i.store i.contexts i.live e0.nodes c.self.invariant.sound h0 h size0 size e0.held e0.forest;
+      by = granted_by i.caches a i.store i.contexts i.live e0.nodes c.self.invariant.sound;
       same = e0.nodes.same;
       made = e0.nodes.made;
       reach = reach_quiet (machine_of p h0) h0 h asked before (ap segments_of e0.held) e0.later;
     } in
     let forest : KeepsForest p p1 h0 h = record {
-      forest = granted_forest i.caches a i.store i.contexts i.live e0.nodes c.self.invariant h0 h size0 size e0.held e0.forest;
+      forest = granted_forest i.caches a i.store i.contexts i.live e0.nodes c.self.invariant.sound h0 h size0 size e0.held e0.forest;
       copies = e0.nodes.copies;
     } in
     let r = c.reserve.ensures in
@@ -724,17 +748,17 @@ returns-clause-whole g c =
     let p : Manager = seen i.caches i.store i.contexts in
     let p1 : Manager = seen a i.store i.contexts in
     let valid0 = subst (λ (p : Manager). IsValid p h0) (sym c.self.view_is) c.requires.valid in
-    let sound = granted_sound i.caches a i.store i.contexts i.live e0.nodes c.self.invariant in
-    let valid = granted_valid i.caches a i.store i.contexts i.live e0.nodes c.self.invariant h0 h size0 size e0.held e0.forest e0.right valid0 in
+    let sound = granted_sound i.caches a i.store i.contexts i.live e0.nodes c.self.invariant.sound in
+    let valid = granted_valid i.caches a i.store i.contexts i.live e0.nodes c.self.invariant.sound h0 h size0 size e0.held e0.forest e0.right valid0 in
     let keeps : KeepsMachine p p1 h0 h asked before = record {
-      machine = granted_machine i.caches a i.store i.contexts i.live e0.nodes c.self.invariant h0 h size0 size e0.held e0.forest;
-      by = granted_by i.caches a i.store i.contexts i.live e0.nodes c.self.invariant;
+      machine = granted_machine i.caches a i.store i.contexts i.live e0.nodes c.self.invariant.sound h0 h size0 size e0.held e0.forest;
+      by = granted_by i.caches a i.store i.contexts i.live e0.nodes c.self.invariant.sound;
       same = e0.nodes.same;
       made = e0.nodes.made;
       reach = reach_quiet (machine_of p h0) h0 h asked before (ap segments_of e0.held) e0.later;
     } in
     let forest : KeepsForest p p1 h0 h = record {
-      forest = granted_forest i.caches a i.store i.contexts i.live e0.nodes c.self.invariant h0 h size0 size e0.held e0.forest;
+      forest = granted_forest i.caches a i.store i.contexts i.live e0.nodes c.self.invariant.sound h0 h size0 size e0.held e0.forest;
       copies = e0.nodes.copies;
     } in
     let r = c.reserve.ensures in
@@ -770,17 +794,17 @@ returns-clause-idle g c =
     let p : Manager = seen i.caches i.store i.contexts in
     let p1 : Manager = seen a i.store i.contexts in
     let valid0 = subst (λ (p : Manager). IsValid p h0) (sym c.self.view_is) c.requires.valid in
-    let sound = granted_sound i.caches a i.store i.contexts i.live e0.nodes c.self.invariant in
-    let valid = granted_valid i.caches a i.store i.contexts i.live e0.nodes c.self.invariant h0 h size0 size e0.held e0.forest e0.right valid0 in
+    let sound = granted_sound i.caches a i.store i.contexts i.live e0.nodes c.self.invariant.sound in
+    let valid = granted_valid i.caches a i.store i.contexts i.live e0.nodes c.self.invariant.sound h0 h size0 size e0.held e0.forest e0.right valid0 in
     let keeps : KeepsMachine p p1 h0 h asked before = record {
-      machine = granted_machine i.caches a i.store i.contexts i.live e0.nodes c.self.invariant h0 h size0 size e0.held e0.forest;
-      by = granted_by i.caches a i.store i.contexts i.live e0.nodes c.self.invariant;
+      machine = granted_machine i.caches a i.store i.contexts i.live e0.nodes c.self.invariant.sound h0 h size0 size e0.held e0.forest;
+      by = granted_by i.caches a i.store i.contexts i.live e0.nodes c.self.invariant.sound;
       same = e0.nodes.same;
       made = e0.nodes.made;
       reach = reach_quiet (machine_of p h0) h0 h asked before (ap segments_of e0.held) e0.later;
     } in
     let forest : KeepsForest p p1 h0 h = record {
-      forest = granted_forest i.caches a i.store i.contexts i.live e0.nodes c.self.invariant h0 h size0 size e0.held e0.forest;
+      forest = granted_forest i.caches a i.store i.contexts i.live e0.nodes c.self.invariant.sound h0 h size0 size e0.held e0.forest;
       copies = e0.nodes.copies;
     } in
     let r = c.reserve.ensures in

@@ -20,13 +20,14 @@ use Rattle.pvm_core.proofs.Answering.Kept.{seen}
 use Rattle.pvm_core.proofs.NewCaches.Making.{all_with, made_store}
 use Rattle.pvm_core.proofs.NewCaches.NewCache.{answer_more, fresh_pages, many_live, many_made, temp_row, whole_more}
 use Rattle.pvm_core.proofs.Meaning.Values.{followed_of}
+use Rattle.pvm_core.proofs.Translating.Made.{made_right, roomy_right}
 use Rattle.pvm_core.proofs.pvm.Pvm.make_temp.Goals as goal
 use Rattle.pvm_core.proofs.pvm.Pvm.make_temp.Goals.{then-caches_made-ge-MOST_MADE-via-then-caches_made-ge-MOST_MADE, then-caches_made-ge-MOST_MADE-via-else-caches_made-ge-MOST_MADE+then-self-pages}
 
 pub returns-then-caches_made-ge-MOST_MADE-clause-answers : goal.returns-then-caches_made-ge-MOST_MADE-clause-answers
 returns-then-caches_made-ge-MOST_MADE-clause-answers c = λ h v.
     let p : Manager = the_view c.self.inside in
-    let i = c.self.invariant in
+    let i = c.self.invariant.sound in
     let answer : Answer = Err (troubles.Refused refusals.TooMany) in
     subst (λ (p : Manager). AnswerIs (state_at p h) (commands.MakeTemp c.args.pages) answer [] no_counts (state_at p h)) c.self.view_is
     (answered p p h (commands.MakeTemp c.args.pages) answer i.nodes i.nodes (subst (λ (p : Manager). IsValid p h) (sym c.self.view_is) v) refl refl refl tt (λ f s. elim c.then-caches_made-ge-MOST_MADE.branch [
@@ -35,18 +36,22 @@ returns-then-caches_made-ge-MOST_MADE-clause-answers c = λ h v.
     ]))
 
 pub invariant_of-self : goal.invariant_of-self
-invariant_of-self c =
-    let i = c.self.inside in
-    let r = c.reserve.new in
-    let e = c.reserve.ensures in
-    roomy_sound i.caches r.caches i.store r.store i.contexts i.live e.caches e.store e.slots e.no_less e.forest e.sound c.self.invariant
+invariant_of-self c = record {
+  sound = (
+      let i = c.self.inside in
+      let r = c.reserve.new in
+      let e = c.reserve.ensures in
+      roomy_sound i.caches r.caches i.store r.store i.contexts i.live e.caches e.store e.slots e.no_less e.forest e.sound c.self.invariant.sound
+      );
+  translated = roomy_right c.self.inside.caches c.reserve.new.caches c.self.inside.store c.reserve.new.store c.reserve.ensures.caches c.reserve.ensures.store c.self.inside.contexts c.self.invariant.translated;
+}
 
 pub returns-in_err-reserve-clause-valid : goal.returns-in_err-reserve-clause-valid
 returns-in_err-reserve-clause-valid c = λ h v.
     let i = c.self.inside in
     let r = c.reserve.new in
     let e = c.reserve.ensures in
-    roomy_valid i.caches r.caches i.store r.store i.contexts i.live e.caches e.store e.slots e.no_less e.forest e.sound c.self.invariant h (subst (λ (p : Manager). IsValid p h) (sym c.self.view_is) v)
+    roomy_valid i.caches r.caches i.store r.store i.contexts i.live e.caches e.store e.slots e.no_less e.forest e.sound c.self.invariant.sound h (subst (λ (p : Manager). IsValid p h) (sym c.self.view_is) v)
 
 pub returns-in_err-reserve-clause-answers : goal.returns-in_err-reserve-clause-answers
 returns-in_err-reserve-clause-answers c = λ h v.
@@ -55,27 +60,39 @@ returns-in_err-reserve-clause-answers c = λ h v.
     let e = c.reserve.ensures in
     let p : Manager = seen i.caches i.store i.contexts in
     let q : Manager = seen r.caches r.store i.contexts in
-    let k = roomy_sound i.caches r.caches i.store r.store i.contexts i.live e.caches e.store e.slots e.no_less e.forest e.sound c.self.invariant in
+    let k = roomy_sound i.caches r.caches i.store r.store i.contexts i.live e.caches e.store e.slots e.no_less e.forest e.sound c.self.invariant.sound in
     let answer : Answer = Err troubles.Memory in
     let gave = err_from_is_err_and c.from_residual.result c.from_residual.ensures.1 in
     let is : c.from_residual.result ≡ Err troubles.Memory = gave.1 ∙ ap (λ t. Err t) gave.2 in
     subst (λ (p : Manager). AnswerIs (state_at p h) (commands.MakeTemp c.args.pages) (answer_by replies.Cache c.from_residual.result) [] no_counts (state_at q h)) c.self.view_is
     (subst (λ (r : Result _ _). AnswerIs (state_at p h) (commands.MakeTemp c.args.pages) (answer_by replies.Cache r) [] no_counts (state_at q h)) (sym is)
-    (answered p q h (commands.MakeTemp c.args.pages) answer c.self.invariant.nodes k.nodes (roomy_valid i.caches r.caches i.store r.store i.contexts i.live e.caches e.store e.slots e.no_less e.forest e.sound c.self.invariant h (subst (λ (p : Manager). IsValid p h) (sym c.self.view_is) v)) (roomy_forest i.caches r.caches i.store r.store i.contexts i.live e.caches e.store e.slots e.no_less e.forest e.sound c.self.invariant h) refl refl tt (λ f s. (
-      roomy_by i.caches r.caches i.store r.store i.contexts i.live e.caches e.store e.slots e.no_less e.forest e.sound c.self.invariant f,
+    (answered p q h (commands.MakeTemp c.args.pages) answer c.self.invariant.sound.nodes k.nodes (roomy_valid i.caches r.caches i.store r.store i.contexts i.live e.caches e.store e.slots e.no_less e.forest e.sound c.self.invariant.sound h (subst (λ (p : Manager). IsValid p h) (sym c.self.view_is) v)) (roomy_forest i.caches r.caches i.store r.store i.contexts i.live e.caches e.store e.slots e.no_less e.forest e.sound c.self.invariant.sound h) refl refl tt (λ f s. (
+      roomy_by i.caches r.caches i.store r.store i.contexts i.live e.caches e.store e.slots e.no_less e.forest e.sound c.self.invariant.sound f,
       tt,
-      (let row = temp_row p f c.args.pages i.live c.self.invariant.counted (omega (arith, c.if-caches_made-ge-MOST_MADE.false, c.caches_made.ensures)) (omega (arith, c.if-self-pages.false)) in rw row tt),
+      (let row = temp_row p f c.args.pages i.live c.self.invariant.sound.counted (omega (arith, c.if-caches_made-ge-MOST_MADE.false, c.caches_made.ensures)) (omega (arith, c.if-self-pages.false)) in rw row tt),
     ))))
 
 pub invariant_of-self-2 : goal.invariant_of-self-2
-invariant_of-self-2 c =
-    let i = c.self.inside in
-    let r = c.reserve.new in
-    let e = c.reserve.ensures in
-    let m = c.make_temp.ensures in
-    let k = roomy_sound i.caches r.caches i.store r.store i.contexts i.live e.caches e.store e.slots e.no_less e.forest e.sound c.self.invariant in
-    begun_sound r.caches c.make_temp.new.self r.store i.contexts i.live c.args.pages c.make_temp.result m.made.0 m.made.1 m.made.2 (m.forest e.sound) (m.sound e.sound) m.stays k (omega (arith, c.if-self-pages.false))
-    c.in_ok-reserve.ensures.nodes c.in_ok-reserve.ensures.capacity
+invariant_of-self-2 c = record {
+  sound = (
+      let i = c.self.inside in
+      let r = c.reserve.new in
+      let e = c.reserve.ensures in
+      let m = c.make_temp.ensures in
+      let k = roomy_sound i.caches r.caches i.store r.store i.contexts i.live e.caches e.store e.slots e.no_less e.forest e.sound c.self.invariant.sound in
+      begun_sound r.caches c.make_temp.new.self r.store i.contexts i.live c.args.pages c.make_temp.result m.made.0 m.made.1 m.made.2 (m.forest e.sound) (m.sound e.sound) m.stays k (omega (arith, c.if-self-pages.false))
+      c.in_ok-reserve.ensures.nodes c.in_ok-reserve.ensures.capacity
+      );
+  translated = (
+      let i = c.self.inside in
+      let r = c.reserve.new in
+      let e = c.reserve.ensures in
+      let m = c.make_temp.ensures in
+      let k = roomy_sound i.caches r.caches i.store r.store i.contexts i.live e.caches e.store e.slots e.no_less e.forest e.sound c.self.invariant.sound in
+      made_right r.caches c.make_temp.new.self r.store c.make_temp.result c.args.pages Zero (λ f. refl) m.made.2.number m.pages m.stays m.tables (m.forest e.sound) k.nodes (m.sound e.sound) i.contexts
+      (roomy_right i.caches r.caches i.store r.store e.caches e.store i.contexts c.self.invariant.translated)
+      );
+}
 
 pub returns-clause-valid : goal.returns-clause-valid
 returns-clause-valid c = λ h v.
@@ -84,10 +101,10 @@ returns-clause-valid c = λ h v.
     let e = c.reserve.ensures in
     let m = c.make_temp.ensures in
     let d = c.make_temp.new.self in
-    let k = roomy_sound i.caches r.caches i.store r.store i.contexts i.live e.caches e.store e.slots e.no_less e.forest e.sound c.self.invariant in
+    let k = roomy_sound i.caches r.caches i.store r.store i.contexts i.live e.caches e.store e.slots e.no_less e.forest e.sound c.self.invariant.sound in
     let p : Manager = seen r.caches r.store i.contexts in
     let q : Manager = seen d r.store i.contexts in
-    let w = roomy_valid i.caches r.caches i.store r.store i.contexts i.live e.caches e.store e.slots e.no_less e.forest e.sound c.self.invariant h (subst (λ (p : Manager). IsValid p h) (sym c.self.view_is) v) in
+    let w = roomy_valid i.caches r.caches i.store r.store i.contexts i.live e.caches e.store e.slots e.no_less e.forest e.sound c.self.invariant.sound h (subst (λ (p : Manager). IsValid p h) (sym c.self.view_is) v) in
     let low : i.live + c.args.pages ≤ Rattle.vm_model.specs.declared.limits.TheConstants.LIVE_PAGES = omega (arith, c.if-self-pages.false) in
     let forest = made_store h r.caches d r.store c.make_temp.result c.args.pages m.pages m.stays (home-made_other r.caches d c.make_temp.result None Zero m.made.0 m.made.2 k.nodes.sound.kept.listed) (m.forest e.sound) e.sound (m.sound e.sound) (fresh_pages r.caches d c.make_temp.result c.args.pages m.made.0 k.nodes m.made.2) in
     record {
@@ -105,16 +122,16 @@ returns-clause-answers c = λ h v.
     let e = c.reserve.ensures in
     let m = c.make_temp.ensures in
     let d = c.make_temp.new.self in
-    let k = roomy_sound i.caches r.caches i.store r.store i.contexts i.live e.caches e.store e.slots e.no_less e.forest e.sound c.self.invariant in
+    let k = roomy_sound i.caches r.caches i.store r.store i.contexts i.live e.caches e.store e.slots e.no_less e.forest e.sound c.self.invariant.sound in
     let o : Manager = seen i.caches i.store i.contexts in
     let p : Manager = seen r.caches r.store i.contexts in
     let q : Manager = seen d r.store i.contexts in
-    let w = roomy_valid i.caches r.caches i.store r.store i.contexts i.live e.caches e.store e.slots e.no_less e.forest e.sound c.self.invariant h (subst (λ (p : Manager). IsValid p h) (sym c.self.view_is) v) in
+    let w = roomy_valid i.caches r.caches i.store r.store i.contexts i.live e.caches e.store e.slots e.no_less e.forest e.sound c.self.invariant.sound h (subst (λ (p : Manager). IsValid p h) (sym c.self.view_is) v) in
     let forest = made_store h r.caches d r.store c.make_temp.result c.args.pages m.pages m.stays (home-made_other r.caches d c.make_temp.result None Zero m.made.0 m.made.2 k.nodes.sound.kept.listed) (m.forest e.sound) e.sound (m.sound e.sound) (fresh_pages r.caches d c.make_temp.result c.args.pages m.made.0 k.nodes m.made.2) in
     let answer : Answer = Ok (replies.Cache c.make_temp.result) in
     let same : state_at p h ≡ state_at o h = λ j. record {
-      machine = roomy_machine i.caches r.caches i.store r.store i.contexts i.live e.caches e.store e.slots e.no_less e.forest e.sound c.self.invariant h j;
-      forest = Some (roomy_forest i.caches r.caches i.store r.store i.contexts i.live e.caches e.store e.slots e.no_less e.forest e.sound c.self.invariant h j);
+      machine = roomy_machine i.caches r.caches i.store r.store i.contexts i.live e.caches e.store e.slots e.no_less e.forest e.sound c.self.invariant.sound h j;
+      forest = Some (roomy_forest i.caches r.caches i.store r.store i.contexts i.live e.caches e.store e.slots e.no_less e.forest e.sound c.self.invariant.sound h j);
       segments = segments_of h;
     } in
     subst (λ (p : Manager). AnswerIs (state_at p h) (commands.MakeTemp c.args.pages) answer [] no_counts (state_at q h)) c.self.view_is

@@ -17,7 +17,9 @@ use Rattle.pvm_core.specs.Locks.{locks_over}
 use Rattle.pvm_core.specs.Maps.{map_refusal}
 use Rattle.pvm_core.proofs.Holding.Actors.{over_mapped}
 use Rattle.pvm_core.specs.Placed.{AreRight}
+use Rattle.pvm_core.specs.Translated.{AreTranslationsRight}
 use Rattle.pvm_core.specs.contracts.pvm.Pvm.{the_view}
+use Rattle.pvm_core.proofs.Translating.Commands.{mapped_right}
 use Rattle.pvm_core.proofs.Answering.Answered.{seated}
 use Rattle.pvm_core.proofs.Answering.Kept.{seated_sound, seated_valid}
 use Rattle.pvm_core.proofs.Answering.Listed.{IsMappable, after_either, is_mappable, machine_with, map_refused, map_row, next_placed, right_mapped, size_in}
@@ -34,28 +36,41 @@ returns-in-Some-clause-answers c = λ h v.
     let actor = c.args.actor.0 in
     let answer : Answer = Err (troubles.Refused c.in-Some.refusal) in
     subst (λ (p : Manager). AnswerIs (state_at p h) (commands.Map c.args.actor x) answer [] no_counts (state_at p h)) c.self.view_is
-    (seated p p h (commands.Map c.args.actor x) answer c.self.invariant.nodes c.self.invariant.nodes (subst (λ (p : Manager). IsValid p h) (sym c.self.view_is) v) refl (λ done m f s none. none) refl tt (λ f. refl) (λ page. refl)
+    (seated p p h (commands.Map c.args.actor x) answer c.self.invariant.sound.nodes c.self.invariant.sound.nodes (subst (λ (p : Manager). IsValid p h) (sym c.self.view_is) v) refl (λ done m f s none. none) refl tt (λ f. refl) (λ page. refl)
     (λ f s. let caches = caches_shown f 1 i.caches.caches in
     let size : size_in (numbered caches x.extent.cache.0) ≡ c.pages-count.result = shown_size f i.caches.caches x.extent.cache.0 ∙ sym c.pages-count.ensures in
     map_refused t x caches (length i.store.frames.held) actor c.in-Some.refusal (numbered t.actors actor) (numbered caches x.extent.cache.0) refl refl
     (ap (λ (q : Option ℕ). map_refusal t (numbered t.actors actor) q x) size ∙ sym c.map_refusal.ensures ∙ c.in-Some.is)))
 
 pub invariant_of-self : goal.invariant_of-self
-invariant_of-self c =
-    let i = c.self.inside in
-    let t : Actors = i.contexts in
-    let u : Actors = c.map.new.self in
-    let x = c.args.mapping in
-    let actor = c.args.actor.0 in
-    let e = c.map.ensures in
-    let sizes = size_of i.caches in
-    let k = is_mappable t x (numbered t.actors actor) c.pages-count.result (sym c.map_refusal.ensures ∙ c.in_default.is) in
-    let new = next_placed t x sizes (numbered t.actors actor) c.pages-count.result (sym c.pages-count.ensures) k in
-    seated_sound i.caches i.store t u i.live
-    (after_either (λ (w : Actors). w.page_bytes ≡ t.page_bytes) t u (with_region t actor x) c.map.result e.ok e.err refl refl)
-    (after_either (AreRight sizes) t u (with_region t actor x) c.map.result e.ok e.err (right_mapped sizes t actor x new c.self.invariant.actors) c.self.invariant.actors)
-    (after_either (λ (w : Actors). (cache page : ℕ) → locks_over w.actors cache page ≡ locks_over t.actors cache page) t u (with_region t actor x) c.map.result e.ok e.err (λ cache page. over_mapped cache page t.actors actor k.regions (next_region t x) k.here refl) (λ cache page. refl))
-    c.self.invariant
+invariant_of-self c = record {
+  sound = (
+      let i = c.self.inside in
+      let t : Actors = i.contexts in
+      let u : Actors = c.map.new.self in
+      let x = c.args.mapping in
+      let actor = c.args.actor.0 in
+      let e = c.map.ensures in
+      let sizes = size_of i.caches in
+      let k = is_mappable t x (numbered t.actors actor) c.pages-count.result (sym c.map_refusal.ensures ∙ c.in_default.is) in
+      let new = next_placed t x sizes (numbered t.actors actor) c.pages-count.result (sym c.pages-count.ensures) k in
+      seated_sound i.caches i.store t u i.live
+      (after_either (λ (w : Actors). w.page_bytes ≡ t.page_bytes) t u (with_region t actor x) c.map.result e.ok e.err refl refl)
+      (after_either (AreRight sizes) t u (with_region t actor x) c.map.result e.ok e.err (right_mapped sizes t actor x new c.self.invariant.sound.actors) c.self.invariant.sound.actors)
+      (after_either (λ (w : Actors). (cache page : ℕ) → locks_over w.actors cache page ≡ locks_over t.actors cache page) t u (with_region t actor x) c.map.result e.ok e.err (λ cache page. over_mapped cache page t.actors actor k.regions (next_region t x) k.here refl) (λ cache page. refl))
+      c.self.invariant.sound
+      );
+  translated = (
+      let i = c.self.inside in
+      let t : Actors = i.contexts in
+      let x = c.args.mapping in
+      let actor = c.args.actor.0 in
+      let e = c.map.ensures in
+      let k = is_mappable t x (numbered t.actors actor) c.pages-count.result (sym c.map_refusal.ensures ∙ c.in_default.is) in
+      after_either (AreTranslationsRight i.caches i.store) t c.map.new.self (with_region t actor x) c.map.result e.ok e.err
+      (mapped_right i.caches i.store t c.self.invariant.translated actor x k.regions k.here k.apart) c.self.invariant.translated
+      );
+}
 
 pub returns-clause-answers : goal.returns-clause-answers
 returns-clause-answers c = λ h v.
@@ -81,10 +96,10 @@ returns-clause-answers c = λ h v.
     subst (λ (p : Manager). AnswerIs (state_at p h) command (answer_by replies.Region c.match-map.result) [] no_counts (state_at q h)) c.self.view_is
     (elim c.match-map.branch [
       | in-Ok w ↦ subst at (sym w.result-is)
-          (seated p q h command (Ok (replies.Region w.in-Ok.region)) c.self.invariant.nodes c.self.invariant.nodes valid refl (λ done m f s none. none) refl tt (λ f. refl) (λ page. refl)
+          (seated p q h command (Ok (replies.Region w.in-Ok.region)) c.self.invariant.sound.nodes c.self.invariant.sound.nodes valid refl (λ done m f s none. none) refl tt (λ f. refl) (λ page. refl)
           (λ f s. row f ∙ (λ j. reply (replies.Region (record { 0 = sym w.in-Ok.ensures.number j })) (machine_with (caches_shown f 1 i.caches.caches) frames (sym w.in-Ok.ensures.ok j)))))
       | in-Err w ↦ subst at (sym w.result-is)
-          (seated p q h command (Err troubles.Memory) c.self.invariant.nodes c.self.invariant.nodes valid refl (λ done m f s none. none) refl tt (λ f. refl) (λ page. refl)
+          (seated p q h command (Err troubles.Memory) c.self.invariant.sound.nodes c.self.invariant.sound.nodes valid refl (λ done m f s none. none) refl tt (λ f. refl) (λ page. refl)
           (λ f s. (ap (machine_with (caches_shown f 1 i.caches.caches) frames) w.in-Err.ensures.err, tt, (let line = row f in rw line tt))))
     ])
 

@@ -48,6 +48,8 @@ use Rattle.pvm_core.proofs.Meaning.Shown.{shown_size}
 use Rattle.pvm_core.proofs.Spanning.SpanRows.{IsOpen, is_movable, is_open, move_refused}
 use Rattle.pvm_core.proofs.Spanning.Transferring.{copies_nothing, failed_copied, failed_made, failed_refused, names_written, transfer_failed, undenied_range}
 use Rattle.pvm_core.proofs.Spanning.Transfers.{move_follows, moved_outcome, moved_transfer, moved_valid, named_machine, named_there}
+use Rattle.pvm_core.proofs.Translating.Left.{left_right}
+use Rattle.pvm_core.proofs.Translating.Writable.{homes_writable}
 use Rattle.pvm_core.proofs.pvm.Pvm.move_pages.Goals as goal
 
 pub returns-in-Some-clause-answers : goal.returns-in-Some-clause-answers
@@ -58,9 +60,9 @@ returns-in-Some-clause-answers g c =
     let s = c.args.span in
     let answer : Answer = Err (troubles.Refused c.in-Some.refusal) in
     subst (λ (p : Manager). CallIs counts counts (state_at p h) (commands.Move c.args.span) answer (state_at p h)) c.self.view_is
-    (failed counts counts p p h h (commands.Move c.args.span) answer (reach_none (machine_of p h) h counts) c.self.invariant.nodes c.self.invariant.nodes (subst (λ (p : Manager). IsValid p h) (sym c.self.view_is) c.requires.valid) refl refl tt tt
+    (failed counts counts p p h h (commands.Move c.args.span) answer (reach_none (machine_of p h) h counts) c.self.invariant.sound.nodes c.self.invariant.sound.nodes (subst (λ (p : Manager). IsValid p h) (sym c.self.view_is) c.requires.valid) refl refl tt tt
     (λ f sg. move_refused (machine_by p f) s sg c.in-Some.refusal (cache_of (machine_by p f) s.from.0) (cache_of (machine_by p f) s.to.0) (is_named p.caches s.from.0) (any_locked p.caches (read_from s) || any_locked p.caches (replaced s)) refl (λ x e. named_there p f s.from.0 x e) refl
-    (λ j. any_same p f c.self.invariant.locked.counted (read_from s) j || any_same p f c.self.invariant.locked.counted (replaced s) j)
+    (λ j. any_same p f c.self.invariant.sound.locked.counted (read_from s) j || any_same p f c.self.invariant.sound.locked.counted (replaced s) j)
     ((λ j. move_refusal (shown_size f p.caches.caches s.from.0 j) (is_named p.caches s.from.0) (shown_size f p.caches.caches s.to.0 j) (any_locked p.caches (read_from s) || any_locked p.caches (replaced s)) s) ∙ sym c.move_refusal.ensures ∙ c.in-Some.is)))
 
 pub make_ready-requires-clause-range : goal.make_ready-requires-clause-range
@@ -86,7 +88,7 @@ returns-in_err-make_ready-clause-answers g c =
     let valid0 = (subst (λ (p : Manager). IsValid p h) (sym c.self.view_is) c.requires.valid) in
     let from0 = sized_table (table_of i.caches s.from.0) open0.from open0.from_is in
     let to0 = sized_table (table_of i.caches s.to.0) open0.to open0.to_is in
-    let transfer = moved_transfer i.caches i.store i.contexts i.live c.self.invariant s open0 from0.0 to0.0 from0.1 to0.1 from0.2 to0.2 (is_movable (size_of i.caches s.from.0) (size_of i.caches s.to.0) (is_named i.caches s.from.0) (any_locked i.caches (read_from s)) (any_locked i.caches (replaced s)) s (sym c.move_refusal.ensures ∙ c.in_default.is)).1 (is_movable (size_of i.caches s.from.0) (size_of i.caches s.to.0) (is_named i.caches s.from.0) (any_locked i.caches (read_from s)) (any_locked i.caches (replaced s)) s (sym c.move_refusal.ensures ∙ c.in_default.is)).2 in
+    let transfer = moved_transfer i.caches i.store i.contexts i.live c.self.invariant.sound s open0 from0.0 to0.0 from0.1 to0.1 from0.2 to0.2 (is_movable (size_of i.caches s.from.0) (size_of i.caches s.to.0) (is_named i.caches s.from.0) (any_locked i.caches (read_from s)) (any_locked i.caches (replaced s)) s (sym c.move_refusal.ensures ∙ c.in_default.is)).1 (is_movable (size_of i.caches s.from.0) (size_of i.caches s.to.0) (is_named i.caches s.from.0) (any_locked i.caches (read_from s)) (any_locked i.caches (replaced s)) s (sym c.move_refusal.ensures ∙ c.in_default.is)).2 in
     let keeps0 : KeepsMachine p q h k before after = subst (λ (p : Manager). KeepsMachine p q h k before after) (sym c.self.view_is) x0.keeps in
     let gave = err_from_is_err_and c.from_residual.result c.from_residual.ensures.1 in
     let trouble = c.in_err-make_ready.field-0.0 in
@@ -95,7 +97,7 @@ returns-in_err-make_ready-clause-answers g c =
     (subst (λ (p : Manager). IsNotReady c.destination.result p h q k trouble) (sym c.self.view_is) (subst (λ (r : Result _ Trouble). IfErr r (IsNotReady c.destination.result c.args.self.now h q k)) c.in_err-make_ready.was x0.not_ready)) in
     subst (λ (p : Manager). CallIs before after (state_at p h) (commands.Move s) (done_by c.from_residual.result) (state_at q k)) c.self.view_is
     (subst (λ (r : Result _ Trouble). CallIs before after (state_at p h) (commands.Move s) (done_by r) (state_at q k)) (sym is)
-    (transfer_failed p q h k before after s (commands.Move s) transfer keeps0 c.self.invariant.nodes x0.whole valid0 x0.valid open0.to open0.to_is open0.to_ends trouble wrong (λ at e. x0.cause at (c.in_err-make_ready.was ∙ ap (λ t. Err t) e))))
+    (transfer_failed p q h k before after s (commands.Move s) transfer keeps0 c.self.invariant.sound.nodes x0.whole valid0 x0.valid open0.to open0.to_is open0.to_ends trouble wrong (λ at e. x0.cause at (c.in_err-make_ready.was ∙ ap (λ t. Err t) e))))
 
 pub returns-in_err-make_ready-clause-made : goal.returns-in_err-make_ready-clause-made
 returns-in_err-make_ready-clause-made g c =
@@ -112,7 +114,7 @@ returns-in_err-make_ready-clause-made g c =
     let valid0 = (subst (λ (p : Manager). IsValid p h) (sym c.self.view_is) c.requires.valid) in
     let from0 = sized_table (table_of i.caches s.from.0) open0.from open0.from_is in
     let to0 = sized_table (table_of i.caches s.to.0) open0.to open0.to_is in
-    let transfer = moved_transfer i.caches i.store i.contexts i.live c.self.invariant s open0 from0.0 to0.0 from0.1 to0.1 from0.2 to0.2 (is_movable (size_of i.caches s.from.0) (size_of i.caches s.to.0) (is_named i.caches s.from.0) (any_locked i.caches (read_from s)) (any_locked i.caches (replaced s)) s (sym c.move_refusal.ensures ∙ c.in_default.is)).1 (is_movable (size_of i.caches s.from.0) (size_of i.caches s.to.0) (is_named i.caches s.from.0) (any_locked i.caches (read_from s)) (any_locked i.caches (replaced s)) s (sym c.move_refusal.ensures ∙ c.in_default.is)).2 in
+    let transfer = moved_transfer i.caches i.store i.contexts i.live c.self.invariant.sound s open0 from0.0 to0.0 from0.1 to0.1 from0.2 to0.2 (is_movable (size_of i.caches s.from.0) (size_of i.caches s.to.0) (is_named i.caches s.from.0) (any_locked i.caches (read_from s)) (any_locked i.caches (replaced s)) s (sym c.move_refusal.ensures ∙ c.in_default.is)).1 (is_movable (size_of i.caches s.from.0) (size_of i.caches s.to.0) (is_named i.caches s.from.0) (any_locked i.caches (read_from s)) (any_locked i.caches (replaced s)) s (sym c.move_refusal.ensures ∙ c.in_default.is)).2 in
     let keeps0 : KeepsMachine p q h k before after = subst (λ (p : Manager). KeepsMachine p q h k before after) (sym c.self.view_is) x0.keeps in
     let gave = err_from_is_err_and c.from_residual.result c.from_residual.ensures.1 in
     let trouble = c.in_err-make_ready.field-0.0 in
@@ -120,7 +122,7 @@ returns-in_err-make_ready-clause-made g c =
     let wrong : IsNotReady (replaced s) p h q k trouble = subst (λ (e : Extent). IsNotReady e p h q k trouble) c.destination.ensures
     (subst (λ (p : Manager). IsNotReady c.destination.result p h q k trouble) (sym c.self.view_is) (subst (λ (r : Result _ Trouble). IfErr r (IsNotReady c.destination.result c.args.self.now h q k)) c.in_err-make_ready.was x0.not_ready)) in
     subst (λ (p : Manager). RaisesMade (machine_of p h) (commands.Move s) (done_by c.from_residual.result) (numbered p) (numbered q)) c.self.view_is
-    (subst (λ (r : Result _ Trouble). RaisesMade (machine_of p h) (commands.Move s) (done_by r) (numbered p) (numbered q)) (sym is) (failed_made p q h k before after s (commands.Move s) transfer keeps0 c.self.invariant.nodes trouble wrong))
+    (subst (λ (r : Result _ Trouble). RaisesMade (machine_of p h) (commands.Move s) (done_by r) (numbered p) (numbered q)) (sym is) (failed_made p q h k before after s (commands.Move s) transfer keeps0 c.self.invariant.sound.nodes trouble wrong))
 
 pub returns-in_err-make_ready-clause-copies : goal.returns-in_err-make_ready-clause-copies
 returns-in_err-make_ready-clause-copies g c =
@@ -137,7 +139,7 @@ returns-in_err-make_ready-clause-copies g c =
     let valid0 = (subst (λ (p : Manager). IsValid p h) (sym c.self.view_is) c.requires.valid) in
     let from0 = sized_table (table_of i.caches s.from.0) open0.from open0.from_is in
     let to0 = sized_table (table_of i.caches s.to.0) open0.to open0.to_is in
-    let transfer = moved_transfer i.caches i.store i.contexts i.live c.self.invariant s open0 from0.0 to0.0 from0.1 to0.1 from0.2 to0.2 (is_movable (size_of i.caches s.from.0) (size_of i.caches s.to.0) (is_named i.caches s.from.0) (any_locked i.caches (read_from s)) (any_locked i.caches (replaced s)) s (sym c.move_refusal.ensures ∙ c.in_default.is)).1 (is_movable (size_of i.caches s.from.0) (size_of i.caches s.to.0) (is_named i.caches s.from.0) (any_locked i.caches (read_from s)) (any_locked i.caches (replaced s)) s (sym c.move_refusal.ensures ∙ c.in_default.is)).2 in
+    let transfer = moved_transfer i.caches i.store i.contexts i.live c.self.invariant.sound s open0 from0.0 to0.0 from0.1 to0.1 from0.2 to0.2 (is_movable (size_of i.caches s.from.0) (size_of i.caches s.to.0) (is_named i.caches s.from.0) (any_locked i.caches (read_from s)) (any_locked i.caches (replaced s)) s (sym c.move_refusal.ensures ∙ c.in_default.is)).1 (is_movable (size_of i.caches s.from.0) (size_of i.caches s.to.0) (is_named i.caches s.from.0) (any_locked i.caches (read_from s)) (any_locked i.caches (replaced s)) s (sym c.move_refusal.ensures ∙ c.in_default.is)).2 in
     let keeps0 : KeepsMachine p q h k before after = subst (λ (p : Manager). KeepsMachine p q h k before after) (sym c.self.view_is) x0.keeps in
     let gave = err_from_is_err_and c.from_residual.result c.from_residual.ensures.1 in
     let trouble = c.in_err-make_ready.field-0.0 in
@@ -145,7 +147,7 @@ returns-in_err-make_ready-clause-copies g c =
     let wrong : IsNotReady (replaced s) p h q k trouble = subst (λ (e : Extent). IsNotReady e p h q k trouble) c.destination.ensures
     (subst (λ (p : Manager). IsNotReady c.destination.result p h q k trouble) (sym c.self.view_is) (subst (λ (r : Result _ Trouble). IfErr r (IsNotReady c.destination.result c.args.self.now h q k)) c.in_err-make_ready.was x0.not_ready)) in
     subst (λ (p : Manager). CopiesSaved (replaced s) p h q c.from_residual.result) c.self.view_is
-    (subst (λ (r : Result _ Trouble). CopiesSaved (replaced s) p h q r) (sym is) (failed_copied p q h k before after s (commands.Move s) transfer keeps0 c.self.invariant.nodes trouble wrong))
+    (subst (λ (r : Result _ Trouble). CopiesSaved (replaced s) p h q r) (sym is) (failed_copied p q h k before after s (commands.Move s) transfer keeps0 c.self.invariant.sound.nodes trouble wrong))
 
 pub returns-in_err-make_ready-clause-refused : goal.returns-in_err-make_ready-clause-refused
 returns-in_err-make_ready-clause-refused g c =
@@ -162,14 +164,14 @@ returns-in_err-make_ready-clause-refused g c =
     let valid0 = (subst (λ (p : Manager). IsValid p h) (sym c.self.view_is) c.requires.valid) in
     let from0 = sized_table (table_of i.caches s.from.0) open0.from open0.from_is in
     let to0 = sized_table (table_of i.caches s.to.0) open0.to open0.to_is in
-    let transfer = moved_transfer i.caches i.store i.contexts i.live c.self.invariant s open0 from0.0 to0.0 from0.1 to0.1 from0.2 to0.2 (is_movable (size_of i.caches s.from.0) (size_of i.caches s.to.0) (is_named i.caches s.from.0) (any_locked i.caches (read_from s)) (any_locked i.caches (replaced s)) s (sym c.move_refusal.ensures ∙ c.in_default.is)).1 (is_movable (size_of i.caches s.from.0) (size_of i.caches s.to.0) (is_named i.caches s.from.0) (any_locked i.caches (read_from s)) (any_locked i.caches (replaced s)) s (sym c.move_refusal.ensures ∙ c.in_default.is)).2 in
+    let transfer = moved_transfer i.caches i.store i.contexts i.live c.self.invariant.sound s open0 from0.0 to0.0 from0.1 to0.1 from0.2 to0.2 (is_movable (size_of i.caches s.from.0) (size_of i.caches s.to.0) (is_named i.caches s.from.0) (any_locked i.caches (read_from s)) (any_locked i.caches (replaced s)) s (sym c.move_refusal.ensures ∙ c.in_default.is)).1 (is_movable (size_of i.caches s.from.0) (size_of i.caches s.to.0) (is_named i.caches s.from.0) (any_locked i.caches (read_from s)) (any_locked i.caches (replaced s)) s (sym c.move_refusal.ensures ∙ c.in_default.is)).2 in
     let keeps0 : KeepsMachine p q h k before after = subst (λ (p : Manager). KeepsMachine p q h k before after) (sym c.self.view_is) x0.keeps in
     let gave = err_from_is_err_and c.from_residual.result c.from_residual.ensures.1 in
     let trouble = c.in_err-make_ready.field-0.0 in
     let is : c.from_residual.result ≡ Err trouble = gave.1 ∙ ap (λ t. Err t) gave.2 in
     let wrong : IsNotReady (replaced s) p h q k trouble = subst (λ (e : Extent). IsNotReady e p h q k trouble) c.destination.ensures
     (subst (λ (p : Manager). IsNotReady c.destination.result p h q k trouble) (sym c.self.view_is) (subst (λ (r : Result _ Trouble). IfErr r (IsNotReady c.destination.result c.args.self.now h q k)) c.in_err-make_ready.was x0.not_ready)) in
-    λ r e other. absurd (failed_refused p q h k before after s (commands.Move s) transfer keeps0 c.self.invariant.nodes trouble wrong r (let x : Err trouble ≡ Err (troubles.Refused r) = sym is ∙ e in cc x) other)
+    λ r e other. absurd (failed_refused p q h k before after s (commands.Move s) transfer keeps0 c.self.invariant.sound.nodes trouble wrong r (let x : Err trouble ≡ Err (troubles.Refused r) = sym is ∙ e in cc x) other)
 
 pub returns-in_err-make_ready-clause-idle : goal.returns-in_err-make_ready-clause-idle
 returns-in_err-make_ready-clause-idle g c =
@@ -186,7 +188,7 @@ returns-in_err-make_ready-clause-idle g c =
     let valid0 = (subst (λ (p : Manager). IsValid p h) (sym c.self.view_is) c.requires.valid) in
     let from0 = sized_table (table_of i.caches s.from.0) open0.from open0.from_is in
     let to0 = sized_table (table_of i.caches s.to.0) open0.to open0.to_is in
-    let transfer = moved_transfer i.caches i.store i.contexts i.live c.self.invariant s open0 from0.0 to0.0 from0.1 to0.1 from0.2 to0.2 (is_movable (size_of i.caches s.from.0) (size_of i.caches s.to.0) (is_named i.caches s.from.0) (any_locked i.caches (read_from s)) (any_locked i.caches (replaced s)) s (sym c.move_refusal.ensures ∙ c.in_default.is)).1 (is_movable (size_of i.caches s.from.0) (size_of i.caches s.to.0) (is_named i.caches s.from.0) (any_locked i.caches (read_from s)) (any_locked i.caches (replaced s)) s (sym c.move_refusal.ensures ∙ c.in_default.is)).2 in
+    let transfer = moved_transfer i.caches i.store i.contexts i.live c.self.invariant.sound s open0 from0.0 to0.0 from0.1 to0.1 from0.2 to0.2 (is_movable (size_of i.caches s.from.0) (size_of i.caches s.to.0) (is_named i.caches s.from.0) (any_locked i.caches (read_from s)) (any_locked i.caches (replaced s)) s (sym c.move_refusal.ensures ∙ c.in_default.is)).1 (is_movable (size_of i.caches s.from.0) (size_of i.caches s.to.0) (is_named i.caches s.from.0) (any_locked i.caches (read_from s)) (any_locked i.caches (replaced s)) s (sym c.move_refusal.ensures ∙ c.in_default.is)).2 in
     let keeps0 : KeepsMachine p q h k before after = subst (λ (p : Manager). KeepsMachine p q h k before after) (sym c.self.view_is) x0.keeps in
     let gave = err_from_is_err_and c.from_residual.result c.from_residual.ensures.1 in
     let trouble = c.in_err-make_ready.field-0.0 in
@@ -216,12 +218,12 @@ move_pages-requires-clause-tied g c =
     let valid0 = (subst (λ (p : Manager). IsValid p h) (sym c.self.view_is) c.requires.valid) in
     let from0 = sized_table (table_of i.caches s.from.0) open0.from open0.from_is in
     let to0 = sized_table (table_of i.caches s.to.0) open0.to open0.to_is in
-    let transfer = moved_transfer i.caches i.store i.contexts i.live c.self.invariant s open0 from0.0 to0.0 from0.1 to0.1 from0.2 to0.2 (is_movable (size_of i.caches s.from.0) (size_of i.caches s.to.0) (is_named i.caches s.from.0) (any_locked i.caches (read_from s)) (any_locked i.caches (replaced s)) s (sym c.move_refusal.ensures ∙ c.in_default.is)).1 (is_movable (size_of i.caches s.from.0) (size_of i.caches s.to.0) (is_named i.caches s.from.0) (any_locked i.caches (read_from s)) (any_locked i.caches (replaced s)) s (sym c.move_refusal.ensures ∙ c.in_default.is)).2 in
+    let transfer = moved_transfer i.caches i.store i.contexts i.live c.self.invariant.sound s open0 from0.0 to0.0 from0.1 to0.1 from0.2 to0.2 (is_movable (size_of i.caches s.from.0) (size_of i.caches s.to.0) (is_named i.caches s.from.0) (any_locked i.caches (read_from s)) (any_locked i.caches (replaced s)) s (sym c.move_refusal.ensures ∙ c.in_default.is)).1 (is_movable (size_of i.caches s.from.0) (size_of i.caches s.to.0) (is_named i.caches s.from.0) (any_locked i.caches (read_from s)) (any_locked i.caches (replaced s)) s (sym c.move_refusal.ensures ∙ c.in_default.is)).2 in
     let keeps0 : KeepsMachine p q h k before after = subst (λ (p : Manager). KeepsMachine p q h k before after) (sym c.self.view_is) x0.keeps in
     let j = c.self-2.inside in
     let v2 = c.self-2.view_is in
     let b : Manager = seen j.caches j.store j.contexts in
-    let sound = c.self-2.invariant in
+    let sound = c.self-2.invariant.sound in
     let valid : IsValid b k = subst (λ (p : Manager). IsValid p k) (sym v2) x0.valid in
     let keeps : KeepsMachine p b h k before after = subst (λ (r : Manager). KeepsMachine p r h k before after) (sym v2) keeps0 in
     let ready : IsReady (replaced s) c.args.span.pages p b h k = subst (λ (e : Extent). IsReady e c.args.span.pages p b h k) c.destination.ensures
@@ -234,7 +236,7 @@ move_pages-requires-clause-tied g c =
       from_ends = open0.from_ends;
       to_ends = open0.to_ends;
       apart = open0.apart;
-      unlocked = same_locked p b c.self.invariant.locked.counted sound.locked.counted keeps.by (replaced s) ∙ open0.unlocked;
+      unlocked = same_locked p b c.self.invariant.sound.locked.counted sound.locked.counted keeps.by (replaced s) ∙ open0.unlocked;
     } in
     let tied = tied_right k None j.caches j.store valid.right in
     tied
@@ -254,12 +256,12 @@ move_pages-requires-clause-can g c =
     let valid0 = (subst (λ (p : Manager). IsValid p h) (sym c.self.view_is) c.requires.valid) in
     let from0 = sized_table (table_of i.caches s.from.0) open0.from open0.from_is in
     let to0 = sized_table (table_of i.caches s.to.0) open0.to open0.to_is in
-    let transfer = moved_transfer i.caches i.store i.contexts i.live c.self.invariant s open0 from0.0 to0.0 from0.1 to0.1 from0.2 to0.2 (is_movable (size_of i.caches s.from.0) (size_of i.caches s.to.0) (is_named i.caches s.from.0) (any_locked i.caches (read_from s)) (any_locked i.caches (replaced s)) s (sym c.move_refusal.ensures ∙ c.in_default.is)).1 (is_movable (size_of i.caches s.from.0) (size_of i.caches s.to.0) (is_named i.caches s.from.0) (any_locked i.caches (read_from s)) (any_locked i.caches (replaced s)) s (sym c.move_refusal.ensures ∙ c.in_default.is)).2 in
+    let transfer = moved_transfer i.caches i.store i.contexts i.live c.self.invariant.sound s open0 from0.0 to0.0 from0.1 to0.1 from0.2 to0.2 (is_movable (size_of i.caches s.from.0) (size_of i.caches s.to.0) (is_named i.caches s.from.0) (any_locked i.caches (read_from s)) (any_locked i.caches (replaced s)) s (sym c.move_refusal.ensures ∙ c.in_default.is)).1 (is_movable (size_of i.caches s.from.0) (size_of i.caches s.to.0) (is_named i.caches s.from.0) (any_locked i.caches (read_from s)) (any_locked i.caches (replaced s)) s (sym c.move_refusal.ensures ∙ c.in_default.is)).2 in
     let keeps0 : KeepsMachine p q h k before after = subst (λ (p : Manager). KeepsMachine p q h k before after) (sym c.self.view_is) x0.keeps in
     let j = c.self-2.inside in
     let v2 = c.self-2.view_is in
     let b : Manager = seen j.caches j.store j.contexts in
-    let sound = c.self-2.invariant in
+    let sound = c.self-2.invariant.sound in
     let valid : IsValid b k = subst (λ (p : Manager). IsValid p k) (sym v2) x0.valid in
     let keeps : KeepsMachine p b h k before after = subst (λ (r : Manager). KeepsMachine p r h k before after) (sym v2) keeps0 in
     let ready : IsReady (replaced s) c.args.span.pages p b h k = subst (λ (e : Extent). IsReady e c.args.span.pages p b h k) c.destination.ensures
@@ -272,7 +274,7 @@ move_pages-requires-clause-can g c =
       from_ends = open0.from_ends;
       to_ends = open0.to_ends;
       apart = open0.apart;
-      unlocked = same_locked p b c.self.invariant.locked.counted sound.locked.counted keeps.by (replaced s) ∙ open0.unlocked;
+      unlocked = same_locked p b c.self.invariant.sound.locked.counted sound.locked.counted keeps.by (replaced s) ∙ open0.unlocked;
     } in
     let tied = tied_right k None j.caches j.store valid.right in
     can_copy j.caches sound.nodes s out
@@ -289,9 +291,9 @@ move_pages-requires-clause-unpinned g c = λ x is.
     let after = g.M.Mapper.counts c.make_ready.new.mapper in
     let p : Manager = seen i.caches i.store i.contexts in
     let b : Manager = seen j.caches j.store j.contexts in
-    let sound = c.self-2.invariant in
+    let sound = c.self-2.invariant.sound in
     let keeps : KeepsMachine p b h k before after = subst (λ (r : Manager). KeepsMachine p r h k before after) (sym c.self-2.view_is) (subst (λ (p : Manager). KeepsMachine p q h k before after) (sym c.self.view_is) c.make_ready.ensures.keeps) in
-    let free : any_locked j.caches (replaced s) ≡ false = same_locked p b c.self.invariant.locked.counted sound.locked.counted keeps.by (replaced s) ∙ (is_open (size_of i.caches s.from.0) (size_of i.caches s.to.0) (any_locked i.caches (replaced s)) s (is_movable (size_of i.caches s.from.0) (size_of i.caches s.to.0) (is_named i.caches s.from.0) (any_locked i.caches (read_from s)) (any_locked i.caches (replaced s)) s (sym c.move_refusal.ensures ∙ c.in_default.is)).0).unlocked in
+    let free : any_locked j.caches (replaced s) ≡ false = same_locked p b c.self.invariant.sound.locked.counted sound.locked.counted keeps.by (replaced s) ∙ (is_open (size_of i.caches s.from.0) (size_of i.caches s.to.0) (any_locked i.caches (replaced s)) s (is_movable (size_of i.caches s.from.0) (size_of i.caches s.to.0) (is_named i.caches s.from.0) (any_locked i.caches (read_from s)) (any_locked i.caches (replaced s)) s (sym c.move_refusal.ensures ∙ c.in_default.is)).0).unlocked in
     unpinned_names j.caches j.store j.contexts.actors sound.locked (replaced s) free x (subst (λ (xs : List NodeName). x ∈ xs) (destination_names s) is)
 
 pub move_pages-requires-clause-sources : goal.move_pages-requires-clause-sources
@@ -306,15 +308,15 @@ move_pages-requires-clause-sources g c = λ x is.
     let after = g.M.Mapper.counts c.make_ready.new.mapper in
     let p : Manager = seen i.caches i.store i.contexts in
     let b : Manager = seen j.caches j.store j.contexts in
-    let sound = c.self-2.invariant in
+    let sound = c.self-2.invariant.sound in
     let keeps : KeepsMachine p b h k before after = subst (λ (r : Manager). KeepsMachine p r h k before after) (sym c.self-2.view_is) (subst (λ (p : Manager). KeepsMachine p q h k before after) (sym c.self.view_is) c.make_ready.ensures.keeps) in
-    let free : any_locked j.caches (read_from s) ≡ false = same_locked p b c.self.invariant.locked.counted sound.locked.counted keeps.by (read_from s) ∙ (is_movable (size_of i.caches s.from.0) (size_of i.caches s.to.0) (is_named i.caches s.from.0) (any_locked i.caches (read_from s)) (any_locked i.caches (replaced s)) s (sym c.move_refusal.ensures ∙ c.in_default.is)).2 in
+    let free : any_locked j.caches (read_from s) ≡ false = same_locked p b c.self.invariant.sound.locked.counted sound.locked.counted keeps.by (read_from s) ∙ (is_movable (size_of i.caches s.from.0) (size_of i.caches s.to.0) (is_named i.caches s.from.0) (any_locked i.caches (read_from s)) (any_locked i.caches (replaced s)) s (sym c.move_refusal.ensures ∙ c.in_default.is)).2 in
     unpinned_names j.caches j.store j.contexts.actors sound.locked (read_from s) free x (subst (λ (xs : List NodeName). x ∈ xs) (pairs_read_sources s.from s.to s.from_page.0 s.to_page.0 s.pages) is)
 
 pub move_pages-requires-clause-working : goal.move_pages-requires-clause-working
 move_pages-requires-clause-working g c =
     let j = c.self-2.inside in
-    working_unpinned j.caches j.store j.contexts.actors c.self-2.invariant.locked
+    working_unpinned j.caches j.store j.contexts.actors c.self-2.invariant.sound.locked
 
 pub move_pages-requires-clause-saved : goal.move_pages-requires-clause-saved
 move_pages-requires-clause-saved g c =
@@ -331,12 +333,12 @@ move_pages-requires-clause-saved g c =
     let valid0 = (subst (λ (p : Manager). IsValid p h) (sym c.self.view_is) c.requires.valid) in
     let from0 = sized_table (table_of i.caches s.from.0) open0.from open0.from_is in
     let to0 = sized_table (table_of i.caches s.to.0) open0.to open0.to_is in
-    let transfer = moved_transfer i.caches i.store i.contexts i.live c.self.invariant s open0 from0.0 to0.0 from0.1 to0.1 from0.2 to0.2 (is_movable (size_of i.caches s.from.0) (size_of i.caches s.to.0) (is_named i.caches s.from.0) (any_locked i.caches (read_from s)) (any_locked i.caches (replaced s)) s (sym c.move_refusal.ensures ∙ c.in_default.is)).1 (is_movable (size_of i.caches s.from.0) (size_of i.caches s.to.0) (is_named i.caches s.from.0) (any_locked i.caches (read_from s)) (any_locked i.caches (replaced s)) s (sym c.move_refusal.ensures ∙ c.in_default.is)).2 in
+    let transfer = moved_transfer i.caches i.store i.contexts i.live c.self.invariant.sound s open0 from0.0 to0.0 from0.1 to0.1 from0.2 to0.2 (is_movable (size_of i.caches s.from.0) (size_of i.caches s.to.0) (is_named i.caches s.from.0) (any_locked i.caches (read_from s)) (any_locked i.caches (replaced s)) s (sym c.move_refusal.ensures ∙ c.in_default.is)).1 (is_movable (size_of i.caches s.from.0) (size_of i.caches s.to.0) (is_named i.caches s.from.0) (any_locked i.caches (read_from s)) (any_locked i.caches (replaced s)) s (sym c.move_refusal.ensures ∙ c.in_default.is)).2 in
     let keeps0 : KeepsMachine p q h k before after = subst (λ (p : Manager). KeepsMachine p q h k before after) (sym c.self.view_is) x0.keeps in
     let j = c.self-2.inside in
     let v2 = c.self-2.view_is in
     let b : Manager = seen j.caches j.store j.contexts in
-    let sound = c.self-2.invariant in
+    let sound = c.self-2.invariant.sound in
     let valid : IsValid b k = subst (λ (p : Manager). IsValid p k) (sym v2) x0.valid in
     let keeps : KeepsMachine p b h k before after = subst (λ (r : Manager). KeepsMachine p r h k before after) (sym v2) keeps0 in
     let ready : IsReady (replaced s) c.args.span.pages p b h k = subst (λ (e : Extent). IsReady e c.args.span.pages p b h k) c.destination.ensures
@@ -349,7 +351,7 @@ move_pages-requires-clause-saved g c =
       from_ends = open0.from_ends;
       to_ends = open0.to_ends;
       apart = open0.apart;
-      unlocked = same_locked p b c.self.invariant.locked.counted sound.locked.counted keeps.by (replaced s) ∙ open0.unlocked;
+      unlocked = same_locked p b c.self.invariant.sound.locked.counted sound.locked.counted keeps.by (replaced s) ∙ open0.unlocked;
     } in
     let tied = tied_right k None j.caches j.store valid.right in
     subst (AreSaved j.caches s.to) (sym (destination_names s)) ready.saved_now
@@ -369,12 +371,12 @@ move_pages-requires-clause-granted g c =
     let valid0 = (subst (λ (p : Manager). IsValid p h) (sym c.self.view_is) c.requires.valid) in
     let from0 = sized_table (table_of i.caches s.from.0) open0.from open0.from_is in
     let to0 = sized_table (table_of i.caches s.to.0) open0.to open0.to_is in
-    let transfer = moved_transfer i.caches i.store i.contexts i.live c.self.invariant s open0 from0.0 to0.0 from0.1 to0.1 from0.2 to0.2 (is_movable (size_of i.caches s.from.0) (size_of i.caches s.to.0) (is_named i.caches s.from.0) (any_locked i.caches (read_from s)) (any_locked i.caches (replaced s)) s (sym c.move_refusal.ensures ∙ c.in_default.is)).1 (is_movable (size_of i.caches s.from.0) (size_of i.caches s.to.0) (is_named i.caches s.from.0) (any_locked i.caches (read_from s)) (any_locked i.caches (replaced s)) s (sym c.move_refusal.ensures ∙ c.in_default.is)).2 in
+    let transfer = moved_transfer i.caches i.store i.contexts i.live c.self.invariant.sound s open0 from0.0 to0.0 from0.1 to0.1 from0.2 to0.2 (is_movable (size_of i.caches s.from.0) (size_of i.caches s.to.0) (is_named i.caches s.from.0) (any_locked i.caches (read_from s)) (any_locked i.caches (replaced s)) s (sym c.move_refusal.ensures ∙ c.in_default.is)).1 (is_movable (size_of i.caches s.from.0) (size_of i.caches s.to.0) (is_named i.caches s.from.0) (any_locked i.caches (read_from s)) (any_locked i.caches (replaced s)) s (sym c.move_refusal.ensures ∙ c.in_default.is)).2 in
     let keeps0 : KeepsMachine p q h k before after = subst (λ (p : Manager). KeepsMachine p q h k before after) (sym c.self.view_is) x0.keeps in
     let j = c.self-2.inside in
     let v2 = c.self-2.view_is in
     let b : Manager = seen j.caches j.store j.contexts in
-    let sound = c.self-2.invariant in
+    let sound = c.self-2.invariant.sound in
     let valid : IsValid b k = subst (λ (p : Manager). IsValid p k) (sym v2) x0.valid in
     let keeps : KeepsMachine p b h k before after = subst (λ (r : Manager). KeepsMachine p r h k before after) (sym v2) keeps0 in
     let ready : IsReady (replaced s) c.args.span.pages p b h k = subst (λ (e : Extent). IsReady e c.args.span.pages p b h k) c.destination.ensures
@@ -387,7 +389,7 @@ move_pages-requires-clause-granted g c =
       from_ends = open0.from_ends;
       to_ends = open0.to_ends;
       apart = open0.apart;
-      unlocked = same_locked p b c.self.invariant.locked.counted sound.locked.counted keeps.by (replaced s) ∙ open0.unlocked;
+      unlocked = same_locked p b c.self.invariant.sound.locked.counted sound.locked.counted keeps.by (replaced s) ∙ open0.unlocked;
     } in
     let tied = tied_right k None j.caches j.store valid.right in
     names_written j.caches s ready.writable
@@ -407,12 +409,12 @@ move_pages-requires-clause-few g c =
     let valid0 = (subst (λ (p : Manager). IsValid p h) (sym c.self.view_is) c.requires.valid) in
     let from0 = sized_table (table_of i.caches s.from.0) open0.from open0.from_is in
     let to0 = sized_table (table_of i.caches s.to.0) open0.to open0.to_is in
-    let transfer = moved_transfer i.caches i.store i.contexts i.live c.self.invariant s open0 from0.0 to0.0 from0.1 to0.1 from0.2 to0.2 (is_movable (size_of i.caches s.from.0) (size_of i.caches s.to.0) (is_named i.caches s.from.0) (any_locked i.caches (read_from s)) (any_locked i.caches (replaced s)) s (sym c.move_refusal.ensures ∙ c.in_default.is)).1 (is_movable (size_of i.caches s.from.0) (size_of i.caches s.to.0) (is_named i.caches s.from.0) (any_locked i.caches (read_from s)) (any_locked i.caches (replaced s)) s (sym c.move_refusal.ensures ∙ c.in_default.is)).2 in
+    let transfer = moved_transfer i.caches i.store i.contexts i.live c.self.invariant.sound s open0 from0.0 to0.0 from0.1 to0.1 from0.2 to0.2 (is_movable (size_of i.caches s.from.0) (size_of i.caches s.to.0) (is_named i.caches s.from.0) (any_locked i.caches (read_from s)) (any_locked i.caches (replaced s)) s (sym c.move_refusal.ensures ∙ c.in_default.is)).1 (is_movable (size_of i.caches s.from.0) (size_of i.caches s.to.0) (is_named i.caches s.from.0) (any_locked i.caches (read_from s)) (any_locked i.caches (replaced s)) s (sym c.move_refusal.ensures ∙ c.in_default.is)).2 in
     let keeps0 : KeepsMachine p q h k before after = subst (λ (p : Manager). KeepsMachine p q h k before after) (sym c.self.view_is) x0.keeps in
     let j = c.self-2.inside in
     let v2 = c.self-2.view_is in
     let b : Manager = seen j.caches j.store j.contexts in
-    let sound = c.self-2.invariant in
+    let sound = c.self-2.invariant.sound in
     let valid : IsValid b k = subst (λ (p : Manager). IsValid p k) (sym v2) x0.valid in
     let keeps : KeepsMachine p b h k before after = subst (λ (r : Manager). KeepsMachine p r h k before after) (sym v2) keeps0 in
     let ready : IsReady (replaced s) c.args.span.pages p b h k = subst (λ (e : Extent). IsReady e c.args.span.pages p b h k) c.destination.ensures
@@ -425,7 +427,7 @@ move_pages-requires-clause-few g c =
       from_ends = open0.from_ends;
       to_ends = open0.to_ends;
       apart = open0.apart;
-      unlocked = same_locked p b c.self.invariant.locked.counted sound.locked.counted keeps.by (replaced s) ∙ open0.unlocked;
+      unlocked = same_locked p b c.self.invariant.sound.locked.counted sound.locked.counted keeps.by (replaced s) ∙ open0.unlocked;
     } in
     let tied = tied_right k None j.caches j.store valid.right in
     omega (arith, forest_len j.caches, nodes_most sound, sound.few, sound.counted, size_le j.caches s.from.0 out.from out.from_is, out.from_ends)
@@ -445,12 +447,12 @@ move_pages-requires-clause-within g c =
     let valid0 = (subst (λ (p : Manager). IsValid p h) (sym c.self.view_is) c.requires.valid) in
     let from0 = sized_table (table_of i.caches s.from.0) open0.from open0.from_is in
     let to0 = sized_table (table_of i.caches s.to.0) open0.to open0.to_is in
-    let transfer = moved_transfer i.caches i.store i.contexts i.live c.self.invariant s open0 from0.0 to0.0 from0.1 to0.1 from0.2 to0.2 (is_movable (size_of i.caches s.from.0) (size_of i.caches s.to.0) (is_named i.caches s.from.0) (any_locked i.caches (read_from s)) (any_locked i.caches (replaced s)) s (sym c.move_refusal.ensures ∙ c.in_default.is)).1 (is_movable (size_of i.caches s.from.0) (size_of i.caches s.to.0) (is_named i.caches s.from.0) (any_locked i.caches (read_from s)) (any_locked i.caches (replaced s)) s (sym c.move_refusal.ensures ∙ c.in_default.is)).2 in
+    let transfer = moved_transfer i.caches i.store i.contexts i.live c.self.invariant.sound s open0 from0.0 to0.0 from0.1 to0.1 from0.2 to0.2 (is_movable (size_of i.caches s.from.0) (size_of i.caches s.to.0) (is_named i.caches s.from.0) (any_locked i.caches (read_from s)) (any_locked i.caches (replaced s)) s (sym c.move_refusal.ensures ∙ c.in_default.is)).1 (is_movable (size_of i.caches s.from.0) (size_of i.caches s.to.0) (is_named i.caches s.from.0) (any_locked i.caches (read_from s)) (any_locked i.caches (replaced s)) s (sym c.move_refusal.ensures ∙ c.in_default.is)).2 in
     let keeps0 : KeepsMachine p q h k before after = subst (λ (p : Manager). KeepsMachine p q h k before after) (sym c.self.view_is) x0.keeps in
     let j = c.self-2.inside in
     let v2 = c.self-2.view_is in
     let b : Manager = seen j.caches j.store j.contexts in
-    let sound = c.self-2.invariant in
+    let sound = c.self-2.invariant.sound in
     let valid : IsValid b k = subst (λ (p : Manager). IsValid p k) (sym v2) x0.valid in
     let keeps : KeepsMachine p b h k before after = subst (λ (r : Manager). KeepsMachine p r h k before after) (sym v2) keeps0 in
     let ready : IsReady (replaced s) c.args.span.pages p b h k = subst (λ (e : Extent). IsReady e c.args.span.pages p b h k) c.destination.ensures
@@ -463,7 +465,7 @@ move_pages-requires-clause-within g c =
       from_ends = open0.from_ends;
       to_ends = open0.to_ends;
       apart = open0.apart;
-      unlocked = same_locked p b c.self.invariant.locked.counted sound.locked.counted keeps.by (replaced s) ∙ open0.unlocked;
+      unlocked = same_locked p b c.self.invariant.sound.locked.counted sound.locked.counted keeps.by (replaced s) ∙ open0.unlocked;
     } in
     let tied = tied_right k None j.caches j.store valid.right in
     (omega (arith, sound.few, sound.counted, size_le j.caches s.from.0 out.from out.from_is, out.from_ends), omega (arith, sound.few, sound.counted, size_le j.caches s.to.0 out.to out.to_is, out.to_ends))
@@ -483,12 +485,12 @@ move_pages-requires-clause-temporary g c =
     let valid0 = (subst (λ (p : Manager). IsValid p h) (sym c.self.view_is) c.requires.valid) in
     let from0 = sized_table (table_of i.caches s.from.0) open0.from open0.from_is in
     let to0 = sized_table (table_of i.caches s.to.0) open0.to open0.to_is in
-    let transfer = moved_transfer i.caches i.store i.contexts i.live c.self.invariant s open0 from0.0 to0.0 from0.1 to0.1 from0.2 to0.2 (is_movable (size_of i.caches s.from.0) (size_of i.caches s.to.0) (is_named i.caches s.from.0) (any_locked i.caches (read_from s)) (any_locked i.caches (replaced s)) s (sym c.move_refusal.ensures ∙ c.in_default.is)).1 (is_movable (size_of i.caches s.from.0) (size_of i.caches s.to.0) (is_named i.caches s.from.0) (any_locked i.caches (read_from s)) (any_locked i.caches (replaced s)) s (sym c.move_refusal.ensures ∙ c.in_default.is)).2 in
+    let transfer = moved_transfer i.caches i.store i.contexts i.live c.self.invariant.sound s open0 from0.0 to0.0 from0.1 to0.1 from0.2 to0.2 (is_movable (size_of i.caches s.from.0) (size_of i.caches s.to.0) (is_named i.caches s.from.0) (any_locked i.caches (read_from s)) (any_locked i.caches (replaced s)) s (sym c.move_refusal.ensures ∙ c.in_default.is)).1 (is_movable (size_of i.caches s.from.0) (size_of i.caches s.to.0) (is_named i.caches s.from.0) (any_locked i.caches (read_from s)) (any_locked i.caches (replaced s)) s (sym c.move_refusal.ensures ∙ c.in_default.is)).2 in
     let keeps0 : KeepsMachine p q h k before after = subst (λ (p : Manager). KeepsMachine p q h k before after) (sym c.self.view_is) x0.keeps in
     let j = c.self-2.inside in
     let v2 = c.self-2.view_is in
     let b : Manager = seen j.caches j.store j.contexts in
-    let sound = c.self-2.invariant in
+    let sound = c.self-2.invariant.sound in
     let valid : IsValid b k = subst (λ (p : Manager). IsValid p k) (sym v2) x0.valid in
     let keeps : KeepsMachine p b h k before after = subst (λ (r : Manager). KeepsMachine p r h k before after) (sym v2) keeps0 in
     let ready : IsReady (replaced s) c.args.span.pages p b h k = subst (λ (e : Extent). IsReady e c.args.span.pages p b h k) c.destination.ensures
@@ -501,7 +503,7 @@ move_pages-requires-clause-temporary g c =
       from_ends = open0.from_ends;
       to_ends = open0.to_ends;
       apart = open0.apart;
-      unlocked = same_locked p b c.self.invariant.locked.counted sound.locked.counted keeps.by (replaced s) ∙ open0.unlocked;
+      unlocked = same_locked p b c.self.invariant.sound.locked.counted sound.locked.counted keeps.by (replaced s) ∙ open0.unlocked;
     } in
     let tied = tied_right k None j.caches j.store valid.right in
     named_same i.caches j.caches keeps.same s.from.0 ∙ (is_movable (size_of i.caches s.from.0) (size_of i.caches s.to.0) (is_named i.caches s.from.0) (any_locked i.caches (read_from s)) (any_locked i.caches (replaced s)) s (sym c.move_refusal.ensures ∙ c.in_default.is)).1
@@ -521,12 +523,12 @@ move_pages-requires-clause-room g c =
     let valid0 = (subst (λ (p : Manager). IsValid p h) (sym c.self.view_is) c.requires.valid) in
     let from0 = sized_table (table_of i.caches s.from.0) open0.from open0.from_is in
     let to0 = sized_table (table_of i.caches s.to.0) open0.to open0.to_is in
-    let transfer = moved_transfer i.caches i.store i.contexts i.live c.self.invariant s open0 from0.0 to0.0 from0.1 to0.1 from0.2 to0.2 (is_movable (size_of i.caches s.from.0) (size_of i.caches s.to.0) (is_named i.caches s.from.0) (any_locked i.caches (read_from s)) (any_locked i.caches (replaced s)) s (sym c.move_refusal.ensures ∙ c.in_default.is)).1 (is_movable (size_of i.caches s.from.0) (size_of i.caches s.to.0) (is_named i.caches s.from.0) (any_locked i.caches (read_from s)) (any_locked i.caches (replaced s)) s (sym c.move_refusal.ensures ∙ c.in_default.is)).2 in
+    let transfer = moved_transfer i.caches i.store i.contexts i.live c.self.invariant.sound s open0 from0.0 to0.0 from0.1 to0.1 from0.2 to0.2 (is_movable (size_of i.caches s.from.0) (size_of i.caches s.to.0) (is_named i.caches s.from.0) (any_locked i.caches (read_from s)) (any_locked i.caches (replaced s)) s (sym c.move_refusal.ensures ∙ c.in_default.is)).1 (is_movable (size_of i.caches s.from.0) (size_of i.caches s.to.0) (is_named i.caches s.from.0) (any_locked i.caches (read_from s)) (any_locked i.caches (replaced s)) s (sym c.move_refusal.ensures ∙ c.in_default.is)).2 in
     let keeps0 : KeepsMachine p q h k before after = subst (λ (p : Manager). KeepsMachine p q h k before after) (sym c.self.view_is) x0.keeps in
     let j = c.self-2.inside in
     let v2 = c.self-2.view_is in
     let b : Manager = seen j.caches j.store j.contexts in
-    let sound = c.self-2.invariant in
+    let sound = c.self-2.invariant.sound in
     let valid : IsValid b k = subst (λ (p : Manager). IsValid p k) (sym v2) x0.valid in
     let keeps : KeepsMachine p b h k before after = subst (λ (r : Manager). KeepsMachine p r h k before after) (sym v2) keeps0 in
     let ready : IsReady (replaced s) c.args.span.pages p b h k = subst (λ (e : Extent). IsReady e c.args.span.pages p b h k) c.destination.ensures
@@ -539,7 +541,7 @@ move_pages-requires-clause-room g c =
       from_ends = open0.from_ends;
       to_ends = open0.to_ends;
       apart = open0.apart;
-      unlocked = same_locked p b c.self.invariant.locked.counted sound.locked.counted keeps.by (replaced s) ∙ open0.unlocked;
+      unlocked = same_locked p b c.self.invariant.sound.locked.counted sound.locked.counted keeps.by (replaced s) ∙ open0.unlocked;
     } in
     let tied = tied_right k None j.caches j.store valid.right in
     ready.room
@@ -559,12 +561,12 @@ move_pages-requires-clause-made g c =
     let valid0 = (subst (λ (p : Manager). IsValid p h) (sym c.self.view_is) c.requires.valid) in
     let from0 = sized_table (table_of i.caches s.from.0) open0.from open0.from_is in
     let to0 = sized_table (table_of i.caches s.to.0) open0.to open0.to_is in
-    let transfer = moved_transfer i.caches i.store i.contexts i.live c.self.invariant s open0 from0.0 to0.0 from0.1 to0.1 from0.2 to0.2 (is_movable (size_of i.caches s.from.0) (size_of i.caches s.to.0) (is_named i.caches s.from.0) (any_locked i.caches (read_from s)) (any_locked i.caches (replaced s)) s (sym c.move_refusal.ensures ∙ c.in_default.is)).1 (is_movable (size_of i.caches s.from.0) (size_of i.caches s.to.0) (is_named i.caches s.from.0) (any_locked i.caches (read_from s)) (any_locked i.caches (replaced s)) s (sym c.move_refusal.ensures ∙ c.in_default.is)).2 in
+    let transfer = moved_transfer i.caches i.store i.contexts i.live c.self.invariant.sound s open0 from0.0 to0.0 from0.1 to0.1 from0.2 to0.2 (is_movable (size_of i.caches s.from.0) (size_of i.caches s.to.0) (is_named i.caches s.from.0) (any_locked i.caches (read_from s)) (any_locked i.caches (replaced s)) s (sym c.move_refusal.ensures ∙ c.in_default.is)).1 (is_movable (size_of i.caches s.from.0) (size_of i.caches s.to.0) (is_named i.caches s.from.0) (any_locked i.caches (read_from s)) (any_locked i.caches (replaced s)) s (sym c.move_refusal.ensures ∙ c.in_default.is)).2 in
     let keeps0 : KeepsMachine p q h k before after = subst (λ (p : Manager). KeepsMachine p q h k before after) (sym c.self.view_is) x0.keeps in
     let j = c.self-2.inside in
     let v2 = c.self-2.view_is in
     let b : Manager = seen j.caches j.store j.contexts in
-    let sound = c.self-2.invariant in
+    let sound = c.self-2.invariant.sound in
     let valid : IsValid b k = subst (λ (p : Manager). IsValid p k) (sym v2) x0.valid in
     let keeps : KeepsMachine p b h k before after = subst (λ (r : Manager). KeepsMachine p r h k before after) (sym v2) keeps0 in
     let ready : IsReady (replaced s) c.args.span.pages p b h k = subst (λ (e : Extent). IsReady e c.args.span.pages p b h k) c.destination.ensures
@@ -577,56 +579,66 @@ move_pages-requires-clause-made g c =
       from_ends = open0.from_ends;
       to_ends = open0.to_ends;
       apart = open0.apart;
-      unlocked = same_locked p b c.self.invariant.locked.counted sound.locked.counted keeps.by (replaced s) ∙ open0.unlocked;
+      unlocked = same_locked p b c.self.invariant.sound.locked.counted sound.locked.counted keeps.by (replaced s) ∙ open0.unlocked;
     } in
     let tied = tied_right k None j.caches j.store valid.right in
     omega (arith, keeps.made, c.requires.made, ap numbered c.self.view_is, sound.few, sound.counted, size_le j.caches s.from.0 out.from out.from_is, out.from_ends)
 
 pub invariant_of-self : goal.invariant_of-self
-invariant_of-self g c =
-    let i = c.self.inside in
-    let s = c.args.span in
-    let open0 = is_open (size_of i.caches s.from.0) (size_of i.caches s.to.0) (any_locked i.caches (replaced s)) s (is_movable (size_of i.caches s.from.0) (size_of i.caches s.to.0) (is_named i.caches s.from.0) (any_locked i.caches (read_from s)) (any_locked i.caches (replaced s)) s (sym c.move_refusal.ensures ∙ c.in_default.is)).0 in
-    let q = c.make_ready.new.self in
-    let x0 = c.make_ready.ensures in
-    let h = g.M.Mapper.held c.args.mapper.now in
-    let k = g.M.Mapper.held c.make_ready.new.mapper in
-    let before = g.M.Mapper.counts c.args.mapper.now in
-    let after = g.M.Mapper.counts c.make_ready.new.mapper in
-    let p : Manager = seen i.caches i.store i.contexts in
-    let valid0 = (subst (λ (p : Manager). IsValid p h) (sym c.self.view_is) c.requires.valid) in
-    let from0 = sized_table (table_of i.caches s.from.0) open0.from open0.from_is in
-    let to0 = sized_table (table_of i.caches s.to.0) open0.to open0.to_is in
-    let transfer = moved_transfer i.caches i.store i.contexts i.live c.self.invariant s open0 from0.0 to0.0 from0.1 to0.1 from0.2 to0.2 (is_movable (size_of i.caches s.from.0) (size_of i.caches s.to.0) (is_named i.caches s.from.0) (any_locked i.caches (read_from s)) (any_locked i.caches (replaced s)) s (sym c.move_refusal.ensures ∙ c.in_default.is)).1 (is_movable (size_of i.caches s.from.0) (size_of i.caches s.to.0) (is_named i.caches s.from.0) (any_locked i.caches (read_from s)) (any_locked i.caches (replaced s)) s (sym c.move_refusal.ensures ∙ c.in_default.is)).2 in
-    let keeps0 : KeepsMachine p q h k before after = subst (λ (p : Manager). KeepsMachine p q h k before after) (sym c.self.view_is) x0.keeps in
-    let j = c.self-2.inside in
-    let v2 = c.self-2.view_is in
-    let b : Manager = seen j.caches j.store j.contexts in
-    let sound = c.self-2.invariant in
-    let valid : IsValid b k = subst (λ (p : Manager). IsValid p k) (sym v2) x0.valid in
-    let keeps : KeepsMachine p b h k before after = subst (λ (r : Manager). KeepsMachine p r h k before after) (sym v2) keeps0 in
-    let ready : IsReady (replaced s) c.args.span.pages p b h k = subst (λ (e : Extent). IsReady e c.args.span.pages p b h k) c.destination.ensures
-    (subst (λ (r : Manager). IsReady c.destination.result c.args.span.pages p r h k) (sym v2) (subst (λ (p : Manager). IsReady c.destination.result c.args.span.pages p q h k) (sym c.self.view_is) c.in_ok-make_ready.ensures.ready)) in
-    let out : IsOpen (size_of j.caches s.from.0) (size_of j.caches s.to.0) (any_locked j.caches (replaced s)) s = record {
-      from = open0.from;
-      to = open0.to;
-      from_is = keeps.same.sizes s.from.0 ∙ open0.from_is;
-      to_is = keeps.same.sizes s.to.0 ∙ open0.to_is;
-      from_ends = open0.from_ends;
-      to_ends = open0.to_ends;
-      apart = open0.apart;
-      unlocked = same_locked p b c.self.invariant.locked.counted sound.locked.counted keeps.by (replaced s) ∙ open0.unlocked;
-    } in
-    let tied = tied_right k None j.caches j.store valid.right in
-    let e = c.move_pages.ensures in
-    let d = c.move_pages.new.caches in
-    let u = c.move_pages.new.store in
-    let z : Manager = seen d u j.contexts in
-    let from = sized_table (table_of j.caches s.from.0) out.from out.from_is in
-    let to = sized_table (table_of j.caches s.to.0) out.to out.to_is in
-    let right = e.right (slots_enough j.caches d j.store u j.contexts j.live sound e.kept.sizes e.kept.gives_back tied e.whole) in
-    changed_sound j.caches d j.store u j.contexts j.live sound e.kept.sizes e.kept.gives_back tied e.whole e.bounded
-    (held_released _ j.caches d j.store u e.kept tied j.contexts sound.nodes sound.actors sound.locked)
+invariant_of-self g c = record {
+  sound = (
+      let i = c.self.inside in
+      let s = c.args.span in
+      let open0 = is_open (size_of i.caches s.from.0) (size_of i.caches s.to.0) (any_locked i.caches (replaced s)) s (is_movable (size_of i.caches s.from.0) (size_of i.caches s.to.0) (is_named i.caches s.from.0) (any_locked i.caches (read_from s)) (any_locked i.caches (replaced s)) s (sym c.move_refusal.ensures ∙ c.in_default.is)).0 in
+      let q = c.make_ready.new.self in
+      let x0 = c.make_ready.ensures in
+      let h = g.M.Mapper.held c.args.mapper.now in
+      let k = g.M.Mapper.held c.make_ready.new.mapper in
+      let before = g.M.Mapper.counts c.args.mapper.now in
+      let after = g.M.Mapper.counts c.make_ready.new.mapper in
+      let p : Manager = seen i.caches i.store i.contexts in
+      let valid0 = (subst (λ (p : Manager). IsValid p h) (sym c.self.view_is) c.requires.valid) in
+      let from0 = sized_table (table_of i.caches s.from.0) open0.from open0.from_is in
+      let to0 = sized_table (table_of i.caches s.to.0) open0.to open0.to_is in
+      let transfer = moved_transfer i.caches i.store i.contexts i.live c.self.invariant.sound s open0 from0.0 to0.0 from0.1 to0.1 from0.2 to0.2 (is_movable (size_of i.caches s.from.0) (size_of i.caches s.to.0) (is_named i.caches s.from.0) (any_locked i.caches (read_from s)) (any_locked i.caches (replaced s)) s (sym c.move_refusal.ensures ∙ c.in_default.is)).1 (is_movable (size_of i.caches s.from.0) (size_of i.caches s.to.0) (is_named i.caches s.from.0) (any_locked i.caches (read_from s)) (any_locked i.caches (replaced s)) s (sym c.move_refusal.ensures ∙ c.in_default.is)).2 in
+      let keeps0 : KeepsMachine p q h k before after = subst (λ (p : Manager). KeepsMachine p q h k before after) (sym c.self.view_is) x0.keeps in
+      let j = c.self-2.inside in
+      let v2 = c.self-2.view_is in
+      let b : Manager = seen j.caches j.store j.contexts in
+      let sound = c.self-2.invariant.sound in
+      let valid : IsValid b k = subst (λ (p : Manager). IsValid p k) (sym v2) x0.valid in
+      let keeps : KeepsMachine p b h k before after = subst (λ (r : Manager). KeepsMachine p r h k before after) (sym v2) keeps0 in
+      let ready : IsReady (replaced s) c.args.span.pages p b h k = subst (λ (e : Extent). IsReady e c.args.span.pages p b h k) c.destination.ensures
+      (subst (λ (r : Manager). IsReady c.destination.result c.args.span.pages p r h k) (sym v2) (subst (λ (p : Manager). IsReady c.destination.result c.args.span.pages p q h k) (sym c.self.view_is) c.in_ok-make_ready.ensures.ready)) in
+      let out : IsOpen (size_of j.caches s.from.0) (size_of j.caches s.to.0) (any_locked j.caches (replaced s)) s = record {
+        from = open0.from;
+        to = open0.to;
+        from_is = keeps.same.sizes s.from.0 ∙ open0.from_is;
+        to_is = keeps.same.sizes s.to.0 ∙ open0.to_is;
+        from_ends = open0.from_ends;
+        to_ends = open0.to_ends;
+        apart = open0.apart;
+        unlocked = same_locked p b c.self.invariant.sound.locked.counted sound.locked.counted keeps.by (replaced s) ∙ open0.unlocked;
+      } in
+      let tied = tied_right k None j.caches j.store valid.right in
+      let e = c.move_pages.ensures in
+      let d = c.move_pages.new.caches in
+      let u = c.move_pages.new.store in
+      let z : Manager = seen d u j.contexts in
+      let from = sized_table (table_of j.caches s.from.0) out.from out.from_is in
+      let to = sized_table (table_of j.caches s.to.0) out.to out.to_is in
+      let right = e.right (slots_enough j.caches d j.store u j.contexts j.live sound e.kept.sizes e.kept.gives_back tied e.whole) in
+      changed_sound j.caches d j.store u j.contexts j.live sound e.kept.sizes e.kept.gives_back tied e.whole e.bounded
+      (held_released _ j.caches d j.store u e.kept tied j.contexts sound.nodes sound.actors sound.locked)
+      );
+  translated = (
+      let j = c.self-2.inside in
+      let e = c.move_pages.ensures in
+      let d = c.move_pages.new.caches in
+      let u = c.move_pages.new.store in
+      left_right _ _ j.caches d j.store u j.contexts e.translations (homes_writable _ j.caches d e.kept.sizes e.kept.homes) c.self-2.invariant.translated
+      );
+}
 
 pub returns-clause-valid : goal.returns-clause-valid
 returns-clause-valid g c =
@@ -643,12 +655,12 @@ returns-clause-valid g c =
     let valid0 = (subst (λ (p : Manager). IsValid p h) (sym c.self.view_is) c.requires.valid) in
     let from0 = sized_table (table_of i.caches s.from.0) open0.from open0.from_is in
     let to0 = sized_table (table_of i.caches s.to.0) open0.to open0.to_is in
-    let transfer = moved_transfer i.caches i.store i.contexts i.live c.self.invariant s open0 from0.0 to0.0 from0.1 to0.1 from0.2 to0.2 (is_movable (size_of i.caches s.from.0) (size_of i.caches s.to.0) (is_named i.caches s.from.0) (any_locked i.caches (read_from s)) (any_locked i.caches (replaced s)) s (sym c.move_refusal.ensures ∙ c.in_default.is)).1 (is_movable (size_of i.caches s.from.0) (size_of i.caches s.to.0) (is_named i.caches s.from.0) (any_locked i.caches (read_from s)) (any_locked i.caches (replaced s)) s (sym c.move_refusal.ensures ∙ c.in_default.is)).2 in
+    let transfer = moved_transfer i.caches i.store i.contexts i.live c.self.invariant.sound s open0 from0.0 to0.0 from0.1 to0.1 from0.2 to0.2 (is_movable (size_of i.caches s.from.0) (size_of i.caches s.to.0) (is_named i.caches s.from.0) (any_locked i.caches (read_from s)) (any_locked i.caches (replaced s)) s (sym c.move_refusal.ensures ∙ c.in_default.is)).1 (is_movable (size_of i.caches s.from.0) (size_of i.caches s.to.0) (is_named i.caches s.from.0) (any_locked i.caches (read_from s)) (any_locked i.caches (replaced s)) s (sym c.move_refusal.ensures ∙ c.in_default.is)).2 in
     let keeps0 : KeepsMachine p q h k before after = subst (λ (p : Manager). KeepsMachine p q h k before after) (sym c.self.view_is) x0.keeps in
     let j = c.self-2.inside in
     let v2 = c.self-2.view_is in
     let b : Manager = seen j.caches j.store j.contexts in
-    let sound = c.self-2.invariant in
+    let sound = c.self-2.invariant.sound in
     let valid : IsValid b k = subst (λ (p : Manager). IsValid p k) (sym v2) x0.valid in
     let keeps : KeepsMachine p b h k before after = subst (λ (r : Manager). KeepsMachine p r h k before after) (sym v2) keeps0 in
     let ready : IsReady (replaced s) c.args.span.pages p b h k = subst (λ (e : Extent). IsReady e c.args.span.pages p b h k) c.destination.ensures
@@ -661,7 +673,7 @@ returns-clause-valid g c =
       from_ends = open0.from_ends;
       to_ends = open0.to_ends;
       apart = open0.apart;
-      unlocked = same_locked p b c.self.invariant.locked.counted sound.locked.counted keeps.by (replaced s) ∙ open0.unlocked;
+      unlocked = same_locked p b c.self.invariant.sound.locked.counted sound.locked.counted keeps.by (replaced s) ∙ open0.unlocked;
     } in
     let tied = tied_right k None j.caches j.store valid.right in
     let e = c.move_pages.ensures in
@@ -688,12 +700,12 @@ returns-clause-answers g c =
     let valid0 = (subst (λ (p : Manager). IsValid p h) (sym c.self.view_is) c.requires.valid) in
     let from0 = sized_table (table_of i.caches s.from.0) open0.from open0.from_is in
     let to0 = sized_table (table_of i.caches s.to.0) open0.to open0.to_is in
-    let transfer = moved_transfer i.caches i.store i.contexts i.live c.self.invariant s open0 from0.0 to0.0 from0.1 to0.1 from0.2 to0.2 (is_movable (size_of i.caches s.from.0) (size_of i.caches s.to.0) (is_named i.caches s.from.0) (any_locked i.caches (read_from s)) (any_locked i.caches (replaced s)) s (sym c.move_refusal.ensures ∙ c.in_default.is)).1 (is_movable (size_of i.caches s.from.0) (size_of i.caches s.to.0) (is_named i.caches s.from.0) (any_locked i.caches (read_from s)) (any_locked i.caches (replaced s)) s (sym c.move_refusal.ensures ∙ c.in_default.is)).2 in
+    let transfer = moved_transfer i.caches i.store i.contexts i.live c.self.invariant.sound s open0 from0.0 to0.0 from0.1 to0.1 from0.2 to0.2 (is_movable (size_of i.caches s.from.0) (size_of i.caches s.to.0) (is_named i.caches s.from.0) (any_locked i.caches (read_from s)) (any_locked i.caches (replaced s)) s (sym c.move_refusal.ensures ∙ c.in_default.is)).1 (is_movable (size_of i.caches s.from.0) (size_of i.caches s.to.0) (is_named i.caches s.from.0) (any_locked i.caches (read_from s)) (any_locked i.caches (replaced s)) s (sym c.move_refusal.ensures ∙ c.in_default.is)).2 in
     let keeps0 : KeepsMachine p q h k before after = subst (λ (p : Manager). KeepsMachine p q h k before after) (sym c.self.view_is) x0.keeps in
     let j = c.self-2.inside in
     let v2 = c.self-2.view_is in
     let b : Manager = seen j.caches j.store j.contexts in
-    let sound = c.self-2.invariant in
+    let sound = c.self-2.invariant.sound in
     let valid : IsValid b k = subst (λ (p : Manager). IsValid p k) (sym v2) x0.valid in
     let keeps : KeepsMachine p b h k before after = subst (λ (r : Manager). KeepsMachine p r h k before after) (sym v2) keeps0 in
     let ready : IsReady (replaced s) c.args.span.pages p b h k = subst (λ (e : Extent). IsReady e c.args.span.pages p b h k) c.destination.ensures
@@ -706,7 +718,7 @@ returns-clause-answers g c =
       from_ends = open0.from_ends;
       to_ends = open0.to_ends;
       apart = open0.apart;
-      unlocked = same_locked p b c.self.invariant.locked.counted sound.locked.counted keeps.by (replaced s) ∙ open0.unlocked;
+      unlocked = same_locked p b c.self.invariant.sound.locked.counted sound.locked.counted keeps.by (replaced s) ∙ open0.unlocked;
     } in
     let tied = tied_right k None j.caches j.store valid.right in
     let e = c.move_pages.ensures in
@@ -723,7 +735,7 @@ returns-clause-answers g c =
     let named = named_machine p (forest_of p h) s.to.0 in
     let outcome : OutcomeAt (segments_of k) (machine_of p h) (Some (forest_of p h)) (commands.Move s) answer (machine_of z k) rises
     = subst (λ (m : Machine). OutcomeAt (segments_of k) m (Some (forest_of p h)) (commands.Move s) answer (machine_of z k) rises) keeps.machine (moved_outcome j.caches j.store j.contexts j.live sound s out from.0 to.0 from.1 to.1 from.2 to.2 d u e.kept.sizes e.kept.gives_back tied e.whole k valid right e.forest (named_same i.caches j.caches keeps.same s.from.0 ∙ (is_movable (size_of i.caches s.from.0) (size_of i.caches s.to.0) (is_named i.caches s.from.0) (any_locked i.caches (read_from s)) (any_locked i.caches (replaced s)) s (sym c.move_refusal.ensures ∙ c.in_default.is)).1)
-    (same_locked p b c.self.invariant.locked.counted sound.locked.counted keeps.by (read_from s) ∙ (is_movable (size_of i.caches s.from.0) (size_of i.caches s.to.0) (is_named i.caches s.from.0) (any_locked i.caches (read_from s)) (any_locked i.caches (replaced s)) s (sym c.move_refusal.ensures ∙ c.in_default.is)).2) (forest_of p h) rises may) in
+    (same_locked p b c.self.invariant.sound.locked.counted sound.locked.counted keeps.by (read_from s) ∙ (is_movable (size_of i.caches s.from.0) (size_of i.caches s.to.0) (is_named i.caches s.from.0) (any_locked i.caches (read_from s)) (any_locked i.caches (replaced s)) s (sym c.move_refusal.ensures ∙ c.in_default.is)).2) (forest_of p h) rises may) in
     let follows : forest_of z k ≡ forest_after (forest_of p h) (machine_of p h) (commands.Move s) answer (machine_of z k) = move_follows j.caches j.store j.contexts j.live sound s out from.0 to.0 from.1 to.1 from.2 to.2 d u e.kept.sizes e.kept.gives_back tied e.whole k valid right e.forest c.requires.some (is_named i.caches s.to.0) (forest_of p h) ready.forest ∙ (λ x. move_ (sym named x) (told (unwrap_or (page_in (machine_of z k) s.from.0 s.from_page.0) [])) (span_pairs s) (forest_of p h)) in
     subst (λ (p : Manager). CallIs before after (state_at p h) (commands.Move s) answer (state_at z k)) c.self.view_is
     (call_is before after p z h k (commands.Move s) answer keeps.reach now tt tt follows outcome)
@@ -743,12 +755,12 @@ returns-clause-made g c =
     let valid0 = (subst (λ (p : Manager). IsValid p h) (sym c.self.view_is) c.requires.valid) in
     let from0 = sized_table (table_of i.caches s.from.0) open0.from open0.from_is in
     let to0 = sized_table (table_of i.caches s.to.0) open0.to open0.to_is in
-    let transfer = moved_transfer i.caches i.store i.contexts i.live c.self.invariant s open0 from0.0 to0.0 from0.1 to0.1 from0.2 to0.2 (is_movable (size_of i.caches s.from.0) (size_of i.caches s.to.0) (is_named i.caches s.from.0) (any_locked i.caches (read_from s)) (any_locked i.caches (replaced s)) s (sym c.move_refusal.ensures ∙ c.in_default.is)).1 (is_movable (size_of i.caches s.from.0) (size_of i.caches s.to.0) (is_named i.caches s.from.0) (any_locked i.caches (read_from s)) (any_locked i.caches (replaced s)) s (sym c.move_refusal.ensures ∙ c.in_default.is)).2 in
+    let transfer = moved_transfer i.caches i.store i.contexts i.live c.self.invariant.sound s open0 from0.0 to0.0 from0.1 to0.1 from0.2 to0.2 (is_movable (size_of i.caches s.from.0) (size_of i.caches s.to.0) (is_named i.caches s.from.0) (any_locked i.caches (read_from s)) (any_locked i.caches (replaced s)) s (sym c.move_refusal.ensures ∙ c.in_default.is)).1 (is_movable (size_of i.caches s.from.0) (size_of i.caches s.to.0) (is_named i.caches s.from.0) (any_locked i.caches (read_from s)) (any_locked i.caches (replaced s)) s (sym c.move_refusal.ensures ∙ c.in_default.is)).2 in
     let keeps0 : KeepsMachine p q h k before after = subst (λ (p : Manager). KeepsMachine p q h k before after) (sym c.self.view_is) x0.keeps in
     let j = c.self-2.inside in
     let v2 = c.self-2.view_is in
     let b : Manager = seen j.caches j.store j.contexts in
-    let sound = c.self-2.invariant in
+    let sound = c.self-2.invariant.sound in
     let valid : IsValid b k = subst (λ (p : Manager). IsValid p k) (sym v2) x0.valid in
     let keeps : KeepsMachine p b h k before after = subst (λ (r : Manager). KeepsMachine p r h k before after) (sym v2) keeps0 in
     let ready : IsReady (replaced s) c.args.span.pages p b h k = subst (λ (e : Extent). IsReady e c.args.span.pages p b h k) c.destination.ensures
@@ -761,7 +773,7 @@ returns-clause-made g c =
       from_ends = open0.from_ends;
       to_ends = open0.to_ends;
       apart = open0.apart;
-      unlocked = same_locked p b c.self.invariant.locked.counted sound.locked.counted keeps.by (replaced s) ∙ open0.unlocked;
+      unlocked = same_locked p b c.self.invariant.sound.locked.counted sound.locked.counted keeps.by (replaced s) ∙ open0.unlocked;
     } in
     let tied = tied_right k None j.caches j.store valid.right in
     let e = c.move_pages.ensures in
@@ -771,7 +783,7 @@ returns-clause-made g c =
     let from = sized_table (table_of j.caches s.from.0) out.from out.from_is in
     let to = sized_table (table_of j.caches s.to.0) out.to out.to_is in
     let right = e.right (slots_enough j.caches d j.store u j.contexts j.live sound e.kept.sizes e.kept.gives_back tied e.whole) in
-    let copied = range_copied p b h k (replaced s) c.self.invariant.nodes (is_named i.caches s.to.0) ready.forest in
+    let copied = range_copied p b h k (replaced s) c.self.invariant.sound.nodes (is_named i.caches s.to.0) ready.forest in
     subst (λ (p : Manager). RaisesMade (machine_of p h) (commands.Move s) (Ok replies.Done) (numbered p) (numbered z)) c.self.view_is
     (omega (arith, e.made, e.copies, keeps.made, copied.1, transfer.touched (machine_of p h)))
 
@@ -790,12 +802,12 @@ returns-clause-copies g c =
     let valid0 = (subst (λ (p : Manager). IsValid p h) (sym c.self.view_is) c.requires.valid) in
     let from0 = sized_table (table_of i.caches s.from.0) open0.from open0.from_is in
     let to0 = sized_table (table_of i.caches s.to.0) open0.to open0.to_is in
-    let transfer = moved_transfer i.caches i.store i.contexts i.live c.self.invariant s open0 from0.0 to0.0 from0.1 to0.1 from0.2 to0.2 (is_movable (size_of i.caches s.from.0) (size_of i.caches s.to.0) (is_named i.caches s.from.0) (any_locked i.caches (read_from s)) (any_locked i.caches (replaced s)) s (sym c.move_refusal.ensures ∙ c.in_default.is)).1 (is_movable (size_of i.caches s.from.0) (size_of i.caches s.to.0) (is_named i.caches s.from.0) (any_locked i.caches (read_from s)) (any_locked i.caches (replaced s)) s (sym c.move_refusal.ensures ∙ c.in_default.is)).2 in
+    let transfer = moved_transfer i.caches i.store i.contexts i.live c.self.invariant.sound s open0 from0.0 to0.0 from0.1 to0.1 from0.2 to0.2 (is_movable (size_of i.caches s.from.0) (size_of i.caches s.to.0) (is_named i.caches s.from.0) (any_locked i.caches (read_from s)) (any_locked i.caches (replaced s)) s (sym c.move_refusal.ensures ∙ c.in_default.is)).1 (is_movable (size_of i.caches s.from.0) (size_of i.caches s.to.0) (is_named i.caches s.from.0) (any_locked i.caches (read_from s)) (any_locked i.caches (replaced s)) s (sym c.move_refusal.ensures ∙ c.in_default.is)).2 in
     let keeps0 : KeepsMachine p q h k before after = subst (λ (p : Manager). KeepsMachine p q h k before after) (sym c.self.view_is) x0.keeps in
     let j = c.self-2.inside in
     let v2 = c.self-2.view_is in
     let b : Manager = seen j.caches j.store j.contexts in
-    let sound = c.self-2.invariant in
+    let sound = c.self-2.invariant.sound in
     let valid : IsValid b k = subst (λ (p : Manager). IsValid p k) (sym v2) x0.valid in
     let keeps : KeepsMachine p b h k before after = subst (λ (r : Manager). KeepsMachine p r h k before after) (sym v2) keeps0 in
     let ready : IsReady (replaced s) c.args.span.pages p b h k = subst (λ (e : Extent). IsReady e c.args.span.pages p b h k) c.destination.ensures
@@ -808,7 +820,7 @@ returns-clause-copies g c =
       from_ends = open0.from_ends;
       to_ends = open0.to_ends;
       apart = open0.apart;
-      unlocked = same_locked p b c.self.invariant.locked.counted sound.locked.counted keeps.by (replaced s) ∙ open0.unlocked;
+      unlocked = same_locked p b c.self.invariant.sound.locked.counted sound.locked.counted keeps.by (replaced s) ∙ open0.unlocked;
     } in
     let tied = tied_right k None j.caches j.store valid.right in
     let e = c.move_pages.ensures in
@@ -818,7 +830,7 @@ returns-clause-copies g c =
     let from = sized_table (table_of j.caches s.from.0) out.from out.from_is in
     let to = sized_table (table_of j.caches s.to.0) out.to out.to_is in
     let right = e.right (slots_enough j.caches d j.store u j.contexts j.live sound e.kept.sizes e.kept.gives_back tied e.whole) in
-    let copied = range_copied p b h k (replaced s) c.self.invariant.nodes (is_named i.caches s.to.0) ready.forest in
+    let copied = range_copied p b h k (replaced s) c.self.invariant.sound.nodes (is_named i.caches s.to.0) ready.forest in
     subst (λ (p : Manager). CopiesSaved (replaced s) p h z (Ok tt)) c.self.view_is (e.copies ∙ copied.0)
 
 pub returns-clause-idle : goal.returns-clause-idle
@@ -836,12 +848,12 @@ returns-clause-idle g c =
     let valid0 = (subst (λ (p : Manager). IsValid p h) (sym c.self.view_is) c.requires.valid) in
     let from0 = sized_table (table_of i.caches s.from.0) open0.from open0.from_is in
     let to0 = sized_table (table_of i.caches s.to.0) open0.to open0.to_is in
-    let transfer = moved_transfer i.caches i.store i.contexts i.live c.self.invariant s open0 from0.0 to0.0 from0.1 to0.1 from0.2 to0.2 (is_movable (size_of i.caches s.from.0) (size_of i.caches s.to.0) (is_named i.caches s.from.0) (any_locked i.caches (read_from s)) (any_locked i.caches (replaced s)) s (sym c.move_refusal.ensures ∙ c.in_default.is)).1 (is_movable (size_of i.caches s.from.0) (size_of i.caches s.to.0) (is_named i.caches s.from.0) (any_locked i.caches (read_from s)) (any_locked i.caches (replaced s)) s (sym c.move_refusal.ensures ∙ c.in_default.is)).2 in
+    let transfer = moved_transfer i.caches i.store i.contexts i.live c.self.invariant.sound s open0 from0.0 to0.0 from0.1 to0.1 from0.2 to0.2 (is_movable (size_of i.caches s.from.0) (size_of i.caches s.to.0) (is_named i.caches s.from.0) (any_locked i.caches (read_from s)) (any_locked i.caches (replaced s)) s (sym c.move_refusal.ensures ∙ c.in_default.is)).1 (is_movable (size_of i.caches s.from.0) (size_of i.caches s.to.0) (is_named i.caches s.from.0) (any_locked i.caches (read_from s)) (any_locked i.caches (replaced s)) s (sym c.move_refusal.ensures ∙ c.in_default.is)).2 in
     let keeps0 : KeepsMachine p q h k before after = subst (λ (p : Manager). KeepsMachine p q h k before after) (sym c.self.view_is) x0.keeps in
     let j = c.self-2.inside in
     let v2 = c.self-2.view_is in
     let b : Manager = seen j.caches j.store j.contexts in
-    let sound = c.self-2.invariant in
+    let sound = c.self-2.invariant.sound in
     let valid : IsValid b k = subst (λ (p : Manager). IsValid p k) (sym v2) x0.valid in
     let keeps : KeepsMachine p b h k before after = subst (λ (r : Manager). KeepsMachine p r h k before after) (sym v2) keeps0 in
     let ready : IsReady (replaced s) c.args.span.pages p b h k = subst (λ (e : Extent). IsReady e c.args.span.pages p b h k) c.destination.ensures
@@ -854,7 +866,7 @@ returns-clause-idle g c =
       from_ends = open0.from_ends;
       to_ends = open0.to_ends;
       apart = open0.apart;
-      unlocked = same_locked p b c.self.invariant.locked.counted sound.locked.counted keeps.by (replaced s) ∙ open0.unlocked;
+      unlocked = same_locked p b c.self.invariant.sound.locked.counted sound.locked.counted keeps.by (replaced s) ∙ open0.unlocked;
     } in
     let tied = tied_right k None j.caches j.store valid.right in
     let e = c.move_pages.ensures in

@@ -1,9 +1,16 @@
-use Rattle.std.proofs.Common.{None}
+use Rattle.std.proofs.Common.{◌*◌, None, ap}
 use Rattle.pvm_core.proofs.Meaning.Empty.{none_sound, none_forest, none_full, none_sized, none_whole}
+use Rattle.residency.specs.declared.store.Store.{Store}
+use Rattle.pvm_core.proofs.Translating.Dropped.{none_right}
 use Rattle.pvm_core.proofs.pvm.Pvm.new.Goals as goal
 
 pub invariant_of-result : goal.invariant_of-result
-invariant_of-result c = none_sound c.args.frames c.args.page c.new-2.result c.in_ok-store.store c.new-3.result c.requires.few c.requires.some c.requires.page c.new-2.ensures.nodes c.new-2.ensures.caches c.new-2.ensures.forest c.new-2.ensures.sound c.in_ok-store.ensures.is c.new-3.ensures.page c.new-3.ensures.actors
+invariant_of-result c = record {
+  sound = (
+      none_sound c.args.frames c.args.page c.new-2.result c.in_ok-store.store c.new-3.result c.requires.few c.requires.some c.requires.page c.new-2.ensures.nodes c.new-2.ensures.caches c.new-2.ensures.forest c.new-2.ensures.sound c.in_ok-store.ensures.is c.new-3.ensures.page c.new-3.ensures.actors
+      );
+  translated = none_right c.new-2.result c.in_ok-store.store c.new-3.result (4 * c.args.frames) (ap (λ (s : Store). s.tables) c.in_ok-store.ensures.is);
+}
 
 pub returns-clause-forest : goal.returns-clause-forest
 returns-clause-forest c = λ h. none_forest h c.new-2.result c.in_ok-store.store c.new-2.ensures.nodes c.new-2.ensures.counters

@@ -36,7 +36,7 @@ pub returns-then-is_opened-clause-answers : goal.returns-then-is_opened-clause-a
 returns-then-is_opened-clause-answers g c =
     let h : Option Held = g.M.Mapper.held c.args.mapper.now in
     let p : Manager = the_view c.self.inside in
-    let i = c.self.invariant in
+    let i = c.self.invariant.sound in
     let answer : Answer = Err (troubles.Refused refusals.SegmentInUse) in
     let opened = c.is_opened.ensures.opened c.if-is_opened.true in
     record {
@@ -54,7 +54,7 @@ pub returns-then-caches_made-ge-MOST_MADE-clause-answers : goal.returns-then-cac
 returns-then-caches_made-ge-MOST_MADE-clause-answers g c =
     let h : Option Held = g.M.Mapper.held c.args.mapper.now in
     let p : Manager = the_view c.self.inside in
-    let i = c.self.invariant in
+    let i = c.self.invariant.sound in
     let answer : Answer = Err (troubles.Refused refusals.TooMany) in
     let many : MOST_MADE ≤ length p.caches.caches = omega (arith, c.if-caches_made-ge-MOST_MADE.true, c.caches_made.ensures) in
     record {
@@ -91,7 +91,7 @@ pub returns-in-Ok-None-clause-answers : goal.returns-in-Ok-None-clause-answers
 returns-in-Ok-None-clause-answers g c =
     let h : Option Held = g.M.Mapper.held c.args.mapper.now in
     let p : Manager = the_view c.self.inside in
-    let i = c.self.invariant in
+    let i = c.self.invariant.sound in
     let answer : Answer = Err (troubles.Refused refusals.NoSegment) in
     let few : length p.caches.caches < MOST_MADE = omega (arith, c.if-caches_made-ge-MOST_MADE.false, c.caches_made.ensures) in
     record {
@@ -112,7 +112,7 @@ pub returns-in-Err-clause-answers : goal.returns-in-Err-clause-answers
 returns-in-Err-clause-answers g c =
     let h : Option Held = g.M.Mapper.held c.args.mapper.now in
     let p : Manager = the_view c.self.inside in
-    let i = c.self.invariant in
+    let i = c.self.invariant.sound in
     let answer : Answer = Err (troubles.Mapper faults.Opening) in
     let few : length p.caches.caches < MOST_MADE = omega (arith, c.if-caches_made-ge-MOST_MADE.false, c.caches_made.ensures) in
     let counts = c.size.ensures.counts in

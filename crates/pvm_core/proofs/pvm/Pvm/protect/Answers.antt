@@ -1,59 +1,112 @@
-use Rattle.std.proofs.Common.{length, sym, ap, subst, ◌∙◌}
-use Rattle.std.specs.Prelude.{Ok, Err}
+use Rattle.std.proofs.Common.{◌≡◌, true, List, [], length, Option, sym, ap, subst, ◌∙◌}
+use Rattle.std.specs.Prelude.{Ok, Err, is_some}
+use Rattle.std.proofs.lemmas.Bool.{cond-false, cond-true}
+use Rattle.vm_ids.specs.Counting.{no_counts}
 use Rattle.vm_ids.specs.declared.command.Command.TheVariants as commands
 use Rattle.vm_ids.specs.declared.refusal.Refusal.TheVariants as refusals
 use Rattle.vm_ids.specs.declared.reply.Reply.TheVariants as replies
 use Rattle.vm_ids.specs.declared.reply.Trouble.TheVariants as troubles
-use Rattle.vm_model.specs.Answering.{refuse, reply}
+use Rattle.vm_model.specs.Answering.{reply}
+use Rattle.vm_model.specs.Regions.{region_with}
+use Rattle.vm_model.specs.Run.{AnswerIs, State}
 use Rattle.local_cache.specs.Whole.{size_of}
+use Rattle.page_tables.specs.declared.entry.Entry.{Entry}
+use Rattle.residency.specs.declared.store.Store.{Store}
 use Rattle.contexts.specs.Actors.{Actors}
-use Rattle.pvm_core.specs.Manager.{caches_shown}
+use Rattle.contexts.proofs.Told.{told_some}
+use Rattle.pvm_core.specs.Manager.{IsKept, IsValid, caches_shown, state_at}
 use Rattle.pvm_core.specs.Locks.{locks_over}
 use Rattle.pvm_core.specs.Placed.{AreRight}
-use Rattle.pvm_core.proofs.Acting.{acted, acted_valid, protected}
-use Rattle.pvm_core.proofs.Answering.Kept.{seated_sound}
+use Rattle.pvm_core.specs.Translated.{AreTranslationsRight}
+use Rattle.pvm_core.specs.declared.pvm.Pvm.TheInside.{Inside}
+use Rattle.pvm_core.proofs.Acting.{acted, acted_valid, protected, told}
+use Rattle.pvm_core.proofs.Answering.Kept.{seated_sound, seen}
 use Rattle.pvm_core.proofs.Answering.Listed.{machine_with}
-use Rattle.pvm_core.proofs.RegionRows.{over_allowed, protect_none, protect_row, right_with_allowed}
+use Rattle.pvm_core.proofs.RegionRows.{over_allowed, protect_none, protect_row, right_with_allowed, with_allowed}
+use Rattle.pvm_core.proofs.Translating.Commands.{forgotten, forgotten_count, protected_right}
+use Rattle.pvm_core.proofs.Translating.Tables.{tables_sound, tables_state, tables_valid, with_tables}
 use Rattle.pvm_core.proofs.pvm.Pvm.protect.Goals as goal
+use Rattle.pvm_core.proofs.pvm.Pvm.protect.Goals.{else-not-prot, then-not-prot}
 
-pub returns-then-not-protect-clause-answers : goal.returns-then-not-protect-clause-answers
-returns-then-not-protect-clause-answers c = λ h v.
+pub returns-in_default-clause-answers : goal.returns-in_default-clause-answers
+returns-in_default-clause-answers c = λ h v.
     let i = c.self.inside in
-    let e = c.protect.ensures in
-    let t : Actors = i.contexts in
-    let none = c.if-not-protect.true in
-    let same = e.none none in
-    acted i.caches i.store t _ c.self.view_is h v (commands.Protect c.args.region c.args.prot) (protected c.args.region c.args.prot) (Err (troubles.Refused refusals.NoRegion)) c.self.invariant.nodes c.protect.new.self
-    (ap (λ (w : Actors). w.page_bytes) same)
-    (λ f g k. let caches = caches_shown f 1 i.caches.caches in
-    let frames = length i.store.frames.held in
-    protect_none caches frames t c.args.region.0 c.args.prot (sym e.found ∙ none) ∙ ap (λ (w : Actors). refuse (machine_with caches frames w) refusals.NoRegion) (sym same))
+    let n = c.args.region.0 in
+    told i.caches i.store i.contexts _ c.self.view_is h v (commands.Protect c.args.region c.args.prot) (protected c.args.region c.args.prot) (Err (troubles.Refused refusals.NoRegion)) c.self.invariant.sound.nodes
+    (λ f g k. protect_none (caches_shown f 1 i.caches.caches) (length i.store.frames.held) i.contexts n c.args.prot
+    (sym (told_some n 1 i.contexts.actors) ∙ ap is_some (sym c.status.ensures ∙ c.in_default.is)))
 
-pub invariant_of-self-2 : goal.invariant_of-self-2
-invariant_of-self-2 c =
+abbrev with_forgotten : Inside → List (Option Entry) → Inside
+with_forgotten i ts = record i { store = with_tables i.store ts }
+
+pub invariant_of-self : goal.invariant_of-self
+invariant_of-self c =
     let i = c.self.inside in
-    let e = c.protect.ensures in
+    let n = c.args.region.0 in
     let t : Actors = i.contexts in
-    let there = c.if-not-protect.false in
-    let new = e.changed there in
-    seated_sound i.caches i.store t c.protect.new.self i.live (ap (λ (w : Actors). w.page_bytes) new)
-    (subst (AreRight (size_of i.caches)) (sym new) (right_with_allowed (size_of i.caches) c.args.region.0 c.args.prot t (sym e.found ∙ there) c.self.invariant.actors))
-    (λ cache page. ap (λ (w : Actors). locks_over w.actors cache page) new ∙ over_allowed c.args.region.0 c.args.prot t (sym e.found ∙ there) cache page) c.self.invariant
+    let u : Actors = c.protect.new.self in
+    let st = c.in-Some.was in
+    let status = sym c.status.ensures ∙ c.in-Some.is in
+    let there : is_some (region_with n t.actors) ≡ true = sym (told_some n 1 t.actors) ∙ ap is_some status in
+    let ts : List (Option Entry) = forgotten t.page_bytes c.args.prot st i.store.tables in
+    let inside : c.if-not-prot.self-inside ≡ with_forgotten i ts = elim c.if-not-prot.branch [
+      | then-not-prot w ↦ w.self-inside-is ∙ ap (λ (s : Store). record i { store = s }) (w.forget_region.ensures ∙ ap (with_tables i.store) (sym (cond-true _ _ _ w.if-not-prot.true)))
+      | else-not-prot w ↦ w.self-inside-is ∙ ap (with_forgotten i) (sym (cond-false _ _ _ w.if-not-prot.false))
+    ] in
+    let e = c.protect.ensures in
+    let found : c.protect.result ≡ true = e.found ∙ ap (λ (x : Inside). is_some (region_with n x.contexts.actors)) inside ∙ there in
+    let new : u ≡ with_allowed n c.args.prot t = e.changed found ∙ ap (λ (x : Inside). with_allowed n c.args.prot x.contexts) inside in
+    subst (λ (x : Inside). IsKept x.caches x.store u x.live) (sym inside) (record {
+      sound = tables_sound i.caches i.store ts u i.live
+          (seated_sound i.caches i.store t u i.live (ap (λ (w : Actors). w.page_bytes) new)
+          (subst (AreRight (size_of i.caches)) (sym new) (right_with_allowed (size_of i.caches) n c.args.prot t there c.self.invariant.sound.actors))
+          (λ cache page. ap (λ (w : Actors). locks_over w.actors cache page) new ∙ over_allowed n c.args.prot t there cache page) c.self.invariant.sound);
+      translated = subst (AreTranslationsRight i.caches (with_tables i.store ts)) (sym new)
+          (protected_right i.caches i.store t n c.args.prot st c.self.invariant.sound.actors.some c.self.invariant.translated status);
+    })
 
 pub returns-clause-valid : goal.returns-clause-valid
 returns-clause-valid c = λ h v.
     let i = c.self.inside in
-    acted_valid i.caches i.store i.contexts _ c.self.view_is h v c.protect.new.self (ap (λ (w : Actors). w.page_bytes) (c.protect.ensures.changed c.if-not-protect.false))
+    let n = c.args.region.0 in
+    let t : Actors = i.contexts in
+    let u : Actors = c.protect.new.self in
+    let st = c.in-Some.was in
+    let there : is_some (region_with n t.actors) ≡ true = sym (told_some n 1 t.actors) ∙ ap is_some (sym c.status.ensures ∙ c.in-Some.is) in
+    let ts : List (Option Entry) = forgotten t.page_bytes c.args.prot st i.store.tables in
+    let inside : c.if-not-prot.self-inside ≡ with_forgotten i ts = elim c.if-not-prot.branch [
+      | then-not-prot w ↦ w.self-inside-is ∙ ap (λ (s : Store). record i { store = s }) (w.forget_region.ensures ∙ ap (with_tables i.store) (sym (cond-true _ _ _ w.if-not-prot.true)))
+      | else-not-prot w ↦ w.self-inside-is ∙ ap (with_forgotten i) (sym (cond-false _ _ _ w.if-not-prot.false))
+    ] in
+    let e = c.protect.ensures in
+    let found : c.protect.result ≡ true = e.found ∙ ap (λ (x : Inside). is_some (region_with n x.contexts.actors)) inside ∙ there in
+    let new : u ≡ with_allowed n c.args.prot t = e.changed found ∙ ap (λ (x : Inside). with_allowed n c.args.prot x.contexts) inside in
+    subst (λ (x : Inside). IsValid (seen x.caches x.store u) h) (sym inside)
+    (tables_valid (seen i.caches i.store u) ts (forgotten_count t.page_bytes c.args.prot st i.store.tables) h
+    (acted_valid i.caches i.store t _ c.self.view_is h v u (ap (λ (w : Actors). w.page_bytes) new)))
 
 pub returns-clause-answers : goal.returns-clause-answers
 returns-clause-answers c = λ h v.
     let i = c.self.inside in
-    let e = c.protect.ensures in
+    let n = c.args.region.0 in
     let t : Actors = i.contexts in
-    let there = c.if-not-protect.false in
-    let new = e.changed there in
-    acted i.caches i.store t _ c.self.view_is h v (commands.Protect c.args.region c.args.prot) (protected c.args.region c.args.prot) (Ok replies.Done) c.self.invariant.nodes c.protect.new.self
+    let u : Actors = c.protect.new.self in
+    let st = c.in-Some.was in
+    let there : is_some (region_with n t.actors) ≡ true = sym (told_some n 1 t.actors) ∙ ap is_some (sym c.status.ensures ∙ c.in-Some.is) in
+    let ts : List (Option Entry) = forgotten t.page_bytes c.args.prot st i.store.tables in
+    let inside : c.if-not-prot.self-inside ≡ with_forgotten i ts = elim c.if-not-prot.branch [
+      | then-not-prot w ↦ w.self-inside-is ∙ ap (λ (s : Store). record i { store = s }) (w.forget_region.ensures ∙ ap (with_tables i.store) (sym (cond-true _ _ _ w.if-not-prot.true)))
+      | else-not-prot w ↦ w.self-inside-is ∙ ap (with_forgotten i) (sym (cond-false _ _ _ w.if-not-prot.false))
+    ] in
+    let e = c.protect.ensures in
+    let found : c.protect.result ≡ true = e.found ∙ ap (λ (x : Inside). is_some (region_with n x.contexts.actors)) inside ∙ there in
+    let new : u ≡ with_allowed n c.args.prot t = e.changed found ∙ ap (λ (x : Inside). with_allowed n c.args.prot x.contexts) inside in
+    let command = commands.Protect c.args.region c.args.prot in
+    subst (λ (x : Inside). AnswerIs (state_at c.args.self.now h) command (Ok replies.Done) [] no_counts (state_at (seen x.caches x.store u) h)) (sym inside)
+    (subst (λ (m : State). AnswerIs (state_at c.args.self.now h) command (Ok replies.Done) [] no_counts m)
+    (sym (tables_state (seen i.caches i.store u) ts (forgotten_count t.page_bytes c.args.prot st i.store.tables) h))
+    (acted i.caches i.store t _ c.self.view_is h v command (protected c.args.region c.args.prot) (Ok replies.Done) c.self.invariant.sound.nodes u
     (ap (λ (w : Actors). w.page_bytes) new)
     (λ f g k. let caches = caches_shown f 1 i.caches.caches in
     let frames = length i.store.frames.held in
-    protect_row caches frames t c.args.region.0 c.args.prot (sym e.found ∙ there) ∙ ap (λ (w : Actors). reply replies.Done (machine_with caches frames w)) (sym new))
+    protect_row caches frames t n c.args.prot there ∙ ap (λ (w : Actors). reply replies.Done (machine_with caches frames w)) (sym new))))

@@ -23,6 +23,8 @@ use Rattle.pvm_core.proofs.Homes.Pushed.{values_reached}
 use Rattle.pvm_core.proofs.Answering.Reaching.{reach_none}
 use Rattle.pvm_core.proofs.Holding.Counted.{any_same}
 use Rattle.pvm_core.proofs.Holding.Loose.{loose_range}
+use Rattle.pvm_core.proofs.Translating.Dropped.{dropped_right}
+use Rattle.pvm_core.proofs.Translating.Writable.{tables_writable}
 use Rattle.pvm_core.proofs.pvm.Pvm.push_extent.Goals as goal
 use Rattle.pvm_core.proofs.pvm.Pvm.push_extent.Goals.{in-Ok, in-Err}
 
@@ -38,7 +40,7 @@ returns-in-Some-clause-sync g c = λ keep.
     let h = g.M.Mapper.held c.args.mapper.now in
     let before = g.M.Mapper.counts c.args.mapper.now in
     let p : Manager = the_view c.self.inside in
-    let i = c.self.invariant in
+    let i = c.self.invariant.sound in
     let answer : Answer = Err (troubles.Refused c.in-Some.refusal) in
     subst (λ (p : Manager). CallIs before before (state_at p h) (commands.Sync c.args.extent) answer (state_at p h)) c.self.view_is
     (called before before p p h h (commands.Sync c.args.extent) answer (reach_none _ h before) i.nodes i.nodes (subst (λ (p : Manager). IsValid p h) (sym c.self.view_is) c.requires.valid) refl (λ done m f s none. none) tt tt (λ f. refl) (λ page. refl)
@@ -49,7 +51,7 @@ returns-in-Some-clause-flush g c = λ up.
     let h = g.M.Mapper.held c.args.mapper.now in
     let before = g.M.Mapper.counts c.args.mapper.now in
     let p : Manager = the_view c.self.inside in
-    let i = c.self.invariant in
+    let i = c.self.invariant.sound in
     let answer : Answer = Err (troubles.Refused c.in-Some.refusal) in
     subst (λ (p : Manager). CallIs before before (state_at p h) (commands.Flush c.args.extent) answer (state_at p h)) c.self.view_is
     (called before before p p h h (commands.Flush c.args.extent) answer (reach_none _ h before) i.nodes i.nodes (subst (λ (p : Manager). IsValid p h) (sym c.self.view_is) c.requires.valid) refl (λ done m f s none. none) tt tt (λ f. refl) (λ page. refl)
@@ -68,14 +70,23 @@ push_range-requires-clause-named g c =
 pub push_range-requires-clause-loose : goal.push_range-requires-clause-loose
 push_range-requires-clause-loose g c = λ up.
     let i = c.self.inside in
-    loose_range i.caches i.store i.contexts.actors c.self.invariant.locked (g.M.Mapper.held c.args.mapper.now) (g.M.Mapper.page_bytes c.args.mapper.now) c.self.invariant.nodes.sound c.args.extent (none_locked i.caches c.args.extent c.args.give_up up (sym c.extent_refusal.ensures ∙ c.in_default.is))
+    loose_range i.caches i.store i.contexts.actors c.self.invariant.sound.locked (g.M.Mapper.held c.args.mapper.now) (g.M.Mapper.page_bytes c.args.mapper.now) c.self.invariant.sound.nodes.sound c.args.extent (none_locked i.caches c.args.extent c.args.give_up up (sym c.extent_refusal.ensures ∙ c.in_default.is))
 
 pub invariant_of-self : goal.invariant_of-self
-invariant_of-self g c =
-    let i = c.self.inside in
-    let n = c.push_range.new in
-    kept_sound i.caches n.caches i.store n.store (g.M.Mapper.held c.args.mapper.now) (g.M.Mapper.held n.mapper) (g.M.Mapper.page_bytes c.args.mapper.now) (g.M.Mapper.page_bytes n.mapper) c.push_range.ensures.stays.kept i.contexts i.live c.self.invariant
-    (subst (λ (p : Manager). IsValid p (g.M.Mapper.held c.args.mapper.now)) (sym c.self.view_is) c.requires.valid).right.tied.placed.bound
+invariant_of-self g c = record {
+  sound = (
+      let i = c.self.inside in
+      let n = c.push_range.new in
+      kept_sound i.caches n.caches i.store n.store (g.M.Mapper.held c.args.mapper.now) (g.M.Mapper.held n.mapper) (g.M.Mapper.page_bytes c.args.mapper.now) (g.M.Mapper.page_bytes n.mapper) c.push_range.ensures.stays.kept i.contexts i.live c.self.invariant.sound
+      (subst (λ (p : Manager). IsValid p (g.M.Mapper.held c.args.mapper.now)) (sym c.self.view_is) c.requires.valid).right.tied.placed.bound
+      );
+  translated = (
+      let i = c.self.inside in
+      let n = c.push_range.new in
+      let e = c.push_range.ensures in
+      dropped_right _ i.caches n.caches i.store n.store i.contexts e.drops (tables_writable i.caches n.caches e.stays.kept.nodes.caches) c.self.invariant.translated
+      );
+}
 
 pub returns-clause-valid : goal.returns-clause-valid
 returns-clause-valid g c =
@@ -89,7 +100,7 @@ returns-clause-valid g c =
     let before = g.M.Mapper.counts c.args.mapper.now in
     let after = g.M.Mapper.counts n.mapper in
     let p : Manager = seen i.caches i.store i.contexts in
-    let reach = values_reached p h c.self.invariant.nodes c.self.invariant.apart size now n.caches n.store k before after e.stays.later e.stays.told in
+    let reach = values_reached p h c.self.invariant.sound.nodes c.self.invariant.sound.apart size now n.caches n.store k before after e.stays.later e.stays.told in
     kept_valid i.caches n.caches i.store n.store h k size now e.stays.kept i.contexts e.forest before after reach (subst (λ (p : Manager). IsValid p h) (sym c.self.view_is) c.requires.valid)
 
 pub returns-clause-sync : goal.returns-clause-sync
@@ -106,7 +117,7 @@ returns-clause-sync g c = λ keep.
     let p : Manager = seen i.caches i.store i.contexts in
     let q : Manager = seen n.caches n.store i.contexts in
     let x = extent_open i.caches c.args.extent _ (sym c.extent_refusal.ensures ∙ c.in_default.is) in
-    let reach = values_reached p h c.self.invariant.nodes c.self.invariant.apart size now n.caches n.store k before after e.stays.later e.stays.told in
+    let reach = values_reached p h c.self.invariant.sound.nodes c.self.invariant.sound.apart size now n.caches n.store k before after e.stays.later e.stays.told in
     let valid = kept_valid i.caches n.caches i.store n.store h k size now e.stays.kept i.contexts e.forest before after reach (subst (λ (p : Manager). IsValid p h) (sym c.self.view_is) c.requires.valid) in
     let forest = kept_forest i.caches n.caches i.store n.store h k size now e.stays.kept i.contexts e.forest in
     let turned : failing c.push_range.result ≡ c.match-push_range.result = elim c.match-push_range.branch [
@@ -115,7 +126,7 @@ returns-clause-sync g c = λ keep.
     ] in
     subst (λ (p : Manager). CallIs before after (state_at p h) (commands.Sync c.args.extent) (done_by c.match-push_range.result) (state_at q k)) c.self.view_is
     (subst (λ (r : Result (Unit {0}) Trouble). CallIs before after (state_at p h) (commands.Sync c.args.extent) (done_by r) (state_at q k)) turned
-    (sync_is p q h k c.args.extent x c.self.invariant.apart before after reach c.self.invariant.nodes e.stays.whole valid e.stays.kept.nodes.caches forest
+    (sync_is p q h k c.args.extent x c.self.invariant.sound.apart before after reach c.self.invariant.sound.nodes e.stays.whole valid e.stays.kept.nodes.caches forest
     (kept_by i.caches n.caches i.store n.store h k size now e.stays.kept i.contexts) c.push_range.result (all_unsized k now n.caches n.store c.args.extent c.push_range.result e.synced) (stop_unsized k now n.caches n.store c.args.extent c.push_range.result e.failed) e.cause))
 
 pub returns-clause-flush : goal.returns-clause-flush
@@ -132,7 +143,7 @@ returns-clause-flush g c = λ up.
     let p : Manager = seen i.caches i.store i.contexts in
     let q : Manager = seen n.caches n.store i.contexts in
     let x = extent_open i.caches c.args.extent _ (sym c.extent_refusal.ensures ∙ c.in_default.is) in
-    let reach = values_reached p h c.self.invariant.nodes c.self.invariant.apart size now n.caches n.store k before after e.stays.later e.stays.told in
+    let reach = values_reached p h c.self.invariant.sound.nodes c.self.invariant.sound.apart size now n.caches n.store k before after e.stays.later e.stays.told in
     let valid = kept_valid i.caches n.caches i.store n.store h k size now e.stays.kept i.contexts e.forest before after reach (subst (λ (p : Manager). IsValid p h) (sym c.self.view_is) c.requires.valid) in
     let forest = kept_forest i.caches n.caches i.store n.store h k size now e.stays.kept i.contexts e.forest in
     let turned : failing c.push_range.result ≡ c.match-push_range.result = elim c.match-push_range.branch [
@@ -141,9 +152,9 @@ returns-clause-flush g c = λ up.
     ] in
     subst (λ (p : Manager). CallIs before after (state_at p h) (commands.Flush c.args.extent) (done_by c.match-push_range.result) (state_at q k)) c.self.view_is
     (subst (λ (r : Result (Unit {0}) Trouble). CallIs before after (state_at p h) (commands.Flush c.args.extent) (done_by r) (state_at q k)) turned
-    (flush_is p q h k c.args.extent x c.self.invariant.apart before after reach c.self.invariant.nodes e.stays.whole valid e.stays.kept.nodes.caches forest
+    (flush_is p q h k c.args.extent x c.self.invariant.sound.apart before after reach c.self.invariant.sound.nodes e.stays.whole valid e.stays.kept.nodes.caches forest
     (kept_by i.caches n.caches i.store n.store h k size now e.stays.kept i.contexts) c.push_range.result (all_unsized k now n.caches n.store c.args.extent c.push_range.result e.synced) (stop_unsized k now n.caches n.store c.args.extent c.push_range.result e.failed) e.cause
-    (λ f. any_same p f c.self.invariant.locked.counted c.args.extent ∙ none_locked i.caches c.args.extent c.args.give_up up (sym c.extent_refusal.ensures ∙ c.in_default.is))))
+    (λ f. any_same p f c.self.invariant.sound.locked.counted c.args.extent ∙ none_locked i.caches c.args.extent c.args.give_up up (sym c.extent_refusal.ensures ∙ c.in_default.is))))
 
 pub returns-clause-stays : goal.returns-clause-stays
 returns-clause-stays g c =

@@ -11,19 +11,29 @@ use Rattle.pvm_core.proofs.Acting.{acted, acted_valid, cut}
 use Rattle.pvm_core.proofs.Answering.Kept.{on_err, seated_same, seated_sound}
 use Rattle.pvm_core.proofs.Answering.Listed.{after_either}
 use Rattle.pvm_core.proofs.RegionRows.{over_cut, right_cut, split_outcome}
+use Rattle.pvm_core.proofs.Translating.Commands.{split_right}
 use Rattle.pvm_core.proofs.pvm.Pvm.split.Goals as goal
 
 pub invariant_of-self : goal.invariant_of-self
-invariant_of-self c =
-    let i = c.self.inside in
-    let e = c.split.ensures in
-    let t : Actors = i.contexts in
-    let u = c.split.new.self in
-    let region = c.args.region in
-    seated_sound i.caches i.store t u i.live
-    (after_either (λ (w : Actors). w.page_bytes ≡ t.page_bytes) t u (with_split t region.0 c.args.pages) c.split.result e.ok e.err refl refl)
-    (right_cut t u region c.args.pages (size_of i.caches) (split_refusal t region.0 c.args.pages) c.split.result refl e.refused e.ok e.err c.self.invariant.actors)
-    (over_cut t u region c.args.pages (split_refusal t region.0 c.args.pages) c.split.result refl e.refused e.ok e.err) c.self.invariant
+invariant_of-self c = record {
+  sound = (
+      let i = c.self.inside in
+      let e = c.split.ensures in
+      let t : Actors = i.contexts in
+      let u = c.split.new.self in
+      let region = c.args.region in
+      seated_sound i.caches i.store t u i.live
+      (after_either (λ (w : Actors). w.page_bytes ≡ t.page_bytes) t u (with_split t region.0 c.args.pages) c.split.result e.ok e.err refl refl)
+      (right_cut t u region c.args.pages (size_of i.caches) (split_refusal t region.0 c.args.pages) c.split.result refl e.refused e.ok e.err c.self.invariant.sound.actors)
+      (over_cut t u region c.args.pages (split_refusal t region.0 c.args.pages) c.split.result refl e.refused e.ok e.err) c.self.invariant.sound
+      );
+  translated = (
+      let i = c.self.inside in
+      let e = c.split.ensures in
+      let t : Actors = i.contexts in
+      split_right i.caches i.store t c.split.new.self c.args.region c.args.pages (split_refusal t c.args.region.0 c.args.pages) c.split.result c.self.invariant.sound.actors.some c.self.invariant.translated refl e.refused e.ok e.err
+      );
+}
 
 pub returns-clause-valid : goal.returns-clause-valid
 returns-clause-valid c = λ h v.
@@ -42,7 +52,7 @@ returns-clause-answers c = λ h v.
     let u = c.split.new.self in
     let region = c.args.region in
     let pages = c.args.pages in
-    acted i.caches i.store t _ c.self.view_is h v (commands.Split region pages) (cut region pages) (answer_by replies.Region c.split.result) c.self.invariant.nodes u
+    acted i.caches i.store t _ c.self.view_is h v (commands.Split region pages) (cut region pages) (answer_by replies.Region c.split.result) c.self.invariant.sound.nodes u
     (after_either (λ (w : Actors). w.page_bytes ≡ t.page_bytes) t u (with_split t region.0 pages) c.split.result e.ok e.err refl refl)
     (λ f g k. split_outcome t u region pages (caches_shown f 1 i.caches.caches) (length i.store.frames.held) g k (split_refusal t region.0 pages) c.split.result refl e.refused e.made e.ok e.err)
 

@@ -29,11 +29,11 @@ returns-clause-answers c = λ h v.
     let p : Manager = the_view c.self.inside in
     let answer = Ok (replies.Stat c.counts.result) in
     subst (λ (p : Manager). AnswerIs (state_at p h) commands.Stat answer [] no_counts (state_at p h)) c.self.view_is
-    (seated p p h commands.Stat answer c.self.invariant.nodes c.self.invariant.nodes (subst (λ (p : Manager). IsValid p h) (sym c.self.view_is) v) refl (λ done m f s none. none) refl tt (λ f. refl) (λ page. refl)
-    (λ f s. ap (λ (k : Counts). reply (replies.Stat k) (machine_by p f)) (counts_are p h c.self.invariant.nodes ∙ sym c.counts.ensures.counts)))
+    (seated p p h commands.Stat answer c.self.invariant.sound.nodes c.self.invariant.sound.nodes (subst (λ (p : Manager). IsValid p h) (sym c.self.view_is) v) refl (λ done m f s none. none) refl tt (λ f. refl) (λ page. refl)
+    (λ f s. ap (λ (k : Counts). reply (replies.Stat k) (machine_by p f)) (counts_are p h c.self.invariant.sound.nodes ∙ sym c.counts.ensures.counts)))
 
 pub returns-clause-bounded : goal.returns-clause-bounded
-returns-clause-bounded c = subst HasFewWorking (sym c.counts.ensures.counts) c.self.invariant.bounded
+returns-clause-bounded c = subst HasFewWorking (sym c.counts.ensures.counts) c.self.invariant.sound.bounded
 
 pub returns-clause-once : goal.returns-clause-once
 returns-clause-once c = λ h v.
@@ -42,6 +42,6 @@ returns-clause-once c = λ h v.
     let w = subst (λ (p : Manager). IsValid p h) (sym c.self.view_is) v in
     subst HoldsEachOnce c.self.view_is (record {
       bound = w.right.tied.placed.bound;
-      held = λ f. w.right.tied.placed.held f ∙ bound_or (is_some (node_of i.store.map f)) (is_pinned i.store.frames f) (λ pinned. ap is_some (locked_in i.caches i.store.map f (sym (c.self.invariant.locked.pinned f) ∙ pinned)).here);
+      held = λ f. w.right.tied.placed.held f ∙ bound_or (is_some (node_of i.store.map f)) (is_pinned i.store.frames f) (λ pinned. ap is_some (locked_in i.caches i.store.map f (sym (c.self.invariant.sound.locked.pinned f) ∙ pinned)).here);
       slots = w.right.tied.placed.slots;
     })

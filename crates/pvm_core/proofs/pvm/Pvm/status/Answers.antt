@@ -11,6 +11,6 @@ pub returns : goal.returns
 returns c = record {
   answers = λ h v.
       let i = c.self.inside in
-      told i.caches i.store i.contexts _ c.self.view_is h v (commands.Status c.args.region) (told_of c.args.region) (answer_by replies.Status c.ok_or.result) c.self.invariant.nodes
+      told i.caches i.store i.contexts _ c.self.view_is h v (commands.Status c.args.region) (told_of c.args.region) (answer_by replies.Status c.ok_or.result) c.self.invariant.sound.nodes
       (λ f g k. status_outcome (caches_shown f 1 i.caches.caches) (length i.store.frames.held) i.contexts g k c.args.region c.status.result c.ok_or.result c.status.ensures c.ok_or.ensures.value);
 }

@@ -17,6 +17,8 @@ use Rattle.pvm_core.proofs.Answering.Kept.{kept_by, kept_forest, kept_machine, k
 use Rattle.pvm_core.proofs.Homes.Pushed.{values_reached}
 use Rattle.pvm_core.proofs.Readiness.Readying.{if_err_by, keeps_then, named_same, on_ok_by, saved_all}
 use Rattle.pvm_core.proofs.Meaning.Values.{consistent_of}
+use Rattle.pvm_core.proofs.Translating.Dropped.{dropped_right}
+use Rattle.pvm_core.proofs.Translating.Writable.{tables_writable}
 use Rattle.pvm_core.proofs.pvm.Pvm.write_back.Goals as goal
 
 pub returns-then-is_none-clause-written : goal.returns-then-is_none-clause-written
@@ -35,34 +37,43 @@ push_range-requires-clause-named g c =
     (x.segment, ap (option_map (λ (t : Table). t.segment)) x.there ∙ ap Some x.of)
 
 pub invariant_of-self : goal.invariant_of-self
-invariant_of-self g c =
-    let i = c.self.inside in
-    let n = c.push_range.new in
-    let e = c.push_range.ensures in
-    let s = c.args.range in
-    let h = g.M.Mapper.held c.args.mapper.now in
-    let k = g.M.Mapper.held n.mapper in
-    let size = g.M.Mapper.page_bytes c.args.mapper.now in
-    let now = g.M.Mapper.page_bytes n.mapper in
-    let before = g.M.Mapper.counts c.args.mapper.now in
-    let mid = g.M.Mapper.counts n.mapper in
-    let p : Manager = seen i.caches i.store i.contexts in
-    let q : Manager = seen n.caches n.store i.contexts in
-    let reach = values_reached p h c.self.invariant.nodes c.self.invariant.apart size now n.caches n.store k before mid e.stays.later e.stays.told in
-    let valid = kept_valid i.caches n.caches i.store n.store h k size now e.stays.kept i.contexts e.forest before mid reach (subst (λ (p : Manager). IsValid p h) (sym c.self.view_is) c.requires.valid) in
-    let keeps : KeepsMachine p q h k before mid = record {
-      machine = kept_machine i.caches n.caches i.store n.store h k size now e.stays.kept i.contexts e.forest;
-      by = kept_by i.caches n.caches i.store n.store h k size now e.stays.kept i.contexts;
-      same = sizes_same i.caches n.caches e.stays.kept.nodes.caches;
-      made = e.stays.kept.made;
-      reach = reach;
-    } in
-    let forest = kept_forest i.caches n.caches i.store n.store h k size now e.stays.kept i.contexts e.forest in
-    let kept : KeepsForest p q h k = record { forest = forest; copies = sym (store_copies (world_of q k)) ∙ ap (λ f. f.copies) forest ∙ store_copies (world_of p h) } in
-    let named : is_named i.caches s.cache.0 ≡ true = ap is_some (sym c.segment.ensures) ∙ c.is_none.ensures ∙ ap not c.if-is_none.false in
-    let x = extent_named i.caches s (subst (λ (p : Manager). HasRange p.caches s) (sym c.self.view_is) c.requires.range) named in
-    kept_sound i.caches n.caches i.store n.store h k size now e.stays.kept i.contexts i.live c.self.invariant
-    (subst (λ (p : Manager). IsValid p h) (sym c.self.view_is) c.requires.valid).right.tied.placed.bound
+invariant_of-self g c = record {
+  sound = (
+      let i = c.self.inside in
+      let n = c.push_range.new in
+      let e = c.push_range.ensures in
+      let s = c.args.range in
+      let h = g.M.Mapper.held c.args.mapper.now in
+      let k = g.M.Mapper.held n.mapper in
+      let size = g.M.Mapper.page_bytes c.args.mapper.now in
+      let now = g.M.Mapper.page_bytes n.mapper in
+      let before = g.M.Mapper.counts c.args.mapper.now in
+      let mid = g.M.Mapper.counts n.mapper in
+      let p : Manager = seen i.caches i.store i.contexts in
+      let q : Manager = seen n.caches n.store i.contexts in
+      let reach = values_reached p h c.self.invariant.sound.nodes c.self.invariant.sound.apart size now n.caches n.store k before mid e.stays.later e.stays.told in
+      let valid = kept_valid i.caches n.caches i.store n.store h k size now e.stays.kept i.contexts e.forest before mid reach (subst (λ (p : Manager). IsValid p h) (sym c.self.view_is) c.requires.valid) in
+      let keeps : KeepsMachine p q h k before mid = record {
+        machine = kept_machine i.caches n.caches i.store n.store h k size now e.stays.kept i.contexts e.forest;
+        by = kept_by i.caches n.caches i.store n.store h k size now e.stays.kept i.contexts;
+        same = sizes_same i.caches n.caches e.stays.kept.nodes.caches;
+        made = e.stays.kept.made;
+        reach = reach;
+      } in
+      let forest = kept_forest i.caches n.caches i.store n.store h k size now e.stays.kept i.contexts e.forest in
+      let kept : KeepsForest p q h k = record { forest = forest; copies = sym (store_copies (world_of q k)) ∙ ap (λ f. f.copies) forest ∙ store_copies (world_of p h) } in
+      let named : is_named i.caches s.cache.0 ≡ true = ap is_some (sym c.segment.ensures) ∙ c.is_none.ensures ∙ ap not c.if-is_none.false in
+      let x = extent_named i.caches s (subst (λ (p : Manager). HasRange p.caches s) (sym c.self.view_is) c.requires.range) named in
+      kept_sound i.caches n.caches i.store n.store h k size now e.stays.kept i.contexts i.live c.self.invariant.sound
+      (subst (λ (p : Manager). IsValid p h) (sym c.self.view_is) c.requires.valid).right.tied.placed.bound
+      );
+  translated = (
+      let i = c.self.inside in
+      let n = c.push_range.new in
+      let e = c.push_range.ensures in
+      dropped_right _ i.caches n.caches i.store n.store i.contexts e.drops (tables_writable i.caches n.caches e.stays.kept.nodes.caches) c.self.invariant.translated
+      );
+}
 
 pub returns-in-Err-clause-valid : goal.returns-in-Err-clause-valid
 returns-in-Err-clause-valid g c =
@@ -78,7 +89,7 @@ returns-in-Err-clause-valid g c =
     let mid = g.M.Mapper.counts n.mapper in
     let p : Manager = seen i.caches i.store i.contexts in
     let q : Manager = seen n.caches n.store i.contexts in
-    let reach = values_reached p h c.self.invariant.nodes c.self.invariant.apart size now n.caches n.store k before mid e.stays.later e.stays.told in
+    let reach = values_reached p h c.self.invariant.sound.nodes c.self.invariant.sound.apart size now n.caches n.store k before mid e.stays.later e.stays.told in
     let valid = kept_valid i.caches n.caches i.store n.store h k size now e.stays.kept i.contexts e.forest before mid reach (subst (λ (p : Manager). IsValid p h) (sym c.self.view_is) c.requires.valid) in
     let keeps : KeepsMachine p q h k before mid = record {
       machine = kept_machine i.caches n.caches i.store n.store h k size now e.stays.kept i.contexts e.forest;
@@ -107,7 +118,7 @@ returns-in-Err-clause-keeps g c =
     let mid = g.M.Mapper.counts n.mapper in
     let p : Manager = seen i.caches i.store i.contexts in
     let q : Manager = seen n.caches n.store i.contexts in
-    let reach = values_reached p h c.self.invariant.nodes c.self.invariant.apart size now n.caches n.store k before mid e.stays.later e.stays.told in
+    let reach = values_reached p h c.self.invariant.sound.nodes c.self.invariant.sound.apart size now n.caches n.store k before mid e.stays.later e.stays.told in
     let valid = kept_valid i.caches n.caches i.store n.store h k size now e.stays.kept i.contexts e.forest before mid reach (subst (λ (p : Manager). IsValid p h) (sym c.self.view_is) c.requires.valid) in
     let keeps : KeepsMachine p q h k before mid = record {
       machine = kept_machine i.caches n.caches i.store n.store h k size now e.stays.kept i.contexts e.forest;
@@ -136,7 +147,7 @@ returns-in-Err-clause-not_written g c =
     let mid = g.M.Mapper.counts n.mapper in
     let p : Manager = seen i.caches i.store i.contexts in
     let q : Manager = seen n.caches n.store i.contexts in
-    let reach = values_reached p h c.self.invariant.nodes c.self.invariant.apart size now n.caches n.store k before mid e.stays.later e.stays.told in
+    let reach = values_reached p h c.self.invariant.sound.nodes c.self.invariant.sound.apart size now n.caches n.store k before mid e.stays.later e.stays.told in
     let valid = kept_valid i.caches n.caches i.store n.store h k size now e.stays.kept i.contexts e.forest before mid reach (subst (λ (p : Manager). IsValid p h) (sym c.self.view_is) c.requires.valid) in
     let keeps : KeepsMachine p q h k before mid = record {
       machine = kept_machine i.caches n.caches i.store n.store h k size now e.stays.kept i.contexts e.forest;
@@ -155,38 +166,47 @@ returns-in-Err-clause-not_written g c =
       named = named;
       kept = kept;
       stop = stop.0;
-      pushed = are_pushed p h c.self.invariant.apart s x n.caches n.store k e.stays.whole valid.right e.stays.kept.nodes.caches forest page (let low = stop.0.1 in omega (arith, low)) (synced_unsized k now n.caches n.store s page stop.1);
+      pushed = are_pushed p h c.self.invariant.sound.apart s x n.caches n.store k e.stays.whole valid.right e.stays.kept.nodes.caches forest page (let low = stop.0.1 in omega (arith, low)) (synced_unsized k now n.caches n.store s page stop.1);
     })
 
 pub invariant_of-self-2 : goal.invariant_of-self-2
-invariant_of-self-2 g c =
-    let i = c.self.inside in
-    let n = c.push_range.new in
-    let e = c.push_range.ensures in
-    let s = c.args.range in
-    let h = g.M.Mapper.held c.args.mapper.now in
-    let k = g.M.Mapper.held n.mapper in
-    let size = g.M.Mapper.page_bytes c.args.mapper.now in
-    let now = g.M.Mapper.page_bytes n.mapper in
-    let before = g.M.Mapper.counts c.args.mapper.now in
-    let mid = g.M.Mapper.counts n.mapper in
-    let p : Manager = seen i.caches i.store i.contexts in
-    let q : Manager = seen n.caches n.store i.contexts in
-    let reach = values_reached p h c.self.invariant.nodes c.self.invariant.apart size now n.caches n.store k before mid e.stays.later e.stays.told in
-    let valid = kept_valid i.caches n.caches i.store n.store h k size now e.stays.kept i.contexts e.forest before mid reach (subst (λ (p : Manager). IsValid p h) (sym c.self.view_is) c.requires.valid) in
-    let keeps : KeepsMachine p q h k before mid = record {
-      machine = kept_machine i.caches n.caches i.store n.store h k size now e.stays.kept i.contexts e.forest;
-      by = kept_by i.caches n.caches i.store n.store h k size now e.stays.kept i.contexts;
-      same = sizes_same i.caches n.caches e.stays.kept.nodes.caches;
-      made = e.stays.kept.made;
-      reach = reach;
-    } in
-    let forest = kept_forest i.caches n.caches i.store n.store h k size now e.stays.kept i.contexts e.forest in
-    let kept : KeepsForest p q h k = record { forest = forest; copies = sym (store_copies (world_of q k)) ∙ ap (λ f. f.copies) forest ∙ store_copies (world_of p h) } in
-    let named : is_named i.caches s.cache.0 ≡ true = ap is_some (sym c.segment.ensures) ∙ c.is_none.ensures ∙ ap not c.if-is_none.false in
-    let x = extent_named i.caches s (subst (λ (p : Manager). HasRange p.caches s) (sym c.self.view_is) c.requires.range) named in
-    kept_sound i.caches n.caches i.store n.store h k size now e.stays.kept i.contexts i.live c.self.invariant
-    (subst (λ (p : Manager). IsValid p h) (sym c.self.view_is) c.requires.valid).right.tied.placed.bound
+invariant_of-self-2 g c = record {
+  sound = (
+      let i = c.self.inside in
+      let n = c.push_range.new in
+      let e = c.push_range.ensures in
+      let s = c.args.range in
+      let h = g.M.Mapper.held c.args.mapper.now in
+      let k = g.M.Mapper.held n.mapper in
+      let size = g.M.Mapper.page_bytes c.args.mapper.now in
+      let now = g.M.Mapper.page_bytes n.mapper in
+      let before = g.M.Mapper.counts c.args.mapper.now in
+      let mid = g.M.Mapper.counts n.mapper in
+      let p : Manager = seen i.caches i.store i.contexts in
+      let q : Manager = seen n.caches n.store i.contexts in
+      let reach = values_reached p h c.self.invariant.sound.nodes c.self.invariant.sound.apart size now n.caches n.store k before mid e.stays.later e.stays.told in
+      let valid = kept_valid i.caches n.caches i.store n.store h k size now e.stays.kept i.contexts e.forest before mid reach (subst (λ (p : Manager). IsValid p h) (sym c.self.view_is) c.requires.valid) in
+      let keeps : KeepsMachine p q h k before mid = record {
+        machine = kept_machine i.caches n.caches i.store n.store h k size now e.stays.kept i.contexts e.forest;
+        by = kept_by i.caches n.caches i.store n.store h k size now e.stays.kept i.contexts;
+        same = sizes_same i.caches n.caches e.stays.kept.nodes.caches;
+        made = e.stays.kept.made;
+        reach = reach;
+      } in
+      let forest = kept_forest i.caches n.caches i.store n.store h k size now e.stays.kept i.contexts e.forest in
+      let kept : KeepsForest p q h k = record { forest = forest; copies = sym (store_copies (world_of q k)) ∙ ap (λ f. f.copies) forest ∙ store_copies (world_of p h) } in
+      let named : is_named i.caches s.cache.0 ≡ true = ap is_some (sym c.segment.ensures) ∙ c.is_none.ensures ∙ ap not c.if-is_none.false in
+      let x = extent_named i.caches s (subst (λ (p : Manager). HasRange p.caches s) (sym c.self.view_is) c.requires.range) named in
+      kept_sound i.caches n.caches i.store n.store h k size now e.stays.kept i.contexts i.live c.self.invariant.sound
+      (subst (λ (p : Manager). IsValid p h) (sym c.self.view_is) c.requires.valid).right.tied.placed.bound
+      );
+  translated = (
+      let i = c.self.inside in
+      let n = c.push_range.new in
+      let e = c.push_range.ensures in
+      dropped_right _ i.caches n.caches i.store n.store i.contexts e.drops (tables_writable i.caches n.caches e.stays.kept.nodes.caches) c.self.invariant.translated
+      );
+}
 
 pub save-requires-clause-valid : goal.save-requires-clause-valid
 save-requires-clause-valid g c =
@@ -202,7 +222,7 @@ save-requires-clause-valid g c =
     let mid = g.M.Mapper.counts n.mapper in
     let p : Manager = seen i.caches i.store i.contexts in
     let q : Manager = seen n.caches n.store i.contexts in
-    let reach = values_reached p h c.self.invariant.nodes c.self.invariant.apart size now n.caches n.store k before mid e.stays.later e.stays.told in
+    let reach = values_reached p h c.self.invariant.sound.nodes c.self.invariant.sound.apart size now n.caches n.store k before mid e.stays.later e.stays.told in
     let valid = kept_valid i.caches n.caches i.store n.store h k size now e.stays.kept i.contexts e.forest before mid reach (subst (λ (p : Manager). IsValid p h) (sym c.self.view_is) c.requires.valid) in
     let keeps : KeepsMachine p q h k before mid = record {
       machine = kept_machine i.caches n.caches i.store n.store h k size now e.stays.kept i.contexts e.forest;
@@ -231,7 +251,7 @@ returns-clause-keeps g c =
     let mid = g.M.Mapper.counts n.mapper in
     let p : Manager = seen i.caches i.store i.contexts in
     let q : Manager = seen n.caches n.store i.contexts in
-    let reach = values_reached p h c.self.invariant.nodes c.self.invariant.apart size now n.caches n.store k before mid e.stays.later e.stays.told in
+    let reach = values_reached p h c.self.invariant.sound.nodes c.self.invariant.sound.apart size now n.caches n.store k before mid e.stays.later e.stays.told in
     let valid = kept_valid i.caches n.caches i.store n.store h k size now e.stays.kept i.contexts e.forest before mid reach (subst (λ (p : Manager). IsValid p h) (sym c.self.view_is) c.requires.valid) in
     let keeps : KeepsMachine p q h k before mid = record {
       machine = kept_machine i.caches n.caches i.store n.store h k size now e.stays.kept i.contexts e.forest;
@@ -264,7 +284,7 @@ returns-clause-written g c =
     let mid = g.M.Mapper.counts n.mapper in
     let p : Manager = seen i.caches i.store i.contexts in
     let q : Manager = seen n.caches n.store i.contexts in
-    let reach = values_reached p h c.self.invariant.nodes c.self.invariant.apart size now n.caches n.store k before mid e.stays.later e.stays.told in
+    let reach = values_reached p h c.self.invariant.sound.nodes c.self.invariant.sound.apart size now n.caches n.store k before mid e.stays.later e.stays.told in
     let valid = kept_valid i.caches n.caches i.store n.store h k size now e.stays.kept i.contexts e.forest before mid reach (subst (λ (p : Manager). IsValid p h) (sym c.self.view_is) c.requires.valid) in
     let keeps : KeepsMachine p q h k before mid = record {
       machine = kept_machine i.caches n.caches i.store n.store h k size now e.stays.kept i.contexts e.forest;
@@ -282,15 +302,15 @@ returns-clause-written g c =
     let l = g.M.Mapper.held c.save.new.mapper in
     let after = g.M.Mapper.counts c.save.new.mapper in
     let named_q = named_same i.caches n.caches keeps.same s.cache.0 in
-    let pushed : IsPushed s p h k = are_pushed p h c.self.invariant.apart s x n.caches n.store k e.stays.whole valid.right e.stays.kept.nodes.caches forest (s.first.0 + s.pages) (omega arith) (synced_unsized k now n.caches n.store s (s.first.0 + s.pages) c.in-Ok.ensures.synced) in
+    let pushed : IsPushed s p h k = are_pushed p h c.self.invariant.sound.apart s x n.caches n.store k e.stays.whole valid.right e.stays.kept.nodes.caches forest (s.first.0 + s.pages) (omega arith) (synced_unsized k now n.caches n.store s (s.first.0 + s.pages) c.in-Ok.ensures.synced) in
     let rule : PushRule (machine_of p h) (segments_of k) t.keeps.reach.pushes (segments_of l) = subst (λ (m : Machine). PushRule m (segments_of k) t.keeps.reach.pushes (segments_of l)) keeps.machine t.keeps.reach.rule in
-    let still : IsPushed s p h l = still_pushed p h s x c.self.invariant.apart k l t.keeps.reach.pushes rule pushed in
+    let still : IsPushed s p h l = still_pushed p h s x c.self.invariant.sound.apart k l t.keeps.reach.pushes rule pushed in
     subst (λ (p : Manager). OnOk c.save.result (IsWrittenBack s p r h l)) c.self.view_is (on_ok_by c.save.result (λ f. (
     let then : forest_of r l ≡ saved (is_named i.caches s.cache.0) (extent_names s) (forest_of p h) = f ∙ (λ j. saved (named_q j) (extent_names s) (forest j)) in
     record {
       forest = then;
       pushed = still;
-      saved_now = saved_all r l s (forest_of p h) t.whole (consistent_of p h c.self.invariant.nodes) (is_named i.caches s.cache.0) (named_same n.caches r.caches (sizes_same n.caches r.caches t.tables) s.cache.0 ∙ named_q) then;
+      saved_now = saved_all r l s (forest_of p h) t.whole (consistent_of p h c.self.invariant.sound.nodes) (is_named i.caches s.cache.0) (named_same n.caches r.caches (sizes_same n.caches r.caches t.tables) s.cache.0 ∙ named_q) then;
     })) t.saved)
 
 pub returns-clause-not_written : goal.returns-clause-not_written
@@ -307,7 +327,7 @@ returns-clause-not_written g c =
     let mid = g.M.Mapper.counts n.mapper in
     let p : Manager = seen i.caches i.store i.contexts in
     let q : Manager = seen n.caches n.store i.contexts in
-    let reach = values_reached p h c.self.invariant.nodes c.self.invariant.apart size now n.caches n.store k before mid e.stays.later e.stays.told in
+    let reach = values_reached p h c.self.invariant.sound.nodes c.self.invariant.sound.apart size now n.caches n.store k before mid e.stays.later e.stays.told in
     let valid = kept_valid i.caches n.caches i.store n.store h k size now e.stays.kept i.contexts e.forest before mid reach (subst (λ (p : Manager). IsValid p h) (sym c.self.view_is) c.requires.valid) in
     let keeps : KeepsMachine p q h k before mid = record {
       machine = kept_machine i.caches n.caches i.store n.store h k size now e.stays.kept i.contexts e.forest;
@@ -325,7 +345,7 @@ returns-clause-not_written g c =
     let l = g.M.Mapper.held c.save.new.mapper in
     let after = g.M.Mapper.counts c.save.new.mapper in
     let named_q = named_same i.caches n.caches keeps.same s.cache.0 in
-    let pushed : IsPushed s p h k = are_pushed p h c.self.invariant.apart s x n.caches n.store k e.stays.whole valid.right e.stays.kept.nodes.caches forest (s.first.0 + s.pages) (omega arith) (synced_unsized k now n.caches n.store s (s.first.0 + s.pages) c.in-Ok.ensures.synced) in
+    let pushed : IsPushed s p h k = are_pushed p h c.self.invariant.sound.apart s x n.caches n.store k e.stays.whole valid.right e.stays.kept.nodes.caches forest (s.first.0 + s.pages) (omega arith) (synced_unsized k now n.caches n.store s (s.first.0 + s.pages) c.in-Ok.ensures.synced) in
     let rule : PushRule (machine_of p h) (segments_of k) t.keeps.reach.pushes (segments_of l) = subst (λ (m : Machine). PushRule m (segments_of k) t.keeps.reach.pushes (segments_of l)) keeps.machine t.keeps.reach.rule in
-    let still : IsPushed s p h l = still_pushed p h s x c.self.invariant.apart k l t.keeps.reach.pushes rule pushed in
+    let still : IsPushed s p h l = still_pushed p h s x c.self.invariant.sound.apart k l t.keeps.reach.pushes rule pushed in
     subst (λ (p : Manager). IfErr c.save.result (IsNotWrittenBack s p h r l)) c.self.view_is (if_err_by c.save.result (unsaved_written s p q r h k l named_q kept still) t.failed)
