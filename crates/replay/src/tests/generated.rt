@@ -52,11 +52,14 @@ fn a_number_makes_lines_and_a_summary(rt: HostRuntime) -> Result<(), NoMemory> {
 fn a_summary_is_the_same_at_any_number_of_frames(rt: HostRuntime) -> Result<(), NoMemory> {
     let mut few = MemorySink::new(rt.alloc(), 4096, &[])?;
     let mut many = MemorySink::new(rt.alloc(), 4096, &[])?;
-    let at_few = run_words(&["trial", "1", "1000", "--frames", "3"], &mut few, &rt)?;
-    let at_many = run_words(&["trial", "1", "1000", "--frames", "300"], &mut many, &rt)?;
+    let at_few = run_words(&["trial", "1", "100000", "--frames", "3"], &mut few, &rt)?;
+    let at_many = run_words(&["trial", "1", "100000", "--frames", "300"], &mut many, &rt)?;
     assert_eq!(&rt; (at_few, at_many), (Status::Done, Status::Done));
     assert_eq!(&rt; few.written(), many.written());
-    assert!(&rt; few.written().starts_with(b"lines 1000\nok 1000\nloaded "));
+    assert!(&rt;
+        few.written()
+            .starts_with(b"lines 100000\nok 100000\nloaded ")
+    );
     Ok(())
 }
 

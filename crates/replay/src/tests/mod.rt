@@ -1,10 +1,14 @@
 // Whole runs over a mapper in memory, by values from outside.
 ghost use Rattle.std.specs.Prelude.{◌≡◌, ◌≤◌, ◌^◌, None, IfOk};
 
+mod failing_calls;
 mod generated;
+mod lines;
+mod lying;
 mod rows;
 mod segment_rows;
 mod segments;
+mod streams;
 mod words;
 
 use crate::{Status, page_size, run};
@@ -206,67 +210,6 @@ fn a_copy_moves_no_bytes(rt: HostRuntime) -> Result<(), NoMemory> {
         sink.written(),
         rows::COPY_MOVES_NO_BYTES_REPLIES.as_bytes()
     );
-    Ok(())
-}
-
-#[test]
-fn a_line_of_257_bytes_is_one_bad_line(rt: HostRuntime) -> Result<(), NoMemory> {
-    for most in [1, 7, 4096] {
-        let mut sink = MemorySink::new(rt.alloc(), 4096, &[])?;
-        let status = replay_cut(rt.alloc(), "8", &[b'x'; 257], most, &mut sink)?;
-        assert_eq!(&rt; status, Status::Done);
-        assert_eq!(&rt; sink.written(), b"1 no BadLine\n".as_slice());
-    }
-    Ok(())
-}
-
-#[test]
-fn a_failed_read_ends_the_run_behind_the_lines_that_ended(rt: HostRuntime) -> Result<(), NoMemory> {
-    for (failing, replies) in [
-        (1, ""),
-        (2, "1 ok a1\n"),
-        (3, "1 ok a1\n2 ok a2\n"),
-        (4, "1 ok a1\n2 ok a2\n3 ok c1\n"),
-    ] {
-        let fails = [failing];
-        let mut source = MemorySource::new(b"actor\nactor\ntemp 1\n", &fails);
-        source.chunk(7);
-        let mut sink = MemorySink::new(rt.alloc(), 4096, &[])?;
-        let words = ["run", "--frames", "8"];
-        let status = replay_source(rt.alloc(), &words, &mut source, &mut sink)?;
-        assert_eq!(&rt; status, Status::SourceFault, "{failing}");
-        assert_eq!(&rt; sink.written(), replies.as_bytes(), "{failing}");
-    }
-    Ok(())
-}
-
-// Reads of 6 bytes give a line each, and one read gives the two lines that end; the last line is
-// answered behind the last read.
-#[test]
-fn a_failed_write_ends_the_run(rt: HostRuntime) -> Result<(), NoMemory> {
-    for (most, failing, replies) in [
-        (6, 1, ""),
-        (6, 2, "1 ok a1\n"),
-        (6, 3, "1 ok a1\n2 ok a2\n"),
-        (4096, 1, ""),
-        (4096, 2, "1 ok a1\n2 ok a2\n"),
-    ] {
-        let mut sink = MemorySink::new(rt.alloc(), 4096, &[failing])?;
-        let status = replay_cut(rt.alloc(), "8", b"actor\nactor\ntemp 1", most, &mut sink)?;
-        assert_eq!(&rt; status, Status::SinkFault, "{failing}");
-        assert_eq!(&rt; sink.written(), replies.as_bytes(), "{failing}");
-    }
-    Ok(())
-}
-
-#[test]
-fn a_sink_without_room_has_a_front_of_the_replies(rt: HostRuntime) -> Result<(), NoMemory> {
-    for most in [1, 6, 4096] {
-        let mut sink = MemorySink::new(rt.alloc(), 11, &[])?;
-        let status = replay_cut(rt.alloc(), "8", b"actor\nactor\ntemp 1", most, &mut sink)?;
-        assert_eq!(&rt; status, Status::SinkFault);
-        assert_eq!(&rt; sink.written(), b"1 ok a1\n2 o".as_slice());
-    }
     Ok(())
 }
 

@@ -1190,3 +1190,41 @@ pub const LIVE_PAGE_LIMIT_REPLIES: &str = "1 ok c1
 3 ok
 4 ok c2
 ";
+
+// Pages that come back as a mapper gave them, each of one number that goes up from 7, whatever was
+// stored to them.
+pub const WRONG_PAGES: &str = "actor
+temp 9
+temp 9
+map a1 c1 0 9 10000 rw
+map a1 c2 0 9 20000 rw
+store a1 10000 01
+copy c1 0 c2 0 9
+pageout 4
+load a1 20000 1
+load a1 10000 1
+pageout 4
+load a1 10000 2
+store a1 20000 02
+load a1 20000 2
+load a1 10000 1
+stat
+";
+
+pub const WRONG_PAGES_REPLIES: &str = "1 ok a1
+2 ok c1
+3 ok c2
+4 ok r1
+5 ok r2
+6 ok
+7 ok
+8 ok
+9 ok 07
+10 ok 07
+11 ok
+12 ok 0808
+13 ok
+14 ok 0208
+15 ok 08
+16 stat live 18 working 0 copies 1
+";

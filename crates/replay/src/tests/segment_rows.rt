@@ -246,3 +246,72 @@ pub const TEXT_SHARED_AND_DATA_FORKED_REPLIES: &str = "1 ok a1
 32 ok r2
 33 ok a1 600000 10 rw c2 0 unlocked
 ";
+
+// Every command, over a segment of two pages that begin with 41 and 42.
+pub const HOSTILE: &str = "actor
+open 1
+temp 9
+map a1 c1 0 2 10000 rw
+map a1 c2 0 9 20000 rw
+copy c1 0 c2 0 2
+store a1 10000 58
+load a1 20000 1
+sync c1 0 2
+temp 9
+copy c2 0 c3 0 9
+store a1 21000 59
+move c3 0 c2 2 1
+load a1 22000 1
+split r1 1
+lock r1
+unlock r1
+flush c1 0 2
+pageout 4
+load a1 10000 1
+protect r3 r
+status r3
+find a1 11000
+invalidate c1 0 2
+load a1 11000 1
+unmap r3
+copy c1 1 c3 8 1
+chain c3 8
+exit a1
+destroy c1
+chain c3 8
+stat
+";
+
+pub const HOSTILE_REPLIES: &str = "1 ok a1
+2 ok c1
+3 ok c2
+4 ok r1
+5 ok r2
+6 ok
+7 ok
+8 ok 41
+9 ok
+10 ok c3
+11 ok
+12 ok
+13 ok
+14 ok 41
+15 ok r3
+16 ok
+17 ok
+18 ok
+19 ok
+20 ok 58
+21 ok
+22 ok a1 11000 1 r c1 1 unlocked
+23 ok r3
+24 ok
+25 ok 42
+26 ok
+27 ok
+28 chain c3:8+0 c1:1+1*
+29 ok
+30 ok
+31 chain c3:8+0*
+32 stat live 18 working 0 copies 4
+";

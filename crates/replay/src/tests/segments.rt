@@ -48,7 +48,7 @@ fn zeros(alloc: Global, bytes: usize) -> Result<Vec<u8>, NoMemory>
 }
 
 // Two pages that begin with these bytes.
-fn two_pages(alloc: Global, first: u8, second: u8) -> Result<Vec<u8>, NoMemory>
+pub(crate) fn two_pages(alloc: Global, first: u8, second: u8) -> Result<Vec<u8>, NoMemory>
     ensures { IfOk result (λ v. length v.items ≡ 2 * PAGE) }
 {
     let mut bytes = zeros(alloc, 2 * PAGE)?;
