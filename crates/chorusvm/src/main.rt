@@ -21,13 +21,16 @@ use replay::{Status, folder, page_size, run};
 use sink::StreamSink;
 use source::StreamSource;
 use std::env;
+use std::io::ErrorKind;
 use std::process::ExitCode;
 use vm_port::Clock;
 
 // The words behind the program's name. Words that can't be had as text ask for nothing.
 fn words_given(rt: &HostRuntime) -> Result<Vec<String>, Status> {
-    let Ok(given) = env::args(rt) else {
-        return Err(Status::Usage);
+    let given = match env::args(rt) {
+        Ok(given) => given,
+        Err(e) if e.kind() == ErrorKind::OutOfMemory => return Err(Status::NoMemory),
+        Err(_) => return Err(Status::Usage),
     };
     let mut words = Vec::new(rt.alloc());
     for word in given.skip(1) {
