@@ -16,7 +16,7 @@ abbrev pub RoseAtMost : ℕ → ℕ → ℕ → Type 0
 RoseAtMost n before now = now < last_count → now ≤ before + n
 
 -- there were no more pulls and pushes than these
-pub record MadeAtMost (pulls pushes : ℕ) (before now : MapperCounts) : Type 0 where
+pub record TrafficAtMost (pulls pushes : ℕ) (before now : MapperCounts) : Type 0 where
   pub pulled : RoseAtMost pulls before.pulls now.pulls
   pub pushed : RoseAtMost pushes before.pushes now.pushes
 
@@ -40,7 +40,7 @@ Takes pulls frames p before now = Pulls pulls (frames - free_count p) before now
 
 -- there were no more than these
 abbrev pub TakesAtMost : ℕ → ℕ → Frames → MapperCounts → MapperCounts → Type 0
-TakesAtMost pulls frames p before now = MadeAtMost pulls (frames - free_count p) before now
+TakesAtMost pulls frames p before now = TrafficAtMost pulls (frames - free_count p) before now
 
 -- A copy of a page takes a pull and two frames where the page is in a slot or on its segment, and
 -- else the frame of the copy alone: a page of zeros needs no other.

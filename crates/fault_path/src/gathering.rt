@@ -43,7 +43,7 @@ fn make_free_beside<M: Mapper, C: Chooser>(
     ensures later { Later (M.counts mapper.old) (M.counts mapper.new) }
     ensures held { OnOk result (held_count store.new.frames + pushes_for store.old.frames.held
         ≡ held_count store.old.frames + 1) }
-    ensures made { Pulls 0 (pushes_for store.old.frames.held)
+    ensures traffic { Pulls 0 (pushes_for store.old.frames.held)
         (M.counts mapper.old) (M.counts mapper.new) }
     ensures cause { OnErr result (PushFailed (M.counts mapper.old) (M.counts mapper.new)) }
 {
@@ -77,7 +77,7 @@ pub(crate) fn double<M: Mapper, C: Chooser>(
     ensures later { Later (M.counts mapper.old) (M.counts mapper.new) }
     ensures held { OnOk result (held_count store.new.frames + pushes_for store.old.frames.held
         ≡ held_count store.old.frames + 1) }
-    ensures made { Pulls 0 (pushes_for store.old.frames.held)
+    ensures traffic { Pulls 0 (pushes_for store.old.frames.held)
         (M.counts mapper.old) (M.counts mapper.new) }
     ensures cause { OnErr result (PushFailed (M.counts mapper.old) (M.counts mapper.new)) }
 {
@@ -107,7 +107,7 @@ fn zeroed<M: Mapper, C: Chooser>(
     ensures later { Later (M.counts mapper.old) (M.counts mapper.new) }
     ensures held { OnOk result (held_count store.new.frames + pushes_for store.old.frames.held
         ≡ held_count store.old.frames + 1) }
-    ensures made { Pulls 0 (pushes_for store.old.frames.held)
+    ensures traffic { Pulls 0 (pushes_for store.old.frames.held)
         (M.counts mapper.old) (M.counts mapper.new) }
     ensures cause { IfErr result (HasMissCause (M.counts mapper.old) (M.counts mapper.new)) }
 {
@@ -139,7 +139,7 @@ fn brought_out<M: Mapper, C: Chooser>(
     ensures later { Later (M.counts mapper.old) (M.counts mapper.new) }
     ensures held { OnOk result (HoldsMore (frames_to_bring (own_of caches.old node) + 1)
         store.old.frames store.new.frames) }
-    ensures made { OnOk result (Takes
+    ensures traffic { OnOk result (Takes
         (pulls_to_copy (own_of caches.old node)) (frames_to_bring (own_of caches.old node) + 1)
         store.old.frames (M.counts mapper.old) (M.counts mapper.new)) }
     ensures most { TakesAtMost
@@ -175,7 +175,7 @@ pub(crate) fn copy_out<M: Mapper, C: Chooser>(
     ensures later { Later (M.counts mapper.old) (M.counts mapper.new) }
     ensures held { OnOk result (HoldsMore (frames_to_copy (own_of caches.old node))
         store.old.frames store.new.frames) }
-    ensures made { OnOk result (Takes
+    ensures traffic { OnOk result (Takes
         (pulls_to_copy (own_of caches.old node)) (frames_to_copy (own_of caches.old node))
         store.old.frames (M.counts mapper.old) (M.counts mapper.new)) }
     ensures most { TakesAtMost

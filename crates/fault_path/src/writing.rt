@@ -53,7 +53,7 @@ pub fn own<M: Mapper, C: Chooser>(
     ensures copies { OnOk result (caches.new.copies ≡ caches.old.copies + 1) }
     ensures missed { IfErr result (λ miss. Across (IsMissed miss) M.held M.page_bytes M.counts
         mapper.old caches.old store.old mapper.new caches.new store.new) }
-    ensures made { (o : NodeId) → IsOwner caches.old node o → OnOk result (Takes
+    ensures traffic { (o : NodeId) → IsOwner caches.old node o → OnOk result (Takes
         (pulls_to_copy (own_of caches.old o)) (frames_to_copy (own_of caches.old o))
         store.old.frames (M.counts mapper.old) (M.counts mapper.new)) }
     ensures most { TakesAtMost 1 2 store.old.frames (M.counts mapper.old) (M.counts mapper.new) }
@@ -89,7 +89,7 @@ fn own_framed<M: Mapper, C: Chooser>(
     ensures missed_drops { (o : NodeId) → IsOwner caches.old node o → OnErr result (Drops
         (MayCome caches.old o) caches.old store.old caches.new store.new) }
     ensures copies { OnOk result (caches.new.copies ≡ caches.old.copies + 1) }
-    ensures made { (o : NodeId) → IsOwner caches.old node o → OnOk result (Takes
+    ensures traffic { (o : NodeId) → IsOwner caches.old node o → OnOk result (Takes
         (pulls_to_copy (own_of caches.old o)) (frames_to_copy (own_of caches.old o))
         store.old.frames (M.counts mapper.old) (M.counts mapper.new)) }
     ensures most { TakesAtMost 1 2 store.old.frames (M.counts mapper.old) (M.counts mapper.new) }
@@ -124,7 +124,7 @@ pub fn save<M: Mapper, C: Chooser>(
         mapper.old caches.old store.old mapper.new caches.new store.new) }
     ensures drops { Drops (MayCome caches.old node) caches.old store.old caches.new store.new }
     ensures copies { OnOk result (caches.new.copies ≤ caches.old.copies + 1) }
-    ensures made { OnOk result (Takes
+    ensures traffic { OnOk result (Takes
         (pulls_to_save caches.old node) (frames_to_save caches.old node)
         store.old.frames (M.counts mapper.old) (M.counts mapper.new)) }
     ensures most { TakesAtMost 1 2 store.old.frames (M.counts mapper.old) (M.counts mapper.new) }
@@ -159,7 +159,7 @@ fn save_to_heir<M: Mapper, C: Chooser>(
     ensures missed_drops { OnErr result (Drops (MayCome caches.old node)
         caches.old store.old caches.new store.new) }
     ensures copies { OnOk result (caches.new.copies ≤ caches.old.copies + 1) }
-    ensures made { OnOk result (Takes
+    ensures traffic { OnOk result (Takes
         (pulls_to_save caches.old node) (frames_to_save caches.old node)
         store.old.frames (M.counts mapper.old) (M.counts mapper.new)) }
     ensures most { TakesAtMost 1 2 store.old.frames (M.counts mapper.old) (M.counts mapper.new) }
@@ -198,7 +198,7 @@ fn hand_over<M: Mapper, C: Chooser>(
     ensures missed_drops { OnErr result (Drops (MayCome caches.old node)
         caches.old store.old caches.new store.new) }
     ensures copies { OnOk result (caches.new.copies ≡ caches.old.copies + 1) }
-    ensures made { OnOk result (Takes
+    ensures traffic { OnOk result (Takes
         (pulls_to_copy (own_of caches.old node)) (frames_to_copy (own_of caches.old node))
         store.old.frames (M.counts mapper.old) (M.counts mapper.new)) }
     ensures most { TakesAtMost (pulls_to_copy (own_of caches.old node))
@@ -239,7 +239,7 @@ pub fn write_fault<M: Mapper, C: Chooser>(
         → Drops (MayCome caches.old o) caches.old store.old caches.new store.new }
     ensures alone { OnOk result (IsAlone caches.new (name_of caches.new node)) }
     ensures copies { OnOk result (caches.new.copies ≤ caches.old.copies + 2) }
-    ensures made { (o : NodeId) → IsOwner caches.old node o → OnOk result (Takes
+    ensures traffic { (o : NodeId) → IsOwner caches.old node o → OnOk result (Takes
         (pulls_to_write caches.old node o) (frames_to_write caches.old node o)
         store.old.frames (M.counts mapper.old) (M.counts mapper.new)) }
     ensures most { TakesAtMost 1 3 store.old.frames (M.counts mapper.old) (M.counts mapper.new) }
@@ -276,7 +276,7 @@ fn make_ready<M: Mapper, C: Chooser>(
     ensures missed_drops { (o : NodeId) → IsOwner caches.old node o → OnErr result (Drops
         (MayCome caches.old o) caches.old store.old caches.new store.new) }
     ensures copies { OnOk result (caches.new.copies ≤ caches.old.copies + 2) }
-    ensures made { (o : NodeId) → IsOwner caches.old node o → OnOk result (Takes
+    ensures traffic { (o : NodeId) → IsOwner caches.old node o → OnOk result (Takes
         (pulls_to_write caches.old node o) (frames_to_write caches.old node o)
         store.old.frames (M.counts mapper.old) (M.counts mapper.new)) }
     ensures most { TakesAtMost 1 3 store.old.frames (M.counts mapper.old) (M.counts mapper.new) }
@@ -322,7 +322,7 @@ fn own_and_hand<M: Mapper, C: Chooser>(
     ensures missed_drops { (o : NodeId) → IsOwner caches.old node o → OnErr result (Drops
         (MayCome caches.old o) caches.old store.old caches.new store.new) }
     ensures copies { OnOk result (caches.new.copies ≡ caches.old.copies + 2) }
-    ensures made { (o : NodeId) → IsOwner caches.old node o → OnOk result (Takes
+    ensures traffic { (o : NodeId) → IsOwner caches.old node o → OnOk result (Takes
         (pulls_to_copy (own_of caches.old o)) (frames_to_copy (own_of caches.old o) + 1)
         store.old.frames (M.counts mapper.old) (M.counts mapper.new)) }
     ensures most { TakesAtMost 1 3 store.old.frames (M.counts mapper.old) (M.counts mapper.new) }
@@ -367,7 +367,7 @@ fn hand_own<M: Mapper, C: Chooser>(
     ensures missed_drops { OnErr result (Drops (MayCome caches.old node)
         caches.old store.old caches.new store.new) }
     ensures copies { OnOk result (caches.new.copies ≡ caches.old.copies + 1) }
-    ensures made { OnOk result (Takes
+    ensures traffic { OnOk result (Takes
         (pulls_to_copy (own_of caches.old node)) (frames_to_bring (own_of caches.old node) + 1)
         store.old.frames (M.counts mapper.old) (M.counts mapper.new)) }
     ensures most { TakesAtMost 1 2 store.old.frames (M.counts mapper.old) (M.counts mapper.new) }
@@ -402,7 +402,7 @@ fn bring_dirty<M: Mapper, C: Chooser>(
     ensures missed_drops { OnErr result (Drops (MayCome caches.old node)
         caches.old store.old caches.new store.new) }
     ensures copies { OnOk result (caches.new.copies ≡ caches.old.copies) }
-    ensures made { OnOk result (Takes
+    ensures traffic { OnOk result (Takes
         (pulls_to_copy (own_of caches.old node)) (frames_to_bring (own_of caches.old node))
         store.old.frames (M.counts mapper.old) (M.counts mapper.new)) }
     ensures most { TakesAtMost 1 1 store.old.frames (M.counts mapper.old) (M.counts mapper.new) }

@@ -1,5 +1,5 @@
 -- Which translations are dropped from one moment to a later one.
-use Rattle.std.specs.Prelude.{◌≡◌, ℕ, Bool, true, false, not, ◌||◌, ◌⊎◌, List, Option, Some, None, map, slice_set}
+use Rattle.std.specs.Prelude.{◌≡◌, ℕ, Bool, true, false, not, ◌⊎◌, List, Option, Some, None, map, slice_set}
 use Rattle.vm_ids.specs.declared.node_name.NodeName.{NodeName}
 use Rattle.vm_ids.specs.declared.numbers.NodeId.{NodeId}
 use Rattle.global_map.specs.Pairs.{is_node, node_of}
@@ -23,15 +23,10 @@ loses (Some n) now = not (is_node n.0 now)
 abbrev pub lost : (old new : List (Option NodeId)) → ℕ → Bool
 lost old new frame = loses (node_of old frame) (node_of new frame)
 
--- no frame besides
-abbrev pub nothing_else : ℕ → Bool
-nothing_else frame = false
-
--- The translations of the frames that lost their node are dropped, and those of the frames that are
--- named besides. Every other one stays, at its place.
-abbrev pub TablesAfter : (also : ℕ → Bool) → (old new : Store) → Type 0
-TablesAfter also old new =
-    new.tables ≡ without (λ f. lost old.map new.map f || also f) old.tables
+-- The translations of the frames that lost their node are dropped. Every other one stays, at its
+-- place.
+abbrev pub TablesAfter : (old new : Store) → Type 0
+TablesAfter old new = new.tables ≡ without (lost old.map new.map) old.tables
 
 -- a frame has no node any more, and its translations are dropped
 pub record IsEmptied (frame : ℕ) (old new : Store) : Type 0 where

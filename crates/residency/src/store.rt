@@ -17,7 +17,7 @@ ghost use Rattle.residency.specs.Evicting.{HasLeft, IsEvicted, IsInSlot};
 ghost use Rattle.residency.specs.Frames.{evictable_count, free_frames, with_held, with_pinned};
 ghost use Rattle.residency.specs.Lending.{LendsFrame, LendsTables};
 ghost use Rattle.residency.specs.Pushing.{TellsOn};
-ghost use Rattle.residency.specs.Translating.{IsEmptied, TablesAfter, nothing_else};
+ghost use Rattle.residency.specs.Translating.{IsEmptied, TablesAfter};
 ghost use Rattle.residency.specs.World.{HasNoNodes, HasOwnPage, HoldsPage, HasUnpinned, IsAway, IsFrameOf, IsMadeFree, IsStoreRight, IsTaken, OthersStay, OthersStayBut, Still, StillBut, brought_in, is_clean, world};
 
 use crate::Miss;
@@ -248,7 +248,7 @@ impl Store {
             mapper.old caches.old self.old mapper.new caches.new self.new) }
         ensures free { OnOk result (self.new.frames.held
             ≡ slice_set self.old.frames.held frame.0 false) }
-        ensures tables { TablesAfter nothing_else self.old self.new }
+        ensures tables { TablesAfter self.old self.new }
         ensures failed { OnErr result (self.new ≡ self.old) }
         ensures failed_caches { OnErr result (caches.new ≡ caches.old) }
         ensures failed_dirty { OnErr result (dirty_in caches.old self.old.map frame.0 ≡ 1) }
@@ -376,7 +376,7 @@ impl Store {
             mapper.old caches.old self.old mapper.new caches.new self.new }
         ensures free { IfOk result (λ f. Between (IsMadeFree f.0) M.held M.page_bytes
             mapper.old caches.old self.old mapper.new caches.new self.new) }
-        ensures tables { TablesAfter nothing_else self.old self.new }
+        ensures tables { TablesAfter self.old self.new }
         ensures pinned { OnErr result (self.new.frames.pinned ≡ self.old.frames.pinned) }
         ensures held { OnOk result (held_count self.new.frames + pushes_for self.old.frames.held
             ≡ held_count self.old.frames + 1) }
@@ -387,7 +387,7 @@ impl Store {
         ensures idle { pushes_for self.old.frames.held ≡ 0 → mapper.new ≡ mapper.old }
         ensures idle_caches { pushes_for self.old.frames.held ≡ 0 → caches.new ≡ caches.old }
         ensures later { Later (M.counts mapper.old) (M.counts mapper.new) }
-        ensures made { Traffic 0
+        ensures traffic { Traffic 0
             (dirty_count caches.old - dirty_count caches.new + failed_pushes result)
             (M.counts mapper.old) (M.counts mapper.new) }
         ensures dirty { dirty_count caches.new ≤ dirty_count caches.old }
@@ -420,13 +420,13 @@ impl Store {
             mapper.old caches.old self.old mapper.new caches.new self.new }
         ensures free { IfOk result (λ f. Between (IsMadeFree f.0) M.held M.page_bytes
             mapper.old caches.old self.old mapper.new caches.new self.new) }
-        ensures tables { TablesAfter nothing_else self.old self.new }
+        ensures tables { TablesAfter self.old self.new }
         ensures pinned { OnErr result (self.new.frames.pinned ≡ self.old.frames.pinned) }
         ensures held { held_count self.new.frames ≡ held_count self.old.frames }
         ensures others { Between OthersStay M.held M.page_bytes
             mapper.old caches.old self.old mapper.new caches.new self.new }
         ensures later { Later (M.counts mapper.old) (M.counts mapper.new) }
-        ensures made { Traffic 0
+        ensures traffic { Traffic 0
             (dirty_count caches.old - dirty_count caches.new + failed_pushes result)
             (M.counts mapper.old) (M.counts mapper.new) }
         ensures dirty { dirty_count caches.new ≤ dirty_count caches.old }
@@ -471,13 +471,13 @@ impl Store {
             mapper.old caches.old self.old mapper.new caches.new self.new }
         ensures failed { OnErr result (Between OthersStay M.held M.page_bytes
             mapper.old caches.old self.old mapper.new caches.new self.new) }
-        ensures tables { TablesAfter nothing_else self.old self.new }
+        ensures tables { TablesAfter self.old self.new }
         ensures pinned { self.new.frames.pinned ≡ self.old.frames.pinned }
         ensures later { Later (M.counts mapper.old) (M.counts mapper.new) }
         ensures held { OnOk result (held_count self.new.frames
             + pushes_to_bring (own_of caches.old node) self.old.frames.held
             ≡ held_count self.old.frames + frames_to_bring (own_of caches.old node)) }
-        ensures made { Traffic (pulls_for result (own_of caches.old node))
+        ensures traffic { Traffic (pulls_for result (own_of caches.old node))
             (dirty_count caches.old + dirtied result (own_of caches.old node)
             - dirty_count caches.new + failed_victims result)
             (M.counts mapper.old) (M.counts mapper.new) }
@@ -518,12 +518,12 @@ impl Store {
             mapper.old caches.old self.old mapper.new caches.new self.new }
         ensures failed { OnErr result (Between OthersStay M.held M.page_bytes
             mapper.old caches.old self.old mapper.new caches.new self.new) }
-        ensures tables { TablesAfter nothing_else self.old self.new }
+        ensures tables { TablesAfter self.old self.new }
         ensures pinned { self.new.frames.pinned ≡ self.old.frames.pinned }
         ensures later { Later (M.counts mapper.old) (M.counts mapper.new) }
         ensures held { OnOk result (held_count self.new.frames + pushes_for self.old.frames.held
             ≡ held_count self.old.frames + 1) }
-        ensures made { Traffic (pulls_for result (own_of caches.old node))
+        ensures traffic { Traffic (pulls_for result (own_of caches.old node))
             (dirty_count caches.old + dirtied result (own_of caches.old node)
             - dirty_count caches.new + failed_victims result)
             (M.counts mapper.old) (M.counts mapper.new) }
@@ -571,7 +571,7 @@ impl Store {
         ensures pinned { self.new.frames.pinned ≡ slice_set self.old.frames.pinned frame.0 false }
         ensures later { Later (M.counts mapper.old) (M.counts mapper.new) }
         ensures held { OnOk result (self.new.frames.held ≡ self.old.frames.held) }
-        ensures made { Traffic (pulls_for result (own_of caches.old node)) 0
+        ensures traffic { Traffic (pulls_for result (own_of caches.old node)) 0
             (M.counts mapper.old) (M.counts mapper.new) }
         ensures dirty { dirty_count caches.new
             ≡ dirty_count caches.old + dirtied result (own_of caches.old node) }
@@ -623,7 +623,7 @@ impl Store {
         ensures pinned { self.new.frames.pinned ≡ slice_set self.old.frames.pinned frame.0 false }
         ensures later { Later (M.counts mapper.old) (M.counts mapper.new) }
         ensures held { OnOk result (self.new.frames.held ≡ self.old.frames.held) }
-        ensures made { Traffic 1 0 (M.counts mapper.old) (M.counts mapper.new) }
+        ensures traffic { Traffic 1 0 (M.counts mapper.old) (M.counts mapper.new) }
         ensures dirty { dirty_count caches.new
             ≡ dirty_count caches.old + dirtied result (own_of caches.old node) }
         ensures told { M.held mapper.new ≡ M.held mapper.old }
@@ -675,7 +675,7 @@ impl Store {
         ensures pinned { self.new.frames.pinned ≡ slice_set self.old.frames.pinned frame.0 false }
         ensures later { Later (M.counts mapper.old) (M.counts mapper.new) }
         ensures held { OnOk result (self.new.frames.held ≡ self.old.frames.held) }
-        ensures made { Traffic 1 0 (M.counts mapper.old) (M.counts mapper.new) }
+        ensures traffic { Traffic 1 0 (M.counts mapper.old) (M.counts mapper.new) }
         ensures dirty { dirty_count caches.new
             ≡ dirty_count caches.old + dirtied result (own_of caches.old node) }
         ensures told { M.held mapper.new ≡ M.held mapper.old }
@@ -745,12 +745,12 @@ impl Store {
         ensures failed { OnErr result (
             held_count self.old.frames
             < held_count self.new.frames + min count (evictable_count self.old.frames)) }
-        ensures tables { TablesAfter nothing_else self.old self.new }
+        ensures tables { TablesAfter self.old self.new }
         ensures pinned { self.new.frames.pinned ≡ self.old.frames.pinned }
         ensures others { Between OthersStay M.held M.page_bytes
             mapper.old caches.old self.old mapper.new caches.new self.new }
         ensures later { Later (M.counts mapper.old) (M.counts mapper.new) }
-        ensures made { Traffic 0
+        ensures traffic { Traffic 0
             (dirty_count caches.old - dirty_count caches.new + failed_pushes result)
             (M.counts mapper.old) (M.counts mapper.new) }
         ensures dirty { dirty_count caches.new ≤ dirty_count caches.old }

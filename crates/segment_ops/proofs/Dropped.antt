@@ -19,7 +19,7 @@ use Rattle.local_cache.specs.Sound.{IsSound}
 use Rattle.local_cache.proofs.Nodes.OwnStates.{held_or_absent, id_cases}
 use Rattle.residency.specs.declared.store.Store.{Store}
 use Rattle.residency.specs.StoreForest.{store_forest}
-use Rattle.residency.specs.Translating.{Drops, TablesAfter, nothing_else}
+use Rattle.residency.specs.Translating.{Drops, TablesAfter}
 use Rattle.residency.specs.World.{IsStoreRight, OthersStay, OthersStayBut, Still, World, own_page, world}
 use Rattle.residency.proofs.Forests.StillForest.{still_bare, still_like, still_tells}
 use Rattle.fault_path.specs.Faults.{IsOwner}
@@ -32,7 +32,7 @@ use Rattle.residency.proofs.Translations.Kept.{drops_more, still_drops, stays_dr
 use Rattle.segment_ops.proofs.Saves.{unowned_before}
 
 -- The page of node n is pushed, whose owner o may come to a frame.
-module _ (told now : Option Held) (size then : Option ℕ) (a b : Arena) (s t : Store) (n o : NodeId) (owner : IsOwner a n o) (right : IsStoreRight (world told size a s)) (still : Still (world told size a s) (world now then b t)) (tables : TablesAfter nothing_else s t) where
+module _ (told now : Option Held) (size then : Option ℕ) (a b : Arena) (s t : Store) (n o : NodeId) (owner : IsOwner a n o) (right : IsStoreRight (world told size a s)) (still : Still (world told size a s) (world now then b t)) (tables : TablesAfter s t) where
   pub owner_drops : (meanwhile : Option Held) (bytes : Option ℕ) (c : Arena) → OthersStayBut o (world told size a s) (world meanwhile bytes c t) → Drops (IsOwner a n) a s b t
   owner_drops meanwhile bytes c others = stays_drops told now size then a b s t right.tied still.stays tables (IsOwner a n) (λ f m at. elim (id_cases m o) [
     | inl e ↦ inr (subst (IsOwner a n) (sym e) owner)

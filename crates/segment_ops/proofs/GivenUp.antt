@@ -47,8 +47,8 @@ still_stays old new c d still whole pins later told =
     let kept = still_kept old new still whole.sound whole.consistent.shaped pins in
     record { kept = kept; whole = like_whole old.caches new.caches whole kept.nodes kept.sound kept.shaped; later = later; told = told }
 
-pub made_then : (a b c : MapperCounts) → Traffic 0 0 a b → Traffic 0 0 b c → Traffic 0 0 a c
-made_then a b c p q = record {
+pub traffic_then : (a b c : MapperCounts) → Traffic 0 0 a b → Traffic 0 0 b c → Traffic 0 0 a c
+traffic_then a b c p q = record {
   pulled = λ low. (let second : c.pulls ≡ b.pulls + 0 = q.pulled low in let first : b.pulls ≡ a.pulls + 0 = p.pulled (omega (arith, second, low)) in omega arith);
   pushed = λ low. (let second : c.pushes ≡ b.pushes + 0 = q.pushed low in let first : b.pushes ≡ a.pushes + 0 = p.pushed (omega (arith, second, low)) in omega arith);
 }

@@ -264,8 +264,8 @@ granted_allowed w right sound cache page segment some e granted =
 pub asked_later : {T E : Type 0} (a b c : MapperCounts) {r : Result T E} → Later a b → Counted 0 0 b c r → Later a c
 asked_later a b c p q = record { faults = omega (arith, p.faults, q.faults.later); pulls = omega (arith, p.pulls, q.pulls_later); pushes = omega (arith, p.pushes, q.pushes_later) }
 
-pub asked_made : {T E : Type 0} (a b c : MapperCounts) {r : Result T E} → Traffic 0 0 a b → Counted 0 0 b c r → Traffic 0 0 a c
-asked_made a b c p q = record {
+pub asked_traffic : {T E : Type 0} (a b c : MapperCounts) {r : Result T E} → Traffic 0 0 a b → Counted 0 0 b c r → Traffic 0 0 a c
+asked_traffic a b c p q = record {
   pulled = λ low. (let second : c.pulls ≡ b.pulls + 0 = q.pulled low in let first : b.pulls ≡ a.pulls + 0 = p.pulled (omega (arith, second, low)) in omega arith);
   pushed = λ low. (let second : c.pushes ≡ b.pushes + 0 = q.pushed low in let first : b.pushes ≡ a.pushes + 0 = p.pushed (omega (arith, second, low)) in omega arith);
 }

@@ -25,7 +25,7 @@ use Rattle.residency.specs.World.{IsStoreRight, Still, World, home_page, is_clea
 use Rattle.residency.proofs.Worlds.After.{absent_stays, held_stays}
 use Rattle.residency.proofs.Pushes.Outside.{home_elsewhere, home_here}
 use Rattle.residency.proofs.Forests.StillForest.{still_caches_sound, still_like}
-use Rattle.fault_path.specs.Costs.{MadeAtMost}
+use Rattle.fault_path.specs.Costs.{TrafficAtMost}
 use Rattle.fault_path.proofs.Calls.Kept.{still_shaped}
 use Rattle.segment_ops.specs.Pushing.{TellsValues, put_value, segments_with, value_bytes}
 use Rattle.segment_ops.specs.Synced.{AreSynced, CleanStays, IsSynced, is_settled, unclean, unclean_at, unclean_count}
@@ -198,13 +198,13 @@ count_up a cache first k (suc j) =
     let less = count_up a cache first k j in
     omega (arith, e, less)
 
-pub none_made : (a : Arena) (cache first : ℕ) (c : MapperCounts) → MadeAtMost (unclean_count a cache first (first - first)) (2 * unclean_count a cache first (first - first)) c c
-none_made a cache first c = record { pulled = λ low. omega arith; pushed = λ low. omega arith }
+pub no_traffic : (a : Arena) (cache first : ℕ) (c : MapperCounts) → TrafficAtMost (unclean_count a cache first (first - first)) (2 * unclean_count a cache first (first - first)) c c
+no_traffic a cache first c = record { pulled = λ low. omega arith; pushed = λ low. omega arith }
 
 -- the pages up to this one were pushed
 pub costs_then : (a : Arena) (range : Extent) (at : ℕ) (n : NodeId) (own : OwnState) (b c d : MapperCounts) → range.first.0 ≤ at → node_at a range.cache.0 at ≡ Some n → (is_clean (own_of a n) ≡ true → is_clean own ≡ true)
-    → MadeAtMost (unclean_count a range.cache.0 range.first.0 (at - range.first.0)) (2 * unclean_count a range.cache.0 range.first.0 (at - range.first.0)) b c → MadeAtMost (unclean own) (2 * unclean own) c d → Later c d
-    → MadeAtMost (unclean_count a range.cache.0 range.first.0 (at + 1 - range.first.0)) (2 * unclean_count a range.cache.0 range.first.0 (at + 1 - range.first.0)) b d
+    → TrafficAtMost (unclean_count a range.cache.0 range.first.0 (at - range.first.0)) (2 * unclean_count a range.cache.0 range.first.0 (at - range.first.0)) b c → TrafficAtMost (unclean own) (2 * unclean own) c d → Later c d
+    → TrafficAtMost (unclean_count a range.cache.0 range.first.0 (at + 1 - range.first.0)) (2 * unclean_count a range.cache.0 range.first.0 (at + 1 - range.first.0)) b d
 costs_then a range at n own b c d low here stays one two later =
     let k : at + 1 - range.first.0 ≡ suc (at - range.first.0) = omega (arith, low) in
     let place : range.first.0 + (at - range.first.0) ≡ at = omega (arith, low) in
@@ -217,13 +217,13 @@ costs_then a range at n own b c d low here stays one two later =
     }
 
 -- and no more of them are left out
-pub costs_most : (a : Arena) (range : Extent) (k : ℕ) (b c : MapperCounts) → k ≤ range.pages → MadeAtMost (unclean_count a range.cache.0 range.first.0 k) (2 * unclean_count a range.cache.0 range.first.0 k) b c
-    → MadeAtMost (unclean_count a range.cache.0 range.first.0 range.pages) (2 * unclean_count a range.cache.0 range.first.0 range.pages) b c
-costs_most a range k b c low made =
+pub costs_most : (a : Arena) (range : Extent) (k : ℕ) (b c : MapperCounts) → k ≤ range.pages → TrafficAtMost (unclean_count a range.cache.0 range.first.0 k) (2 * unclean_count a range.cache.0 range.first.0 k) b c
+    → TrafficAtMost (unclean_count a range.cache.0 range.first.0 range.pages) (2 * unclean_count a range.cache.0 range.first.0 range.pages) b c
+costs_most a range k b c low traffic =
     let all : (range.pages - k) + k ≡ range.pages = omega (arith, low) in
     let more = count_up a range.cache.0 range.first.0 k (range.pages - k) in
     let e = ap (unclean_count a range.cache.0 range.first.0) all in
     record {
-      pulled = λ below. (let it : c.pulls ≤ b.pulls + unclean_count a range.cache.0 range.first.0 k = made.pulled below in omega (arith, more, e));
-      pushed = λ below. (let it : c.pushes ≤ b.pushes + 2 * unclean_count a range.cache.0 range.first.0 k = made.pushed below in omega (arith, more, e));
+      pulled = λ below. (let it : c.pulls ≤ b.pulls + unclean_count a range.cache.0 range.first.0 k = traffic.pulled below in omega (arith, more, e));
+      pushed = λ below. (let it : c.pushes ≤ b.pushes + 2 * unclean_count a range.cache.0 range.first.0 k = traffic.pushed below in omega (arith, more, e));
     }

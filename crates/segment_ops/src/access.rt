@@ -41,7 +41,7 @@ pub fn write_access<M: Mapper>(
     ensures given { M.given mapper.new ≡ M.given mapper.old }
     ensures page_bytes { M.page_bytes mapper.new ≡ M.page_bytes mapper.old }
     ensures later { Later (M.counts mapper.old) (M.counts mapper.new) }
-    ensures made { Traffic 0 0 (M.counts mapper.old) (M.counts mapper.new) }
+    ensures traffic { Traffic 0 0 (M.counts mapper.old) (M.counts mapper.new) }
     ensures cause { OnErr result (
         Rose (M.counts mapper.old).faults (M.counts mapper.new).faults) }
     ensures idle { IsGranted caches.old range

@@ -12,7 +12,7 @@ ghost use Rattle.residency.specs.Causes.{Later, Traffic};
 ghost use Rattle.residency.specs.Translating.{Drops};
 ghost use Rattle.residency.specs.World.{HasUnpinned, OthersStay, Still, is_clean as is_page_clean, world};
 ghost use Rattle.fault_path.specs.Answers.{RightForest};
-ghost use Rattle.fault_path.specs.Costs.{MadeAtMost};
+ghost use Rattle.fault_path.specs.Costs.{TrafficAtMost};
 ghost use Rattle.fault_path.specs.Faults.{IsOwner, SameForest};
 ghost use Rattle.fault_path.specs.Translating.{Nobody};
 ghost use Rattle.segment_ops.specs.Keeping.{StaysWhole};
@@ -51,7 +51,7 @@ fn push_page<M: Mapper, C: Chooser>(
     ensures clean { CleanStays caches.old caches.new }
     ensures synced { OnOk result (IsSynced
         (world (M.held mapper.new) (M.page_bytes mapper.new) caches.new store.new) node) }
-    ensures most { MadeAtMost 1 2 (M.counts mapper.old) (M.counts mapper.new) }
+    ensures most { TrafficAtMost 1 2 (M.counts mapper.old) (M.counts mapper.new) }
     ensures cause { OnErr result (HasFailed (M.counts mapper.old) (M.counts mapper.new)) }
     ensures drops { Drops (IsOwner caches.old node) caches.old store.old caches.new store.new }
 {
@@ -97,7 +97,7 @@ fn sync_page<M: Mapper, C: Chooser>(
     ensures clean { CleanStays caches.old caches.new }
     ensures synced { OnOk result (IsSynced
         (world (M.held mapper.new) (M.page_bytes mapper.new) caches.new store.new) node) }
-    ensures most { MadeAtMost (unclean (own_of caches.old node))
+    ensures most { TrafficAtMost (unclean (own_of caches.old node))
         (2 * unclean (own_of caches.old node)) (M.counts mapper.old) (M.counts mapper.new) }
     ensures cause { OnErr result (HasFailed (M.counts mapper.old) (M.counts mapper.new)) }
     ensures drops { Drops (IsOwner caches.old node) caches.old store.old caches.new store.new }
@@ -133,7 +133,7 @@ fn push_pages<M: Mapper, C: Chooser>(
         (world (M.held mapper.new) (M.page_bytes mapper.new) caches.new store.new)) }
     ensures failed { IfErr result (λ page. IsPageOf range page.0 × AreSynced range page.0
         (world (M.held mapper.new) (M.page_bytes mapper.new) caches.new store.new)) }
-    ensures most { MadeAtMost
+    ensures most { TrafficAtMost
         (unclean_count caches.old range.cache.0 range.first.0 range.pages)
         (2 * unclean_count caches.old range.cache.0 range.first.0 range.pages)
         (M.counts mapper.old) (M.counts mapper.new) }
@@ -164,7 +164,7 @@ fn let_go<M: Mapper>(store: &mut Store, caches: &mut Caches, node: NodeId, mappe
     ensures held { M.held mapper.new ≡ M.held mapper.old }
     ensures pinned { store.new.frames.pinned ≡ store.old.frames.pinned }
     ensures later { Later (M.counts mapper.old) (M.counts mapper.new) }
-    ensures made { Traffic 0 0 (M.counts mapper.old) (M.counts mapper.new) }
+    ensures traffic { Traffic 0 0 (M.counts mapper.old) (M.counts mapper.new) }
     ensures out { is_resident (own_of caches.new node) ≡ false }
     ensures drops { Drops Nobody caches.old store.old caches.new store.new }
 {
@@ -188,7 +188,7 @@ fn give_up_pages<M: Mapper>(store: &mut Store, caches: &mut Caches, range: Exten
     ensures held { M.held mapper.new ≡ M.held mapper.old }
     ensures pinned { store.new.frames.pinned ≡ store.old.frames.pinned }
     ensures later { Later (M.counts mapper.old) (M.counts mapper.new) }
-    ensures made { Traffic 0 0 (M.counts mapper.old) (M.counts mapper.new) }
+    ensures traffic { Traffic 0 0 (M.counts mapper.old) (M.counts mapper.new) }
     ensures synced { AreSynced range (range.first.0 + range.pages)
         (world (M.held mapper.new) (M.page_bytes mapper.new) caches.new store.new) }
     ensures out { AreOut range caches.new }
@@ -232,7 +232,7 @@ pub fn push_range<M: Mapper, C: Chooser>(
     ensures out { give_up ≡ true → OnOk result (AreOut range caches.new) }
     ensures failed { IfErr result (λ page. IsPageOf range page.0 × AreSynced range page.0
         (world (M.held mapper.new) (M.page_bytes mapper.new) caches.new store.new)) }
-    ensures most { MadeAtMost
+    ensures most { TrafficAtMost
         (unclean_count caches.old range.cache.0 range.first.0 range.pages)
         (2 * unclean_count caches.old range.cache.0 range.first.0 range.pages)
         (M.counts mapper.old) (M.counts mapper.new) }

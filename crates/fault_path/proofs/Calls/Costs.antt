@@ -10,7 +10,7 @@ use Rattle.local_cache.specs.declared.own_state.OwnState.TheVariants.{Absent, Ze
 use Rattle.local_cache.specs.Own.{is_absent, is_resident}
 use Rattle.residency.specs.Causes.{Later, Traffic, frames_to_bring, pushes_for, pushes_to_bring}
 use Rattle.residency.specs.World.{is_pulled}
-use Rattle.fault_path.specs.Costs.{MadeAtMost, Pulls, Takes, TakesAtMost, frames_to_copy, pulls_to_copy}
+use Rattle.fault_path.specs.Costs.{TrafficAtMost, Pulls, Takes, TakesAtMost, frames_to_copy, pulls_to_copy}
 
 count_most : (xs : List Bool) → count_by (λ h. h) xs ≤ length xs
 count_most xs = count_by-le-length (λ h. h) xs
@@ -57,9 +57,9 @@ taken_then k before now after same e f = omega (arith, count_most before, count_
 
 -- a count of pushes that is told exactly is also told at most
 pub pulls_few : (p q pushes : ℕ) (a b : MapperCounts) → Traffic p q a b → q ≤ pushes → Pulls p pushes a b
-pulls_few p q pushes a b made f = record {
-  pulled = made.pulled;
-  pushed = λ low. (let it : b.pushes ≡ a.pushes + q = made.pushed low in omega (arith, it, f));
+pulls_few p q pushes a b traffic f = record {
+  pulled = traffic.pulled;
+  pushed = λ low. (let it : b.pushes ≡ a.pushes + q = traffic.pushed low in omega (arith, it, f));
 }
 
 pub pulls_then : (p q r s pulls pushes : ℕ) (a b c : MapperCounts) → Pulls p q a b → Pulls r s b c → Later b c → p + r ≡ pulls → q + s ≤ pushes → Pulls pulls pushes a c
@@ -75,27 +75,27 @@ pulls_more k p before now a b c same taken one two later =
     pulls_then p (k - (length before - count_by (λ h. h) before)) 0 (pushes_for now) p (k + 1 - (length before - count_by (λ h. h) before)) a b c one two later (omega arith) (omega (arith, pushes_then k before now same taken, pushes_free now))
 
 pub pulls_is : (p q pulls pushes : ℕ) (a b : MapperCounts) → Pulls p q a b → p ≡ pulls → q ≤ pushes → Pulls pulls pushes a b
-pulls_is p q pulls pushes a b made e f = record {
-  pulled = λ low. (let it : b.pulls ≡ a.pulls + p = made.pulled low in omega arith);
-  pushed = λ low. (let it : b.pushes ≤ a.pushes + q = made.pushed low in omega arith);
+pulls_is p q pulls pushes a b traffic e f = record {
+  pulled = λ low. (let it : b.pulls ≡ a.pulls + p = traffic.pulled low in omega arith);
+  pushed = λ low. (let it : b.pushes ≤ a.pushes + q = traffic.pushed low in omega arith);
 }
 
-pub most_then : (p q r s pulls pushes : ℕ) (a b c : MapperCounts) → Pulls p q a b → MadeAtMost r s b c → Later b c → p + r ≤ pulls → q + s ≤ pushes → MadeAtMost pulls pushes a c
+pub most_then : (p q r s pulls pushes : ℕ) (a b c : MapperCounts) → Pulls p q a b → TrafficAtMost r s b c → Later b c → p + r ≤ pulls → q + s ≤ pushes → TrafficAtMost pulls pushes a c
 most_then p q r s pulls pushes a b c one two later e f = record {
   pulled = λ low. (let first : b.pulls ≡ a.pulls + p = one.pulled (omega (arith, later.pulls, low)) in let second : c.pulls ≤ b.pulls + r = two.pulled low in omega arith);
   pushed = λ low. (let first : b.pushes ≤ a.pushes + q = one.pushed (omega (arith, later.pushes, low)) in let second : c.pushes ≤ b.pushes + s = two.pushed low in omega arith);
 }
 
-pub pulls_most : (p q pulls pushes : ℕ) (a b : MapperCounts) → Pulls p q a b → p ≤ pulls → q ≤ pushes → MadeAtMost pulls pushes a b
-pulls_most p q pulls pushes a b made e f = record {
-  pulled = λ low. (let it : b.pulls ≡ a.pulls + p = made.pulled low in omega arith);
-  pushed = λ low. (let it : b.pushes ≤ a.pushes + q = made.pushed low in omega arith);
+pub pulls_most : (p q pulls pushes : ℕ) (a b : MapperCounts) → Pulls p q a b → p ≤ pulls → q ≤ pushes → TrafficAtMost pulls pushes a b
+pulls_most p q pulls pushes a b traffic e f = record {
+  pulled = λ low. (let it : b.pulls ≡ a.pulls + p = traffic.pulled low in omega arith);
+  pushed = λ low. (let it : b.pushes ≤ a.pushes + q = traffic.pushed low in omega arith);
 }
 
-pub most_more : (p q pulls pushes : ℕ) (a b : MapperCounts) → MadeAtMost p q a b → p ≤ pulls → q ≤ pushes → MadeAtMost pulls pushes a b
-most_more p q pulls pushes a b made e f = record {
-  pulled = λ low. (let it : b.pulls ≤ a.pulls + p = made.pulled low in omega arith);
-  pushed = λ low. (let it : b.pushes ≤ a.pushes + q = made.pushed low in omega arith);
+pub most_more : (p q pulls pushes : ℕ) (a b : MapperCounts) → TrafficAtMost p q a b → p ≤ pulls → q ≤ pushes → TrafficAtMost pulls pushes a b
+most_more p q pulls pushes a b traffic e f = record {
+  pulled = λ low. (let it : b.pulls ≤ a.pulls + p = traffic.pulled low in omega arith);
+  pushed = λ low. (let it : b.pushes ≤ a.pushes + q = traffic.pushed low in omega arith);
 }
 
 -- a pull fails or was not tried
@@ -139,17 +139,17 @@ module _ (own : OwnState) (before now : Frames) (x y : MapperCounts) (same : len
   pub brought_taken : Taken (frames_to_bring own) before.held now.held
   brought_taken = taken_to_bring own before.held now.held held
 
-  pub brought_made : Takes (pulls_to_copy own) (frames_to_bring own) before x y
-  brought_made = pulls_few _ _ _ _ _ brought (omega (arith, few, pushes_bring own before.held))
+  pub brought_traffic : Takes (pulls_to_copy own) (frames_to_bring own) before x y
+  brought_traffic = pulls_few _ _ _ _ _ brought (omega (arith, few, pushes_bring own before.held))
 
   pub brought_more : (z : MapperCounts) → Pulls 0 (pushes_for now.held) y z → Later y z → Takes (pulls_to_copy own) (frames_to_bring own + 1) before x z
-  brought_more z one later = pulls_more (frames_to_bring own) (pulls_to_copy own) before.held now.held x y z same brought_taken brought_made one later
+  brought_more z one later = pulls_more (frames_to_bring own) (pulls_to_copy own) before.held now.held x y z same brought_taken brought_traffic one later
 
 -- it failed to be brought in
 pub failed_most : (own : OwnState) (before : Frames) (b : Bool) (pushes : ℕ) (x y : MapperCounts) → Traffic (cond {A = ℕ} b 0 (cond {A = ℕ} (is_pulled own) 1 0)) pushes x y → pushes ≤ pushes_to_bring own before.held
     → TakesAtMost (pulls_to_copy own) (frames_to_bring own) before x y
-failed_most own before b pushes x y made few = pulls_most _ _ _ _ _ _ (pulls_few _ _ _ _ _ made few) (tried_most b own) (omega (arith, pushes_bring own before.held))
+failed_most own before b pushes x y traffic few = pulls_most _ _ _ _ _ _ (pulls_few _ _ _ _ _ traffic few) (tried_most b own) (omega (arith, pushes_bring own before.held))
 
 -- a copy of a resident page takes the one frame
 pub resident_takes : (own : OwnState) (now : Frames) (y z : MapperCounts) → is_resident own ≡ true → Takes (pulls_to_copy own) (frames_to_copy own) now y z → Pulls 0 (pushes_for now.held) y z
-resident_takes own now y z e made = let one = resident_copies own e in pulls_is _ _ _ _ _ _ made one.0 (omega (arith, one.1, pushes_free now.held))
+resident_takes own now y z e traffic = let one = resident_copies own e in pulls_is _ _ _ _ _ _ traffic one.0 (omega (arith, one.1, pushes_free now.held))

@@ -18,11 +18,11 @@ use Rattle.local_cache.proofs.Forest.Reading.{forest_of-by}
 use Rattle.local_cache.proofs.Nodes.OwnStates.{id_cases}
 use Rattle.residency.specs.declared.store.Store.{Store}
 use Rattle.residency.specs.Seeing.{IsAlone, seen_in}
-use Rattle.residency.specs.Translating.{Drops, TablesAfter, loses, lost, nothing_else, without}
+use Rattle.residency.specs.Translating.{Drops, TablesAfter, loses, lost, without}
 use Rattle.residency.specs.World.{ArePlaced, IsTied, OthersStay, OthersStayBut, PagesStay, SameNodes, world}
 use Rattle.residency.proofs.Forests.StillForest.{same_forest_by}
 use Rattle.residency.proofs.Translations.Dropped.{twice}
-use Rattle.residency.proofs.Translations.Lost.{else_nothing, loses_same, tables_same}
+use Rattle.residency.proofs.Translations.Lost.{loses_same, tables_same}
 use Rattle.residency.proofs.Translations.Owners.{by-map, number_page, owner_seen, owners, seen_owner}
 use Rattle.residency.proofs.Worlds.Nodes.{same}
 use Rattle.residency.proofs.Worlds.Telling.{tells}
@@ -81,23 +81,23 @@ alone_bare a b same x p = record {
 module _ (a b : Arena) (s t : Store) where
   -- where own states alone changed, and frames that lost their nodes alone are dropped
   pub kept_drops : (came : NodeId → Type 0) → ArePlaced a s.frames s.slots s.map → ArePlaced b t.frames t.slots t.map → SameNodes a b → ((n : NodeId) → is_some (state_page b n) ≡ is_some (state_page a n))
-      → TablesAfter nothing_else s t → ((f : ℕ) (n : NodeId) → node_of t.map f ≡ Some n → (node_of s.map f ≡ Some n) ⊎ came n) → Drops came a s b t
+      → TablesAfter s t → ((f : ℕ) (n : NodeId) → node_of t.map f ≡ Some n → (node_of s.map f ≡ Some n) ⊎ came n) → Drops came a s b t
   kept_drops came was is same alike tables comes = record {
-    frames = λ f. lost s.map t.map f || nothing_else f;
+    frames = lost s.map t.map;
     tables = tables;
     seen = λ x f kept. seen_still a b s t was is x f (λ n owns at. (
       ap (λ g. value_of g x) (owners_same a b same alike) ∙ owns,
-      kept_node n (node_of s.map f) (node_of t.map f) (sym (else_nothing s.map t.map f) ∙ kept) at,
+      kept_node n (node_of s.map f) (node_of t.map f) kept at,
     ));
     alone = alone_bare a b (bare_same a b same alike);
-    only = λ f n h at. inl (sym (else_nothing s.map t.map f) ∙ h);
+    only = λ f n h at. inl h;
     comes = comes;
   }
 
 some_bound : (m : List (Option NodeId)) (f : ℕ) (n : NodeId) → node_of m f ≡ Some n → is_some (node_of m f) ≡ true
 some_bound m f n e = ap is_some e
 
-module _ (told now : Option Held) (size then : Option ℕ) (a b : Arena) (s t : Store) (tied : IsTied (world told size a s)) (stays : PagesStay (world told size a s) (world now then b t)) (tables : TablesAfter nothing_else s t) where
+module _ (told now : Option Held) (size then : Option ℕ) (a b : Arena) (s t : Store) (tied : IsTied (world told size a s)) (stays : PagesStay (world told size a s) (world now then b t)) (tables : TablesAfter s t) where
   pub same_pages : (n : NodeId) → is_some (state_page b n) ≡ is_some (state_page a n)
   same_pages n = sym (tells (world now then b t) n) ∙ ap is_some (stays.pages n) ∙ tells (world told size a s) n
 

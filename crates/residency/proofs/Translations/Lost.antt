@@ -8,7 +8,7 @@ use Rattle.vm_ids.proofs.Places.{count_cons, none_passes, other_number, same_num
 use Rattle.global_map.specs.Pairs.{bound_times, is_node, node_of}
 use Rattle.page_tables.specs.declared.entry.Entry.{Entry}
 use Rattle.residency.specs.declared.store.Store.{Store}
-use Rattle.residency.specs.Translating.{IsEmptied, TablesAfter, loses, lost, nothing_else, without}
+use Rattle.residency.specs.Translating.{IsEmptied, TablesAfter, loses, lost, without}
 use Rattle.residency.specs.World.{OthersStay, World}
 use Rattle.residency.proofs.Translations.Dropped.{twice, without_as, without_none}
 
@@ -17,39 +17,32 @@ pub loses_same : (x : Option NodeId) → loses x x ≡ false
 loses_same None = refl
 loses_same (Some n) = ap not (same_number n.0)
 
-or_false : (b : Bool) → (b || false) ≡ b
-or_false true = refl
-or_false false = refl
-
-pub else_nothing : (old new : List (Option NodeId)) (f : ℕ) → (lost old new f || nothing_else f) ≡ lost old new f
-else_nothing old new f = or_false (lost old new f)
-
 -- where the map and the tables are as they were
-pub tables_same : (a b : Store) → b.map ≡ a.map → b.tables ≡ a.tables → TablesAfter nothing_else a b
+pub tables_same : (a b : Store) → b.map ≡ a.map → b.tables ≡ a.tables → TablesAfter a b
 tables_same a b map tables =
     tables ∙ sym (without_none a.tables)
-    ∙ without_as (λ f. false) (λ f. lost a.map b.map f || nothing_else f) a.tables
-    (λ f. sym (else_nothing a.map b.map f ∙ ap (λ (m : List (Option NodeId)). lost a.map m f) map ∙ loses_same (node_of a.map f)))
+    ∙ without_as (λ f. false) (lost a.map b.map) a.tables
+    (λ f. sym (ap (λ (m : List (Option NodeId)). lost a.map m f) map ∙ loses_same (node_of a.map f)))
 
 loses_some : (x : Option NodeId) → is_some x ≡ true → loses x None ≡ true
 loses_some None h = absurd (cc)
 loses_some (Some n) h = refl
 
-emptied_at : (m : List (Option NodeId)) (f g : ℕ) → f < length m → is_some (node_of m f) ≡ true → (lost m (set m f None) g || nothing_else g) ≡ (g == f)
+emptied_at : (m : List (Option NodeId)) (f g : ℕ) → f < length m → is_some (node_of m f) ≡ true → lost m (set m f None) g ≡ (g == f)
 emptied_at m f g within some = elim (cases_eq g f) [
   | inl e ↦ (
       let gone : node_of (set m f None) g ≡ None = ap (λ (k : ℕ). node_of (set m f None) k) e ∙ get_or-set_same m f None None within in
       let had : is_some (node_of m g) ≡ true = ap (λ (k : ℕ). is_some (node_of m k)) e ∙ some in
-      else_nothing m (set m f None) g ∙ ap (loses (node_of m g)) gone ∙ loses_some (node_of m g) had ∙ sym (ap (λ (k : ℕ). k == f) e ∙ same_number f))
+      ap (loses (node_of m g)) gone ∙ loses_some (node_of m g) had ∙ sym (ap (λ (k : ℕ). k == f) e ∙ same_number f))
   | inr d ↦ (
-      else_nothing m (set m f None) g ∙ ap (loses (node_of m g)) (get_or-set_other m f g None None d) ∙ loses_same (node_of m g) ∙ sym (other_number g f d))
+      ap (loses (node_of m g)) (get_or-set_other m f g None None d) ∙ loses_same (node_of m g) ∙ sym (other_number g f d))
 ]
 
 -- where one frame has no node any more
-pub tables_emptied : (f : ℕ) (a b : Store) → f < length a.map → is_some (node_of a.map f) ≡ true → IsEmptied f a b → TablesAfter nothing_else a b
+pub tables_emptied : (f : ℕ) (a b : Store) → f < length a.map → is_some (node_of a.map f) ≡ true → IsEmptied f a b → TablesAfter a b
 tables_emptied f a b within some e =
-    e.tables_are ∙ without_as (λ g. g == f) (λ g. lost a.map b.map g || nothing_else g) a.tables
-    (λ g. sym (ap (λ (m : List (Option NodeId)). lost a.map m g || nothing_else g) e.map_is ∙ emptied_at a.map f g within some))
+    e.tables_are ∙ without_as (λ g. g == f) (lost a.map b.map) a.tables
+    (λ g. sym (ap (λ (m : List (Option NodeId)). lost a.map m g) e.map_is ∙ emptied_at a.map f g within some))
 
 -- where each frame that has a node has kept it, first and then again
 loses_then : (x y z : Option NodeId) → (is_some y ≡ true → y ≡ x) → (is_some z ≡ true → z ≡ y) → (loses x y || loses y z) ≡ loses x z
@@ -64,13 +57,12 @@ pub lost_then : (a b c : World) → OthersStay a b → OthersStay b c → (f : �
 lost_then a b c p q f = loses_then (node_of a.map f) (node_of b.map f) (node_of c.map f) (λ s. (p.frames f s).node) (λ s. (q.frames f s).node)
 
 -- two such moments
-pub tables_then : (a b c : Store) → ((f : ℕ) → (lost a.map b.map f || lost b.map c.map f) ≡ lost a.map c.map f) → TablesAfter nothing_else a b → TablesAfter nothing_else b c
-    → TablesAfter nothing_else a c
+pub tables_then : (a b c : Store) → ((f : ℕ) → (lost a.map b.map f || lost b.map c.map f) ≡ lost a.map c.map f) → TablesAfter a b → TablesAfter b c
+    → TablesAfter a c
 tables_then a b c as_one p q =
-    q ∙ ap (λ (t : List (Option Entry)). without (λ f. lost b.map c.map f || nothing_else f) t) p
-    ∙ twice (λ f. lost a.map b.map f || nothing_else f) (λ f. lost b.map c.map f || nothing_else f) a.tables
-    ∙ without_as (λ f. (lost a.map b.map f || nothing_else f) || (lost b.map c.map f || nothing_else f)) (λ f. lost a.map c.map f || nothing_else f) a.tables
-    (λ f. (λ i. else_nothing a.map b.map f i || else_nothing b.map c.map f i) ∙ as_one f ∙ sym (else_nothing a.map c.map f))
+    q ∙ ap (without (lost b.map c.map)) p
+    ∙ twice (lost a.map b.map) (lost b.map c.map) a.tables
+    ∙ without_as (λ f. lost a.map b.map f || lost b.map c.map f) (lost a.map c.map) a.tables as_one
 
 -- a node that was in no frame comes to one that has none
 loses_to : (n : NodeId) (x : Option NodeId) → is_node n.0 x ≡ false → loses x (Some n) ≡ loses x None
@@ -92,12 +84,12 @@ lost_to m old k n none free within f = elim (cases_eq f k) [
 ]
 
 -- the tables after a node came to a free frame, or after nothing did
-pub tables_to : (also : ℕ → Bool) (a b c : Store) → ((f : ℕ) → lost a.map c.map f ≡ lost a.map b.map f) → c.tables ≡ b.tables → TablesAfter also a b → TablesAfter also a c
-tables_to also a b c as_much same p =
-    same ∙ p ∙ without_as (λ f. lost a.map b.map f || also f) (λ f. lost a.map c.map f || also f) a.tables (λ f. ap (λ (l : Bool). l || also f) (sym (as_much f)))
+pub tables_to : (a b c : Store) → ((f : ℕ) → lost a.map c.map f ≡ lost a.map b.map f) → c.tables ≡ b.tables → TablesAfter a b → TablesAfter a c
+tables_to a b c as_much same p =
+    same ∙ p ∙ without_as (lost a.map b.map) (lost a.map c.map) a.tables (λ f. sym (as_much f))
 
 -- the same where an eviction may have failed
-pub evicts_tables : {T E : Type 0} (r : Result T E) (f : ℕ) (a b : Store) → f < length a.map → is_some (node_of a.map f) ≡ true → OnOk r (IsEmptied f a b) → OnErr r (b ≡ a) → TablesAfter nothing_else a b
+pub evicts_tables : {T E : Type 0} (r : Result T E) (f : ℕ) (a b : Store) → f < length a.map → is_some (node_of a.map f) ≡ true → OnOk r (IsEmptied f a b) → OnErr r (b ≡ a) → TablesAfter a b
 evicts_tables (Ok x) f a b within some ok err = tables_emptied f a b within some ok
 evicts_tables (Err x) f a b within some ok err = tables_same a b (ap (λ (s : Store). s.map) err) (ap (λ (s : Store). s.tables) err)
 

@@ -39,35 +39,35 @@ returns-clause-held g c =
     let own : OwnState = own_of c.args.caches.now c.args.node in
     let b = c.in_ok-home.ensures in
     let first = b.still in
-    let taken = brought_taken own c.args.store.now.frames c.bring_in.new.self.frames _ _ first.stays.frames b.held _ b.made b.few in
+    let taken = brought_taken own c.args.store.now.frames c.bring_in.new.self.frames _ _ first.stays.frames b.held _ b.traffic b.few in
     taken_then (frames_to_bring own) c.args.store.now.frames.held c.bring_in.new.self.frames.held c.double.new.store.frames.held first.stays.frames taken c.in-Ok.ensures.held
 
-pub returns-clause-made : goal.returns-clause-made
-returns-clause-made g c =
+pub returns-clause-traffic : goal.returns-clause-traffic
+returns-clause-traffic g c =
     let own : OwnState = own_of c.args.caches.now c.args.node in
     let b = c.in_ok-home.ensures in
     let first = b.still in
-    brought_more own c.args.store.now.frames c.bring_in.new.self.frames _ _ first.stays.frames b.held _ b.made b.few _ c.double.ensures.made c.double.ensures.later
+    brought_more own c.args.store.now.frames c.bring_in.new.self.frames _ _ first.stays.frames b.held _ b.traffic b.few _ c.double.ensures.traffic c.double.ensures.later
 
 pub returns-clause-most : goal.returns-clause-most
 returns-clause-most g c =
     let own : OwnState = own_of c.args.caches.now c.args.node in
     let b = c.in_ok-home.ensures in
     let first = b.still in
-    pulls_most _ _ _ _ _ _ (brought_more own c.args.store.now.frames c.bring_in.new.self.frames _ _ first.stays.frames b.held _ b.made b.few _ c.double.ensures.made c.double.ensures.later) (omega arith) (omega arith)
+    pulls_most _ _ _ _ _ _ (brought_more own c.args.store.now.frames c.bring_in.new.self.frames _ _ first.stays.frames b.held _ b.traffic b.few _ c.double.ensures.traffic c.double.ensures.later) (omega arith) (omega arith)
 
 pub returns-in_default-clause-most : goal.returns-in_default-clause-most
 returns-in_default-clause-most g c =
     let own : OwnState = own_of c.args.caches.now c.args.node in
     let b = c.in_ok-home.ensures in
     let first = b.still in
-    pulls_most _ _ _ _ _ _ (brought_more own c.args.store.now.frames c.bring_in.new.self.frames _ _ first.stays.frames b.held _ b.made b.few _ c.double.ensures.made c.double.ensures.later) (omega arith) (omega arith)
+    pulls_most _ _ _ _ _ _ (brought_more own c.args.store.now.frames c.bring_in.new.self.frames _ _ first.stays.frames b.held _ b.traffic b.few _ c.double.ensures.traffic c.double.ensures.later) (omega arith) (omega arith)
 
 pub returns-in_err-home-clause-most : goal.returns-in_err-home-clause-most
 returns-in_err-home-clause-most g c =
     let own : OwnState = own_of c.args.caches.now c.args.node in
     let e = c.in_err-home.ensures in
-    let most = failed_most own c.args.store.now.frames _ _ _ _ e.made e.few in
+    let most = failed_most own c.args.store.now.frames _ _ _ _ e.traffic e.few in
     most_more _ _ _ _ _ _ most (omega arith) (omega arith)
 
 pub returns-clause-told : goal.returns-clause-told

@@ -20,19 +20,19 @@ returns-in-Zero-clause-held g c =
     (held_count c.zeroed.new.store.frames + (frames_to_copy own - free_count c.args.store.now.frames) ≡ held_count c.args.store.now.frames + frames_to_copy own) c.zeroed.result
     (λ h. omega (arith, one, pushes_free c.args.store.now.frames.held)) c.zeroed.ensures.held
 
-pub returns-in-Zero-clause-made : goal.returns-in-Zero-clause-made
-returns-in-Zero-clause-made g c =
+pub returns-in-Zero-clause-traffic : goal.returns-in-Zero-clause-traffic
+returns-in-Zero-clause-traffic g c =
     let own : OwnState = own_of c.args.caches.now c.args.node in
     let zero : own ≡ Zero = sym c.own_state.ensures ∙ c.in-Zero.is in
     let one : frames_to_copy own ≡ 1 = ap frames_to_copy zero in
-    on_ok _ c.zeroed.result (pulls_is _ _ _ _ _ _ c.zeroed.ensures.made (sym (ap pulls_to_copy zero)) (omega (arith, one, pushes_free c.args.store.now.frames.held)))
+    on_ok _ c.zeroed.result (pulls_is _ _ _ _ _ _ c.zeroed.ensures.traffic (sym (ap pulls_to_copy zero)) (omega (arith, one, pushes_free c.args.store.now.frames.held)))
 
 pub returns-in-Zero-clause-most : goal.returns-in-Zero-clause-most
 returns-in-Zero-clause-most g c =
     let own : OwnState = own_of c.args.caches.now c.args.node in
     let zero : own ≡ Zero = sym c.own_state.ensures ∙ c.in-Zero.is in
     let one : frames_to_copy own ≡ 1 = ap frames_to_copy zero in
-    pulls_most _ _ _ _ _ _ c.zeroed.ensures.made (omega arith) (omega (arith, one, pushes_free c.args.store.now.frames.held))
+    pulls_most _ _ _ _ _ _ c.zeroed.ensures.traffic (omega arith) (omega (arith, one, pushes_free c.args.store.now.frames.held))
 
 pub returns-in-Zero-clause-drops : goal.returns-in-Zero-clause-drops
 returns-in-Zero-clause-drops g c = drops_more Nobody (λ n. n ≡ c.args.node) c.args.caches.now c.zeroed.new.caches c.args.store.now c.zeroed.new.store (λ n e. absurd e) c.zeroed.ensures.drops

@@ -9,7 +9,7 @@ use Rattle.fault_path.specs.Gathering.{IsGathered, NoneGathered}
 use Rattle.residency.proofs.Worlds.Arms.{if_ok, on_err_then}
 use Rattle.fault_path.proofs.Frames.GatheredFrames.{beside_gathered, beside_none, beside_still, beside_told}
 use Rattle.residency.specs.Frames.{with_pinned}
-use Rattle.residency.specs.Translating.{Drops, TablesAfter, nothing_else}
+use Rattle.residency.specs.Translating.{Drops, TablesAfter}
 use Rattle.residency.proofs.Translations.Kept.{still_drops, stays_drops}
 use Rattle.fault_path.specs.Translating.{Nobody}
 use Rattle.fault_path.proofs.gathering.make_free_beside.Goals as goal
@@ -69,7 +69,7 @@ returns-clause-drops g c =
     let still : Still (pin_set old c.args.frame.0 true) w = subst (λ (s : Store). Still (pinned s) w) c.pin.ensures c.make_free-fresh.ensures.still in
     let whole = beside_still old w c.args.frame.0 c.requires.right c.requires.held loose still in
     let loosed : Store = record c.make_free-fresh.new.self { frames = with_pinned c.make_free-fresh.new.self.frames c.args.frame.0 false } in
-    let tables : TablesAfter nothing_else c.args.store.now loosed = subst (λ (s : Store). TablesAfter nothing_else s loosed) c.pin.ensures c.make_free-fresh.ensures.tables in
+    let tables : TablesAfter c.args.store.now loosed = subst (λ (s : Store). TablesAfter s loosed) c.pin.ensures c.make_free-fresh.ensures.tables in
     subst (λ (s : Store). Drops Nobody c.args.caches.now c.args.store.now c.make_free-fresh.new.caches s) (sym c.unpin.ensures)
     (stays_drops _ _ _ _ c.args.caches.now c.make_free-fresh.new.caches c.args.store.now loosed c.requires.right.tied whole.stays tables Nobody
     (λ f n at. inl (sym (ap (λ (s : Store). node_of s.map f) c.pin.ensures) ∙ sym (c.make_free-fresh.ensures.others.frames f (ap is_some at)).node ∙ at)))

@@ -107,23 +107,23 @@ returns-in-Err-clause-idle g c =
     let idle = e.idle resident in
     idle)
 
-pub returns-in-Ok-clause-made : goal.returns-in-Ok-clause-made
-returns-in-Ok-clause-made g c =
+pub returns-in-Ok-clause-traffic : goal.returns-in-Ok-clause-traffic
+returns-in-Ok-clause-traffic g c =
     let it : NodeId = c.owner_of-owner.result in
     let owner : IsOwner c.args.caches.now c.args.node it = record { held = c.owner_of-owner.ensures.held; name = c.owner_of-owner.ensures.owner } in
     let zero : is_zero (own_of c.args.caches.now it) ≡ false = sym c.is_zero.ensures ∙ c.if-is_zero.false in
     let e = c.in-Ok.ensures in
     λ o is out. subst (λ (m : NodeId). Traffic (pulls_for {T = FrameId} (Ok c.in-Ok.frame) (own_of c.args.caches.now m)) (dirty_count c.args.caches.now + dirtied {T = FrameId} {E = Miss} (Ok c.in-Ok.frame) (own_of c.args.caches.now m) - dirty_count c.bring_in.new.caches + failed_victims {T = FrameId} (Ok c.in-Ok.frame)) (g.M.Mapper.counts c.args.mapper.now) (g.M.Mapper.counts c.bring_in.new.mapper))
-    (sym (owner_same c.args.caches.now c.requires.right.sound c.args.node o it is owner)) e.made
+    (sym (owner_same c.args.caches.now c.requires.right.sound c.args.node o it is owner)) e.traffic
 
-pub returns-in-Err-clause-made : goal.returns-in-Err-clause-made
-returns-in-Err-clause-made g c =
+pub returns-in-Err-clause-traffic : goal.returns-in-Err-clause-traffic
+returns-in-Err-clause-traffic g c =
     let it : NodeId = c.owner_of-owner.result in
     let owner : IsOwner c.args.caches.now c.args.node it = record { held = c.owner_of-owner.ensures.held; name = c.owner_of-owner.ensures.owner } in
     let zero : is_zero (own_of c.args.caches.now it) ≡ false = sym c.is_zero.ensures ∙ c.if-is_zero.false in
     let e = c.in-Err.ensures in
     λ o is out. subst (λ (m : NodeId). Traffic (pulls_for {T = FrameId} (Err c.in-Err.miss) (own_of c.args.caches.now m)) (dirty_count c.args.caches.now + dirtied {T = FrameId} {E = Miss} (Err c.in-Err.miss) (own_of c.args.caches.now m) - dirty_count c.bring_in.new.caches + failed_victims {T = FrameId} (Err c.in-Err.miss)) (g.M.Mapper.counts c.args.mapper.now) (g.M.Mapper.counts c.bring_in.new.mapper))
-    (sym (owner_same c.args.caches.now c.requires.right.sound c.args.node o it is owner)) e.made
+    (sym (owner_same c.args.caches.now c.requires.right.sound c.args.node o it is owner)) e.traffic
 
 pub returns-in-Ok-clause-few : goal.returns-in-Ok-clause-few
 returns-in-Ok-clause-few g c =
@@ -141,8 +141,8 @@ returns-in-Err-clause-few g c =
     λ o is out. subst (λ (m : NodeId). dirty_count c.args.caches.now + dirtied {T = FrameId} {E = Miss} (Err c.in-Err.miss) (own_of c.args.caches.now m) - dirty_count c.bring_in.new.caches + failed_victims {T = FrameId} (Err c.in-Err.miss) ≤ pushes_to_bring (own_of c.args.caches.now m) c.args.store.now.frames.held)
     (sym (owner_same c.args.caches.now c.requires.right.sound c.args.node o it is owner)) e.few
 
-pub returns-then-is_zero-clause-made : goal.returns-then-is_zero-clause-made
-returns-then-is_zero-clause-made g c =
+pub returns-then-is_zero-clause-traffic : goal.returns-then-is_zero-clause-traffic
+returns-then-is_zero-clause-traffic g c =
     let it : NodeId = c.owner_of-owner.result in
     let owner : IsOwner c.args.caches.now c.args.node it = record { held = c.owner_of-owner.ensures.held; name = c.owner_of-owner.ensures.owner } in
     let zero : is_zero (own_of c.args.caches.now it) ≡ true = sym c.is_zero.ensures ∙ c.if-is_zero.true in

@@ -16,7 +16,7 @@ use Rattle.fault_path.proofs.Rules.ReadyForest.{kept_ready}
 use Rattle.local_cache.proofs.Changes.SameNodes.{copies-put}
 use Rattle.residency.proofs.Forests.StillForest.{still_copies}
 use Rattle.local_cache.specs.declared.own_state.OwnState.{OwnState}
-use Rattle.fault_path.proofs.Calls.Costs.{bring_most, brought_made, copy_most, failed_most, most_more, pulls_most}
+use Rattle.fault_path.proofs.Calls.Costs.{bring_most, brought_traffic, copy_most, failed_most, most_more, pulls_most}
 use Rattle.fault_path.proofs.Calls.Answered.{still_answered, still_missed_by}
 use Rattle.residency.proofs.Pushes.Told.{tells_as}
 use Rattle.residency.proofs.Translations.Kept.{drops_more, drops_trans, still_drops_but}
@@ -80,24 +80,24 @@ returns-clause-ready g c =
 pub returns-clause-copies : goal.returns-clause-copies
 returns-clause-copies g c = let b = c.in_ok-frame.ensures in let first = b.still in ap (λ (a : Arena). a.copies) c.set_state.ensures.changed ∙ copies-put c.bring_in.new.caches c.args.node _ ∙ still_copies c.args.caches.now c.bring_in.new.caches first.stays.caches
 
-pub returns-clause-made : goal.returns-clause-made
-returns-clause-made g c =
+pub returns-clause-traffic : goal.returns-clause-traffic
+returns-clause-traffic g c =
     let b = c.in_ok-frame.ensures in
-    brought_made (own_of c.args.caches.now c.args.node) c.args.store.now.frames c.bring_in.new.self.frames _ _ b.still.stays.frames b.held _ b.made b.few
+    brought_traffic (own_of c.args.caches.now c.args.node) c.args.store.now.frames c.bring_in.new.self.frames _ _ b.still.stays.frames b.held _ b.traffic b.few
 
 pub returns-clause-most : goal.returns-clause-most
 returns-clause-most g c =
     let own : OwnState = own_of c.args.caches.now c.args.node in
     let bounds = copy_most own in
     let b = c.in_ok-frame.ensures in
-    pulls_most _ _ _ _ _ _ (brought_made own c.args.store.now.frames c.bring_in.new.self.frames _ _ b.still.stays.frames b.held _ b.made b.few) bounds.0 (omega (arith, bring_most own))
+    pulls_most _ _ _ _ _ _ (brought_traffic own c.args.store.now.frames c.bring_in.new.self.frames _ _ b.still.stays.frames b.held _ b.traffic b.few) bounds.0 (omega (arith, bring_most own))
 
 pub returns-in_err-frame-clause-most : goal.returns-in_err-frame-clause-most
 returns-in_err-frame-clause-most g c =
     let own : OwnState = own_of c.args.caches.now c.args.node in
     let bounds = copy_most own in
     let e = c.in_err-frame.ensures in
-    most_more _ _ _ _ _ _ (failed_most own c.args.store.now.frames _ _ _ _ e.made e.few) bounds.0 (omega (arith, bring_most own))
+    most_more _ _ _ _ _ _ (failed_most own c.args.store.now.frames _ _ _ _ e.traffic e.few) bounds.0 (omega (arith, bring_most own))
 
 pub returns-in_err-frame-clause-missed_drops : goal.returns-in_err-frame-clause-missed_drops
 returns-in_err-frame-clause-missed_drops g c =

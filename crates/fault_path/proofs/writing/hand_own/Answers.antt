@@ -22,7 +22,7 @@ use Rattle.local_cache.proofs.Changes.SameNodes.{copies-put}
 use Rattle.residency.proofs.Forests.StillForest.{still_copies}
 use Rattle.local_cache.specs.declared.own_state.OwnState.{OwnState}
 use Rattle.residency.specs.Causes.{HasMissCause, frames_to_bring}
-use Rattle.fault_path.proofs.Calls.Costs.{bring_most, brought_made, brought_more, brought_taken, copy_most, failed_most, most_more, most_then, pulls_most, pushes_then, resident_copies, resident_takes}
+use Rattle.fault_path.proofs.Calls.Costs.{bring_most, brought_traffic, brought_more, brought_taken, copy_most, failed_most, most_more, most_then, pulls_most, pushes_then, resident_copies, resident_takes}
 use Rattle.residency.proofs.Worlds.Composed.{still_then}
 use Rattle.fault_path.proofs.Calls.Answered.{answered_then, cause_then, later_then, still_answered, still_missed_by}
 use Rattle.residency.proofs.Pushes.Told.{tells_as, tells_then}
@@ -147,8 +147,8 @@ returns-clause-copies g c =
     let h = c.in_ok-hand_over.ensures in
     ap (λ (a : Arena). a.copies) c.set_state.ensures.changed ∙ copies-put c.hand_over.new.caches c.args.node _ ∙ h.copies ∙ ap (λ k. k + 1) (still_copies c.args.caches.now c.bring_in.new.caches first.stays.caches)
 
-pub returns-clause-made : goal.returns-clause-made
-returns-clause-made g c =
+pub returns-clause-traffic : goal.returns-clause-traffic
+returns-clause-traffic g c =
     let own : OwnState = own_of c.args.caches.now c.args.node in
     let then : OwnState = own_of c.bring_in.new.caches c.args.node in
     let w : World = world (g.M.Mapper.held c.bring_in.new.mapper) (g.M.Mapper.page_bytes c.bring_in.new.mapper) c.bring_in.new.caches c.bring_in.new.self in
@@ -156,8 +156,8 @@ returns-clause-made g c =
     let first = b.still in
     let at = home w c.in_ok-frame.frame.0 c.args.node first.stays.right b.home.0 b.home.1 in
     let h = c.in_ok-hand_over.ensures in
-    let over = resident_takes then c.bring_in.new.self.frames _ _ at.resident h.made in
-    brought_more own c.args.store.now.frames c.bring_in.new.self.frames _ _ first.stays.frames b.held _ b.made b.few _ over h.answered.later
+    let over = resident_takes then c.bring_in.new.self.frames _ _ at.resident h.traffic in
+    brought_more own c.args.store.now.frames c.bring_in.new.self.frames _ _ first.stays.frames b.held _ b.traffic b.few _ over h.answered.later
 
 pub returns-clause-most : goal.returns-clause-most
 returns-clause-most g c =
@@ -168,9 +168,9 @@ returns-clause-most g c =
     let first = b.still in
     let at = home w c.in_ok-frame.frame.0 c.args.node first.stays.right b.home.0 b.home.1 in
     let h = c.in_ok-hand_over.ensures in
-    let over = resident_takes then c.bring_in.new.self.frames _ _ at.resident h.made in
+    let over = resident_takes then c.bring_in.new.self.frames _ _ at.resident h.traffic in
     let bounds = copy_most own in
-    pulls_most _ _ _ _ _ _ (brought_more own c.args.store.now.frames c.bring_in.new.self.frames _ _ first.stays.frames b.held _ b.made b.few _ over h.answered.later) bounds.0 (omega (arith, bring_most own))
+    pulls_most _ _ _ _ _ _ (brought_more own c.args.store.now.frames c.bring_in.new.self.frames _ _ first.stays.frames b.held _ b.traffic b.few _ over h.answered.later) bounds.0 (omega (arith, bring_most own))
 
 pub returns-in_err-hand_over-clause-most : goal.returns-in_err-hand_over-clause-most
 returns-in_err-hand_over-clause-most g c =
@@ -182,8 +182,8 @@ returns-in_err-hand_over-clause-most g c =
     let at = home w c.in_ok-frame.frame.0 c.args.node first.stays.right b.home.0 b.home.1 in
     let e = c.in_err-hand_over.ensures in
     let one = resident_copies then at.resident in
-    let taken = brought_taken own c.args.store.now.frames c.bring_in.new.self.frames _ _ first.stays.frames b.held _ b.made b.few in
-    let brought = brought_made own c.args.store.now.frames c.bring_in.new.self.frames _ _ first.stays.frames b.held _ b.made b.few in
+    let taken = brought_taken own c.args.store.now.frames c.bring_in.new.self.frames _ _ first.stays.frames b.held _ b.traffic b.few in
+    let brought = brought_traffic own c.args.store.now.frames c.bring_in.new.self.frames _ _ first.stays.frames b.held _ b.traffic b.few in
     let bounds = copy_most own in
     most_then _ _ _ _ _ _ _ _ _ brought e.most e.answered.later (omega (arith, one.0, bounds.0)) (omega (arith, one.1, bring_most own, pushes_then (frames_to_bring own) c.args.store.now.frames.held c.bring_in.new.self.frames.held first.stays.frames taken))
 
@@ -192,7 +192,7 @@ returns-in_err-frame-clause-most g c =
     let own : OwnState = own_of c.args.caches.now c.args.node in
     let bounds = copy_most own in
     let e = c.in_err-frame.ensures in
-    most_more _ _ _ _ _ _ (failed_most own c.args.store.now.frames _ _ _ _ e.made e.few) bounds.0 (omega (arith, bring_most own))
+    most_more _ _ _ _ _ _ (failed_most own c.args.store.now.frames _ _ _ _ e.traffic e.few) bounds.0 (omega (arith, bring_most own))
 
 pub returns-in_err-frame-clause-missed_drops : goal.returns-in_err-frame-clause-missed_drops
 returns-in_err-frame-clause-missed_drops g c =

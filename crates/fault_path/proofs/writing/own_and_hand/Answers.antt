@@ -151,15 +151,15 @@ returns-clause-copies g c =
     let owner : IsOwner c.args.caches.now c.args.node c.owner_of-owner.result = record { held = c.owner_of-owner.ensures.held; name = c.owner_of-owner.ensures.owner } in
     two_copies c.requires.right c.in_ok-frame.ensures.copied c.in-Ok.ensures.doubled c.requires.node c.requires.bare owner c.own_page.ensures c.requires.next c.requires.is c.hand_page.ensures
 
-pub returns-clause-made : goal.returns-clause-made
-returns-clause-made g c = λ o is. (
+pub returns-clause-traffic : goal.returns-clause-traffic
+returns-clause-traffic g c = λ o is. (
     let it : NodeId = c.owner_of-owner.result in
     let owner : IsOwner c.args.caches.now c.args.node it = record { held = c.owner_of-owner.ensures.held; name = c.owner_of-owner.ensures.owner } in
     let own : OwnState = own_of c.args.caches.now it in
     let first = c.in_ok-frame.ensures in
     let gathered = first.copied.gathered in
     let whole = gathered.still in
-    let sum : Pulls (pulls_to_copy own) (frames_to_copy own + 1 - free_count c.args.store.now.frames) (g.M.Mapper.counts c.args.mapper.now) (g.M.Mapper.counts c.double.new.mapper) = pulls_more (frames_to_copy own) (pulls_to_copy own) c.args.store.now.frames.held c.copy_out.new.store.frames.held _ _ _ whole.stays.frames first.held first.made c.double.ensures.made c.double.ensures.later in
+    let sum : Pulls (pulls_to_copy own) (frames_to_copy own + 1 - free_count c.args.store.now.frames) (g.M.Mapper.counts c.args.mapper.now) (g.M.Mapper.counts c.double.new.mapper) = pulls_more (frames_to_copy own) (pulls_to_copy own) c.args.store.now.frames.held c.copy_out.new.store.frames.held _ _ _ whole.stays.frames first.held first.traffic c.double.ensures.traffic c.double.ensures.later in
     subst (λ (m : NodeId). Pulls (pulls_to_copy (own_of c.args.caches.now m)) (frames_to_copy (own_of c.args.caches.now m) + 1 - free_count c.args.store.now.frames) (g.M.Mapper.counts c.args.mapper.now) (g.M.Mapper.counts c.double.new.mapper)) (sym (owner_same c.args.caches.now c.requires.right.sound c.args.node o it is owner)) sum)
 
 pub returns-clause-most : goal.returns-clause-most
@@ -169,7 +169,7 @@ returns-clause-most g c =
     let first = c.in_ok-frame.ensures in
     let gathered = first.copied.gathered in
     let whole = gathered.still in
-    let sum : Pulls (pulls_to_copy own) (frames_to_copy own + 1 - free_count c.args.store.now.frames) (g.M.Mapper.counts c.args.mapper.now) (g.M.Mapper.counts c.double.new.mapper) = pulls_more (frames_to_copy own) (pulls_to_copy own) c.args.store.now.frames.held c.copy_out.new.store.frames.held _ _ _ whole.stays.frames first.held first.made c.double.ensures.made c.double.ensures.later in
+    let sum : Pulls (pulls_to_copy own) (frames_to_copy own + 1 - free_count c.args.store.now.frames) (g.M.Mapper.counts c.args.mapper.now) (g.M.Mapper.counts c.double.new.mapper) = pulls_more (frames_to_copy own) (pulls_to_copy own) c.args.store.now.frames.held c.copy_out.new.store.frames.held _ _ _ whole.stays.frames first.held first.traffic c.double.ensures.traffic c.double.ensures.later in
     let bounds = copy_most own in
     pulls_most _ _ _ _ _ _ sum bounds.0 (omega (arith, bounds.1))
 
@@ -180,7 +180,7 @@ returns-in_default-clause-most g c =
     let first = c.in_ok-frame.ensures in
     let gathered = first.copied.gathered in
     let whole = gathered.still in
-    let sum : Pulls (pulls_to_copy own) (frames_to_copy own + 1 - free_count c.args.store.now.frames) (g.M.Mapper.counts c.args.mapper.now) (g.M.Mapper.counts c.double.new.mapper) = pulls_more (frames_to_copy own) (pulls_to_copy own) c.args.store.now.frames.held c.copy_out.new.store.frames.held _ _ _ whole.stays.frames first.held first.made c.double.ensures.made c.double.ensures.later in
+    let sum : Pulls (pulls_to_copy own) (frames_to_copy own + 1 - free_count c.args.store.now.frames) (g.M.Mapper.counts c.args.mapper.now) (g.M.Mapper.counts c.double.new.mapper) = pulls_more (frames_to_copy own) (pulls_to_copy own) c.args.store.now.frames.held c.copy_out.new.store.frames.held _ _ _ whole.stays.frames first.held first.traffic c.double.ensures.traffic c.double.ensures.later in
     let bounds = copy_most own in
     pulls_most _ _ _ _ _ _ sum bounds.0 (omega (arith, bounds.1))
 

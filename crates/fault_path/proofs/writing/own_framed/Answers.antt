@@ -82,11 +82,11 @@ returns-clause-copies g c =
     let owner : IsOwner c.args.caches.now c.args.node c.owner_of-owner.result = record { held = c.owner_of-owner.ensures.held; name = c.owner_of-owner.ensures.owner } in
     own_copies old w c.in_ok-frame.frame.0 k.still k.taken c.requires.right.sound c.requires.right.shaped c.args.node c.owner_of-owner.result c.requires.node c.requires.bare owner c.in_ok-frame.ensures.copied.page c.own_page.new.caches c.own_page.ensures
 
-pub returns-clause-made : goal.returns-clause-made
-returns-clause-made g c = λ o is. (
+pub returns-clause-traffic : goal.returns-clause-traffic
+returns-clause-traffic g c = λ o is. (
     let it : NodeId = c.owner_of-owner.result in
     let owner : IsOwner c.args.caches.now c.args.node it = record { held = c.owner_of-owner.ensures.held; name = c.owner_of-owner.ensures.owner } in
-    subst (λ (m : NodeId). Pulls (pulls_to_copy (own_of c.args.caches.now m)) (frames_to_copy (own_of c.args.caches.now m) - free_count c.args.store.now.frames) (g.M.Mapper.counts c.args.mapper.now) (g.M.Mapper.counts c.copy_out.new.mapper)) (sym (owner_same c.args.caches.now c.requires.right.sound c.args.node o it is owner)) c.in_ok-frame.ensures.made)
+    subst (λ (m : NodeId). Pulls (pulls_to_copy (own_of c.args.caches.now m)) (frames_to_copy (own_of c.args.caches.now m) - free_count c.args.store.now.frames) (g.M.Mapper.counts c.args.mapper.now) (g.M.Mapper.counts c.copy_out.new.mapper)) (sym (owner_same c.args.caches.now c.requires.right.sound c.args.node o it is owner)) c.in_ok-frame.ensures.traffic)
 
 pub returns-in_err-frame-clause-missed_drops : goal.returns-in_err-frame-clause-missed_drops
 returns-in_err-frame-clause-missed_drops g c =

@@ -9,7 +9,7 @@ use Rattle.residency.specs.Causes.{Later, Traffic}
 use Rattle.residency.specs.StoreForest.{store_forest}
 use Rattle.residency.specs.World.{IsStoreRight, World, world}
 use Rattle.segment_ops.specs.Access.{GrantsBefore}
-use Rattle.segment_ops.proofs.Granting.{allowed_by, allows_then, asked_later, asked_made, asked_once, granted_allowed, granted_on, granted_pages, granted_right, granted_then, granted_whole, range_lies, range_place, segment_is}
+use Rattle.segment_ops.proofs.Granting.{allowed_by, allows_then, asked_later, asked_traffic, asked_once, granted_allowed, granted_on, granted_pages, granted_right, granted_then, granted_whole, range_lies, range_place, segment_is}
 use Rattle.segment_ops.proofs.Unsaved.{range_fits, range_node, sized_range}
 use Rattle.segment_ops.proofs.access.write_access.Goals.{then-not-granted+in-Ok-true, else-not-granted}
 use Rattle.segment_ops.proofs.access.write_access.Goals as goal
@@ -71,7 +71,7 @@ loop-number-preserved g c =
             given = ap M.given b.mapper-is ∙ k.given ∙ i.given;
             page_bytes = ap M.page_bytes b.mapper-is ∙ k.page ∙ i.page_bytes;
             later = subst (λ m. Later (M.counts c.args.mapper.now) (M.counts m)) (sym b.mapper-is) (asked_later _ _ _ i.later k.counts);
-            made = subst (λ m. Traffic 0 0 (M.counts c.args.mapper.now) (M.counts m)) (sym b.mapper-is) (asked_made _ _ _ i.made k.counts);
+            traffic = subst (λ m. Traffic 0 0 (M.counts c.args.mapper.now) (M.counts m)) (sym b.mapper-is) (asked_traffic _ _ _ i.traffic k.counts);
             idle = λ all. absurd (asked_once c.args.caches.now c.loop-number.caches c.args.range c.loop-number.number all (i.idle all).0 (search rules) c.loop-number-test.true (search rules));
           })
       | else-not-granted b ↦ record {
@@ -88,7 +88,7 @@ loop-number-preserved g c =
         given = ap M.given b.mapper-is ∙ i.given;
         page_bytes = ap M.page_bytes b.mapper-is ∙ i.page_bytes;
         later = subst (λ m. Later (M.counts c.args.mapper.now) (M.counts m)) (sym b.mapper-is) i.later;
-        made = subst (λ m. Traffic 0 0 (M.counts c.args.mapper.now) (M.counts m)) (sym b.mapper-is) i.made;
+        traffic = subst (λ m. Traffic 0 0 (M.counts c.args.mapper.now) (M.counts m)) (sym b.mapper-is) i.traffic;
         idle = λ all. (let was = i.idle all in (b.caches-is ∙ was.0, b.mapper-is ∙ was.1));
       }
     ]

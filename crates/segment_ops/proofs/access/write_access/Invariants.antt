@@ -22,6 +22,6 @@ invariant-loop-number g l =
       given : M.given l.mapper ≡ M.given l.fn.mapper;
       page_bytes : M.page_bytes l.mapper ≡ M.page_bytes l.fn.mapper;
       later : Later (M.counts l.fn.mapper) (M.counts l.mapper);
-      made : Traffic 0 0 (M.counts l.fn.mapper) (M.counts l.mapper);
+      traffic : Traffic 0 0 (M.counts l.fn.mapper) (M.counts l.mapper);
       idle : IsGranted l.fn.caches l.range → (l.caches ≡ l.fn.caches) × (l.mapper ≡ l.fn.mapper);
     }

@@ -11,7 +11,7 @@ use Rattle.residency.proofs.Forests.StillForest.{still_caches_sound, still_like}
 use Rattle.fault_path.proofs.Calls.Answered.{later_then}
 use Rattle.fault_path.proofs.Calls.Kept.{still_shaped}
 use Rattle.fault_path.specs.Translating.{Nobody}
-use Rattle.segment_ops.proofs.GivenUp.{loose_stays, made_then}
+use Rattle.segment_ops.proofs.GivenUp.{loose_stays, traffic_then}
 use Rattle.segment_ops.proofs.Granting.{range_home}
 use Rattle.residency.proofs.Translations.Kept.{drops_trans, same_drops}
 use Rattle.segment_ops.proofs.PushedPage.{others_clean}
@@ -32,7 +32,7 @@ loop-number-init g c =
       held = refl;
       pinned = refl;
       later = record { faults = omega arith; pulls = omega arith; pushes = omega arith };
-      made = record { pulled = λ low. omega arith; pushed = λ low. omega arith };
+      traffic = record { pulled = λ low. omega arith; pushed = λ low. omega arith };
       synced = c.requires.synced;
       loose = c.requires.loose;
       drops = same_drops Nobody c.args.caches.now c.args.store.now c.requires.right.tied.placed;
@@ -92,7 +92,7 @@ loop-number-preserved g c =
       held = e.held ∙ i.held;
       pinned = e.pinned ∙ i.pinned;
       later = later_then _ _ _ i.later e.later;
-      made = made_then _ _ _ i.made e.made;
+      traffic = traffic_then _ _ _ i.traffic e.traffic;
       synced = synced_kept c.args.range (c.args.range.first.0 + c.args.range.pages) w v i.still.stays.right e.still sound shaped (others_clean w v i.still.stays.right e.others) _ _ told (c.requires.named.0, named) i.synced;
       loose = loose_stays c.args.range w v e.still e.others e.pinned i.loose;
       drops = drops_trans Nobody Nobody Nobody c.args.caches.now c.loop-number.caches c.let_go.new.caches c.args.store.now c.loop-number.store c.let_go.new.store (λ n none. none) (λ n none. none) i.drops e.drops;

@@ -19,7 +19,7 @@ invariant-loop-number g l =
       held : M.held l.mapper ≡ M.held l.fn.mapper;
       pinned : l.store.frames.pinned ≡ l.fn.store.frames.pinned;
       later : Later (M.counts l.fn.mapper) (M.counts l.mapper);
-      made : Traffic 0 0 (M.counts l.fn.mapper) (M.counts l.mapper);
+      traffic : Traffic 0 0 (M.counts l.fn.mapper) (M.counts l.mapper);
       synced : AreSynced l.range (l.range.first.0 + l.range.pages) now;
       loose : AreLoose l.range now;
       drops : Drops Nobody l.fn.caches l.fn.store l.caches l.store;

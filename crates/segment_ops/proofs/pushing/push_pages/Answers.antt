@@ -14,7 +14,7 @@ use Rattle.segment_ops.proofs.Dropped.{owner_before}
 use Rattle.segment_ops.proofs.Granting.{range_home}
 use Rattle.residency.proofs.Translations.Kept.{drops_trans, same_drops}
 use Rattle.segment_ops.proofs.PushedPage.{failed_then, still_reads}
-use Rattle.segment_ops.proofs.SyncedPages.{costs_most, costs_then, none_made, same_node, synced_kept, synced_then}
+use Rattle.segment_ops.proofs.SyncedPages.{costs_most, costs_then, no_traffic, same_node, synced_kept, synced_then}
 use Rattle.segment_ops.proofs.Unsaved.{range_fits, range_node}
 use Rattle.segment_ops.proofs.Values.{values_none, values_then}
 use Rattle.segment_ops.proofs.pushing.push_pages.Goals as goal
@@ -34,7 +34,7 @@ loop-number-init g c =
       clean = λ m is. is;
       synced = λ page n from below at. absurd (omega (arith, from, below));
       drops = same_drops (IsReadBy c.args.caches.now c.args.range) c.args.caches.now c.args.store.now c.requires.right.tied.placed;
-      most = none_made c.args.caches.now c.args.range.cache.0 c.args.range.first.0 _;
+      most = no_traffic c.args.caches.now c.args.range.cache.0 c.args.range.first.0 _;
     }
 
 pub node_of-node-requires : goal.node_of-node-requires

@@ -1,7 +1,7 @@
 use Rattle.std.proofs.Common.{◌≡◌, ◌-◌, ◌*◌}
 use Rattle.residency.specs.Causes.{Later}
 use Rattle.residency.specs.World.{Still, World, world}
-use Rattle.fault_path.specs.Costs.{MadeAtMost}
+use Rattle.fault_path.specs.Costs.{TrafficAtMost}
 use Rattle.residency.specs.Translating.{Drops}
 use Rattle.segment_ops.specs.Pushing.{TellsValues}
 use Rattle.segment_ops.specs.Synced.{AreSynced, CleanStays, unclean_count}
@@ -22,5 +22,5 @@ invariant-loop-number g l =
       clean : CleanStays l.fn.caches l.caches;
       synced : AreSynced l.range l.number now;
       drops : Drops (IsReadBy l.fn.caches l.range) l.fn.caches l.fn.store l.caches l.store;
-      most : MadeAtMost some (2 * some) (M.counts l.fn.mapper) (M.counts l.mapper);
+      most : TrafficAtMost some (2 * some) (M.counts l.fn.mapper) (M.counts l.mapper);
     }

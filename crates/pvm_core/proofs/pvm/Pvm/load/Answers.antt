@@ -471,7 +471,7 @@ returns-in-Ok-clause-loaded g c =
       found = found_in k then_size i.caches n.caches u i.contexts right o.0 c.in-Ok.found found (λ hand. (e.idle o.0 o.1 hand).2);
       bytes = c.part_of-in-Ok.ensures.piece;
       pulled = pulled_for (own_of i.caches o.0) before after c.in-Ok.found
-          (λ zero. (_, subst (λ (r : Result (Option FrameId) Miss). Traffic (pulls_for r (own_of i.caches o.0)) (dirty_count i.caches + dirtied c.read_fault.result (own_of i.caches o.0) - dirty_count n.caches + failed_victims c.read_fault.result) before after) c.in-Ok.is (e.made o.0 o.1 zero)))
+          (λ zero. (_, subst (λ (r : Result (Option FrameId) Miss). Traffic (pulls_for r (own_of i.caches o.0)) (dirty_count i.caches + dirtied c.read_fault.result (own_of i.caches o.0) - dirty_count n.caches + failed_victims c.read_fault.result) before after) c.in-Ok.is (e.traffic o.0 o.1 zero)))
           (λ hand. ap (λ m. g.M.Mapper.counts m) (e.idle o.0 o.1 hand).3);
       given = given_in k then_size i.caches n.caches u i.contexts right o.0 given c.in-Ok.found found holds;
       translated = found_led i.contexts.page_bytes c.args.actor c.args.address c.args.bytes c.in-Ok.found n.store u c.remember_found.ensures (ends_within i.contexts.page_bytes c.args.address c.args.bytes _ at (sym r.is));

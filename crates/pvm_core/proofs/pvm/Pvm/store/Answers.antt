@@ -462,7 +462,7 @@ returns-in_err-grant_range-clause-refused g c =
       | inl w ↦ (
           let kept : a ≡ i.caches = w.1.asked.grants.none (omega (arith, w.1.asked.page_of.0, w.1.asked.page_of.1)) in (
             subst (λ (p : Manager). seen a i.store i.contexts ≡ p) c.self.view_is (λ j. seen (kept j) i.store i.contexts),
-            e0.made,
+            e0.traffic,
             λ other. absurd (other (let q : troubles.Refused r ≡ troubles.Refused refusals.WriteDenied = sym same ∙ w.0 in cc q)),
           ))
       | inr w ↦ absurd (let q : troubles.Refused r ≡ troubles.Mapper (faults.Access w.0) = sym same ∙ w.1 in cc q)
@@ -707,7 +707,7 @@ returns-in-Ok-clause-answers g c =
     subst (λ (p : Manager). CallIs asked after (state_at p h0) (commands.Store c.args.actor c.args.address c.args.piece.now) answer (state_at (seen n.caches c.remember.new.store i.contexts) k)) c.self.view_is
     (subst (λ (x : State). CallIs asked after (state_at (seen i.caches i.store i.contexts) h0) (commands.Store c.args.actor c.args.address c.args.piece.now) answer x) (sym (seen_state c.write_frame.new.store c.remember.new.store c.remember.ensures.only n.caches i.contexts k))
     (subst (λ (x : State). CallIs asked after x (commands.Store c.args.actor c.args.address c.args.piece.now) answer (state_at q k)) state
-    (call_later asked before after (state_at p h) (state_at q k) (commands.Store c.args.actor c.args.address c.args.piece.now) answer e0.later e0.made
+    (call_later asked before after (state_at p h) (state_at q k) (commands.Store c.args.actor c.args.address c.args.piece.now) answer e0.later e0.traffic
     (call_is before after p q h k (commands.Store c.args.actor c.args.address c.args.piece.now) answer reach now tt tt (rule ∙ ap (λ x. written_at (forest_of p h) x c.args.piece.now) (is (forest_of p h)))
     (stored p q h k c.args.actor c.args.address at c.args.piece.now t.0 t.1 less fits sound.actors.some e.answered.kept.nodes.caches (refl, frames, refl, refl) sound.nodes then.nodes valid.whole followed rule both by
     is (granted c.in_ok-place.place.prot.write c.if-not-place.false) (λ f s told. undenied p h sound.nodes valid.right pl.cache pl.page.0 r.count there r.less writable f k s (reach_denied (machine_of p h) h k before after reach) told) _)))))
@@ -826,7 +826,7 @@ returns-in-Err-clause-answers g c =
     subst (λ (p : Manager). CallIs asked after (state_at p h0) (commands.Store c.args.actor c.args.address c.args.piece.now) (Err (troubles.Mapper c.fault_of.result)) (state_at q k)) c.self.view_is
     (subst (λ (f : FaultAt). CallIs asked after (state_at (seen i.caches i.store i.contexts) h0) (commands.Store c.args.actor c.args.address c.args.piece.now) (Err (troubles.Mapper f)) (state_at q k)) (sym c.fault_of.ensures)
     (subst (λ (x : State). CallIs asked after x (commands.Store c.args.actor c.args.address c.args.piece.now) answer (state_at q k)) state
-    (call_later asked before after (state_at p h) (state_at q k) (commands.Store c.args.actor c.args.address c.args.piece.now) answer e0.later e0.made
+    (call_later asked before after (state_at p h) (state_at q k) (commands.Store c.args.actor c.args.address c.args.piece.now) answer e0.later e0.traffic
     (failed_at before after p q h k (commands.Store c.args.actor c.args.address c.args.piece.now) answer no_segments reach sound.nodes then.nodes now forest (not_saved c.in-Err.miss page (forest_of p h) (machine_of p h) (commands.Store c.args.actor c.args.address c.args.piece.now) (machine_of q k) refl) tt tt
     (λ f. store_fault (length reach.pushes) (machine_by p f) (machine_by q f) (forest_of p h) c.args.actor c.args.address c.args.piece.now no_segments before after c.in-Err.miss page at (by f) (is f) may (undenied_blank p f pl.cache.0 pl.page.0) refl c.in-Err.ensures.missed.cause)
     (λ f s told. store_fault (length reach.pushes) (machine_by p f) (machine_by q f) (forest_of p h) c.args.actor c.args.address c.args.piece.now s before after c.in-Err.miss page at (by f) (is f) may

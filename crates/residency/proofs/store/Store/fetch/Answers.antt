@@ -5,7 +5,6 @@ use Rattle.residency.specs.World.{OthersStay, World, world}
 use Rattle.residency.proofs.Worlds.Arms.{on_err_then}
 use Rattle.residency.proofs.Moves.Claimed.{taken_then}
 use Rattle.residency.proofs.Worlds.Composed.{others_then, others_then_but}
-use Rattle.residency.specs.Translating.{nothing_else}
 use Rattle.residency.proofs.Translations.Lost.{lost_filled, tables_to}
 use Rattle.residency.proofs.store.Store.fetch.Goals as goal
 
@@ -30,6 +29,6 @@ pub returns-in-Ok-clause-tables : goal.returns-in-Ok-clause-tables
 returns-in-Ok-clause-tables g c =
     let away : bound_times c.args.self.now.map c.args.node.0 ≡ 0 = c.requires.right.tied.placed.bound c.args.node ∙ ap (λ (b : Bool). cond {A = ℕ} b 1 0) c.requires.node.away in
     let within : c.in-Ok.frame.0 < length c.make_free.new.self.map = omega (arith, c.in-Ok.ensures.free.within, c.make_free.ensures.still.stays.frames, c.make_free.ensures.still.stays.right.tied.fitted.map_frames) in
-    tables_to nothing_else c.args.self.now c.make_free.new.self c.fill.new.self
+    tables_to c.args.self.now c.make_free.new.self c.fill.new.self
     (lost_filled c.fill.result c.args.self.now.map c.make_free.new.self.map c.fill.new.self.map c.in-Ok.frame.0 c.args.node c.fill.ensures.bound c.fill.ensures.unbound away c.in-Ok.ensures.free.unbound within)
     c.fill.ensures.tables c.make_free.ensures.tables

@@ -3,7 +3,7 @@ use Rattle.vm_ids.specs.Counting.{RoseBy}
 use Rattle.frame_pool.specs.Pool.{held_count}
 use Rattle.residency.specs.Causes.{Later, dirty_count}
 use Rattle.residency.specs.Pushing.{TellsOn}
-use Rattle.residency.specs.Translating.{TablesAfter, nothing_else}
+use Rattle.residency.specs.Translating.{TablesAfter}
 use Rattle.residency.specs.World.{OthersStay, Still, world}
 use Rattle.residency.proofs.store.Store.page_out.Given as goal
 
@@ -19,5 +19,5 @@ invariant-loop-done g l = record {
   dirty : dirty_count l.caches ≤ dirty_count l.initial.caches;
   few : dirty_count l.initial.caches ≤ dirty_count l.caches + l.done;
   pushes : RoseBy (dirty_count l.initial.caches - dirty_count l.caches) (g.M.Mapper.counts l.initial.mapper).pushes (g.M.Mapper.counts l.mapper).pushes;
-  tables : TablesAfter nothing_else l.initial.self l.self;
+  tables : TablesAfter l.initial.self l.self;
 }
