@@ -44,12 +44,24 @@ const SECOND: &[u8] = b"The second one's twelve pages, the last denied.\n";
 const DENIED: (SegId, PageNo) = (SegId(2), PageNo(PAGES - 1));
 
 // So many kinds of commands are counted, and each is to be done so often.
-const KINDS: usize = 17;
+const KINDS: usize = 19;
 
 const OFTEN: u32 = 20;
 
-// This actor looks, and another acts.
+// The kinds that are never done in three frames, which have to stay unlocked.
+const LOCKS: usize = 17;
+
+const UNLOCKS: usize = 18;
+
+// This actor looks, and others act.
 const WATCHER: ActorId = ActorId(1);
+
+// One that acts, or none where it ended, and its region that was told last.
+#[derive(Clone, Copy)]
+struct Acting {
+    actor: Option<ActorId>,
+    region: RegionId,
+}
 
 // Commands by a linear congruential generator. Now and then all pages of all caches are looked at:
 // each cache is mapped, loaded page by page, and unmapped.
@@ -59,9 +71,9 @@ struct Script {
     caches: u32,
     // The caches that the segments name, or named last.
     named: [CacheId; 2],
-    // The actor that acts, or none where it ended, and its region that was told last.
-    actor: Option<ActorId>,
-    region: RegionId,
+    // The one whose turn it is, and the other one.
+    acting: Acting,
+    waiting: Acting,
     // So many commands come between two looks, and so many are left before the next.
     apart: u32,
     left: u32,
@@ -74,12 +86,16 @@ struct Script {
 
 impl Script {
     fn new(seed: u64, apart: u32) -> Script {
+        let nobody = Acting {
+            actor: None,
+            region: RegionId(0),
+        };
         Script {
             state: seed,
             caches: 0,
             named: [CacheId(0); 2],
-            actor: None,
-            region: RegionId(0),
+            acting: nobody,
+            waiting: nobody,
             apart,
             left: apart,
             seen: 0,
@@ -152,9 +168,34 @@ impl Script {
         self.below(MAPPED) as u64
     }
 
+    // Two pages of one at most, anywhere.
+    fn few(&mut self) -> Mapping
+        ensures { 1 ≤ result.extent.pages }
+    {
+        let pages = 1 + self.below(2);
+        Mapping {
+            extent: Extent {
+                cache: self.cache(),
+                first: PageNo(self.below(PAGES + 1 - pages)),
+                pages,
+            },
+            address: (self.below(PLACES * PAGES) * PAGE) as u64,
+            prot: self.prot(),
+        }
+    }
+
     fn prot(&mut self) -> Prot {
         Prot {
             write: self.below(8) > 0,
+        }
+    }
+
+    // Now and then it is the other one's turn.
+    fn take_turns(&mut self) {
+        if self.below(4) == 0 {
+            let waiting = self.acting;
+            self.acting = self.waiting;
+            self.waiting = waiting;
         }
     }
 
@@ -162,7 +203,9 @@ impl Script {
     fn command(&mut self) -> Result<Command, Fail>
         ensures { IfOk result (λ c. IsWellFormed c) }
     {
-        let Some(actor) = self.actor else {
+        self.take_turns();
+        let Acting { actor, region } = self.acting;
+        let Some(actor) = actor else {
             return Ok(Command::MakeActor);
         };
         Ok(match self.below(44) {
@@ -172,11 +215,12 @@ impl Script {
             5..=6 => Command::Destroy(self.recent(8)),
             7..=10 => Command::Copy(self.span()),
             11..=12 => Command::Move(self.span()),
-            13..=15 => {
+            13..=14 => {
                 let cache = self.cache();
                 Command::Map(actor, whole(cache, cache.0 % PLACES, self.prot()))
             }
-            16 => Command::Unmap(self.region),
+            15 => Command::Map(actor, self.few()),
+            16 => Command::Unmap(region),
             17..=22 => {
                 let bytes = [self.below(256) as u8, self.below(256) as u8];
                 let piece = Piece::new(&bytes).ok_or("no piece")?;
@@ -187,12 +231,12 @@ impl Script {
             28 => Command::Flush(self.extent()),
             29 => Command::Invalidate(self.extent()),
             30..=31 => Command::PageOut(1 + self.below(3)),
-            32 => Command::Split(self.region, 1 + self.below(PAGES)),
-            33 => Command::Protect(self.region, self.prot()),
-            34 => Command::Status(self.region),
+            32 => Command::Split(region, 1 + self.below(PAGES)),
+            33 => Command::Protect(region, self.prot()),
+            34 => Command::Status(region),
             35..=38 => Command::Find(actor, self.address()),
-            39..=40 => Command::Lock(self.region),
-            41..=42 => Command::Unlock(self.region),
+            39..=40 => Command::Lock(region),
+            41..=42 => Command::Unlock(region),
             _ => Command::ExitActor(actor),
         })
     }
@@ -239,13 +283,13 @@ impl Script {
                 put(&mut self.named, seg.0.saturating_sub(1) as usize, *cache);
             }
             (_, Ok(Reply::Cache(cache))) => self.caches = cache.0,
-            (_, Ok(Reply::Actor(actor))) => self.actor = Some(*actor),
-            (Command::ExitActor(_), Ok(_)) => self.actor = None,
+            (_, Ok(Reply::Actor(actor))) => self.acting.actor = Some(*actor),
+            (Command::ExitActor(_), Ok(_)) => self.acting.actor = None,
             (_, Ok(Reply::Region(region))) => {
                 if self.step > 0 {
                     self.view = *region;
                 } else {
-                    self.region = *region;
+                    self.acting.region = *region;
                 }
             }
             (_, Err(_)) if self.step > 0 => {
@@ -397,6 +441,8 @@ impl Tally {
             (Command::Protect(..), _) => 14,
             (Command::Status(_), _) => 15,
             (Command::Find(..), _) => 16,
+            (Command::Lock(_), _) => LOCKS,
+            (Command::Unlock(_), _) => UNLOCKS,
             _ => return,
         };
         self.done[kind] = self.done[kind].saturating_add(1);
@@ -453,7 +499,7 @@ fn answers_as_plain_pages(
     tally: &mut Tally,
 ) -> Result<(), Fail>
     requires some { 3 ≤ frames }
-    requires few { frames ≤ 8 }
+    requires few { frames ≤ 6 }
 {
     let mut gmi = Pvm::new(alloc, frames, PAGE)?;
     let mut mapper = segments(alloc, 1 << 16)?;
@@ -472,14 +518,15 @@ fn answers_as_plain_pages(
 // frames, slots and segments as the commands left them.
 fn answer_as_plain_pages(rt: &impl Abort, alloc: Global, frames: u32) -> Result<(), Fail>
     requires some { 3 ≤ frames }
-    requires few { frames ≤ 8 }
+    requires few { frames ≤ 6 }
 {
     let mut tally = Tally { done: [0; KINDS] };
     for seed in 0..20 {
         answers_as_plain_pages(rt, alloc, frames, seed, 1, &mut tally)?;
     }
     answers_as_plain_pages(rt, alloc, frames, 20, 400, &mut tally)?;
-    for kind in 0..KINDS {
+    let kinds = if frames > 3 { KINDS } else { LOCKS };
+    for kind in 0..kinds {
         assert!(rt; tally.done[kind] >= OFTEN, "{kind} is seldom");
     }
     Ok(())
@@ -491,8 +538,8 @@ fn three_frames_answer_as_plain_pages(rt: HostRuntime) -> Result<(), Fail> {
 }
 
 #[test]
-fn eight_frames_answer_as_plain_pages(rt: HostRuntime) -> Result<(), Fail> {
-    answer_as_plain_pages(&rt, rt.alloc(), 8)
+fn six_frames_answer_as_plain_pages(rt: HostRuntime) -> Result<(), Fail> {
+    answer_as_plain_pages(&rt, rt.alloc(), 6)
 }
 
 // Each call that takes memory, where there is memory.
