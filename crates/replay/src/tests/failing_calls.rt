@@ -4,7 +4,9 @@ ghost use Rattle.std.specs.Prelude.{◌≡◌, map, IfOk};
 ghost use Rattle.replay.specs.Commanding.{page_size_of};
 
 use super::SLOTS;
-use super::segment_rows::{HOSTILE, HOSTILE_REPLIES};
+use super::segment_rows::{
+    FAILING_DISK_EXAMPLE, FAILING_DISK_EXAMPLE_REPLIES, HOSTILE, HOSTILE_REPLIES,
+};
 use super::segments::two_pages;
 use crate::replaying::replay;
 use crate::{Status, run};
@@ -215,5 +217,32 @@ fn a_pull_and_each_push_fail(rt: HostRuntime) -> Result<(), NoMemory> {
             assert_eq!(&rt; found.as_str(), *wanted, "{kind:?} {nth}");
         }
     }
+    Ok(())
+}
+
+#[test]
+fn a_failing_disk_loses_nothing(rt: HostRuntime) -> Result<(), NoMemory> {
+    let fails = [
+        CallNo {
+            kind: CallKind::Size,
+            nth: 1,
+        },
+        CallNo {
+            kind: CallKind::SwapOut,
+            nth: 1,
+        },
+        CallNo {
+            kind: CallKind::SwapOut,
+            nth: 2,
+        },
+    ];
+    let sink = written(
+        &rt,
+        rt.alloc(),
+        &["run", "--frames", "3"],
+        FAILING_DISK_EXAMPLE,
+        &mut failing(rt.alloc(), &fails)?,
+    )?;
+    assert_eq!(&rt; sink.written(), FAILING_DISK_EXAMPLE_REPLIES.as_bytes());
     Ok(())
 }

@@ -129,6 +129,11 @@ fn scripts_have_their_replies_however_they_are_cut(rt: HostRuntime) -> Result<()
         ("3", rows::LIVE_PAGE_LIMIT, rows::LIVE_PAGE_LIMIT_REPLIES),
         ("3", rows::COPY_EXAMPLE, rows::COPY_EXAMPLE_REPLIES),
         ("3", rows::FORK_EXAMPLE, rows::FORK_EXAMPLE_REPLIES),
+        (
+            "3",
+            rows::COPY_OF_A_COPY_EXAMPLE,
+            rows::COPY_OF_A_COPY_EXAMPLE_REPLIES,
+        ),
         ("3", rows::MESSAGES_EXAMPLE, rows::MESSAGES_EXAMPLE_REPLIES),
         (
             "8",

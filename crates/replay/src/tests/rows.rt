@@ -969,12 +969,19 @@ store a1 10000 71
 chain c1 0
 chain c2 0
 chain c3 0
+load a2 10000 1
 store a2 10000 72
 store a3 10000 73
 load a1 10000 1
 load a2 10000 1
 load a3 10000 1
 load a2 11000 1
+stat
+chain c2 1
+chain c3 1
+unmap r3
+destroy c3
+chain c2 1
 stat
 ";
 
@@ -997,13 +1004,77 @@ pub const FORK_EXAMPLE_REPLIES: &str = "1 ok a1
 17 chain c1:0+1*
 18 chain c2:0+0 w1+2*
 19 chain c3:0+0 w1+2*
+20 ok 70
+21 ok
+22 ok
+23 ok 71
+24 ok 72
+25 ok 73
+26 ok 00
+27 stat live 27 working 9 copies 3
+28 chain c2:1+0 w2+2 c1:1+1*
+29 chain c3:1+0 w2+2 c1:1+1*
+30 ok
+31 ok
+32 chain c2:1+0 c1:1+1*
+33 stat live 18 working 0 copies 3
+";
+
+// A copy is copied, and the first cache is destroyed. It lies in examples/ too.
+pub const COPY_OF_A_COPY_EXAMPLE: &str = "actor
+temp 9
+temp 9
+temp 9
+map a1 c1 0 9 10000 rw
+map a1 c2 0 9 20000 rw
+map a1 c3 0 9 30000 rw
+store a1 10000 01
+copy c1 0 c2 0 9
+copy c2 0 c3 0 9
+chain c3 0
+chain c3 1
+store a1 20000 02
+chain c1 0
+chain c2 0
+chain c3 0
+load a1 10000 1
+load a1 20000 1
+load a1 30000 1
+unmap r1
+destroy c1
+chain c2 0
+chain c3 1
+load a1 20000 1
+load a1 30000 1
+stat
+";
+
+pub const COPY_OF_A_COPY_EXAMPLE_REPLIES: &str = "1 ok a1
+2 ok c1
+3 ok c2
+4 ok c3
+5 ok r1
+6 ok r2
+7 ok r3
+8 ok
+9 ok
+10 ok
+11 chain c3:0+0 c2:0+1 c1:0+1*
+12 chain c3:1+0 c2:1+1 c1:1+1*
+13 ok
+14 chain c1:0+1*
+15 chain c2:0+1*
+16 chain c3:0+0*
+17 ok 01
+18 ok 02
+19 ok 01
 20 ok
 21 ok
-22 ok 71
-23 ok 72
-24 ok 73
-25 ok 00
-26 stat live 27 working 9 copies 3
+22 chain c2:0+1*
+23 chain c3:1+0 c2:1+1*
+24 ok 02
+25 ok 01
+26 stat live 18 working 0 copies 2
 ";
 
 // A message is copied into a transit cache and moved on from there. It lies in examples/ too.
@@ -1017,14 +1088,22 @@ temp 4
 store a1 100000 68656c6c6f
 store a1 103000 21
 copy c1 0 c3 0 4
-store a1 100000 7878787878
 chain c3 0
+chain c3 3
+store a1 100000 7878787878
+chain c1 0
+chain c3 0
+chain c3 3
 move c3 0 c2 2 4
 chain c2 2
+chain c2 5
 load a2 102000 5
 load a2 105000 1
 load a1 100000 5
 move c1 0 c2 8 4
+chain c2 8
+chain c2 5
+load a2 105000 1
 load a1 100000 5
 load a2 108000 5
 stat
@@ -1042,19 +1121,27 @@ pub const MESSAGES_EXAMPLE_REPLIES: &str = "1 ok a1
 8 ok
 9 ok
 10 ok
-11 ok
-12 chain c3:0+0*
+11 chain c3:0+0 c1:0+1*
+12 chain c3:3+0 c1:3+1*
 13 ok
-14 chain c2:2+0*
-15 ok 68656c6c6f
-16 ok 21
-17 ok 7878787878
-18 ok
-19 ok 0000000000
-20 ok 7878787878
-21 stat live 28 working 0 copies 1
-22 ok
-23 stat live 24 working 0 copies 1
+14 chain c1:0+0*
+15 chain c3:0+0*
+16 chain c3:3+0 c1:3+1*
+17 ok
+18 chain c2:2+0*
+19 chain c2:5+0 c1:3+1*
+20 ok 68656c6c6f
+21 ok 21
+22 ok 7878787878
+23 ok
+24 chain c2:8+0*
+25 chain c2:5+0 c2:11+1*
+26 ok 21
+27 ok 0000000000
+28 ok 7878787878
+29 stat live 28 working 0 copies 1
+30 ok
+31 stat live 24 working 0 copies 1
 ";
 
 // A refusal of each kind, and a region that is split.

@@ -143,10 +143,13 @@ load a1 10000 5
 temp 1
 copy c1 0 c2 0 1
 map a1 c2 0 1 20000 r
+chain c2 0
 store a1 10000 48
+chain c1 0
 chain c2 0
 sync c1 0 1
 store a1 10001 45
+load a1 10000 5
 invalidate c1 0 1
 load a1 10000 5
 load a1 20000 5
@@ -163,17 +166,53 @@ pub const MAPPED_FILE_EXAMPLE_REPLIES: &str = "1 ok a1
 5 ok c2
 6 ok
 7 ok r2
-8 ok
-9 chain c2:0+0*
-10 ok
-11 ok
+8 chain c2:0+0 c1:0+1*
+9 ok
+10 chain c1:0+0*
+11 chain c2:0+0*
 12 ok
-13 ok 48656c6c6f
-14 ok 68656c6c6f
+13 ok
+14 ok 48456c6c6f
 15 ok
-16 ok
-17 no NoSegment
-18 stat live 1 working 0 copies 1
+16 ok 48656c6c6f
+17 ok 68656c6c6f
+18 ok
+19 ok
+20 no NoSegment
+21 stat live 1 working 0 copies 1
+";
+
+// examples/failing_disk, letter for letter.
+pub const FAILING_DISK_EXAMPLE: &str = "open 1
+actor
+temp 4
+map a1 c1 0 4 10000 rw
+store a1 10000 01
+store a1 11000 02
+store a1 12000 03
+store a1 13000 04
+load a1 13000 1
+load a1 10000 1
+load a1 11000 1
+load a1 12000 1
+pageout 1
+stat
+";
+
+pub const FAILING_DISK_EXAMPLE_REPLIES: &str = "1 fault mapper open
+2 ok a1
+3 ok c1
+4 ok r1
+5 ok
+6 ok
+7 ok
+8 fault mapper victim
+9 ok 00
+10 ok 01
+11 ok 02
+12 ok 03
+13 fault mapper victim
+14 stat live 4 working 0 copies 0
 ";
 
 // Text that two actors share, and data that is forked three times, in six frames.
