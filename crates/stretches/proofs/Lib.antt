@@ -1,3 +1,7 @@
+-- Entries in leaves: the list that they are, and how many leaves they fill.
+pub mod Leaves
+-- Leaves in slots: what each has, and which slots are free.
+pub mod Slots
 -- What stretches say of a number, and which stretch says it.
 pub mod Reading
 -- What they say after a change.

@@ -1,8 +1,11 @@
 pub mod Cells
 pub mod Changes
 pub mod GoingOn
+pub mod Leaves
 pub mod Places
 pub mod Rising
+pub mod Slots
+pub mod Spots
 pub mod Steps
 pub mod Stretch
 pub mod Stretches

@@ -6,8 +6,9 @@ ghost use Rattle.stretches.specs.Changes.{IsVacantFor, SayAlso, SayNoMore, SayOf
 ghost use Rattle.stretches.specs.Stretch.{IsFit, single};
 ghost use Rattle.stretches.specs.Stretches.{AreTogether, BeginsAt, HasPlaces, IsNextFrom, IsStretchFrom, IsStretchWith, MeetAt, number_count, said};
 
-use crate::bounds::{insert_at, isolate, join_before, split, try_move_bound};
-use crate::lookup::{first_behind, index_of, next_behind, stretch_with};
+use crate::bounds::{isolate, join_before, split, try_move_bound};
+use crate::directory::Directory;
+use crate::lookup::{first_behind, next_behind, spot_of, stretch_with};
 use crate::{Says, Stretch};
 use std::alloc::{AllocError, Global};
 use std::marker::Model;
@@ -15,18 +16,18 @@ use std::marker::Model;
 /// Stretches of numbers in order, no two of which have a number in common.
 #[derive(Drop)]
 pub struct StretchList<V: Says> {
-    stretches: Vec<Stretch<V>>,
+    stretches: Directory<Stretch<V>>,
 }
 
 impl<V: Says> Model for StretchList<V> {
-    ghost use Rattle.std.specs.Vec.{vec_capacity};
+    ghost use Rattle.stretches.specs.Leaves.{entries};
     ghost use Rattle.stretches.specs.Stretches.{AreInOrder, Stretches};
 
     ghost Value = { Stretches V };
 
-    ghost view = { λ l. record { list = l.stretches.items; places = vec_capacity l.stretches } };
+    ghost view = { λ l. record { list = entries l.stretches; places = l.stretches.places } };
 
-    ghost invariant = { λ l. AreInOrder V.Says 0 l.stretches.items };
+    ghost invariant = { λ l. AreInOrder V.Says 0 (entries l.stretches) };
 }
 
 impl<V: Says> StretchList<V> {
@@ -35,7 +36,7 @@ impl<V: Says> StretchList<V> {
         ensures { result.list ≡ [] }
     {
         StretchList {
-            stretches: Vec::new(alloc),
+            stretches: Directory::new(alloc),
         }
     }
 
@@ -47,8 +48,7 @@ impl<V: Says> StretchList<V> {
         ensures no_fewer { self.old.places ≤ self.new.places }
         ensures enough { total ≤ self.old.places → IsOk result }
     {
-        let more = total.saturating_sub(self.stretches.len());
-        self.stretches.reserve(more)
+        self.stretches.reserve(total)
     }
 
     /// How many stretches there are.
@@ -107,8 +107,8 @@ impl<V: Says> StretchList<V> {
         ensures count { number_count self.new.list ≡ number_count self.old.list }
         ensures places { self.new.places ≡ self.old.places }
     {
-        if let Some(at) = index_of(&self.stretches, number) {
-            let stretch = self.stretches[at];
+        if let Some(at) = spot_of(&self.stretches, number) {
+            let stretch = self.stretches.get(at);
             let by = (number - stretch.first) as u32;
             if by > 0 {
                 split(&mut self.stretches, at, stretch, by);
@@ -143,7 +143,7 @@ impl<V: Says> StretchList<V> {
         ensures places { self.new.places ≡ self.old.places }
     {
         let at = first_behind(&self.stretches, stretch.first);
-        insert_at(&mut self.stretches, at, stretch);
+        self.stretches.insert(at, stretch);
     }
 
     /// Takes out the stretch that has a number, which is in one.
@@ -156,7 +156,7 @@ impl<V: Says> StretchList<V> {
         ensures count { number_count self.new.list + result.count ≡ number_count self.old.list }
         ensures places { self.new.places ≡ self.old.places }
     {
-        match index_of(&self.stretches, number) {
+        match spot_of(&self.stretches, number) {
             Some(at) => self.stretches.remove(at),
             None => unreachable!(),
         }
@@ -207,6 +207,6 @@ impl<V: Says> StretchList<V> {
         ensures places { self.new.places ≡ self.old.places }
     {
         let at = isolate(&mut self.stretches, stretch.first, stretch.count);
-        self.stretches[at] = stretch;
+        self.stretches.set(at, stretch);
     }
 }

@@ -23,6 +23,12 @@ module _ {V : Type 0} where
       omega arith
   count_merged (x ∷ y ∷ rs) (suc at) a b less first second = ap (λ (k : ℕ). x.count + k) (count_merged (y ∷ rs) at a b (omega arith) first second)
 
+  pub length_merged : (rs : List (Stretch V)) (at : ℕ) (a b : Stretch V) → suc at < length rs → length (merged rs at a b) + 1 ≡ length rs
+  length_merged [] at a b less = absurd (omega arith)
+  length_merged (x ∷ []) at a b less = absurd (omega arith)
+  length_merged (x ∷ y ∷ rs) zero a b less = omega arith
+  length_merged (x ∷ y ∷ rs) (suc at) a b less = omega (arith, length_merged (y ∷ rs) at a b (omega arith))
+
 module _ {V : Type 0} (S : Ghosts V) (laws : GoesOn S.after S.lasts) where
   pub said_merged : (rs : List (Stretch V)) (at : ℕ) (a b : Stretch V) → suc at < length rs → get_or rs at a ≡ a → get_or rs (suc at) b ≡ b → Continues S a b → (n : ℕ) → said S (merged rs at a b) n ≡ said S rs n
   said_merged [] at a b less first second follows n = absurd (omega arith)

@@ -39,3 +39,12 @@ module _ {V : Type 0} (S : Ghosts V) where
         let continues : Continues S a b = subst (λ (r : Stretch V). Continues S r b) (sym a_is) (subst (λ (r : Stretch V). Continues S (get_or rs m.at a) r) (sym b_is) (m.continues a)) in
         let few : a.count + b.count < 2 ^ 32 = omega (arith, m.few a, ap (λ (r : Stretch V). r.count) a_is, ap (λ (r : Stretch V). r.count) b_is) in
         (continues, few)
+
+  -- the last two stretches that begin at the number or before it are those that meet there
+  pub pair_meets : (rs : List (Stretch V)) → AreInOrder S 0 rs → (n k : ℕ) → IsFirstBehind rs n (k + 2) → MeetAt S rs n → (a b : Stretch V) → a ≡ get_or rs k a → b ≡ get_or rs (k + 1) b → (b.first ≡ n) × (Continues S a b × (a.count + b.count < 2 ^ 32))
+  pair_meets rs order n k place m a b first second =
+      let two_less : k ≡ (k + 2) - 2 = omega arith in
+      let one_less : k + 1 ≡ (k + 2) - 1 = omega arith in
+      let a_is = first ∙ ap (λ (q : ℕ). get_or rs q a) two_less in
+      let b_is = second ∙ ap (λ (q : ℕ). get_or rs q b) one_less in
+      (second_begins rs order n (k + 2) place m b b_is, first_continued rs order n (k + 2) place m a b a_is b_is)

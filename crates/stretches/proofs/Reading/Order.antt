@@ -1,6 +1,6 @@
 -- The order of the stretches of a list.
 use Rattle.std.proofs.Common.{◌≡◌, ℕ, zero, suc, ◌+◌, ◌<◌, ◌≤◌, true, false, leb, List, [], ◌∷◌, length, get_or, inl, inr, arith}
-use Rattle.std.specs.List.Sorted.{IsNonDecreasingBy, IsPartitionPoint}
+use Rattle.std.specs.List.Sorted.{IsPartitionPoint}
 use Rattle.std.proofs.lemmas.Bool.{cases_order, leb-true, leb-false}
 use Rattle.stretches.specs.declared.says.Says.{Ghosts}
 use Rattle.stretches.specs.declared.stretch.Stretch.{Stretch}
@@ -36,9 +36,6 @@ module _ {V : Type 0} (S : Ghosts V) where
   first_rises from (r ∷ rs) order (suc j) zero d le within = absurd (omega arith)
   first_rises from (r ∷ rs) order zero (suc k) d le within = omega (arith, rises (r.first + r.count) rs order.2 k d (omega arith))
   first_rises from (r ∷ rs) order (suc j) (suc k) d le within = first_rises (r.first + r.count) rs order.2 j k d (omega arith) (omega arith)
-
-  pub non_decreasing : (rs : List (Stretch V)) → AreInOrder S 0 rs → IsNonDecreasingBy (λ r. r.first) rs
-  non_decreasing rs order j k d le within = first_rises 0 rs order j k d le within
 
   -- two stretches that have a number are one
   pub one_place : (rs : List (Stretch V)) → AreInOrder S 0 rs → (n i j : ℕ) → HasAt rs n i → HasAt rs n j → (d : Stretch V) → i ≡ j
