@@ -16,3 +16,5 @@ pub mod Queue
 pub mod NewCache
 -- What holds between two commands.
 pub mod Whole
+-- A list of stretches when one number is set or cleared.
+pub mod Singles

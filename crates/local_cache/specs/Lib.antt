@@ -1,6 +1,7 @@
 pub mod Arena
 pub mod Changes
 pub mod Codes
+pub mod GoingOn
 pub mod Heap
 pub mod Home
 pub mod Layout
@@ -9,7 +10,11 @@ pub mod Own
 pub mod Queue
 pub mod Reading
 pub mod ReadingBy
+pub mod Records
+pub mod Runs
+pub mod Singles
 pub mod Sound
 pub mod Thin
+pub mod ThinNodes
 pub mod Threads
 pub mod Whole

@@ -1,0 +1,9 @@
+// All page nodes, as stretches of nodes that are alike.
+mod record;
+mod run;
+mod singles;
+mod thin_nodes;
+
+pub(crate) use record::Record;
+pub(crate) use run::{PlainState, Run, RunName};
+pub(crate) use thin_nodes::ThinNodes;
