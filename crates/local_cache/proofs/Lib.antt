@@ -18,3 +18,7 @@ pub mod NewCache
 pub mod Whole
 -- A list of stretches when one number is set or cleared.
 pub mod Singles
+-- The cells of nodes, as their runs and records say them.
+pub mod NodeCells
+-- The lists by which nodes are found.
+pub mod NodeKeys

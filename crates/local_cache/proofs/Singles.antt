@@ -151,3 +151,11 @@ module _ {X : Type 0} where
     | inl same ↦ chosen (eqb q k) (eq-eqb q k same) None (map.get m q) ∙ sym (ap (map.get m) same ∙ none)
     | inr other ↦ passed (eqb q k) (ne_eqb q k other) None (map.get m q)
   ])
+
+  -- to say again what is said changes nothing
+  pub insert_again : (m : FinMap nat_cmp X) (k : ℕ) (x : X) → map.get m k ≡ Some x
+      → m ≡ map.insert m k x
+  insert_again m k x is = same_maps _ _ (λ q. elim (cases_eq q k) [
+    | inl same ↦ ap (map.get m) same ∙ is ∙ sym (get_inserted m k x q ∙ chosen (eqb q k) (eq-eqb q k same) (Some x) (map.get m q))
+    | inr other ↦ sym (get_inserted m k x q ∙ passed (eqb q k) (ne_eqb q k other) (Some x) (map.get m q))
+  ])

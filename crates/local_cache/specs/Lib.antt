@@ -6,6 +6,8 @@ pub mod Heap
 pub mod Home
 pub mod Layout
 pub mod Lists
+pub mod NodeCells
+pub mod NodeKeys
 pub mod Own
 pub mod Queue
 pub mod Reading

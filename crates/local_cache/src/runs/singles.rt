@@ -32,10 +32,24 @@ pub(crate) fn set_one<V: Says>(list: &mut StretchList<V>, number: u64, value: V)
     ensures counted { IsCounted V.Says list.new }
     ensures places { list.new.places ≡ list.old.places }
 {
-    if list.get(number).is_some() {
+    match list.get(number) {
+        Some(before) => change_one(list, number, before, value),
+        None => add_one(list, number, value),
+    }
+}
+
+// Says this of a number of which something was said, if it isn't the same.
+fn change_one<V: Says>(list: &mut StretchList<V>, number: u64, before: V, value: V)
+    requires before { said V.Says list.old.list number ≡ Some before }
+    requires fit { IsFit V.Says (single number value) }
+    requires places { number_count list.old.list ≤ list.old.places }
+    ensures cells { cells V.Says list.new.list
+        ≡ map.insert (cells V.Says list.old.list) number value }
+    ensures count { number_count list.new.list ≡ number_count list.old.list }
+    ensures places { list.new.places ≡ list.old.places }
+{
+    if !before.is_same(value) {
         list.put_one(number, value);
-    } else {
-        add_one(list, number, value);
     }
 }
 
