@@ -22,3 +22,5 @@ pub mod Singles
 pub mod NodeCells
 -- The lists by which nodes are found.
 pub mod NodeKeys
+-- What is written of one node.
+pub mod Writing

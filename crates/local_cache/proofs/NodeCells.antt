@@ -7,12 +7,17 @@ use Rattle.std.specs.Cmp.{nat_cmp_total}
 use Rattle.std.specs.Ordering.{nat_cmp, eq_by_cmp}
 use Rattle.std.specs.FinMap.{FinMap, find, get-entries, get-from_entries, len-entries}
 use Rattle.std.specs.FinMap as map
-use Rattle.stretches.proofs.Cells.{tied, untied}
+use Rattle.stretches.specs.Cells.{cells}
+use Rattle.stretches.specs.Stretches.{said}
+use Rattle.stretches.proofs.Cells.{get_cells, tied, untied}
 use Rattle.stretches.proofs.Reading.Numbers.{chosen, passed}
+use Rattle.local_cache.specs.declared.runs.node_lists.NodeLists.{NodeLists}
 use Rattle.local_cache.specs.declared.runs.record.Record.{Record}
 use Rattle.local_cache.specs.declared.runs.run.Run.{Run}
 use Rattle.local_cache.specs.Arena.{Cell}
-use Rattle.local_cache.specs.NodeCells.{cell_by, cells_by}
+use Rattle.local_cache.specs.NodeCells.{cell_by, cells_by, node_cells}
+use Rattle.local_cache.specs.Records.{each}
+use Rattle.local_cache.specs.Runs.{run}
 use Rattle.local_cache.proofs.Singles.{get_inserted, get_removed, len_remove_old, same_maps}
 
 -- One number of a map set or cleared -------------------------------------------------
@@ -75,16 +80,17 @@ module _ {X : Type 0} where
           (e.0, e.1, get-entries m e.0 ∙ ap (find nat_cmp e.0) is
           ∙ chosen (eq_by_cmp nat_cmp e.0 e.0) (tied e.0 e.0 refl) (Some e.1) (find nat_cmp e.0 es))
 
-module _ {X Y : Type 0} (into : ℕ → X → ℕ) where
-  abbrev Held : FinMap nat_cmp X → FinMap nat_cmp Y → Type 0
-  Held m c = (k : ℕ) (x : X) → map.get m k ≡ Some x → IsSome (map.get c (into k x))
-
+module _ {X : Type 0} (into : ℕ → X → ℕ) where
   abbrev Apart : FinMap nat_cmp X → Type 0
   Apart m = (j k : ℕ) (x y : X) → map.get m j ≡ Some x → map.get m k ≡ Some y
       → into j x ≡ into k y → j ≡ k
 
+module _ {X Y : Type 0} (into : ℕ → X → ℕ) where
+  abbrev Held : FinMap nat_cmp X → FinMap nat_cmp Y → Type 0
+  Held m c = (k : ℕ) (x : X) → map.get m k ≡ Some x → IsSome (map.get c (into k x))
+
   go_into : (l : ℕ) (m : FinMap nat_cmp X) (c : FinMap nat_cmp Y) → map.len m ≡ l → Held m c
-      → Apart m → map.len m ≤ map.len c
+      → Apart into m → map.len m ≤ map.len c
   go_into zero m c is held apart = omega (arith, is)
   go_into (suc l) m c is held apart =
       let one = some_number m (omega (arith, is)) in
@@ -102,7 +108,7 @@ module _ {X Y : Type 0} (into : ℕ → X → ℕ) where
       omega (arith, less, fewer, rest)
 
   -- a map that goes into another one, no two numbers to one, has no more numbers
-  pub len_into : (m : FinMap nat_cmp X) (c : FinMap nat_cmp Y) → Held m c → Apart m
+  pub len_into : (m : FinMap nat_cmp X) (c : FinMap nat_cmp Y) → Held m c → Apart into m
       → map.len m ≤ map.len c
   len_into m c held apart = go_into (map.len m) m c refl held apart
 
@@ -178,3 +184,19 @@ cells_taken R D n =
         ∙ ap (option_map (λ s. cell_by s (map.get (map.remove D n) q))) (removed_other R n q other)
         ∙ ap (λ (o : Option Record). option_map (λ s. cell_by s o) (map.get R q)) (removed_other D n q other)
         ∙ sym (get_cells_by R D q))
+
+-- The lists -------------------------------------------------------------------------------
+
+module _ (l : NodeLists) (n : ℕ) where
+  pub node_run : IsSome (map.get (node_cells l) n) → IsSome (said run l.runs.list n)
+  node_run h =
+      ap is_some (sym (get_cells run l.runs.list n))
+      ∙ sym (held_by_run (cells run l.runs.list) (cells each l.records.list) n) ∙ h
+
+  pub node_cell : (r : Run) (o : Option Record) → said run l.runs.list n ≡ Some r
+      → said each l.records.list n ≡ o → map.get (node_cells l) n ≡ Some (cell_by r o)
+  node_cell r o run_is record_is =
+      get_cells_by (cells run l.runs.list) (cells each l.records.list) n
+      ∙ ap (λ (s : Option Run). option_map (λ q. cell_by q (map.get (cells each l.records.list) n)) s)
+      (get_cells run l.runs.list n ∙ run_is)
+      ∙ ap (λ (s : Option Record). Some (cell_by r s)) (get_cells each l.records.list n ∙ record_is)

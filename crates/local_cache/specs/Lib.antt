@@ -8,6 +8,7 @@ pub mod Layout
 pub mod Lists
 pub mod NodeCells
 pub mod NodeKeys
+pub mod NodeLists
 pub mod Own
 pub mod Queue
 pub mod Reading

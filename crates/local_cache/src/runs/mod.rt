@@ -1,12 +1,15 @@
 // All page nodes, as stretches of nodes that are alike.
 mod node_lists;
 mod record;
+mod parts;
 mod rekey;
 mod run;
 mod singles;
 mod thin_nodes;
+mod writing;
 
 pub(crate) use node_lists::NodeLists;
+pub(crate) use parts::Parts;
 pub(crate) use record::Record;
 pub(crate) use run::{PlainState, Run, RunName};
 pub(crate) use thin_nodes::ThinNodes;

@@ -21,7 +21,7 @@ fn is_same_state(one: OwnState, other: OwnState) -> bool
     one == other
 }
 
-fn is_same_links(one: Links, other: Links) -> bool
+pub(crate) fn is_same_links(one: Links, other: Links) -> bool
     ensures { IsTrue result ↔ (one ≡ other) }
 {
     one.by_stub == other.by_stub

@@ -1,0 +1,59 @@
+-- What holds of the lists in which page nodes stand.
+use Rattle.std.specs.Prelude.{◌≡◌, ℕ, ◌<◌, ◌≤◌, ◌^◌, IsSome}
+use Rattle.std.specs.FinMap as map
+use Rattle.stretches.specs.Cells.{cells}
+use Rattle.stretches.specs.Rising.{rising}
+use Rattle.local_cache.specs.declared.runs.node_lists.NodeLists.{NodeLists}
+use Rattle.local_cache.specs.Arena.{Cell}
+use Rattle.local_cache.specs.NodeCells.{node_cells}
+use Rattle.local_cache.specs.NodeKeys.{Indexes, even_key, odd_key, page_key}
+use Rattle.local_cache.specs.Records.{each}
+use Rattle.local_cache.specs.Runs.{run}
+use Rattle.local_cache.specs.Singles.{IsCounted}
+use Rattle.local_cache.specs.ThinNodes.{first_thin, thin_nodes}
+
+-- the numbers of each list are counted
+pub record AreCounted (l : NodeLists) : Type 0 where
+  pub runs : IsCounted run l.runs
+  pub records : IsCounted each l.records
+  pub pages : IsCounted rising l.pages
+  pub even : IsCounted thin_nodes l.even
+  pub odd : IsCounted thin_nodes l.odd
+
+-- each list has places for as many entries as there may be nodes
+pub record HavePlaces (l : NodeLists) : Type 0 where
+  pub few : l.capacity < 2 ^ 32
+  pub runs : l.capacity ≤ l.runs.places
+  pub records : l.capacity ≤ l.records.places
+  pub pages : l.capacity ≤ l.pages.places
+  pub even : l.capacity ≤ l.even.places
+  pub odd : l.capacity ≤ l.odd.places
+
+-- there are no more nodes than there may be, only nodes have records, and the lists are in order
+pub record IsKept (l : NodeLists) : Type 0 where
+  pub counted : AreCounted l
+  pub places : HavePlaces l
+  pub fits : map.len (node_cells l) ≤ l.capacity
+  pub recorded : (n : ℕ) → IsSome (map.get (cells each l.records.list) n)
+      → IsSome (map.get (node_cells l) n)
+
+-- nodes are found under their keys
+pub record IsIndexed (l : NodeLists) : Type 0 where
+  pub pages : Indexes (λ v. v.0) (cells rising l.pages.list) page_key (node_cells l)
+  pub even : Indexes (λ v. (first_thin v).0) (cells thin_nodes l.even.list) even_key (node_cells l)
+  pub odd : Indexes (λ v. (first_thin v).0) (cells thin_nodes l.odd.list) odd_key (node_cells l)
+
+-- the lists with other runs and records
+pub record IsWritten (old new : NodeLists) : Type 0 where
+  pub kept : IsKept new
+  pub others : new ≡ record old { runs = new.runs; records = new.records }
+
+-- this was written of a node, of which something else was said or nothing
+pub record HasWritten (old : NodeLists) (node : ℕ) (c : Cell) (new : NodeLists) : Type 0 where
+  pub written : IsWritten old new
+  pub cells : node_cells new ≡ map.insert (node_cells old) node c
+
+-- nothing is said of a node any more
+pub record HasErased (old : NodeLists) (node : ℕ) (new : NodeLists) : Type 0 where
+  pub written : IsWritten old new
+  pub cells : node_cells new ≡ map.remove (node_cells old) node
