@@ -1,12 +1,16 @@
 -- What holds of the lists in which page nodes stand.
-use Rattle.std.specs.Prelude.{◌≡◌, ℕ, ◌<◌, ◌≤◌, ◌^◌, IsSome}
+use Rattle.std.specs.Prelude.{◌≡◌, ℕ, ◌+◌, ◌<◌, ◌≤◌, ◌^◌, IfSome, IsSome}
 use Rattle.std.specs.FinMap as map
 use Rattle.stretches.specs.Cells.{cells}
 use Rattle.stretches.specs.Rising.{rising}
+use Rattle.stretches.specs.declared.rising.Rising.{Rising}
+use Rattle.local_cache.specs.declared.runs.keys.Keys.{Keys}
 use Rattle.local_cache.specs.declared.runs.node_lists.NodeLists.{NodeLists}
+use Rattle.local_cache.specs.declared.runs.thin_nodes.ThinNodes.{ThinNodes}
+use Rattle.local_cache.specs.declared.runs.thin_nodes.ThinNodes.TheVariants.{EverySecond}
 use Rattle.local_cache.specs.Arena.{Cell}
 use Rattle.local_cache.specs.NodeCells.{node_cells}
-use Rattle.local_cache.specs.NodeKeys.{Indexes, even_key, odd_key, page_key}
+use Rattle.local_cache.specs.NodeKeys.{Indexes, even_key, odd_key, page_key, rekeyed}
 use Rattle.local_cache.specs.Records.{each}
 use Rattle.local_cache.specs.Runs.{run}
 use Rattle.local_cache.specs.Singles.{IsCounted}
@@ -57,3 +61,36 @@ pub record HasWritten (old : NodeLists) (node : ℕ) (c : Cell) (new : NodeLists
 pub record HasErased (old : NodeLists) (node : ℕ) (new : NodeLists) : Type 0 where
   pub written : IsWritten old new
   pub cells : node_cells new ≡ map.remove (node_cells old) node
+
+-- a page's node and a thin node, as the lists by which they are found have them
+abbrev pub paged : ℕ → Rising
+paged node = record { 0 = node }
+
+abbrev pub thinned : ℕ → ThinNodes
+thinned node = EverySecond (record { 0 = node })
+
+-- the keys that a node gets are short of the greatest number, and the lists have places for it
+pub record CanMove (l : NodeLists) (node : ℕ) (before now : Keys) : Type 0 where
+  pub page : IfSome now.page (λ k. k + 1 < 2 ^ 64)
+  pub even_key : IfSome now.even (λ k. k + 1 < 2 ^ 64)
+  pub odd_key : IfSome now.odd (λ k. k + 1 < 2 ^ 64)
+  pub pages : map.len (rekeyed (cells rising l.pages.list) before.page now.page (paged node))
+      ≤ l.capacity
+  pub even : map.len (rekeyed (cells thin_nodes l.even.list) before.even now.even (thinned node))
+      ≤ l.capacity
+  pub odd : map.len (rekeyed (cells thin_nodes l.odd.list) before.odd now.odd (thinned node))
+      ≤ l.capacity
+  pub fit_pages : map.len (cells rising l.pages.list) ≤ l.capacity
+  pub fit_even : map.len (cells thin_nodes l.even.list) ≤ l.capacity
+  pub fit_odd : map.len (cells thin_nodes l.odd.list) ≤ l.capacity
+
+-- a node stands under other keys than before
+pub record HasMoved (old : NodeLists) (node : ℕ) (before now : Keys) (new : NodeLists) : Type 0 where
+  pub kept : IsKept new
+  pub others : new ≡ record old { pages = new.pages; even = new.even; odd = new.odd }
+  pub pages : cells rising new.pages.list
+      ≡ rekeyed (cells rising old.pages.list) before.page now.page (paged node)
+  pub even : cells thin_nodes new.even.list
+      ≡ rekeyed (cells thin_nodes old.even.list) before.even now.even (thinned node)
+  pub odd : cells thin_nodes new.odd.list
+      ≡ rekeyed (cells thin_nodes old.odd.list) before.odd now.odd (thinned node)

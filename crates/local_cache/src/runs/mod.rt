@@ -1,4 +1,6 @@
 // All page nodes, as stretches of nodes that are alike.
+mod indexing;
+mod keys;
 mod node_lists;
 mod record;
 mod parts;
@@ -8,6 +10,7 @@ mod singles;
 mod thin_nodes;
 mod writing;
 
+pub(crate) use keys::Keys;
 pub(crate) use node_lists::NodeLists;
 pub(crate) use parts::Parts;
 pub(crate) use record::Record;
