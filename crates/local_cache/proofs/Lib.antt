@@ -24,3 +24,5 @@ pub mod NodeCells
 pub mod NodeKeys
 -- What is written of one node.
 pub mod Writing
+-- A node placed in all lists, and taken out of them.
+pub mod Placing

@@ -76,9 +76,12 @@ module _ {X : Type 0} where
       go [] e =
           let none : map.len m ≡ 0 = len-entries m ∙ ap length e in
           absurd (omega (arith, none))
-      go (e ∷ es) is =
-          (e.0, e.1, get-entries m e.0 ∙ ap (find nat_cmp e.0) is
-          ∙ chosen (eq_by_cmp nat_cmp e.0 e.0) (tied e.0 e.0 refl) (Some e.1) (find nat_cmp e.0 es))
+      go (e ∷ es) is = (
+        e.0,
+        e.1,
+        get-entries m e.0 ∙ ap (find nat_cmp e.0) is
+            ∙ chosen (eq_by_cmp nat_cmp e.0 e.0) (tied e.0 e.0 refl) (Some e.1) (find nat_cmp e.0 es),
+      )
 
 module _ {X : Type 0} (into : ℕ → X → ℕ) where
   abbrev Apart : FinMap nat_cmp X → Type 0
@@ -100,10 +103,10 @@ module _ {X Y : Type 0} (into : ℕ → X → ℕ) where
       let rest = go_into l (map.remove m one.0) (map.remove c (into one.0 one.1))
       (omega (arith, is, less))
       (λ k x h.
-          let was = still_there m one.0 k x h in
-          ap is_some (removed_other c (into one.0 one.1) (into k x)
-          (λ same. was.0 (apart k one.0 x one.1 was.1 one.2 same)))
-          ∙ held k x was.1)
+      let was = still_there m one.0 k x h in
+      ap is_some (removed_other c (into one.0 one.1) (into k x)
+      (λ same. was.0 (apart k one.0 x one.1 was.1 one.2 same)))
+      ∙ held k x was.1)
       (λ j k x y h i same. apart j k x y (still_there m one.0 j x h).1 (still_there m one.0 k y i).1 same) in
       omega (arith, less, fewer, rest)
 
@@ -168,10 +171,10 @@ cells_set R D D' n r others =
     inserted_by _ _ n _
     (get_cells_by _ _ n ∙ ap (option_map (λ s. cell_by s (map.get D' n))) (inserted_here R n r))
     (λ q other.
-        get_cells_by _ _ q
-        ∙ ap (option_map (λ s. cell_by s (map.get D' q))) (inserted_other R n r q other)
-        ∙ ap (λ (o : Option Record). option_map (λ s. cell_by s o) (map.get R q)) (others q other)
-        ∙ sym (get_cells_by R D q))
+    get_cells_by _ _ q
+    ∙ ap (option_map (λ s. cell_by s (map.get D' q))) (inserted_other R n r q other)
+    ∙ ap (λ (o : Option Record). option_map (λ s. cell_by s o) (map.get R q)) (others q other)
+    ∙ sym (get_cells_by R D q))
 
 -- both taken away
 pub cells_taken : (R : FinMap nat_cmp Run) (D : FinMap nat_cmp Record) (n : ℕ)
@@ -180,10 +183,10 @@ cells_taken R D n =
     removed_by _ _ n
     (get_cells_by _ _ n ∙ ap (option_map (λ s. cell_by s (map.get (map.remove D n) n))) (removed_here R n))
     (λ q other.
-        get_cells_by _ _ q
-        ∙ ap (option_map (λ s. cell_by s (map.get (map.remove D n) q))) (removed_other R n q other)
-        ∙ ap (λ (o : Option Record). option_map (λ s. cell_by s o) (map.get R q)) (removed_other D n q other)
-        ∙ sym (get_cells_by R D q))
+    get_cells_by _ _ q
+    ∙ ap (option_map (λ s. cell_by s (map.get (map.remove D n) q))) (removed_other R n q other)
+    ∙ ap (λ (o : Option Record). option_map (λ s. cell_by s o) (map.get R q)) (removed_other D n q other)
+    ∙ sym (get_cells_by R D q))
 
 -- The lists -------------------------------------------------------------------------------
 

@@ -6,7 +6,6 @@ use Rattle.std.proofs.lemmas.Option.{none-some, same_Some}
 use Rattle.std.specs.Ordering.{nat_cmp}
 use Rattle.std.specs.FinMap.{FinMap}
 use Rattle.std.specs.FinMap as map
-use Rattle.stretches.proofs.Reading.Numbers.{chosen, passed}
 use Rattle.local_cache.specs.Arena.{Cell}
 use Rattle.local_cache.specs.NodeKeys.{Indexes, key_at, rekeyed, same_key, with_key, without_key}
 use Rattle.local_cache.proofs.NodeCells.{inserted_here, inserted_other, len_into, removed_here, removed_other}
@@ -63,7 +62,7 @@ module _ {V : Type 0} (number : V → ℕ) (m : FinMap nat_cmp V) (key : Cell �
       len_into (λ k v. number v) m cells
       (λ k v h. some_of (map.get cells (number v)) k (at_key k v h))
       (λ j k v w h i same. same_Some j k
-          (sym (at_key j v h) ∙ ap (key_at key cells) same ∙ at_key k w i))
+      (sym (at_key j v h) ∙ ap (key_at key cells) same ∙ at_key k w i))
 
   -- no two nodes have one key
   pub key_apart : (k i n : ℕ) → key_at key cells i ≡ Some k → key_at key cells n ≡ Some k → i ≡ n
@@ -125,12 +124,14 @@ module _ {V : Type 0} (number : V → ℕ) (m : FinMap nat_cmp V) (key : Cell �
     unfolding changed
     indexes_rekeyed k i = elim (cases_Bool (same_key before now)) [
       | inl same ↦
-          let stays : rekeyed m before now v ≡ m = chosen (same_key before now) same m _ in
-          let keys = alike (same_key_true before now same) i in
-          (λ h. keys ∙ (index k i).0 (sym (ap (λ (x : FinMap nat_cmp V). option_map number (map.get x k)) stays) ∙ h),
-          λ h. ap (λ (x : FinMap nat_cmp V). option_map number (map.get x k)) stays ∙ (index k i).1 (sym keys ∙ h))
+          let stays : rekeyed m before now v ≡ m = ap (λ (b : Bool). cond b m changed) same in
+          let keys = alike (same_key_true before now same) i in (
+            λ h. keys ∙ (index k i).0 (sym (ap (λ (x : FinMap nat_cmp V). option_map number (map.get x k)) stays) ∙ h),
+            λ h. ap (λ (x : FinMap nat_cmp V). option_map number (map.get x k)) stays ∙ (index k i).1 (sym keys ∙ h),
+          )
       | inr differ ↦
-          let moves : rekeyed m before now v ≡ changed = passed (same_key before now) differ m _ in
-          (λ h. found k i (sym (ap (λ (x : FinMap nat_cmp V). option_map number (map.get x k)) moves) ∙ h),
-          λ h. ap (λ (x : FinMap nat_cmp V). option_map number (map.get x k)) moves ∙ finds k i h)
+          let moves : rekeyed m before now v ≡ changed = ap (λ (b : Bool). cond b m changed) differ in (
+            λ h. found k i (sym (ap (λ (x : FinMap nat_cmp V). option_map number (map.get x k)) moves) ∙ h),
+            λ h. ap (λ (x : FinMap nat_cmp V). option_map number (map.get x k)) moves ∙ finds k i h,
+          )
     ]

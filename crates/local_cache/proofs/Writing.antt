@@ -42,19 +42,19 @@ module _ (l : NodeLists) (kept : IsKept l) where
     pub run_fits : (r : Run) → map.len (map.insert R n r) ≤ l.runs.places
     run_fits r =
         let same = sym (len_cells (map.insert R n r) D)
-            ∙ ap map.len (cells_set R D D n r (λ q other. refl))
-            ∙ len_insert_any (node_cells l) n _ c in
+        ∙ ap map.len (cells_set R D D n r (λ q other. refl))
+        ∙ len_insert_any (node_cells l) n _ c in
         omega (arith, same, room, kept.places.runs)
 
     pub record_fits : (r : Record) → map.len (map.insert D n r) ≤ l.records.places
     record_fits r =
         let within = len_within (map.insert D n r) (map.insert (node_cells l) n c) (λ k h.
-            elim (cases_eq k n) [
-              | inl same ↦ ap is_some (ap (map.get (map.insert (node_cells l) n c)) same ∙ inserted_here (node_cells l) n c)
-              | inr other ↦
-                  ap is_some (inserted_other (node_cells l) n c k other)
-                  ∙ kept.recorded k (sym (ap is_some (inserted_other D n r k other)) ∙ h)
-            ]) in
+        elim (cases_eq k n) [
+          | inl same ↦ ap is_some (ap (map.get (map.insert (node_cells l) n c)) same ∙ inserted_here (node_cells l) n c)
+          | inr other ↦
+              ap is_some (inserted_other (node_cells l) n c k other)
+              ∙ kept.recorded k (sym (ap is_some (inserted_other D n r k other)) ∙ h)
+        ]) in
         omega (arith, within, room, kept.places.records)
 
     module _ (r : Run) (runs : Stretches Run) (records : Stretches Record)

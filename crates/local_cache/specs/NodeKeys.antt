@@ -5,6 +5,7 @@ use Rattle.std.specs.FinMap.{FinMap}
 use Rattle.std.specs.FinMap as ids
 use Rattle.vm_ids.specs.declared.node_name.NodeName.{NodeName}
 use Rattle.vm_ids.specs.declared.node_name.NodeName.TheVariants.{Live, Working}
+use Rattle.local_cache.specs.declared.runs.keys.Keys.{Keys}
 use Rattle.local_cache.specs.Arena.{Cell}
 use Rattle.local_cache.specs.Queue.{thin_number}
 
@@ -44,6 +45,32 @@ abbrev pub Indexes : {V : Type 0} → (V → ℕ) → FinMap nat_cmp V → (Cell
     → FinMap nat_cmp Cell → Type 0
 Indexes number m key cells =
     (k n : ℕ) → (option_map number (ids.get m k) ≡ Some n) ↔ (key_at key cells n ≡ Some k)
+
+-- the number of a working node
+abbrev pub number_of_name : NodeName → Option ℕ
+number_of_name (Live cache page) = None
+number_of_name (Working k) = Some k
+
+abbrev pub working_number : Cell → Option ℕ
+working_number c = number_of_name c.name
+
+-- the keys of a node
+pub record AreKeysOf (c : Cell) (keys : Keys) : Type 0 where
+  pub page : keys.page ≡ page_key c
+  pub even : keys.even ≡ even_key c
+  pub odd : keys.odd ≡ odd_key c
+
+-- the keys of the node of a number, or none where there is no node
+pub record HasKeys (cells : FinMap nat_cmp Cell) (node : ℕ) (keys : Keys) : Type 0 where
+  pub page : key_at page_key cells node ≡ keys.page
+  pub even : key_at even_key cells node ≡ keys.even
+  pub odd : key_at odd_key cells node ≡ keys.odd
+
+-- no other node has the page or the working number that a node is named by
+pub record HasFreeName (cells : FinMap nat_cmp Cell) (node : ℕ) (c : Cell) : Type 0 where
+  pub page : (n k : ℕ) → page_key c ≡ Some k → key_at page_key cells n ≡ Some k → n ≡ node
+  pub working : (n k : ℕ) → working_number c ≡ Some k → key_at working_number cells n ≡ Some k
+      → n ≡ node
 
 -- whether both are the same key, or none
 abbrev pub same_key : Option ℕ → Option ℕ → Bool

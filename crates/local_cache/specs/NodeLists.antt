@@ -1,5 +1,5 @@
 -- What holds of the lists in which page nodes stand.
-use Rattle.std.specs.Prelude.{◌≡◌, ℕ, ◌+◌, ◌<◌, ◌≤◌, ◌^◌, IfSome, IsSome}
+use Rattle.std.specs.Prelude.{◌≡◌, ℕ, ◌+◌, ◌<◌, ◌≤◌, ◌^◌, IfSome, IsSome, None}
 use Rattle.std.specs.FinMap as map
 use Rattle.stretches.specs.Cells.{cells}
 use Rattle.stretches.specs.Rising.{rising}
@@ -10,7 +10,7 @@ use Rattle.local_cache.specs.declared.runs.thin_nodes.ThinNodes.{ThinNodes}
 use Rattle.local_cache.specs.declared.runs.thin_nodes.ThinNodes.TheVariants.{EverySecond}
 use Rattle.local_cache.specs.Arena.{Cell}
 use Rattle.local_cache.specs.NodeCells.{node_cells}
-use Rattle.local_cache.specs.NodeKeys.{Indexes, even_key, odd_key, page_key, rekeyed}
+use Rattle.local_cache.specs.NodeKeys.{Indexes, even_key, key_at, odd_key, page_key, rekeyed}
 use Rattle.local_cache.specs.Records.{each}
 use Rattle.local_cache.specs.Runs.{run}
 use Rattle.local_cache.specs.Singles.{IsCounted}
@@ -94,3 +94,23 @@ pub record HasMoved (old : NodeLists) (node : ℕ) (before now : Keys) (new : No
       ≡ rekeyed (cells thin_nodes old.even.list) before.even now.even (thinned node)
   pub odd : cells thin_nodes new.odd.list
       ≡ rekeyed (cells thin_nodes old.odd.list) before.odd now.odd (thinned node)
+
+-- a node was placed: this is said of it, and it is found by its keys
+pub record HasPlaced (old : NodeLists) (node : ℕ) (c : Cell) (new : NodeLists) : Type 0 where
+  pub kept : IsKept new
+  pub indexed : IsIndexed new
+  pub capacity : new.capacity ≡ old.capacity
+  pub pages : cells rising new.pages.list
+      ≡ rekeyed (cells rising old.pages.list) (key_at page_key (node_cells old) node) (page_key c)
+      (paged node)
+  pub cells : node_cells new ≡ map.insert (node_cells old) node c
+
+-- a node was taken out, and is not found any more
+pub record HasTaken (old : NodeLists) (node : ℕ) (new : NodeLists) : Type 0 where
+  pub kept : IsKept new
+  pub indexed : IsIndexed new
+  pub capacity : new.capacity ≡ old.capacity
+  pub pages : cells rising new.pages.list
+      ≡ rekeyed (cells rising old.pages.list) (key_at page_key (node_cells old) node) None
+      (paged node)
+  pub cells : node_cells new ≡ map.remove (node_cells old) node

@@ -1,8 +1,9 @@
 // Under which keys a page node is found.
-ghost use Rattle.std.specs.Prelude.{◌≡◌};
+ghost use Rattle.std.specs.Prelude.{◌≡◌, ◌+◌, ◌<◌, ◌^◌, IfSome};
 ghost use Rattle.local_cache.specs.NodeCells.{cell_of};
-ghost use Rattle.local_cache.specs.NodeKeys.{even_half, even_key, odd_half, odd_key, page_key, page_number};
+ghost use Rattle.local_cache.specs.NodeKeys.{AreKeysOf, even_half, odd_half, page_key, page_number};
 ghost use Rattle.local_cache.specs.Queue.{thin_number};
+ghost use Rattle.local_cache.specs.Runs.{HasNames};
 
 use crate::runs::Parts;
 use vm_ids::{CacheId, NodeName, PageNo};
@@ -32,7 +33,9 @@ pub(crate) fn page_number(cache: CacheId, page: PageNo) -> u64
 }
 
 fn page_key(parts: Parts) -> Option<u64>
-    ensures { result ≡ page_key (cell_of parts.run parts.record) }
+    requires { HasNames parts.run.name 1 }
+    ensures key { result ≡ page_key (cell_of parts.run parts.record) }
+    ensures short { IfSome result (λ k. k + 1 < 2 ^ 64) }
 {
     match parts.name() {
         NodeName::Live(cache, page) => Some(page_number(cache, page)),
@@ -52,7 +55,8 @@ fn thin_number(parts: Parts) -> Option<u64>
 }
 
 fn even_half(number: u64) -> Option<u64>
-    ensures { result ≡ even_half number }
+    ensures half { result ≡ even_half number }
+    ensures short { IfSome result (λ k. k + 1 < 2 ^ 64) }
 {
     if number % 2 == 0 {
         Some(number / 2)
@@ -62,7 +66,8 @@ fn even_half(number: u64) -> Option<u64>
 }
 
 fn odd_half(number: u64) -> Option<u64>
-    ensures { result ≡ odd_half number }
+    ensures half { result ≡ odd_half number }
+    ensures short { IfSome result (λ k. k + 1 < 2 ^ 64) }
 {
     if number % 2 == 0 {
         None
@@ -73,9 +78,11 @@ fn odd_half(number: u64) -> Option<u64>
 
 // The keys of a node of which this is said.
 pub(crate) fn keys_of(parts: Parts) -> Keys
-    ensures page { result.page ≡ page_key (cell_of parts.run parts.record) }
-    ensures even { result.even ≡ even_key (cell_of parts.run parts.record) }
-    ensures odd { result.odd ≡ odd_key (cell_of parts.run parts.record) }
+    requires { HasNames parts.run.name 1 }
+    ensures keys { AreKeysOf (cell_of parts.run parts.record) result }
+    ensures page { IfSome result.page (λ k. k + 1 < 2 ^ 64) }
+    ensures even { IfSome result.even (λ k. k + 1 < 2 ^ 64) }
+    ensures odd { IfSome result.odd (λ k. k + 1 < 2 ^ 64) }
 {
     let page = page_key(parts);
     match thin_number(parts) {

@@ -2,8 +2,9 @@
 mod indexing;
 mod keys;
 mod node_lists;
-mod record;
 mod parts;
+mod placing;
+mod record;
 mod rekey;
 mod run;
 mod singles;
