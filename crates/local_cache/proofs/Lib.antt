@@ -26,3 +26,5 @@ pub mod NodeKeys
 pub mod Writing
 -- A node placed in all lists, and taken out of them.
 pub mod Placing
+-- What holds of all lists and counters, after a change of one node.
+pub mod NodeRuns

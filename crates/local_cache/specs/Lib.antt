@@ -9,7 +9,9 @@ pub mod Lists
 pub mod NodeCells
 pub mod NodeKeys
 pub mod NodeLists
+pub mod NodeRuns
 pub mod Own
+pub mod PageNodes
 pub mod Queue
 pub mod Reading
 pub mod ReadingBy

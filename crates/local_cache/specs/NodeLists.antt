@@ -1,5 +1,5 @@
 -- What holds of the lists in which page nodes stand.
-use Rattle.std.specs.Prelude.{◌≡◌, ℕ, ◌+◌, ◌<◌, ◌≤◌, ◌^◌, IfSome, IsSome, None}
+use Rattle.std.specs.Prelude.{◌≡◌, ℕ, ◌+◌, ◌<◌, ◌≤◌, ◌^◌, IfSome, IsSome, None, []}
 use Rattle.std.specs.FinMap as map
 use Rattle.stretches.specs.Cells.{cells}
 use Rattle.stretches.specs.Rising.{rising}
@@ -15,6 +15,15 @@ use Rattle.local_cache.specs.Records.{each}
 use Rattle.local_cache.specs.Runs.{run}
 use Rattle.local_cache.specs.Singles.{IsCounted}
 use Rattle.local_cache.specs.ThinNodes.{first_thin, thin_nodes}
+
+-- there is no node, and no room for one
+pub record AreEmpty (l : NodeLists) : Type 0 where
+  pub runs : l.runs.list ≡ []
+  pub records : l.records.list ≡ []
+  pub pages : l.pages.list ≡ []
+  pub even : l.even.list ≡ []
+  pub odd : l.odd.list ≡ []
+  pub capacity : l.capacity ≡ 0
 
 -- the numbers of each list are counted
 pub record AreCounted (l : NodeLists) : Type 0 where

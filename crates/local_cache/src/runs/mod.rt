@@ -1,7 +1,9 @@
 // All page nodes, as stretches of nodes that are alike.
+mod counters;
 mod indexing;
 mod keys;
 mod node_lists;
+mod node_runs;
 mod parts;
 mod placing;
 mod record;
@@ -11,8 +13,10 @@ mod singles;
 mod thin_nodes;
 mod writing;
 
+pub(crate) use counters::Counters;
 pub(crate) use keys::Keys;
 pub(crate) use node_lists::NodeLists;
+pub(crate) use node_runs::NodeRuns;
 pub(crate) use parts::Parts;
 pub(crate) use record::Record;
 pub(crate) use run::{PlainState, Run, RunName};

@@ -1,4 +1,6 @@
 // The lists in which the page nodes stand.
+ghost use Rattle.local_cache.specs.NodeLists.{AreEmpty};
+
 use crate::runs::{Record, Run, ThinNodes};
 use std::alloc::Global;
 use stretches::{Rising, StretchList};
@@ -23,7 +25,9 @@ pub(crate) struct NodeLists {
 
 impl NodeLists {
     // No node, and no memory for one.
-    pub(crate) fn new(alloc: Global) -> Self {
+    pub(crate) fn new(alloc: Global) -> Self
+        ensures { AreEmpty result }
+    {
         NodeLists {
             runs: StretchList::new(alloc),
             records: StretchList::new(alloc),

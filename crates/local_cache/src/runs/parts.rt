@@ -123,4 +123,45 @@ impl Parts {
     {
         self.run.older.is_some() as usize + self.run.newer.is_some() as usize
     }
+
+    // The same with other links.
+    pub(crate) fn hanging(self, links: Links) -> Parts
+        ensures cell { cell_of result.run result.record
+            ≡ record (cell_of self.run self.record) { links = links } }
+        ensures name { result.run.name ≡ self.run.name }
+    {
+        let (parent, beside) = if links.by_stub {
+            (None, links)
+        } else {
+            let none = Links {
+                parent: None,
+                ..links
+            };
+            (links.parent, none)
+        };
+        Parts {
+            run: Run { parent, ..self.run },
+            record: Record {
+                own: self.record.own,
+                links: beside,
+            },
+        }
+    }
+
+    // The same with other tree children.
+    pub(crate) fn over(self, children: &[NodeId]) -> Parts
+        requires { length children.now ≤ 2 }
+        ensures cell { cell_of result.run result.record
+            ≡ record (cell_of self.run self.record) { tree = children.now } }
+        ensures name { result.run.name ≡ self.run.name }
+    {
+        Parts {
+            run: Run {
+                older: children.first().copied(),
+                newer: children.get(1).copied(),
+                ..self.run
+            },
+            record: self.record,
+        }
+    }
 }

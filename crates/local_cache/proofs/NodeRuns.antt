@@ -1,0 +1,283 @@
+-- What holds of the lists and the counters of the page nodes, after a change of one node.
+use Rattle.std.proofs.Common.{◌≡◌, ◌≢◌, ℕ, ◌+◌, ◌-◌, ◌<◌, ◌≤◌, ◌^◌, Bool, true, false, cond, List, [], Option, Some, None, IsSome, is_some, refl, ap, sym, subst, ◌∙◌, inl, inr, arith}
+use Rattle.std.specs.Prelude.{◌⊎◌, ◌==◌, option_and_then, option_map}
+use Rattle.std.proofs.lemmas.Bool.{cases_Bool, cases_eq, cases_lt, eq-eqb, false≢true}
+use Rattle.std.proofs.lemmas.Option.{none-some, same_Some}
+use Rattle.std.specs.Ordering.{nat_cmp}
+use Rattle.std.specs.FinMap.{FinMap, len-empty}
+use Rattle.std.specs.FinMap as map
+use Rattle.stretches.specs.Cells.{cells}
+use Rattle.stretches.specs.Rising.{rising}
+use Rattle.stretches.specs.Stretches.{Stretches, number_count, said}
+use Rattle.stretches.specs.declared.rising.Rising.{Rising}
+use Rattle.stretches.specs.declared.says.Says.{Ghosts}
+use Rattle.stretches.specs.declared.stretch.Stretch.{Stretch}
+use Rattle.stretches.proofs.Cells.{get_cells}
+use Rattle.vm_ids.specs.declared.node_name.NodeName.{NodeName}
+use Rattle.local_cache.specs.declared.runs.counters.Counters.{Counters}
+use Rattle.local_cache.specs.declared.runs.keys.Keys.{Keys}
+use Rattle.local_cache.specs.declared.runs.node_lists.NodeLists.{NodeLists}
+use Rattle.local_cache.specs.declared.runs.run.Run.{Run}
+use Rattle.local_cache.specs.declared.runs.thin_nodes.ThinNodes.{ThinNodes}
+use Rattle.local_cache.specs.Arena.{Cell}
+use Rattle.local_cache.specs.NodeCells.{cells_by, node_cells}
+use Rattle.local_cache.specs.NodeKeys.{AreKeysOf, HasFreeName, HasKeys, Indexes, even_key, key_at, number_of_name, odd_key, page_key, page_of_name, rekeyed, same_key, with_key, without_key, working_number}
+use Rattle.local_cache.specs.NodeLists.{AreCounted, AreEmpty, HasPlaced, HasTaken, HavePlaces, IsIndexed, IsKept, paged}
+use Rattle.local_cache.specs.NodeRuns.{IsGiven, IsNumbered, IsRight, nodes_of}
+use Rattle.local_cache.specs.PageNodes.{PageNodes}
+use Rattle.local_cache.specs.Records.{each}
+use Rattle.local_cache.specs.Runs.{run}
+use Rattle.local_cache.specs.Singles.{IsCounted}
+use Rattle.local_cache.specs.ThinNodes.{first_thin, thin_nodes}
+use Rattle.local_cache.proofs.NodeCells.{held_by_run, inserted_here, inserted_other, len_cells, removed_here, removed_other}
+use Rattle.local_cache.proofs.NodeKeys.{key_apart}
+use Rattle.local_cache.proofs.Singles.{len_insert_new, len_insert_old, len_remove_old, none_of}
+
+-- No nodes --------------------------------------------------------------------------------
+
+module _ {V : Type 0} (S : Ghosts V) where
+  empty_len : (rs : List (Stretch V)) → rs ≡ [] → map.len (cells S rs) ≡ 0
+  unfolding cells
+  empty_len rs none = ap (λ (xs : List (Stretch V)). map.len (cells S xs)) none ∙ len-empty nat_cmp V
+
+  empty_get : (rs : List (Stretch V)) → rs ≡ [] → (n : ℕ) → map.get (cells S rs) n ≡ None
+  empty_get rs none n = get_cells S rs n ∙ ap (λ (xs : List (Stretch V)). said S xs n) none
+
+  empty_counted : (l : Stretches V) → l.list ≡ [] → IsCounted S l
+  empty_counted l none = ap number_count none ∙ sym (empty_len l.list none)
+
+module _ (l : NodeLists) (empty : AreEmpty l) where
+  pub no_node : (n : ℕ) → map.get (node_cells l) n ≡ None
+  no_node n =
+      none_of _ (held_by_run (cells run l.runs.list) (cells each l.records.list) n
+      ∙ ap is_some (empty_get run l.runs.list empty.runs n))
+
+  no_nodes : map.len (node_cells l) ≡ 0
+  no_nodes = len_cells (cells run l.runs.list) (cells each l.records.list) ∙ empty_len run l.runs.list empty.runs
+
+  no_key : (key : Cell → Option ℕ) (n k : ℕ) → key_at key (node_cells l) n ≡ Some k → ⊥
+  no_key key n k h = none-some k (sym (ap (option_and_then key) (no_node n)) ∙ h)
+
+  no_index : {V : Type 0} (S : Ghosts V) (number : V → ℕ) (key : Cell → Option ℕ) (s : Stretches V)
+      → s.list ≡ [] → Indexes number (cells S s.list) key (node_cells l)
+  no_index S number key s none k n = (
+    λ h. absurd (none-some n (sym (ap (option_map number) (empty_get S s.list none k)) ∙ h)),
+    λ h. absurd (no_key key n k h),
+  )
+
+  no_some : {A : Type 0} (o : Option A) → o ≡ None → IsSome o → ⊥
+  no_some o none some = false≢true (sym (ap is_some none) ∙ some)
+
+  pub empty_right : (c : Counters) → c.nodes ≡ 0 → c.live ≡ 0 → c.next_page ≤ 2 ^ 52
+      → c.next_working ≡ 2 ^ 52 → c.made ≡ 0 → IsRight l c
+  empty_right c nodes live page working made =
+      record {
+        kept = record {
+          counted = record {
+            runs = empty_counted run l.runs empty.runs;
+            records = empty_counted each l.records empty.records;
+            pages = empty_counted rising l.pages empty.pages;
+            even = empty_counted thin_nodes l.even empty.even;
+            odd = empty_counted thin_nodes l.odd empty.odd;
+          };
+          places = record {
+            few = omega (arith, empty.capacity);
+            runs = omega (arith, empty.capacity);
+            records = omega (arith, empty.capacity);
+            pages = omega (arith, empty.capacity);
+            even = omega (arith, empty.capacity);
+            odd = omega (arith, empty.capacity);
+          };
+          fits = omega (arith, no_nodes);
+          recorded = λ n h. absurd (no_some _ (empty_get each l.records.list empty.records n) h);
+        };
+        indexed = record {
+          pages = no_index rising (λ v. v.0) page_key l.pages empty.pages;
+          even = no_index thin_nodes (λ v. (first_thin v).0) even_key l.even empty.even;
+          odd = no_index thin_nodes (λ v. (first_thin v).0) odd_key l.odd empty.odd;
+        };
+        numbered = record {
+          given = λ n h. absurd (no_some _ (no_node n) h);
+          named = λ n k h. absurd (no_key working_number n k h);
+          apart = λ n m k h e. absurd (no_key working_number n k h);
+          pages = page;
+          workings = omega (arith, working);
+          few = omega (arith, working);
+          made = omega (arith, made);
+        };
+        nodes = nodes ∙ sym no_nodes;
+        live = live ∙ sym (empty_len rising l.pages.list empty.pages);
+      }
+
+-- Numbers and names --------------------------------------------------------------------------
+
+module _ (nodes : FinMap nat_cmp Cell) (c : Counters) (old : IsNumbered nodes c) (n : ℕ) where
+  -- a number that was given fits a u64 with the next ones
+  pub given_short : IsSome (map.get nodes n) → n + 2 < 2 ^ 64
+  given_short h = elim (old.given n h) [
+    | inl page ↦ omega (arith, page, old.pages)
+    | inr working ↦ omega (arith, working.1, old.few, old.made)
+  ]
+
+  module _ (x : Cell) (now : Counters) (pages : c.next_page ≤ now.next_page)
+      (workings : c.next_working ≤ now.next_working) (made : c.made ≤ now.made)
+      (is : IsGiven now n) (name : (k : ℕ) → working_number x ≡ Some k → k ≤ now.made)
+      (free : (m k : ℕ) → working_number x ≡ Some k → key_at working_number nodes m ≡ Some k → m ≡ n) where
+    given_still : (m : ℕ) → IsGiven c m → IsGiven now m
+    given_still m h = elim h [
+      | inl page ↦ inl (omega (arith, page, pages))
+      | inr working ↦ inr (working.0, omega (arith, working.1, workings))
+    ]
+
+    given_after : (m : ℕ) → IsSome (map.get (map.insert nodes n x) m) → IsGiven now m
+    given_after m h = elim (cases_eq m n) [
+      | inl same ↦ subst (IsGiven now) (sym same) is
+      | inr other ↦ given_still m (old.given m (sym (ap is_some (inserted_other nodes n x m other)) ∙ h))
+    ]
+
+    key_here : (m k : ℕ) → m ≡ n → key_at working_number (map.insert nodes n x) m ≡ Some k → working_number x ≡ Some k
+    key_here m k same h =
+        sym (ap (option_and_then working_number) (ap (map.get (map.insert nodes n x)) same ∙ inserted_here nodes n x)) ∙ h
+
+    key_other : (m k : ℕ) → m ≢ n → key_at working_number (map.insert nodes n x) m ≡ Some k → key_at working_number nodes m ≡ Some k
+    key_other m k other h = sym (ap (option_and_then working_number) (inserted_other nodes n x m other)) ∙ h
+
+    named_after : (m k : ℕ) → key_at working_number (map.insert nodes n x) m ≡ Some k → k ≤ now.made
+    named_after m k h = elim (cases_eq m n) [
+      | inl same ↦ name k (key_here m k same h)
+      | inr other ↦ omega (arith, old.named m k (key_other m k other h), made)
+    ]
+
+    apart_after : (i j k : ℕ) → key_at working_number (map.insert nodes n x) i ≡ Some k
+        → key_at working_number (map.insert nodes n x) j ≡ Some k → i ≡ j
+    apart_after i j k h e = elim (cases_eq i n) [
+      | inl first ↦ elim (cases_eq j n) [
+        | inl second ↦ first ∙ sym second
+        | inr other ↦ first ∙ sym (free j k (key_here i k first h) (key_other j k other e))
+      ]
+      | inr differs ↦ elim (cases_eq j n) [
+        | inl second ↦ free i k (key_here j k second e) (key_other i k differs h) ∙ sym second
+        | inr other ↦ old.apart i j k (key_other i k differs h) (key_other j k other e)
+      ]
+    ]
+
+    pub numbered_placed : now.next_page ≤ 2 ^ 52 → 2 ^ 52 ≤ now.next_working
+        → now.next_working ≤ 2 ^ 52 + now.made → now.made ≤ 2 ^ 63
+        → IsNumbered (map.insert nodes n x) now
+    numbered_placed most least few less =
+        record {
+          given = given_after;
+          named = named_after;
+          apart = apart_after;
+          pages = most;
+          workings = least;
+          few = few;
+          made = less;
+        }
+
+  -- without a node
+  left_key : (m k : ℕ) → key_at working_number (map.remove nodes n) m ≡ Some k → key_at working_number nodes m ≡ Some k
+  left_key m k h = elim (cases_eq m n) [
+    | inl same ↦
+        absurd (none-some k (sym (ap (option_and_then working_number) (ap (map.get (map.remove nodes n)) same ∙ removed_here nodes n)) ∙ h))
+    | inr other ↦ sym (ap (option_and_then working_number) (removed_other nodes n m other)) ∙ h
+  ]
+
+  left_given : (m : ℕ) → IsSome (map.get (map.remove nodes n) m) → IsGiven c m
+  left_given m h = elim (cases_eq m n) [
+    | inl same ↦
+        absurd (false≢true (sym (ap is_some (ap (map.get (map.remove nodes n)) same ∙ removed_here nodes n)) ∙ h))
+    | inr other ↦ old.given m (sym (ap is_some (removed_other nodes n m other)) ∙ h)
+  ]
+
+  pub numbered_taken : IsNumbered (map.remove nodes n) c
+  numbered_taken =
+      record {
+        given = left_given;
+        named = λ m k h. old.named m k (left_key m k h);
+        apart = λ i j k h e. old.apart i j k (left_key i k h) (left_key j k e);
+        pages = old.pages;
+        workings = old.workings;
+        few = old.few;
+        made = old.made;
+      }
+
+-- Keys ----------------------------------------------------------------------------------------
+
+-- the keys of a node of which this is said
+pub has_keys : (nodes : FinMap nat_cmp Cell) (n : ℕ) (x : Cell) (keys : Keys)
+    → map.get nodes n ≡ Some x → AreKeysOf x keys → HasKeys nodes n keys
+has_keys nodes n x keys is are =
+    record {
+      page = ap (option_and_then page_key) is ∙ sym are.page;
+      even = ap (option_and_then even_key) is ∙ sym are.even;
+      odd = ap (option_and_then odd_key) is ∙ sym are.odd;
+    }
+
+same_key_same : (o : Option ℕ) → same_key o o ≡ true
+same_key_same None = refl
+same_key_same (Some k) = eq-eqb k k refl
+
+-- a node under the keys that it has
+pub rekeyed_same : {V : Type 0} (m : FinMap nat_cmp V) (a b : Option ℕ) (v : V) → a ≡ b
+    → rekeyed m a b v ≡ m
+rekeyed_same m a b v e =
+    ap (λ (o : Option ℕ). rekeyed m o b v) e
+    ∙ ap (λ (t : Bool). cond t m (with_key (without_key m b) b v)) (same_key_same b)
+
+-- The lists after a change ----------------------------------------------------------------------
+
+-- another thing said of a node, but for its name
+module _ (l : NodeLists) (c : Counters) (right : IsRight l c) (n : ℕ) (old x : Cell)
+    (is : map.get (node_cells l) n ≡ Some old) (name : x.name ≡ old.name) where
+  number_kept : working_number x ≡ working_number old
+  number_kept = ap number_of_name name
+
+  page_kept : page_key x ≡ page_key old
+  page_kept = ap page_of_name name
+
+  number_was : (k : ℕ) → working_number x ≡ Some k → key_at working_number (node_cells l) n ≡ Some k
+  number_was k h = ap (option_and_then working_number) is ∙ sym number_kept ∙ h
+
+  pub free_kept : HasFreeName (node_cells l) n x
+  free_kept =
+      record {
+        page = λ m k new had. key_apart _ _ page_key (node_cells l) right.indexed.pages k m n had
+            (ap (option_and_then page_key) is ∙ sym page_kept ∙ new);
+        working = λ m k new had. right.numbered.apart m n k had (number_was k new);
+      }
+
+  pub len_kept : map.len (map.insert (node_cells l) n x) ≡ map.len (node_cells l)
+  len_kept = len_insert_old (node_cells l) n x (ap is_some is)
+
+  pub room_kept : map.len (map.insert (node_cells l) n x) ≤ l.capacity
+  room_kept = omega (arith, len_kept, right.kept.fits)
+
+  module _ (new : NodeLists) (placed : HasPlaced l n x new) where
+    pages_kept : cells rising new.pages.list ≡ cells rising l.pages.list
+    pages_kept =
+        placed.pages
+        ∙ rekeyed_same _ _ _ (paged n) (ap (option_and_then page_key) is ∙ sym page_kept)
+
+    pub right_changed : IsRight new c
+    right_changed =
+        record {
+          kept = placed.kept;
+          indexed = placed.indexed;
+          numbered = subst (λ (m : FinMap nat_cmp Cell). IsNumbered m c) (sym placed.cells)
+              (numbered_placed (node_cells l) c right.numbered n x c (omega arith) (omega arith) (omega arith)
+              (right.numbered.given n (ap is_some is))
+              (λ k h. right.numbered.named n k (number_was k h)) free_kept.working
+              right.numbered.pages right.numbered.workings right.numbered.few right.numbered.made);
+          nodes = right.nodes ∙ sym (ap map.len placed.cells ∙ len_kept);
+          live = right.live ∙ sym (ap map.len pages_kept);
+        }
+
+    pub nodes_changed : nodes_of new c ≡ record (nodes_of l c) { cells = map.insert (node_cells l) n x }
+    nodes_changed i = record {
+      cells = placed.cells i;
+      pages = pages_kept i;
+      made = c.made;
+      room = (let same : new.capacity - map.len (node_cells new) ≡ l.capacity - map.len (node_cells l) =
+          omega (arith, placed.capacity, ap map.len placed.cells, len_kept) in same) i;
+    }

@@ -1,0 +1,80 @@
+-- What a contract sees of the page nodes: their cells by number, and the nodes of pages.
+use Rattle.std.specs.Prelude.{◌≡◌, ◌⊎◌, ℕ, ◌+◌, ◌-◌, ◌<◌, ◌≤◌, ◌^◌, List, Option, Some, None, unwrap_or, IsSome}
+use Rattle.std.specs.Ordering.{nat_cmp}
+use Rattle.std.specs.FinMap.{FinMap}
+use Rattle.std.specs.FinMap as ids
+use Rattle.stretches.specs.declared.rising.Rising.{Rising}
+use Rattle.vm_ids.specs.declared.node_name.NodeName.{NodeName}
+use Rattle.vm_ids.specs.declared.node_name.NodeName.TheVariants.{Working}
+use Rattle.vm_ids.specs.declared.numbers.NodeId.{NodeId}
+use Rattle.local_cache.specs.declared.links.Links.{Links}
+use Rattle.local_cache.specs.declared.own_state.OwnState.{OwnState}
+use Rattle.local_cache.specs.declared.own_state.OwnState.TheVariants.{Absent}
+use Rattle.local_cache.specs.Arena.{Cell, blank, new_cell}
+use Rattle.local_cache.specs.NodeKeys.{number_of_name, page_of_name, rekeyed, with_key, without_key}
+
+-- the nodes by number, the node of each page by the number of the page among those of all caches,
+-- how many working names were given, and how many more nodes fit before memory is taken
+pub record PageNodes : Type 0 where
+  pub cells : FinMap nat_cmp Cell
+  pub pages : FinMap nat_cmp Rising
+  pub made : ℕ
+  pub room : ℕ
+
+abbrev pub find : PageNodes → NodeId → Option Cell
+find m n = ids.get m.cells n.0
+
+abbrev pub HasNode : PageNodes → NodeId → Type 0
+HasNode m n = IsSome (find m n)
+
+-- the node, or a blank one
+unfoldable pub cell : PageNodes → NodeId → Cell
+cell m n = unwrap_or (find m n) blank
+
+-- another cell at a number
+unfoldable pub put : PageNodes → NodeId → Cell → PageNodes
+put m n c = record m { cells = ids.insert m.cells n.0 c }
+
+abbrev pub with_own : PageNodes → NodeId → OwnState → PageNodes
+with_own m n s = put m n (record (cell m n) { own = s })
+
+abbrev pub with_links : PageNodes → NodeId → Links → PageNodes
+with_links m n l = put m n (record (cell m n) { links = l })
+
+abbrev pub with_tree : PageNodes → NodeId → List NodeId → PageNodes
+with_tree m n ts = put m n (record (cell m n) { tree = ts })
+
+-- the node of a page, as the list of pages has it
+abbrev pub of_page : NodeId → Rising
+of_page n = record { 0 = n.0 }
+
+-- the node under another name
+abbrev pub with_name : PageNodes → NodeId → NodeName → PageNodes
+with_name m n x =
+    record (put m n (record (cell m n) { name = x })) {
+      pages = rekeyed m.pages (page_of_name (cell m n).name) (page_of_name x) (of_page n);
+    }
+
+-- the node under the next working name
+abbrev pub as_working : PageNodes → NodeId → PageNodes
+as_working m n = record (with_name m n (Working (m.made + 1))) { made = m.made + 1 }
+
+-- a new node at a number
+unfoldable pub with_new : PageNodes → NodeId → NodeName → OwnState → PageNodes
+with_new m n x s = record m {
+  cells = ids.insert m.cells n.0 (new_cell x s);
+  pages = with_key m.pages (page_of_name x) (of_page n);
+  room = m.room - 1;
+}
+
+-- a new node under the next working name
+abbrev pub with_working : PageNodes → NodeId → PageNodes
+with_working m n = record (with_new m n (Working (m.made + 1)) Absent) { made = m.made + 1 }
+
+-- the nodes without this one
+unfoldable pub without : PageNodes → NodeId → PageNodes
+without m n = record m {
+  cells = ids.remove m.cells n.0;
+  pages = without_key m.pages (page_of_name (cell m n).name);
+  room = m.room + 1;
+}
