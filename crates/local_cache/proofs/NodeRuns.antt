@@ -1,7 +1,7 @@
 -- What holds of the lists and the counters of the page nodes, after a change of one node.
 use Rattle.std.proofs.Common.{◌≡◌, ◌≢◌, ℕ, ◌+◌, ◌-◌, ◌<◌, ◌≤◌, ◌^◌, Bool, true, false, cond, List, [], Option, Some, None, IsSome, is_some, refl, ap, sym, subst, ◌∙◌, inl, inr, arith}
 use Rattle.std.specs.Prelude.{◌⊎◌, ◌==◌, option_and_then, option_map}
-use Rattle.std.proofs.lemmas.Bool.{cases_Bool, cases_eq, cases_lt, eq-eqb, false≢true}
+use Rattle.std.proofs.lemmas.Bool.{cases_Bool, cases_eq, cases_lt, eq-eqb, false≢true, ne_eqb}
 use Rattle.std.proofs.lemmas.Option.{none-some, same_Some}
 use Rattle.std.specs.Ordering.{nat_cmp}
 use Rattle.std.specs.FinMap.{FinMap, len-empty}
@@ -18,20 +18,22 @@ use Rattle.local_cache.specs.declared.runs.counters.Counters.{Counters}
 use Rattle.local_cache.specs.declared.runs.keys.Keys.{Keys}
 use Rattle.local_cache.specs.declared.runs.node_lists.NodeLists.{NodeLists}
 use Rattle.local_cache.specs.declared.runs.run.Run.{Run}
+use Rattle.local_cache.specs.declared.runs.run.RunName.{RunName}
+use Rattle.local_cache.specs.declared.runs.run.RunName.TheVariants.{Pages, Working, EverySecond}
 use Rattle.local_cache.specs.declared.runs.thin_nodes.ThinNodes.{ThinNodes}
 use Rattle.local_cache.specs.Arena.{Cell}
 use Rattle.local_cache.specs.NodeCells.{cells_by, node_cells}
 use Rattle.local_cache.specs.NodeKeys.{AreKeysOf, HasFreeName, HasKeys, Indexes, even_key, key_at, number_of_name, odd_key, page_key, page_of_name, rekeyed, same_key, with_key, without_key, working_number}
 use Rattle.local_cache.specs.NodeLists.{AreCounted, AreEmpty, HasPlaced, HasTaken, HavePlaces, IsIndexed, IsKept, paged}
-use Rattle.local_cache.specs.NodeRuns.{IsGiven, IsNumbered, IsRight, nodes_of}
+use Rattle.local_cache.specs.NodeRuns.{IsGiven, IsNumbered, IsRight, live_of, nodes_of}
 use Rattle.local_cache.specs.PageNodes.{PageNodes}
 use Rattle.local_cache.specs.Records.{each}
-use Rattle.local_cache.specs.Runs.{run}
+use Rattle.local_cache.specs.Runs.{first_name, run}
 use Rattle.local_cache.specs.Singles.{IsCounted}
 use Rattle.local_cache.specs.ThinNodes.{first_thin, thin_nodes}
 use Rattle.local_cache.proofs.NodeCells.{held_by_run, inserted_here, inserted_other, len_cells, removed_here, removed_other}
-use Rattle.local_cache.proofs.NodeKeys.{key_apart}
-use Rattle.local_cache.proofs.Singles.{len_insert_new, len_insert_old, len_remove_old, none_of}
+use Rattle.local_cache.proofs.NodeKeys.{key_apart, len_index}
+use Rattle.local_cache.proofs.Singles.{len_insert_new, len_insert_old, len_remove_old, len_some, none_of}
 
 -- No nodes --------------------------------------------------------------------------------
 
@@ -281,3 +283,255 @@ module _ (l : NodeLists) (c : Counters) (right : IsRight l c) (n : ℕ) (old x :
       room = (let same : new.capacity - map.len (node_cells new) ≡ l.capacity - map.len (node_cells l) =
           omega (arith, placed.capacity, ap map.len placed.cells, len_kept) in same) i;
     }
+
+-- How many pages have a node ---------------------------------------------------------------------
+
+abbrev pub key_bit : Option ℕ → ℕ
+key_bit None = 0
+key_bit (Some k) = 1
+
+module _ {V : Type 0} where
+  -- a node under another key that nothing has
+  pub len_rekeyed : (m : FinMap nat_cmp V) (before now : Option ℕ) (v : V)
+      → ((k : ℕ) → before ≡ Some k → IsSome (map.get m k))
+      → ((k : ℕ) → now ≡ Some k → (map.get m k ≡ None) ⊎ (before ≡ Some k))
+      → map.len (rekeyed m before now v) + key_bit before ≡ map.len m + key_bit now
+  len_rekeyed m None None v had free = refl
+  len_rekeyed m None (Some k) v had free = elim (free k refl) [
+    | inl vacant ↦ omega (arith, len_insert_new m k v vacant)
+    | inr same ↦ absurd (none-some k same)
+  ]
+  len_rekeyed m (Some j) None v had free = omega (arith, len_remove_old m j (had j refl))
+  len_rekeyed m (Some j) (Some k) v had free = elim (cases_eq j k) [
+    | inl same ↦
+        let stays : rekeyed m (Some j) (Some k) v ≡ m = rekeyed_same m (Some j) (Some k) v (ap Some same) in
+        omega (arith, ap map.len stays)
+    | inr differ ↦ elim (free k refl) [
+      | inl vacant ↦
+          let moves : rekeyed m (Some j) (Some k) v ≡ map.insert (map.remove m j) k v =
+          ap (λ (t : Bool). cond t m (map.insert (map.remove m j) k v)) (ne_eqb j k differ) in
+          let gone : map.get (map.remove m j) k ≡ None = removed_other m j k (λ e. differ (sym e)) ∙ vacant in
+          omega (arith, ap map.len moves, len_insert_new (map.remove m j) k v gone, len_remove_old m j (had j refl))
+      | inr same ↦ absurd (differ (same_Some j k same))
+    ]
+  ]
+
+  pub rekeyed_none : (m : FinMap nat_cmp V) (now : Option ℕ) (v : V) → rekeyed m None now v ≡ with_key m now v
+  rekeyed_none m None v = refl
+  rekeyed_none m (Some k) v = refl
+
+  pub rekeyed_to_none : (m : FinMap nat_cmp V) (before : Option ℕ) (v : V) → rekeyed m before None v ≡ without_key m before
+  rekeyed_to_none m None v = refl
+  rekeyed_to_none m (Some k) v = refl
+
+pub bit_of_name : (r : RunName) → key_bit (page_of_name (first_name r)) ≡ live_of r
+bit_of_name (Pages cache page) = refl
+bit_of_name (Working k) = refl
+bit_of_name (EverySecond k) = refl
+
+module _ (l : NodeLists) (c : Counters) (right : IsRight l c) (n : ℕ) where
+  abbrev P : FinMap nat_cmp Rising
+  P = cells rising l.pages.list
+
+  -- the node of a page has its key in the list of pages
+  page_had : (k : ℕ) → key_at page_key (node_cells l) n ≡ Some k → IsSome (map.get P k)
+  page_had k h = some_of (map.get P k) ((right.indexed.pages k n).1 h)
+    where
+      some_of : (o : Option Rising) → option_map (λ (v : Rising). v.0) o ≡ Some n → IsSome o
+      some_of None e = absurd (none-some n e)
+      some_of (Some v) e = refl
+
+  -- a page that no other node has
+  page_free : (x : Cell) → HasFreeName (node_cells l) n x → (k : ℕ) → page_key x ≡ Some k
+      → (map.get P k ≡ None) ⊎ (key_at page_key (node_cells l) n ≡ Some k)
+  page_free x free k h = go (map.get P k) refl
+    where
+      go : (o : Option Rising) → map.get P k ≡ o → (map.get P k ≡ None) ⊎ (key_at page_key (node_cells l) n ≡ Some k)
+      go None e = inl e
+      go (Some v) e =
+          let had = (right.indexed.pages k v.0).0 (ap (option_map (λ (w : Rising). w.0)) e) in
+          inr (ap (key_at page_key (node_cells l)) (sym (free.page v.0 k h had)) ∙ had)
+
+  module _ (x : Cell) (free : HasFreeName (node_cells l) n x) (new : NodeLists)
+      (placed : HasPlaced l n x new) where
+    pub live_after : map.len (cells rising new.pages.list) + key_bit (key_at page_key (node_cells l) n)
+        ≡ c.live + key_bit (page_key x)
+    live_after =
+        let counts = len_rekeyed P (key_at page_key (node_cells l) n) (page_key x) (paged n) page_had (page_free x free) in
+        omega (arith, counts, ap map.len placed.pages, right.live)
+
+    pub live_fits : map.len (cells rising new.pages.list) < 2 ^ 32
+    live_fits =
+        omega (arith, len_index _ _ page_key (node_cells new) placed.indexed.pages, placed.kept.fits, placed.kept.places.few)
+
+    pub nodes_fit : map.len (node_cells new) < 2 ^ 32
+    nodes_fit = omega (arith, placed.kept.fits, placed.kept.places.few)
+
+    module _ (now : Counters) (nodes : now.nodes ≡ map.len (node_cells new))
+        (live : now.live ≡ map.len (cells rising new.pages.list))
+        (page : now.next_page ≡ c.next_page) (working : now.next_working ≡ c.next_working)
+        (made : now.made ≡ c.made) (given : IsGiven c n)
+        (named : (k : ℕ) → working_number x ≡ Some k → k ≤ c.made) where
+      pub right_placed : IsRight new now
+      right_placed =
+          record {
+            kept = placed.kept;
+            indexed = placed.indexed;
+            numbered = subst (λ (m : FinMap nat_cmp Cell). IsNumbered m now) (sym placed.cells)
+                (numbered_placed (node_cells l) c right.numbered n x now (omega (arith, page)) (omega (arith, working)) (omega (arith, made))
+                (given_as c now n given page working)
+                (λ k h. omega (arith, named k h, made)) free.working
+                (omega (arith, page, right.numbered.pages)) (omega (arith, working, right.numbered.workings))
+                (omega (arith, working, made, right.numbered.few)) (omega (arith, made, right.numbered.made)));
+            nodes = nodes;
+            live = live;
+          }
+        where
+          given_as : (a b : Counters) (m : ℕ) → IsGiven a m → b.next_page ≡ a.next_page → b.next_working ≡ a.next_working → IsGiven b m
+          given_as a b m h p w = elim h [
+            | inl low ↦ inl (omega (arith, low, p))
+            | inr high ↦ inr (high.0, omega (arith, high.1, w))
+          ]
+
+-- A node that comes
+module _ (l : NodeLists) (c : Counters) (right : IsRight l c) (n : ℕ) (x : Cell)
+    (none : map.get (node_cells l) n ≡ None) (room : map.len (node_cells l) + 1 ≤ l.capacity) where
+  pub len_new : map.len (map.insert (node_cells l) n x) ≡ map.len (node_cells l) + 1
+  len_new = len_insert_new (node_cells l) n x none
+
+  pub room_new : map.len (map.insert (node_cells l) n x) ≤ l.capacity
+  room_new = omega (arith, len_new, room)
+
+  pub no_keys : (keys : Keys) → keys.page ≡ None → keys.even ≡ None → keys.odd ≡ None → HasKeys (node_cells l) n keys
+  no_keys keys page even odd =
+      record {
+        page = ap (option_and_then page_key) none ∙ sym page;
+        even = ap (option_and_then even_key) none ∙ sym even;
+        odd = ap (option_and_then odd_key) none ∙ sym odd;
+      }
+
+  module _ (free : HasFreeName (node_cells l) n x) (new : NodeLists) (placed : HasPlaced l n x new) where
+    pub nodes_new : map.len (node_cells new) ≡ c.nodes + 1
+    nodes_new = omega (arith, ap map.len placed.cells, len_new, right.nodes)
+
+    pub live_new : map.len (cells rising new.pages.list) ≡ c.live + key_bit (page_key x)
+    live_new =
+        let after = live_after l c right n x free new placed in
+        let zero : key_bit (key_at page_key (node_cells l) n) ≡ 0 = ap (λ (o : Option Cell). key_bit (option_and_then page_key o)) none in
+        omega (arith, after, zero)
+
+    pub nodes_of_new : (now : Counters) → now.made ≡ c.made
+        → nodes_of new now ≡ record (nodes_of l c) {
+          cells = map.insert (node_cells l) n x;
+          pages = with_key (cells rising l.pages.list) (page_key x) (paged n);
+          room = l.capacity - map.len (node_cells l) - 1;
+        }
+    nodes_of_new now made =
+        let less : new.capacity - map.len (node_cells new) ≡ l.capacity - map.len (node_cells l) - 1 =
+        omega (arith, placed.capacity, ap map.len placed.cells, len_new) in
+        let pages = placed.pages
+        ∙ ap (λ (o : Option Cell). rekeyed (cells rising l.pages.list) (option_and_then page_key o) (page_key x) (paged n)) none
+        ∙ rekeyed_none (cells rising l.pages.list) (page_key x) (paged n) in
+        λ i. record { cells = placed.cells i; pages = pages i; made = made i; room = less i }
+
+-- The node of a page is counted
+module _ (l : NodeLists) (c : Counters) (right : IsRight l c) (n : ℕ) (old : Cell)
+    (is : map.get (node_cells l) n ≡ Some old) where
+  pub live_some : key_bit (page_key old) ≤ c.live
+  live_some = go (page_key old) refl
+    where
+      go : (o : Option ℕ) → page_key old ≡ o → key_bit o ≤ c.live
+      go None e = omega arith
+      go (Some k) e =
+          let had = page_had l c right n k (ap (option_and_then page_key) is ∙ e) in
+          omega (arith, right.live, len_some (cells rising l.pages.list) k had)
+
+-- A node that gets another name
+module _ (l : NodeLists) (c : Counters) (right : IsRight l c) (n : ℕ) (old x : Cell)
+    (is : map.get (node_cells l) n ≡ Some old) where
+  pub room_same : map.len (map.insert (node_cells l) n x) ≤ l.capacity
+  room_same = omega (arith, len_insert_old (node_cells l) n x (ap is_some is), right.kept.fits)
+
+  module _ (free : HasFreeName (node_cells l) n x) (new : NodeLists) (placed : HasPlaced l n x new) where
+    pub nodes_same : map.len (node_cells new) ≡ c.nodes
+    nodes_same = omega (arith, ap map.len placed.cells, len_insert_old (node_cells l) n x (ap is_some is), right.nodes)
+
+    pub live_renamed : map.len (cells rising new.pages.list) + key_bit (page_key old) ≡ c.live + key_bit (page_key x)
+    live_renamed =
+        let after = live_after l c right n x free new placed in
+        let was : key_bit (key_at page_key (node_cells l) n) ≡ key_bit (page_key old) = ap (λ (o : Option Cell). key_bit (option_and_then page_key o)) is in
+        omega (arith, after, was)
+
+    pub nodes_of_renamed : (now : Counters) → now.made ≡ c.made
+        → nodes_of new now ≡ record (nodes_of l c) {
+          cells = map.insert (node_cells l) n x;
+          pages = rekeyed (cells rising l.pages.list) (page_key old) (page_key x) (paged n);
+        }
+    nodes_of_renamed now made =
+        let same : new.capacity - map.len (node_cells new) ≡ l.capacity - map.len (node_cells l) =
+        omega (arith, placed.capacity, nodes_same, right.nodes) in
+        let pages = placed.pages
+        ∙ ap (λ (o : Option Cell). rekeyed (cells rising l.pages.list) (option_and_then page_key o) (page_key x) (paged n)) is in
+        λ i. record { cells = placed.cells i; pages = pages i; made = made i; room = same i }
+
+-- A node that goes
+module _ (l : NodeLists) (c : Counters) (right : IsRight l c) (n : ℕ) (old : Cell)
+    (is : map.get (node_cells l) n ≡ Some old) where
+  pub nodes_some : 1 ≤ c.nodes
+  nodes_some = omega (arith, right.nodes, len_some (node_cells l) n (ap is_some is))
+
+  module _ (new : NodeLists) (taken : HasTaken l n new) where
+    pub nodes_left : map.len (node_cells new) + 1 ≡ c.nodes
+    nodes_left = omega (arith, ap map.len taken.cells, len_remove_old (node_cells l) n (ap is_some is), right.nodes)
+
+    pub pages_left : cells rising new.pages.list ≡ without_key (cells rising l.pages.list) (page_key old)
+    pages_left =
+        taken.pages
+        ∙ ap (λ (o : Option Cell). rekeyed (cells rising l.pages.list) (option_and_then page_key o) None (paged n)) is
+        ∙ rekeyed_to_none (cells rising l.pages.list) (page_key old) (paged n)
+
+    pub live_left : map.len (cells rising new.pages.list) + key_bit (page_key old) ≡ c.live
+    live_left = go (page_key old) refl
+      where
+        go : (o : Option ℕ) → page_key old ≡ o → map.len (cells rising new.pages.list) + key_bit o ≡ c.live
+        go None e =
+            omega (arith, right.live, ap map.len pages_left, ap (λ (o : Option ℕ). map.len (without_key (cells rising l.pages.list) o)) e)
+        go (Some k) e =
+            let had = page_had l c right n k (ap (option_and_then page_key) is ∙ e) in
+            omega (arith, right.live, ap map.len pages_left, ap (λ (o : Option ℕ). map.len (without_key (cells rising l.pages.list) o)) e, len_remove_old (cells rising l.pages.list) k had)
+
+    module _ (now : Counters) (nodes : now.nodes + 1 ≡ c.nodes)
+        (live : now.live + key_bit (page_key old) ≡ c.live)
+        (page : now.next_page ≡ c.next_page) (working : now.next_working ≡ c.next_working)
+        (made : now.made ≡ c.made) where
+      pub right_taken : IsRight new now
+      right_taken =
+          let left = numbered_taken (node_cells l) c right.numbered n in
+          record {
+            kept = taken.kept;
+            indexed = taken.indexed;
+            numbered = subst (λ (m : FinMap nat_cmp Cell). IsNumbered m now) (sym taken.cells) (record {
+              given = λ m h. elim (left.given m h) [
+                | inl low ↦ inl (omega (arith, low, page))
+                | inr high ↦ inr (high.0, omega (arith, high.1, working))
+              ];
+              named = λ m k h. omega (arith, left.named m k h, made);
+              apart = left.apart;
+              pages = omega (arith, page, left.pages);
+              workings = omega (arith, working, left.workings);
+              few = omega (arith, working, made, left.few);
+              made = omega (arith, made, left.made);
+            });
+            nodes = omega (arith, nodes, nodes_left);
+            live = omega (arith, live, live_left);
+          }
+
+      pub nodes_of_left : nodes_of new now ≡ record (nodes_of l c) {
+        cells = map.remove (node_cells l) n;
+        pages = without_key (cells rising l.pages.list) (page_key old);
+        room = l.capacity - map.len (node_cells l) + 1;
+      }
+      nodes_of_left =
+          let more : new.capacity - map.len (node_cells new) ≡ l.capacity - map.len (node_cells l) + 1 =
+          omega (arith, taken.capacity, nodes_left, right.nodes, right.kept.fits) in
+          λ i. record { cells = taken.cells i; pages = pages_left i; made = made i; room = more i }

@@ -129,7 +129,7 @@ module _ {X : Type 0} where
       ∙ ap (λ (b : Bool). cond b (map.len m) (map.len m + 1)) some
 
   -- a map with a number isn't empty
-  len_some : (m : FinMap nat_cmp X) (k : ℕ) → IsSome (map.get m k) → 0 < map.len m
+  pub len_some : (m : FinMap nat_cmp X) (k : ℕ) → IsSome (map.get m k) → 0 < map.len m
   len_some m k some = elim (cases_eq (map.len m) 0) [
     | inl none ↦
         let gone : map.get m k ≡ None =

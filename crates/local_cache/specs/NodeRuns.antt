@@ -7,6 +7,8 @@ use Rattle.stretches.specs.Cells.{cells}
 use Rattle.stretches.specs.Rising.{rising}
 use Rattle.local_cache.specs.declared.runs.counters.Counters.{Counters}
 use Rattle.local_cache.specs.declared.runs.node_lists.NodeLists.{NodeLists}
+use Rattle.local_cache.specs.declared.runs.run.RunName.{RunName}
+use Rattle.local_cache.specs.declared.runs.run.RunName.TheVariants.{Pages, Working, EverySecond}
 use Rattle.local_cache.specs.Arena.{Cell}
 use Rattle.local_cache.specs.NodeCells.{node_cells}
 use Rattle.local_cache.specs.NodeKeys.{key_at, working_number}
@@ -20,6 +22,12 @@ nodes_of l c = record {
   made = c.made;
   room = l.capacity - map.len (node_cells l);
 }
+
+-- how many nodes of pages a node of this name is, one or none
+abbrev pub live_of : RunName → ℕ
+live_of (Pages cache page) = 1
+live_of (Working k) = 0
+live_of (EverySecond k) = 0
 
 -- a number was given to a node of a page, or to one made as a working node
 abbrev pub IsGiven : Counters → ℕ → Type 0

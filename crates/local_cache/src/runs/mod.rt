@@ -1,4 +1,5 @@
 // All page nodes, as stretches of nodes that are alike.
+mod counted;
 mod counters;
 mod indexing;
 mod keys;
