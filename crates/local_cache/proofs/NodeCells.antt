@@ -18,7 +18,7 @@ use Rattle.local_cache.specs.Arena.{Cell}
 use Rattle.local_cache.specs.NodeCells.{cell_by, cells_by, node_cells}
 use Rattle.local_cache.specs.Records.{each}
 use Rattle.local_cache.specs.Runs.{run}
-use Rattle.local_cache.proofs.Singles.{get_inserted, get_removed, len_remove_old, same_maps}
+use Rattle.local_cache.proofs.Singles.{get_inserted, get_removed, len_remove_old, none_of, same_maps}
 
 -- One number of a map set or cleared -------------------------------------------------
 
@@ -195,6 +195,11 @@ module _ (l : NodeLists) (n : ℕ) where
   node_run h =
       ap is_some (sym (get_cells run l.runs.list n))
       ∙ sym (held_by_run (cells run l.runs.list) (cells each l.records.list) n) ∙ h
+
+  pub node_none : said run l.runs.list n ≡ None → map.get (node_cells l) n ≡ None
+  node_none h =
+      none_of _ (held_by_run (cells run l.runs.list) (cells each l.records.list) n
+      ∙ ap is_some (get_cells run l.runs.list n ∙ h))
 
   pub node_cell : (r : Run) (o : Option Record) → said run l.runs.list n ≡ Some r
       → said each l.records.list n ≡ o → map.get (node_cells l) n ≡ Some (cell_by r o)

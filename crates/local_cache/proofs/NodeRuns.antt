@@ -1,5 +1,5 @@
 -- What holds of the lists and the counters of the page nodes, after a change of one node.
-use Rattle.std.proofs.Common.{◌≡◌, ◌≢◌, ℕ, ◌+◌, ◌-◌, ◌<◌, ◌≤◌, ◌^◌, Bool, true, false, cond, List, [], Option, Some, None, IsSome, is_some, refl, ap, sym, subst, ◌∙◌, inl, inr, arith}
+use Rattle.std.proofs.Common.{◌≡◌, ◌≢◌, ℕ, zero, suc, ◌+◌, ◌-◌, ◌<◌, ◌≤◌, ◌^◌, Bool, true, false, cond, List, [], Option, Some, None, IsSome, is_some, refl, ap, sym, subst, ◌∙◌, inl, inr, arith}
 use Rattle.std.specs.Prelude.{◌⊎◌, ◌==◌, option_and_then, option_map}
 use Rattle.std.proofs.lemmas.Bool.{cases_Bool, cases_eq, cases_lt, eq-eqb, false≢true, ne_eqb}
 use Rattle.std.proofs.lemmas.Option.{none-some, same_Some}
@@ -8,11 +8,12 @@ use Rattle.std.specs.FinMap.{FinMap, len-empty}
 use Rattle.std.specs.FinMap as map
 use Rattle.stretches.specs.Cells.{cells}
 use Rattle.stretches.specs.Rising.{rising}
-use Rattle.stretches.specs.Stretches.{Stretches, number_count, said}
+use Rattle.stretches.specs.Stretches.{IsStretchFrom, Stretches, number_count, said}
 use Rattle.stretches.specs.declared.rising.Rising.{Rising}
 use Rattle.stretches.specs.declared.says.Says.{Ghosts}
 use Rattle.stretches.specs.declared.stretch.Stretch.{Stretch}
 use Rattle.stretches.proofs.Cells.{get_cells}
+use Rattle.stretches.proofs.Reading.Numbers.{within}
 use Rattle.vm_ids.specs.declared.node_name.NodeName.{NodeName}
 use Rattle.local_cache.specs.declared.runs.counters.Counters.{Counters}
 use Rattle.local_cache.specs.declared.runs.keys.Keys.{Keys}
@@ -535,3 +536,82 @@ module _ (l : NodeLists) (c : Counters) (right : IsRight l c) (n : ℕ) (old : C
           let more : new.capacity - map.len (node_cells new) ≡ l.capacity - map.len (node_cells l) + 1 =
           omega (arith, taken.capacity, nodes_left, right.nodes, right.kept.fits) in
           λ i. record { cells = taken.cells i; pages = pages_left i; made = made i; room = more i }
+
+-- Numbers given --------------------------------------------------------------------------------------
+
+-- a map that has all numbers from 1 on, so many, has as many
+pub len_covers : {X : Type 0} (k : ℕ) (m : FinMap nat_cmp X) → ((i : ℕ) → 1 ≤ i → i ≤ k → IsSome (map.get m i)) → k ≤ map.len m
+len_covers zero m covers = omega arith
+len_covers (suc k) m covers =
+    let there = covers (suc k) (omega arith) (omega arith) in
+    let rest = len_covers k (map.remove m (suc k)) (λ i low high.
+    ap is_some (removed_other m (suc k) i (λ e. let bad : ⊥ = omega arith in bad)) ∙ covers i low (omega arith)) in
+    omega (arith, rest, len_remove_old m (suc k) there)
+
+module _ (l : NodeLists) (c : Counters) (right : IsRight l c) where
+  -- more numbers and names given
+  pub right_more : (now : Counters) → now.nodes ≡ c.nodes → now.live ≡ c.live → c.made ≤ now.made
+      → c.next_page ≤ now.next_page → c.next_working ≤ now.next_working → now.next_page ≤ 2 ^ 52
+      → now.next_working ≤ 2 ^ 52 + now.made → now.made ≤ 2 ^ 63 → IsRight l now
+  right_more now nodes live made page working most few less =
+      record {
+        kept = right.kept;
+        indexed = right.indexed;
+        numbered = record {
+          given = λ n h. elim (right.numbered.given n h) [
+            | inl low ↦ inl (omega (arith, low, page))
+            | inr high ↦ inr (high.0, omega (arith, high.1, working))
+          ];
+          named = λ n k h. omega (arith, right.numbered.named n k h, made);
+          apart = right.numbered.apart;
+          pages = most;
+          workings = omega (arith, working, right.numbered.workings);
+          few = few;
+          made = less;
+        };
+        nodes = nodes ∙ right.nodes;
+        live = live ∙ right.live;
+      }
+
+  -- a number that wasn't given has no node
+  pub not_given : (n : ℕ) → (IsGiven c n → ⊥) → map.get (node_cells l) n ≡ None
+  not_given n out = go (map.get (node_cells l) n) refl
+    where
+      go : (o : Option Cell) → map.get (node_cells l) n ≡ o → map.get (node_cells l) n ≡ None
+      go None e = e
+      go (Some x) e = absurd (out (right.numbered.given n (ap is_some e)))
+
+  pub next_page_new : c.next_page < 2 ^ 52 → map.get (node_cells l) c.next_page ≡ None
+  next_page_new less = not_given c.next_page (λ h. elim h [
+    | inl low ↦ (let bad : ⊥ = omega (arith, low) in bad)
+    | inr high ↦ (let bad : ⊥ = omega (arith, less, high.0) in bad)
+  ])
+
+  pub next_working_new : map.get (node_cells l) c.next_working ≡ None
+  next_working_new = not_given c.next_working (λ h. elim h [
+    | inl low ↦ (let bad : ⊥ = omega (arith, low, right.numbered.pages, right.numbered.workings) in bad)
+    | inr high ↦ (let bad : ⊥ = omega (arith, high.1) in bad)
+  ])
+
+-- Every number from 1 on is in a stretch -----------------------------------------------------------
+
+module _ (rs : List (Stretch Run)) where
+  -- all numbers from 1 on are in stretches, as far as this one
+  pub record AreCovered (number : ℕ) : Type 0 where
+    pub some : 1 ≤ number
+    pub said : (i : ℕ) → 1 ≤ i → i < number → IsSome (said run rs i)
+
+  pub covered_low : (number : ℕ) → AreCovered number → number ≤ map.len (cells run rs) + 1
+  covered_low number covered =
+      let all = len_covers (number - 1) (cells run rs) (λ i low high. ap is_some (get_cells run rs i) ∙ covered.said i low (omega (arith, covered.some, high, low))) in
+      omega (arith, all)
+
+  pub covered_more : (number : ℕ) (r : Stretch Run) → AreCovered number → IsStretchFrom run rs number r → AreCovered (r.first + r.count)
+  covered_more number r covered from =
+      record {
+        some = omega (arith, from.begins, covered.some);
+        said = λ i low high. elim (cases_lt i number) [
+          | inl before ↦ covered.said i low before
+          | inr behind ↦ ap is_some (from.said i (within r i (omega (arith, from.begins, behind)) high))
+        ];
+      }

@@ -5,6 +5,7 @@ mod indexing;
 mod keys;
 mod node_lists;
 mod node_runs;
+mod numbering;
 mod parts;
 mod placing;
 mod record;
