@@ -27,7 +27,7 @@ use Rattle.local_cache.specs.NodeCells.{cells_by, node_cells}
 use Rattle.local_cache.specs.NodeKeys.{AreKeysOf, HasFreeName, HasKeys, Indexes, even_key, key_at, number_of_name, odd_key, page_key, page_of_name, rekeyed, same_key, with_key, without_key, working_number}
 use Rattle.local_cache.specs.NodeLists.{AreCounted, AreEmpty, HasPlaced, HasTaken, HavePlaces, IsIndexed, IsKept, paged}
 use Rattle.local_cache.specs.NodeRuns.{IsGiven, IsNumbered, IsRight, live_of, nodes_of}
-use Rattle.local_cache.specs.PageNodes.{PageNodes}
+use Rattle.local_cache.specs.PageNodes.{PageNodes, node_at}
 use Rattle.local_cache.specs.Records.{each}
 use Rattle.local_cache.specs.Runs.{first_name, run}
 use Rattle.local_cache.specs.Singles.{IsCounted}
@@ -615,3 +615,39 @@ module _ (rs : List (Stretch Run)) where
           | inr behind ↦ ap is_some (from.said i (within r i (omega (arith, from.begins, behind)) high))
         ];
       }
+
+-- Names that no other node has -------------------------------------------------------------------------
+
+module _ (l : NodeLists) (c : Counters) (right : IsRight l c) (n : ℕ) (x : Cell) where
+  -- a page that has no node
+  pub free_page : (k : ℕ) → page_key x ≡ Some k → working_number x ≡ None
+      → map.get (cells rising l.pages.list) k ≡ None → HasFreeName (node_cells l) n x
+  free_page k is none vacant =
+      record {
+        page = λ m j now had.
+            let key : j ≡ k = same_Some j k (sym now ∙ is) in
+            let found = (right.indexed.pages j m).1 had in
+            absurd (none-some m (sym (ap (λ (i : ℕ). option_map (λ (v : Rising). v.0) (map.get (cells rising l.pages.list) i)) key ∙ ap (option_map (λ (v : Rising). v.0)) vacant) ∙ found));
+        working = λ m j now had. absurd (none-some j (sym none ∙ now));
+      }
+
+-- a working name above all that were given
+pub free_working : (nodes : FinMap nat_cmp Cell) (n : ℕ) (x : Cell) (made : ℕ) → page_key x ≡ None → working_number x ≡ Some made
+    → ((m k : ℕ) → key_at working_number nodes m ≡ Some k → k < made) → HasFreeName nodes n x
+free_working nodes n x made none is unnamed =
+    record {
+      page = λ m j now had. absurd (none-some j (sym none ∙ now));
+      working = λ m j now had.
+          let key : j ≡ made = same_Some j made (sym now ∙ is) in
+          let bad : ⊥ = omega (arith, key, unnamed m j had) in
+          absurd bad;
+    }
+
+-- What is read off the lists ------------------------------------------------------------------------------
+
+module _ (l : NodeLists) (c : Counters) where
+  pub live_le : IsRight l c → c.live ≤ c.nodes
+  live_le right = omega (arith, right.live, right.nodes, len_index _ _ page_key (node_cells l) right.indexed.pages)
+
+  pub node_of_page : (k : ℕ) → node_at (nodes_of l c) k ≡ option_map (λ (v : Rising). record { 0 = v.0 }) (said rising l.pages.list k)
+  node_of_page k = ap (option_map (λ (v : Rising). record { 0 = v.0 })) (get_cells rising l.pages.list k)

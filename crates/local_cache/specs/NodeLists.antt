@@ -42,6 +42,16 @@ pub record HavePlaces (l : NodeLists) : Type 0 where
   pub even : l.capacity ≤ l.even.places
   pub odd : l.capacity ≤ l.odd.places
 
+-- the lists say what they said, and have places for no fewer nodes
+pub record HasGrown (old new : NodeLists) : Type 0 where
+  pub runs : new.runs.list ≡ old.runs.list
+  pub records : new.records.list ≡ old.records.list
+  pub pages : new.pages.list ≡ old.pages.list
+  pub even : new.even.list ≡ old.even.list
+  pub odd : new.odd.list ≡ old.odd.list
+  pub places : HavePlaces new
+  pub no_fewer : old.capacity ≤ new.capacity
+
 -- there are no more nodes than there may be, only nodes have records, and the lists are in order
 pub record IsKept (l : NodeLists) : Type 0 where
   pub counted : AreCounted l

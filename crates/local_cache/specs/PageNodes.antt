@@ -1,5 +1,5 @@
 -- What a contract sees of the page nodes: their cells by number, and the nodes of pages.
-use Rattle.std.specs.Prelude.{◌≡◌, ◌⊎◌, ℕ, ◌+◌, ◌-◌, ◌<◌, ◌≤◌, ◌^◌, List, Option, Some, None, unwrap_or, IsSome}
+use Rattle.std.specs.Prelude.{◌≡◌, ◌⊎◌, ℕ, ◌+◌, ◌-◌, ◌<◌, ◌≤◌, ◌^◌, List, Option, Some, None, option_map, unwrap_or, IsSome}
 use Rattle.std.specs.Ordering.{nat_cmp}
 use Rattle.std.specs.FinMap.{FinMap}
 use Rattle.std.specs.FinMap as ids
@@ -11,7 +11,8 @@ use Rattle.local_cache.specs.declared.links.Links.{Links}
 use Rattle.local_cache.specs.declared.own_state.OwnState.{OwnState}
 use Rattle.local_cache.specs.declared.own_state.OwnState.TheVariants.{Absent}
 use Rattle.local_cache.specs.Arena.{Cell, blank, new_cell}
-use Rattle.local_cache.specs.NodeKeys.{number_of_name, page_of_name, rekeyed, with_key, without_key}
+use Rattle.local_cache.specs.NodeKeys.{key_at, page_of_name, rekeyed, with_key, without_key}
+use Rattle.local_cache.specs.Queue.{thin_number}
 
 -- the nodes by number, the node of each page by the number of the page among those of all caches,
 -- how many working names were given, and how many more nodes fit before memory is taken
@@ -78,3 +79,17 @@ without m n = record m {
   pages = without_key m.pages (page_of_name (cell m n).name);
   room = m.room + 1;
 }
+
+-- the node of the page of this number
+abbrev pub node_at : PageNodes → ℕ → Option NodeId
+node_at m k = option_map (λ v. record { 0 = v.0 }) (ids.get m.pages k)
+
+-- n is the working node of this number, and has fewer than two children
+abbrev pub IsThin : PageNodes → NodeId → ℕ → Type 0
+IsThin m n k = key_at thin_number m.cells n.0 ≡ Some k
+
+-- the thin node with the least number, or none exactly where no node is thin
+abbrev pub IsLeastThin : PageNodes → Option NodeId → Type 0
+IsLeastThin m None = (n : NodeId) (k : ℕ) → IsThin m n k → ⊥
+IsLeastThin m (Some n) =
+    (k : ℕ) × IsThin m n k × ((other : NodeId) (j : ℕ) → IsThin m other j → k ≤ j)

@@ -1,6 +1,7 @@
 // All page nodes, as stretches of nodes that are alike.
 mod counted;
 mod counters;
+mod first_thin;
 mod indexing;
 mod keys;
 mod node_lists;

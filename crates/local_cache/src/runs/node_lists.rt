@@ -1,9 +1,11 @@
 // The lists in which the page nodes stand.
-ghost use Rattle.local_cache.specs.NodeLists.{AreEmpty};
+ghost use Rattle.std.specs.Prelude.{◌≡◌, ◌≤◌, OnOk};
+ghost use Rattle.local_cache.specs.NodeLists.{AreEmpty, HasGrown, HavePlaces};
 
 use crate::runs::{Record, Run, ThinNodes};
 use std::alloc::Global;
 use stretches::{Rising, StretchList};
+use vm_ids::NoMemory;
 
 /// The lists in which all page nodes stand. Each has places for as many entries as there may be
 /// nodes.
@@ -36,5 +38,22 @@ impl NodeLists {
             odd: StretchList::new(alloc),
             capacity: 0,
         }
+    }
+
+    // Makes places for so many nodes. After an error there are no fewer than before.
+    pub(crate) fn reserve(&mut self, total: u32) -> Result<(), NoMemory>
+        requires places { HavePlaces self.old }
+        requires more { self.old.capacity ≤ total }
+        ensures grown { HasGrown self.old self.new }
+        ensures ok { OnOk result (self.new.capacity ≡ total) }
+    {
+        let places = total as usize;
+        self.runs.reserve(places)?;
+        self.records.reserve(places)?;
+        self.pages.reserve(places)?;
+        self.even.reserve(places)?;
+        self.odd.reserve(places)?;
+        self.capacity = total;
+        Ok(())
     }
 }

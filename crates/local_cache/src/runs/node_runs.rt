@@ -1,20 +1,24 @@
 // All page nodes, and what is done to them.
-ghost use Rattle.std.specs.Prelude.{◌≡◌, ◌+◌, ◌<◌, ◌≤◌, ◌^◌, IsSome, None, Some, length, slice_get};
+ghost use Rattle.std.specs.Prelude.{◌≡◌, ◌+◌, ◌<◌, ◌≤◌, ◌^◌, IsOk, IsSome, None, OnOk, Some, length, slice_get};
 ghost use Rattle.std.specs.FinMap as map;
 ghost use Rattle.stretches.specs.Stretch.{IsFit, single};
 ghost use Rattle.local_cache.specs.NodeCells.{cell_of};
-ghost use Rattle.local_cache.specs.PageNodes.{HasNode, cell, find, put, with_links, with_own, with_tree};
+ghost use Rattle.local_cache.specs.PageNodes.{HasNode, IsLeastThin, as_working, cell, find, node_at, put, with_links, with_name, with_new, with_own, with_tree, with_working, without};
+ghost use Rattle.local_cache.specs.NodeKeys.{page_number};
 ghost use Rattle.local_cache.specs.Runs.{run as run_says};
 ghost use Rattle.vm_ids.specs.declared.numbers.NodeId.{NodeId as Id};
 
-use crate::runs::keys::keys_of;
+use crate::runs::counted::{add, remove, replace};
+use crate::runs::first_thin::first_of;
+use crate::runs::keys::{keys_of, page_number};
+use crate::runs::numbering::{give_name, give_page_number, give_working_number};
 use crate::runs::parts::parts_of;
 use crate::runs::placing::place;
-use crate::runs::{Counters, NodeLists, Parts, Record, Run};
+use crate::runs::{Counters, NodeLists, Parts, Record, RunName};
 use crate::{Links, OwnState};
 use std::alloc::Global;
 use std::marker::Model;
-use vm_ids::{NodeId, NodeName};
+use vm_ids::{CacheId, NoMemory, NodeId, NodeName, PageNo};
 
 /// All page nodes, of which alike ones stand as one run.
 #[derive(Drop)]
@@ -48,6 +52,26 @@ impl NodeRuns {
             lists: NodeLists::new(alloc),
             counters: Counters::NONE,
         }
+    }
+
+    /// Takes memory for so many more nodes. It can fail only where there is too little room, and it
+    /// does where there would be 2^32 nodes or more in all. After an error what was there is there
+    /// still.
+    pub(crate) fn reserve(&mut self, nodes: u32) -> Result<(), NoMemory>
+        ensures room { OnOk result (nodes ≤ self.new.room) }
+        ensures kept { self.new ≡ record self.old { room = self.new.room } }
+        ensures no_less { self.old.room ≤ self.new.room }
+        ensures enough { nodes ≤ self.old.room → IsOk result }
+        ensures few { OnOk result (map.len self.old.cells + nodes < 2 ^ 32) }
+    {
+        let total = self.counters.nodes as u64 + nodes as u64;
+        if total > u32::MAX as u64 {
+            return Err(NoMemory);
+        }
+        if total > self.lists.capacity as u64 {
+            self.lists.reserve(total as u32)?;
+        }
+        Ok(())
     }
 
     /// How many working names were given so far; the next one has the next number.
@@ -124,6 +148,115 @@ impl NodeRuns {
     {
         let before = self.parts(node);
         self.change(node, before, before.over(children));
+    }
+
+    /// Makes the node of a page that has none, with this own state and without parent and children.
+    /// It takes no memory: there has to be room for a node.
+    pub(crate) fn fresh(&mut self, cache: CacheId, page: PageNo, state: OwnState) -> NodeId
+        requires room { 1 ≤ self.old.room }
+        requires vacant { map.get self.old.pages (page_number cache.0 page.0) ≡ None }
+        requires short { page.0 + 1 < 2 ^ 32 }
+        ensures new { find self.old result ≡ None }
+        ensures changed { self.new ≡ with_new self.old result (NodeName.Live cache page) state }
+    {
+        let node = give_page_number(&self.lists, &mut self.counters);
+        let parts = Parts::fresh(RunName::Pages(cache, page), state);
+        add(&mut self.lists, &mut self.counters, node, parts);
+        NodeId(node)
+    }
+
+    /// Makes a working node under the next name, `Absent` and without parent and children. It takes
+    /// no memory: there has to be room for a node.
+    pub(crate) fn fresh_working(&mut self) -> NodeId
+        requires room { 1 ≤ self.old.room }
+        requires made { self.old.made < 2 ^ 63 }
+        ensures new { find self.old result ≡ None }
+        ensures changed { self.new ≡ with_working self.old result }
+    {
+        let node = give_working_number(&self.lists, &mut self.counters);
+        let name = RunName::Working(self.counters.made);
+        let parts = Parts::fresh(name, OwnState::Absent);
+        add(&mut self.lists, &mut self.counters, node, parts);
+        NodeId(node)
+    }
+
+    /// Names a node by the next working name. The page that it was the node of has none then.
+    pub(crate) fn to_working(&mut self, node: NodeId)
+        requires held { HasNode self.old node }
+        requires made { self.old.made < 2 ^ 63 }
+        ensures { self.new ≡ as_working self.old node }
+    {
+        let before = self.parts(node);
+        give_name(&self.lists, &mut self.counters);
+        let now = before.named(RunName::Working(self.counters.made));
+        replace(&mut self.lists, &mut self.counters, node.0, before, now);
+    }
+
+    /// Makes a node that of a page that has none. The page that it was the node of has none then.
+    pub(crate) fn rename(&mut self, node: NodeId, cache: CacheId, page: PageNo)
+        requires held { HasNode self.old node }
+        requires vacant { map.get self.old.pages (page_number cache.0 page.0) ≡ None }
+        requires short { page.0 + 1 < 2 ^ 32 }
+        ensures { self.new ≡ with_name self.old node (NodeName.Live cache page) }
+    {
+        let before = self.parts(node);
+        let now = before.named(RunName::Pages(cache, page));
+        replace(&mut self.lists, &mut self.counters, node.0, before, now);
+    }
+
+    /// Gives back a node that nothing names. The page that it was the node of has none then.
+    pub(crate) fn free(&mut self, node: NodeId)
+        requires { HasNode self.old node }
+        ensures { self.new ≡ without self.old node }
+    {
+        let before = self.parts(node);
+        remove(&mut self.lists, &mut self.counters, node.0, before);
+    }
+
+    /// The node of a page, or `None` exactly where it has none.
+    pub(crate) fn node_of(&self, cache: CacheId, page: PageNo) -> Option<NodeId>
+        ensures { result ≡ node_at self.now (page_number cache.0 page.0) }
+    {
+        match self.lists.pages.get(page_number(cache, page)) {
+            Some(node) => Some(NodeId(node.0)),
+            None => None,
+        }
+    }
+
+    /// How many nodes of pages there are.
+    pub(crate) fn live(&self) -> u32
+        ensures { result ≡ map.len self.now.pages }
+    {
+        self.counters.live
+    }
+
+    /// How many working nodes there are.
+    pub(crate) fn working(&self) -> u32
+        ensures { result + map.len self.now.pages ≡ map.len self.now.cells }
+    {
+        self.counters.nodes - self.counters.live
+    }
+
+    /// How many runs the nodes stand in.
+    pub(crate) fn runs(&self) -> usize {
+        self.lists.runs.len()
+    }
+
+    /// The working node with the least number that has fewer than two children, tree children and
+    /// stubs together, or `None` exactly where there is none. It takes constant time.
+    pub(crate) fn thin(&self) -> Option<NodeId>
+        ensures { IsLeastThin self.now result }
+    {
+        match (first_of(&self.lists.even), first_of(&self.lists.odd)) {
+            (Some(even), Some(odd)) => Some(if even.half <= odd.half {
+                even.node
+            } else {
+                odd.node
+            }),
+            (Some(even), None) => Some(even.node),
+            (None, Some(odd)) => Some(odd.node),
+            (None, None) => None,
+        }
     }
 
     // Says something else of a node, but for its name.

@@ -3,11 +3,12 @@ ghost use Rattle.std.specs.Prelude.{◌≡◌, ◌≤◌, IfSome, IsSome, Some, 
 ghost use Rattle.std.specs.FinMap as map;
 ghost use Rattle.stretches.specs.Stretch.{IsFit, single};
 ghost use Rattle.local_cache.specs.NodeCells.{bare, cell_of, either, node_cells, own_of_plain};
-ghost use Rattle.local_cache.specs.Runs.{run as run_says};
+ghost use Rattle.local_cache.specs.Arena.{new_cell};
+ghost use Rattle.local_cache.specs.Runs.{first_name, run as run_says};
 
 use crate::runs::record::is_same_links;
 use crate::runs::singles::read_one;
-use crate::runs::{NodeLists, PlainState, Record, Run};
+use crate::runs::{NodeLists, PlainState, Record, Run, RunName};
 use crate::{Links, OwnState};
 use vm_ids::{NodeId, NodeName};
 
@@ -91,6 +92,38 @@ pub(crate) fn parts_of(lists: &NodeLists, node: u64) -> Parts
 }
 
 impl Parts {
+    // A node without parent and children.
+    pub(crate) fn fresh(name: RunName, own: OwnState) -> Parts
+        ensures cell { cell_of result.run result.record ≡ new_cell (first_name name) own }
+        ensures name { result.run.name ≡ name }
+    {
+        Parts {
+            run: Run {
+                name,
+                own: PlainState::Absent,
+                parent: None,
+                older: None,
+                newer: None,
+            },
+            record: Record {
+                own,
+                links: Links::NONE,
+            },
+        }
+    }
+
+    // The same under another name.
+    pub(crate) fn named(self, name: RunName) -> Parts
+        ensures cell { cell_of result.run result.record
+            ≡ record (cell_of self.run self.record) { name = first_name name } }
+        ensures name { result.run.name ≡ name }
+    {
+        Parts {
+            run: Run { name, ..self.run },
+            record: self.record,
+        }
+    }
+
     pub(crate) fn name(self) -> NodeName
         ensures { result ≡ (cell_of self.run self.record).name }
     {
