@@ -1,6 +1,6 @@
 -- What holds of the lists and the counters of the page nodes, after a change of one node.
-use Rattle.std.proofs.Common.{◌≡◌, ◌≢◌, ℕ, zero, suc, ◌+◌, ◌-◌, ◌<◌, ◌≤◌, ◌^◌, Bool, true, false, cond, List, [], Option, Some, None, IsSome, is_some, refl, ap, sym, subst, ◌∙◌, inl, inr, arith}
-use Rattle.std.specs.Prelude.{◌⊎◌, ◌==◌, option_and_then, option_map}
+use Rattle.std.proofs.Common.{◌≡◌, ◌≢◌, ℕ, zero, suc, ◌+◌, ◌-◌, ◌*◌, ◌<◌, ◌≤◌, ◌^◌, Bool, true, false, cond, List, [], Option, Some, None, IsSome, is_some, refl, ap, sym, subst, ◌∙◌, inl, inr, arith}
+use Rattle.std.specs.Prelude.{◌⊎◌, ◌/◌, ◌%◌, ◌==◌, option_and_then, option_map}
 use Rattle.std.proofs.lemmas.Bool.{cases_Bool, cases_eq, cases_lt, eq-eqb, false≢true, ne_eqb}
 use Rattle.std.proofs.lemmas.Option.{none-some, same_Some}
 use Rattle.std.specs.Ordering.{nat_cmp}
@@ -17,23 +17,27 @@ use Rattle.stretches.proofs.Reading.Numbers.{within}
 use Rattle.vm_ids.specs.declared.node_name.NodeName.{NodeName}
 use Rattle.local_cache.specs.declared.runs.counters.Counters.{Counters}
 use Rattle.local_cache.specs.declared.runs.keys.Keys.{Keys}
+use Rattle.local_cache.specs.declared.runs.first_thin.ThinNode.{ThinNode}
 use Rattle.local_cache.specs.declared.runs.node_lists.NodeLists.{NodeLists}
+use Rattle.local_cache.specs.declared.runs.record.Record.{Record}
 use Rattle.local_cache.specs.declared.runs.run.Run.{Run}
 use Rattle.local_cache.specs.declared.runs.run.RunName.{RunName}
 use Rattle.local_cache.specs.declared.runs.run.RunName.TheVariants.{Pages, Working, EverySecond}
 use Rattle.local_cache.specs.declared.runs.thin_nodes.ThinNodes.{ThinNodes}
 use Rattle.local_cache.specs.Arena.{Cell}
 use Rattle.local_cache.specs.NodeCells.{cells_by, node_cells}
-use Rattle.local_cache.specs.NodeKeys.{AreKeysOf, HasFreeName, HasKeys, Indexes, even_key, key_at, number_of_name, odd_key, page_key, page_of_name, rekeyed, same_key, with_key, without_key, working_number}
-use Rattle.local_cache.specs.NodeLists.{AreCounted, AreEmpty, HasPlaced, HasTaken, HavePlaces, IsIndexed, IsKept, paged}
+use Rattle.local_cache.specs.NodeKeys.{AreKeysOf, HasFreeName, HasKeys, Indexes, even_half, even_key, key_at, number_of_name, odd_half, odd_key, page_key, page_of_name, rekeyed, same_key, with_key, without_key, working_number}
+use Rattle.local_cache.specs.NodeLists.{AreCounted, AreEmpty, HasGrown, HasPlaced, HasTaken, HavePlaces, IsIndexed, IsKept, paged}
 use Rattle.local_cache.specs.NodeRuns.{IsGiven, IsNumbered, IsRight, live_of, nodes_of}
-use Rattle.local_cache.specs.PageNodes.{PageNodes, node_at}
+use Rattle.local_cache.specs.PageNodes.{IsLeastThin, PageNodes, node_at}
+use Rattle.local_cache.specs.Queue.{thin_number}
 use Rattle.local_cache.specs.Records.{each}
 use Rattle.local_cache.specs.Runs.{first_name, run}
 use Rattle.local_cache.specs.Singles.{IsCounted}
-use Rattle.local_cache.specs.ThinNodes.{first_thin, thin_nodes}
+use Rattle.local_cache.specs.ThinNodes.{IsFirstOf, first_thin, thin_nodes}
 use Rattle.local_cache.proofs.NodeCells.{held_by_run, inserted_here, inserted_other, len_cells, removed_here, removed_other}
 use Rattle.local_cache.proofs.NodeKeys.{key_apart, len_index}
+use Rattle.local_cache.proofs.Placing.{even_number, odd_number, then_some}
 use Rattle.local_cache.proofs.Singles.{len_insert_new, len_insert_old, len_remove_old, len_some, none_of}
 
 -- No nodes --------------------------------------------------------------------------------
@@ -651,3 +655,166 @@ module _ (l : NodeLists) (c : Counters) where
 
   pub node_of_page : (k : ℕ) → node_at (nodes_of l c) k ≡ option_map (λ (v : Rising). record { 0 = v.0 }) (said rising l.pages.list k)
   node_of_page k = ap (option_map (λ (v : Rising). record { 0 = v.0 })) (get_cells rising l.pages.list k)
+
+-- More places ---------------------------------------------------------------------------------------------
+
+module _ (l : NodeLists) (c : Counters) (right : IsRight l c) (new : NodeLists) (grown : HasGrown l new) where
+  grown_cells : node_cells new ≡ node_cells l
+  grown_cells i = cells_by (cells run (grown.runs i)) (cells each (grown.records i))
+
+  grown_count : {V : Type 0} (S : Ghosts V) (a b : Stretches V) → b.list ≡ a.list → IsCounted S a → IsCounted S b
+  grown_count S a b same counted = ap number_count same ∙ counted ∙ sym (ap (λ (rs : List (Stretch _)). map.len (cells S rs)) same)
+
+  grown_index : {V : Type 0} (S : Ghosts V) (number : V → ℕ) (key : Cell → Option ℕ) (a b : Stretches V) → b.list ≡ a.list
+      → Indexes number (cells S a.list) key (node_cells l) → Indexes number (cells S b.list) key (node_cells new)
+  grown_index S number key a b same index =
+      subst (Indexes number (cells S b.list) key) (sym grown_cells)
+      (subst (λ (rs : List (Stretch _)). Indexes number (cells S rs) key (node_cells l)) (sym same) index)
+
+  pub right_grown : IsRight new c
+  right_grown =
+      record {
+        kept = record {
+          counted = record {
+            runs = grown_count run l.runs new.runs grown.runs right.kept.counted.runs;
+            records = grown_count each l.records new.records grown.records right.kept.counted.records;
+            pages = grown_count rising l.pages new.pages grown.pages right.kept.counted.pages;
+            even = grown_count thin_nodes l.even new.even grown.even right.kept.counted.even;
+            odd = grown_count thin_nodes l.odd new.odd grown.odd right.kept.counted.odd;
+          };
+          places = grown.places;
+          fits = omega (arith, ap map.len grown_cells, right.kept.fits, grown.no_fewer);
+          recorded = λ n h.
+              ap (λ (m : FinMap nat_cmp Cell). is_some (map.get m n)) grown_cells
+              ∙ right.kept.recorded n (sym (ap (λ (rs : List (Stretch Record)). is_some (map.get (cells each rs) n)) grown.records) ∙ h);
+        };
+        indexed = record {
+          pages = grown_index rising (λ v. v.0) page_key l.pages new.pages grown.pages right.indexed.pages;
+          even = grown_index thin_nodes (λ v. (first_thin v).0) even_key l.even new.even grown.even right.indexed.even;
+          odd = grown_index thin_nodes (λ v. (first_thin v).0) odd_key l.odd new.odd grown.odd right.indexed.odd;
+        };
+        numbered = subst (λ (m : FinMap nat_cmp Cell). IsNumbered m c) (sym grown_cells) right.numbered;
+        nodes = right.nodes ∙ sym (ap map.len grown_cells);
+        live = right.live ∙ sym (ap (λ (rs : List (Stretch Rising)). map.len (cells rising rs)) grown.pages);
+      }
+
+  pub nodes_grown : nodes_of new c ≡ record (nodes_of l c) { room = new.capacity - map.len (node_cells l) }
+  nodes_grown i = record {
+    cells = grown_cells i;
+    pages = cells rising (grown.pages i);
+    made = c.made;
+    room = new.capacity - map.len (grown_cells i);
+  }
+
+-- The least thin node -----------------------------------------------------------------------------------------
+
+even_back : (h : ℕ) → even_half (2 * h) ≡ Some h
+even_back h =
+    let rest : (2 * h) % 2 ≡ 0 = omega arith in
+    let half : (2 * h) / 2 ≡ h = omega arith in
+    ap (λ (b : Bool). cond b (Some (2 * h / 2)) None) (eq-eqb (2 * h % 2) 0 rest) ∙ ap Some half
+
+odd_back : (h : ℕ) → odd_half (2 * h + 1) ≡ Some h
+odd_back h =
+    let rest : (2 * h + 1) % 2 ≢ 0 = omega arith in
+    let half : (2 * h + 1) / 2 ≡ h = omega arith in
+    ap (λ (b : Bool). cond b None (Some ((2 * h + 1) / 2))) (ne_eqb ((2 * h + 1) % 2) 0 rest) ∙ ap Some half
+
+module _ (m : FinMap nat_cmp Cell) (n : ℕ) where
+  halved : (half : ℕ → Option ℕ) (key : Cell → Option ℕ) → ((x : Cell) → key x ≡ option_and_then half (thin_number x))
+      → (o : Option Cell) → option_and_then key o ≡ option_and_then half (option_and_then thin_number o)
+  halved half key is None = refl
+  halved half key is (Some x) = is x
+
+  pub even_of : (h : ℕ) → key_at thin_number m n ≡ Some (2 * h) → key_at even_key m n ≡ Some h
+  even_of h e = halved even_half even_key (λ x. refl) (map.get m n) ∙ ap (option_and_then even_half) e ∙ even_back h
+
+  pub odd_of : (h : ℕ) → key_at thin_number m n ≡ Some (2 * h + 1) → key_at odd_key m n ≡ Some h
+  odd_of h e = halved odd_half odd_key (λ x. refl) (map.get m n) ∙ ap (option_and_then odd_half) e ∙ odd_back h
+
+  pub of_even : (h : ℕ) → key_at even_key m n ≡ Some h → key_at thin_number m n ≡ Some (2 * h)
+  of_even h e =
+      let t = then_some even_half (key_at thin_number m n) h (sym (halved even_half even_key (λ x. refl) (map.get m n)) ∙ e) in
+      t.1 ∙ ap Some (even_number t.0 h t.2)
+
+  pub of_odd : (h : ℕ) → key_at odd_key m n ≡ Some h → key_at thin_number m n ≡ Some (2 * h + 1)
+  of_odd h e =
+      let t = then_some odd_half (key_at thin_number m n) h (sym (halved odd_half odd_key (λ x. refl) (map.get m n)) ∙ e) in
+      t.1 ∙ ap Some (odd_number t.0 h t.2)
+
+-- a number is even or odd
+halves : (j : ℕ) → (h : ℕ) × ((j ≡ 2 * h) ⊎ (j ≡ 2 * h + 1))
+halves j = (j / 2, elim (cases_eq (j % 2) 0) [ inl even ↦ inl (omega arith) | inr odd ↦ inr (omega arith) ])
+
+module _ (l : NodeLists) (c : Counters) (right : IsRight l c) where
+  abbrev number : ThinNodes → ℕ
+  number v = (first_thin v).0
+
+  -- a thin node is in its list
+  thin_said : (n j : ℕ) → key_at thin_number (node_cells l) n ≡ Some j
+      → ((h : ℕ) × (j ≡ 2 * h) × (option_map number (said thin_nodes l.even.list h) ≡ Some n))
+      ⊎ ((h : ℕ) × (j ≡ 2 * h + 1) × (option_map number (said thin_nodes l.odd.list h) ≡ Some n))
+  thin_said n j is =
+      let h = halves j in
+      elim h.1 [
+        | inl even ↦
+            inl (
+              h.0,
+              even,
+              sym (ap (option_map number) (get_cells thin_nodes l.even.list h.0))
+                  ∙ (right.indexed.even h.0 n).1 (even_of (node_cells l) n h.0 (is ∙ ap Some even)),
+            )
+        | inr odd ↦
+            inr (
+              h.0,
+              odd,
+              sym (ap (option_map number) (get_cells thin_nodes l.odd.list h.0))
+                  ∙ (right.indexed.odd h.0 n).1 (odd_of (node_cells l) n h.0 (is ∙ ap Some odd)),
+            )
+      ]
+
+  not_said : (rs : List (Stretch ThinNodes)) (h n : ℕ) → said thin_nodes rs h ≡ None → option_map number (said thin_nodes rs h) ≡ Some n → ⊥
+  not_said rs h n none is = none-some n (sym (ap (option_map number) none) ∙ is)
+
+  abbrev NoneThin : List (Stretch ThinNodes) → Type 0
+  NoneThin rs = (k : ℕ) → said thin_nodes rs k ≡ None
+
+  pub none_thin : NoneThin l.even.list → NoneThin l.odd.list → IsLeastThin (nodes_of l c) None
+  none_thin even odd n k is = elim (thin_said n.0 k is) [
+    | inl e ↦ not_said l.even.list e.0 n.0 (even e.0) e.2
+    | inr o ↦ not_said l.odd.list o.0 n.0 (odd o.0) o.2
+  ]
+
+  -- the first even one, where no odd one comes before it
+  pub even_thin : (t : ThinNode) → IsFirstOf l.even.list t → ((k : ℕ) → k < t.half → said thin_nodes l.odd.list k ≡ None) → IsLeastThin (nodes_of l c) (Some t.node)
+  even_thin t first odd = (
+    2 * t.half,
+    of_even (node_cells l) t.node.0 t.half ((right.indexed.even t.half t.node.0).0 (ap (option_map number) (get_cells thin_nodes l.even.list t.half) ∙ first.found)),
+    λ other j is. elim (thin_said other.0 j is) [
+      | inl e ↦ elim (cases_lt e.0 t.half) [
+        | inl less ↦ absurd (not_said l.even.list e.0 other.0 (first.least e.0 less) e.2)
+        | inr most ↦ omega (arith, e.1)
+      ]
+      | inr o ↦ elim (cases_lt o.0 t.half) [
+        | inl less ↦ absurd (not_said l.odd.list o.0 other.0 (odd o.0 less) o.2)
+        | inr most ↦ omega (arith, o.1)
+      ]
+    ],
+  )
+
+  -- the first odd one, where no even one comes before it
+  pub odd_thin : (t : ThinNode) → IsFirstOf l.odd.list t → ((k : ℕ) → k ≤ t.half → said thin_nodes l.even.list k ≡ None) → IsLeastThin (nodes_of l c) (Some t.node)
+  odd_thin t first even = (
+    2 * t.half + 1,
+    of_odd (node_cells l) t.node.0 t.half ((right.indexed.odd t.half t.node.0).0 (ap (option_map number) (get_cells thin_nodes l.odd.list t.half) ∙ first.found)),
+    λ other j is. elim (thin_said other.0 j is) [
+      | inl e ↦ elim (cases_lt t.half e.0) [
+        | inl more ↦ omega (arith, e.1)
+        | inr less ↦ absurd (not_said l.even.list e.0 other.0 (even e.0 less) e.2)
+      ]
+      | inr o ↦ elim (cases_lt o.0 t.half) [
+        | inl less ↦ absurd (not_said l.odd.list o.0 other.0 (first.least o.0 less) o.2)
+        | inr most ↦ omega (arith, o.1)
+      ]
+    ],
+  )

@@ -27,7 +27,7 @@ use Rattle.local_cache.proofs.NodeKeys.{indexes_rekeyed, len_index}
 
 -- Thin nodes by their working numbers --------------------------------------------------
 
-even_number : (k h : ℕ) → even_half k ≡ Some h → k ≡ 2 * h
+pub even_number : (k h : ℕ) → even_half k ≡ Some h → k ≡ 2 * h
 even_number k h e = elim (cases_Bool (k % 2 == 0)) [
   | inl even ↦
       let half : k / 2 ≡ h = same_Some _ _ (sym (chosen (k % 2 == 0) even (Some (k / 2)) None) ∙ e) in
@@ -35,7 +35,7 @@ even_number k h e = elim (cases_Bool (k % 2 == 0)) [
   | inr odd ↦ absurd (none-some h (sym (passed (k % 2 == 0) odd (Some (k / 2)) None) ∙ e))
 ]
 
-odd_number : (k h : ℕ) → odd_half k ≡ Some h → k ≡ 2 * h + 1
+pub odd_number : (k h : ℕ) → odd_half k ≡ Some h → k ≡ 2 * h + 1
 odd_number k h e = elim (cases_Bool (k % 2 == 0)) [
   | inl even ↦ absurd (none-some h (sym (chosen (k % 2 == 0) even None (Some (k / 2))) ∙ e))
   | inr odd ↦
@@ -57,7 +57,7 @@ thin_working c k = go c.name (has_few c)
     go (Working j) true h = h
     go (Working j) false h = absurd (none-some k h)
 
-then_some : {A B : Type 0} (f : A → Option B) (o : Option A) (y : B) → option_and_then f o ≡ Some y
+pub then_some : {A B : Type 0} (f : A → Option B) (o : Option A) (y : B) → option_and_then f o ≡ Some y
     → (x : A) × (o ≡ Some x) × (f x ≡ Some y)
 then_some f None y h = absurd (none-some y h)
 then_some f (Some x) y h = (x, refl, h)

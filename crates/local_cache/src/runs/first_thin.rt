@@ -1,5 +1,5 @@
 // The first thin node of a list.
-ghost use Rattle.std.specs.Prelude.{◌≡◌, ℕ, None, MatchOption};
+ghost use Rattle.std.specs.Prelude.{◌≡◌, ◌<◌, ◌≤◌, ℕ, None, MatchOption};
 ghost use Rattle.stretches.specs.Stretches.{said};
 ghost use Rattle.local_cache.specs.ThinNodes.{IsFirstOf, first_thin, thin_nodes};
 
@@ -23,6 +23,18 @@ impl ThinNodes {
             ThinNodes::Each(node) => node,
             ThinNodes::EverySecond(node) => node,
         }
+    }
+}
+
+// The node with the lesser number.
+pub(crate) fn lesser(even: ThinNode, odd: ThinNode) -> NodeId
+    ensures even { even.half ≤ odd.half → result ≡ even.node }
+    ensures odd { odd.half < even.half → result ≡ odd.node }
+{
+    if even.half <= odd.half {
+        even.node
+    } else {
+        odd.node
     }
 }
 

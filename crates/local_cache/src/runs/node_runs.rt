@@ -9,7 +9,7 @@ ghost use Rattle.local_cache.specs.Runs.{run as run_says};
 ghost use Rattle.vm_ids.specs.declared.numbers.NodeId.{NodeId as Id};
 
 use crate::runs::counted::{add, remove, replace};
-use crate::runs::first_thin::first_of;
+use crate::runs::first_thin::{first_of, lesser};
 use crate::runs::keys::{keys_of, page_number};
 use crate::runs::numbering::{give_name, give_page_number, give_working_number};
 use crate::runs::parts::parts_of;
@@ -247,15 +247,15 @@ impl NodeRuns {
     pub(crate) fn thin(&self) -> Option<NodeId>
         ensures { IsLeastThin self.now result }
     {
-        match (first_of(&self.lists.even), first_of(&self.lists.odd)) {
-            (Some(even), Some(odd)) => Some(if even.half <= odd.half {
-                even.node
-            } else {
-                odd.node
-            }),
-            (Some(even), None) => Some(even.node),
-            (None, Some(odd)) => Some(odd.node),
-            (None, None) => None,
+        match first_of(&self.lists.even) {
+            Some(even) => match first_of(&self.lists.odd) {
+                Some(odd) => Some(lesser(even, odd)),
+                None => Some(even.node),
+            },
+            None => match first_of(&self.lists.odd) {
+                Some(odd) => Some(odd.node),
+                None => None,
+            },
         }
     }
 
