@@ -28,3 +28,5 @@ pub mod Writing
 pub mod Placing
 -- What holds of all lists and counters, after a change of one node.
 pub mod NodeRuns
+-- The page nodes of a new cache.
+pub mod Making

@@ -1,17 +1,18 @@
 -- What a contract sees of the page nodes: their cells by number, and the nodes of pages.
-use Rattle.std.specs.Prelude.{◌≡◌, ◌⊎◌, ℕ, ◌+◌, ◌-◌, ◌<◌, ◌≤◌, ◌^◌, List, Option, Some, None, option_map, unwrap_or, IsSome}
+use Rattle.std.specs.Prelude.{◌≡◌, ◌⊎◌, ℕ, ◌+◌, ◌-◌, ◌<◌, ◌≤◌, ◌^◌, List, [], ◌∷◌, length, Option, Some, None, option_map, unwrap_or, IsSome}
 use Rattle.std.specs.Ordering.{nat_cmp}
 use Rattle.std.specs.FinMap.{FinMap}
 use Rattle.std.specs.FinMap as ids
 use Rattle.stretches.specs.declared.rising.Rising.{Rising}
 use Rattle.vm_ids.specs.declared.node_name.NodeName.{NodeName}
 use Rattle.vm_ids.specs.declared.node_name.NodeName.TheVariants.{Working}
+use Rattle.vm_ids.specs.declared.numbers.CacheId.{CacheId}
 use Rattle.vm_ids.specs.declared.numbers.NodeId.{NodeId}
 use Rattle.local_cache.specs.declared.links.Links.{Links}
 use Rattle.local_cache.specs.declared.own_state.OwnState.{OwnState}
 use Rattle.local_cache.specs.declared.own_state.OwnState.TheVariants.{Absent}
-use Rattle.local_cache.specs.Arena.{Cell, blank, new_cell}
-use Rattle.local_cache.specs.NodeKeys.{key_at, page_of_name, rekeyed, with_key, without_key}
+use Rattle.local_cache.specs.Arena.{Cell, IsFilled, blank, new_cell}
+use Rattle.local_cache.specs.NodeKeys.{key_at, page_number, page_of_name, rekeyed, with_key, without_key}
 use Rattle.local_cache.specs.Queue.{thin_number}
 
 -- the nodes by number, the node of each page by the number of the page among those of all caches,
@@ -93,3 +94,22 @@ abbrev pub IsLeastThin : PageNodes → Option NodeId → Type 0
 IsLeastThin m None = (n : NodeId) (k : ℕ) → IsThin m n k → ⊥
 IsLeastThin m (Some n) =
     (k : ℕ) × IsThin m n k × ((other : NodeId) (j : ℕ) → IsThin m other j → k ≤ j)
+
+-- the pages of a cache from one page on with these nodes
+abbrev pub pages_with : FinMap nat_cmp Rising → CacheId → ℕ → List NodeId → FinMap nat_cmp Rising
+pages_with m cache page [] = m
+pages_with m cache page (n ∷ ns) =
+    pages_with (ids.insert m (page_number cache.0 page) (of_page n)) cache (page + 1) ns
+
+-- a new node was made for each page of a cache, all of one own state
+pub record MakesPages (old new : PageNodes) (cache : CacheId) (own : OwnState)
+    (nodes : List NodeId) : Type 0 where
+  pub cells : IsFilled old.cells cache 0 own nodes new.cells
+  pub pages : new.pages ≡ pages_with old.pages cache 0 nodes
+  pub made : new.made ≡ old.made
+  pub room : new.room ≡ old.room - length nodes
+
+-- so many new nodes were made, one for each page of a cache
+abbrev pub MakesAllPages : PageNodes → PageNodes → CacheId → OwnState → ℕ → Type 0
+MakesAllPages old new cache own pages =
+    (nodes : List NodeId) × (length nodes ≡ pages) × MakesPages old new cache own nodes

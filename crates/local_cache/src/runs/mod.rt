@@ -4,6 +4,7 @@ mod counters;
 mod first_thin;
 mod indexing;
 mod keys;
+mod making;
 mod node_lists;
 mod node_runs;
 mod numbering;

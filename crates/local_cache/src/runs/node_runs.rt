@@ -1,9 +1,9 @@
 // All page nodes, and what is done to them.
-ghost use Rattle.std.specs.Prelude.{◌≡◌, ◌+◌, ◌<◌, ◌≤◌, ◌^◌, IsOk, IsSome, None, OnOk, Some, length, slice_get};
+ghost use Rattle.std.specs.Prelude.{◌≡◌, ℕ, ◌+◌, ◌<◌, ◌≤◌, ◌^◌, IsOk, IsSome, None, OnOk, Some, length, slice_get};
 ghost use Rattle.std.specs.FinMap as map;
 ghost use Rattle.stretches.specs.Stretch.{IsFit, single};
-ghost use Rattle.local_cache.specs.NodeCells.{cell_of};
-ghost use Rattle.local_cache.specs.PageNodes.{HasNode, IsLeastThin, as_working, cell, find, node_at, put, with_links, with_name, with_new, with_own, with_tree, with_working, without};
+ghost use Rattle.local_cache.specs.NodeCells.{cell_of, own_of_plain};
+ghost use Rattle.local_cache.specs.PageNodes.{HasNode, IsLeastThin, MakesAllPages, as_working, cell, find, node_at, put, with_links, with_name, with_new, with_own, with_tree, with_working, without};
 ghost use Rattle.local_cache.specs.NodeKeys.{page_number};
 ghost use Rattle.local_cache.specs.Runs.{run as run_says};
 ghost use Rattle.vm_ids.specs.declared.numbers.NodeId.{NodeId as Id};
@@ -11,10 +11,11 @@ ghost use Rattle.vm_ids.specs.declared.numbers.NodeId.{NodeId as Id};
 use crate::runs::counted::{add, remove, replace};
 use crate::runs::first_thin::{first_of, lesser};
 use crate::runs::keys::{keys_of, page_number};
-use crate::runs::numbering::{give_name, give_page_number, give_working_number};
-use crate::runs::parts::parts_of;
+use crate::runs::making::make_run;
+use crate::runs::numbering::{FIRST_WORKING, give_name, give_page_number, give_working_number};
+use crate::runs::parts::{own_of_plain, parts_of};
 use crate::runs::placing::place;
-use crate::runs::{Counters, NodeLists, Parts, Record, RunName};
+use crate::runs::{Counters, NodeLists, Parts, PlainState, Record, RunName};
 use crate::{Links, OwnState};
 use std::alloc::Global;
 use std::marker::Model;
@@ -163,6 +164,36 @@ impl NodeRuns {
         let parts = Parts::fresh(RunName::Pages(cache, page), state);
         add(&mut self.lists, &mut self.counters, node, parts);
         NodeId(node)
+    }
+
+    /// Makes a node for each page of a cache, none of which has one, each of one own state. They are
+    /// one run. It takes no memory: there has to be room for the nodes.
+    pub(crate) fn make_pages(&mut self, cache: CacheId, pages: u32, own: PlainState)
+        requires room { pages ≤ self.old.room }
+        requires vacant { (page : ℕ) → page < pages
+            → map.get self.old.pages (page_number cache.0 page) ≡ None }
+        ensures { MakesAllPages self.old self.new cache (own_of_plain own) pages }
+    {
+        if pages == 0 {
+            return;
+        }
+        if self.counters.next_page + pages as u64 <= FIRST_WORKING {
+            make_run(&mut self.lists, &mut self.counters, cache, pages, own);
+        } else {
+            self.make_each(cache, pages, own);
+        }
+    }
+
+    // The same, page by page, where too few numbers are left to be given one behind the other.
+    fn make_each(&mut self, cache: CacheId, pages: u32, own: PlainState)
+        requires room { pages ≤ self.old.room }
+        requires vacant { (page : ℕ) → page < pages
+            → map.get self.old.pages (page_number cache.0 page) ≡ None }
+        ensures { MakesAllPages self.old self.new cache (own_of_plain own) pages }
+    {
+        for page in 0..pages {
+            self.fresh(cache, PageNo(page), own_of_plain(own));
+        }
     }
 
     /// Makes a working node under the next name, `Absent` and without parent and children. It takes

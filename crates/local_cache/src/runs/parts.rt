@@ -20,7 +20,7 @@ pub(crate) struct Parts {
 }
 
 // The own state that is said by this word.
-fn own_of_plain(own: PlainState) -> OwnState
+pub(crate) fn own_of_plain(own: PlainState) -> OwnState
     ensures { result ≡ own_of_plain own }
 {
     match own {
