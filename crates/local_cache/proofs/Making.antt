@@ -26,7 +26,7 @@ use Rattle.local_cache.specs.Arena.{Cell, IsFilled, blank, new_cell}
 use Rattle.local_cache.specs.NodeCells.{bare, cell_by, cells_by, node_cells, own_of_plain}
 use Rattle.local_cache.specs.NodeKeys.{Indexes, even_key, key_at, odd_key, page_key, page_number, working_number}
 use Rattle.local_cache.specs.NodeRuns.{IsGiven, IsNumbered, IsRight, nodes_from, nodes_of}
-use Rattle.local_cache.specs.PageNodes.{MakesPages, PageNodes, of_page, pages_with}
+use Rattle.local_cache.specs.PageNodes.{MakesAllPages, MakesPages, PageNodes, find, of_page, pages_with, with_new}
 use Rattle.local_cache.specs.Records.{each}
 use Rattle.local_cache.specs.Runs.{run}
 use Rattle.local_cache.specs.Singles.{IsCounted}
@@ -355,3 +355,44 @@ module _ (l : NodeLists) (c : Counters) (right : IsRight l c) (cache : CacheId) 
             room = (let less : l.capacity - map.len (node_cells new) ≡ l.capacity - map.len (node_cells l) - length (nodes_from first count) =
                 omega (arith, ap map.len cells_are, len_after, length_nodes first count) in less);
           }
+
+-- Page by page ----------------------------------------------------------------------------------
+
+-- one page more
+pub made_more : (old mid new : PageNodes) (cache : CacheId) (own : OwnState) (page : ℕ) (n : NodeId)
+    → MakesAllPages old mid cache own page → find mid n ≡ None
+    → new ≡ with_new mid n (Live cache (record { 0 = page })) own → MakesAllPages old new cache own (page + 1)
+unfolding with_new
+made_more old mid new cache own page n made none is =
+    let ns : List NodeId = made.0 in
+    let all = made.2 in
+    let at : page ≡ 0 + length ns = omega (arith, made.1) in (
+      ns ++ n ∷ [],
+      omega (arith, length-append ns (n ∷ []), made.1),
+      record {
+        cells = filled_more ns old.cells 0 mid.cells new.cells cache own n all.cells none
+            (ap (λ (m : PageNodes). m.cells) is ∙ ap (λ (p : ℕ). map.insert mid.cells n.0 (new_cell (Live cache (record { 0 = p })) own)) at);
+        pages = ap (λ (m : PageNodes). m.pages) is
+            ∙ (λ i. map.insert (all.pages i) (page_number cache.0 (at i)) (of_page n))
+            ∙ sym (pages_push old.pages cache 0 ns n);
+        made = ap (λ (m : PageNodes). m.made) is ∙ all.made;
+        room = (let less : new.room ≡ old.room - length (ns ++ n ∷ []) =
+            omega (arith, ap (λ (m : PageNodes). m.room) is, all.room, length-append ns (n ∷ [])) in less);
+      },
+    )
+
+-- no page yet
+pub made_none : (old : PageNodes) (cache : CacheId) (own : OwnState) → MakesAllPages old old cache own 0
+made_none old cache own =
+    let same : old.room ≡ old.room - 0 = omega arith in
+    ([], refl, record { cells = refl; pages = refl; made = refl; room = same })
+
+-- the pages behind it have no node still
+pub vacant_still : (mid new : PageNodes) (cache : CacheId) (own : OwnState) (page other : ℕ) (n : NodeId)
+    → new ≡ with_new mid n (Live cache (record { 0 = page })) own → page < other
+    → map.get mid.pages (page_number cache.0 other) ≡ None → map.get new.pages (page_number cache.0 other) ≡ None
+unfolding with_new
+vacant_still mid new cache own page other n is less none =
+    ap (λ (m : PageNodes). map.get m.pages (page_number cache.0 other)) is
+    ∙ inserted_other mid.pages (page_number cache.0 page) (of_page n) (page_number cache.0 other) (λ e. let bad : ⊥ = omega (arith, less, e) in bad)
+    ∙ none
