@@ -47,7 +47,7 @@ module _ {V : Type 0} (S : Ghosts V) where
   unfolding cells
   empty_len rs none = ap (λ (xs : List (Stretch V)). map.len (cells S xs)) none ∙ len-empty nat_cmp V
 
-  empty_get : (rs : List (Stretch V)) → rs ≡ [] → (n : ℕ) → map.get (cells S rs) n ≡ None
+  pub empty_get : (rs : List (Stretch V)) → rs ≡ [] → (n : ℕ) → map.get (cells S rs) n ≡ None
   empty_get rs none n = get_cells S rs n ∙ ap (λ (xs : List (Stretch V)). said S xs n) none
 
   empty_counted : (l : Stretches V) → l.list ≡ [] → IsCounted S l

@@ -1,4 +1,5 @@
--- The numbers under which nodes are found: those of their pages, and of thin nodes those of their working numbers.
+-- The numbers under which nodes are found: of a page that of the page, of a thin node half of its
+-- working number.
 use Rattle.std.specs.Prelude.{◌≡◌, ◌↔◌, ℕ, ◌+◌, ◌*◌, ◌/◌, ◌%◌, ◌==◌, ◌^◌, if◌then◌else◌, Bool, true, false, Option, Some, None, option_and_then, option_map}
 use Rattle.std.specs.Ordering.{nat_cmp}
 use Rattle.std.specs.FinMap.{FinMap}

@@ -12,7 +12,7 @@ use Rattle.local_cache.specs.declared.links.Links.{Links}
 use Rattle.local_cache.specs.declared.own_state.OwnState.{OwnState}
 use Rattle.local_cache.specs.declared.own_state.OwnState.TheVariants.{Absent}
 use Rattle.local_cache.specs.Arena.{Cell, IsFilled, blank, new_cell}
-use Rattle.local_cache.specs.NodeKeys.{key_at, page_number, page_of_name, rekeyed, with_key, without_key}
+use Rattle.local_cache.specs.NodeKeys.{Indexes, key_at, page_key, page_number, page_of_name, rekeyed, with_key, without_key}
 use Rattle.local_cache.specs.Queue.{thin_number}
 
 -- the nodes by number, the node of each page by the number of the page among those of all caches,
@@ -84,6 +84,10 @@ without m n = record m {
 -- the node of the page of this number
 abbrev pub node_at : PageNodes → ℕ → Option NodeId
 node_at m k = option_map (λ v. record { 0 = v.0 }) (ids.get m.pages k)
+
+-- the page of a number has this node exactly where the node is named by this page
+abbrev pub ArePaged : PageNodes → Type 0
+ArePaged m = Indexes (λ v. v.0) m.pages page_key m.cells
 
 -- n is the working node of this number, and has fewer than two children
 abbrev pub IsThin : PageNodes → NodeId → ℕ → Type 0

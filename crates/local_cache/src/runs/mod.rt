@@ -1,4 +1,16 @@
-// All page nodes, as stretches of nodes that are alike.
+//! All page nodes, as stretches of nodes that are alike.
+//!
+//! A run says of a stretch of node numbers how the nodes are named, their plain own state, their
+//! parent by a tree link and their tree children; each node is a step further on than the one
+//! before. A record lies over a run and splits nothing: it says of one node what the run can't, its
+//! frame or slot and its links by stubs, and hides what the run says of these. Three more lists find
+//! nodes: the node of each page, and the thin nodes by their working numbers, odd and even ones
+//! apart.
+//!
+//! Nodes of pages and nodes made as working ones have two series of numbers. Each rises, so that
+//! nodes made one behind the other can stand in one run.
+//!
+//! `Caches` doesn't stand on this yet.
 mod counted;
 mod counters;
 mod first_thin;
@@ -25,3 +37,6 @@ pub(crate) use parts::Parts;
 pub(crate) use record::Record;
 pub(crate) use run::{PlainState, Run, RunName};
 pub(crate) use thin_nodes::ThinNodes;
+
+#[cfg(test)]
+mod tests;

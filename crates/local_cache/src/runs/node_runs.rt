@@ -3,7 +3,7 @@ ghost use Rattle.std.specs.Prelude.{◌≡◌, ℕ, ◌+◌, ◌<◌, ◌≤◌,
 ghost use Rattle.std.specs.FinMap as map;
 ghost use Rattle.stretches.specs.Stretch.{IsFit, single};
 ghost use Rattle.local_cache.specs.NodeCells.{cell_of, own_of_plain};
-ghost use Rattle.local_cache.specs.PageNodes.{HasNode, IsLeastThin, MakesAllPages, as_working, cell, find, node_at, put, with_links, with_name, with_new, with_own, with_tree, with_working, without};
+ghost use Rattle.local_cache.specs.PageNodes.{ArePaged, HasNode, IsLeastThin, MakesAllPages, as_working, cell, find, node_at, put, with_links, with_name, with_new, with_own, with_tree, with_working, without};
 ghost use Rattle.local_cache.specs.NodeKeys.{page_number};
 ghost use Rattle.local_cache.specs.Runs.{run as run_says};
 ghost use Rattle.vm_ids.specs.declared.numbers.NodeId.{NodeId as Id};
@@ -22,6 +22,10 @@ use std::marker::Model;
 use vm_ids::{CacheId, NoMemory, NodeId, NodeName, PageNo};
 
 /// All page nodes, of which alike ones stand as one run.
+///
+/// Its model is `PageNodes` of `specs`: a map from the numbers of nodes to cells, the node of each
+/// page, how many working names were given, and how many more nodes fit before memory is taken.
+/// Each call but the making of pages changes one cell.
 #[derive(Drop)]
 pub(crate) struct NodeRuns {
     lists: NodeLists,
@@ -47,6 +51,7 @@ impl NodeRuns {
     /// No node and no spare room.
     pub(crate) fn new(alloc: Global) -> Self
         ensures nodes { (n : Id) → find result n ≡ None }
+        ensures pages { (k : ℕ) → map.get result.pages k ≡ None }
         ensures made { result.made ≡ 0 }
     {
         NodeRuns {
@@ -256,7 +261,8 @@ impl NodeRuns {
 
     /// How many nodes of pages there are.
     pub(crate) fn live(&self) -> u32
-        ensures { result ≡ map.len self.now.pages }
+        ensures live { result ≡ map.len self.now.pages }
+        ensures paged { ArePaged self.now }
     {
         self.counters.live
     }
