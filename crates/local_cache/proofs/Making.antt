@@ -1,6 +1,6 @@
 -- The page nodes of a new cache.
-use Rattle.std.proofs.Common.{◌≡◌, ◌≢◌, ℕ, zero, suc, ◌+◌, ◌-◌, ◌*◌, ◌<◌, ◌≤◌, ◌^◌, Bool, true, false, cond, List, [], ◌∷◌, ◌++◌, length, Option, Some, None, IsSome, is_some, refl, ap, sym, subst, ◌∙◌, inl, inr, arith, length-append}
-use Rattle.std.specs.Prelude.{◌⊎◌, ◌↔◌, option_and_then, option_map}
+use Rattle.std.proofs.Common.{◌≡◌, ℕ, zero, suc, ◌+◌, ◌-◌, ◌<◌, ◌≤◌, ◌^◌, List, [], ◌∷◌, ◌++◌, length, Option, Some, None, IsSome, is_some, refl, ap, sym, subst, ◌∙◌, inl, inr, arith, length-append}
+use Rattle.std.specs.Prelude.{◌⊎◌, option_and_then, option_map}
 use Rattle.std.proofs.lemmas.Bool.{cases_eq, cases_lt, false≢true}
 use Rattle.std.proofs.lemmas.Option.{none-some, same_Some}
 use Rattle.std.specs.Ordering.{nat_cmp}
@@ -23,13 +23,12 @@ use Rattle.local_cache.specs.declared.runs.run.PlainState.{PlainState}
 use Rattle.local_cache.specs.declared.runs.run.Run.{Run}
 use Rattle.local_cache.specs.declared.runs.run.RunName.TheVariants.{Pages}
 use Rattle.local_cache.specs.Arena.{Cell, IsFilled, blank, new_cell}
-use Rattle.local_cache.specs.NodeCells.{bare, cell_by, cells_by, node_cells, own_of_plain}
+use Rattle.local_cache.specs.NodeCells.{cell_by, cells_by, node_cells, own_of_plain}
 use Rattle.local_cache.specs.NodeKeys.{Indexes, even_key, key_at, odd_key, page_key, page_number, working_number}
 use Rattle.local_cache.specs.NodeRuns.{IsGiven, IsNumbered, IsRight, nodes_from, nodes_of}
 use Rattle.local_cache.specs.PageNodes.{MakesAllPages, MakesPages, PageNodes, find, of_page, pages_with, with_new}
 use Rattle.local_cache.specs.Records.{each}
 use Rattle.local_cache.specs.Runs.{run}
-use Rattle.local_cache.specs.Singles.{IsCounted}
 use Rattle.local_cache.specs.ThinNodes.{first_thin}
 use Rattle.local_cache.specs.declared.runs.thin_nodes.ThinNodes.{ThinNodes}
 use Rattle.local_cache.proofs.NewCache.Cells.{filled_more}

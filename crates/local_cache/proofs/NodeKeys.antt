@@ -1,6 +1,6 @@
 -- The lists by which nodes are found.
-use Rattle.std.proofs.Common.{◌≡◌, ◌≢◌, ℕ, ◌≤◌, Bool, true, false, eqb, cond, Option, Some, None, IsSome, is_some, refl, ap, sym, ◌∙◌, inl, inr, arith}
-use Rattle.std.specs.Prelude.{◌↔◌, ◌⊎◌, option_and_then, option_map}
+use Rattle.std.proofs.Common.{◌≡◌, ◌≢◌, ℕ, ◌≤◌, Bool, true, cond, Option, Some, None, IsSome, refl, ap, sym, ◌∙◌, inl, inr}
+use Rattle.std.specs.Prelude.{◌⊎◌, option_and_then, option_map}
 use Rattle.std.proofs.lemmas.Bool.{cases_Bool, cases_eq, eqb-true, false≢true}
 use Rattle.std.proofs.lemmas.Option.{none-some, same_Some}
 use Rattle.std.specs.Ordering.{nat_cmp}

@@ -1,7 +1,7 @@
 -- What holds of the lists and the counters of the page nodes, after a change of one node.
-use Rattle.std.proofs.Common.{◌≡◌, ◌≢◌, ℕ, zero, suc, ◌+◌, ◌-◌, ◌*◌, ◌<◌, ◌≤◌, ◌^◌, Bool, true, false, cond, List, [], Option, Some, None, IsSome, is_some, refl, ap, sym, subst, ◌∙◌, inl, inr, arith}
-use Rattle.std.specs.Prelude.{◌⊎◌, ◌/◌, ◌%◌, ◌==◌, option_and_then, option_map}
-use Rattle.std.proofs.lemmas.Bool.{cases_Bool, cases_eq, cases_lt, eq-eqb, false≢true, ne_eqb}
+use Rattle.std.proofs.Common.{◌≡◌, ◌≢◌, ℕ, zero, suc, ◌+◌, ◌-◌, ◌*◌, ◌<◌, ◌≤◌, ◌^◌, Bool, true, cond, List, [], Option, Some, None, IsSome, is_some, refl, ap, sym, subst, ◌∙◌, inl, inr, arith}
+use Rattle.std.specs.Prelude.{◌⊎◌, ◌/◌, ◌%◌, option_and_then, option_map}
+use Rattle.std.proofs.lemmas.Bool.{cases_eq, cases_lt, eq-eqb, false≢true, ne_eqb}
 use Rattle.std.proofs.lemmas.Option.{none-some, same_Some}
 use Rattle.std.specs.Ordering.{nat_cmp}
 use Rattle.std.specs.FinMap.{FinMap, len-empty}
@@ -14,7 +14,6 @@ use Rattle.stretches.specs.declared.says.Says.{Ghosts}
 use Rattle.stretches.specs.declared.stretch.Stretch.{Stretch}
 use Rattle.stretches.proofs.Cells.{get_cells}
 use Rattle.stretches.proofs.Reading.Numbers.{within}
-use Rattle.vm_ids.specs.declared.node_name.NodeName.{NodeName}
 use Rattle.local_cache.specs.declared.runs.counters.Counters.{Counters}
 use Rattle.local_cache.specs.declared.runs.keys.Keys.{Keys}
 use Rattle.local_cache.specs.declared.runs.first_thin.ThinNode.{ThinNode}
@@ -27,9 +26,9 @@ use Rattle.local_cache.specs.declared.runs.thin_nodes.ThinNodes.{ThinNodes}
 use Rattle.local_cache.specs.Arena.{Cell}
 use Rattle.local_cache.specs.NodeCells.{cells_by, node_cells}
 use Rattle.local_cache.specs.NodeKeys.{AreKeysOf, HasFreeName, HasKeys, Indexes, even_half, even_key, key_at, number_of_name, odd_half, odd_key, page_key, page_of_name, rekeyed, same_key, with_key, without_key, working_number}
-use Rattle.local_cache.specs.NodeLists.{AreCounted, AreEmpty, HasGrown, HasPlaced, HasTaken, HavePlaces, IsIndexed, IsKept, paged}
+use Rattle.local_cache.specs.NodeLists.{AreEmpty, HasGrown, HasPlaced, HasTaken, paged}
 use Rattle.local_cache.specs.NodeRuns.{IsGiven, IsNumbered, IsRight, live_of, nodes_of}
-use Rattle.local_cache.specs.PageNodes.{IsLeastThin, PageNodes, node_at}
+use Rattle.local_cache.specs.PageNodes.{IsLeastThin, node_at}
 use Rattle.local_cache.specs.Queue.{thin_number}
 use Rattle.local_cache.specs.Records.{each}
 use Rattle.local_cache.specs.Runs.{first_name, run}

@@ -1,5 +1,5 @@
 -- What is written of one node.
-use Rattle.std.proofs.Common.{◌≡◌, ◌≢◌, ℕ, ◌+◌, ◌<◌, ◌≤◌, Bool, Option, Some, None, IsSome, is_some, cond, refl, ap, sym, subst, ◌∙◌, inl, inr, arith}
+use Rattle.std.proofs.Common.{◌≡◌, ◌≢◌, ℕ, ◌≤◌, is_some, refl, ap, sym, subst, ◌∙◌, inl, inr, arith}
 use Rattle.std.proofs.lemmas.Bool.{cases_eq, false≢true}
 use Rattle.std.specs.Cmp.{nat_cmp_total}
 use Rattle.std.specs.Ordering.{nat_cmp}
@@ -17,7 +17,6 @@ use Rattle.local_cache.specs.Records.{each}
 use Rattle.local_cache.specs.Runs.{run}
 use Rattle.local_cache.specs.Singles.{IsCounted}
 use Rattle.local_cache.proofs.NodeCells.{cells_set, cells_taken, inserted_here, inserted_other, len_cells, len_within, removed_here, removed_other}
-use Rattle.local_cache.proofs.Singles.{len_insert_old}
 
 len_insert_any : {X : Type 0} (m : FinMap nat_cmp X) (k : ℕ) (x y : X)
     → map.len (map.insert m k x) ≡ map.len (map.insert m k y)

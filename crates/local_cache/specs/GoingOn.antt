@@ -1,16 +1,14 @@
 -- How what the entries of the lists say goes on.
-use Rattle.std.proofs.Common.{◌≡◌, ℕ, ◌+◌, ◌-◌, ◌*◌, ◌<◌, ◌^◌, max, min, Option, Some, None, refl, ap, sym, ◌∙◌, arith, rules}
+use Rattle.std.proofs.Common.{◌≡◌, ℕ, ◌+◌, ◌-◌, ◌*◌, ◌^◌, max, min, Option, Some, None, refl, ap, arith}
 use Rattle.std.specs.Prelude.{◌↔◌}
 use Rattle.stretches.specs.GoingOn.{GoesOn}
 use Rattle.vm_ids.specs.declared.numbers.NodeId.{NodeId}
-use Rattle.local_cache.specs.declared.runs.record.Record.{Record}
-use Rattle.local_cache.specs.declared.runs.run.Run.{Run}
 use Rattle.local_cache.specs.declared.runs.run.RunName.{RunName}
 use Rattle.local_cache.specs.declared.runs.run.RunName.TheVariants.{Pages, Working, EverySecond}
 use Rattle.local_cache.specs.declared.runs.thin_nodes.ThinNodes.{ThinNodes}
 use Rattle.local_cache.specs.declared.runs.thin_nodes.ThinNodes.TheVariants.{Each, EverySecond as EverySecondNode}
 use Rattle.local_cache.specs.Records.{each}
-use Rattle.local_cache.specs.Runs.{HasNames, further, further_if, name_after, run, run_after}
+use Rattle.local_cache.specs.Runs.{HasNames, further, further_if, name_after, run}
 use Rattle.local_cache.specs.ThinNodes.{HasNodes, thin_after, thin_nodes}
 
 -- Runs --------------------------------------------------------------------------

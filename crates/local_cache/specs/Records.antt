@@ -1,5 +1,4 @@
 -- What a record says of page nodes.
-use Rattle.std.specs.Prelude.{ℕ}
 use Rattle.stretches.specs.declared.says.Says.{Ghosts}
 use Rattle.local_cache.specs.declared.runs.record.Record.{Record}
 

@@ -37,6 +37,3 @@ pub(crate) use parts::Parts;
 pub(crate) use record::Record;
 pub(crate) use run::{PlainState, Run, RunName};
 pub(crate) use thin_nodes::ThinNodes;
-
-#[cfg(test)]
-mod tests;

@@ -172,7 +172,8 @@ impl NodeRuns {
     }
 
     /// Makes a node for each page of a cache, none of which has one, each of one own state. They are
-    /// one run. It takes no memory: there has to be room for the nodes.
+    /// one run, unless the numbers came to an end. It takes no memory: there has to be room for the
+    /// nodes.
     pub(crate) fn make_pages(&mut self, cache: CacheId, pages: u32, own: PlainState)
         requires room { pages ≤ self.old.room }
         requires vacant { (page : ℕ) → page < pages
@@ -280,7 +281,7 @@ impl NodeRuns {
     }
 
     /// The working node with the least number that has fewer than two children, tree children and
-    /// stubs together, or `None` exactly where there is none. It takes constant time.
+    /// stubs together, or `None` exactly where there is none.
     pub(crate) fn thin(&self) -> Option<NodeId>
         ensures { IsLeastThin self.now result }
     {

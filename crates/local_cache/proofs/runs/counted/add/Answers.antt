@@ -1,8 +1,7 @@
-use Rattle.std.proofs.Common.{◌∙◌, ◌+◌, ◌≡◌, ap, sym, refl, arith}
+use Rattle.std.proofs.Common.{◌+◌, ◌≡◌, sym, refl, arith}
 use Rattle.stretches.specs.Cells.{cells}
 use Rattle.stretches.specs.Rising.{rising}
 use Rattle.std.specs.FinMap as map
-use Rattle.local_cache.specs.NodeCells.{node_cells}
 use Rattle.local_cache.proofs.NodeRuns.{bit_of_name, live_fits, live_new, nodes_new, nodes_of_new, right_placed, room_new}
 use Rattle.local_cache.proofs.runs.counted.add.Goals as goal
 

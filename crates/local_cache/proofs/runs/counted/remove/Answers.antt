@@ -1,4 +1,4 @@
-use Rattle.std.proofs.Common.{◌∙◌, ◌+◌, ◌-◌, ◌≡◌, ap, sym, refl, arith}
+use Rattle.std.proofs.Common.{◌-◌, refl, arith}
 use Rattle.local_cache.proofs.NodeRuns.{bit_of_name, live_some, nodes_of_left, nodes_some, right_taken}
 use Rattle.local_cache.proofs.runs.counted.remove.Goals as goal
 

@@ -1,8 +1,7 @@
-use Rattle.std.proofs.Common.{◌∙◌, ◌+◌, ◌-◌, ◌≡◌, ap, is_some, sym, refl, arith}
+use Rattle.std.proofs.Common.{◌+◌, ◌-◌, ◌≡◌, ap, is_some, sym, refl, arith}
 use Rattle.stretches.specs.Cells.{cells}
 use Rattle.stretches.specs.Rising.{rising}
 use Rattle.std.specs.FinMap as map
-use Rattle.local_cache.specs.NodeCells.{node_cells}
 use Rattle.local_cache.proofs.NodeRuns.{bit_of_name, live_fits, live_renamed, live_some, nodes_of_renamed, nodes_same, right_placed, room_same}
 use Rattle.local_cache.proofs.runs.counted.replace.Goals as goal
 

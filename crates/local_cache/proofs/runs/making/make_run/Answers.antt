@@ -1,13 +1,10 @@
 use Rattle.std.proofs.Common.{ℕ, ◌+◌, ◌∙◌, arith, refl, sym}
-use Rattle.stretches.specs.Cells.{cells}
 use Rattle.stretches.specs.Rising.{rising}
-use Rattle.stretches.specs.Stretch.{is_in}
 use Rattle.stretches.specs.declared.rising.Rising.{Rising}
 use Rattle.stretches.specs.declared.stretch.Stretch.{Stretch}
 use Rattle.stretches.proofs.Cells.{get_cells}
 use Rattle.stretches.proofs.Reading.Numbers.{high, low}
 use Rattle.local_cache.specs.Runs.{run}
-use Rattle.local_cache.specs.declared.runs.counters.Counters.{Counters}
 use Rattle.local_cache.proofs.Making.{free_number, free_pages, live_short, makes_pages, pages_places, right_made, runs_places}
 use Rattle.local_cache.proofs.runs.making.make_run.Goals as goal
 

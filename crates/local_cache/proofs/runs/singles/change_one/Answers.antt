@@ -1,4 +1,4 @@
-use Rattle.std.proofs.Common.{◌≡◌, ◌∙◌, IsTrue, Some, ap, rules}
+use Rattle.std.proofs.Common.{◌∙◌, IsTrue, Some, ap, rules}
 use Rattle.stretches.proofs.Cells.{get_cells}
 use Rattle.local_cache.proofs.Singles.{insert_again}
 use Rattle.local_cache.proofs.runs.singles.change_one.Goals as goal

@@ -1,4 +1,4 @@
-use Rattle.std.proofs.Common.{◌≡◌, ◌∙◌, IsSome, is_some, None, ap, sym, arith}
+use Rattle.std.proofs.Common.{◌∙◌, IsSome, is_some, ap, sym, arith}
 use Rattle.std.specs.FinMap as map
 use Rattle.stretches.specs.Cells.{cells}
 use Rattle.stretches.proofs.Cells.{get_cells}

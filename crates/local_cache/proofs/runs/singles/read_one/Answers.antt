@@ -1,5 +1,4 @@
-use Rattle.std.proofs.Common.{arith, ◌+◌, ◌<◌, ◌^◌}
-use Rattle.stretches.specs.declared.stretch.Stretch.{Stretch}
+use Rattle.std.proofs.Common.{arith}
 use Rattle.stretches.proofs.Changes.Parts.{lasts_fewer}
 use Rattle.local_cache.proofs.runs.singles.read_one.Goals as goal
 

@@ -1,8 +1,6 @@
 use Rattle.std.proofs.Common.{◌-◌, ◌+◌, arith, subst}
-use Rattle.stretches.specs.declared.stretch.Stretch.{Stretch}
 use Rattle.stretches.specs.Changes.{SayAlso}
-use Rattle.stretches.specs.Stretch.{IsFit, behind, front}
-use Rattle.stretches.proofs.Changes.Parts.{fit_behind, fit_front, lasts_fewer}
+use Rattle.stretches.proofs.Changes.Parts.{fit_front, lasts_fewer}
 use Rattle.stretches.proofs.Reading.Numbers.{high, low}
 use Rattle.local_cache.proofs.Singles.{cells_cleared}
 use Rattle.local_cache.proofs.runs.singles.take_one.Goals as goal

@@ -1,4 +1,4 @@
-use Rattle.std.proofs.Common.{ℕ, ◌∙◌, ap, Some}
+use Rattle.std.proofs.Common.{◌∙◌, ap}
 use Rattle.std.specs.FinMap as map
 use Rattle.local_cache.specs.NodeCells.{cell_by}
 use Rattle.local_cache.proofs.NodeCells.{inserted_here, inserted_other}

@@ -1,4 +1,4 @@
-use Rattle.std.proofs.Common.{◌≡◌, ◌∙◌, ap, is_some, sym, Some}
+use Rattle.std.proofs.Common.{◌≡◌, ◌∙◌, ap, is_some, Some}
 use Rattle.std.specs.FinMap as map
 use Rattle.local_cache.specs.NodeCells.{cell_of, node_cells}
 use Rattle.local_cache.specs.PageNodes.{find, put}

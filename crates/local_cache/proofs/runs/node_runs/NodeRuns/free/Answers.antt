@@ -1,7 +1,7 @@
 use Rattle.std.proofs.Common.{◌+◌, ◌∙◌, ap, sym}
 use Rattle.std.specs.FinMap as map
 use Rattle.local_cache.specs.NodeCells.{cell_of}
-use Rattle.local_cache.specs.NodeKeys.{page_key, page_of_name, without_key}
+use Rattle.local_cache.specs.NodeKeys.{page_key, without_key}
 use Rattle.local_cache.specs.PageNodes.{PageNodes, without}
 use Rattle.local_cache.proofs.runs.node_runs.NodeRuns.free.Goals as goal
 

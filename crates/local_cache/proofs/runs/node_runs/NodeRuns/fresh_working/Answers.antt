@@ -1,4 +1,4 @@
-use Rattle.std.proofs.Common.{◌≡◌, ◌+◌, ◌-◌, ◌∙◌, ap, refl, sym}
+use Rattle.std.proofs.Common.{◌-◌, ◌∙◌, ap}
 use Rattle.std.specs.FinMap as map
 use Rattle.stretches.specs.Cells.{cells}
 use Rattle.stretches.specs.Rising.{rising}
@@ -6,7 +6,7 @@ use Rattle.vm_ids.specs.declared.node_name.NodeName.TheVariants.{Working}
 use Rattle.local_cache.specs.declared.own_state.OwnState.TheVariants.{Absent}
 use Rattle.local_cache.specs.Arena.{new_cell}
 use Rattle.local_cache.specs.NodeCells.{node_cells}
-use Rattle.local_cache.specs.NodeKeys.{page_key, with_key, working_number}
+use Rattle.local_cache.specs.NodeKeys.{page_key, with_key}
 use Rattle.local_cache.specs.NodeLists.{paged}
 use Rattle.local_cache.specs.PageNodes.{PageNodes, with_new, with_working}
 use Rattle.local_cache.proofs.runs.node_runs.NodeRuns.fresh_working.Goals as goal

@@ -1,11 +1,11 @@
-use Rattle.std.proofs.Common.{◌≡◌, ◌+◌, ◌-◌, ◌∙◌, None, ap, refl, sym}
+use Rattle.std.proofs.Common.{◌+◌, ◌-◌, ◌∙◌, None, ap, sym}
 use Rattle.std.specs.FinMap as map
 use Rattle.stretches.specs.Cells.{cells}
 use Rattle.stretches.specs.Rising.{rising}
 use Rattle.vm_ids.specs.declared.node_name.NodeName.TheVariants.{Working}
 use Rattle.local_cache.specs.Arena.{Cell}
 use Rattle.local_cache.specs.NodeCells.{cell_of, node_cells}
-use Rattle.local_cache.specs.NodeKeys.{page_key, page_of_name, rekeyed}
+use Rattle.local_cache.specs.NodeKeys.{page_key, rekeyed}
 use Rattle.local_cache.specs.NodeLists.{paged}
 use Rattle.local_cache.specs.PageNodes.{PageNodes, put}
 use Rattle.local_cache.proofs.runs.node_runs.NodeRuns.to_working.Goals as goal
