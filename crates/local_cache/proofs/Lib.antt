@@ -30,3 +30,5 @@ pub mod Placing
 pub mod NodeRuns
 -- The page nodes of a new cache.
 pub mod Making
+-- A run said in other words.
+pub mod Adapting

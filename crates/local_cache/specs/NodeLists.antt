@@ -66,6 +66,12 @@ pub record IsIndexed (l : NodeLists) : Type 0 where
   pub even : Indexes (λ v. (first_thin v).0) (cells thin_nodes l.even.list) even_key (node_cells l)
   pub odd : Indexes (λ v. (first_thin v).0) (cells thin_nodes l.odd.list) odd_key (node_cells l)
 
+-- the runs say the same in other words
+pub record HasAdapted (old new : NodeLists) : Type 0 where
+  pub kept : IsKept new
+  pub others : new ≡ record old { runs = new.runs }
+  pub cells : node_cells new ≡ node_cells old
+
 -- the lists with other runs and records
 pub record IsWritten (old new : NodeLists) : Type 0 where
   pub kept : IsKept new

@@ -1,5 +1,5 @@
 -- What one entry says of page nodes that are alike, each a step further on than the one before.
-use Rattle.std.specs.Prelude.{ℕ, ◌+◌, ◌-◌, ◌*◌, ◌<◌, ◌^◌, max, min, Option, Some, None}
+use Rattle.std.specs.Prelude.{◌≡◌, ℕ, ◌+◌, ◌-◌, ◌*◌, ◌<◌, ◌^◌, max, min, Option, Some, None}
 use Rattle.stretches.specs.declared.says.Says.{Ghosts}
 use Rattle.vm_ids.specs.declared.node_name.NodeName.{NodeName}
 use Rattle.vm_ids.specs.declared.node_name.NodeName.TheVariants.{Live, Working as WorkingNode}
@@ -48,3 +48,10 @@ run_after r by =
 -- how a run goes on, which is as long as it has names
 abbrev pub run : Ghosts Run
 run = record { after = run_after; lasts = λ r by. HasNames r.name by }
+
+-- both say the same of a node, but for its own state
+pub record SaysAlike (a b : Run) : Type 0 where
+  pub name : first_name b.name ≡ first_name a.name
+  pub parent : b.parent ≡ a.parent
+  pub older : b.older ≡ a.older
+  pub newer : b.newer ≡ a.newer

@@ -11,6 +11,7 @@
 //! nodes made one behind the other can stand in one run.
 //!
 //! `Caches` doesn't stand on this yet.
+mod adapting;
 mod counted;
 mod counters;
 mod first_thin;

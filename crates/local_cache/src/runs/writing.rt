@@ -6,6 +6,7 @@ ghost use Rattle.local_cache.specs.NodeCells.{bare, cell_of, node_cells};
 ghost use Rattle.local_cache.specs.NodeLists.{HasErased, HasWritten, IsKept};
 ghost use Rattle.local_cache.specs.Runs.{run as run_says};
 
+use crate::runs::adapting::adapt;
 use crate::runs::parts::said_by_run;
 use crate::runs::singles::{clear_one, set_one};
 use crate::runs::{NodeLists, Parts, Record, Run};
@@ -19,8 +20,14 @@ pub(crate) fn write(lists: &mut NodeLists, node: u64, parts: Parts)
     ensures { HasWritten lists.old node (cell_of parts.run parts.record) lists.new }
 {
     match said_by_run(parts.record) {
-        Some(own) => write_run(lists, node, Run { own, ..parts.run }),
-        None => write_both(lists, node, parts.run, parts.record),
+        Some(own) => {
+            let run = adapt(lists, node, Run { own, ..parts.run }, false);
+            write_run(lists, node, run);
+        }
+        None => {
+            let run = adapt(lists, node, parts.run, true);
+            write_both(lists, node, run, parts.record);
+        }
     }
 }
 
