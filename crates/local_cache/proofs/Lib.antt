@@ -32,3 +32,5 @@ pub mod NodeRuns
 pub mod Making
 -- A run said in other words.
 pub mod Adapting
+-- The arena that page nodes as runs and the rows of caches stand for.
+pub mod ArenaBy

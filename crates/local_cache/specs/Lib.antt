@@ -1,4 +1,5 @@
 pub mod Arena
+pub mod ArenaBy
 pub mod Changes
 pub mod Codes
 pub mod GoingOn
