@@ -4,3 +4,7 @@
 pub mod Tables
 -- Each call that changes one page node, on the arena.
 pub mod Nodes
+-- A cache is made, on the arena.
+pub mod NewCache
+-- The thin page nodes are those of the arena.
+pub mod Thin
