@@ -8,3 +8,5 @@ pub mod Nodes
 pub mod NewCache
 -- The thin page nodes are those of the arena.
 pub mod Thin
+-- How many live and working nodes there are.
+pub mod Counts

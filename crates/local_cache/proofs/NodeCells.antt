@@ -67,7 +67,7 @@ module _ {X : Type 0} where
 
 module _ {X : Type 0} where
   -- a map that isn't empty has a number
-  some_number : (m : FinMap nat_cmp X) → 0 < map.len m
+  pub some_number : (m : FinMap nat_cmp X) → 0 < map.len m
       → (k : ℕ) × (x : X) × (map.get m k ≡ Some x)
   some_number m some = go (map.entries m) refl
     where
