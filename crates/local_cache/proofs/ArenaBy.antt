@@ -10,3 +10,5 @@ pub mod NewCache
 pub mod Thin
 -- How many live and working nodes there are.
 pub mod Counts
+-- What the arena tells of the rows of caches, and each call that changes a row.
+pub mod Rows
