@@ -12,3 +12,7 @@ pub mod Thin
 pub mod Counts
 -- What the arena tells of the rows of caches, and each call that changes a row.
 pub mod Rows
+-- Each call keeps that nodes of pages are found under numbers of pages of live caches.
+pub mod Placed
+-- Each call that makes, changes or removes a cache keeps that nodes of pages are placed.
+pub mod PlacedRows

@@ -159,6 +159,11 @@ module _ (m : PageNodes) (c : CacheRows) (cache : ℕ) where
           no_node (ids.get m.pages (page_number cache page)) (ap (λ (e : PageEntry). e.node) same),
         )
 
+    -- the same, of a page of which the arena says that it has no node
+    pub none_is : node_at (arena_by m c) cache page ≡ None → HasRow c.rows cache page
+        → ids.get m.pages (page_number cache page) ≡ None
+    none_is none has = no_node (ids.get m.pages (page_number cache page)) (sym (node_is has) ∙ none)
+
     -- the number behind a page fits a u32
     pub page_short : AreShort c.rows → HasRow c.rows cache page → page + 1 < 2 ^ 32
     page_short few has = go cache has.is
