@@ -16,3 +16,5 @@ pub mod Rows
 pub mod Placed
 -- Each call that makes, changes or removes a cache keeps that nodes of pages are placed.
 pub mod PlacedRows
+-- Each call of the caches: what it does to the arena that is read off, and that nodes stay placed.
+pub mod Calls
