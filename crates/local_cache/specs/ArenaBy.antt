@@ -1,5 +1,5 @@
 -- The arena that page nodes and the rows of caches stand for, and what holds of both together.
-use Rattle.std.specs.Prelude.{◌≡◌, ℕ, zero, suc, ◌+◌, ◌-◌, ◌<◌, ◌^◌, List, [], ◌∷◌, ◌++◌, replicate, Bool, true, false, Option, Some, None, option_map, slice_index_or, slice_set}
+use Rattle.std.specs.Prelude.{◌≡◌, ℕ, zero, suc, ◌+◌, ◌-◌, ◌<◌, ◌^◌, List, [], ◌∷◌, ◌++◌, replicate, count_by, Bool, true, false, Option, Some, None, option_map, slice_index_or, slice_set}
 use Rattle.std.specs.Ordering.{nat_cmp}
 use Rattle.std.specs.FinMap.{FinMap}
 use Rattle.std.specs.FinMap as ids
@@ -9,7 +9,7 @@ use Rattle.vm_ids.specs.declared.node_name.NodeName.TheVariants.{Live, Working}
 use Rattle.vm_ids.specs.declared.numbers.NodeId.{NodeId}
 use Rattle.vm_ids.specs.declared.numbers.SegId.{SegId}
 use Rattle.local_cache.specs.declared.page_table.PageEntry.{PageEntry}
-use Rattle.local_cache.specs.Arena.{Arena, Cell, Table}
+use Rattle.local_cache.specs.Arena.{Arena, Cell, Table, is_locked}
 use Rattle.local_cache.specs.NodeKeys.{page_number}
 use Rattle.local_cache.specs.PageNodes.{ArePaged, PageNodes, find}
 
@@ -128,6 +128,11 @@ rows_without rows (suc k) = slice_set rows k None
 abbrev pub row_pages : Option CacheRow → ℕ
 row_pages None = 0
 row_pages (Some r) = r.pages
+
+-- how many pages of a cache are locked, none where it isn't live
+abbrev pub row_locked : Option CacheRow → ℕ
+row_locked None = 0
+row_locked (Some r) = count_by is_locked r.locks
 
 -- without the row of a cache, the places of whose pages are given back
 abbrev pub without_row : CacheRows → ℕ → CacheRows

@@ -1,5 +1,5 @@
 -- Each call keeps that nodes of pages are found under numbers of pages of live caches.
-use Rattle.std.proofs.Common.{◌≡◌, ◌≢◌, ℕ, zero, suc, ◌+◌, ◌<◌, ◌≤◌, ◌^◌, List, length, Option, Some, None, IsSome, is_some, option_map, unwrap_or, refl, ap, sym, subst, ◌∙◌, inl, inr, arith}
+use Rattle.std.proofs.Common.{◌≡◌, ◌≢◌, ℕ, zero, suc, ◌+◌, ◌<◌, ◌≤◌, ◌^◌, List, [], length, Option, Some, None, IsSome, is_some, option_map, unwrap_or, refl, ap, sym, subst, ◌∙◌, inl, inr, arith}
 use Rattle.std.specs.Prelude.{option_and_then}
 use Rattle.std.proofs.lemmas.Bool.{cases_eq, false≢true}
 use Rattle.std.proofs.lemmas.Option.{none-some, same_Some}
@@ -88,6 +88,20 @@ module _ (m : PageNodes) (rows : List (Option CacheRow)) (right : ArePlaced m ro
           let in_rows = within at.0 at.1 at.3 in
           let bad : ⊥ = omega (arith, at.2, above, short, in_rows.made, in_rows.short) in
           absurd bad
+
+-- No node ---------------------------------------------------------------------------------------------
+
+pub none_placed : (m : PageNodes) → ((n : NodeId) → find m n ≡ None)
+    → ((k : ℕ) → ids.get m.pages k ≡ None) → ArePlaced m []
+none_placed m no_cell no_page =
+    record {
+      paged = λ k n. (
+        λ h. absurd (none-some n (sym (ap (option_map (λ (v : Rising). v.0)) (no_page k)) ∙ h)),
+        λ h. absurd (none-some k (sym (ap (option_and_then page_key) (no_cell (record { 0 = n }))) ∙ h)),
+      );
+      placed = λ n d is. absurd (none-some d (sym (no_cell n) ∙ is));
+      short = λ k r is. absurd (none-some r is);
+    }
 
 -- One node ------------------------------------------------------------------------------------------
 

@@ -1,7 +1,8 @@
 -- What the arena tells of the rows of caches, and each call that changes a row.
-use Rattle.std.proofs.Common.{◌≡◌, ℕ, zero, suc, ◌+◌, ◌<◌, ◌^◌, false, List, [], ◌∷◌, length, get_or, set, Option, Some, None, IsSome, is_some, option_map, slice_get, unwrap_or, refl, ap, sym, ◌∙◌, arith}
+use Rattle.std.proofs.Common.{◌≡◌, ℕ, zero, suc, ◌+◌, ◌<◌, ◌^◌, false, List, [], ◌∷◌, length, get_or, set, sum_by, Option, Some, None, IsSome, is_some, option_map, slice_get, unwrap_or, refl, ap, sym, ◌∙◌, arith}
 use Rattle.std.specs.Prelude.{option_and_then}
 use Rattle.std.proofs.lemmas.Bool.{false≢true}
+use Rattle.std.proofs.lemmas.List.Sums.{sum_by-cons}
 use Rattle.std.proofs.lemmas.Option.{none-some, same_Some, slice_get_within}
 use Rattle.std.specs.Ordering.{nat_cmp}
 use Rattle.std.specs.FinMap.{FinMap}
@@ -10,8 +11,8 @@ use Rattle.stretches.specs.declared.rising.Rising.{Rising}
 use Rattle.vm_ids.specs.declared.numbers.CacheId.{CacheId}
 use Rattle.vm_ids.specs.declared.numbers.NodeId.{NodeId}
 use Rattle.local_cache.specs.declared.page_table.PageEntry.{PageEntry}
-use Rattle.local_cache.specs.Arena.{Table, changed_at, entry_at, is_granted, locks_of, node_at, page_count, table_at, table_of, tables_without, with_grant, with_locks, without_cache}
-use Rattle.local_cache.specs.ArenaBy.{AreShort, CacheRow, CacheRows, HasRow, arena_by, entries_by, entry_under, row_at, row_granting, row_locking, row_pages, rows_changed, rows_without, table_by, tables_by, with_changed, without_row}
+use Rattle.local_cache.specs.Arena.{Table, changed_at, entry_at, is_granted, locked_count, locked_pages, locks_of, node_at, page_count, table_at, table_of, tables_without, with_grant, with_locks, without_cache}
+use Rattle.local_cache.specs.ArenaBy.{AreShort, CacheRow, CacheRows, HasRow, arena_by, entries_by, entry_under, row_at, row_granting, row_locked, row_locking, row_pages, rows_changed, rows_without, table_by, tables_by, with_changed, without_row}
 use Rattle.local_cache.specs.NodeKeys.{page_number}
 use Rattle.local_cache.specs.PageNodes.{PageNodes}
 use Rattle.local_cache.specs.PageNodes as nodes
@@ -171,6 +172,27 @@ module _ (m : PageNodes) (c : CacheRows) (cache : ℕ) where
         go : (k : ℕ) → row_at c.rows k ≡ Some has.row → page + 1 < 2 ^ 32
         go zero is = absurd (none-some has.row is)
         go (suc k) is = omega (arith, few k has.row is, has.below)
+
+locked_row : (m : FinMap nat_cmp Rising) (cache : ℕ) (o : Option CacheRow)
+    → locked_pages (option_map (table_by m cache) o) ≡ row_locked o
+locked_row m cache None = refl
+locked_row m cache (Some r) = refl
+
+locked_rows : (m : FinMap nat_cmp Rising) (from : ℕ) (rows : List (Option CacheRow))
+    → sum_by locked_pages (tables_by m from rows) ≡ sum_by row_locked rows
+locked_rows m from [] = refl
+locked_rows m from (r ∷ rows) =
+    omega (
+      arith,
+      locked_row m from r,
+      locked_rows m (from + 1) rows,
+      sum_by-cons locked_pages (option_map (table_by m from) r) (tables_by m (from + 1) rows),
+      sum_by-cons row_locked r rows,
+    )
+
+-- how many pages are locked
+pub locked_by : (m : PageNodes) (c : CacheRows) → locked_count (arena_by m c) ≡ sum_by row_locked c.rows
+locked_by m c = locked_rows m.pages 1 c.rows
 
 -- One row changed -------------------------------------------------------------------------------------
 
