@@ -18,3 +18,5 @@ pub mod Placed
 pub mod PlacedRows
 -- Each call of the caches: what it does to the arena that is read off, and that nodes stay placed.
 pub mod Calls
+-- How many pages are locked by the rows of caches, after each call that changes a row.
+pub mod Locked

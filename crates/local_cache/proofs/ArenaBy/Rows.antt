@@ -178,7 +178,7 @@ locked_row : (m : FinMap nat_cmp Rising) (cache : ℕ) (o : Option CacheRow)
 locked_row m cache None = refl
 locked_row m cache (Some r) = refl
 
-locked_rows : (m : FinMap nat_cmp Rising) (from : ℕ) (rows : List (Option CacheRow))
+pub locked_rows : (m : FinMap nat_cmp Rising) (from : ℕ) (rows : List (Option CacheRow))
     → sum_by locked_pages (tables_by m from rows) ≡ sum_by row_locked rows
 locked_rows m from [] = refl
 locked_rows m from (r ∷ rows) =
