@@ -2,6 +2,8 @@
 
 -- The tables when the node of one page is another one.
 pub mod Tables
+-- What holds of each row, after one row was changed, taken away or added.
+pub mod EachRow
 -- Each call that changes one page node, on the arena.
 pub mod Nodes
 -- A cache is made, on the arena.

@@ -1,5 +1,5 @@
 -- The arena that page nodes and the rows of caches stand for, and what holds of both together.
-use Rattle.std.specs.Prelude.{◌≡◌, ℕ, zero, suc, ◌+◌, ◌-◌, ◌<◌, ◌^◌, List, [], ◌∷◌, ◌++◌, replicate, count_by, Bool, true, false, Option, Some, None, option_map, slice_index_or, slice_set}
+use Rattle.std.specs.Prelude.{◌≡◌, ℕ, zero, suc, ◌+◌, ◌-◌, ◌<◌, ◌^◌, List, [], ◌∷◌, ◌++◌, length, replicate, count_by, Bool, true, false, Option, Some, None, option_map, slice_index_or, slice_set}
 use Rattle.std.specs.Ordering.{nat_cmp}
 use Rattle.std.specs.FinMap.{FinMap}
 use Rattle.std.specs.FinMap as ids
@@ -77,9 +77,18 @@ pub record HasRow (rows : List (Option CacheRow)) (cache page : ℕ) : Type 0 wh
   pub is : row_at rows cache ≡ Some row
   pub below : page < row.pages
 
+-- something holds of the row of each live cache
+abbrev pub EachRow : (CacheRow → Type 0) → List (Option CacheRow) → Type 0
+EachRow P rows = (k : ℕ) (r : CacheRow) → slice_index_or rows k None ≡ Some r → P r
+
 -- each live cache has fewer pages than 2 ^ 32
 abbrev pub AreShort : List (Option CacheRow) → Type 0
-AreShort rows = (k : ℕ) (r : CacheRow) → slice_index_or rows k None ≡ Some r → r.pages < 2 ^ 32
+AreShort = EachRow (λ r. r.pages < 2 ^ 32)
+
+-- there is a grant and a count of locks for each page
+pub record IsFull (r : CacheRow) : Type 0 where
+  pub grants : length r.grants ≡ r.pages
+  pub locks : length r.locks ≡ r.pages
 
 -- a name of a page whose number is that of no other page
 abbrev pub IsShort : NodeName → Type 0

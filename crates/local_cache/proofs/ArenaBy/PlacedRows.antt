@@ -1,6 +1,6 @@
 -- Each call that makes, changes or removes a cache keeps that nodes of pages are placed.
-use Rattle.std.proofs.Common.{◌≡◌, ℕ, zero, suc, ◌+◌, ◌<◌, ◌≤◌, ◌^◌, List, [], ◌∷◌, ◌++◌, length, get_or, set, Option, Some, None, IsSome, is_some, option_map, refl, ap, sym, subst, ◌∙◌, inl, inr, arith}
-use Rattle.std.specs.Prelude.{◌⊎◌, option_and_then}
+use Rattle.std.proofs.Common.{◌≡◌, ℕ, zero, suc, ◌+◌, ◌<◌, ◌≤◌, ◌^◌, List, [], ◌∷◌, ◌++◌, length, get_or, set, Option, Some, None, IsSome, is_some, option_map, refl, ap, sym, ◌∙◌, inl, inr, arith}
+use Rattle.std.specs.Prelude.{option_and_then}
 use Rattle.std.proofs.lemmas.Bool.{cases_eq, false≢true}
 use Rattle.std.proofs.lemmas.Option.{none-some, same_Some}
 use Rattle.std.specs.Ordering.{nat_cmp}
@@ -14,9 +14,10 @@ use Rattle.vm_ids.specs.declared.numbers.NodeId.{NodeId}
 use Rattle.vm_ids.specs.declared.numbers.SegId.{SegId}
 use Rattle.local_cache.specs.declared.own_state.OwnState.{OwnState}
 use Rattle.local_cache.specs.Arena.{Cell, IsFilled}
-use Rattle.local_cache.specs.ArenaBy.{ArePlaced, AreShort, CacheRow, CacheRows, HasRow, IsPlaced, new_row, row_at, rows_changed, rows_without, with_row}
+use Rattle.local_cache.specs.ArenaBy.{ArePlaced, CacheRow, CacheRows, HasRow, IsPlaced, new_row, row_at, rows_changed, rows_without, with_row}
 use Rattle.local_cache.specs.NodeKeys.{key_at, page_key, page_number, page_of_name}
 use Rattle.local_cache.specs.PageNodes.{MakesAllPages, PageNodes, find, of_page, pages_with, with_new}
+use Rattle.local_cache.proofs.ArenaBy.EachRow.{each_changed, each_left, each_more}
 use Rattle.local_cache.proofs.ArenaBy.Placed.{kept_new, kept_same, next_vacant}
 use Rattle.local_cache.proofs.NodeCells.{inserted_other}
 use Rattle.local_cache.proofs.Tables.Listing.{read_other, read_set}
@@ -29,11 +30,6 @@ carry rows after still (Working k) at = tt
 carry rows after still (Live cache page) at = still cache.0 page.0 at
 
 -- One row changed ------------------------------------------------------------------------------------
-
-some_map : (f : CacheRow → CacheRow) (o : Option CacheRow) (r : CacheRow) → option_map f o ≡ Some r
-    → (s : CacheRow) × (o ≡ Some s) × (f s ≡ r)
-some_map f None r e = absurd (none-some r e)
-some_map f (Some s) r e = (s, refl, same_Some (f s) r e)
 
 module _ (change : CacheRow → CacheRow) (same : (r : CacheRow) → (change r).pages ≡ r.pages)
     (rows : List (Option CacheRow)) where
@@ -57,16 +53,6 @@ module _ (change : CacheRow → CacheRow) (same : (r : CacheRow) → (change r).
     }
   ]
 
-  still_short : (k : ℕ) → AreShort rows → AreShort (changed k)
-  unfolding changed
-  still_short k few j r is = elim (cases_eq j k) [
-    | inl e ↦
-        let s = some_map change (get_or rows k None) r
-        (sym (ap (λ (i : ℕ). get_or (changed k) i None) e ∙ read_set rows k change) ∙ is) in
-        omega (arith, few k s.0 s.1, same s.0, ap (λ (x : CacheRow). x.pages) s.2)
-    | inr apart ↦ few j r (sym (read_other rows k j (option_map change (get_or rows k None)) apart) ∙ is)
-  ]
-
   pub kept_changed : (m : PageNodes) (cache : ℕ) → ArePlaced m rows
       → ArePlaced m (rows_changed rows cache change)
   unfolding changed
@@ -76,15 +62,10 @@ module _ (change : CacheRow → CacheRow) (same : (r : CacheRow) → (change r).
         paged = right.paged;
         placed = λ n d is.
             carry rows (changed k) (λ cache page has. still_there cache k page has) d.name (right.placed n d is);
-        short = still_short k right.short;
+        short = each_changed (λ r. r.pages < 2 ^ 32) change (λ r few. omega (arith, few, same r)) rows (suc k) right.short;
       }
 
 -- A row less -----------------------------------------------------------------------------------------
-
-none_set : (rows : List (Option CacheRow)) (k : ℕ) → get_or (set rows k None) k None ≡ None
-none_set [] k = refl
-none_set (r ∷ rows) zero = refl
-none_set (r ∷ rows) (suc k) = none_set rows k
 
 module _ (m : PageNodes) (rows : List (Option CacheRow)) (right : ArePlaced m rows) (k : ℕ)
     (gone : (page : ℕ) → HasRow rows (suc k) page → ids.get m.pages (page_number (suc k) page) ≡ None) where
@@ -122,18 +103,12 @@ module _ (m : PageNodes) (rows : List (Option CacheRow)) (right : ArePlaced m ro
       ((right.paged (page_number cache.0 page.0) n.0).1 key))
       at
 
-  short_left : AreShort (set rows k None)
-  short_left j r is = elim (cases_eq j k) [
-    | inl e ↦ absurd (none-some r (sym (ap (λ (i : ℕ). get_or (set rows k None) i None) e ∙ none_set rows k) ∙ is))
-    | inr apart ↦ right.short j r (sym (read_other rows k j None apart) ∙ is)
-  ]
-
   left : ArePlaced m (set rows k None)
   left =
       record {
         paged = right.paged;
         placed = λ n d is. still_placed n d is d.name refl (right.placed n d is);
-        short = short_left;
+        short = each_left (λ r. r.pages < 2 ^ 32) rows (suc k) right.short;
       }
 
 -- a cache whose pages have no nodes is removed
@@ -156,13 +131,6 @@ module _ (r : CacheRow) where
   get_last [] = refl
   get_last (o ∷ rows) = get_last rows
 
-  get_back : (rows : List (Option CacheRow)) (k : ℕ) (s : CacheRow)
-      → get_or (rows ++ Some r ∷ []) k None ≡ Some s → (get_or rows k None ≡ Some s) ⊎ (r ≡ s)
-  get_back [] zero s is = inr (same_Some r s is)
-  get_back [] (suc k) s is = inl is
-  get_back (o ∷ rows) zero s is = inl is
-  get_back (o ∷ rows) (suc k) s is = get_back rows k s is
-
   row_more : (rows : List (Option CacheRow)) (cache page : ℕ) → HasRow rows cache page
       → HasRow (rows ++ Some r ∷ []) cache page
   row_more rows zero page has = absurd (none-some has.row has.is)
@@ -175,10 +143,7 @@ module _ (r : CacheRow) where
       record {
         paged = right.paged;
         placed = λ n d is. carry rows (rows ++ Some r ∷ []) (row_more rows) d.name (right.placed n d is);
-        short = λ k s is. elim (get_back rows k s is) [
-          | inl old ↦ right.short k s old
-          | inr new ↦ subst (λ (x : CacheRow). x.pages < 2 ^ 32) new few
-        ];
+        short = each_more (λ x. x.pages < 2 ^ 32) r few rows right.short;
       }
 
 -- the nodes of the new pages
