@@ -1,9 +1,10 @@
 -- What the arena tells of the rows of caches, and each call that changes a row.
-use Rattle.std.proofs.Common.{◌≡◌, ℕ, zero, suc, ◌+◌, ◌<◌, ◌^◌, false, List, [], ◌∷◌, length, get_or, set, sum_by, Option, Some, None, IsSome, is_some, option_map, slice_get, unwrap_or, refl, ap, sym, ◌∙◌, arith}
+use Rattle.std.proofs.Common.{◌≡◌, ℕ, zero, suc, ◌+◌, ◌<◌, ◌^◌, false, List, [], ◌∷◌, length, get_or, set, sum_by, Option, Some, None, IsSome, is_some, option_map, slice_get, unwrap_or, refl, ap, sym, ◌∙◌, arith, true, length-set, Bool}
 use Rattle.std.specs.Prelude.{option_and_then}
 use Rattle.std.proofs.lemmas.Bool.{false≢true}
+use Rattle.std.proofs.lemmas.List.{get_or-set_same}
 use Rattle.std.proofs.lemmas.List.Sums.{sum_by-cons}
-use Rattle.std.proofs.lemmas.Option.{none-some, same_Some, slice_get_within}
+use Rattle.std.proofs.lemmas.Option.{none-some, same_Some, slice_get-get_or, slice_get_within}
 use Rattle.std.specs.Ordering.{nat_cmp}
 use Rattle.std.specs.FinMap.{FinMap}
 use Rattle.std.specs.FinMap as ids
@@ -12,10 +13,11 @@ use Rattle.vm_ids.specs.declared.numbers.CacheId.{CacheId}
 use Rattle.vm_ids.specs.declared.numbers.NodeId.{NodeId}
 use Rattle.local_cache.specs.declared.page_table.PageEntry.{PageEntry}
 use Rattle.local_cache.specs.Arena.{Table, changed_at, entry_at, is_granted, locked_count, locked_pages, locks_of, node_at, page_count, table_at, table_of, tables_without, with_grant, with_locks, without_cache}
-use Rattle.local_cache.specs.ArenaBy.{AreShort, CacheRow, CacheRows, HasRow, arena_by, entries_by, entry_under, row_at, row_granting, row_locked, row_locking, row_pages, rows_changed, rows_without, table_by, tables_by, with_changed, without_row}
+use Rattle.local_cache.specs.ArenaBy.{AreShort, CacheRow, CacheRows, HasRow, IsFull, arena_by, entries_by, entry_under, row_at, row_granting, row_locked, row_locking, row_pages, rows_changed, rows_without, table_by, tables_by, with_changed, without_row}
 use Rattle.local_cache.specs.NodeKeys.{page_number}
 use Rattle.local_cache.specs.PageNodes.{PageNodes}
 use Rattle.local_cache.specs.PageNodes as nodes
+use Rattle.local_cache.proofs.Tables.Listing.{read_set}
 
 -- One table, and one entry ----------------------------------------------------------------------
 
@@ -271,3 +273,36 @@ module _ (m : PageNodes) (c : CacheRows) where
       → arena_by (record m { room = room }) (record c { places = places; entries = entries })
       ≡ record (arena_by m c) { room = record { nodes = room; caches = places; entries = entries } }
   room_by room places entries = refl
+
+-- What is told then -----------------------------------------------------------------------------------
+
+row_here : (rows : List (Option CacheRow)) (cache : ℕ) (change : CacheRow → CacheRow)
+    → row_at (rows_changed rows cache change) cache ≡ option_map change (row_at rows cache)
+row_here rows zero change = refl
+row_here rows (suc k) change = read_set rows k change
+
+set_here : {X : Type 0} (xs : List X) (k : ℕ) (v : X) → k < length xs → slice_get (set xs k v) k ≡ Some v
+set_here xs k v below =
+    slice_get-get_or (set xs k v) k v (omega (arith, below, length-set xs k v))
+    ∙ ap Some (get_or-set_same xs k v v below)
+
+module _ (m : PageNodes) (c : CacheRows) (cache page : ℕ) (has : HasRow c.rows cache page)
+    (full : IsFull has.row) where
+  -- the page that was granted
+  pub granted_now : is_granted (arena_by m (with_changed c cache (row_granting page))) cache page ≡ true
+  granted_now =
+      granted_by m (with_changed c cache (row_granting page)) cache page
+      ∙ ap (λ (o : Option CacheRow). unwrap_or (option_and_then (λ r. slice_get r.grants page) o) false)
+      (row_here c.rows cache (row_granting page) ∙ ap (option_map (row_granting page)) has.is)
+      ∙ ap (λ (o : Option Bool). unwrap_or o false)
+      (set_here has.row.grants page true (omega (arith, has.below, full.grants)))
+
+  -- the locks that were set
+  pub locks_now : (count : ℕ)
+      → locks_of (arena_by m (with_changed c cache (row_locking page count))) cache page ≡ count
+  locks_now count =
+      locks_by m (with_changed c cache (row_locking page count)) cache page
+      ∙ ap (λ (o : Option CacheRow). unwrap_or (option_and_then (λ r. slice_get r.locks page) o) 0)
+      (row_here c.rows cache (row_locking page count) ∙ ap (option_map (row_locking page count)) has.is)
+      ∙ ap (λ (o : Option ℕ). unwrap_or o 0)
+      (set_here has.row.locks page count (omega (arith, has.below, full.locks)))
