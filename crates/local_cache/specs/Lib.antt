@@ -13,10 +13,12 @@ pub mod NodeLists
 pub mod NodeRuns
 pub mod Own
 pub mod PageNodes
+pub mod Placed
 pub mod Queue
 pub mod Reading
 pub mod ReadingBy
 pub mod Records
+pub mod RowChanges
 pub mod Runs
 pub mod Singles
 pub mod Sound

@@ -11,7 +11,9 @@ use Rattle.local_cache.specs.declared.links.Links.{Links}
 use Rattle.local_cache.specs.declared.own_state.OwnState.{OwnState}
 use Rattle.local_cache.specs.Arena.{Arena, IsVacant, MakesCache, node_at, with_grant, with_locks, without_cache}
 use Rattle.local_cache.specs.Arena as arena
-use Rattle.local_cache.specs.ArenaBy.{ArePlaced, CacheRows, IsPlaced, arena_by, row_granting, row_locking, with_changed, with_row, without_row}
+use Rattle.local_cache.specs.ArenaBy.{CacheRows, arena_by}
+use Rattle.local_cache.specs.Placed.{ArePlaced, IsPlaced}
+use Rattle.local_cache.specs.RowChanges.{row_granting, row_locking, with_changed, with_row, without_row}
 use Rattle.local_cache.specs.NodeKeys.{page_number}
 use Rattle.local_cache.specs.PageNodes.{HasNode, MakesAllPages, PageNodes, find}
 use Rattle.local_cache.specs.PageNodes as nodes

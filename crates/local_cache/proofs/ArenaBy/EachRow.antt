@@ -5,7 +5,9 @@ use Rattle.std.proofs.lemmas.Bool.{cases_eq}
 use Rattle.std.proofs.lemmas.List.{length-replicate}
 use Rattle.std.proofs.lemmas.Option.{none-some, same_Some}
 use Rattle.vm_ids.specs.declared.numbers.SegId.{SegId}
-use Rattle.local_cache.specs.ArenaBy.{CacheRow, EachRow, IsFull, new_row, row_granting, row_locking, rows_changed, rows_without}
+use Rattle.local_cache.specs.ArenaBy.{CacheRow}
+use Rattle.local_cache.specs.Placed.{EachRow, IsFull}
+use Rattle.local_cache.specs.RowChanges.{new_row, row_granting, row_locking, rows_changed, rows_without}
 use Rattle.local_cache.proofs.Tables.Listing.{read_other, read_set}
 
 some_map : (f : CacheRow → CacheRow) (o : Option CacheRow) (r : CacheRow) → option_map f o ≡ Some r

@@ -7,7 +7,8 @@ use Rattle.std.specs.FinMap.{FinMap}
 use Rattle.stretches.specs.declared.rising.Rising.{Rising}
 use Rattle.vm_ids.specs.declared.numbers.SegId.{SegId}
 use Rattle.local_cache.specs.Arena.{is_locked, locked_pages, table_locking}
-use Rattle.local_cache.specs.ArenaBy.{CacheRow, new_row, row_at, row_locked, row_locking, rows_changed, rows_without, table_by, tables_by}
+use Rattle.local_cache.specs.ArenaBy.{CacheRow, table_by, tables_by}
+use Rattle.local_cache.specs.RowChanges.{new_row, row_at, row_locked, row_locking, rows_changed, rows_without}
 use Rattle.local_cache.proofs.ArenaBy.NewCache.{row_within}
 use Rattle.local_cache.proofs.ArenaBy.Rows.{locked_rows, table_is, tables_changed}
 use Rattle.local_cache.proofs.Tables.Locked.{bit, locked_set, none_locked}

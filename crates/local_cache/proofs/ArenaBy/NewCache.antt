@@ -10,7 +10,9 @@ use Rattle.vm_ids.specs.declared.numbers.NodeId.{NodeId}
 use Rattle.vm_ids.specs.declared.numbers.SegId.{SegId}
 use Rattle.local_cache.specs.declared.own_state.OwnState.{OwnState}
 use Rattle.local_cache.specs.Arena.{MakesCache, entry_for, new_table}
-use Rattle.local_cache.specs.ArenaBy.{AreShort, CacheRow, CacheRows, arena_by, entries_by, new_row, table_by, tables_by, with_row}
+use Rattle.local_cache.specs.ArenaBy.{CacheRow, CacheRows, arena_by, entries_by, table_by, tables_by}
+use Rattle.local_cache.specs.Placed.{AreShort}
+use Rattle.local_cache.specs.RowChanges.{new_row, with_row}
 use Rattle.local_cache.specs.NodeKeys.{page_number}
 use Rattle.local_cache.specs.PageNodes.{MakesAllPages, PageNodes, of_page, pages_with}
 use Rattle.local_cache.proofs.ArenaBy.Tables.{tables_same}

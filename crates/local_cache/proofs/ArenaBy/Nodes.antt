@@ -14,7 +14,8 @@ use Rattle.local_cache.specs.declared.links.Links.{Links}
 use Rattle.local_cache.specs.declared.own_state.OwnState.{OwnState}
 use Rattle.local_cache.specs.Arena.{Cell, Table, blank, tables_with}
 use Rattle.local_cache.specs.Arena as arena
-use Rattle.local_cache.specs.ArenaBy.{AreShort, CacheRow, CacheRows, IsShort, arena_by, tables_by}
+use Rattle.local_cache.specs.ArenaBy.{CacheRow, CacheRows, arena_by, tables_by}
+use Rattle.local_cache.specs.Placed.{AreShort, IsShort}
 use Rattle.local_cache.specs.NodeKeys.{key_at, page_key, page_number, page_of_name, rekeyed, with_key, without_key}
 use Rattle.local_cache.specs.PageNodes.{ArePaged, HasNode, PageNodes, of_page}
 use Rattle.local_cache.specs.PageNodes as nodes

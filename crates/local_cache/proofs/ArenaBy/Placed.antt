@@ -14,7 +14,8 @@ use Rattle.local_cache.specs.declared.links.Links.{Links}
 use Rattle.local_cache.specs.declared.own_state.OwnState.{OwnState}
 use Rattle.local_cache.specs.declared.own_state.OwnState.TheVariants.{Absent}
 use Rattle.local_cache.specs.Arena.{Cell, blank, new_cell}
-use Rattle.local_cache.specs.ArenaBy.{ArePlaced, CacheRow, HasRow, IsPlaced, IsShort}
+use Rattle.local_cache.specs.ArenaBy.{CacheRow}
+use Rattle.local_cache.specs.Placed.{ArePlaced, HasRow, IsPlaced, IsShort}
 use Rattle.local_cache.specs.NodeKeys.{Indexes, key_at, page_key, page_number, page_of_name, rekeyed, with_key, without_key}
 use Rattle.local_cache.specs.PageNodes.{HasNode, PageNodes, as_working, cell, find, of_page, put, with_links, with_name, with_new, with_own, with_tree, with_working, without}
 use Rattle.local_cache.proofs.ArenaBy.NewCache.{row_within}

@@ -14,7 +14,9 @@ use Rattle.vm_ids.specs.declared.numbers.NodeId.{NodeId}
 use Rattle.vm_ids.specs.declared.numbers.SegId.{SegId}
 use Rattle.local_cache.specs.declared.own_state.OwnState.{OwnState}
 use Rattle.local_cache.specs.Arena.{Cell, IsFilled}
-use Rattle.local_cache.specs.ArenaBy.{ArePlaced, CacheRow, CacheRows, HasRow, IsPlaced, new_row, row_at, rows_changed, rows_without, with_row}
+use Rattle.local_cache.specs.ArenaBy.{CacheRow, CacheRows}
+use Rattle.local_cache.specs.Placed.{ArePlaced, HasRow, IsPlaced}
+use Rattle.local_cache.specs.RowChanges.{new_row, row_at, rows_changed, rows_without, with_row}
 use Rattle.local_cache.specs.NodeKeys.{key_at, page_key, page_number, page_of_name}
 use Rattle.local_cache.specs.PageNodes.{MakesAllPages, PageNodes, find, of_page, pages_with, with_new}
 use Rattle.local_cache.proofs.ArenaBy.EachRow.{each_changed, each_left, each_more}

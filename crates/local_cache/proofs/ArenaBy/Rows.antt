@@ -13,7 +13,9 @@ use Rattle.vm_ids.specs.declared.numbers.CacheId.{CacheId}
 use Rattle.vm_ids.specs.declared.numbers.NodeId.{NodeId}
 use Rattle.local_cache.specs.declared.page_table.PageEntry.{PageEntry}
 use Rattle.local_cache.specs.Arena.{Table, changed_at, entry_at, is_granted, locked_count, locked_pages, locks_of, node_at, page_count, table_at, table_of, tables_without, with_grant, with_locks, without_cache}
-use Rattle.local_cache.specs.ArenaBy.{AreShort, CacheRow, CacheRows, HasRow, IsFull, arena_by, entries_by, entry_under, row_at, row_granting, row_locked, row_locking, row_pages, rows_changed, rows_without, table_by, tables_by, with_changed, without_row}
+use Rattle.local_cache.specs.ArenaBy.{CacheRow, CacheRows, arena_by, entries_by, entry_under, table_by, tables_by}
+use Rattle.local_cache.specs.Placed.{AreShort, HasRow, IsFull}
+use Rattle.local_cache.specs.RowChanges.{row_at, row_granting, row_locked, row_locking, row_pages, rows_changed, rows_without, with_changed, without_row}
 use Rattle.local_cache.specs.NodeKeys.{page_number}
 use Rattle.local_cache.specs.PageNodes.{PageNodes}
 use Rattle.local_cache.specs.PageNodes as nodes

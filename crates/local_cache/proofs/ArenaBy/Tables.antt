@@ -6,7 +6,8 @@ use Rattle.std.specs.FinMap as ids
 use Rattle.stretches.specs.declared.rising.Rising.{Rising}
 use Rattle.vm_ids.specs.declared.numbers.NodeId.{NodeId}
 use Rattle.local_cache.specs.Arena.{cache_with, table_with}
-use Rattle.local_cache.specs.ArenaBy.{AreShort, CacheRow, entries_by, entry_under, table_by, tables_by}
+use Rattle.local_cache.specs.ArenaBy.{CacheRow, entries_by, entry_under, table_by, tables_by}
+use Rattle.local_cache.specs.Placed.{AreShort}
 use Rattle.local_cache.specs.NodeKeys.{page_number}
 
 -- Two maps of nodes that agree on the pages of some caches --------------------------------------
