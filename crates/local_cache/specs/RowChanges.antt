@@ -33,10 +33,11 @@ rows_changed rows zero change = rows
 rows_changed rows (suc k) change =
     slice_set rows k (option_map change (slice_index_or rows k None))
 
--- the row with a page granted, and with so many locks on a page, where it has this page
+-- the row with a page granted, where it has this page
 abbrev pub row_granting : ℕ → CacheRow → CacheRow
 row_granting page r = record r { grants = slice_set r.grants page true }
 
+-- the same with so many locks on a page
 abbrev pub row_locking : ℕ → ℕ → CacheRow → CacheRow
 row_locking page count r = record r { locks = slice_set r.locks page count }
 
@@ -44,10 +45,12 @@ row_locking page count r = record r { locks = slice_set r.locks page count }
 abbrev pub with_changed : CacheRows → ℕ → (CacheRow → CacheRow) → CacheRows
 with_changed c cache change = record c { rows = rows_changed c.rows cache change }
 
+-- the rows without that of a cache
 abbrev pub rows_without : List (Option CacheRow) → ℕ → List (Option CacheRow)
 rows_without rows zero = rows
 rows_without rows (suc k) = slice_set rows k None
 
+-- how many pages a cache has, none where it isn't live
 abbrev pub row_pages : Option CacheRow → ℕ
 row_pages None = 0
 row_pages (Some r) = r.pages

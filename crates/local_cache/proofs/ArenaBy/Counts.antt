@@ -26,6 +26,7 @@ use Rattle.local_cache.specs.Reading.{IsNamed, at_key, forest_of, name_of}
 use Rattle.local_cache.proofs.ArenaBy.Nodes.{cell_by, held_key, paged_at}
 use Rattle.local_cache.proofs.Changes.SameNodes.{forest_of-copies}
 use Rattle.local_cache.proofs.Forest.Reading.{IsNode-forest_of, forest_of-IsNode}
+use Rattle.local_cache.proofs.NewCache.Pages.{some_of}
 use Rattle.local_cache.proofs.NodeCells.{removed_here, removed_other, some_number}
 use Rattle.local_cache.proofs.NodeKeys.{key_apart}
 use Rattle.local_cache.proofs.Singles.{len_remove_old}
@@ -86,10 +87,6 @@ page_by_live : (x : NodeName) → is_live x ≡ true → (k : ℕ) × (page_of_n
 page_by_live (Live cache page) is = (page_number cache.0 page.0, refl)
 page_by_live (Working j) is = absurd (false≢true is)
 
-some_value : {X : Type 0} (o : Option X) → IsSome o → (x : X) × (o ≡ Some x)
-some_value None some = absurd (false≢true some)
-some_value (Some x) some = (x, refl)
-
 module _ (m : PageNodes) (c : CacheRows) (named : IsNamed (arena_by m c)) where
   abbrev a : Arena
   a = arena_by m c
@@ -146,7 +143,7 @@ module _ (m : PageNodes) (c : CacheRows) (named : IsNamed (arena_by m c)) where
               (ap (λ (d : Cell). page_of_name d.name) (cell_by m c n.0) ∙ ap page_of_name n.2 ∙ page.1)),
         ))
         (λ k some.
-        let v = some_value (ids.get m.pages k) some in
+        let v = some_of (ids.get m.pages k) some in
         let n : NodeId = at_key v.0.0 in
         let key : key_at page_key m.cells n.0 ≡ Some k =
         (paged k v.0.0).0 (ap (option_map (λ (r : Rising). r.0)) v.1) in

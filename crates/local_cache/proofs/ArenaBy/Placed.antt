@@ -1,7 +1,7 @@
 -- Each call keeps that nodes of pages are found under numbers of pages of live caches.
 use Rattle.std.proofs.Common.{◌≡◌, ◌≢◌, ℕ, zero, suc, ◌+◌, ◌<◌, ◌≤◌, ◌^◌, List, [], length, Option, Some, None, IsSome, is_some, option_map, unwrap_or, refl, ap, sym, subst, ◌∙◌, inl, inr, arith}
 use Rattle.std.specs.Prelude.{option_and_then}
-use Rattle.std.proofs.lemmas.Bool.{cases_eq, false≢true}
+use Rattle.std.proofs.lemmas.Bool.{cases_eq}
 use Rattle.std.proofs.lemmas.Option.{none-some, same_Some}
 use Rattle.std.specs.Ordering.{nat_cmp}
 use Rattle.std.specs.FinMap.{FinMap}
@@ -20,14 +20,11 @@ use Rattle.local_cache.specs.NodeKeys.{Indexes, key_at, page_key, page_number, p
 use Rattle.local_cache.specs.PageNodes.{HasNode, PageNodes, as_working, cell, find, of_page, put, with_links, with_name, with_new, with_own, with_tree, with_working, without}
 use Rattle.local_cache.proofs.ArenaBy.NewCache.{row_within}
 use Rattle.local_cache.proofs.ArenaBy.Nodes.{held_key, of_number, rekeyed_is}
+use Rattle.local_cache.proofs.NewCache.Pages.{some_of}
 use Rattle.local_cache.proofs.NodeCells.{inserted_here, inserted_other, removed_here, removed_other, still_there}
 use Rattle.local_cache.proofs.NodeKeys.{indexes_rekeyed}
 
 -- What follows --------------------------------------------------------------------------------------
-
-some_value : {X : Type 0} (o : Option X) → IsSome o → (x : X) × (o ≡ Some x)
-some_value None some = absurd (false≢true some)
-some_value (Some x) some = (x, refl)
 
 -- a row stands at the number of a cache that was made
 record IsWithin (rows : List (Option CacheRow)) (cache page : ℕ) : Type 0 where
@@ -51,7 +48,7 @@ module _ (m : PageNodes) (rows : List (Option CacheRow)) (right : ArePlaced m ro
   pub placed_name : (n : NodeId) → HasNode m n → IsPlaced rows (cell m n).name
   unfolding cell
   placed_name n held =
-      let d = some_value (find m n) held in
+      let d = some_of (find m n) held in
       subst (λ (o : Option Cell). IsPlaced rows (unwrap_or o blank).name) (sym d.1) (right.placed n d.0 d.1)
 
   -- and short
@@ -62,7 +59,7 @@ module _ (m : PageNodes) (rows : List (Option CacheRow)) (right : ArePlaced m ro
   pub under_key : (k : ℕ) → IsSome (ids.get m.pages k)
       → (cache : ℕ) × (page : ℕ) × (k ≡ page_number cache page) × HasRow rows cache page
   under_key k some =
-      let v = some_value (ids.get m.pages k) some in
+      let v = some_of (ids.get m.pages k) some in
       by_cell v.0.0 (ids.get m.cells v.0.0) refl ((right.paged k v.0.0).0 (ap (option_map (λ (r : Rising). r.0)) v.1))
     where
       by_name : (x : NodeName) → IsPlaced rows x → page_of_name x ≡ Some k

@@ -19,6 +19,7 @@ use Rattle.local_cache.specs.RowChanges.{row_at, row_granting, row_locked, row_l
 use Rattle.local_cache.specs.NodeKeys.{page_number}
 use Rattle.local_cache.specs.PageNodes.{PageNodes}
 use Rattle.local_cache.specs.PageNodes as nodes
+use Rattle.local_cache.proofs.NewCache.Pages.{some_of}
 use Rattle.local_cache.proofs.Tables.Listing.{read_set}
 
 -- One table, and one entry ----------------------------------------------------------------------
@@ -125,16 +126,12 @@ module _ (m : PageNodes) (c : CacheRows) (cache : ℕ) where
     has_row some = go (row_at c.rows cache) refl
         (sym (ap (λ (o : Option Table). is_some (option_and_then (λ t. slice_get t.pages page) o)) (table_is m.pages c.rows cache)) ∙ some)
       where
-        some_entry : (o : Option PageEntry) → IsSome o → (e : PageEntry) × (o ≡ Some e)
-        some_entry None h = absurd (false≢true h)
-        some_entry (Some e) h = (e, refl)
-
         go : (o : Option CacheRow) → row_at c.rows cache ≡ o
             → IsSome (option_and_then (λ t. slice_get t.pages page) (option_map (table_by m.pages cache) o))
             → HasRow c.rows cache page
         go None is h = absurd (false≢true h)
         go (Some r) is h =
-            let e = some_entry (slice_get (entries_by m.pages cache 0 r.pages) page) h in
+            let e = some_of (slice_get (entries_by m.pages cache 0 r.pages) page) h in
             record {
               row = r;
               is = is;
