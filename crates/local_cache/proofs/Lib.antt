@@ -32,3 +32,5 @@ pub mod NodeRuns
 pub mod Making
 -- A run said in other words.
 pub mod Adapting
+-- Many page nodes at once.
+pub mod ManyNodes

@@ -12,10 +12,13 @@
 //!
 //! `Caches` doesn't stand on this yet.
 mod adapting;
+mod alike;
+mod clearing;
 mod counted;
 mod counters;
 mod first_thin;
 mod indexing;
+mod key_ranges;
 mod keys;
 mod making;
 mod node_lists;

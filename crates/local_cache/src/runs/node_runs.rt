@@ -4,10 +4,12 @@ ghost use Rattle.std.specs.FinMap as map;
 ghost use Rattle.stretches.specs.Stretch.{IsFit, single};
 ghost use Rattle.local_cache.specs.NodeCells.{cell_of, own_of_plain};
 ghost use Rattle.local_cache.specs.PageNodes.{ArePaged, HasNode, IsLeastThin, MakesAllPages, as_working, cell, find, node_at, put, with_links, with_name, with_new, with_own, with_tree, with_working, without};
+ghost use Rattle.local_cache.specs.ManyNodes.{AreAlike};
 ghost use Rattle.local_cache.specs.NodeKeys.{page_number};
 ghost use Rattle.local_cache.specs.Runs.{run as run_says};
 ghost use Rattle.vm_ids.specs.declared.numbers.NodeId.{NodeId as Id};
 
+use crate::runs::alike::alike_from;
 use crate::runs::counted::{add, remove, replace};
 use crate::runs::first_thin::{first_of, lesser};
 use crate::runs::keys::{keys_of, page_number};
@@ -273,6 +275,15 @@ impl NodeRuns {
         ensures { result + map.len self.now.pages ≡ map.len self.now.cells }
     {
         self.counters.nodes - self.counters.live
+    }
+
+    /// How many nodes from this one on are alike: one run says all of them, each a step further on
+    /// than the one before. There is none where a record says something of this node.
+    pub(crate) fn stretch(&self, node: NodeId) -> u32
+        requires { HasNode self.now node }
+        ensures { AreAlike self.now node result }
+    {
+        alike_from(&self.lists, node.0, u32::MAX).count
     }
 
     /// How many runs the nodes stand in.

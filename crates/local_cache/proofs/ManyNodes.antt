@@ -1,0 +1,7 @@
+-- Many page nodes at once.
+-- A stretch of numbers cleared.
+pub mod Cleared
+-- Nodes of which one run says all.
+pub mod Alike
+-- The keys of nodes of one run.
+pub mod KeyRanges
