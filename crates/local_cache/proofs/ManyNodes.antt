@@ -5,3 +5,5 @@ pub mod Cleared
 pub mod Alike
 -- The keys of nodes of one run.
 pub mod KeyRanges
+-- Nodes of one run that go.
+pub mod Freed

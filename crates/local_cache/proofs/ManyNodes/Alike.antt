@@ -1,7 +1,6 @@
 -- Nodes of which one run says all.
 use Rattle.std.proofs.Common.{◌≡◌, ℕ, ◌+◌, ◌-◌, ◌<◌, ◌≤◌, None, Some, ap, ◌∙◌, arith}
 use Rattle.std.specs.FinMap as map
-use Rattle.stretches.specs.Stretch.{value_at}
 use Rattle.stretches.specs.Stretches.{SayAs, said}
 use Rattle.stretches.specs.declared.stretch.Stretch.{Stretch}
 use Rattle.stretches.proofs.Reading.Numbers.{within}

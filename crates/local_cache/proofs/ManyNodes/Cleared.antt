@@ -1,5 +1,5 @@
 -- A map without a range of its numbers.
-use Rattle.std.proofs.Common.{◌≡◌, ◌≢◌, ℕ, zero, suc, ◌+◌, ◌-◌, ◌<◌, ◌≤◌, Bool, true, false, cond, List, Option, Some, None, IsSome, is_some, refl, ap, sym, subst, ◌∙◌, inl, inr, arith}
+use Rattle.std.proofs.Common.{◌≡◌, ℕ, zero, suc, ◌+◌, ◌-◌, ◌<◌, ◌≤◌, false, cond, List, Some, None, IsSome, is_some, refl, ap, sym, ◌∙◌, inl, inr, arith}
 use Rattle.std.specs.Prelude.{◌⊎◌}
 use Rattle.std.proofs.lemmas.Bool.{cases_eq, cases_lt, false≢true}
 use Rattle.std.specs.Ordering.{nat_cmp}
@@ -8,7 +8,7 @@ use Rattle.std.specs.FinMap as map
 use Rattle.stretches.specs.Cells.{cells}
 use Rattle.stretches.specs.Changes.{SayAlso, SayNoMore}
 use Rattle.stretches.specs.GoingOn.{GoesOn}
-use Rattle.stretches.specs.Stretch.{behind, front, is_in, value_at}
+use Rattle.stretches.specs.Stretch.{front, is_in, value_at}
 use Rattle.stretches.specs.Stretches.{IsStretchWith, said}
 use Rattle.stretches.specs.declared.says.Says.{Ghosts}
 use Rattle.stretches.specs.declared.stretch.Stretch.{Stretch}

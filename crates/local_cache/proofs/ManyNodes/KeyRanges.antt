@@ -1,7 +1,7 @@
 -- The keys of nodes of one run.
-use Rattle.std.proofs.Common.{◌≡◌, ◌≢◌, ℕ, ◌+◌, ◌-◌, ◌*◌, ◌<◌, ◌≤◌, ◌^◌, Bool, true, false, cond, Option, Some, None, refl, ap, sym, subst, ◌∙◌, inl, inr, arith}
-use Rattle.std.specs.Prelude.{◌/◌, ◌%◌, ◌==◌, option_and_then}
-use Rattle.std.proofs.lemmas.Bool.{cases_Bool, eq-eqb, eqb-true, false≢true, ne_eqb}
+use Rattle.std.proofs.Common.{◌≡◌, ◌≢◌, ℕ, ◌+◌, ◌-◌, ◌*◌, ◌<◌, ◌^◌, Bool, true, false, cond, Option, Some, None, refl, ap, sym, ◌∙◌, arith}
+use Rattle.std.specs.Prelude.{◌/◌, ◌%◌, option_and_then}
+use Rattle.std.proofs.lemmas.Bool.{eq-eqb, ne_eqb}
 use Rattle.std.proofs.lemmas.Option.{none-some, same_Some}
 use Rattle.vm_ids.specs.declared.node_name.NodeName.{NodeName}
 use Rattle.vm_ids.specs.declared.node_name.NodeName.TheVariants.{Live, Working as WorkingNode}
@@ -12,11 +12,9 @@ use Rattle.local_cache.specs.declared.runs.key_ranges.KeyRange.{KeyRange}
 use Rattle.local_cache.specs.declared.runs.run.Run.{Run}
 use Rattle.local_cache.specs.declared.runs.run.RunName.{RunName}
 use Rattle.local_cache.specs.declared.runs.run.RunName.TheVariants.{Pages, Working, EverySecond}
-use Rattle.local_cache.specs.Arena.{Cell}
-use Rattle.local_cache.specs.KeyRanges.{AreKeysIn, no_keys, page_range, run_cell, working_at}
-use Rattle.local_cache.specs.NodeKeys.{even_half, even_key, number_of_name, odd_half, odd_key, page_key, page_number}
+use Rattle.local_cache.specs.KeyRanges.{AreKeysIn, no_keys, run_cell, working_at}
+use Rattle.local_cache.specs.NodeKeys.{even_half, number_of_name, odd_half, page_key, page_number}
 use Rattle.local_cache.specs.Queue.{number_if, thin_number}
-use Rattle.local_cache.specs.Runs.{first_name, name_after, run_after}
 use Rattle.local_cache.specs.Thin.{has_few}
 use Rattle.local_cache.proofs.NodeRuns.{even_back, odd_back}
 use Rattle.local_cache.proofs.Placing.{even_number, odd_number}

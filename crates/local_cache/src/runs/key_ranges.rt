@@ -51,11 +51,16 @@ fn even_halves(name: RunName, count: u32) -> KeyRange
                 count: (end / 2 + end % 2 - first) as u32,
             }
         }
-        RunName::EverySecond(number) if number % 2 == 0 => KeyRange {
-            first: number / 2,
-            count,
-        },
-        RunName::EverySecond(_) => KeyRange::NONE,
+        RunName::EverySecond(number) => {
+            if number % 2 == 0 {
+                KeyRange {
+                    first: number / 2,
+                    count,
+                }
+            } else {
+                KeyRange::NONE
+            }
+        }
     }
 }
 
@@ -73,11 +78,16 @@ fn odd_halves(name: RunName, count: u32) -> KeyRange
                 count: (end / 2 - number / 2) as u32,
             }
         }
-        RunName::EverySecond(number) if number % 2 == 0 => KeyRange::NONE,
-        RunName::EverySecond(number) => KeyRange {
-            first: number / 2,
-            count,
-        },
+        RunName::EverySecond(number) => {
+            if number % 2 == 0 {
+                KeyRange::NONE
+            } else {
+                KeyRange {
+                    first: number / 2,
+                    count,
+                }
+            }
+        }
     }
 }
 

@@ -15,6 +15,7 @@ mod adapting;
 mod alike;
 mod clearing;
 mod counted;
+mod counted_many;
 mod counters;
 mod first_thin;
 mod indexing;

@@ -4,13 +4,14 @@ ghost use Rattle.std.specs.FinMap as map;
 ghost use Rattle.stretches.specs.Stretch.{IsFit, single};
 ghost use Rattle.local_cache.specs.NodeCells.{cell_of, own_of_plain};
 ghost use Rattle.local_cache.specs.PageNodes.{ArePaged, HasNode, IsLeastThin, MakesAllPages, as_working, cell, find, node_at, put, with_links, with_name, with_new, with_own, with_tree, with_working, without};
-ghost use Rattle.local_cache.specs.ManyNodes.{AreAlike};
+ghost use Rattle.local_cache.specs.ManyNodes.{AreAlike, HaveNodes, without_many};
 ghost use Rattle.local_cache.specs.NodeKeys.{page_number};
 ghost use Rattle.local_cache.specs.Runs.{run as run_says};
 ghost use Rattle.vm_ids.specs.declared.numbers.NodeId.{NodeId as Id};
 
 use crate::runs::alike::alike_from;
 use crate::runs::counted::{add, remove, replace};
+use crate::runs::counted_many::remove_from;
 use crate::runs::first_thin::{first_of, lesser};
 use crate::runs::keys::{keys_of, page_number};
 use crate::runs::making::make_run;
@@ -250,6 +251,15 @@ impl NodeRuns {
     {
         let before = self.parts(node);
         remove(&mut self.lists, &mut self.counters, node.0, before);
+    }
+
+    /// Gives back so many nodes that nothing names, from one on, as `free` gives back each. Those of
+    /// which one run says all go at once.
+    pub(crate) fn free_many(&mut self, node: NodeId, count: u32)
+        requires { HaveNodes self.old node count }
+        ensures { self.new ≡ without_many self.old node count }
+    {
+        remove_from(&mut self.lists, &mut self.counters, node.0, count);
     }
 
     /// The node of a page, or `None` exactly where it has none.

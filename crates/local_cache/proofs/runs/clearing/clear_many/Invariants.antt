@@ -1,4 +1,4 @@
-use Rattle.std.proofs.Common.{◌≡◌, ◌-◌, ◌+◌, ◌≤◌}
+use Rattle.std.proofs.Common.{◌≡◌, ◌-◌, ◌≤◌}
 use Rattle.stretches.specs.Cells.{cells}
 use Rattle.local_cache.specs.Singles.{IsCounted, without_range}
 use Rattle.local_cache.proofs.runs.clearing.clear_many.Given as goal

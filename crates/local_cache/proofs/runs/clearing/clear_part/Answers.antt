@@ -1,11 +1,8 @@
-use Rattle.std.proofs.Common.{◌-◌, ◌+◌, ◌≡◌, ◌≤◌, ℕ, arith, subst}
-use Rattle.std.specs.FinMap as map
-use Rattle.stretches.specs.Cells.{cells}
+use Rattle.std.proofs.Common.{◌-◌, arith, subst}
 use Rattle.stretches.specs.Changes.{SayAlso}
 use Rattle.stretches.proofs.Changes.Parts.{fit_front, lasts_fewer}
 use Rattle.stretches.proofs.Reading.Numbers.{high, low}
 use Rattle.local_cache.proofs.ManyNodes.Cleared.{part_cleared, part_len}
-use Rattle.local_cache.proofs.runs.clearing.clear_part.Given.{Over}
 use Rattle.local_cache.proofs.runs.clearing.clear_part.Goals as goal
 
 pub put_back-requires-clause-fit : goal.put_back-requires-clause-fit
