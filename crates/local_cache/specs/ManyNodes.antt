@@ -1,5 +1,5 @@
 -- Many page nodes changed at once: as the calls for one change them, one after the other.
-use Rattle.std.specs.Prelude.{◌≡◌, ℕ, zero, suc, ◌+◌, ◌<◌, Some}
+use Rattle.std.specs.Prelude.{◌≡◌, ℕ, zero, suc, ◌+◌, ◌<◌, None, Some}
 use Rattle.vm_ids.specs.declared.node_name.NodeName.TheVariants.{Live}
 use Rattle.vm_ids.specs.declared.numbers.CacheId.{CacheId}
 use Rattle.vm_ids.specs.declared.numbers.NodeId.{NodeId}
@@ -17,6 +17,10 @@ next_node n k = record { 0 = n.0 + k }
 -- so many nodes from one on are there
 abbrev pub HaveNodes : PageNodes → NodeId → ℕ → Type 0
 HaveNodes m n count = (k : ℕ) → k < count → HasNode m (next_node n k)
+
+-- none of so many nodes from one on is there
+abbrev pub HaveNone : PageNodes → NodeId → ℕ → Type 0
+HaveNone m n count = (k : ℕ) → k < count → find m (next_node n k) ≡ None
 
 -- so many nodes from one on are what a run says, each a step further on than the one before
 abbrev pub AreSaidBy : PageNodes → NodeId → Run → ℕ → Type 0

@@ -1,10 +1,10 @@
 // All page nodes, and what is done to them.
-ghost use Rattle.std.specs.Prelude.{◌≡◌, ℕ, ◌+◌, ◌<◌, ◌≤◌, ◌^◌, IsOk, IsSome, None, OnOk, Some, length, slice_get};
+ghost use Rattle.std.specs.Prelude.{◌≡◌, ℕ, ◌+◌, ◌<◌, ◌≤◌, ◌^◌, IfSome, IsOk, IsSome, MatchOption, None, OnOk, Some, length, slice_get};
 ghost use Rattle.std.specs.FinMap as map;
 ghost use Rattle.stretches.specs.Stretch.{IsFit, single};
 ghost use Rattle.local_cache.specs.NodeCells.{cell_of, own_of_plain};
 ghost use Rattle.local_cache.specs.PageNodes.{ArePaged, HasNode, IsLeastThin, MakesAllPages, as_working, cell, find, node_at, put, with_links, with_name, with_new, with_own, with_tree, with_working, without};
-ghost use Rattle.local_cache.specs.ManyNodes.{AreAlike, HaveNodes, without_many};
+ghost use Rattle.local_cache.specs.ManyNodes.{AreAlike, HaveNodes, HaveNone, with_new_many, without_many};
 ghost use Rattle.local_cache.specs.NodeKeys.{page_number};
 ghost use Rattle.local_cache.specs.Runs.{run as run_says};
 ghost use Rattle.vm_ids.specs.declared.numbers.NodeId.{NodeId as Id};
@@ -187,7 +187,14 @@ impl NodeRuns {
             return;
         }
         if self.counters.next_page + pages as u64 <= FIRST_WORKING {
-            make_run(&mut self.lists, &mut self.counters, cache, pages, own);
+            make_run(
+                &mut self.lists,
+                &mut self.counters,
+                cache,
+                PageNo(0),
+                pages,
+                own,
+            );
         } else {
             self.make_each(cache, pages, own);
         }
@@ -203,6 +210,34 @@ impl NodeRuns {
         for page in 0..pages {
             self.fresh(cache, PageNo(page), own_of_plain(own));
         }
+    }
+
+    /// Makes a node for each of so many pages of a cache, from one page on, none of which has one,
+    /// each of one own state. They are one run. Where the numbers came to an end it makes none, and
+    /// answers `None`. It takes no memory: there has to be room for the nodes.
+    pub(crate) fn fresh_many(
+        &mut self,
+        cache: CacheId,
+        page: PageNo,
+        count: u32,
+        own: PlainState,
+    ) -> Option<NodeId>
+        requires room { count ≤ self.old.room }
+        requires short { page.0 + count < 2 ^ 32 }
+        requires vacant { (k : ℕ) → k < count
+            → map.get self.old.pages (page_number cache.0 (page.0 + k)) ≡ None }
+        ensures new { IfSome result (λ n. HaveNone self.old n count) }
+        ensures changed { MatchOption result (self.new ≡ self.old) (λ n. self.new
+            ≡ with_new_many self.old n cache page (own_of_plain own) count) }
+    {
+        let first = self.counters.next_page;
+        if first + count as u64 > FIRST_WORKING {
+            return None;
+        }
+        if count > 0 {
+            make_run(&mut self.lists, &mut self.counters, cache, page, count, own);
+        }
+        Some(NodeId(first))
     }
 
     /// Makes a working node under the next name, `Absent` and without parent and children. It takes
