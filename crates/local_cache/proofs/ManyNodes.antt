@@ -7,3 +7,5 @@ pub mod Alike
 pub mod KeyRanges
 -- Nodes of one run that go.
 pub mod Freed
+-- Nodes of one run under other names.
+pub mod Renamed

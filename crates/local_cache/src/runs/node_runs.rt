@@ -4,7 +4,7 @@ ghost use Rattle.std.specs.FinMap as map;
 ghost use Rattle.stretches.specs.Stretch.{IsFit, single};
 ghost use Rattle.local_cache.specs.NodeCells.{cell_of, own_of_plain};
 ghost use Rattle.local_cache.specs.PageNodes.{ArePaged, HasNode, IsLeastThin, MakesAllPages, as_working, cell, find, node_at, put, with_links, with_name, with_new, with_own, with_tree, with_working, without};
-ghost use Rattle.local_cache.specs.ManyNodes.{AreAlike, HaveNodes, HaveNone, with_new_many, without_many};
+ghost use Rattle.local_cache.specs.ManyNodes.{AreAlike, HaveNodes, HaveNone, with_names, with_new_many, without_many};
 ghost use Rattle.local_cache.specs.NodeKeys.{page_number};
 ghost use Rattle.local_cache.specs.Runs.{run as run_says};
 ghost use Rattle.vm_ids.specs.declared.numbers.NodeId.{NodeId as Id};
@@ -18,6 +18,7 @@ use crate::runs::making::make_run;
 use crate::runs::numbering::{FIRST_WORKING, give_name, give_page_number, give_working_number};
 use crate::runs::parts::{own_of_plain, parts_of};
 use crate::runs::placing::place;
+use crate::runs::renaming::{PageName, rename_from};
 use crate::runs::{Counters, NodeLists, Parts, PlainState, Record, RunName};
 use crate::{Links, OwnState};
 use std::alloc::Global;
@@ -277,6 +278,19 @@ impl NodeRuns {
         let before = self.parts(node);
         let now = before.named(RunName::Pages(cache, page));
         replace(&mut self.lists, &mut self.counters, node.0, before, now);
+    }
+
+    /// Makes so many nodes, from one on, those of pages that have none, from one page on, as
+    /// `rename` makes each. Nodes of pages that stand in one run get their names at once.
+    pub(crate) fn rename_many(&mut self, node: NodeId, count: u32, cache: CacheId, page: PageNo)
+        requires held { HaveNodes self.old node count }
+        requires short { page.0 + count < 2 ^ 32 }
+        requires vacant { (k : ℕ) → k < count
+            → map.get self.old.pages (page_number cache.0 (page.0 + k)) ≡ None }
+        ensures { self.new ≡ with_names self.old node cache page count }
+    {
+        let name = PageName { cache, page };
+        rename_from(&mut self.lists, &mut self.counters, node.0, count, name);
     }
 
     /// Gives back a node that nothing names. The page that it was the node of has none then.
