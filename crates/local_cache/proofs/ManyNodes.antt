@@ -9,3 +9,5 @@ pub mod KeyRanges
 pub mod Freed
 -- Nodes of one run under other names.
 pub mod Renamed
+-- Nodes of one run on other parents.
+pub mod Hung

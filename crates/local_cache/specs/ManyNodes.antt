@@ -1,5 +1,5 @@
 -- Many page nodes changed at once: as the calls for one change them, one after the other.
-use Rattle.std.specs.Prelude.{◌≡◌, ℕ, zero, suc, ◌+◌, ◌<◌, None, Some}
+use Rattle.std.specs.Prelude.{◌≡◌, ℕ, zero, suc, ◌+◌, ◌<◌, None, Some, false}
 use Rattle.vm_ids.specs.declared.node_name.NodeName.TheVariants.{Live}
 use Rattle.vm_ids.specs.declared.numbers.CacheId.{CacheId}
 use Rattle.vm_ids.specs.declared.numbers.NodeId.{NodeId}
@@ -7,7 +7,7 @@ use Rattle.vm_ids.specs.declared.numbers.PageNo.{PageNo}
 use Rattle.local_cache.specs.declared.own_state.OwnState.{OwnState}
 use Rattle.local_cache.specs.declared.runs.run.Run.{Run}
 use Rattle.local_cache.specs.NodeCells.{bare, cell_of}
-use Rattle.local_cache.specs.PageNodes.{HasNode, PageNodes, find, with_name, with_new, without}
+use Rattle.local_cache.specs.PageNodes.{HasNode, PageNodes, cell, find, with_links, with_name, with_new, without}
 use Rattle.local_cache.specs.Runs.{run_after}
 
 -- the node so many numbers further on
@@ -49,3 +49,14 @@ with_names m n cache page zero = m
 with_names m n cache page (suc k) =
     with_name (with_names m n cache page k) (next_node n k)
     (Live cache (record { 0 = page.0 + k }))
+
+-- a node on this parent by a tree link
+abbrev pub hung : PageNodes → NodeId → NodeId → PageNodes
+hung m n parent =
+    with_links m n (record (cell m n).links { parent = Some parent; by_stub = false })
+
+-- so many nodes from one on, each on the next parent by a tree link
+abbrev pub hung_many : PageNodes → NodeId → NodeId → ℕ → PageNodes
+hung_many m n parent zero = m
+hung_many m n parent (suc k) =
+    hung (hung_many m n parent k) (next_node n k) (next_node parent k)

@@ -19,6 +19,7 @@ mod counted_many;
 mod counters;
 mod filling;
 mod first_thin;
+mod hanging;
 mod indexing;
 mod key_ranges;
 mod keys;
