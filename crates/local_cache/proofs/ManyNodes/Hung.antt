@@ -1,44 +1,34 @@
 -- Nodes of one run on other parents.
-use Rattle.std.proofs.Common.{◌≡◌, ◌≢◌, ℕ, zero, suc, ◌+◌, ◌-◌, ◌<◌, ◌≤◌, ◌^◌, Bool, cond, Option, Some, None, IsSome, is_some, refl, ap, sym, subst, ◌∙◌, inl, inr, arith}
+use Rattle.std.proofs.Common.{◌≡◌, ℕ, zero, suc, ◌+◌, ◌-◌, ◌<◌, ◌≤◌, ◌^◌, Option, Some, None, is_some, refl, ap, sym, subst, ◌∙◌, inl, inr, arith}
 use Rattle.std.specs.Prelude.{false, ◌⊎◌, option_and_then, option_map, unwrap_or}
 use Rattle.std.proofs.lemmas.Bool.{cases_eq}
-use Rattle.std.proofs.lemmas.Option.{none-some, same_Some}
 use Rattle.std.specs.Ordering.{nat_cmp}
 use Rattle.std.specs.FinMap.{FinMap}
 use Rattle.std.specs.FinMap as map
 use Rattle.stretches.specs.Cells.{cells, with_first, with_stretch}
-use Rattle.stretches.specs.Rising.{rising}
 use Rattle.stretches.specs.Stretches.{SayAs, Stretches, number_count, said}
 use Rattle.stretches.specs.declared.rising.Rising.{Rising}
 use Rattle.stretches.specs.declared.says.Says.{Ghosts}
 use Rattle.stretches.specs.declared.stretch.Stretch.{Stretch}
 use Rattle.stretches.proofs.Cells.{get_cells}
-use Rattle.stretches.proofs.Reading.Numbers.{within}
-use Rattle.vm_ids.specs.declared.node_name.NodeName.TheVariants.{Live}
-use Rattle.vm_ids.specs.declared.numbers.CacheId.{CacheId}
 use Rattle.vm_ids.specs.declared.numbers.NodeId.{NodeId}
-use Rattle.vm_ids.specs.declared.numbers.PageNo.{PageNo}
 use Rattle.local_cache.specs.declared.runs.counters.Counters.{Counters}
 use Rattle.local_cache.specs.declared.runs.node_lists.NodeLists.{NodeLists}
 use Rattle.local_cache.specs.declared.runs.record.Record.{Record}
 use Rattle.local_cache.specs.declared.runs.run.Run.{Run}
-use Rattle.local_cache.specs.declared.runs.run.RunName.{RunName}
-use Rattle.local_cache.specs.declared.runs.run.RunName.TheVariants.{Pages}
 use Rattle.local_cache.specs.declared.runs.thin_nodes.ThinNodes.{ThinNodes}
 use Rattle.local_cache.specs.Arena.{Cell, blank}
 use Rattle.local_cache.specs.ManyNodes.{hung_many, hung, next_node}
 use Rattle.local_cache.specs.NodeCells.{bare, cell_by, cell_of, cells_by, node_cells}
-use Rattle.local_cache.specs.NodeKeys.{Indexes, even_key, key_at, odd_key, page_key, page_number, page_of_name, rekeyed, working_number}
+use Rattle.local_cache.specs.NodeKeys.{Indexes, even_key, key_at, odd_key, page_key, working_number}
 use Rattle.local_cache.specs.NodeRuns.{IsNumbered, IsRight, nodes_of}
-use Rattle.local_cache.specs.PageNodes.{PageNodes, cell, put}
+use Rattle.local_cache.specs.PageNodes.{HasNode, PageNodes, cell, find, put}
 use Rattle.local_cache.specs.Records.{each}
 use Rattle.local_cache.specs.Runs.{further, run, run_after}
-use Rattle.local_cache.specs.Singles.{IsCounted, without_range}
 use Rattle.local_cache.specs.ThinNodes.{first_thin}
-use Rattle.local_cache.proofs.Making.{len_with, with_in, with_out}
-use Rattle.local_cache.proofs.ManyNodes.Cleared.{len_range, range_cases, range_in, range_out}
-use Rattle.local_cache.proofs.NodeCells.{get_cells_by, inserted_here, inserted_other, len_cells, len_within, removed_here, removed_other}
-use Rattle.local_cache.proofs.NodeKeys.{len_index}
+use Rattle.local_cache.proofs.Making.{with_in, with_out}
+use Rattle.local_cache.proofs.ManyNodes.Cleared.{range_cases}
+use Rattle.local_cache.proofs.NodeCells.{get_cells_by, inserted_here, inserted_other, len_cells, len_within}
 use Rattle.local_cache.proofs.Singles.{same_maps}
 use Rattle.local_cache.proofs.ManyNodes.Alike.{alike_said}
 
@@ -231,3 +221,43 @@ module _ (l : NodeLists) (c : Counters) (right : IsRight l c) (r : Stretch Run) 
         let same : l.capacity - map.len (node_cells new) ≡ l.capacity - map.len (node_cells l) = omega (arith, ap map.len cells_are, len_after) in
         (λ i. record { cells = (cells_are ∙ cells_fold) i; pages = old.pages; made = c.made; room = same i })
         ∙ sym (all_hung r.count (omega arith))
+
+-- Some of many -------------------------------------------------------------------------------------
+
+module _ (m : PageNodes) (n parent : NodeId) where
+  -- nodes stay there on other parents
+  pub held_hung : (k : ℕ) (q : NodeId) → HasNode m q → HasNode (hung_many m n parent k) q
+  unfolding put
+  held_hung zero q h = h
+  held_hung (suc k) q h = elim (cases_eq q.0 (n.0 + k)) [
+    | inl same ↦
+        ap (λ (j : ℕ). is_some (map.get (hung_many m n parent (suc k)).cells j)) same
+        ∙ ap is_some (inserted_here (hung_many m n parent k).cells (n.0 + k) _)
+    | inr other ↦ ap is_some (inserted_other (hung_many m n parent k).cells (n.0 + k) _ q.0 other) ∙ held_hung k q h
+  ]
+
+  -- so many more
+  pub hung_more : (a b : ℕ) → hung_many (hung_many m n parent a) (next_node n a) (next_node parent a) b ≡ hung_many m n parent (a + b)
+  hung_more a zero =
+      let same : a ≡ a + 0 = omega arith in
+      ap (hung_many m n parent) same
+  hung_more a (suc b) =
+      let same : suc (a + b) ≡ a + suc b = omega arith in
+      let node : n.0 + a + b ≡ n.0 + (a + b) = omega arith in
+      let on : parent.0 + a + b ≡ parent.0 + (a + b) = omega arith in
+      (λ i. hung (hung_more a b i) (record { 0 = node i }) (record { 0 = on i })) ∙ ap (hung_many m n parent) same
+
+-- a node that one call hangs on another
+pub one_hung : (m : PageNodes) (n parent : NodeId) (x y : Cell) → find m n ≡ Some x
+    → y ≡ record x { links = record x.links { parent = Some parent; by_stub = false } } → (new : PageNodes)
+    → new ≡ record m { cells = map.insert m.cells n.0 y } → new ≡ hung_many m n parent 1
+unfolding cell put
+one_hung m n parent x y is hangs new e =
+    let at : n.0 + 0 ≡ n.0 = omega arith in
+    let on : parent.0 + 0 ≡ parent.0 = omega arith in
+    let found : unwrap_or (map.get m.cells (n.0 + 0)) blank ≡ x = ap (λ (j : ℕ). unwrap_or (map.get m.cells j) blank) at ∙ ap (λ (o : Option Cell). unwrap_or o blank) is in
+    e
+    ∙ ap (λ (z : Cell). record m { cells = map.insert m.cells n.0 z }) hangs
+    ∙ (λ i. record m {
+      cells = map.insert m.cells (sym at i) (let z = sym found i in record z { links = record z.links { parent = Some (record { 0 = sym on i }); by_stub = false } });
+    })

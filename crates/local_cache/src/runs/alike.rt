@@ -2,7 +2,7 @@
 ghost use Rattle.std.specs.Prelude.{◌≡◌, ◌+◌, ◌<◌, ◌≤◌, ℕ, IsSome, None};
 ghost use Rattle.std.specs.FinMap as map;
 ghost use Rattle.stretches.specs.Stretch.{IsFit};
-ghost use Rattle.stretches.specs.Stretches.{SayAs, said};
+ghost use Rattle.stretches.specs.Stretches.{AreTogether, SayAs, said};
 ghost use Rattle.local_cache.specs.NodeCells.{node_cells};
 ghost use Rattle.local_cache.specs.Records.{each};
 ghost use Rattle.local_cache.specs.Runs.{run as run_says};
@@ -29,6 +29,7 @@ pub(crate) fn alike_from(lists: &NodeLists, node: u64, most: u32) -> Stretch<Run
     ensures most { result.count ≤ most }
     ensures fit { 0 < result.count → IsFit run_says result }
     ensures says { SayAs run_says lists.now.runs.list result }
+    ensures together { AreTogether lists.now.runs.list result.first result.count }
     ensures plain { (n : ℕ) → node ≤ n → n < node + result.count
         → said each lists.now.records.list n ≡ None }
 {

@@ -4,7 +4,7 @@ ghost use Rattle.std.specs.FinMap as map;
 ghost use Rattle.stretches.specs.Stretch.{IsFit, single};
 ghost use Rattle.local_cache.specs.NodeCells.{cell_of, own_of_plain};
 ghost use Rattle.local_cache.specs.PageNodes.{ArePaged, HasNode, IsLeastThin, MakesAllPages, as_working, cell, find, node_at, put, with_links, with_name, with_new, with_own, with_tree, with_working, without};
-ghost use Rattle.local_cache.specs.ManyNodes.{AreAlike, HaveNodes, HaveNone, with_names, with_new_many, without_many};
+ghost use Rattle.local_cache.specs.ManyNodes.{AreAlike, HaveNodes, HaveNone, hung_many, with_names, with_new_many, without_many};
 ghost use Rattle.local_cache.specs.NodeKeys.{page_number};
 ghost use Rattle.local_cache.specs.Runs.{run as run_says};
 ghost use Rattle.vm_ids.specs.declared.numbers.NodeId.{NodeId as Id};
@@ -13,6 +13,7 @@ use crate::runs::alike::alike_from;
 use crate::runs::counted::{add, remove, replace};
 use crate::runs::counted_many::remove_from;
 use crate::runs::first_thin::{first_of, lesser};
+use crate::runs::hanging::hang_from;
 use crate::runs::keys::{keys_of, page_number};
 use crate::runs::making::make_run;
 use crate::runs::numbering::{FIRST_WORKING, give_name, give_page_number, give_working_number};
@@ -158,6 +159,16 @@ impl NodeRuns {
     {
         let before = self.parts(node);
         self.change(node, before, before.over(children));
+    }
+
+    /// Hangs so many nodes, from one on, each on the next parent by a tree link. Those of which one
+    /// run says all are hung at once.
+    pub(crate) fn hang_many(&mut self, node: NodeId, count: u32, parent: NodeId)
+        requires held { HaveNodes self.old node count }
+        requires short { parent.0 + count ≤ 2 ^ 64 }
+        ensures { self.new ≡ hung_many self.old node parent count }
+    {
+        hang_from(&mut self.lists, &self.counters, node.0, count, parent);
     }
 
     /// Makes the node of a page that has none, with this own state and without parent and children.
