@@ -32,5 +32,7 @@ pub mod NodeRuns
 pub mod Making
 -- A run said in other words.
 pub mod Adapting
+-- Many page nodes at once.
+pub mod ManyNodes
 -- The arena that page nodes as runs and the rows of caches stand for.
 pub mod ArenaBy

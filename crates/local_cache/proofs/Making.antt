@@ -1,4 +1,4 @@
--- The page nodes of a new cache.
+-- Page nodes made, as one run.
 use Rattle.std.proofs.Common.{◌≡◌, ℕ, zero, suc, ◌+◌, ◌-◌, ◌<◌, ◌≤◌, ◌^◌, List, [], ◌∷◌, ◌++◌, length, Option, Some, None, IsSome, is_some, refl, ap, sym, subst, ◌∙◌, inl, inr, arith, length-append}
 use Rattle.std.specs.Prelude.{◌⊎◌, option_and_then, option_map}
 use Rattle.std.proofs.lemmas.Bool.{cases_eq, cases_lt, false≢true}
@@ -15,6 +15,7 @@ use Rattle.stretches.specs.declared.stretch.Stretch.{Stretch}
 use Rattle.vm_ids.specs.declared.node_name.NodeName.TheVariants.{Live}
 use Rattle.vm_ids.specs.declared.numbers.CacheId.{CacheId}
 use Rattle.vm_ids.specs.declared.numbers.NodeId.{NodeId}
+use Rattle.vm_ids.specs.declared.numbers.PageNo.{PageNo}
 use Rattle.local_cache.specs.declared.own_state.OwnState.{OwnState}
 use Rattle.local_cache.specs.declared.runs.counters.Counters.{Counters}
 use Rattle.local_cache.specs.declared.runs.node_lists.NodeLists.{NodeLists}
@@ -22,11 +23,12 @@ use Rattle.local_cache.specs.declared.runs.record.Record.{Record}
 use Rattle.local_cache.specs.declared.runs.run.PlainState.{PlainState}
 use Rattle.local_cache.specs.declared.runs.run.Run.{Run}
 use Rattle.local_cache.specs.declared.runs.run.RunName.TheVariants.{Pages}
-use Rattle.local_cache.specs.Arena.{Cell, IsFilled, blank, new_cell}
+use Rattle.local_cache.specs.Arena.{Cell, blank, new_cell}
+use Rattle.local_cache.specs.ManyNodes.{HaveNone, next_node, with_new_many}
 use Rattle.local_cache.specs.NodeCells.{cell_by, cells_by, node_cells, own_of_plain}
 use Rattle.local_cache.specs.NodeKeys.{Indexes, even_key, key_at, odd_key, page_key, page_number, working_number}
-use Rattle.local_cache.specs.NodeRuns.{IsGiven, IsNumbered, IsRight, nodes_from, nodes_of}
-use Rattle.local_cache.specs.PageNodes.{MakesAllPages, MakesPages, PageNodes, find, of_page, pages_with, with_new}
+use Rattle.local_cache.specs.NodeRuns.{IsGiven, IsNumbered, IsRight, nodes_of}
+use Rattle.local_cache.specs.PageNodes.{MakesAllPages, PageNodes, find, of_page, pages_with, with_new}
 use Rattle.local_cache.specs.Records.{each}
 use Rattle.local_cache.specs.Runs.{run}
 use Rattle.local_cache.specs.ThinNodes.{first_thin}
@@ -65,12 +67,6 @@ module _ {V : Type 0} (S : Ghosts V) (m : FinMap nat_cmp V) (r : Stretch V) wher
 
 -- Nodes one behind the other -----------------------------------------------------------------
 
-pub length_nodes : (first k : ℕ) → length (nodes_from first k) ≡ k
-length_nodes first zero = refl
-length_nodes first (suc k) =
-    let one : NodeId = record { 0 = first + k } in
-    omega (arith, length-append (nodes_from first k) (one ∷ []), length_nodes first k)
-
 pub pages_push : (m : FinMap nat_cmp Rising) (cache : CacheId) (page : ℕ) (ns : List NodeId) (n : NodeId)
     → pages_with m cache page (ns ++ n ∷ []) ≡ map.insert (pages_with m cache page ns) (page_number cache.0 (page + length ns)) (of_page n)
 pages_push m cache page [] n =
@@ -81,12 +77,24 @@ pages_push m cache page (x ∷ ns) n =
     pages_push (map.insert m (page_number cache.0 page) (of_page x)) cache (page + 1) ns n
     ∙ ap (λ (p : ℕ). map.insert (pages_with m cache page (x ∷ ns)) (page_number cache.0 p) (of_page n)) at
 
+-- the next numbers were given to no node
+pub none_given : (l : NodeLists) (c : Counters) → IsRight l c → (count : ℕ) → c.next_page + count ≤ 2 ^ 52
+    → (n : ℕ) → c.next_page ≤ n → n < c.next_page + count → map.get (node_cells l) n ≡ None
+none_given l c right count numbers n low high = not_given l c right n (λ h. elim h [
+  | inl below ↦ (let bad : ⊥ = omega (arith, low, below) in bad)
+  | inr above ↦ (let bad : ⊥ = omega (arith, high, numbers, above.0) in bad)
+])
+
+pub have_none : (l : NodeLists) (c : Counters) → IsRight l c → (count : ℕ) → c.next_page + count ≤ 2 ^ 52
+    → HaveNone (nodes_of l c) (record { 0 = c.next_page }) count
+have_none l c right count numbers k less = none_given l c right count numbers (c.next_page + k) (omega arith) (omega (arith, less))
+
 -- One run -------------------------------------------------------------------------------------
 
-module _ (l : NodeLists) (c : Counters) (right : IsRight l c) (cache : CacheId) (count : ℕ) (own : PlainState)
+module _ (l : NodeLists) (c : Counters) (right : IsRight l c) (cache : CacheId) (page : PageNo) (count : ℕ) (own : PlainState)
     (numbers : c.next_page + count ≤ 2 ^ 52) (room : map.len (node_cells l) + count ≤ l.capacity)
-    (vacant : (page : ℕ) → page < count → map.get (cells rising l.pages.list) (page_number cache.0 page) ≡ None)
-    (k0 : ℕ) (at : k0 ≡ page_number cache.0 0) where
+    (vacant : (k : ℕ) → k < count → map.get (cells rising l.pages.list) (page_number cache.0 (page.0 + k)) ≡ None)
+    (k0 : ℕ) (at : k0 ≡ page_number cache.0 page.0) where
   abbrev first : ℕ
   first = c.next_page
 
@@ -104,21 +112,18 @@ module _ (l : NodeLists) (c : Counters) (right : IsRight l c) (cache : CacheId) 
   new_run = record {
     first = first;
     count = count;
-    value = record { name = Pages cache (record { 0 = 0 }); own = own; parent = None; older = None; newer = None };
+    value = record { name = Pages cache page; own = own; parent = None; older = None; newer = None };
   }
 
   abbrev new_pages : Stretch Rising
   new_pages = record { first = k0; count = count; value = record { 0 = first } }
 
   abbrev made_cell : ℕ → Cell
-  made_cell k = new_cell (Live cache (record { 0 = k })) (own_of_plain own)
+  made_cell k = new_cell (Live cache (record { 0 = page.0 + k })) (own_of_plain own)
 
   -- the numbers are new
   new_number : (n : ℕ) → first ≤ n → n < first + count → map.get (node_cells l) n ≡ None
-  new_number n low high = not_given l c right n (λ h. elim h [
-    | inl below ↦ (let bad : ⊥ = omega (arith, low, below) in bad)
-    | inr above ↦ (let bad : ⊥ = omega (arith, high, numbers, above.0) in bad)
-  ])
+  new_number = none_given l c right count numbers
 
   no_run : (n : ℕ) → first ≤ n → n < first + count → map.get R n ≡ None
   no_run n low high = go (map.get R n) refl
@@ -139,7 +144,7 @@ module _ (l : NodeLists) (c : Counters) (right : IsRight l c) (cache : CacheId) 
   -- the pages are new
   new_page : (k : ℕ) → k0 ≤ k → k < k0 + count → map.get P k ≡ None
   new_page k low high =
-      let is : page_number cache.0 (k - k0) ≡ k = omega (arith, at, low) in
+      let is : page_number cache.0 (page.0 + (k - k0)) ≡ k = omega (arith, at, low) in
       ap (map.get P) (sym is) ∙ vacant (k - k0) (omega (arith, low, high))
 
   abbrev after : FinMap nat_cmp Cell
@@ -147,11 +152,9 @@ module _ (l : NodeLists) (c : Counters) (right : IsRight l c) (cache : CacheId) 
 
   after_in : (n : ℕ) → first ≤ n → n < first + count → map.get after n ≡ Some (made_cell (n - first))
   after_in n low high =
-      let zero_more : 0 + (n - first) ≡ n - first = omega arith in
       get_cells_by (with_stretch run R new_run) D n
       ∙ ap (option_map (λ s. cell_by s (map.get D n))) (with_in run R new_run count n low high)
       ∙ ap (λ (o : Option Record). Some (cell_by (run.after new_run.value (n - first)) o)) (no_record n low high)
-      ∙ (λ i. Some (made_cell (zero_more i)))
 
   after_out : (n : ℕ) → (n < first) ⊎ (first + count ≤ n) → map.get after n ≡ map.get (node_cells l) n
   after_out n out =
@@ -180,22 +183,27 @@ module _ (l : NodeLists) (c : Counters) (right : IsRight l c) (cache : CacheId) 
     | inr out ↦ after_out n out ∙ sym (with_out cell_by_cell (node_cells l) cell_stretch count n out)
   ])
 
-  filled : (k : ℕ) → k ≤ count → IsFilled (node_cells l) cache 0 (own_of_plain own) (nodes_from first k) (with_first cell_by_cell (node_cells l) cell_stretch k)
-  unfolding cell_by_cell cell_stretch
-  filled zero le = refl
-  filled (suc k) le =
-      let long : k ≡ 0 + length (nodes_from first k) = omega (arith, length_nodes first k) in
-      filled_more (nodes_from first k) (node_cells l) 0 (with_first cell_by_cell (node_cells l) cell_stretch k) _ cache (own_of_plain own) (record { 0 = first + k })
-      (filled k (omega arith))
-      (with_out cell_by_cell (node_cells l) cell_stretch k (first + k) (inr (omega arith)) ∙ new_number (first + k) (omega arith) (omega (arith, le)))
-      (ap (λ (p : ℕ). map.insert (with_first cell_by_cell (node_cells l) cell_stretch k) (first + k) (made_cell p)) long)
-
-  paged_steps : (k : ℕ) → with_first rising P new_pages k ≡ pages_with P cache 0 (nodes_from first k)
-  paged_steps zero = refl
-  paged_steps (suc k) =
-      let key : k0 + k ≡ page_number cache.0 (0 + length (nodes_from first k)) = omega (arith, at, length_nodes first k) in
-      (λ i. map.insert (paged_steps k i) (key i) (record { 0 = first + k }))
-      ∙ sym (pages_push P cache 0 (nodes_from first k) (record { 0 = first + k }))
+  -- one after the other
+  many_new : (m : PageNodes) (k : ℕ) → with_new_many m (record { 0 = first }) cache page (own_of_plain own) k ≡ record {
+    cells = with_first cell_by_cell m.cells cell_stretch k;
+    pages = with_first rising m.pages new_pages k;
+    made = m.made;
+    room = m.room - k;
+  }
+  unfolding cell_by_cell cell_stretch with_new
+  many_new m zero =
+      let same : m.room ≡ m.room - 0 = omega arith in
+      λ i. record { cells = m.cells; pages = m.pages; made = m.made; room = same i }
+  many_new m (suc k) =
+      let less : m.room - k - 1 ≡ m.room - suc k = omega arith in
+      let key : page_number cache.0 (page.0 + k) ≡ k0 + k = omega (arith, at) in
+      ap (λ (x : PageNodes). with_new x (record { 0 = first + k }) (Live cache (record { 0 = page.0 + k })) (own_of_plain own)) (many_new m k)
+      ∙ (λ i. record {
+        cells = with_first cell_by_cell m.cells cell_stretch (suc k);
+        pages = map.insert (with_first rising m.pages new_pages k) (key i) (record { 0 = first + k });
+        made = m.made;
+        room = less i;
+      })
 
   -- what is new has no working number and isn't thin
   out_of : (key : Cell → Option ℕ) → ((k : ℕ) → key (made_cell k) ≡ None) → (n j : ℕ) → key_at key after n ≡ Some j → key_at key (node_cells l) n ≡ Some j
@@ -230,7 +238,7 @@ module _ (l : NodeLists) (c : Counters) (right : IsRight l c) (cache : CacheId) 
       there h = elim (page_cases k) [
         | inl new ↦
             let node : first + (k - k0) ≡ n = same_Some _ n (sym (ap (option_map (λ (v : Rising). v.0)) (with_in rising P new_pages count k new.0 new.1)) ∙ h) in
-            let key : page_number cache.0 (n - first) ≡ k = omega (arith, node, at, new.0) in
+            let key : page_number cache.0 (page.0 + (n - first)) ≡ k = omega (arith, node, at, new.0) in
             ap (option_and_then page_key) (after_in n (omega (arith, node)) (omega (arith, node, new.0, new.1))) ∙ ap Some key
         | inr out ↦ into page_key n k ((right.indexed.pages k n).0 (sym (ap (option_map (λ (v : Rising). v.0)) (with_out rising P new_pages count k out)) ∙ h))
       ]
@@ -238,7 +246,7 @@ module _ (l : NodeLists) (c : Counters) (right : IsRight l c) (cache : CacheId) 
       back : key_at page_key after n ≡ Some k → option_map (λ (v : Rising). v.0) (map.get pages_after k) ≡ Some n
       back h = elim (number_cases n) [
         | inl new ↦
-            let key : page_number cache.0 (n - first) ≡ k = same_Some _ k (sym (ap (option_and_then page_key) (after_in n new.0 new.1)) ∙ h) in
+            let key : page_number cache.0 (page.0 + (n - first)) ≡ k = same_Some _ k (sym (ap (option_and_then page_key) (after_in n new.0 new.1)) ∙ h) in
             let node : first + (k - k0) ≡ n = omega (arith, key, at, new.0) in
             ap (option_map (λ (v : Rising). v.0)) (with_in rising P new_pages count k (omega (arith, key, at)) (omega (arith, key, at, new.0, new.1))) ∙ ap Some node
         | inr out ↦
@@ -345,15 +353,12 @@ module _ (l : NodeLists) (c : Counters) (right : IsRight l c) (cache : CacheId) 
             live = omega (arith, live, right.live, ap map.len set_pages, len_pages);
           }
 
-      pub makes_pages : MakesPages (nodes_of l c) (nodes_of new now) cache (own_of_plain own) (nodes_from first count)
-      makes_pages =
-          record {
-            cells = subst (λ (m : FinMap nat_cmp Cell). IsFilled (node_cells l) cache 0 (own_of_plain own) (nodes_from first count) m) (sym (cells_are ∙ steps_are)) (filled count (omega arith));
-            pages = set_pages ∙ paged_steps count;
-            made = made;
-            room = (let less : l.capacity - map.len (node_cells new) ≡ l.capacity - map.len (node_cells l) - length (nodes_from first count) =
-                omega (arith, ap map.len cells_are, len_after, length_nodes first count) in less);
-          }
+      pub nodes_made : nodes_of new now ≡ with_new_many (nodes_of l c) (record { 0 = first }) cache page (own_of_plain own) count
+      nodes_made =
+          let less : l.capacity - map.len (node_cells new) ≡ l.capacity - map.len (node_cells l) - count =
+          omega (arith, ap map.len cells_are, len_after) in
+          (λ i. record { cells = (cells_are ∙ steps_are) i; pages = set_pages i; made = made i; room = less i })
+          ∙ sym (many_new (nodes_of l c) count)
 
 -- Page by page ----------------------------------------------------------------------------------
 
@@ -380,11 +385,34 @@ made_more old mid new cache own page n made none is =
       },
     )
 
+-- the cells of other numbers stay
+pub cells_beside : (m : PageNodes) (n : NodeId) (cache : CacheId) (page : PageNo) (own : OwnState) (k q : ℕ) → n.0 + k ≤ q
+    → map.get (with_new_many m n cache page own k).cells q ≡ map.get m.cells q
+unfolding with_new
+cells_beside m n cache page own zero q behind = refl
+cells_beside m n cache page own (suc k) q behind =
+    inserted_other (with_new_many m n cache page own k).cells (n.0 + k) _ q (λ e. let bad : ⊥ = omega (arith, behind, e) in bad)
+    ∙ cells_beside m n cache page own k q (omega (arith, behind))
+
 -- no page yet
 pub made_none : (old : PageNodes) (cache : CacheId) (own : OwnState) → MakesAllPages old old cache own 0
 made_none old cache own =
     let same : old.room ≡ old.room - 0 = omega arith in
     ([], refl, record { cells = refl; pages = refl; made = refl; room = same })
+
+-- many pages at once
+pub made_many : (m : PageNodes) (n : NodeId) (cache : CacheId) (own : OwnState) (count : ℕ)
+    → ((k : ℕ) → k < count → find m (next_node n k) ≡ None) → (k : ℕ) → k ≤ count
+    → MakesAllPages m (with_new_many m n cache (record { 0 = 0 }) own k) cache own k
+made_many m n cache own count vacant zero le = made_none m cache own
+made_many m n cache own count vacant (suc k) le =
+    let mid = with_new_many m n cache (record { 0 = 0 }) own k in
+    let more : k + 1 ≡ suc k = omega arith in
+    let zero_more : 0 + k ≡ k = omega arith in
+    subst (λ (j : ℕ). MakesAllPages m (with_new_many m n cache (record { 0 = 0 }) own (suc k)) cache own j) more
+    (made_more m mid _ cache own k (next_node n k) (made_many m n cache own count vacant k (omega (arith, le)))
+    (cells_beside m n cache (record { 0 = 0 }) own k (n.0 + k) (omega arith) ∙ vacant k (omega (arith, le)))
+    (ap (λ (p : ℕ). with_new mid (next_node n k) (Live cache (record { 0 = p })) own) zero_more))
 
 -- the pages behind it have no node still
 pub vacant_still : (mid new : PageNodes) (cache : CacheId) (own : OwnState) (page other : ℕ) (n : NodeId)

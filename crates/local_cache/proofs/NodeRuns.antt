@@ -707,13 +707,13 @@ module _ (l : NodeLists) (c : Counters) (right : IsRight l c) (new : NodeLists) 
 
 -- The least thin node -----------------------------------------------------------------------------------------
 
-even_back : (h : ℕ) → even_half (2 * h) ≡ Some h
+pub even_back : (h : ℕ) → even_half (2 * h) ≡ Some h
 even_back h =
     let rest : (2 * h) % 2 ≡ 0 = omega arith in
     let half : (2 * h) / 2 ≡ h = omega arith in
     ap (λ (b : Bool). cond b (Some (2 * h / 2)) None) (eq-eqb (2 * h % 2) 0 rest) ∙ ap Some half
 
-odd_back : (h : ℕ) → odd_half (2 * h + 1) ≡ Some h
+pub odd_back : (h : ℕ) → odd_half (2 * h + 1) ≡ Some h
 odd_back h =
     let rest : (2 * h + 1) % 2 ≢ 0 = omega arith in
     let half : (2 * h + 1) / 2 ≡ h = omega arith in

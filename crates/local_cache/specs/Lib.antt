@@ -5,8 +5,10 @@ pub mod Codes
 pub mod GoingOn
 pub mod Heap
 pub mod Home
+pub mod KeyRanges
 pub mod Layout
 pub mod Lists
+pub mod ManyNodes
 pub mod NodeCells
 pub mod NodeKeys
 pub mod NodeLists

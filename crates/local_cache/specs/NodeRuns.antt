@@ -1,11 +1,10 @@
 -- What the lists and the counters of the page nodes stand for, and what holds of them.
-use Rattle.std.specs.Prelude.{◌≡◌, ◌⊎◌, ℕ, zero, suc, List, [], ◌∷◌, ◌++◌, ◌+◌, ◌-◌, ◌<◌, ◌≤◌, ◌^◌, IsSome, Some}
+use Rattle.std.specs.Prelude.{◌≡◌, ◌⊎◌, ℕ, ◌+◌, ◌-◌, ◌<◌, ◌≤◌, ◌^◌, IsSome, Some}
 use Rattle.std.specs.Ordering.{nat_cmp}
 use Rattle.std.specs.FinMap.{FinMap}
 use Rattle.std.specs.FinMap as map
 use Rattle.stretches.specs.Cells.{cells}
 use Rattle.stretches.specs.Rising.{rising}
-use Rattle.vm_ids.specs.declared.numbers.NodeId.{NodeId}
 use Rattle.local_cache.specs.declared.runs.counters.Counters.{Counters}
 use Rattle.local_cache.specs.declared.runs.node_lists.NodeLists.{NodeLists}
 use Rattle.local_cache.specs.declared.runs.run.RunName.{RunName}
@@ -52,8 +51,3 @@ pub record IsRight (l : NodeLists) (c : Counters) : Type 0 where
   pub numbered : IsNumbered (node_cells l) c
   pub nodes : c.nodes ≡ map.len (node_cells l)
   pub live : c.live ≡ map.len (cells rising l.pages.list)
-
--- the nodes of so many numbers, from one on
-abbrev pub nodes_from : ℕ → ℕ → List NodeId
-nodes_from first zero = []
-nodes_from first (suc k) = nodes_from first k ++ record { 0 = first + k } ∷ []

@@ -12,10 +12,16 @@
 //!
 //! `Caches` doesn't stand on this yet.
 mod adapting;
+mod alike;
+mod clearing;
 mod counted;
+mod counted_many;
 mod counters;
+mod filling;
 mod first_thin;
+mod hanging;
 mod indexing;
+mod key_ranges;
 mod keys;
 mod making;
 mod node_lists;
@@ -25,6 +31,7 @@ mod parts;
 mod placing;
 mod record;
 mod rekey;
+mod renaming;
 mod run;
 mod singles;
 mod thin_nodes;

@@ -1,20 +1,25 @@
 // All page nodes, and what is done to them.
-ghost use Rattle.std.specs.Prelude.{◌≡◌, ℕ, ◌+◌, ◌<◌, ◌≤◌, ◌^◌, IsOk, IsSome, None, OnOk, Some, length, slice_get};
+ghost use Rattle.std.specs.Prelude.{◌≡◌, ℕ, ◌+◌, ◌<◌, ◌≤◌, ◌^◌, IfSome, IsOk, IsSome, MatchOption, None, OnOk, Some, length, slice_get};
 ghost use Rattle.std.specs.FinMap as map;
 ghost use Rattle.stretches.specs.Stretch.{IsFit, single};
 ghost use Rattle.local_cache.specs.NodeCells.{cell_of, own_of_plain};
 ghost use Rattle.local_cache.specs.PageNodes.{ArePaged, HasNode, IsLeastThin, MakesAllPages, as_working, cell, find, node_at, put, with_links, with_name, with_new, with_own, with_tree, with_working, without};
+ghost use Rattle.local_cache.specs.ManyNodes.{AreAlike, HaveNodes, HaveNone, hung_many, with_names, with_new_many, without_many};
 ghost use Rattle.local_cache.specs.NodeKeys.{page_number};
 ghost use Rattle.local_cache.specs.Runs.{run as run_says};
 ghost use Rattle.vm_ids.specs.declared.numbers.NodeId.{NodeId as Id};
 
+use crate::runs::alike::alike_from;
 use crate::runs::counted::{add, remove, replace};
+use crate::runs::counted_many::remove_from;
 use crate::runs::first_thin::{first_of, lesser};
+use crate::runs::hanging::hang_from;
 use crate::runs::keys::{keys_of, page_number};
 use crate::runs::making::make_run;
 use crate::runs::numbering::{FIRST_WORKING, give_name, give_page_number, give_working_number};
 use crate::runs::parts::{own_of_plain, parts_of};
 use crate::runs::placing::place;
+use crate::runs::renaming::{PageName, rename_from};
 use crate::runs::{Counters, NodeLists, Parts, PlainState, Record, RunName};
 use crate::{Links, OwnState};
 use std::alloc::Global;
@@ -156,6 +161,16 @@ impl NodeRuns {
         self.change(node, before, before.over(children));
     }
 
+    /// Hangs so many nodes, from one on, each on the next parent by a tree link. Those of which one
+    /// run says all are hung at once.
+    pub(crate) fn hang_many(&mut self, node: NodeId, count: u32, parent: NodeId)
+        requires held { HaveNodes self.old node count }
+        requires short { parent.0 + count ≤ 2 ^ 64 }
+        ensures { self.new ≡ hung_many self.old node parent count }
+    {
+        hang_from(&mut self.lists, &self.counters, node.0, count, parent);
+    }
+
     /// Makes the node of a page that has none, with this own state and without parent and children.
     /// It takes no memory: there has to be room for a node.
     pub(crate) fn fresh(&mut self, cache: CacheId, page: PageNo, state: OwnState) -> NodeId
@@ -184,7 +199,14 @@ impl NodeRuns {
             return;
         }
         if self.counters.next_page + pages as u64 <= FIRST_WORKING {
-            make_run(&mut self.lists, &mut self.counters, cache, pages, own);
+            make_run(
+                &mut self.lists,
+                &mut self.counters,
+                cache,
+                PageNo(0),
+                pages,
+                own,
+            );
         } else {
             self.make_each(cache, pages, own);
         }
@@ -200,6 +222,34 @@ impl NodeRuns {
         for page in 0..pages {
             self.fresh(cache, PageNo(page), own_of_plain(own));
         }
+    }
+
+    /// Makes a node for each of so many pages of a cache, from one page on, none of which has one,
+    /// each of one own state. They are one run. Where the numbers came to an end it makes none, and
+    /// answers `None`. It takes no memory: there has to be room for the nodes.
+    pub(crate) fn fresh_many(
+        &mut self,
+        cache: CacheId,
+        page: PageNo,
+        count: u32,
+        own: PlainState,
+    ) -> Option<NodeId>
+        requires room { count ≤ self.old.room }
+        requires short { page.0 + count < 2 ^ 32 }
+        requires vacant { (k : ℕ) → k < count
+            → map.get self.old.pages (page_number cache.0 (page.0 + k)) ≡ None }
+        ensures new { IfSome result (λ n. HaveNone self.old n count) }
+        ensures changed { MatchOption result (self.new ≡ self.old) (λ n. self.new
+            ≡ with_new_many self.old n cache page (own_of_plain own) count) }
+    {
+        let first = self.counters.next_page;
+        if first + count as u64 > FIRST_WORKING {
+            return None;
+        }
+        if count > 0 {
+            make_run(&mut self.lists, &mut self.counters, cache, page, count, own);
+        }
+        Some(NodeId(first))
     }
 
     /// Makes a working node under the next name, `Absent` and without parent and children. It takes
@@ -241,6 +291,19 @@ impl NodeRuns {
         replace(&mut self.lists, &mut self.counters, node.0, before, now);
     }
 
+    /// Makes so many nodes, from one on, those of pages that have none, from one page on, as
+    /// `rename` makes each. Nodes of pages that stand in one run get their names at once.
+    pub(crate) fn rename_many(&mut self, node: NodeId, count: u32, cache: CacheId, page: PageNo)
+        requires held { HaveNodes self.old node count }
+        requires short { page.0 + count < 2 ^ 32 }
+        requires vacant { (k : ℕ) → k < count
+            → map.get self.old.pages (page_number cache.0 (page.0 + k)) ≡ None }
+        ensures { self.new ≡ with_names self.old node cache page count }
+    {
+        let name = PageName { cache, page };
+        rename_from(&mut self.lists, &mut self.counters, node.0, count, name);
+    }
+
     /// Gives back a node that nothing names. The page that it was the node of has none then.
     pub(crate) fn free(&mut self, node: NodeId)
         requires { HasNode self.old node }
@@ -248,6 +311,15 @@ impl NodeRuns {
     {
         let before = self.parts(node);
         remove(&mut self.lists, &mut self.counters, node.0, before);
+    }
+
+    /// Gives back so many nodes that nothing names, from one on, as `free` gives back each. Those of
+    /// which one run says all go at once.
+    pub(crate) fn free_many(&mut self, node: NodeId, count: u32)
+        requires { HaveNodes self.old node count }
+        ensures { self.new ≡ without_many self.old node count }
+    {
+        remove_from(&mut self.lists, &mut self.counters, node.0, count);
     }
 
     /// The node of a page, or `None` exactly where it has none.
@@ -273,6 +345,15 @@ impl NodeRuns {
         ensures { result + map.len self.now.pages ≡ map.len self.now.cells }
     {
         self.counters.nodes - self.counters.live
+    }
+
+    /// How many nodes from this one on are alike: one run says all of them, each a step further on
+    /// than the one before. There is none where a record says something of this node.
+    pub(crate) fn stretch(&self, node: NodeId) -> u32
+        requires { HasNode self.now node }
+        ensures { AreAlike self.now node result }
+    {
+        alike_from(&self.lists, node.0, u32::MAX).count
     }
 
     /// How many runs the nodes stand in.

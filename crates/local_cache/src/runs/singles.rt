@@ -114,7 +114,7 @@ fn take_one<V: Says>(list: &mut StretchList<V>, number: u64)
 }
 
 // Takes in a stretch, which may have no number.
-fn put_back<V: Says>(list: &mut StretchList<V>, stretch: Stretch<V>)
+pub(crate) fn put_back<V: Says>(list: &mut StretchList<V>, stretch: Stretch<V>)
     requires fit { 0 < stretch.count → IsFit V.Says stretch }
     requires vacant { IsVacantFor V.Says list.old.list stretch }
     requires places { number_count list.old.list + stretch.count ≤ list.old.places }
