@@ -16,3 +16,23 @@ pub mod Queue
 pub mod NewCache
 -- What holds between two commands.
 pub mod Whole
+-- A list of stretches when one number is set or cleared.
+pub mod Singles
+-- The cells of nodes, as their runs and records say them.
+pub mod NodeCells
+-- The lists by which nodes are found.
+pub mod NodeKeys
+-- What is written of one node.
+pub mod Writing
+-- A node placed in all lists, and taken out of them.
+pub mod Placing
+-- What holds of all lists and counters, after a change of one node.
+pub mod NodeRuns
+-- The page nodes of a new cache.
+pub mod Making
+-- A run said in other words.
+pub mod Adapting
+-- Many page nodes at once.
+pub mod ManyNodes
+-- The arena that page nodes as runs and the rows of caches stand for.
+pub mod ArenaBy

@@ -16,6 +16,8 @@ use Rattle.local_cache.specs.declared.own_state.OwnState.TheVariants.{Absent, Ze
 use Rattle.local_cache.specs.declared.page_table.PageEntry.{PageEntry}
 use Rattle.vm_ids.specs.Forest.Codes.{name_code}
 use Rattle.local_cache.specs.Arena.{Arena, Cell, Room, Table}
+use Rattle.local_cache.specs.PageNodes.{PageNodes}
+use Rattle.stretches.specs.declared.rising.Rising.{Rising}
 
 abbrev bit : Bool → ℕ
 bit false = 0
@@ -133,3 +135,14 @@ arena_code =
       copies = t.1.1.1.0;
       room = t.1.1.1.1;
     }) (λ _. refl)
+
+abbrev pub rising_code : Coded Rising
+rising_code = code_by ℕ coded_ℕ (λ n. n.0) (λ k. record { 0 = k }) (λ _. refl)
+
+abbrev pub page_nodes_code : Coded PageNodes
+page_nodes_code =
+    code_by (FinMap nat_cmp Cell × (FinMap nat_cmp Rising × (ℕ × ℕ)))
+    (coded× (ids.code coded_ℕ cell_code)
+    (coded× (ids.code coded_ℕ rising_code) (coded× coded_ℕ coded_ℕ)))
+    (λ m. (m.cells, (m.pages, (m.made, m.room))))
+    (λ t. record { cells = t.0; pages = t.1.0; made = t.1.1.0; room = t.1.1.1 }) (λ _. refl)

@@ -19,6 +19,7 @@ mod own_state;
 mod page_lists;
 mod page_node;
 mod page_table;
+mod runs;
 mod thin_nodes;
 
 pub use caches::Caches;

@@ -79,7 +79,7 @@ locked_closed old new es after index gap found tables =
     let less : index < length (tables_in old es) = omega (arith, there es index gap found, length-map es (λ o. option_map (table_in old) o)) in
     omega (arith, sum_by-set locked_pages (tables_in old es) index None None less, ap locked_pages at, ap (sum_by locked_pages) tables, locked_seen new after, locked_seen old es)
 
-none_locked : (n : ℕ) → count_by is_locked (replicate n 0) ≡ 0
+pub none_locked : (n : ℕ) → count_by is_locked (replicate n 0) ≡ 0
 none_locked zero = refl
 none_locked (suc n) = omega (arith, sum_by-cons (λ (k : ℕ). bit k) 0 (replicate n 0), none_locked n)
 

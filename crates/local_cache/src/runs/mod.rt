@@ -1,0 +1,47 @@
+//! All page nodes, as stretches of nodes that are alike.
+//!
+//! A run says of a stretch of node numbers how the nodes are named, their plain own state, their
+//! parent by a tree link and their tree children; each node is a step further on than the one
+//! before. A record lies over a run and splits nothing: it says of one node what the run can't, its
+//! frame or slot and its links by stubs, and hides what the run says of these. Three more lists find
+//! nodes: the node of each page, and the thin nodes by their working numbers, odd and even ones
+//! apart.
+//!
+//! Nodes of pages and nodes made as working ones have two series of numbers. Each rises, so that
+//! nodes made one behind the other can stand in one run.
+//!
+//! `Caches` doesn't stand on this yet.
+mod adapting;
+mod alike;
+mod clearing;
+mod counted;
+mod counted_many;
+mod counters;
+mod filling;
+mod first_thin;
+mod hanging;
+mod indexing;
+mod key_ranges;
+mod keys;
+mod making;
+mod node_lists;
+mod node_runs;
+mod numbering;
+mod parts;
+mod placing;
+mod record;
+mod rekey;
+mod renaming;
+mod run;
+mod singles;
+mod thin_nodes;
+mod writing;
+
+pub(crate) use counters::Counters;
+pub(crate) use keys::Keys;
+pub(crate) use node_lists::NodeLists;
+pub(crate) use node_runs::NodeRuns;
+pub(crate) use parts::Parts;
+pub(crate) use record::Record;
+pub(crate) use run::{PlainState, Run, RunName};
+pub(crate) use thin_nodes::ThinNodes;
