@@ -1,6 +1,7 @@
 -- The row of a cache, and what calls do to it.
-use Rattle.std.specs.Prelude.{ℕ, zero, suc, ◌+◌, ◌-◌, List, [], ◌∷◌, ◌++◌, replicate, count_by, true, false, Option, Some, None, option_map, slice_index_or, slice_set}
+use Rattle.std.specs.Prelude.{ℕ, zero, suc, ◌+◌, ◌-◌, List, [], ◌∷◌, ◌++◌, replicate, count_by, Bool, true, false, Option, Some, None, option_and_then, option_map, slice_get, slice_index_or, slice_set, unwrap_or}
 use Rattle.vm_ids.specs.declared.numbers.SegId.{SegId}
+use Rattle.local_cache.specs.declared.cache_list.CacheEntry.{CacheEntry}
 use Rattle.local_cache.specs.Arena.{is_locked}
 use Rattle.local_cache.specs.ArenaBy.{CacheRow, CacheRows}
 
@@ -66,3 +67,17 @@ without_row c cache = record c {
   rows = rows_without c.rows cache;
   entries = c.entries + row_pages (row_at c.rows cache);
 }
+
+-- the entry of a cache, which says nothing of single pages
+abbrev pub entry_of_row : CacheRow → CacheEntry
+entry_of_row r = record { segment = r.segment; pages = r.pages }
+
+-- whether a page is granted; false where there is no live cache with this page
+abbrev pub is_granting : List (Option CacheRow) → ℕ → ℕ → Bool
+is_granting rows cache page =
+    unwrap_or (option_and_then (λ r. slice_get r.grants page) (row_at rows cache)) false
+
+-- how many locks a page has; 0 where there is no live cache with this page
+abbrev pub row_locks : List (Option CacheRow) → ℕ → ℕ → ℕ
+row_locks rows cache page =
+    unwrap_or (option_and_then (λ r. slice_get r.locks page) (row_at rows cache)) 0
