@@ -73,9 +73,9 @@ pub record IsPageOf (from : ℕ) (es : List (Option CacheEntry)) (number : ℕ) 
   pub entry : CacheEntry
   pub is : slice_index_or es at None ≡ Some entry
   pub below : page < entry.pages
-  pub number : number ≡ page_number (from + at) page
+  pub same : number ≡ page_number (from + at) page
 
--- The list says something of pages of live caches alone, and has places for so many.
+-- the list says something of pages of live caches alone, and has places for so many
 pub record IsPlaced {V : Type 0} (S : Ghosts V) (es : List (Option CacheEntry)) (l : Stretches V)
     (capacity : ℕ) : Type 0 where
   pub counted : IsCounted S l
@@ -86,11 +86,11 @@ pub record IsPlaced {V : Type 0} (S : Ghosts V) (es : List (Option CacheEntry)) 
 -- something of pages alone, that of locks no 0.
 pub record IsRight (es : List (Option CacheEntry)) (grants : Stretches Granted)
     (locks : Stretches LockCount) (pages capacity locked : ℕ) : Type 0 where
-  pub grants : IsPlaced granted_says es grants capacity
-  pub locks : IsPlaced locks_say es locks capacity
+  pub granted : IsPlaced granted_says es grants capacity
+  pub locking : IsPlaced locks_say es locks capacity
   pub above : (k : ℕ) (c : LockCount) → map.get (cells locks_say locks.list) k ≡ Some c → 0 < c.0
   pub caches : length es < 2 ^ 32
-  pub pages : pages ≡ page_sum es
+  pub sum : pages ≡ page_sum es
   pub fits : pages ≤ capacity
   pub few : capacity < 2 ^ 32
-  pub locked : locked ≡ sum_by row_locked (rows_of es grants locks)
+  pub counted : locked ≡ sum_by row_locked (rows_of es grants locks)

@@ -1,6 +1,8 @@
 // Of how many numbers of a range a list of stretches says something.
-ghost use Rattle.std.specs.Prelude.{◌≡◌, ◌+◌, ◌-◌, ◌<◌, ◌≤◌, ◌^◌};
+ghost use Rattle.std.specs.Prelude.{◌≡◌, ℕ, ◌+◌, ◌-◌, ◌<◌, ◌≤◌, ◌^◌};
 ghost use Rattle.std.specs.FinMap as map;
+ghost use Rattle.std.specs.FinMap.{FinMap};
+ghost use Rattle.std.specs.Ordering.{nat_cmp};
 ghost use Rattle.stretches.specs.Cells.{cells};
 ghost use Rattle.local_cache.specs.Singles.{without_range};
 
@@ -32,16 +34,16 @@ struct Part {
 }
 
 // Of how many numbers something is said, from one on as far as the end of the first stretch among
-// them.
+// them. It is that by which any map with the same numbers there has more than without them.
 fn part_from<V: Says>(list: &StretchList<V>, next: u64, end: u64) -> Part
     requires some { next < end }
     requires few { end < next + 2 ^ 32 }
     ensures more { next < result.end }
     ensures within { result.end ≤ end }
     ensures no_more { next + result.said ≤ result.end }
-    ensures said { result.said
-        + map.len (without_range (cells V.Says list.now.list) next (result.end - next))
-        ≡ map.len (cells V.Says list.now.list) }
+    ensures said { (m : FinMap nat_cmp V)
+        → ((n : ℕ) → next ≤ n → n < result.end → map.get m n ≡ map.get (cells V.Says list.now.list) n)
+        → result.said + map.len (without_range m next (result.end - next)) ≡ map.len m }
 {
     match list.next_from(next) {
         Some(stretch) if stretch.first < end => {
