@@ -10,3 +10,9 @@ pub mod Pages
 pub mod Counting
 -- A count of locks that is set.
 pub mod Counts
+-- What is told of the caches and their pages.
+pub mod Reading
+-- One page of a live cache, whose grant or locks are set.
+pub mod Setting
+-- A cache comes, and a cache goes.
+pub mod Coming

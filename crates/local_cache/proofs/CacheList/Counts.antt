@@ -1,12 +1,15 @@
 -- A count of locks that is set.
-use Rattle.std.proofs.Common.{◌≡◌, ◌≢◌, ℕ, zero, suc, ◌<◌, ◌≤◌, Option, Some, None, IsSome, option_map, unwrap_or, refl, ap, arith, ◌∙◌, sym, inl, inr}
+use Rattle.std.proofs.Common.{◌≡◌, ◌≢◌, ℕ, zero, suc, ◌<◌, ◌≤◌, List, Option, Some, None, IsSome, option_map, unwrap_or, refl, ap, arith, ◌∙◌, sym, inl, inr}
 use Rattle.std.proofs.lemmas.Bool.{cases_eq}
 use Rattle.std.proofs.lemmas.Option.{none-some, same_Some}
 use Rattle.std.specs.Ordering.{nat_cmp}
 use Rattle.std.specs.FinMap.{FinMap}
 use Rattle.std.specs.FinMap as map
+use Rattle.local_cache.specs.declared.cache_list.CacheEntry.{CacheEntry}
 use Rattle.local_cache.specs.declared.page_marks.LockCount.{LockCount}
+use Rattle.local_cache.specs.CacheList.{IsPageOf}
 use Rattle.local_cache.specs.PageMarks.{locks_at, with_count}
+use Rattle.local_cache.proofs.CacheList.Pages.{HasPages, pages_cleared, pages_set}
 use Rattle.local_cache.proofs.NodeCells.{inserted_here, inserted_other, removed_here, removed_other, still_there}
 
 module _ (m : FinMap nat_cmp LockCount) (number : ℕ) where
@@ -19,9 +22,6 @@ module _ (m : FinMap nat_cmp LockCount) (number : ℕ) where
   unfolding with_count
   count_gone zero none = refl
   count_gone (suc n) none = let bad : ⊥ = omega (arith, none) in absurd bad
-
-  as_locks : Option LockCount → ℕ
-  as_locks o = unwrap_or (option_map (λ v. v.0) o) 0
 
   -- how many locks the page has then, and each other page
   pub counted_here : (count : ℕ) → locks_at (with_count m number count) number ≡ count
@@ -50,3 +50,10 @@ module _ (m : FinMap nat_cmp LockCount) (number : ℕ) where
         omega (arith, count)
     | inr other ↦ above k c (sym (inserted_other m number (record { 0 = suc n }) k other) ∙ is)
   ]
+
+-- a count of a page of a live cache
+pub counted_pages : (m : FinMap nat_cmp LockCount) (es : List (Option CacheEntry)) (number count : ℕ) → HasPages 1 es m
+    → IsPageOf 1 es number → HasPages 1 es (with_count m number count)
+unfolding with_count
+counted_pages m es number zero has of = pages_cleared m es number has
+counted_pages m es number (suc n) has of = pages_set m es number (record { 0 = suc n }) has of

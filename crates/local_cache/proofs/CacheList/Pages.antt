@@ -1,6 +1,6 @@
 -- The numbers of pages of live caches, and how many there are.
 use Rattle.std.proofs.Common.{◌≡◌, ◌≢◌, ◌⊎◌, ℕ, zero, suc, ◌+◌, ◌*◌, ◌<◌, ◌≤◌, ◌^◌, List, [], ◌∷◌, ◌++◌, get_or, set, sum_by, Option, Some, None, IsSome, is_some, refl, ap, sym, ◌∙◌, inl, inr, arith}
-use Rattle.std.proofs.lemmas.Bool.{cases_Bool, cases_eq, false≢true}
+use Rattle.std.proofs.lemmas.Bool.{cases_Bool, cases_eq, cases_lt, false≢true}
 use Rattle.std.proofs.lemmas.List.{get_or_append_left}
 use Rattle.std.proofs.lemmas.List.Sums.{get_or-le-sum_by, sum_by-cons}
 use Rattle.std.proofs.lemmas.Option.{none-some, same_Some}
@@ -39,9 +39,9 @@ module _ (es : List (Option CacheEntry)) (cache page : ℕ) where
         at = at.0;
         page = page;
         entry = e;
-        is = at.1.1;
+        is = at.2;
         below = below;
-        same = omega (arith, at.1.0);
+        same = omega (arith, at.1);
       }
 
   -- a number is that of one page alone
@@ -52,6 +52,24 @@ module _ (es : List (Option CacheEntry)) (cache page : ℕ) where
       let here : cache ≡ suc of.at = omega (arith, of.same, low, short) in
       let alike : page ≡ of.page = omega (arith, of.same, low, short) in
       (of.entry, ap (entry_at es) here ∙ of.is, omega (arith, alike, of.below))
+
+  -- a live cache has this page, or none has it
+  pub page_cases : ((e : CacheEntry) × (entry_at es cache ≡ Some e) × (page < e.pages))
+      ⊎ ((e : CacheEntry) → entry_at es cache ≡ Some e → page < e.pages → ⊥)
+  page_cases = go (entry_at es cache) refl
+    where
+      go : (o : Option CacheEntry) → entry_at es cache ≡ o
+          → ((e : CacheEntry) × (entry_at es cache ≡ Some e) × (page < e.pages))
+          ⊎ ((e : CacheEntry) → entry_at es cache ≡ Some e → page < e.pages → ⊥)
+      go None is = inr (λ e at below. none-some e (sym is ∙ at))
+      go (Some e) is = elim (cases_lt page e.pages) [
+        | inl below ↦ inl (e, is, below)
+        | inr above ↦
+            inr (λ f at below.
+            let count : e.pages ≡ f.pages = ap (λ (x : CacheEntry). x.pages) (same_Some e f (sym is ∙ at)) in
+            let bad : ⊥ = omega (arith, above, below, count) in
+            bad)
+      ]
 
 -- a page of the first cache, or of another one
 split : (from : ℕ) (o : Option CacheEntry) (es : List (Option CacheEntry)) (k : ℕ) → IsPageOf from (o ∷ es) k
@@ -83,10 +101,10 @@ module _ {V : Type 0} where
       → page_sum es < 2 ^ 32 → (cache page : ℕ) → page < 2 ^ 32
       → ((e : CacheEntry) → entry_at es cache ≡ Some e → page < e.pages → ⊥)
       → map.get m (page_number cache page) ≡ None
-  nothing_at m es has few cache page short no = elim (cases_Bool (is_some (map.get m (page_number cache page)))) [
+  nothing_at m es has few cache page short absent = elim (cases_Bool (is_some (map.get m (page_number cache page)))) [
     | inl there ↦
         let of = same_page es cache page few short (has (page_number cache page) there) in
-        absurd (no of.0 of.1.0 of.1.1)
+        absurd (absent of.0 of.1 of.2)
     | inr none ↦ none_of (map.get m (page_number cache page)) none
   ]
 
@@ -176,7 +194,7 @@ module _ {V : Type 0} where
   ]
   len_pages_from from (None ∷ es) m has =
       let rest = len_pages_from (from + 1) es m (λ k some. elim (split from None es k (has k some)) [
-        | inl here ↦ absurd (none-some here.0 here.1.0)
+        | inl here ↦ absurd (none-some here.0 here.1)
         | inr behind ↦ behind
       ]) in
       omega (arith, rest, sum_by-cons entry_pages None es)
@@ -187,10 +205,10 @@ module _ {V : Type 0} where
             absurd (false≢true (sym (ap is_some (range_in m (page_number from 0) e.pages k inside.0 inside.1)) ∙ some))
         | inr out ↦ elim (split from (Some e) es k (has k (sym (ap is_some (range_out m (page_number from 0) e.pages k out)) ∙ some))) [
           | inl here ↦
-              let pages : e.pages ≡ here.0.pages = ap (λ (x : CacheEntry). x.pages) (same_Some e here.0 here.1.0) in
+              let pages : e.pages ≡ here.0.pages = ap (λ (x : CacheEntry). x.pages) (same_Some e here.0 here.1) in
               absurd (elim out [
-                | inl below ↦ let bad : ⊥ = omega (arith, below, here.1.1.0) in bad
-                | inr above ↦ let bad : ⊥ = omega (arith, above, here.1.1.1, pages) in bad
+                | inl below ↦ let bad : ⊥ = omega (arith, below, here.2) in bad
+                | inr above ↦ let bad : ⊥ = omega (arith, above, here.3, pages) in bad
               ])
           | inr behind ↦ behind
         ]

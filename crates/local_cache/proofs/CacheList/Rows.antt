@@ -110,7 +110,7 @@ module _ (granted : ℕ → Bool) (locks : ℕ → ℕ) where
       -- no locks where there is no such page
       pub locks_none : ((e : CacheEntry) → entry_at es cache ≡ Some e → page < e.pages → ⊥)
           → row_locks (rows_by granted locks 1 es) cache page ≡ 0
-      locks_none no =
+      locks_none absent =
           ap (λ (o : Option CacheRow). unwrap_or (option_and_then (λ r. slice_get r.locks page) o) 0) (row_is es cache)
           ∙ go (entry_at es cache) refl
         where
@@ -118,7 +118,7 @@ module _ (granted : ℕ → Bool) (locks : ℕ → ℕ) where
               → unwrap_or (option_and_then (λ r. slice_get r.locks page) (option_map (row_by granted locks cache) o)) 0 ≡ 0
           go None is = refl
           go (Some e) is = elim (cases_lt page e.pages) [
-            | inl below ↦ absurd (no e is below)
+            | inl below ↦ absurd (absent e is below)
             | inr above ↦ ap (λ (o : Option ℕ). unwrap_or o 0) (value_past locks (page_number cache 0) e.pages page above)
           ]
 
