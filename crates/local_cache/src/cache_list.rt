@@ -162,12 +162,12 @@ impl CacheList {
         ensures { self.new ≡ without_row self.old cache.0 }
     {
         let entry = entry_of(&self.entries, cache).unwrap();
+        self.entries[cache.0 as usize - 1] = None;
+        self.pages -= entry.pages;
         let first = page_number(cache, PageNo(0));
         self.locked -= count_said(&self.locks, first, entry.pages);
         clear_many(&mut self.grants, first, entry.pages);
         clear_many(&mut self.locks, first, entry.pages);
-        self.entries[cache.0 as usize - 1] = None;
-        self.pages -= entry.pages;
     }
 
     /// Grants a page.

@@ -84,6 +84,14 @@ module _ (es : List (Option CacheEntry)) (grants : Stretches Granted) (locks : S
         counted = right.counted ∙ sym (ap (sum_by row_locked) rows_pushed ∙ made_counts (rows_of es grants locks) segment more);
       }
 
+-- what is left in the lists when a cache goes
+pub record Goes (es : List (Option CacheEntry)) (old : Stretches Granted) (before : Stretches LockCount) (k : ℕ)
+    (e : CacheEntry) (gone : ℕ) (new : Stretches Granted) (after : Stretches LockCount) : Type 0 where
+  pub counts : gone + map.len (without_range (cells locks_say before.list) (page_number (suc k) 0) e.pages)
+      ≡ map.len (cells locks_say before.list)
+  pub grants : cells granted_says new.list ≡ without_range (cells granted_says old.list) (page_number (suc k) 0) e.pages
+  pub locks : cells locks_say after.list ≡ without_range (cells locks_say before.list) (page_number (suc k) 0) e.pages
+
 -- A cache goes -----------------------------------------------------------------------------------
 
 module _ (es : List (Option CacheEntry)) (grants : Stretches Granted) (locks : Stretches LockCount)
