@@ -36,11 +36,17 @@ rows_by granted locks from [] = []
 rows_by granted locks from (e ∷ es) =
     option_map (row_by granted locks from) e ∷ rows_by granted locks (from + 1) es
 
+-- whether the page of a number is granted, and how many locks it has, as the lists say
+abbrev pub granted_in : Stretches Granted → ℕ → Bool
+granted_in grants = granted_at (cells granted_says grants.list)
+
+abbrev pub locks_in : Stretches LockCount → ℕ → ℕ
+locks_in locks = locks_at (cells locks_say locks.list)
+
 -- the rows that the entries and the lists of grants and locks stand for
 abbrev pub rows_of : List (Option CacheEntry) → Stretches Granted → Stretches LockCount
     → List (Option CacheRow)
-rows_of es grants locks =
-    rows_by (granted_at (cells granted_says grants.list)) (locks_at (cells locks_say locks.list)) 1 es
+rows_of es grants locks = rows_by (granted_in grants) (locks_in locks) 1 es
 
 -- what all fields stand for
 abbrev pub cache_rows_of : Vec (Option CacheEntry) Global → Stretches Granted → Stretches LockCount

@@ -1,5 +1,5 @@
 -- What is said of single pages of caches, which is the same of each page of a stretch.
-use Rattle.std.specs.Prelude.{ℕ, zero, suc, Bool, Option, option_map, is_some, unwrap_or}
+use Rattle.std.specs.Prelude.{ℕ, zero, suc, Bool, option_map, is_some, unwrap_or}
 use Rattle.std.specs.Ordering.{nat_cmp}
 use Rattle.std.specs.FinMap.{FinMap}
 use Rattle.std.specs.FinMap as map

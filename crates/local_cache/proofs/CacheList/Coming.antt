@@ -1,5 +1,5 @@
 -- A cache comes, and a cache goes.
-use Rattle.std.proofs.Common.{◌≡◌, ◌≢◌, ◌⊎◌, ℕ, zero, suc, ◌+◌, ◌*◌, ◌-◌, ◌<◌, ◌≤◌, ◌^◌, Bool, false, List, [], ◌∷◌, ◌++◌, length, length-set, get_or, set, count_by, sum_by, Option, Some, None, IsSome, is_some, option_map, unwrap_or, refl, ap, sym, ◌∙◌, inl, inr, arith}
+use Rattle.std.proofs.Common.{◌≡◌, ◌≢◌, ◌⊎◌, ℕ, suc, ◌+◌, ◌-◌, ◌<◌, ◌≤◌, ◌^◌, List, [], ◌∷◌, ◌++◌, length, length-set, get_or, set, sum_by, Option, Some, None, is_some, option_map, unwrap_or, ap, sym, ◌∙◌, inl, inr, arith}
 use Rattle.std.proofs.lemmas.Bool.{cases_lt, false≢true}
 use Rattle.std.proofs.lemmas.List.{length_push}
 use Rattle.std.proofs.lemmas.List.Sums.{sum_by-set, sum_by_push}
@@ -12,11 +12,10 @@ use Rattle.vm_ids.specs.declared.numbers.SegId.{SegId}
 use Rattle.local_cache.specs.declared.cache_list.CacheEntry.{CacheEntry}
 use Rattle.local_cache.specs.declared.page_marks.Granted.{Granted}
 use Rattle.local_cache.specs.declared.page_marks.LockCount.{LockCount}
-use Rattle.local_cache.specs.Arena.{is_locked}
 use Rattle.local_cache.specs.ArenaBy.{CacheRow}
-use Rattle.local_cache.specs.CacheList.{IsRight, entry_at, entry_pages, page_sum, row_by, rows_by, rows_of, values}
+use Rattle.local_cache.specs.CacheList.{IsRight, entry_pages, granted_in, locks_in, row_by, rows_of}
 use Rattle.local_cache.specs.NodeKeys.{page_number}
-use Rattle.local_cache.specs.PageMarks.{granted_at, granted_says, locks_at, locks_say}
+use Rattle.local_cache.specs.PageMarks.{granted_says, locks_at, locks_say}
 use Rattle.local_cache.specs.RowChanges.{new_row, row_at, row_locked, row_pages, rows_without}
 use Rattle.local_cache.specs.Singles.{IsCounted, without_range}
 use Rattle.local_cache.proofs.ArenaBy.Locked.{made_counts, removed_counts}
@@ -24,7 +23,7 @@ use Rattle.local_cache.proofs.ArenaBy.NewCache.{row_within}
 use Rattle.local_cache.proofs.CacheList.Counting.{count_range}
 use Rattle.local_cache.proofs.CacheList.Pages.{HasPages, nothing_at, pages_left, pages_more, pages_within}
 use Rattle.local_cache.proofs.CacheList.Reading.{few_pages}
-use Rattle.local_cache.proofs.CacheList.Rows.{OthersStay, new_row_is, row_there, rows_append, rows_left}
+use Rattle.local_cache.proofs.CacheList.Rows.{new_row_is, row_there, rows_append, rows_left}
 use Rattle.local_cache.proofs.ManyNodes.Cleared.{range_cases, range_in, range_out}
 
 -- A cache comes ----------------------------------------------------------------------------------
@@ -47,10 +46,10 @@ module _ (es : List (Option CacheEntry)) (grants : Stretches Granted) (locks : S
       ∙ nothing_at m es has (few_pages es grants locks pages capacity locked right) (suc (length es)) (n - page_number (suc (length es)) 0) short
       (λ e is below. let bad : ⊥ = omega (arith, row_within es (length es) e is) in bad)
 
-  new_is : row_by (granted_at (cells granted_says grants.list)) (locks_at (cells locks_say locks.list)) (suc (length es)) new
+  new_is : row_by (granted_in grants) (locks_in locks) (suc (length es)) new
       ≡ new_row segment more
   new_is =
-      new_row_is (granted_at (cells granted_says grants.list)) (locks_at (cells locks_say locks.list)) (suc (length es)) segment more
+      new_row_is (granted_in grants) (locks_in locks) (suc (length es)) segment more
       (λ n low high. ap is_some (none_yet (cells granted_says grants.list) right.granted.placed n low high))
       (λ n low high. ap (λ (o : Option LockCount). unwrap_or (option_map (λ v. v.0) o) 0) (none_yet (cells locks_say locks.list) right.locking.placed n low high))
 
@@ -58,8 +57,8 @@ module _ (es : List (Option CacheEntry)) (grants : Stretches Granted) (locks : S
       ≡ rows_of es grants locks ++ Some (new_row segment more) ∷ []
   rows_pushed =
       let at : 1 + length es ≡ suc (length es) = omega arith in
-      rows_append (granted_at (cells granted_says grants.list)) (locks_at (cells locks_say locks.list)) 1 es (Some (record { segment = segment; pages = more }))
-      ∙ ap (λ (c : ℕ). rows_of es grants locks ++ Some (row_by (granted_at (cells granted_says grants.list)) (locks_at (cells locks_say locks.list)) c (record { segment = segment; pages = more })) ∷ []) at
+      rows_append (granted_in grants) (locks_in locks) 1 es (Some (record { segment = segment; pages = more }))
+      ∙ ap (λ (c : ℕ). rows_of es grants locks ++ Some (row_by (granted_in grants) (locks_in locks) c (record { segment = segment; pages = more })) ∷ []) at
       ∙ ap (λ (r : CacheRow). rows_of es grants locks ++ Some r ∷ []) new_is
 
   pub right_pushed : length es + 1 < 2 ^ 32
@@ -98,8 +97,8 @@ module _ (es : List (Option CacheEntry)) (grants : Stretches Granted) (locks : S
     (pages capacity locked : ℕ) (right : IsRight es grants locks pages capacity locked)
     (k : ℕ) (e : CacheEntry) (is : get_or es k None ≡ Some e) where
   here : row_at (rows_of es grants locks) (suc k)
-      ≡ Some (row_by (granted_at (cells granted_says grants.list)) (locks_at (cells locks_say locks.list)) (suc k) e)
-  here = row_there (granted_at (cells granted_says grants.list)) (locks_at (cells locks_say locks.list)) es (suc k) e is
+      ≡ Some (row_by (granted_in grants) (locks_in locks) (suc k) e)
+  here = row_there (granted_in grants) (locks_in locks) es (suc k) e is
 
   pub gone_pages : row_pages (row_at (rows_of es grants locks) (suc k)) ≡ e.pages
   gone_pages = ap row_pages here
@@ -137,7 +136,7 @@ module _ (es : List (Option CacheEntry)) (grants : Stretches Granted) (locks : S
           counts,
           count_range (cells locks_say locks.list) right.above (page_number (suc k) 0) e.pages,
           removed_counts (rows_of es grants locks) (suc k)
-              (row_by (granted_at (cells granted_says grants.list)) (locks_at (cells locks_say locks.list)) (suc k) e) here,
+              (row_by (granted_in grants) (locks_in locks) (suc k) e) here,
           right.counted,
         )
 
@@ -149,8 +148,8 @@ module _ (es : List (Option CacheEntry)) (grants : Stretches Granted) (locks : S
         (locks_left : cells locks_say locks_now.list ≡ without_range (cells locks_say locks.list) (page_number (suc k) 0) e.pages) where
       pub rows_gone : rows_of (set es k None) grants_now locks_now ≡ rows_without (rows_of es grants locks) (suc k)
       rows_gone =
-          rows_left (granted_at (cells granted_says grants.list)) (granted_at (cells granted_says grants_now.list))
-          (locks_at (cells locks_say locks.list)) (locks_at (cells locks_say locks_now.list)) es k
+          rows_left (granted_in grants) (granted_in grants_now)
+          (locks_in locks) (locks_in locks_now) es k
           (λ j f n other there low high.
           let out = beside j f n other there low high in (
             ap (λ (m : FinMap nat_cmp Granted). is_some (map.get m n)) grants_left

@@ -1,5 +1,5 @@
 -- How many numbers of a range a map has, and how many pages are locked.
-use Rattle.std.proofs.Common.{◌≡◌, ℕ, zero, suc, ◌+◌, ◌-◌, ◌<◌, ◌≤◌, Bool, cond, List, [], ◌∷◌, ◌++◌, length, count_by, sum_by, Option, Some, None, IsSome, is_some, option_map, unwrap_or, refl, ap, ◌∙◌, inl, inr, arith}
+use Rattle.std.proofs.Common.{◌≡◌, ℕ, zero, suc, ◌+◌, ◌-◌, ◌<◌, ◌≤◌, Bool, List, [], ◌∷◌, count_by, sum_by, Option, Some, None, IsSome, is_some, option_map, unwrap_or, refl, ap, ◌∙◌, inr, arith}
 use Rattle.std.proofs.lemmas.List.Sums.{count_by-le-length, sum_by-cons, sum_by_push}
 use Rattle.std.specs.Ordering.{nat_cmp}
 use Rattle.std.specs.FinMap.{FinMap}
@@ -13,7 +13,6 @@ use Rattle.stretches.proofs.Reading.Numbers.{within}
 use Rattle.local_cache.specs.declared.cache_list.CacheEntry.{CacheEntry}
 use Rattle.local_cache.specs.declared.page_marks.LockCount.{LockCount}
 use Rattle.local_cache.specs.Arena.{is_locked}
-use Rattle.local_cache.specs.ArenaBy.{CacheRow}
 use Rattle.local_cache.specs.CacheList.{entry_pages, page_sum, row_by, rows_by, values}
 use Rattle.local_cache.specs.NodeKeys.{page_number}
 use Rattle.local_cache.specs.PageMarks.{locks_at}

@@ -1,5 +1,5 @@
 -- What is told of the caches and their pages.
-use Rattle.std.proofs.Common.{◌≡◌, ℕ, zero, suc, ◌+◌, ◌*◌, ◌<◌, ◌≤◌, ◌^◌, [], List, length, Option, Some, None, IsSome, is_some, option_map, unwrap_or, sum_by, refl, ap, sym, ◌∙◌, inl, inr, arith}
+use Rattle.std.proofs.Common.{◌≡◌, ℕ, ◌+◌, ◌<◌, ◌≤◌, ◌^◌, [], List, length, Option, Some, None, IsSome, is_some, option_map, unwrap_or, sum_by, refl, ap, sym, ◌∙◌, inl, inr, arith}
 use Rattle.std.proofs.lemmas.Bool.{false≢true}
 use Rattle.std.specs.FinMap as map
 use Rattle.stretches.specs.Cells.{cells}
@@ -8,10 +8,9 @@ use Rattle.stretches.proofs.Cells.{get_cells}
 use Rattle.local_cache.specs.declared.cache_list.CacheEntry.{CacheEntry}
 use Rattle.local_cache.specs.declared.page_marks.Granted.{Granted}
 use Rattle.local_cache.specs.declared.page_marks.LockCount.{LockCount}
-use Rattle.local_cache.specs.ArenaBy.{CacheRow}
-use Rattle.local_cache.specs.CacheList.{IsRight, entry_at, page_sum, row_by, rows_of}
+use Rattle.local_cache.specs.CacheList.{IsRight, entry_at, granted_in, locks_in, page_sum, row_by, rows_of}
 use Rattle.local_cache.specs.NodeKeys.{page_number}
-use Rattle.local_cache.specs.PageMarks.{granted_at, granted_says, locks_at, locks_say}
+use Rattle.local_cache.specs.PageMarks.{granted_says, locks_say}
 use Rattle.local_cache.specs.Placed.{HasRow}
 use Rattle.local_cache.specs.RowChanges.{entry_of_row, is_granting, row_at, row_locked, row_locks}
 use Rattle.local_cache.proofs.ArenaBy.NewCache.{row_within}
@@ -21,19 +20,19 @@ use Rattle.local_cache.proofs.NodeRuns.{empty_counted, empty_get}
 
 module _ (es : List (Option CacheEntry)) (grants : Stretches Granted) (locks : Stretches LockCount) where
   pub made_is : length (rows_of es grants locks) ≡ length es
-  made_is = length_rows (granted_at (cells granted_says grants.list)) (locks_at (cells locks_say locks.list)) 1 es
+  made_is = length_rows (granted_in grants) (locks_in locks) 1 es
 
   pub told_entry : (cache : ℕ) → option_map entry_of_row (row_at (rows_of es grants locks) cache) ≡ entry_at es cache
-  told_entry cache = entry_is (granted_at (cells granted_says grants.list)) (locks_at (cells locks_say locks.list)) es cache
+  told_entry cache = entry_is (granted_in grants) (locks_in locks) es cache
 
   -- a cache with a row is live
   pub is_live : (cache : ℕ) → IsSome (row_at (rows_of es grants locks) cache) → IsSome (entry_at es cache)
   is_live cache some =
       go (entry_at es cache)
-      (sym (ap is_some (row_is (granted_at (cells granted_says grants.list)) (locks_at (cells locks_say locks.list)) es cache)) ∙ some)
+      (sym (ap is_some (row_is (granted_in grants) (locks_in locks) es cache)) ∙ some)
     where
       go : (o : Option CacheEntry)
-          → IsSome (option_map (row_by (granted_at (cells granted_says grants.list)) (locks_at (cells locks_say locks.list)) cache) o)
+          → IsSome (option_map (row_by (granted_in grants) (locks_in locks) cache) o)
           → IsSome o
       go None h = absurd (false≢true h)
       go (Some e) h = refl
@@ -42,14 +41,14 @@ module _ (es : List (Option CacheEntry)) (grants : Stretches Granted) (locks : S
   pub live_page : (cache page : ℕ) → HasRow (rows_of es grants locks) cache page
       → (e : CacheEntry) × (entry_at es cache ≡ Some e) × (page < e.pages)
   live_page cache page has =
-      has_entry (granted_at (cells granted_says grants.list)) (locks_at (cells locks_say locks.list)) es cache page has
+      has_entry (granted_in grants) (locks_in locks) es cache page has
 
   pub told_granted : (cache page : ℕ) → HasRow (rows_of es grants locks) cache page
       → is_granting (rows_of es grants locks) cache page
       ≡ is_some (map.get (cells granted_says grants.list) (page_number cache page))
   told_granted cache page has =
       let here = live_page cache page has in
-      granting_is (granted_at (cells granted_says grants.list)) (locks_at (cells locks_say locks.list)) es cache page here.0 here.1 here.2
+      granting_is (granted_in grants) (locks_in locks) es cache page here.0 here.1 here.2
 
 module _ (es : List (Option CacheEntry)) (grants : Stretches Granted) (locks : Stretches LockCount)
     (pages capacity locked : ℕ) (right : IsRight es grants locks pages capacity locked) where
@@ -82,28 +81,28 @@ module _ (es : List (Option CacheEntry)) (grants : Stretches Granted) (locks : S
 
   module _ (cache page : ℕ) (short : page < 2 ^ 32) where
     none_here : ((e : CacheEntry) → entry_at es cache ≡ Some e → page < e.pages → ⊥)
-        → locks_at (cells locks_say locks.list) (page_number cache page) ≡ 0
+        → locks_in locks (page_number cache page) ≡ 0
     none_here absent =
         ap (λ (o : Option LockCount). unwrap_or (option_map (λ v. v.0) o) 0)
         (nothing_at (cells locks_say locks.list) es right.locking.placed few_pages cache page short absent)
 
     -- the locks of a page, and of none
     pub told_locks : row_locks (rows_of es grants locks) cache page
-        ≡ locks_at (cells locks_say locks.list) (page_number cache page)
+        ≡ locks_in locks (page_number cache page)
     told_locks = elim (page_cases es cache page) [
       | inl here ↦
-          locks_are (granted_at (cells granted_says grants.list)) (locks_at (cells locks_say locks.list)) es cache page here.0 here.1 here.2
+          locks_are (granted_in grants) (locks_in locks) es cache page here.0 here.1 here.2
       | inr absent ↦
-          locks_none (granted_at (cells granted_says grants.list)) (locks_at (cells locks_say locks.list)) es cache page absent
+          locks_none (granted_in grants) (locks_in locks) es cache page absent
           ∙ sym (none_here absent)
     ]
 
     -- a page with locks is one of a live cache
-    pub locked_page : 0 < locks_at (cells locks_say locks.list) (page_number cache page)
+    pub locked_page : 0 < locks_in locks (page_number cache page)
         → HasRow (rows_of es grants locks) cache page
     locked_page some = elim (page_cases es cache page) [
       | inl here ↦
-          has_row (granted_at (cells granted_says grants.list)) (locks_at (cells locks_say locks.list)) es cache here.0 page here.1 here.2
+          has_row (granted_in grants) (locks_in locks) es cache here.0 page here.1 here.2
       | inr absent ↦ let bad : ⊥ = omega (arith, some, none_here absent) in absurd bad
     ]
 

@@ -1,17 +1,16 @@
 -- The rows of caches, read and changed.
-use Rattle.std.proofs.Common.{◌≡◌, ◌≢◌, ℕ, zero, suc, ◌+◌, ◌*◌, ◌<◌, ◌≤◌, ◌^◌, Bool, true, false, replicate, List, [], ◌∷◌, ◌++◌, length, length-set, get_or, set, Option, Some, None, option_map, slice_get, unwrap_or, refl, ap, sym, ◌∙◌, inl, inr, arith}
+use Rattle.std.proofs.Common.{◌≡◌, ◌≢◌, ℕ, zero, suc, ◌+◌, ◌<◌, ◌≤◌, Bool, true, false, List, [], ◌∷◌, ◌++◌, length, length-set, get_or, set, Option, Some, None, option_map, slice_get, unwrap_or, refl, ap, sym, ◌∙◌, inl, inr, arith}
 use Rattle.std.specs.Prelude.{option_and_then}
 use Rattle.std.proofs.lemmas.Bool.{cases_eq, cases_lt}
-use Rattle.std.proofs.lemmas.List.{get_or_past, get_or_default, same_lists}
+use Rattle.std.proofs.lemmas.List.{get_or_default, same_lists}
 use Rattle.std.proofs.lemmas.Option.{none-some, same_Some}
 use Rattle.vm_ids.specs.declared.numbers.SegId.{SegId}
 use Rattle.local_cache.specs.declared.cache_list.CacheEntry.{CacheEntry}
 use Rattle.local_cache.specs.ArenaBy.{CacheRow}
-use Rattle.local_cache.specs.CacheList.{entry_at, row_by, rows_by, values}
+use Rattle.local_cache.specs.CacheList.{entry_at, row_by, rows_by}
 use Rattle.local_cache.specs.NodeKeys.{page_number}
 use Rattle.local_cache.specs.Placed.{HasRow}
 use Rattle.local_cache.specs.RowChanges.{entry_of_row, is_granting, new_row, row_at, row_granting, row_locking, row_locks, rows_changed, rows_without}
-use Rattle.local_cache.proofs.ArenaBy.NewCache.{row_within}
 use Rattle.local_cache.proofs.CacheList.Values.{value_at, value_past, values_all, values_same, values_set}
 use Rattle.local_cache.proofs.Tables.Listing.{read_other, read_set}
 

@@ -1,5 +1,5 @@
 -- One page of a live cache, whose grant or locks are set.
-use Rattle.std.proofs.Common.{◌≡◌, ◌≢◌, ℕ, zero, suc, ◌+◌, ◌*◌, ◌-◌, ◌<◌, ◌≤◌, ◌^◌, Bool, true, List, [], ◌∷◌, length, get_or, sum_by, Option, Some, None, IsSome, is_some, option_map, unwrap_or, slice_get, refl, ap, sym, subst, ◌∙◌, arith}
+use Rattle.std.proofs.Common.{◌≡◌, ◌≢◌, ℕ, ◌+◌, ◌-◌, ◌<◌, ◌≤◌, ◌^◌, Bool, true, List, [], ◌∷◌, length, get_or, sum_by, Option, Some, None, is_some, unwrap_or, slice_get, refl, ap, sym, ◌∙◌, arith}
 use Rattle.std.specs.Prelude.{option_and_then}
 use Rattle.std.proofs.lemmas.List.Sums.{sum_by-cons}
 use Rattle.std.proofs.lemmas.Option.{slice_get-get_or}
@@ -12,9 +12,9 @@ use Rattle.local_cache.specs.declared.cache_list.CacheEntry.{CacheEntry}
 use Rattle.local_cache.specs.declared.page_marks.Granted.{Granted}
 use Rattle.local_cache.specs.declared.page_marks.LockCount.{LockCount}
 use Rattle.local_cache.specs.ArenaBy.{CacheRow}
-use Rattle.local_cache.specs.CacheList.{IsRight, entry_at, page_sum, row_by, rows_by, rows_of, values}
+use Rattle.local_cache.specs.CacheList.{IsRight, entry_at, granted_in, locks_in, row_by, rows_by, rows_of, values}
 use Rattle.local_cache.specs.NodeKeys.{page_number}
-use Rattle.local_cache.specs.PageMarks.{granted_at, granted_says, locks_at, locks_say, with_count}
+use Rattle.local_cache.specs.PageMarks.{granted_says, locks_at, locks_say, with_count}
 use Rattle.local_cache.specs.RowChanges.{row_at, row_granting, row_locked, row_locking, row_locks, rows_changed}
 use Rattle.local_cache.specs.Singles.{IsCounted}
 use Rattle.local_cache.proofs.ArenaBy.Locked.{locking_counts}
@@ -22,7 +22,7 @@ use Rattle.local_cache.proofs.CacheList.Counting.{locked_within}
 use Rattle.local_cache.proofs.CacheList.Counts.{count_above, counted_here, counted_other, counted_pages}
 use Rattle.local_cache.proofs.CacheList.Pages.{len_pages, page_of, pages_set, pages_within}
 use Rattle.local_cache.proofs.CacheList.Reading.{few_pages, page_short}
-use Rattle.local_cache.proofs.CacheList.Rows.{OthersStay, row_counts, row_grants, row_there, rows_one}
+use Rattle.local_cache.proofs.CacheList.Rows.{row_counts, row_grants, row_there, rows_one}
 use Rattle.local_cache.proofs.CacheList.Values.{length_values}
 use Rattle.local_cache.proofs.NodeCells.{inserted_here, inserted_other}
 use Rattle.local_cache.proofs.Tables.Locked.{bit}
@@ -87,27 +87,27 @@ module _ (es : List (Option CacheEntry)) (grants : Stretches Granted) (locks : S
           fits = right.fits;
           few = right.few;
           counted = right.counted
-              ∙ sym (locked_alike (granted_at (cells granted_says grants.list)) (granted_at (cells granted_says after.list)) (locks_at (cells locks_say locks.list)) 1 es);
+              ∙ sym (locked_alike (granted_in grants) (granted_in after) (locks_in locks) 1 es);
         }
 
-    granted_here : granted_at (cells granted_says after.list) (page_number cache page) ≡ true
+    granted_here : granted_in after (page_number cache page) ≡ true
     granted_here =
         ap (λ (m : FinMap nat_cmp Granted). is_some (map.get m (page_number cache page))) set
         ∙ ap is_some (inserted_here (cells granted_says grants.list) (page_number cache page) v)
 
     granted_other : (n : ℕ) → n ≢ page_number cache page
-        → granted_at (cells granted_says after.list) n ≡ granted_at (cells granted_says grants.list) n
+        → granted_in after n ≡ granted_in grants n
     granted_other n other =
         ap (λ (m : FinMap nat_cmp Granted). is_some (map.get m n)) set
         ∙ ap is_some (inserted_other (cells granted_says grants.list) (page_number cache page) v n other)
 
     pub rows_granted : rows_of es after locks ≡ rows_changed (rows_of es grants locks) cache (row_granting page)
     rows_granted =
-        rows_one (granted_at (cells granted_says grants.list)) (granted_at (cells granted_says after.list))
-        (locks_at (cells locks_say locks.list)) (locks_at (cells locks_say locks.list)) es cache (row_granting page)
+        rows_one (granted_in grants) (granted_in after)
+        (locks_in locks) (locks_in locks) es cache (row_granting page)
         (λ k f n other there low high. (granted_other n (apart k f n other there low high), refl))
-        (λ f. row_grants (granted_at (cells granted_says grants.list)) (locks_at (cells locks_say locks.list)) cache page f
-        (granted_at (cells granted_says after.list)) granted_here granted_other)
+        (λ f. row_grants (granted_in grants) (locks_in locks) cache page f
+        (granted_in after) granted_here granted_other)
 
   -- Locks ---------------------------------------------------------------------------------------
 
@@ -122,13 +122,13 @@ module _ (es : List (Option CacheEntry)) (grants : Stretches Granted) (locks : S
   counts count = with_count (cells locks_say locks.list) (page_number cache page) count
 
   rows_with : (count : ℕ)
-      → rows_by (granted_at (cells granted_says grants.list)) (locks_at (counts count)) 1 es
+      → rows_by (granted_in grants) (locks_at (counts count)) 1 es
       ≡ rows_changed (rows_of es grants locks) cache (row_locking page count)
   rows_with count =
-      rows_one (granted_at (cells granted_says grants.list)) (granted_at (cells granted_says grants.list))
-      (locks_at (cells locks_say locks.list)) (locks_at (counts count)) es cache (row_locking page count)
+      rows_one (granted_in grants) (granted_in grants)
+      (locks_in locks) (locks_at (counts count)) es cache (row_locking page count)
       (λ k f n other there low high. (refl, counted_other (cells locks_say locks.list) (page_number cache page) count n (apart k f n other there low high)))
-      (λ f. row_counts (granted_at (cells granted_says grants.list)) (locks_at (cells locks_say locks.list)) cache page f
+      (λ f. row_counts (granted_in grants) (locks_in locks) cache page f
       (locks_at (counts count)) count
       (counted_here (cells locks_say locks.list) (page_number cache page) count)
       (counted_other (cells locks_say locks.list) (page_number cache page) count))
@@ -137,25 +137,25 @@ module _ (es : List (Option CacheEntry)) (grants : Stretches Granted) (locks : S
   before = row_locks (rows_of es grants locks) cache page
 
   here : row_at (rows_of es grants locks) cache
-      ≡ Some (row_by (granted_at (cells granted_says grants.list)) (locks_at (cells locks_say locks.list)) cache e)
-  here = row_there (granted_at (cells granted_says grants.list)) (locks_at (cells locks_say locks.list)) es cache e is
+      ≡ Some (row_by (granted_in grants) (locks_in locks) cache e)
+  here = row_there (granted_in grants) (locks_in locks) es cache e is
 
   -- what one page adds to the count of locked pages
   locked_with : (count : ℕ)
-      → sum_by row_locked (rows_by (granted_at (cells granted_says grants.list)) (locks_at (counts count)) 1 es)
+      → sum_by row_locked (rows_by (granted_in grants) (locks_at (counts count)) 1 es)
       + bit (row_locks (rows_of es grants locks) cache page)
       ≡ locked + bit count
   locked_with count =
-      let xs = values (locks_at (cells locks_say locks.list)) (page_number cache 0) e.pages in
+      let xs = values (locks_in locks) (page_number cache 0) e.pages in
       let less : page < length xs =
-      omega (arith, below, length_values (locks_at (cells locks_say locks.list)) (page_number cache 0) e.pages) in
+      omega (arith, below, length_values (locks_in locks) (page_number cache 0) e.pages) in
       let read : row_locks (rows_of es grants locks) cache page ≡ get_or xs page 0 =
       ap (λ (o : Option CacheRow). unwrap_or (option_and_then (λ r. slice_get r.locks page) o) 0) here
       ∙ ap (λ (o : Option ℕ). unwrap_or o 0) (slice_get-get_or xs page 0 less) in
       omega (
         arith,
         locking_counts map.empty (rows_of es grants locks) cache page count
-            (row_by (granted_at (cells granted_says grants.list)) (locks_at (cells locks_say locks.list)) cache e) here less,
+            (row_by (granted_in grants) (locks_in locks) cache e) here less,
         ap (sum_by row_locked) (rows_with count),
         ap bit read,
         right.counted,
@@ -172,7 +172,7 @@ module _ (es : List (Option CacheEntry)) (grants : Stretches Granted) (locks : S
       omega (
         arith,
         locked_with count,
-        locked_within (granted_at (cells granted_says grants.list)) (locks_at (counts count)) 1 es,
+        locked_within (granted_in grants) (locks_at (counts count)) 1 es,
         few_pages es grants locks pages capacity locked right,
         taken_fits,
       )
@@ -182,7 +182,7 @@ module _ (es : List (Option CacheEntry)) (grants : Stretches Granted) (locks : S
       (counted : IsCounted locks_say after) (places : after.places ≡ locks.places) where
     pub rows_locked : rows_of es grants after ≡ rows_changed (rows_of es grants locks) cache (row_locking page count)
     rows_locked =
-        ap (λ (m : FinMap nat_cmp LockCount). rows_by (granted_at (cells granted_says grants.list)) (locks_at m) 1 es) set
+        ap (λ (m : FinMap nat_cmp LockCount). rows_by (granted_in grants) (locks_at m) 1 es) set
         ∙ rows_with count
 
     pub right_locked : (now : ℕ)
@@ -208,6 +208,6 @@ module _ (es : List (Option CacheEntry)) (grants : Stretches Granted) (locks : S
             is_now,
             locked_with count,
             taken_fits,
-            ap (λ (m : FinMap nat_cmp LockCount). sum_by row_locked (rows_by (granted_at (cells granted_says grants.list)) (locks_at m) 1 es)) set,
+            ap (λ (m : FinMap nat_cmp LockCount). sum_by row_locked (rows_by (granted_in grants) (locks_at m) 1 es)) set,
           );
         }

@@ -1,5 +1,5 @@
 -- What is at numbers that follow one another.
-use Rattle.std.proofs.Common.{◌≡◌, ◌≢◌, ℕ, zero, suc, ◌+◌, ◌<◌, ◌≤◌, replicate, List, [], ◌∷◌, ◌++◌, length, set, Option, Some, None, slice_get, refl, ap, ◌∙◌, arith}
+use Rattle.std.proofs.Common.{◌≡◌, ◌≢◌, ℕ, zero, suc, ◌+◌, ◌<◌, ◌≤◌, replicate, [], ◌∷◌, ◌++◌, length, set, Some, None, slice_get, refl, ap, ◌∙◌, arith}
 use Rattle.local_cache.specs.CacheList.{values}
 
 module _ {X : Type 0} where

@@ -1,4 +1,4 @@
-use Rattle.std.proofs.Common.{List, Option, ℕ, is_some, ap, sym, subst, ◌∙◌}
+use Rattle.std.proofs.Common.{is_some, ap, sym, subst, ◌∙◌}
 use Rattle.stretches.proofs.Cells.{get_cells}
 use Rattle.stretches.specs.Stretches.{said}
 use Rattle.local_cache.specs.ArenaBy.{CacheRows}

@@ -1,6 +1,6 @@
-use Rattle.std.proofs.Common.{◌≡◌, ℕ, ◌+◌, ◌-◌, ◌<◌, ◌≤◌, ◌^◌, List, [], ◌∷◌, ◌++◌, length, Option, Some, ap, sym, subst, ◌∙◌, arith}
+use Rattle.std.proofs.Common.{◌≡◌, ◌+◌, ◌-◌, List, length, Option, ap, sym, subst, ◌∙◌, arith}
 use Rattle.local_cache.specs.declared.cache_list.CacheEntry.{CacheEntry}
-use Rattle.local_cache.specs.ArenaBy.{CacheRow, CacheRows}
+use Rattle.local_cache.specs.ArenaBy.{CacheRows}
 use Rattle.local_cache.specs.CacheList.{IsRight, rows_of}
 use Rattle.local_cache.specs.RowChanges.{with_row}
 use Rattle.local_cache.proofs.CacheList.Coming.{right_pushed, rows_pushed}

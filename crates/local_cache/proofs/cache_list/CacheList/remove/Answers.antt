@@ -1,14 +1,14 @@
-use Rattle.std.proofs.Common.{◌≡◌, ℕ, suc, ◌+◌, ◌-◌, ◌<◌, ◌≤◌, List, Option, Some, None, IsSome, is_some, get_or, set, ap, sym, subst, ◌∙◌, arith}
+use Rattle.std.proofs.Common.{◌≡◌, ℕ, suc, ◌+◌, ◌-◌, List, Option, Some, None, IsSome, is_some, get_or, set, ap, sym, subst, ◌∙◌, arith}
 use Rattle.std.specs.FinMap as map
 use Rattle.stretches.specs.Cells.{cells}
 use Rattle.local_cache.specs.declared.cache_list.CacheEntry.{CacheEntry}
-use Rattle.local_cache.specs.ArenaBy.{CacheRow, CacheRows}
+use Rattle.local_cache.specs.ArenaBy.{CacheRows}
 use Rattle.local_cache.specs.CacheList.{IsRight, entry_at, rows_of}
 use Rattle.local_cache.specs.NodeKeys.{page_number}
 use Rattle.local_cache.specs.PageMarks.{granted_says, locks_say}
 use Rattle.local_cache.specs.RowChanges.{row_at, row_pages, rows_without, without_row}
 use Rattle.local_cache.specs.Singles.{without_range}
-use Rattle.local_cache.proofs.CacheList.Coming.{Goes, enough_locked, enough_pages, gone_pages, gone_short, right_gone, rows_gone}
+use Rattle.local_cache.proofs.CacheList.Coming.{Goes, enough_locked, enough_pages, gone_pages, right_gone, rows_gone}
 use Rattle.local_cache.proofs.CacheList.Pages.{entry_index}
 use Rattle.local_cache.proofs.CacheList.Reading.{grants_fit, is_live, locks_fit}
 use Rattle.local_cache.proofs.cache_list.CacheList.remove.Goals as goal

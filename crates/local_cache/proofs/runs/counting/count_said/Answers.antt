@@ -1,4 +1,4 @@
-use Rattle.std.proofs.Common.{◌-◌, ◌∙◌, ap, inr, arith}
+use Rattle.std.proofs.Common.{◌-◌, ap, inr, arith}
 use Rattle.std.specs.FinMap as map
 use Rattle.stretches.specs.Cells.{cells}
 use Rattle.local_cache.specs.Singles.{without_range}

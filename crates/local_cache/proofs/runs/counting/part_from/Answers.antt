@@ -1,4 +1,4 @@
-use Rattle.std.proofs.Common.{◌∙◌, sym, arith}
+use Rattle.std.proofs.Common.{◌∙◌, arith}
 use Rattle.stretches.proofs.Cells.{get_cells}
 use Rattle.local_cache.proofs.CacheList.Counting.{none_said, part_said}
 use Rattle.local_cache.proofs.runs.counting.part_from.Goals as goal
