@@ -1,5 +1,5 @@
--- What the entries of caches stand for, with the grants and the locks of their pages, and what holds
--- of them.
+-- What the entries of caches stand for, with the grants and the locks of their pages, and what
+-- holds of them.
 use Rattle.std.specs.Prelude.{◌≡◌, ℕ, zero, suc, ◌+◌, ◌-◌, ◌<◌, ◌≤◌, ◌^◌, Bool, List, [], ◌∷◌, length, sum_by, Option, Some, None, IsSome, option_map, slice_index_or}
 use Rattle.std.specs.FinMap as map
 use Rattle.std.specs.Vec.{vec_len, vec_capacity}
