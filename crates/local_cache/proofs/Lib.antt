@@ -24,6 +24,8 @@ pub mod NodeCells
 pub mod NodeKeys
 -- What is written of one node.
 pub mod Writing
+-- The caches without their page nodes.
+pub mod CacheList
 -- A node placed in all lists, and taken out of them.
 pub mod Placing
 -- What holds of all lists and counters, after a change of one node.

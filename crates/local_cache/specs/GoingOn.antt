@@ -7,6 +7,7 @@ use Rattle.local_cache.specs.declared.runs.run.RunName.{RunName}
 use Rattle.local_cache.specs.declared.runs.run.RunName.TheVariants.{Pages, Working, EverySecond}
 use Rattle.local_cache.specs.declared.runs.thin_nodes.ThinNodes.{ThinNodes}
 use Rattle.local_cache.specs.declared.runs.thin_nodes.ThinNodes.TheVariants.{Each, EverySecond as EverySecondNode}
+use Rattle.local_cache.specs.PageMarks.{granted_says, locks_say}
 use Rattle.local_cache.specs.Records.{each}
 use Rattle.local_cache.specs.Runs.{HasNames, further, further_if, name_after, run}
 use Rattle.local_cache.specs.ThinNodes.{HasNodes, thin_after, thin_nodes}
@@ -86,6 +87,24 @@ each_goes_on =
       starts = λ r. refl;
       composes = λ r a b. refl;
       splits = λ r a b. (λ h. (tt, tt), λ h. tt);
+    }
+
+-- Grants and locks --------------------------------------------------------------
+
+pub granted_goes_on : GoesOn granted_says.after granted_says.lasts
+granted_goes_on =
+    record {
+      starts = λ v. refl;
+      composes = λ v a b. refl;
+      splits = λ v a b. (λ h. (tt, tt), λ h. tt);
+    }
+
+pub locks_go_on : GoesOn locks_say.after locks_say.lasts
+locks_go_on =
+    record {
+      starts = λ v. refl;
+      composes = λ v a b. refl;
+      splits = λ v a b. (λ h. (tt, tt), λ h. tt);
     }
 
 -- Thin nodes --------------------------------------------------------------------

@@ -1,5 +1,6 @@
 pub mod Arena
 pub mod ArenaBy
+pub mod CacheList
 pub mod Changes
 pub mod Codes
 pub mod GoingOn
@@ -14,6 +15,7 @@ pub mod NodeKeys
 pub mod NodeLists
 pub mod NodeRuns
 pub mod Own
+pub mod PageMarks
 pub mod PageNodes
 pub mod Placed
 pub mod Queue

@@ -11,12 +11,14 @@
 //! slab; `residency` and the crates of history trees and stubs stand on it.
 #![tactic(auto)]
 
+mod cache_list;
 mod caches;
 mod entry_heap;
 mod home;
 mod links;
 mod own_state;
 mod page_lists;
+mod page_marks;
 mod page_node;
 mod page_table;
 mod runs;
