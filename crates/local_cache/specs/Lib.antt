@@ -3,11 +3,8 @@ pub mod ArenaBy
 pub mod Changes
 pub mod Codes
 pub mod GoingOn
-pub mod Heap
 pub mod Home
 pub mod KeyRanges
-pub mod Layout
-pub mod Lists
 pub mod ManyNodes
 pub mod NodeCells
 pub mod NodeKeys
@@ -16,7 +13,6 @@ pub mod NodeRuns
 pub mod Own
 pub mod PageNodes
 pub mod Placed
-pub mod Queue
 pub mod Reading
 pub mod ReadingBy
 pub mod Records

@@ -11,22 +11,19 @@
 //! slab; `residency` and the crates of history trees and stubs stand on it.
 #![tactic(auto)]
 
+mod cache_list;
 mod caches;
-mod entry_heap;
 mod home;
 mod links;
 mod own_state;
-mod page_lists;
-mod page_node;
-mod page_table;
+mod page_entry;
 mod runs;
-mod thin_nodes;
 
 pub use caches::Caches;
 pub use home::Home;
 pub use links::Links;
 pub use own_state::OwnState;
-pub use page_table::PageEntry;
+pub use page_entry::PageEntry;
 
 #[cfg(test)]
 mod tests;
