@@ -21,6 +21,9 @@ use std::marker::Model;
 use vm_ids::{CacheId, Counts, NoMemory, NodeId, NodeName, PageNo, SegId};
 
 /// All page nodes and all caches.
+///
+/// Its model is `Arena` of `specs`: the nodes are those of the runs, and the table of a cache has the
+/// nodes that are found under the numbers of its pages.
 #[derive(Drop)]
 pub struct Caches {
     // the page nodes, of which alike ones stand as one run
@@ -82,8 +85,9 @@ impl Caches {
         Ok(())
     }
 
-    /// Makes a temporary cache of so many pages, each a page of zeros, and answers its number, which is one more than
-    /// caches were made before. It takes no memory: there has to be room for the cache, its nodes and its table.
+    /// Makes a temporary cache of so many pages, each a page of zeros, and answers its number, which is
+    /// one more than caches were made before. It takes no memory: there has to be room for the cache,
+    /// its nodes and its pages. The nodes are one run, so it takes no time for each page.
     pub fn make_temp(&mut self, pages: u32) -> CacheId
         requires number { length self.old.caches + 1 < 2 ^ 32 }
         requires caches { 1 ≤ self.old.room.caches }
@@ -99,8 +103,10 @@ impl Caches {
         self.make(None, PlainState::Zero, pages)
     }
 
-    /// Makes the cache of a segment of so many pages, each where the segment has it, and answers its number, which is one
-    /// more than caches were made before. It takes no memory: there has to be room for the cache, its nodes and its table.
+    /// Makes the cache of a segment of so many pages, each where the segment has it, and answers its
+    /// number, which is one more than caches were made before. It takes no memory: there has to be
+    /// room for the cache, its nodes and its pages. The nodes are one run, so it takes no time for each
+    /// page.
     pub fn make_named(&mut self, seg: SegId, pages: u32) -> CacheId
         requires number { length self.old.caches + 1 < 2 ^ 32 }
         requires caches { 1 ≤ self.old.room.caches }
@@ -116,8 +122,9 @@ impl Caches {
         self.make(Some(seg), PlainState::OnSegment, pages)
     }
 
-    /// Gives back a cache whose pages have no nodes any more, and with it the room for its pages, their grants and their
-    /// locks. Its number isn't used again. It takes time for its pages and for those of the caches that were made later.
+    /// Gives back a cache whose pages have no nodes any more, and with it the room for its pages, their
+    /// grants and their locks. Its number isn't used again. It takes time for the stretches of its
+    /// grants and locks, not for its pages.
     pub fn remove(&mut self, cache: CacheId)
         requires live { IsSome (table_of self.old cache.0) }
         requires retired { (page : ℕ) → node_at self.old cache.0 page ≡ None }
@@ -407,16 +414,16 @@ impl Caches {
         self.list.count_copy();
     }
 
-    /// The working node with the least number that has fewer than two children, tree children and stubs together, or
-    /// `None` exactly where there is none. It takes constant time: the calls that change a node keep these nodes in order,
-    /// in time logarithmic in their number.
+    /// The working node with the least number that has fewer than two children, tree children and stubs
+    /// together, or `None` exactly where there is none. It takes the time of two look-ups: the calls that
+    /// change a node keep these nodes in order.
     pub fn thin(&self) -> Option<NodeId>
         ensures { IsLeastThin self.now result }
     {
         self.nodes.thin()
     }
 
-    /// How many runs the nodes stand in: what they take in memory and, of many calls, in time.
+    /// How many runs the nodes stand in. Nodes that are alike stand as one run.
     pub fn runs(&self) -> usize {
         self.nodes.runs()
     }

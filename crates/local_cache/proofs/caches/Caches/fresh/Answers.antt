@@ -1,5 +1,5 @@
 use Rattle.vm_ids.specs.declared.node_name.NodeName.TheVariants.{Live}
-use Rattle.local_cache.proofs.ArenaBy.Seen.{Seen, fresh_call, may_seen, none_seen}
+use Rattle.local_cache.proofs.ArenaBy.Seen.{fresh_call, may_seen, none_seen}
 use Rattle.local_cache.proofs.Nodes.Cells.{held-new, stays-new}
 use Rattle.local_cache.proofs.caches.Caches.fresh.Goals as goal
 

@@ -1,6 +1,3 @@
-use Rattle.std.proofs.Common.{◌+◌}
-use Rattle.vm_ids.specs.declared.node_name.NodeName.TheVariants.{Working}
-use Rattle.local_cache.specs.declared.own_state.OwnState.TheVariants.{Absent}
 use Rattle.local_cache.proofs.ArenaBy.Seen.{none_seen, working_call}
 use Rattle.local_cache.proofs.Nodes.Cells.{held-working, stays-working}
 use Rattle.local_cache.proofs.caches.Caches.fresh_working.Goals as goal

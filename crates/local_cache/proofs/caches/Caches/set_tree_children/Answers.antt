@@ -1,4 +1,4 @@
-use Rattle.local_cache.proofs.ArenaBy.Seen.{Seen, held_seen, tree_call}
+use Rattle.local_cache.proofs.ArenaBy.Seen.{held_seen, tree_call}
 use Rattle.local_cache.proofs.Nodes.Cells.{stays-put}
 use Rattle.local_cache.proofs.caches.Caches.set_tree_children.Goals as goal
 
