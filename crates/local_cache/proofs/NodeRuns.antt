@@ -29,7 +29,7 @@ use Rattle.local_cache.specs.NodeKeys.{AreKeysOf, HasFreeName, HasKeys, Indexes,
 use Rattle.local_cache.specs.NodeLists.{AreEmpty, HasGrown, HasPlaced, HasTaken, paged}
 use Rattle.local_cache.specs.NodeRuns.{IsGiven, IsNumbered, IsRight, live_of, nodes_of}
 use Rattle.local_cache.specs.PageNodes.{IsLeastThin, node_at}
-use Rattle.local_cache.specs.Queue.{thin_number}
+use Rattle.local_cache.specs.Thin.{thin_number}
 use Rattle.local_cache.specs.Records.{each}
 use Rattle.local_cache.specs.Runs.{first_name, run}
 use Rattle.local_cache.specs.Singles.{IsCounted}

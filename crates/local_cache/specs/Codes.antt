@@ -13,7 +13,7 @@ use Rattle.vm_ids.specs.declared.numbers.SlotId.{SlotId}
 use Rattle.local_cache.specs.declared.links.Links.{Links}
 use Rattle.local_cache.specs.declared.own_state.OwnState.{OwnState}
 use Rattle.local_cache.specs.declared.own_state.OwnState.TheVariants.{Absent, Zero, Resident, Slot, OnSegment}
-use Rattle.local_cache.specs.declared.page_table.PageEntry.{PageEntry}
+use Rattle.local_cache.specs.declared.page_entry.PageEntry.{PageEntry}
 use Rattle.vm_ids.specs.Forest.Codes.{name_code}
 use Rattle.local_cache.specs.Arena.{Arena, Cell, Room, Table}
 use Rattle.local_cache.specs.ArenaBy.{CacheRow, CacheRows}

@@ -4,11 +4,8 @@ pub mod CacheList
 pub mod Changes
 pub mod Codes
 pub mod GoingOn
-pub mod Heap
 pub mod Home
 pub mod KeyRanges
-pub mod Layout
-pub mod Lists
 pub mod ManyNodes
 pub mod NodeCells
 pub mod NodeKeys
@@ -18,7 +15,6 @@ pub mod Own
 pub mod PageMarks
 pub mod PageNodes
 pub mod Placed
-pub mod Queue
 pub mod Reading
 pub mod ReadingBy
 pub mod Records

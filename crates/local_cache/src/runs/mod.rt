@@ -9,8 +9,6 @@
 //!
 //! Nodes of pages and nodes made as working ones have two series of numbers. Each rises, so that
 //! nodes made one behind the other can stand in one run.
-//!
-//! `Caches` doesn't stand on this yet.
 mod adapting;
 mod alike;
 mod clearing;
