@@ -1,18 +1,17 @@
 // Frames are gathered, with the bytes that they need, before anything changes.
 ghost use Rattle.std.specs.Prelude.{◌≡◌, ◌≢◌, ℕ, ◌+◌, ◌<◌, ◌≤◌, true, false, length, Some, IfErr, IfOk, OnErr, OnOk, slice_set};
-ghost use Rattle.frame_pool.specs.Pool.{held_count, is_held};
+ghost use Rattle.frame_pool.specs.Pool.{is_held};
 ghost use Rattle.global_map.specs.Pairs.{node_of};
 ghost use Rattle.local_cache.specs.Own.{own_of};
-ghost use Rattle.residency.specs.Causes.{HasMissCause, Later, PushFailed, frames_to_bring, pushes_for};
+ghost use Rattle.residency.specs.Causes.{HasMissCause, PushFailed, frames_to_bring};
 ghost use Rattle.residency.specs.Between.{Across, Between, RightStore};
 ghost use Rattle.residency.specs.Frames.{with_held, with_pinned};
-ghost use Rattle.residency.specs.Pushing.{TellsOn};
 ghost use Rattle.residency.specs.World.{FrameStays, HasOwnPage};
-ghost use Rattle.fault_path.specs.Costs.{HoldsMore, Pulls, Takes, TakesAtMost, frames_to_copy, pulls_to_copy};
+ghost use Rattle.fault_path.specs.Costs.{frames_to_copy, pulls_to_copy};
 ghost use Rattle.fault_path.specs.Faults.{HasLoose};
 ghost use Rattle.residency.specs.Translating.{Drops};
 ghost use Rattle.fault_path.specs.Translating.{Nobody};
-ghost use Rattle.fault_path.specs.Gathering.{IsCopiedOut, IsDoubled, IsGathered, NoneGathered};
+ghost use Rattle.fault_path.specs.Gathering.{Gathers, IsCopiedOut, IsDoubled, IsGathered};
 
 use local_cache::{Caches, OwnState};
 use residency::{Miss, Store};
@@ -35,16 +34,9 @@ fn make_free_beside<M: Mapper, C: Chooser>(
     ensures apart { IfOk result (λ f. f.0 ≢ frame.0) }
     ensures stays { OnOk result (Between (FrameStays frame.0) M.held M.page_bytes
         mapper.old caches.old store.old mapper.new caches.new store.new) }
-    ensures none { OnErr result (Between NoneGathered M.held M.page_bytes
-        mapper.old caches.old store.old mapper.new caches.new store.new) }
-    ensures told { Across TellsOn M.held M.page_bytes M.counts
+    ensures gathers { Across (Gathers result 0 1) M.held M.page_bytes M.counts
         mapper.old caches.old store.old mapper.new caches.new store.new }
     ensures drops { Drops Nobody caches.old store.old caches.new store.new }
-    ensures later { Later (M.counts mapper.old) (M.counts mapper.new) }
-    ensures held { OnOk result (held_count store.new.frames + pushes_for store.old.frames.held
-        ≡ held_count store.old.frames + 1) }
-    ensures traffic { Pulls 0 (pushes_for store.old.frames.held)
-        (M.counts mapper.old) (M.counts mapper.new) }
     ensures cause { OnErr result (PushFailed (M.counts mapper.old) (M.counts mapper.new)) }
 {
     if store.frames().is_pinned(frame) {
@@ -69,16 +61,9 @@ pub(crate) fn double<M: Mapper, C: Chooser>(
     requires loose { HasLoose 2 store.old.frames }
     ensures doubled { IfOk result (λ f. Between (IsDoubled frame.0 f.0) M.held M.page_bytes
         mapper.old caches.old store.old mapper.new caches.new store.new) }
-    ensures none { OnErr result (Between NoneGathered M.held M.page_bytes
-        mapper.old caches.old store.old mapper.new caches.new store.new) }
-    ensures told { Across TellsOn M.held M.page_bytes M.counts
+    ensures gathers { Across (Gathers result 0 1) M.held M.page_bytes M.counts
         mapper.old caches.old store.old mapper.new caches.new store.new }
     ensures drops { Drops Nobody caches.old store.old caches.new store.new }
-    ensures later { Later (M.counts mapper.old) (M.counts mapper.new) }
-    ensures held { OnOk result (held_count store.new.frames + pushes_for store.old.frames.held
-        ≡ held_count store.old.frames + 1) }
-    ensures traffic { Pulls 0 (pushes_for store.old.frames.held)
-        (M.counts mapper.old) (M.counts mapper.new) }
     ensures cause { OnErr result (PushFailed (M.counts mapper.old) (M.counts mapper.new)) }
 {
     let fresh = make_free_beside(store, caches, frame, mapper, chooser)?;
@@ -99,16 +84,9 @@ fn zeroed<M: Mapper, C: Chooser>(
     requires loose { HasLoose 2 store.old.frames }
     ensures copied { IfOk result (λ f. Between (IsCopiedOut node f.0) M.held M.page_bytes
         mapper.old caches.old store.old mapper.new caches.new store.new) }
-    ensures none { OnErr result (Between NoneGathered M.held M.page_bytes
-        mapper.old caches.old store.old mapper.new caches.new store.new) }
-    ensures told { Across TellsOn M.held M.page_bytes M.counts
+    ensures gathers { Across (Gathers result 0 1) M.held M.page_bytes M.counts
         mapper.old caches.old store.old mapper.new caches.new store.new }
     ensures drops { Drops Nobody caches.old store.old caches.new store.new }
-    ensures later { Later (M.counts mapper.old) (M.counts mapper.new) }
-    ensures held { OnOk result (held_count store.new.frames + pushes_for store.old.frames.held
-        ≡ held_count store.old.frames + 1) }
-    ensures traffic { Pulls 0 (pushes_for store.old.frames.held)
-        (M.counts mapper.old) (M.counts mapper.new) }
     ensures cause { IfErr result (HasMissCause (M.counts mapper.old) (M.counts mapper.new)) }
 {
     let Ok(fresh) = store.make_free(caches, mapper, chooser) else {
@@ -131,20 +109,11 @@ fn brought_out<M: Mapper, C: Chooser>(
     requires loose { HasLoose 2 store.old.frames }
     ensures copied { IfOk result (λ f. Between (IsCopiedOut node f.0) M.held M.page_bytes
         mapper.old caches.old store.old mapper.new caches.new store.new) }
-    ensures none { OnErr result (Between NoneGathered M.held M.page_bytes
-        mapper.old caches.old store.old mapper.new caches.new store.new) }
-    ensures told { Across TellsOn M.held M.page_bytes M.counts
+    ensures gathers { Across (Gathers result
+        (pulls_to_copy (own_of caches.old node)) (frames_to_bring (own_of caches.old node) + 1))
+        M.held M.page_bytes M.counts
         mapper.old caches.old store.old mapper.new caches.new store.new }
     ensures drops { Drops (λ n. n ≡ node) caches.old store.old caches.new store.new }
-    ensures later { Later (M.counts mapper.old) (M.counts mapper.new) }
-    ensures held { OnOk result (HoldsMore (frames_to_bring (own_of caches.old node) + 1)
-        store.old.frames store.new.frames) }
-    ensures traffic { OnOk result (Takes
-        (pulls_to_copy (own_of caches.old node)) (frames_to_bring (own_of caches.old node) + 1)
-        store.old.frames (M.counts mapper.old) (M.counts mapper.new)) }
-    ensures most { TakesAtMost
-        (pulls_to_copy (own_of caches.old node)) (frames_to_bring (own_of caches.old node) + 1)
-        store.old.frames (M.counts mapper.old) (M.counts mapper.new) }
     ensures cause { IfErr result (HasMissCause (M.counts mapper.old) (M.counts mapper.new)) }
 {
     let home = store.bring_in(caches, node, mapper, chooser)?;
@@ -167,20 +136,11 @@ pub(crate) fn copy_out<M: Mapper, C: Chooser>(
     requires loose { HasLoose 2 store.old.frames }
     ensures copied { IfOk result (λ f. Between (IsCopiedOut node f.0) M.held M.page_bytes
         mapper.old caches.old store.old mapper.new caches.new store.new) }
-    ensures none { OnErr result (Between NoneGathered M.held M.page_bytes
-        mapper.old caches.old store.old mapper.new caches.new store.new) }
-    ensures told { Across TellsOn M.held M.page_bytes M.counts
+    ensures gathers { Across (Gathers result
+        (pulls_to_copy (own_of caches.old node)) (frames_to_copy (own_of caches.old node)))
+        M.held M.page_bytes M.counts
         mapper.old caches.old store.old mapper.new caches.new store.new }
     ensures drops { Drops (λ n. n ≡ node) caches.old store.old caches.new store.new }
-    ensures later { Later (M.counts mapper.old) (M.counts mapper.new) }
-    ensures held { OnOk result (HoldsMore (frames_to_copy (own_of caches.old node))
-        store.old.frames store.new.frames) }
-    ensures traffic { OnOk result (Takes
-        (pulls_to_copy (own_of caches.old node)) (frames_to_copy (own_of caches.old node))
-        store.old.frames (M.counts mapper.old) (M.counts mapper.new)) }
-    ensures most { TakesAtMost
-        (pulls_to_copy (own_of caches.old node)) (frames_to_copy (own_of caches.old node))
-        store.old.frames (M.counts mapper.old) (M.counts mapper.new) }
     ensures cause { IfErr result (HasMissCause (M.counts mapper.old) (M.counts mapper.new)) }
 {
     match caches.own_state(node) {

@@ -14,8 +14,8 @@ ghost use Rattle.residency.specs.Between.{Across, Between};
 ghost use Rattle.residency.specs.World.{HasOwnPage};
 ghost use Rattle.residency.specs.Seeing.{IsAlone};
 ghost use Rattle.residency.specs.Translating.{Drops};
-ghost use Rattle.fault_path.specs.Translating.{MayCome, without_homes};
-ghost use Rattle.fault_path.specs.Answers.{IsAnswered, IsFramed, IsMissed, RightForest};
+ghost use Rattle.fault_path.specs.Translating.{LeavesHomes, MayCome};
+ghost use Rattle.fault_path.specs.Answers.{IsAnswered, IsDoneOrMissed, IsFramed, IsMissed, RightForest};
 ghost use Rattle.fault_path.specs.Costs.{Takes, TakesAtMost, frames_to_copy, frames_to_save, frames_to_write, heirs_to_save, pulls_to_copy, pulls_to_save, pulls_to_write};
 ghost use Rattle.fault_path.specs.Faults.{Follows, HasLoose, IsHeirOf, IsOwner, MayWrite, StaysHome, readied};
 
@@ -78,16 +78,11 @@ fn own_framed<M: Mapper, C: Chooser>(
     requires bare { own_of caches.old node ≡ OwnState.Absent }
     requires loose { HasLoose 2 store.old.frames }
     requires copies { caches.old.copies < 2 ^ 63 }
-    ensures answered { Across IsAnswered M.held M.page_bytes M.counts
+    ensures owned { Across (IsDoneOrMissed result (λ f. IsFramed forest.own node f.0))
+        M.held M.page_bytes M.counts
         mapper.old caches.old store.old mapper.new caches.new store.new }
-    ensures owned { IfOk result (λ f. Between (IsFramed forest.own node f.0) M.held M.page_bytes
-        mapper.old caches.old store.old mapper.new caches.new store.new) }
-    ensures missed { IfErr result (λ miss. Across (IsMissed miss) M.held M.page_bytes M.counts
-        mapper.old caches.old store.old mapper.new caches.new store.new) }
-    ensures drops { (o : NodeId) → IsOwner caches.old node o → OnOk result (Drops
-        (MayCome caches.old o) caches.old store.old caches.new (without_homes o node store.new)) }
-    ensures missed_drops { (o : NodeId) → IsOwner caches.old node o → OnErr result (Drops
-        (MayCome caches.old o) caches.old store.old caches.new store.new) }
+    ensures drops { (o : NodeId) → IsOwner caches.old node o →
+        LeavesHomes result o node caches.old store.old caches.new store.new }
     ensures copies { OnOk result (caches.new.copies ≡ caches.old.copies + 1) }
     ensures traffic { (o : NodeId) → IsOwner caches.old node o → OnOk result (Takes
         (pulls_to_copy (own_of caches.old o)) (frames_to_copy (own_of caches.old o))
@@ -147,17 +142,11 @@ fn save_to_heir<M: Mapper, C: Chooser>(
     requires live { is_live (name_of caches.old node) ≡ true }
     requires loose { HasLoose 2 store.old.frames }
     requires copies { caches.old.copies < 2 ^ 63 }
-    ensures answered { Across IsAnswered M.held M.page_bytes M.counts
+    ensures handed { Across
+        (IsDoneOrMissed result (λ _. Follows forest.heir_gets (name_of caches.old node)))
+        M.held M.page_bytes M.counts
         mapper.old caches.old store.old mapper.new caches.new store.new }
-    ensures forest { OnOk result (
-        Between (Follows forest.heir_gets (name_of caches.old node)) M.held M.page_bytes
-        mapper.old caches.old store.old mapper.new caches.new store.new) }
-    ensures missed { IfErr result (λ miss. Across (IsMissed miss) M.held M.page_bytes M.counts
-        mapper.old caches.old store.old mapper.new caches.new store.new) }
-    ensures drops { OnOk result (Drops (MayCome caches.old node)
-        caches.old store.old caches.new (without_homes node node store.new)) }
-    ensures missed_drops { OnErr result (Drops (MayCome caches.old node)
-        caches.old store.old caches.new store.new) }
+    ensures drops { LeavesHomes result node node caches.old store.old caches.new store.new }
     ensures copies { OnOk result (caches.new.copies ≤ caches.old.copies + 1) }
     ensures traffic { OnOk result (Takes
         (pulls_to_save caches.old node) (frames_to_save caches.old node)
@@ -185,18 +174,12 @@ fn hand_over<M: Mapper, C: Chooser>(
     requires is { IsHeirOf caches.old node next }
     requires loose { HasLoose 2 store.old.frames }
     requires copies { caches.old.copies < 2 ^ 63 }
-    ensures answered { Across IsAnswered M.held M.page_bytes M.counts
+    ensures handed { Across
+        (IsDoneOrMissed result (λ _. Follows forest.heir_gets (name_of caches.old node)))
+        M.held M.page_bytes M.counts
         mapper.old caches.old store.old mapper.new caches.new store.new }
-    ensures forest { OnOk result (
-        Between (Follows forest.heir_gets (name_of caches.old node)) M.held M.page_bytes
-        mapper.old caches.old store.old mapper.new caches.new store.new) }
-    ensures missed { IfErr result (λ miss. Across (IsMissed miss) M.held M.page_bytes M.counts
-        mapper.old caches.old store.old mapper.new caches.new store.new) }
     ensures home { OnOk result (StaysHome node store.old.map store.new.map) }
-    ensures drops { OnOk result (Drops (MayCome caches.old node)
-        caches.old store.old caches.new (without_homes node node store.new)) }
-    ensures missed_drops { OnErr result (Drops (MayCome caches.old node)
-        caches.old store.old caches.new store.new) }
+    ensures drops { LeavesHomes result node node caches.old store.old caches.new store.new }
     ensures copies { OnOk result (caches.new.copies ≡ caches.old.copies + 1) }
     ensures traffic { OnOk result (Takes
         (pulls_to_copy (own_of caches.old node)) (frames_to_copy (own_of caches.old node))
@@ -265,16 +248,11 @@ fn make_ready<M: Mapper, C: Chooser>(
     requires granted { MayWrite caches.old node }
     requires loose { HasLoose 3 store.old.frames }
     requires copies { caches.old.copies + 1 < 2 ^ 63 }
-    ensures answered { Across IsAnswered M.held M.page_bytes M.counts
+    ensures ready { Across (IsDoneOrMissed result (λ f. IsFramed readied node f.0))
+        M.held M.page_bytes M.counts
         mapper.old caches.old store.old mapper.new caches.new store.new }
-    ensures ready { IfOk result (λ f. Between (IsFramed readied node f.0) M.held M.page_bytes
-        mapper.old caches.old store.old mapper.new caches.new store.new) }
-    ensures missed { IfErr result (λ miss. Across (IsMissed miss) M.held M.page_bytes M.counts
-        mapper.old caches.old store.old mapper.new caches.new store.new) }
-    ensures drops { (o : NodeId) → IsOwner caches.old node o → OnOk result (Drops
-        (MayCome caches.old o) caches.old store.old caches.new (without_homes o node store.new)) }
-    ensures missed_drops { (o : NodeId) → IsOwner caches.old node o → OnErr result (Drops
-        (MayCome caches.old o) caches.old store.old caches.new store.new) }
+    ensures drops { (o : NodeId) → IsOwner caches.old node o →
+        LeavesHomes result o node caches.old store.old caches.new store.new }
     ensures copies { OnOk result (caches.new.copies ≤ caches.old.copies + 2) }
     ensures traffic { (o : NodeId) → IsOwner caches.old node o → OnOk result (Takes
         (pulls_to_write caches.old node o) (frames_to_write caches.old node o)
@@ -311,16 +289,11 @@ fn own_and_hand<M: Mapper, C: Chooser>(
     requires is { IsHeirOf caches.old node next }
     requires loose { HasLoose 3 store.old.frames }
     requires copies { caches.old.copies + 1 < 2 ^ 63 }
-    ensures answered { Across IsAnswered M.held M.page_bytes M.counts
+    ensures ready { Across (IsDoneOrMissed result (λ f. IsFramed readied node f.0))
+        M.held M.page_bytes M.counts
         mapper.old caches.old store.old mapper.new caches.new store.new }
-    ensures ready { IfOk result (λ f. Between (IsFramed readied node f.0) M.held M.page_bytes
-        mapper.old caches.old store.old mapper.new caches.new store.new) }
-    ensures missed { IfErr result (λ miss. Across (IsMissed miss) M.held M.page_bytes M.counts
-        mapper.old caches.old store.old mapper.new caches.new store.new) }
-    ensures drops { (o : NodeId) → IsOwner caches.old node o → OnOk result (Drops
-        (MayCome caches.old o) caches.old store.old caches.new (without_homes o node store.new)) }
-    ensures missed_drops { (o : NodeId) → IsOwner caches.old node o → OnErr result (Drops
-        (MayCome caches.old o) caches.old store.old caches.new store.new) }
+    ensures drops { (o : NodeId) → IsOwner caches.old node o →
+        LeavesHomes result o node caches.old store.old caches.new store.new }
     ensures copies { OnOk result (caches.new.copies ≡ caches.old.copies + 2) }
     ensures traffic { (o : NodeId) → IsOwner caches.old node o → OnOk result (Takes
         (pulls_to_copy (own_of caches.old o)) (frames_to_copy (own_of caches.old o) + 1)
@@ -356,16 +329,10 @@ fn hand_own<M: Mapper, C: Chooser>(
     requires granted { MayWrite caches.old node }
     requires loose { HasLoose 2 store.old.frames }
     requires copies { caches.old.copies < 2 ^ 63 }
-    ensures answered { Across IsAnswered M.held M.page_bytes M.counts
+    ensures ready { Across (IsDoneOrMissed result (λ f. IsFramed readied node f.0))
+        M.held M.page_bytes M.counts
         mapper.old caches.old store.old mapper.new caches.new store.new }
-    ensures ready { IfOk result (λ f. Between (IsFramed readied node f.0) M.held M.page_bytes
-        mapper.old caches.old store.old mapper.new caches.new store.new) }
-    ensures missed { IfErr result (λ miss. Across (IsMissed miss) M.held M.page_bytes M.counts
-        mapper.old caches.old store.old mapper.new caches.new store.new) }
-    ensures drops { OnOk result (Drops (MayCome caches.old node)
-        caches.old store.old caches.new (without_homes node node store.new)) }
-    ensures missed_drops { OnErr result (Drops (MayCome caches.old node)
-        caches.old store.old caches.new store.new) }
+    ensures drops { LeavesHomes result node node caches.old store.old caches.new store.new }
     ensures copies { OnOk result (caches.new.copies ≡ caches.old.copies + 1) }
     ensures traffic { OnOk result (Takes
         (pulls_to_copy (own_of caches.old node)) (frames_to_bring (own_of caches.old node) + 1)
@@ -391,16 +358,10 @@ fn bring_dirty<M: Mapper, C: Chooser>(
     requires none { forest.heir (forest_of caches.old) (name_of caches.old node) ≡ None }
     requires granted { MayWrite caches.old node }
     requires loose { HasLoose 2 store.old.frames }
-    ensures answered { Across IsAnswered M.held M.page_bytes M.counts
+    ensures ready { Across (IsDoneOrMissed result (λ f. IsFramed readied node f.0))
+        M.held M.page_bytes M.counts
         mapper.old caches.old store.old mapper.new caches.new store.new }
-    ensures ready { IfOk result (λ f. Between (IsFramed readied node f.0) M.held M.page_bytes
-        mapper.old caches.old store.old mapper.new caches.new store.new) }
-    ensures missed { IfErr result (λ miss. Across (IsMissed miss) M.held M.page_bytes M.counts
-        mapper.old caches.old store.old mapper.new caches.new store.new) }
-    ensures drops { OnOk result (Drops (MayCome caches.old node)
-        caches.old store.old caches.new (without_homes node node store.new)) }
-    ensures missed_drops { OnErr result (Drops (MayCome caches.old node)
-        caches.old store.old caches.new store.new) }
+    ensures drops { LeavesHomes result node node caches.old store.old caches.new store.new }
     ensures copies { OnOk result (caches.new.copies ≡ caches.old.copies) }
     ensures traffic { OnOk result (Takes
         (pulls_to_copy (own_of caches.old node)) (frames_to_bring (own_of caches.old node))

@@ -4,11 +4,15 @@ use Rattle.residency.specs.declared.store.Store.{Store}
 use Rattle.residency.specs.World.{World, world}
 use Rattle.residency.proofs.Worlds.Homes.{home}
 use Rattle.residency.proofs.Pushes.Told.{tells_then}
+use Rattle.residency.proofs.Worlds.Composed.{still_then}
+use Rattle.frame_pool.specs.Pool.{Frames}
+use Rattle.fault_path.proofs.Calls.Answered.{later_then}
+use Rattle.fault_path.proofs.Calls.Gathered.{done_gathers, failed_gathers}
 use Rattle.fault_path.proofs.Frames.GatheredFrames.{bound_below, doubled_page, same_home, then_gathered}
 use Rattle.local_cache.specs.declared.own_state.OwnState.{OwnState}
 use Rattle.local_cache.specs.Own.{own_of}
 use Rattle.residency.specs.Causes.{frames_to_bring}
-use Rattle.fault_path.proofs.Calls.Costs.{brought_more, brought_taken, failed_most, most_more, pulls_most, taken_then}
+use Rattle.fault_path.proofs.Calls.Costs.{brought_more, brought_most, brought_taken, failed_most, most_more, taken_then}
 use Rattle.residency.proofs.Translations.Kept.{drops_trans, still_drops_but}
 use Rattle.fault_path.specs.Translating.{Nobody}
 use Rattle.fault_path.proofs.gathering.brought_out.Goals as goal
@@ -34,51 +38,38 @@ returns-clause-copied g c =
           ap (λ (j : ℕ). node_of c.double.new.store.map j) is ∙ e.stays.node ∙ b.home.1;
     }
 
-pub returns-clause-held : goal.returns-clause-held
-returns-clause-held g c =
+pub returns-clause-gathers : goal.returns-clause-gathers
+returns-clause-gathers g c =
+    let own : OwnState = own_of c.args.caches.now c.args.node in
+    let was : Frames = c.args.store.now.frames in
+    let mid : Frames = c.bring_in.new.self.frames in
+    let b = c.in_ok-home.ensures in
+    let e = c.in-Ok.ensures.gathers in
+    let same = b.still.stays.frames in
+    done_gathers _ _ _ _ _ _ (tells_then _ _ b.still.stays _ _ _ _ e.later b.told e.told) (later_then _ _ _ b.later e.later) _
+    (taken_then (frames_to_bring own) was.held mid.held c.double.new.store.frames.held same (brought_taken own was mid _ _ same b.held _ b.traffic b.few) e.held)
+    (brought_more own was mid _ _ same b.held _ b.traffic b.few _ e.traffic e.later)
+
+pub returns-in_default-clause-gathers : goal.returns-in_default-clause-gathers
+returns-in_default-clause-gathers g c =
     let own : OwnState = own_of c.args.caches.now c.args.node in
     let b = c.in_ok-home.ensures in
-    let first = b.still in
-    let taken = brought_taken own c.args.store.now.frames c.bring_in.new.self.frames _ _ first.stays.frames b.held _ b.traffic b.few in
-    taken_then (frames_to_bring own) c.args.store.now.frames.held c.bring_in.new.self.frames.held c.double.new.store.frames.held first.stays.frames taken c.in-Ok.ensures.held
+    let e = c.in_default.ensures.gathers in
+    record {
+      none = record { still = still_then _ _ _ b.still e.none.still; pinned = e.none.pinned ∙ b.pinned };
+      told = tells_then _ _ b.still.stays _ _ _ _ e.later b.told e.told;
+      later = later_then _ _ _ b.later e.later;
+      held = tt;
+      traffic = tt;
+      most = brought_most own c.args.store.now.frames c.bring_in.new.self.frames _ _ b.still.stays.frames b.held _ b.traffic b.few _ e.most e.later;
+    }
 
-pub returns-clause-traffic : goal.returns-clause-traffic
-returns-clause-traffic g c =
-    let own : OwnState = own_of c.args.caches.now c.args.node in
-    let b = c.in_ok-home.ensures in
-    let first = b.still in
-    brought_more own c.args.store.now.frames c.bring_in.new.self.frames _ _ first.stays.frames b.held _ b.traffic b.few _ c.double.ensures.traffic c.double.ensures.later
-
-pub returns-clause-most : goal.returns-clause-most
-returns-clause-most g c =
-    let own : OwnState = own_of c.args.caches.now c.args.node in
-    let b = c.in_ok-home.ensures in
-    let first = b.still in
-    pulls_most _ _ _ _ _ _ (brought_more own c.args.store.now.frames c.bring_in.new.self.frames _ _ first.stays.frames b.held _ b.traffic b.few _ c.double.ensures.traffic c.double.ensures.later) (omega arith) (omega arith)
-
-pub returns-in_default-clause-most : goal.returns-in_default-clause-most
-returns-in_default-clause-most g c =
-    let own : OwnState = own_of c.args.caches.now c.args.node in
-    let b = c.in_ok-home.ensures in
-    let first = b.still in
-    pulls_most _ _ _ _ _ _ (brought_more own c.args.store.now.frames c.bring_in.new.self.frames _ _ first.stays.frames b.held _ b.traffic b.few _ c.double.ensures.traffic c.double.ensures.later) (omega arith) (omega arith)
-
-pub returns-in_err-home-clause-most : goal.returns-in_err-home-clause-most
-returns-in_err-home-clause-most g c =
+pub returns-in_err-home-clause-gathers : goal.returns-in_err-home-clause-gathers
+returns-in_err-home-clause-gathers g c =
     let own : OwnState = own_of c.args.caches.now c.args.node in
     let e = c.in_err-home.ensures in
     let most = failed_most own c.args.store.now.frames _ _ _ _ e.traffic e.few in
-    most_more _ _ _ _ _ _ most (omega arith) (omega arith)
-
-pub returns-clause-told : goal.returns-clause-told
-returns-clause-told g c =
-    let b = c.in_ok-home.ensures in
-    tells_then _ _ b.still.stays _ _ _ _ c.double.ensures.later b.told c.double.ensures.told
-
-pub returns-in_default-clause-told : goal.returns-in_default-clause-told
-returns-in_default-clause-told g c =
-    let b = c.in_ok-home.ensures in
-    tells_then _ _ b.still.stays _ _ _ _ c.double.ensures.later b.told c.double.ensures.told
+    failed_gathers _ _ _ _ _ _ e.told e.later _ c.from_residual.result c.from_residual.ensures.1 (record { still = e.still; pinned = e.pinned }) (most_more _ _ _ _ _ _ most (omega arith) (omega arith))
 
 pub returns-clause-drops : goal.returns-clause-drops
 returns-clause-drops g c =

@@ -3,7 +3,11 @@ use Rattle.local_cache.specs.Own.{is_resident}
 use Rattle.residency.specs.declared.store.Store.{Store}
 use Rattle.residency.specs.World.{World, world}
 use Rattle.residency.proofs.Worlds.Homes.{home}
-use Rattle.fault_path.specs.Gathering.{IsGathered}
+use Rattle.fault_path.specs.Gathering.{Gathers, IsGathered}
+use Rattle.residency.proofs.Pushes.Told.{tells_as}
+use Rattle.residency.specs.declared.miss.Miss.{Miss}
+use Rattle.fault_path.proofs.Calls.Gathered.{one_gathers}
+use Rattle.std.proofs.Common.{Ok}
 use Rattle.fault_path.proofs.Frames.GatheredFrames.{bound_below, filled_gathered, free_gathered}
 use Rattle.residency.proofs.Translations.Kept.{drops_by, still_drops}
 use Rattle.fault_path.specs.Translating.{Nobody}
@@ -24,6 +28,20 @@ returns-clause-copied g c =
           let no : true ≡ false = sym here.resident ∙ ap is_resident c.requires.zero in
           cc no);
     }
+
+pub returns-clause-gathers : goal.returns-clause-gathers
+returns-clause-gathers g c =
+    let old : World = world (g.M.Mapper.held c.args.mapper.now) (g.M.Mapper.page_bytes c.args.mapper.now) c.args.caches.now c.args.store.now in
+    let told = g.M.Mapper.held c.make_free.new.mapper in
+    let size = g.M.Mapper.page_bytes c.make_free.new.mapper in
+    let e = c.make_free.ensures in
+    subst (λ (s : Store). Gathers {E = Miss} (Ok c.in-Ok.fresh) 0 1 old (world told size c.make_free.new.caches s) (g.M.Mapper.counts c.args.mapper.now) (g.M.Mapper.counts c.make_free.new.mapper)) (sym c.zero.ensures)
+    (one_gathers (Ok c.in-Ok.fresh) old _ _ _ tt (tells_as _ _ _ _ _ refl e.told) e.later c.in-Ok.ensures.held _ e.traffic e.few)
+
+pub returns-in_default-clause-gathers : goal.returns-in_default-clause-gathers
+returns-in_default-clause-gathers g c =
+    let e = c.make_free.ensures in
+    one_gathers _ _ _ _ _ (record { still = e.still; pinned = c.in_default.ensures.pinned }) e.told e.later tt _ e.traffic e.few
 
 pub returns-clause-drops : goal.returns-clause-drops
 returns-clause-drops g c =
