@@ -5,7 +5,6 @@ use Rattle.residency.specs.World.{World, world}
 use Rattle.residency.proofs.Worlds.Homes.{home}
 use Rattle.residency.proofs.Pushes.Told.{tells_then}
 use Rattle.residency.proofs.Worlds.Composed.{still_then}
-use Rattle.frame_pool.specs.Pool.{Frames}
 use Rattle.fault_path.proofs.Calls.Answered.{later_then}
 use Rattle.fault_path.proofs.Calls.Gathered.{done_gathers, failed_gathers}
 use Rattle.fault_path.proofs.Frames.GatheredFrames.{bound_below, doubled_page, same_home, then_gathered}
@@ -22,40 +21,34 @@ returns-clause-copied g c =
     let old : World = world (g.M.Mapper.held c.args.mapper.now) (g.M.Mapper.page_bytes c.args.mapper.now) c.args.caches.now c.args.store.now in
     let v : World = world (g.M.Mapper.held c.bring_in.new.mapper) (g.M.Mapper.page_bytes c.bring_in.new.mapper) c.bring_in.new.caches c.bring_in.new.self in
     let w : World = world (g.M.Mapper.held c.double.new.mapper) (g.M.Mapper.page_bytes c.double.new.mapper) c.double.new.caches c.double.new.store in
-    let e = c.in-Ok.ensures.doubled in
-    let k = e.gathered in
+    let own : OwnState = own_of c.args.caches.now c.args.node in
     let b = c.in_ok-home.ensures in
     let first = b.still in
+    let same = first.stays.frames in
+    let e = c.in-Ok.ensures.doubled in
+    let d = e.done in
+    let k = d.gathered in
     let within : c.in_ok-home.home.0 < length w.map = omega (arith, b.home.0, first.stays.right.tied.fitted.map_frames, k.still.stays.right.tied.fitted.map_frames, k.still.stays.frames) in
-    record {
+    done_gathers _ _ old w _ _ (tells_then _ _ first.stays _ _ _ _ e.later b.told e.told) (later_then _ _ _ b.later e.later) _ (record {
       gathered = then_gathered old v w c.in-Ok.fresh.0 first b.pinned k;
-      page = doubled_page w c.in-Ok.fresh.0 c.in_ok-home.home.0 c.args.node k.still.stays.right within (e.stays.node ∙ b.home.1) e.bytes;
+      page = doubled_page w c.in-Ok.fresh.0 c.in_ok-home.home.0 c.args.node k.still.stays.right within (d.stays.node ∙ b.home.1) d.bytes;
       home = λ f at.
           let here = home old f c.args.node c.requires.right (bound_below c.args.store.now.map f c.args.node at) at in
           let same : c.bring_in.new.self ≡ c.args.store.now = (b.idle here.resident).1 in
           let there : node_of c.args.store.now.map c.in_ok-home.home.0 ≡ Some c.args.node = ap (λ (s : Store). node_of s.map c.in_ok-home.home.0) (sym same) ∙ b.home.1 in
           let is : f ≡ c.in_ok-home.home.0 = same_home old f c.in_ok-home.home.0 c.args.node c.requires.right at there in
-          ap (λ (j : ℕ). node_of c.double.new.store.map j) is ∙ e.stays.node ∙ b.home.1;
-    }
+          ap (λ (j : ℕ). node_of c.double.new.store.map j) is ∙ d.stays.node ∙ b.home.1;
+    })
+    (taken_then (frames_to_bring own) old.frames.held v.frames.held w.frames.held same (brought_taken own old.frames v.frames _ _ same b.held _ b.traffic b.few) e.held)
+    (brought_more own old.frames v.frames _ _ same b.held _ b.traffic b.few _ e.traffic e.later)
 
-pub returns-clause-gathers : goal.returns-clause-gathers
-returns-clause-gathers g c =
-    let own : OwnState = own_of c.args.caches.now c.args.node in
-    let was : Frames = c.args.store.now.frames in
-    let mid : Frames = c.bring_in.new.self.frames in
-    let b = c.in_ok-home.ensures in
-    let e = c.in-Ok.ensures.gathers in
-    let same = b.still.stays.frames in
-    done_gathers _ _ _ _ _ _ (tells_then _ _ b.still.stays _ _ _ _ e.later b.told e.told) (later_then _ _ _ b.later e.later) _
-    (taken_then (frames_to_bring own) was.held mid.held c.double.new.store.frames.held same (brought_taken own was mid _ _ same b.held _ b.traffic b.few) e.held)
-    (brought_more own was mid _ _ same b.held _ b.traffic b.few _ e.traffic e.later)
-
-pub returns-in_default-clause-gathers : goal.returns-in_default-clause-gathers
-returns-in_default-clause-gathers g c =
+pub returns-in_default-clause-copied : goal.returns-in_default-clause-copied
+returns-in_default-clause-copied g c =
     let own : OwnState = own_of c.args.caches.now c.args.node in
     let b = c.in_ok-home.ensures in
-    let e = c.in_default.ensures.gathers in
+    let e = c.in_default.ensures.doubled in
     record {
+      done = tt;
       none = record { still = still_then _ _ _ b.still e.none.still; pinned = e.none.pinned ∙ b.pinned };
       told = tells_then _ _ b.still.stays _ _ _ _ e.later b.told e.told;
       later = later_then _ _ _ b.later e.later;
@@ -64,8 +57,8 @@ returns-in_default-clause-gathers g c =
       most = brought_most own c.args.store.now.frames c.bring_in.new.self.frames _ _ b.still.stays.frames b.held _ b.traffic b.few _ e.most e.later;
     }
 
-pub returns-in_err-home-clause-gathers : goal.returns-in_err-home-clause-gathers
-returns-in_err-home-clause-gathers g c =
+pub returns-in_err-home-clause-copied : goal.returns-in_err-home-clause-copied
+returns-in_err-home-clause-copied g c =
     let own : OwnState = own_of c.args.caches.now c.args.node in
     let e = c.in_err-home.ensures in
     let most = failed_most own c.args.store.now.frames _ _ _ _ e.traffic e.few in

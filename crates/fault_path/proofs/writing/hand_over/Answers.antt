@@ -27,14 +27,14 @@ returns-in_err-frame-clause-handed g c =
     let size = g.M.Mapper.page_bytes c.copy_out.new.mapper in
     let old : World = world (g.M.Mapper.held c.args.mapper.now) (g.M.Mapper.page_bytes c.args.mapper.now) c.args.caches.now c.args.store.now in
     let w : World = world told size c.copy_out.new.caches c.copy_out.new.store in
-    let n = c.in_err-frame.ensures.gathers.none in
-    miss_by old w n.still (g.M.Mapper.counts c.args.mapper.now) _ c.requires.right.sound c.requires.right.shaped n.pinned c.in_err-frame.ensures.gathers.later c.in_err-frame.ensures.gathers.told _ c.from_residual.result c.from_residual.ensures.1 (search rules)
+    let n = c.in_err-frame.ensures.copied.none in
+    miss_by old w n.still (g.M.Mapper.counts c.args.mapper.now) _ c.requires.right.sound c.requires.right.shaped n.pinned c.in_err-frame.ensures.copied.later c.in_err-frame.ensures.copied.told _ c.from_residual.result c.from_residual.ensures.1 (search rules)
 
 pub hand_page-requires-clause-sound : goal.hand_page-requires-clause-sound
-hand_page-requires-clause-sound g c = let k = c.in_ok-frame.ensures.copied.gathered in still_caches_sound _ _ k.still c.requires.right.sound
+hand_page-requires-clause-sound g c = let k = c.in_ok-frame.ensures.copied.done.gathered in still_caches_sound _ _ k.still c.requires.right.sound
 
 pub hand_page-requires-clause-is : goal.hand_page-requires-clause-is
-hand_page-requires-clause-is g c = let k = c.in_ok-frame.ensures.copied.gathered in still_heir _ _ k.still c.requires.right.sound c.args.node c.args.next c.requires.is
+hand_page-requires-clause-is g c = let k = c.in_ok-frame.ensures.copied.done.gathered in still_heir _ _ k.still c.requires.right.sound c.args.node c.args.next c.requires.is
 
 pub settle_in-requires-clause-away : goal.settle_in-requires-clause-away
 settle_in-requires-clause-away g c =
@@ -42,7 +42,7 @@ settle_in-requires-clause-away g c =
     let size = g.M.Mapper.page_bytes c.copy_out.new.mapper in
     let old : World = world (g.M.Mapper.held c.args.mapper.now) (g.M.Mapper.page_bytes c.args.mapper.now) c.args.caches.now c.args.store.now in
     let w : World = world told size c.copy_out.new.caches c.copy_out.new.store in
-    let k = c.in_ok-frame.ensures.copied.gathered in
+    let k = c.in_ok-frame.ensures.copied.done.gathered in
     unbound w k.still.stays.right c.args.next (still_absent old w k.still c.requires.right.sound c.args.next (heir_absent c.args.caches.now c.requires.right.sound _ c.args.next c.requires.next c.requires.is))
 
 pub returns-clause-handed : goal.returns-clause-handed
@@ -51,16 +51,16 @@ returns-clause-handed g c =
     let size = g.M.Mapper.page_bytes c.copy_out.new.mapper in
     let old : World = world (g.M.Mapper.held c.args.mapper.now) (g.M.Mapper.page_bytes c.args.mapper.now) c.args.caches.now c.args.store.now in
     let w : World = world told size c.copy_out.new.caches c.copy_out.new.store in
-    let k = c.in_ok-frame.ensures.copied.gathered in
+    let k = c.in_ok-frame.ensures.copied.done.gathered in
     record {
       answered = record {
         kept = subst (Kept old) (sym (ap (λ (s : Store). world told size c.hand_page.new.caches s) c.settle_in.ensures)) (hand_kept old w c.in_ok-frame.frame.0 k.still k.taken c.requires.right.sound c.requires.right.shaped c.args.node c.args.next c.requires.own.node (has_own old c.args.node c.requires.own.own_page) c.requires.next c.requires.is
-            (heir_absent c.args.caches.now c.requires.right.sound _ c.args.next c.requires.next c.requires.is) c.in_ok-frame.ensures.copied.page c.hand_page.new.caches c.hand_page.ensures k);
-        later = c.in_ok-frame.ensures.gathers.later;
-        told = tells_as _ _ _ _ _ refl c.in_ok-frame.ensures.gathers.told;
+            (heir_absent c.args.caches.now c.requires.right.sound _ c.args.next c.requires.next c.requires.is) c.in_ok-frame.ensures.copied.done.page c.hand_page.new.caches c.hand_page.ensures k);
+        later = c.in_ok-frame.ensures.copied.later;
+        told = tells_as _ _ _ _ _ refl c.in_ok-frame.ensures.copied.told;
       };
       done = ap (λ (s : Store). store_forest (world told size c.hand_page.new.caches s)) c.settle_in.ensures ∙ (hand_forest old w c.in_ok-frame.frame.0 k.still k.taken c.requires.right.sound c.requires.right.shaped c.args.node c.args.next c.requires.own.node (has_own old c.args.node c.requires.own.own_page) c.requires.next c.requires.is
-      (heir_absent c.args.caches.now c.requires.right.sound _ c.args.next c.requires.next c.requires.is) c.in_ok-frame.ensures.copied.page c.hand_page.new.caches c.hand_page.ensures);
+      (heir_absent c.args.caches.now c.requires.right.sound _ c.args.next c.requires.next c.requires.is) c.in_ok-frame.ensures.copied.done.page c.hand_page.new.caches c.hand_page.ensures);
       missed = tt;
     }
 
@@ -70,9 +70,9 @@ returns-clause-copies g c =
     let size = g.M.Mapper.page_bytes c.copy_out.new.mapper in
     let old : World = world (g.M.Mapper.held c.args.mapper.now) (g.M.Mapper.page_bytes c.args.mapper.now) c.args.caches.now c.args.store.now in
     let w : World = world told size c.copy_out.new.caches c.copy_out.new.store in
-    let k = c.in_ok-frame.ensures.copied.gathered in
+    let k = c.in_ok-frame.ensures.copied.done.gathered in
     hand_copies old w c.in_ok-frame.frame.0 k.still k.taken c.requires.right.sound c.requires.right.shaped c.args.node c.args.next c.requires.own.node (has_own old c.args.node c.requires.own.own_page) c.requires.next c.requires.is
-    (heir_absent c.args.caches.now c.requires.right.sound _ c.args.next c.requires.next c.requires.is) c.in_ok-frame.ensures.copied.page c.hand_page.new.caches c.hand_page.ensures
+    (heir_absent c.args.caches.now c.requires.right.sound _ c.args.next c.requires.next c.requires.is) c.in_ok-frame.ensures.copied.done.page c.hand_page.new.caches c.hand_page.ensures
 
 pub returns-in_err-frame-clause-drops : goal.returns-in_err-frame-clause-drops
 returns-in_err-frame-clause-drops g c =
@@ -83,7 +83,7 @@ pub returns-clause-drops : goal.returns-clause-drops
 returns-clause-drops g c =
     let old : World = world (g.M.Mapper.held c.args.mapper.now) (g.M.Mapper.page_bytes c.args.mapper.now) c.args.caches.now c.args.store.now in
     let v : World = world (g.M.Mapper.held c.copy_out.new.mapper) (g.M.Mapper.page_bytes c.copy_out.new.mapper) c.hand_page.new.caches c.settle_in.new.store in
-    let k = c.in_ok-frame.ensures.copied.gathered in
+    let k = c.in_ok-frame.ensures.copied.done.gathered in
     let all = returns-clause-handed g c in
     let answered : IsAnswered old v (g.M.Mapper.counts c.args.mapper.now) (g.M.Mapper.counts c.copy_out.new.mapper) = all.answered in
     let within : c.in_ok-frame.frame.0 < length c.copy_out.new.store.map = omega (arith, k.taken.within, k.still.stays.right.tied.fitted.map_frames) in

@@ -40,8 +40,8 @@ returns-in_err-frame-clause-ready g c =
     let size = g.M.Mapper.page_bytes c.copy_out.new.mapper in
     let old : World = world (g.M.Mapper.held c.args.mapper.now) (g.M.Mapper.page_bytes c.args.mapper.now) c.args.caches.now c.args.store.now in
     let w : World = world told size c.copy_out.new.caches c.copy_out.new.store in
-    let n = c.in_err-frame.ensures.gathers.none in
-    miss_by old w n.still (g.M.Mapper.counts c.args.mapper.now) _ c.requires.right.sound c.requires.right.shaped n.pinned c.in_err-frame.ensures.gathers.later c.in_err-frame.ensures.gathers.told _ c.from_residual.result c.from_residual.ensures.1 (search rules)
+    let n = c.in_err-frame.ensures.copied.none in
+    miss_by old w n.still (g.M.Mapper.counts c.args.mapper.now) _ c.requires.right.sound c.requires.right.shaped n.pinned c.in_err-frame.ensures.copied.later c.in_err-frame.ensures.copied.told _ c.from_residual.result c.from_residual.ensures.1 (search rules)
 
 pub returns-in_default-clause-ready : goal.returns-in_default-clause-ready
 returns-in_default-clause-ready g c =
@@ -54,46 +54,46 @@ returns-in_default-clause-ready g c =
     let old : World = world (g.M.Mapper.held c.args.mapper.now) (g.M.Mapper.page_bytes c.args.mapper.now) c.args.caches.now c.args.store.now in
     let w : World = world told size c.copy_out.new.caches c.copy_out.new.store in
     let v : World = world told2 size2 c.double.new.caches c.double.new.store in
-    let one = c.in_ok-frame.ensures.copied.gathered in
-    let first = c.in_ok-frame.ensures.gathers in
-    let then = c.in_default.ensures.gathers in
+    let one = c.in_ok-frame.ensures.copied.done.gathered in
+    let first = c.in_ok-frame.ensures.copied in
+    let then = c.in_default.ensures.doubled in
     subst (λ (s : Store). IsDoneOrMissed (Err Victim) (λ (f : FrameId). IsFramed readied c.args.node f.0) old (world told2 size2 c.double.new.caches s) before now) (sym c.release.ensures)
     (miss_with old _ (released_still old w v c.in_ok-frame.frame.0 one then.none) before now c.requires.right.sound c.requires.right.shaped (released_pins old w v c.in_ok-frame.frame.0 one then.none) (later_then _ _ _ first.later then.later)
     (tells_as _ _ _ _ _ refl (tells_then old w one.still.stays v _ _ _ then.later first.told then.told)) Victim (cause_then _ _ _ Victim first.later c.in_default.ensures.cause))
 
 pub own_page-requires-clause-sound : goal.own_page-requires-clause-sound
 own_page-requires-clause-sound g c =
-    let one = c.in_ok-frame.ensures.copied in
-    let two = c.in-Ok.ensures.doubled in
+    let one = c.in_ok-frame.ensures.copied.done in
+    let two = c.in-Ok.ensures.doubled.done in
     still_caches_sound _ _ (still_then _ _ _ one.gathered.still two.gathered.still) c.requires.right.sound
 
 pub hand_page-requires-clause-node : goal.hand_page-requires-clause-node
 hand_page-requires-clause-node g c =
     let owner : IsOwner c.args.caches.now c.args.node c.owner_of-owner.result = record { held = c.owner_of-owner.ensures.held; name = c.owner_of-owner.ensures.owner } in
-    step_there c.requires.right c.in_ok-frame.ensures.copied c.in-Ok.ensures.doubled c.requires.node c.requires.bare owner c.own_page.ensures c.args.node c.requires.node
+    step_there c.requires.right c.in_ok-frame.ensures.copied.done c.in-Ok.ensures.doubled.done c.requires.node c.requires.bare owner c.own_page.ensures c.args.node c.requires.node
 
 pub hand_page-requires-clause-heir : goal.hand_page-requires-clause-heir
 hand_page-requires-clause-heir g c =
     let owner : IsOwner c.args.caches.now c.args.node c.owner_of-owner.result = record { held = c.owner_of-owner.ensures.held; name = c.owner_of-owner.ensures.owner } in
-    step_there c.requires.right c.in_ok-frame.ensures.copied c.in-Ok.ensures.doubled c.requires.node c.requires.bare owner c.own_page.ensures c.args.next c.requires.next
+    step_there c.requires.right c.in_ok-frame.ensures.copied.done c.in-Ok.ensures.doubled.done c.requires.node c.requires.bare owner c.own_page.ensures c.args.next c.requires.next
 
 pub hand_page-requires-clause-is : goal.hand_page-requires-clause-is
 hand_page-requires-clause-is g c =
     let owner : IsOwner c.args.caches.now c.args.node c.owner_of-owner.result = record { held = c.owner_of-owner.ensures.held; name = c.owner_of-owner.ensures.owner } in
-    step_heir c.requires.right c.in_ok-frame.ensures.copied c.in-Ok.ensures.doubled c.requires.node c.requires.bare owner c.own_page.ensures c.args.next c.requires.is
+    step_heir c.requires.right c.in_ok-frame.ensures.copied.done c.in-Ok.ensures.doubled.done c.requires.node c.requires.bare owner c.own_page.ensures c.args.next c.requires.is
 
 pub hand_page-requires-clause-copies : goal.hand_page-requires-clause-copies
 hand_page-requires-clause-copies g c =
     let owner : IsOwner c.args.caches.now c.args.node c.owner_of-owner.result = record { held = c.owner_of-owner.ensures.held; name = c.owner_of-owner.ensures.owner } in
-    let more = step_copies c.requires.right c.in_ok-frame.ensures.copied c.in-Ok.ensures.doubled c.requires.node c.requires.bare owner c.own_page.ensures in
+    let more = step_copies c.requires.right c.in_ok-frame.ensures.copied.done c.in-Ok.ensures.doubled.done c.requires.node c.requires.bare owner c.own_page.ensures in
     omega (arith, more, c.requires.copies)
 
 pub settle_in-requires-2-clause-away : goal.settle_in-requires-2-clause-away
 settle_in-requires-2-clause-away g c =
     let owner : IsOwner c.args.caches.now c.args.node c.owner_of-owner.result = record { held = c.owner_of-owner.ensures.held; name = c.owner_of-owner.ensures.owner } in
-    let step = step_gives c.requires.right c.in_ok-frame.ensures.copied c.in-Ok.ensures.doubled c.requires.node c.requires.bare owner c.own_page.ensures in
-    let next_there = step_there c.requires.right c.in_ok-frame.ensures.copied c.in-Ok.ensures.doubled c.requires.node c.requires.bare owner c.own_page.ensures c.args.next c.requires.next in
-    let next_is = step_heir c.requires.right c.in_ok-frame.ensures.copied c.in-Ok.ensures.doubled c.requires.node c.requires.bare owner c.own_page.ensures c.args.next c.requires.is in
+    let step = step_gives c.requires.right c.in_ok-frame.ensures.copied.done c.in-Ok.ensures.doubled.done c.requires.node c.requires.bare owner c.own_page.ensures in
+    let next_there = step_there c.requires.right c.in_ok-frame.ensures.copied.done c.in-Ok.ensures.doubled.done c.requires.node c.requires.bare owner c.own_page.ensures c.args.next c.requires.next in
+    let next_is = step_heir c.requires.right c.in_ok-frame.ensures.copied.done c.in-Ok.ensures.doubled.done c.requires.node c.requires.bare owner c.own_page.ensures c.args.next c.requires.is in
     ap (λ (s : Store). bound_times s.map c.args.next.0) c.settle_in.ensures ∙ unbound _ step.right c.args.next (heir_absent c.own_page.new.caches step.sound _ c.args.next next_there next_is)
 
 pub returns-clause-ready : goal.returns-clause-ready
@@ -105,19 +105,19 @@ returns-clause-ready g c =
     record {
       answered = let store : c.settle_in-2.new.store ≡ record c.double.new.store { frames = record c.double.new.store.frames { pinned = set (set c.double.new.store.frames.pinned c.in_ok-frame.frame.0 false) c.in-Ok.second.0 false }; map = set (set c.double.new.store.map c.in_ok-frame.frame.0 (Some c.args.node)) c.in-Ok.second.0 (Some c.args.next) }
       = c.settle_in-2.ensures ∙ ap (λ (s : Store). record s { frames = record s.frames { pinned = set s.frames.pinned c.in-Ok.second.0 false }; map = set s.map c.in-Ok.second.0 (Some c.args.next) }) c.settle_in.ensures in
-      let kept = two_kept c.requires.right c.in_ok-frame.ensures.copied c.in-Ok.ensures.doubled c.requires.node c.requires.bare owner c.own_page.ensures c.requires.next c.requires.is c.hand_page.ensures in
+      let kept = two_kept c.requires.right c.in_ok-frame.ensures.copied.done c.in-Ok.ensures.doubled.done c.requires.node c.requires.bare owner c.own_page.ensures c.requires.next c.requires.is c.hand_page.ensures in
       record {
         kept = subst (λ (s : Store). Kept old (world told size c.hand_page.new.caches s)) (sym store) kept;
-        later = later_then _ _ _ c.in_ok-frame.ensures.gathers.later c.in-Ok.ensures.gathers.later;
-        told = tells_as _ _ _ _ _ refl (tells_then _ _ (c.in_ok-frame.ensures.copied.gathered).still.stays _ _ _ _ c.in-Ok.ensures.gathers.later c.in_ok-frame.ensures.gathers.told c.in-Ok.ensures.gathers.told);
+        later = later_then _ _ _ c.in_ok-frame.ensures.copied.later c.in-Ok.ensures.doubled.later;
+        told = tells_as _ _ _ _ _ refl (tells_then _ _ (c.in_ok-frame.ensures.copied.done.gathered).still.stays _ _ _ _ c.in-Ok.ensures.doubled.later c.in_ok-frame.ensures.copied.told c.in-Ok.ensures.doubled.told);
       };
       done = let store : c.settle_in-2.new.store ≡ record c.double.new.store { frames = record c.double.new.store.frames { pinned = set (set c.double.new.store.frames.pinned c.in_ok-frame.frame.0 false) c.in-Ok.second.0 false }; map = set (set c.double.new.store.map c.in_ok-frame.frame.0 (Some c.args.node)) c.in-Ok.second.0 (Some c.args.next) }
       = c.settle_in-2.ensures ∙ ap (λ (s : Store). record s { frames = record s.frames { pinned = set s.frames.pinned c.in-Ok.second.0 false }; map = set s.map c.in-Ok.second.0 (Some c.args.next) }) c.settle_in.ensures in
-      let bound = two_bound c.requires.right c.in_ok-frame.ensures.copied c.in-Ok.ensures.doubled c.requires.node c.requires.bare owner c.own_page.ensures c.requires.next c.requires.is c.hand_page.ensures in
+      let bound = two_bound c.requires.right c.in_ok-frame.ensures.copied.done c.in-Ok.ensures.doubled.done c.requires.node c.requires.bare owner c.own_page.ensures c.requires.next c.requires.is c.hand_page.ensures in
       record {
-        forest = ap (λ (s : Store). store_forest (world told size c.hand_page.new.caches s)) store ∙ two_forest c.requires.right c.in_ok-frame.ensures.copied c.in-Ok.ensures.doubled c.requires.node c.requires.bare owner c.own_page.ensures c.requires.next c.requires.is c.hand_page.ensures;
+        forest = ap (λ (s : Store). store_forest (world told size c.hand_page.new.caches s)) store ∙ two_forest c.requires.right c.in_ok-frame.ensures.copied.done c.in-Ok.ensures.doubled.done c.requires.node c.requires.bare owner c.own_page.ensures c.requires.next c.requires.is c.hand_page.ensures;
         bound = search rules;
-        resident = two_resident c.requires.right c.in_ok-frame.ensures.copied c.in-Ok.ensures.doubled c.requires.node c.requires.bare owner c.own_page.ensures c.requires.next c.requires.is c.hand_page.ensures (λ e. apart_of_heir (forest_of c.args.caches.now) c.requires.right.sound.linked (name_of c.args.caches.now c.args.node) (name_of c.args.caches.now c.args.next) c.requires.is (ap (name_of c.args.caches.now) (sym e)));
+        resident = two_resident c.requires.right c.in_ok-frame.ensures.copied.done c.in-Ok.ensures.doubled.done c.requires.node c.requires.bare owner c.own_page.ensures c.requires.next c.requires.is c.hand_page.ensures (λ e. apart_of_heir (forest_of c.args.caches.now) c.requires.right.sound.linked (name_of c.args.caches.now c.args.node) (name_of c.args.caches.now c.args.next) c.requires.is (ap (name_of c.args.caches.now) (sym e)));
       };
       missed = tt;
     }
@@ -125,7 +125,7 @@ returns-clause-ready g c =
 pub returns-clause-copies : goal.returns-clause-copies
 returns-clause-copies g c =
     let owner : IsOwner c.args.caches.now c.args.node c.owner_of-owner.result = record { held = c.owner_of-owner.ensures.held; name = c.owner_of-owner.ensures.owner } in
-    two_copies c.requires.right c.in_ok-frame.ensures.copied c.in-Ok.ensures.doubled c.requires.node c.requires.bare owner c.own_page.ensures c.requires.next c.requires.is c.hand_page.ensures
+    two_copies c.requires.right c.in_ok-frame.ensures.copied.done c.in-Ok.ensures.doubled.done c.requires.node c.requires.bare owner c.own_page.ensures c.requires.next c.requires.is c.hand_page.ensures
 
 pub returns-clause-traffic : goal.returns-clause-traffic
 returns-clause-traffic g c = λ o is. (
@@ -133,9 +133,9 @@ returns-clause-traffic g c = λ o is. (
     let owner : IsOwner c.args.caches.now c.args.node it = record { held = c.owner_of-owner.ensures.held; name = c.owner_of-owner.ensures.owner } in
     let own : OwnState = own_of c.args.caches.now it in
     let first = c.in_ok-frame.ensures in
-    let gathered = first.copied.gathered in
+    let gathered = first.copied.done.gathered in
     let whole = gathered.still in
-    let sum : Pulls (pulls_to_copy own) (frames_to_copy own + 1 - free_count c.args.store.now.frames) (g.M.Mapper.counts c.args.mapper.now) (g.M.Mapper.counts c.double.new.mapper) = pulls_more (frames_to_copy own) (pulls_to_copy own) c.args.store.now.frames.held c.copy_out.new.store.frames.held _ _ _ whole.stays.frames first.gathers.held first.gathers.traffic c.in-Ok.ensures.gathers.traffic c.double.ensures.gathers.later in
+    let sum : Pulls (pulls_to_copy own) (frames_to_copy own + 1 - free_count c.args.store.now.frames) (g.M.Mapper.counts c.args.mapper.now) (g.M.Mapper.counts c.double.new.mapper) = pulls_more (frames_to_copy own) (pulls_to_copy own) c.args.store.now.frames.held c.copy_out.new.store.frames.held _ _ _ whole.stays.frames first.copied.held first.copied.traffic c.in-Ok.ensures.doubled.traffic c.double.ensures.doubled.later in
     subst (λ (m : NodeId). Pulls (pulls_to_copy (own_of c.args.caches.now m)) (frames_to_copy (own_of c.args.caches.now m) + 1 - free_count c.args.store.now.frames) (g.M.Mapper.counts c.args.mapper.now) (g.M.Mapper.counts c.double.new.mapper)) (sym (owner_same c.args.caches.now c.requires.right.sound c.args.node o it is owner)) sum)
 
 pub returns-clause-most : goal.returns-clause-most
@@ -143,18 +143,18 @@ returns-clause-most g c =
     let it : NodeId = c.owner_of-owner.result in
     let own : OwnState = own_of c.args.caches.now it in
     let first = c.in_ok-frame.ensures in
-    let gathered = first.copied.gathered in
+    let gathered = first.copied.done.gathered in
     let whole = gathered.still in
-    let sum : Pulls (pulls_to_copy own) (frames_to_copy own + 1 - free_count c.args.store.now.frames) (g.M.Mapper.counts c.args.mapper.now) (g.M.Mapper.counts c.double.new.mapper) = pulls_more (frames_to_copy own) (pulls_to_copy own) c.args.store.now.frames.held c.copy_out.new.store.frames.held _ _ _ whole.stays.frames first.gathers.held first.gathers.traffic c.in-Ok.ensures.gathers.traffic c.double.ensures.gathers.later in
+    let sum : Pulls (pulls_to_copy own) (frames_to_copy own + 1 - free_count c.args.store.now.frames) (g.M.Mapper.counts c.args.mapper.now) (g.M.Mapper.counts c.double.new.mapper) = pulls_more (frames_to_copy own) (pulls_to_copy own) c.args.store.now.frames.held c.copy_out.new.store.frames.held _ _ _ whole.stays.frames first.copied.held first.copied.traffic c.in-Ok.ensures.doubled.traffic c.double.ensures.doubled.later in
     let bounds = copy_most own in
     pulls_most _ _ _ _ _ _ sum bounds.0 (omega (arith, bounds.1))
 
 pub returns-in_default-clause-most : goal.returns-in_default-clause-most
 returns-in_default-clause-most g c =
     let own : OwnState = own_of c.args.caches.now c.owner_of-owner.result in
-    let first = c.in_ok-frame.ensures.gathers in
-    let then = c.in_default.ensures.gathers in
-    let one = c.in_ok-frame.ensures.copied.gathered in
+    let first = c.in_ok-frame.ensures.copied in
+    let then = c.in_default.ensures.doubled in
+    let one = c.in_ok-frame.ensures.copied.done.gathered in
     let bounds = copy_most own in
     most_then _ _ _ _ _ _ _ _ _ first.traffic then.most then.later (omega (arith, bounds.0))
     (omega (arith, bounds.1, pushes_then (frames_to_copy own) c.args.store.now.frames.held c.copy_out.new.store.frames.held one.still.stays.frames first.held))
@@ -179,8 +179,8 @@ returns-clause-drops g c =
     let owner : IsOwner c.args.caches.now c.args.node it = record { held = c.owner_of-owner.ensures.held; name = c.owner_of-owner.ensures.owner } in
     let old : World = world (g.M.Mapper.held c.args.mapper.now) (g.M.Mapper.page_bytes c.args.mapper.now) c.args.caches.now c.args.store.now in
     let v : World = world (g.M.Mapper.held c.double.new.mapper) (g.M.Mapper.page_bytes c.double.new.mapper) c.hand_page.new.caches c.settle_in-2.new.store in
-    let one = c.in_ok-frame.ensures.copied.gathered in
-    let two = c.in-Ok.ensures.doubled in
+    let one = c.in_ok-frame.ensures.copied.done.gathered in
+    let two = c.in-Ok.ensures.doubled.done in
     let gathered = two.gathered in
     let whole = still_then _ _ _ one.still gathered.still in
     let f1 : ℕ = c.in_ok-frame.frame.0 in

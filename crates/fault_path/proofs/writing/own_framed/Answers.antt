@@ -27,11 +27,11 @@ returns-in_err-frame-clause-owned g c =
     let size = g.M.Mapper.page_bytes c.copy_out.new.mapper in
     let old : World = world (g.M.Mapper.held c.args.mapper.now) (g.M.Mapper.page_bytes c.args.mapper.now) c.args.caches.now c.args.store.now in
     let w : World = world told size c.copy_out.new.caches c.copy_out.new.store in
-    let n = c.in_err-frame.ensures.gathers.none in
-    miss_by old w n.still (g.M.Mapper.counts c.args.mapper.now) _ c.requires.right.sound c.requires.right.shaped n.pinned c.in_err-frame.ensures.gathers.later c.in_err-frame.ensures.gathers.told _ c.from_residual.result c.from_residual.ensures.1 (search rules)
+    let n = c.in_err-frame.ensures.copied.none in
+    miss_by old w n.still (g.M.Mapper.counts c.args.mapper.now) _ c.requires.right.sound c.requires.right.shaped n.pinned c.in_err-frame.ensures.copied.later c.in_err-frame.ensures.copied.told _ c.from_residual.result c.from_residual.ensures.1 (search rules)
 
 pub own_page-requires-clause-sound : goal.own_page-requires-clause-sound
-own_page-requires-clause-sound g c = let k = c.in_ok-frame.ensures.copied.gathered in still_caches_sound _ _ k.still c.requires.right.sound
+own_page-requires-clause-sound g c = let k = c.in_ok-frame.ensures.copied.done.gathered in still_caches_sound _ _ k.still c.requires.right.sound
 
 pub returns-clause-owned : goal.returns-clause-owned
 returns-clause-owned g c =
@@ -39,17 +39,17 @@ returns-clause-owned g c =
     let size = g.M.Mapper.page_bytes c.copy_out.new.mapper in
     let old : World = world (g.M.Mapper.held c.args.mapper.now) (g.M.Mapper.page_bytes c.args.mapper.now) c.args.caches.now c.args.store.now in
     let w : World = world told size c.copy_out.new.caches c.copy_out.new.store in
-    let k = c.in_ok-frame.ensures.copied.gathered in
+    let k = c.in_ok-frame.ensures.copied.done.gathered in
     let owner : IsOwner c.args.caches.now c.args.node c.owner_of-owner.result = record { held = c.owner_of-owner.ensures.held; name = c.owner_of-owner.ensures.owner } in
-    let gives = own_gives old w c.in_ok-frame.frame.0 k.still k.taken c.requires.right.sound c.requires.right.shaped c.args.node c.owner_of-owner.result c.requires.node c.requires.bare owner c.in_ok-frame.ensures.copied.page c.own_page.new.caches c.own_page.ensures in
+    let gives = own_gives old w c.in_ok-frame.frame.0 k.still k.taken c.requires.right.sound c.requires.right.shaped c.args.node c.owner_of-owner.result c.requires.node c.requires.bare owner c.in_ok-frame.ensures.copied.done.page c.own_page.new.caches c.own_page.ensures in
     record {
       answered = record {
-        kept = subst (Kept old) (sym (ap (λ (s : Store). world told size c.own_page.new.caches s) c.settle_in.ensures)) (own_kept old w c.in_ok-frame.frame.0 k.still k.taken c.requires.right.sound c.requires.right.shaped c.args.node c.owner_of-owner.result c.requires.node c.requires.bare owner c.in_ok-frame.ensures.copied.page c.own_page.new.caches c.own_page.ensures k);
-        later = c.in_ok-frame.ensures.gathers.later;
-        told = tells_as _ _ _ _ _ refl c.in_ok-frame.ensures.gathers.told;
+        kept = subst (Kept old) (sym (ap (λ (s : Store). world told size c.own_page.new.caches s) c.settle_in.ensures)) (own_kept old w c.in_ok-frame.frame.0 k.still k.taken c.requires.right.sound c.requires.right.shaped c.args.node c.owner_of-owner.result c.requires.node c.requires.bare owner c.in_ok-frame.ensures.copied.done.page c.own_page.new.caches c.own_page.ensures k);
+        later = c.in_ok-frame.ensures.copied.later;
+        told = tells_as _ _ _ _ _ refl c.in_ok-frame.ensures.copied.told;
       };
       done = record {
-        forest = ap (λ (s : Store). store_forest (world told size c.own_page.new.caches s)) c.settle_in.ensures ∙ own_forest old w c.in_ok-frame.frame.0 k.still k.taken c.requires.right.sound c.requires.right.shaped c.args.node c.owner_of-owner.result c.requires.node c.requires.bare owner c.in_ok-frame.ensures.copied.page c.own_page.new.caches c.own_page.ensures;
+        forest = ap (λ (s : Store). store_forest (world told size c.own_page.new.caches s)) c.settle_in.ensures ∙ own_forest old w c.in_ok-frame.frame.0 k.still k.taken c.requires.right.sound c.requires.right.shaped c.args.node c.owner_of-owner.result c.requires.node c.requires.bare owner c.in_ok-frame.ensures.copied.done.page c.own_page.new.caches c.own_page.ensures;
         bound = search rules;
         resident = gives.resident;
       };
@@ -62,15 +62,15 @@ returns-clause-copies g c =
     let size = g.M.Mapper.page_bytes c.copy_out.new.mapper in
     let old : World = world (g.M.Mapper.held c.args.mapper.now) (g.M.Mapper.page_bytes c.args.mapper.now) c.args.caches.now c.args.store.now in
     let w : World = world told size c.copy_out.new.caches c.copy_out.new.store in
-    let k = c.in_ok-frame.ensures.copied.gathered in
+    let k = c.in_ok-frame.ensures.copied.done.gathered in
     let owner : IsOwner c.args.caches.now c.args.node c.owner_of-owner.result = record { held = c.owner_of-owner.ensures.held; name = c.owner_of-owner.ensures.owner } in
-    own_copies old w c.in_ok-frame.frame.0 k.still k.taken c.requires.right.sound c.requires.right.shaped c.args.node c.owner_of-owner.result c.requires.node c.requires.bare owner c.in_ok-frame.ensures.copied.page c.own_page.new.caches c.own_page.ensures
+    own_copies old w c.in_ok-frame.frame.0 k.still k.taken c.requires.right.sound c.requires.right.shaped c.args.node c.owner_of-owner.result c.requires.node c.requires.bare owner c.in_ok-frame.ensures.copied.done.page c.own_page.new.caches c.own_page.ensures
 
 pub returns-clause-traffic : goal.returns-clause-traffic
 returns-clause-traffic g c = λ o is. (
     let it : NodeId = c.owner_of-owner.result in
     let owner : IsOwner c.args.caches.now c.args.node it = record { held = c.owner_of-owner.ensures.held; name = c.owner_of-owner.ensures.owner } in
-    subst (λ (m : NodeId). Pulls (pulls_to_copy (own_of c.args.caches.now m)) (frames_to_copy (own_of c.args.caches.now m) - free_count c.args.store.now.frames) (g.M.Mapper.counts c.args.mapper.now) (g.M.Mapper.counts c.copy_out.new.mapper)) (sym (owner_same c.args.caches.now c.requires.right.sound c.args.node o it is owner)) c.in_ok-frame.ensures.gathers.traffic)
+    subst (λ (m : NodeId). Pulls (pulls_to_copy (own_of c.args.caches.now m)) (frames_to_copy (own_of c.args.caches.now m) - free_count c.args.store.now.frames) (g.M.Mapper.counts c.args.mapper.now) (g.M.Mapper.counts c.copy_out.new.mapper)) (sym (owner_same c.args.caches.now c.requires.right.sound c.args.node o it is owner)) c.in_ok-frame.ensures.copied.traffic)
 
 pub returns-in_err-frame-clause-drops : goal.returns-in_err-frame-clause-drops
 returns-in_err-frame-clause-drops g c =
@@ -84,7 +84,7 @@ returns-clause-drops g c =
     let owner : IsOwner c.args.caches.now c.args.node it = record { held = c.owner_of-owner.ensures.held; name = c.owner_of-owner.ensures.owner } in
     let old : World = world (g.M.Mapper.held c.args.mapper.now) (g.M.Mapper.page_bytes c.args.mapper.now) c.args.caches.now c.args.store.now in
     let v : World = world (g.M.Mapper.held c.copy_out.new.mapper) (g.M.Mapper.page_bytes c.copy_out.new.mapper) c.own_page.new.caches c.settle_in.new.store in
-    let k = c.in_ok-frame.ensures.copied.gathered in
+    let k = c.in_ok-frame.ensures.copied.done.gathered in
     let all = returns-clause-owned g c in
     let answered : IsAnswered old v (g.M.Mapper.counts c.args.mapper.now) (g.M.Mapper.counts c.copy_out.new.mapper) = all.answered in
     let framed : IsFramed forest.own c.args.node c.in_ok-frame.frame.0 old v = all.done in
