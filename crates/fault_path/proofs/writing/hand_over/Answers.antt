@@ -33,8 +33,10 @@ returns-in_err-frame-clause-handed g c =
 pub hand_page-requires-clause-sound : goal.hand_page-requires-clause-sound
 hand_page-requires-clause-sound g c = let k = c.in_ok-frame.ensures.copied.done.gathered in still_caches_sound _ _ k.still c.requires.right.sound
 
-pub hand_page-requires-clause-is : goal.hand_page-requires-clause-is
-hand_page-requires-clause-is g c = let k = c.in_ok-frame.ensures.copied.done.gathered in still_heir _ _ k.still c.requires.right.sound c.args.node c.args.next c.requires.is
+pub hand_page-requires-clause-heir : goal.hand_page-requires-clause-heir
+hand_page-requires-clause-heir g c =
+    let k = c.in_ok-frame.ensures.copied.done.gathered in
+    still_heir _ _ k.still c.requires.right.sound c.args.node c.args.next c.requires.next
 
 pub settle_in-requires-clause-away : goal.settle_in-requires-clause-away
 settle_in-requires-clause-away g c =
@@ -43,7 +45,7 @@ settle_in-requires-clause-away g c =
     let old : World = world (g.M.Mapper.held c.args.mapper.now) (g.M.Mapper.page_bytes c.args.mapper.now) c.args.caches.now c.args.store.now in
     let w : World = world told size c.copy_out.new.caches c.copy_out.new.store in
     let k = c.in_ok-frame.ensures.copied.done.gathered in
-    unbound w k.still.stays.right c.args.next (still_absent old w k.still c.requires.right.sound c.args.next (heir_absent c.args.caches.now c.requires.right.sound _ c.args.next c.requires.next c.requires.is))
+    unbound w k.still.stays.right c.args.next (still_absent old w k.still c.requires.right.sound c.args.next (heir_absent c.args.caches.now c.requires.right.sound _ c.args.next c.requires.next.held c.requires.next.name))
 
 pub returns-clause-handed : goal.returns-clause-handed
 returns-clause-handed g c =
@@ -54,13 +56,13 @@ returns-clause-handed g c =
     let k = c.in_ok-frame.ensures.copied.done.gathered in
     record {
       answered = record {
-        kept = subst (Kept old) (sym (ap (λ (s : Store). world told size c.hand_page.new.caches s) c.settle_in.ensures)) (hand_kept old w c.in_ok-frame.frame.0 k.still k.taken c.requires.right.sound c.requires.right.shaped c.args.node c.args.next c.requires.own.node (has_own old c.args.node c.requires.own.own_page) c.requires.next c.requires.is
-            (heir_absent c.args.caches.now c.requires.right.sound _ c.args.next c.requires.next c.requires.is) c.in_ok-frame.ensures.copied.done.page c.hand_page.new.caches c.hand_page.ensures k);
+        kept = subst (Kept old) (sym (ap (λ (s : Store). world told size c.hand_page.new.caches s) c.settle_in.ensures)) (hand_kept old w c.in_ok-frame.frame.0 k.still k.taken c.requires.right.sound c.requires.right.shaped c.args.node c.args.next c.requires.own.node (has_own old c.args.node c.requires.own.own_page) c.requires.next.held c.requires.next.name
+            (heir_absent c.args.caches.now c.requires.right.sound _ c.args.next c.requires.next.held c.requires.next.name) c.in_ok-frame.ensures.copied.done.page c.hand_page.new.caches c.hand_page.ensures k);
         later = c.in_ok-frame.ensures.copied.later;
         told = tells_as _ _ _ _ _ refl c.in_ok-frame.ensures.copied.told;
       };
-      done = ap (λ (s : Store). store_forest (world told size c.hand_page.new.caches s)) c.settle_in.ensures ∙ (hand_forest old w c.in_ok-frame.frame.0 k.still k.taken c.requires.right.sound c.requires.right.shaped c.args.node c.args.next c.requires.own.node (has_own old c.args.node c.requires.own.own_page) c.requires.next c.requires.is
-      (heir_absent c.args.caches.now c.requires.right.sound _ c.args.next c.requires.next c.requires.is) c.in_ok-frame.ensures.copied.done.page c.hand_page.new.caches c.hand_page.ensures);
+      done = ap (λ (s : Store). store_forest (world told size c.hand_page.new.caches s)) c.settle_in.ensures ∙ (hand_forest old w c.in_ok-frame.frame.0 k.still k.taken c.requires.right.sound c.requires.right.shaped c.args.node c.args.next c.requires.own.node (has_own old c.args.node c.requires.own.own_page) c.requires.next.held c.requires.next.name
+      (heir_absent c.args.caches.now c.requires.right.sound _ c.args.next c.requires.next.held c.requires.next.name) c.in_ok-frame.ensures.copied.done.page c.hand_page.new.caches c.hand_page.ensures);
       missed = tt;
     }
 
@@ -71,8 +73,8 @@ returns-clause-copies g c =
     let old : World = world (g.M.Mapper.held c.args.mapper.now) (g.M.Mapper.page_bytes c.args.mapper.now) c.args.caches.now c.args.store.now in
     let w : World = world told size c.copy_out.new.caches c.copy_out.new.store in
     let k = c.in_ok-frame.ensures.copied.done.gathered in
-    hand_copies old w c.in_ok-frame.frame.0 k.still k.taken c.requires.right.sound c.requires.right.shaped c.args.node c.args.next c.requires.own.node (has_own old c.args.node c.requires.own.own_page) c.requires.next c.requires.is
-    (heir_absent c.args.caches.now c.requires.right.sound _ c.args.next c.requires.next c.requires.is) c.in_ok-frame.ensures.copied.done.page c.hand_page.new.caches c.hand_page.ensures
+    hand_copies old w c.in_ok-frame.frame.0 k.still k.taken c.requires.right.sound c.requires.right.shaped c.args.node c.args.next c.requires.own.node (has_own old c.args.node c.requires.own.own_page) c.requires.next.held c.requires.next.name
+    (heir_absent c.args.caches.now c.requires.right.sound _ c.args.next c.requires.next.held c.requires.next.name) c.in_ok-frame.ensures.copied.done.page c.hand_page.new.caches c.hand_page.ensures
 
 pub returns-in_err-frame-clause-drops : goal.returns-in_err-frame-clause-drops
 returns-in_err-frame-clause-drops g c =
@@ -88,7 +90,7 @@ returns-clause-drops g c =
     let answered : IsAnswered old v (g.M.Mapper.counts c.args.mapper.now) (g.M.Mapper.counts c.copy_out.new.mapper) = all.answered in
     let within : c.in_ok-frame.frame.0 < length c.copy_out.new.store.map = omega (arith, k.taken.within, k.still.stays.right.tied.fitted.map_frames) in
     let map = ap (λ (s : Store). s.map) c.settle_in.ensures in
-    let absent = ap is_absent (heir_absent c.args.caches.now c.requires.right.sound _ c.args.next c.requires.next c.requires.is) in
+    let absent = ap is_absent (heir_absent c.args.caches.now c.requires.right.sound _ c.args.next c.requires.next.held c.requires.next.name) in
     let whole = heir_drops c.args.caches.now c.copy_out.new.caches c.hand_page.new.caches c.args.store.now c.copy_out.new.store c.settle_in.new.store c.requires.right k.still answered.kept c.args.node c.args.node c.requires.own.node
     (itself_owner c.args.caches.now c.requires.right.sound c.requires.right.shaped c.args.node c.requires.own) c.copy_out.ensures.drops
     (λ f p at. ap (λ (m : List (Option NodeId)). node_of m f) map ∙ settled_stays c.copy_out.new.store.map c.in_ok-frame.frame.0 c.args.next k.taken.unbound f p at)

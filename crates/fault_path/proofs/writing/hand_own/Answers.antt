@@ -47,8 +47,8 @@ hand_over-requires-clause-right g c =
     let first = c.in_ok-frame.ensures.still in
     record { store = first.stays.right; sound = still_caches_sound _ _ first c.requires.right.sound; shaped = still_shaped _ _ first c.requires.right.sound c.requires.right.shaped }
 
-pub hand_over-requires-clause-is : goal.hand_over-requires-clause-is
-hand_over-requires-clause-is g c = still_heir _ _ c.in_ok-frame.ensures.still c.requires.right.sound c.args.node c.args.next c.requires.is
+pub hand_over-requires-clause-next : goal.hand_over-requires-clause-next
+hand_over-requires-clause-next g c = still_heir _ _ c.in_ok-frame.ensures.still c.requires.right.sound c.args.node c.args.next c.requires.next
 
 pub returns-in_err-hand_over-clause-ready : goal.returns-in_err-hand_over-clause-ready
 returns-in_err-hand_over-clause-ready g c =

@@ -75,12 +75,10 @@ hand_page-requires-clause-node g c =
 pub hand_page-requires-clause-heir : goal.hand_page-requires-clause-heir
 hand_page-requires-clause-heir g c =
     let owner : IsOwner c.args.caches.now c.args.node c.owner_of-owner.result = record { held = c.owner_of-owner.ensures.held; name = c.owner_of-owner.ensures.owner } in
-    step_there c.requires.right c.in_ok-frame.ensures.copied.done c.in-Ok.ensures.doubled.done c.requires.node c.requires.bare owner c.own_page.ensures c.args.next c.requires.next
-
-pub hand_page-requires-clause-is : goal.hand_page-requires-clause-is
-hand_page-requires-clause-is g c =
-    let owner : IsOwner c.args.caches.now c.args.node c.owner_of-owner.result = record { held = c.owner_of-owner.ensures.held; name = c.owner_of-owner.ensures.owner } in
-    step_heir c.requires.right c.in_ok-frame.ensures.copied.done c.in-Ok.ensures.doubled.done c.requires.node c.requires.bare owner c.own_page.ensures c.args.next c.requires.is
+    record {
+      held = step_there c.requires.right c.in_ok-frame.ensures.copied.done c.in-Ok.ensures.doubled.done c.requires.node c.requires.bare owner c.own_page.ensures c.args.next c.requires.next.held;
+      name = step_heir c.requires.right c.in_ok-frame.ensures.copied.done c.in-Ok.ensures.doubled.done c.requires.node c.requires.bare owner c.own_page.ensures c.args.next c.requires.next.name;
+    }
 
 pub hand_page-requires-clause-copies : goal.hand_page-requires-clause-copies
 hand_page-requires-clause-copies g c =
@@ -92,8 +90,8 @@ pub settle_in-requires-2-clause-away : goal.settle_in-requires-2-clause-away
 settle_in-requires-2-clause-away g c =
     let owner : IsOwner c.args.caches.now c.args.node c.owner_of-owner.result = record { held = c.owner_of-owner.ensures.held; name = c.owner_of-owner.ensures.owner } in
     let step = step_gives c.requires.right c.in_ok-frame.ensures.copied.done c.in-Ok.ensures.doubled.done c.requires.node c.requires.bare owner c.own_page.ensures in
-    let next_there = step_there c.requires.right c.in_ok-frame.ensures.copied.done c.in-Ok.ensures.doubled.done c.requires.node c.requires.bare owner c.own_page.ensures c.args.next c.requires.next in
-    let next_is = step_heir c.requires.right c.in_ok-frame.ensures.copied.done c.in-Ok.ensures.doubled.done c.requires.node c.requires.bare owner c.own_page.ensures c.args.next c.requires.is in
+    let next_there = step_there c.requires.right c.in_ok-frame.ensures.copied.done c.in-Ok.ensures.doubled.done c.requires.node c.requires.bare owner c.own_page.ensures c.args.next c.requires.next.held in
+    let next_is = step_heir c.requires.right c.in_ok-frame.ensures.copied.done c.in-Ok.ensures.doubled.done c.requires.node c.requires.bare owner c.own_page.ensures c.args.next c.requires.next.name in
     ap (λ (s : Store). bound_times s.map c.args.next.0) c.settle_in.ensures ∙ unbound _ step.right c.args.next (heir_absent c.own_page.new.caches step.sound _ c.args.next next_there next_is)
 
 pub returns-clause-ready : goal.returns-clause-ready
@@ -105,7 +103,7 @@ returns-clause-ready g c =
     record {
       answered = let store : c.settle_in-2.new.store ≡ record c.double.new.store { frames = record c.double.new.store.frames { pinned = set (set c.double.new.store.frames.pinned c.in_ok-frame.frame.0 false) c.in-Ok.second.0 false }; map = set (set c.double.new.store.map c.in_ok-frame.frame.0 (Some c.args.node)) c.in-Ok.second.0 (Some c.args.next) }
       = c.settle_in-2.ensures ∙ ap (λ (s : Store). record s { frames = record s.frames { pinned = set s.frames.pinned c.in-Ok.second.0 false }; map = set s.map c.in-Ok.second.0 (Some c.args.next) }) c.settle_in.ensures in
-      let kept = two_kept c.requires.right c.in_ok-frame.ensures.copied.done c.in-Ok.ensures.doubled.done c.requires.node c.requires.bare owner c.own_page.ensures c.requires.next c.requires.is c.hand_page.ensures in
+      let kept = two_kept c.requires.right c.in_ok-frame.ensures.copied.done c.in-Ok.ensures.doubled.done c.requires.node c.requires.bare owner c.own_page.ensures c.requires.next.held c.requires.next.name c.hand_page.ensures in
       record {
         kept = subst (λ (s : Store). Kept old (world told size c.hand_page.new.caches s)) (sym store) kept;
         later = later_then _ _ _ c.in_ok-frame.ensures.copied.later c.in-Ok.ensures.doubled.later;
@@ -113,11 +111,11 @@ returns-clause-ready g c =
       };
       done = let store : c.settle_in-2.new.store ≡ record c.double.new.store { frames = record c.double.new.store.frames { pinned = set (set c.double.new.store.frames.pinned c.in_ok-frame.frame.0 false) c.in-Ok.second.0 false }; map = set (set c.double.new.store.map c.in_ok-frame.frame.0 (Some c.args.node)) c.in-Ok.second.0 (Some c.args.next) }
       = c.settle_in-2.ensures ∙ ap (λ (s : Store). record s { frames = record s.frames { pinned = set s.frames.pinned c.in-Ok.second.0 false }; map = set s.map c.in-Ok.second.0 (Some c.args.next) }) c.settle_in.ensures in
-      let bound = two_bound c.requires.right c.in_ok-frame.ensures.copied.done c.in-Ok.ensures.doubled.done c.requires.node c.requires.bare owner c.own_page.ensures c.requires.next c.requires.is c.hand_page.ensures in
+      let bound = two_bound c.requires.right c.in_ok-frame.ensures.copied.done c.in-Ok.ensures.doubled.done c.requires.node c.requires.bare owner c.own_page.ensures c.requires.next.held c.requires.next.name c.hand_page.ensures in
       record {
-        forest = ap (λ (s : Store). store_forest (world told size c.hand_page.new.caches s)) store ∙ two_forest c.requires.right c.in_ok-frame.ensures.copied.done c.in-Ok.ensures.doubled.done c.requires.node c.requires.bare owner c.own_page.ensures c.requires.next c.requires.is c.hand_page.ensures;
+        forest = ap (λ (s : Store). store_forest (world told size c.hand_page.new.caches s)) store ∙ two_forest c.requires.right c.in_ok-frame.ensures.copied.done c.in-Ok.ensures.doubled.done c.requires.node c.requires.bare owner c.own_page.ensures c.requires.next.held c.requires.next.name c.hand_page.ensures;
         bound = search rules;
-        resident = two_resident c.requires.right c.in_ok-frame.ensures.copied.done c.in-Ok.ensures.doubled.done c.requires.node c.requires.bare owner c.own_page.ensures c.requires.next c.requires.is c.hand_page.ensures (λ e. apart_of_heir (forest_of c.args.caches.now) c.requires.right.sound.linked (name_of c.args.caches.now c.args.node) (name_of c.args.caches.now c.args.next) c.requires.is (ap (name_of c.args.caches.now) (sym e)));
+        resident = two_resident c.requires.right c.in_ok-frame.ensures.copied.done c.in-Ok.ensures.doubled.done c.requires.node c.requires.bare owner c.own_page.ensures c.requires.next.held c.requires.next.name c.hand_page.ensures (λ e. apart_of_heir (forest_of c.args.caches.now) c.requires.right.sound.linked (name_of c.args.caches.now c.args.node) (name_of c.args.caches.now c.args.next) c.requires.next.name (ap (name_of c.args.caches.now) (sym e)));
       };
       missed = tt;
     }
@@ -125,7 +123,7 @@ returns-clause-ready g c =
 pub returns-clause-copies : goal.returns-clause-copies
 returns-clause-copies g c =
     let owner : IsOwner c.args.caches.now c.args.node c.owner_of-owner.result = record { held = c.owner_of-owner.ensures.held; name = c.owner_of-owner.ensures.owner } in
-    two_copies c.requires.right c.in_ok-frame.ensures.copied.done c.in-Ok.ensures.doubled.done c.requires.node c.requires.bare owner c.own_page.ensures c.requires.next c.requires.is c.hand_page.ensures
+    two_copies c.requires.right c.in_ok-frame.ensures.copied.done c.in-Ok.ensures.doubled.done c.requires.node c.requires.bare owner c.own_page.ensures c.requires.next.held c.requires.next.name c.hand_page.ensures
 
 pub returns-clause-traffic : goal.returns-clause-traffic
 returns-clause-traffic g c = λ o is. (
@@ -191,7 +189,7 @@ returns-clause-drops g c =
     let free2 : node_of c.settle_in.new.store.map f2 ≡ None = ap (λ (m : List (Option NodeId)). node_of m f2) map1 ∙ get_or-set_other c.double.new.store.map f1 f2 (Some c.args.node) None two.apart ∙ gathered.taken.unbound in
     let within2 : f2 < length c.settle_in.new.store.map = omega (arith, gathered.taken.within, gathered.still.stays.right.tied.fitted.map_frames, ap (λ (m : List (Option NodeId)). length m) map1, length-set c.double.new.store.map f1 (Some c.args.node)) in
     let map2 : c.settle_in-2.new.store.map ≡ set c.settle_in.new.store.map f2 (Some c.args.next) = ap (λ (s : Store). s.map) c.settle_in-2.ensures in
-    let absent = ap is_absent (heir_absent c.args.caches.now c.requires.right.sound _ c.args.next c.requires.next c.requires.is) in
+    let absent = ap is_absent (heir_absent c.args.caches.now c.requires.right.sound _ c.args.next c.requires.next.held c.requires.next.name) in
     let both = returns-clause-ready g c in
     let answered : IsAnswered old v (g.M.Mapper.counts c.args.mapper.now) (g.M.Mapper.counts c.double.new.mapper) = both.answered in
     let framed : IsFramed readied c.args.node f1 old v = both.done in
