@@ -41,9 +41,9 @@ returns-clause-gathered g c =
     let r = c.make_free-fresh.result in
     let first : TellsOn (pin_set old c.args.frame.0 true) w before now = subst (λ (s : Store). TellsOn (pinned s) w before now) c.pin.ensures e.told in
     let done = if_ok (λ f. IsMadeFree f.0 (pinned c.pin.new.self) w) (λ f. IsGathered f.0 old (pin_set w c.args.frame.0 false)) r
-        (λ f free. beside_gathered old w c.args.frame.0 c.requires.right c.requires.held loose still f.0 (subst (λ (s : Store). IsMadeFree f.0 (pinned s) w) c.pin.ensures free)) e.free in
+    (λ f free. beside_gathered old w c.args.frame.0 c.requires.right c.requires.held loose still f.0 (subst (λ (s : Store). IsMadeFree f.0 (pinned s) w) c.pin.ensures free)) e.free in
     let none = on_err_then (c.make_free-fresh.new.self.frames.pinned ≡ c.pin.new.self.frames.pinned) (NoneGathered old (pin_set w c.args.frame.0 false)) r
-        (λ same. beside_none old w c.args.frame.0 c.requires.right c.requires.held loose still (same ∙ ap (λ (s : Store). s.frames.pinned) c.pin.ensures)) e.pinned in
+    (λ same. beside_none old w c.args.frame.0 c.requires.right c.requires.held loose still (same ∙ ap (λ (s : Store). s.frames.pinned) c.pin.ensures)) e.pinned in
     let held = subst (λ (s : Store). OnOk r (held_count w.frames + pushes_for s.frames.held ≡ held_count s.frames + 1)) c.pin.ensures e.held in
     subst (λ (s : Store). Gathers r (λ (f : FrameId). IsGathered f.0) 0 1 old (world told size c.make_free-fresh.new.caches s) before now) (sym c.unpin.ensures)
     (one_gathers r old (pin_set w c.args.frame.0 false) before now done none (beside_told old w c.args.frame.0 c.requires.right c.requires.held loose still _ _ e.later first) e.later held _ e.traffic

@@ -38,4 +38,3 @@ returns-in-None-heir-clause-drops g c =
     let own : HasOwnPage c.args.caches.now c.args.node = record { node = c.requires.node; own_page = sym (c.is_absent.ensures.absent ∙ ap is_absent c.own_state.ensures) ∙ c.if-is_absent.false } in
     let itself = itself_owner c.args.caches.now c.requires.right.sound c.requires.right.shaped c.args.node own in
     λ o is. subst (λ (m : NodeId). LeavesHomes c.bring_dirty.result m c.args.node c.args.caches.now c.args.store.now c.bring_dirty.new.caches c.bring_dirty.new.store) (sym (owner_same c.args.caches.now c.requires.right.sound c.args.node o c.args.node is itself)) c.bring_dirty.ensures.drops
-
