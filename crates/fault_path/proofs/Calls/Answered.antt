@@ -33,6 +33,10 @@ module _ (old new : World) (still : Still old new) (before now : MapperCounts) w
   pub still_missed : (miss : Miss) → HasMissCause before now miss → IsMissed miss old new before now
   still_missed miss cause = record { still = still; forest = still_forest old new still; cause = cause }
 
+  pub still_missed_by : {T : Type 0} (r : Result T Miss) → IfErr r (HasMissCause before now) → IfErr r (λ miss. IsMissed miss old new before now)
+  still_missed_by (Ok x) cause = tt
+  still_missed_by (Err miss) cause = still_missed miss cause
+
   -- a call that missed
   module _ {T : Type 0} {does : T → World → World → Type 0} (sound : IsSound old.caches) (shaped : IsWellShaped (forest_of old.caches)) (pins : new.frames.pinned ≡ old.frames.pinned) (later : Later before now) (told : TellsOn old new before now) where
     pub miss_with : (miss : Miss) → HasMissCause before now miss → IsDoneOrMissed (Err miss) does old new before now

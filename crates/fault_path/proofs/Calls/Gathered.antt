@@ -9,7 +9,7 @@ use Rattle.residency.specs.World.{World}
 use Rattle.residency.proofs.Worlds.Arms.{on_ok, on_ok_then}
 use Rattle.fault_path.specs.Costs.{HoldsMore, Takes, TakesAtMost}
 use Rattle.fault_path.specs.Gathering.{Gathers, NoneGathered}
-use Rattle.fault_path.proofs.Calls.Costs.{pulls_few, pulls_is, pulls_most, pushes_free}
+use Rattle.fault_path.proofs.Calls.Costs.{pulls_few, pulls_most, pushes_free}
 
 module _ {T E : Type 0} {does : T → World → World → Type 0} (pulls frames : ℕ) (old new : World) (before now : MapperCounts) (told : TellsOn old new before now) (later : Later before now) where
   pub done_gathers : (x : T) → does x old new → HoldsMore frames old.frames new.frames → Takes pulls frames old.frames before now → Gathers {T = T} {E = E} (Ok x) does pulls frames old new before now

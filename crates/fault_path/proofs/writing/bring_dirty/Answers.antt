@@ -1,16 +1,14 @@
 use Rattle.std.proofs.Common.{◌≡◌, inl, sym, ap, subst, ◌∙◌, refl, arith, rules}
-use Rattle.local_cache.specs.Arena.{Arena, HasNode}
+use Rattle.local_cache.specs.Arena.{Arena}
 use Rattle.local_cache.specs.Own.{own_of}
 use Rattle.local_cache.proofs.Nodes.OwnStates.{own_same}
 use Rattle.local_cache.specs.declared.own_state.OwnState.TheVariants.{Resident}
 use Rattle.residency.specs.StoreForest.{store_forest}
 use Rattle.residency.specs.World.{Still, World, world}
-use Rattle.residency.proofs.Worlds.After.{held_stays}
 use Rattle.residency.proofs.Worlds.Composed.{still_then}
-use Rattle.residency.proofs.Worlds.Homes.{home}
 use Rattle.residency.proofs.Forests.StillForest.{still_forest, still_like}
 use Rattle.fault_path.specs.Faults.{Kept}
-use Rattle.fault_path.proofs.Pages.DirtyPage.{dirtied, dirty_still, may_like}
+use Rattle.fault_path.proofs.Pages.DirtyPage.{bound_dirty, dirtied}
 use Rattle.fault_path.proofs.Calls.Kept.{still_kept}
 use Rattle.fault_path.proofs.Rules.ReadyForest.{kept_ready}
 use Rattle.local_cache.proofs.Changes.SameNodes.{copies-put}
@@ -43,9 +41,7 @@ returns-clause-ready g c =
     let w : World = world told size c.bring_in.new.caches c.bring_in.new.self in
     let b = c.in_ok-frame.ensures in
     let first = b.still in
-    let there : HasNode w.caches c.args.node = held_stays old.caches w.caches first.stays.caches c.args.node c.requires.own.node in
-    let at = home w c.in_ok-frame.frame.0 c.args.node first.stays.right b.home.0 b.home.1 in
-    let whole : Still old (dirtied w c.args.node) = still_then old w (dirtied w c.args.node) first (dirty_still w c.args.node first.stays.right there at.resident (may_like old.caches w.caches (still_like old.caches w.caches first.stays.caches) c.args.node c.requires.granted)) in
+    let whole : Still old (dirtied w c.args.node) = still_then old w (dirtied w c.args.node) first (bound_dirty old w c.in_ok-frame.frame.0 c.args.node first.stays.right (still_like old.caches w.caches first.stays.caches) c.requires.own.node c.requires.granted b.home.0 b.home.1) in
     let kept : Kept old (dirtied w c.args.node) = still_kept old (dirtied w c.args.node) whole c.requires.right.sound c.requires.right.shaped b.pinned in
     record {
       answered = record { kept = subst (λ (a : Arena). Kept old (world told size a c.bring_in.new.self)) (sym c.set_state.ensures.changed) kept; later = b.later; told = tells_as _ _ _ _ _ refl b.told };
@@ -94,9 +90,7 @@ returns-clause-drops g c =
     let w : World = world told size c.bring_in.new.caches c.bring_in.new.self in
     let b = c.in_ok-frame.ensures in
     let first = b.still in
-    let there : HasNode w.caches c.args.node = held_stays old.caches w.caches first.stays.caches c.args.node c.requires.own.node in
-    let at = home w c.in_ok-frame.frame.0 c.args.node first.stays.right b.home.0 b.home.1 in
-    let dirty : Still w (dirtied w c.args.node) = dirty_still w c.args.node first.stays.right there at.resident (may_like old.caches w.caches (still_like old.caches w.caches first.stays.caches) c.args.node c.requires.granted) in
+    let dirty : Still w (dirtied w c.args.node) = bound_dirty old w c.in_ok-frame.frame.0 c.args.node first.stays.right (still_like old.caches w.caches first.stays.caches) c.requires.own.node c.requires.granted b.home.0 b.home.1 in
     let may = MayCome c.args.caches.now c.args.node in
     let left = subst (λ (a : Arena). Drops may c.args.caches.now c.args.store.now a (without_homes c.args.node c.args.node c.bring_in.new.self)) (sym c.set_state.ensures.changed)
     (drops_trans may may may c.args.caches.now c.bring_in.new.caches (dirtied w c.args.node).caches c.args.store.now c.bring_in.new.self (without_homes c.args.node c.args.node c.bring_in.new.self) (λ n e. e) (λ n e. e)

@@ -1,24 +1,23 @@
 use Rattle.std.proofs.Common.{sym, ap, subst, ◌∙◌, ◌≡◌, ◌+◌, arith, Some, inl, refl, rules}
-use Rattle.local_cache.specs.Arena.{Arena, HasNode}
+use Rattle.local_cache.specs.Arena.{Arena}
 use Rattle.local_cache.specs.Own.{own_of}
 use Rattle.local_cache.proofs.Nodes.OwnStates.{own_same}
 use Rattle.local_cache.specs.declared.own_state.OwnState.TheVariants.{Resident}
 use Rattle.residency.specs.StoreForest.{store_forest}
 use Rattle.residency.specs.World.{Still, World, world}
-use Rattle.residency.proofs.Worlds.After.{held_stays}
 use Rattle.residency.proofs.Worlds.Homes.{home}
 use Rattle.residency.proofs.Forests.StillForest.{still_caches_sound, still_forest, still_like}
 use Rattle.vm_ids.specs.Forest.Rules.{heir_gets}
 use Rattle.global_map.specs.Pairs.{node_of}
 use Rattle.local_cache.specs.Reading.{name_of}
 use Rattle.fault_path.specs.Faults.{Kept}
-use Rattle.fault_path.proofs.Pages.DirtyPage.{dirtied, dirty_still, may_like}
+use Rattle.fault_path.proofs.Pages.DirtyPage.{bound_dirty, dirtied}
 use Rattle.fault_path.proofs.Calls.Kept.{still_kept, still_shaped}
 use Rattle.fault_path.proofs.Rules.ReadyForest.{handed_ready}
 use Rattle.fault_path.proofs.Frames.GatheredFrames.{bound_below}
 use Rattle.fault_path.proofs.Rules.Heirs.{still_heir}
 use Rattle.fault_path.proofs.Frames.TwoFrames.{kept_then}
-use Rattle.local_cache.proofs.Changes.SameNodes.{copies-put}
+use Rattle.local_cache.proofs.Changes.SameNodes.{copies-put, like_then}
 use Rattle.residency.proofs.Forests.StillForest.{still_copies}
 use Rattle.local_cache.specs.declared.own_state.OwnState.{OwnState}
 use Rattle.residency.specs.Causes.{HasMissCause, frames_to_bring}
@@ -81,12 +80,10 @@ returns-clause-ready g c =
     let first = b.still in
     let h = c.in_ok-hand_over.ensures in
     let k = h.handed.answered.kept in
-    let there : HasNode v.caches c.args.node = k.nodes.held c.args.node ∙ held_stays old.caches w.caches first.stays.caches c.args.node c.requires.own.node in
     let bound : node_of v.map c.in_ok-frame.frame.0 ≡ Some c.args.node = h.home c.in_ok-frame.frame.0 b.home.1 in
     let below = bound_below v.map c.in_ok-frame.frame.0 c.args.node bound in
-    let at = home v c.in_ok-frame.frame.0 c.args.node k.right below bound in
-    let dirty : Still v (dirtied v c.args.node) = dirty_still v c.args.node k.right there at.resident (may_like w.caches v.caches k.nodes c.args.node (may_like old.caches w.caches (still_like old.caches w.caches first.stays.caches) c.args.node c.requires.granted)) in
     let like = still_like old.caches w.caches first.stays.caches in
+    let dirty : Still v (dirtied v c.args.node) = bound_dirty old v c.in_ok-frame.frame.0 c.args.node k.right (like_then old.caches w.caches v.caches like k.nodes) c.requires.own.node c.requires.granted below bound in
     let kept : Kept old (dirtied v c.args.node) = kept_then old w (dirtied v c.args.node) (still_kept old w first c.requires.right.sound c.requires.right.shaped b.pinned)
     (kept_then w v (dirtied v c.args.node) k (still_kept v (dirtied v c.args.node) dirty k.sound k.shaped refl)) in
     record {
@@ -189,11 +186,10 @@ returns-clause-drops g c =
     let first = b.still in
     let h = c.in_ok-hand_over.ensures in
     let k = h.handed.answered.kept in
-    let there : HasNode v.caches c.args.node = k.nodes.held c.args.node ∙ held_stays old.caches w.caches first.stays.caches c.args.node c.requires.own.node in
     let bound : node_of v.map c.in_ok-frame.frame.0 ≡ Some c.args.node = h.home c.in_ok-frame.frame.0 b.home.1 in
     let below = bound_below v.map c.in_ok-frame.frame.0 c.args.node bound in
-    let at = home v c.in_ok-frame.frame.0 c.args.node k.right below bound in
-    let dirty : Still v (dirtied v c.args.node) = dirty_still v c.args.node k.right there at.resident (may_like w.caches v.caches k.nodes c.args.node (may_like old.caches w.caches (still_like old.caches w.caches first.stays.caches) c.args.node c.requires.granted)) in
+    let like = still_like old.caches w.caches first.stays.caches in
+    let dirty : Still v (dirtied v c.args.node) = bound_dirty old v c.in_ok-frame.frame.0 c.args.node k.right (like_then old.caches w.caches v.caches like k.nodes) c.requires.own.node c.requires.granted below bound in
     let may = MayCome c.args.caches.now c.args.node in
     let may' = MayCome c.bring_in.new.caches c.args.node in
     let left = subst (λ (a : Arena). Drops may c.args.caches.now c.args.store.now a (without_homes c.args.node c.args.node c.hand_over.new.store)) (sym c.set_state.ensures.changed)
