@@ -16,3 +16,5 @@ pub mod Queue
 pub mod NewCache
 -- What holds between two commands.
 pub mod Whole
+-- What is known of some nodes and of some pages.
+pub mod Known

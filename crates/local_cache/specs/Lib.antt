@@ -3,6 +3,7 @@ pub mod Changes
 pub mod Codes
 pub mod Heap
 pub mod Home
+pub mod Known
 pub mod Layout
 pub mod Lists
 pub mod Own
