@@ -99,6 +99,11 @@ none_behind (t ∷ ts) = none_behind ts
 abbrev page_cell : CacheId → ℕ → OwnState → Cell
 page_cell cache page own = new_cell (Live cache (record { 0 = page })) own
 
+-- the number of a page that a name names
+abbrev number_in : NodeName → ℕ
+number_in (Live cache page) = page.0
+number_in (Working k) = 0
+
 -- what is found at a number is what was found there, or that of a page of the cache
 filled_where : (ns : List NodeId) (cells : FinMap nat_cmp Cell) (page : ℕ) (after : FinMap nat_cmp Cell) (cache : CacheId) (own : OwnState) (k : ℕ) (d : NodeId) → IsFilled cells cache page own ns after
     → (ids.get after k ≡ ids.get cells k) ⊎ ((j : ℕ) × (j < length ns) × (k ≡ (get_or ns j d).0))
@@ -157,7 +162,7 @@ module _ (a b : Arena) (cache : CacheId) (segment : Option SegId) (own : OwnStat
           | inl m_old ↦ absurd (unmade m m_old at.0 (sym (old_name m m_old) ∙ sym e ∙ ap (name_of b) at.2 ∙ new_name at.0 at.1))
           | inr on ↦
               let names : Live cache (record { 0 = at.0 }) ≡ Live cache (record { 0 = on.0 }) = sym (new_name at.0 at.1) ∙ ap (name_of b) (sym at.2) ∙ e ∙ ap (name_of b) on.2 ∙ new_name on.0 on.1 in
-              let same : at.0 ≡ on.0 = cc names in
+              let same : at.0 ≡ on.0 = ap number_in names in
               at.2 ∙ ap (λ j. get_or pages j zeroth) same ∙ sym on.2
         ]
       ];
@@ -174,7 +179,7 @@ module _ (a b : Arena) (cache : CacheId) (segment : Option SegId) (own : OwnStat
       | inr at ↦
           let names : Live cache (record { 0 = at.0 }) ≡ page_name of page = sym (new_name at.0 at.1) ∙ ap (name_of b) (sym at.2) ∙ e in
           let cache_is : cache.0 ≡ of = cc names in
-          let page_is : at.0 ≡ page = cc names in
+          let page_is : at.0 ≡ page = ap number_in names in
           ap (λ k. node_at b k page) (sym cache_is) ∙ ap (node_at b cache.0) (sym page_is) ∙ new_node at.0 at.1 ∙ ap Some (sym at.2)
     ];
   }
