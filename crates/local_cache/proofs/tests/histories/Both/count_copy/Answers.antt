@@ -1,5 +1,5 @@
 use Rattle.std.proofs.Common.{◌∙◌, ap, arith}
-use Rattle.vm_ids.specs.declared.counts.Counts.{Counts}
+use Rattle.vm_ids.specs.declared.reply.Counts.{Counts}
 use Rattle.local_cache.proofs.Changes.SameNodes.{forest_of-copies}
 use Rattle.local_cache.proofs.Known.Same.{known-copy}
 use Rattle.local_cache.proofs.tests.histories.Both.count_copy.Goals as goal
