@@ -36,3 +36,5 @@ pub mod Adapting
 pub mod ManyNodes
 -- The arena that page nodes as runs and the rows of caches stand for.
 pub mod ArenaBy
+-- What is known of some nodes and of some pages.
+pub mod Known

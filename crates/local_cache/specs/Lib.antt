@@ -6,6 +6,7 @@ pub mod Codes
 pub mod GoingOn
 pub mod Home
 pub mod KeyRanges
+pub mod Known
 pub mod ManyNodes
 pub mod NodeCells
 pub mod NodeKeys

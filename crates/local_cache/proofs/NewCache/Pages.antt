@@ -34,7 +34,7 @@ filled_stays (n ∷ ns) cells page after cache own k c f is =
     ])
 
 -- each page's node is there
-filled_page : (ns : List NodeId) (cells : FinMap nat_cmp Cell) (page : ℕ) (after : FinMap nat_cmp Cell) (cache : CacheId) (own : OwnState) (k : ℕ) (d : NodeId) → IsFilled cells cache page own ns after → k < length ns
+pub filled_page : (ns : List NodeId) (cells : FinMap nat_cmp Cell) (page : ℕ) (after : FinMap nat_cmp Cell) (cache : CacheId) (own : OwnState) (k : ℕ) (d : NodeId) → IsFilled cells cache page own ns after → k < length ns
     → ids.get after (get_or ns k d).0 ≡ Some (named cache (page + k) own)
 filled_page [] cells page after cache own k d f h = absurd (omega arith)
 filled_page (n ∷ ns) cells page after cache own zero d f h =
@@ -58,7 +58,7 @@ filled_cases (n ∷ ns) cells page after cache own k f = elim (filled_cases ns (
   ]
 ]
 
-last_table : (old new : Arena) (cache : CacheId) (segment : Option SegId) (own : OwnState) (ns : List NodeId) → IsMade old new cache segment own ns → table_of new cache.0 ≡ Some (new_table segment ns)
+pub last_table : (old new : Arena) (cache : CacheId) (segment : Option SegId) (own : OwnState) (ns : List NodeId) → IsMade old new cache segment own ns → table_of new cache.0 ≡ Some (new_table segment ns)
 last_table old new cache segment own ns m =
     let t : Table = new_table segment ns in
     ap (table_of new) (m.number ∙ add-one (length old.caches))

@@ -3,7 +3,7 @@ use Rattle.local_cache.specs.declared.own_state.OwnState.TheVariants.{Zero}
 use Rattle.local_cache.specs.Arena.{IsVacant}
 use Rattle.local_cache.proofs.NewCache.Pages.{page_held}
 use Rattle.local_cache.proofs.Names.WorkingName.{page_named, vacated}
-use Rattle.local_cache.proofs.tests.a_node_is_named_by_a_page.Goals as goal
+use Rattle.local_cache.proofs.tests.calls.a_node_is_named_by_a_page.Goals as goal
 
 pub rename-requires-clause-vacant : goal.rename-requires-clause-vacant
 rename-requires-clause-vacant g c =

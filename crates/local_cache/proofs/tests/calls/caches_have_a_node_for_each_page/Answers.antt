@@ -2,7 +2,7 @@ use Rattle.std.proofs.Common.{ap, lit<}
 use Rattle.std.specs.Prelude.{is_some}
 use Rattle.local_cache.specs.declared.own_state.OwnState.TheVariants.{Zero}
 use Rattle.local_cache.proofs.NewCache.Pages.{page_held}
-use Rattle.local_cache.proofs.tests.caches_have_a_node_for_each_page.Goals as goal
+use Rattle.local_cache.proofs.tests.calls.caches_have_a_node_for_each_page.Goals as goal
 
 pub node_of-node-requires : goal.node_of-node-requires
 node_of-node-requires g c = ap is_some (c.make_temp-large.ensures.pages 1 (lit< tt)).at

@@ -1,7 +1,7 @@
 use Rattle.std.proofs.Common.{sym, subst}
 use Rattle.local_cache.specs.Sound.{IsSound}
 use Rattle.local_cache.proofs.NewNode.FreshNode.{sound-fresh}
-use Rattle.local_cache.proofs.tests.what_is_kept_is_counted.Goals as goal
+use Rattle.local_cache.proofs.tests.calls.what_is_kept_is_counted.Goals as goal
 
 pub counts-requires : goal.counts-requires
 counts-requires g c =

@@ -2,7 +2,7 @@ use Rattle.std.proofs.Common.{lit<, subst, sym}
 use Rattle.local_cache.specs.declared.own_state.OwnState.TheVariants.{Zero}
 use Rattle.local_cache.specs.Arena.{IsVacant}
 use Rattle.local_cache.proofs.Names.WorkingName.{page_named, vacated}
-use Rattle.local_cache.proofs.tests.a_page_changes_its_node.Goals as goal
+use Rattle.local_cache.proofs.tests.calls.a_page_changes_its_node.Goals as goal
 
 pub fresh-new-requires-clause-vacant : goal.fresh-new-requires-clause-vacant
 fresh-new-requires-clause-vacant g c =

@@ -1,0 +1,858 @@
+// Many calls of the caches and of the slow form, and what both tell after each.
+ghost use Rattle.std.specs.Prelude.{◌≡◌, ℕ, ◌<◌, ◌≤◌, ◌^◌, Bool, IsTrue, IsSome, None, filter, not, length, ◌&&◌, ◌==◌};
+ghost use Rattle.vm_ids.specs.declared.numbers.NodeId.{NodeId};
+ghost use Rattle.vm_ids.specs.declared.numbers.CacheId.{CacheId};
+ghost use Rattle.vm_ids.specs.declared.numbers.PageNo.{PageNo};
+ghost use Rattle.local_cache.specs.Arena.{HasNode, HasPages, HasPlace, IsVacant, node_at, table_of};
+ghost use Rattle.local_cache.specs.Known.{IsKnown, IsLeft};
+
+use super::slow::SlowCaches;
+use crate::{Caches, Links, OwnState};
+use std::process::Abort;
+use std::test::Fail;
+use vm_ids::{CacheId, NodeId, NodeName, PageNo, SegId, SlotId};
+
+// How many draws there are.
+const TURNS: u32 = 10_000;
+
+// A sweep goes over so many pages, which is as many as the largest cache has.
+const LONGEST: u32 = 30;
+
+// From so many nodes on, some are freed.
+const MOST_NODES: usize = 300;
+
+// From so many live caches on, one is removed.
+const MOST_CACHES: usize = 12;
+
+// Numbers that look random, and are the same each time.
+#[derive(Drop)]
+struct Draws {
+    state: u64,
+}
+
+impl Draws {
+    fn below(&mut self, count: u64) -> u64
+        requires { 0 < count }
+        ensures { result < count }
+    {
+        self.state = self
+            .state
+            .wrapping_mul(6_364_136_223_846_793_005)
+            .wrapping_add(1_442_695_040_888_963_407);
+        (self.state >> 33) % count
+    }
+}
+
+// What is done to each page of a cache in turn.
+#[derive(Clone, Copy)]
+enum Sweep {
+    // Its node becomes a working node.
+    ToWorking,
+    // It gets the next node of those that became working nodes last.
+    Rename,
+    // It gets a new node.
+    Fresh,
+    // Its node hangs on that of the same page of another cache.
+    Hang,
+    // The same by a stub link.
+    HangByStub,
+    // Its node gets that of the same page of another cache as its tree child.
+    Tree,
+    // Its node's own page is elsewhere.
+    SetState,
+    // It is granted and locked.
+    Lock,
+    // It is unlocked once.
+    Unlock,
+    // Its node is freed.
+    Free,
+    // Its node is freed, if its number is even.
+    FreeSecond,
+    // The next node of those that became working nodes last is freed, in place of its own.
+    FreeWorking,
+    // Some node is freed, in place of its own.
+    FreeDrawn,
+}
+
+// The caches and their slow form.
+#[derive(Drop)]
+struct Both {
+    caches: Caches,
+    slow: SlowCaches,
+    // the nodes that are there
+    nodes: Vec<NodeId>,
+    // the pages that have no node
+    vacant: Vec<(CacheId, PageNo)>,
+    // the nodes that became working nodes in the last sweep
+    swept: Vec<NodeId>,
+    draws: Draws,
+}
+
+// The nodes but for one.
+fn forget_node(nodes: &mut Vec<NodeId>, gone: NodeId)
+    ensures { nodes.new.items ≡ filter (λ (n : NodeId). not (n.0 == gone.0)) nodes.old.items }
+{
+    nodes.retain(|node| node.0 != gone.0);
+}
+
+// The pages but for one.
+fn forget_page(pages: &mut Vec<(CacheId, PageNo)>, cache: CacheId, page: PageNo)
+    ensures { pages.new.items
+        ≡ filter (λ (p : CacheId × PageNo). not (p.0.0 == cache.0 && p.1.0 == page.0))
+        pages.old.items }
+{
+    pages.retain(|place| !(place.0.0 == cache.0 && place.1.0 == page.0));
+}
+
+// The pages but for those of one cache.
+fn forget_cache(pages: &mut Vec<(CacheId, PageNo)>, cache: CacheId)
+    ensures { pages.new.items
+        ≡ filter (λ (p : CacheId × PageNo). not (p.0.0 == cache.0)) pages.old.items }
+{
+    pages.retain(|place| place.0.0 != cache.0);
+}
+
+impl Both {
+    // What is there --------------------------------------------------------------------------
+
+    // Whether a node is there.
+    fn has_node(&self, node: NodeId) -> bool
+        requires { IsKnown self.now.caches self.now.nodes.items self.now.vacant.items }
+        ensures { IsTrue result → HasNode self.now.caches node }
+    {
+        for known in &self.nodes {
+            if known.0 == node.0 {
+                return true;
+            }
+        }
+        false
+    }
+
+    // Whether a page of a live cache has no node.
+    fn is_vacant(&self, cache: CacheId, page: PageNo) -> bool
+        requires { IsKnown self.now.caches self.now.nodes.items self.now.vacant.items }
+        ensures { IsTrue result → IsVacant self.now.caches cache page }
+    {
+        for (of, vacant) in &self.vacant {
+            if of.0 == cache.0 && vacant.0 == page.0 {
+                return true;
+            }
+        }
+        false
+    }
+
+    // Whether there is a live cache with this page.
+    fn has_place(&self, cache: CacheId, page: PageNo) -> bool
+        ensures { IsTrue result → HasPlace self.now.caches cache page }
+    {
+        match self.caches.pages(cache) {
+            Some(count) => page.0 < count,
+            None => false,
+        }
+    }
+
+    // Whether there is a live cache whose pages have no nodes.
+    fn is_retired(&self, cache: CacheId) -> bool
+        requires { IsKnown self.now.caches self.now.nodes.items self.now.vacant.items }
+        ensures live { IsTrue result → IsSome (table_of self.now.caches cache.0) }
+        ensures retired { IsTrue result
+            → (page : ℕ) → node_at self.now.caches cache.0 page ≡ None }
+    {
+        let Some(count) = self.caches.pages(cache) else {
+            return false;
+        };
+        for page in 0..count {
+            if !self.is_vacant(cache, PageNo(page)) {
+                return false;
+            }
+        }
+        true
+    }
+
+    // A node that is there, if there is one.
+    fn draw_node(&mut self) -> NodeId
+        requires { IsKnown self.old.caches self.old.nodes.items self.old.vacant.items }
+        ensures { IsKnown self.new.caches self.new.nodes.items self.new.vacant.items }
+    {
+        let at = self.draws.below(self.nodes.len() as u64 + 1) as usize;
+        match self.nodes.get(at) {
+            Some(node) => *node,
+            None => NodeId(0),
+        }
+    }
+
+    fn draw_cache(&mut self) -> CacheId
+        requires { IsKnown self.old.caches self.old.nodes.items self.old.vacant.items }
+        ensures { IsKnown self.new.caches self.new.nodes.items self.new.vacant.items }
+    {
+        let at = self.draws.below(self.slow.caches.len() as u64 + 1) as usize;
+        match self.slow.caches.get(at) {
+            Some(cache) => cache.number,
+            None => CacheId(0),
+        }
+    }
+
+    fn draw_page(&mut self) -> (CacheId, PageNo)
+        requires { IsKnown self.old.caches self.old.nodes.items self.old.vacant.items }
+        ensures { IsKnown self.new.caches self.new.nodes.items self.new.vacant.items }
+    {
+        let at = self.draws.below(self.slow.pages.len() as u64 + 1) as usize;
+        match self.slow.pages.get(at) {
+            Some(page) => (page.cache, page.page),
+            None => (CacheId(1), PageNo(LONGEST)),
+        }
+    }
+
+    fn draw_vacant(&mut self) -> (CacheId, PageNo)
+        requires { IsKnown self.old.caches self.old.nodes.items self.old.vacant.items }
+        ensures { IsKnown self.new.caches self.new.nodes.items self.new.vacant.items }
+    {
+        let at = self.draws.below(self.vacant.len() as u64 + 1) as usize;
+        match self.vacant.get(at) {
+            Some(place) => *place,
+            None => (CacheId(0), PageNo(0)),
+        }
+    }
+
+    fn draw_state(&mut self) -> OwnState
+        requires { IsKnown self.old.caches self.old.nodes.items self.old.vacant.items }
+        ensures { IsKnown self.new.caches self.new.nodes.items self.new.vacant.items }
+    {
+        match self.draws.below(6) {
+            0 => OwnState::Absent,
+            1 => OwnState::Zero,
+            2 => OwnState::Resident { dirty: false },
+            3 => OwnState::Resident { dirty: true },
+            4 => OwnState::OnSegment,
+            _ => OwnState::Slot(SlotId(self.draws.below(100) as u32)),
+        }
+    }
+
+    fn draw_links(&mut self) -> Links
+        requires { IsKnown self.old.caches self.old.nodes.items self.old.vacant.items }
+        ensures { IsKnown self.new.caches self.new.nodes.items self.new.vacant.items }
+    {
+        let parent = self.draw_node();
+        let first = self.draw_node();
+        let last = self.draw_node();
+        let before = self.draw_node();
+        let behind = self.draw_node();
+        Links {
+            parent: self.draws.some(parent),
+            by_stub: self.draws.below(2) == 0,
+            first: self.draws.some(first),
+            last: self.draws.some(last),
+            stubs: self.draws.below(3) as u32,
+            before: self.draws.some(before),
+            behind: self.draws.some(behind),
+        }
+    }
+
+    // What both tell -------------------------------------------------------------------------
+
+    fn compare_node(&self, rt: &impl Abort, node: NodeId)
+        requires { IsKnown self.now.caches self.now.nodes.items self.now.vacant.items }
+    {
+        if !self.has_node(node) {
+            assert!(rt; self.slow.node(node).is_none());
+            return;
+        }
+        let slow = self.slow.node(node).expect(rt, "the node is there");
+        let name = self.caches.name(node);
+        assert_eq!(rt; name, slow.name);
+        assert_eq!(rt; self.caches.own_state(node), slow.own);
+        assert_eq!(rt; self.caches.links(node), slow.links);
+        assert_eq!(rt; self.caches.tree_child(node, 0), slow.children[0]);
+        assert_eq!(rt; self.caches.tree_child(node, 1), slow.children[1]);
+        assert_eq!(rt; self.caches.tree_child(node, 2), None);
+        assert_eq!(rt; self.caches.home(node), self.slow.home(name));
+        if let NodeName::Live(cache, page) = name {
+            assert_eq!(rt; self.caches.node_of(cache, page), node);
+        }
+    }
+
+    fn compare_page(&self, rt: &impl Abort, cache: CacheId, page: PageNo) {
+        let slow = self.slow.page(cache, page);
+        let locks = self.caches.locks(cache, page);
+        match slow {
+            Some(slow) => assert_eq!(rt; locks, slow.locks),
+            None => assert_eq!(rt; locks, 0),
+        }
+        if self.has_place(cache, page) {
+            let slow = slow.expect(rt, "the page is there");
+            assert_eq!(rt; self.caches.granted(cache, page), slow.granted);
+        } else {
+            assert!(rt; slow.is_none());
+        }
+    }
+
+    fn compare_cache(&self, rt: &impl Abort, cache: CacheId) {
+        let slow = self.slow.cache(cache);
+        assert_eq!(rt; self.caches.pages(cache), slow.map(|slow| slow.pages));
+        assert_eq!(rt; self.caches.segment(cache), slow.and_then(|slow| slow.segment));
+    }
+
+    fn compare_counts(&self, rt: &impl Abort)
+        requires { IsKnown self.now.caches self.now.nodes.items self.now.vacant.items }
+    {
+        assert_eq!(rt; self.caches.thin(), self.slow.thin());
+        let counts = self.caches.counts();
+        assert_eq!(rt; counts.live as usize, self.slow.live());
+        assert_eq!(rt; counts.working as usize, self.slow.working());
+        assert_eq!(rt; counts.copies, self.slow.copies);
+        assert_eq!(rt; self.caches.locked() as usize, self.slow.locked());
+        assert_eq!(rt; self.caches.caches_made(), self.slow.caches_made);
+        assert_eq!(rt; self.caches.working_made(), self.slow.working_made);
+        assert_eq!(rt; self.nodes.len(), self.slow.nodes.len());
+    }
+
+    // After a call that changed a node: the counts, this node, a drawn one and a drawn page.
+    fn compare(&mut self, rt: &impl Abort, node: NodeId)
+        requires { IsKnown self.old.caches self.old.nodes.items self.old.vacant.items }
+        ensures { IsKnown self.new.caches self.new.nodes.items self.new.vacant.items }
+    {
+        let other = self.draw_node();
+        let (cache, page) = self.draw_page();
+        self.compare_counts(rt);
+        self.compare_node(rt, node);
+        self.compare_node(rt, other);
+        self.compare_page(rt, cache, page);
+        self.compare_cache(rt, cache);
+    }
+
+    fn compare_all(&self, rt: &impl Abort)
+        requires { IsKnown self.now.caches self.now.nodes.items self.now.vacant.items }
+    {
+        self.compare_counts(rt);
+        for node in &self.nodes {
+            self.compare_node(rt, *node);
+        }
+        for node in &self.slow.nodes {
+            self.compare_node(rt, node.number);
+        }
+        for page in &self.slow.pages {
+            self.compare_page(rt, page.cache, page.page);
+        }
+        for cache in 0..self.slow.caches_made {
+            self.compare_cache(rt, CacheId(cache));
+            self.compare_page(rt, CacheId(cache), PageNo(0));
+        }
+        for cache in &self.slow.caches {
+            self.compare_page(rt, cache.number, PageNo(cache.pages));
+        }
+    }
+
+    // Calls of both --------------------------------------------------------------------------
+
+    // Takes memory for so many more caches and pages.
+    fn reserve(&mut self, rt: &impl Abort, caches: u32, nodes: u32)
+        requires { IsKnown self.old.caches self.old.nodes.items self.old.vacant.items }
+        ensures known { IsKnown self.new.caches self.new.nodes.items self.new.vacant.items }
+        ensures caches { caches ≤ self.new.caches.room.caches }
+        ensures nodes { nodes ≤ self.new.caches.room.nodes }
+        ensures entries { nodes ≤ self.new.caches.room.entries }
+    {
+        self.caches.reserve(caches, nodes).expect(rt, "memory");
+    }
+
+    // Makes a cache of a segment, or a temporary one.
+    fn make(&mut self, rt: &impl Abort, segment: Option<SegId>, pages: u32)
+        requires { IsKnown self.old.caches self.old.nodes.items self.old.vacant.items }
+        ensures { IsKnown self.new.caches self.new.nodes.items self.new.vacant.items }
+    {
+        self.reserve(rt, 1, pages);
+        if self.caches.caches_made() >= 1_000_000 {
+            return;
+        }
+        match segment {
+            None => {
+                let cache = self.caches.make_temp(pages);
+                self.take_pages(rt, cache, segment, pages, OwnState::Zero);
+            }
+            Some(name) => {
+                let cache = self.caches.make_named(name, pages);
+                self.take_pages(rt, cache, segment, pages, OwnState::OnSegment);
+            }
+        }
+    }
+
+    // Puts a cache that was made into the slow form.
+    fn take_pages(
+        &mut self,
+        rt: &impl Abort,
+        cache: CacheId,
+        segment: Option<SegId>,
+        pages: u32,
+        own: OwnState,
+    )
+        requires known { IsKnown self.old.caches self.old.nodes.items self.old.vacant.items }
+        requires pages { HasPages self.old.caches cache pages own }
+        ensures { IsKnown self.new.caches self.new.nodes.items self.new.vacant.items }
+    {
+        self.slow.make(rt, cache, segment, pages);
+        for number in 0..pages {
+            let page = PageNo(number);
+            let node = self.caches.node_of(cache, page);
+            self.slow.add(rt, node, NodeName::Live(cache, page), own);
+            self.nodes.push(node).expect(rt, "memory");
+        }
+        self.compare_cache(rt, cache);
+        let node = self.slow.node_of(cache, PageNo(0));
+        self.compare(rt, node);
+    }
+
+    fn fresh(&mut self, rt: &impl Abort, cache: CacheId, page: PageNo, own: OwnState)
+        requires { IsKnown self.old.caches self.old.nodes.items self.old.vacant.items }
+        ensures { IsKnown self.new.caches self.new.nodes.items self.new.vacant.items }
+    {
+        self.reserve(rt, 0, 1);
+        if !self.is_vacant(cache, page) {
+            return;
+        }
+        let node = self.caches.fresh(cache, page, own);
+        forget_page(&mut self.vacant, cache, page);
+        self.nodes.push(node).expect(rt, "memory");
+        self.slow.add(rt, node, NodeName::Live(cache, page), own);
+        self.compare(rt, node);
+    }
+
+    fn fresh_working(&mut self, rt: &impl Abort)
+        requires { IsKnown self.old.caches self.old.nodes.items self.old.vacant.items }
+        ensures { IsKnown self.new.caches self.new.nodes.items self.new.vacant.items }
+    {
+        self.reserve(rt, 0, 1);
+        if self.caches.working_made() >= 1_000_000 {
+            return;
+        }
+        let node = self.caches.fresh_working();
+        self.nodes.push(node).expect(rt, "memory");
+        let name = self.slow.next_working();
+        self.slow.add(rt, node, name, OwnState::Absent);
+        self.compare(rt, node);
+    }
+
+    // Notes that a page has no node any more, if a page had this name.
+    fn leave(&mut self, rt: &impl Abort, name: NodeName)
+        requires known { IsKnown self.old.caches self.old.nodes.items self.old.vacant.items }
+        requires left { IsLeft self.old.caches name }
+        ensures { IsKnown self.new.caches self.new.nodes.items self.new.vacant.items }
+    {
+        if let NodeName::Live(cache, page) = name {
+            self.vacant.push((cache, page)).expect(rt, "memory");
+        }
+    }
+
+    fn to_working(&mut self, rt: &impl Abort, node: NodeId)
+        requires { IsKnown self.old.caches self.old.nodes.items self.old.vacant.items }
+        ensures { IsKnown self.new.caches self.new.nodes.items self.new.vacant.items }
+    {
+        if !self.has_node(node) || self.caches.working_made() >= 1_000_000 {
+            return;
+        }
+        let left = self.caches.name(node);
+        self.caches.to_working(node);
+        self.leave(rt, left);
+        let name = self.slow.next_working();
+        self.slow.set_name(node, name);
+        self.compare(rt, node);
+    }
+
+    fn rename(&mut self, rt: &impl Abort, node: NodeId, cache: CacheId, page: PageNo)
+        requires { IsKnown self.old.caches self.old.nodes.items self.old.vacant.items }
+        ensures { IsKnown self.new.caches self.new.nodes.items self.new.vacant.items }
+    {
+        if !self.has_node(node) || !self.is_vacant(cache, page) {
+            return;
+        }
+        let left = self.caches.name(node);
+        self.caches.rename(node, cache, page);
+        forget_page(&mut self.vacant, cache, page);
+        self.leave(rt, left);
+        self.slow.set_name(node, NodeName::Live(cache, page));
+        self.compare(rt, node);
+    }
+
+    fn free(&mut self, rt: &impl Abort, node: NodeId)
+        requires { IsKnown self.old.caches self.old.nodes.items self.old.vacant.items }
+        ensures { IsKnown self.new.caches self.new.nodes.items self.new.vacant.items }
+    {
+        if !self.has_node(node) {
+            return;
+        }
+        let left = self.caches.name(node);
+        self.caches.free(node);
+        forget_node(&mut self.nodes, node);
+        self.leave(rt, left);
+        self.slow.free(node);
+        self.compare(rt, node);
+    }
+
+    fn set_state(&mut self, rt: &impl Abort, node: NodeId, own: OwnState)
+        requires { IsKnown self.old.caches self.old.nodes.items self.old.vacant.items }
+        ensures { IsKnown self.new.caches self.new.nodes.items self.new.vacant.items }
+    {
+        if !self.has_node(node) {
+            return;
+        }
+        self.caches.set_state(node, own);
+        self.slow.set_state(node, own);
+        self.compare(rt, node);
+    }
+
+    fn set_links(&mut self, rt: &impl Abort, node: NodeId, links: Links)
+        requires { IsKnown self.old.caches self.old.nodes.items self.old.vacant.items }
+        ensures { IsKnown self.new.caches self.new.nodes.items self.new.vacant.items }
+    {
+        if !self.has_node(node) {
+            return;
+        }
+        self.caches.set_links(node, links);
+        self.slow.set_links(node, links);
+        self.compare(rt, node);
+    }
+
+    fn hang(&mut self, rt: &impl Abort, node: NodeId, parent: Option<NodeId>)
+        requires { IsKnown self.old.caches self.old.nodes.items self.old.vacant.items }
+        ensures { IsKnown self.new.caches self.new.nodes.items self.new.vacant.items }
+    {
+        if !self.has_node(node) {
+            return;
+        }
+        self.caches.hang(node, parent);
+        self.slow.hang(node, parent);
+        self.compare(rt, node);
+    }
+
+    fn set_one_child(&mut self, rt: &impl Abort, node: NodeId, child: NodeId)
+        requires { IsKnown self.old.caches self.old.nodes.items self.old.vacant.items }
+        ensures { IsKnown self.new.caches self.new.nodes.items self.new.vacant.items }
+    {
+        if !self.has_node(node) {
+            return;
+        }
+        self.caches.set_tree_children(node, &[child]);
+        self.slow.set_tree_children(node, [Some(child), None]);
+        self.compare(rt, node);
+    }
+
+    fn set_two_children(&mut self, rt: &impl Abort, node: NodeId, first: NodeId, second: NodeId)
+        requires { IsKnown self.old.caches self.old.nodes.items self.old.vacant.items }
+        ensures { IsKnown self.new.caches self.new.nodes.items self.new.vacant.items }
+    {
+        if !self.has_node(node) {
+            return;
+        }
+        self.caches.set_tree_children(node, &[first, second]);
+        self.slow
+            .set_tree_children(node, [Some(first), Some(second)]);
+        self.compare(rt, node);
+    }
+
+    fn set_no_children(&mut self, rt: &impl Abort, node: NodeId)
+        requires { IsKnown self.old.caches self.old.nodes.items self.old.vacant.items }
+        ensures { IsKnown self.new.caches self.new.nodes.items self.new.vacant.items }
+    {
+        if !self.has_node(node) {
+            return;
+        }
+        self.caches.set_tree_children(node, &[]);
+        self.slow.set_tree_children(node, [None, None]);
+        self.compare(rt, node);
+    }
+
+    fn grant(&mut self, rt: &impl Abort, cache: CacheId, page: PageNo)
+        requires { IsKnown self.old.caches self.old.nodes.items self.old.vacant.items }
+        ensures { IsKnown self.new.caches self.new.nodes.items self.new.vacant.items }
+    {
+        if !self.has_place(cache, page) {
+            return;
+        }
+        self.caches.grant(cache, page);
+        self.slow.grant(cache, page);
+        self.compare_page(rt, cache, page);
+        self.compare(rt, NodeId(0));
+    }
+
+    fn add_lock(&mut self, rt: &impl Abort, cache: CacheId, page: PageNo)
+        requires { IsKnown self.old.caches self.old.nodes.items self.old.vacant.items }
+        ensures { IsKnown self.new.caches self.new.nodes.items self.new.vacant.items }
+    {
+        if !self.has_place(cache, page) || self.caches.locks(cache, page) >= 1_000_000 {
+            return;
+        }
+        self.caches.add_lock(cache, page);
+        self.slow.add_lock(cache, page);
+        self.compare_page(rt, cache, page);
+        self.compare(rt, NodeId(0));
+    }
+
+    fn drop_lock(&mut self, rt: &impl Abort, cache: CacheId, page: PageNo)
+        requires { IsKnown self.old.caches self.old.nodes.items self.old.vacant.items }
+        ensures { IsKnown self.new.caches self.new.nodes.items self.new.vacant.items }
+    {
+        if self.caches.locks(cache, page) == 0 {
+            return;
+        }
+        self.caches.drop_lock(cache, page);
+        self.slow.drop_lock(cache, page);
+        self.compare_page(rt, cache, page);
+        self.compare(rt, NodeId(0));
+    }
+
+    fn count_copy(&mut self, rt: &impl Abort)
+        requires { IsKnown self.old.caches self.old.nodes.items self.old.vacant.items }
+        ensures { IsKnown self.new.caches self.new.nodes.items self.new.vacant.items }
+    {
+        if self.caches.counts().copies >= 1_000_000 {
+            return;
+        }
+        self.caches.count_copy();
+        self.slow.copies = self.slow.copies.wrapping_add(1);
+        self.compare(rt, NodeId(0));
+    }
+
+    fn remove(&mut self, rt: &impl Abort, cache: CacheId)
+        requires { IsKnown self.old.caches self.old.nodes.items self.old.vacant.items }
+        ensures { IsKnown self.new.caches self.new.nodes.items self.new.vacant.items }
+    {
+        if !self.is_retired(cache) {
+            return;
+        }
+        self.caches.remove(cache);
+        forget_cache(&mut self.vacant, cache);
+        self.slow.remove(cache);
+        self.compare_cache(rt, cache);
+        self.compare(rt, NodeId(0));
+    }
+
+    // Sweeps and draws -----------------------------------------------------------------------
+
+    // The node at a place of the last sweep, or a number that no node has.
+    fn swept_at(&self, place: u32) -> NodeId {
+        match self.swept.get(place as usize) {
+            Some(node) => *node,
+            None => NodeId(u64::MAX),
+        }
+    }
+
+    fn sweep_page(
+        &mut self,
+        rt: &impl Abort,
+        sweep: Sweep,
+        cache: CacheId,
+        other: CacheId,
+        number: u32,
+    )
+        requires { IsKnown self.old.caches self.old.nodes.items self.old.vacant.items }
+        ensures { IsKnown self.new.caches self.new.nodes.items self.new.vacant.items }
+    {
+        let page = PageNo(number);
+        let node = self.slow.node_of(cache, page);
+        let parent = self.slow.node_of(other, page);
+        match sweep {
+            Sweep::ToWorking => {
+                self.swept.push(node).expect(rt, "memory");
+                self.to_working(rt, node)
+            }
+            Sweep::Rename => {
+                let next = self.swept_at(number);
+                self.rename(rt, next, cache, page)
+            }
+            Sweep::Fresh => {
+                let own = self.draw_state();
+                self.fresh(rt, cache, page, own)
+            }
+            Sweep::Hang => self.hang(rt, node, Some(parent)),
+            Sweep::HangByStub => {
+                let links = Links {
+                    parent: Some(parent),
+                    by_stub: true,
+                    ..Links::NONE
+                };
+                self.set_links(rt, node, links)
+            }
+            Sweep::Tree => self.set_one_child(rt, node, parent),
+            Sweep::SetState => {
+                let own = OwnState::Slot(SlotId(number));
+                self.set_state(rt, node, own)
+            }
+            Sweep::Lock => {
+                self.grant(rt, cache, page);
+                self.add_lock(rt, cache, page)
+            }
+            Sweep::Unlock => self.drop_lock(rt, cache, page),
+            Sweep::Free => self.free(rt, node),
+            Sweep::FreeSecond => {
+                if number % 2 == 0 {
+                    self.free(rt, node)
+                }
+            }
+            Sweep::FreeWorking => {
+                let next = self.swept_at(number);
+                self.free(rt, next)
+            }
+            Sweep::FreeDrawn => {
+                let drawn = self.draw_node();
+                self.free(rt, drawn)
+            }
+        }
+    }
+
+    // Does the same to each page of a cache in turn.
+    fn sweep(&mut self, rt: &impl Abort, sweep: Sweep, cache: CacheId, other: CacheId)
+        requires { IsKnown self.old.caches self.old.nodes.items self.old.vacant.items }
+        ensures { IsKnown self.new.caches self.new.nodes.items self.new.vacant.items }
+    {
+        if matches!(sweep, Sweep::ToWorking) {
+            self.swept.clear();
+        }
+        for page in 0..LONGEST {
+            self.sweep_page(rt, sweep, cache, other, page);
+        }
+    }
+
+    fn draw_make(&mut self, rt: &impl Abort)
+        requires { IsKnown self.old.caches self.old.nodes.items self.old.vacant.items }
+        ensures { IsKnown self.new.caches self.new.nodes.items self.new.vacant.items }
+    {
+        let pages = match self.draws.below(4) {
+            0 => 1,
+            1 => 8,
+            2 => 9,
+            _ => LONGEST,
+        };
+        let segment = SegId(self.draws.below(3) as u32);
+        let segment = self.draws.some(segment);
+        self.make(rt, segment, pages)
+    }
+
+    // A sweep over a drawn cache.
+    fn draw_sweep(&mut self, rt: &impl Abort)
+        requires { IsKnown self.old.caches self.old.nodes.items self.old.vacant.items }
+        ensures { IsKnown self.new.caches self.new.nodes.items self.new.vacant.items }
+    {
+        let cache = self.draw_cache();
+        let other = self.draw_cache();
+        let (emptied, _) = self.draw_vacant();
+        match self.draws.below(16) {
+            0 | 1 => self.sweep(rt, Sweep::ToWorking, cache, other),
+            2..=4 => self.sweep(rt, Sweep::Rename, emptied, other),
+            5 | 6 => self.sweep(rt, Sweep::Fresh, emptied, other),
+            7 => self.sweep(rt, Sweep::Hang, cache, other),
+            8 => self.sweep(rt, Sweep::HangByStub, cache, other),
+            9 => self.sweep(rt, Sweep::Tree, cache, other),
+            10 => self.sweep(rt, Sweep::SetState, cache, other),
+            11 => self.sweep(rt, Sweep::Lock, cache, other),
+            12 => self.sweep(rt, Sweep::Unlock, cache, other),
+            13 => self.sweep(rt, Sweep::Free, cache, other),
+            14 => self.sweep(rt, Sweep::FreeSecond, cache, other),
+            _ => self.sweep(rt, Sweep::FreeWorking, cache, other),
+        }
+    }
+
+    // A call that is given a drawn node.
+    fn draw_call(&mut self, rt: &impl Abort)
+        requires { IsKnown self.old.caches self.old.nodes.items self.old.vacant.items }
+        ensures { IsKnown self.new.caches self.new.nodes.items self.new.vacant.items }
+    {
+        let node = self.draw_node();
+        let first = self.draw_node();
+        let second = self.draw_node();
+        let (cache, page) = self.draw_vacant();
+        match self.draws.below(13) {
+            0 => self.to_working(rt, node),
+            1 => self.rename(rt, node, cache, page),
+            2 | 3 => self.free(rt, node),
+            4 | 5 => {
+                let own = self.draw_state();
+                self.set_state(rt, node, own)
+            }
+            6 | 7 => {
+                let links = self.draw_links();
+                self.set_links(rt, node, links)
+            }
+            8 => {
+                let parent = self.draws.some(first);
+                self.hang(rt, node, parent)
+            }
+            9 => self.set_no_children(rt, node),
+            10 => self.set_one_child(rt, node, first),
+            11 => self.set_two_children(rt, node, first, second),
+            _ => {
+                let own = self.draw_state();
+                self.fresh(rt, cache, page, own)
+            }
+        }
+    }
+
+    // A call that is given no node.
+    fn draw_other(&mut self, rt: &impl Abort)
+        requires { IsKnown self.old.caches self.old.nodes.items self.old.vacant.items }
+        ensures { IsKnown self.new.caches self.new.nodes.items self.new.vacant.items }
+    {
+        let (cache, page) = self.draw_page();
+        let (emptied, _) = self.draw_vacant();
+        match self.draws.below(8) {
+            0 => self.fresh_working(rt),
+            1 => self.grant(rt, cache, page),
+            2 | 3 => self.add_lock(rt, cache, page),
+            4 | 5 => self.drop_lock(rt, cache, page),
+            6 => self.count_copy(rt),
+            _ => self.remove(rt, emptied),
+        }
+    }
+
+    // One call of both forms, or one sweep.
+    fn turn(&mut self, rt: &impl Abort)
+        requires { IsKnown self.old.caches self.old.nodes.items self.old.vacant.items }
+        ensures { IsKnown self.new.caches self.new.nodes.items self.new.vacant.items }
+    {
+        let cache = self.draw_cache();
+        if self.nodes.len() >= MOST_NODES {
+            self.sweep(rt, Sweep::FreeDrawn, cache, cache)
+        } else if self.slow.caches.len() >= MOST_CACHES {
+            self.sweep(rt, Sweep::Free, cache, cache);
+            self.remove(rt, cache)
+        } else {
+            match self.draws.below(30) {
+                0 | 1 => self.draw_make(rt),
+                2 | 3 => self.draw_sweep(rt),
+                4..=12 => self.draw_other(rt),
+                _ => self.draw_call(rt),
+            }
+        }
+    }
+}
+
+impl Draws {
+    // The value, or none.
+    fn some<T: Copy + Drop>(&mut self, value: T) -> Option<T> {
+        if self.below(3) == 0 { None } else { Some(value) }
+    }
+}
+
+#[test]
+fn the_slow_form_tells_the_same(rt: HostRuntime) -> Result<(), Fail> {
+    let mut both = Both {
+        caches: Caches::new(rt.alloc()),
+        slow: SlowCaches {
+            nodes: Vec::new(rt.alloc()),
+            caches: Vec::new(rt.alloc()),
+            pages: Vec::new(rt.alloc()),
+            caches_made: 0,
+            working_made: 0,
+            copies: 0,
+        },
+        nodes: Vec::new(rt.alloc()),
+        vacant: Vec::new(rt.alloc()),
+        swept: Vec::new(rt.alloc()),
+        draws: Draws { state: 1 },
+    };
+    for turn in 0..TURNS {
+        both.turn(&rt);
+        if turn % 1000 == 999 {
+            both.compare_all(&rt);
+        }
+    }
+    Ok(())
+}
