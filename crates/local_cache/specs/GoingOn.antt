@@ -7,7 +7,7 @@ use Rattle.local_cache.specs.declared.runs.run.RunName.{RunName}
 use Rattle.local_cache.specs.declared.runs.run.RunName.TheVariants.{Pages, Working, EverySecond}
 use Rattle.local_cache.specs.declared.runs.thin_nodes.ThinNodes.{ThinNodes}
 use Rattle.local_cache.specs.declared.runs.thin_nodes.ThinNodes.TheVariants.{Each, EverySecond as EverySecondNode}
-use Rattle.local_cache.specs.Records.{each, key}
+use Rattle.local_cache.specs.Records.{key}
 use Rattle.local_cache.specs.Runs.{HasNames, further, further_if, name_after, run}
 use Rattle.local_cache.specs.ThinNodes.{HasNodes, thin_after, thin_nodes}
 
@@ -78,17 +78,8 @@ run_goes_on =
       splits = λ r a b. names_split r.name a b;
     }
 
--- Records -----------------------------------------------------------------------
+-- Keys of records -----------------------------------------------------------------------
 
-pub each_goes_on : GoesOn each.after each.lasts
-each_goes_on =
-    record {
-      starts = λ r. refl;
-      composes = λ r a b. refl;
-      splits = λ r a b. (λ h. (tt, tt), λ h. tt);
-    }
-
--- their keys
 pub key_goes_on : GoesOn key.after key.lasts
 key_goes_on =
     record {

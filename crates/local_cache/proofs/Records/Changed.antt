@@ -4,7 +4,7 @@ use Rattle.std.specs.Prelude.{option_map, unwrap_or}
 use Rattle.std.specs.Ordering.{nat_cmp}
 use Rattle.std.specs.FinMap.{FinMap}
 use Rattle.std.specs.FinMap as map
-use Rattle.slab.specs.Slab.{Slab, get, with_value}
+use Rattle.slab.specs.Slab.{Slab, Updates, get, with_value}
 use Rattle.slab.proofs.SlabLemmas.{Updates-with_value}
 use Rattle.stretches.specs.Cells.{cells}
 use Rattle.stretches.specs.Stretches.{Stretches, number_count, said}
@@ -24,6 +24,7 @@ module _ (keys : Stretches RecordKey) (s : Slab Record) (places : ℕ) (stored :
   abbrev new : Slab Record
   new = with_value s k.0 r
 
+  updates : Updates s new k.0 (Some r)
   updates = Updates-with_value s k.0 r (stored.held n k is)
 
   pub cells_changed : cells each (in_slab new keys.list) ≡ map.insert D n r
