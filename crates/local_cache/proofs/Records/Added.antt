@@ -1,5 +1,5 @@
 -- The record of a number that had none: it gets a key that none had.
-use Rattle.std.proofs.Common.{◌≡◌, ◌≢◌, ℕ, ◌+◌, ◌≤◌, Option, Some, None, IsSome, is_some, refl, ap, sym, ◌∙◌, inl, inr, arith}
+use Rattle.std.proofs.Common.{◌≡◌, ◌≢◌, ℕ, ◌+◌, ◌≤◌, Option, Some, None, is_some, ap, sym, subst, ◌∙◌, inl, inr, arith}
 use Rattle.std.specs.Prelude.{option_map, unwrap_or}
 use Rattle.std.proofs.lemmas.Bool.{cases_eq, false≢true}
 use Rattle.std.proofs.lemmas.Option.{same_Some}
@@ -16,6 +16,7 @@ use Rattle.stretches.proofs.Reading.Numbers.{chosen, out_single, passed, within}
 use Rattle.local_cache.specs.declared.runs.record.Record.{Record}
 use Rattle.local_cache.specs.declared.runs.record_key.RecordKey.{RecordKey}
 use Rattle.local_cache.specs.Records.{AreStored, each, in_slab, key, no_record, record_at}
+use Rattle.local_cache.specs.Singles.{IsCounted}
 use Rattle.local_cache.proofs.NodeCells.{inserted_by}
 use Rattle.local_cache.proofs.Records.Seen.{count_in_slab, none_in_slab, other_record, said_in_slab, same_said}
 use Rattle.local_cache.proofs.Singles.{len_insert_new}
@@ -101,15 +102,15 @@ module _ (keys now : Stretches RecordKey) (s new : Slab Record) (places : ℕ) (
       let has = count_in_slab new now.list in
       omega (arith, had, has, count, counted, ap map.len cells_added, len_added)
 
-module _ (keys : Stretches RecordKey) (s : Slab Record) (places : ℕ) (stored : AreStored keys s places)
-    (n : ℕ) (none : said key keys.list n ≡ None) (r : Record) where
-  abbrev was : FinMap nat_cmp Record
-  was = cells each (in_slab s keys.list)
+module _ (keys : Stretches RecordKey) (s : Slab Record) (places : ℕ) (n : ℕ) (none : said key keys.list n ≡ None)
+    (r : Record) (l : Stretches Record) (view : record { list = in_slab s keys.list; places = places } ≡ l) where
+  abbrev Fits : Stretches Record → Type 0
+  Fits m = map.len (map.insert (cells each m.list) n r) ≤ m.places
 
   -- there is room for one more
-  pub room_to_add : number_count (in_slab s keys.list) ≡ map.len was → map.len (map.insert was n r) ≤ places
-      → number_count keys.list + 1 ≤ places
+  pub room_to_add : IsCounted each l → Fits l → number_count keys.list + 1 ≤ places
   room_to_add counted fits =
+      let was = cells each (in_slab s keys.list) in
       let more = len_insert_new was n r (get_cells each (in_slab s keys.list) n ∙ none_in_slab s keys.list n none) in
       let had = count_in_slab s keys.list in
-      omega (arith, more, had, counted, fits)
+      omega (arith, more, had, subst (IsCounted each) (sym view) counted, subst Fits (sym view) fits)

@@ -1,10 +1,10 @@
 -- The record of a number that had one: it is overwritten in its place.
-use Rattle.std.proofs.Common.{◌≡◌, ◌≢◌, ℕ, Option, Some, IsSome, is_some, ap, sym, ◌∙◌}
+use Rattle.std.proofs.Common.{◌≡◌, ℕ, Option, Some, IsSome, is_some, ap, sym, ◌∙◌}
 use Rattle.std.specs.Prelude.{option_map, unwrap_or}
 use Rattle.std.specs.Ordering.{nat_cmp}
 use Rattle.std.specs.FinMap.{FinMap}
 use Rattle.std.specs.FinMap as map
-use Rattle.slab.specs.Slab.{Slab, Updates, get, with_value}
+use Rattle.slab.specs.Slab.{Slab, Updates, with_value}
 use Rattle.slab.proofs.SlabLemmas.{Updates-with_value}
 use Rattle.stretches.specs.Cells.{cells}
 use Rattle.stretches.specs.Stretches.{Stretches, number_count, said}

@@ -1,11 +1,11 @@
 -- The record that goes: its number is alone in its stretch, as no two numbers have one key.
-use Rattle.std.proofs.Common.{◌≡◌, ◌≢◌, ℕ, ◌+◌, Option, Some, None, IsSome, is_some, true, false, refl, ap, sym, ◌∙◌, inl, inr, arith}
-use Rattle.std.proofs.lemmas.Bool.{cases_Bool, cases_eq, cases_lt, false≢true}
+use Rattle.std.proofs.Common.{◌≡◌, ◌≢◌, ℕ, ◌+◌, Some, None, IsSome, is_some, true, ap, sym, ◌∙◌, inl, inr, arith}
+use Rattle.std.proofs.lemmas.Bool.{cases_Bool, cases_eq, cases_lt}
 use Rattle.std.proofs.lemmas.Option.{none-some, same_Some}
 use Rattle.std.specs.Ordering.{nat_cmp}
 use Rattle.std.specs.FinMap.{FinMap}
 use Rattle.std.specs.FinMap as map
-use Rattle.slab.specs.Slab.{ContainsKey, Slab, Updates, get, slab_len}
+use Rattle.slab.specs.Slab.{ContainsKey, Slab, Updates, slab_len}
 use Rattle.stretches.specs.Cells.{cells}
 use Rattle.stretches.specs.Changes.{SayNoMore}
 use Rattle.stretches.specs.Stretch.{is_in}

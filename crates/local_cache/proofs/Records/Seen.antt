@@ -1,15 +1,15 @@
 -- What is said by records that are read off their keys.
-use Rattle.std.proofs.Common.{◌≡◌, ◌≢◌, ℕ, ◌+◌, List, [], ◌∷◌, Option, Some, None, IsSome, is_some, refl, ap, sym, ◌∙◌, inl, inr}
+use Rattle.std.proofs.Common.{◌≡◌, ◌≢◌, ℕ, ◌+◌, List, [], ◌∷◌, Option, Some, None, IsSome, refl, ap, sym, ◌∙◌, inl, inr}
 use Rattle.std.specs.Prelude.{option_map, unwrap_or}
 use Rattle.std.proofs.lemmas.Bool.{cases_Bool, false≢true}
 use Rattle.slab.specs.Slab.{ContainsKey, Slab, get}
 use Rattle.stretches.specs.Stretch.{is_in}
-use Rattle.stretches.specs.Stretches.{Stretches, number_count, said}
+use Rattle.stretches.specs.Stretches.{number_count, said}
 use Rattle.stretches.specs.declared.stretch.Stretch.{Stretch}
 use Rattle.stretches.proofs.Reading.Sayings.{here, skip}
 use Rattle.local_cache.specs.declared.runs.record.Record.{Record}
 use Rattle.local_cache.specs.declared.runs.record_key.RecordKey.{RecordKey}
-use Rattle.local_cache.specs.Records.{AreStored, each, in_slab, key, no_record, record_at, with_record}
+use Rattle.local_cache.specs.Records.{each, in_slab, key, no_record, record_at, with_record}
 
 module _ (s : Slab Record) where
   pub said_in_slab : (ks : List (Stretch RecordKey)) (n : ℕ)

@@ -1,4 +1,4 @@
-use Rattle.std.proofs.Common.{◌≤◌, ◌∙◌, ap, sym, subst, arith}
+use Rattle.std.proofs.Common.{◌∙◌, ap, sym, subst, arith}
 use Rattle.std.specs.FinMap as map
 use Rattle.stretches.specs.Cells.{cells}
 use Rattle.stretches.specs.Stretches.{Stretches}
@@ -12,15 +12,13 @@ use Rattle.local_cache.proofs.runs.records.Records.set.Goals as goal
 pub insert_reserved-key-requires : goal.insert_reserved-key-requires
 insert_reserved-key-requires c =
     let i = c.self.inside in
-    let fits = subst (λ (l : Stretches Record). map.len (map.insert (cells each l.list) c.args.number c.args.beside) ≤ l.places) (sym c.self.view_is) c.requires.places in
-    let room = room_to_add i.keys i.slab i.places c.self.invariant c.args.number (sym c.get.ensures ∙ c.in-None.is) c.args.beside (subst (IsCounted each) (sym c.self.view_is) c.requires.counted) fits in
+    let room = room_to_add i.keys i.slab i.places c.args.number (sym c.get.ensures ∙ c.in-None.is) c.args.beside c.args.self.now c.self.view_is c.requires.counted c.requires.places in
     omega (arith, room, c.self.invariant.counted, c.self.invariant.room)
 
 pub insert-requires-clause-places : goal.insert-requires-clause-places
 insert-requires-clause-places c =
     let i = c.self.inside in
-    let fits = subst (λ (l : Stretches Record). map.len (map.insert (cells each l.list) c.args.number c.args.beside) ≤ l.places) (sym c.self.view_is) c.requires.places in
-    let room = room_to_add i.keys i.slab i.places c.self.invariant c.args.number (sym c.get.ensures ∙ c.in-None.is) c.args.beside (subst (IsCounted each) (sym c.self.view_is) c.requires.counted) fits in
+    let room = room_to_add i.keys i.slab i.places c.args.number (sym c.get.ensures ∙ c.in-None.is) c.args.beside c.args.self.now c.self.view_is c.requires.counted c.requires.places in
     omega (arith, room, c.self.invariant.keys_room)
 
 pub invariant_of-self-in-None : goal.invariant_of-self-in-None
