@@ -22,3 +22,5 @@ pub mod PlacedRows
 pub mod Calls
 -- How many pages are locked by the rows of caches, after each call that changes a row.
 pub mod Locked
+-- The caches as they are seen, an arena, and each call.
+pub mod Seen

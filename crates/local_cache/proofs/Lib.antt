@@ -1,4 +1,4 @@
--- The page nodes in their slab: look-ups, changes of a slot, sums over all.
+-- The page nodes: look-ups, changes of one node, own states.
 pub mod Nodes
 -- The page forest that is read off the caches.
 pub mod Forest
@@ -10,8 +10,6 @@ pub mod NewNode
 pub mod Names
 -- The tables of the caches.
 pub mod Tables
--- The heap of the thin nodes.
-pub mod Queue
 -- A cache is made.
 pub mod NewCache
 -- What holds between two commands.
@@ -26,6 +24,8 @@ pub mod NodeKeys
 pub mod Records
 -- What is written of one node.
 pub mod Writing
+-- The caches without their page nodes.
+pub mod CacheList
 -- A node placed in all lists, and taken out of them.
 pub mod Placing
 -- What holds of all lists and counters, after a change of one node.

@@ -29,7 +29,7 @@ use Rattle.local_cache.specs.NodeKeys.{AreKeysOf, HasFreeName, HasKeys, Indexes,
 use Rattle.local_cache.specs.NodeLists.{AreEmpty, HasGrown, HasPlaced, HasTaken, paged}
 use Rattle.local_cache.specs.NodeRuns.{IsGiven, IsNumbered, IsRight, live_of, nodes_of}
 use Rattle.local_cache.specs.PageNodes.{IsLeastThin, node_at}
-use Rattle.local_cache.specs.Queue.{thin_number}
+use Rattle.local_cache.specs.Thin.{thin_number}
 use Rattle.local_cache.specs.Records.{each}
 use Rattle.local_cache.specs.Runs.{first_name, run}
 use Rattle.local_cache.specs.Singles.{IsCounted}
@@ -49,7 +49,7 @@ module _ {V : Type 0} (S : Ghosts V) where
   pub empty_get : (rs : List (Stretch V)) → rs ≡ [] → (n : ℕ) → map.get (cells S rs) n ≡ None
   empty_get rs none n = get_cells S rs n ∙ ap (λ (xs : List (Stretch V)). said S xs n) none
 
-  empty_counted : (l : Stretches V) → l.list ≡ [] → IsCounted S l
+  pub empty_counted : (l : Stretches V) → l.list ≡ [] → IsCounted S l
   empty_counted l none = ap number_count none ∙ sym (empty_len l.list none)
 
 module _ (l : NodeLists) (empty : AreEmpty l) where

@@ -19,7 +19,7 @@ use Rattle.local_cache.specs.Arena.{Cell}
 use Rattle.local_cache.specs.NodeCells.{node_cells}
 use Rattle.local_cache.specs.NodeKeys.{AreKeysOf, HasFreeName, HasKeys, Indexes, even_half, even_key, key_at, odd_half, odd_key, page_key, rekeyed, working_number}
 use Rattle.local_cache.specs.NodeLists.{CanMove, HasErased, HasMoved, HasPlaced, HasTaken, HasWritten, IsIndexed, IsKept, paged, thinned}
-use Rattle.local_cache.specs.Queue.{number_if, thin_number}
+use Rattle.local_cache.specs.Thin.{number_if, thin_number}
 use Rattle.local_cache.specs.Thin.{has_few}
 use Rattle.local_cache.specs.ThinNodes.{first_thin, thin_nodes}
 use Rattle.local_cache.proofs.NodeCells.{inserted_here, inserted_other, removed_here, removed_other}

@@ -5,7 +5,7 @@ use Rattle.std.specs.FinMap.{FinMap}
 use Rattle.std.specs.FinMap as ids
 use Rattle.stretches.specs.declared.rising.Rising.{Rising}
 use Rattle.vm_ids.specs.declared.numbers.SegId.{SegId}
-use Rattle.local_cache.specs.declared.page_table.PageEntry.{PageEntry}
+use Rattle.local_cache.specs.declared.page_entry.PageEntry.{PageEntry}
 use Rattle.local_cache.specs.Arena.{Arena, Table}
 use Rattle.local_cache.specs.NodeKeys.{page_number}
 use Rattle.local_cache.specs.PageNodes.{PageNodes}

@@ -7,6 +7,7 @@ use Rattle.local_cache.specs.declared.runs.run.RunName.{RunName}
 use Rattle.local_cache.specs.declared.runs.run.RunName.TheVariants.{Pages, Working, EverySecond}
 use Rattle.local_cache.specs.declared.runs.thin_nodes.ThinNodes.{ThinNodes}
 use Rattle.local_cache.specs.declared.runs.thin_nodes.ThinNodes.TheVariants.{Each, EverySecond as EverySecondNode}
+use Rattle.local_cache.specs.PageMarks.{granted_says, locks_say}
 use Rattle.local_cache.specs.Records.{key}
 use Rattle.local_cache.specs.Runs.{HasNames, further, further_if, name_after, run}
 use Rattle.local_cache.specs.ThinNodes.{HasNodes, thin_after, thin_nodes}
@@ -78,7 +79,7 @@ run_goes_on =
       splits = λ r a b. names_split r.name a b;
     }
 
--- Keys of records -----------------------------------------------------------------------
+-- Keys of records ---------------------------------------------------------------
 
 pub key_goes_on : GoesOn key.after key.lasts
 key_goes_on =
@@ -86,6 +87,24 @@ key_goes_on =
       starts = λ k. refl;
       composes = λ k a b. refl;
       splits = λ k a b. (λ h. (tt, tt), λ h. tt);
+    }
+
+-- Grants and locks --------------------------------------------------------------
+
+pub granted_goes_on : GoesOn granted_says.after granted_says.lasts
+granted_goes_on =
+    record {
+      starts = λ v. refl;
+      composes = λ v a b. refl;
+      splits = λ v a b. (λ h. (tt, tt), λ h. tt);
+    }
+
+pub locks_go_on : GoesOn locks_say.after locks_say.lasts
+locks_go_on =
+    record {
+      starts = λ v. refl;
+      composes = λ v a b. refl;
+      splits = λ v a b. (λ h. (tt, tt), λ h. tt);
     }
 
 -- Thin nodes --------------------------------------------------------------------

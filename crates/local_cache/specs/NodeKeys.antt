@@ -8,7 +8,7 @@ use Rattle.vm_ids.specs.declared.node_name.NodeName.{NodeName}
 use Rattle.vm_ids.specs.declared.node_name.NodeName.TheVariants.{Live, Working}
 use Rattle.local_cache.specs.declared.runs.keys.Keys.{Keys}
 use Rattle.local_cache.specs.Arena.{Cell}
-use Rattle.local_cache.specs.Queue.{thin_number}
+use Rattle.local_cache.specs.Thin.{thin_number}
 
 -- the number of a page among those of all caches, each of which has 2 ^ 32 of them
 abbrev pub page_number : ℕ → ℕ → ℕ

@@ -13,7 +13,7 @@ use Rattle.local_cache.specs.declared.own_state.OwnState.{OwnState}
 use Rattle.local_cache.specs.declared.own_state.OwnState.TheVariants.{Absent}
 use Rattle.local_cache.specs.Arena.{Cell, IsFilled, blank, new_cell}
 use Rattle.local_cache.specs.NodeKeys.{Indexes, key_at, page_key, page_number, page_of_name, rekeyed, with_key, without_key}
-use Rattle.local_cache.specs.Queue.{thin_number}
+use Rattle.local_cache.specs.Thin.{thin_number}
 
 -- the nodes by number, the node of each page by the number of the page among those of all caches,
 -- how many working names were given, and how many more nodes fit before memory is taken

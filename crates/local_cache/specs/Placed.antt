@@ -5,7 +5,7 @@ use Rattle.vm_ids.specs.declared.node_name.NodeName.TheVariants.{Live, Working}
 use Rattle.vm_ids.specs.declared.numbers.NodeId.{NodeId}
 use Rattle.local_cache.specs.Arena.{Cell}
 use Rattle.local_cache.specs.PageNodes.{ArePaged, PageNodes, find}
-use Rattle.local_cache.specs.ArenaBy.{CacheRow}
+use Rattle.local_cache.specs.ArenaBy.{CacheRow, CacheRows}
 use Rattle.local_cache.specs.RowChanges.{row_at}
 
 -- a live cache has this page
@@ -43,3 +43,8 @@ pub record ArePlaced (m : PageNodes) (rows : List (Option CacheRow)) : Type 0 wh
   pub paged : ArePaged m
   pub placed : (n : NodeId) (d : Cell) → find m n ≡ Some d → IsPlaced rows d.name
   pub short : AreShort rows
+
+-- what holds of the caches: nodes are placed, and each row is full
+pub record AreRight (m : PageNodes) (c : CacheRows) : Type 0 where
+  pub placed : ArePlaced m c.rows
+  pub full : EachRow IsFull c.rows

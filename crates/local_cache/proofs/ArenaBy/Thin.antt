@@ -11,7 +11,7 @@ use Rattle.local_cache.specs.Arena.{Cell, blank, cell}
 use Rattle.local_cache.specs.ArenaBy.{CacheRows, arena_by}
 use Rattle.local_cache.specs.PageNodes.{PageNodes}
 use Rattle.local_cache.specs.PageNodes as nodes
-use Rattle.local_cache.specs.Queue.{number_if, thin_number}
+use Rattle.local_cache.specs.Thin.{number_if, thin_number}
 use Rattle.local_cache.specs.Thin.{IsLeastThin, IsThin, has_few}
 
 by_number : (x : NodeName) (b : Bool) (k : ℕ) → number_if x b ≡ Some k → (x ≡ Working k) × (b ≡ true)

@@ -14,7 +14,7 @@ use Rattle.local_cache.specs.declared.runs.run.RunName.{RunName}
 use Rattle.local_cache.specs.declared.runs.run.RunName.TheVariants.{Pages, Working, EverySecond}
 use Rattle.local_cache.specs.KeyRanges.{AreKeysIn, no_keys, run_cell, working_at}
 use Rattle.local_cache.specs.NodeKeys.{even_half, number_of_name, odd_half, page_key, page_number}
-use Rattle.local_cache.specs.Queue.{number_if, thin_number}
+use Rattle.local_cache.specs.Thin.{number_if, thin_number}
 use Rattle.local_cache.specs.Thin.{has_few}
 use Rattle.local_cache.proofs.NodeRuns.{even_back, odd_back}
 use Rattle.local_cache.proofs.Placing.{even_number, odd_number}

@@ -14,11 +14,11 @@ use Rattle.vm_ids.specs.declared.numbers.CacheId.{CacheId}
 use Rattle.vm_ids.specs.declared.numbers.NodeId.{NodeId}
 use Rattle.vm_ids.specs.declared.numbers.SegId.{SegId}
 use Rattle.local_cache.specs.declared.own_state.OwnState.{OwnState}
-use Rattle.local_cache.specs.declared.page_table.PageEntry.{PageEntry}
+use Rattle.local_cache.specs.declared.page_entry.PageEntry.{PageEntry}
 use Rattle.local_cache.specs.Arena.{Arena, Cell, HasPage, IsFilled, HasNode, IsMade, Table, blank, cell, entry_for, find, is_granted, locks_of, new_cell, new_table, node_at, table_of}
 use Rattle.local_cache.specs.Own.{own_of}
 use Rattle.local_cache.specs.Whole.{segment_of}
-use Rattle.local_cache.proofs.Nodes.Slots.{tied, apart}
+use Rattle.local_cache.proofs.Nodes.Numbers.{tied, apart}
 
 abbrev named : CacheId → ℕ → OwnState → Cell
 named cache page own = new_cell (Live cache (record { 0 = page })) own

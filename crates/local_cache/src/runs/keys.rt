@@ -2,7 +2,7 @@
 ghost use Rattle.std.specs.Prelude.{◌≡◌, ◌+◌, ◌<◌, ◌^◌, IfSome};
 ghost use Rattle.local_cache.specs.NodeCells.{cell_of};
 ghost use Rattle.local_cache.specs.NodeKeys.{AreKeysOf, even_half, odd_half, page_key, page_number};
-ghost use Rattle.local_cache.specs.Queue.{thin_number};
+ghost use Rattle.local_cache.specs.Thin.{thin_number};
 ghost use Rattle.local_cache.specs.Runs.{HasNames};
 
 use crate::runs::Parts;

@@ -9,14 +9,13 @@
 //!
 //! Nodes of pages and nodes made as working ones have two series of numbers. Each rises, so that
 //! nodes made one behind the other can stand in one run.
-//!
-//! `Caches` doesn't stand on this yet.
 mod adapting;
 mod alike;
 mod clearing;
 mod counted;
 mod counted_many;
 mod counters;
+mod counting;
 mod filling;
 mod first_thin;
 mod hanging;
@@ -39,8 +38,10 @@ mod singles;
 mod thin_nodes;
 mod writing;
 
+pub(crate) use clearing::clear_many;
 pub(crate) use counters::Counters;
-pub(crate) use keys::Keys;
+pub(crate) use counting::count_said;
+pub(crate) use keys::{Keys, page_number};
 pub(crate) use node_lists::NodeLists;
 pub(crate) use node_runs::NodeRuns;
 pub(crate) use parts::Parts;
@@ -48,4 +49,5 @@ pub(crate) use record::Record;
 pub(crate) use record_key::RecordKey;
 pub(crate) use records::Records;
 pub(crate) use run::{PlainState, Run, RunName};
+pub(crate) use singles::{clear_one, set_one};
 pub(crate) use thin_nodes::ThinNodes;

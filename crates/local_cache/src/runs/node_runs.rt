@@ -342,7 +342,8 @@ impl NodeRuns {
 
     /// How many working nodes there are.
     pub(crate) fn working(&self) -> u32
-        ensures { result + map.len self.now.pages ≡ map.len self.now.cells }
+        ensures working { result + map.len self.now.pages ≡ map.len self.now.cells }
+        ensures few { map.len self.now.cells < 2 ^ 32 }
     {
         self.counters.nodes - self.counters.live
     }

@@ -11,7 +11,7 @@ use Rattle.vm_model.specs.PageForest.{page_in}
 use Rattle.vm_model.specs.Pushing.{MayPush, PushRule, page_named, segments_after}
 use Rattle.vm_model.specs.Synchronised.{ArePushed}
 use Rattle.vm_model.proofs.Parts.Lists.{get_set_other, get_set_same}
-use Rattle.local_cache.proofs.Nodes.Slots.{apart, tied}
+use Rattle.local_cache.proofs.Nodes.Numbers.{apart, tied}
 use Rattle.pvm_core.proofs.Homes.Sized.{same_or_not}
 
 -- the pages of a segment, one of which is put

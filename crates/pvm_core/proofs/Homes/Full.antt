@@ -10,7 +10,7 @@ use Rattle.std.proofs.lemmas.Option.{get_or_from_slice_get, slice_get_within}
 use Rattle.vm_ids.specs.Held.{Held, Segments, put_segment_page, segments_in, segments_of}
 use Rattle.local_cache.specs.Arena.{Arena}
 use Rattle.local_cache.specs.Whole.{segment_of}
-use Rattle.local_cache.proofs.Nodes.Slots.{apart, tied}
+use Rattle.local_cache.proofs.Nodes.Numbers.{apart, tied}
 use Rattle.vm_model.specs.Machine.{Cache, Machine, Page, cache_named, is_named_by}
 use Rattle.vm_model.specs.Outcome.{HasWholePages, IsWhole}
 use Rattle.vm_model.specs.Pushing.{MayPush, PushRule, page_named, segments_after}

@@ -9,7 +9,7 @@ use Rattle.vm_ids.specs.Held.{Held, Segments, put_segment_page, segments_in, seg
 use Rattle.vm_ids.specs.declared.numbers.SegId.{SegId}
 use Rattle.local_cache.specs.Arena.{Arena, Table}
 use Rattle.local_cache.specs.Whole.{segment_of, size_of}
-use Rattle.local_cache.proofs.Nodes.Slots.{apart, tied}
+use Rattle.local_cache.proofs.Nodes.Numbers.{apart, tied}
 use Rattle.vm_model.specs.Machine.{Cache, Machine, Page, cache_named}
 use Rattle.vm_model.specs.Pushing.{MayPush, PushRule, page_named, segments_after}
 use Rattle.pvm_core.specs.Manager.{AreApart, AreSized, Manager, forest_of, machine_of}

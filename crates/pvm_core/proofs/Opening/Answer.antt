@@ -18,7 +18,7 @@ use Rattle.vm_ids.specs.declared.numbers.NodeId.{NodeId}
 use Rattle.vm_ids.specs.declared.numbers.SegId.{SegId}
 use Rattle.vm_ids.specs.declared.reply.Reply.TheVariants as replies
 use Rattle.vm_ids.specs.Forest.Commands.{make, page_name, page_names}
-use Rattle.local_cache.proofs.Nodes.Slots.{tied}
+use Rattle.local_cache.proofs.Nodes.Numbers.{tied}
 use Rattle.local_cache.specs.declared.own_state.OwnState.TheVariants.{OnSegment}
 use Rattle.local_cache.specs.Arena.{IsMade, entry_for, new_table, page_count}
 use Rattle.local_cache.specs.Whole as whole
