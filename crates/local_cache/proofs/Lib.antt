@@ -20,6 +20,8 @@ pub mod Singles
 pub mod NodeCells
 -- The lists by which nodes are found.
 pub mod NodeKeys
+-- The records of nodes in their slab.
+pub mod Records
 -- What is written of one node.
 pub mod Writing
 -- The caches without their page nodes.

@@ -32,11 +32,6 @@ module _ (l : NodeLists) (kept : IsKept l) where
   pub runs_fit : map.len R ≤ l.runs.places
   runs_fit = omega (arith, len_cells R D, kept.fits, kept.places.runs)
 
-  pub records_fit : map.len D ≤ l.records.places
-  records_fit =
-      let within = len_within D (node_cells l) kept.recorded in
-      omega (arith, within, kept.fits, kept.places.records)
-
   module _ (n : ℕ) (c : Cell) (room : map.len (map.insert (node_cells l) n c) ≤ l.capacity) where
     pub run_fits : (r : Run) → map.len (map.insert R n r) ≤ l.runs.places
     run_fits r =

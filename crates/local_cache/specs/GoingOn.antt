@@ -8,7 +8,7 @@ use Rattle.local_cache.specs.declared.runs.run.RunName.TheVariants.{Pages, Worki
 use Rattle.local_cache.specs.declared.runs.thin_nodes.ThinNodes.{ThinNodes}
 use Rattle.local_cache.specs.declared.runs.thin_nodes.ThinNodes.TheVariants.{Each, EverySecond as EverySecondNode}
 use Rattle.local_cache.specs.PageMarks.{granted_says, locks_say}
-use Rattle.local_cache.specs.Records.{each}
+use Rattle.local_cache.specs.Records.{key}
 use Rattle.local_cache.specs.Runs.{HasNames, further, further_if, name_after, run}
 use Rattle.local_cache.specs.ThinNodes.{HasNodes, thin_after, thin_nodes}
 
@@ -79,14 +79,14 @@ run_goes_on =
       splits = λ r a b. names_split r.name a b;
     }
 
--- Records -----------------------------------------------------------------------
+-- Keys of records ---------------------------------------------------------------
 
-pub each_goes_on : GoesOn each.after each.lasts
-each_goes_on =
+pub key_goes_on : GoesOn key.after key.lasts
+key_goes_on =
     record {
-      starts = λ r. refl;
-      composes = λ r a b. refl;
-      splits = λ r a b. (λ h. (tt, tt), λ h. tt);
+      starts = λ k. refl;
+      composes = λ k a b. refl;
+      splits = λ k a b. (λ h. (tt, tt), λ h. tt);
     }
 
 -- Grants and locks --------------------------------------------------------------

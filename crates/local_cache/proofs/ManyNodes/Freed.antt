@@ -8,8 +8,10 @@ use Rattle.std.specs.FinMap.{FinMap}
 use Rattle.std.specs.FinMap as map
 use Rattle.stretches.specs.Cells.{cells}
 use Rattle.stretches.specs.Rising.{rising}
+use Rattle.stretches.specs.Stretches.{said}
 use Rattle.stretches.specs.declared.rising.Rising.{Rising}
 use Rattle.stretches.specs.declared.stretch.Stretch.{Stretch}
+use Rattle.stretches.proofs.Cells.{get_cells}
 use Rattle.vm_ids.specs.declared.numbers.NodeId.{NodeId}
 use Rattle.local_cache.specs.declared.runs.counters.Counters.{Counters}
 use Rattle.local_cache.specs.declared.runs.key_ranges.KeyRange.{KeyRange}
@@ -29,7 +31,7 @@ use Rattle.local_cache.specs.Records.{each}
 use Rattle.local_cache.specs.Runs.{first_name, name_after, run}
 use Rattle.local_cache.specs.Singles.{IsCounted, without_range}
 use Rattle.local_cache.specs.ThinNodes.{thin_nodes}
-use Rattle.local_cache.proofs.ManyNodes.Cleared.{len_range, range_cases, range_in, range_out, ranged_by}
+use Rattle.local_cache.proofs.ManyNodes.Cleared.{len_range, range_cases, range_in, range_out, range_vacant, ranged_by}
 use Rattle.local_cache.proofs.NodeCells.{get_cells_by}
 use Rattle.local_cache.proofs.NodeKeys.{key_apart, len_index}
 
@@ -116,6 +118,13 @@ left_more m n a (suc b) =
     let same : suc (a + b) ≡ a + suc b = omega arith in
     let at : n.0 + a + b ≡ n.0 + (a + b) = omega arith in
     (λ i. without (left_more m n a b i) (record { 0 = at i })) ∙ ap (without_many m n) same
+
+-- nodes that have no records need no record taken away
+pub nothing_recorded : (l : NodeLists) (r : Stretch Run)
+    → ((q : ℕ) → r.first ≤ q → q < r.first + r.count → said each l.records.list q ≡ None)
+    → cells each l.records.list ≡ without_range (cells each l.records.list) r.first r.count
+nothing_recorded l r plain = range_vacant _ r.first r.count (λ q low high.
+    get_cells each l.records.list q ∙ plain q low high)
 
 -- All lists -----------------------------------------------------------------------------------------
 

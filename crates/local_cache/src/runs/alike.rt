@@ -7,16 +7,16 @@ ghost use Rattle.local_cache.specs.NodeCells.{node_cells};
 ghost use Rattle.local_cache.specs.Records.{each};
 ghost use Rattle.local_cache.specs.Runs.{run as run_says};
 
-use crate::runs::{NodeLists, Record, Run};
-use stretches::{Stretch, StretchList};
+use crate::runs::{NodeLists, Records, Run};
+use stretches::Stretch;
 
 // How many numbers from one on have no record, as far as so many.
-fn without_record(records: &StretchList<Record>, node: u64, most: u32) -> u32
+fn without_record(records: &Records, node: u64, most: u32) -> u32
     ensures most { result ≤ most }
     ensures none { (n : ℕ) → node ≤ n → n < node + result → said each records.now.list n ≡ None }
 {
-    match records.next_from(node) {
-        Some(stretch) => (stretch.first - node).min(most as u64) as u32,
+    match records.first_from(node) {
+        Some(first) => (first - node).min(most as u64) as u32,
         None => most,
     }
 }

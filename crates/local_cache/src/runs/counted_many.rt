@@ -1,9 +1,11 @@
 // Page nodes of which one run says all, that come and go at once, and how many there are.
-ghost use Rattle.std.specs.Prelude.{◌≡◌, ◌<◌, ◌≤◌};
+ghost use Rattle.std.specs.Prelude.{◌≡◌, ℕ, ◌+◌, ◌<◌, ◌≤◌, None};
 ghost use Rattle.stretches.specs.Stretch.{IsFit};
+ghost use Rattle.stretches.specs.Stretches.{said};
 ghost use Rattle.local_cache.specs.ManyNodes.{AreSaidBy, HaveNodes, without_many};
 ghost use Rattle.local_cache.specs.NodeRuns.{IsRight, nodes_of};
 ghost use Rattle.local_cache.specs.PageNodes.{HasNode};
+ghost use Rattle.local_cache.specs.Records.{each};
 ghost use Rattle.local_cache.specs.Runs.{run as run_says};
 
 use crate::runs::alike::alike_from;
@@ -49,12 +51,14 @@ fn remove_some(lists: &mut NodeLists, counters: &mut Counters, node: u64, most: 
     nodes.count
 }
 
-// Takes out nodes of which one run says all.
+// Takes out nodes of which one run says all, and that have no records.
 fn remove_many(lists: &mut NodeLists, counters: &mut Counters, nodes: Stretch<Run>)
     requires right { IsRight lists.old counters.old }
     requires fit { IsFit run_says nodes }
     requires alike { AreSaidBy (nodes_of lists.old counters.old) (record { 0 = nodes.first })
         nodes.value nodes.count }
+    requires plain { (n : ℕ) → nodes.first ≤ n → n < nodes.first + nodes.count
+        → said each lists.old.records.list n ≡ None }
     ensures right { IsRight lists.new counters.new }
     ensures nodes { nodes_of lists.new counters.new
         ≡ without_many (nodes_of lists.old counters.old) (record { 0 = nodes.first })
@@ -64,7 +68,6 @@ fn remove_many(lists: &mut NodeLists, counters: &mut Counters, nodes: Stretch<Ru
     let even = even_range(nodes.value, nodes.count);
     let odd = odd_range(nodes.value, nodes.count);
     clear_many(&mut lists.runs, nodes.first, nodes.count);
-    clear_many(&mut lists.records, nodes.first, nodes.count);
     clear_many(&mut lists.pages, pages.first, pages.count);
     clear_many(&mut lists.even, even.first, even.count);
     clear_many(&mut lists.odd, odd.first, odd.count);

@@ -2,7 +2,7 @@
 ghost use Rattle.std.specs.Prelude.{◌≡◌, ◌≤◌, OnOk};
 ghost use Rattle.local_cache.specs.NodeLists.{AreEmpty, HasGrown, HavePlaces};
 
-use crate::runs::{Record, Run, ThinNodes};
+use crate::runs::{Records, Run, ThinNodes};
 use std::alloc::Global;
 use stretches::{Rising, StretchList};
 use vm_ids::NoMemory;
@@ -14,7 +14,7 @@ pub(crate) struct NodeLists {
     /// What is said of each node that there is, by its number.
     pub runs: StretchList<Run>,
     /// What is said of some nodes beside their runs.
-    pub records: StretchList<Record>,
+    pub records: Records,
     /// The node of each page, by the number of the page among those of all caches.
     pub pages: StretchList<Rising>,
     /// The thin nodes whose working numbers are even, by the halves of these.
@@ -32,7 +32,7 @@ impl NodeLists {
     {
         NodeLists {
             runs: StretchList::new(alloc),
-            records: StretchList::new(alloc),
+            records: Records::new(alloc),
             pages: StretchList::new(alloc),
             even: StretchList::new(alloc),
             odd: StretchList::new(alloc),

@@ -3,7 +3,6 @@ ghost use Rattle.std.specs.Prelude.{◌≡◌, ◌↔◌, IsTrue};
 
 use crate::runs::run::is_same_node;
 use crate::{Links, OwnState};
-use stretches::Says;
 
 /// What is said of a node beside its run, where the run can't say all of it. A record hides the own
 /// state that the run says, and its parent, where it has one, hides the run's parent.
@@ -13,12 +12,6 @@ use stretches::Says;
 pub(crate) struct Record {
     pub own: OwnState,
     pub links: Links,
-}
-
-fn is_same_state(one: OwnState, other: OwnState) -> bool
-    ensures { IsTrue result ↔ (one ≡ other) }
-{
-    one == other
 }
 
 pub(crate) fn is_same_links(one: Links, other: Links) -> bool
@@ -31,23 +24,4 @@ pub(crate) fn is_same_links(one: Links, other: Links) -> bool
         && is_same_node(one.last, other.last)
         && is_same_node(one.before, other.before)
         && is_same_node(one.behind, other.behind)
-}
-
-impl Says for Record {
-    ghost use Rattle.local_cache.specs.Records.{each};
-    ghost use Rattle.local_cache.specs.GoingOn.{each_goes_on};
-
-    ghost after = { each.after };
-
-    ghost lasts = { each.lasts };
-
-    ghost laws = { each_goes_on };
-
-    fn after(self, _by: u32) -> Self {
-        self
-    }
-
-    fn is_same(self, other: Self) -> bool {
-        is_same_state(self.own, other.own) && is_same_links(self.links, other.links)
-    }
 }

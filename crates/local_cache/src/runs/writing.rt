@@ -40,7 +40,7 @@ fn write_run(lists: &mut NodeLists, node: u64, run: Run)
     ensures { HasWritten lists.old node (cell_of run (bare run.own)) lists.new }
 {
     set_one(&mut lists.runs, node, run);
-    clear_one(&mut lists.records, node);
+    lists.records.clear(node);
 }
 
 // Says of a node what its run and a record beside it say.
@@ -52,7 +52,7 @@ fn write_both(lists: &mut NodeLists, node: u64, run: Run, beside: Record)
     ensures { HasWritten lists.old node (cell_of run beside) lists.new }
 {
     set_one(&mut lists.runs, node, run);
-    set_one(&mut lists.records, node, beside);
+    lists.records.set(node, beside);
 }
 
 // Says nothing of a node any more.
@@ -61,5 +61,5 @@ pub(crate) fn erase(lists: &mut NodeLists, node: u64)
     ensures { HasErased lists.old node lists.new }
 {
     clear_one(&mut lists.runs, node);
-    clear_one(&mut lists.records, node);
+    lists.records.clear(node);
 }

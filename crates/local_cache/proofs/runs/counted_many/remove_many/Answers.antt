@@ -1,28 +1,25 @@
 use Rattle.std.proofs.Common.{◌-◌, refl, arith}
 use Rattle.local_cache.specs.declared.runs.counters.Counters.{Counters}
 use Rattle.local_cache.specs.NodeKeys.{even_key, odd_key, page_key}
-use Rattle.local_cache.proofs.ManyNodes.Freed.{list_fits, live_enough, nodes_enough, nodes_left, right_left}
-use Rattle.local_cache.proofs.Writing.{records_fit, runs_fit}
+use Rattle.local_cache.proofs.ManyNodes.Freed.{list_fits, live_enough, nodes_enough, nodes_left, nothing_recorded, right_left}
+use Rattle.local_cache.proofs.Writing.{runs_fit}
 use Rattle.local_cache.proofs.runs.counted_many.remove_many.Goals as goal
 
 pub clear_many-requires-clause-places : goal.clear_many-requires-clause-places
 clear_many-requires-clause-places c = runs_fit c.args.lists.now c.requires.right.kept
 
 pub clear_many-requires-2-clause-places : goal.clear_many-requires-2-clause-places
-clear_many-requires-2-clause-places c = records_fit c.args.lists.now c.requires.right.kept
+clear_many-requires-2-clause-places c =
+    let r = c.requires in
+    omega (arith, list_fits c.args.lists.now c.args.counters.now r.right c.args.nodes r.alike _ _ page_key r.right.indexed.pages _ c.page_range-pages.ensures.keys, r.right.kept.places.pages)
 
 pub clear_many-requires-3-clause-places : goal.clear_many-requires-3-clause-places
 clear_many-requires-3-clause-places c =
     let r = c.requires in
-    omega (arith, list_fits c.args.lists.now c.args.counters.now r.right c.args.nodes r.alike _ _ page_key r.right.indexed.pages _ c.page_range-pages.ensures.keys, r.right.kept.places.pages)
+    omega (arith, list_fits c.args.lists.now c.args.counters.now r.right c.args.nodes r.alike _ _ even_key r.right.indexed.even _ c.even_range-even.ensures, r.right.kept.places.even)
 
 pub clear_many-requires-4-clause-places : goal.clear_many-requires-4-clause-places
 clear_many-requires-4-clause-places c =
-    let r = c.requires in
-    omega (arith, list_fits c.args.lists.now c.args.counters.now r.right c.args.nodes r.alike _ _ even_key r.right.indexed.even _ c.even_range-even.ensures, r.right.kept.places.even)
-
-pub clear_many-requires-5-clause-places : goal.clear_many-requires-5-clause-places
-clear_many-requires-5-clause-places c =
     let r = c.requires in
     omega (arith, list_fits c.args.lists.now c.args.counters.now r.right c.args.nodes r.alike _ _ odd_key r.right.indexed.odd _ c.odd_range-odd.ensures, r.right.kept.places.odd)
 
@@ -42,9 +39,9 @@ returns-clause-right c =
     c.page_range-pages.result c.even_range-even.result c.odd_range-odd.result c.page_range-pages.ensures.keys c.even_range-even.ensures c.odd_range-odd.ensures in
     right_left c.args.lists.now c.args.counters.now r.right c.args.nodes r.alike
     c.page_range-pages.result c.even_range-even.result c.odd_range-odd.result c.page_range-pages.ensures.keys c.even_range-even.ensures c.odd_range-odd.ensures
-    _ _ refl c.clear_many.ensures.cells c.clear_many-2.ensures.cells c.clear_many-3.ensures.cells c.clear_many-4.ensures.cells c.clear_many-5.ensures.cells
-    c.clear_many.ensures.counted c.clear_many-2.ensures.counted c.clear_many-3.ensures.counted c.clear_many-4.ensures.counted c.clear_many-5.ensures.counted
-    c.clear_many.ensures.places c.clear_many-2.ensures.places c.clear_many-3.ensures.places c.clear_many-4.ensures.places c.clear_many-5.ensures.places
+    _ _ refl c.clear_many.ensures.cells (nothing_recorded c.args.lists.now c.args.nodes r.plain) c.clear_many-2.ensures.cells c.clear_many-3.ensures.cells c.clear_many-4.ensures.cells
+    c.clear_many.ensures.counted r.right.kept.counted.records c.clear_many-2.ensures.counted c.clear_many-3.ensures.counted c.clear_many-4.ensures.counted
+    c.clear_many.ensures.places refl c.clear_many-2.ensures.places c.clear_many-3.ensures.places c.clear_many-4.ensures.places
     (omega (arith, some)) (omega (arith, live)) refl refl refl
 
 pub returns-clause-nodes : goal.returns-clause-nodes
@@ -57,7 +54,7 @@ returns-clause-nodes c =
     c.page_range-pages.result c.even_range-even.result c.odd_range-odd.result c.page_range-pages.ensures.keys c.even_range-even.ensures c.odd_range-odd.ensures in
     nodes_left c.args.lists.now c.args.counters.now r.right c.args.nodes r.alike
     c.page_range-pages.result c.even_range-even.result c.odd_range-odd.result c.page_range-pages.ensures.keys c.even_range-even.ensures c.odd_range-odd.ensures
-    _ now refl c.clear_many.ensures.cells c.clear_many-2.ensures.cells c.clear_many-3.ensures.cells c.clear_many-4.ensures.cells c.clear_many-5.ensures.cells
-    c.clear_many.ensures.counted c.clear_many-2.ensures.counted c.clear_many-3.ensures.counted c.clear_many-4.ensures.counted c.clear_many-5.ensures.counted
-    c.clear_many.ensures.places c.clear_many-2.ensures.places c.clear_many-3.ensures.places c.clear_many-4.ensures.places c.clear_many-5.ensures.places
+    _ now refl c.clear_many.ensures.cells (nothing_recorded c.args.lists.now c.args.nodes r.plain) c.clear_many-2.ensures.cells c.clear_many-3.ensures.cells c.clear_many-4.ensures.cells
+    c.clear_many.ensures.counted r.right.kept.counted.records c.clear_many-2.ensures.counted c.clear_many-3.ensures.counted c.clear_many-4.ensures.counted
+    c.clear_many.ensures.places refl c.clear_many-2.ensures.places c.clear_many-3.ensures.places c.clear_many-4.ensures.places
     (omega (arith, some)) (omega (arith, live)) refl refl refl c.page_range-pages.ensures.range

@@ -13,3 +13,8 @@ remove_many-requires-clause-alike c =
     let is = c.alike_from-nodes.ensures in
     let nodes = c.alike_from-nodes.result in
     alike_said c.args.lists.now nodes nodes.first refl is.says (λ q low high. is.plain q (omega (arith, is.begins, low)) (omega (arith, is.begins, high)))
+
+pub remove_many-requires-clause-plain : goal.remove_many-requires-clause-plain
+remove_many-requires-clause-plain c =
+    let is = c.alike_from-nodes.ensures in
+    λ q low high. is.plain q (omega (arith, is.begins, low)) (omega (arith, is.begins, high))
