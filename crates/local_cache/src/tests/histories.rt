@@ -289,7 +289,10 @@ impl Both {
     fn compare_cache(&self, rt: &impl Abort, cache: CacheId) {
         let slow = self.slow.cache(cache);
         assert_eq!(rt; self.caches.pages(cache), slow.map(|slow| slow.pages));
-        assert_eq!(rt; self.caches.segment(cache), slow.and_then(|slow| slow.segment));
+        assert_eq!(rt;
+            self.caches.segment(cache),
+            slow.and_then(|slow| slow.segment)
+        );
     }
 
     fn compare_counts(&self, rt: &impl Abort)
@@ -827,7 +830,11 @@ impl Both {
 impl Draws {
     // The value, or none.
     fn some<T: Copy + Drop>(&mut self, value: T) -> Option<T> {
-        if self.below(3) == 0 { None } else { Some(value) }
+        if self.below(3) == 0 {
+            None
+        } else {
+            Some(value)
+        }
     }
 }
 
