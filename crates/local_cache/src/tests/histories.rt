@@ -203,6 +203,20 @@ impl Both {
         }
     }
 
+    // A locked page, if there is one from a drawn place on.
+    fn draw_locked(&mut self) -> (CacheId, PageNo)
+        requires { IsKnown self.old.caches self.old.nodes.items self.old.vacant.items }
+        ensures { IsKnown self.new.caches self.new.nodes.items self.new.vacant.items }
+    {
+        let at = self.draws.below(self.slow.pages.len() as u64 + 1) as usize;
+        for (place, page) in self.slow.pages.iter().enumerate() {
+            if place >= at && page.locks > 0 {
+                return (page.cache, page.page);
+            }
+        }
+        (CacheId(0), PageNo(0))
+    }
+
     fn draw_vacant(&mut self) -> (CacheId, PageNo)
         requires { IsKnown self.old.caches self.old.nodes.items self.old.vacant.items }
         ensures { IsKnown self.new.caches self.new.nodes.items self.new.vacant.items }
@@ -289,7 +303,10 @@ impl Both {
     fn compare_cache(&self, rt: &impl Abort, cache: CacheId) {
         let slow = self.slow.cache(cache);
         assert_eq!(rt; self.caches.pages(cache), slow.map(|slow| slow.pages));
-        assert_eq!(rt; self.caches.segment(cache), slow.and_then(|slow| slow.segment));
+        assert_eq!(rt;
+            self.caches.segment(cache),
+            slow.and_then(|slow| slow.segment)
+        );
     }
 
     fn compare_counts(&self, rt: &impl Abort)
@@ -791,12 +808,14 @@ impl Both {
         ensures { IsKnown self.new.caches self.new.nodes.items self.new.vacant.items }
     {
         let (cache, page) = self.draw_page();
+        let (locked, locked_page) = self.draw_locked();
         let (emptied, _) = self.draw_vacant();
         match self.draws.below(8) {
             0 => self.fresh_working(rt),
             1 => self.grant(rt, cache, page),
-            2 | 3 => self.add_lock(rt, cache, page),
-            4 | 5 => self.drop_lock(rt, cache, page),
+            2 => self.add_lock(rt, cache, page),
+            3 => self.add_lock(rt, locked, locked_page),
+            4 | 5 => self.drop_lock(rt, locked, locked_page),
             6 => self.count_copy(rt),
             _ => self.remove(rt, emptied),
         }
@@ -815,8 +834,8 @@ impl Both {
             self.remove(rt, cache)
         } else {
             match self.draws.below(30) {
-                0 | 1 => self.draw_make(rt),
-                2 | 3 => self.draw_sweep(rt),
+                0 => self.draw_make(rt),
+                1..=3 => self.draw_sweep(rt),
                 4..=12 => self.draw_other(rt),
                 _ => self.draw_call(rt),
             }
@@ -827,7 +846,11 @@ impl Both {
 impl Draws {
     // The value, or none.
     fn some<T: Copy + Drop>(&mut self, value: T) -> Option<T> {
-        if self.below(3) == 0 { None } else { Some(value) }
+        if self.below(3) == 0 {
+            None
+        } else {
+            Some(value)
+        }
     }
 }
 
