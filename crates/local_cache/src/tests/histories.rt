@@ -1,5 +1,5 @@
 // Many calls of the caches and of the slow form, and what both tell after each.
-ghost use Rattle.std.specs.Prelude.{◌≡◌, ℕ, ◌<◌, ◌≤◌, ◌^◌, Bool, IsTrue, IsSome, None, filter, not, length, ◌&&◌, ◌==◌};
+ghost use Rattle.std.specs.Prelude.{◌≡◌, ℕ, ◌<◌, ◌≤◌, IsTrue, IsSome, None, filter, not, ◌&&◌, ◌==◌};
 ghost use Rattle.vm_ids.specs.declared.numbers.NodeId.{NodeId};
 ghost use Rattle.vm_ids.specs.declared.numbers.CacheId.{CacheId};
 ghost use Rattle.vm_ids.specs.declared.numbers.PageNo.{PageNo};
