@@ -1,5 +1,5 @@
 -- What is known stays known where a node comes, goes or gets another name.
-use Rattle.std.proofs.Common.{◌≡◌, ◌≢◌, ℕ, ◌+◌, ◌≤◌, Bool, true, false, not, ◌&&◌, ◌==◌, List, [], ◌∷◌, ◌++◌, Option, Some, None, IsSome, is_some, option_map, unwrap_or, refl, sym, ap, ◌∙◌, subst, inl, inr, arith}
+use Rattle.std.proofs.Common.{◌≡◌, ◌≢◌, ℕ, ◌+◌, ◌≤◌, Bool, true, not, ◌&&◌, ◌==◌, List, [], ◌∷◌, ◌++◌, Option, Some, None, IsSome, is_some, option_map, unwrap_or, refl, sym, ap, ◌∙◌, subst, inl, inr, arith}
 use Rattle.std.specs.Cmp.{nat_cmp_total}
 use Rattle.std.specs.FinMap.{get-remove}
 use Rattle.std.specs.List.{All, filter}
@@ -14,12 +14,12 @@ use Rattle.vm_ids.proofs.Forest.Names.{name_cases}
 use Rattle.local_cache.specs.declared.own_state.OwnState.{OwnState}
 use Rattle.local_cache.specs.declared.own_state.OwnState.TheVariants.{Absent}
 use Rattle.local_cache.specs.declared.page_table.PageEntry.{PageEntry}
-use Rattle.local_cache.specs.Arena.{Arena, Cell, HasNode, IsVacant, Table, as_working, blank, cache_with, cell, entry_at, find, node_at, put, tables_with, with_name, with_new, with_working, without}
+use Rattle.local_cache.specs.Arena.{Arena, Cell, HasNode, IsVacant, Table, as_working, blank, cache_with, cell, entry_at, find, put, tables_with, with_name, with_new, with_working, without}
 use Rattle.local_cache.specs.Known.{IsKnown, IsLeft, IsTold}
 use Rattle.local_cache.specs.Reading.{name_of}
 use Rattle.local_cache.proofs.Changes.Retabled.{node_place}
 use Rattle.local_cache.proofs.Changes.SameNodes.{id_cases, made-put}
-use Rattle.local_cache.proofs.Known.Same.{kept, no_node, unnamed}
+use Rattle.local_cache.proofs.Known.Same.{kept, unnamed}
 use Rattle.local_cache.proofs.NewNode.Addition.{added_held, added_name, other-cell, still_held, was_held, with_counted}
 use Rattle.local_cache.proofs.NewNode.FreshNode.{vacant-there}
 use Rattle.local_cache.proofs.Nodes.Cells.{find-put, find-put_other}
