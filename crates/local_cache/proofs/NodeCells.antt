@@ -14,9 +14,9 @@ use Rattle.stretches.proofs.Reading.Numbers.{chosen, passed}
 use Rattle.local_cache.specs.declared.runs.node_lists.NodeLists.{NodeLists}
 use Rattle.local_cache.specs.declared.runs.record.Record.{Record}
 use Rattle.local_cache.specs.declared.runs.run.Run.{Run}
-use Rattle.local_cache.specs.NodeCells.{cell_by, cells_by, node_cells}
+use Rattle.local_cache.specs.NodeCells.{cell_by, cells_by, node_cells, tree_of}
 use Rattle.local_cache.specs.Records.{each}
-use Rattle.local_cache.specs.Runs.{run}
+use Rattle.local_cache.specs.Runs.{first_name, run}
 use Rattle.local_cache.proofs.Singles.{get_inserted, get_removed, len_remove_old, none_of, same_maps}
 
 -- One number of a map set or cleared -------------------------------------------------
@@ -207,3 +207,12 @@ module _ (l : NodeLists) (n : ℕ) where
       ∙ ap (λ (s : Option Run). option_map (λ q. cell_by q (map.get (cells each l.records.list) n)) s)
       (get_cells run l.runs.list n ∙ run_is)
       ∙ ap (λ (s : Option Record). Some (cell_by r s)) (get_cells each l.records.list n ∙ record_is)
+
+-- the name and the tree children of a node are what its run says, with a record or without
+pub name_by_run : (r : Run) (o : Option Record) → (cell_by r o).name ≡ first_name r.name
+name_by_run r None = refl
+name_by_run r (Some c) = refl
+
+pub tree_by_run : (r : Run) (o : Option Record) → (cell_by r o).tree ≡ tree_of r.older r.newer
+tree_by_run r None = refl
+tree_by_run r (Some c) = refl

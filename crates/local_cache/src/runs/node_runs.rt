@@ -17,7 +17,7 @@ use crate::runs::hanging::hang_from;
 use crate::runs::keys::{keys_of, page_number};
 use crate::runs::making::make_run;
 use crate::runs::numbering::{FIRST_WORKING, give_name, give_page_number, give_working_number};
-use crate::runs::parts::{own_of_plain, parts_of};
+use crate::runs::parts::{own_of, own_of_plain, parts_of, run_of};
 use crate::runs::placing::place;
 use crate::runs::renaming::{PageName, rename_from};
 use crate::runs::{Counters, NodeLists, Parts, PlainState, Record, RunName};
@@ -97,7 +97,7 @@ impl NodeRuns {
         requires { HasNode self.now node }
         ensures { result ≡ (cell self.now node).name }
     {
-        self.parts(node).name()
+        run_of(&self.lists, node.0).name.first()
     }
 
     /// Where a node's own page is.
@@ -105,7 +105,7 @@ impl NodeRuns {
         requires { HasNode self.now node }
         ensures { result ≡ (cell self.now node).own }
     {
-        self.parts(node).record.own
+        own_of(&self.lists, node.0)
     }
 
     /// How a node hangs, and the ends of its list of stubs.
@@ -122,7 +122,7 @@ impl NodeRuns {
         requires { HasNode self.now node }
         ensures { result ≡ slice_get (cell self.now node).tree place }
     {
-        self.parts(node).tree_child(place)
+        run_of(&self.lists, node.0).tree_child(place)
     }
 
     /// Sets where a node's own page is.

@@ -1,8 +1,10 @@
 // What is said of one page node.
-ghost use Rattle.std.specs.Prelude.{◌≡◌, ◌≤◌, IfSome, IsSome, Some, length, slice_get};
+ghost use Rattle.std.specs.Prelude.{◌≡◌, ◌≤◌, IfSome, IsSome, Some, length, option_map};
 ghost use Rattle.std.specs.FinMap as map;
 ghost use Rattle.stretches.specs.Stretch.{IsFit, single};
-ghost use Rattle.local_cache.specs.NodeCells.{bare, cell_of, either, node_cells, own_of_plain};
+ghost use Rattle.stretches.specs.Stretches.{said};
+ghost use Rattle.local_cache.specs.NodeCells.{bare, cell_by, cell_of, either, node_cells, own_of_plain};
+ghost use Rattle.local_cache.specs.Records.{each};
 ghost use Rattle.local_cache.specs.Arena.{new_cell};
 ghost use Rattle.local_cache.specs.Runs.{first_name, run as run_says};
 
@@ -74,6 +76,26 @@ fn either(first: Option<NodeId>, second: Option<NodeId>) -> Option<NodeId>
     }
 }
 
+// What the run of a node says, whether the node has a record or not.
+pub(crate) fn run_of(lists: &NodeLists, node: u64) -> Run
+    requires { IsSome (map.get (node_cells lists.now) node) }
+    ensures cell { map.get (node_cells lists.now) node
+        ≡ Some (cell_by result (said each lists.now.records.list node)) }
+{
+    read_one(&lists.runs, node)
+}
+
+// Where a node's own page is.
+pub(crate) fn own_of(lists: &NodeLists, node: u64) -> OwnState
+    requires { IsSome (map.get (node_cells lists.now) node) }
+    ensures { option_map (λ c. c.own) (map.get (node_cells lists.now) node) ≡ Some result }
+{
+    match lists.records.get(node) {
+        Some(record) => record.own,
+        None => own_of_plain(run_of(lists, node).own),
+    }
+}
+
 // What is said of a node.
 pub(crate) fn parts_of(lists: &NodeLists, node: u64) -> Parts
     requires { IsSome (map.get (node_cells lists.now) node) }
@@ -136,17 +158,6 @@ impl Parts {
         Links {
             parent: either(self.record.links.parent, self.run.parent),
             ..self.record.links
-        }
-    }
-
-    // The tree child at a place counted from 0.
-    pub(crate) fn tree_child(self, place: u32) -> Option<NodeId>
-        ensures { result ≡ slice_get (cell_of self.run self.record).tree place }
-    {
-        match place {
-            0 => either(self.run.older, self.run.newer),
-            1 if self.run.older.is_some() => self.run.newer,
-            _ => None,
         }
     }
 

@@ -1,5 +1,6 @@
 // What is said of page nodes that are alike.
-ghost use Rattle.std.specs.Prelude.{◌≡◌, ◌↔◌, IsTrue};
+ghost use Rattle.std.specs.Prelude.{◌≡◌, ◌↔◌, IsTrue, slice_get};
+ghost use Rattle.local_cache.specs.NodeCells.{tree_of};
 ghost use Rattle.local_cache.specs.Runs.{HasNames, first_name, further, further_if, name_after};
 
 use stretches::Says;
@@ -97,6 +98,22 @@ impl RunName {
             RunName::Pages(cache, page) => NodeName::Live(cache, page),
             RunName::Working(number) => NodeName::Working(number),
             RunName::EverySecond(number) => NodeName::Working(number),
+        }
+    }
+}
+
+impl Run {
+    // The tree child at a place counted from 0.
+    pub(crate) fn tree_child(self, place: u32) -> Option<NodeId>
+        ensures { result ≡ slice_get (tree_of self.older self.newer) place }
+    {
+        match place {
+            0 => match self.older {
+                Some(child) => Some(child),
+                None => self.newer,
+            },
+            1 if self.older.is_some() => self.newer,
+            _ => None,
         }
     }
 }
