@@ -106,9 +106,6 @@ module _ (rows : List (Option CacheRow)) (few : AreShort rows) where
 -- The calls -----------------------------------------------------------------------------------------
 
 module _ (m : PageNodes) (c : CacheRows) (n : NodeId) where
-  pub find_by : nodes.find m n ≡ arena.find (arena_by m c) n
-  find_by = refl
-
   pub cell_by : nodes.cell m n ≡ arena.cell (arena_by m c) n
   unfolding nodes.cell arena.cell
   cell_by = refl

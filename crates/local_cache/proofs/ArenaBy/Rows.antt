@@ -262,17 +262,6 @@ module _ (m : PageNodes) (c : CacheRows) where
         room = record { nodes = m.room; caches = c.places; entries = c.entries + count i };
       }
 
-  -- one copied page more
-  pub copy_by : arena_by m (record c { copies = c.copies + 1 })
-      ≡ record (arena_by m c) { copies = c.copies + 1 }
-  copy_by = refl
-
-  -- other room
-  pub room_by : (room places entries : ℕ)
-      → arena_by (record m { room = room }) (record c { places = places; entries = entries })
-      ≡ record (arena_by m c) { room = record { nodes = room; caches = places; entries = entries } }
-  room_by room places entries = refl
-
 -- What is told then -----------------------------------------------------------------------------------
 
 row_here : (rows : List (Option CacheRow)) (cache : ℕ) (change : CacheRow → CacheRow)
