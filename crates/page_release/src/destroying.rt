@@ -1,20 +1,18 @@
 // The pages of a cache go, and the store follows.
-ghost use Rattle.std.specs.Prelude.{◌≡◌, ℕ, ◌+◌, ◌<◌, ◌≤◌, ◌^◌, false, [], Some, None, length};
-ghost use Rattle.vm_ids.specs.Forest.Commands.{destroy as rule_destroy, page_name, page_names, retire_all};
-ghost use Rattle.vm_ids.specs.Forest.Laws.Settling.{IsSettled};
+ghost use Rattle.std.specs.Prelude.{◌≡◌, ◌+◌, ◌<◌, ◌≤◌, ◌^◌, false, [], Some, length};
+ghost use Rattle.vm_ids.specs.Forest.Commands.{destroy as rule_destroy, page_names, retire_all};
 ghost use Rattle.vm_ids.specs.declared.node_name.NodeName.{NodeName};
 ghost use Rattle.vm_ids.specs.Forest.NameLists.{◌∈◌};
 ghost use Rattle.vm_ids.specs.Forest.NameMap.{len};
-ghost use Rattle.vm_ids.specs.Forest.Shape.{IsBounded, IsConsistent};
-ghost use Rattle.local_cache.specs.Arena.{Arena, node_at, without_cache};
+ghost use Rattle.vm_ids.specs.Forest.Shape.{IsConsistent};
 ghost use Rattle.local_cache.specs.Own.{own_states};
 ghost use Rattle.local_cache.specs.Reading.{forest_of};
-ghost use Rattle.local_cache.specs.Sound.{IsSound};
 ghost use Rattle.residency.specs.Seeing.{frame_forest};
 ghost use Rattle.residency.specs.StoreForest.{store_forest};
 ghost use Rattle.local_cache.specs.Whole.{IsWhole, size_of};
-ghost use Rattle.page_release.specs.Homes.{AreSaved, IsUnclean};
-ghost use Rattle.page_release.specs.Steps.{ForAnyMapper, IsStoreTied, IsUnpinned, IsWorkingUnpinned, Kept, Releases, StaysRight};
+ghost use Rattle.page_release.specs.Commands.{CanReplace, Empties};
+ghost use Rattle.page_release.specs.Homes.{IsUnclean};
+ghost use Rattle.page_release.specs.Steps.{ForAnyMapper, IsStoreTied, IsUnpinned, Kept, Releases};
 ghost use Rattle.page_release.specs.Translating.{Leaves, Replaces};
 
 use crate::forgetting::forget_named;
@@ -31,7 +29,8 @@ fn retire_pages(store: &mut Store, caches: &mut Caches, cache: CacheId, pages: u
     requires whole { IsWhole caches.old }
     requires pages { size_of caches.old cache.0 ≡ Some pages }
     requires made { caches.old.made + pages < 2 ^ 63 }
-    requires unpinned { (page : ℕ) → IsUnpinned store.old caches.old (page_name cache page) }
+    requires unpinned { (x : NodeName) → x ∈ page_names cache 0 pages
+        → IsUnpinned store.old caches.old x }
     requires unclean { (x : NodeName) → x ∈ page_names cache 0 pages → IsUnclean caches.old x }
     ensures nodes { forest_of caches.new ≡ retire_all (page_names cache 0 pages)
         (forest_of caches.old) }
@@ -53,30 +52,15 @@ fn retire_pages(store: &mut Store, caches: &mut Caches, cache: CacheId, pages: u
 
 // The pages go, once no translation leads to one of them.
 fn destroy_and_settle(store: &mut Store, caches: &mut Caches, cache: CacheId, pages: u32)
-    requires tied { IsStoreTied store.old caches.old }
-    requires whole { IsWhole caches.old }
     requires pages { size_of caches.old cache.0 ≡ Some pages }
-    requires made { caches.old.made + pages < 2 ^ 63 }
-    requires unpinned { (page : ℕ) → IsUnpinned store.old caches.old (page_name cache page) }
-    requires saved { AreSaved caches.old cache (page_names cache 0 pages) }
-    requires working { IsWorkingUnpinned store.old caches.old }
+    requires ready { CanReplace pages cache (page_names cache 0 pages) store.old caches.old }
     ensures nodes { forest_of caches.new ≡ rule_destroy false (page_names cache 0 pages)
         (forest_of caches.old) }
     ensures forest { ForAnyMapper store.old caches.old store.new caches.new
         (λ old new. store_forest new ≡ rule_destroy false (page_names cache 0 pages)
         (store_forest old)) }
     ensures kept { Releases [] store.old caches.old store.new caches.new }
-    ensures settled { IsSettled (forest_of caches.new) }
-    ensures consistent { IsConsistent (forest_of caches.new) }
-    ensures bounded { IsBounded (forest_of caches.new) }
-    ensures empty { (page : ℕ) → node_at caches.new cache.0 page ≡ None }
-    ensures whole { (after : Arena) → after ≡ without_cache caches.new cache → IsSound after
-        → forest_of after ≡ forest_of caches.new → IsWhole after }
-    ensures made { caches.new.made ≤ caches.old.made + pages }
-    ensures copies { caches.new.copies ≡ caches.old.copies }
-    ensures room { caches.old.room.nodes ≤ caches.new.room.nodes }
-    ensures fewer { length (own_states caches.new) ≤ length (own_states caches.old) }
-    ensures right { StaysRight store.old caches.old store.new caches.new }
+    ensures empties { Empties cache pages store.old caches.old store.new caches.new }
     ensures translations { Replaces (λ x. x ∈ page_names cache 0 pages) (λ x. ⊥)
         caches.old store.old caches.new store.new }
 {
@@ -89,30 +73,15 @@ fn destroy_and_settle(store: &mut Store, caches: &mut Caches, cache: CacheId, pa
 /// named by a segment the heirs of its pages have their saves: what it has is forgotten first. No translation leads to
 /// where a page of it was seen.
 pub fn destroy_pages(store: &mut Store, caches: &mut Caches, cache: CacheId, pages: u32)
-    requires tied { IsStoreTied store.old caches.old }
-    requires whole { IsWhole caches.old }
     requires pages { size_of caches.old cache.0 ≡ Some pages }
-    requires made { caches.old.made + pages < 2 ^ 63 }
-    requires unpinned { (page : ℕ) → IsUnpinned store.old caches.old (page_name cache page) }
-    requires saved { AreSaved caches.old cache (page_names cache 0 pages) }
-    requires working { IsWorkingUnpinned store.old caches.old }
+    requires ready { CanReplace pages cache (page_names cache 0 pages) store.old caches.old }
     ensures nodes { forest_of caches.new ≡ rule_destroy false (page_names cache 0 pages)
         (forest_of caches.old) }
     ensures forest { ForAnyMapper store.old caches.old store.new caches.new
         (λ old new. store_forest new ≡ rule_destroy false (page_names cache 0 pages)
         (store_forest old)) }
     ensures kept { Kept [] store.old caches.old store.new caches.new }
-    ensures settled { IsSettled (forest_of caches.new) }
-    ensures consistent { IsConsistent (forest_of caches.new) }
-    ensures bounded { IsBounded (forest_of caches.new) }
-    ensures empty { (page : ℕ) → node_at caches.new cache.0 page ≡ None }
-    ensures whole { (after : Arena) → after ≡ without_cache caches.new cache → IsSound after
-        → forest_of after ≡ forest_of caches.new → IsWhole after }
-    ensures made { caches.new.made ≤ caches.old.made + pages }
-    ensures copies { caches.new.copies ≡ caches.old.copies }
-    ensures room { caches.old.room.nodes ≤ caches.new.room.nodes }
-    ensures fewer { length (own_states caches.new) ≤ length (own_states caches.old) }
-    ensures right { StaysRight store.old caches.old store.new caches.new }
+    ensures empties { Empties cache pages store.old caches.old store.new caches.new }
     ensures translations { Leaves (λ x. x ∈ page_names cache 0 pages) (λ x. ⊥)
         caches.old store.old caches.new store.new }
 {

@@ -1,21 +1,20 @@
 // Pages of a named cache become what their segment holds, and the store follows.
-ghost use Rattle.std.specs.Prelude.{◌≡◌, ◌+◌, ◌*◌, ◌<◌, ◌≤◌, ◌^◌, true, [], length};
+ghost use Rattle.std.specs.Prelude.{◌≡◌, ◌+◌, ◌<◌, ◌≤◌, ◌^◌, true};
 ghost use Rattle.vm_ids.specs.declared.node_name.NodeName.{NodeName};
 ghost use Rattle.vm_ids.specs.Forest.Commands.{page_names, replace_pages};
 ghost use Rattle.vm_ids.specs.Forest.Laws.Ranges.{AreNodes};
-ghost use Rattle.vm_ids.specs.Forest.Laws.Settling.{IsSettled};
 ghost use Rattle.vm_ids.specs.Forest.NameLists.{◌∈◌};
 ghost use Rattle.vm_ids.specs.Forest.NameMap.{len};
 ghost use Rattle.vm_ids.specs.Forest.Nodes.{IsNode};
-ghost use Rattle.vm_ids.specs.Forest.Reading.{live_count};
 ghost use Rattle.vm_ids.specs.Forest.Settling.{settle as rule_settle};
-ghost use Rattle.vm_ids.specs.Forest.Shape.{IsBounded, IsConsistent};
+ghost use Rattle.vm_ids.specs.Forest.Shape.{IsConsistent};
 ghost use Rattle.local_cache.specs.Reading.{forest_of};
 ghost use Rattle.local_cache.specs.Whole.{IsWhole};
 ghost use Rattle.residency.specs.Seeing.{frame_forest};
 ghost use Rattle.residency.specs.StoreForest.{store_forest};
-ghost use Rattle.page_release.specs.Homes.{AreSaved, IsClean, IsUnclean, is_named};
-ghost use Rattle.page_release.specs.Steps.{ForAnyMapper, IsStoreTied, IsUnpinned, IsWorkingUnpinned, Kept, Releases, StaysRight, in_no_frame, on_segment, segment_pages};
+ghost use Rattle.page_release.specs.Commands.{CanReplace, HasRoom, KeepsPages};
+ghost use Rattle.page_release.specs.Homes.{IsClean, IsUnclean, is_named};
+ghost use Rattle.page_release.specs.Steps.{ForAnyMapper, IsStoreTied, IsUnpinned, Kept, Releases, in_no_frame, on_segment, segment_pages};
 ghost use Rattle.page_release.specs.Translating.{Leaves, Replaces};
 
 use crate::forgetting::forget_named;
@@ -76,18 +75,12 @@ fn invalidate_and_settle(
     first: PageNo,
     pages: u32,
 )
-    requires tied { IsStoreTied store.old caches.old }
-    requires whole { IsWhole caches.old }
     requires named { is_named caches.old cache ≡ true }
     requires within { first.0 + pages < 2 ^ 32 }
     requires nodes { AreNodes (forest_of caches.old) cache first.0 pages }
-    requires unpinned { (x : NodeName) → x ∈ page_names cache first.0 pages
-        → IsUnpinned store.old caches.old x }
-    requires saved { AreSaved caches.old cache (page_names cache first.0 pages) }
-    requires working { IsWorkingUnpinned store.old caches.old }
-    requires room { pages ≤ caches.old.room.nodes }
-    requires made { caches.old.made + pages < 2 ^ 63 }
-    requires few { len (forest_of caches.old).nodes + pages < 2 ^ 32 }
+    requires ready { CanReplace pages cache (page_names cache first.0 pages)
+        store.old caches.old }
+    requires room { HasRoom pages caches.old }
     ensures nodes { forest_of caches.new ≡ rule_settle
         (replace_pages (on_segment (page_names cache first.0 pages)) (forest_of caches.old)) }
     ensures forest { ForAnyMapper store.old caches.old store.new caches.new
@@ -95,15 +88,7 @@ fn invalidate_and_settle(
         (replace_pages (segment_pages old (page_names cache first.0 pages)) (store_forest old))) }
     ensures kept { Releases (page_names cache first.0 pages)
         store.old caches.old store.new caches.new }
-    ensures whole { IsWhole caches.new }
-    ensures live { live_count (forest_of caches.new) ≡ live_count (forest_of caches.old) }
-    ensures right { 2 * live_count (forest_of caches.old) ≤ length store.old.slots
-        → StaysRight store.old caches.old store.new caches.new }
-    ensures settled { IsSettled (forest_of caches.new) }
-    ensures bounded { IsBounded (forest_of caches.new) }
-    ensures made { caches.new.made ≤ caches.old.made + pages }
-    ensures copies { caches.new.copies ≡ caches.old.copies }
-    ensures room { caches.old.room.nodes ≤ caches.new.room.nodes + pages }
+    ensures pages { KeepsPages pages store.old caches.old store.new caches.new }
     ensures translations { Replaces (λ x. x ∈ page_names cache first.0 pages) (λ x. ⊥)
         caches.old store.old caches.new store.new }
 {
@@ -121,18 +106,12 @@ pub fn invalidate_pages(
     first: PageNo,
     pages: u32,
 )
-    requires tied { IsStoreTied store.old caches.old }
-    requires whole { IsWhole caches.old }
     requires named { is_named caches.old cache ≡ true }
     requires within { first.0 + pages < 2 ^ 32 }
     requires nodes { AreNodes (forest_of caches.old) cache first.0 pages }
-    requires unpinned { (x : NodeName) → x ∈ page_names cache first.0 pages
-        → IsUnpinned store.old caches.old x }
-    requires saved { AreSaved caches.old cache (page_names cache first.0 pages) }
-    requires working { IsWorkingUnpinned store.old caches.old }
-    requires room { pages ≤ caches.old.room.nodes }
-    requires made { caches.old.made + pages < 2 ^ 63 }
-    requires few { len (forest_of caches.old).nodes + pages < 2 ^ 32 }
+    requires ready { CanReplace pages cache (page_names cache first.0 pages)
+        store.old caches.old }
+    requires room { HasRoom pages caches.old }
     ensures nodes { forest_of caches.new ≡ rule_settle
         (replace_pages (on_segment (page_names cache first.0 pages)) (forest_of caches.old)) }
     ensures forest { ForAnyMapper store.old caches.old store.new caches.new
@@ -140,15 +119,7 @@ pub fn invalidate_pages(
         (replace_pages (segment_pages old (page_names cache first.0 pages)) (store_forest old))) }
     ensures kept { Kept (page_names cache first.0 pages)
         store.old caches.old store.new caches.new }
-    ensures whole { IsWhole caches.new }
-    ensures live { live_count (forest_of caches.new) ≡ live_count (forest_of caches.old) }
-    ensures right { 2 * live_count (forest_of caches.old) ≤ length store.old.slots
-        → StaysRight store.old caches.old store.new caches.new }
-    ensures settled { IsSettled (forest_of caches.new) }
-    ensures bounded { IsBounded (forest_of caches.new) }
-    ensures made { caches.new.made ≤ caches.old.made + pages }
-    ensures copies { caches.new.copies ≡ caches.old.copies }
-    ensures room { caches.old.room.nodes ≤ caches.new.room.nodes + pages }
+    ensures pages { KeepsPages pages store.old caches.old store.new caches.new }
     ensures translations { Leaves (λ x. x ∈ page_names cache first.0 pages) (λ x. ⊥)
         caches.old store.old caches.new store.new }
 {

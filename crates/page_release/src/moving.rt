@@ -1,23 +1,22 @@
 // The pages of a move, and the store follows.
-ghost use Rattle.std.specs.Prelude.{◌≡◌, ◌+◌, ◌*◌, ◌<◌, ◌≤◌, ◌^◌, ◌⊎◌, false, [], None, length};
+ghost use Rattle.std.specs.Prelude.{◌≡◌, ◌+◌, ◌<◌, ◌≤◌, ◌^◌, ◌⊎◌, false, [], None};
 ghost use Rattle.vm_ids.specs.declared.node_name.NodeName.{NodeName};
 ghost use Rattle.vm_ids.specs.Forest.Commands.{firsts, move_, move_pages as rule_move_pages, seconds, span_pairs};
 ghost use Rattle.vm_ids.specs.Forest.NameLists.{◌∈◌};
 ghost use Rattle.vm_ids.specs.Forest.Laws.Commands.{CanCopy};
 ghost use Rattle.vm_ids.specs.Forest.Laws.Linking.{ArePages};
-ghost use Rattle.vm_ids.specs.Forest.Laws.Settling.{IsSettled};
 ghost use Rattle.vm_ids.specs.Forest.NameMap.{len};
 ghost use Rattle.vm_ids.specs.Forest.Nodes.{IsNode};
 ghost use Rattle.vm_ids.specs.Forest.Rules as forest;
-ghost use Rattle.vm_ids.specs.Forest.Shape.{IsBounded, IsConsistent};
-ghost use Rattle.vm_ids.specs.Forest.Reading.{live_count};
+ghost use Rattle.vm_ids.specs.Forest.Shape.{IsConsistent};
 ghost use Rattle.local_cache.specs.Reading.{forest_of};
 ghost use Rattle.local_cache.specs.Sound.{IsSound};
 ghost use Rattle.residency.specs.Seeing.{frame_forest};
 ghost use Rattle.residency.specs.StoreForest.{store_forest};
 ghost use Rattle.local_cache.specs.Whole.{IsWhole};
-ghost use Rattle.page_release.specs.Homes.{AreSaved, IsUnclean, IsWritable, is_named};
-ghost use Rattle.page_release.specs.Steps.{ForAnyMapper, IsStoreTied, IsUnpinned, IsWorkingUnpinned, Kept, Releases, StaysRight, zeros_told};
+ghost use Rattle.page_release.specs.Commands.{CanReplace, CanTransfer, HasRoom, KeepsPages};
+ghost use Rattle.page_release.specs.Homes.{IsUnclean, is_named};
+ghost use Rattle.page_release.specs.Steps.{ForAnyMapper, IsStoreTied, IsUnpinned, Kept, Releases, zeros_told};
 ghost use Rattle.page_release.specs.Translating.{Leaves, Replaces};
 
 use crate::following::follow;
@@ -107,37 +106,20 @@ fn move_each(store: &mut Store, caches: &mut Caches, span: Span)
 
 // The move, once no translation leads to a page of either range.
 fn move_and_settle(store: &mut Store, caches: &mut Caches, span: Span)
-    requires tied { IsStoreTied store.old caches.old }
-    requires whole { IsWhole caches.old }
-    requires can { CanCopy (forest_of caches.old) (span_pairs span) }
-    requires unpinned { (x : NodeName) → x ∈ firsts (span_pairs span)
-        → IsUnpinned store.old caches.old x }
+    requires temporary { is_named caches.old span.from ≡ false }
     requires sources { (x : NodeName) → x ∈ seconds (span_pairs span)
         → IsUnpinned store.old caches.old x }
-    requires temporary { is_named caches.old span.from ≡ false }
-    requires saved { AreSaved caches.old span.to (firsts (span_pairs span)) }
-    requires granted { (x : NodeName) → x ∈ firsts (span_pairs span) → IsWritable caches.old x }
-    requires working { IsWorkingUnpinned store.old caches.old }
-    requires room { span.pages ≤ caches.old.room.nodes }
-    requires made { caches.old.made + span.pages < 2 ^ 63 }
-    requires few { len (forest_of caches.old).nodes + span.pages < 2 ^ 32 }
-    requires within { (span.from_page.0 + span.pages < 2 ^ 32)
-        × (span.to_page.0 + span.pages < 2 ^ 32) }
+    requires ready { CanReplace span.pages span.to (firsts (span_pairs span))
+        store.old caches.old }
+    requires room { HasRoom span.pages caches.old }
+    requires transfer { CanTransfer span caches.old }
     ensures nodes { forest_of caches.new ≡ move_ false OwnState.Zero (span_pairs span)
         (forest_of caches.old) }
     ensures forest { ForAnyMapper store.old caches.old store.new caches.new
         (λ old new. store_forest new ≡ move_ false (zeros_told old) (span_pairs span)
         (store_forest old)) }
     ensures kept { Releases (firsts (span_pairs span)) store.old caches.old store.new caches.new }
-    ensures whole { IsWhole caches.new }
-    ensures live { live_count (forest_of caches.new) ≡ live_count (forest_of caches.old) }
-    ensures right { 2 * live_count (forest_of caches.old) ≤ length store.old.slots
-        → StaysRight store.old caches.old store.new caches.new }
-    ensures settled { IsSettled (forest_of caches.new) }
-    ensures bounded { IsBounded (forest_of caches.new) }
-    ensures made { caches.new.made ≤ caches.old.made + span.pages }
-    ensures copies { caches.new.copies ≡ caches.old.copies }
-    ensures room { caches.old.room.nodes ≤ caches.new.room.nodes + span.pages }
+    ensures pages { KeepsPages span.pages store.old caches.old store.new caches.new }
     ensures translations { Replaces
         (λ x. (x ∈ firsts (span_pairs span)) ⊎ (x ∈ seconds (span_pairs span))) (λ x. ⊥)
         caches.old store.old caches.new store.new }
@@ -152,37 +134,20 @@ fn move_and_settle(store: &mut Store, caches: &mut Caches, span: Span)
 /// source is temporary. Where the destination is named by a segment, each of its pages was granted, and its heirs have
 /// their saves: what it has is forgotten first. No translation leads to where a page of either was seen.
 pub fn move_pages(store: &mut Store, caches: &mut Caches, span: Span)
-    requires tied { IsStoreTied store.old caches.old }
-    requires whole { IsWhole caches.old }
-    requires can { CanCopy (forest_of caches.old) (span_pairs span) }
-    requires unpinned { (x : NodeName) → x ∈ firsts (span_pairs span)
-        → IsUnpinned store.old caches.old x }
+    requires temporary { is_named caches.old span.from ≡ false }
     requires sources { (x : NodeName) → x ∈ seconds (span_pairs span)
         → IsUnpinned store.old caches.old x }
-    requires temporary { is_named caches.old span.from ≡ false }
-    requires saved { AreSaved caches.old span.to (firsts (span_pairs span)) }
-    requires granted { (x : NodeName) → x ∈ firsts (span_pairs span) → IsWritable caches.old x }
-    requires working { IsWorkingUnpinned store.old caches.old }
-    requires room { span.pages ≤ caches.old.room.nodes }
-    requires made { caches.old.made + span.pages < 2 ^ 63 }
-    requires few { len (forest_of caches.old).nodes + span.pages < 2 ^ 32 }
-    requires within { (span.from_page.0 + span.pages < 2 ^ 32)
-        × (span.to_page.0 + span.pages < 2 ^ 32) }
+    requires ready { CanReplace span.pages span.to (firsts (span_pairs span))
+        store.old caches.old }
+    requires room { HasRoom span.pages caches.old }
+    requires transfer { CanTransfer span caches.old }
     ensures nodes { forest_of caches.new ≡ move_ false OwnState.Zero (span_pairs span)
         (forest_of caches.old) }
     ensures forest { ForAnyMapper store.old caches.old store.new caches.new
         (λ old new. store_forest new ≡ move_ false (zeros_told old) (span_pairs span)
         (store_forest old)) }
     ensures kept { Kept (firsts (span_pairs span)) store.old caches.old store.new caches.new }
-    ensures whole { IsWhole caches.new }
-    ensures live { live_count (forest_of caches.new) ≡ live_count (forest_of caches.old) }
-    ensures right { 2 * live_count (forest_of caches.old) ≤ length store.old.slots
-        → StaysRight store.old caches.old store.new caches.new }
-    ensures settled { IsSettled (forest_of caches.new) }
-    ensures bounded { IsBounded (forest_of caches.new) }
-    ensures made { caches.new.made ≤ caches.old.made + span.pages }
-    ensures copies { caches.new.copies ≡ caches.old.copies }
-    ensures room { caches.old.room.nodes ≤ caches.new.room.nodes + span.pages }
+    ensures pages { KeepsPages span.pages store.old caches.old store.new caches.new }
     ensures translations { Leaves
         (λ x. (x ∈ firsts (span_pairs span)) ⊎ (x ∈ seconds (span_pairs span))) (λ x. ⊥)
         caches.old store.old caches.new store.new }

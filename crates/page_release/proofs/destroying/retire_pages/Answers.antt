@@ -44,7 +44,11 @@ retire_page-requires-clause-node c =
     page_there c.loop-page.caches i.kept.sound c.args.cache (record { 0 = c.loop-page.page }) (page_now (forest_of c.loop-page.caches) i.consistent c.args.cache c.args.pages c.loop-page.page c.loop-page-test.true i.pages)
 
 pub retire_page-requires-clause-unpinned : goal.retire_page-requires-clause-unpinned
-retire_page-requires-clause-unpinned c = unpinned_kept [] c.args.store.now c.args.caches.now c.loop-page.store c.loop-page.caches c.requires.tied c.loop-page.invariant.kept (page_name c.args.cache c.loop-page.page) (c.requires.unpinned c.loop-page.page)
+retire_page-requires-clause-unpinned c =
+    let x = page_name c.args.cache c.loop-page.page in
+    let number : 0 + c.loop-page.page ≡ c.loop-page.page = omega arith in
+    let here = subst (λ k. page_name c.args.cache k ∈ page_names c.args.cache 0 c.args.pages) number (in_range c.args.cache 0 c.args.pages c.loop-page.page c.loop-page-test.true) in
+    unpinned_kept [] c.args.store.now c.args.caches.now c.loop-page.store c.loop-page.caches c.requires.tied c.loop-page.invariant.kept x (c.requires.unpinned x here)
 
 pub retire_page-requires-clause-unclean : goal.retire_page-requires-clause-unclean
 retire_page-requires-clause-unclean c =
