@@ -1,13 +1,13 @@
-use Rattle.std.proofs.Common.{◌≡◌, [], ◌+◌, None, ap, ◌∙◌, arith, false, sym, subst}
+use Rattle.std.proofs.Common.{◌≡◌, ◌≤◌, ℕ, [], None, length, ap, ◌∙◌, arith, false, sym}
 use Rattle.vm_ids.proofs.Forest.Laws.Commands.{destroy_counts_saves}
-use Rattle.vm_ids.proofs.Forest.Laws.Ranges.{ranges_hold_their_pages}
 use Rattle.vm_ids.specs.Forest.Nodes.{Forest}
-use Rattle.vm_ids.specs.Forest.Commands.{destroy as rule_destroy, page_name, page_names, retire_all}
+use Rattle.vm_ids.specs.Forest.Commands.{destroy as rule_destroy, page_names, retire_all}
 use Rattle.vm_ids.specs.Forest.Settling.{settle}
 use Rattle.vm_ids.specs.declared.node_name.NodeName.TheVariants.{Working}
 use Rattle.local_cache.specs.declared.own_state.OwnState.{OwnState}
 use Rattle.local_cache.specs.declared.own_state.OwnState.TheVariants.{Zero}
-use Rattle.local_cache.specs.Arena.{Arena}
+use Rattle.local_cache.specs.Arena.{Arena, node_at}
+use Rattle.local_cache.specs.Own.{own_states}
 use Rattle.local_cache.specs.Reading.{forest_of}
 use Rattle.local_cache.proofs.Changes.SameNodes.{forest_of-copies}
 use Rattle.local_cache.proofs.Whole.Commands.{emptied, whole_emptied}
@@ -16,7 +16,7 @@ use Rattle.residency.specs.Seeing.{frame_forest}
 use Rattle.residency.specs.StoreForest.{store_forest}
 use Rattle.residency.specs.World.{world}
 use Rattle.page_release.specs.Homes.{is_named}
-use Rattle.page_release.specs.Steps.{IsUnpinned, zeros_told}
+use Rattle.page_release.specs.Steps.{zeros_told}
 use Rattle.page_release.proofs.Forgotten.Law.{destroy_forgotten}
 use Rattle.page_release.proofs.Framing.Shape.{frame_consistent, frame_pages, frame_saved}
 use Rattle.page_release.proofs.Freeing.Commands.{destroy_replaces}
@@ -97,7 +97,7 @@ returns-clause-empties c =
     let s = c.settle.ensures in
     let room = ap (λ (k : Arena). k.room.nodes) f.same.rest in
     let made = ap (λ (k : Arena). k.made) f.same.rest in
-    let fewer = omega (arith, f.count, s.fewer, r.fewer) in
+    let fewer : length (own_states d) ≤ length (own_states a) = omega (arith, f.count, s.fewer, r.fewer) in
     record {
       settles = record {
         settled = s.settled;
