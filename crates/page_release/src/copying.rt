@@ -1,5 +1,5 @@
 // The pages of a copy, and the store follows.
-ghost use Rattle.std.specs.Prelude.{◌≡◌, ◌+◌, ◌*◌, ◌<◌, ◌≤◌, ◌^◌, false, [], leb};
+ghost use Rattle.std.specs.Prelude.{◌+◌, ◌*◌, ◌<◌, ◌≤◌, ◌^◌, false, [], leb};
 ghost use Rattle.vm_ids.specs.declared.node_name.NodeName.{NodeName};
 ghost use Rattle.vm_ids.specs.Forest.Commands.{copy as rule_copy, copy_pages as rule_copy_pages, firsts, seconds, small_copy, span_pairs};
 ghost use Rattle.vm_ids.specs.Forest.NameLists.{◌∈◌};
@@ -11,12 +11,11 @@ ghost use Rattle.vm_ids.specs.Forest.Rules as forest;
 ghost use Rattle.vm_ids.specs.Forest.Shape.{IsConsistent};
 ghost use Rattle.local_cache.specs.Reading.{forest_of};
 ghost use Rattle.local_cache.specs.Sound.{IsSound};
-ghost use Rattle.residency.specs.Seeing.{frame_forest};
-ghost use Rattle.residency.specs.StoreForest.{store_forest};
 ghost use Rattle.local_cache.specs.Whole.{IsWhole};
 ghost use Rattle.page_release.specs.Commands.{CanReplace, CanTransfer, HasRoom, KeepsPages};
 ghost use Rattle.page_release.specs.Homes.{IsUnclean};
-ghost use Rattle.page_release.specs.Steps.{ForAnyMapper, IsStoreTied, IsUnpinned, Kept, Releases};
+ghost use Rattle.page_release.specs.Readings.{GoesBy};
+ghost use Rattle.page_release.specs.Steps.{IsStoreTied, IsUnpinned, Kept, Releases};
 ghost use Rattle.page_release.specs.Translating.{Leaves, Replaces};
 
 use crate::forgetting::forget_named;
@@ -49,14 +48,8 @@ fn copy_page(
     requires room { 2 ≤ caches.old.room.nodes }
     requires made { caches.old.made + 1 < 2 ^ 63 }
     requires few { len (forest_of caches.old).nodes + 1 < 2 ^ 32 }
-    ensures nodes { forest_of caches.new ≡ forest.copy_page is_small (forest_of caches.old)
-        (NodeName.Live to to_page) (NodeName.Live from from_page) }
-    ensures forest { ForAnyMapper store.old caches.old store.new caches.new
-        (λ old new. store_forest new ≡ forest.copy_page is_small (store_forest old)
-        (NodeName.Live to to_page) (NodeName.Live from from_page)) }
-    ensures frames { frame_forest caches.new store.new.map
-        ≡ forest.copy_page is_small (frame_forest caches.old store.old.map)
-        (NodeName.Live to to_page) (NodeName.Live from from_page) }
+    ensures rule { GoesBy (λ P put f. forest.copy_page is_small f (NodeName.Live to to_page)
+        (NodeName.Live from from_page)) store.old caches.old store.new caches.new }
     ensures kept { Releases [] store.old caches.old store.new caches.new }
     ensures room { caches.old.room.nodes ≤ caches.new.room.nodes + 2 }
 {
@@ -83,14 +76,8 @@ fn copy_each(store: &mut Store, caches: &mut Caches, span: Span)
     requires few { len (forest_of caches.old).nodes + 2 * span.pages < 2 ^ 32 }
     requires within { (span.from_page.0 + span.pages < 2 ^ 32)
         × (span.to_page.0 + span.pages < 2 ^ 32) }
-    ensures nodes { forest_of caches.new ≡ rule_copy_pages (leb span.pages small_copy)
-        (span_pairs span) (forest_of caches.old) }
-    ensures forest { ForAnyMapper store.old caches.old store.new caches.new
-        (λ old new. store_forest new ≡ rule_copy_pages (leb span.pages small_copy) (span_pairs span)
-        (store_forest old)) }
-    ensures frames { frame_forest caches.new store.new.map
-        ≡ rule_copy_pages (leb span.pages small_copy) (span_pairs span)
-        (frame_forest caches.old store.old.map) }
+    ensures rule { GoesBy (λ P put f. rule_copy_pages (leb span.pages small_copy) (span_pairs span) f)
+        store.old caches.old store.new caches.new }
     ensures kept { Releases [] store.old caches.old store.new caches.new }
     ensures consistent { IsConsistent (forest_of caches.new) }
     ensures stays { (x : NodeName) → IsNode (forest_of caches.old) x
@@ -120,10 +107,8 @@ fn copy_and_settle(store: &mut Store, caches: &mut Caches, span: Span)
         store.old caches.old }
     requires room { HasRoom (2 * span.pages) caches.old }
     requires transfer { CanTransfer span caches.old }
-    ensures nodes { forest_of caches.new ≡ rule_copy false (span_pairs span)
-        (forest_of caches.old) }
-    ensures forest { ForAnyMapper store.old caches.old store.new caches.new
-        (λ old new. store_forest new ≡ rule_copy false (span_pairs span) (store_forest old)) }
+    ensures rule { GoesBy (λ P put f. rule_copy false (span_pairs span) f)
+        store.old caches.old store.new caches.new }
     ensures kept { Releases (firsts (span_pairs span)) store.old caches.old store.new caches.new }
     ensures pages { KeepsPages (2 * span.pages) store.old caches.old store.new caches.new }
     ensures translations { Replaces (λ x. x ∈ firsts (span_pairs span))
@@ -143,10 +128,8 @@ pub fn copy_pages(store: &mut Store, caches: &mut Caches, span: Span)
         store.old caches.old }
     requires room { HasRoom (2 * span.pages) caches.old }
     requires transfer { CanTransfer span caches.old }
-    ensures nodes { forest_of caches.new ≡ rule_copy false (span_pairs span)
-        (forest_of caches.old) }
-    ensures forest { ForAnyMapper store.old caches.old store.new caches.new
-        (λ old new. store_forest new ≡ rule_copy false (span_pairs span) (store_forest old)) }
+    ensures rule { GoesBy (λ P put f. rule_copy false (span_pairs span) f)
+        store.old caches.old store.new caches.new }
     ensures kept { Kept (firsts (span_pairs span)) store.old caches.old store.new caches.new }
     ensures pages { KeepsPages (2 * span.pages) store.old caches.old store.new caches.new }
     ensures translations { Leaves (λ x. x ∈ firsts (span_pairs span))

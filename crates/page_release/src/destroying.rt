@@ -7,12 +7,11 @@ ghost use Rattle.vm_ids.specs.Forest.NameMap.{len};
 ghost use Rattle.vm_ids.specs.Forest.Shape.{IsConsistent};
 ghost use Rattle.local_cache.specs.Own.{own_states};
 ghost use Rattle.local_cache.specs.Reading.{forest_of};
-ghost use Rattle.residency.specs.Seeing.{frame_forest};
-ghost use Rattle.residency.specs.StoreForest.{store_forest};
 ghost use Rattle.local_cache.specs.Whole.{IsWhole, size_of};
 ghost use Rattle.page_release.specs.Commands.{CanReplace, Empties};
 ghost use Rattle.page_release.specs.Homes.{IsUnclean};
-ghost use Rattle.page_release.specs.Steps.{ForAnyMapper, IsStoreTied, IsUnpinned, Kept, Releases};
+ghost use Rattle.page_release.specs.Readings.{GoesBy};
+ghost use Rattle.page_release.specs.Steps.{IsStoreTied, IsUnpinned, Kept, Releases};
 ghost use Rattle.page_release.specs.Translating.{Leaves, Replaces};
 
 use crate::forgetting::forget_named;
@@ -32,12 +31,8 @@ fn retire_pages(store: &mut Store, caches: &mut Caches, cache: CacheId, pages: u
     requires unpinned { (x : NodeName) → x ∈ page_names cache 0 pages
         → IsUnpinned store.old caches.old x }
     requires unclean { (x : NodeName) → x ∈ page_names cache 0 pages → IsUnclean caches.old x }
-    ensures nodes { forest_of caches.new ≡ retire_all (page_names cache 0 pages)
-        (forest_of caches.old) }
-    ensures forest { ForAnyMapper store.old caches.old store.new caches.new
-        (λ old new. store_forest new ≡ retire_all (page_names cache 0 pages) (store_forest old)) }
-    ensures frames { frame_forest caches.new store.new.map
-        ≡ retire_all (page_names cache 0 pages) (frame_forest caches.old store.old.map) }
+    ensures rule { GoesBy (λ P put f. retire_all (page_names cache 0 pages) f)
+        store.old caches.old store.new caches.new }
     ensures kept { Releases [] store.old caches.old store.new caches.new }
     ensures consistent { IsConsistent (forest_of caches.new) }
     ensures made { caches.new.made ≤ caches.old.made + pages }
@@ -54,11 +49,8 @@ fn retire_pages(store: &mut Store, caches: &mut Caches, cache: CacheId, pages: u
 fn destroy_and_settle(store: &mut Store, caches: &mut Caches, cache: CacheId, pages: u32)
     requires pages { size_of caches.old cache.0 ≡ Some pages }
     requires ready { CanReplace pages cache (page_names cache 0 pages) store.old caches.old }
-    ensures nodes { forest_of caches.new ≡ rule_destroy false (page_names cache 0 pages)
-        (forest_of caches.old) }
-    ensures forest { ForAnyMapper store.old caches.old store.new caches.new
-        (λ old new. store_forest new ≡ rule_destroy false (page_names cache 0 pages)
-        (store_forest old)) }
+    ensures rule { GoesBy (λ P put f. rule_destroy false (page_names cache 0 pages) f)
+        store.old caches.old store.new caches.new }
     ensures kept { Releases [] store.old caches.old store.new caches.new }
     ensures empties { Empties cache pages store.old caches.old store.new caches.new }
     ensures translations { Replaces (λ x. x ∈ page_names cache 0 pages) (λ x. ⊥)
@@ -75,11 +67,8 @@ fn destroy_and_settle(store: &mut Store, caches: &mut Caches, cache: CacheId, pa
 pub fn destroy_pages(store: &mut Store, caches: &mut Caches, cache: CacheId, pages: u32)
     requires pages { size_of caches.old cache.0 ≡ Some pages }
     requires ready { CanReplace pages cache (page_names cache 0 pages) store.old caches.old }
-    ensures nodes { forest_of caches.new ≡ rule_destroy false (page_names cache 0 pages)
-        (forest_of caches.old) }
-    ensures forest { ForAnyMapper store.old caches.old store.new caches.new
-        (λ old new. store_forest new ≡ rule_destroy false (page_names cache 0 pages)
-        (store_forest old)) }
+    ensures rule { GoesBy (λ P put f. rule_destroy false (page_names cache 0 pages) f)
+        store.old caches.old store.new caches.new }
     ensures kept { Kept [] store.old caches.old store.new caches.new }
     ensures empties { Empties cache pages store.old caches.old store.new caches.new }
     ensures translations { Leaves (λ x. x ∈ page_names cache 0 pages) (λ x. ⊥)

@@ -1,5 +1,5 @@
 // Own pages of a named cache give way to pages of zeros, and the store follows.
-ghost use Rattle.std.specs.Prelude.{◌≡◌, ◌+◌, ◌<◌, ◌^◌, [], ◌∷◌, None, IsSome, length};
+ghost use Rattle.std.specs.Prelude.{◌≡◌, ◌+◌, ◌<◌, ◌^◌, [], ◌∷◌, IsSome, length};
 ghost use Rattle.vm_ids.specs.declared.node_name.NodeName.{NodeName};
 ghost use Rattle.vm_ids.specs.Forest.Commands.{page_names};
 ghost use Rattle.vm_ids.specs.Forest.Forgetting.{forget, forgotten};
@@ -10,11 +10,10 @@ ghost use Rattle.local_cache.specs.Own.{own_states};
 ghost use Rattle.local_cache.specs.Reading.{forest_of};
 ghost use Rattle.local_cache.specs.Sound.{IsSound};
 ghost use Rattle.local_cache.specs.Whole.{IsWhole};
-ghost use Rattle.residency.specs.Seeing.{frame_forest};
-ghost use Rattle.residency.specs.StoreForest.{store_forest};
 ghost use Rattle.residency.specs.World.{SameNodes};
 ghost use Rattle.page_release.specs.Homes.{IsUnclean, is_named};
-ghost use Rattle.page_release.specs.Steps.{ForAnyMapper, IsStoreTied, IsUnpinned, Releases, forgotten_where, zeros_told};
+ghost use Rattle.page_release.specs.Readings.{GoesBy};
+ghost use Rattle.page_release.specs.Steps.{IsStoreTied, IsUnpinned, Releases, forgotten_where};
 
 use crate::following::drop_page;
 use local_cache::{Caches, OwnState};
@@ -28,13 +27,8 @@ fn forget_page(store: &mut Store, caches: &mut Caches, cache: CacheId, page: Pag
     requires sound { IsSound caches.old }
     requires node { IsSome (node_at caches.old cache.0 page.0) }
     requires unpinned { IsUnpinned store.old caches.old (NodeName.Live cache page) }
-    ensures nodes { forest_of caches.new ≡ forget (forest_of caches.old)
-        (NodeName.Live cache page) OwnState.Zero }
-    ensures forest { ForAnyMapper store.old caches.old store.new caches.new
-        (λ old new. store_forest new ≡ forget (store_forest old)
-        (NodeName.Live cache page) (zeros_told old)) }
-    ensures frames { frame_forest caches.new store.new.map
-        ≡ forget (frame_forest caches.old store.old.map) (NodeName.Live cache page) None }
+    ensures rule { GoesBy (λ P put f. forget f (NodeName.Live cache page) put.zeros)
+        store.old caches.old store.new caches.new }
     ensures kept { Releases (NodeName.Live cache page ∷ [])
         store.old caches.old store.new caches.new }
     ensures same { SameNodes caches.old caches.new }
@@ -58,14 +52,8 @@ fn forget_pages(store: &mut Store, caches: &mut Caches, cache: CacheId, first: P
     requires nodes { AreNodes (forest_of caches.old) cache first.0 pages }
     requires unpinned { (x : NodeName) → x ∈ page_names cache first.0 pages
         → IsUnpinned store.old caches.old x }
-    ensures nodes { forest_of caches.new ≡ forgotten (page_names cache first.0 pages)
-        OwnState.Zero (forest_of caches.old) }
-    ensures forest { ForAnyMapper store.old caches.old store.new caches.new
-        (λ old new. store_forest new ≡ forgotten (page_names cache first.0 pages)
-        (zeros_told old) (store_forest old)) }
-    ensures frames { frame_forest caches.new store.new.map
-        ≡ forgotten (page_names cache first.0 pages) None
-        (frame_forest caches.old store.old.map) }
+    ensures rule { GoesBy (λ P put f. forgotten (page_names cache first.0 pages) put.zeros f)
+        store.old caches.old store.new caches.new }
     ensures kept { Releases (page_names cache first.0 pages)
         store.old caches.old store.new caches.new }
     ensures same { SameNodes caches.old caches.new }
@@ -92,14 +80,8 @@ pub(crate) fn forget_named(
     requires nodes { AreNodes (forest_of caches.old) cache first.0 pages }
     requires unpinned { (x : NodeName) → x ∈ page_names cache first.0 pages
         → IsUnpinned store.old caches.old x }
-    ensures nodes { forest_of caches.new ≡ forgotten_where (is_named caches.old cache)
-        (page_names cache first.0 pages) OwnState.Zero (forest_of caches.old) }
-    ensures forest { ForAnyMapper store.old caches.old store.new caches.new
-        (λ old new. store_forest new ≡ forgotten_where (is_named caches.old cache)
-        (page_names cache first.0 pages) (zeros_told old) (store_forest old)) }
-    ensures frames { frame_forest caches.new store.new.map
-        ≡ forgotten_where (is_named caches.old cache) (page_names cache first.0 pages) None
-        (frame_forest caches.old store.old.map) }
+    ensures rule { GoesBy (λ P put f. forgotten_where (is_named caches.old cache)
+        (page_names cache first.0 pages) put.zeros f) store.old caches.old store.new caches.new }
     ensures kept { Releases (page_names cache first.0 pages)
         store.old caches.old store.new caches.new }
     ensures same { SameNodes caches.old caches.new }

@@ -10,11 +10,10 @@ ghost use Rattle.vm_ids.specs.Forest.Settling.{settle as rule_settle};
 ghost use Rattle.vm_ids.specs.Forest.Shape.{IsConsistent};
 ghost use Rattle.local_cache.specs.Reading.{forest_of};
 ghost use Rattle.local_cache.specs.Whole.{IsWhole};
-ghost use Rattle.residency.specs.Seeing.{frame_forest};
-ghost use Rattle.residency.specs.StoreForest.{store_forest};
 ghost use Rattle.page_release.specs.Commands.{CanReplace, HasRoom, KeepsPages};
 ghost use Rattle.page_release.specs.Homes.{IsClean, IsUnclean, is_named};
-ghost use Rattle.page_release.specs.Steps.{ForAnyMapper, IsStoreTied, IsUnpinned, Kept, Releases, in_no_frame, on_segment, segment_pages};
+ghost use Rattle.page_release.specs.Readings.{GoesBy, held_pages};
+ghost use Rattle.page_release.specs.Steps.{IsStoreTied, IsUnpinned, Kept, Releases};
 ghost use Rattle.page_release.specs.Translating.{Leaves, Replaces};
 
 use crate::forgetting::forget_named;
@@ -38,14 +37,8 @@ fn replace_each(store: &mut Store, caches: &mut Caches, cache: CacheId, first: P
         → IsUnclean caches.old x }
     requires room { pages ≤ caches.old.room.nodes }
     requires made { caches.old.made + pages < 2 ^ 63 }
-    ensures nodes { forest_of caches.new
-        ≡ replace_pages (on_segment (page_names cache first.0 pages)) (forest_of caches.old) }
-    ensures forest { ForAnyMapper store.old caches.old store.new caches.new
-        (λ old new. store_forest new
-        ≡ replace_pages (segment_pages old (page_names cache first.0 pages)) (store_forest old)) }
-    ensures frames { frame_forest caches.new store.new.map
-        ≡ replace_pages (in_no_frame (page_names cache first.0 pages))
-        (frame_forest caches.old store.old.map) }
+    ensures rule { GoesBy (λ P put f. replace_pages (held_pages put (page_names cache first.0 pages)) f)
+        store.old caches.old store.new caches.new }
     ensures kept { Releases (page_names cache first.0 pages)
         store.old caches.old store.new caches.new }
     ensures clean { (x : NodeName) → x ∈ page_names cache first.0 pages → IsClean caches.new x }
@@ -81,11 +74,9 @@ fn invalidate_and_settle(
     requires ready { CanReplace pages cache (page_names cache first.0 pages)
         store.old caches.old }
     requires room { HasRoom pages caches.old }
-    ensures nodes { forest_of caches.new ≡ rule_settle
-        (replace_pages (on_segment (page_names cache first.0 pages)) (forest_of caches.old)) }
-    ensures forest { ForAnyMapper store.old caches.old store.new caches.new
-        (λ old new. store_forest new ≡ rule_settle
-        (replace_pages (segment_pages old (page_names cache first.0 pages)) (store_forest old))) }
+    ensures rule { GoesBy (λ P put f. rule_settle (replace_pages
+        (held_pages put (page_names cache first.0 pages)) f))
+        store.old caches.old store.new caches.new }
     ensures kept { Releases (page_names cache first.0 pages)
         store.old caches.old store.new caches.new }
     ensures pages { KeepsPages pages store.old caches.old store.new caches.new }
@@ -112,11 +103,9 @@ pub fn invalidate_pages(
     requires ready { CanReplace pages cache (page_names cache first.0 pages)
         store.old caches.old }
     requires room { HasRoom pages caches.old }
-    ensures nodes { forest_of caches.new ≡ rule_settle
-        (replace_pages (on_segment (page_names cache first.0 pages)) (forest_of caches.old)) }
-    ensures forest { ForAnyMapper store.old caches.old store.new caches.new
-        (λ old new. store_forest new ≡ rule_settle
-        (replace_pages (segment_pages old (page_names cache first.0 pages)) (store_forest old))) }
+    ensures rule { GoesBy (λ P put f. rule_settle (replace_pages
+        (held_pages put (page_names cache first.0 pages)) f))
+        store.old caches.old store.new caches.new }
     ensures kept { Kept (page_names cache first.0 pages)
         store.old caches.old store.new caches.new }
     ensures pages { KeepsPages pages store.old caches.old store.new caches.new }

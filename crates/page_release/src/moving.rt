@@ -1,5 +1,5 @@
 // The pages of a move, and the store follows.
-ghost use Rattle.std.specs.Prelude.{◌≡◌, ◌+◌, ◌<◌, ◌≤◌, ◌^◌, ◌⊎◌, false, [], None};
+ghost use Rattle.std.specs.Prelude.{◌≡◌, ◌+◌, ◌<◌, ◌≤◌, ◌^◌, ◌⊎◌, false, []};
 ghost use Rattle.vm_ids.specs.declared.node_name.NodeName.{NodeName};
 ghost use Rattle.vm_ids.specs.Forest.Commands.{firsts, move_, move_pages as rule_move_pages, seconds, span_pairs};
 ghost use Rattle.vm_ids.specs.Forest.NameLists.{◌∈◌};
@@ -11,19 +11,18 @@ ghost use Rattle.vm_ids.specs.Forest.Rules as forest;
 ghost use Rattle.vm_ids.specs.Forest.Shape.{IsConsistent};
 ghost use Rattle.local_cache.specs.Reading.{forest_of};
 ghost use Rattle.local_cache.specs.Sound.{IsSound};
-ghost use Rattle.residency.specs.Seeing.{frame_forest};
-ghost use Rattle.residency.specs.StoreForest.{store_forest};
 ghost use Rattle.local_cache.specs.Whole.{IsWhole};
 ghost use Rattle.page_release.specs.Commands.{CanReplace, CanTransfer, HasRoom, KeepsPages};
 ghost use Rattle.page_release.specs.Homes.{IsUnclean, is_named};
-ghost use Rattle.page_release.specs.Steps.{ForAnyMapper, IsStoreTied, IsUnpinned, Kept, Releases, zeros_told};
+ghost use Rattle.page_release.specs.Readings.{GoesBy};
+ghost use Rattle.page_release.specs.Steps.{IsStoreTied, IsUnpinned, Kept, Releases};
 ghost use Rattle.page_release.specs.Translating.{Leaves, Replaces};
 
 use crate::following::follow;
 use crate::forgetting::forget_named;
 use crate::settling::settle;
 use crate::translations::drop_seen;
-use local_cache::{Caches, OwnState};
+use local_cache::Caches;
 use residency::Store;
 use vm_ids::{CacheId, NodeName, PageNo, Span};
 
@@ -47,14 +46,8 @@ fn move_one(
     requires source { IsUnpinned store.old caches.old (NodeName.Live from from_page) }
     requires room { 1 ≤ caches.old.room.nodes }
     requires made { caches.old.made < 2 ^ 63 }
-    ensures nodes { forest_of caches.new ≡ forest.move_page (forest_of caches.old)
-        (NodeName.Live to to_page) (NodeName.Live from from_page) OwnState.Zero }
-    ensures forest { ForAnyMapper store.old caches.old store.new caches.new
-        (λ old new. store_forest new ≡ forest.move_page (store_forest old)
-        (NodeName.Live to to_page) (NodeName.Live from from_page) (zeros_told old)) }
-    ensures frames { frame_forest caches.new store.new.map
-        ≡ forest.move_page (frame_forest caches.old store.old.map)
-        (NodeName.Live to to_page) (NodeName.Live from from_page) None }
+    ensures rule { GoesBy (λ P put f. forest.move_page f (NodeName.Live to to_page)
+        (NodeName.Live from from_page) put.zeros) store.old caches.old store.new caches.new }
     ensures kept { Releases [] store.old caches.old store.new caches.new }
     ensures room { caches.old.room.nodes ≤ caches.new.room.nodes + 1 }
 {
@@ -77,13 +70,8 @@ fn move_each(store: &mut Store, caches: &mut Caches, span: Span)
     requires made { caches.old.made + span.pages < 2 ^ 63 }
     requires within { (span.from_page.0 + span.pages < 2 ^ 32)
         × (span.to_page.0 + span.pages < 2 ^ 32) }
-    ensures nodes { forest_of caches.new ≡ rule_move_pages OwnState.Zero (span_pairs span)
-        (forest_of caches.old) }
-    ensures forest { ForAnyMapper store.old caches.old store.new caches.new
-        (λ old new. store_forest new ≡ rule_move_pages (zeros_told old) (span_pairs span)
-        (store_forest old)) }
-    ensures frames { frame_forest caches.new store.new.map
-        ≡ rule_move_pages None (span_pairs span) (frame_forest caches.old store.old.map) }
+    ensures rule { GoesBy (λ P put f. rule_move_pages put.zeros (span_pairs span) f)
+        store.old caches.old store.new caches.new }
     ensures kept { Releases [] store.old caches.old store.new caches.new }
     ensures consistent { IsConsistent (forest_of caches.new) }
     ensures stays { (x : NodeName) → IsNode (forest_of caches.old) x
@@ -113,11 +101,8 @@ fn move_and_settle(store: &mut Store, caches: &mut Caches, span: Span)
         store.old caches.old }
     requires room { HasRoom span.pages caches.old }
     requires transfer { CanTransfer span caches.old }
-    ensures nodes { forest_of caches.new ≡ move_ false OwnState.Zero (span_pairs span)
-        (forest_of caches.old) }
-    ensures forest { ForAnyMapper store.old caches.old store.new caches.new
-        (λ old new. store_forest new ≡ move_ false (zeros_told old) (span_pairs span)
-        (store_forest old)) }
+    ensures rule { GoesBy (λ P put f. move_ false put.zeros (span_pairs span) f)
+        store.old caches.old store.new caches.new }
     ensures kept { Releases (firsts (span_pairs span)) store.old caches.old store.new caches.new }
     ensures pages { KeepsPages span.pages store.old caches.old store.new caches.new }
     ensures translations { Replaces
@@ -141,11 +126,8 @@ pub fn move_pages(store: &mut Store, caches: &mut Caches, span: Span)
         store.old caches.old }
     requires room { HasRoom span.pages caches.old }
     requires transfer { CanTransfer span caches.old }
-    ensures nodes { forest_of caches.new ≡ move_ false OwnState.Zero (span_pairs span)
-        (forest_of caches.old) }
-    ensures forest { ForAnyMapper store.old caches.old store.new caches.new
-        (λ old new. store_forest new ≡ move_ false (zeros_told old) (span_pairs span)
-        (store_forest old)) }
+    ensures rule { GoesBy (λ P put f. move_ false put.zeros (span_pairs span) f)
+        store.old caches.old store.new caches.new }
     ensures kept { Kept (firsts (span_pairs span)) store.old caches.old store.new caches.new }
     ensures pages { KeepsPages span.pages store.old caches.old store.new caches.new }
     ensures translations { Leaves

@@ -1,14 +1,18 @@
 -- What is kept from before translations alone were dropped or narrowed.
-use Rattle.std.proofs.Common.{ℕ, ◌*◌, ◌≤◌, List, length, sym, subst}
+use Rattle.std.proofs.Common.{◌≡◌, ℕ, ◌*◌, ◌≤◌, List, length, Option, sym, subst}
 use Rattle.vm_ids.specs.declared.node_name.NodeName.{NodeName}
 use Rattle.vm_ids.specs.declared.node_name.NodeName.TheVariants.{Working}
 use Rattle.vm_ids.specs.declared.numbers.CacheId.{CacheId}
+use Rattle.vm_ids.specs.Forest.Nodes.{Forest}
 use Rattle.vm_ids.specs.Forest.Reading.{live_count}
 use Rattle.local_cache.specs.Arena.{Arena}
 use Rattle.local_cache.specs.Reading.{forest_of}
 use Rattle.residency.specs.declared.store.Store.{Store}
+use Rattle.residency.specs.Seeing.{frame_forest}
+use Rattle.residency.specs.StoreForest.{store_forest}
 use Rattle.residency.specs.World.{IsStoreRight, IsTied, world}
 use Rattle.page_release.specs.Commands.{CanReplace, Empties, KeepsPages}
+use Rattle.page_release.specs.Readings.{GoesBy, NewPages, new_frames, new_pages}
 use Rattle.page_release.specs.Steps.{GivesBack, IsUnpinned, Kept, PinnedStayNamed, Releases, StaysRight}
 use Rattle.page_release.proofs.Leading.Ranges.{OnlyTables, same_world, tied_still}
 
@@ -35,6 +39,15 @@ module _ (s t : Store) (only : OnlyTables s t) (a : Arena) where
       pinned = subst (λ r. PinnedStayNamed r a b) only.is kept.pinned;
       sizes = kept.sizes;
       homes = kept.homes;
+    }
+
+    pub goes_behind : (rule : (P : Type 0) → NewPages P → Forest P → Forest P) → GoesBy rule t a u b → GoesBy rule s a u b
+    goes_behind rule goes = record {
+      nodes = goes.nodes;
+      forest = λ told size tied.
+          let same = same_world s t only told size a in
+          subst (λ w. store_forest (world told size b u) ≡ rule (Option (List ℕ)) (new_pages w) (store_forest w)) same (goes.forest told size (subst IsTied (sym same) tied));
+      frames = subst (λ r. frame_forest b u.map ≡ rule (Option ℕ) new_frames (frame_forest a r.map)) only.is goes.frames;
     }
 
     right_behind : StaysRight t a u b → StaysRight s a u b

@@ -3,7 +3,7 @@ use Rattle.vm_ids.specs.declared.node_name.NodeName.{NodeName}
 use Rattle.vm_ids.specs.Forest.Commands.{firsts, page_names, seconds, span_pairs}
 use Rattle.vm_ids.specs.Forest.NameLists.{◌∈◌}
 use Rattle.local_cache.specs.Reading.{forest_of}
-use Rattle.page_release.proofs.Leading.Behind.{kept_behind, pages_behind, ready_behind}
+use Rattle.page_release.proofs.Leading.Behind.{goes_behind, kept_behind, pages_behind, ready_behind}
 use Rattle.page_release.proofs.Leading.Left.{AreReady, leaves, ready_first, ready_shared}
 use Rattle.page_release.proofs.Leading.Ranges.{tables_twice}
 use Rattle.page_release.proofs.Walking.Ranges.{destination_names, destination_nodes, source_names, source_nodes}
@@ -20,6 +20,12 @@ copy_and_settle-requires-clause-ready c =
     let s = c.args.store.now in
     let t = c.narrow_own.new.store in
     ready_behind s t (tables_twice s c.drop_seen.new.store t _ _ c.drop_seen.ensures c.narrow_own.ensures) c.args.caches.now _ c.args.span.to (firsts (span_pairs c.args.span)) c.requires.ready
+
+pub returns-clause-rule : goal.returns-clause-rule
+returns-clause-rule c =
+    let s = c.args.store.now in
+    let t = c.narrow_own.new.store in
+    goes_behind s t (tables_twice s c.drop_seen.new.store t _ _ c.drop_seen.ensures c.narrow_own.ensures) c.args.caches.now c.copy_and_settle.new.store c.copy_and_settle.new.caches _ c.copy_and_settle.ensures.rule
 
 pub returns-clause-kept : goal.returns-clause-kept
 returns-clause-kept c =

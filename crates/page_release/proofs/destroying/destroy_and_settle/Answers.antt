@@ -46,32 +46,40 @@ settle-requires-clause-unpinned c k =
     unpinned_kept [] c.forget_named.new.store c.forget_named.new.caches c.retire_pages.new.store c.retire_pages.new.caches f.kept.tied r.kept (Working k)
     (unpinned_kept (page_names c.args.cache 0 c.args.pages) c.args.store.now c.args.caches.now c.forget_named.new.store c.forget_named.new.caches c.requires.ready.tied f.kept (Working k) (c.requires.ready.working k))
 
-pub returns-clause-nodes : goal.returns-clause-nodes
-returns-clause-nodes c =
-    let names = page_names c.args.cache 0 c.args.pages in
+pub returns-clause-rule : goal.returns-clause-rule
+returns-clause-rule c =
     let a = c.args.caches.now in
-    c.settle.ensures.nodes ∙ ap settle (c.retire_pages.ensures.nodes ∙ ap (retire_all names) c.forget_named.ensures.nodes)
-    ∙ destroy_forgotten (is_named a c.args.cache) names (forest_of a) c.requires.ready.whole.consistent (pages_once a c.requires.ready.whole c.args.cache c.args.pages c.requires.pages) c.requires.ready.saved Zero
-
-pub returns-clause-forest : goal.returns-clause-forest
-returns-clause-forest c told size fit =
-    let names = page_names c.args.cache 0 c.args.pages in
-    let a = c.args.caches.now in
-    let w = world told size a c.args.store.now in
+    let u = c.args.store.now in
+    let m = u.map in
     let f = c.forget_named.ensures in
     let r = c.retire_pages.ensures in
-    let one = (f.kept.gives_back told size fit).tied in
-    let two = (r.kept.gives_back told size one).tied in
-    c.settle.ensures.forest told size two ∙ ap settle (r.forest told size one ∙ ap (retire_all names) (f.forest told size fit))
-    ∙ destroy_forgotten (is_named a c.args.cache) names (store_forest w) (store_consistent w c.requires.ready.whole.sound c.requires.ready.whole.consistent)
-    (store_pages w c.requires.ready.whole.sound names (pages_once a c.requires.ready.whole c.args.cache c.args.pages c.requires.pages))
-    (λ named x i. store_saved w c.requires.ready.whole.sound x (c.requires.ready.saved named x i)) (zeros_told w)
+    let e = c.settle.ensures in
+    let sound = c.requires.ready.whole.sound in
+    let consistent = c.requires.ready.whole.consistent in
+    let saved = c.requires.ready.saved in
+    let names = page_names c.args.cache 0 c.args.pages in
+    let named = is_named a c.args.cache in
+    let there = pages_once a c.requires.ready.whole c.args.cache c.args.pages c.requires.pages in
+    record {
+      nodes =
+          e.rule.nodes ∙ ap settle (r.rule.nodes ∙ ap (retire_all names) f.rule.nodes)
+          ∙ destroy_forgotten named names (forest_of a) consistent there saved Zero;
+      forest = λ told size fit.
+          let w = world told size a u in
+          let one = (f.kept.gives_back told size fit).tied in
+          let two = (r.kept.gives_back told size one).tied in
+          e.rule.forest told size two ∙ ap settle (r.rule.forest told size one ∙ ap (retire_all names) (f.rule.forest told size fit))
+          ∙ destroy_forgotten named names (store_forest w) (store_consistent w sound consistent) (store_pages w sound names there) (λ named x i. store_saved w sound x (saved named x i)) (zeros_told w);
+      frames =
+          e.rule.frames ∙ ap settle (r.rule.frames ∙ ap (retire_all names) f.rule.frames)
+          ∙ destroy_forgotten named names (frame_forest a m) (frame_consistent a m sound consistent) (frame_pages a m sound names there) (λ named x i. frame_saved a m sound x (saved named x i)) None;
+    }
 
 emptied_now : (c : goal.After-settle) → (page : ℕ) → node_at c.settle.new.caches c.args.cache.0 page ≡ None
 emptied_now c =
     let r = c.retire_pages.ensures in
     let s = c.settle.ensures in
-    emptied c.forget_named.new.caches c.retire_pages.new.caches c.settle.new.caches c.forget_named.ensures.whole c.args.cache c.args.pages (c.forget_named.ensures.kept.sizes.sizes c.args.cache.0 ∙ c.requires.pages) r.nodes r.consistent r.kept.sizes r.few s.nodes s.kept.sound s.kept.sizes
+    emptied c.forget_named.new.caches c.retire_pages.new.caches c.settle.new.caches c.forget_named.ensures.whole c.args.cache c.args.pages (c.forget_named.ensures.kept.sizes.sizes c.args.cache.0 ∙ c.requires.pages) r.rule.nodes r.consistent r.kept.sizes r.few s.rule.nodes s.kept.sound s.kept.sizes
 
 pub returns-clause-kept : goal.returns-clause-kept
 returns-clause-kept c =
@@ -103,28 +111,18 @@ returns-clause-empties c =
         settled = s.settled;
         bounded = s.bounded;
         made = omega (arith, made, s.counters.0, r.made);
-        copies = sym (forest_of-copies d) ∙ ap (λ (g : Forest OwnState). g.copies) (returns-clause-nodes c) ∙ destroy_counts_saves false (page_names c.args.cache 0 c.args.pages) (forest_of a) ∙ forest_of-copies a;
+        copies = sym (forest_of-copies d) ∙ ap (λ (g : Forest OwnState). g.copies) (returns-clause-rule c).nodes ∙ destroy_counts_saves false (page_names c.args.cache 0 c.args.pages) (forest_of a) ∙ forest_of-copies a;
       };
       consistent = s.consistent;
       empty = emptied_now c;
-      whole = whole_emptied b c.retire_pages.new.caches d f.whole c.args.cache c.args.pages (f.kept.sizes.sizes c.args.cache.0 ∙ c.requires.pages) r.nodes r.consistent r.kept.sizes r.few s.nodes s.kept.sound s.kept.sizes;
+      whole = whole_emptied b c.retire_pages.new.caches d f.whole c.args.cache c.args.pages (f.kept.sizes.sizes c.args.cache.0 ∙ c.requires.pages) r.rule.nodes r.consistent r.kept.sizes r.few s.rule.nodes s.kept.sound s.kept.sizes;
       right = right_after [] c.args.store.now a c.settle.new.store d (returns-clause-kept c) (λ n some i. absurd i) (λ enough. omega (arith, enough, fewer));
       room = omega (arith, room, s.room, r.room);
       fewer = fewer;
     }
 
-frames_are : (c : goal.After-settle) → frame_forest c.settle.new.caches c.settle.new.store.map ≡ rule_destroy false (page_names c.args.cache 0 c.args.pages) (frame_forest c.args.caches.now c.args.store.now.map)
-frames_are c =
-    let names = page_names c.args.cache 0 c.args.pages in
-    let a = c.args.caches.now in
-    let m = c.args.store.now.map in
-    let sound = c.requires.ready.whole.sound in
-    c.settle.ensures.frames ∙ ap settle (c.retire_pages.ensures.frames ∙ ap (retire_all names) c.forget_named.ensures.frames)
-    ∙ destroy_forgotten (is_named a c.args.cache) names (frame_forest a m) (frame_consistent a m sound c.requires.ready.whole.consistent) (frame_pages a m sound names (pages_once a c.requires.ready.whole c.args.cache c.args.pages c.requires.pages))
-    (λ named x i. frame_saved a m sound x (c.requires.ready.saved named x i)) None
-
 pub returns-clause-translations : goal.returns-clause-translations
 returns-clause-translations c =
     let a = c.args.caches.now in
     destroy_replaces a c.args.store.now c.settle.new.caches c.settle.new.store c.requires.ready.whole.sound c.requires.ready.whole.consistent (returns-clause-kept c).tables
-    (page_names c.args.cache 0 c.args.pages) (pages_once a c.requires.ready.whole c.args.cache c.args.pages c.requires.pages) (returns-clause-nodes c) (frames_are c)
+    (page_names c.args.cache 0 c.args.pages) (pages_once a c.requires.ready.whole c.args.cache c.args.pages c.requires.pages) (returns-clause-rule c).nodes (returns-clause-rule c).frames

@@ -1,7 +1,7 @@
 use Rattle.std.proofs.Common.{◌+◌, [], arith}
 use Rattle.vm_ids.specs.Forest.Commands.{page_names}
 use Rattle.vm_ids.specs.Forest.NameLists.{◌∈◌}
-use Rattle.page_release.proofs.Leading.Behind.{empties_behind, kept_behind, ready_behind}
+use Rattle.page_release.proofs.Leading.Behind.{empties_behind, goes_behind, kept_behind, ready_behind}
 use Rattle.page_release.proofs.Leading.Left.{leaves, ready_first}
 use Rattle.page_release.proofs.Leading.Ranges.{tables_mapped}
 use Rattle.page_release.proofs.destroying.destroy_pages.Goals as goal
@@ -14,6 +14,12 @@ destroy_and_settle-requires-clause-ready c =
     let s = c.args.store.now in
     let t = c.drop_seen.new.store in
     ready_behind s t (tables_mapped s t _ c.drop_seen.ensures) c.args.caches.now c.args.pages c.args.cache (page_names c.args.cache 0 c.args.pages) c.requires.ready
+
+pub returns-clause-rule : goal.returns-clause-rule
+returns-clause-rule c =
+    let s = c.args.store.now in
+    let t = c.drop_seen.new.store in
+    goes_behind s t (tables_mapped s t _ c.drop_seen.ensures) c.args.caches.now c.destroy_and_settle.new.store c.destroy_and_settle.new.caches _ c.destroy_and_settle.ensures.rule
 
 pub returns-clause-kept : goal.returns-clause-kept
 returns-clause-kept c =

@@ -56,31 +56,39 @@ settle-requires-clause-unpinned c k =
     unpinned_kept names c.forget_named.new.store c.forget_named.new.caches c.replace_each.new.store c.replace_each.new.caches f.kept.tied r.kept (Working k)
     (unpinned_kept names c.args.store.now c.args.caches.now c.forget_named.new.store c.forget_named.new.caches c.requires.ready.tied f.kept (Working k) (c.requires.ready.working k))
 
-pub returns-clause-nodes : goal.returns-clause-nodes
-returns-clause-nodes c =
+pub returns-clause-rule : goal.returns-clause-rule
+returns-clause-rule c =
     let a = c.args.caches.now in
-    let names = page_names c.args.cache c.args.first.0 c.args.pages in
-    c.settle.ensures.nodes ∙ ap settle (c.replace_each.ensures.nodes ∙ ap (replace_pages (on_segment names)) (c.forget_named.ensures.nodes ∙ ap (λ b. forgotten_where b names Zero (forest_of a)) c.requires.named))
-    ∙ replace_forgotten (λ _. OnSegment) names (forest_of a) c.requires.ready.whole.consistent (pages_of (forest_of a) c.args.cache c.args.first.0 c.args.pages c.requires.nodes) (c.requires.ready.saved c.requires.named) Zero
-
-pub returns-clause-forest : goal.returns-clause-forest
-returns-clause-forest c told size fit =
-    let a = c.args.caches.now in
-    let s = c.args.store.now in
-    let names = page_names c.args.cache c.args.first.0 c.args.pages in
-    let w = world told size a s in
+    let u = c.args.store.now in
+    let m = u.map in
     let f = c.forget_named.ensures in
     let r = c.replace_each.ensures in
+    let e = c.settle.ensures in
     let sound = c.requires.ready.whole.sound in
-    let one = (f.kept.gives_back told size fit).tied in
-    let two = (r.kept.gives_back told size one).tied in
-    let b = c.forget_named.new.caches in
-    let t = c.forget_named.new.store in
-    c.settle.ensures.forest told size two
-    ∙ ap settle (r.forest told size one ∙ ap (λ ps. replace_pages ps (store_forest (world told size b t))) (segment_pages_same told size s a t b f.kept.sizes names)
-    ∙ ap (replace_pages (segment_pages w names)) (f.forest told size fit ∙ ap (λ k. forgotten_where k names (zeros_told w) (store_forest w)) c.requires.named))
-    ∙ replace_forgotten (named_page w) names (store_forest w) (store_consistent w sound c.requires.ready.whole.consistent) (store_pages w sound names (pages_of (forest_of a) c.args.cache c.args.first.0 c.args.pages c.requires.nodes))
-    (λ x i. store_saved w sound x (c.requires.ready.saved c.requires.named x i)) (zeros_told w)
+    let consistent = c.requires.ready.whole.consistent in
+    let saved = c.requires.ready.saved in
+    let names = page_names c.args.cache c.args.first.0 c.args.pages in
+    let b = c.forget_named.new in
+    let named = c.requires.named in
+    let there = pages_of (forest_of a) c.args.cache c.args.first.0 c.args.pages c.requires.nodes in
+    record {
+      nodes =
+          e.rule.nodes ∙ ap settle (r.rule.nodes ∙ ap (replace_pages (on_segment names)) (f.rule.nodes ∙ ap (λ k. forgotten_where k names Zero (forest_of a)) named))
+          ∙ replace_forgotten (λ _. OnSegment) names (forest_of a) consistent there (saved named) Zero;
+      forest = λ told size fit.
+          let w = world told size a u in
+          let one = (f.kept.gives_back told size fit).tied in
+          let two = (r.kept.gives_back told size one).tied in
+          e.rule.forest told size two
+          ∙ ap settle (r.rule.forest told size one ∙ ap (λ ps. replace_pages ps (store_forest (world told size b.caches b.store))) (segment_pages_same told size u a b.store b.caches f.kept.sizes names)
+          ∙ ap (replace_pages (segment_pages w names)) (f.rule.forest told size fit ∙ ap (λ k. forgotten_where k names (zeros_told w) (store_forest w)) named))
+          ∙ replace_forgotten (named_page w) names (store_forest w) (store_consistent w sound consistent) (store_pages w sound names there)
+          (λ x i. store_saved w sound x (saved named x i)) (zeros_told w);
+      frames =
+          e.rule.frames ∙ ap settle (r.rule.frames ∙ ap (replace_pages (in_no_frame names)) (f.rule.frames ∙ ap (λ k. forgotten_where k names None (frame_forest a m)) named))
+          ∙ replace_forgotten (λ _. None) names (frame_forest a m) (frame_consistent a m sound consistent) (frame_pages a m sound names there)
+          (λ x i. frame_saved a m sound x (saved named x i)) None;
+    }
 
 pub returns-clause-kept : goal.returns-clause-kept
 returns-clause-kept c =
@@ -116,7 +124,7 @@ returns-clause-pages c =
     let room = ap (λ (k : Arena). k.room.nodes) f.same.rest in
     let made = ap (λ (k : Arena). k.made) f.same.rest in
     let most = like_len a b c.requires.ready.whole.sound (still_like a b f.same) in
-    let whole = whole_copied b c.replace_each.new.caches d f.whole c.args.pages (omega (arith, most, c.requires.room.few)) r.consistent r.stays r.few r.kept.sizes s.nodes s.kept.sound s.kept.sizes in
+    let whole = whole_copied b c.replace_each.new.caches d f.whole c.args.pages (omega (arith, most, c.requires.room.few)) r.consistent r.stays r.few r.kept.sizes s.rule.nodes s.kept.sound s.kept.sizes in
     let live = same_live a d c.requires.ready.whole whole kept.sizes in
     let pages = on_segment names in
     record {
@@ -124,7 +132,7 @@ returns-clause-pages c =
         settled = s.settled;
         bounded = s.bounded;
         made = omega (arith, made, s.counters.0, r.made);
-        copies = sym (forest_of-copies d) ∙ ap (λ (g : Forest OwnState). g.copies) (returns-clause-nodes c) ∙ (settle-counters (replace_pages pages (forest_of a))).copies ∙ replace_pages-copies pages (forest_of a) ∙ forest_of-copies a;
+        copies = sym (forest_of-copies d) ∙ ap (λ (g : Forest OwnState). g.copies) (returns-clause-rule c).nodes ∙ (settle-counters (replace_pages pages (forest_of a))).copies ∙ replace_pages-copies pages (forest_of a) ∙ forest_of-copies a;
       };
       whole = whole;
       live = live;
@@ -133,19 +141,8 @@ returns-clause-pages c =
       room = omega (arith, room, s.room, r.room);
     }
 
-frames_are : (c : goal.After-settle) → frame_forest c.settle.new.caches c.settle.new.store.map ≡ settle (replace_pages (in_no_frame (page_names c.args.cache c.args.first.0 c.args.pages)) (frame_forest c.args.caches.now c.args.store.now.map))
-frames_are c =
-    let names = page_names c.args.cache c.args.first.0 c.args.pages in
-    let a = c.args.caches.now in
-    let m = c.args.store.now.map in
-    let f = frame_forest a m in
-    let sound = c.requires.ready.whole.sound in
-    c.settle.ensures.frames ∙ ap settle (c.replace_each.ensures.frames ∙ ap (replace_pages (in_no_frame names)) (c.forget_named.ensures.frames ∙ ap (λ b. forgotten_where b names None f) c.requires.named))
-    ∙ replace_forgotten (λ _. None) names f (frame_consistent a m sound c.requires.ready.whole.consistent) (frame_pages a m sound names (pages_of (forest_of a) c.args.cache c.args.first.0 c.args.pages c.requires.nodes))
-    (λ x i. frame_saved a m sound x (c.requires.ready.saved c.requires.named x i)) None
-
 pub returns-clause-translations : goal.returns-clause-translations
 returns-clause-translations c =
     let a = c.args.caches.now in
     replace_replaces a c.args.store.now c.settle.new.caches c.settle.new.store c.requires.ready.whole.sound c.requires.ready.whole.consistent (returns-clause-kept c).tables
-    (page_names c.args.cache c.args.first.0 c.args.pages) (pages_of (forest_of a) c.args.cache c.args.first.0 c.args.pages c.requires.nodes) (returns-clause-nodes c) (frames_are c)
+    (page_names c.args.cache c.args.first.0 c.args.pages) (pages_of (forest_of a) c.args.cache c.args.first.0 c.args.pages c.requires.nodes) (returns-clause-rule c).nodes (returns-clause-rule c).frames

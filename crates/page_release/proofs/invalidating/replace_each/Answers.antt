@@ -109,20 +109,17 @@ loop-page-preserved c =
       few = omega (arith, i.few, detach_len f i.consistent x is refl (Some OnSegment), ap (λ (g : Forest OwnState). len g.nodes) e.nodes);
     }
 
-pub returns-clause-nodes : goal.returns-clause-nodes
-returns-clause-nodes c =
+pub returns-clause-rule : goal.returns-clause-rule
+returns-clause-rule c =
+    let i = c.loop-page.invariant in
+    let a = c.loop-page.caches in
+    let t = c.loop-page.store in
     let none = names_end c.args.cache (c.args.first.0 + c.loop-page.page) c.args.pages c.loop-page.page (omega (arith, c.loop-page-test.false)) in
-    ap (λ xs. replace_pages (on_segment xs) (forest_of c.loop-page.caches)) (sym none) ∙ c.loop-page.invariant.nodes
-
-pub returns-clause-forest : goal.returns-clause-forest
-returns-clause-forest c told size fit =
-    let none = names_end c.args.cache (c.args.first.0 + c.loop-page.page) c.args.pages c.loop-page.page (omega (arith, c.loop-page-test.false)) in
-    ap (λ xs. replace_pages (segment_pages (world told size c.args.caches.now c.args.store.now) xs) (store_forest (world told size c.loop-page.caches c.loop-page.store))) (sym none) ∙ c.loop-page.invariant.forest told size fit
-
-pub returns-clause-frames : goal.returns-clause-frames
-returns-clause-frames c =
-    let none = names_end c.args.cache (c.args.first.0 + c.loop-page.page) c.args.pages c.loop-page.page (omega (arith, c.loop-page-test.false)) in
-    ap (λ xs. replace_pages (in_no_frame xs) (frame_forest c.loop-page.caches c.loop-page.store.map)) (sym none) ∙ c.loop-page.invariant.frames
+    record {
+      nodes = ap (λ xs. replace_pages (on_segment xs) (forest_of a)) (sym none) ∙ i.nodes;
+      forest = λ told size fit. ap (λ xs. replace_pages (segment_pages (world told size c.args.caches.now c.args.store.now) xs) (store_forest (world told size a t))) (sym none) ∙ i.forest told size fit;
+      frames = ap (λ xs. replace_pages (in_no_frame xs) (frame_forest a t.map)) (sym none) ∙ i.frames;
+    }
 
 pub returns-clause-clean : goal.returns-clause-clean
 returns-clause-clean c x j =

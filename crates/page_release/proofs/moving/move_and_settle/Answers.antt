@@ -69,30 +69,41 @@ settle-requires-clause-unpinned c k =
     unpinned_kept [] c.forget_named.new.store c.forget_named.new.caches c.move_each.new.store c.move_each.new.caches f.kept.tied r.kept (Working k)
     (unpinned_kept (page_names c.args.span.to c.args.span.to_page.0 c.args.span.pages) c.args.store.now c.args.caches.now c.forget_named.new.store c.forget_named.new.caches c.requires.ready.tied f.kept (Working k) (c.requires.ready.working k))
 
-pub returns-clause-nodes : goal.returns-clause-nodes
-returns-clause-nodes c =
+pub returns-clause-rule : goal.returns-clause-rule
+returns-clause-rule c =
     let a = c.args.caches.now in
-    let s = c.args.span in
-    let pairs = span_pairs s in
-    c.settle.ensures.nodes ∙ ap settle c.move_each.ensures.nodes
-    ∙ ap (move_ false Zero pairs) (c.forget_named.ensures.nodes ∙ ap (λ xs. forgotten_where (is_named a s.to) xs Zero (forest_of a)) (sym (destination_names s)))
-    ∙ move_forgotten (is_named a s.to) pairs (forest_of a) c.requires.ready.whole.consistent c.requires.transfer.can c.requires.ready.saved Zero Zero
-
-pub returns-clause-forest : goal.returns-clause-forest
-returns-clause-forest c told size fit =
-    let a = c.args.caches.now in
-    let s = c.args.span in
-    let pairs = span_pairs s in
-    let w = world told size a c.args.store.now in
+    let u = c.args.store.now in
+    let m = u.map in
     let f = c.forget_named.ensures in
     let r = c.move_each.ensures in
+    let e = c.settle.ensures in
     let sound = c.requires.ready.whole.sound in
-    let one = (f.kept.gives_back told size fit).tied in
-    let two = (r.kept.gives_back told size one).tied in
-    c.settle.ensures.forest told size two ∙ ap settle (r.forest told size one)
-    ∙ ap (λ z. settle (move_pages z pairs (store_forest (world told size c.forget_named.new.caches c.forget_named.new.store)))) (ap (λ (k : ℕ). option_map (λ _. replicate k 0) told) (f.kept.gives_back told size fit).page)
-    ∙ ap (move_ false (zeros_told w) pairs) (f.forest told size fit ∙ ap (λ xs. forgotten_where (is_named a s.to) xs (zeros_told w) (store_forest w)) (sym (destination_names s)))
-    ∙ move_forgotten (is_named a s.to) pairs (store_forest w) (store_consistent w sound c.requires.ready.whole.consistent) (store_can w sound pairs c.requires.transfer.can) (λ named x i. store_saved w sound x (c.requires.ready.saved named x i)) (zeros_told w) (zeros_told w)
+    let consistent = c.requires.ready.whole.consistent in
+    let saved = c.requires.ready.saved in
+    let s = c.args.span in
+    let pairs = span_pairs s in
+    let b = c.forget_named.new in
+    let named = is_named a s.to in
+    let can = c.requires.transfer.can in
+    let names = sym (destination_names s) in
+    record {
+      nodes =
+          e.rule.nodes ∙ ap settle r.rule.nodes
+          ∙ ap (move_ false Zero pairs) (f.rule.nodes ∙ ap (λ xs. forgotten_where named xs Zero (forest_of a)) names)
+          ∙ move_forgotten named pairs (forest_of a) consistent can saved Zero Zero;
+      forest = λ told size fit.
+          let w = world told size a u in
+          let one = (f.kept.gives_back told size fit).tied in
+          let two = (r.kept.gives_back told size one).tied in
+          e.rule.forest told size two ∙ ap settle (r.rule.forest told size one)
+          ∙ ap (λ z. settle (move_pages z pairs (store_forest (world told size b.caches b.store)))) (ap (λ (k : ℕ). option_map (λ _. replicate k 0) told) (f.kept.gives_back told size fit).page)
+          ∙ ap (move_ false (zeros_told w) pairs) (f.rule.forest told size fit ∙ ap (λ xs. forgotten_where named xs (zeros_told w) (store_forest w)) names)
+          ∙ move_forgotten named pairs (store_forest w) (store_consistent w sound consistent) (store_can w sound pairs can) (λ named x i. store_saved w sound x (saved named x i)) (zeros_told w) (zeros_told w);
+      frames =
+          e.rule.frames ∙ ap settle r.rule.frames
+          ∙ ap (move_ false None pairs) (f.rule.frames ∙ ap (λ xs. forgotten_where named xs None (frame_forest a m)) names)
+          ∙ move_forgotten named pairs (frame_forest a m) (frame_consistent a m sound consistent) (frame_can a m sound pairs can) (λ named x i. frame_saved a m sound x (saved named x i)) None None;
+    }
 
 pub returns-clause-kept : goal.returns-clause-kept
 returns-clause-kept c =
@@ -117,14 +128,14 @@ returns-clause-pages c =
     let room = ap (λ (k : Arena). k.room.nodes) f.same.rest in
     let made = ap (λ (k : Arena). k.made) f.same.rest in
     let most = like_len a b c.requires.ready.whole.sound (still_like a b f.same) in
-    let whole = whole_copied b c.move_each.new.caches d f.whole (c.args.span.pages) (omega (arith, most, c.requires.room.few)) r.consistent r.stays r.few r.kept.sizes s.nodes s.kept.sound s.kept.sizes in
+    let whole = whole_copied b c.move_each.new.caches d f.whole (c.args.span.pages) (omega (arith, most, c.requires.room.few)) r.consistent r.stays r.few r.kept.sizes s.rule.nodes s.kept.sound s.kept.sizes in
     let live = same_live a d c.requires.ready.whole whole kept.sizes in
     record {
       settles = record {
         settled = s.settled;
         bounded = s.bounded;
         made = omega (arith, made, s.counters.0, r.made);
-        copies = sym (forest_of-copies d) ∙ ap (λ (g : Forest OwnState). g.copies) (returns-clause-nodes c) ∙ move_counts_saves false Zero (span_pairs c.args.span) (forest_of a) ∙ forest_of-copies a;
+        copies = sym (forest_of-copies d) ∙ ap (λ (g : Forest OwnState). g.copies) (returns-clause-rule c).nodes ∙ move_counts_saves false Zero (span_pairs c.args.span) (forest_of a) ∙ forest_of-copies a;
       };
       whole = whole;
       live = live;
@@ -133,19 +144,7 @@ returns-clause-pages c =
       room = omega (arith, room, s.room, r.room);
     }
 
-frames_are : (c : goal.After-settle) → frame_forest c.settle.new.caches c.settle.new.store.map ≡ move_ false None (span_pairs c.args.span) (frame_forest c.args.caches.now c.args.store.now.map)
-frames_are c =
-    let a = c.args.caches.now in
-    let m = c.args.store.now.map in
-    let s = c.args.span in
-    let pairs = span_pairs s in
-    let f = frame_forest a m in
-    let sound = c.requires.ready.whole.sound in
-    c.settle.ensures.frames ∙ ap settle c.move_each.ensures.frames
-    ∙ ap (move_ false None pairs) (c.forget_named.ensures.frames ∙ ap (λ xs. forgotten_where (is_named a s.to) xs None f) (sym (destination_names s)))
-    ∙ move_forgotten (is_named a s.to) pairs f (frame_consistent a m sound c.requires.ready.whole.consistent) (frame_can a m sound pairs c.requires.transfer.can) (λ named x i. frame_saved a m sound x (c.requires.ready.saved named x i)) None None
-
 pub returns-clause-translations : goal.returns-clause-translations
 returns-clause-translations c =
     move_replaces c.args.caches.now c.args.store.now c.settle.new.caches c.settle.new.store c.requires.ready.whole.sound c.requires.ready.whole.consistent (returns-clause-kept c).tables
-    (span_pairs c.args.span) c.requires.transfer.can (returns-clause-nodes c) (frames_are c)
+    (span_pairs c.args.span) c.requires.transfer.can (returns-clause-rule c).nodes (returns-clause-rule c).frames
