@@ -8,6 +8,7 @@ use Rattle.vm_ids.specs.Forest.Laws.Commands.{CanCopy}
 use Rattle.vm_ids.specs.Forest.Laws.Settling.{IsSettled}
 use Rattle.vm_ids.specs.Forest.NameLists.{◌∈◌}
 use Rattle.vm_ids.specs.Forest.NameMap.{len}
+use Rattle.vm_ids.specs.Forest.Nodes.{IsNode}
 use Rattle.vm_ids.specs.Forest.Reading.{live_count}
 use Rattle.vm_ids.specs.Forest.Shape.{IsBounded, IsConsistent}
 use Rattle.local_cache.specs.Arena.{Arena, node_at, without_cache}
@@ -19,19 +20,23 @@ use Rattle.residency.specs.declared.store.Store.{Store}
 use Rattle.page_release.specs.Homes.{AreSaved, IsWritable}
 use Rattle.page_release.specs.Steps.{IsStoreTied, IsUnpinned, IsWorkingUnpinned, StaysRight}
 
--- The pages of these names, all of one cache, may be replaced or taken away.
+-- The nodes of these names may be retired, one after the other.
 --     unpinned   no pinned frame is that of one of them
---     saved      where the cache is named no heir reads an own page of them
---     working    no pinned frame is that of a working node
 --     made       so many nodes can be numbered still
-pub record CanReplace (nodes : ℕ) (cache : CacheId) (names : List NodeName) (s : Store) (a : Arena)
-    : Type 0 where
+pub record CanRetire (nodes : ℕ) (names : List NodeName) (s : Store) (a : Arena) : Type 0 where
   pub tied : IsStoreTied s a
   pub whole : IsWhole a
   pub unpinned : (x : NodeName) → x ∈ names → IsUnpinned s a x
+  pub made : a.made + nodes < 2 ^ 63
+
+-- The pages of these names, all of one cache, may be replaced or taken away.
+--     saved      where the cache is named no heir reads an own page of them
+--     working    no pinned frame is that of a working node
+pub record CanReplace (nodes : ℕ) (cache : CacheId) (names : List NodeName) (s : Store) (a : Arena)
+    : Type 0 where
+  pub retire : CanRetire nodes names s a
   pub saved : AreSaved a cache names
   pub working : IsWorkingUnpinned s a
-  pub made : a.made + nodes < 2 ^ 63
 
 -- There is room for so many nodes, and they can be counted beside those that there are.
 pub record HasRoom (nodes : ℕ) (a : Arena) : Type 0 where
@@ -45,8 +50,17 @@ pub record CanTransfer (span : Span) (a : Arena) : Type 0 where
   pub granted : (x : NodeName) → x ∈ firsts (span_pairs span) → IsWritable a x
   pub within : (span.from_page.0 + span.pages < 2 ^ 32) × (span.to_page.0 + span.pages < 2 ^ 32)
 
--- Each working node that is left has two children at least. So many nodes were numbered at most, and
--- no page was copied.
+-- Each node that there was has its name still. So many nodes were numbered at most, and room was taken
+-- for so many.
+pub record Grows (nodes : ℕ) (a b : Arena) : Type 0 where
+  pub consistent : IsConsistent (forest_of b)
+  pub stays : (x : NodeName) → IsNode (forest_of a) x → IsNode (forest_of b) x
+  pub made : b.made ≤ a.made + nodes
+  pub room : a.room.nodes ≤ b.room.nodes + nodes
+  pub few : len (forest_of b).nodes ≤ len (forest_of a).nodes + nodes
+
+-- Each working node that is left has two children at least. So many nodes were numbered at most,
+-- and no page was copied.
 pub record Settles (nodes : ℕ) (a b : Arena) : Type 0 where
   pub settled : IsSettled (forest_of b)
   pub bounded : IsBounded (forest_of b)

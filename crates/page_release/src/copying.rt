@@ -6,13 +6,11 @@ ghost use Rattle.vm_ids.specs.Forest.NameLists.{◌∈◌};
 ghost use Rattle.vm_ids.specs.Forest.Laws.Commands.{CanCopy};
 ghost use Rattle.vm_ids.specs.Forest.Laws.Linking.{ArePages};
 ghost use Rattle.vm_ids.specs.Forest.NameMap.{len};
-ghost use Rattle.vm_ids.specs.Forest.Nodes.{IsNode};
 ghost use Rattle.vm_ids.specs.Forest.Rules as forest;
 ghost use Rattle.vm_ids.specs.Forest.Shape.{IsConsistent};
 ghost use Rattle.local_cache.specs.Reading.{forest_of};
 ghost use Rattle.local_cache.specs.Sound.{IsSound};
-ghost use Rattle.local_cache.specs.Whole.{IsWhole};
-ghost use Rattle.page_release.specs.Commands.{CanReplace, CanTransfer, HasRoom, KeepsPages};
+ghost use Rattle.page_release.specs.Commands.{CanReplace, CanRetire, CanTransfer, Grows, HasRoom, KeepsPages};
 ghost use Rattle.page_release.specs.Homes.{IsUnclean};
 ghost use Rattle.page_release.specs.Readings.{GoesBy};
 ghost use Rattle.page_release.specs.Steps.{IsStoreTied, IsUnpinned, Kept, Releases};
@@ -65,27 +63,17 @@ fn copy_page(
 
 // Each page of the destination becomes a copy of its source, in rising order.
 fn copy_each(store: &mut Store, caches: &mut Caches, span: Span)
-    requires tied { IsStoreTied store.old caches.old }
-    requires whole { IsWhole caches.old }
     requires can { CanCopy (forest_of caches.old) (span_pairs span) }
-    requires unpinned { (x : NodeName) → x ∈ firsts (span_pairs span)
-        → IsUnpinned store.old caches.old x }
-    requires unclean { (x : NodeName) → x ∈ firsts (span_pairs span) → IsUnclean caches.old x }
-    requires room { 2 * span.pages ≤ caches.old.room.nodes }
-    requires made { caches.old.made + 2 * span.pages < 2 ^ 63 }
-    requires few { len (forest_of caches.old).nodes + 2 * span.pages < 2 ^ 32 }
     requires within { (span.from_page.0 + span.pages < 2 ^ 32)
         × (span.to_page.0 + span.pages < 2 ^ 32) }
-    ensures rule { GoesBy (λ P put f. rule_copy_pages (leb span.pages small_copy) (span_pairs span) f)
-        store.old caches.old store.new caches.new }
+    requires retire { CanRetire (2 * span.pages) (firsts (span_pairs span))
+        store.old caches.old }
+    requires unclean { (x : NodeName) → x ∈ firsts (span_pairs span) → IsUnclean caches.old x }
+    requires room { HasRoom (2 * span.pages) caches.old }
+    ensures rule { GoesBy (λ P put f. rule_copy_pages (leb span.pages small_copy)
+        (span_pairs span) f) store.old caches.old store.new caches.new }
     ensures kept { Releases [] store.old caches.old store.new caches.new }
-    ensures consistent { IsConsistent (forest_of caches.new) }
-    ensures stays { (x : NodeName) → IsNode (forest_of caches.old) x
-        → IsNode (forest_of caches.new) x }
-    ensures made { caches.new.made ≤ caches.old.made + 2 * span.pages }
-    ensures room { caches.old.room.nodes ≤ caches.new.room.nodes + 2 * span.pages }
-    ensures few { len (forest_of caches.new).nodes
-        ≤ len (forest_of caches.old).nodes + 2 * span.pages }
+    ensures grows { Grows (2 * span.pages) caches.old caches.new }
 {
     let is_small = span.pages <= SMALL_COPY;
     for page in 0..span.pages {
@@ -103,10 +91,10 @@ fn copy_each(store: &mut Store, caches: &mut Caches, span: Span)
 
 // The copy, once no translation leads to a page that it replaces, and none for writing to one that it copies.
 fn copy_and_settle(store: &mut Store, caches: &mut Caches, span: Span)
+    requires transfer { CanTransfer span caches.old }
     requires ready { CanReplace (2 * span.pages) span.to (firsts (span_pairs span))
         store.old caches.old }
     requires room { HasRoom (2 * span.pages) caches.old }
-    requires transfer { CanTransfer span caches.old }
     ensures rule { GoesBy (λ P put f. rule_copy false (span_pairs span) f)
         store.old caches.old store.new caches.new }
     ensures kept { Releases (firsts (span_pairs span)) store.old caches.old store.new caches.new }
@@ -124,10 +112,10 @@ fn copy_and_settle(store: &mut Store, caches: &mut Caches, span: Span)
 /// its pages was granted, and its heirs have their saves: what it has is forgotten first. No translation leads to where a
 /// page of the destination was seen, and none for writing to where a source that was its node's alone is.
 pub fn copy_pages(store: &mut Store, caches: &mut Caches, span: Span)
+    requires transfer { CanTransfer span caches.old }
     requires ready { CanReplace (2 * span.pages) span.to (firsts (span_pairs span))
         store.old caches.old }
     requires room { HasRoom (2 * span.pages) caches.old }
-    requires transfer { CanTransfer span caches.old }
     ensures rule { GoesBy (λ P put f. rule_copy false (span_pairs span) f)
         store.old caches.old store.new caches.new }
     ensures kept { Kept (firsts (span_pairs span)) store.old caches.old store.new caches.new }

@@ -1,5 +1,5 @@
 // The pages of a cache go, and the store follows.
-ghost use Rattle.std.specs.Prelude.{◌≡◌, ◌+◌, ◌<◌, ◌≤◌, ◌^◌, false, [], Some, length};
+ghost use Rattle.std.specs.Prelude.{◌≡◌, ◌+◌, ◌≤◌, false, [], Some, length};
 ghost use Rattle.vm_ids.specs.Forest.Commands.{destroy as rule_destroy, page_names, retire_all};
 ghost use Rattle.vm_ids.specs.declared.node_name.NodeName.{NodeName};
 ghost use Rattle.vm_ids.specs.Forest.NameLists.{◌∈◌};
@@ -7,11 +7,11 @@ ghost use Rattle.vm_ids.specs.Forest.NameMap.{len};
 ghost use Rattle.vm_ids.specs.Forest.Shape.{IsConsistent};
 ghost use Rattle.local_cache.specs.Own.{own_states};
 ghost use Rattle.local_cache.specs.Reading.{forest_of};
-ghost use Rattle.local_cache.specs.Whole.{IsWhole, size_of};
-ghost use Rattle.page_release.specs.Commands.{CanReplace, Empties};
+ghost use Rattle.local_cache.specs.Whole.{size_of};
+ghost use Rattle.page_release.specs.Commands.{CanReplace, CanRetire, Empties};
 ghost use Rattle.page_release.specs.Homes.{IsUnclean};
 ghost use Rattle.page_release.specs.Readings.{GoesBy};
-ghost use Rattle.page_release.specs.Steps.{IsStoreTied, IsUnpinned, Kept, Releases};
+ghost use Rattle.page_release.specs.Steps.{Kept, Releases};
 ghost use Rattle.page_release.specs.Translating.{Leaves, Replaces};
 
 use crate::forgetting::forget_named;
@@ -24,12 +24,8 @@ use vm_ids::{CacheId, PageNo};
 
 // Retires the pages of a live cache in rising order.
 fn retire_pages(store: &mut Store, caches: &mut Caches, cache: CacheId, pages: u32)
-    requires tied { IsStoreTied store.old caches.old }
-    requires whole { IsWhole caches.old }
     requires pages { size_of caches.old cache.0 ≡ Some pages }
-    requires made { caches.old.made + pages < 2 ^ 63 }
-    requires unpinned { (x : NodeName) → x ∈ page_names cache 0 pages
-        → IsUnpinned store.old caches.old x }
+    requires retire { CanRetire pages (page_names cache 0 pages) store.old caches.old }
     requires unclean { (x : NodeName) → x ∈ page_names cache 0 pages → IsUnclean caches.old x }
     ensures rule { GoesBy (λ P put f. retire_all (page_names cache 0 pages) f)
         store.old caches.old store.new caches.new }

@@ -4,16 +4,12 @@ ghost use Rattle.vm_ids.specs.declared.node_name.NodeName.{NodeName};
 ghost use Rattle.vm_ids.specs.Forest.Commands.{page_names, replace_pages};
 ghost use Rattle.vm_ids.specs.Forest.Laws.Ranges.{AreNodes};
 ghost use Rattle.vm_ids.specs.Forest.NameLists.{◌∈◌};
-ghost use Rattle.vm_ids.specs.Forest.NameMap.{len};
-ghost use Rattle.vm_ids.specs.Forest.Nodes.{IsNode};
 ghost use Rattle.vm_ids.specs.Forest.Settling.{settle as rule_settle};
-ghost use Rattle.vm_ids.specs.Forest.Shape.{IsConsistent};
 ghost use Rattle.local_cache.specs.Reading.{forest_of};
-ghost use Rattle.local_cache.specs.Whole.{IsWhole};
-ghost use Rattle.page_release.specs.Commands.{CanReplace, HasRoom, KeepsPages};
+ghost use Rattle.page_release.specs.Commands.{CanReplace, CanRetire, Grows, HasRoom, KeepsPages};
 ghost use Rattle.page_release.specs.Homes.{IsClean, IsUnclean, is_named};
 ghost use Rattle.page_release.specs.Readings.{GoesBy, held_pages};
-ghost use Rattle.page_release.specs.Steps.{IsStoreTied, IsUnpinned, Kept, Releases};
+ghost use Rattle.page_release.specs.Steps.{Kept, Releases};
 ghost use Rattle.page_release.specs.Translating.{Leaves, Replaces};
 
 use crate::forgetting::forget_named;
@@ -26,28 +22,20 @@ use vm_ids::{CacheId, NodeName, PageNo};
 
 // Each page of a range is detached, and is what its segment holds, in rising order.
 fn replace_each(store: &mut Store, caches: &mut Caches, cache: CacheId, first: PageNo, pages: u32)
-    requires tied { IsStoreTied store.old caches.old }
-    requires whole { IsWhole caches.old }
     requires named { is_named caches.old cache ≡ true }
     requires within { first.0 + pages < 2 ^ 32 }
     requires nodes { AreNodes (forest_of caches.old) cache first.0 pages }
-    requires unpinned { (x : NodeName) → x ∈ page_names cache first.0 pages
-        → IsUnpinned store.old caches.old x }
+    requires retire { CanRetire pages (page_names cache first.0 pages) store.old caches.old }
     requires unclean { (x : NodeName) → x ∈ page_names cache first.0 pages
         → IsUnclean caches.old x }
     requires room { pages ≤ caches.old.room.nodes }
-    requires made { caches.old.made + pages < 2 ^ 63 }
-    ensures rule { GoesBy (λ P put f. replace_pages (held_pages put (page_names cache first.0 pages)) f)
+    ensures rule { GoesBy (λ P put f. replace_pages
+        (held_pages put (page_names cache first.0 pages)) f)
         store.old caches.old store.new caches.new }
     ensures kept { Releases (page_names cache first.0 pages)
         store.old caches.old store.new caches.new }
     ensures clean { (x : NodeName) → x ∈ page_names cache first.0 pages → IsClean caches.new x }
-    ensures consistent { IsConsistent (forest_of caches.new) }
-    ensures stays { (x : NodeName) → IsNode (forest_of caches.old) x
-        → IsNode (forest_of caches.new) x }
-    ensures made { caches.new.made ≤ caches.old.made + pages }
-    ensures room { caches.old.room.nodes ≤ caches.new.room.nodes + pages }
-    ensures few { len (forest_of caches.new).nodes ≤ len (forest_of caches.old).nodes + pages }
+    ensures grows { Grows pages caches.old caches.new }
 {
     for page in 0..pages {
         detach_page(

@@ -5,14 +5,11 @@ ghost use Rattle.vm_ids.specs.Forest.Commands.{firsts, move_, move_pages as rule
 ghost use Rattle.vm_ids.specs.Forest.NameLists.{◌∈◌};
 ghost use Rattle.vm_ids.specs.Forest.Laws.Commands.{CanCopy};
 ghost use Rattle.vm_ids.specs.Forest.Laws.Linking.{ArePages};
-ghost use Rattle.vm_ids.specs.Forest.NameMap.{len};
-ghost use Rattle.vm_ids.specs.Forest.Nodes.{IsNode};
 ghost use Rattle.vm_ids.specs.Forest.Rules as forest;
 ghost use Rattle.vm_ids.specs.Forest.Shape.{IsConsistent};
 ghost use Rattle.local_cache.specs.Reading.{forest_of};
 ghost use Rattle.local_cache.specs.Sound.{IsSound};
-ghost use Rattle.local_cache.specs.Whole.{IsWhole};
-ghost use Rattle.page_release.specs.Commands.{CanReplace, CanTransfer, HasRoom, KeepsPages};
+ghost use Rattle.page_release.specs.Commands.{CanReplace, CanRetire, CanTransfer, Grows, HasRoom, KeepsPages};
 ghost use Rattle.page_release.specs.Homes.{IsUnclean, is_named};
 ghost use Rattle.page_release.specs.Readings.{GoesBy};
 ghost use Rattle.page_release.specs.Steps.{IsStoreTied, IsUnpinned, Kept, Releases};
@@ -57,28 +54,19 @@ fn move_one(
 
 // Each page of the source is moved to the destination, in rising order.
 fn move_each(store: &mut Store, caches: &mut Caches, span: Span)
-    requires tied { IsStoreTied store.old caches.old }
-    requires whole { IsWhole caches.old }
-    requires can { CanCopy (forest_of caches.old) (span_pairs span) }
     requires temporary { is_named caches.old span.from ≡ false }
-    requires unpinned { (x : NodeName) → x ∈ firsts (span_pairs span)
-        → IsUnpinned store.old caches.old x }
-    requires unclean { (x : NodeName) → x ∈ firsts (span_pairs span) → IsUnclean caches.old x }
     requires sources { (x : NodeName) → x ∈ seconds (span_pairs span)
         → IsUnpinned store.old caches.old x }
-    requires room { span.pages ≤ caches.old.room.nodes }
-    requires made { caches.old.made + span.pages < 2 ^ 63 }
+    requires can { CanCopy (forest_of caches.old) (span_pairs span) }
     requires within { (span.from_page.0 + span.pages < 2 ^ 32)
         × (span.to_page.0 + span.pages < 2 ^ 32) }
+    requires retire { CanRetire span.pages (firsts (span_pairs span)) store.old caches.old }
+    requires unclean { (x : NodeName) → x ∈ firsts (span_pairs span) → IsUnclean caches.old x }
+    requires room { span.pages ≤ caches.old.room.nodes }
     ensures rule { GoesBy (λ P put f. rule_move_pages put.zeros (span_pairs span) f)
         store.old caches.old store.new caches.new }
     ensures kept { Releases [] store.old caches.old store.new caches.new }
-    ensures consistent { IsConsistent (forest_of caches.new) }
-    ensures stays { (x : NodeName) → IsNode (forest_of caches.old) x
-        → IsNode (forest_of caches.new) x }
-    ensures made { caches.new.made ≤ caches.old.made + span.pages }
-    ensures room { caches.old.room.nodes ≤ caches.new.room.nodes + span.pages }
-    ensures few { len (forest_of caches.new).nodes ≤ len (forest_of caches.old).nodes + span.pages }
+    ensures grows { Grows span.pages caches.old caches.new }
 {
     for page in 0..span.pages {
         move_one(
@@ -97,10 +85,10 @@ fn move_and_settle(store: &mut Store, caches: &mut Caches, span: Span)
     requires temporary { is_named caches.old span.from ≡ false }
     requires sources { (x : NodeName) → x ∈ seconds (span_pairs span)
         → IsUnpinned store.old caches.old x }
+    requires transfer { CanTransfer span caches.old }
     requires ready { CanReplace span.pages span.to (firsts (span_pairs span))
         store.old caches.old }
     requires room { HasRoom span.pages caches.old }
-    requires transfer { CanTransfer span caches.old }
     ensures rule { GoesBy (λ P put f. move_ false put.zeros (span_pairs span) f)
         store.old caches.old store.new caches.new }
     ensures kept { Releases (firsts (span_pairs span)) store.old caches.old store.new caches.new }
@@ -122,10 +110,10 @@ pub fn move_pages(store: &mut Store, caches: &mut Caches, span: Span)
     requires temporary { is_named caches.old span.from ≡ false }
     requires sources { (x : NodeName) → x ∈ seconds (span_pairs span)
         → IsUnpinned store.old caches.old x }
+    requires transfer { CanTransfer span caches.old }
     requires ready { CanReplace span.pages span.to (firsts (span_pairs span))
         store.old caches.old }
     requires room { HasRoom span.pages caches.old }
-    requires transfer { CanTransfer span caches.old }
     ensures rule { GoesBy (λ P put f. move_ false put.zeros (span_pairs span) f)
         store.old caches.old store.new caches.new }
     ensures kept { Kept (firsts (span_pairs span)) store.old caches.old store.new caches.new }

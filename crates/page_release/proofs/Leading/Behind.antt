@@ -20,12 +20,14 @@ module _ (s t : Store) (only : OnlyTables s t) (a : Arena) where
   -- what a command needs
   pub ready_behind : (nodes : ℕ) (cache : CacheId) (names : List NodeName) → CanReplace nodes cache names s a → CanReplace nodes cache names t a
   ready_behind nodes cache names ready = record {
-    tied = tied_still s t only a ready.tied;
-    whole = ready.whole;
-    unpinned = λ x i. subst (λ r. IsUnpinned r a x) (sym only.is) (ready.unpinned x i);
+    retire = record {
+      tied = tied_still s t only a ready.retire.tied;
+      whole = ready.retire.whole;
+      unpinned = λ x i. subst (λ r. IsUnpinned r a x) (sym only.is) (ready.retire.unpinned x i);
+      made = ready.retire.made;
+    };
     saved = ready.saved;
     working = λ k. subst (λ r. IsUnpinned r a (Working k)) (sym only.is) (ready.working k);
-    made = ready.made;
   }
 
   module _ (u : Store) (b : Arena) where

@@ -26,13 +26,14 @@ use Rattle.page_release.proofs.Tying.Shape.{store_can, store_consistent, store_s
 use Rattle.page_release.proofs.Tying.Sized.{bounded_capacity, right_after, same_live}
 use Rattle.local_cache.proofs.Whole.Like.{like_len, like_node}
 use Rattle.page_release.proofs.Walking.Ranges.{destination_names, destination_nodes}
+use Rattle.page_release.proofs.Walking.Forgetting.{retire_kept, room_kept}
 use Rattle.page_release.proofs.copying.copy_and_settle.Goals as goal
 
 pub forget_named-requires-clause-nodes : goal.forget_named-requires-clause-nodes
 forget_named-requires-clause-nodes c = destination_nodes (forest_of c.args.caches.now) c.args.span c.requires.transfer.can
 
 pub forget_named-requires-clause-unpinned : goal.forget_named-requires-clause-unpinned
-forget_named-requires-clause-unpinned c x i = c.requires.ready.unpinned x (subst (λ xs. x ∈ xs) (sym (destination_names c.args.span)) i)
+forget_named-requires-clause-unpinned c x i = c.requires.ready.retire.unpinned x (subst (λ xs. x ∈ xs) (sym (destination_names c.args.span)) i)
 
 pub copy_each-requires-clause-can : goal.copy_each-requires-clause-can
 copy_each-requires-clause-can c =
@@ -40,31 +41,23 @@ copy_each-requires-clause-can c =
     still_can (forest_of c.args.caches.now) (forest_of c.forget_named.new.caches) (span_pairs c.args.span)
     (λ x live is. like_node c.args.caches.now c.forget_named.new.caches f.kept.sound (still_like c.args.caches.now c.forget_named.new.caches f.same) x is) c.requires.transfer.can
 
-pub copy_each-requires-clause-unpinned : goal.copy_each-requires-clause-unpinned
-copy_each-requires-clause-unpinned c x i =
-    unpinned_kept (page_names c.args.span.to c.args.span.to_page.0 c.args.span.pages) c.args.store.now c.args.caches.now c.forget_named.new.store c.forget_named.new.caches c.requires.ready.tied c.forget_named.ensures.kept x (c.requires.ready.unpinned x i)
+pub copy_each-requires-clause-retire : goal.copy_each-requires-clause-retire
+copy_each-requires-clause-retire c =
+    let f = c.forget_named.ensures in
+    retire_kept c.args.caches.now c.forget_named.new.caches f.same _ (page_names c.args.span.to c.args.span.to_page.0 c.args.span.pages) c.args.store.now c.forget_named.new.store f.kept f.whole _ c.requires.ready.retire
 
 pub copy_each-requires-clause-unclean : goal.copy_each-requires-clause-unclean
 copy_each-requires-clause-unclean c x i = c.forget_named.ensures.unclean x (subst (λ xs. x ∈ xs) (destination_names c.args.span) i)
 
 pub copy_each-requires-clause-room : goal.copy_each-requires-clause-room
-copy_each-requires-clause-room c = let room = ap (λ (a : Arena). a.room.nodes) c.forget_named.ensures.same.rest in omega (arith, room, c.requires.room.room)
-
-pub copy_each-requires-clause-made : goal.copy_each-requires-clause-made
-copy_each-requires-clause-made c = let made = ap (λ (a : Arena). a.made) c.forget_named.ensures.same.rest in omega (arith, made, c.requires.ready.made)
-
-pub copy_each-requires-clause-few : goal.copy_each-requires-clause-few
-copy_each-requires-clause-few c =
-    let f = c.forget_named.ensures in
-    let most = like_len c.args.caches.now c.forget_named.new.caches c.requires.ready.whole.sound (still_like c.args.caches.now c.forget_named.new.caches f.same) in
-    omega (arith, most, c.requires.room.few)
+copy_each-requires-clause-room c = room_kept c.args.caches.now c.forget_named.new.caches c.forget_named.ensures.same _ c.requires.ready.retire.whole.sound c.requires.room
 
 pub settle-requires-clause-unpinned : goal.settle-requires-clause-unpinned
 settle-requires-clause-unpinned c k =
     let f = c.forget_named.ensures in
     let r = c.copy_each.ensures in
     unpinned_kept [] c.forget_named.new.store c.forget_named.new.caches c.copy_each.new.store c.copy_each.new.caches f.kept.tied r.kept (Working k)
-    (unpinned_kept (page_names c.args.span.to c.args.span.to_page.0 c.args.span.pages) c.args.store.now c.args.caches.now c.forget_named.new.store c.forget_named.new.caches c.requires.ready.tied f.kept (Working k) (c.requires.ready.working k))
+    (unpinned_kept (page_names c.args.span.to c.args.span.to_page.0 c.args.span.pages) c.args.store.now c.args.caches.now c.forget_named.new.store c.forget_named.new.caches c.requires.ready.retire.tied f.kept (Working k) (c.requires.ready.working k))
 
 pub returns-clause-rule : goal.returns-clause-rule
 returns-clause-rule c =
@@ -74,8 +67,8 @@ returns-clause-rule c =
     let f = c.forget_named.ensures in
     let r = c.copy_each.ensures in
     let e = c.settle.ensures in
-    let sound = c.requires.ready.whole.sound in
-    let consistent = c.requires.ready.whole.consistent in
+    let sound = c.requires.ready.retire.whole.sound in
+    let consistent = c.requires.ready.retire.whole.consistent in
     let saved = c.requires.ready.saved in
     let s = c.args.span in
     let pairs = span_pairs s in
@@ -111,7 +104,7 @@ returns-clause-kept c =
     let b = c.forget_named.new.caches in
     let f = c.forget_named.ensures.kept in
     let rest = kept_both t b c.copy_each.new.store c.copy_each.new.caches c.settle.new.store c.settle.new.caches f.tied c.copy_each.ensures.kept c.settle.ensures.kept in
-    kept_then names [] (firsts (span_pairs s)) c.args.store.now c.args.caches.now t b c.settle.new.store c.settle.new.caches c.requires.ready.tied (λ x i. subst (λ xs. x ∈ xs) (sym (destination_names s)) i) (λ x i. absurd i) f rest
+    kept_then names [] (firsts (span_pairs s)) c.args.store.now c.args.caches.now t b c.settle.new.store c.settle.new.caches c.requires.ready.retire.tied (λ x i. subst (λ xs. x ∈ xs) (sym (destination_names s)) i) (λ x i. absurd i) f rest
 
 pub returns-clause-pages : goal.returns-clause-pages
 returns-clause-pages c =
@@ -125,24 +118,24 @@ returns-clause-pages c =
     let kept = returns-clause-kept c in
     let room = ap (λ (k : Arena). k.room.nodes) f.same.rest in
     let made = ap (λ (k : Arena). k.made) f.same.rest in
-    let most = like_len a b c.requires.ready.whole.sound (still_like a b f.same) in
-    let whole = whole_copied b c.copy_each.new.caches d f.whole (2 * c.args.span.pages) (omega (arith, most, c.requires.room.few)) r.consistent r.stays r.few r.kept.sizes s.rule.nodes s.kept.sound s.kept.sizes in
-    let live = same_live a d c.requires.ready.whole whole kept.sizes in
+    let most = like_len a b c.requires.ready.retire.whole.sound (still_like a b f.same) in
+    let whole = whole_copied b c.copy_each.new.caches d f.whole (2 * c.args.span.pages) (omega (arith, most, c.requires.room.few)) r.grows.consistent r.grows.stays r.grows.few r.kept.sizes s.rule.nodes s.kept.sound s.kept.sizes in
+    let live = same_live a d c.requires.ready.retire.whole whole kept.sizes in
     record {
       settles = record {
         settled = s.settled;
         bounded = s.bounded;
-        made = omega (arith, made, s.counters.0, r.made);
+        made = omega (arith, made, s.counters.0, r.grows.made);
         copies = sym (forest_of-copies d) ∙ ap (λ (g : Forest OwnState). g.copies) (returns-clause-rule c).nodes ∙ copy_counts_saves false (span_pairs c.args.span) (forest_of a) ∙ forest_of-copies a;
       };
       whole = whole;
       live = live;
       right = λ enough. right_after names c.args.store.now a c.settle.new.store d kept (writable_after names a d kept.sizes c.requires.transfer.granted)
           (λ _. bounded_capacity d _ kept.sound.kept.named s.bounded (omega (arith, enough, live)));
-      room = omega (arith, room, s.room, r.room);
+      room = omega (arith, room, s.room, r.grows.room);
     }
 
 pub returns-clause-translations : goal.returns-clause-translations
 returns-clause-translations c =
-    copy_replaces c.args.caches.now c.args.store.now c.settle.new.caches c.settle.new.store c.requires.ready.whole.sound c.requires.ready.whole.consistent (returns-clause-kept c).tables
+    copy_replaces c.args.caches.now c.args.store.now c.settle.new.caches c.settle.new.store c.requires.ready.retire.whole.sound c.requires.ready.retire.whole.consistent (returns-clause-kept c).tables
     (span_pairs c.args.span) c.requires.transfer.can (returns-clause-rule c).nodes (returns-clause-rule c).frames

@@ -28,8 +28,8 @@ loop-page-init c =
       nodes = ap (λ es. rule_copy_pages (leb s.pages small_copy) es (forest_of a)) (sym all);
       forest = λ told size fit. ap (λ es. rule_copy_pages (leb s.pages small_copy) es (store_forest (world told size a c.args.store.now))) (sym all);
       frames = ap (λ es. rule_copy_pages (leb s.pages small_copy) es (frame_forest a c.args.store.now.map)) (sym all);
-      kept = kept_none [] c.args.store.now a c.requires.whole.sound c.requires.tied;
-      consistent = c.requires.whole.consistent;
+      kept = kept_none [] c.args.store.now a c.requires.retire.whole.sound c.requires.retire.tied;
+      consistent = c.requires.retire.whole.consistent;
       can = subst (CanCopy (forest_of a)) all c.requires.can;
       stays = λ x is. is;
       room = omega arith;
@@ -47,13 +47,13 @@ pub copy_page-requires-clause-unpinned : goal.copy_page-requires-clause-unpinned
 copy_page-requires-clause-unpinned c =
     let s = c.args.span in
     let x = page_name s.to (s.to_page.0 + c.loop-page.page) in
-    unpinned_kept [] c.args.store.now c.args.caches.now c.loop-page.store c.loop-page.caches c.requires.tied c.loop-page.invariant.kept x (c.requires.unpinned x (is_destination s c.loop-page.page c.loop-page-test.true))
+    unpinned_kept [] c.args.store.now c.args.caches.now c.loop-page.store c.loop-page.caches c.requires.retire.tied c.loop-page.invariant.kept x (c.requires.retire.unpinned x (is_destination s c.loop-page.page c.loop-page-test.true))
 
 pub copy_page-requires-clause-unclean : goal.copy_page-requires-clause-unclean
 copy_page-requires-clause-unclean c =
     let s = c.args.span in
     let x = page_name s.to (s.to_page.0 + c.loop-page.page) in
-    unclean_kept [] c.args.store.now c.args.caches.now c.loop-page.store c.loop-page.caches c.requires.tied c.loop-page.invariant.kept x (λ i. i) (c.requires.unclean x (is_destination s c.loop-page.page c.loop-page-test.true))
+    unclean_kept [] c.args.store.now c.args.caches.now c.loop-page.store c.loop-page.caches c.requires.retire.tied c.loop-page.invariant.kept x (λ i. i) (c.requires.unclean x (is_destination s c.loop-page.page c.loop-page-test.true))
 
 pub loop-page-preserved : goal.loop-page-preserved
 loop-page-preserved c =
@@ -87,7 +87,7 @@ loop-page-preserved c =
           let left = page_pairs s.from (s.from_page.0 + k) s.to (s.to_page.0 + k) (s.pages - k) in
           copied_by (frame_forest a t.map) (frame_consistent a t.map i.kept.sound i.consistent) is_small s.from s.from_page.0 s.to s.to_page.0 s.pages k low (frame_can a t.map i.kept.sound left i.can) (frame_forest b u.map) e.rule.frames
           ∙ i.frames;
-      kept = kept_both r z t a u b c.requires.tied i.kept e.kept;
+      kept = kept_both r z t a u b c.requires.retire.tied i.kept e.kept;
       consistent = subst IsConsistent (sym e.rule.nodes) (copy_page-consistent f i.consistent d o pages is_small);
       can = can_by f i.consistent is_small s.from s.from_page.0 s.to s.to_page.0 s.pages k low i.can (forest_of b) e.rule.nodes;
       stays = λ x is. subst (λ g. IsNode g x) (sym e.rule.nodes) (copy_page_stays f i.consistent d o pages is_small x (i.stays x is));
@@ -109,4 +109,16 @@ returns-clause-rule c =
       nodes = ap (λ es. rule_copy_pages is_small es (forest_of a)) (sym none) ∙ i.nodes;
       forest = λ told size fit. ap (λ es. rule_copy_pages is_small es (store_forest (world told size a t))) (sym none) ∙ i.forest told size fit;
       frames = ap (λ es. rule_copy_pages is_small es (frame_forest a t.map)) (sym none) ∙ i.frames;
+    }
+
+pub returns-clause-grows : goal.returns-clause-grows
+returns-clause-grows c =
+    let i = c.loop-page.invariant in
+    let end = c.loop-page.auto.page-end in
+    record {
+      consistent = i.consistent;
+      stays = i.stays;
+      made = omega (arith, i.made, end);
+      room = omega (arith, i.room, end);
+      few = omega (arith, i.few, end);
     }

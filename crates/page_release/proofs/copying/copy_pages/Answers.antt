@@ -49,7 +49,7 @@ returns-clause-translations c =
     let to = page_names s.to s.to_page.0 s.pages in
     let from = page_names s.from s.from_page.0 s.pages in
     let one = ready_first a to r t c.drop_seen.ensures in
-    let two = ready_shared a from (λ x. x ∈ to) r t u one c.requires.ready.whole.sound c.requires.ready.whole.consistent c.narrow_own.ensures in
+    let two = ready_shared a from (λ x. x ∈ to) r t u one c.requires.ready.retire.whole.sound c.requires.ready.retire.whole.consistent c.narrow_own.ensures in
     let by_firsts = subst (λ (xs : List NodeName). AreReady (λ x. x ∈ xs) (λ x. x ∈ from) a r u) (sym (destination_names s)) two in
     let ready = subst (λ (xs : List NodeName). AreReady (λ x. x ∈ firsts (span_pairs s)) (λ x. x ∈ xs) a r u) (sym (source_names s)) by_firsts in
     leaves (λ x. x ∈ firsts (span_pairs s)) (λ x. x ∈ seconds (span_pairs s)) a r u c.copy_and_settle.new.caches c.copy_and_settle.new.store ready c.copy_and_settle.ensures.translations

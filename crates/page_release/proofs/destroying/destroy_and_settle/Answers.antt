@@ -24,27 +24,26 @@ use Rattle.page_release.proofs.Tying.Homes.{homed_gone}
 use Rattle.page_release.proofs.Tying.Kept.{kept_both, kept_then, kept_unlisted, unpinned_kept}
 use Rattle.page_release.proofs.Tying.Shape.{store_consistent, store_pages, store_saved}
 use Rattle.page_release.proofs.Tying.Sized.{right_after}
+use Rattle.page_release.proofs.Walking.Forgetting.{retire_kept}
 use Rattle.page_release.proofs.destroying.destroy_and_settle.Goals as goal
 
 pub forget_named-requires-clause-nodes : goal.forget_named-requires-clause-nodes
-forget_named-requires-clause-nodes c = range_there c.args.caches.now c.requires.ready.whole c.args.cache 0 c.args.pages c.args.pages c.requires.pages (omega arith)
+forget_named-requires-clause-nodes c = range_there c.args.caches.now c.requires.ready.retire.whole c.args.cache 0 c.args.pages c.args.pages c.requires.pages (omega arith)
 
 pub retire_pages-requires-clause-pages : goal.retire_pages-requires-clause-pages
 retire_pages-requires-clause-pages c = c.forget_named.ensures.kept.sizes.sizes c.args.cache.0 ∙ c.requires.pages
 
-pub retire_pages-requires-clause-made : goal.retire_pages-requires-clause-made
-retire_pages-requires-clause-made c = let made = ap (λ (a : Arena). a.made) c.forget_named.ensures.same.rest in omega (arith, made, c.requires.ready.made)
-
-pub retire_pages-requires-clause-unpinned : goal.retire_pages-requires-clause-unpinned
-retire_pages-requires-clause-unpinned c x i =
-    unpinned_kept (page_names c.args.cache 0 c.args.pages) c.args.store.now c.args.caches.now c.forget_named.new.store c.forget_named.new.caches c.requires.ready.tied c.forget_named.ensures.kept x (c.requires.ready.unpinned x i)
+pub retire_pages-requires-clause-retire : goal.retire_pages-requires-clause-retire
+retire_pages-requires-clause-retire c =
+    let f = c.forget_named.ensures in
+    retire_kept c.args.caches.now c.forget_named.new.caches f.same _ (page_names c.args.cache 0 c.args.pages) c.args.store.now c.forget_named.new.store f.kept f.whole _ c.requires.ready.retire
 
 pub settle-requires-clause-unpinned : goal.settle-requires-clause-unpinned
 settle-requires-clause-unpinned c k =
     let f = c.forget_named.ensures in
     let r = c.retire_pages.ensures in
     unpinned_kept [] c.forget_named.new.store c.forget_named.new.caches c.retire_pages.new.store c.retire_pages.new.caches f.kept.tied r.kept (Working k)
-    (unpinned_kept (page_names c.args.cache 0 c.args.pages) c.args.store.now c.args.caches.now c.forget_named.new.store c.forget_named.new.caches c.requires.ready.tied f.kept (Working k) (c.requires.ready.working k))
+    (unpinned_kept (page_names c.args.cache 0 c.args.pages) c.args.store.now c.args.caches.now c.forget_named.new.store c.forget_named.new.caches c.requires.ready.retire.tied f.kept (Working k) (c.requires.ready.working k))
 
 pub returns-clause-rule : goal.returns-clause-rule
 returns-clause-rule c =
@@ -54,12 +53,12 @@ returns-clause-rule c =
     let f = c.forget_named.ensures in
     let r = c.retire_pages.ensures in
     let e = c.settle.ensures in
-    let sound = c.requires.ready.whole.sound in
-    let consistent = c.requires.ready.whole.consistent in
+    let sound = c.requires.ready.retire.whole.sound in
+    let consistent = c.requires.ready.retire.whole.consistent in
     let saved = c.requires.ready.saved in
     let names = page_names c.args.cache 0 c.args.pages in
     let named = is_named a c.args.cache in
-    let there = pages_once a c.requires.ready.whole c.args.cache c.args.pages c.requires.pages in
+    let there = pages_once a c.requires.ready.retire.whole c.args.cache c.args.pages c.requires.pages in
     record {
       nodes =
           e.rule.nodes ∙ ap settle (r.rule.nodes ∙ ap (retire_all names) f.rule.nodes)
@@ -92,7 +91,7 @@ returns-clause-kept c =
     let d = c.settle.new.caches in
     let f = c.forget_named.ensures.kept in
     let rest = kept_both t b c.retire_pages.new.store c.retire_pages.new.caches u d f.tied c.retire_pages.ensures.kept c.settle.ensures.kept in
-    kept_unlisted names s a u d (kept_then names [] names s a t b u d c.requires.ready.tied (λ x i. i) (λ x i. absurd i) f rest)
+    kept_unlisted names s a u d (kept_then names [] names s a t b u d c.requires.ready.retire.tied (λ x i. i) (λ x i. absurd i) f rest)
     (homed_gone d c.settle.ensures.kept.sound.kept.listed c.args.cache 0 c.args.pages (emptied_now c))
 
 pub returns-clause-empties : goal.returns-clause-empties
@@ -124,5 +123,5 @@ returns-clause-empties c =
 pub returns-clause-translations : goal.returns-clause-translations
 returns-clause-translations c =
     let a = c.args.caches.now in
-    destroy_replaces a c.args.store.now c.settle.new.caches c.settle.new.store c.requires.ready.whole.sound c.requires.ready.whole.consistent (returns-clause-kept c).tables
-    (page_names c.args.cache 0 c.args.pages) (pages_once a c.requires.ready.whole c.args.cache c.args.pages c.requires.pages) (returns-clause-rule c).nodes (returns-clause-rule c).frames
+    destroy_replaces a c.args.store.now c.settle.new.caches c.settle.new.store c.requires.ready.retire.whole.sound c.requires.ready.retire.whole.consistent (returns-clause-kept c).tables
+    (page_names c.args.cache 0 c.args.pages) (pages_once a c.requires.ready.retire.whole c.args.cache c.args.pages c.requires.pages) (returns-clause-rule c).nodes (returns-clause-rule c).frames

@@ -7,7 +7,7 @@ use Rattle.page_release.proofs.Leading.Ranges.{tables_mapped}
 use Rattle.page_release.proofs.destroying.destroy_pages.Goals as goal
 
 pub drop_seen-requires-clause-nodes : goal.drop_seen-requires-clause-nodes
-drop_seen-requires-clause-nodes c i low = c.requires.ready.whole.pages c.args.cache (0 + i) c.args.pages c.requires.pages (omega (arith, low))
+drop_seen-requires-clause-nodes c i low = c.requires.ready.retire.whole.pages c.args.cache (0 + i) c.args.pages c.requires.pages (omega (arith, low))
 
 pub destroy_and_settle-requires-clause-ready : goal.destroy_and_settle-requires-clause-ready
 destroy_and_settle-requires-clause-ready c =

@@ -29,9 +29,9 @@ loop-page-init c =
       nodes = ap (λ xs. retire_all xs (forest_of a)) (sym all);
       forest = λ told size fit. ap (λ xs. retire_all xs (store_forest (world told size a c.args.store.now))) (sym all);
       frames = ap (λ xs. retire_all xs (frame_forest a c.args.store.now.map)) (sym all);
-      kept = kept_none [] c.args.store.now a c.requires.whole.sound c.requires.tied;
-      consistent = c.requires.whole.consistent;
-      pages = subst (ArePagesOnce (forest_of a)) all (pages_once a c.requires.whole c.args.cache c.args.pages c.requires.pages);
+      kept = kept_none [] c.args.store.now a c.requires.retire.whole.sound c.requires.retire.tied;
+      consistent = c.requires.retire.whole.consistent;
+      pages = subst (ArePagesOnce (forest_of a)) all (pages_once a c.requires.retire.whole c.args.cache c.args.pages c.requires.pages);
       few = omega arith;
       made = omega arith;
       room = omega arith;
@@ -48,14 +48,14 @@ retire_page-requires-clause-unpinned c =
     let x = page_name c.args.cache c.loop-page.page in
     let number : 0 + c.loop-page.page ≡ c.loop-page.page = omega arith in
     let here = subst (λ k. page_name c.args.cache k ∈ page_names c.args.cache 0 c.args.pages) number (in_range c.args.cache 0 c.args.pages c.loop-page.page c.loop-page-test.true) in
-    unpinned_kept [] c.args.store.now c.args.caches.now c.loop-page.store c.loop-page.caches c.requires.tied c.loop-page.invariant.kept x (c.requires.unpinned x here)
+    unpinned_kept [] c.args.store.now c.args.caches.now c.loop-page.store c.loop-page.caches c.requires.retire.tied c.loop-page.invariant.kept x (c.requires.retire.unpinned x here)
 
 pub retire_page-requires-clause-unclean : goal.retire_page-requires-clause-unclean
 retire_page-requires-clause-unclean c =
     let x = page_name c.args.cache c.loop-page.page in
     let number : 0 + c.loop-page.page ≡ c.loop-page.page = omega arith in
     let here = subst (λ k. page_name c.args.cache k ∈ page_names c.args.cache 0 c.args.pages) number (in_range c.args.cache 0 c.args.pages c.loop-page.page c.loop-page-test.true) in
-    unclean_kept [] c.args.store.now c.args.caches.now c.loop-page.store c.loop-page.caches c.requires.tied c.loop-page.invariant.kept x (λ i. i) (c.requires.unclean x here)
+    unclean_kept [] c.args.store.now c.args.caches.now c.loop-page.store c.loop-page.caches c.requires.retire.tied c.loop-page.invariant.kept x (λ i. i) (c.requires.unclean x here)
 
 pub loop-page-preserved : goal.loop-page-preserved
 loop-page-preserved c =
@@ -81,7 +81,7 @@ loop-page-preserved c =
       frames =
           retired_by (frame_forest a t.map) (frame_consistent a t.map i.kept.sound i.consistent) c.args.cache c.args.pages k low (frame_pages a t.map i.kept.sound (page_names c.args.cache k (c.args.pages - k)) i.pages) (frame_forest b u.map) e.rule.frames
           ∙ i.frames;
-      kept = kept_both s o t a u b c.requires.tied i.kept e.kept;
+      kept = kept_both s o t a u b c.requires.retire.tied i.kept e.kept;
       consistent = subst IsConsistent (sym e.rule.nodes) (retire-consistent (forest_of a) i.consistent x is refl);
       pages = pages_by (forest_of a) i.consistent c.args.cache c.args.pages k low i.pages (forest_of b) e.rule.nodes;
       few = omega (arith, i.few, retire_len (forest_of a) i.consistent x is refl, ap (λ g. len g.nodes) e.rule.nodes);

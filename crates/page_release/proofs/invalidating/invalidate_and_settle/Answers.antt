@@ -28,6 +28,7 @@ use Rattle.page_release.proofs.Tying.Shape.{store_consistent, store_pages, store
 use Rattle.page_release.proofs.Tying.Sized.{bounded_capacity, right_after, same_live}
 use Rattle.local_cache.proofs.Whole.Like.{like_len, like_node}
 use Rattle.page_release.proofs.Walking.Replacing.{clean_then, pages_of, replace_forgotten, segment_pages_same}
+use Rattle.page_release.proofs.Walking.Forgetting.{retire_kept}
 use Rattle.page_release.proofs.invalidating.invalidate_and_settle.Goals as goal
 
 pub replace_each-requires-clause-named : goal.replace_each-requires-clause-named
@@ -38,15 +39,13 @@ replace_each-requires-clause-nodes c i low =
     let f = c.forget_named.ensures in
     like_node c.args.caches.now c.forget_named.new.caches f.kept.sound (still_like c.args.caches.now c.forget_named.new.caches f.same) (page_name c.args.cache (c.args.first.0 + i)) (c.requires.nodes i low)
 
-pub replace_each-requires-clause-unpinned : goal.replace_each-requires-clause-unpinned
-replace_each-requires-clause-unpinned c x i =
-    unpinned_kept (page_names c.args.cache c.args.first.0 c.args.pages) c.args.store.now c.args.caches.now c.forget_named.new.store c.forget_named.new.caches c.requires.ready.tied c.forget_named.ensures.kept x (c.requires.ready.unpinned x i)
+pub replace_each-requires-clause-retire : goal.replace_each-requires-clause-retire
+replace_each-requires-clause-retire c =
+    let f = c.forget_named.ensures in
+    retire_kept c.args.caches.now c.forget_named.new.caches f.same _ (page_names c.args.cache c.args.first.0 c.args.pages) c.args.store.now c.forget_named.new.store f.kept f.whole _ c.requires.ready.retire
 
 pub replace_each-requires-clause-room : goal.replace_each-requires-clause-room
 replace_each-requires-clause-room c = let room = ap (λ (a : Arena). a.room.nodes) c.forget_named.ensures.same.rest in omega (arith, room, c.requires.room.room)
-
-pub replace_each-requires-clause-made : goal.replace_each-requires-clause-made
-replace_each-requires-clause-made c = let made = ap (λ (a : Arena). a.made) c.forget_named.ensures.same.rest in omega (arith, made, c.requires.ready.made)
 
 pub settle-requires-clause-unpinned : goal.settle-requires-clause-unpinned
 settle-requires-clause-unpinned c k =
@@ -54,7 +53,7 @@ settle-requires-clause-unpinned c k =
     let f = c.forget_named.ensures in
     let r = c.replace_each.ensures in
     unpinned_kept names c.forget_named.new.store c.forget_named.new.caches c.replace_each.new.store c.replace_each.new.caches f.kept.tied r.kept (Working k)
-    (unpinned_kept names c.args.store.now c.args.caches.now c.forget_named.new.store c.forget_named.new.caches c.requires.ready.tied f.kept (Working k) (c.requires.ready.working k))
+    (unpinned_kept names c.args.store.now c.args.caches.now c.forget_named.new.store c.forget_named.new.caches c.requires.ready.retire.tied f.kept (Working k) (c.requires.ready.working k))
 
 pub returns-clause-rule : goal.returns-clause-rule
 returns-clause-rule c =
@@ -64,8 +63,8 @@ returns-clause-rule c =
     let f = c.forget_named.ensures in
     let r = c.replace_each.ensures in
     let e = c.settle.ensures in
-    let sound = c.requires.ready.whole.sound in
-    let consistent = c.requires.ready.whole.consistent in
+    let sound = c.requires.ready.retire.whole.sound in
+    let consistent = c.requires.ready.retire.whole.consistent in
     let saved = c.requires.ready.saved in
     let names = page_names c.args.cache c.args.first.0 c.args.pages in
     let b = c.forget_named.new in
@@ -100,8 +99,8 @@ returns-clause-kept c =
     let u = c.replace_each.new.store in
     let d = c.replace_each.new.caches in
     let f = c.forget_named.ensures.kept in
-    let both = kept_then names names names s a t b u d c.requires.ready.tied (λ x i. i) (λ x i. i) f c.replace_each.ensures.kept in
-    kept_then names [] names s a u d c.settle.new.store c.settle.new.caches c.requires.ready.tied (λ x i. i) (λ x i. absurd i) both c.settle.ensures.kept
+    let both = kept_then names names names s a t b u d c.requires.ready.retire.tied (λ x i. i) (λ x i. i) f c.replace_each.ensures.kept in
+    kept_then names [] names s a u d c.settle.new.store c.settle.new.caches c.requires.ready.retire.tied (λ x i. i) (λ x i. absurd i) both c.settle.ensures.kept
 
 -- each of the pages is one of its segment's in the end
 clean_now : (c : goal.After-settle) → (x : NodeName) → x ∈ page_names c.args.cache c.args.first.0 c.args.pages → IsClean c.settle.new.caches x
@@ -123,26 +122,26 @@ returns-clause-pages c =
     let kept = returns-clause-kept c in
     let room = ap (λ (k : Arena). k.room.nodes) f.same.rest in
     let made = ap (λ (k : Arena). k.made) f.same.rest in
-    let most = like_len a b c.requires.ready.whole.sound (still_like a b f.same) in
-    let whole = whole_copied b c.replace_each.new.caches d f.whole c.args.pages (omega (arith, most, c.requires.room.few)) r.consistent r.stays r.few r.kept.sizes s.rule.nodes s.kept.sound s.kept.sizes in
-    let live = same_live a d c.requires.ready.whole whole kept.sizes in
+    let most = like_len a b c.requires.ready.retire.whole.sound (still_like a b f.same) in
+    let whole = whole_copied b c.replace_each.new.caches d f.whole c.args.pages (omega (arith, most, c.requires.room.few)) r.grows.consistent r.grows.stays r.grows.few r.kept.sizes s.rule.nodes s.kept.sound s.kept.sizes in
+    let live = same_live a d c.requires.ready.retire.whole whole kept.sizes in
     let pages = on_segment names in
     record {
       settles = record {
         settled = s.settled;
         bounded = s.bounded;
-        made = omega (arith, made, s.counters.0, r.made);
+        made = omega (arith, made, s.counters.0, r.grows.made);
         copies = sym (forest_of-copies d) ∙ ap (λ (g : Forest OwnState). g.copies) (returns-clause-rule c).nodes ∙ (settle-counters (replace_pages pages (forest_of a))).copies ∙ replace_pages-copies pages (forest_of a) ∙ forest_of-copies a;
       };
       whole = whole;
       live = live;
       right = λ enough. right_after names c.args.store.now a c.settle.new.store d kept (λ n some i unclean. absurd (false≢true (sym unclean ∙ clean_now c (name_of d n) i n refl)))
           (λ _. bounded_capacity d _ kept.sound.kept.named s.bounded (omega (arith, enough, live)));
-      room = omega (arith, room, s.room, r.room);
+      room = omega (arith, room, s.room, r.grows.room);
     }
 
 pub returns-clause-translations : goal.returns-clause-translations
 returns-clause-translations c =
     let a = c.args.caches.now in
-    replace_replaces a c.args.store.now c.settle.new.caches c.settle.new.store c.requires.ready.whole.sound c.requires.ready.whole.consistent (returns-clause-kept c).tables
+    replace_replaces a c.args.store.now c.settle.new.caches c.settle.new.store c.requires.ready.retire.whole.sound c.requires.ready.retire.whole.consistent (returns-clause-kept c).tables
     (page_names c.args.cache c.args.first.0 c.args.pages) (pages_of (forest_of a) c.args.cache c.args.first.0 c.args.pages c.requires.nodes) (returns-clause-rule c).nodes (returns-clause-rule c).frames

@@ -31,8 +31,8 @@ loop-page-init c =
       nodes = ap (λ es. rule_move_pages Zero es (forest_of a)) (sym all);
       forest = λ told size fit. let w = world told size a c.args.store.now in ap (λ es. rule_move_pages (zeros_told w) es (store_forest w)) (sym all);
       frames = ap (λ es. rule_move_pages None es (frame_forest a c.args.store.now.map)) (sym all);
-      kept = kept_none [] c.args.store.now a c.requires.whole.sound c.requires.tied;
-      consistent = c.requires.whole.consistent;
+      kept = kept_none [] c.args.store.now a c.requires.retire.whole.sound c.requires.retire.tied;
+      consistent = c.requires.retire.whole.consistent;
       can = subst (CanCopy (forest_of a)) all c.requires.can;
       stays = λ x is. is;
       room = omega arith;
@@ -53,19 +53,19 @@ pub move_one-requires-clause-unpinned : goal.move_one-requires-clause-unpinned
 move_one-requires-clause-unpinned c =
     let s = c.args.span in
     let x = page_name s.to (s.to_page.0 + c.loop-page.page) in
-    unpinned_kept [] c.args.store.now c.args.caches.now c.loop-page.store c.loop-page.caches c.requires.tied c.loop-page.invariant.kept x (c.requires.unpinned x (is_destination s c.loop-page.page c.loop-page-test.true))
+    unpinned_kept [] c.args.store.now c.args.caches.now c.loop-page.store c.loop-page.caches c.requires.retire.tied c.loop-page.invariant.kept x (c.requires.retire.unpinned x (is_destination s c.loop-page.page c.loop-page-test.true))
 
 pub move_one-requires-clause-unclean : goal.move_one-requires-clause-unclean
 move_one-requires-clause-unclean c =
     let s = c.args.span in
     let x = page_name s.to (s.to_page.0 + c.loop-page.page) in
-    unclean_kept [] c.args.store.now c.args.caches.now c.loop-page.store c.loop-page.caches c.requires.tied c.loop-page.invariant.kept x (λ i. i) (c.requires.unclean x (is_destination s c.loop-page.page c.loop-page-test.true))
+    unclean_kept [] c.args.store.now c.args.caches.now c.loop-page.store c.loop-page.caches c.requires.retire.tied c.loop-page.invariant.kept x (λ i. i) (c.requires.unclean x (is_destination s c.loop-page.page c.loop-page-test.true))
 
 pub move_one-requires-clause-source : goal.move_one-requires-clause-source
 move_one-requires-clause-source c =
     let s = c.args.span in
     let x = page_name s.from (s.from_page.0 + c.loop-page.page) in
-    unpinned_kept [] c.args.store.now c.args.caches.now c.loop-page.store c.loop-page.caches c.requires.tied c.loop-page.invariant.kept x (c.requires.sources x (is_source s c.loop-page.page c.loop-page-test.true))
+    unpinned_kept [] c.args.store.now c.args.caches.now c.loop-page.store c.loop-page.caches c.requires.retire.tied c.loop-page.invariant.kept x (c.requires.sources x (is_source s c.loop-page.page c.loop-page-test.true))
 
 pub loop-page-preserved : goal.loop-page-preserved
 loop-page-preserved c =
@@ -93,7 +93,7 @@ loop-page-preserved c =
           (e.rule.forest told size one.tied ∙ ap (λ (n : ℕ). move_page (store_forest w) d o (option_map (λ _. replicate n 0) told)) one.page)
           ∙ i.forest told size fit;
       frames = moved_by None (frame_forest a t.map) s.from s.from_page.0 s.to s.to_page.0 s.pages k low (frame_forest b u.map) e.rule.frames ∙ i.frames;
-      kept = kept_both r z t a u b c.requires.tied i.kept e.kept;
+      kept = kept_both r z t a u b c.requires.retire.tied i.kept e.kept;
       consistent = subst IsConsistent (sym e.rule.nodes) (move_page-consistent f i.consistent d o pages Zero);
       can = can_move_by Zero f s.from s.from_page.0 s.to s.to_page.0 s.pages k low i.consistent i.can (forest_of b) e.rule.nodes;
       stays = λ x is. subst (λ g. IsNode g x) (sym e.rule.nodes) (move_page_stays f i.consistent d o pages Zero x (i.stays x is));
@@ -114,4 +114,16 @@ returns-clause-rule c =
       nodes = ap (λ es. rule_move_pages Zero es (forest_of a)) (sym none) ∙ i.nodes;
       forest = λ told size fit. ap (λ es. rule_move_pages (zeros_told (world told size c.args.caches.now c.args.store.now)) es (store_forest (world told size a t))) (sym none) ∙ i.forest told size fit;
       frames = ap (λ es. rule_move_pages None es (frame_forest a t.map)) (sym none) ∙ i.frames;
+    }
+
+pub returns-clause-grows : goal.returns-clause-grows
+returns-clause-grows c =
+    let i = c.loop-page.invariant in
+    let end = c.loop-page.auto.page-end in
+    record {
+      consistent = i.consistent;
+      stays = i.stays;
+      made = omega (arith, i.made, end);
+      room = omega (arith, i.room, end);
+      few = omega (arith, i.few, end);
     }
