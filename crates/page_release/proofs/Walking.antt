@@ -8,3 +8,5 @@ pub mod Ranges
 pub mod Replacing
 -- What a command needs is there still when its pages were forgotten.
 pub mod Forgetting
+-- A command settled, and each page has a node still.
+pub mod Settled

@@ -18,7 +18,7 @@ use Rattle.local_cache.specs.Sound.{IsSound}
 use Rattle.local_cache.specs.Whole.{IsWhole}
 use Rattle.residency.specs.declared.store.Store.{Store}
 use Rattle.page_release.specs.Homes.{AreSaved, IsWritable}
-use Rattle.page_release.specs.Steps.{IsStoreTied, IsUnpinned, IsWorkingUnpinned, StaysRight}
+use Rattle.page_release.specs.Steps.{AreUnpinned, IsStoreTied, IsWorkingUnpinned, StaysRight}
 
 -- The nodes of these names may be retired, one after the other.
 --     unpinned   no pinned frame is that of one of them
@@ -26,7 +26,7 @@ use Rattle.page_release.specs.Steps.{IsStoreTied, IsUnpinned, IsWorkingUnpinned,
 pub record CanRetire (nodes : ℕ) (names : List NodeName) (s : Store) (a : Arena) : Type 0 where
   pub tied : IsStoreTied s a
   pub whole : IsWhole a
-  pub unpinned : (x : NodeName) → x ∈ names → IsUnpinned s a x
+  pub unpinned : AreUnpinned s a names
   pub made : a.made + nodes < 2 ^ 63
 
 -- The pages of these names, all of one cache, may be replaced or taken away.

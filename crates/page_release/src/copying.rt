@@ -11,7 +11,7 @@ ghost use Rattle.vm_ids.specs.Forest.Shape.{IsConsistent};
 ghost use Rattle.local_cache.specs.Reading.{forest_of};
 ghost use Rattle.local_cache.specs.Sound.{IsSound};
 ghost use Rattle.page_release.specs.Commands.{CanReplace, CanRetire, CanTransfer, Grows, HasRoom, KeepsPages};
-ghost use Rattle.page_release.specs.Homes.{IsUnclean};
+ghost use Rattle.page_release.specs.Homes.{AreUnclean, IsUnclean};
 ghost use Rattle.page_release.specs.Readings.{GoesBy};
 ghost use Rattle.page_release.specs.Steps.{IsStoreTied, IsUnpinned, Kept, Releases};
 ghost use Rattle.page_release.specs.Translating.{Leaves, Replaces};
@@ -68,7 +68,7 @@ fn copy_each(store: &mut Store, caches: &mut Caches, span: Span)
         × (span.to_page.0 + span.pages < 2 ^ 32) }
     requires retire { CanRetire (2 * span.pages) (firsts (span_pairs span))
         store.old caches.old }
-    requires unclean { (x : NodeName) → x ∈ firsts (span_pairs span) → IsUnclean caches.old x }
+    requires unclean { AreUnclean caches.old (firsts (span_pairs span)) }
     requires room { HasRoom (2 * span.pages) caches.old }
     ensures rule { GoesBy (λ P put f. rule_copy_pages (leb span.pages small_copy)
         (span_pairs span) f) store.old caches.old store.new caches.new }

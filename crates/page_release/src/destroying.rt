@@ -1,7 +1,6 @@
 // The pages of a cache go, and the store follows.
 ghost use Rattle.std.specs.Prelude.{◌≡◌, ◌+◌, ◌≤◌, false, [], Some, length};
 ghost use Rattle.vm_ids.specs.Forest.Commands.{destroy as rule_destroy, page_names, retire_all};
-ghost use Rattle.vm_ids.specs.declared.node_name.NodeName.{NodeName};
 ghost use Rattle.vm_ids.specs.Forest.NameLists.{◌∈◌};
 ghost use Rattle.vm_ids.specs.Forest.NameMap.{len};
 ghost use Rattle.vm_ids.specs.Forest.Shape.{IsConsistent};
@@ -9,7 +8,7 @@ ghost use Rattle.local_cache.specs.Own.{own_states};
 ghost use Rattle.local_cache.specs.Reading.{forest_of};
 ghost use Rattle.local_cache.specs.Whole.{size_of};
 ghost use Rattle.page_release.specs.Commands.{CanReplace, CanRetire, Empties};
-ghost use Rattle.page_release.specs.Homes.{IsUnclean};
+ghost use Rattle.page_release.specs.Homes.{AreUnclean};
 ghost use Rattle.page_release.specs.Readings.{GoesBy};
 ghost use Rattle.page_release.specs.Steps.{Kept, Releases};
 ghost use Rattle.page_release.specs.Translating.{Leaves, Replaces};
@@ -26,7 +25,7 @@ use vm_ids::{CacheId, PageNo};
 fn retire_pages(store: &mut Store, caches: &mut Caches, cache: CacheId, pages: u32)
     requires pages { size_of caches.old cache.0 ≡ Some pages }
     requires retire { CanRetire pages (page_names cache 0 pages) store.old caches.old }
-    requires unclean { (x : NodeName) → x ∈ page_names cache 0 pages → IsUnclean caches.old x }
+    requires unclean { AreUnclean caches.old (page_names cache 0 pages) }
     ensures rule { GoesBy (λ P put f. retire_all (page_names cache 0 pages) f)
         store.old caches.old store.new caches.new }
     ensures kept { Releases [] store.old caches.old store.new caches.new }

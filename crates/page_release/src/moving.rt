@@ -10,9 +10,9 @@ ghost use Rattle.vm_ids.specs.Forest.Shape.{IsConsistent};
 ghost use Rattle.local_cache.specs.Reading.{forest_of};
 ghost use Rattle.local_cache.specs.Sound.{IsSound};
 ghost use Rattle.page_release.specs.Commands.{CanReplace, CanRetire, CanTransfer, Grows, HasRoom, KeepsPages};
-ghost use Rattle.page_release.specs.Homes.{IsUnclean, is_named};
+ghost use Rattle.page_release.specs.Homes.{AreUnclean, IsUnclean, is_named};
 ghost use Rattle.page_release.specs.Readings.{GoesBy};
-ghost use Rattle.page_release.specs.Steps.{IsStoreTied, IsUnpinned, Kept, Releases};
+ghost use Rattle.page_release.specs.Steps.{AreUnpinned, IsStoreTied, IsUnpinned, Kept, Releases};
 ghost use Rattle.page_release.specs.Translating.{Leaves, Replaces};
 
 use crate::following::follow;
@@ -55,13 +55,12 @@ fn move_one(
 // Each page of the source is moved to the destination, in rising order.
 fn move_each(store: &mut Store, caches: &mut Caches, span: Span)
     requires temporary { is_named caches.old span.from ≡ false }
-    requires sources { (x : NodeName) → x ∈ seconds (span_pairs span)
-        → IsUnpinned store.old caches.old x }
+    requires sources { AreUnpinned store.old caches.old (seconds (span_pairs span)) }
     requires can { CanCopy (forest_of caches.old) (span_pairs span) }
     requires within { (span.from_page.0 + span.pages < 2 ^ 32)
         × (span.to_page.0 + span.pages < 2 ^ 32) }
     requires retire { CanRetire span.pages (firsts (span_pairs span)) store.old caches.old }
-    requires unclean { (x : NodeName) → x ∈ firsts (span_pairs span) → IsUnclean caches.old x }
+    requires unclean { AreUnclean caches.old (firsts (span_pairs span)) }
     requires room { span.pages ≤ caches.old.room.nodes }
     ensures rule { GoesBy (λ P put f. rule_move_pages put.zeros (span_pairs span) f)
         store.old caches.old store.new caches.new }
@@ -83,8 +82,7 @@ fn move_each(store: &mut Store, caches: &mut Caches, span: Span)
 // The move, once no translation leads to a page of either range.
 fn move_and_settle(store: &mut Store, caches: &mut Caches, span: Span)
     requires temporary { is_named caches.old span.from ≡ false }
-    requires sources { (x : NodeName) → x ∈ seconds (span_pairs span)
-        → IsUnpinned store.old caches.old x }
+    requires sources { AreUnpinned store.old caches.old (seconds (span_pairs span)) }
     requires transfer { CanTransfer span caches.old }
     requires ready { CanReplace span.pages span.to (firsts (span_pairs span))
         store.old caches.old }
@@ -108,8 +106,7 @@ fn move_and_settle(store: &mut Store, caches: &mut Caches, span: Span)
 /// their saves: what it has is forgotten first. No translation leads to where a page of either was seen.
 pub fn move_pages(store: &mut Store, caches: &mut Caches, span: Span)
     requires temporary { is_named caches.old span.from ≡ false }
-    requires sources { (x : NodeName) → x ∈ seconds (span_pairs span)
-        → IsUnpinned store.old caches.old x }
+    requires sources { AreUnpinned store.old caches.old (seconds (span_pairs span)) }
     requires transfer { CanTransfer span caches.old }
     requires ready { CanReplace span.pages span.to (firsts (span_pairs span))
         store.old caches.old }

@@ -27,6 +27,7 @@ use Rattle.page_release.proofs.Tying.Sized.{bounded_capacity, right_after, same_
 use Rattle.local_cache.proofs.Whole.Like.{like_len, like_node}
 use Rattle.page_release.proofs.Walking.Ranges.{destination_names, destination_nodes}
 use Rattle.page_release.proofs.Walking.Forgetting.{retire_kept, room_kept}
+use Rattle.page_release.proofs.Walking.Settled.{pages_kept}
 use Rattle.page_release.proofs.copying.copy_and_settle.Goals as goal
 
 pub forget_named-requires-clause-nodes : goal.forget_named-requires-clause-nodes
@@ -110,30 +111,14 @@ pub returns-clause-pages : goal.returns-clause-pages
 returns-clause-pages c =
     let names = firsts (span_pairs c.args.span) in
     let a = c.args.caches.now in
-    let b = c.forget_named.new.caches in
     let d = c.settle.new.caches in
     let f = c.forget_named.ensures in
     let r = c.copy_each.ensures in
-    let s = c.settle.ensures in
+    let e = c.settle.ensures in
     let kept = returns-clause-kept c in
-    let room = ap (λ (k : Arena). k.room.nodes) f.same.rest in
-    let made = ap (λ (k : Arena). k.made) f.same.rest in
-    let most = like_len a b c.requires.ready.retire.whole.sound (still_like a b f.same) in
-    let whole = whole_copied b c.copy_each.new.caches d f.whole (2 * c.args.span.pages) (omega (arith, most, c.requires.room.few)) r.grows.consistent r.grows.stays r.grows.few r.kept.sizes s.rule.nodes s.kept.sound s.kept.sizes in
-    let live = same_live a d c.requires.ready.retire.whole whole kept.sizes in
-    record {
-      settles = record {
-        settled = s.settled;
-        bounded = s.bounded;
-        made = omega (arith, made, s.counters.0, r.grows.made);
-        copies = sym (forest_of-copies d) ∙ ap (λ (g : Forest OwnState). g.copies) (returns-clause-rule c).nodes ∙ copy_counts_saves false (span_pairs c.args.span) (forest_of a) ∙ forest_of-copies a;
-      };
-      whole = whole;
-      live = live;
-      right = λ enough. right_after names c.args.store.now a c.settle.new.store d kept (writable_after names a d kept.sizes c.requires.transfer.granted)
-          (λ _. bounded_capacity d _ kept.sound.kept.named s.bounded (omega (arith, enough, live)));
-      room = omega (arith, room, s.room, r.grows.room);
-    }
+    pages_kept (2 * c.args.span.pages) names c.args.store.now a c.forget_named.new.caches c.copy_each.new.caches c.settle.new.store d kept c.requires.ready.retire.whole c.requires.room f.same
+    f.whole r.grows r.kept.sizes e.rule.nodes e.kept.sound e.kept.sizes e.settled e.bounded e.counters.0 e.room
+    (writable_after names a d kept.sizes c.requires.transfer.granted) (ap (λ (g : Forest OwnState). g.copies) (returns-clause-rule c).nodes ∙ copy_counts_saves false (span_pairs c.args.span) (forest_of a))
 
 pub returns-clause-translations : goal.returns-clause-translations
 returns-clause-translations c =

@@ -19,7 +19,8 @@ use Rattle.residency.specs.StoreForest.{store_forest}
 use Rattle.residency.specs.World.{world}
 use Rattle.residency.proofs.Worlds.Nodes.{still_like}
 use Rattle.page_release.specs.Homes.{HasHome, IsClean, named_page}
-use Rattle.page_release.specs.Steps.{forgotten_where, in_no_frame, on_segment, segment_pages, zeros_told}
+use Rattle.page_release.specs.Readings.{held_pages, new_frames, new_pages, new_states}
+use Rattle.page_release.specs.Steps.{forgotten_where, zeros_told}
 use Rattle.page_release.proofs.Framing.Shape.{frame_consistent, frame_pages, frame_saved}
 use Rattle.page_release.proofs.Freeing.Commands.{replace_replaces}
 use Rattle.page_release.proofs.Tying.Kept.{kept_then, unpinned_kept}
@@ -29,6 +30,7 @@ use Rattle.page_release.proofs.Tying.Sized.{bounded_capacity, right_after, same_
 use Rattle.local_cache.proofs.Whole.Like.{like_len, like_node}
 use Rattle.page_release.proofs.Walking.Replacing.{clean_then, pages_of, replace_forgotten, segment_pages_same}
 use Rattle.page_release.proofs.Walking.Forgetting.{retire_kept}
+use Rattle.page_release.proofs.Walking.Settled.{pages_kept}
 use Rattle.page_release.proofs.invalidating.invalidate_and_settle.Goals as goal
 
 pub replace_each-requires-clause-named : goal.replace_each-requires-clause-named
@@ -72,7 +74,7 @@ returns-clause-rule c =
     let there = pages_of (forest_of a) c.args.cache c.args.first.0 c.args.pages c.requires.nodes in
     record {
       nodes =
-          e.rule.nodes ∙ ap settle (r.rule.nodes ∙ ap (replace_pages (on_segment names)) (f.rule.nodes ∙ ap (λ k. forgotten_where k names Zero (forest_of a)) named))
+          e.rule.nodes ∙ ap settle (r.rule.nodes ∙ ap (replace_pages (held_pages new_states names)) (f.rule.nodes ∙ ap (λ k. forgotten_where k names Zero (forest_of a)) named))
           ∙ replace_forgotten (λ _. OnSegment) names (forest_of a) consistent there (saved named) Zero;
       forest = λ told size fit.
           let w = world told size a u in
@@ -80,11 +82,11 @@ returns-clause-rule c =
           let two = (r.kept.gives_back told size one).tied in
           e.rule.forest told size two
           ∙ ap settle (r.rule.forest told size one ∙ ap (λ ps. replace_pages ps (store_forest (world told size b.caches b.store))) (segment_pages_same told size u a b.store b.caches f.kept.sizes names)
-          ∙ ap (replace_pages (segment_pages w names)) (f.rule.forest told size fit ∙ ap (λ k. forgotten_where k names (zeros_told w) (store_forest w)) named))
+          ∙ ap (replace_pages (held_pages (new_pages w) names)) (f.rule.forest told size fit ∙ ap (λ k. forgotten_where k names (zeros_told w) (store_forest w)) named))
           ∙ replace_forgotten (named_page w) names (store_forest w) (store_consistent w sound consistent) (store_pages w sound names there)
           (λ x i. store_saved w sound x (saved named x i)) (zeros_told w);
       frames =
-          e.rule.frames ∙ ap settle (r.rule.frames ∙ ap (replace_pages (in_no_frame names)) (f.rule.frames ∙ ap (λ k. forgotten_where k names None (frame_forest a m)) named))
+          e.rule.frames ∙ ap settle (r.rule.frames ∙ ap (replace_pages (held_pages new_frames names)) (f.rule.frames ∙ ap (λ k. forgotten_where k names None (frame_forest a m)) named))
           ∙ replace_forgotten (λ _. None) names (frame_forest a m) (frame_consistent a m sound consistent) (frame_pages a m sound names there)
           (λ x i. frame_saved a m sound x (saved named x i)) None;
     }
@@ -114,31 +116,14 @@ pub returns-clause-pages : goal.returns-clause-pages
 returns-clause-pages c =
     let names = page_names c.args.cache c.args.first.0 c.args.pages in
     let a = c.args.caches.now in
-    let b = c.forget_named.new.caches in
     let d = c.settle.new.caches in
     let f = c.forget_named.ensures in
     let r = c.replace_each.ensures in
-    let s = c.settle.ensures in
+    let e = c.settle.ensures in
     let kept = returns-clause-kept c in
-    let room = ap (λ (k : Arena). k.room.nodes) f.same.rest in
-    let made = ap (λ (k : Arena). k.made) f.same.rest in
-    let most = like_len a b c.requires.ready.retire.whole.sound (still_like a b f.same) in
-    let whole = whole_copied b c.replace_each.new.caches d f.whole c.args.pages (omega (arith, most, c.requires.room.few)) r.grows.consistent r.grows.stays r.grows.few r.kept.sizes s.rule.nodes s.kept.sound s.kept.sizes in
-    let live = same_live a d c.requires.ready.retire.whole whole kept.sizes in
-    let pages = on_segment names in
-    record {
-      settles = record {
-        settled = s.settled;
-        bounded = s.bounded;
-        made = omega (arith, made, s.counters.0, r.grows.made);
-        copies = sym (forest_of-copies d) ∙ ap (λ (g : Forest OwnState). g.copies) (returns-clause-rule c).nodes ∙ (settle-counters (replace_pages pages (forest_of a))).copies ∙ replace_pages-copies pages (forest_of a) ∙ forest_of-copies a;
-      };
-      whole = whole;
-      live = live;
-      right = λ enough. right_after names c.args.store.now a c.settle.new.store d kept (λ n some i unclean. absurd (false≢true (sym unclean ∙ clean_now c (name_of d n) i n refl)))
-          (λ _. bounded_capacity d _ kept.sound.kept.named s.bounded (omega (arith, enough, live)));
-      room = omega (arith, room, s.room, r.grows.room);
-    }
+    pages_kept c.args.pages names c.args.store.now a c.forget_named.new.caches c.replace_each.new.caches c.settle.new.store d kept c.requires.ready.retire.whole c.requires.room f.same
+    f.whole r.grows r.kept.sizes e.rule.nodes e.kept.sound e.kept.sizes e.settled e.bounded e.counters.0 e.room
+    (λ n some i unclean. absurd (false≢true (sym unclean ∙ clean_now c (name_of d n) i n refl))) (ap (λ (g : Forest OwnState). g.copies) (returns-clause-rule c).nodes ∙ (settle-counters (replace_pages (held_pages new_states names) (forest_of a))).copies ∙ replace_pages-copies (held_pages new_states names) (forest_of a))
 
 pub returns-clause-translations : goal.returns-clause-translations
 returns-clause-translations c =

@@ -21,7 +21,7 @@ use Rattle.residency.specs.Seeing.{frame_forest}
 use Rattle.residency.specs.StoreForest.{store_forest}
 use Rattle.residency.specs.World.{world}
 use Rattle.page_release.specs.Homes.{HasHome, IsClean, named_page}
-use Rattle.page_release.specs.Steps.{in_no_frame, on_segment, segment_pages}
+use Rattle.page_release.specs.Readings.{held_pages, new_frames, new_pages, new_states}
 use Rattle.page_release.proofs.Forgotten.Range.{in_range, names_end, names_start, same_place}
 use Rattle.page_release.proofs.Tying.Kept.{kept_none, kept_then, unclean_kept, unpinned_kept}
 use Rattle.page_release.proofs.Tying.Named.{named_home, named_same}
@@ -34,9 +34,9 @@ loop-page-init c =
     let s = c.args.store.now in
     let start = names_start c.args.cache c.args.first.0 c.args.pages in
     record {
-      nodes = ap (λ xs. replace_pages (on_segment xs) (forest_of a)) (sym start);
-      forest = λ told size fit. let w = world told size a s in ap (λ xs. replace_pages (segment_pages w xs) (store_forest w)) (sym start);
-      frames = ap (λ xs. replace_pages (in_no_frame xs) (frame_forest a s.map)) (sym start);
+      nodes = ap (λ xs. replace_pages (held_pages new_states xs) (forest_of a)) (sym start);
+      forest = λ told size fit. let w = world told size a s in ap (λ xs. replace_pages (held_pages (new_pages w) xs) (store_forest w)) (sym start);
+      frames = ap (λ xs. replace_pages (held_pages new_frames xs) (frame_forest a s.map)) (sym start);
       kept = kept_none (page_names c.args.cache c.args.first.0 c.args.pages) s a c.requires.retire.whole.sound c.requires.retire.tied;
       done = λ i low. absurd (omega (arith, low));
       unclean = λ i low below. c.requires.unclean (page_name c.args.cache (c.args.first.0 + i)) (in_range c.args.cache c.args.first.0 c.args.pages i below);
@@ -116,9 +116,9 @@ returns-clause-rule c =
     let t = c.loop-page.store in
     let none = names_end c.args.cache (c.args.first.0 + c.loop-page.page) c.args.pages c.loop-page.page (omega (arith, c.loop-page-test.false)) in
     record {
-      nodes = ap (λ xs. replace_pages (on_segment xs) (forest_of a)) (sym none) ∙ i.nodes;
-      forest = λ told size fit. ap (λ xs. replace_pages (segment_pages (world told size c.args.caches.now c.args.store.now) xs) (store_forest (world told size a t))) (sym none) ∙ i.forest told size fit;
-      frames = ap (λ xs. replace_pages (in_no_frame xs) (frame_forest a t.map)) (sym none) ∙ i.frames;
+      nodes = ap (λ xs. replace_pages (held_pages new_states xs) (forest_of a)) (sym none) ∙ i.nodes;
+      forest = λ told size fit. ap (λ xs. replace_pages (held_pages (new_pages (world told size c.args.caches.now c.args.store.now)) xs) (store_forest (world told size a t))) (sym none) ∙ i.forest told size fit;
+      frames = ap (λ xs. replace_pages (held_pages new_frames xs) (frame_forest a t.map)) (sym none) ∙ i.frames;
     }
 
 pub returns-clause-clean : goal.returns-clause-clean
