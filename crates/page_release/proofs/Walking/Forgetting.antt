@@ -1,5 +1,5 @@
 -- What a command needs is there still when its pages were forgotten.
-use Rattle.std.proofs.Common.{◌≡◌, ℕ, List, ap, arith}
+use Rattle.std.proofs.Common.{ℕ, List, ap, arith}
 use Rattle.vm_ids.specs.declared.node_name.NodeName.{NodeName}
 use Rattle.local_cache.specs.Arena.{Arena}
 use Rattle.local_cache.specs.Sound.{IsSound}
@@ -9,7 +9,7 @@ use Rattle.residency.specs.declared.store.Store.{Store}
 use Rattle.residency.specs.World.{SameNodes}
 use Rattle.residency.proofs.Worlds.Nodes.{still_like}
 use Rattle.page_release.specs.Commands.{CanRetire, HasRoom}
-use Rattle.page_release.specs.Steps.{IsStoreTied, Releases}
+use Rattle.page_release.specs.Steps.{Releases}
 use Rattle.page_release.proofs.Tying.Kept.{unpinned_kept}
 
 module _ (a b : Arena) (same : SameNodes a b) (nodes : ℕ) where

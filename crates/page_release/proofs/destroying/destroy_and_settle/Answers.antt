@@ -1,7 +1,7 @@
 use Rattle.std.proofs.Common.{◌≡◌, ◌≤◌, ℕ, [], None, length, ap, ◌∙◌, arith, false, sym}
 use Rattle.vm_ids.proofs.Forest.Laws.Commands.{destroy_counts_saves}
 use Rattle.vm_ids.specs.Forest.Nodes.{Forest}
-use Rattle.vm_ids.specs.Forest.Commands.{destroy as rule_destroy, page_names, retire_all}
+use Rattle.vm_ids.specs.Forest.Commands.{page_names, retire_all}
 use Rattle.vm_ids.specs.Forest.Settling.{settle}
 use Rattle.vm_ids.specs.declared.node_name.NodeName.TheVariants.{Working}
 use Rattle.local_cache.specs.declared.own_state.OwnState.{OwnState}

@@ -1,4 +1,4 @@
-use Rattle.std.proofs.Common.{◌≡◌, [], ◌+◌, None, arith, sym, refl, ap, ◌∙◌, subst}
+use Rattle.std.proofs.Common.{[], ◌+◌, None, arith, sym, refl, ap, ◌∙◌, subst}
 use Rattle.vm_ids.proofs.Forest.Counters.{replace_pages-copies, settle-counters}
 use Rattle.std.proofs.lemmas.Bool.{false≢true}
 use Rattle.vm_ids.proofs.Forest.Laws.Ranges.{ranges_hold_their_pages}
@@ -12,8 +12,6 @@ use Rattle.local_cache.specs.declared.own_state.OwnState.{OwnState}
 use Rattle.local_cache.specs.declared.own_state.OwnState.TheVariants.{OnSegment, Zero}
 use Rattle.local_cache.specs.Arena.{Arena}
 use Rattle.local_cache.specs.Reading.{forest_of, name_of}
-use Rattle.local_cache.proofs.Changes.SameNodes.{forest_of-copies}
-use Rattle.local_cache.proofs.Whole.Commands.{whole_copied}
 use Rattle.residency.specs.Seeing.{frame_forest}
 use Rattle.residency.specs.StoreForest.{store_forest}
 use Rattle.residency.specs.World.{world}
@@ -26,8 +24,7 @@ use Rattle.page_release.proofs.Freeing.Commands.{replace_replaces}
 use Rattle.page_release.proofs.Tying.Kept.{kept_then, unpinned_kept}
 use Rattle.page_release.proofs.Tying.Named.{named_home, named_same}
 use Rattle.page_release.proofs.Tying.Shape.{store_consistent, store_pages, store_saved}
-use Rattle.page_release.proofs.Tying.Sized.{bounded_capacity, right_after, same_live}
-use Rattle.local_cache.proofs.Whole.Like.{like_len, like_node}
+use Rattle.local_cache.proofs.Whole.Like.{like_node}
 use Rattle.page_release.proofs.Walking.Replacing.{clean_then, pages_of, replace_forgotten, segment_pages_same}
 use Rattle.page_release.proofs.Walking.Forgetting.{retire_kept}
 use Rattle.page_release.proofs.Walking.Settled.{pages_kept}

@@ -1,4 +1,4 @@
-use Rattle.std.proofs.Common.{◌≡◌, [], ℕ, None, arith, false, sym, ap, ◌∙◌, subst}
+use Rattle.std.proofs.Common.{[], ℕ, None, arith, false, sym, ap, ◌∙◌, subst}
 use Rattle.std.specs.Prelude.{option_map, replicate}
 use Rattle.vm_ids.proofs.Forest.Laws.Commands.{move_counts_saves, still_can}
 use Rattle.vm_ids.specs.declared.node_name.NodeName.TheVariants.{Working}
@@ -10,8 +10,6 @@ use Rattle.local_cache.specs.declared.own_state.OwnState.{OwnState}
 use Rattle.local_cache.specs.declared.own_state.OwnState.TheVariants.{Zero}
 use Rattle.local_cache.specs.Arena.{Arena}
 use Rattle.local_cache.specs.Reading.{forest_of}
-use Rattle.local_cache.proofs.Changes.SameNodes.{forest_of-copies}
-use Rattle.local_cache.proofs.Whole.Commands.{whole_copied}
 use Rattle.residency.specs.Seeing.{frame_forest}
 use Rattle.residency.specs.StoreForest.{store_forest}
 use Rattle.residency.specs.World.{world}
@@ -25,8 +23,7 @@ use Rattle.page_release.proofs.Tying.Homes.{writable_after}
 use Rattle.page_release.proofs.Tying.Kept.{kept_both, kept_then, unpinned_kept}
 use Rattle.page_release.proofs.Tying.Named.{named_same}
 use Rattle.page_release.proofs.Tying.Shape.{store_can, store_consistent, store_saved}
-use Rattle.page_release.proofs.Tying.Sized.{bounded_capacity, right_after, same_live}
-use Rattle.local_cache.proofs.Whole.Like.{like_len, like_node}
+use Rattle.local_cache.proofs.Whole.Like.{like_node}
 use Rattle.page_release.proofs.Walking.Ranges.{destination_names, destination_nodes}
 use Rattle.page_release.proofs.Walking.Forgetting.{retire_kept}
 use Rattle.page_release.proofs.Walking.Settled.{pages_kept}

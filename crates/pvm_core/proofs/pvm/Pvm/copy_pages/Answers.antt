@@ -232,12 +232,14 @@ copy_pages-requires-clause-ready g c =
     } in
     let tied = tied_right k None j.caches j.store valid.right in
     record {
-      tied = tied;
-      whole = sound.nodes;
-      unpinned = λ x is. unpinned_names j.caches j.store j.contexts.actors sound.locked (replaced s) out.unlocked x (subst (λ (xs : List NodeName). x ∈ xs) (destination_names s) is);
+      retire = record {
+        tied = tied;
+        whole = sound.nodes;
+        unpinned = λ x is. unpinned_names j.caches j.store j.contexts.actors sound.locked (replaced s) out.unlocked x (subst (λ (xs : List NodeName). x ∈ xs) (destination_names s) is);
+        made = omega (arith, keeps.made, c.requires.made, ap numbered c.self.view_is, sound.few, sound.counted, size_le j.caches s.from.0 out.from out.from_is, out.from_ends);
+      };
       saved = subst (AreSaved j.caches s.to) (sym (destination_names s)) ready.saved_now;
       working = working_unpinned j.caches j.store j.contexts.actors sound.locked;
-      made = omega (arith, keeps.made, c.requires.made, ap numbered c.self.view_is, sound.few, sound.counted, size_le j.caches s.from.0 out.from out.from_is, out.from_ends);
     }
 
 pub copy_pages-requires-clause-room : goal.copy_pages-requires-clause-room
@@ -414,7 +416,7 @@ returns-clause-valid g c =
     let from = sized_table (table_of j.caches s.from.0) out.from out.from_is in
     let to = sized_table (table_of j.caches s.to.0) out.to out.to_is in
     let right = e.pages.right (slots_enough j.caches d j.store u j.contexts j.live sound e.kept.sizes e.kept.gives_back tied e.pages.whole) in
-    copied_valid j.caches j.store j.contexts j.live sound s out from.0 to.0 from.1 to.1 from.2 to.2 d u e.kept.sizes e.kept.gives_back tied e.pages.whole k valid right e.forest
+    copied_valid j.caches j.store j.contexts j.live sound s out from.0 to.0 from.1 to.1 from.2 to.2 d u e.kept.sizes e.kept.gives_back tied e.pages.whole k valid right e.rule.forest
 
 pub returns-clause-answers : goal.returns-clause-answers
 returns-clause-answers g c =
@@ -462,11 +464,11 @@ returns-clause-answers g c =
     let answer : Answer = Ok replies.Done in
     let rises = rises_between (length keeps.reach.pushes) before after in
     let may : (sg : Segments) → segments_of k ≡ Some sg → is_any_denied (machine_of b k) sg s ≡ false = λ sg e. undenied_range b k sound.nodes valid.right s out.to out.to_is out.to_ends ready.writable (forest_of b k) k sg refl e in
-    let now = copied_valid j.caches j.store j.contexts j.live sound s out from.0 to.0 from.1 to.1 from.2 to.2 d u e.kept.sizes e.kept.gives_back tied e.pages.whole k valid right e.forest in
+    let now = copied_valid j.caches j.store j.contexts j.live sound s out from.0 to.0 from.1 to.1 from.2 to.2 d u e.kept.sizes e.kept.gives_back tied e.pages.whole k valid right e.rule.forest in
     let named = named_machine p (forest_of p h) s.to.0 in
     let outcome : OutcomeAt (segments_of k) (machine_of p h) (Some (forest_of p h)) (commands.Copy s) answer (machine_of z k) rises
-    = subst (λ (m : Machine). OutcomeAt (segments_of k) m (Some (forest_of p h)) (commands.Copy s) answer (machine_of z k) rises) keeps.machine (copied_outcome j.caches j.store j.contexts j.live sound s out from.0 to.0 from.1 to.1 from.2 to.2 d u e.kept.sizes e.kept.gives_back tied e.pages.whole k valid right e.forest (forest_of p h) rises may) in
-    let follows : forest_of z k ≡ forest_after (forest_of p h) (machine_of p h) (commands.Copy s) answer (machine_of z k) = copy_follows j.caches j.store j.contexts j.live sound s out from.0 to.0 from.1 to.1 from.2 to.2 d u e.kept.sizes e.kept.gives_back tied e.pages.whole k valid right e.forest (is_named i.caches s.to.0) (forest_of p h) ready.forest ∙ (λ x. copy (sym named x) (span_pairs s) (forest_of p h)) in
+    = subst (λ (m : Machine). OutcomeAt (segments_of k) m (Some (forest_of p h)) (commands.Copy s) answer (machine_of z k) rises) keeps.machine (copied_outcome j.caches j.store j.contexts j.live sound s out from.0 to.0 from.1 to.1 from.2 to.2 d u e.kept.sizes e.kept.gives_back tied e.pages.whole k valid right e.rule.forest (forest_of p h) rises may) in
+    let follows : forest_of z k ≡ forest_after (forest_of p h) (machine_of p h) (commands.Copy s) answer (machine_of z k) = copy_follows j.caches j.store j.contexts j.live sound s out from.0 to.0 from.1 to.1 from.2 to.2 d u e.kept.sizes e.kept.gives_back tied e.pages.whole k valid right e.rule.forest (is_named i.caches s.to.0) (forest_of p h) ready.forest ∙ (λ x. copy (sym named x) (span_pairs s) (forest_of p h)) in
     subst (λ (p : Manager). CallIs before after (state_at p h) (commands.Copy s) answer (state_at z k)) c.self.view_is
     (call_is before after p z h k (commands.Copy s) answer keeps.reach now tt tt follows outcome)
 

@@ -232,15 +232,17 @@ destroy_pages-requires-clause-ready g c =
     let size2 : size_of j.caches c.args.cache.0 ≡ Some pages = keeps.same.sizes c.args.cache.0 ∙ size in
     let free2 : list_any (maps_in c.args.cache.0) j.contexts.actors ≡ false = subst (λ (m : Machine). is_mapped m c.args.cache.0 ≡ false) (sym keeps.machine) free in
     record {
-      tied = tied;
-      whole = sound.nodes;
-      unpinned = λ x is.
-          let at = (ranges_hold_their_pages c.args.cache 0 pages x).0 is in
-          let page = 0 + at.0 in
-          subst (IsUnpinned j.store j.caches) (sym at.2) (unpinned_page j.caches j.store j.contexts.actors sound.locked c.args.cache (record { 0 = page }) (ap is_locked (sound.locked.counted c.args.cache.0 page ∙ over_none c.args.cache.0 page j.contexts.actors free2)));
+      retire = record {
+        tied = tied;
+        whole = sound.nodes;
+        unpinned = λ x is.
+            let at = (ranges_hold_their_pages c.args.cache 0 pages x).0 is in
+            let page = 0 + at.0 in
+            subst (IsUnpinned j.store j.caches) (sym at.2) (unpinned_page j.caches j.store j.contexts.actors sound.locked c.args.cache (record { 0 = page }) (ap is_locked (sound.locked.counted c.args.cache.0 page ∙ over_none c.args.cache.0 page j.contexts.actors free2)));
+        made = omega (arith, keeps.made, c.requires.made, ap numbered c.self.view_is, sound.few, sound.counted, size_le j.caches c.args.cache.0 pages size2);
+      };
       saved = written.saved_now;
       working = working_unpinned j.caches j.store j.contexts.actors sound.locked;
-      made = omega (arith, keeps.made, c.requires.made, ap numbered c.self.view_is, sound.few, sound.counted, size_le j.caches c.args.cache.0 pages size2);
     }
 
 pub destroy_pages-requires-clause-pages : goal.destroy_pages-requires-clause-pages
@@ -413,7 +415,7 @@ returns-clause-valid g c =
     let t = sized_table (table_of j.caches c.args.cache.0) pages size2 in
     let bounded = subst IsBounded (sym r.forest) e.empties.settles.bounded in
     let z : Manager = seen d b.store j.contexts in
-    taken_valid j.caches b.caches d j.store b.store j.contexts j.live c.args.cache pages sound size2 free2 e.kept.sizes e.kept.gives_back tied r.changed whole bounded k valid e.empties.right e.forest e.kept.sound.kept.listed e.empties.empty t.0 t.1 t.2
+    taken_valid j.caches b.caches d j.store b.store j.contexts j.live c.args.cache pages sound size2 free2 e.kept.sizes e.kept.gives_back tied r.changed whole bounded k valid e.empties.right e.rule.forest e.kept.sound.kept.listed e.empties.empty t.0 t.1 t.2
 
 pub returns-clause-answers : goal.returns-clause-answers
 returns-clause-answers g c =
@@ -456,13 +458,13 @@ returns-clause-answers g c =
     let many : pages_in (cache_of (machine_of p h) c.args.cache.0) ≡ pages = touched p m h k before after c.args.cache pages keeps c.self.invariant.sound.nodes sound.nodes valid t0.0 t0.1 t0.2 (λ f. free) (forest_of p h) in
     let named = named_machine p (forest_of p h) c.args.cache.0 in
     let after_is : forest_of z k ≡ forest_after (forest_of p h) (machine_of p h) command answer (machine_of z k)
-    = follows j.caches b.caches d j.store b.store j.contexts j.live c.args.cache pages sound size2 free2 e.kept.sizes e.kept.gives_back tied r.changed whole bounded k valid e.empties.right e.forest e.kept.sound.kept.listed e.empties.empty t.0 t.1 t.2 (is_named i.caches c.args.cache.0) (forest_of p h) written.forest
+    = follows j.caches b.caches d j.store b.store j.contexts j.live c.args.cache pages sound size2 free2 e.kept.sizes e.kept.gives_back tied r.changed whole bounded k valid e.empties.right e.rule.forest e.kept.sound.kept.listed e.empties.empty t.0 t.1 t.2 (is_named i.caches c.args.cache.0) (forest_of p h) written.forest
     ∙ ap (λ (n : ℕ). destroy (is_named i.caches c.args.cache.0) (page_names c.args.cache 0 n) (forest_of p h)) (sym many)
     ∙ ap (λ (x : Bool). destroy x (page_names c.args.cache 0 (pages_in (cache_of (machine_of p h) c.args.cache.0))) (forest_of p h)) (sym named) in
     let outcome : OutcomeAt (segments_of k) (machine_of p h) (Some (forest_of p h)) command answer (machine_of z k) rises
-    = subst (λ (m : Machine). OutcomeAt (segments_of k) m (Some (forest_of p h)) command answer (machine_of z k) rises) keeps.machine (taken j.caches b.caches d j.store b.store j.contexts j.live c.args.cache pages sound size2 free2 e.kept.sizes e.kept.gives_back tied r.changed whole bounded k valid e.empties.right e.forest e.kept.sound.kept.listed e.empties.empty t.0 t.1 t.2 (forest_of p h) rises) in
+    = subst (λ (m : Machine). OutcomeAt (segments_of k) m (Some (forest_of p h)) command answer (machine_of z k) rises) keeps.machine (taken j.caches b.caches d j.store b.store j.contexts j.live c.args.cache pages sound size2 free2 e.kept.sizes e.kept.gives_back tied r.changed whole bounded k valid e.empties.right e.rule.forest e.kept.sound.kept.listed e.empties.empty t.0 t.1 t.2 (forest_of p h) rises) in
     subst (λ (p : Manager). CallIs before after (state_at p h) command answer (state_at z k)) c.self.view_is
-    (call_is before after p z h k command answer keeps.reach (taken_valid j.caches b.caches d j.store b.store j.contexts j.live c.args.cache pages sound size2 free2 e.kept.sizes e.kept.gives_back tied r.changed whole bounded k valid e.empties.right e.forest e.kept.sound.kept.listed e.empties.empty t.0 t.1 t.2) tt
+    (call_is before after p z h k command answer keeps.reach (taken_valid j.caches b.caches d j.store b.store j.contexts j.live c.args.cache pages sound size2 free2 e.kept.sizes e.kept.gives_back tied r.changed whole bounded k valid e.empties.right e.rule.forest e.kept.sound.kept.listed e.empties.empty t.0 t.1 t.2) tt
     (subst (λ (n : ℕ). ArePushed (machine_of p h) (segments_of k) c.args.cache.0 0 n) (let e : 0 + pages ≡ pages = omega arith in e ∙ sym many) written.pushed) after_is outcome)
 
 pub returns-clause-made : goal.returns-clause-made

@@ -194,13 +194,15 @@ invalidate_pages-requires-clause-ready g c =
     (subst (λ (m : Manager). IsValid m z) view c.save.ensures.valid) (subst (λ (m : Manager). KeepsMachine (seen b i.store i.contexts) m h z before after) view c.save.ensures.keeps)
     (ap (λ (m : Manager). m.caches.caches) c.self-2.view_is ∙ c.save.ensures.tables) (ap (λ (m : Manager). forest_of m z) c.self-2.view_is ∙ c.in-Ok.ensures.saved) in
     record {
-      tied = tied_right z None j.caches j.store ready.valid.right;
-      whole = k.nodes;
-      unpinned = unpinned_names j.caches j.store j.contexts.actors k.locked c.args.extent
-          (same_locked p (seen j.caches j.store j.contexts) c.self.invariant.sound.locked.counted k.locked.counted ready.by c.args.extent ∙ extent_unlocked (table_of i.caches c.args.extent.cache.0) c.args.extent (any_locked i.caches c.args.extent) (sym c.extent_refusal.ensures ∙ c.in_default.is));
+      retire = record {
+        tied = tied_right z None j.caches j.store ready.valid.right;
+        whole = k.nodes;
+        unpinned = unpinned_names j.caches j.store j.contexts.actors k.locked c.args.extent
+            (same_locked p (seen j.caches j.store j.contexts) c.self.invariant.sound.locked.counted k.locked.counted ready.by c.args.extent ∙ extent_unlocked (table_of i.caches c.args.extent.cache.0) c.args.extent (any_locked i.caches c.args.extent) (sym c.extent_refusal.ensures ∙ c.in_default.is));
+        made = omega (arith, ready.made, c.requires.made, ap numbered c.self.view_is, k.few, k.counted, size_le j.caches c.args.extent.cache.0 (length ready.extent.table.pages) (ap (option_map (λ (t : Table). length t.pages)) ready.extent.there), ready.extent.ends);
+      };
       saved = λ named. taking_saved p h z j.caches j.store j.contexts c.args.extent before after c.self.invariant.sound.nodes ready k.nodes;
       working = working_unpinned j.caches j.store j.contexts.actors k.locked;
-      made = omega (arith, ready.made, c.requires.made, ap numbered c.self.view_is, k.few, k.counted, size_le j.caches c.args.extent.cache.0 (length ready.extent.table.pages) (ap (option_map (λ (t : Table). length t.pages)) ready.extent.there), ready.extent.ends);
     }
 
 pub invalidate_pages-requires-clause-room : goal.invalidate_pages-requires-clause-room
@@ -284,7 +286,7 @@ returns-clause-valid g c =
     let tied = tied_right z None j.caches j.store ready.valid.right in
     let right = e.pages.right (slots_enough j.caches d j.store u j.contexts j.live k e.kept.sizes e.kept.gives_back tied e.pages.whole) in
     taken_valid p h z j.caches d j.store u j.contexts j.live k ready.valid c.args.extent ready.extent
-    (same_locked p (seen j.caches j.store j.contexts) c.self.invariant.sound.locked.counted k.locked.counted ready.by c.args.extent ∙ extent_unlocked (table_of i.caches c.args.extent.cache.0) c.args.extent (any_locked i.caches c.args.extent) (sym c.extent_refusal.ensures ∙ c.in_default.is)) ready.machine ready.by c.self.invariant.sound.nodes old ready.forest e.kept.sizes e.kept.gives_back tied e.pages.whole right e.forest
+    (same_locked p (seen j.caches j.store j.contexts) c.self.invariant.sound.locked.counted k.locked.counted ready.by c.args.extent ∙ extent_unlocked (table_of i.caches c.args.extent.cache.0) c.args.extent (any_locked i.caches c.args.extent) (sym c.extent_refusal.ensures ∙ c.in_default.is)) ready.machine ready.by c.self.invariant.sound.nodes old ready.forest e.kept.sizes e.kept.gives_back tied e.pages.whole right e.rule.forest
 
 pub returns-clause-answers : goal.returns-clause-answers
 returns-clause-answers g c =
@@ -312,7 +314,7 @@ returns-clause-answers g c =
     let right = e.pages.right (slots_enough j.caches d j.store u j.contexts j.live k e.kept.sizes e.kept.gives_back tied e.pages.whole) in
     subst (λ (p : Manager). CallIs before after (state_at p h) (commands.Invalidate c.args.extent) (Ok replies.Done) (state_at (seen d u j.contexts) z)) c.self.view_is
     (taken_is p h z j.caches d j.store u j.contexts j.live k ready.valid c.args.extent ready.extent
-    (same_locked p (seen j.caches j.store j.contexts) c.self.invariant.sound.locked.counted k.locked.counted ready.by c.args.extent ∙ extent_unlocked (table_of i.caches c.args.extent.cache.0) c.args.extent (any_locked i.caches c.args.extent) (sym c.extent_refusal.ensures ∙ c.in_default.is)) ready.machine ready.by c.self.invariant.sound.nodes old ready.forest e.kept.sizes e.kept.gives_back tied e.pages.whole right e.forest before after ready.reach)
+    (same_locked p (seen j.caches j.store j.contexts) c.self.invariant.sound.locked.counted k.locked.counted ready.by c.args.extent ∙ extent_unlocked (table_of i.caches c.args.extent.cache.0) c.args.extent (any_locked i.caches c.args.extent) (sym c.extent_refusal.ensures ∙ c.in_default.is)) ready.machine ready.by c.self.invariant.sound.nodes old ready.forest e.kept.sizes e.kept.gives_back tied e.pages.whole right e.rule.forest before after ready.reach)
 
 pub returns-clause-made : goal.returns-clause-made
 returns-clause-made g c =
@@ -367,4 +369,4 @@ returns-clause-taken g c =
     let tied = tied_right z None j.caches j.store ready.valid.right in
     let right = e.pages.right (slots_enough j.caches d j.store u j.contexts j.live k e.kept.sizes e.kept.gives_back tied e.pages.whole) in
     taken_pushed p h z j.caches d j.store u j.contexts j.live k ready.valid c.args.extent ready.extent
-    (same_locked p (seen j.caches j.store j.contexts) c.self.invariant.sound.locked.counted k.locked.counted ready.by c.args.extent ∙ extent_unlocked (table_of i.caches c.args.extent.cache.0) c.args.extent (any_locked i.caches c.args.extent) (sym c.extent_refusal.ensures ∙ c.in_default.is)) ready.machine ready.by c.self.invariant.sound.nodes old ready.forest e.kept.sizes e.kept.gives_back tied e.pages.whole right e.forest
+    (same_locked p (seen j.caches j.store j.contexts) c.self.invariant.sound.locked.counted k.locked.counted ready.by c.args.extent ∙ extent_unlocked (table_of i.caches c.args.extent.cache.0) c.args.extent (any_locked i.caches c.args.extent) (sym c.extent_refusal.ensures ∙ c.in_default.is)) ready.machine ready.by c.self.invariant.sound.nodes old ready.forest e.kept.sizes e.kept.gives_back tied e.pages.whole right e.rule.forest

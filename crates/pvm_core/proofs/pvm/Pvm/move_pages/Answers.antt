@@ -236,12 +236,14 @@ move_pages-requires-clause-ready g c =
     } in
     let tied = tied_right k None j.caches j.store valid.right in
     record {
-      tied = tied;
-      whole = sound.nodes;
-      unpinned = λ x is. unpinned_names j.caches j.store j.contexts.actors sound.locked (replaced s) out.unlocked x (subst (λ (xs : List NodeName). x ∈ xs) (destination_names s) is);
+      retire = record {
+        tied = tied;
+        whole = sound.nodes;
+        unpinned = λ x is. unpinned_names j.caches j.store j.contexts.actors sound.locked (replaced s) out.unlocked x (subst (λ (xs : List NodeName). x ∈ xs) (destination_names s) is);
+        made = omega (arith, keeps.made, c.requires.made, ap numbered c.self.view_is, sound.few, sound.counted, size_le j.caches s.from.0 out.from out.from_is, out.from_ends);
+      };
       saved = subst (AreSaved j.caches s.to) (sym (destination_names s)) ready.saved_now;
       working = working_unpinned j.caches j.store j.contexts.actors sound.locked;
-      made = omega (arith, keeps.made, c.requires.made, ap numbered c.self.view_is, sound.few, sound.counted, size_le j.caches s.from.0 out.from out.from_is, out.from_ends);
     }
 
 pub move_pages-requires-clause-room : goal.move_pages-requires-clause-room
@@ -473,7 +475,7 @@ returns-clause-valid g c =
     let from = sized_table (table_of j.caches s.from.0) out.from out.from_is in
     let to = sized_table (table_of j.caches s.to.0) out.to out.to_is in
     let right = e.pages.right (slots_enough j.caches d j.store u j.contexts j.live sound e.kept.sizes e.kept.gives_back tied e.pages.whole) in
-    moved_valid j.caches j.store j.contexts j.live sound s out from.0 to.0 from.1 to.1 from.2 to.2 d u e.kept.sizes e.kept.gives_back tied e.pages.whole k valid right e.forest
+    moved_valid j.caches j.store j.contexts j.live sound s out from.0 to.0 from.1 to.1 from.2 to.2 d u e.kept.sizes e.kept.gives_back tied e.pages.whole k valid right e.rule.forest
 
 pub returns-clause-answers : goal.returns-clause-answers
 returns-clause-answers g c =
@@ -521,12 +523,12 @@ returns-clause-answers g c =
     let answer : Answer = Ok replies.Done in
     let rises = rises_between (length keeps.reach.pushes) before after in
     let may : (sg : Segments) → segments_of k ≡ Some sg → is_any_denied (machine_of b k) sg s ≡ false = λ sg e. undenied_range b k sound.nodes valid.right s out.to out.to_is out.to_ends ready.writable (forest_of b k) k sg refl e in
-    let now = moved_valid j.caches j.store j.contexts j.live sound s out from.0 to.0 from.1 to.1 from.2 to.2 d u e.kept.sizes e.kept.gives_back tied e.pages.whole k valid right e.forest in
+    let now = moved_valid j.caches j.store j.contexts j.live sound s out from.0 to.0 from.1 to.1 from.2 to.2 d u e.kept.sizes e.kept.gives_back tied e.pages.whole k valid right e.rule.forest in
     let named = named_machine p (forest_of p h) s.to.0 in
     let outcome : OutcomeAt (segments_of k) (machine_of p h) (Some (forest_of p h)) (commands.Move s) answer (machine_of z k) rises
-    = subst (λ (m : Machine). OutcomeAt (segments_of k) m (Some (forest_of p h)) (commands.Move s) answer (machine_of z k) rises) keeps.machine (moved_outcome j.caches j.store j.contexts j.live sound s out from.0 to.0 from.1 to.1 from.2 to.2 d u e.kept.sizes e.kept.gives_back tied e.pages.whole k valid right e.forest (named_same i.caches j.caches keeps.same s.from.0 ∙ (is_movable (size_of i.caches s.from.0) (size_of i.caches s.to.0) (is_named i.caches s.from.0) (any_locked i.caches (read_from s)) (any_locked i.caches (replaced s)) s (sym c.move_refusal.ensures ∙ c.in_default.is)).1)
+    = subst (λ (m : Machine). OutcomeAt (segments_of k) m (Some (forest_of p h)) (commands.Move s) answer (machine_of z k) rises) keeps.machine (moved_outcome j.caches j.store j.contexts j.live sound s out from.0 to.0 from.1 to.1 from.2 to.2 d u e.kept.sizes e.kept.gives_back tied e.pages.whole k valid right e.rule.forest (named_same i.caches j.caches keeps.same s.from.0 ∙ (is_movable (size_of i.caches s.from.0) (size_of i.caches s.to.0) (is_named i.caches s.from.0) (any_locked i.caches (read_from s)) (any_locked i.caches (replaced s)) s (sym c.move_refusal.ensures ∙ c.in_default.is)).1)
     (same_locked p b c.self.invariant.sound.locked.counted sound.locked.counted keeps.by (read_from s) ∙ (is_movable (size_of i.caches s.from.0) (size_of i.caches s.to.0) (is_named i.caches s.from.0) (any_locked i.caches (read_from s)) (any_locked i.caches (replaced s)) s (sym c.move_refusal.ensures ∙ c.in_default.is)).2) (forest_of p h) rises may) in
-    let follows : forest_of z k ≡ forest_after (forest_of p h) (machine_of p h) (commands.Move s) answer (machine_of z k) = move_follows j.caches j.store j.contexts j.live sound s out from.0 to.0 from.1 to.1 from.2 to.2 d u e.kept.sizes e.kept.gives_back tied e.pages.whole k valid right e.forest c.requires.some (is_named i.caches s.to.0) (forest_of p h) ready.forest ∙ (λ x. move_ (sym named x) (told (unwrap_or (page_in (machine_of z k) s.from.0 s.from_page.0) [])) (span_pairs s) (forest_of p h)) in
+    let follows : forest_of z k ≡ forest_after (forest_of p h) (machine_of p h) (commands.Move s) answer (machine_of z k) = move_follows j.caches j.store j.contexts j.live sound s out from.0 to.0 from.1 to.1 from.2 to.2 d u e.kept.sizes e.kept.gives_back tied e.pages.whole k valid right e.rule.forest c.requires.some (is_named i.caches s.to.0) (forest_of p h) ready.forest ∙ (λ x. move_ (sym named x) (told (unwrap_or (page_in (machine_of z k) s.from.0 s.from_page.0) [])) (span_pairs s) (forest_of p h)) in
     subst (λ (p : Manager). CallIs before after (state_at p h) (commands.Move s) answer (state_at z k)) c.self.view_is
     (call_is before after p z h k (commands.Move s) answer keeps.reach now tt tt follows outcome)
 
