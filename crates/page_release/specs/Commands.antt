@@ -50,8 +50,8 @@ pub record CanTransfer (span : Span) (a : Arena) : Type 0 where
   pub granted : (x : NodeName) → x ∈ firsts (span_pairs span) → IsWritable a x
   pub within : (span.from_page.0 + span.pages < 2 ^ 32) × (span.to_page.0 + span.pages < 2 ^ 32)
 
--- The forest is consistent, and each name of a node names one still. There are so many nodes more at
--- most: so many were numbered, and room was taken for so many.
+-- The forest is consistent, and each name of a node names one still. There are at most so many
+-- nodes more, so many were numbered, and room was taken for so many.
 pub record Grows (nodes : ℕ) (a b : Arena) : Type 0 where
   pub consistent : IsConsistent (forest_of b)
   pub stays : (x : NodeName) → IsNode (forest_of a) x → IsNode (forest_of b) x
