@@ -19,7 +19,7 @@ use Rattle.local_cache.specs.Whole.{segment_of, size_of}
 use Rattle.residency.specs.declared.store.Store.{Store}
 use Rattle.residency.specs.World.{page_at, world}
 use Rattle.page_release.specs.Homes.{named_page}
-use Rattle.page_release.specs.Steps.{segment_pages}
+use Rattle.page_release.specs.Readings.{held_pages, new_pages}
 use Rattle.vm_model.specs.Answering.{held_part, overwrite}
 use Rattle.vm_model.specs.Machine.{Page}
 use Rattle.vm_model.specs.PageForest.{told}
@@ -128,7 +128,7 @@ module _ (b : Arena) (s : Store) (g : Option Held) (e : Extent) (x : IsExtent b 
       ∙ ap (λ (o : Option SegId). option_and_then (λ h. option_and_then (page_at h) (option_map (λ segment. record { segment = segment; page = record { 0 = page } }) o)) g) x.of
 
   -- so the pages of the segments, by their names, are this part
-  pub part_nodes : segment_pages (world g None b s) (extent_names e) ≡ pages_at e.cache e.first.0 (map told (part_for g x.segment e))
+  pub part_nodes : held_pages (new_pages (world g None b s)) (extent_names e) ≡ pages_at e.cache e.first.0 (map told (part_for g x.segment e))
   part_nodes =
       ap (λ (n : ℕ). with_pages (named_page (world g None b s)) (page_names e.cache e.first.0 n)) (sym (part_many g x.segment e))
       ∙ named_pages (named_page (world g None b s)) e.cache e.first.0 (part_for g x.segment e) (λ i p at. name_page (e.first.0 + i) ∙ page_is i p at)

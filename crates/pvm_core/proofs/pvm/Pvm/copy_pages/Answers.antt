@@ -199,8 +199,8 @@ returns-in_err-make_ready-clause-idle g c =
       subst (λ (r : Result _ Trouble). OnErr r (HasMoreRoom c.args.self.now q)) (sym is) idle.2,
     )
 
-pub copy_pages-requires-clause-tied : goal.copy_pages-requires-clause-tied
-copy_pages-requires-clause-tied g c =
+pub copy_pages-requires-clause-ready : goal.copy_pages-requires-clause-ready
+copy_pages-requires-clause-ready g c =
     let i = c.self.inside in
     let s = c.args.span in
     let open0 = is_open (size_of i.caches s.from.0) (size_of i.caches s.to.0) (any_locked i.caches (replaced s)) s (sym c.copy_refusal.ensures ∙ c.in_default.is) in
@@ -211,10 +211,6 @@ copy_pages-requires-clause-tied g c =
     let before = g.M.Mapper.counts c.args.mapper.now in
     let after = g.M.Mapper.counts c.make_ready.new.mapper in
     let p : Manager = seen i.caches i.store i.contexts in
-    let valid0 = (subst (λ (p : Manager). IsValid p h) (sym c.self.view_is) c.requires.valid) in
-    let from0 = sized_table (table_of i.caches s.from.0) open0.from open0.from_is in
-    let to0 = sized_table (table_of i.caches s.to.0) open0.to open0.to_is in
-    let transfer = copied_transfer i.caches i.store i.contexts i.live c.self.invariant.sound s open0 from0.0 to0.0 from0.1 to0.1 from0.2 to0.2 in
     let keeps0 : KeepsMachine p q h k before after = subst (λ (p : Manager). KeepsMachine p q h k before after) (sym c.self.view_is) x0.keeps in
     let j = c.self-2.inside in
     let v2 = c.self-2.view_is in
@@ -235,219 +231,16 @@ copy_pages-requires-clause-tied g c =
       unlocked = same_locked p b c.self.invariant.sound.locked.counted sound.locked.counted keeps.by (replaced s) ∙ open0.unlocked;
     } in
     let tied = tied_right k None j.caches j.store valid.right in
-    tied
-
-pub copy_pages-requires-clause-can : goal.copy_pages-requires-clause-can
-copy_pages-requires-clause-can g c =
-    let i = c.self.inside in
-    let s = c.args.span in
-    let open0 = is_open (size_of i.caches s.from.0) (size_of i.caches s.to.0) (any_locked i.caches (replaced s)) s (sym c.copy_refusal.ensures ∙ c.in_default.is) in
-    let q = c.make_ready.new.self in
-    let x0 = c.make_ready.ensures in
-    let h = g.M.Mapper.held c.args.mapper.now in
-    let k = g.M.Mapper.held c.make_ready.new.mapper in
-    let before = g.M.Mapper.counts c.args.mapper.now in
-    let after = g.M.Mapper.counts c.make_ready.new.mapper in
-    let p : Manager = seen i.caches i.store i.contexts in
-    let valid0 = (subst (λ (p : Manager). IsValid p h) (sym c.self.view_is) c.requires.valid) in
-    let from0 = sized_table (table_of i.caches s.from.0) open0.from open0.from_is in
-    let to0 = sized_table (table_of i.caches s.to.0) open0.to open0.to_is in
-    let transfer = copied_transfer i.caches i.store i.contexts i.live c.self.invariant.sound s open0 from0.0 to0.0 from0.1 to0.1 from0.2 to0.2 in
-    let keeps0 : KeepsMachine p q h k before after = subst (λ (p : Manager). KeepsMachine p q h k before after) (sym c.self.view_is) x0.keeps in
-    let j = c.self-2.inside in
-    let v2 = c.self-2.view_is in
-    let b : Manager = seen j.caches j.store j.contexts in
-    let sound = c.self-2.invariant.sound in
-    let valid : IsValid b k = subst (λ (p : Manager). IsValid p k) (sym v2) x0.valid in
-    let keeps : KeepsMachine p b h k before after = subst (λ (r : Manager). KeepsMachine p r h k before after) (sym v2) keeps0 in
-    let ready : IsReady (replaced s) (2 * c.args.span.pages) p b h k = subst (λ (e : Extent). IsReady e (2 * c.args.span.pages) p b h k) c.destination.ensures
-    (subst (λ (r : Manager). IsReady c.destination.result (2 * c.args.span.pages) p r h k) (sym v2) (subst (λ (p : Manager). IsReady c.destination.result (2 * c.args.span.pages) p q h k) (sym c.self.view_is) c.in_ok-make_ready.ensures.ready)) in
-    let out : IsOpen (size_of j.caches s.from.0) (size_of j.caches s.to.0) (any_locked j.caches (replaced s)) s = record {
-      from = open0.from;
-      to = open0.to;
-      from_is = keeps.same.sizes s.from.0 ∙ open0.from_is;
-      to_is = keeps.same.sizes s.to.0 ∙ open0.to_is;
-      from_ends = open0.from_ends;
-      to_ends = open0.to_ends;
-      apart = open0.apart;
-      unlocked = same_locked p b c.self.invariant.sound.locked.counted sound.locked.counted keeps.by (replaced s) ∙ open0.unlocked;
-    } in
-    let tied = tied_right k None j.caches j.store valid.right in
-    can_copy j.caches sound.nodes s out
-
-pub copy_pages-requires-clause-unpinned : goal.copy_pages-requires-clause-unpinned
-copy_pages-requires-clause-unpinned g c = λ x is.
-    let i = c.self.inside in
-    let j = c.self-2.inside in
-    let s = c.args.span in
-    let q = c.make_ready.new.self in
-    let h = g.M.Mapper.held c.args.mapper.now in
-    let k = g.M.Mapper.held c.make_ready.new.mapper in
-    let before = g.M.Mapper.counts c.args.mapper.now in
-    let after = g.M.Mapper.counts c.make_ready.new.mapper in
-    let p : Manager = seen i.caches i.store i.contexts in
-    let b : Manager = seen j.caches j.store j.contexts in
-    let sound = c.self-2.invariant.sound in
-    let keeps : KeepsMachine p b h k before after = subst (λ (r : Manager). KeepsMachine p r h k before after) (sym c.self-2.view_is) (subst (λ (p : Manager). KeepsMachine p q h k before after) (sym c.self.view_is) c.make_ready.ensures.keeps) in
-    let free : any_locked j.caches (replaced s) ≡ false = same_locked p b c.self.invariant.sound.locked.counted sound.locked.counted keeps.by (replaced s) ∙ (is_open (size_of i.caches s.from.0) (size_of i.caches s.to.0) (any_locked i.caches (replaced s)) s (sym c.copy_refusal.ensures ∙ c.in_default.is)).unlocked in
-    unpinned_names j.caches j.store j.contexts.actors sound.locked (replaced s) free x (subst (λ (xs : List NodeName). x ∈ xs) (destination_names s) is)
-
-pub copy_pages-requires-clause-working : goal.copy_pages-requires-clause-working
-copy_pages-requires-clause-working g c =
-    let j = c.self-2.inside in
-    working_unpinned j.caches j.store j.contexts.actors c.self-2.invariant.sound.locked
-
-pub copy_pages-requires-clause-saved : goal.copy_pages-requires-clause-saved
-copy_pages-requires-clause-saved g c =
-    let i = c.self.inside in
-    let s = c.args.span in
-    let open0 = is_open (size_of i.caches s.from.0) (size_of i.caches s.to.0) (any_locked i.caches (replaced s)) s (sym c.copy_refusal.ensures ∙ c.in_default.is) in
-    let q = c.make_ready.new.self in
-    let x0 = c.make_ready.ensures in
-    let h = g.M.Mapper.held c.args.mapper.now in
-    let k = g.M.Mapper.held c.make_ready.new.mapper in
-    let before = g.M.Mapper.counts c.args.mapper.now in
-    let after = g.M.Mapper.counts c.make_ready.new.mapper in
-    let p : Manager = seen i.caches i.store i.contexts in
-    let valid0 = (subst (λ (p : Manager). IsValid p h) (sym c.self.view_is) c.requires.valid) in
-    let from0 = sized_table (table_of i.caches s.from.0) open0.from open0.from_is in
-    let to0 = sized_table (table_of i.caches s.to.0) open0.to open0.to_is in
-    let transfer = copied_transfer i.caches i.store i.contexts i.live c.self.invariant.sound s open0 from0.0 to0.0 from0.1 to0.1 from0.2 to0.2 in
-    let keeps0 : KeepsMachine p q h k before after = subst (λ (p : Manager). KeepsMachine p q h k before after) (sym c.self.view_is) x0.keeps in
-    let j = c.self-2.inside in
-    let v2 = c.self-2.view_is in
-    let b : Manager = seen j.caches j.store j.contexts in
-    let sound = c.self-2.invariant.sound in
-    let valid : IsValid b k = subst (λ (p : Manager). IsValid p k) (sym v2) x0.valid in
-    let keeps : KeepsMachine p b h k before after = subst (λ (r : Manager). KeepsMachine p r h k before after) (sym v2) keeps0 in
-    let ready : IsReady (replaced s) (2 * c.args.span.pages) p b h k = subst (λ (e : Extent). IsReady e (2 * c.args.span.pages) p b h k) c.destination.ensures
-    (subst (λ (r : Manager). IsReady c.destination.result (2 * c.args.span.pages) p r h k) (sym v2) (subst (λ (p : Manager). IsReady c.destination.result (2 * c.args.span.pages) p q h k) (sym c.self.view_is) c.in_ok-make_ready.ensures.ready)) in
-    let out : IsOpen (size_of j.caches s.from.0) (size_of j.caches s.to.0) (any_locked j.caches (replaced s)) s = record {
-      from = open0.from;
-      to = open0.to;
-      from_is = keeps.same.sizes s.from.0 ∙ open0.from_is;
-      to_is = keeps.same.sizes s.to.0 ∙ open0.to_is;
-      from_ends = open0.from_ends;
-      to_ends = open0.to_ends;
-      apart = open0.apart;
-      unlocked = same_locked p b c.self.invariant.sound.locked.counted sound.locked.counted keeps.by (replaced s) ∙ open0.unlocked;
-    } in
-    let tied = tied_right k None j.caches j.store valid.right in
-    subst (AreSaved j.caches s.to) (sym (destination_names s)) ready.saved_now
-
-pub copy_pages-requires-clause-granted : goal.copy_pages-requires-clause-granted
-copy_pages-requires-clause-granted g c =
-    let i = c.self.inside in
-    let s = c.args.span in
-    let open0 = is_open (size_of i.caches s.from.0) (size_of i.caches s.to.0) (any_locked i.caches (replaced s)) s (sym c.copy_refusal.ensures ∙ c.in_default.is) in
-    let q = c.make_ready.new.self in
-    let x0 = c.make_ready.ensures in
-    let h = g.M.Mapper.held c.args.mapper.now in
-    let k = g.M.Mapper.held c.make_ready.new.mapper in
-    let before = g.M.Mapper.counts c.args.mapper.now in
-    let after = g.M.Mapper.counts c.make_ready.new.mapper in
-    let p : Manager = seen i.caches i.store i.contexts in
-    let valid0 = (subst (λ (p : Manager). IsValid p h) (sym c.self.view_is) c.requires.valid) in
-    let from0 = sized_table (table_of i.caches s.from.0) open0.from open0.from_is in
-    let to0 = sized_table (table_of i.caches s.to.0) open0.to open0.to_is in
-    let transfer = copied_transfer i.caches i.store i.contexts i.live c.self.invariant.sound s open0 from0.0 to0.0 from0.1 to0.1 from0.2 to0.2 in
-    let keeps0 : KeepsMachine p q h k before after = subst (λ (p : Manager). KeepsMachine p q h k before after) (sym c.self.view_is) x0.keeps in
-    let j = c.self-2.inside in
-    let v2 = c.self-2.view_is in
-    let b : Manager = seen j.caches j.store j.contexts in
-    let sound = c.self-2.invariant.sound in
-    let valid : IsValid b k = subst (λ (p : Manager). IsValid p k) (sym v2) x0.valid in
-    let keeps : KeepsMachine p b h k before after = subst (λ (r : Manager). KeepsMachine p r h k before after) (sym v2) keeps0 in
-    let ready : IsReady (replaced s) (2 * c.args.span.pages) p b h k = subst (λ (e : Extent). IsReady e (2 * c.args.span.pages) p b h k) c.destination.ensures
-    (subst (λ (r : Manager). IsReady c.destination.result (2 * c.args.span.pages) p r h k) (sym v2) (subst (λ (p : Manager). IsReady c.destination.result (2 * c.args.span.pages) p q h k) (sym c.self.view_is) c.in_ok-make_ready.ensures.ready)) in
-    let out : IsOpen (size_of j.caches s.from.0) (size_of j.caches s.to.0) (any_locked j.caches (replaced s)) s = record {
-      from = open0.from;
-      to = open0.to;
-      from_is = keeps.same.sizes s.from.0 ∙ open0.from_is;
-      to_is = keeps.same.sizes s.to.0 ∙ open0.to_is;
-      from_ends = open0.from_ends;
-      to_ends = open0.to_ends;
-      apart = open0.apart;
-      unlocked = same_locked p b c.self.invariant.sound.locked.counted sound.locked.counted keeps.by (replaced s) ∙ open0.unlocked;
-    } in
-    let tied = tied_right k None j.caches j.store valid.right in
-    names_written j.caches s ready.writable
-
-pub copy_pages-requires-clause-few : goal.copy_pages-requires-clause-few
-copy_pages-requires-clause-few g c =
-    let i = c.self.inside in
-    let s = c.args.span in
-    let open0 = is_open (size_of i.caches s.from.0) (size_of i.caches s.to.0) (any_locked i.caches (replaced s)) s (sym c.copy_refusal.ensures ∙ c.in_default.is) in
-    let q = c.make_ready.new.self in
-    let x0 = c.make_ready.ensures in
-    let h = g.M.Mapper.held c.args.mapper.now in
-    let k = g.M.Mapper.held c.make_ready.new.mapper in
-    let before = g.M.Mapper.counts c.args.mapper.now in
-    let after = g.M.Mapper.counts c.make_ready.new.mapper in
-    let p : Manager = seen i.caches i.store i.contexts in
-    let valid0 = (subst (λ (p : Manager). IsValid p h) (sym c.self.view_is) c.requires.valid) in
-    let from0 = sized_table (table_of i.caches s.from.0) open0.from open0.from_is in
-    let to0 = sized_table (table_of i.caches s.to.0) open0.to open0.to_is in
-    let transfer = copied_transfer i.caches i.store i.contexts i.live c.self.invariant.sound s open0 from0.0 to0.0 from0.1 to0.1 from0.2 to0.2 in
-    let keeps0 : KeepsMachine p q h k before after = subst (λ (p : Manager). KeepsMachine p q h k before after) (sym c.self.view_is) x0.keeps in
-    let j = c.self-2.inside in
-    let v2 = c.self-2.view_is in
-    let b : Manager = seen j.caches j.store j.contexts in
-    let sound = c.self-2.invariant.sound in
-    let valid : IsValid b k = subst (λ (p : Manager). IsValid p k) (sym v2) x0.valid in
-    let keeps : KeepsMachine p b h k before after = subst (λ (r : Manager). KeepsMachine p r h k before after) (sym v2) keeps0 in
-    let ready : IsReady (replaced s) (2 * c.args.span.pages) p b h k = subst (λ (e : Extent). IsReady e (2 * c.args.span.pages) p b h k) c.destination.ensures
-    (subst (λ (r : Manager). IsReady c.destination.result (2 * c.args.span.pages) p r h k) (sym v2) (subst (λ (p : Manager). IsReady c.destination.result (2 * c.args.span.pages) p q h k) (sym c.self.view_is) c.in_ok-make_ready.ensures.ready)) in
-    let out : IsOpen (size_of j.caches s.from.0) (size_of j.caches s.to.0) (any_locked j.caches (replaced s)) s = record {
-      from = open0.from;
-      to = open0.to;
-      from_is = keeps.same.sizes s.from.0 ∙ open0.from_is;
-      to_is = keeps.same.sizes s.to.0 ∙ open0.to_is;
-      from_ends = open0.from_ends;
-      to_ends = open0.to_ends;
-      apart = open0.apart;
-      unlocked = same_locked p b c.self.invariant.sound.locked.counted sound.locked.counted keeps.by (replaced s) ∙ open0.unlocked;
-    } in
-    let tied = tied_right k None j.caches j.store valid.right in
-    omega (arith, forest_len j.caches, nodes_most sound, sound.few, sound.counted, size_le j.caches s.from.0 out.from out.from_is, out.from_ends)
-
-pub copy_pages-requires-clause-within : goal.copy_pages-requires-clause-within
-copy_pages-requires-clause-within g c =
-    let i = c.self.inside in
-    let s = c.args.span in
-    let open0 = is_open (size_of i.caches s.from.0) (size_of i.caches s.to.0) (any_locked i.caches (replaced s)) s (sym c.copy_refusal.ensures ∙ c.in_default.is) in
-    let q = c.make_ready.new.self in
-    let x0 = c.make_ready.ensures in
-    let h = g.M.Mapper.held c.args.mapper.now in
-    let k = g.M.Mapper.held c.make_ready.new.mapper in
-    let before = g.M.Mapper.counts c.args.mapper.now in
-    let after = g.M.Mapper.counts c.make_ready.new.mapper in
-    let p : Manager = seen i.caches i.store i.contexts in
-    let valid0 = (subst (λ (p : Manager). IsValid p h) (sym c.self.view_is) c.requires.valid) in
-    let from0 = sized_table (table_of i.caches s.from.0) open0.from open0.from_is in
-    let to0 = sized_table (table_of i.caches s.to.0) open0.to open0.to_is in
-    let transfer = copied_transfer i.caches i.store i.contexts i.live c.self.invariant.sound s open0 from0.0 to0.0 from0.1 to0.1 from0.2 to0.2 in
-    let keeps0 : KeepsMachine p q h k before after = subst (λ (p : Manager). KeepsMachine p q h k before after) (sym c.self.view_is) x0.keeps in
-    let j = c.self-2.inside in
-    let v2 = c.self-2.view_is in
-    let b : Manager = seen j.caches j.store j.contexts in
-    let sound = c.self-2.invariant.sound in
-    let valid : IsValid b k = subst (λ (p : Manager). IsValid p k) (sym v2) x0.valid in
-    let keeps : KeepsMachine p b h k before after = subst (λ (r : Manager). KeepsMachine p r h k before after) (sym v2) keeps0 in
-    let ready : IsReady (replaced s) (2 * c.args.span.pages) p b h k = subst (λ (e : Extent). IsReady e (2 * c.args.span.pages) p b h k) c.destination.ensures
-    (subst (λ (r : Manager). IsReady c.destination.result (2 * c.args.span.pages) p r h k) (sym v2) (subst (λ (p : Manager). IsReady c.destination.result (2 * c.args.span.pages) p q h k) (sym c.self.view_is) c.in_ok-make_ready.ensures.ready)) in
-    let out : IsOpen (size_of j.caches s.from.0) (size_of j.caches s.to.0) (any_locked j.caches (replaced s)) s = record {
-      from = open0.from;
-      to = open0.to;
-      from_is = keeps.same.sizes s.from.0 ∙ open0.from_is;
-      to_is = keeps.same.sizes s.to.0 ∙ open0.to_is;
-      from_ends = open0.from_ends;
-      to_ends = open0.to_ends;
-      apart = open0.apart;
-      unlocked = same_locked p b c.self.invariant.sound.locked.counted sound.locked.counted keeps.by (replaced s) ∙ open0.unlocked;
-    } in
-    let tied = tied_right k None j.caches j.store valid.right in
-    (omega (arith, sound.few, sound.counted, size_le j.caches s.from.0 out.from out.from_is, out.from_ends), omega (arith, sound.few, sound.counted, size_le j.caches s.to.0 out.to out.to_is, out.to_ends))
+    record {
+      retire = record {
+        tied = tied;
+        whole = sound.nodes;
+        unpinned = λ x is. unpinned_names j.caches j.store j.contexts.actors sound.locked (replaced s) out.unlocked x (subst (λ (xs : List NodeName). x ∈ xs) (destination_names s) is);
+        made = omega (arith, keeps.made, c.requires.made, ap numbered c.self.view_is, sound.few, sound.counted, size_le j.caches s.from.0 out.from out.from_is, out.from_ends);
+      };
+      saved = subst (AreSaved j.caches s.to) (sym (destination_names s)) ready.saved_now;
+      working = working_unpinned j.caches j.store j.contexts.actors sound.locked;
+    }
 
 pub copy_pages-requires-clause-room : goal.copy_pages-requires-clause-room
 copy_pages-requires-clause-room g c =
@@ -461,10 +254,6 @@ copy_pages-requires-clause-room g c =
     let before = g.M.Mapper.counts c.args.mapper.now in
     let after = g.M.Mapper.counts c.make_ready.new.mapper in
     let p : Manager = seen i.caches i.store i.contexts in
-    let valid0 = (subst (λ (p : Manager). IsValid p h) (sym c.self.view_is) c.requires.valid) in
-    let from0 = sized_table (table_of i.caches s.from.0) open0.from open0.from_is in
-    let to0 = sized_table (table_of i.caches s.to.0) open0.to open0.to_is in
-    let transfer = copied_transfer i.caches i.store i.contexts i.live c.self.invariant.sound s open0 from0.0 to0.0 from0.1 to0.1 from0.2 to0.2 in
     let keeps0 : KeepsMachine p q h k before after = subst (λ (p : Manager). KeepsMachine p q h k before after) (sym c.self.view_is) x0.keeps in
     let j = c.self-2.inside in
     let v2 = c.self-2.view_is in
@@ -485,10 +274,13 @@ copy_pages-requires-clause-room g c =
       unlocked = same_locked p b c.self.invariant.sound.locked.counted sound.locked.counted keeps.by (replaced s) ∙ open0.unlocked;
     } in
     let tied = tied_right k None j.caches j.store valid.right in
-    ready.room
+    record {
+      room = ready.room;
+      few = omega (arith, forest_len j.caches, nodes_most sound, sound.few, sound.counted, size_le j.caches s.from.0 out.from out.from_is, out.from_ends);
+    }
 
-pub copy_pages-requires-clause-made : goal.copy_pages-requires-clause-made
-copy_pages-requires-clause-made g c =
+pub copy_pages-requires-clause-transfer : goal.copy_pages-requires-clause-transfer
+copy_pages-requires-clause-transfer g c =
     let i = c.self.inside in
     let s = c.args.span in
     let open0 = is_open (size_of i.caches s.from.0) (size_of i.caches s.to.0) (any_locked i.caches (replaced s)) s (sym c.copy_refusal.ensures ∙ c.in_default.is) in
@@ -499,10 +291,6 @@ copy_pages-requires-clause-made g c =
     let before = g.M.Mapper.counts c.args.mapper.now in
     let after = g.M.Mapper.counts c.make_ready.new.mapper in
     let p : Manager = seen i.caches i.store i.contexts in
-    let valid0 = (subst (λ (p : Manager). IsValid p h) (sym c.self.view_is) c.requires.valid) in
-    let from0 = sized_table (table_of i.caches s.from.0) open0.from open0.from_is in
-    let to0 = sized_table (table_of i.caches s.to.0) open0.to open0.to_is in
-    let transfer = copied_transfer i.caches i.store i.contexts i.live c.self.invariant.sound s open0 from0.0 to0.0 from0.1 to0.1 from0.2 to0.2 in
     let keeps0 : KeepsMachine p q h k before after = subst (λ (p : Manager). KeepsMachine p q h k before after) (sym c.self.view_is) x0.keeps in
     let j = c.self-2.inside in
     let v2 = c.self-2.view_is in
@@ -523,7 +311,11 @@ copy_pages-requires-clause-made g c =
       unlocked = same_locked p b c.self.invariant.sound.locked.counted sound.locked.counted keeps.by (replaced s) ∙ open0.unlocked;
     } in
     let tied = tied_right k None j.caches j.store valid.right in
-    omega (arith, keeps.made, c.requires.made, ap numbered c.self.view_is, sound.few, sound.counted, size_le j.caches s.from.0 out.from out.from_is, out.from_ends)
+    record {
+      can = can_copy j.caches sound.nodes s out;
+      granted = names_written j.caches s ready.writable;
+      within = (omega (arith, sound.few, sound.counted, size_le j.caches s.from.0 out.from out.from_is, out.from_ends), omega (arith, sound.few, sound.counted, size_le j.caches s.to.0 out.to out.to_is, out.to_ends));
+    }
 
 pub invariant_of-self : goal.invariant_of-self
 invariant_of-self g c = record {
@@ -568,8 +360,8 @@ invariant_of-self g c = record {
       let z : Manager = seen d u j.contexts in
       let from = sized_table (table_of j.caches s.from.0) out.from out.from_is in
       let to = sized_table (table_of j.caches s.to.0) out.to out.to_is in
-      let right = e.right (slots_enough j.caches d j.store u j.contexts j.live sound e.kept.sizes e.kept.gives_back tied e.whole) in
-      changed_sound j.caches d j.store u j.contexts j.live sound e.kept.sizes e.kept.gives_back tied e.whole e.bounded
+      let right = e.pages.right (slots_enough j.caches d j.store u j.contexts j.live sound e.kept.sizes e.kept.gives_back tied e.pages.whole) in
+      changed_sound j.caches d j.store u j.contexts j.live sound e.kept.sizes e.kept.gives_back tied e.pages.whole e.pages.settles.bounded
       (held_released _ j.caches d j.store u e.kept tied j.contexts sound.nodes sound.actors sound.locked)
       );
   translated = (
@@ -623,8 +415,8 @@ returns-clause-valid g c =
     let z : Manager = seen d u j.contexts in
     let from = sized_table (table_of j.caches s.from.0) out.from out.from_is in
     let to = sized_table (table_of j.caches s.to.0) out.to out.to_is in
-    let right = e.right (slots_enough j.caches d j.store u j.contexts j.live sound e.kept.sizes e.kept.gives_back tied e.whole) in
-    copied_valid j.caches j.store j.contexts j.live sound s out from.0 to.0 from.1 to.1 from.2 to.2 d u e.kept.sizes e.kept.gives_back tied e.whole k valid right e.forest
+    let right = e.pages.right (slots_enough j.caches d j.store u j.contexts j.live sound e.kept.sizes e.kept.gives_back tied e.pages.whole) in
+    copied_valid j.caches j.store j.contexts j.live sound s out from.0 to.0 from.1 to.1 from.2 to.2 d u e.kept.sizes e.kept.gives_back tied e.pages.whole k valid right e.rule.forest
 
 pub returns-clause-answers : goal.returns-clause-answers
 returns-clause-answers g c =
@@ -668,15 +460,15 @@ returns-clause-answers g c =
     let z : Manager = seen d u j.contexts in
     let from = sized_table (table_of j.caches s.from.0) out.from out.from_is in
     let to = sized_table (table_of j.caches s.to.0) out.to out.to_is in
-    let right = e.right (slots_enough j.caches d j.store u j.contexts j.live sound e.kept.sizes e.kept.gives_back tied e.whole) in
+    let right = e.pages.right (slots_enough j.caches d j.store u j.contexts j.live sound e.kept.sizes e.kept.gives_back tied e.pages.whole) in
     let answer : Answer = Ok replies.Done in
     let rises = rises_between (length keeps.reach.pushes) before after in
     let may : (sg : Segments) → segments_of k ≡ Some sg → is_any_denied (machine_of b k) sg s ≡ false = λ sg e. undenied_range b k sound.nodes valid.right s out.to out.to_is out.to_ends ready.writable (forest_of b k) k sg refl e in
-    let now = copied_valid j.caches j.store j.contexts j.live sound s out from.0 to.0 from.1 to.1 from.2 to.2 d u e.kept.sizes e.kept.gives_back tied e.whole k valid right e.forest in
+    let now = copied_valid j.caches j.store j.contexts j.live sound s out from.0 to.0 from.1 to.1 from.2 to.2 d u e.kept.sizes e.kept.gives_back tied e.pages.whole k valid right e.rule.forest in
     let named = named_machine p (forest_of p h) s.to.0 in
     let outcome : OutcomeAt (segments_of k) (machine_of p h) (Some (forest_of p h)) (commands.Copy s) answer (machine_of z k) rises
-    = subst (λ (m : Machine). OutcomeAt (segments_of k) m (Some (forest_of p h)) (commands.Copy s) answer (machine_of z k) rises) keeps.machine (copied_outcome j.caches j.store j.contexts j.live sound s out from.0 to.0 from.1 to.1 from.2 to.2 d u e.kept.sizes e.kept.gives_back tied e.whole k valid right e.forest (forest_of p h) rises may) in
-    let follows : forest_of z k ≡ forest_after (forest_of p h) (machine_of p h) (commands.Copy s) answer (machine_of z k) = copy_follows j.caches j.store j.contexts j.live sound s out from.0 to.0 from.1 to.1 from.2 to.2 d u e.kept.sizes e.kept.gives_back tied e.whole k valid right e.forest (is_named i.caches s.to.0) (forest_of p h) ready.forest ∙ (λ x. copy (sym named x) (span_pairs s) (forest_of p h)) in
+    = subst (λ (m : Machine). OutcomeAt (segments_of k) m (Some (forest_of p h)) (commands.Copy s) answer (machine_of z k) rises) keeps.machine (copied_outcome j.caches j.store j.contexts j.live sound s out from.0 to.0 from.1 to.1 from.2 to.2 d u e.kept.sizes e.kept.gives_back tied e.pages.whole k valid right e.rule.forest (forest_of p h) rises may) in
+    let follows : forest_of z k ≡ forest_after (forest_of p h) (machine_of p h) (commands.Copy s) answer (machine_of z k) = copy_follows j.caches j.store j.contexts j.live sound s out from.0 to.0 from.1 to.1 from.2 to.2 d u e.kept.sizes e.kept.gives_back tied e.pages.whole k valid right e.rule.forest (is_named i.caches s.to.0) (forest_of p h) ready.forest ∙ (λ x. copy (sym named x) (span_pairs s) (forest_of p h)) in
     subst (λ (p : Manager). CallIs before after (state_at p h) (commands.Copy s) answer (state_at z k)) c.self.view_is
     (call_is before after p z h k (commands.Copy s) answer keeps.reach now tt tt follows outcome)
 
@@ -722,10 +514,10 @@ returns-clause-made g c =
     let z : Manager = seen d u j.contexts in
     let from = sized_table (table_of j.caches s.from.0) out.from out.from_is in
     let to = sized_table (table_of j.caches s.to.0) out.to out.to_is in
-    let right = e.right (slots_enough j.caches d j.store u j.contexts j.live sound e.kept.sizes e.kept.gives_back tied e.whole) in
+    let right = e.pages.right (slots_enough j.caches d j.store u j.contexts j.live sound e.kept.sizes e.kept.gives_back tied e.pages.whole) in
     let copied = range_copied p b h k (replaced s) c.self.invariant.sound.nodes (is_named i.caches s.to.0) ready.forest in
     subst (λ (p : Manager). RaisesMade (machine_of p h) (commands.Copy s) (Ok replies.Done) (numbered p) (numbered z)) c.self.view_is
-    (omega (arith, e.made, e.copies, keeps.made, copied.1, transfer.touched (machine_of p h)))
+    (omega (arith, e.pages.settles.made, e.pages.settles.copies, keeps.made, copied.1, transfer.touched (machine_of p h)))
 
 pub returns-clause-copies : goal.returns-clause-copies
 returns-clause-copies g c =
@@ -769,9 +561,9 @@ returns-clause-copies g c =
     let z : Manager = seen d u j.contexts in
     let from = sized_table (table_of j.caches s.from.0) out.from out.from_is in
     let to = sized_table (table_of j.caches s.to.0) out.to out.to_is in
-    let right = e.right (slots_enough j.caches d j.store u j.contexts j.live sound e.kept.sizes e.kept.gives_back tied e.whole) in
+    let right = e.pages.right (slots_enough j.caches d j.store u j.contexts j.live sound e.kept.sizes e.kept.gives_back tied e.pages.whole) in
     let copied = range_copied p b h k (replaced s) c.self.invariant.sound.nodes (is_named i.caches s.to.0) ready.forest in
-    subst (λ (p : Manager). CopiesSaved (replaced s) p h z (Ok tt)) c.self.view_is (e.copies ∙ copied.0)
+    subst (λ (p : Manager). CopiesSaved (replaced s) p h z (Ok tt)) c.self.view_is (e.pages.settles.copies ∙ copied.0)
 
 pub returns-clause-idle : goal.returns-clause-idle
 returns-clause-idle g c =
@@ -815,13 +607,13 @@ returns-clause-idle g c =
     let z : Manager = seen d u j.contexts in
     let from = sized_table (table_of j.caches s.from.0) out.from out.from_is in
     let to = sized_table (table_of j.caches s.to.0) out.to out.to_is in
-    let right = e.right (slots_enough j.caches d j.store u j.contexts j.live sound e.kept.sizes e.kept.gives_back tied e.whole) in
+    let right = e.pages.right (slots_enough j.caches d j.store u j.contexts j.live sound e.kept.sizes e.kept.gives_back tied e.pages.whole) in
     λ nothing.
     let idle = x0.idle (subst (NeedsNothing c.args.self.now.caches) (sym c.destination.ensures) nothing) in
     let was : CopiesNothing c.args.self.now b = subst (CopiesNothing c.args.self.now) (sym v2) (copies_nothing c.args.self.now q idle.2) in
     let gives = e.kept.gives_back None None tied in (
       idle.0,
       idle.1,
-      (let x : CopiesNothing c.args.self.now z = record { copies = e.copies ∙ was.copies; held = λ f on. was.held f (gives.held f on); bytes = gives.bytes ∙ was.bytes } in x),
+      (let x : CopiesNothing c.args.self.now z = record { copies = e.pages.settles.copies ∙ was.copies; held = λ f on. was.held f (gives.held f on); bytes = gives.bytes ∙ was.bytes } in x),
       tt,
     )

@@ -10,11 +10,13 @@ use Rattle.vm_ids.specs.declared.refusal.Refusal.TheVariants as refusals
 use Rattle.vm_ids.specs.declared.reply.Reply.TheVariants as replies
 use Rattle.vm_ids.specs.declared.reply.Trouble.{Trouble}
 use Rattle.vm_ids.specs.declared.reply.Trouble.TheVariants as troubles
+use Rattle.vm_ids.proofs.Forest.Laws.Ranges.{ranges_hold_their_pages}
 use Rattle.vm_ids.specs.Forest.Commands.{destroy, page_names}
 use Rattle.vm_ids.specs.Forest.Shape.{IsBounded}
 use Rattle.vm_ids.specs.Held.{segments_of}
 use Rattle.local_cache.specs.Arena.{table_of}
 use Rattle.local_cache.specs.Whole.{size_of}
+use Rattle.page_release.specs.Steps.{IsUnpinned}
 use Rattle.page_release.proofs.Tying.Tied.{tied_right}
 use Rattle.segment_ops.specs.Ranges.{HasRange}
 use Rattle.vm_model.specs.Answering.{Answer, is_mapped, maps_in}
@@ -204,8 +206,8 @@ returns-in_err-write_back-clause-idle g c =
     let t = x.temporary none in
     let fine : IsOk {T = Unit {0}} (Err trouble) = subst (λ (r : Result (Unit {0}) Trouble). IsOk r) c.in_err-write_back.was t.0 in cc fine)
 
-pub destroy_pages-requires-clause-tied : goal.destroy_pages-requires-clause-tied
-destroy_pages-requires-clause-tied g c =
+pub destroy_pages-requires-clause-ready : goal.destroy_pages-requires-clause-ready
+destroy_pages-requires-clause-ready g c =
     let i = c.self.inside in
     let pages = c.in-Some.pages in
     let all : Extent = of_cache c.args.cache pages in
@@ -218,9 +220,7 @@ destroy_pages-requires-clause-tied g c =
     let before = g.M.Mapper.counts c.args.mapper.now in
     let after = g.M.Mapper.counts c.write_back.new.mapper in
     let p : Manager = seen i.caches i.store i.contexts in
-    let t0 = sized_table (table_of i.caches c.args.cache.0) pages size in
     let keeps0 : KeepsMachine p q h k before after = subst (λ (p : Manager). KeepsMachine p q h k before after) (sym c.self.view_is) x.keeps in
-    let extent : all_of i.caches c.args.cache ≡ all = ap (λ (o : Option ℕ). of_cache c.args.cache (unwrap_or o 0)) size in
     let j = c.self-2.inside in
     let v2 = c.self-2.view_is in
     let m : Manager = seen j.caches j.store j.contexts in
@@ -231,7 +231,19 @@ destroy_pages-requires-clause-tied g c =
     let tied = tied_right k None j.caches j.store valid.right in
     let size2 : size_of j.caches c.args.cache.0 ≡ Some pages = keeps.same.sizes c.args.cache.0 ∙ size in
     let free2 : list_any (maps_in c.args.cache.0) j.contexts.actors ≡ false = subst (λ (m : Machine). is_mapped m c.args.cache.0 ≡ false) (sym keeps.machine) free in
-    tied
+    record {
+      retire = record {
+        tied = tied;
+        whole = sound.nodes;
+        unpinned = λ x is.
+            let at = (ranges_hold_their_pages c.args.cache 0 pages x).0 is in
+            let page = 0 + at.0 in
+            subst (IsUnpinned j.store j.caches) (sym at.2) (unpinned_page j.caches j.store j.contexts.actors sound.locked c.args.cache (record { 0 = page }) (ap is_locked (sound.locked.counted c.args.cache.0 page ∙ over_none c.args.cache.0 page j.contexts.actors free2)));
+        made = omega (arith, keeps.made, c.requires.made, ap numbered c.self.view_is, sound.few, sound.counted, size_le j.caches c.args.cache.0 pages size2);
+      };
+      saved = written.saved_now;
+      working = working_unpinned j.caches j.store j.contexts.actors sound.locked;
+    }
 
 pub destroy_pages-requires-clause-pages : goal.destroy_pages-requires-clause-pages
 destroy_pages-requires-clause-pages g c =
@@ -261,85 +273,6 @@ destroy_pages-requires-clause-pages g c =
     let size2 : size_of j.caches c.args.cache.0 ≡ Some pages = keeps.same.sizes c.args.cache.0 ∙ size in
     let free2 : list_any (maps_in c.args.cache.0) j.contexts.actors ≡ false = subst (λ (m : Machine). is_mapped m c.args.cache.0 ≡ false) (sym keeps.machine) free in
     size2
-
-pub destroy_pages-requires-clause-unpinned : goal.destroy_pages-requires-clause-unpinned
-destroy_pages-requires-clause-unpinned g c = λ page.
-    let i = c.self.inside in
-    let j = c.self-2.inside in
-    let q = c.write_back.new.self in
-    let h = g.M.Mapper.held c.args.mapper.now in
-    let k = g.M.Mapper.held c.write_back.new.mapper in
-    let before = g.M.Mapper.counts c.args.mapper.now in
-    let after = g.M.Mapper.counts c.write_back.new.mapper in
-    let p : Manager = seen i.caches i.store i.contexts in
-    let m : Manager = seen j.caches j.store j.contexts in
-    let sound = c.self-2.invariant.sound in
-    let keeps : KeepsMachine p m h k before after = subst (λ (r : Manager). KeepsMachine p r h k before after) (sym c.self-2.view_is) (subst (λ (p : Manager). KeepsMachine p q h k before after) (sym c.self.view_is) c.write_back.ensures.keeps) in
-    let free : list_any (maps_in c.args.cache.0) j.contexts.actors ≡ false = subst (λ (m : Machine). is_mapped m c.args.cache.0 ≡ false) (sym keeps.machine) (sym c.maps.ensures ∙ c.if-maps.false) in
-    unpinned_page j.caches j.store j.contexts.actors sound.locked c.args.cache (record { 0 = page }) (ap is_locked (sound.locked.counted c.args.cache.0 page ∙ over_none c.args.cache.0 page j.contexts.actors free))
-
-pub destroy_pages-requires-clause-working : goal.destroy_pages-requires-clause-working
-destroy_pages-requires-clause-working g c =
-    let j = c.self-2.inside in
-    working_unpinned j.caches j.store j.contexts.actors c.self-2.invariant.sound.locked
-
-pub destroy_pages-requires-clause-saved : goal.destroy_pages-requires-clause-saved
-destroy_pages-requires-clause-saved g c =
-    let i = c.self.inside in
-    let pages = c.in-Some.pages in
-    let all : Extent = of_cache c.args.cache pages in
-    let size : size_of i.caches c.args.cache.0 ≡ Some pages = sym c.pages.ensures ∙ c.in-Some.is in
-    let free = sym c.maps.ensures ∙ c.if-maps.false in
-    let q = c.write_back.new.self in
-    let x = c.write_back.ensures in
-    let h = g.M.Mapper.held c.args.mapper.now in
-    let k = g.M.Mapper.held c.write_back.new.mapper in
-    let before = g.M.Mapper.counts c.args.mapper.now in
-    let after = g.M.Mapper.counts c.write_back.new.mapper in
-    let p : Manager = seen i.caches i.store i.contexts in
-    let t0 = sized_table (table_of i.caches c.args.cache.0) pages size in
-    let keeps0 : KeepsMachine p q h k before after = subst (λ (p : Manager). KeepsMachine p q h k before after) (sym c.self.view_is) x.keeps in
-    let extent : all_of i.caches c.args.cache ≡ all = ap (λ (o : Option ℕ). of_cache c.args.cache (unwrap_or o 0)) size in
-    let j = c.self-2.inside in
-    let v2 = c.self-2.view_is in
-    let m : Manager = seen j.caches j.store j.contexts in
-    let sound = c.self-2.invariant.sound in
-    let valid : IsValid m k = subst (λ (p : Manager). IsValid p k) (sym v2) x.valid in
-    let keeps : KeepsMachine p m h k before after = subst (λ (r : Manager). KeepsMachine p r h k before after) (sym v2) keeps0 in
-    let written : IsWrittenBack all p m h k = subst (λ (r : Manager). IsWrittenBack all p r h k) (sym v2) (subst (λ (p : Manager). IsWrittenBack all p q h k) (sym c.self.view_is) c.in_ok-write_back.ensures.written) in
-    let tied = tied_right k None j.caches j.store valid.right in
-    let size2 : size_of j.caches c.args.cache.0 ≡ Some pages = keeps.same.sizes c.args.cache.0 ∙ size in
-    let free2 : list_any (maps_in c.args.cache.0) j.contexts.actors ≡ false = subst (λ (m : Machine). is_mapped m c.args.cache.0 ≡ false) (sym keeps.machine) free in
-    written.saved_now
-
-pub destroy_pages-requires-clause-made : goal.destroy_pages-requires-clause-made
-destroy_pages-requires-clause-made g c =
-    let i = c.self.inside in
-    let pages = c.in-Some.pages in
-    let all : Extent = of_cache c.args.cache pages in
-    let size : size_of i.caches c.args.cache.0 ≡ Some pages = sym c.pages.ensures ∙ c.in-Some.is in
-    let free = sym c.maps.ensures ∙ c.if-maps.false in
-    let q = c.write_back.new.self in
-    let x = c.write_back.ensures in
-    let h = g.M.Mapper.held c.args.mapper.now in
-    let k = g.M.Mapper.held c.write_back.new.mapper in
-    let before = g.M.Mapper.counts c.args.mapper.now in
-    let after = g.M.Mapper.counts c.write_back.new.mapper in
-    let p : Manager = seen i.caches i.store i.contexts in
-    let t0 = sized_table (table_of i.caches c.args.cache.0) pages size in
-    let keeps0 : KeepsMachine p q h k before after = subst (λ (p : Manager). KeepsMachine p q h k before after) (sym c.self.view_is) x.keeps in
-    let extent : all_of i.caches c.args.cache ≡ all = ap (λ (o : Option ℕ). of_cache c.args.cache (unwrap_or o 0)) size in
-    let j = c.self-2.inside in
-    let v2 = c.self-2.view_is in
-    let m : Manager = seen j.caches j.store j.contexts in
-    let sound = c.self-2.invariant.sound in
-    let valid : IsValid m k = subst (λ (p : Manager). IsValid p k) (sym v2) x.valid in
-    let keeps : KeepsMachine p m h k before after = subst (λ (r : Manager). KeepsMachine p r h k before after) (sym v2) keeps0 in
-    let written : IsWrittenBack all p m h k = subst (λ (r : Manager). IsWrittenBack all p r h k) (sym v2) (subst (λ (p : Manager). IsWrittenBack all p q h k) (sym c.self.view_is) c.in_ok-write_back.ensures.written) in
-    let tied = tied_right k None j.caches j.store valid.right in
-    let size2 : size_of j.caches c.args.cache.0 ≡ Some pages = keeps.same.sizes c.args.cache.0 ∙ size in
-    let free2 : list_any (maps_in c.args.cache.0) j.contexts.actors ≡ false = subst (λ (m : Machine). is_mapped m c.args.cache.0 ≡ false) (sym keeps.machine) free in
-    omega (arith, keeps.made, c.requires.made, ap numbered c.self.view_is, sound.few, sound.counted, size_le j.caches c.args.cache.0 pages size2)
 
 pub remove-requires-clause-live : goal.remove-requires-clause-live
 remove-requires-clause-live g c =
@@ -431,9 +364,9 @@ invariant_of-self g c = record {
       let e = c.destroy_pages.ensures in
       let d = c.remove.new.self in
       let r = c.remove.ensures in
-      let whole = e.whole d r.changed (r.sound e.kept.sound) r.forest in
+      let whole = e.empties.whole d r.changed (r.sound e.kept.sound) r.forest in
       let t = sized_table (table_of j.caches c.args.cache.0) pages size2 in
-      let bounded = subst IsBounded (sym r.forest) e.bounded in
+      let bounded = subst IsBounded (sym r.forest) e.empties.settles.bounded in
       let z : Manager = seen d b.store j.contexts in
       taken_sound j.caches b.caches d j.store b.store j.contexts j.live c.args.cache pages sound size2 free2 e.kept.sizes e.kept.gives_back tied r.changed whole bounded e.kept.sound.kept.listed
       (held_released _ j.caches b.caches j.store b.store e.kept tied j.contexts sound.nodes sound.actors sound.locked)
@@ -478,11 +411,11 @@ returns-clause-valid g c =
     let e = c.destroy_pages.ensures in
     let d = c.remove.new.self in
     let r = c.remove.ensures in
-    let whole = e.whole d r.changed (r.sound e.kept.sound) r.forest in
+    let whole = e.empties.whole d r.changed (r.sound e.kept.sound) r.forest in
     let t = sized_table (table_of j.caches c.args.cache.0) pages size2 in
-    let bounded = subst IsBounded (sym r.forest) e.bounded in
+    let bounded = subst IsBounded (sym r.forest) e.empties.settles.bounded in
     let z : Manager = seen d b.store j.contexts in
-    taken_valid j.caches b.caches d j.store b.store j.contexts j.live c.args.cache pages sound size2 free2 e.kept.sizes e.kept.gives_back tied r.changed whole bounded k valid e.right e.forest e.kept.sound.kept.listed e.empty t.0 t.1 t.2
+    taken_valid j.caches b.caches d j.store b.store j.contexts j.live c.args.cache pages sound size2 free2 e.kept.sizes e.kept.gives_back tied r.changed whole bounded k valid e.empties.right e.rule.forest e.kept.sound.kept.listed e.empties.empty t.0 t.1 t.2
 
 pub returns-clause-answers : goal.returns-clause-answers
 returns-clause-answers g c =
@@ -515,9 +448,9 @@ returns-clause-answers g c =
     let e = c.destroy_pages.ensures in
     let d = c.remove.new.self in
     let r = c.remove.ensures in
-    let whole = e.whole d r.changed (r.sound e.kept.sound) r.forest in
+    let whole = e.empties.whole d r.changed (r.sound e.kept.sound) r.forest in
     let t = sized_table (table_of j.caches c.args.cache.0) pages size2 in
-    let bounded = subst IsBounded (sym r.forest) e.bounded in
+    let bounded = subst IsBounded (sym r.forest) e.empties.settles.bounded in
     let z : Manager = seen d b.store j.contexts in
     let answer : Answer = Ok replies.Done in
     let command = commands.Destroy c.args.cache in
@@ -525,13 +458,13 @@ returns-clause-answers g c =
     let many : pages_in (cache_of (machine_of p h) c.args.cache.0) ≡ pages = touched p m h k before after c.args.cache pages keeps c.self.invariant.sound.nodes sound.nodes valid t0.0 t0.1 t0.2 (λ f. free) (forest_of p h) in
     let named = named_machine p (forest_of p h) c.args.cache.0 in
     let after_is : forest_of z k ≡ forest_after (forest_of p h) (machine_of p h) command answer (machine_of z k)
-    = follows j.caches b.caches d j.store b.store j.contexts j.live c.args.cache pages sound size2 free2 e.kept.sizes e.kept.gives_back tied r.changed whole bounded k valid e.right e.forest e.kept.sound.kept.listed e.empty t.0 t.1 t.2 (is_named i.caches c.args.cache.0) (forest_of p h) written.forest
+    = follows j.caches b.caches d j.store b.store j.contexts j.live c.args.cache pages sound size2 free2 e.kept.sizes e.kept.gives_back tied r.changed whole bounded k valid e.empties.right e.rule.forest e.kept.sound.kept.listed e.empties.empty t.0 t.1 t.2 (is_named i.caches c.args.cache.0) (forest_of p h) written.forest
     ∙ ap (λ (n : ℕ). destroy (is_named i.caches c.args.cache.0) (page_names c.args.cache 0 n) (forest_of p h)) (sym many)
     ∙ ap (λ (x : Bool). destroy x (page_names c.args.cache 0 (pages_in (cache_of (machine_of p h) c.args.cache.0))) (forest_of p h)) (sym named) in
     let outcome : OutcomeAt (segments_of k) (machine_of p h) (Some (forest_of p h)) command answer (machine_of z k) rises
-    = subst (λ (m : Machine). OutcomeAt (segments_of k) m (Some (forest_of p h)) command answer (machine_of z k) rises) keeps.machine (taken j.caches b.caches d j.store b.store j.contexts j.live c.args.cache pages sound size2 free2 e.kept.sizes e.kept.gives_back tied r.changed whole bounded k valid e.right e.forest e.kept.sound.kept.listed e.empty t.0 t.1 t.2 (forest_of p h) rises) in
+    = subst (λ (m : Machine). OutcomeAt (segments_of k) m (Some (forest_of p h)) command answer (machine_of z k) rises) keeps.machine (taken j.caches b.caches d j.store b.store j.contexts j.live c.args.cache pages sound size2 free2 e.kept.sizes e.kept.gives_back tied r.changed whole bounded k valid e.empties.right e.rule.forest e.kept.sound.kept.listed e.empties.empty t.0 t.1 t.2 (forest_of p h) rises) in
     subst (λ (p : Manager). CallIs before after (state_at p h) command answer (state_at z k)) c.self.view_is
-    (call_is before after p z h k command answer keeps.reach (taken_valid j.caches b.caches d j.store b.store j.contexts j.live c.args.cache pages sound size2 free2 e.kept.sizes e.kept.gives_back tied r.changed whole bounded k valid e.right e.forest e.kept.sound.kept.listed e.empty t.0 t.1 t.2) tt
+    (call_is before after p z h k command answer keeps.reach (taken_valid j.caches b.caches d j.store b.store j.contexts j.live c.args.cache pages sound size2 free2 e.kept.sizes e.kept.gives_back tied r.changed whole bounded k valid e.empties.right e.rule.forest e.kept.sound.kept.listed e.empties.empty t.0 t.1 t.2) tt
     (subst (λ (n : ℕ). ArePushed (machine_of p h) (segments_of k) c.args.cache.0 0 n) (let e : 0 + pages ≡ pages = omega arith in e ∙ sym many) written.pushed) after_is outcome)
 
 pub returns-clause-made : goal.returns-clause-made
@@ -565,14 +498,14 @@ returns-clause-made g c =
     let e = c.destroy_pages.ensures in
     let d = c.remove.new.self in
     let r = c.remove.ensures in
-    let whole = e.whole d r.changed (r.sound e.kept.sound) r.forest in
+    let whole = e.empties.whole d r.changed (r.sound e.kept.sound) r.forest in
     let t = sized_table (table_of j.caches c.args.cache.0) pages size2 in
-    let bounded = subst IsBounded (sym r.forest) e.bounded in
+    let bounded = subst IsBounded (sym r.forest) e.empties.settles.bounded in
     let z : Manager = seen d b.store j.contexts in
     let many : pages_in (cache_of (machine_of p h) c.args.cache.0) ≡ pages = touched p m h k before after c.args.cache pages keeps c.self.invariant.sound.nodes sound.nodes valid t0.0 t0.1 t0.2 (λ f. free) (forest_of p h) in
     let copied = range_copied p m h k all c.self.invariant.sound.nodes (is_named i.caches c.args.cache.0) written.forest in
     subst (λ (p : Manager). RaisesMade (machine_of p h) (commands.Destroy c.args.cache) (Ok replies.Done) (numbered p) (numbered z)) c.self.view_is
-    (omega (arith, many, keeps.made, copied.1, e.made, e.copies, ap (λ a. a.made) r.changed, ap (λ a. a.copies) r.changed))
+    (omega (arith, many, keeps.made, copied.1, e.empties.settles.made, e.empties.settles.copies, ap (λ a. a.made) r.changed, ap (λ a. a.copies) r.changed))
 
 pub returns-clause-copies : goal.returns-clause-copies
 returns-clause-copies g c =
@@ -605,13 +538,13 @@ returns-clause-copies g c =
     let e = c.destroy_pages.ensures in
     let d = c.remove.new.self in
     let r = c.remove.ensures in
-    let whole = e.whole d r.changed (r.sound e.kept.sound) r.forest in
+    let whole = e.empties.whole d r.changed (r.sound e.kept.sound) r.forest in
     let t = sized_table (table_of j.caches c.args.cache.0) pages size2 in
-    let bounded = subst IsBounded (sym r.forest) e.bounded in
+    let bounded = subst IsBounded (sym r.forest) e.empties.settles.bounded in
     let z : Manager = seen d b.store j.contexts in
     let copied = range_copied p m h k all c.self.invariant.sound.nodes (is_named i.caches c.args.cache.0) written.forest in
     subst (λ (p : Manager). CopiesSaved (all_of p.caches c.args.cache) p h z (Ok tt)) c.self.view_is
-    (subst (λ (e : Extent). CopiesSaved e p h z (Ok tt)) (sym extent) (ap (λ a. a.copies) r.changed ∙ e.copies ∙ copied.0))
+    (subst (λ (e : Extent). CopiesSaved e p h z (Ok tt)) (sym extent) (ap (λ a. a.copies) r.changed ∙ e.empties.settles.copies ∙ copied.0))
 
 pub returns-clause-idle : goal.returns-clause-idle
 returns-clause-idle g c =
@@ -644,9 +577,9 @@ returns-clause-idle g c =
     let e = c.destroy_pages.ensures in
     let d = c.remove.new.self in
     let r = c.remove.ensures in
-    let whole = e.whole d r.changed (r.sound e.kept.sound) r.forest in
+    let whole = e.empties.whole d r.changed (r.sound e.kept.sound) r.forest in
     let t = sized_table (table_of j.caches c.args.cache.0) pages size2 in
-    let bounded = subst IsBounded (sym r.forest) e.bounded in
+    let bounded = subst IsBounded (sym r.forest) e.empties.settles.bounded in
     let z : Manager = seen d b.store j.contexts in
     λ none.
     let still = x.temporary none in
@@ -654,6 +587,6 @@ returns-clause-idle g c =
     let same : m ≡ c.args.self.now = v2 ∙ still.1 in (
       still.2,
       still.3,
-      (let out : CopiesNothing c.args.self.now z = subst (λ (p : Manager). CopiesNothing p z) same (record { copies = ap (λ k. k.copies) r.changed ∙ e.copies; held = gives.held; bytes = gives.bytes }) in out),
+      (let out : CopiesNothing c.args.self.now z = subst (λ (p : Manager). CopiesNothing p z) same (record { copies = ap (λ k. k.copies) r.changed ∙ e.empties.settles.copies; held = gives.held; bytes = gives.bytes }) in out),
       tt,
     )

@@ -175,8 +175,8 @@ invalidate_pages-requires-clause-nodes g c =
     (ap (λ (m : Manager). m.caches.caches) c.self-2.view_is ∙ c.save.ensures.tables) (ap (λ (m : Manager). forest_of m z) c.self-2.view_is ∙ c.in-Ok.ensures.saved) in
     range_there j.caches k.nodes c.args.extent.cache c.args.extent.first.0 c.args.extent.pages (length ready.extent.table.pages) (ap (option_map (λ (t : Table). length t.pages)) ready.extent.there) ready.extent.ends
 
-pub invalidate_pages-requires-clause-unpinned : goal.invalidate_pages-requires-clause-unpinned
-invalidate_pages-requires-clause-unpinned g c =
+pub invalidate_pages-requires-clause-ready : goal.invalidate_pages-requires-clause-ready
+invalidate_pages-requires-clause-ready g c =
     let h = g.M.Mapper.held c.args.mapper.now in
     let i = c.self.inside in
     let r = c.reserve.ensures in
@@ -184,7 +184,6 @@ invalidate_pages-requires-clause-unpinned g c =
     let roomy = reserved i.caches b i.store i.contexts i.live r.kept r.no_less.0 r.forest (r.sound c.self.invariant.sound.nodes.sound) c.self.invariant.sound in
     let p : Manager = seen i.caches i.store i.contexts in
     let x = extent_open i.caches c.args.extent (any_locked i.caches c.args.extent) (sym c.extent_refusal.ensures ∙ c.in_default.is) in
-    let old : IsValid p h = subst (λ (p : Manager). IsValid p h) (sym c.self.view_is) c.requires.valid in
     let before = g.M.Mapper.counts c.args.mapper.now in
     let after = g.M.Mapper.counts c.save.new.mapper in
     let z = g.M.Mapper.held c.save.new.mapper in
@@ -194,16 +193,20 @@ invalidate_pages-requires-clause-unpinned g c =
     let ready : IsTaking p h z j.caches j.store j.contexts c.args.extent before after = taking p (seen b i.store i.contexts) h z before after j.caches j.store j.contexts c.args.extent x (ap (λ a. a.caches) r.kept) (ap (λ a. a.made) r.kept) (ap (λ (s : State). s.machine) (roomy.state h)) roomy.by (roomy.forest h)
     (subst (λ (m : Manager). IsValid m z) view c.save.ensures.valid) (subst (λ (m : Manager). KeepsMachine (seen b i.store i.contexts) m h z before after) view c.save.ensures.keeps)
     (ap (λ (m : Manager). m.caches.caches) c.self-2.view_is ∙ c.save.ensures.tables) (ap (λ (m : Manager). forest_of m z) c.self-2.view_is ∙ c.in-Ok.ensures.saved) in
-    unpinned_names j.caches j.store j.contexts.actors k.locked c.args.extent
-    (same_locked p (seen j.caches j.store j.contexts) c.self.invariant.sound.locked.counted k.locked.counted ready.by c.args.extent ∙ extent_unlocked (table_of i.caches c.args.extent.cache.0) c.args.extent (any_locked i.caches c.args.extent) (sym c.extent_refusal.ensures ∙ c.in_default.is))
+    record {
+      retire = record {
+        tied = tied_right z None j.caches j.store ready.valid.right;
+        whole = k.nodes;
+        unpinned = unpinned_names j.caches j.store j.contexts.actors k.locked c.args.extent
+            (same_locked p (seen j.caches j.store j.contexts) c.self.invariant.sound.locked.counted k.locked.counted ready.by c.args.extent ∙ extent_unlocked (table_of i.caches c.args.extent.cache.0) c.args.extent (any_locked i.caches c.args.extent) (sym c.extent_refusal.ensures ∙ c.in_default.is));
+        made = omega (arith, ready.made, c.requires.made, ap numbered c.self.view_is, k.few, k.counted, size_le j.caches c.args.extent.cache.0 (length ready.extent.table.pages) (ap (option_map (λ (t : Table). length t.pages)) ready.extent.there), ready.extent.ends);
+      };
+      saved = λ named. taking_saved p h z j.caches j.store j.contexts c.args.extent before after c.self.invariant.sound.nodes ready k.nodes;
+      working = working_unpinned j.caches j.store j.contexts.actors k.locked;
+    }
 
-pub invalidate_pages-requires-clause-working : goal.invalidate_pages-requires-clause-working
-invalidate_pages-requires-clause-working g c =
-    let j = c.self-2.inside in
-    working_unpinned j.caches j.store j.contexts.actors c.self-2.invariant.sound.locked
-
-pub invalidate_pages-requires-clause-saved : goal.invalidate_pages-requires-clause-saved
-invalidate_pages-requires-clause-saved g c = λ named.
+pub invalidate_pages-requires-clause-room : goal.invalidate_pages-requires-clause-room
+invalidate_pages-requires-clause-room g c =
     let h = g.M.Mapper.held c.args.mapper.now in
     let i = c.self.inside in
     let r = c.reserve.ensures in
@@ -211,7 +214,6 @@ invalidate_pages-requires-clause-saved g c = λ named.
     let roomy = reserved i.caches b i.store i.contexts i.live r.kept r.no_less.0 r.forest (r.sound c.self.invariant.sound.nodes.sound) c.self.invariant.sound in
     let p : Manager = seen i.caches i.store i.contexts in
     let x = extent_open i.caches c.args.extent (any_locked i.caches c.args.extent) (sym c.extent_refusal.ensures ∙ c.in_default.is) in
-    let old : IsValid p h = subst (λ (p : Manager). IsValid p h) (sym c.self.view_is) c.requires.valid in
     let before = g.M.Mapper.counts c.args.mapper.now in
     let after = g.M.Mapper.counts c.save.new.mapper in
     let z = g.M.Mapper.held c.save.new.mapper in
@@ -221,28 +223,10 @@ invalidate_pages-requires-clause-saved g c = λ named.
     let ready : IsTaking p h z j.caches j.store j.contexts c.args.extent before after = taking p (seen b i.store i.contexts) h z before after j.caches j.store j.contexts c.args.extent x (ap (λ a. a.caches) r.kept) (ap (λ a. a.made) r.kept) (ap (λ (s : State). s.machine) (roomy.state h)) roomy.by (roomy.forest h)
     (subst (λ (m : Manager). IsValid m z) view c.save.ensures.valid) (subst (λ (m : Manager). KeepsMachine (seen b i.store i.contexts) m h z before after) view c.save.ensures.keeps)
     (ap (λ (m : Manager). m.caches.caches) c.self-2.view_is ∙ c.save.ensures.tables) (ap (λ (m : Manager). forest_of m z) c.self-2.view_is ∙ c.in-Ok.ensures.saved) in
-    taking_saved p h z j.caches j.store j.contexts c.args.extent before after c.self.invariant.sound.nodes ready k.nodes
-
-pub invalidate_pages-requires-clause-few : goal.invalidate_pages-requires-clause-few
-invalidate_pages-requires-clause-few g c =
-    let h = g.M.Mapper.held c.args.mapper.now in
-    let i = c.self.inside in
-    let r = c.reserve.ensures in
-    let b = c.reserve.new.self in
-    let roomy = reserved i.caches b i.store i.contexts i.live r.kept r.no_less.0 r.forest (r.sound c.self.invariant.sound.nodes.sound) c.self.invariant.sound in
-    let p : Manager = seen i.caches i.store i.contexts in
-    let x = extent_open i.caches c.args.extent (any_locked i.caches c.args.extent) (sym c.extent_refusal.ensures ∙ c.in_default.is) in
-    let old : IsValid p h = subst (λ (p : Manager). IsValid p h) (sym c.self.view_is) c.requires.valid in
-    let before = g.M.Mapper.counts c.args.mapper.now in
-    let after = g.M.Mapper.counts c.save.new.mapper in
-    let z = g.M.Mapper.held c.save.new.mapper in
-    let j = c.self-2.inside in
-    let k = c.self-2.invariant.sound in
-    let view = sym c.self-2.view_is in
-    let ready : IsTaking p h z j.caches j.store j.contexts c.args.extent before after = taking p (seen b i.store i.contexts) h z before after j.caches j.store j.contexts c.args.extent x (ap (λ a. a.caches) r.kept) (ap (λ a. a.made) r.kept) (ap (λ (s : State). s.machine) (roomy.state h)) roomy.by (roomy.forest h)
-    (subst (λ (m : Manager). IsValid m z) view c.save.ensures.valid) (subst (λ (m : Manager). KeepsMachine (seen b i.store i.contexts) m h z before after) view c.save.ensures.keeps)
-    (ap (λ (m : Manager). m.caches.caches) c.self-2.view_is ∙ c.save.ensures.tables) (ap (λ (m : Manager). forest_of m z) c.self-2.view_is ∙ c.in-Ok.ensures.saved) in
-    omega (arith, forest_len j.caches, nodes_most k, k.few, k.counted, size_le j.caches c.args.extent.cache.0 (length ready.extent.table.pages) (ap (option_map (λ (t : Table). length t.pages)) ready.extent.there), ready.extent.ends)
+    record {
+      room = let same = ap (λ (m : Manager). m.caches.room.nodes) c.self-2.view_is ∙ ap (λ r. r.nodes) c.save.ensures.room in omega (arith, same, c.in_ok-reserve.ensures.nodes);
+      few = omega (arith, forest_len j.caches, nodes_most k, k.few, k.counted, size_le j.caches c.args.extent.cache.0 (length ready.extent.table.pages) (ap (option_map (λ (t : Table). length t.pages)) ready.extent.there), ready.extent.ends);
+    }
 
 pub invariant_of-self-3 : goal.invariant_of-self-3
 invariant_of-self-3 g c = record {
@@ -265,7 +249,7 @@ invariant_of-self-3 g c = record {
       (subst (λ (m : Manager). IsValid m z) view c.save.ensures.valid) (subst (λ (m : Manager). KeepsMachine (seen b i.store i.contexts) m h z before after) view c.save.ensures.keeps)
       (ap (λ (m : Manager). m.caches.caches) c.self-2.view_is ∙ c.save.ensures.tables) (ap (λ (m : Manager). forest_of m z) c.self-2.view_is ∙ c.in-Ok.ensures.saved) in
       let e = c.invalidate_pages.ensures in
-      changed_sound j.caches c.invalidate_pages.new.caches j.store c.invalidate_pages.new.store j.contexts j.live k e.kept.sizes e.kept.gives_back (tied_right z None j.caches j.store ready.valid.right) e.whole e.bounded
+      changed_sound j.caches c.invalidate_pages.new.caches j.store c.invalidate_pages.new.store j.contexts j.live k e.kept.sizes e.kept.gives_back (tied_right z None j.caches j.store ready.valid.right) e.pages.whole e.pages.settles.bounded
       (held_released _ j.caches c.invalidate_pages.new.caches j.store c.invalidate_pages.new.store e.kept (tied_right z None j.caches j.store ready.valid.right) j.contexts k.nodes k.actors k.locked)
       );
   translated = (
@@ -300,9 +284,9 @@ returns-clause-valid g c =
     let d = c.invalidate_pages.new.caches in
     let u = c.invalidate_pages.new.store in
     let tied = tied_right z None j.caches j.store ready.valid.right in
-    let right = e.right (slots_enough j.caches d j.store u j.contexts j.live k e.kept.sizes e.kept.gives_back tied e.whole) in
+    let right = e.pages.right (slots_enough j.caches d j.store u j.contexts j.live k e.kept.sizes e.kept.gives_back tied e.pages.whole) in
     taken_valid p h z j.caches d j.store u j.contexts j.live k ready.valid c.args.extent ready.extent
-    (same_locked p (seen j.caches j.store j.contexts) c.self.invariant.sound.locked.counted k.locked.counted ready.by c.args.extent ∙ extent_unlocked (table_of i.caches c.args.extent.cache.0) c.args.extent (any_locked i.caches c.args.extent) (sym c.extent_refusal.ensures ∙ c.in_default.is)) ready.machine ready.by c.self.invariant.sound.nodes old ready.forest e.kept.sizes e.kept.gives_back tied e.whole right e.forest
+    (same_locked p (seen j.caches j.store j.contexts) c.self.invariant.sound.locked.counted k.locked.counted ready.by c.args.extent ∙ extent_unlocked (table_of i.caches c.args.extent.cache.0) c.args.extent (any_locked i.caches c.args.extent) (sym c.extent_refusal.ensures ∙ c.in_default.is)) ready.machine ready.by c.self.invariant.sound.nodes old ready.forest e.kept.sizes e.kept.gives_back tied e.pages.whole right e.rule.forest
 
 pub returns-clause-answers : goal.returns-clause-answers
 returns-clause-answers g c =
@@ -327,10 +311,10 @@ returns-clause-answers g c =
     let d = c.invalidate_pages.new.caches in
     let u = c.invalidate_pages.new.store in
     let tied = tied_right z None j.caches j.store ready.valid.right in
-    let right = e.right (slots_enough j.caches d j.store u j.contexts j.live k e.kept.sizes e.kept.gives_back tied e.whole) in
+    let right = e.pages.right (slots_enough j.caches d j.store u j.contexts j.live k e.kept.sizes e.kept.gives_back tied e.pages.whole) in
     subst (λ (p : Manager). CallIs before after (state_at p h) (commands.Invalidate c.args.extent) (Ok replies.Done) (state_at (seen d u j.contexts) z)) c.self.view_is
     (taken_is p h z j.caches d j.store u j.contexts j.live k ready.valid c.args.extent ready.extent
-    (same_locked p (seen j.caches j.store j.contexts) c.self.invariant.sound.locked.counted k.locked.counted ready.by c.args.extent ∙ extent_unlocked (table_of i.caches c.args.extent.cache.0) c.args.extent (any_locked i.caches c.args.extent) (sym c.extent_refusal.ensures ∙ c.in_default.is)) ready.machine ready.by c.self.invariant.sound.nodes old ready.forest e.kept.sizes e.kept.gives_back tied e.whole right e.forest before after ready.reach)
+    (same_locked p (seen j.caches j.store j.contexts) c.self.invariant.sound.locked.counted k.locked.counted ready.by c.args.extent ∙ extent_unlocked (table_of i.caches c.args.extent.cache.0) c.args.extent (any_locked i.caches c.args.extent) (sym c.extent_refusal.ensures ∙ c.in_default.is)) ready.machine ready.by c.self.invariant.sound.nodes old ready.forest e.kept.sizes e.kept.gives_back tied e.pages.whole right e.rule.forest before after ready.reach)
 
 pub returns-clause-made : goal.returns-clause-made
 returns-clause-made g c =
@@ -355,10 +339,10 @@ returns-clause-made g c =
     let d = c.invalidate_pages.new.caches in
     let u = c.invalidate_pages.new.store in
     let tied = tied_right z None j.caches j.store ready.valid.right in
-    let right = e.right (slots_enough j.caches d j.store u j.contexts j.live k e.kept.sizes e.kept.gives_back tied e.whole) in
+    let right = e.pages.right (slots_enough j.caches d j.store u j.contexts j.live k e.kept.sizes e.kept.gives_back tied e.pages.whole) in
     let copies = taking_copies p h z j.caches j.store j.contexts c.args.extent before after c.self.invariant.sound.nodes ready in
     subst (λ (p : Manager). numbered (seen d u j.contexts) ≤ numbered p + 8 * (c.args.extent.pages + pages_in (cache_of (machine_of p h) c.args.extent.cache.0)) + 8) c.self.view_is
-    (omega (arith, copies, e.made, e.copies, ready.made))
+    (omega (arith, copies, e.pages.settles.made, e.pages.settles.copies, ready.made))
 
 pub returns-clause-taken : goal.returns-clause-taken
 returns-clause-taken g c =
@@ -383,6 +367,6 @@ returns-clause-taken g c =
     let d = c.invalidate_pages.new.caches in
     let u = c.invalidate_pages.new.store in
     let tied = tied_right z None j.caches j.store ready.valid.right in
-    let right = e.right (slots_enough j.caches d j.store u j.contexts j.live k e.kept.sizes e.kept.gives_back tied e.whole) in
+    let right = e.pages.right (slots_enough j.caches d j.store u j.contexts j.live k e.kept.sizes e.kept.gives_back tied e.pages.whole) in
     taken_pushed p h z j.caches d j.store u j.contexts j.live k ready.valid c.args.extent ready.extent
-    (same_locked p (seen j.caches j.store j.contexts) c.self.invariant.sound.locked.counted k.locked.counted ready.by c.args.extent ∙ extent_unlocked (table_of i.caches c.args.extent.cache.0) c.args.extent (any_locked i.caches c.args.extent) (sym c.extent_refusal.ensures ∙ c.in_default.is)) ready.machine ready.by c.self.invariant.sound.nodes old ready.forest e.kept.sizes e.kept.gives_back tied e.whole right e.forest
+    (same_locked p (seen j.caches j.store j.contexts) c.self.invariant.sound.locked.counted k.locked.counted ready.by c.args.extent ∙ extent_unlocked (table_of i.caches c.args.extent.cache.0) c.args.extent (any_locked i.caches c.args.extent) (sym c.extent_refusal.ensures ∙ c.in_default.is)) ready.machine ready.by c.self.invariant.sound.nodes old ready.forest e.kept.sizes e.kept.gives_back tied e.pages.whole right e.rule.forest
