@@ -17,13 +17,13 @@ use Rattle.vm_ids.specs.declared.numbers.NodeId.{NodeId}
 use Rattle.vm_ids.specs.declared.numbers.PageNo.{PageNo}
 use Rattle.vm_ids.specs.declared.numbers.SegId.{SegId}
 use Rattle.local_cache.specs.declared.own_state.OwnState.{OwnState}
-use Rattle.local_cache.specs.declared.page_table.PageEntry.{PageEntry}
+use Rattle.local_cache.specs.declared.page_entry.PageEntry.{PageEntry}
 use Rattle.local_cache.specs.Arena.{Arena, Cell, HasNode, HasPlace, IsFilled, IsMade, IsVacant, MakesCache, Table, blank, cell, entry_at, entry_for, new_cell, new_table, node_at, table_at, table_of, tables_without, without_cache}
 use Rattle.local_cache.specs.Known.{IsKnown, IsTold}
 use Rattle.local_cache.specs.Reading.{name_of}
 use Rattle.local_cache.proofs.Known.Same.{kept, told-same}
 use Rattle.local_cache.proofs.NewCache.Pages.{filled_page, last_table, made_stays}
-use Rattle.local_cache.proofs.Nodes.Slots.{apart}
+use Rattle.local_cache.proofs.Nodes.Numbers.{apart}
 use Rattle.local_cache.proofs.Tables.Listing.{node_in, page_name, read_other, without-node}
 
 -- Places --------------------------------------------------------------------------------------------

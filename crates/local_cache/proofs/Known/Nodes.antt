@@ -13,7 +13,7 @@ use Rattle.vm_ids.specs.declared.numbers.PageNo.{PageNo}
 use Rattle.vm_ids.proofs.Forest.Names.{name_cases}
 use Rattle.local_cache.specs.declared.own_state.OwnState.{OwnState}
 use Rattle.local_cache.specs.declared.own_state.OwnState.TheVariants.{Absent}
-use Rattle.local_cache.specs.declared.page_table.PageEntry.{PageEntry}
+use Rattle.local_cache.specs.declared.page_entry.PageEntry.{PageEntry}
 use Rattle.local_cache.specs.Arena.{Arena, Cell, HasNode, IsVacant, Table, as_working, blank, cache_with, cell, entry_at, find, put, tables_with, with_name, with_new, with_working, without}
 use Rattle.local_cache.specs.Known.{IsKnown, IsLeft, IsTold}
 use Rattle.local_cache.specs.Reading.{name_of}
@@ -23,7 +23,7 @@ use Rattle.local_cache.proofs.Known.Same.{kept, unnamed}
 use Rattle.local_cache.proofs.NewNode.Addition.{added_held, added_name, other-cell, still_held, was_held, with_counted}
 use Rattle.local_cache.proofs.NewNode.FreshNode.{vacant-there}
 use Rattle.local_cache.proofs.Nodes.Cells.{find-put, find-put_other}
-use Rattle.local_cache.proofs.Nodes.Slots.{apart, tied}
+use Rattle.local_cache.proofs.Nodes.Numbers.{apart, tied}
 use Rattle.local_cache.proofs.Tables.Listing.{entry-cache_with, node_in, other-entry, other-node, page_name, set-node}
 
 -- The tables -----------------------------------------------------------------------------------
