@@ -1,5 +1,5 @@
 use Rattle.std.proofs.Common.{true, false, ◌≡◌, Option, Some, length, refl, sym, ap, subst, ◌∙◌, arith}
-use Rattle.std.specs.Prelude.{◌+◌, ◌-◌, ◌%◌, Result, Ok, Err, IfOk, IfSome, IsOk, take, drop}
+use Rattle.std.specs.Prelude.{◌+◌, ◌-◌, ◌%◌, Result, Ok, Err, IfSome, IsOk, take, drop}
 use Rattle.std.proofs.lemmas.Result.{err_from_is_err_and}
 use Rattle.vm_ids.specs.declared.command.Command.TheVariants as commands
 use Rattle.vm_ids.specs.declared.numbers.PageNo.{PageNo}
@@ -11,9 +11,7 @@ use Rattle.vm_ids.specs.Forest.Commands.{page_name}
 use Rattle.vm_ids.specs.Forest.Nodes.{no_forest}
 use Rattle.vm_ids.specs.Forest.Reading.{owner_of, value_of}
 use Rattle.frame_pool.specs.Pool.{bytes_of}
-use Rattle.local_cache.specs.Arena.{Arena}
 use Rattle.local_cache.specs.Own.{own_of}
-use Rattle.page_tables.specs.declared.entry.Translation.{Translation}
 use Rattle.residency.specs.declared.miss.Miss.{Miss}
 use Rattle.residency.specs.declared.store.Store.{Store}
 use Rattle.residency.specs.Causes.{Traffic, dirtied, dirty_count, failed_victims, pulls_for}
