@@ -92,6 +92,12 @@ impl Pvm {
         })
     }
 
+    /// How many runs of alike page nodes there are. No answer depends on that; it tells how little a
+    /// large copy keeps.
+    pub fn runs(&self) -> usize {
+        self.caches.runs()
+    }
+
     /// Makes an actor without regions. Refused as `TooMany` exactly where 256 actors are alive or 65,535 were made.
     pub fn make_actor(&mut self) -> Result<ActorId, Trouble>
         ensures valid { StaysValid IsValid self.old self.new }
