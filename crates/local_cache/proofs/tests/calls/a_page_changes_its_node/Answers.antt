@@ -1,8 +1,12 @@
-use Rattle.std.proofs.Common.{lit<, subst, sym}
+use Rattle.std.proofs.Common.{ap, lit<, subst, sym}
+use Rattle.std.specs.Prelude.{is_some}
 use Rattle.local_cache.specs.declared.own_state.OwnState.TheVariants.{Zero}
 use Rattle.local_cache.specs.Arena.{IsVacant}
 use Rattle.local_cache.proofs.Names.WorkingName.{page_named, vacated}
 use Rattle.local_cache.proofs.tests.calls.a_page_changes_its_node.Goals as goal
+
+pub node_of-old-requires : goal.node_of-old-requires
+node_of-old-requires g c = ap is_some (c.make_temp-cache.ensures.pages 0 (lit< tt)).at
 
 pub fresh-new-requires-clause-vacant : goal.fresh-new-requires-clause-vacant
 fresh-new-requires-clause-vacant g c =

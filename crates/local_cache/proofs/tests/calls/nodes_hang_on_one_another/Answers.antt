@@ -4,6 +4,9 @@ use Rattle.local_cache.specs.declared.own_state.OwnState.TheVariants.{OnSegment}
 use Rattle.local_cache.proofs.NewCache.Pages.{page_held}
 use Rattle.local_cache.proofs.tests.calls.nodes_hang_on_one_another.Goals as goal
 
+pub node_of-source-requires : goal.node_of-source-requires
+node_of-source-requires g c = ap is_some (c.make_named-cache.ensures.pages 0 (lit< tt)).at
+
 pub node_of-copy-requires : goal.node_of-copy-requires
 node_of-copy-requires g c = ap is_some (c.make_named-cache.ensures.pages 1 (lit< tt)).at
 
