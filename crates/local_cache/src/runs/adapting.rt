@@ -12,7 +12,7 @@ ghost use Rattle.local_cache.specs.NodeLists.{HasAdapted, IsKept};
 ghost use Rattle.local_cache.specs.Runs.{HasNames, SaysAlike, first_name, run as run_says};
 ghost use Rattle.local_cache.specs.Singles.{IsCounted};
 
-use crate::runs::singles::{read_one, set_one};
+use crate::runs::singles::{find_one, set_one};
 use crate::runs::{NodeLists, Run, RunName};
 use stretches::{Says, StretchList};
 use vm_ids::NodeName;
@@ -96,10 +96,12 @@ fn adapt_runs(runs: &mut StretchList<Run>, node: u64, run: Run, free: bool) -> R
     ensures counted { IsCounted run_says runs.new }
     ensures places { runs.new.places ≡ runs.old.places }
 {
-    if node == 0 || runs.get(node - 1).is_none() {
+    if node == 0 {
         return run;
     }
-    let before = read_one(runs, node - 1);
+    let Some(before) = find_one(runs, node - 1) else {
+        return run;
+    };
     if let Some(next) = following(before, run, free) {
         return next;
     }

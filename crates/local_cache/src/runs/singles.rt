@@ -1,5 +1,5 @@
 // One number of a list of stretches: read, set and cleared.
-ghost use Rattle.std.specs.Prelude.{◌≡◌, ◌+◌, ◌<◌, ◌≤◌, IsSome, Some};
+ghost use Rattle.std.specs.Prelude.{◌≡◌, ◌+◌, ◌<◌, ◌≤◌, IfSome, IsSome, Some};
 ghost use Rattle.std.specs.FinMap as map;
 ghost use Rattle.stretches.specs.Cells.{cells};
 ghost use Rattle.stretches.specs.Changes.{IsVacantFor, SayAlso};
@@ -9,14 +9,26 @@ ghost use Rattle.local_cache.specs.Singles.{IsCounted};
 
 use stretches::{Says, Stretch, StretchList};
 
+// What is said of a number, or `None` exactly where it is in no stretch. It can be said of this number
+// alone.
+pub(crate) fn find_one<V: Says>(list: &StretchList<V>, number: u64) -> Option<V>
+    ensures said { said V.Says list.now.list number ≡ result }
+    ensures fit { IfSome result (λ value. IsFit V.Says (single number value)) }
+{
+    match list.stretch_from(number) {
+        Some(stretch) => Some(stretch.value),
+        None => None,
+    }
+}
+
 // What is said of a number that is in a stretch. It can be said of this number alone.
 pub(crate) fn read_one<V: Says>(list: &StretchList<V>, number: u64) -> V
     requires { IsSome (said V.Says list.now.list number) }
     ensures said { said V.Says list.now.list number ≡ Some result }
     ensures fit { IsFit V.Says (single number result) }
 {
-    match list.stretch_from(number) {
-        Some(stretch) => stretch.value,
+    match find_one(list, number) {
+        Some(value) => value,
         None => unreachable!(),
     }
 }

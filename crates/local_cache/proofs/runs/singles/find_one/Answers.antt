@@ -1,10 +1,10 @@
 use Rattle.std.proofs.Common.{arith}
 use Rattle.stretches.proofs.Changes.Parts.{lasts_fewer}
-use Rattle.local_cache.proofs.runs.singles.read_one.Goals as goal
+use Rattle.local_cache.proofs.runs.singles.find_one.Goals as goal
 
 -- a stretch from the number on says of it what it begins with
-pub returns-clause-fit : goal.returns-clause-fit
-returns-clause-fit g c =
+pub returns-in-Some-clause-fit : goal.returns-in-Some-clause-fit
+returns-in-Some-clause-fit g c =
     let stretch = c.in-Some.stretch in
     let from = c.in-Some.ensures.from in
     record {
