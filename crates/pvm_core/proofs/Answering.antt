@@ -2,6 +2,7 @@
 pub mod Answered
 pub mod Chains
 pub mod Changed
+pub mod Ended
 pub mod Kept
 pub mod Listed
 pub mod Rising
