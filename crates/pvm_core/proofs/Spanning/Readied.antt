@@ -1,0 +1,91 @@
+-- A span whose destination was made ready: the manager that stands for the same may carry out the copy or the move.
+use Rattle.std.proofs.Common.{◌≡◌, ℕ, ◌+◌, ◌*◌, ◌≤◌, ◌^◌, List, Option, None, sym, subst, ◌∙◌, arith}
+use Rattle.vm_ids.specs.Counting.{MapperCounts}
+use Rattle.vm_ids.specs.Held.{Held}
+use Rattle.vm_ids.specs.declared.command.Span.{Span}
+use Rattle.vm_ids.specs.declared.node_name.NodeName.{NodeName}
+use Rattle.vm_ids.specs.Forest.Commands.{firsts, span_pairs}
+use Rattle.vm_ids.specs.Forest.NameLists.{◌∈◌}
+use Rattle.local_cache.specs.Arena.{Arena, locks_of}
+use Rattle.local_cache.specs.Whole.{size_of}
+use Rattle.local_cache.proofs.Nodes.Count.{forest_len}
+use Rattle.residency.specs.declared.store.Store.{Store}
+use Rattle.page_release.specs.Commands.{CanReplace, CanTransfer, HasRoom}
+use Rattle.page_release.specs.Homes.{AreSaved}
+use Rattle.page_release.specs.Steps.{IsStoreTied}
+use Rattle.page_release.proofs.Tying.Tied.{tied_right}
+use Rattle.page_release.proofs.Walking.Ranges.{destination_names}
+use Rattle.contexts.specs.Actors.{Actors}
+use Rattle.pvm_core.specs.Locks.{any_locked, locks_over}
+use Rattle.pvm_core.specs.Manager.{IsSound, IsValid, Manager, numbered}
+use Rattle.pvm_core.specs.Saving.{IsReady, KeepsMachine}
+use Rattle.pvm_core.specs.Spans.{replaced}
+use Rattle.pvm_core.proofs.Accesses.Loading.{size_le}
+use Rattle.pvm_core.proofs.Answering.Kept.{seen}
+use Rattle.pvm_core.proofs.Holding.Counted.{same_locked}
+use Rattle.pvm_core.proofs.Holding.Loose.{unpinned_names, working_unpinned}
+use Rattle.pvm_core.proofs.Meaning.Live.{nodes_most}
+use Rattle.pvm_core.proofs.Spanning.Reserved.{can_copy}
+use Rattle.pvm_core.proofs.Spanning.SpanRows.{IsOpen}
+use Rattle.pvm_core.proofs.Spanning.Transferring.{names_written}
+
+-- from p to the manager with these caches, this store and these actors, with room for so many nodes
+pub record IsReadied (p : Manager) (h g : Option Held) (c d : MapperCounts) (a : Arena) (s : Store) (t : Actors) (span : Span) (nodes : ℕ) : Type 0 where
+  pub valid : IsValid (seen a s t) g
+  pub tied : IsStoreTied s a
+  pub keeps : KeepsMachine p (seen a s t) h g c d
+  pub ready : IsReady (replaced span) nodes p (seen a s t) h g
+  pub out : IsOpen (size_of a span.from.0) (size_of a span.to.0) (any_locked a (replaced span)) span
+
+module _ (p : Manager) (h g : Option Held) (c d : MapperCounts) (a : Arena) (s : Store) (t : Actors) (live : ℕ) (sound : IsSound a s t live) (span : Span) (nodes : ℕ) where
+  pub readied : ((cache page : ℕ) → locks_of p.caches cache page ≡ locks_over p.actors cache page) → IsOpen (size_of p.caches span.from.0) (size_of p.caches span.to.0) (any_locked p.caches (replaced span)) span
+      → IsValid (seen a s t) g → KeepsMachine p (seen a s t) h g c d → IsReady (replaced span) nodes p (seen a s t) h g → IsReadied p h g c d a s t span nodes
+  readied counted out valid keeps ready = record {
+    valid = valid;
+    tied = tied_right g None a s valid.right;
+    keeps = keeps;
+    ready = ready;
+    out = record {
+      from = out.from;
+      to = out.to;
+      from_is = keeps.same.sizes span.from.0 ∙ out.from_is;
+      to_is = keeps.same.sizes span.to.0 ∙ out.to_is;
+      from_ends = out.from_ends;
+      to_ends = out.to_ends;
+      apart = out.apart;
+      unlocked = same_locked p (seen a s t) counted sound.locked.counted keeps.by (replaced span) ∙ out.unlocked;
+    };
+  }
+
+  module _ (many : nodes ≤ 2 * span.pages) (r : IsReadied p h g c d a s t span nodes) where
+    within : span.from_page.0 + span.pages ≤ live
+    within =
+        let out = r.out in
+        omega (arith, sound.counted, size_le a span.from.0 out.from out.from_is, out.from_ends)
+
+    pub readied_transfer : CanTransfer span a
+    readied_transfer =
+        let out = r.out in
+        record {
+          can = can_copy a sound.nodes span out;
+          granted = names_written a span r.ready.writable;
+          within = (omega (arith, sound.few, within), omega (arith, sound.few, sound.counted, size_le a span.to.0 out.to out.to_is, out.to_ends));
+        }
+
+    pub readied_replace : numbered p ≤ 2 ^ 62 → CanReplace nodes span.to (firsts (span_pairs span)) s a
+    readied_replace made = record {
+      retire = record {
+        tied = r.tied;
+        whole = sound.nodes;
+        unpinned = λ x is. unpinned_names a s t.actors sound.locked (replaced span) r.out.unlocked x (subst (λ (xs : List NodeName). x ∈ xs) (destination_names span) is);
+        made = omega (arith, r.keeps.made, made, sound.few, many, within);
+      };
+      saved = subst (AreSaved a span.to) (sym (destination_names span)) r.ready.saved_now;
+      working = working_unpinned a s t.actors sound.locked;
+    }
+
+    pub readied_room : HasRoom nodes a
+    readied_room = record {
+      room = r.ready.room;
+      few = omega (arith, forest_len a, nodes_most sound, sound.few, many, within);
+    }
