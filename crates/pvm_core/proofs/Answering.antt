@@ -7,3 +7,4 @@ pub mod Kept
 pub mod Listed
 pub mod Rising
 pub mod Reaching
+pub mod Standing
