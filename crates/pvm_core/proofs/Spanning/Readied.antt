@@ -2,6 +2,7 @@
 use Rattle.std.proofs.Common.{◌≡◌, ℕ, ◌+◌, ◌*◌, ◌≤◌, ◌^◌, List, Option, None, sym, subst, ◌∙◌, arith}
 use Rattle.vm_ids.specs.Counting.{MapperCounts}
 use Rattle.vm_ids.specs.Held.{Held}
+use Rattle.vm_ids.specs.declared.command.Extent.{Extent}
 use Rattle.vm_ids.specs.declared.command.Span.{Span}
 use Rattle.vm_ids.specs.declared.node_name.NodeName.{NodeName}
 use Rattle.vm_ids.specs.Forest.Commands.{firsts, span_pairs}
@@ -38,24 +39,28 @@ pub record IsReadied (p : Manager) (h g : Option Held) (c d : MapperCounts) (a :
   pub out : IsOpen (size_of a span.from.0) (size_of a span.to.0) (any_locked a (replaced span)) span
 
 module _ (p : Manager) (h g : Option Held) (c d : MapperCounts) (a : Arena) (s : Store) (t : Actors) (live : ℕ) (sound : IsSound a s t live) (span : Span) (nodes : ℕ) where
-  pub readied : ((cache page : ℕ) → locks_of p.caches cache page ≡ locks_over p.actors cache page) → IsOpen (size_of p.caches span.from.0) (size_of p.caches span.to.0) (any_locked p.caches (replaced span)) span
-      → IsValid (seen a s t) g → KeepsMachine p (seen a s t) h g c d → IsReady (replaced span) nodes p (seen a s t) h g → IsReadied p h g c d a s t span nodes
-  readied counted out valid keeps ready = record {
-    valid = valid;
-    tied = tied_right g None a s valid.right;
-    keeps = keeps;
-    ready = ready;
-    out = record {
-      from = out.from;
-      to = out.to;
-      from_is = keeps.same.sizes span.from.0 ∙ out.from_is;
-      to_is = keeps.same.sizes span.to.0 ∙ out.to_is;
-      from_ends = out.from_ends;
-      to_ends = out.to_ends;
-      apart = out.apart;
-      unlocked = same_locked p (seen a s t) counted sound.locked.counted keeps.by (replaced span) ∙ out.unlocked;
-    };
-  }
+  -- from p, which the call that readied the range of these pages knows as old, and by q, as it left the manager
+  pub readied : (old q : Manager) → p ≡ old → seen a s t ≡ q → (range : Extent) → range ≡ replaced span → ((cache page : ℕ) → locks_of p.caches cache page ≡ locks_over p.actors cache page)
+      → IsOpen (size_of p.caches span.from.0) (size_of p.caches span.to.0) (any_locked p.caches (replaced span)) span → IsValid q g → KeepsMachine old q h g c d → IsReady range nodes old q h g → IsReadied p h g c d a s t span nodes
+  readied old q view back range is counted out now kept fit =
+      let valid = subst (λ (m : Manager). IsValid m g) (sym back) now in
+      let keeps = subst (λ (m : Manager). KeepsMachine p m h g c d) (sym back) (subst (λ (m : Manager). KeepsMachine m q h g c d) (sym view) kept) in
+      record {
+        valid = valid;
+        tied = tied_right g None a s valid.right;
+        keeps = keeps;
+        ready = subst (λ (e : Extent). IsReady e nodes p (seen a s t) h g) is (subst (λ (m : Manager). IsReady range nodes p m h g) (sym back) (subst (λ (m : Manager). IsReady range nodes m q h g) (sym view) fit));
+        out = record {
+          from = out.from;
+          to = out.to;
+          from_is = keeps.same.sizes span.from.0 ∙ out.from_is;
+          to_is = keeps.same.sizes span.to.0 ∙ out.to_is;
+          from_ends = out.from_ends;
+          to_ends = out.to_ends;
+          apart = out.apart;
+          unlocked = same_locked p (seen a s t) counted sound.locked.counted keeps.by (replaced span) ∙ out.unlocked;
+        };
+      }
 
   module _ (many : nodes ≤ 2 * span.pages) (r : IsReadied p h g c d a s t span nodes) where
     within : span.from_page.0 + span.pages ≤ live

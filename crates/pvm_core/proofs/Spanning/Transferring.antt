@@ -1,7 +1,7 @@
 -- A copy or a move that isn't carried out, though nothing refuses it but the mapper: a write that is denied, a fault, or want
 -- of memory.
 use Rattle.std.proofs.Common.{◌≡◌, ◌≢◌, ◌⊎◌, ℕ, ◌+◌, ◌-◌, ◌<◌, ◌≤◌, Bool, true, false, length, Option, Some, refl, sym, ap, ◌∙◌, subst, arith, inl, inr}
-use Rattle.std.specs.Prelude.{Err, Result, option_map}
+use Rattle.std.specs.Prelude.{Err, IfErr, Result, option_map}
 use Rattle.std.specs.List.{list_any, range_with_len}
 use Rattle.std.proofs.lemmas.List.Folds.{list_any_at, list_any_none}
 use Rattle.std.proofs.lemmas.List.FromFn.{get_or-range_with_len, length-range_with_len}
@@ -258,14 +258,21 @@ pub record IsUnready (p q : Manager) (h g : Option Held) (c d : MapperCounts) (s
   pub copies : CopiesSaved (replaced span) p h q result
   pub refused : (r : Refusal) → result ≡ Err (troubles.Refused r) → r ≢ refusals.WriteDenied → ⊥
 
-pub unready : (p q : Manager) (h g : Option Held) (c d : MapperCounts) (span : Span) (command : Command) → IsTransfer p span command → KeepsMachine p q h g c d → IsWhole p.caches → IsWhole q.caches → IsValid p h → IsValid q g → (count : ℕ) → size_of p.caches span.to.0 ≡ Some count → span.to_page.0 + span.pages ≤ count
-    → (trouble : Trouble) → IsNotReady (replaced span) p h q g trouble → ((at : FaultAt) → trouble ≡ troubles.Mapper at → Rose c.faults d.faults) → IsUnready p q h g c d span command (Err trouble)
-unready p q h g c d span command T keeps nodes then valid now count size within trouble out rose = record {
-  answers = transfer_failed p q h g c d span command T keeps nodes then valid now count size within trouble out rose;
-  made = failed_made p q h g c d span command T keeps nodes trouble out;
-  copies = failed_copied p q h g c d span command T keeps nodes trouble out;
-  refused = λ r e other. failed_refused p q h g c d span command T keeps nodes trouble out r (let k : trouble ≡ troubles.Refused r = cc e in k) other;
-}
+-- from p, which the call that readied the range of these pages knows as old
+pub unready : (p old q : Manager) → p ≡ old → (h g : Option Held) (c d : MapperCounts) (span : Span) (command : Command) → IsTransfer p span command → IsWhole p.caches → IsWhole q.caches → IsValid old h → IsValid q g → KeepsMachine old q h g c d
+    → (count : ℕ) → size_of p.caches span.to.0 ≡ Some count → span.to_page.0 + span.pages ≤ count → (range : Extent) → range ≡ replaced span → (readied result : Result (Unit {0}) Trouble) (trouble : Trouble) → readied ≡ Err trouble → result ≡ Err trouble
+    → IfErr readied (IsNotReady range old h q g) → ((at : FaultAt) → readied ≡ Err (troubles.Mapper at) → Rose c.faults d.faults) → IsUnready old q h g c d span command result
+unready p old q view h g c d span command T nodes then valid now keeps count size within range is readied result trouble was gave wrong rose =
+    let kept = subst (λ (p : Manager). KeepsMachine p q h g c d) (sym view) keeps in
+    let before = subst (λ (p : Manager). IsValid p h) (sym view) valid in
+    let out : IsNotReady (replaced span) p h q g trouble = subst (λ (e : Extent). IsNotReady e p h q g trouble) is (subst (λ (p : Manager). IsNotReady range p h q g trouble) (sym view) (subst (λ (r : Result (Unit {0}) Trouble). IfErr r (IsNotReady range old h q g)) was wrong)) in
+    subst (λ (p : Manager). IsUnready p q h g c d span command result) view
+    (subst (λ (r : Result (Unit {0}) Trouble). IsUnready p q h g c d span command r) (sym gave) (record {
+      answers = transfer_failed p q h g c d span command T kept nodes then before now count size within trouble out (λ at e. rose at (was ∙ ap (λ t. Err t) e));
+      made = failed_made p q h g c d span command T kept nodes trouble out;
+      copies = failed_copied p q h g c d span command T kept nodes trouble out;
+      refused = λ r e other. failed_refused p q h g c d span command T kept nodes trouble out r (let k : trouble ≡ troubles.Refused r = cc e in k) other;
+    }))
 
 -- each page that is replaced may be written
 pub names_written : (a : Arena) (span : Span) → AreWritable (replaced span) a → (x : NodeName) → x ∈ firsts (span_pairs span) → IsWritable a x

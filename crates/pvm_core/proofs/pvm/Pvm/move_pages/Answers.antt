@@ -1,9 +1,8 @@
 use Rattle.std.proofs.Common.{◌≡◌, ◌≤◌, ◌^◌, false, List, [], Some, None, length, refl, sym, ap, subst, ◌∙◌, arith}
-use Rattle.std.specs.Prelude.{◌||◌, IfErr, OnErr, Result, Ok, Err, unwrap_or}
+use Rattle.std.specs.Prelude.{◌||◌, OnErr, Result, Ok, Err, unwrap_or}
 use Rattle.std.proofs.lemmas.Result.{err_from_is_err_and}
 use Rattle.vm_ids.specs.Held.{Segments, segments_of}
 use Rattle.vm_ids.specs.declared.command.Command.TheVariants as commands
-use Rattle.vm_ids.specs.declared.command.Extent.{Extent}
 use Rattle.vm_ids.specs.declared.node_name.NodeName.{NodeName}
 use Rattle.vm_ids.specs.declared.reply.Reply.TheVariants as replies
 use Rattle.vm_ids.specs.declared.reply.Trouble.{Trouble}
@@ -22,7 +21,7 @@ use Rattle.vm_model.specs.Outcome.{OutcomeAt}
 use Rattle.vm_model.specs.Run.{CallIs}
 use Rattle.pvm_core.specs.Keeping.{CopiesNothing, HasMoreRoom}
 use Rattle.pvm_core.specs.Manager.{IsValid, Manager, forest_of, machine_by, machine_of, numbered, state_at}
-use Rattle.pvm_core.specs.Saving.{CopiesSaved, IsNotReady, IsReady, KeepsMachine, NeedsNothing, is_named}
+use Rattle.pvm_core.specs.Saving.{CopiesSaved, NeedsNothing, is_named}
 use Rattle.vm_ids.proofs.Forest.Laws.Ranges.{pairs_read_sources}
 use Rattle.pvm_core.specs.Locks.{any_locked}
 use Rattle.pvm_core.proofs.Holding.Counted.{any_same, same_locked}
@@ -96,26 +95,12 @@ make_ready-requires-clause-range g c =
 not_ready : (g : Over) (c : After-from_residual g)
     → IsUnready c.args.self.now c.make_ready.new.self (g.M.Mapper.held c.args.mapper.now) (g.M.Mapper.held c.make_ready.new.mapper) (g.M.Mapper.counts c.args.mapper.now) (g.M.Mapper.counts c.make_ready.new.mapper) c.args.span (commands.Move c.args.span) c.from_residual.result
 not_ready g c =
-    let i = c.self.inside in
-    let s = c.args.span in
-    let q = c.make_ready.new.self in
+    let at = (goal.at.After-from_residual g c).In_default in
     let e = c.make_ready.ensures in
-    let h = g.M.Mapper.held c.args.mapper.now in
-    let k = g.M.Mapper.held c.make_ready.new.mapper in
-    let before = g.M.Mapper.counts c.args.mapper.now in
-    let after = g.M.Mapper.counts c.make_ready.new.mapper in
-    let p : Manager = seen i.caches i.store i.contexts in
-    let out = open_span g (goal.at.After-from_residual g c).In_default in
-    let keeps : KeepsMachine p q h k before after = subst (λ (p : Manager). KeepsMachine p q h k before after) (sym c.self.view_is) e.keeps in
+    let out = open_span g at in
     let gave = err_from_is_err_and c.from_residual.result c.from_residual.ensures.1 in
-    let trouble = c.in_err-make_ready.field-0.0 in
-    let is : c.from_residual.result ≡ Err trouble = gave.1 ∙ ap (λ t. Err t) gave.2 in
-    let wrong : IsNotReady (replaced s) p h q k trouble = subst (λ (e : Extent). IsNotReady e p h q k trouble) c.destination.ensures
-    (subst (λ (p : Manager). IsNotReady c.destination.result p h q k trouble) (sym c.self.view_is) (subst (λ (r : Result _ Trouble). IfErr r (IsNotReady c.destination.result c.args.self.now h q k)) c.in_err-make_ready.was e.not_ready)) in
-    subst (λ (p : Manager). IsUnready p q h k before after s (commands.Move s) c.from_residual.result) c.self.view_is
-    (subst (λ (r : Result _ Trouble). IsUnready p q h k before after s (commands.Move s) r) (sym is)
-    (unready p q h k before after s (commands.Move s) (transfer g (goal.at.After-from_residual g c).In_default) keeps c.self.invariant.sound.nodes e.whole (subst (λ (p : Manager). IsValid p h) (sym c.self.view_is) c.requires.valid) e.valid out.to out.to_is out.to_ends trouble wrong
-    (λ at is. e.cause at (c.in_err-make_ready.was ∙ ap (λ t. Err t) is))))
+    unready (seen c.self.inside.caches c.self.inside.store c.self.inside.contexts) c.args.self.now c.make_ready.new.self c.self.view_is _ _ _ _ c.args.span (commands.Move c.args.span) (transfer g at) c.self.invariant.sound.nodes e.whole c.requires.valid e.valid e.keeps out.to out.to_is out.to_ends
+    c.destination.result c.destination.ensures c.make_ready.result c.from_residual.result c.in_err-make_ready.field-0.0 c.in_err-make_ready.was (gave.1 ∙ ap (λ t. Err t) gave.2) e.not_ready e.cause
 
 pub returns-in_err-make_ready-clause-answers : goal.returns-in_err-make_ready-clause-answers
 returns-in_err-make_ready-clause-answers g c = (not_ready g c).answers
@@ -145,22 +130,10 @@ returns-in_err-make_ready-clause-idle g c = λ nothing.
 ready_span : (g : Over) (c : After-self-2 g)
     → IsReadied (seen c.self.inside.caches c.self.inside.store c.self.inside.contexts) (g.M.Mapper.held c.args.mapper.now) (g.M.Mapper.held c.make_ready.new.mapper) (g.M.Mapper.counts c.args.mapper.now) (g.M.Mapper.counts c.make_ready.new.mapper) c.self-2.inside.caches c.self-2.inside.store c.self-2.inside.contexts c.args.span c.args.span.pages
 ready_span g c =
-    let i = c.self.inside in
     let j = c.self-2.inside in
-    let q = c.make_ready.new.self in
     let e = c.make_ready.ensures in
-    let h = g.M.Mapper.held c.args.mapper.now in
-    let k = g.M.Mapper.held c.make_ready.new.mapper in
-    let before = g.M.Mapper.counts c.args.mapper.now in
-    let after = g.M.Mapper.counts c.make_ready.new.mapper in
-    let p : Manager = seen i.caches i.store i.contexts in
-    let b : Manager = seen j.caches j.store j.contexts in
-    let back = sym c.self-2.view_is in
-    let keeps : KeepsMachine p q h k before after = subst (λ (p : Manager). KeepsMachine p q h k before after) (sym c.self.view_is) e.keeps in
-    let ready : IsReady c.destination.result c.args.span.pages p q h k = subst (λ (p : Manager). IsReady c.destination.result c.args.span.pages p q h k) (sym c.self.view_is) c.in_ok-make_ready.ensures.ready in
-    readied p h k before after j.caches j.store j.contexts j.live c.self-2.invariant.sound c.args.span c.args.span.pages c.self.invariant.sound.locked.counted (open_span g (goal.at.After-self-2 g c).In_default)
-    (subst (λ (p : Manager). IsValid p k) back e.valid) (subst (λ (r : Manager). KeepsMachine p r h k before after) back keeps)
-    (subst (λ (e : Extent). IsReady e c.args.span.pages p b h k) c.destination.ensures (subst (λ (r : Manager). IsReady c.destination.result c.args.span.pages p r h k) back ready))
+    readied (seen c.self.inside.caches c.self.inside.store c.self.inside.contexts) (g.M.Mapper.held c.args.mapper.now) (g.M.Mapper.held c.make_ready.new.mapper) (g.M.Mapper.counts c.args.mapper.now) (g.M.Mapper.counts c.make_ready.new.mapper) j.caches j.store j.contexts j.live c.self-2.invariant.sound c.args.span c.args.span.pages
+    c.args.self.now c.make_ready.new.self c.self.view_is c.self-2.view_is c.destination.result c.destination.ensures c.self.invariant.sound.locked.counted (open_span g (goal.at.After-self-2 g c).In_default) e.valid e.keeps c.in_ok-make_ready.ensures.ready
 
 pub move_pages-requires-clause-ready : goal.move_pages-requires-clause-ready
 move_pages-requires-clause-ready g c = readied_replace (seen c.self.inside.caches c.self.inside.store c.self.inside.contexts) _ _ _ _ c.self-2.inside.caches c.self-2.inside.store c.self-2.inside.contexts c.self-2.inside.live c.self-2.invariant.sound c.args.span c.args.span.pages (omega arith) (ready_span g (goal.at.move_pages-requires-clause-ready g c).After-self-2) (subst (λ (p : Manager). numbered p ≤ 2 ^ 62) (sym c.self.view_is) c.requires.made)
