@@ -1,7 +1,6 @@
-use Rattle.std.proofs.Common.{◌≡◌, ◌≤◌, ◌^◌, false, List, [], Some, None, length, refl, sym, ap, subst, ◌∙◌, arith}
+use Rattle.std.proofs.Common.{◌≡◌, ◌*◌, ◌≤◌, ◌^◌, false, List, [], None, refl, sym, ap, subst, ◌∙◌, arith}
 use Rattle.std.specs.Prelude.{◌||◌, OnErr, Result, Ok, Err, unwrap_or}
 use Rattle.std.proofs.lemmas.Result.{err_from_is_err_and}
-use Rattle.vm_ids.specs.Held.{Segments, segments_of}
 use Rattle.vm_ids.specs.declared.command.Command.TheVariants as commands
 use Rattle.vm_ids.specs.declared.node_name.NodeName.{NodeName}
 use Rattle.vm_ids.specs.declared.reply.Reply.TheVariants as replies
@@ -12,12 +11,9 @@ use Rattle.vm_ids.specs.Forest.NameLists.{◌∈◌}
 use Rattle.local_cache.specs.Arena.{table_of}
 use Rattle.local_cache.specs.Whole.{size_of}
 use Rattle.segment_ops.specs.Ranges.{HasRange}
-use Rattle.vm_model.specs.Asking.{pages_touched}
-use Rattle.vm_model.specs.Answering.{Answer, is_any_denied}
-use Rattle.vm_model.specs.Following.{forest_after}
-use Rattle.vm_model.specs.Machine.{Machine, cache_of}
+use Rattle.vm_model.specs.Answering.{Answer}
+use Rattle.vm_model.specs.Machine.{cache_of}
 use Rattle.vm_model.specs.PageForest.{page_in, told}
-use Rattle.vm_model.specs.Outcome.{OutcomeAt}
 use Rattle.vm_model.specs.Run.{CallIs}
 use Rattle.pvm_core.specs.Keeping.{CopiesNothing, HasMoreRoom}
 use Rattle.pvm_core.specs.Manager.{IsValid, Manager, forest_of, machine_by, machine_of, numbered, state_at}
@@ -25,23 +21,19 @@ use Rattle.pvm_core.specs.Saving.{CopiesSaved, NeedsNothing, is_named}
 use Rattle.vm_ids.proofs.Forest.Laws.Ranges.{pairs_read_sources}
 use Rattle.pvm_core.specs.Locks.{any_locked}
 use Rattle.pvm_core.proofs.Holding.Counted.{any_same, same_locked}
-use Rattle.pvm_core.proofs.Holding.Kept.{held_released}
 use Rattle.pvm_core.proofs.Holding.Loose.{unpinned_names}
 use Rattle.pvm_core.specs.Spans.{copy_refusal, move_refusal, read_from, replaced}
 use Rattle.pvm_core.specs.contracts.pvm.Pvm.{the_view}
-use Rattle.pvm_core.proofs.Answering.Answered.{call_is, failed}
+use Rattle.pvm_core.proofs.Answering.Answered.{failed}
 use Rattle.pvm_core.proofs.Answering.Ended.{Ended}
-use Rattle.pvm_core.proofs.Answering.Changed.{changed_sound, slots_enough}
-use Rattle.pvm_core.proofs.Readiness.Copies.{range_copied}
 use Rattle.pvm_core.proofs.Answering.Kept.{seen}
 use Rattle.pvm_core.proofs.Accesses.Loading.{sized_table}
 use Rattle.pvm_core.proofs.Answering.Reaching.{reach_none}
 use Rattle.pvm_core.proofs.Readiness.Readying.{named_same}
-use Rattle.pvm_core.proofs.Spanning.Readied.{IsReadied, readied, readied_replace, readied_room, readied_transfer}
-use Rattle.pvm_core.proofs.Answering.Rising.{rises_between}
+use Rattle.pvm_core.proofs.Spanning.Readied.{IsReadied, readied, readied_replace, readied_room, readied_transfer, transferred, transferred_right, undenied_then}
 use Rattle.pvm_core.proofs.Meaning.Shown.{shown_size}
 use Rattle.pvm_core.proofs.Spanning.SpanRows.{IsOpen, is_movable, is_open, move_refused}
-use Rattle.pvm_core.proofs.Spanning.Transferring.{IsTransfer, IsUnready, copies_nothing, undenied_range, unready}
+use Rattle.pvm_core.proofs.Spanning.Transferring.{IsTransfer, IsUnready, copies_nothing, unready}
 use Rattle.pvm_core.proofs.Spanning.Transfers.{move_follows, moved_outcome, moved_transfer, moved_valid, named_machine, named_there}
 use Rattle.pvm_core.proofs.Translating.Left.{left_right}
 use Rattle.pvm_core.proofs.Translating.Writable.{homes_writable}
@@ -169,7 +161,7 @@ moved : (g : Over) (c : After-move_pages g)
     → Ended c.args.self.now c.move_pages.new.caches c.move_pages.new.store c.self-2.inside.contexts c.self-2.inside.live (g.M.Mapper.held c.args.mapper.now) (g.M.Mapper.held c.make_ready.new.mapper) (g.M.Mapper.counts c.args.mapper.now) (g.M.Mapper.counts c.make_ready.new.mapper) (commands.Move c.args.span) (Ok replies.Done)
     × CopiesSaved (replaced c.args.span) c.args.self.now (g.M.Mapper.held c.args.mapper.now) (seen c.move_pages.new.caches c.move_pages.new.store c.self-2.inside.contexts) (Ok tt)
 moved g c =
-    let i = c.self.inside in
+    let at = goal.at.After-move_pages g c in
     let j = c.self-2.inside in
     let sound = c.self-2.invariant.sound in
     let s = c.args.span in
@@ -177,35 +169,21 @@ moved g c =
     let k = g.M.Mapper.held c.make_ready.new.mapper in
     let before = g.M.Mapper.counts c.args.mapper.now in
     let after = g.M.Mapper.counts c.make_ready.new.mapper in
-    let p : Manager = seen i.caches i.store i.contexts in
-    let b : Manager = seen j.caches j.store j.contexts in
-    let r = ready_span g (goal.at.After-move_pages g c).After-self-2 in
+    let p : Manager = seen c.self.inside.caches c.self.inside.store c.self.inside.contexts in
+    let r = ready_span g at.After-self-2 in
     let e = c.move_pages.ensures in
     let d = c.move_pages.new.caches in
     let u = c.move_pages.new.store in
-    let z : Manager = seen d u j.contexts in
     let from = sized_table (table_of j.caches s.from.0) r.out.from r.out.from_is in
     let to = sized_table (table_of j.caches s.to.0) r.out.to r.out.to_is in
-    let right = e.pages.right (slots_enough j.caches d j.store u j.contexts j.live sound e.kept.sizes e.kept.gives_back r.tied e.pages.whole) in
-    let answer : Answer = Ok replies.Done in
-    let rises = rises_between (length r.keeps.reach.pushes) before after in
-    let may : (sg : Segments) → segments_of k ≡ Some sg → is_any_denied (machine_of b k) sg s ≡ false = λ sg e. undenied_range b k sound.nodes r.valid.right s r.out.to r.out.to_is r.out.to_ends r.ready.writable (forest_of b k) k sg refl e in
-    let now = moved_valid j.caches j.store j.contexts j.live sound s r.out from.0 to.0 from.1 to.1 from.2 to.2 d u e.kept.sizes e.kept.gives_back r.tied e.pages.whole k r.valid right e.rule.forest in
+    let many : c.args.span.pages ≤ 2 * s.pages = omega arith in
+    let right = transferred_right p h k before after j.caches j.store j.contexts j.live sound s c.args.span.pages many r d u e.kept e.pages in
+    let may = undenied_then p h k before after j.caches j.store j.contexts j.live sound s c.args.span.pages many r in
     let named = named_machine p (forest_of p h) s.to.0 in
-    let outcome : OutcomeAt (segments_of k) (machine_of p h) (Some (forest_of p h)) (commands.Move s) answer (machine_of z k) rises
-    = subst (λ (m : Machine). OutcomeAt (segments_of k) m (Some (forest_of p h)) (commands.Move s) answer (machine_of z k) rises) r.keeps.machine (moved_outcome j.caches j.store j.contexts j.live sound s r.out from.0 to.0 from.1 to.1 from.2 to.2 d u e.kept.sizes e.kept.gives_back r.tied e.pages.whole k r.valid right e.rule.forest (source g (goal.at.After-move_pages g c).After-self-2).0 (source g (goal.at.After-move_pages g c).After-self-2).1 (forest_of p h) rises may) in
-    let follows : forest_of z k ≡ forest_after (forest_of p h) (machine_of p h) (commands.Move s) answer (machine_of z k) = move_follows j.caches j.store j.contexts j.live sound s r.out from.0 to.0 from.1 to.1 from.2 to.2 d u e.kept.sizes e.kept.gives_back r.tied e.pages.whole k r.valid right e.rule.forest c.requires.some (is_named i.caches s.to.0) (forest_of p h) r.ready.forest ∙ (λ x. move_ (sym named x) (told (unwrap_or (page_in (machine_of z k) s.from.0 s.from_page.0) [])) (span_pairs s) (forest_of p h)) in
-    let saves = range_copied p b h k (replaced s) c.self.invariant.sound.nodes (is_named i.caches s.to.0) r.ready.forest in
-    let touched : s.pages ≤ pages_touched (machine_of p h) (commands.Move s) = (transfer g (goal.at.After-move_pages g c).In_default).touched (machine_of p h) in
-    subst (λ (p : Manager). Ended p d u j.contexts j.live h k before after (commands.Move s) answer × CopiesSaved (replaced s) p h z (Ok tt)) c.self.view_is (
-      record {
-        sound = changed_sound j.caches d j.store u j.contexts j.live sound e.kept.sizes e.kept.gives_back r.tied e.pages.whole e.pages.settles.bounded (held_released _ j.caches d j.store u e.kept r.tied j.contexts sound.nodes sound.actors sound.locked);
-        valid = now;
-        answers = call_is before after p z h k (commands.Move s) answer r.keeps.reach now tt tt follows outcome;
-        made = omega (arith, e.pages.settles.made, e.pages.settles.copies, r.keeps.made, saves.1, touched);
-      },
-      e.pages.settles.copies ∙ saves.0,
-    )
+    transferred p h k before after j.caches j.store j.contexts j.live sound s c.args.span.pages many r d u e.kept e.pages c.args.self.now c.self.view_is c.self.invariant.sound.nodes (commands.Move s) (transfer g at.In_default)
+    (moved_valid j.caches j.store j.contexts j.live sound s r.out from.0 to.0 from.1 to.1 from.2 to.2 d u e.kept.sizes e.kept.gives_back r.tied e.pages.whole k r.valid right e.rule.forest)
+    (moved_outcome j.caches j.store j.contexts j.live sound s r.out from.0 to.0 from.1 to.1 from.2 to.2 d u e.kept.sizes e.kept.gives_back r.tied e.pages.whole k r.valid right e.rule.forest (source g at.After-self-2).0 (source g at.After-self-2).1 (forest_of p h) _ may)
+    (move_follows j.caches j.store j.contexts j.live sound s r.out from.0 to.0 from.1 to.1 from.2 to.2 d u e.kept.sizes e.kept.gives_back r.tied e.pages.whole k r.valid right e.rule.forest c.requires.some (is_named p.caches s.to.0) (forest_of p h) r.ready.forest ∙ (λ x. move_ (sym named x) (told (unwrap_or (page_in (machine_of (seen d u j.contexts) k) s.from.0 s.from_page.0) [])) (span_pairs s) (forest_of p h)))
 
 pub invariant_of-self : goal.invariant_of-self
 invariant_of-self g c = record {
