@@ -1,14 +1,16 @@
-use Rattle.std.proofs.Common.{◌≡◌, ◌+◌, ◌-◌, ◌<◌, ◌≤◌, ◌^◌, true, false, length, refl, sym, ap, subst, ◌∙◌, arith}
+use Rattle.std.proofs.Common.{◌≡◌, ◌+◌, ◌-◌, ◌<◌, ◌≤◌, ◌^◌, true, length, refl, sym, ap, subst, ◌∙◌, arith}
 use Rattle.std.specs.Prelude.{Ok, Err, is_some, nat_lt}
 use Rattle.vm_ids.specs.Counting.{MapperCounts}
 use Rattle.vm_ids.specs.declared.command.Command.TheVariants as commands
 use Rattle.vm_ids.specs.declared.command.Mapping.{Mapping}
+use Rattle.vm_ids.specs.declared.refusal.Refusal.{Refusal}
 use Rattle.vm_ids.specs.declared.refusal.Refusal.TheVariants as refusals
 use Rattle.vm_ids.specs.declared.reply.FaultAt.TheVariants as faults
 use Rattle.vm_ids.specs.declared.reply.Reply.TheVariants as replies
 use Rattle.vm_ids.specs.declared.reply.Trouble.TheVariants as troubles
 use Rattle.vm_ids.specs.Forest.Commands.{extent_names}
 use Rattle.vm_model.specs.Answering.{Answer, lock_of, refuse}
+use Rattle.vm_model.specs.PageForest.{PageForest}
 use Rattle.vm_model.specs.Run.{CallIs}
 use Rattle.vm_model.specs.declared.limits.TheConstants.{UNLOCKED_FRAMES}
 use Rattle.local_cache.specs.Arena.{locked_count}
@@ -18,8 +20,6 @@ use Rattle.residency.specs.World.{world}
 use Rattle.segment_ops.specs.Ranges.{HasRange}
 use Rattle.segment_ops.proofs.Unsaved.{range_fits}
 use Rattle.contexts.specs.Actors.{Actors}
-use Rattle.vm_ids.specs.declared.refusal.Refusal.{Refusal}
-use Rattle.vm_model.specs.PageForest.{PageForest}
 use Rattle.pvm_core.specs.Holding.{AreOwned, FailedToHold, LocksMore, unlocked_in}
 use Rattle.pvm_core.specs.Manager.{IsValid, Manager, caches_shown, machine_by, machine_of, numbered, state_at}
 use Rattle.pvm_core.proofs.Answering.Answered.{failed}
