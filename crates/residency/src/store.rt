@@ -15,10 +15,11 @@ ghost use Rattle.residency.specs.Between.{Across, Between, RightStore};
 ghost use Rattle.residency.specs.Causes.{HasMissCause, Later, Traffic, PushFailed, dirtied, dirty_count, dirty_in, failed_pushes, failed_victims, frames_to_bring, is_victim, pulls_for, pushes_for, pushes_to_bring};
 ghost use Rattle.residency.specs.Evicting.{HasLeft, IsEvicted, IsInSlot};
 ghost use Rattle.residency.specs.Frames.{evictable_count, free_frames, with_held, with_pinned};
+ghost use Rattle.residency.specs.Freeing.{MakesFree};
 ghost use Rattle.residency.specs.Lending.{LendsFrame, LendsTables};
 ghost use Rattle.residency.specs.Pushing.{TellsOn};
 ghost use Rattle.residency.specs.Translating.{IsEmptied, TablesAfter};
-ghost use Rattle.residency.specs.World.{HasNoNodes, HasOwnPage, HoldsPage, HasUnpinned, IsAway, IsFrameOf, IsMadeFree, IsStoreRight, IsTaken, OthersStay, OthersStayBut, Still, StillBut, brought_in, is_clean, world};
+ghost use Rattle.residency.specs.World.{HasNoNodes, HasOwnPage, HoldsPage, HasUnpinned, IsAway, IsFrameOf, IsStoreRight, IsTaken, OthersStay, OthersStayBut, Still, StillBut, brought_in, is_clean, world};
 
 use crate::Miss;
 use crate::marks::Marks;
@@ -370,30 +371,16 @@ impl Store {
     ) -> Result<FrameId, Failed>
         requires right { RightStore M.held M.page_bytes mapper.old caches.old self.old }
         requires unpinned { HasUnpinned self.old.frames }
-        ensures still { Between Still M.held M.page_bytes
+        ensures free { Across (MakesFree result (pushes_for self.old.frames.held))
+            M.held M.page_bytes M.counts
             mapper.old caches.old self.old mapper.new caches.new self.new }
-        ensures told { Across TellsOn M.held M.page_bytes M.counts
-            mapper.old caches.old self.old mapper.new caches.new self.new }
-        ensures free { IfOk result (λ f. Between (IsMadeFree f.0) M.held M.page_bytes
-            mapper.old caches.old self.old mapper.new caches.new self.new) }
         ensures tables { TablesAfter self.old self.new }
-        ensures pinned { OnErr result (self.new.frames.pinned ≡ self.old.frames.pinned) }
         ensures held { OnOk result (held_count self.new.frames + pushes_for self.old.frames.held
             ≡ held_count self.old.frames + 1) }
         ensures failed_held { OnErr result (
             held_count self.new.frames ≡ held_count self.old.frames) }
-        ensures others { Between OthersStay M.held M.page_bytes
-            mapper.old caches.old self.old mapper.new caches.new self.new }
         ensures idle { pushes_for self.old.frames.held ≡ 0 → mapper.new ≡ mapper.old }
         ensures idle_caches { pushes_for self.old.frames.held ≡ 0 → caches.new ≡ caches.old }
-        ensures later { Later (M.counts mapper.old) (M.counts mapper.new) }
-        ensures traffic { Traffic 0
-            (dirty_count caches.old - dirty_count caches.new + failed_pushes result)
-            (M.counts mapper.old) (M.counts mapper.new) }
-        ensures dirty { dirty_count caches.new ≤ dirty_count caches.old }
-        ensures few { dirty_count caches.old - dirty_count caches.new + failed_pushes result
-            ≤ pushes_for self.old.frames.held }
-        ensures cause { OnErr result (PushFailed (M.counts mapper.old) (M.counts mapper.new)) }
     {
         match self.frames.take() {
             Some(frame) => {
@@ -414,24 +401,10 @@ impl Store {
         requires right { RightStore M.held M.page_bytes mapper.old caches.old self.old }
         requires unpinned { HasUnpinned self.old.frames }
         requires full { All (λ h. h ≡ true) self.old.frames.held }
-        ensures still { Between Still M.held M.page_bytes
+        ensures free { Across (MakesFree result 1) M.held M.page_bytes M.counts
             mapper.old caches.old self.old mapper.new caches.new self.new }
-        ensures told { Across TellsOn M.held M.page_bytes M.counts
-            mapper.old caches.old self.old mapper.new caches.new self.new }
-        ensures free { IfOk result (λ f. Between (IsMadeFree f.0) M.held M.page_bytes
-            mapper.old caches.old self.old mapper.new caches.new self.new) }
         ensures tables { TablesAfter self.old self.new }
-        ensures pinned { OnErr result (self.new.frames.pinned ≡ self.old.frames.pinned) }
         ensures held { held_count self.new.frames ≡ held_count self.old.frames }
-        ensures others { Between OthersStay M.held M.page_bytes
-            mapper.old caches.old self.old mapper.new caches.new self.new }
-        ensures later { Later (M.counts mapper.old) (M.counts mapper.new) }
-        ensures traffic { Traffic 0
-            (dirty_count caches.old - dirty_count caches.new + failed_pushes result)
-            (M.counts mapper.old) (M.counts mapper.new) }
-        ensures dirty { dirty_count caches.new ≤ dirty_count caches.old }
-        ensures few { dirty_count caches.old - dirty_count caches.new + failed_pushes result ≤ 1 }
-        ensures cause { OnErr result (PushFailed (M.counts mapper.old) (M.counts mapper.new)) }
     {
         let victim = self.marks.pick(&self.frames, chooser);
         self.evict(caches, victim, mapper)?;
