@@ -12,14 +12,15 @@ ghost use Rattle.local_cache.specs.Arena.{Arena, HasNode, with_own};
 ghost use Rattle.local_cache.specs.Home.{home_of};
 ghost use Rattle.local_cache.specs.Own.{is_resident, own_of};
 ghost use Rattle.residency.specs.Between.{Across, Between, RightStore};
-ghost use Rattle.residency.specs.Causes.{HasMissCause, Later, Traffic, PushFailed, dirtied, dirty_count, dirty_in, failed_pushes, failed_victims, frames_to_bring, is_victim, pulls_for, pushes_for, pushes_to_bring};
+ghost use Rattle.residency.specs.Causes.{HasMissCause, Later, Traffic, PushFailed, dirtied, dirty_count, dirty_in, failed_pushes, failed_victims, frames_to_bring, pulls_for, pushes_for, pushes_to_bring};
 ghost use Rattle.residency.specs.Evicting.{HasLeft, IsEvicted, IsInSlot};
+ghost use Rattle.residency.specs.Filling.{Fills};
 ghost use Rattle.residency.specs.Frames.{evictable_count, free_frames, with_held, with_pinned};
 ghost use Rattle.residency.specs.Freeing.{MakesFree};
 ghost use Rattle.residency.specs.Lending.{LendsFrame, LendsTables};
 ghost use Rattle.residency.specs.Pushing.{TellsOn};
 ghost use Rattle.residency.specs.Translating.{IsEmptied, TablesAfter};
-ghost use Rattle.residency.specs.World.{HasNoNodes, HasOwnPage, HoldsPage, HasUnpinned, IsAway, IsFrameOf, IsStoreRight, IsTaken, OthersStay, OthersStayBut, Still, StillBut, brought_in, is_clean, world};
+ghost use Rattle.residency.specs.World.{HasNoNodes, HasOwnPage, HoldsPage, HasUnpinned, IsAway, IsFrameOf, IsStoreRight, IsTaken, OthersStay, OthersStayBut, Still, brought_in, is_clean, world};
 
 use crate::Miss;
 use crate::marks::Marks;
@@ -526,31 +527,10 @@ impl Store {
         requires taken { IsTaken
             (world (M.held mapper.old) (M.page_bytes mapper.old) caches.old self.old)
             frame.0 }
-        ensures still { Between (StillBut frame.0) M.held M.page_bytes
+        ensures fills { Across (Fills result node frame.0 (M.given mapper.new))
+            M.held M.page_bytes M.counts
             mapper.old caches.old self.old mapper.new caches.new self.new }
-        ensures home { IfOk result (λ f. IsFrameOf self.new.map f.0 node) }
-        ensures state { OnOk result (
-            own_of caches.new node ≡ brought_in (own_of caches.old node)) }
-        ensures page { IfOk result (λ f.
-            HoldsPage (own_of caches.old node) (M.given mapper.new) self.new.frames f.0) }
-        ensures others { Between (OthersStayBut node) M.held M.page_bytes
-            mapper.old caches.old self.old mapper.new caches.new self.new }
-        ensures failed { OnErr result (Between OthersStay M.held M.page_bytes
-            mapper.old caches.old self.old mapper.new caches.new self.new) }
-        ensures bound { OnOk result (
-            self.new.map ≡ slice_set self.old.map frame.0 (Some node)) }
-        ensures unbound { OnErr result (self.new.map ≡ self.old.map) }
         ensures tables { self.new.tables ≡ self.old.tables }
-        ensures pinned { self.new.frames.pinned ≡ slice_set self.old.frames.pinned frame.0 false }
-        ensures later { Later (M.counts mapper.old) (M.counts mapper.new) }
-        ensures held { OnOk result (self.new.frames.held ≡ self.old.frames.held) }
-        ensures traffic { Traffic (pulls_for result (own_of caches.old node)) 0
-            (M.counts mapper.old) (M.counts mapper.new) }
-        ensures dirty { dirty_count caches.new
-            ≡ dirty_count caches.old + dirtied result (own_of caches.old node) }
-        ensures told { M.held mapper.new ≡ M.held mapper.old }
-        ensures filled { is_victim result ≡ false }
-        ensures cause { IfErr result (HasMissCause (M.counts mapper.old) (M.counts mapper.new)) }
     {
         match caches.own_state(node) {
             OwnState::Slot(slot) => self.pull_slot(caches, node, slot, frame, mapper),
@@ -578,30 +558,10 @@ impl Store {
         requires taken { IsTaken
             (world (M.held mapper.old) (M.page_bytes mapper.old) caches.old self.old)
             frame.0 }
-        ensures still { Between (StillBut frame.0) M.held M.page_bytes
+        ensures fills { Across (Fills result node frame.0 (M.given mapper.new))
+            M.held M.page_bytes M.counts
             mapper.old caches.old self.old mapper.new caches.new self.new }
-        ensures home { IfOk result (λ f. IsFrameOf self.new.map f.0 node) }
-        ensures state { OnOk result (
-            own_of caches.new node ≡ brought_in (own_of caches.old node)) }
-        ensures page { IfOk result (λ f.
-            HoldsPage (own_of caches.old node) (M.given mapper.new) self.new.frames f.0) }
-        ensures others { Between (OthersStayBut node) M.held M.page_bytes
-            mapper.old caches.old self.old mapper.new caches.new self.new }
-        ensures failed { OnErr result (Between OthersStay M.held M.page_bytes
-            mapper.old caches.old self.old mapper.new caches.new self.new) }
-        ensures bound { OnOk result (
-            self.new.map ≡ slice_set self.old.map frame.0 (Some node)) }
-        ensures unbound { OnErr result (self.new.map ≡ self.old.map) }
         ensures tables { self.new.tables ≡ self.old.tables }
-        ensures pinned { self.new.frames.pinned ≡ slice_set self.old.frames.pinned frame.0 false }
-        ensures later { Later (M.counts mapper.old) (M.counts mapper.new) }
-        ensures held { OnOk result (self.new.frames.held ≡ self.old.frames.held) }
-        ensures traffic { Traffic 1 0 (M.counts mapper.old) (M.counts mapper.new) }
-        ensures dirty { dirty_count caches.new
-            ≡ dirty_count caches.old + dirtied result (own_of caches.old node) }
-        ensures told { M.held mapper.new ≡ M.held mapper.old }
-        ensures filled { is_victim result ≡ false }
-        ensures cause { IfErr result (HasMissCause (M.counts mapper.old) (M.counts mapper.new)) }
     {
         match mapper.swap_in(slot, self.frames.bytes_mut(frame)) {
             Ok(()) => {
@@ -630,30 +590,10 @@ impl Store {
         requires taken { IsTaken
             (world (M.held mapper.old) (M.page_bytes mapper.old) caches.old self.old)
             frame.0 }
-        ensures still { Between (StillBut frame.0) M.held M.page_bytes
+        ensures fills { Across (Fills result node frame.0 (M.given mapper.new))
+            M.held M.page_bytes M.counts
             mapper.old caches.old self.old mapper.new caches.new self.new }
-        ensures home { IfOk result (λ f. IsFrameOf self.new.map f.0 node) }
-        ensures state { OnOk result (
-            own_of caches.new node ≡ brought_in (own_of caches.old node)) }
-        ensures page { IfOk result (λ f.
-            HoldsPage (own_of caches.old node) (M.given mapper.new) self.new.frames f.0) }
-        ensures others { Between (OthersStayBut node) M.held M.page_bytes
-            mapper.old caches.old self.old mapper.new caches.new self.new }
-        ensures failed { OnErr result (Between OthersStay M.held M.page_bytes
-            mapper.old caches.old self.old mapper.new caches.new self.new) }
-        ensures bound { OnOk result (
-            self.new.map ≡ slice_set self.old.map frame.0 (Some node)) }
-        ensures unbound { OnErr result (self.new.map ≡ self.old.map) }
         ensures tables { self.new.tables ≡ self.old.tables }
-        ensures pinned { self.new.frames.pinned ≡ slice_set self.old.frames.pinned frame.0 false }
-        ensures later { Later (M.counts mapper.old) (M.counts mapper.new) }
-        ensures held { OnOk result (self.new.frames.held ≡ self.old.frames.held) }
-        ensures traffic { Traffic 1 0 (M.counts mapper.old) (M.counts mapper.new) }
-        ensures dirty { dirty_count caches.new
-            ≡ dirty_count caches.old + dirtied result (own_of caches.old node) }
-        ensures told { M.held mapper.new ≡ M.held mapper.old }
-        ensures filled { is_victim result ≡ false }
-        ensures cause { IfErr result (HasMissCause (M.counts mapper.old) (M.counts mapper.new)) }
     {
         let home = caches.home(node).unwrap();
         match mapper.pull_in(home.segment, home.page, self.frames.bytes_mut(frame)) {
