@@ -8,12 +8,12 @@ use Rattle.residency.specs.declared.miss.Miss.{Miss}
 use Rattle.residency.specs.Causes.{HasMissCause, Later, Traffic, dirtied, dirty_count, is_victim, pulls_for}
 use Rattle.residency.specs.World.{HoldsPage, IsFrameOf, OthersStay, OthersStayBut, StillBut, World, brought_in}
 
--- A call put the own page of node n into frame f, which was made free for it, by its result and the
--- worlds before it and after it. The mapper gave this page last, where it tells that. Or the pull
--- failed, and the frame was given back.
+-- A call put the own page of node n into frame f, which its taker has, by its result and the worlds
+-- before it and after it; `last` is the page that the mapper gave last, where it tells that. Or it
+-- failed, and gave the frame back.
 pub record Fills (result : Result FrameId Miss) (n : NodeId) (f : ℕ) (last : Option (List ℕ))
     (old new : World) (before now : MapperCounts) : Type 0 where
-  -- every page is still, and so is every pinned frame but f
+  -- every page is still, and so is each pinned frame but f
   pub still : StillBut f old new
   -- the frame that it answers is the node's
   pub home : IfOk result (λ g. IsFrameOf new.map g.0 n)
@@ -23,24 +23,24 @@ pub record Fills (result : Result FrameId Miss) (n : NodeId) (f : ℕ) (last : O
   pub page : IfOk result (λ g. HoldsPage (own_of old.caches n) last new.frames g.0)
   -- no other page comes to a frame
   pub others : OthersStayBut n old new
-  -- and after a fault none does
+  -- or none does
   pub failed : OnErr result (OthersStay old new)
-  -- the node is in f
+  -- f has the node
   pub bound : OnOk result (new.map ≡ slice_set old.map f (Some n))
-  -- and after a fault none is
+  -- or each frame has the node that it had, or none
   pub unbound : OnErr result (new.map ≡ old.map)
   -- f is pinned no more
   pub pinned : new.frames.pinned ≡ slice_set old.frames.pinned f false
-  -- and it stays held
+  -- and is held still, where it was filled
   pub held : OnOk result (new.frames.held ≡ old.frames.held)
   -- the mapper holds what it held
   pub told : new.told ≡ old.told
-  -- the counts rose
+  -- no count fell
   pub later : Later before now
   -- there was a pull where the page was in a slot or on its segment, and no push
   pub traffic : Traffic (pulls_for result (own_of old.caches n)) 0 before now
-  -- one dirty page more is in a frame, where it isn't clean
+  -- one dirty page more is in a frame, but for a page that its segment holds, or where it failed
   pub dirty : dirty_count new.caches ≡ dirty_count old.caches + dirtied result (own_of old.caches n)
-  -- the fault was that of a pull
+  -- it failed only where a pull did
   pub filled : is_victim result ≡ false
   pub cause : IfErr result (HasMissCause before now)

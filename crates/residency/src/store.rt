@@ -464,53 +464,10 @@ impl Store {
     {
         match self.map.get(node) {
             Some(frame) => Ok(frame),
-            None => self.fetch(caches, node, mapper, chooser),
-        }
-    }
-
-    // The same for a node that isn't resident.
-    fn fetch<M: Mapper, C: Chooser>(
-        &mut self,
-        caches: &mut Caches,
-        node: NodeId,
-        mapper: &mut M,
-        chooser: &mut C,
-    ) -> Result<FrameId, Miss>
-        requires right { RightStore M.held M.page_bytes mapper.old caches.old self.old }
-        requires node { IsAway caches.old node }
-        requires unpinned { HasUnpinned self.old.frames }
-        ensures still { Between Still M.held M.page_bytes
-            mapper.old caches.old self.old mapper.new caches.new self.new }
-        ensures told { Across TellsOn M.held M.page_bytes M.counts
-            mapper.old caches.old self.old mapper.new caches.new self.new }
-        ensures home { IfOk result (λ f. IsFrameOf self.new.map f.0 node) }
-        ensures state { OnOk result (
-            own_of caches.new node ≡ brought_in (own_of caches.old node)) }
-        ensures page { IfOk result (λ f.
-            HoldsPage (own_of caches.old node) (M.given mapper.new) self.new.frames f.0) }
-        ensures others { Between (OthersStayBut node) M.held M.page_bytes
-            mapper.old caches.old self.old mapper.new caches.new self.new }
-        ensures failed { OnErr result (Between OthersStay M.held M.page_bytes
-            mapper.old caches.old self.old mapper.new caches.new self.new) }
-        ensures tables { TablesAfter self.old self.new }
-        ensures pinned { self.new.frames.pinned ≡ self.old.frames.pinned }
-        ensures later { Later (M.counts mapper.old) (M.counts mapper.new) }
-        ensures held { OnOk result (held_count self.new.frames + pushes_for self.old.frames.held
-            ≡ held_count self.old.frames + 1) }
-        ensures traffic { Traffic (pulls_for result (own_of caches.old node))
-            (dirty_count caches.old + dirtied result (own_of caches.old node)
-            - dirty_count caches.new + failed_victims result)
-            (M.counts mapper.old) (M.counts mapper.new) }
-        ensures dirty { dirty_count caches.new
-            ≤ dirty_count caches.old + dirtied result (own_of caches.old node) }
-        ensures few { dirty_count caches.old + dirtied result (own_of caches.old node)
-            - dirty_count caches.new + failed_victims result
-            ≤ pushes_for self.old.frames.held }
-        ensures cause { IfErr result (HasMissCause (M.counts mapper.old) (M.counts mapper.new)) }
-    {
-        match self.make_free(caches, mapper, chooser) {
-            Ok(frame) => self.fill(caches, node, frame, mapper),
-            Err(_) => Err(Miss::Victim),
+            None => match self.make_free(caches, mapper, chooser) {
+                Ok(frame) => self.fill(caches, node, frame, mapper),
+                Err(_) => Err(Miss::Victim),
+            },
         }
     }
 
