@@ -24,7 +24,6 @@ use vm_ids::{CacheId, Counts, NoMemory, NodeId, NodeName, PageNo, SegId};
 ///
 /// Its model is `Arena` of `specs`: the nodes are those of the runs, and the table of a cache has the
 /// nodes that are found under the numbers of its pages.
-#[derive(Drop)]
 pub struct Caches {
     // the page nodes, of which alike ones stand as one run
     nodes: NodeRuns,
@@ -46,6 +45,13 @@ impl Model for Caches {
     ghost view = { λ a. arena_by a.nodes a.list };
 
     ghost invariant = { λ a. AreRight a.nodes a.list };
+}
+
+impl Drop for Caches {
+    // One call, so that whoever lets caches go needs to know of none of their lists.
+    fn drop(self) {
+        let Caches { nodes: _, list: _ } = self;
+    }
 }
 
 impl Caches {

@@ -39,7 +39,6 @@ use vm_model::{LIVE_PAGES, MOST_MADE};
 use vm_port::{Chooser, Mapper};
 
 /// The caches of a machine, whose pages are in frames, in swap slots, or zeros that are nowhere.
-#[derive(Drop)]
 pub struct Pvm {
     pub(crate) alloc: Global,
     pub(crate) caches: Caches,
@@ -66,6 +65,19 @@ impl Model for Pvm {
     } };
 
     ghost invariant = { λ p. IsKept p.caches p.store p.contexts p.live };
+}
+
+impl Drop for Pvm {
+    // One call, so that whoever lets a manager go needs to know of none of its parts.
+    fn drop(self) {
+        let Pvm {
+            alloc: _,
+            caches: _,
+            store: _,
+            contexts: _,
+            live: _,
+        } = self;
+    }
 }
 
 impl Pvm {

@@ -34,13 +34,25 @@ use vm_ids::{FrameId, NoMemory, NodeId, SlotId};
 use vm_port::{Chooser, Failed, Mapper};
 
 /// The page frames, the swap slots, the page tables and the map from page nodes to frames.
-#[derive(Drop)]
 pub struct Store {
     frames: FramePool,
     slots: SlotPool,
     map: GlobalMap,
     tables: PageTables,
     marks: Marks,
+}
+
+impl Drop for Store {
+    // One call, so that whoever lets a store go needs to know of none of its parts.
+    fn drop(self) {
+        let Store {
+            frames: _,
+            slots: _,
+            map: _,
+            tables: _,
+            marks: _,
+        } = self;
+    }
 }
 
 impl Store {
