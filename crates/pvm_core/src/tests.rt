@@ -605,6 +605,7 @@ fn copies_whole<G: Gmi<M, C>, M: Mapper, C: Chooser>(
     requires valid { G.valid gmi.old (M.held mapper.old) }
     requires made { G.made gmi.old ≤ 2 ^ 61 }
     requires fits { Fits (M.page_bytes mapper.old) (G.machine gmi.old (M.held mapper.old)) }
+    requires live { live_pages (G.machine gmi.old (M.held mapper.old)) ≤ LIVE_PAGES }
 {
     let second = Span {
         from: CacheId(1),
