@@ -1,4 +1,5 @@
 -- What a call keeps, answers and costs.
 pub mod Answered
 pub mod Costs
+pub mod Gathered
 pub mod Kept

@@ -1,6 +1,6 @@
 -- What each call asks, and what it answers, from the worlds and the mapper's counts before it to
 -- those after it.
-use Rattle.std.specs.Prelude.{◌≡◌, ℕ, true, List, Option}
+use Rattle.std.specs.Prelude.{◌≡◌, ℕ, true, List, Option, IfErr, IfOk, Result}
 use Rattle.vm_ids.specs.Counting.{MapperCounts}
 use Rattle.vm_ids.specs.Held.{Held}
 use Rattle.vm_ids.specs.declared.numbers.NodeId.{NodeId}
@@ -44,6 +44,13 @@ pub record IsMissed (miss : Miss) (old new : World) (before now : MapperCounts) 
   pub still : Still old new
   pub forest : SameForest old new
   pub cause : HasMissCause before now miss
+
+-- A call did what it was to do, by its result and the worlds before it and after it; or it missed.
+pub record IsDoneOrMissed {T : Type 0} (result : Result T Miss) (does : T → World → World → Type 0)
+    (old new : World) (before now : MapperCounts) : Type 0 where
+  pub answered : IsAnswered old new before now
+  pub done : IfOk result (λ x. does x old new)
+  pub missed : IfErr result (λ miss. IsMissed miss old new before now)
 
 -- Frame f has the own page of node n, where the page forest was changed by this rule at n.
 pub record IsFramed (rule : Forest (Option (List ℕ)) → NodeName → Forest (Option (List ℕ)))

@@ -62,9 +62,10 @@ IsValueFound w x found = value_of (store_forest w) x ≡ Some (found_page w foun
 abbrev pub MayWrite : Arena → NodeId → Type 0
 MayWrite a n = IsSome (home_of a n) → is_name_granted a (name_of a n) ≡ true
 
--- h is the heir of n
-abbrev pub IsHeirOf : Arena → NodeId → NodeId → Type 0
-IsHeirOf a n h = heir (forest_of a) (name_of a n) ≡ Some (name_of a h)
+-- h is the heir of n: the node that gets the page of n as it is, before that changes
+pub record IsHeirOf (a : Arena) (n h : NodeId) : Type 0 where
+  pub held : HasNode a h
+  pub name : heir (forest_of a) (name_of a n) ≡ Some (name_of a h)
 
 -- a node that was in a frame is there still
 abbrev pub StaysHome : NodeId → List (Option NodeId) → List (Option NodeId) → Type 0

@@ -1,11 +1,11 @@
 -- Which translations a fault drops.
-use Rattle.std.specs.Prelude.{◌≡◌, ℕ, Bool, true, ◌||◌, List, Option, ◌⊎◌}
+use Rattle.std.specs.Prelude.{◌≡◌, ℕ, Bool, true, ◌||◌, List, Option, ◌⊎◌, OnErr, OnOk, Result}
 use Rattle.vm_ids.specs.declared.numbers.NodeId.{NodeId}
 use Rattle.global_map.specs.Pairs.{is_node, node_of}
 use Rattle.local_cache.specs.Arena.{Arena}
 use Rattle.local_cache.specs.Own.{is_absent, own_of}
 use Rattle.residency.specs.declared.store.Store.{Store}
-use Rattle.residency.specs.Translating.{without}
+use Rattle.residency.specs.Translating.{Drops, without}
 
 -- a frame is that of node n
 abbrev pub is_home : NodeId → List (Option NodeId) → ℕ → Bool
@@ -27,3 +27,10 @@ Nobody n = ⊥
 -- owner, and those that had no own page.
 abbrev pub MayCome : Arena → NodeId → NodeId → Type 0
 MayCome a owner n = (n ≡ owner) ⊎ (is_absent (own_of a n) ≡ true)
+
+-- A call on the page of n, whose owner is o, leaves it to its caller to drop the translations that
+-- lead to the pages of the two. Where it failed there is nothing to drop.
+pub record LeavesHomes {T E : Type 0} (result : Result T E) (o n : NodeId)
+    (a : Arena) (s : Store) (b : Arena) (t : Store) : Type 0 where
+  pub left : OnOk result (Drops (MayCome a o) a s b (without_homes o n t))
+  pub failed : OnErr result (Drops (MayCome a o) a s b t)

@@ -54,8 +54,7 @@ pub(crate) fn own_page(caches: &mut Caches, node: NodeId)
 pub(crate) fn hand_page(caches: &mut Caches, node: NodeId, heir: NodeId)
     requires sound { IsSound caches.old }
     requires node { HasNode caches.old node }
-    requires heir { HasNode caches.old heir }
-    requires is { IsHeirOf caches.old node heir }
+    requires heir { IsHeirOf caches.old node heir }
     requires copies { caches.old.copies < 2 ^ 63 }
     ensures { IsHanded caches.old caches.new node heir }
 {

@@ -8,3 +8,5 @@ pub mod ReadingBy
 pub mod Rule
 -- Rows of stubs: what a walk gives, cutting a row in two, and rows in another arena.
 pub mod StubRows
+-- The least thin node is that of the forest.
+pub mod ThinForest

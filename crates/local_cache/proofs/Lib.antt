@@ -1,4 +1,4 @@
--- The page nodes in their slab: look-ups, changes of a slot, sums over all.
+-- The page nodes: look-ups, changes of one node, own states.
 pub mod Nodes
 -- The page forest that is read off the caches.
 pub mod Forest
@@ -10,9 +10,33 @@ pub mod NewNode
 pub mod Names
 -- The tables of the caches.
 pub mod Tables
--- The heap of the thin nodes.
-pub mod Queue
 -- A cache is made.
 pub mod NewCache
 -- What holds between two commands.
 pub mod Whole
+-- A list of stretches when one number is set or cleared.
+pub mod Singles
+-- The cells of nodes, as their runs and records say them.
+pub mod NodeCells
+-- The lists by which nodes are found.
+pub mod NodeKeys
+-- The records of nodes in their slab.
+pub mod Records
+-- What is written of one node.
+pub mod Writing
+-- The caches without their page nodes.
+pub mod CacheList
+-- A node placed in all lists, and taken out of them.
+pub mod Placing
+-- What holds of all lists and counters, after a change of one node.
+pub mod NodeRuns
+-- The page nodes of a new cache.
+pub mod Making
+-- A run said in other words.
+pub mod Adapting
+-- Many page nodes at once.
+pub mod ManyNodes
+-- The arena that page nodes as runs and the rows of caches stand for.
+pub mod ArenaBy
+-- What is known of some nodes and of some pages.
+pub mod Known

@@ -2,8 +2,6 @@
 
 -- The nodes of a cache that is made.
 pub mod Cells
--- The arena after a cache was made.
-pub mod Arena
 -- What is found after a cache was made.
 pub mod Pages
 -- A cache that is made: the caches stay sound, and the forest has its pages more.

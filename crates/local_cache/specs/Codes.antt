@@ -13,9 +13,12 @@ use Rattle.vm_ids.specs.declared.numbers.SlotId.{SlotId}
 use Rattle.local_cache.specs.declared.links.Links.{Links}
 use Rattle.local_cache.specs.declared.own_state.OwnState.{OwnState}
 use Rattle.local_cache.specs.declared.own_state.OwnState.TheVariants.{Absent, Zero, Resident, Slot, OnSegment}
-use Rattle.local_cache.specs.declared.page_table.PageEntry.{PageEntry}
+use Rattle.local_cache.specs.declared.page_entry.PageEntry.{PageEntry}
 use Rattle.vm_ids.specs.Forest.Codes.{name_code}
 use Rattle.local_cache.specs.Arena.{Arena, Cell, Room, Table}
+use Rattle.local_cache.specs.ArenaBy.{CacheRow, CacheRows}
+use Rattle.local_cache.specs.PageNodes.{PageNodes}
+use Rattle.stretches.specs.declared.rising.Rising.{Rising}
 
 abbrev bit : Bool → ℕ
 bit false = 0
@@ -133,3 +136,29 @@ arena_code =
       copies = t.1.1.1.0;
       room = t.1.1.1.1;
     }) (λ _. refl)
+
+abbrev pub rising_code : Coded Rising
+rising_code = code_by ℕ coded_ℕ (λ n. n.0) (λ k. record { 0 = k }) (λ _. refl)
+
+abbrev pub page_nodes_code : Coded PageNodes
+page_nodes_code =
+    code_by (FinMap nat_cmp Cell × (FinMap nat_cmp Rising × (ℕ × ℕ)))
+    (coded× (ids.code coded_ℕ cell_code)
+    (coded× (ids.code coded_ℕ rising_code) (coded× coded_ℕ coded_ℕ)))
+    (λ m. (m.cells, (m.pages, (m.made, m.room))))
+    (λ t. record { cells = t.0; pages = t.1.0; made = t.1.1.0; room = t.1.1.1 }) (λ _. refl)
+
+abbrev pub row_code : Coded CacheRow
+row_code =
+    code_by (Option SegId × (ℕ × (List Bool × List ℕ)))
+    (coded× (coded_option segment_code)
+    (coded× coded_ℕ (coded× (coded_list coded_bool) (coded_list coded_ℕ))))
+    (λ r. (r.segment, (r.pages, (r.grants, r.locks))))
+    (λ t. record { segment = t.0; pages = t.1.0; grants = t.1.1.0; locks = t.1.1.1 }) (λ _. refl)
+
+abbrev pub cache_rows_code : Coded CacheRows
+cache_rows_code =
+    code_by (List (Option CacheRow) × (ℕ × (ℕ × ℕ)))
+    (coded× (coded_list (coded_option row_code)) (coded× coded_ℕ (coded× coded_ℕ coded_ℕ)))
+    (λ c. (c.rows, (c.copies, (c.places, c.entries))))
+    (λ t. record { rows = t.0; copies = t.1.0; places = t.1.1.0; entries = t.1.1.1 }) (λ _. refl)

@@ -1,49 +1,34 @@
-// The page nodes and the tables of the caches.
+// The page nodes and the caches that they are pages of.
 ghost use Rattle.std.specs.Prelude.{◌≡◌, ℕ, ◌+◌, ◌-◌, ◌<◌, ◌≤◌, ◌^◌, [], List, length, true, None, Some, option_and_then, option_map, if◌then◌else◌, IsOk, OnOk, OnErr, IsSome, slice_get};
 ghost use Rattle.vm_ids.specs.declared.numbers.NodeId.{NodeId};
-ghost use Rattle.slab.specs.Slab.{HasRoomFor, slab_len};
-ghost use Rattle.local_cache.specs.Arena.{HasPlace, IsFilled, HasNode, IsVacant, as_working, cell, find, hung, is_granted, is_locked, locked_count, locks_of, node_at, table_of, with_grant, with_links, with_locks, with_name, with_new, with_own, with_tree, with_working, without, without_cache, HasPages, MakesCache, NodesStay, CellsStay, TablesStay, HasNoLess};
+ghost use Rattle.local_cache.specs.Arena.{HasPlace, HasNode, IsVacant, as_working, cell, find, hung, is_granted, is_locked, locked_count, locks_of, node_at, table_of, with_grant, with_links, with_locks, with_name, with_new, with_own, with_tree, with_working, without, without_cache, HasPages, MakesCache, NodesStay, CellsStay, TablesStay, HasNoLess};
 ghost use Rattle.vm_ids.specs.Forest.Changes.{count_copy};
 ghost use Rattle.vm_ids.specs.Forest.Commands.{make, page_names};
 ghost use Rattle.vm_ids.specs.Forest.NameMap.{len};
 ghost use Rattle.vm_ids.specs.Forest.Nodes.{no_forest};
 ghost use Rattle.vm_ids.specs.Forest.Reading.{counts_of};
-ghost use Rattle.local_cache.specs.declared.entry_heap.Entry.{Entry};
 ghost use Rattle.local_cache.specs.Home.{home_of};
-ghost use Rattle.local_cache.specs.Layout.{cells_of, working_len};
-ghost use Rattle.local_cache.specs.Lists.{with_pages};
-ghost use Rattle.local_cache.specs.Queue.{IsQueued};
+ghost use Rattle.local_cache.specs.NodeCells.{own_of_plain};
 ghost use Rattle.local_cache.specs.Reading.{IsNamed, forest_of};
 ghost use Rattle.local_cache.specs.Sound.{IsSound, MakesPages};
 ghost use Rattle.local_cache.specs.Thin.{IsLeastThin};
 
-use crate::entry_heap::EntryHeap;
-use crate::page_lists::{PageLists, locked_of};
-use crate::page_node::{PageNode, working_of};
-use crate::page_table::{CacheEntry, entry_of, lower, set_node};
-use crate::thin_nodes::{number_at, queue};
+use crate::cache_list::CacheList;
+use crate::runs::{NodeRuns, PlainState};
 use crate::{Home, Links, OwnState};
-use slab::Slab;
 use std::alloc::Global;
 use std::marker::Model;
 use vm_ids::{CacheId, Counts, NoMemory, NodeId, NodeName, PageNo, SegId};
 
 /// All page nodes and all caches.
-#[derive(Drop)]
+///
+/// Its model is `Arena` of `specs`: the nodes are those of the runs, and the table of a cache has the
+/// nodes that are found under the numbers of its pages.
 pub struct Caches {
-    nodes: Slab<PageNode>,
-    caches: Vec<Option<CacheEntry>>,
-    lists: PageLists,
-    thin: EntryHeap,
-    // for how many nodes `thin` has room
-    thin_room: usize,
-    alloc: Global,
-    made: u64,
-    copies: u64,
-    // how many of the nodes are working ones
-    working: u32,
-    // how many pages have a count of locks above 0
-    locked: u32,
+    // the page nodes, of which alike ones stand as one run
+    nodes: NodeRuns,
+    // the caches, without their nodes
+    list: CacheList,
 }
 
 impl Model for Caches {
@@ -54,37 +39,18 @@ impl Model for Caches {
 
     ghost coded = { arena_code };
 
-    ghost use Rattle.local_cache.specs.Layout.{arena_of, IsRight};
+    ghost use Rattle.local_cache.specs.ArenaBy.{arena_by};
+    ghost use Rattle.local_cache.specs.Placed.{AreRight};
 
-    ghost view = { λ a. arena_of a.nodes a.caches a.lists a.thin_room a.made a.copies };
+    ghost view = { λ a. arena_by a.nodes a.list };
 
-    ghost invariant = { λ a. IsRight a.nodes a.caches.items a.lists a.thin a.thin_room a.working
-        a.locked };
+    ghost invariant = { λ a. AreRight a.nodes a.list };
 }
 
-// Makes a node for each page of a cache, and appends each to the lists of all pages.
-fn add_pages(
-    alloc: Global,
-    nodes: &mut Slab<PageNode>,
-    lists: &mut PageLists,
-    cache: CacheId,
-    own: OwnState,
-    pages: u32,
-)
-    requires nodes { HasRoomFor nodes.old pages }
-    requires lists { pages ≤ lists.old.room }
-    ensures filled { (ns : List NodeId) × (length ns ≡ pages)
-        × IsFilled (cells_of nodes.old) cache 0 own ns (cells_of nodes.new)
-        × (lists.new ≡ with_pages lists.old ns) }
-    ensures queued { (items : List Entry) → IsQueued nodes.old items → IsQueued nodes.new items }
-    ensures nodes_len { slab_len nodes.new ≡ slab_len nodes.old + pages }
-    ensures nodes_capacity { nodes.new.capacity ≡ nodes.old.capacity }
-    ensures working { working_len nodes.new ≡ working_len nodes.old }
-{
-    for page in 0..pages {
-        let name = NodeName::Live(cache, PageNo(page));
-        let node = nodes.insert_reserved(PageNode::new(alloc, name, own));
-        lists.push_reserved(NodeId(node as u64));
+impl Drop for Caches {
+    // One call, so that whoever lets caches go needs to know of none of their lists.
+    fn drop(self) {
+        let Caches { nodes: _, list: _ } = self;
     }
 }
 
@@ -98,16 +64,8 @@ impl Caches {
         ensures sound { IsSound result }
     {
         Caches {
-            nodes: Slab::new(alloc),
-            caches: Vec::new(alloc),
-            lists: PageLists::new(alloc),
-            thin: EntryHeap::new(alloc),
-            thin_room: 0,
-            alloc,
-            made: 0,
-            copies: 0,
-            working: 0,
-            locked: 0,
+            nodes: NodeRuns::new(alloc),
+            list: CacheList::new(alloc),
         }
     }
 
@@ -128,22 +86,14 @@ impl Caches {
         ensures forest { forest_of self.new ≡ forest_of self.old }
         ensures sound { IsSound self.old → IsSound self.new }
     {
-        let room = self.nodes.len() + nodes as usize;
-        if room > u32::MAX as usize {
-            return Err(NoMemory);
-        }
-        self.nodes.reserve(nodes as usize)?;
-        self.caches.reserve(caches as usize)?;
-        self.lists.reserve(nodes as usize)?;
-        if self.thin_room < room {
-            self.thin.reserve(room, self.nodes.capacity())?;
-            self.thin_room = room;
-        }
+        self.nodes.reserve(nodes)?;
+        self.list.reserve(caches, nodes)?;
         Ok(())
     }
 
-    /// Makes a temporary cache of so many pages, each a page of zeros, and answers its number, which is one more than
-    /// caches were made before. It takes no memory: there has to be room for the cache, its nodes and its table.
+    /// Makes a temporary cache of so many pages, each a page of zeros, and answers its number, which is
+    /// one more than caches were made before. It takes no memory: there has to be room for the cache,
+    /// its nodes and its pages. The nodes are one run, so it takes no time for each page.
     pub fn make_temp(&mut self, pages: u32) -> CacheId
         requires number { length self.old.caches + 1 < 2 ^ 32 }
         requires caches { 1 ≤ self.old.room.caches }
@@ -156,11 +106,13 @@ impl Caches {
         ensures stays { CellsStay self.old self.new }
         ensures tables { TablesStay self.old self.new }
     {
-        self.make(None, OwnState::Zero, pages)
+        self.make(None, PlainState::Zero, pages)
     }
 
-    /// Makes the cache of a segment of so many pages, each where the segment has it, and answers its number, which is one
-    /// more than caches were made before. It takes no memory: there has to be room for the cache, its nodes and its table.
+    /// Makes the cache of a segment of so many pages, each where the segment has it, and answers its
+    /// number, which is one more than caches were made before. It takes no memory: there has to be
+    /// room for the cache, its nodes and its pages. The nodes are one run, so it takes no time for each
+    /// page.
     pub fn make_named(&mut self, seg: SegId, pages: u32) -> CacheId
         requires number { length self.old.caches + 1 < 2 ^ 32 }
         requires caches { 1 ≤ self.old.room.caches }
@@ -173,11 +125,12 @@ impl Caches {
         ensures stays { CellsStay self.old self.new }
         ensures tables { TablesStay self.old self.new }
     {
-        self.make(Some(seg), OwnState::OnSegment, pages)
+        self.make(Some(seg), PlainState::OnSegment, pages)
     }
 
-    /// Gives back a cache whose pages have no nodes any more, and with it the room for its pages, their grants and their
-    /// locks. Its number isn't used again. It takes time for its pages and for those of the caches that were made later.
+    /// Gives back a cache whose pages have no nodes any more, and with it the room for its pages, their
+    /// grants and their locks. Its number isn't used again. It takes time for the stretches of its
+    /// grants and locks, not for its pages.
     pub fn remove(&mut self, cache: CacheId)
         requires live { IsSome (table_of self.old cache.0) }
         requires retired { (page : ℕ) → node_at self.old cache.0 page ≡ None }
@@ -185,12 +138,7 @@ impl Caches {
         ensures forest { forest_of self.new ≡ forest_of self.old }
         ensures sound { IsSound self.old → IsSound self.new }
     {
-        let gap = entry_of(&self.caches, cache).unwrap();
-        let index = cache.0 as usize - 1;
-        self.locked -= self.lists.locked(gap);
-        self.caches[index] = None;
-        self.lists.close_gap(gap);
-        lower(&mut self.caches, index + 1, gap.pages as usize);
+        self.list.remove(cache);
     }
 
     /// How much is kept: the pages of live caches, the working nodes, and the pages copied so far. No two nodes may have
@@ -201,9 +149,9 @@ impl Caches {
         ensures few { len (forest_of self.now).nodes < 2 ^ 32 }
     {
         Counts {
-            live: (self.nodes.len() - self.working as usize) as u32,
-            working: self.working,
-            copies: self.copies,
+            live: self.nodes.live(),
+            working: self.nodes.working(),
+            copies: self.list.copies(),
         }
     }
 
@@ -211,28 +159,28 @@ impl Caches {
     pub fn caches_made(&self) -> u32
         ensures { result ≡ length self.now.caches }
     {
-        self.caches.len() as u32
+        self.list.made()
     }
 
     /// How many working nodes were made so far; the next one has the next number.
     pub fn working_made(&self) -> u64
         ensures { result ≡ self.now.made }
     {
-        self.made
+        self.nodes.made()
     }
 
     /// How many pages a cache has, or `None` exactly where no live cache has this number.
     pub fn pages(&self, cache: CacheId) -> Option<u32>
         ensures { result ≡ option_map (λ table. length table.pages) (table_of self.now cache.0) }
     {
-        Some(entry_of(&self.caches, cache)?.pages)
+        Some(self.list.entry(cache)?.pages)
     }
 
     /// The segment that names a cache, or `None` exactly where none does or no live cache has this number.
     pub fn segment(&self, cache: CacheId) -> Option<SegId>
         ensures { result ≡ option_and_then (λ table. table.segment) (table_of self.now cache.0) }
     {
-        entry_of(&self.caches, cache)?.segment
+        self.list.entry(cache)?.segment
     }
 
     /// The node of a page that has one.
@@ -240,8 +188,7 @@ impl Caches {
         requires { IsSome (node_at self.now cache.0 page.0) }
         ensures { node_at self.now cache.0 page.0 ≡ Some result }
     {
-        let entry = entry_of(&self.caches, cache).unwrap();
-        self.lists.node(entry, page).unwrap()
+        self.nodes.node_of(cache, page).unwrap()
     }
 
     /// Keeps that the mapper granted a page of a live cache to be written. That is its answer to
@@ -255,8 +202,7 @@ impl Caches {
         ensures sound { IsSound self.old → IsSound self.new }
         ensures stays { CellsStay self.old self.new }
     {
-        let entry = entry_of(&self.caches, cache).unwrap();
-        self.lists.grant(entry, page);
+        self.list.grant(cache, page);
     }
 
     /// Whether a page of a live cache is granted. A cache is made with no page granted.
@@ -264,8 +210,7 @@ impl Caches {
         requires { HasPlace self.now cache page }
         ensures { result ≡ is_granted self.now cache.0 page.0 }
     {
-        let entry = entry_of(&self.caches, cache).unwrap();
-        self.lists.granted(entry, page)
+        self.list.granted(cache, page)
     }
 
     /// Locks a page of a live cache once more: one more locked region holds it. A lock is on the page of the cache,
@@ -308,10 +253,7 @@ impl Caches {
         ensures count { result ≡ locks_of self.now cache.0 page.0 }
         ensures place { 0 < result → HasPlace self.now cache page }
     {
-        match entry_of(&self.caches, cache) {
-            Some(entry) if page.0 < entry.pages => self.lists.locks(entry, page),
-            _ => 0,
-        }
+        self.list.locks(cache, page)
     }
 
     /// How many pages of all live caches are locked, each counted once however often it is locked. It takes constant
@@ -319,7 +261,7 @@ impl Caches {
     pub fn locked(&self) -> u32
         ensures { result ≡ locked_count self.now }
     {
-        self.locked
+        self.list.locked()
     }
 
     /// The name of a node.
@@ -327,7 +269,7 @@ impl Caches {
         requires { HasNode self.now node }
         ensures { result ≡ (cell self.now node).name }
     {
-        self.nodes[node.0 as usize].name()
+        self.nodes.name(node)
     }
 
     /// The page of a segment that a node stands for, or `None` exactly for a working node and a node
@@ -350,7 +292,7 @@ impl Caches {
         requires { HasNode self.now node }
         ensures { result ≡ (cell self.now node).own }
     {
-        self.nodes[node.0 as usize].own_state()
+        self.nodes.own_state(node)
     }
 
     /// Sets where a node's own page is.
@@ -359,7 +301,7 @@ impl Caches {
         ensures changed { self.new ≡ with_own self.old node state }
         ensures stays { NodesStay self.old self.new }
     {
-        self.nodes[node.0 as usize].set_state(state);
+        self.nodes.set_state(node, state);
     }
 
     /// How a node hangs, and the ends of its list of stubs.
@@ -367,7 +309,7 @@ impl Caches {
         requires { HasNode self.now node }
         ensures { result ≡ (cell self.now node).links }
     {
-        self.nodes[node.0 as usize].links()
+        self.nodes.links(node)
     }
 
     /// Sets how a node hangs, and the ends of its list of stubs.
@@ -376,9 +318,7 @@ impl Caches {
         ensures changed { self.new ≡ with_links self.old node links }
         ensures stays { NodesStay self.old self.new }
     {
-        let before = number_at(&self.nodes, node.0);
-        self.nodes[node.0 as usize].set_links(links);
-        queue(&self.nodes, &mut self.thin, node.0, before);
+        self.nodes.set_links(node, links);
     }
 
     /// Hangs a node on this parent by a tree link, or on none. Nothing is done to the children of its old and new parent.
@@ -403,7 +343,7 @@ impl Caches {
         requires { HasNode self.now node }
         ensures { result ≡ slice_get (cell self.now node).tree place }
     {
-        self.nodes[node.0 as usize].tree_child(place)
+        self.nodes.tree_child(node, place)
     }
 
     /// Sets the tree children of a node, of which there are at most two.
@@ -413,9 +353,7 @@ impl Caches {
         ensures changed { self.new ≡ with_tree self.old node children.now }
         ensures stays { NodesStay self.old self.new }
     {
-        let before = number_at(&self.nodes, node.0);
-        self.nodes[node.0 as usize].set_tree_children(children);
-        queue(&self.nodes, &mut self.thin, node.0, before);
+        self.nodes.set_tree_children(node, children);
     }
 
     /// Makes the node of a page that has none, with this own state and without parent and children. It takes no memory:
@@ -428,7 +366,7 @@ impl Caches {
         ensures held { HasNode self.new result }
         ensures stays { NodesStay self.old self.new }
     {
-        self.insert(NodeName::Live(cache, page), state)
+        self.nodes.fresh(cache, page, state)
     }
 
     /// Makes a working node under the next number, `Absent` and without parent and children. It takes no memory: there
@@ -441,8 +379,7 @@ impl Caches {
         ensures held { HasNode self.new result }
         ensures stays { NodesStay self.old self.new }
     {
-        self.made += 1;
-        self.insert(NodeName::Working(self.made), OwnState::Absent)
+        self.nodes.fresh_working()
     }
 
     /// Names a node by the next number of a working node. The page that it was the node of has none then.
@@ -452,8 +389,7 @@ impl Caches {
         ensures changed { self.new ≡ as_working self.old node }
         ensures stays { NodesStay self.old self.new }
     {
-        self.made += 1;
-        self.set_name(node, NodeName::Working(self.made));
+        self.nodes.to_working(node);
     }
 
     /// Makes a node that of a page that has none. The page that it was the node of has none then.
@@ -463,7 +399,7 @@ impl Caches {
         ensures changed { self.new ≡ with_name self.old node (NodeName.Live cache page) }
         ensures stays { NodesStay self.old self.new }
     {
-        self.set_name(node, NodeName::Live(cache, page));
+        self.nodes.rename(node, cache, page);
     }
 
     /// Gives back a node that nothing names. The page that it was the node of has none then.
@@ -471,11 +407,7 @@ impl Caches {
         requires { HasNode self.old node }
         ensures { self.new ≡ without self.old node }
     {
-        let before = number_at(&self.nodes, node.0);
-        let freed = self.nodes.remove(node.0 as usize);
-        self.working -= working_of(freed.name());
-        queue(&self.nodes, &mut self.thin, node.0, before);
-        set_node(&self.caches, &mut self.lists, freed.name(), None);
+        self.nodes.free(node);
     }
 
     /// Counts one copied page more.
@@ -485,44 +417,37 @@ impl Caches {
         ensures forest { forest_of self.new ≡ count_copy (forest_of self.old) }
         ensures sound { IsSound self.old → IsSound self.new }
     {
-        self.copies += 1;
+        self.list.count_copy();
     }
 
-    /// The working node with the least number that has fewer than two children, tree children and stubs together, or
-    /// `None` exactly where there is none. It takes constant time: the calls that change a node keep these nodes in order,
-    /// in time logarithmic in their number.
+    /// The working node with the least number that has fewer than two children, tree children and stubs
+    /// together, or `None` exactly where there is none. It takes the time of two look-ups: the calls that
+    /// change a node keep these nodes in order.
     pub fn thin(&self) -> Option<NodeId>
         ensures { IsLeastThin self.now result }
     {
-        Some(NodeId(self.thin.first()?.key))
+        self.nodes.thin()
+    }
+
+    /// How many runs the nodes stand in. Nodes that are alike stand as one run.
+    pub fn runs(&self) -> usize {
+        self.nodes.runs()
     }
 
     // Makes a cache of so many pages, each of one own state.
-    fn make(&mut self, segment: Option<SegId>, own: OwnState, pages: u32) -> CacheId
+    fn make(&mut self, segment: Option<SegId>, own: PlainState, pages: u32) -> CacheId
         requires number { length self.old.caches + 1 < 2 ^ 32 }
         requires caches { 1 ≤ self.old.room.caches }
         requires nodes { pages ≤ self.old.room.nodes }
         requires entries { pages ≤ self.old.room.entries }
-        ensures made { MakesCache self.old self.new result segment pages own }
-        ensures pages { HasPages self.new result pages own }
+        ensures made { MakesCache self.old self.new result segment pages (own_of_plain own) }
+        ensures pages { HasPages self.new result pages (own_of_plain own) }
         ensures stays { CellsStay self.old self.new }
         ensures tables { TablesStay self.old self.new }
     {
-        let cache = CacheId(self.caches.len() as u32 + 1);
-        let first = self.lists.len();
-        add_pages(
-            self.alloc,
-            &mut self.nodes,
-            &mut self.lists,
-            cache,
-            own,
-            pages,
-        );
-        self.caches.push_reserved(Some(CacheEntry {
-            segment,
-            first,
-            pages,
-        }));
+        let cache = CacheId(self.list.made() + 1);
+        self.nodes.make_pages(cache, pages, own);
+        self.list.push(segment, pages);
         cache
     }
 
@@ -532,42 +457,6 @@ impl Caches {
         ensures changed { self.new ≡ with_locks self.old cache.0 page.0 count }
         ensures locks { locks_of self.new cache.0 page.0 ≡ count }
     {
-        let entry = entry_of(&self.caches, cache).unwrap();
-        let before = self.lists.locks(entry, page);
-        self.lists.set_locks(entry, page, count);
-        self.locked = self.locked - locked_of(before) + locked_of(count);
-    }
-
-    // Makes a node under a name, in the tables too.
-    fn insert(&mut self, name: NodeName, own: OwnState) -> NodeId
-        requires { 1 ≤ self.old.room.nodes }
-        ensures new { find self.old result ≡ None }
-        ensures changed { self.new ≡ with_new self.old result name own }
-        ensures held { HasNode self.new result }
-        ensures stays { NodesStay self.old self.new }
-    {
-        let place = self
-            .nodes
-            .insert_reserved(PageNode::new(self.alloc, name, own));
-        let node = NodeId(place as u64);
-        self.working += working_of(name);
-        queue(&self.nodes, &mut self.thin, node.0, None);
-        set_node(&self.caches, &mut self.lists, name, Some(node));
-        node
-    }
-
-    // Gives a node another name, in the tables too.
-    fn set_name(&mut self, node: NodeId, name: NodeName)
-        requires { HasNode self.old node }
-        ensures changed { self.new ≡ with_name self.old node name }
-        ensures stays { NodesStay self.old self.new }
-    {
-        let left = self.name(node);
-        let before = number_at(&self.nodes, node.0);
-        self.nodes[node.0 as usize].set_name(name);
-        self.working = self.working - working_of(left) + working_of(name);
-        queue(&self.nodes, &mut self.thin, node.0, before);
-        set_node(&self.caches, &mut self.lists, left, None);
-        set_node(&self.caches, &mut self.lists, name, Some(node));
+        self.list.set_locks(cache, page, count);
     }
 }

@@ -6,3 +6,7 @@ pub mod Steps
 pub mod Ranges
 -- The pages of a range become those of their segment.
 pub mod Replacing
+-- What a command needs is there still when its pages were forgotten.
+pub mod Forgetting
+-- A command settled, and each page has a node still.
+pub mod Settled

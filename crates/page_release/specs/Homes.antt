@@ -30,6 +30,10 @@ named_page w x =
 abbrev pub IsUnclean : Arena → NodeName → Type 0
 IsUnclean a x = (n : NodeId) → name_of a n ≡ x → is_clean (own_of a n) ≡ false
 
+-- nor is that of any of these
+abbrev pub AreUnclean : Arena → List NodeName → Type 0
+AreUnclean a names = (x : NodeName) → x ∈ names → IsUnclean a x
+
 -- the own page of the node of this name is the one that its segment holds
 abbrev pub IsClean : Arena → NodeName → Type 0
 IsClean a x = (n : NodeId) → name_of a n ≡ x → is_clean (own_of a n) ≡ true

@@ -1,7 +1,8 @@
 -- What a step keeps of a store that gives frames and slots back and takes none.
-use Rattle.std.specs.Prelude.{◌≡◌, ◌≢◌, ℕ, Bool, true, false, if◌then◌else◌, List, length, map, Option, Some, None, is_some, option_map}
+use Rattle.std.specs.Prelude.{◌≡◌, ◌≢◌, ℕ, Bool, true, false, if◌then◌else◌, List, length, Option, Some, None, is_some, option_map}
 use Rattle.vm_ids.specs.Held.{Held}
 use Rattle.vm_ids.specs.declared.node_name.NodeName.{NodeName}
+use Rattle.vm_ids.specs.Forest.NameLists.{◌∈◌}
 use Rattle.vm_ids.specs.declared.numbers.NodeId.{NodeId}
 use Rattle.vm_ids.specs.declared.node_name.NodeName.TheVariants.{Working}
 use Rattle.frame_pool.specs.Pool.{is_held, is_pinned}
@@ -52,6 +53,10 @@ ForAnyMapper s a t b holds = (told : Option Held) (size : Option ℕ) → IsTied
 abbrev pub IsUnpinned : Store → Arena → NodeName → Type 0
 IsUnpinned s a x = (f : ℕ) (n : NodeId) → is_pinned s.frames f ≡ true → node_of s.map f ≡ Some n
     → name_of a n ≢ x
+
+-- nor that of any of these
+abbrev pub AreUnpinned : Store → Arena → List NodeName → Type 0
+AreUnpinned s a names = (x : NodeName) → x ∈ names → IsUnpinned s a x
 
 -- no pinned frame is that of a working node
 abbrev pub IsWorkingUnpinned : Store → Arena → Type 0
@@ -122,15 +127,3 @@ StaysRight s a t b = (told : Option Held) (size : Option ℕ) → IsStoreRight (
 -- these pages forgotten, where their cache is named
 abbrev pub forgotten_where : {P : Type 0} → Bool → List NodeName → P → Forest P → Forest P
 forgotten_where named names p f = if named then forgotten names p f else f
-
--- each of these pages with the state of one that is on its segment
-abbrev pub on_segment : List NodeName → List (NodeName × OwnState)
-on_segment names = map (λ x. (x, OnSegment)) names
-
--- each of these pages in no frame
-abbrev pub in_no_frame : List NodeName → List (NodeName × Option ℕ)
-in_no_frame names = map (λ x. (x, None)) names
-
--- each of these pages with the one that its segment holds
-abbrev pub segment_pages : World → List NodeName → List (NodeName × Option (List ℕ))
-segment_pages w names = map (λ x. (x, named_page w x)) names

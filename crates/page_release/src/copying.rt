@@ -1,23 +1,19 @@
 // The pages of a copy, and the store follows.
-ghost use Rattle.std.specs.Prelude.{◌≡◌, ℕ, ◌+◌, ◌*◌, ◌<◌, ◌≤◌, ◌^◌, false, [], leb, length};
+ghost use Rattle.std.specs.Prelude.{◌+◌, ◌*◌, ◌<◌, ◌≤◌, ◌^◌, false, [], leb};
 ghost use Rattle.vm_ids.specs.declared.node_name.NodeName.{NodeName};
 ghost use Rattle.vm_ids.specs.Forest.Commands.{copy as rule_copy, copy_pages as rule_copy_pages, firsts, seconds, small_copy, span_pairs};
 ghost use Rattle.vm_ids.specs.Forest.NameLists.{◌∈◌};
 ghost use Rattle.vm_ids.specs.Forest.Laws.Commands.{CanCopy};
 ghost use Rattle.vm_ids.specs.Forest.Laws.Linking.{ArePages};
-ghost use Rattle.vm_ids.specs.Forest.Laws.Settling.{IsSettled};
 ghost use Rattle.vm_ids.specs.Forest.NameMap.{len};
-ghost use Rattle.vm_ids.specs.Forest.Nodes.{IsNode};
 ghost use Rattle.vm_ids.specs.Forest.Rules as forest;
-ghost use Rattle.vm_ids.specs.Forest.Shape.{IsBounded, IsConsistent};
-ghost use Rattle.vm_ids.specs.Forest.Reading.{live_count};
+ghost use Rattle.vm_ids.specs.Forest.Shape.{IsConsistent};
 ghost use Rattle.local_cache.specs.Reading.{forest_of};
 ghost use Rattle.local_cache.specs.Sound.{IsSound};
-ghost use Rattle.residency.specs.Seeing.{frame_forest};
-ghost use Rattle.residency.specs.StoreForest.{store_forest};
-ghost use Rattle.local_cache.specs.Whole.{IsWhole};
-ghost use Rattle.page_release.specs.Homes.{AreSaved, IsUnclean, IsWritable};
-ghost use Rattle.page_release.specs.Steps.{ForAnyMapper, IsStoreTied, IsUnpinned, IsWorkingUnpinned, Kept, Releases, StaysRight};
+ghost use Rattle.page_release.specs.Commands.{CanReplace, CanRetire, CanTransfer, Grows, HasRoom, KeepsPages};
+ghost use Rattle.page_release.specs.Homes.{AreUnclean, IsUnclean};
+ghost use Rattle.page_release.specs.Readings.{GoesBy};
+ghost use Rattle.page_release.specs.Steps.{IsStoreTied, IsUnpinned, Kept, Releases};
 ghost use Rattle.page_release.specs.Translating.{Leaves, Replaces};
 
 use crate::forgetting::forget_named;
@@ -50,14 +46,8 @@ fn copy_page(
     requires room { 2 ≤ caches.old.room.nodes }
     requires made { caches.old.made + 1 < 2 ^ 63 }
     requires few { len (forest_of caches.old).nodes + 1 < 2 ^ 32 }
-    ensures nodes { forest_of caches.new ≡ forest.copy_page is_small (forest_of caches.old)
-        (NodeName.Live to to_page) (NodeName.Live from from_page) }
-    ensures forest { ForAnyMapper store.old caches.old store.new caches.new
-        (λ old new. store_forest new ≡ forest.copy_page is_small (store_forest old)
-        (NodeName.Live to to_page) (NodeName.Live from from_page)) }
-    ensures frames { frame_forest caches.new store.new.map
-        ≡ forest.copy_page is_small (frame_forest caches.old store.old.map)
-        (NodeName.Live to to_page) (NodeName.Live from from_page) }
+    ensures rule { GoesBy (λ P put f. forest.copy_page is_small f (NodeName.Live to to_page)
+        (NodeName.Live from from_page)) store.old caches.old store.new caches.new }
     ensures kept { Releases [] store.old caches.old store.new caches.new }
     ensures room { caches.old.room.nodes ≤ caches.new.room.nodes + 2 }
 {
@@ -73,33 +63,17 @@ fn copy_page(
 
 // Each page of the destination becomes a copy of its source, in rising order.
 fn copy_each(store: &mut Store, caches: &mut Caches, span: Span)
-    requires tied { IsStoreTied store.old caches.old }
-    requires whole { IsWhole caches.old }
     requires can { CanCopy (forest_of caches.old) (span_pairs span) }
-    requires unpinned { (x : NodeName) → x ∈ firsts (span_pairs span)
-        → IsUnpinned store.old caches.old x }
-    requires unclean { (x : NodeName) → x ∈ firsts (span_pairs span) → IsUnclean caches.old x }
-    requires room { 2 * span.pages ≤ caches.old.room.nodes }
-    requires made { caches.old.made + 2 * span.pages < 2 ^ 63 }
-    requires few { len (forest_of caches.old).nodes + 2 * span.pages < 2 ^ 32 }
     requires within { (span.from_page.0 + span.pages < 2 ^ 32)
         × (span.to_page.0 + span.pages < 2 ^ 32) }
-    ensures nodes { forest_of caches.new ≡ rule_copy_pages (leb span.pages small_copy)
-        (span_pairs span) (forest_of caches.old) }
-    ensures forest { ForAnyMapper store.old caches.old store.new caches.new
-        (λ old new. store_forest new ≡ rule_copy_pages (leb span.pages small_copy) (span_pairs span)
-        (store_forest old)) }
-    ensures frames { frame_forest caches.new store.new.map
-        ≡ rule_copy_pages (leb span.pages small_copy) (span_pairs span)
-        (frame_forest caches.old store.old.map) }
+    requires retire { CanRetire (2 * span.pages) (firsts (span_pairs span))
+        store.old caches.old }
+    requires unclean { AreUnclean caches.old (firsts (span_pairs span)) }
+    requires room { HasRoom (2 * span.pages) caches.old }
+    ensures rule { GoesBy (λ P put f. rule_copy_pages (leb span.pages small_copy)
+        (span_pairs span) f) store.old caches.old store.new caches.new }
     ensures kept { Releases [] store.old caches.old store.new caches.new }
-    ensures consistent { IsConsistent (forest_of caches.new) }
-    ensures stays { (x : NodeName) → IsNode (forest_of caches.old) x
-        → IsNode (forest_of caches.new) x }
-    ensures made { caches.new.made ≤ caches.old.made + 2 * span.pages }
-    ensures room { caches.old.room.nodes ≤ caches.new.room.nodes + 2 * span.pages }
-    ensures few { len (forest_of caches.new).nodes
-        ≤ len (forest_of caches.old).nodes + 2 * span.pages }
+    ensures grows { Grows (2 * span.pages) caches.old caches.new }
 {
     let is_small = span.pages <= SMALL_COPY;
     for page in 0..span.pages {
@@ -117,33 +91,14 @@ fn copy_each(store: &mut Store, caches: &mut Caches, span: Span)
 
 // The copy, once no translation leads to a page that it replaces, and none for writing to one that it copies.
 fn copy_and_settle(store: &mut Store, caches: &mut Caches, span: Span)
-    requires tied { IsStoreTied store.old caches.old }
-    requires whole { IsWhole caches.old }
-    requires can { CanCopy (forest_of caches.old) (span_pairs span) }
-    requires unpinned { (x : NodeName) → x ∈ firsts (span_pairs span)
-        → IsUnpinned store.old caches.old x }
-    requires saved { AreSaved caches.old span.to (firsts (span_pairs span)) }
-    requires granted { (x : NodeName) → x ∈ firsts (span_pairs span) → IsWritable caches.old x }
-    requires working { IsWorkingUnpinned store.old caches.old }
-    requires room { 2 * span.pages ≤ caches.old.room.nodes }
-    requires made { caches.old.made + 2 * span.pages < 2 ^ 63 }
-    requires few { len (forest_of caches.old).nodes + 2 * span.pages < 2 ^ 32 }
-    requires within { (span.from_page.0 + span.pages < 2 ^ 32)
-        × (span.to_page.0 + span.pages < 2 ^ 32) }
-    ensures nodes { forest_of caches.new ≡ rule_copy false (span_pairs span)
-        (forest_of caches.old) }
-    ensures forest { ForAnyMapper store.old caches.old store.new caches.new
-        (λ old new. store_forest new ≡ rule_copy false (span_pairs span) (store_forest old)) }
+    requires transfer { CanTransfer span caches.old }
+    requires ready { CanReplace (2 * span.pages) span.to (firsts (span_pairs span))
+        store.old caches.old }
+    requires room { HasRoom (2 * span.pages) caches.old }
+    ensures rule { GoesBy (λ P put f. rule_copy false (span_pairs span) f)
+        store.old caches.old store.new caches.new }
     ensures kept { Releases (firsts (span_pairs span)) store.old caches.old store.new caches.new }
-    ensures whole { IsWhole caches.new }
-    ensures live { live_count (forest_of caches.new) ≡ live_count (forest_of caches.old) }
-    ensures right { 2 * live_count (forest_of caches.old) ≤ length store.old.slots
-        → StaysRight store.old caches.old store.new caches.new }
-    ensures settled { IsSettled (forest_of caches.new) }
-    ensures bounded { IsBounded (forest_of caches.new) }
-    ensures made { caches.new.made ≤ caches.old.made + 2 * span.pages }
-    ensures copies { caches.new.copies ≡ caches.old.copies }
-    ensures room { caches.old.room.nodes ≤ caches.new.room.nodes + 2 * span.pages }
+    ensures pages { KeepsPages (2 * span.pages) store.old caches.old store.new caches.new }
     ensures translations { Replaces (λ x. x ∈ firsts (span_pairs span))
         (λ x. x ∈ seconds (span_pairs span)) caches.old store.old caches.new store.new }
 {
@@ -157,33 +112,14 @@ fn copy_and_settle(store: &mut Store, caches: &mut Caches, span: Span)
 /// its pages was granted, and its heirs have their saves: what it has is forgotten first. No translation leads to where a
 /// page of the destination was seen, and none for writing to where a source that was its node's alone is.
 pub fn copy_pages(store: &mut Store, caches: &mut Caches, span: Span)
-    requires tied { IsStoreTied store.old caches.old }
-    requires whole { IsWhole caches.old }
-    requires can { CanCopy (forest_of caches.old) (span_pairs span) }
-    requires unpinned { (x : NodeName) → x ∈ firsts (span_pairs span)
-        → IsUnpinned store.old caches.old x }
-    requires saved { AreSaved caches.old span.to (firsts (span_pairs span)) }
-    requires granted { (x : NodeName) → x ∈ firsts (span_pairs span) → IsWritable caches.old x }
-    requires working { IsWorkingUnpinned store.old caches.old }
-    requires room { 2 * span.pages ≤ caches.old.room.nodes }
-    requires made { caches.old.made + 2 * span.pages < 2 ^ 63 }
-    requires few { len (forest_of caches.old).nodes + 2 * span.pages < 2 ^ 32 }
-    requires within { (span.from_page.0 + span.pages < 2 ^ 32)
-        × (span.to_page.0 + span.pages < 2 ^ 32) }
-    ensures nodes { forest_of caches.new ≡ rule_copy false (span_pairs span)
-        (forest_of caches.old) }
-    ensures forest { ForAnyMapper store.old caches.old store.new caches.new
-        (λ old new. store_forest new ≡ rule_copy false (span_pairs span) (store_forest old)) }
+    requires transfer { CanTransfer span caches.old }
+    requires ready { CanReplace (2 * span.pages) span.to (firsts (span_pairs span))
+        store.old caches.old }
+    requires room { HasRoom (2 * span.pages) caches.old }
+    ensures rule { GoesBy (λ P put f. rule_copy false (span_pairs span) f)
+        store.old caches.old store.new caches.new }
     ensures kept { Kept (firsts (span_pairs span)) store.old caches.old store.new caches.new }
-    ensures whole { IsWhole caches.new }
-    ensures live { live_count (forest_of caches.new) ≡ live_count (forest_of caches.old) }
-    ensures right { 2 * live_count (forest_of caches.old) ≤ length store.old.slots
-        → StaysRight store.old caches.old store.new caches.new }
-    ensures settled { IsSettled (forest_of caches.new) }
-    ensures bounded { IsBounded (forest_of caches.new) }
-    ensures made { caches.new.made ≤ caches.old.made + 2 * span.pages }
-    ensures copies { caches.new.copies ≡ caches.old.copies }
-    ensures room { caches.old.room.nodes ≤ caches.new.room.nodes + 2 * span.pages }
+    ensures pages { KeepsPages (2 * span.pages) store.old caches.old store.new caches.new }
     ensures translations { Leaves (λ x. x ∈ firsts (span_pairs span))
         (λ x. x ∈ seconds (span_pairs span)) caches.old store.old caches.new store.new }
 {

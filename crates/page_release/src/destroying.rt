@@ -1,20 +1,16 @@
 // The pages of a cache go, and the store follows.
-ghost use Rattle.std.specs.Prelude.{◌≡◌, ℕ, ◌+◌, ◌<◌, ◌≤◌, ◌^◌, false, [], Some, None, length};
-ghost use Rattle.vm_ids.specs.Forest.Commands.{destroy as rule_destroy, page_name, page_names, retire_all};
-ghost use Rattle.vm_ids.specs.Forest.Laws.Settling.{IsSettled};
-ghost use Rattle.vm_ids.specs.declared.node_name.NodeName.{NodeName};
+ghost use Rattle.std.specs.Prelude.{◌≡◌, ◌+◌, ◌≤◌, false, [], Some, length};
+ghost use Rattle.vm_ids.specs.Forest.Commands.{destroy as rule_destroy, page_names, retire_all};
 ghost use Rattle.vm_ids.specs.Forest.NameLists.{◌∈◌};
 ghost use Rattle.vm_ids.specs.Forest.NameMap.{len};
-ghost use Rattle.vm_ids.specs.Forest.Shape.{IsBounded, IsConsistent};
-ghost use Rattle.local_cache.specs.Arena.{Arena, node_at, without_cache};
+ghost use Rattle.vm_ids.specs.Forest.Shape.{IsConsistent};
 ghost use Rattle.local_cache.specs.Own.{own_states};
 ghost use Rattle.local_cache.specs.Reading.{forest_of};
-ghost use Rattle.local_cache.specs.Sound.{IsSound};
-ghost use Rattle.residency.specs.Seeing.{frame_forest};
-ghost use Rattle.residency.specs.StoreForest.{store_forest};
-ghost use Rattle.local_cache.specs.Whole.{IsWhole, size_of};
-ghost use Rattle.page_release.specs.Homes.{AreSaved, IsUnclean};
-ghost use Rattle.page_release.specs.Steps.{ForAnyMapper, IsStoreTied, IsUnpinned, IsWorkingUnpinned, Kept, Releases, StaysRight};
+ghost use Rattle.local_cache.specs.Whole.{size_of};
+ghost use Rattle.page_release.specs.Commands.{CanReplace, CanRetire, Empties};
+ghost use Rattle.page_release.specs.Homes.{AreUnclean};
+ghost use Rattle.page_release.specs.Readings.{GoesBy};
+ghost use Rattle.page_release.specs.Steps.{Kept, Releases};
 ghost use Rattle.page_release.specs.Translating.{Leaves, Replaces};
 
 use crate::forgetting::forget_named;
@@ -27,18 +23,11 @@ use vm_ids::{CacheId, PageNo};
 
 // Retires the pages of a live cache in rising order.
 fn retire_pages(store: &mut Store, caches: &mut Caches, cache: CacheId, pages: u32)
-    requires tied { IsStoreTied store.old caches.old }
-    requires whole { IsWhole caches.old }
     requires pages { size_of caches.old cache.0 ≡ Some pages }
-    requires made { caches.old.made + pages < 2 ^ 63 }
-    requires unpinned { (page : ℕ) → IsUnpinned store.old caches.old (page_name cache page) }
-    requires unclean { (x : NodeName) → x ∈ page_names cache 0 pages → IsUnclean caches.old x }
-    ensures nodes { forest_of caches.new ≡ retire_all (page_names cache 0 pages)
-        (forest_of caches.old) }
-    ensures forest { ForAnyMapper store.old caches.old store.new caches.new
-        (λ old new. store_forest new ≡ retire_all (page_names cache 0 pages) (store_forest old)) }
-    ensures frames { frame_forest caches.new store.new.map
-        ≡ retire_all (page_names cache 0 pages) (frame_forest caches.old store.old.map) }
+    requires retire { CanRetire pages (page_names cache 0 pages) store.old caches.old }
+    requires unclean { AreUnclean caches.old (page_names cache 0 pages) }
+    ensures rule { GoesBy (λ P put f. retire_all (page_names cache 0 pages) f)
+        store.old caches.old store.new caches.new }
     ensures kept { Releases [] store.old caches.old store.new caches.new }
     ensures consistent { IsConsistent (forest_of caches.new) }
     ensures made { caches.new.made ≤ caches.old.made + pages }
@@ -53,30 +42,12 @@ fn retire_pages(store: &mut Store, caches: &mut Caches, cache: CacheId, pages: u
 
 // The pages go, once no translation leads to one of them.
 fn destroy_and_settle(store: &mut Store, caches: &mut Caches, cache: CacheId, pages: u32)
-    requires tied { IsStoreTied store.old caches.old }
-    requires whole { IsWhole caches.old }
     requires pages { size_of caches.old cache.0 ≡ Some pages }
-    requires made { caches.old.made + pages < 2 ^ 63 }
-    requires unpinned { (page : ℕ) → IsUnpinned store.old caches.old (page_name cache page) }
-    requires saved { AreSaved caches.old cache (page_names cache 0 pages) }
-    requires working { IsWorkingUnpinned store.old caches.old }
-    ensures nodes { forest_of caches.new ≡ rule_destroy false (page_names cache 0 pages)
-        (forest_of caches.old) }
-    ensures forest { ForAnyMapper store.old caches.old store.new caches.new
-        (λ old new. store_forest new ≡ rule_destroy false (page_names cache 0 pages)
-        (store_forest old)) }
+    requires ready { CanReplace pages cache (page_names cache 0 pages) store.old caches.old }
+    ensures rule { GoesBy (λ P put f. rule_destroy false (page_names cache 0 pages) f)
+        store.old caches.old store.new caches.new }
     ensures kept { Releases [] store.old caches.old store.new caches.new }
-    ensures settled { IsSettled (forest_of caches.new) }
-    ensures consistent { IsConsistent (forest_of caches.new) }
-    ensures bounded { IsBounded (forest_of caches.new) }
-    ensures empty { (page : ℕ) → node_at caches.new cache.0 page ≡ None }
-    ensures whole { (after : Arena) → after ≡ without_cache caches.new cache → IsSound after
-        → forest_of after ≡ forest_of caches.new → IsWhole after }
-    ensures made { caches.new.made ≤ caches.old.made + pages }
-    ensures copies { caches.new.copies ≡ caches.old.copies }
-    ensures room { caches.old.room.nodes ≤ caches.new.room.nodes }
-    ensures fewer { length (own_states caches.new) ≤ length (own_states caches.old) }
-    ensures right { StaysRight store.old caches.old store.new caches.new }
+    ensures empties { Empties cache pages store.old caches.old store.new caches.new }
     ensures translations { Replaces (λ x. x ∈ page_names cache 0 pages) (λ x. ⊥)
         caches.old store.old caches.new store.new }
 {
@@ -89,30 +60,12 @@ fn destroy_and_settle(store: &mut Store, caches: &mut Caches, cache: CacheId, pa
 /// named by a segment the heirs of its pages have their saves: what it has is forgotten first. No translation leads to
 /// where a page of it was seen.
 pub fn destroy_pages(store: &mut Store, caches: &mut Caches, cache: CacheId, pages: u32)
-    requires tied { IsStoreTied store.old caches.old }
-    requires whole { IsWhole caches.old }
     requires pages { size_of caches.old cache.0 ≡ Some pages }
-    requires made { caches.old.made + pages < 2 ^ 63 }
-    requires unpinned { (page : ℕ) → IsUnpinned store.old caches.old (page_name cache page) }
-    requires saved { AreSaved caches.old cache (page_names cache 0 pages) }
-    requires working { IsWorkingUnpinned store.old caches.old }
-    ensures nodes { forest_of caches.new ≡ rule_destroy false (page_names cache 0 pages)
-        (forest_of caches.old) }
-    ensures forest { ForAnyMapper store.old caches.old store.new caches.new
-        (λ old new. store_forest new ≡ rule_destroy false (page_names cache 0 pages)
-        (store_forest old)) }
+    requires ready { CanReplace pages cache (page_names cache 0 pages) store.old caches.old }
+    ensures rule { GoesBy (λ P put f. rule_destroy false (page_names cache 0 pages) f)
+        store.old caches.old store.new caches.new }
     ensures kept { Kept [] store.old caches.old store.new caches.new }
-    ensures settled { IsSettled (forest_of caches.new) }
-    ensures consistent { IsConsistent (forest_of caches.new) }
-    ensures bounded { IsBounded (forest_of caches.new) }
-    ensures empty { (page : ℕ) → node_at caches.new cache.0 page ≡ None }
-    ensures whole { (after : Arena) → after ≡ without_cache caches.new cache → IsSound after
-        → forest_of after ≡ forest_of caches.new → IsWhole after }
-    ensures made { caches.new.made ≤ caches.old.made + pages }
-    ensures copies { caches.new.copies ≡ caches.old.copies }
-    ensures room { caches.old.room.nodes ≤ caches.new.room.nodes }
-    ensures fewer { length (own_states caches.new) ≤ length (own_states caches.old) }
-    ensures right { StaysRight store.old caches.old store.new caches.new }
+    ensures empties { Empties cache pages store.old caches.old store.new caches.new }
     ensures translations { Leaves (λ x. x ∈ page_names cache 0 pages) (λ x. ⊥)
         caches.old store.old caches.new store.new }
 {

@@ -13,10 +13,11 @@
 //! A page that its segment holds is never that of a node that stands for no page of a segment. So where pages of a named
 //! cache are replaced or taken away, their own pages give way to pages of zeros first: behind the saves nobody reads them.
 //!
-//! The model is the forest of bytes, `store_forest`, beside that of the local caches. No call takes a mapper: what is said
-//! holds whatever the mapper holds, `ForAnyMapper`. What every call keeps is the record `Kept`, and what its steps keep
-//! `Releases`. Within a command there may be more nodes than swap slots, so the store is `IsTied` there, and right again at
-//! the end. The crate stands on `residency`, `tree_merge`, `move_pages`, `page_stubs` and `history_tree`.
+//! The model is the forest of bytes, `store_forest`, beside that of the local caches and that of frames. One rule on
+//! all three is `GoesBy`. No call takes a mapper: what is said holds whatever the mapper holds, `ForAnyMapper`. What
+//! every call needs of its pages is the record `CanReplace`, what it keeps is `Kept`, and what its steps keep
+//! `Releases`. Within a command there may be more nodes than swap slots, so the store is `IsTied` there, and right
+//! again at the end. The crate stands on `residency`, `tree_merge`, `move_pages`, `page_stubs` and `history_tree`.
 #![tactic(auto)]
 
 mod copying;

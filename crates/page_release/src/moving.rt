@@ -1,30 +1,25 @@
 // The pages of a move, and the store follows.
-ghost use Rattle.std.specs.Prelude.{◌≡◌, ◌+◌, ◌*◌, ◌<◌, ◌≤◌, ◌^◌, ◌⊎◌, false, [], None, length};
+ghost use Rattle.std.specs.Prelude.{◌≡◌, ◌+◌, ◌<◌, ◌≤◌, ◌^◌, ◌⊎◌, false, []};
 ghost use Rattle.vm_ids.specs.declared.node_name.NodeName.{NodeName};
 ghost use Rattle.vm_ids.specs.Forest.Commands.{firsts, move_, move_pages as rule_move_pages, seconds, span_pairs};
 ghost use Rattle.vm_ids.specs.Forest.NameLists.{◌∈◌};
 ghost use Rattle.vm_ids.specs.Forest.Laws.Commands.{CanCopy};
 ghost use Rattle.vm_ids.specs.Forest.Laws.Linking.{ArePages};
-ghost use Rattle.vm_ids.specs.Forest.Laws.Settling.{IsSettled};
-ghost use Rattle.vm_ids.specs.Forest.NameMap.{len};
-ghost use Rattle.vm_ids.specs.Forest.Nodes.{IsNode};
 ghost use Rattle.vm_ids.specs.Forest.Rules as forest;
-ghost use Rattle.vm_ids.specs.Forest.Shape.{IsBounded, IsConsistent};
-ghost use Rattle.vm_ids.specs.Forest.Reading.{live_count};
+ghost use Rattle.vm_ids.specs.Forest.Shape.{IsConsistent};
 ghost use Rattle.local_cache.specs.Reading.{forest_of};
 ghost use Rattle.local_cache.specs.Sound.{IsSound};
-ghost use Rattle.residency.specs.Seeing.{frame_forest};
-ghost use Rattle.residency.specs.StoreForest.{store_forest};
-ghost use Rattle.local_cache.specs.Whole.{IsWhole};
-ghost use Rattle.page_release.specs.Homes.{AreSaved, IsUnclean, IsWritable, is_named};
-ghost use Rattle.page_release.specs.Steps.{ForAnyMapper, IsStoreTied, IsUnpinned, IsWorkingUnpinned, Kept, Releases, StaysRight, zeros_told};
+ghost use Rattle.page_release.specs.Commands.{CanReplace, CanRetire, CanTransfer, Grows, HasRoom, KeepsPages};
+ghost use Rattle.page_release.specs.Homes.{AreUnclean, IsUnclean, is_named};
+ghost use Rattle.page_release.specs.Readings.{GoesBy};
+ghost use Rattle.page_release.specs.Steps.{AreUnpinned, IsStoreTied, IsUnpinned, Kept, Releases};
 ghost use Rattle.page_release.specs.Translating.{Leaves, Replaces};
 
 use crate::following::follow;
 use crate::forgetting::forget_named;
 use crate::settling::settle;
 use crate::translations::drop_seen;
-use local_cache::{Caches, OwnState};
+use local_cache::Caches;
 use residency::Store;
 use vm_ids::{CacheId, NodeName, PageNo, Span};
 
@@ -48,14 +43,8 @@ fn move_one(
     requires source { IsUnpinned store.old caches.old (NodeName.Live from from_page) }
     requires room { 1 ≤ caches.old.room.nodes }
     requires made { caches.old.made < 2 ^ 63 }
-    ensures nodes { forest_of caches.new ≡ forest.move_page (forest_of caches.old)
-        (NodeName.Live to to_page) (NodeName.Live from from_page) OwnState.Zero }
-    ensures forest { ForAnyMapper store.old caches.old store.new caches.new
-        (λ old new. store_forest new ≡ forest.move_page (store_forest old)
-        (NodeName.Live to to_page) (NodeName.Live from from_page) (zeros_told old)) }
-    ensures frames { frame_forest caches.new store.new.map
-        ≡ forest.move_page (frame_forest caches.old store.old.map)
-        (NodeName.Live to to_page) (NodeName.Live from from_page) None }
+    ensures rule { GoesBy (λ P put f. forest.move_page f (NodeName.Live to to_page)
+        (NodeName.Live from from_page) put.zeros) store.old caches.old store.new caches.new }
     ensures kept { Releases [] store.old caches.old store.new caches.new }
     ensures room { caches.old.room.nodes ≤ caches.new.room.nodes + 1 }
 {
@@ -65,33 +54,18 @@ fn move_one(
 
 // Each page of the source is moved to the destination, in rising order.
 fn move_each(store: &mut Store, caches: &mut Caches, span: Span)
-    requires tied { IsStoreTied store.old caches.old }
-    requires whole { IsWhole caches.old }
-    requires can { CanCopy (forest_of caches.old) (span_pairs span) }
     requires temporary { is_named caches.old span.from ≡ false }
-    requires unpinned { (x : NodeName) → x ∈ firsts (span_pairs span)
-        → IsUnpinned store.old caches.old x }
-    requires unclean { (x : NodeName) → x ∈ firsts (span_pairs span) → IsUnclean caches.old x }
-    requires sources { (x : NodeName) → x ∈ seconds (span_pairs span)
-        → IsUnpinned store.old caches.old x }
-    requires room { span.pages ≤ caches.old.room.nodes }
-    requires made { caches.old.made + span.pages < 2 ^ 63 }
+    requires sources { AreUnpinned store.old caches.old (seconds (span_pairs span)) }
+    requires can { CanCopy (forest_of caches.old) (span_pairs span) }
     requires within { (span.from_page.0 + span.pages < 2 ^ 32)
         × (span.to_page.0 + span.pages < 2 ^ 32) }
-    ensures nodes { forest_of caches.new ≡ rule_move_pages OwnState.Zero (span_pairs span)
-        (forest_of caches.old) }
-    ensures forest { ForAnyMapper store.old caches.old store.new caches.new
-        (λ old new. store_forest new ≡ rule_move_pages (zeros_told old) (span_pairs span)
-        (store_forest old)) }
-    ensures frames { frame_forest caches.new store.new.map
-        ≡ rule_move_pages None (span_pairs span) (frame_forest caches.old store.old.map) }
+    requires retire { CanRetire span.pages (firsts (span_pairs span)) store.old caches.old }
+    requires unclean { AreUnclean caches.old (firsts (span_pairs span)) }
+    requires room { span.pages ≤ caches.old.room.nodes }
+    ensures rule { GoesBy (λ P put f. rule_move_pages put.zeros (span_pairs span) f)
+        store.old caches.old store.new caches.new }
     ensures kept { Releases [] store.old caches.old store.new caches.new }
-    ensures consistent { IsConsistent (forest_of caches.new) }
-    ensures stays { (x : NodeName) → IsNode (forest_of caches.old) x
-        → IsNode (forest_of caches.new) x }
-    ensures made { caches.new.made ≤ caches.old.made + span.pages }
-    ensures room { caches.old.room.nodes ≤ caches.new.room.nodes + span.pages }
-    ensures few { len (forest_of caches.new).nodes ≤ len (forest_of caches.old).nodes + span.pages }
+    ensures grows { Grows span.pages caches.old caches.new }
 {
     for page in 0..span.pages {
         move_one(
@@ -107,37 +81,16 @@ fn move_each(store: &mut Store, caches: &mut Caches, span: Span)
 
 // The move, once no translation leads to a page of either range.
 fn move_and_settle(store: &mut Store, caches: &mut Caches, span: Span)
-    requires tied { IsStoreTied store.old caches.old }
-    requires whole { IsWhole caches.old }
-    requires can { CanCopy (forest_of caches.old) (span_pairs span) }
-    requires unpinned { (x : NodeName) → x ∈ firsts (span_pairs span)
-        → IsUnpinned store.old caches.old x }
-    requires sources { (x : NodeName) → x ∈ seconds (span_pairs span)
-        → IsUnpinned store.old caches.old x }
     requires temporary { is_named caches.old span.from ≡ false }
-    requires saved { AreSaved caches.old span.to (firsts (span_pairs span)) }
-    requires granted { (x : NodeName) → x ∈ firsts (span_pairs span) → IsWritable caches.old x }
-    requires working { IsWorkingUnpinned store.old caches.old }
-    requires room { span.pages ≤ caches.old.room.nodes }
-    requires made { caches.old.made + span.pages < 2 ^ 63 }
-    requires few { len (forest_of caches.old).nodes + span.pages < 2 ^ 32 }
-    requires within { (span.from_page.0 + span.pages < 2 ^ 32)
-        × (span.to_page.0 + span.pages < 2 ^ 32) }
-    ensures nodes { forest_of caches.new ≡ move_ false OwnState.Zero (span_pairs span)
-        (forest_of caches.old) }
-    ensures forest { ForAnyMapper store.old caches.old store.new caches.new
-        (λ old new. store_forest new ≡ move_ false (zeros_told old) (span_pairs span)
-        (store_forest old)) }
+    requires sources { AreUnpinned store.old caches.old (seconds (span_pairs span)) }
+    requires transfer { CanTransfer span caches.old }
+    requires ready { CanReplace span.pages span.to (firsts (span_pairs span))
+        store.old caches.old }
+    requires room { HasRoom span.pages caches.old }
+    ensures rule { GoesBy (λ P put f. move_ false put.zeros (span_pairs span) f)
+        store.old caches.old store.new caches.new }
     ensures kept { Releases (firsts (span_pairs span)) store.old caches.old store.new caches.new }
-    ensures whole { IsWhole caches.new }
-    ensures live { live_count (forest_of caches.new) ≡ live_count (forest_of caches.old) }
-    ensures right { 2 * live_count (forest_of caches.old) ≤ length store.old.slots
-        → StaysRight store.old caches.old store.new caches.new }
-    ensures settled { IsSettled (forest_of caches.new) }
-    ensures bounded { IsBounded (forest_of caches.new) }
-    ensures made { caches.new.made ≤ caches.old.made + span.pages }
-    ensures copies { caches.new.copies ≡ caches.old.copies }
-    ensures room { caches.old.room.nodes ≤ caches.new.room.nodes + span.pages }
+    ensures pages { KeepsPages span.pages store.old caches.old store.new caches.new }
     ensures translations { Replaces
         (λ x. (x ∈ firsts (span_pairs span)) ⊎ (x ∈ seconds (span_pairs span))) (λ x. ⊥)
         caches.old store.old caches.new store.new }
@@ -152,37 +105,16 @@ fn move_and_settle(store: &mut Store, caches: &mut Caches, span: Span)
 /// source is temporary. Where the destination is named by a segment, each of its pages was granted, and its heirs have
 /// their saves: what it has is forgotten first. No translation leads to where a page of either was seen.
 pub fn move_pages(store: &mut Store, caches: &mut Caches, span: Span)
-    requires tied { IsStoreTied store.old caches.old }
-    requires whole { IsWhole caches.old }
-    requires can { CanCopy (forest_of caches.old) (span_pairs span) }
-    requires unpinned { (x : NodeName) → x ∈ firsts (span_pairs span)
-        → IsUnpinned store.old caches.old x }
-    requires sources { (x : NodeName) → x ∈ seconds (span_pairs span)
-        → IsUnpinned store.old caches.old x }
     requires temporary { is_named caches.old span.from ≡ false }
-    requires saved { AreSaved caches.old span.to (firsts (span_pairs span)) }
-    requires granted { (x : NodeName) → x ∈ firsts (span_pairs span) → IsWritable caches.old x }
-    requires working { IsWorkingUnpinned store.old caches.old }
-    requires room { span.pages ≤ caches.old.room.nodes }
-    requires made { caches.old.made + span.pages < 2 ^ 63 }
-    requires few { len (forest_of caches.old).nodes + span.pages < 2 ^ 32 }
-    requires within { (span.from_page.0 + span.pages < 2 ^ 32)
-        × (span.to_page.0 + span.pages < 2 ^ 32) }
-    ensures nodes { forest_of caches.new ≡ move_ false OwnState.Zero (span_pairs span)
-        (forest_of caches.old) }
-    ensures forest { ForAnyMapper store.old caches.old store.new caches.new
-        (λ old new. store_forest new ≡ move_ false (zeros_told old) (span_pairs span)
-        (store_forest old)) }
+    requires sources { AreUnpinned store.old caches.old (seconds (span_pairs span)) }
+    requires transfer { CanTransfer span caches.old }
+    requires ready { CanReplace span.pages span.to (firsts (span_pairs span))
+        store.old caches.old }
+    requires room { HasRoom span.pages caches.old }
+    ensures rule { GoesBy (λ P put f. move_ false put.zeros (span_pairs span) f)
+        store.old caches.old store.new caches.new }
     ensures kept { Kept (firsts (span_pairs span)) store.old caches.old store.new caches.new }
-    ensures whole { IsWhole caches.new }
-    ensures live { live_count (forest_of caches.new) ≡ live_count (forest_of caches.old) }
-    ensures right { 2 * live_count (forest_of caches.old) ≤ length store.old.slots
-        → StaysRight store.old caches.old store.new caches.new }
-    ensures settled { IsSettled (forest_of caches.new) }
-    ensures bounded { IsBounded (forest_of caches.new) }
-    ensures made { caches.new.made ≤ caches.old.made + span.pages }
-    ensures copies { caches.new.copies ≡ caches.old.copies }
-    ensures room { caches.old.room.nodes ≤ caches.new.room.nodes + span.pages }
+    ensures pages { KeepsPages span.pages store.old caches.old store.new caches.new }
     ensures translations { Leaves
         (λ x. (x ∈ firsts (span_pairs span)) ⊎ (x ∈ seconds (span_pairs span))) (λ x. ⊥)
         caches.old store.old caches.new store.new }

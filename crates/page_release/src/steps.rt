@@ -13,6 +13,7 @@ ghost use Rattle.residency.specs.StoreForest.{store_forest};
 ghost use Rattle.tree_merge.specs.declared.released.Released.{Released as Freed};
 ghost use Rattle.tree_merge.specs.Releasing.{IsDetached, IsRetired};
 ghost use Rattle.page_release.specs.Homes.{IsUnclean, cleaned};
+ghost use Rattle.page_release.specs.Readings.{GoesBy};
 ghost use Rattle.page_release.specs.Steps.{ForAnyMapper, IsSettleStep, IsStoreTied, IsUnpinned, IsWorkingUnpinned, Releases, fresh_frame, fresh_page, is_fresh};
 
 use crate::following::follow;
@@ -30,12 +31,8 @@ pub(crate) fn retire_page(store: &mut Store, caches: &mut Caches, cache: CacheId
     requires made { caches.old.made < 2 ^ 63 }
     requires unpinned { IsUnpinned store.old caches.old (NodeName.Live cache page) }
     requires unclean { IsUnclean caches.old (NodeName.Live cache page) }
-    ensures nodes { forest_of caches.new ≡ rule_retire (forest_of caches.old)
-        (NodeName.Live cache page) }
-    ensures forest { ForAnyMapper store.old caches.old store.new caches.new
-        (λ old new. store_forest new ≡ rule_retire (store_forest old) (NodeName.Live cache page)) }
-    ensures frames { frame_forest caches.new store.new.map
-        ≡ rule_retire (frame_forest caches.old store.old.map) (NodeName.Live cache page) }
+    ensures rule { GoesBy (λ P put f. rule_retire f (NodeName.Live cache page))
+        store.old caches.old store.new caches.new }
     ensures kept { Releases [] store.old caches.old store.new caches.new }
     ensures retired { (n : NodeId) → node_at caches.old cache.0 page.0 ≡ Some n → (released : Freed)
         × IsRetired caches.old caches.new n released }

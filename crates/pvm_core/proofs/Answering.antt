@@ -2,7 +2,9 @@
 pub mod Answered
 pub mod Chains
 pub mod Changed
+pub mod Ended
 pub mod Kept
 pub mod Listed
 pub mod Rising
 pub mod Reaching
+pub mod Standing

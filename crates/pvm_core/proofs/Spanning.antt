@@ -4,3 +4,4 @@ pub mod Spanned
 pub mod Transfers
 pub mod Transferring
 pub mod Reserved
+pub mod Readied

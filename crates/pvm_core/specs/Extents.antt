@@ -1,5 +1,5 @@
 -- How pages of a cache that a segment is to name are refused.
-use Rattle.std.specs.Prelude.{ℕ, ◌+◌, Bool, length, is_none, if◌then◌else◌, nat_lt, Option, Some, None}
+use Rattle.std.specs.Prelude.{◌+◌, Bool, length, is_none, if◌then◌else◌, nat_lt, Option, Some, None}
 use Rattle.vm_ids.specs.declared.command.Extent.{Extent}
 use Rattle.vm_ids.specs.declared.refusal.Refusal.{Refusal}
 use Rattle.vm_ids.specs.declared.refusal.Refusal.TheVariants.{Locked, NoCache, NotNamed, OutOfCache}

@@ -1,5 +1,5 @@
 -- What calls of a mapper come to for the machine of a manager.
-use Rattle.std.specs.Prelude.{◌≡◌, ℕ, List, length, Option}
+use Rattle.std.specs.Prelude.{ℕ, List, length, Option}
 use Rattle.vm_ids.specs.Counting.{MapperCounts}
 use Rattle.vm_ids.specs.Held.{Held, segments_of}
 use Rattle.vm_model.specs.Machine.{Machine}

@@ -39,7 +39,6 @@ use vm_model::{LIVE_PAGES, MOST_MADE};
 use vm_port::{Chooser, Mapper};
 
 /// The caches of a machine, whose pages are in frames, in swap slots, or zeros that are nowhere.
-#[derive(Drop)]
 pub struct Pvm {
     pub(crate) alloc: Global,
     pub(crate) caches: Caches,
@@ -68,6 +67,19 @@ impl Model for Pvm {
     ghost invariant = { λ p. IsKept p.caches p.store p.contexts p.live };
 }
 
+impl Drop for Pvm {
+    // One call, so that whoever lets a manager go needs to know of none of its parts.
+    fn drop(self) {
+        let Pvm {
+            alloc: _,
+            caches: _,
+            store: _,
+            contexts: _,
+            live: _,
+        } = self;
+    }
+}
+
 impl Pvm {
     /// A manager without caches and actors, of so many frames, at least three and all free, whose pages have `page` bytes.
     pub fn new(alloc: Global, frames: u32, page: u32) -> Result<Pvm, NoMemory>
@@ -90,6 +102,12 @@ impl Pvm {
             contexts: Contexts::new(alloc, page),
             live: 0,
         })
+    }
+
+    /// How many runs of alike page nodes there are. No answer depends on that; it tells how little a
+    /// large copy keeps.
+    pub fn runs(&self) -> usize {
+        self.caches.runs()
     }
 
     /// Makes an actor without regions. Refused as `TooMany` exactly where 256 actors are alive or 65,535 were made.

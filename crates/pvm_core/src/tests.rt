@@ -32,6 +32,9 @@ const PLACES: u32 = 4;
 
 const MAPPED: u32 = PLACES * PAGES * PAGE;
 
+// A large cache has so many pages.
+const MANY: u32 = 3_000;
+
 // So long is a history.
 const STEPS: u32 = 15_000;
 
@@ -590,4 +593,46 @@ fn memory_is_there(rt: HostRuntime) -> Result<(), Fail> {
     let mut gmi = Pvm::new(rt.alloc(), 3, PAGE)?;
     let mut mapper = MemoryMapper::new(rt.alloc(), &[], &[], 0, &[], PAGE)?;
     succeeds(&rt, &mut gmi, &mut mapper, &mut Clock::new())
+}
+
+// Three caches, of which the first is copied whole to each of the others.
+fn copies_whole<G: Gmi<M, C>, M: Mapper, C: Chooser>(
+    rt: &impl Abort,
+    gmi: &mut G,
+    mapper: &mut M,
+    chooser: &mut C,
+) -> Result<(), Fail>
+    requires valid { G.valid gmi.old (M.held mapper.old) }
+    requires made { G.made gmi.old ≤ 2 ^ 61 }
+    requires fits { Fits (M.page_bytes mapper.old) (G.machine gmi.old (M.held mapper.old)) }
+    requires live { live_pages (G.machine gmi.old (M.held mapper.old)) ≤ LIVE_PAGES }
+{
+    let second = Span {
+        from: CacheId(1),
+        from_page: PageNo(0),
+        to: CacheId(2),
+        to_page: PageNo(0),
+        pages: MANY,
+    };
+    let third = Span {
+        to: CacheId(3),
+        ..second
+    };
+    assert!(rt; answer(gmi, &Command::MakeTemp(MANY), mapper, chooser).is_ok());
+    assert!(rt; answer(gmi, &Command::MakeTemp(MANY), mapper, chooser).is_ok());
+    assert!(rt; answer(gmi, &Command::MakeTemp(MANY), mapper, chooser).is_ok());
+    assert!(rt; answer(gmi, &Command::Copy(second), mapper, chooser).is_ok());
+    assert!(rt; answer(gmi, &Command::Copy(third), mapper, chooser).is_ok());
+    Ok(())
+}
+
+// The nodes of the three caches, and the working nodes between, which are as many as a cache has
+// pages.
+#[test]
+fn whole_copies_stand_in_four_runs(rt: HostRuntime) -> Result<(), Fail> {
+    let mut gmi = Pvm::new(rt.alloc(), 3, PAGE)?;
+    let mut mapper = MemoryMapper::new(rt.alloc(), &[], &[], 0, &[], PAGE)?;
+    copies_whole(&rt, &mut gmi, &mut mapper, &mut Clock::new())?;
+    assert_eq!(&rt; gmi.runs(), 4);
+    Ok(())
 }

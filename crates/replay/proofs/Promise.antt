@@ -1,5 +1,5 @@
 -- What a run promises, from how its replay ends.
-use Rattle.std.proofs.Common.{◌≡◌, ◌≤◌, ◌<◌, ◌+◌, ℕ, List, [], ◌∷◌, ◌++◌, length, Option, Some, None, refl, sym, ap, subst, ◌∙◌, arith, inl}
+use Rattle.std.proofs.Common.{◌≡◌, ◌≤◌, ◌<◌, ◌+◌, ℕ, List, [], ◌∷◌, ◌++◌, length, Option, Some, None, refl, sym, ap, subst, ◌∙◌, arith, inl, inr}
 use Rattle.std.specs.Prelude.{◌⊎◌, ◌↔◌, map, IfOk, IfSome, IsSomeAnd}
 use Rattle.std.specs.List.{AllByRecursion}
 use Rattle.std.proofs.lemmas.List.{length-append}
@@ -135,6 +135,19 @@ complete statuses.SinkFault a b l k reads reads_now writes writes_now h sr kr fe
 complete statuses.TooLong a b l k reads reads_now writes writes_now h sr kr few r rl w wl = absurd (too_many l k h.0 h.1 h.2.took few)
 complete statuses.Usage a b l k reads reads_now writes writes_now h sr kr few r rl w wl = absurd h
 complete statuses.NoMemory a b l k reads reads_now writes writes_now h sr kr few r rl w wl = absurd h
+
+-- a replay that began ends as neither of these
+pub began : (status : Status) (a b : Scene) (l k : Option (List ℕ)) → Ends status a b l k → (status ≡ statuses.Usage) ⊎ (status ≡ statuses.NoMemory) → ⊥
+began statuses.Done a b l k h (inl e) = cc
+began statuses.Done a b l k h (inr e) = cc
+began statuses.SourceFault a b l k h (inl e) = cc
+began statuses.SourceFault a b l k h (inr e) = cc
+began statuses.SinkFault a b l k h (inl e) = cc
+began statuses.SinkFault a b l k h (inr e) = cc
+began statuses.TooLong a b l k h (inl e) = cc
+began statuses.TooLong a b l k h (inr e) = cc
+began statuses.Usage a b l k h e = h
+began statuses.NoMemory a b l k h e = h
 
 -- what it takes to answer the first line
 

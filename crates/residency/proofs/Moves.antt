@@ -2,5 +2,6 @@
 pub mod Brought
 pub mod Claimed
 pub mod Evicted
+pub mod Filled
 pub mod Left
 pub mod Picked

@@ -14,8 +14,9 @@
 //! what each call keeps, `OthersStay` how little an eviction changes (one page leaves its frame),
 //! `TellsOn` what becomes of the segments, and `TablesAfter` of the translations. `Between` says a
 //! relation of the moments before and after a call, `Across` one that speaks of the mapper's counts
-//! too. The crate stands on `frame_pool`, `slot_pool`, `global_map`, `page_tables`, `local_cache`
-//! and the traits of the outside; the paths of faults, the copies and moves with frames, and the
+//! too, as `MakesFree` does of a frame that is made free, and `Fills` of a page that comes to it.
+//! The crate stands on `frame_pool`, `slot_pool`, `global_map`, `page_tables`, `local_cache` and
+//! the traits of the outside; the paths of faults, the copies and moves with frames, and the
 //! manager stand on it.
 #![tactic(auto)]
 

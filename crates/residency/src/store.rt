@@ -12,13 +12,15 @@ ghost use Rattle.local_cache.specs.Arena.{Arena, HasNode, with_own};
 ghost use Rattle.local_cache.specs.Home.{home_of};
 ghost use Rattle.local_cache.specs.Own.{is_resident, own_of};
 ghost use Rattle.residency.specs.Between.{Across, Between, RightStore};
-ghost use Rattle.residency.specs.Causes.{HasMissCause, Later, Traffic, PushFailed, dirtied, dirty_count, dirty_in, failed_pushes, failed_victims, frames_to_bring, is_victim, pulls_for, pushes_for, pushes_to_bring};
+ghost use Rattle.residency.specs.Causes.{HasMissCause, Later, Traffic, PushFailed, dirtied, dirty_count, dirty_in, failed_pushes, failed_victims, frames_to_bring, pulls_for, pushes_for, pushes_to_bring};
 ghost use Rattle.residency.specs.Evicting.{HasLeft, IsEvicted, IsInSlot};
+ghost use Rattle.residency.specs.Filling.{Fills};
 ghost use Rattle.residency.specs.Frames.{evictable_count, free_frames, with_held, with_pinned};
+ghost use Rattle.residency.specs.Freeing.{MakesFree};
 ghost use Rattle.residency.specs.Lending.{LendsFrame, LendsTables};
 ghost use Rattle.residency.specs.Pushing.{TellsOn};
 ghost use Rattle.residency.specs.Translating.{IsEmptied, TablesAfter};
-ghost use Rattle.residency.specs.World.{HasNoNodes, HasOwnPage, HoldsPage, HasUnpinned, IsAway, IsFrameOf, IsMadeFree, IsStoreRight, IsTaken, OthersStay, OthersStayBut, Still, StillBut, brought_in, is_clean, world};
+ghost use Rattle.residency.specs.World.{HasNoNodes, HasOwnPage, HoldsPage, HasUnpinned, IsAway, IsFrameOf, IsStoreRight, IsTaken, OthersStay, OthersStayBut, Still, brought_in, is_clean, world};
 
 use crate::Miss;
 use crate::marks::Marks;
@@ -32,13 +34,25 @@ use vm_ids::{FrameId, NoMemory, NodeId, SlotId};
 use vm_port::{Chooser, Failed, Mapper};
 
 /// The page frames, the swap slots, the page tables and the map from page nodes to frames.
-#[derive(Drop)]
 pub struct Store {
     frames: FramePool,
     slots: SlotPool,
     map: GlobalMap,
     tables: PageTables,
     marks: Marks,
+}
+
+impl Drop for Store {
+    // One call, so that whoever lets a store go needs to know of none of its parts.
+    fn drop(self) {
+        let Store {
+            frames: _,
+            slots: _,
+            map: _,
+            tables: _,
+            marks: _,
+        } = self;
+    }
 }
 
 impl Store {
@@ -370,30 +384,16 @@ impl Store {
     ) -> Result<FrameId, Failed>
         requires right { RightStore M.held M.page_bytes mapper.old caches.old self.old }
         requires unpinned { HasUnpinned self.old.frames }
-        ensures still { Between Still M.held M.page_bytes
+        ensures free { Across (MakesFree result (pushes_for self.old.frames.held))
+            M.held M.page_bytes M.counts
             mapper.old caches.old self.old mapper.new caches.new self.new }
-        ensures told { Across TellsOn M.held M.page_bytes M.counts
-            mapper.old caches.old self.old mapper.new caches.new self.new }
-        ensures free { IfOk result (λ f. Between (IsMadeFree f.0) M.held M.page_bytes
-            mapper.old caches.old self.old mapper.new caches.new self.new) }
         ensures tables { TablesAfter self.old self.new }
-        ensures pinned { OnErr result (self.new.frames.pinned ≡ self.old.frames.pinned) }
         ensures held { OnOk result (held_count self.new.frames + pushes_for self.old.frames.held
             ≡ held_count self.old.frames + 1) }
         ensures failed_held { OnErr result (
             held_count self.new.frames ≡ held_count self.old.frames) }
-        ensures others { Between OthersStay M.held M.page_bytes
-            mapper.old caches.old self.old mapper.new caches.new self.new }
         ensures idle { pushes_for self.old.frames.held ≡ 0 → mapper.new ≡ mapper.old }
         ensures idle_caches { pushes_for self.old.frames.held ≡ 0 → caches.new ≡ caches.old }
-        ensures later { Later (M.counts mapper.old) (M.counts mapper.new) }
-        ensures traffic { Traffic 0
-            (dirty_count caches.old - dirty_count caches.new + failed_pushes result)
-            (M.counts mapper.old) (M.counts mapper.new) }
-        ensures dirty { dirty_count caches.new ≤ dirty_count caches.old }
-        ensures few { dirty_count caches.old - dirty_count caches.new + failed_pushes result
-            ≤ pushes_for self.old.frames.held }
-        ensures cause { OnErr result (PushFailed (M.counts mapper.old) (M.counts mapper.new)) }
     {
         match self.frames.take() {
             Some(frame) => {
@@ -414,24 +414,10 @@ impl Store {
         requires right { RightStore M.held M.page_bytes mapper.old caches.old self.old }
         requires unpinned { HasUnpinned self.old.frames }
         requires full { All (λ h. h ≡ true) self.old.frames.held }
-        ensures still { Between Still M.held M.page_bytes
+        ensures free { Across (MakesFree result 1) M.held M.page_bytes M.counts
             mapper.old caches.old self.old mapper.new caches.new self.new }
-        ensures told { Across TellsOn M.held M.page_bytes M.counts
-            mapper.old caches.old self.old mapper.new caches.new self.new }
-        ensures free { IfOk result (λ f. Between (IsMadeFree f.0) M.held M.page_bytes
-            mapper.old caches.old self.old mapper.new caches.new self.new) }
         ensures tables { TablesAfter self.old self.new }
-        ensures pinned { OnErr result (self.new.frames.pinned ≡ self.old.frames.pinned) }
         ensures held { held_count self.new.frames ≡ held_count self.old.frames }
-        ensures others { Between OthersStay M.held M.page_bytes
-            mapper.old caches.old self.old mapper.new caches.new self.new }
-        ensures later { Later (M.counts mapper.old) (M.counts mapper.new) }
-        ensures traffic { Traffic 0
-            (dirty_count caches.old - dirty_count caches.new + failed_pushes result)
-            (M.counts mapper.old) (M.counts mapper.new) }
-        ensures dirty { dirty_count caches.new ≤ dirty_count caches.old }
-        ensures few { dirty_count caches.old - dirty_count caches.new + failed_pushes result ≤ 1 }
-        ensures cause { OnErr result (PushFailed (M.counts mapper.old) (M.counts mapper.new)) }
     {
         let victim = self.marks.pick(&self.frames, chooser);
         self.evict(caches, victim, mapper)?;
@@ -490,53 +476,10 @@ impl Store {
     {
         match self.map.get(node) {
             Some(frame) => Ok(frame),
-            None => self.fetch(caches, node, mapper, chooser),
-        }
-    }
-
-    // The same for a node that isn't resident.
-    fn fetch<M: Mapper, C: Chooser>(
-        &mut self,
-        caches: &mut Caches,
-        node: NodeId,
-        mapper: &mut M,
-        chooser: &mut C,
-    ) -> Result<FrameId, Miss>
-        requires right { RightStore M.held M.page_bytes mapper.old caches.old self.old }
-        requires node { IsAway caches.old node }
-        requires unpinned { HasUnpinned self.old.frames }
-        ensures still { Between Still M.held M.page_bytes
-            mapper.old caches.old self.old mapper.new caches.new self.new }
-        ensures told { Across TellsOn M.held M.page_bytes M.counts
-            mapper.old caches.old self.old mapper.new caches.new self.new }
-        ensures home { IfOk result (λ f. IsFrameOf self.new.map f.0 node) }
-        ensures state { OnOk result (
-            own_of caches.new node ≡ brought_in (own_of caches.old node)) }
-        ensures page { IfOk result (λ f.
-            HoldsPage (own_of caches.old node) (M.given mapper.new) self.new.frames f.0) }
-        ensures others { Between (OthersStayBut node) M.held M.page_bytes
-            mapper.old caches.old self.old mapper.new caches.new self.new }
-        ensures failed { OnErr result (Between OthersStay M.held M.page_bytes
-            mapper.old caches.old self.old mapper.new caches.new self.new) }
-        ensures tables { TablesAfter self.old self.new }
-        ensures pinned { self.new.frames.pinned ≡ self.old.frames.pinned }
-        ensures later { Later (M.counts mapper.old) (M.counts mapper.new) }
-        ensures held { OnOk result (held_count self.new.frames + pushes_for self.old.frames.held
-            ≡ held_count self.old.frames + 1) }
-        ensures traffic { Traffic (pulls_for result (own_of caches.old node))
-            (dirty_count caches.old + dirtied result (own_of caches.old node)
-            - dirty_count caches.new + failed_victims result)
-            (M.counts mapper.old) (M.counts mapper.new) }
-        ensures dirty { dirty_count caches.new
-            ≤ dirty_count caches.old + dirtied result (own_of caches.old node) }
-        ensures few { dirty_count caches.old + dirtied result (own_of caches.old node)
-            - dirty_count caches.new + failed_victims result
-            ≤ pushes_for self.old.frames.held }
-        ensures cause { IfErr result (HasMissCause (M.counts mapper.old) (M.counts mapper.new)) }
-    {
-        match self.make_free(caches, mapper, chooser) {
-            Ok(frame) => self.fill(caches, node, frame, mapper),
-            Err(_) => Err(Miss::Victim),
+            None => match self.make_free(caches, mapper, chooser) {
+                Ok(frame) => self.fill(caches, node, frame, mapper),
+                Err(_) => Err(Miss::Victim),
+            },
         }
     }
 
@@ -553,31 +496,10 @@ impl Store {
         requires taken { IsTaken
             (world (M.held mapper.old) (M.page_bytes mapper.old) caches.old self.old)
             frame.0 }
-        ensures still { Between (StillBut frame.0) M.held M.page_bytes
+        ensures fills { Across (Fills result node frame.0 (M.given mapper.new))
+            M.held M.page_bytes M.counts
             mapper.old caches.old self.old mapper.new caches.new self.new }
-        ensures home { IfOk result (λ f. IsFrameOf self.new.map f.0 node) }
-        ensures state { OnOk result (
-            own_of caches.new node ≡ brought_in (own_of caches.old node)) }
-        ensures page { IfOk result (λ f.
-            HoldsPage (own_of caches.old node) (M.given mapper.new) self.new.frames f.0) }
-        ensures others { Between (OthersStayBut node) M.held M.page_bytes
-            mapper.old caches.old self.old mapper.new caches.new self.new }
-        ensures failed { OnErr result (Between OthersStay M.held M.page_bytes
-            mapper.old caches.old self.old mapper.new caches.new self.new) }
-        ensures bound { OnOk result (
-            self.new.map ≡ slice_set self.old.map frame.0 (Some node)) }
-        ensures unbound { OnErr result (self.new.map ≡ self.old.map) }
         ensures tables { self.new.tables ≡ self.old.tables }
-        ensures pinned { self.new.frames.pinned ≡ slice_set self.old.frames.pinned frame.0 false }
-        ensures later { Later (M.counts mapper.old) (M.counts mapper.new) }
-        ensures held { OnOk result (self.new.frames.held ≡ self.old.frames.held) }
-        ensures traffic { Traffic (pulls_for result (own_of caches.old node)) 0
-            (M.counts mapper.old) (M.counts mapper.new) }
-        ensures dirty { dirty_count caches.new
-            ≡ dirty_count caches.old + dirtied result (own_of caches.old node) }
-        ensures told { M.held mapper.new ≡ M.held mapper.old }
-        ensures filled { is_victim result ≡ false }
-        ensures cause { IfErr result (HasMissCause (M.counts mapper.old) (M.counts mapper.new)) }
     {
         match caches.own_state(node) {
             OwnState::Slot(slot) => self.pull_slot(caches, node, slot, frame, mapper),
@@ -605,30 +527,10 @@ impl Store {
         requires taken { IsTaken
             (world (M.held mapper.old) (M.page_bytes mapper.old) caches.old self.old)
             frame.0 }
-        ensures still { Between (StillBut frame.0) M.held M.page_bytes
+        ensures fills { Across (Fills result node frame.0 (M.given mapper.new))
+            M.held M.page_bytes M.counts
             mapper.old caches.old self.old mapper.new caches.new self.new }
-        ensures home { IfOk result (λ f. IsFrameOf self.new.map f.0 node) }
-        ensures state { OnOk result (
-            own_of caches.new node ≡ brought_in (own_of caches.old node)) }
-        ensures page { IfOk result (λ f.
-            HoldsPage (own_of caches.old node) (M.given mapper.new) self.new.frames f.0) }
-        ensures others { Between (OthersStayBut node) M.held M.page_bytes
-            mapper.old caches.old self.old mapper.new caches.new self.new }
-        ensures failed { OnErr result (Between OthersStay M.held M.page_bytes
-            mapper.old caches.old self.old mapper.new caches.new self.new) }
-        ensures bound { OnOk result (
-            self.new.map ≡ slice_set self.old.map frame.0 (Some node)) }
-        ensures unbound { OnErr result (self.new.map ≡ self.old.map) }
         ensures tables { self.new.tables ≡ self.old.tables }
-        ensures pinned { self.new.frames.pinned ≡ slice_set self.old.frames.pinned frame.0 false }
-        ensures later { Later (M.counts mapper.old) (M.counts mapper.new) }
-        ensures held { OnOk result (self.new.frames.held ≡ self.old.frames.held) }
-        ensures traffic { Traffic 1 0 (M.counts mapper.old) (M.counts mapper.new) }
-        ensures dirty { dirty_count caches.new
-            ≡ dirty_count caches.old + dirtied result (own_of caches.old node) }
-        ensures told { M.held mapper.new ≡ M.held mapper.old }
-        ensures filled { is_victim result ≡ false }
-        ensures cause { IfErr result (HasMissCause (M.counts mapper.old) (M.counts mapper.new)) }
     {
         match mapper.swap_in(slot, self.frames.bytes_mut(frame)) {
             Ok(()) => {
@@ -657,30 +559,10 @@ impl Store {
         requires taken { IsTaken
             (world (M.held mapper.old) (M.page_bytes mapper.old) caches.old self.old)
             frame.0 }
-        ensures still { Between (StillBut frame.0) M.held M.page_bytes
+        ensures fills { Across (Fills result node frame.0 (M.given mapper.new))
+            M.held M.page_bytes M.counts
             mapper.old caches.old self.old mapper.new caches.new self.new }
-        ensures home { IfOk result (λ f. IsFrameOf self.new.map f.0 node) }
-        ensures state { OnOk result (
-            own_of caches.new node ≡ brought_in (own_of caches.old node)) }
-        ensures page { IfOk result (λ f.
-            HoldsPage (own_of caches.old node) (M.given mapper.new) self.new.frames f.0) }
-        ensures others { Between (OthersStayBut node) M.held M.page_bytes
-            mapper.old caches.old self.old mapper.new caches.new self.new }
-        ensures failed { OnErr result (Between OthersStay M.held M.page_bytes
-            mapper.old caches.old self.old mapper.new caches.new self.new) }
-        ensures bound { OnOk result (
-            self.new.map ≡ slice_set self.old.map frame.0 (Some node)) }
-        ensures unbound { OnErr result (self.new.map ≡ self.old.map) }
         ensures tables { self.new.tables ≡ self.old.tables }
-        ensures pinned { self.new.frames.pinned ≡ slice_set self.old.frames.pinned frame.0 false }
-        ensures later { Later (M.counts mapper.old) (M.counts mapper.new) }
-        ensures held { OnOk result (self.new.frames.held ≡ self.old.frames.held) }
-        ensures traffic { Traffic 1 0 (M.counts mapper.old) (M.counts mapper.new) }
-        ensures dirty { dirty_count caches.new
-            ≡ dirty_count caches.old + dirtied result (own_of caches.old node) }
-        ensures told { M.held mapper.new ≡ M.held mapper.old }
-        ensures filled { is_victim result ≡ false }
-        ensures cause { IfErr result (HasMissCause (M.counts mapper.old) (M.counts mapper.new)) }
     {
         let home = caches.home(node).unwrap();
         match mapper.pull_in(home.segment, home.page, self.frames.bytes_mut(frame)) {

@@ -20,8 +20,8 @@
 //! [`Rising`] is the plainest value, a number that rises with the numbers of its stretch. The law
 //! [`stepping`] says when many changes of a map, step by step, are changes of whole stretches.
 //!
-//! This crate stands on nothing, and nothing stands on it yet. It is meant for the page nodes of
-//! `local_cache`, of which a large copy makes many that are alike.
+//! This crate stands on nothing. `local_cache` keeps its page nodes in stretches, since a large cache
+//! and a large copy make many that are alike, and the grants and locks of pages too.
 #![tactic(auto)]
 
 mod bounds;

@@ -1,6 +1,6 @@
 -- What a call answers where every page is still, and where another call went before it.
 use Rattle.std.proofs.Common.{◌≡◌, arith, Result, Ok, Err}
-use Rattle.std.specs.Prelude.{IfErr}
+use Rattle.std.specs.Prelude.{IfErr, IsErrAnd}
 use Rattle.vm_ids.specs.Counting.{MapperCounts}
 use Rattle.vm_ids.specs.Forest.Shape.{IsWellShaped}
 use Rattle.local_cache.specs.Reading.{forest_of}
@@ -11,10 +11,8 @@ use Rattle.residency.specs.declared.miss.Miss.TheVariants.{Pull, Victim}
 use Rattle.residency.specs.Pushing.{TellsOn}
 use Rattle.residency.specs.World.{Still, World}
 use Rattle.residency.proofs.Forests.StillForest.{still_forest}
-use Rattle.residency.proofs.Pushes.Told.{tells_then}
-use Rattle.fault_path.specs.Answers.{IsAnswered, IsMissed}
+use Rattle.fault_path.specs.Answers.{IsAnswered, IsDoneOrMissed, IsMissed}
 use Rattle.fault_path.proofs.Calls.Kept.{still_kept}
-use Rattle.fault_path.proofs.Frames.TwoFrames.{kept_then}
 
 pub later_then : (a b c : MapperCounts) → Later a b → Later b c → Later a c
 later_then a b c p q = record {
@@ -39,11 +37,11 @@ module _ (old new : World) (still : Still old new) (before now : MapperCounts) w
   still_missed_by (Ok x) cause = tt
   still_missed_by (Err miss) cause = still_missed miss cause
 
--- a call before which every page was still
-module _ (a b c : World) (still : Still a b) (sound : IsSound a.caches) (shaped : IsWellShaped (forest_of a.caches)) (p q r : MapperCounts) where
-  pub answered_then : b.frames.pinned ≡ a.frames.pinned → Later p q → TellsOn a b p q → IsAnswered b c q r → IsAnswered a c p r
-  answered_then pins later told next = record {
-    kept = kept_then a b c (still_kept a b still sound shaped pins) next.kept;
-    later = later_then p q r later next.later;
-    told = tells_then a b still.stays c p q r next.later told next.told;
-  }
+  -- a call that missed
+  module _ {T : Type 0} {does : T → World → World → Type 0} (sound : IsSound old.caches) (shaped : IsWellShaped (forest_of old.caches)) (pins : new.frames.pinned ≡ old.frames.pinned) (later : Later before now) (told : TellsOn old new before now) where
+    pub miss_with : (miss : Miss) → HasMissCause before now miss → IsDoneOrMissed (Err miss) does old new before now
+    miss_with miss cause = record { answered = still_answered sound shaped pins later told; done = tt; missed = still_missed miss cause }
+
+    pub miss_by : (P : Miss → Type 0) (r : Result T Miss) → IsErrAnd r P → IfErr r (HasMissCause before now) → IsDoneOrMissed r does old new before now
+    miss_by P (Ok x) is cause = absurd is
+    miss_by P (Err miss) is cause = miss_with miss cause

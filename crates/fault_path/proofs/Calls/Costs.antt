@@ -52,8 +52,8 @@ pub pushes_then : (k : ℕ) (before now : List Bool) → length now ≡ length b
     → (k - (length before - count_by (λ h. h) before)) + (1 - (length now - count_by (λ h. h) now)) ≡ k + 1 - (length before - count_by (λ h. h) before)
 pushes_then k before now same e = omega (arith, count_most before, count_most now)
 
-pub taken_then : (k : ℕ) (before now after : List Bool) → length now ≡ length before → Taken k before now → count_by (λ h. h) after + pushes_for now ≡ count_by (λ h. h) now + 1 → Taken (k + 1) before after
-taken_then k before now after same e f = omega (arith, count_most before, count_most now, pushes_free now)
+pub taken_then : (k : ℕ) (before now after : List Bool) → length now ≡ length before → Taken k before now → Taken 1 now after → Taken (k + 1) before after
+taken_then k before now after same e f = omega (arith, count_most before, count_most now)
 
 -- a count of pushes that is told exactly is also told at most
 pub pulls_few : (p q pushes : ℕ) (a b : MapperCounts) → Traffic p q a b → q ≤ pushes → Pulls p pushes a b
@@ -69,10 +69,10 @@ pulls_then p q r s pulls pushes a b c one two later e f = record {
 }
 
 -- frames for k, and then one more
-pub pulls_more : (k p : ℕ) (before now : List Bool) (a b c : MapperCounts) → length now ≡ length before → Taken k before now → Pulls p (k - (length before - count_by (λ h. h) before)) a b → Pulls 0 (pushes_for now) b c → Later b c
+pub pulls_more : (k p : ℕ) (before now : List Bool) (a b c : MapperCounts) → length now ≡ length before → Taken k before now → Pulls p (k - (length before - count_by (λ h. h) before)) a b → Pulls 0 (1 - (length now - count_by (λ h. h) now)) b c → Later b c
     → Pulls p (k + 1 - (length before - count_by (λ h. h) before)) a c
 pulls_more k p before now a b c same taken one two later =
-    pulls_then p (k - (length before - count_by (λ h. h) before)) 0 (pushes_for now) p (k + 1 - (length before - count_by (λ h. h) before)) a b c one two later (omega arith) (omega (arith, pushes_then k before now same taken, pushes_free now))
+    pulls_then p (k - (length before - count_by (λ h. h) before)) 0 (1 - (length now - count_by (λ h. h) now)) p (k + 1 - (length before - count_by (λ h. h) before)) a b c one two later (omega arith) (omega (arith, pushes_then k before now same taken))
 
 pub pulls_is : (p q pulls pushes : ℕ) (a b : MapperCounts) → Pulls p q a b → p ≡ pulls → q ≤ pushes → Pulls pulls pushes a b
 pulls_is p q pulls pushes a b traffic e f = record {
@@ -142,8 +142,11 @@ module _ (own : OwnState) (before now : Frames) (x y : MapperCounts) (same : len
   pub brought_traffic : Takes (pulls_to_copy own) (frames_to_bring own) before x y
   brought_traffic = pulls_few _ _ _ _ _ brought (omega (arith, few, pushes_bring own before.held))
 
-  pub brought_more : (z : MapperCounts) → Pulls 0 (pushes_for now.held) y z → Later y z → Takes (pulls_to_copy own) (frames_to_bring own + 1) before x z
+  pub brought_more : (z : MapperCounts) → Takes 0 1 now y z → Later y z → Takes (pulls_to_copy own) (frames_to_bring own + 1) before x z
   brought_more z one later = pulls_more (frames_to_bring own) (pulls_to_copy own) before.held now.held x y z same brought_taken brought_traffic one later
+
+  pub brought_most : (z : MapperCounts) → TakesAtMost 0 1 now y z → Later y z → TakesAtMost (pulls_to_copy own) (frames_to_bring own + 1) before x z
+  brought_most z one later = most_then _ _ _ _ _ _ _ _ _ brought_traffic one later (omega arith) (omega (arith, pushes_then (frames_to_bring own) before.held now.held same brought_taken))
 
 -- it failed to be brought in
 pub failed_most : (own : OwnState) (before : Frames) (b : Bool) (pushes : ℕ) (x y : MapperCounts) → Traffic (cond {A = ℕ} b 0 (cond {A = ℕ} (is_pulled own) 1 0)) pushes x y → pushes ≤ pushes_to_bring own before.held
@@ -151,5 +154,5 @@ pub failed_most : (own : OwnState) (before : Frames) (b : Bool) (pushes : ℕ) (
 failed_most own before b pushes x y traffic few = pulls_most _ _ _ _ _ _ (pulls_few _ _ _ _ _ traffic few) (tried_most b own) (omega (arith, pushes_bring own before.held))
 
 -- a copy of a resident page takes the one frame
-pub resident_takes : (own : OwnState) (now : Frames) (y z : MapperCounts) → is_resident own ≡ true → Takes (pulls_to_copy own) (frames_to_copy own) now y z → Pulls 0 (pushes_for now.held) y z
-resident_takes own now y z e traffic = let one = resident_copies own e in pulls_is _ _ _ _ _ _ traffic one.0 (omega (arith, one.1, pushes_free now.held))
+pub resident_takes : (own : OwnState) (now : Frames) (y z : MapperCounts) → is_resident own ≡ true → Takes (pulls_to_copy own) (frames_to_copy own) now y z → Takes 0 1 now y z
+resident_takes own now y z e traffic = let one = resident_copies own e in pulls_is _ _ _ _ _ _ traffic one.0 (omega (arith, one.1))

@@ -1,5 +1,5 @@
 -- A resident page is called dirty, and what a node's own page says of what is told.
-use Rattle.std.proofs.Common.{◌≡◌, ℕ, ◌+◌, true, false, List, Bool, Option, Some, None, is_some, refl, sym, ap, ◌∙◌, arith, inl, inr}
+use Rattle.std.proofs.Common.{◌≡◌, ℕ, ◌+◌, ◌<◌, length, true, false, List, Bool, Option, Some, None, is_some, refl, sym, ap, ◌∙◌, arith, inl, inr}
 use Rattle.std.specs.Prelude.{option_map, option_and_then}
 use Rattle.std.specs.List.{count_by}
 use Rattle.std.specs.Option.{IfSome, IsSome}
@@ -7,6 +7,7 @@ use Rattle.vm_ids.specs.Held.{Held, slot_of}
 use Rattle.vm_ids.specs.declared.numbers.NodeId.{NodeId}
 use Rattle.vm_ids.proofs.Places.{bit, bit_false}
 use Rattle.frame_pool.specs.Pool.{bytes_of}
+use Rattle.global_map.specs.Pairs.{node_of}
 use Rattle.local_cache.specs.declared.home.Home.{Home}
 use Rattle.local_cache.specs.declared.own_state.OwnState.{OwnState}
 use Rattle.local_cache.specs.declared.own_state.OwnState.TheVariants.{Absent, Zero, Resident, Slot, OnSegment}
@@ -18,7 +19,7 @@ use Rattle.local_cache.specs.Own.{is_in_slot, is_resident, is_slot, own_of, own_
 use Rattle.local_cache.proofs.Nodes.OwnStates.{id_cases, own_count, own_length, own_other, own_same}
 use Rattle.local_cache.proofs.Names.Homes.{home-like, home-with_own}
 use Rattle.residency.specs.World.{IsStoreRight, Still, World, frame_page, home_page, is_clean, is_name_granted, own_page, page_at, page_by, zero_page}
-use Rattle.residency.proofs.Worlds.Homes.{resident_not_in_slot, resident_not_slot, slot_is_held}
+use Rattle.residency.proofs.Worlds.Homes.{home, resident_not_in_slot, resident_not_slot, slot_is_held}
 use Rattle.residency.proofs.Worlds.Nodes.{granted_like, own_granted, with_own_same}
 use Rattle.fault_path.specs.Faults.{MayWrite}
 use Rattle.fault_path.specs.Gathering.{HasPageOf}
@@ -121,6 +122,12 @@ page_told (Some h) home e = e
 home_told : (w : World) (n : NodeId) → IsStoreRight w → (o : Option Home) → home_of w.caches n ≡ o → IsSome o → is_some (home_page w n) ≡ is_some w.told
 home_told w n right None e some = absurd (cc some)
 home_told w n right (Some home) e some = ap (λ (o : Option Home). is_some (option_and_then (λ h. option_and_then (page_at h) o) w.told)) e ∙ page_told w.told home (right.tied.backed.lies n home e)
+
+-- the same of a node that a frame has, which might be written from before
+pub bound_dirty : (old w : World) (f : ℕ) (n : NodeId) → IsStoreRight w → Like old.caches w.caches → HasNode old.caches n → MayWrite old.caches n → f < length w.map → node_of w.map f ≡ Some n → Still w (dirtied w n)
+bound_dirty old w f n right like there granted below bound =
+    let at = home w f n right below bound in
+    dirty_still w n right (like.held n ∙ there) at.resident (may_like old.caches w.caches like n granted)
 
 -- The bytes of an own page are told exactly where the mapper tells what it holds.
 told_by : (w : World) (n : NodeId) → IsStoreRight w → HasNode w.caches n → (x : OwnState) → own_of w.caches n ≡ x → (q : Option (List ℕ))

@@ -20,6 +20,7 @@ use Rattle.residency.specs.StoreForest.{store_forest}
 use Rattle.residency.specs.World.{IsStoreRight, Still, World, own_page}
 use Rattle.residency.proofs.Forests.StillForest.{still_bare, still_like, still_tells}
 use Rattle.residency.proofs.Worlds.Telling.{tells}
+use Rattle.fault_path.specs.Faults.{IsHeirOf}
 use Rattle.fault_path.proofs.Rules.OwningRules.{without_heir}
 use Rattle.fault_path.proofs.Calls.Kept.{store_heir}
 
@@ -58,10 +59,13 @@ module _ (old new : World) (still : Still old new) (sound : IsSound old.caches) 
   pub same_heir : (x : NodeName) → heir (forest_of new.caches) x ≡ heir (forest_of old.caches) x
   same_heir x = sym (heir-map no_page (forest_of new.caches) x) ∙ ap (λ f. heir f x) (sym bare_is) ∙ heir-map no_page (forest_of old.caches) x
 
-  pub still_heir : (n h : NodeId) → heir (forest_of old.caches) (name_of old.caches n) ≡ Some (name_of old.caches h) → heir (forest_of new.caches) (name_of new.caches n) ≡ Some (name_of new.caches h)
+  pub still_heir : (n h : NodeId) → IsHeirOf old.caches n h → IsHeirOf new.caches n h
   still_heir n h is =
       let like = still_like old.caches new.caches still.stays.caches in
-      ap (heir (forest_of new.caches)) (like.name n) ∙ same_heir (name_of old.caches n) ∙ is ∙ ap Some (sym (like.name h))
+      record {
+        held = like.held h ∙ is.held;
+        name = ap (heir (forest_of new.caches)) (like.name n) ∙ same_heir (name_of old.caches n) ∙ is.name ∙ ap Some (sym (like.name h));
+      }
 
   pub still_len : len (forest_of new.caches).nodes ≡ len (forest_of old.caches).nodes
   still_len = sym (len-map no_page (forest_of new.caches)) ∙ ap (λ f. len f.nodes) (sym bare_is) ∙ len-map no_page (forest_of old.caches)

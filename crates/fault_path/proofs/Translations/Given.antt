@@ -1,5 +1,6 @@
 -- Which translations are dropped where a node gets a page of its own.
-use Rattle.std.proofs.Common.{◌≡◌, ◌≢◌, ◌⊎◌, ℕ, ◌<◌, ◌||◌, Bool, true, false, List, length, set, Option, Some, None, refl, sym, ap, ◌∙◌, subst, inl, inr}
+use Rattle.std.proofs.Common.{◌≡◌, ◌≢◌, ◌⊎◌, ℕ, ◌<◌, ◌||◌, Bool, true, false, List, length, set, Option, Some, None, Result, Ok, Err, refl, sym, ap, ◌∙◌, subst, inl, inr}
+use Rattle.std.specs.Prelude.{IsErrAnd}
 use Rattle.std.proofs.lemmas.Bool.{cases_eq, false≢true}
 use Rattle.std.proofs.lemmas.List.{get_or-set_same, get_or-set_other, length-map}
 use Rattle.vm_ids.specs.declared.numbers.NodeId.{NodeId}
@@ -14,7 +15,7 @@ use Rattle.residency.specs.declared.store.Store.{Store}
 use Rattle.residency.specs.Translating.{Drops, without}
 use Rattle.residency.specs.World.{ArePlaced, world}
 use Rattle.residency.proofs.Translations.Kept.{or_cases, seen_still}
-use Rattle.fault_path.specs.Translating.{MayCome, is_home, is_home_of, without_homes}
+use Rattle.fault_path.specs.Translating.{LeavesHomes, MayCome, is_home, is_home_of, without_homes}
 use Rattle.fault_path.proofs.Rules.KeptOwners.{Passes}
 
 or_left : (b c : Bool) → b ≡ true → (b || c) ≡ true
@@ -73,3 +74,8 @@ may_come a o n p absent c = elim c [
   | inl x ↦ inl x
   | inr e ↦ inr (inr (ap (λ (m : NodeId). is_absent (own_of a m)) e ∙ absent))
 ]
+
+-- a call that failed left nothing to drop
+pub failed_leaves : {T E : Type 0} (P : E → Type 0) (r : Result T E) (o n : NodeId) (a b : Arena) (s t : Store) → IsErrAnd r P → Drops (MayCome a o) a s b t → LeavesHomes r o n a s b t
+failed_leaves P (Ok x) o n a b s t is drops = absurd is
+failed_leaves P (Err e) o n a b s t is drops = record { left = tt; failed = drops }

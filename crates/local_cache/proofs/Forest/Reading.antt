@@ -19,7 +19,7 @@ use Rattle.local_cache.specs.declared.own_state.OwnState.{OwnState}
 use Rattle.local_cache.specs.Arena.{Arena, HasNode}
 use Rattle.local_cache.specs.Reading.{name_of, node_of, at_key, forest_of, IsNamed}
 use Rattle.local_cache.specs.ReadingBy.{forest_by, node_with, state_page}
-use Rattle.local_cache.proofs.Nodes.Slots.{tied, apart}
+use Rattle.local_cache.proofs.Nodes.Numbers.{tied, apart}
 
 -- k is one of the keys
 abbrev HasKey : List ℕ → ℕ → Type 0

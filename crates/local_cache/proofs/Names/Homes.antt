@@ -24,7 +24,7 @@ use Rattle.local_cache.proofs.Changes.Granted.{granted_cell}
 use Rattle.local_cache.proofs.Changes.Locked.{locked_cell}
 use Rattle.local_cache.proofs.NewCache.Pages.{made_stays, made_tables}
 use Rattle.local_cache.proofs.Nodes.Cells.{cell-put, cell-put_other, find-with_new}
-use Rattle.local_cache.proofs.Nodes.Slots.{apart, tied}
+use Rattle.local_cache.proofs.Nodes.Numbers.{apart, tied}
 use Rattle.local_cache.proofs.Tables.Listing.{node_in, read_other}
 use Rattle.local_cache.proofs.Tables.Sizes.{each_table, sizes_granted, sizes_locked}
 

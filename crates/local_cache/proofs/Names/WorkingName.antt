@@ -7,7 +7,7 @@ use Rattle.vm_ids.specs.declared.numbers.CacheId.{CacheId}
 use Rattle.vm_ids.specs.declared.numbers.NodeId.{NodeId}
 use Rattle.vm_ids.specs.declared.numbers.PageNo.{PageNo}
 use Rattle.local_cache.specs.declared.own_state.OwnState.{OwnState}
-use Rattle.local_cache.specs.declared.page_table.PageEntry.{PageEntry}
+use Rattle.local_cache.specs.declared.page_entry.PageEntry.{PageEntry}
 use Rattle.local_cache.specs.Arena.{Arena, Cell, HasPage, IsVacant, as_working, blank, cell, entry_at, node_at, put, tables_with, with_new}
 use Rattle.local_cache.proofs.Tables.Listing.{entry-cache_with, node_by_entry}
 use Rattle.local_cache.proofs.NewCache.Pages.{page_node}

@@ -20,7 +20,7 @@ use Rattle.vm_ids.specs.declared.numbers.CacheId.{CacheId}
 use Rattle.vm_ids.specs.declared.numbers.NodeId.{NodeId}
 use Rattle.vm_ids.specs.declared.numbers.SegId.{SegId}
 use Rattle.local_cache.specs.declared.own_state.OwnState.{OwnState}
-use Rattle.local_cache.specs.declared.page_table.PageEntry.{PageEntry}
+use Rattle.local_cache.specs.declared.page_entry.PageEntry.{PageEntry}
 use Rattle.local_cache.specs.Arena.{Arena, Cell, Table, IsFilled, IsMade, cache_with, entry_at, entry_for, new_cell, new_table, table_with, with_new}
 use Rattle.local_cache.specs.Reading.{forest_of, page_of}
 use Rattle.local_cache.specs.Sound.{IsSound}

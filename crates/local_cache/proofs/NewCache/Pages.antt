@@ -14,11 +14,11 @@ use Rattle.vm_ids.specs.declared.numbers.CacheId.{CacheId}
 use Rattle.vm_ids.specs.declared.numbers.NodeId.{NodeId}
 use Rattle.vm_ids.specs.declared.numbers.SegId.{SegId}
 use Rattle.local_cache.specs.declared.own_state.OwnState.{OwnState}
-use Rattle.local_cache.specs.declared.page_table.PageEntry.{PageEntry}
+use Rattle.local_cache.specs.declared.page_entry.PageEntry.{PageEntry}
 use Rattle.local_cache.specs.Arena.{Arena, Cell, HasPage, IsFilled, HasNode, IsMade, Table, blank, cell, entry_for, find, is_granted, locks_of, new_cell, new_table, node_at, table_of}
 use Rattle.local_cache.specs.Own.{own_of}
 use Rattle.local_cache.specs.Whole.{segment_of}
-use Rattle.local_cache.proofs.Nodes.Slots.{tied, apart}
+use Rattle.local_cache.proofs.Nodes.Numbers.{tied, apart}
 
 abbrev named : CacheId → ℕ → OwnState → Cell
 named cache page own = new_cell (Live cache (record { 0 = page })) own
@@ -34,7 +34,7 @@ filled_stays (n ∷ ns) cells page after cache own k c f is =
     ])
 
 -- each page's node is there
-filled_page : (ns : List NodeId) (cells : FinMap nat_cmp Cell) (page : ℕ) (after : FinMap nat_cmp Cell) (cache : CacheId) (own : OwnState) (k : ℕ) (d : NodeId) → IsFilled cells cache page own ns after → k < length ns
+pub filled_page : (ns : List NodeId) (cells : FinMap nat_cmp Cell) (page : ℕ) (after : FinMap nat_cmp Cell) (cache : CacheId) (own : OwnState) (k : ℕ) (d : NodeId) → IsFilled cells cache page own ns after → k < length ns
     → ids.get after (get_or ns k d).0 ≡ Some (named cache (page + k) own)
 filled_page [] cells page after cache own k d f h = absurd (omega arith)
 filled_page (n ∷ ns) cells page after cache own zero d f h =
@@ -58,7 +58,7 @@ filled_cases (n ∷ ns) cells page after cache own k f = elim (filled_cases ns (
   ]
 ]
 
-last_table : (old new : Arena) (cache : CacheId) (segment : Option SegId) (own : OwnState) (ns : List NodeId) → IsMade old new cache segment own ns → table_of new cache.0 ≡ Some (new_table segment ns)
+pub last_table : (old new : Arena) (cache : CacheId) (segment : Option SegId) (own : OwnState) (ns : List NodeId) → IsMade old new cache segment own ns → table_of new cache.0 ≡ Some (new_table segment ns)
 last_table old new cache segment own ns m =
     let t : Table = new_table segment ns in
     ap (table_of new) (m.number ∙ add-one (length old.caches))

@@ -15,7 +15,7 @@ use Rattle.local_cache.specs.Arena.{Arena, blank, cell, entry_at, find, HasNode,
 use Rattle.local_cache.specs.Reading.{name_of, node_of, page_of, forest_of, hang_by, stubs_of, IsNamed}
 use Rattle.local_cache.specs.Threads.{IsThreaded, AreThreaded}
 use Rattle.local_cache.specs.Sound.{IsKept, IsListed, ◌∈◌}
-use Rattle.local_cache.proofs.Nodes.Slots.{tied, apart}
+use Rattle.local_cache.proofs.Nodes.Numbers.{tied, apart}
 use Rattle.local_cache.proofs.Nodes.Cells.{find-with_new}
 use Rattle.local_cache.proofs.Tables.Listing.{node_in, other-node, page_name, set-node}
 use Rattle.local_cache.proofs.Changes.SameNodes.{id_cases, same_node}

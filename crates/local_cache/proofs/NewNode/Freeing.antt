@@ -11,7 +11,7 @@ use Rattle.local_cache.specs.Arena.{Arena, cell, find, HasNode, without, blank, 
 use Rattle.local_cache.specs.Reading.{name_of, node_of, page_of, forest_of, hang_by, stubs_of, IsNamed}
 use Rattle.local_cache.specs.Threads.{IsThreaded}
 use Rattle.local_cache.specs.Sound.{IsKept, IsListed, ◌∈◌}
-use Rattle.local_cache.proofs.Nodes.Slots.{tied, apart}
+use Rattle.local_cache.proofs.Nodes.Numbers.{tied, apart}
 use Rattle.local_cache.proofs.Changes.SameNodes.{same_node, forest_of-made, forest_of-copies}
 use Rattle.local_cache.proofs.Forest.StubRows.{threaded_is, threaded-kept, keeps_links}
 use Rattle.local_cache.proofs.Forest.Reading.{reads_as, forest_of-IsNode, IsNode-forest_of, node-forest_of}

@@ -8,7 +8,7 @@ use Rattle.local_cache.specs.Arena.{Arena, HasNode, blank, cell, find, new_cell,
 use Rattle.local_cache.specs.Own.{own_of}
 use Rattle.local_cache.specs.Reading.{name_of}
 use Rattle.local_cache.proofs.Nodes.Cells.{find-with_new}
-use Rattle.local_cache.proofs.Nodes.Slots.{apart, tied}
+use Rattle.local_cache.proofs.Nodes.Numbers.{apart, tied}
 
 module _ (a : Arena) (d : NodeId) (free : find a d ≡ None) (x : NodeName) (s : OwnState) where
   abbrev b : Arena

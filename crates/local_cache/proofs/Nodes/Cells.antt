@@ -1,14 +1,16 @@
 -- What is found after a change of one node.
-use Rattle.std.proofs.Common.{◌≡◌, ◌≢◌, Bool, true, false, cond, is_some, subst, inl, inr, Some, unwrap_or, refl, sym, ap, ◌∙◌}
+use Rattle.std.proofs.Common.{◌≡◌, ◌≢◌, ◌+◌, Bool, true, false, cond, is_some, subst, inl, inr, Some, unwrap_or, refl, sym, ap, ◌∙◌}
 use Rattle.std.specs.Ordering.{nat_cmp, eq_by_cmp}
 use Rattle.std.specs.Cmp.{nat_cmp_total}
 use Rattle.std.specs.FinMap.{get-insert}
 use Rattle.std.proofs.lemmas.Bool.{cases_eq}
 use Rattle.vm_ids.specs.declared.node_name.NodeName.{NodeName}
+use Rattle.vm_ids.specs.declared.node_name.NodeName.TheVariants.{Working}
 use Rattle.vm_ids.specs.declared.numbers.NodeId.{NodeId}
 use Rattle.local_cache.specs.declared.own_state.OwnState.{OwnState}
-use Rattle.local_cache.specs.Arena.{Arena, Cell, HasNode, blank, cell, find, new_cell, put, with_name, with_new}
-use Rattle.local_cache.proofs.Nodes.Slots.{tied, apart}
+use Rattle.local_cache.specs.declared.own_state.OwnState.TheVariants.{Absent}
+use Rattle.local_cache.specs.Arena.{Arena, Cell, HasNode, as_working, blank, cell, find, new_cell, put, with_name, with_new, with_working}
+use Rattle.local_cache.proofs.Nodes.Numbers.{tied, apart}
 
 pub find-put : (a : Arena) (n : NodeId) (c : Cell) → find (put a n c) n ≡ Some c
 unfolding put
@@ -54,3 +56,25 @@ held-new a b n x s e = subst (λ y. HasNode y n) (sym e) (ap is_some (find-with_
 -- another name
 pub stays-named : (a b : Arena) (n : NodeId) (x : NodeName) → b ≡ with_name a n x → (m : NodeId) → HasNode a m → HasNode b m
 stays-named a b n x e m h = subst (λ y. HasNode y m) (sym e) (stays-put a (put a n (record (cell a n) { name = x })) n (record (cell a n) { name = x }) refl m h)
+
+-- a working node more
+module _ (a b : Arena) (n : NodeId) (e : b ≡ with_working a n) where
+  working : Arena
+  working = with_new a n (Working (a.made + 1)) Absent
+
+  pub stays-working : (m : NodeId) → HasNode a m → HasNode b m
+  unfolding working
+  stays-working m h =
+      subst (λ y. HasNode y m) (sym e) (stays-new a working n (Working (a.made + 1)) Absent refl m h)
+
+  pub held-working : HasNode b n
+  unfolding working
+  held-working =
+      subst (λ y. HasNode y n) (sym e) (held-new a working n (Working (a.made + 1)) Absent refl)
+
+-- the next working name
+pub stays-as_working : (a b : Arena) (n : NodeId) → b ≡ as_working a n → (m : NodeId) → HasNode a m
+    → HasNode b m
+stays-as_working a b n e m h =
+    subst (λ y. HasNode y m) (sym e)
+    (stays-named a (with_name a n (Working (a.made + 1))) n (Working (a.made + 1)) refl m h)

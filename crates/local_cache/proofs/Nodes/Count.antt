@@ -22,7 +22,7 @@ use Rattle.local_cache.specs.Arena.{Arena, Cell, HasNode}
 use Rattle.local_cache.specs.Own.{own_states}
 use Rattle.local_cache.specs.Reading.{IsNamed, at_key, forest_of, name_of, node_of}
 use Rattle.local_cache.proofs.Forest.Reading.{IsNode-forest_of}
-use Rattle.local_cache.proofs.Nodes.Slots.{tied}
+use Rattle.local_cache.proofs.Nodes.Numbers.{tied}
 
 -- There are no more nodes of the forest than own states ---------------------------------
 

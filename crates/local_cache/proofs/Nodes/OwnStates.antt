@@ -21,7 +21,7 @@ use Rattle.local_cache.specs.Arena as arena
 use Rattle.local_cache.specs.Arena.{Arena, Cell, IsFilled, HasNode, blank, cell, new_cell, with_own}
 use Rattle.local_cache.specs.Own.{own_of, own_states}
 use Rattle.local_cache.proofs.Nodes.Cells.{cell-put, cell-put_other}
-use Rattle.local_cache.proofs.Nodes.Slots.{tied, apart}
+use Rattle.local_cache.proofs.Nodes.Numbers.{tied, apart}
 
 second : (a b : Bool) → T (a && b) → T b
 second true b p = p

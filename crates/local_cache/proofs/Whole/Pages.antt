@@ -15,7 +15,7 @@ use Rattle.vm_ids.specs.Forest.Laws.Commands.{ArePagesOnce}
 use Rattle.vm_ids.specs.Forest.Laws.Ranges.{AreNodes}
 use Rattle.vm_ids.proofs.Forest.Laws.Ranges.{ranges_hold_pages_once, ranges_hold_their_pages}
 use Rattle.local_cache.specs.declared.own_state.OwnState.{OwnState}
-use Rattle.local_cache.specs.declared.page_table.PageEntry.{PageEntry}
+use Rattle.local_cache.specs.declared.page_entry.PageEntry.{PageEntry}
 use Rattle.local_cache.specs.Arena.{Arena, Table, node_at, table_of}
 use Rattle.local_cache.specs.Reading.{forest_of}
 use Rattle.local_cache.specs.Sound.{IsSound}

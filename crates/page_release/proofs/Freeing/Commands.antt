@@ -14,7 +14,7 @@ use Rattle.local_cache.specs.Reading.{forest_of}
 use Rattle.local_cache.specs.Sound.{IsSound}
 use Rattle.residency.specs.Seeing.{IsAlone, frame_forest, seen_in}
 use Rattle.residency.specs.declared.store.Store.{Store}
-use Rattle.page_release.specs.Steps.{in_no_frame, on_segment}
+use Rattle.page_release.specs.Readings.{held_pages, new_frames, new_states}
 use Rattle.page_release.specs.Translating.{DropsFreed, Replaces}
 use Rattle.page_release.proofs.Alone.Commands.{copy-alone, destroy-alone, move-alone, replace-alone}
 use Rattle.page_release.proofs.Alone.Marked.{HasAlone}
@@ -57,14 +57,14 @@ module _ (a : Arena) (s : Store) (b : Arena) (t : Store) (sound : IsSound a) (c 
     alone = λ x live out none is. is_alone x (subst (λ f. HasAlone f x) (sym nodes) (destroy-alone (forest_of a) c x live (was_alone x is) Absent Zero two_states xs are out));
   }
 
-  pub replace_replaces : (xs : List NodeName) → ArePagesOnce (forest_of a) xs → forest_of b ≡ settle (replace_pages (on_segment xs) (forest_of a)) → frame_forest b t.map ≡ settle (replace_pages (in_no_frame xs) (frame_forest a s.map)) → Replaces (λ x. x ∈ xs) (λ x. ⊥) a s b t
+  pub replace_replaces : (xs : List NodeName) → ArePagesOnce (forest_of a) xs → forest_of b ≡ settle (replace_pages (held_pages new_states xs) (forest_of a)) → frame_forest b t.map ≡ settle (replace_pages (held_pages new_frames xs) (frame_forest a s.map)) → Replaces (λ x. x ∈ xs) (λ x. ⊥) a s b t
   replace_replaces xs are nodes frames =
-      let states : firsts (on_segment xs) ≡ xs = first_names (λ x. OnSegment) xs in
-      let nones : firsts (in_no_frame xs) ≡ xs = first_names (λ x. None) xs in
+      let states : firsts (held_pages new_states xs) ≡ xs = first_names (λ x. OnSegment) xs in
+      let nones : firsts (held_pages new_frames xs) ≡ xs = first_names (λ x. None) xs in
       record {
         tables = tables;
         seen = λ x live out. seen_by x (ap (λ f. value_of f x) frames
-            ∙ replace_outside x live (in_no_frame xs) (frame_forest a s.map) (frame_consistent a s.map sound c) (subst (ArePagesOnce (frame_forest a s.map)) (sym nones) (frame_pages a s.map sound xs are)) (λ i. out (subst (λ ys. x ∈ ys) nones i)));
+            ∙ replace_outside x live (held_pages new_frames xs) (frame_forest a s.map) (frame_consistent a s.map sound c) (subst (ArePagesOnce (frame_forest a s.map)) (sym nones) (frame_pages a s.map sound xs are)) (λ i. out (subst (λ ys. x ∈ ys) nones i)));
         alone = λ x live out none is. is_alone x (subst (λ f. HasAlone f x) (sym nodes)
-            (replace-alone (forest_of a) c x live (was_alone x is) Absent Zero two_states (on_segment xs) (subst (ArePagesOnce (forest_of a)) (sym states) are) (λ i. out (subst (λ ys. x ∈ ys) states i))));
+            (replace-alone (forest_of a) c x live (was_alone x is) Absent Zero two_states (held_pages new_states xs) (subst (ArePagesOnce (forest_of a)) (sym states) are) (λ i. out (subst (λ ys. x ∈ ys) states i))));
       }

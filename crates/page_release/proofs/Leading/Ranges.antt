@@ -142,6 +142,10 @@ tables_then s t u p q = record {
   places = q.places ∙ p.places;
 }
 
+-- the entries were changed one by one, and then again
+pub tables_twice : (s t u : Store) (h k : Option Entry → Option Entry) → t ≡ record s { tables = map h s.tables } → u ≡ record t { tables = map k t.tables } → OnlyTables s u
+tables_twice s t u h k one two = tables_then s t u (tables_mapped s t h one) (tables_mapped t u k two)
+
 module _ (s t : Store) (only : OnlyTables s t) where
   pub same_map : t.map ≡ s.map
   same_map = ap (λ (r : Store). r.map) only.is

@@ -1,8 +1,9 @@
 -- The pages that a span names.
-use Rattle.std.proofs.Common.{◌≡◌, ℕ, ◌+◌, ◌<◌, List, sym, subst, refl}
+use Rattle.std.proofs.Common.{◌≡◌, ℕ, ◌+◌, ◌-◌, ◌<◌, ◌≤◌, List, [], sym, subst, refl, ap, arith}
 use Rattle.vm_ids.specs.declared.command.Span.{Span}
+use Rattle.vm_ids.specs.declared.numbers.CacheId.{CacheId}
 use Rattle.vm_ids.specs.declared.node_name.NodeName.{NodeName}
-use Rattle.vm_ids.specs.Forest.Commands.{firsts, page_name, page_names, seconds, span_pairs}
+use Rattle.vm_ids.specs.Forest.Commands.{firsts, page_name, page_names, page_pairs, seconds, span_pairs}
 use Rattle.vm_ids.specs.Forest.Laws.Commands.{CanCopy}
 use Rattle.vm_ids.specs.Forest.Laws.Ranges.{AreNodes}
 use Rattle.vm_ids.specs.Forest.Nodes.{Forest}
@@ -30,3 +31,7 @@ source_names s = pairs_read_sources s.from s.to s.from_page.0 s.to_page.0 s.page
 
 pub source_nodes : {P : Type 0} (f : Forest P) (s : Span) → CanCopy f (span_pairs s) → AreNodes f s.from s.from_page.0 s.pages
 source_nodes f s can i low = (can.sources (page_name s.from (s.from_page.0 + i)) (is_source s i low)).0
+
+-- no pair is left at the end
+pub pairs_end : (c : CacheId) (p : ℕ) (d : CacheId) (q n i : ℕ) → n ≤ i → page_pairs c p d q (n - i) ≡ []
+pairs_end c p d q n i over = let none : n - i ≡ 0 = omega arith in ap (page_pairs c p d q) none

@@ -37,7 +37,7 @@ use Rattle.tree_merge.specs.Releasing.{IsDetached}
 use Rattle.residency.specs.declared.store.Store.{Store}
 use Rattle.residency.specs.World.{is_clean, page_at, world}
 use Rattle.page_release.specs.Homes.{HasHome, IsClean, KeepsHomes, named_page}
-use Rattle.page_release.specs.Steps.{segment_pages}
+use Rattle.page_release.specs.Readings.{held_pages, new_pages}
 use Rattle.page_release.proofs.Forgotten.Range.{names_step}
 use Rattle.page_release.proofs.Tying.Homes.{home_name}
 
@@ -75,7 +75,7 @@ module _ {P : Type 0} where
 pub named_page_same : (told : Option Held) (size : Option ℕ) (s : Store) (a : Arena) (t : Store) (b : Arena) → SameCaches a b → (x : NodeName) → named_page (world told size b t) x ≡ named_page (world told size a s) x
 named_page_same told size s a t b same x = ap (λ (o : Option Home). option_and_then (λ h. option_and_then (page_at h) o) told) (home_name a b same x)
 
-pub segment_pages_same : (told : Option Held) (size : Option ℕ) (s : Store) (a : Arena) (t : Store) (b : Arena) → SameCaches a b → (xs : List NodeName) → segment_pages (world told size b t) xs ≡ segment_pages (world told size a s) xs
+pub segment_pages_same : (told : Option Held) (size : Option ℕ) (s : Store) (a : Arena) (t : Store) (b : Arena) → SameCaches a b → (xs : List NodeName) → held_pages (new_pages (world told size b t)) xs ≡ held_pages (new_pages (world told size a s)) xs
 segment_pages_same told size s a t b same xs = λ i. map (λ x. (x, named_page_same told size s a t b same x i)) xs
 
 -- the pages of a range, each once

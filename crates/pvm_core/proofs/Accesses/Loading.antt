@@ -6,7 +6,6 @@ use Rattle.std.specs.Option.{option_map_or}
 use Rattle.std.proofs.lemmas.List.{length-drop, length-replicate, length-take-le}
 use Rattle.vm_ids.specs.Counting.{MapperCounts}
 use Rattle.vm_ids.specs.Held.{Held, Segments, segments_of}
-use Rattle.vm_ids.specs.declared.command.Command.{Command}
 use Rattle.vm_ids.specs.declared.command.Command.TheVariants as commands
 use Rattle.vm_ids.specs.declared.numbers.ActorId.{ActorId}
 use Rattle.vm_ids.specs.declared.numbers.CacheId.{CacheId}
@@ -33,20 +32,17 @@ use Rattle.local_cache.specs.Arena.{Arena, HasNode, Table, page_count, table_at,
 use Rattle.residency.specs.declared.miss.Miss.{Miss}
 use Rattle.residency.specs.declared.miss.Miss.TheVariants.{Pull, Victim}
 use Rattle.residency.specs.declared.store.Store.{Store}
-use Rattle.residency.specs.Causes.{HasMissCause, Later}
+use Rattle.residency.specs.Causes.{HasMissCause}
 use Rattle.residency.specs.World.{world}
 use Rattle.fault_path.specs.Faults.{found_page}
 use Rattle.local_cache.specs.Sound.{IsSound}
 use Rattle.local_cache.specs.Whole.{IsWhole, size_of}
-use Rattle.vm_model.specs.Answering.{Answer, bytes_at, load_of, page_at, refuse, reply, with_ok}
-use Rattle.vm_model.specs.Asking.{ReachesMapper}
-use Rattle.vm_model.specs.Following.{forest_after}
+use Rattle.vm_model.specs.Answering.{bytes_at, load_of, page_at, refuse, reply, with_ok}
 use Rattle.vm_model.specs.Machine.{Cache, Machine, Page, cache_of}
 use Rattle.vm_model.specs.Outcome.{Outcome, OutcomeAt}
 use Rattle.vm_model.specs.PageForest.{PageForest, page_in}
 use Rattle.vm_model.specs.Place.{Place, place}
-use Rattle.vm_model.specs.Run.{CallIs}
-use Rattle.pvm_core.specs.Manager.{Manager, forest_of, machine_by, machine_of, shown, state_at}
+use Rattle.pvm_core.specs.Manager.{Manager, forest_of, machine_by, machine_of, shown}
 use Rattle.pvm_core.specs.Pieces.{bytes_found, fault_at}
 use Rattle.pvm_core.proofs.Answering.Answered.{no_segments}
 use Rattle.pvm_core.proofs.Answering.Rising.{grown_some, rises_between}

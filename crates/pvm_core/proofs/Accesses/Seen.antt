@@ -1,5 +1,5 @@
 -- Accesses that leave translations and marks, and nothing else.
-use Rattle.std.proofs.Common.{◌≡◌, ℕ, ◌+◌, ◌/◌, ◌%◌, ◌<◌, true, false, List, length, set, Option, Some, None, refl, sym, ap, subst, ◌∙◌}
+use Rattle.std.proofs.Common.{◌≡◌, ℕ, ◌+◌, ◌/◌, ◌%◌, true, false, List, length, Option, Some, None, refl, sym, ap, subst, ◌∙◌}
 use Rattle.std.specs.Prelude.{IfSome, IsSome, Ok, nat_lt, option_map, slice_set}
 use Rattle.std.proofs.lemmas.List.{length-set}
 use Rattle.vm_ids.specs.Held.{Held}

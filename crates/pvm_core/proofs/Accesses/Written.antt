@@ -1,5 +1,5 @@
 -- A store to a page which a translation for writing leads to: nothing is owned, and nothing handed over.
-use Rattle.std.proofs.Common.{◌≡◌, ℕ, ◌+◌, ◌%◌, ◌<◌, ◌≤◌, Bool, true, false, cond, List, length, Option, Some, None, refl, sym, ap, subst, ◌∙◌, arith, inl}
+use Rattle.std.proofs.Common.{◌≡◌, ℕ, ◌%◌, ◌<◌, Bool, true, false, cond, List, length, Option, Some, None, refl, sym, ap, subst, ◌∙◌, arith, inl}
 use Rattle.std.specs.Prelude.{Ok, option_map, slice_set}
 use Rattle.vm_ids.specs.Counting.{MapperCounts}
 use Rattle.vm_ids.specs.Held.{Held}
@@ -18,7 +18,6 @@ use Rattle.local_cache.specs.Reading as arena
 use Rattle.local_cache.specs.Reading.{name_of}
 use Rattle.local_cache.proofs.Nodes.OwnStates.{own_same}
 use Rattle.page_tables.specs.Translations.{entry_at}
-use Rattle.page_tables.specs.declared.entry.Entry.{Entry}
 use Rattle.page_tables.specs.declared.entry.Translation.{Translation}
 use Rattle.residency.specs.Seeing.{IsAlone}
 use Rattle.residency.specs.StoreForest.{store_forest}
@@ -36,10 +35,10 @@ use Rattle.vm_model.specs.Answering.{overwrite}
 use Rattle.vm_model.specs.Following.{written_at}
 use Rattle.vm_model.specs.Laws.{IsFollowed}
 use Rattle.vm_model.specs.PageForest.{PageForest}
-use Rattle.vm_model.specs.Place.{Place, place}
+use Rattle.vm_model.specs.Place.{place}
 use Rattle.vm_model.specs.Run.{CallIs, State}
 use Rattle.contexts.specs.Actors.{Actors}
-use Rattle.pvm_core.specs.Manager.{IsSound, IsValid, Manager, forest_of, machine_by, machine_of, numbered, state_at}
+use Rattle.pvm_core.specs.Manager.{IsSound, IsValid, Manager, forest_of, machine_by, machine_of, state_at}
 use Rattle.pvm_core.specs.Reaching.{Reach}
 use Rattle.pvm_core.specs.Translated.{AreTranslationsRight, MayBeWritten, OnlySeen, frame_to_write, name_at}
 use Rattle.pvm_core.proofs.Accesses.Loading.{sized_table}

@@ -1,6 +1,6 @@
 -- A cache doesn't go, since the mapper failed: the answers.
 use Rattle.std.proofs.Common.{◌≡◌, ◌⊎◌, ℕ, ◌+◌, false, length, Option, Some, option_map, refl, sym, ap, ◌∙◌, subst, arith, inl, inr}
-use Rattle.std.specs.Prelude.{Err}
+use Rattle.std.specs.Prelude.{Err, Result, unwrap_or}
 use Rattle.vm_ids.specs.Counting.{MapperCounts, Rose}
 use Rattle.vm_ids.specs.Held.{Held, Segments, segments_of}
 use Rattle.vm_ids.specs.declared.command.Command.TheVariants as commands
@@ -15,8 +15,8 @@ use Rattle.vm_ids.specs.declared.reply.Trouble.TheVariants as troubles
 use Rattle.vm_ids.specs.Forest.Commands.{page_names}
 use Rattle.vm_ids.specs.Forest.Saving.{saves}
 use Rattle.local_cache.specs.Arena.{Table, table_of}
-use Rattle.local_cache.specs.Whole.{IsWhole}
-use Rattle.gmi_calls.specs.Calling.{RaisesMade}
+use Rattle.local_cache.specs.Whole.{IsWhole, size_of}
+use Rattle.gmi_calls.specs.Calling.{RaisesMade, done_by}
 use Rattle.vm_model.specs.Answering.{is_mapped}
 use Rattle.vm_model.specs.Machine.{cache_of, pages_in}
 use Rattle.vm_model.specs.Outcome.{CanFailAtSave, NotRefusedButFor, Outcome}
@@ -24,7 +24,7 @@ use Rattle.vm_model.specs.PageForest.{PageForest}
 use Rattle.vm_model.specs.Run.{CallIs}
 use Rattle.vm_model.specs.Synchronised.{ArePushed}
 use Rattle.pvm_core.specs.Manager.{IsValid, Manager, cache_shown, forest_of, machine_by, machine_of, numbered, state_at}
-use Rattle.pvm_core.specs.Saving.{CopiesSaved, FailedToPush, FailedToSave, IsNotWrittenBack, IsPushed, KeepsMachine}
+use Rattle.pvm_core.specs.Saving.{CopiesSaved, FailedToPush, FailedToSave, IsNotWrittenBack, IsPushed, KeepsMachine, all_of}
 use Rattle.pvm_core.proofs.Answering.Answered.{call_is, failed, no_segments, outcome_by}
 use Rattle.pvm_core.proofs.Readiness.Copies.{saves_copied}
 use Rattle.pvm_core.proofs.Destroying.Rows.{destroy_row}
@@ -32,6 +32,7 @@ use Rattle.pvm_core.proofs.Readiness.Granted.{named_of}
 use Rattle.pvm_core.proofs.Answering.Reaching.{reach_told}
 use Rattle.pvm_core.proofs.Answering.Rising.{grown_some, rises_between}
 use Rattle.pvm_core.proofs.Meaning.Shown.{length-pages, numbered-caches}
+use Rattle.pvm_core.proofs.Accesses.Loading.{sized_table}
 use Rattle.pvm_core.proofs.Accesses.Stored.{named_in}
 
 -- all pages of the cache
@@ -109,28 +110,47 @@ module _ (p q : Manager) (h g : Option Held) (c d : MapperCounts) (cache : Cache
       (outcome_by p q h g (commands.Destroy cache) (Err (troubles.Mapper (faults.Save done))) (rises_between n c d) no_segments nodes then (reach_told (machine_of p h) h g c d keeps.reach) keeps.machine
       (λ e f. told f no_segments) (λ s e. told (forest_of p h) s) keeps.by)
 
-  pub destroy_failed : (trouble : Trouble) → IsNotWrittenBack (of_cache cache pages) p h q g trouble → Rose c.faults d.faults → CallIs c d (state_at p h) (commands.Destroy cache) (Err trouble) (state_at q g)
+  destroy_failed : (trouble : Trouble) → IsNotWrittenBack (of_cache cache pages) p h q g trouble → Rose c.faults d.faults → CallIs c d (state_at p h) (commands.Destroy cache) (Err trouble) (state_at q g)
   destroy_failed trouble out rose = elim (not_written_cases (of_cache cache pages) p q h g trouble out).is [
     | inl w ↦ subst (λ (t : Trouble). CallIs c d (state_at p h) (commands.Destroy cache) (Err t) (state_at q g)) (sym w.1) (page_call w.0 w.2 rose)
     | inr w ↦ subst (λ (t : Trouble). CallIs c d (state_at p h) (commands.Destroy cache) (Err t) (state_at q g)) (sym w.1) (save_call w.0 w.2 w.3 rose)
   ]
 
-  pub destroy_made : (trouble : Trouble) → IsNotWrittenBack (of_cache cache pages) p h q g trouble → RaisesMade (machine_of p h) (commands.Destroy cache) (Err trouble) (numbered p) (numbered q)
+  destroy_made : (trouble : Trouble) → IsNotWrittenBack (of_cache cache pages) p h q g trouble → RaisesMade (machine_of p h) (commands.Destroy cache) (Err trouble) (numbered p) (numbered q)
   destroy_made trouble out = elim (not_written_cases (of_cache cache pages) p q h g trouble out).is [
     | inl w ↦ subst (λ (t : Trouble). RaisesMade (machine_of p h) (commands.Destroy cache) (Err t) (numbered p) (numbered q)) (sym w.1) (omega (arith, keeps.made, w.2.kept.copies))
     | inr w ↦ subst (λ (t : Trouble). RaisesMade (machine_of p h) (commands.Destroy cache) (Err t) (numbered p) (numbered q)) (sym w.1) (omega (arith, keeps.made, saves_copied p q h g (of_cache cache pages) nodes w.0 w.2.forest, touched (forest_of p h)))
   ]
 
 -- the pages copied are those of the saves that were done
-pub destroy_copied : (e : Extent) (p q : Manager) (h g : Option Held) (trouble : Trouble) → IsNotWrittenBack e p h q g trouble → CopiesSaved e p h q (Err trouble)
+destroy_copied : (e : Extent) (p q : Manager) (h g : Option Held) (trouble : Trouble) → IsNotWrittenBack e p h q g trouble → CopiesSaved e p h q (Err trouble)
 destroy_copied e p q h g trouble out = elim (not_written_cases e p q h g trouble out).is [
   | inl w ↦ subst (λ (t : Trouble). CopiesSaved e p h q (Err t)) (sym w.1) w.2.kept.copies
   | inr w ↦ subst (λ (t : Trouble). CopiesSaved e p h q (Err t)) (sym w.1) w.2.copies
 ]
 
 -- none of this is a refusal
-pub destroy_refused : (e : Extent) (p q : Manager) (h g : Option Held) (trouble : Trouble) → IsNotWrittenBack e p h q g trouble → (r : Refusal) → trouble ≡ troubles.Refused r → ⊥
+destroy_refused : (e : Extent) (p q : Manager) (h g : Option Held) (trouble : Trouble) → IsNotWrittenBack e p h q g trouble → (r : Refusal) → trouble ≡ troubles.Refused r → ⊥
 destroy_refused e p q h g trouble out r is = elim (not_written_cases e p q h g trouble out).is [
   | inl w ↦ (let k : troubles.Refused r ≡ troubles.Mapper (faults.Page w.0) = sym is ∙ w.1 in cc k)
   | inr w ↦ (let k : troubles.Refused r ≡ troubles.Mapper (faults.Save w.0) = sym is ∙ w.1 in cc k)
 ]
+
+-- how a call ends whose pages aren't written back
+pub record IsNotDestroyed (p q : Manager) (h g : Option Held) (c d : MapperCounts) (cache : CacheId) (result : Result (Unit {0}) Trouble) : Type 0 where
+  pub answers : CallIs c d (state_at p h) (commands.Destroy cache) (done_by result) (state_at q g)
+  pub made : RaisesMade (machine_of p h) (commands.Destroy cache) (done_by result) (numbered p) (numbered q)
+  pub copies : CopiesSaved (all_of p.caches cache) p h q result
+  pub refused : (r : Refusal) → result ≡ Err (troubles.Refused r) → ⊥
+
+pub not_destroyed : (p q : Manager) (h g : Option Held) (c d : MapperCounts) (cache : CacheId) (pages : ℕ) → KeepsMachine p q h g c d → IsWhole p.caches → IsWhole q.caches → IsValid q g → size_of p.caches cache.0 ≡ Some pages → ((f : PageForest) → is_mapped (machine_by p f) cache.0 ≡ false)
+    → (trouble : Trouble) → IsNotWrittenBack (of_cache cache pages) p h q g trouble → Rose c.faults d.faults → IsNotDestroyed p q h g c d cache (Err trouble)
+not_destroyed p q h g c d cache pages keeps nodes then now size free trouble out rose =
+    let t = sized_table (table_of p.caches cache.0) pages size in
+    let all : all_of p.caches cache ≡ of_cache cache pages = ap (λ (o : Option ℕ). of_cache cache (unwrap_or o 0)) size in
+    record {
+      answers = destroy_failed p q h g c d cache pages keeps nodes then now t.0 t.1 t.2 free trouble out rose;
+      made = destroy_made p q h g c d cache pages keeps nodes then now t.0 t.1 t.2 free trouble out;
+      copies = subst (λ (e : Extent). CopiesSaved e p h q (Err trouble)) (sym all) (destroy_copied (of_cache cache pages) p q h g trouble out);
+      refused = λ r e. destroy_refused (of_cache cache pages) p q h g trouble out r (let k : trouble ≡ troubles.Refused r = cc e in k);
+    }

@@ -1,5 +1,5 @@
 -- The rows of a destroy.
-use Rattle.std.proofs.Common.{◌≡◌, ℕ, ◌-◌, true, false, set, Option, Some, None, refl}
+use Rattle.std.proofs.Common.{◌≡◌, ℕ, ◌-◌, true, false, set, Some, None, refl}
 use Rattle.vm_ids.specs.declared.refusal.Refusal.TheVariants as refusals
 use Rattle.vm_ids.specs.declared.reply.Reply.TheVariants as replies
 use Rattle.vm_model.specs.Answering.{destroy_of, is_mapped, refuse, reply, unless, with_some}

@@ -1,5 +1,5 @@
 -- Pages that are to go were pushed to their segment, and their heirs got them.
-use Rattle.std.proofs.Common.{◌≡◌, ℕ, ◌+◌, ◌<◌, Bool, true, false, List, length, Option, Some, None, is_some, refl, sym, ap, ◌∙◌, subst, arith}
+use Rattle.std.proofs.Common.{◌≡◌, ℕ, ◌+◌, ◌<◌, true, false, List, length, Option, Some, None, is_some, refl, sym, ap, ◌∙◌, subst, arith}
 use Rattle.std.specs.Prelude.{IsSome, option_and_then, option_map, slice_get}
 use Rattle.vm_ids.specs.Held.{Held, Segments, segments_of}
 use Rattle.vm_ids.specs.declared.command.Extent.{Extent}
@@ -10,7 +10,7 @@ use Rattle.vm_ids.specs.Forest.Saving.{saves, unsaved}
 use Rattle.local_cache.specs.Arena.{Table, table_of}
 use Rattle.local_cache.specs.Arena.{Arena}
 use Rattle.segment_ops.specs.Ranges.{HasRange}
-use Rattle.vm_model.specs.Machine.{Cache, cache_of, segment_of}
+use Rattle.vm_model.specs.Machine.{Cache, segment_of}
 use Rattle.vm_model.specs.PageForest.{PageForest, page_in}
 use Rattle.vm_model.specs.Pushing.{PushRule, page_named}
 use Rattle.vm_model.specs.Synchronised.{ArePushed}

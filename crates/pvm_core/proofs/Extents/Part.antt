@@ -1,11 +1,11 @@
 -- The pages of a range that are taken from their segment.
-use Rattle.std.proofs.Common.{◌≡◌, ℕ, zero, suc, ◌+◌, ◌-◌, ◌<◌, ◌≤◌, List, [], ◌∷◌, ◌++◌, length, map, take, drop, get_or, Option, Some, None, IsSome, unwrap_or, refl, sym, ap, ◌∙◌, subst, arith}
+use Rattle.std.proofs.Common.{◌≡◌, ℕ, ◌+◌, ◌-◌, ◌<◌, ◌≤◌, List, [], ◌∷◌, ◌++◌, length, map, take, drop, get_or, Option, Some, None, unwrap_or, refl, sym, ap, ◌∙◌, subst, arith}
 use Rattle.std.specs.Prelude.{IfSome, option_and_then, option_map, slice_get}
 use Rattle.std.specs.FinMap.{get}
-use Rattle.std.specs.List.{All, range_with_len}
+use Rattle.std.specs.List.{All}
 use Rattle.std.proofs.Math.Seq.{drop-append_seam, take-append_seam}
 use Rattle.std.proofs.lemmas.List.{append_assoc, length-take-le}
-use Rattle.std.proofs.lemmas.List.Elements.{All-cons, All-get_or, All-nil}
+use Rattle.std.proofs.lemmas.List.Elements.{All-get_or}
 use Rattle.std.proofs.lemmas.List.FromFn.{get_or-map-range_with_len, length-map-range_with_len}
 use Rattle.std.proofs.lemmas.Option.{get_or_from_slice_get, slice_get-get_or, slice_get_within}
 use Rattle.vm_ids.specs.Held.{Held, page_of}
@@ -13,13 +13,12 @@ use Rattle.vm_ids.specs.declared.command.Extent.{Extent}
 use Rattle.vm_ids.specs.declared.node_name.NodeName.{NodeName}
 use Rattle.vm_ids.specs.declared.numbers.SegId.{SegId}
 use Rattle.vm_ids.specs.Forest.Commands.{extent_names, firsts, page_name, page_names, pages_at}
-use Rattle.local_cache.specs.Arena.{Arena, Table, table_at}
-use Rattle.local_cache.specs.Home.{home_named}
+use Rattle.local_cache.specs.Arena.{Arena, Table}
 use Rattle.local_cache.specs.Whole.{segment_of, size_of}
 use Rattle.residency.specs.declared.store.Store.{Store}
 use Rattle.residency.specs.World.{page_at, world}
 use Rattle.page_release.specs.Homes.{named_page}
-use Rattle.page_release.specs.Steps.{segment_pages}
+use Rattle.page_release.specs.Readings.{held_pages, new_pages}
 use Rattle.vm_model.specs.Answering.{held_part, overwrite}
 use Rattle.vm_model.specs.Machine.{Page}
 use Rattle.vm_model.specs.PageForest.{told}
@@ -128,7 +127,7 @@ module _ (b : Arena) (s : Store) (g : Option Held) (e : Extent) (x : IsExtent b 
       ∙ ap (λ (o : Option SegId). option_and_then (λ h. option_and_then (page_at h) (option_map (λ segment. record { segment = segment; page = record { 0 = page } }) o)) g) x.of
 
   -- so the pages of the segments, by their names, are this part
-  pub part_nodes : segment_pages (world g None b s) (extent_names e) ≡ pages_at e.cache e.first.0 (map told (part_for g x.segment e))
+  pub part_nodes : held_pages (new_pages (world g None b s)) (extent_names e) ≡ pages_at e.cache e.first.0 (map told (part_for g x.segment e))
   part_nodes =
       ap (λ (n : ℕ). with_pages (named_page (world g None b s)) (page_names e.cache e.first.0 n)) (sym (part_many g x.segment e))
       ∙ named_pages (named_page (world g None b s)) e.cache e.first.0 (part_for g x.segment e) (λ i p at. name_page (e.first.0 + i) ∙ page_is i p at)

@@ -1,17 +1,17 @@
 -- What the segment of a cache holds stays while pages are pushed.
-use Rattle.std.proofs.Common.{◌≡◌, ◌≢◌, ℕ, ◌+◌, ◌<◌, ◌≤◌, Bool, true, false, cond, List, [], ◌∷◌, length, set, Option, Some, None, refl, sym, ap, ◌∙◌, subst, arith, inl, inr}
-use Rattle.std.specs.Prelude.{IsSome, option_and_then, option_map, slice_get, slice_set, unwrap_or}
+use Rattle.std.proofs.Common.{◌≡◌, ◌≢◌, ℕ, ◌<◌, Bool, cond, List, [], ◌∷◌, Option, Some, None, refl, sym, ap, ◌∙◌, subst, inl, inr}
+use Rattle.std.specs.Prelude.{IsSome, option_and_then, slice_get, slice_set, unwrap_or}
 use Rattle.std.specs.Cmp.{nat_cmp_total}
 use Rattle.std.specs.FinMap.{get, get-insert}
 use Rattle.std.specs.List.{AllByRecursion}
 use Rattle.std.proofs.lemmas.Option.{slice_get_within}
 use Rattle.vm_ids.specs.Held.{Segments, put_segment_page, segment_page}
-use Rattle.vm_model.specs.Machine.{Cache, Machine, Page, cache_named, cache_of, segment_of}
+use Rattle.vm_model.specs.Machine.{Machine, Page, segment_of}
 use Rattle.vm_model.specs.PageForest.{page_in}
 use Rattle.vm_model.specs.Pushing.{MayPush, PushRule, page_named, segments_after}
 use Rattle.vm_model.specs.Synchronised.{ArePushed}
 use Rattle.vm_model.proofs.Parts.Lists.{get_set_other, get_set_same}
-use Rattle.local_cache.proofs.Nodes.Slots.{apart, tied}
+use Rattle.local_cache.proofs.Nodes.Numbers.{apart, tied}
 use Rattle.pvm_core.proofs.Homes.Sized.{same_or_not}
 
 -- the pages of a segment, one of which is put

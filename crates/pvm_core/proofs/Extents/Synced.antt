@@ -1,18 +1,16 @@
 -- What the segment holds after a push.
-use Rattle.std.proofs.Common.{◌≡◌, ℕ, ◌+◌, ◌<◌, ◌≤◌, true, List, length, Option, Some, None, is_some, refl, sym, ap, ◌∙◌, subst, arith}
+use Rattle.std.proofs.Common.{◌≡◌, ℕ, ◌+◌, ◌<◌, ◌≤◌, List, length, Option, Some, None, refl, sym, ap, ◌∙◌, subst, arith}
 use Rattle.std.specs.Prelude.{IfSome, IsSome, option_and_then, option_map}
 use Rattle.vm_ids.specs.Held.{Held, segment_page, segments_in, segments_of}
 use Rattle.vm_ids.specs.declared.command.Extent.{Extent}
-use Rattle.vm_ids.specs.declared.node_name.NodeName.TheVariants.{Live}
 use Rattle.vm_ids.specs.declared.numbers.NodeId.{NodeId}
-use Rattle.vm_ids.specs.declared.numbers.SegId.{SegId}
 use Rattle.vm_ids.specs.Forest.Commands.{page_name}
 use Rattle.vm_ids.specs.Forest.Reading.{value_of}
 use Rattle.local_cache.specs.declared.home.Home.{Home}
 use Rattle.local_cache.specs.Arena.{Arena, Table, node_at, table_of}
 use Rattle.local_cache.specs.Home.{home_named, home_of}
 use Rattle.local_cache.specs.Reading.{name_of}
-use Rattle.local_cache.specs.Whole.{IsWhole, segment_of, size_of}
+use Rattle.local_cache.specs.Whole.{IsWhole, size_of}
 use Rattle.local_cache.proofs.NewCache.Pages.{some_of}
 use Rattle.local_cache.proofs.Whole.Pages.{page_there}
 use Rattle.residency.specs.declared.store.Store.{Store}
@@ -20,11 +18,9 @@ use Rattle.residency.specs.StoreForest.{store_forest}
 use Rattle.residency.specs.World as worlds
 use Rattle.residency.specs.World.{IsStoreRight, page_at, world}
 use Rattle.segment_ops.specs.Synced.{AreSynced, IsSynced}
-use Rattle.vm_model.specs.Machine as model
-use Rattle.vm_model.specs.Machine.{Machine}
-use Rattle.vm_model.specs.PageForest.{PageForest, page_in}
+use Rattle.vm_model.specs.PageForest.{page_in}
 use Rattle.vm_model.specs.Synchronised.{ArePushed}
-use Rattle.pvm_core.specs.Manager.{AreApart, Manager, forest_of, machine_by, machine_of, shown}
+use Rattle.pvm_core.specs.Manager.{AreApart, Manager, forest_of, machine_of, shown}
 use Rattle.pvm_core.proofs.Extents.Rows.{IsExtent}
 use Rattle.pvm_core.proofs.Answering.Kept.{sizeless}
 use Rattle.pvm_core.proofs.Homes.Named.{machine_segment}

@@ -19,7 +19,8 @@ use Rattle.local_cache.specs.Whole.{IsWhole, SameCaches}
 use Rattle.residency.specs.declared.store.Store.{Store}
 use Rattle.residency.specs.StoreForest.{store_forest}
 use Rattle.residency.specs.World.{world}
-use Rattle.page_release.specs.Steps.{ForAnyMapper, GivesBack, IsStoreTied, StaysRight, segment_pages}
+use Rattle.page_release.specs.Readings.{held_pages, new_pages}
+use Rattle.page_release.specs.Steps.{ForAnyMapper, GivesBack, IsStoreTied, StaysRight}
 use Rattle.vm_model.specs.Answering.{held_for, held_part, invalidate_of, is_any_locked, overwrite, put_pages, reply}
 use Rattle.vm_model.specs.Following.{forest_after}
 use Rattle.vm_model.specs.Machine.{Cache, Machine, Page, cache_of}
@@ -109,7 +110,7 @@ module _ (p : Manager) (h g : Option Held) (b : Arena) (s : Store) (t : Actors) 
 module _ (p : Manager) (h g : Option Held) (b d : Arena) (s u : Store) (t : Actors) (live : ℕ) (k : IsSound b s t live) (v : IsValid (seen b s t) g) (e : Extent) (x : IsExtent b e) (unlocked : any_locked b e ≡ false)
     (machine : machine_of (seen b s t) g ≡ machine_of p h) (by : (f : PageForest) → machine_by (seen b s t) f ≡ machine_by p f) (nodes : IsWhole p.caches) (old : IsValid p h) (saves_done : forest_of (seen b s t) g ≡ saved true (extent_names e) (forest_of p h))
     (same : SameCaches b d) (back : ForAnyMapper s b u d GivesBack) (tied : IsStoreTied s b) (whole : IsWhole d) (right : StaysRight s b u d)
-    (rule : ForAnyMapper s b u d (λ old new. store_forest new ≡ settle (replace_pages (segment_pages old (extent_names e)) (store_forest old)))) where
+    (rule : ForAnyMapper s b u d (λ old new. store_forest new ≡ settle (replace_pages (held_pages (new_pages old) (extent_names e)) (store_forest old)))) where
   lock : (f : PageForest) → is_any_locked (machine_by (seen b s t) f) e.cache e.first.0 e.pages ≡ false
   lock f = any_same (seen b s t) f k.locked.counted e ∙ unlocked
 
@@ -160,7 +161,7 @@ module _ (p : Manager) (h g : Option Held) (b d : Arena) (s u : Store) (t : Acto
   count : length (part_for g x.segment e) ≡ e.pages
   count = part_many g x.segment e
 
-  nodes_are : segment_pages (world g None b s) (extent_names e) ≡ nodes_in e (Some (put (forest_of p h) (part_for g x.segment e)))
+  nodes_are : held_pages (new_pages (world g None b s)) (extent_names e) ≡ nodes_in e (Some (put (forest_of p h) (part_for g x.segment e)))
   nodes_are = part_nodes b s g e x t.page_bytes k.actors.some v.sized v.full
       ∙ ap (λ ps. Rattle.vm_ids.specs.Forest.Commands.pages_at e.cache e.first.0 (map Rattle.vm_model.specs.PageForest.told ps)) (sym (
       ap (λ (n : ℕ). take n (drop e.first.0 (overwrite e.first.0 (part_for g x.segment e) (cache_shown (forest_of p h) e.cache.0 x.table).pages))) (sym count)

@@ -1,16 +1,15 @@
 -- The pages of segments that are pushed have all their bytes.
-use Rattle.std.proofs.Common.{◌≡◌, ◌≢◌, ◌⊎◌, ◌==◌, ℕ, Bool, true, false, cond, List, [], ◌∷◌, length, Option, Some, None, is_some, refl, sym, ap, ◌∙◌, subst, arith, inl, inr}
-use Rattle.std.specs.Prelude.{option_map, option_and_then, slice_get, slice_set, unwrap_or, IfSome, IsSome}
+use Rattle.std.proofs.Common.{◌≡◌, ℕ, Bool, true, false, cond, List, [], ◌∷◌, length, Option, Some, None, is_some, refl, sym, ap, ◌∙◌, subst, inl, inr}
+use Rattle.std.specs.Prelude.{option_and_then, slice_get, slice_set, unwrap_or, IfSome, IsSome}
 use Rattle.std.specs.Cmp.{nat_cmp_total}
 use Rattle.std.specs.FinMap.{get, get-insert}
 use Rattle.std.specs.List.{All, AllByRecursion}
-use Rattle.std.proofs.lemmas.Bool.Decides.{nat_tests}
 use Rattle.std.proofs.lemmas.List.Elements.{All-get_or, All-head, All-nil, All-set, All-tail}
 use Rattle.std.proofs.lemmas.Option.{get_or_from_slice_get, slice_get_within}
 use Rattle.vm_ids.specs.Held.{Held, Segments, put_segment_page, segments_in, segments_of}
 use Rattle.local_cache.specs.Arena.{Arena}
 use Rattle.local_cache.specs.Whole.{segment_of}
-use Rattle.local_cache.proofs.Nodes.Slots.{apart, tied}
+use Rattle.local_cache.proofs.Nodes.Numbers.{apart, tied}
 use Rattle.vm_model.specs.Machine.{Cache, Machine, Page, cache_named, is_named_by}
 use Rattle.vm_model.specs.Outcome.{HasWholePages, IsWhole}
 use Rattle.vm_model.specs.Pushing.{MayPush, PushRule, page_named, segments_after}

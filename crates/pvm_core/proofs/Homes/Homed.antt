@@ -12,23 +12,20 @@ use Rattle.vm_ids.specs.declared.numbers.CacheId.{CacheId}
 use Rattle.vm_ids.specs.declared.numbers.NodeId.{NodeId}
 use Rattle.vm_ids.specs.declared.numbers.PageNo.{PageNo}
 use Rattle.vm_ids.specs.declared.numbers.SegId.{SegId}
-use Rattle.vm_ids.specs.Forest.Commands.{page_name}
 use Rattle.vm_ids.specs.Forest.Nodes.{IsNode}
-use Rattle.vm_ids.specs.Forest.Reading.{owner_of, value_of}
-use Rattle.vm_ids.proofs.Forest.Laws.Reading.{nodes_have_values, owners_own_themselves, owners_own_values}
+use Rattle.vm_ids.specs.Forest.Reading.{value_of}
 use Rattle.local_cache.specs.declared.home.Home.{Home}
 use Rattle.local_cache.specs.Arena.{Arena, HasNode, Table, find, table_at, table_of}
 use Rattle.local_cache.specs.Home.{home_named, home_of}
 use Rattle.local_cache.specs.Reading as arena
 use Rattle.local_cache.specs.Reading.{name_of}
-use Rattle.local_cache.specs.Whole.{IsWhole, segment_of, size_of}
+use Rattle.local_cache.specs.Whole.{IsWhole}
 use Rattle.local_cache.proofs.Forest.Reading.{IsNode-forest_of}
 use Rattle.local_cache.proofs.Names.Homes.{home_none}
 use Rattle.local_cache.proofs.Whole.Pages.{node_page}
 use Rattle.residency.specs.Pushing as homes
 use Rattle.residency.specs.Pushing.{RoseAtLeast, TellsOn, own_bytes, segments_pushed}
 use Rattle.residency.specs.Causes.{Later}
-use Rattle.residency.specs.StoreForest.{store_forest}
 use Rattle.residency.specs.World.{IsAllowed, World, own_page, world}
 use Rattle.residency.specs.declared.store.Store.{Store}
 use Rattle.vm_model.specs.Machine.{Machine}
@@ -36,8 +33,7 @@ use Rattle.vm_model.specs.Pushing.{MayPush, PushRule, page_named, segments_after
 use Rattle.pvm_core.specs.Manager.{AreApart, Manager, forest_of, machine_of, shown, world_of}
 use Rattle.pvm_core.proofs.Homes.Named.{page_of_segment}
 use Rattle.pvm_core.specs.Reaching.{Reach}
-use Rattle.pvm_core.proofs.Meaning.Shown.{id_of}
-use Rattle.pvm_core.proofs.Meaning.Values.{consistent_of, own_value}
+use Rattle.pvm_core.proofs.Meaning.Values.{own_value}
 
 -- where the home of a node is: its cache and that cache's table
 pub record HasHome (a : Arena) (n : NodeId) (home : Home) : Type 0 where

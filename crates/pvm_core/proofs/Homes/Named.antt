@@ -1,14 +1,12 @@
 -- The caches that segments name, in the tables and in the machine.
-use Rattle.std.proofs.Common.{◌≡◌, ◌==◌, ℕ, zero, suc, ◌+◌, ◌<◌, Bool, true, false, cond, List, [], ◌∷◌, length, get_or, Option, Some, None, refl, sym, ap, ◌∙◌, subst, arith}
+use Rattle.std.proofs.Common.{◌≡◌, ◌==◌, ℕ, zero, suc, ◌+◌, ◌<◌, Bool, true, false, cond, List, [], ◌∷◌, length, get_or, Option, Some, None, refl, sym, ap, ◌∙◌, arith}
 use Rattle.std.specs.Prelude.{option_map, option_and_then, slice_get}
 use Rattle.std.specs.Option.{option_map_or}
 use Rattle.std.proofs.lemmas.Bool.Decides.{nat_tests}
-use Rattle.vm_ids.specs.declared.numbers.CacheId.{CacheId}
 use Rattle.vm_ids.specs.declared.numbers.SegId.{SegId}
 use Rattle.vm_ids.specs.Forest.Commands.{page_name}
 use Rattle.vm_ids.specs.Forest.Reading.{value_of}
 use Rattle.local_cache.specs.Arena.{Arena, Table, table_at, table_of}
-use Rattle.local_cache.specs.Whole.{segment_of, size_of}
 use Rattle.vm_model.specs.Machine.{Cache, Page, cache_named, is_named_by}
 use Rattle.vm_model.specs.Machine as model
 use Rattle.vm_model.specs.PageForest.{PageForest}

@@ -15,7 +15,7 @@ use Rattle.residency.specs.Pushing.{RoseAtLeast}
 use Rattle.residency.specs.World.{World, world}
 use Rattle.segment_ops.specs.Pushing.{MayPushValue, TellsValues, put_value, segments_with, value_at, value_bytes}
 use Rattle.pvm_core.specs.Manager.{AreApart, Manager, forest_of, machine_of, shown, world_of}
-use Rattle.pvm_core.proofs.Homes.Homed.{IsPushable, IsValue, places_of, pushes_are, put_all, put_at_home}
+use Rattle.pvm_core.proofs.Homes.Homed.{IsPushable, IsValue, places_of, pushes_are, put_all}
 use Rattle.pvm_core.proofs.Answering.Kept.{sizeless}
 use Rattle.pvm_core.specs.Reaching.{Reach}
 

@@ -1,15 +1,15 @@
 -- Pushes leave segments as long as they were.
 use Rattle.std.proofs.Common.{◌≡◌, ◌≢◌, ◌==◌, ◌⊎◌, ℕ, suc, Bool, true, false, cond, List, [], ◌∷◌, length, Option, Some, None, is_some, refl, sym, ap, ◌∙◌, subst, arith, length-set, inl, inr}
-use Rattle.std.specs.Prelude.{option_map, option_and_then, slice_get, slice_set, unwrap_or, IfSome, IsSome}
+use Rattle.std.specs.Prelude.{option_map, option_and_then, slice_get, slice_set, unwrap_or, IsSome}
 use Rattle.std.specs.Cmp.{nat_cmp_total}
-use Rattle.std.specs.FinMap.{get, get-insert, insert}
+use Rattle.std.specs.FinMap.{get, get-insert}
 use Rattle.std.specs.List.{AllByRecursion}
 use Rattle.std.proofs.lemmas.Bool.Decides.{nat_tests}
 use Rattle.vm_ids.specs.Held.{Held, Segments, put_segment_page, segments_in, segments_of}
 use Rattle.vm_ids.specs.declared.numbers.SegId.{SegId}
 use Rattle.local_cache.specs.Arena.{Arena, Table}
 use Rattle.local_cache.specs.Whole.{segment_of, size_of}
-use Rattle.local_cache.proofs.Nodes.Slots.{apart, tied}
+use Rattle.local_cache.proofs.Nodes.Numbers.{apart, tied}
 use Rattle.vm_model.specs.Machine.{Cache, Machine, Page, cache_named}
 use Rattle.vm_model.specs.Pushing.{MayPush, PushRule, page_named, segments_after}
 use Rattle.pvm_core.specs.Manager.{AreApart, AreSized, Manager, forest_of, machine_of}

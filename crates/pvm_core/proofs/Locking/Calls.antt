@@ -36,6 +36,7 @@ use Rattle.pvm_core.specs.Holding.{AreOwned, FailedToHold, HoldsLocked, LocksMor
 use Rattle.pvm_core.specs.Locks.{AreHeld, locks_by, locks_over}
 use Rattle.pvm_core.specs.Manager.{IsSound, IsValid, Manager, caches_shown, forest_of, machine_by, machine_of, numbered, state_at}
 use Rattle.pvm_core.proofs.Answering.Answered.{call_is, no_segments, outcome_at}
+use Rattle.pvm_core.proofs.Answering.Ended.{Ended}
 use Rattle.pvm_core.proofs.Answering.Kept.{seen, sizeless}
 use Rattle.pvm_core.proofs.Answering.Listed.{machine_with}
 use Rattle.pvm_core.proofs.Answering.Reaching.{reach_told}
@@ -92,16 +93,16 @@ module _ (a b : Arena) (s u : Store) (h g : Option Held) (i j : Option ℕ) (c d
         holds
         (omega (arith, locked_more a b (pages_of r) more, ltb-false (length s.frames.held - UNLOCKED_FRAMES) (locked_count a + unlocked_in a (pages_of r)) low, sound.locked.few, alike.frames))
 
-    pub lock_sound : IsSound b u (with_locked region.0 true t) live
+    lock_sound : IsSound b u (with_locked region.0 true t) live
     lock_sound = ends_sound a b s u h g i j c d alike t live sound (with_locked region.0 true t) refl (right_with_locked (size_of a) region.0 true r t found sound.actors) held_then
 
-    pub lock_valid : IsValid (seen a s t) h → IsValid (seen b u (with_locked region.0 true t)) g
+    lock_valid : IsValid (seen a s t) h → IsValid (seen b u (with_locked region.0 true t)) g
     lock_valid v = ends_valid a b s u h g i j c d alike t live sound (with_locked region.0 true t) refl v
 
     forest_then : forest_of (seen b u (with_locked region.0 true t)) g ≡ lock (pages_locked (machine_of (seen a s t) h) region.0) (forest_of (seen a s t) h)
     forest_then = sym (sizeless g j b u) ∙ owned ∙ ap (lock (extent_names (pages_of r))) (sizeless h i a s) ∙ ap (λ xs. lock xs (forest_of (seen a s t) h)) (sym lock_names)
 
-    pub lock_call : IsValid (seen a s t) h → CallIs c d (state_at (seen a s t) h) (commands.Lock region) (Ok replies.Done) (state_at (seen b u (with_locked region.0 true t)) g)
+    lock_call : IsValid (seen a s t) h → CallIs c d (state_at (seen a s t) h) (commands.Lock region) (Ok replies.Done) (state_at (seen b u (with_locked region.0 true t)) g)
     lock_call v =
         let p : Manager = seen a s t in
         let q : Manager = seen b u (with_locked region.0 true t) in
@@ -112,8 +113,12 @@ module _ (a b : Arena) (s u : Store) (h g : Option Held) (i j : Option ℕ) (c d
         (λ k e. row (forest_of p h) ∙ ap (reply replies.Done) (sym (ends_machine a b s u h g i j c d alike t live sound (with_locked region.0 true t)))))
 
     -- at most a copy was made for each page
-    pub lock_numbered : numbered (seen b u (with_locked region.0 true t)) ≤ numbered (seen a s t) + 8 * pages_of_region (machine_of (seen a s t) h) region.0 + 8
+    lock_numbered : numbered (seen b u (with_locked region.0 true t)) ≤ numbered (seen a s t) + 8 * pages_of_region (machine_of (seen a s t) h) region.0 + 8
     lock_numbered = omega (arith, alike.made, owned_few (world h i a s) (world g j b u) (pages_of r).cache (pages_of r).first.0 r.pages owned, touched)
+
+    -- a region that is locked
+    pub lock_ended : IsValid (seen a s t) h → Ended (seen a s t) b u (with_locked region.0 true t) live h g c d (commands.Lock region) (Ok replies.Done)
+    lock_ended v = record { sound = lock_sound; valid = lock_valid v; answers = lock_call v; made = lock_numbered }
 
   -- where the mapper failed at a page
   module _ (page : ℕ) (holds : HoldsLocked b u) (failed : FailedToHold (pages_of r) page (world h i a s) (world g j b u)) where
@@ -121,10 +126,10 @@ module _ (a b : Arena) (s u : Store) (h g : Option Held) (i j : Option ℕ) (c d
     held_still = held_of b u t.actors (λ cache k. failed.locks cache k ∙ sound.locked.counted cache k) holds
         (omega (arith, locked_count_stays a b failed.locks, sound.locked.few, alike.frames))
 
-    pub fault_sound : IsSound b u t live
+    fault_sound : IsSound b u t live
     fault_sound = ends_sound a b s u h g i j c d alike t live sound t refl sound.actors held_still
 
-    pub fault_valid : IsValid (seen a s t) h → IsValid (seen b u t) g
+    fault_valid : IsValid (seen a s t) h → IsValid (seen b u t) g
     fault_valid v = ends_valid a b s u h g i j c d alike t live sound t refl v
 
     passed : pages_passed (machine_of (seen a s t) h) (commands.Lock region) page ≡ page_names (pages_of r).cache r.offset failed.before
@@ -142,7 +147,7 @@ module _ (a b : Arena) (s u : Store) (h g : Option Held) (i j : Option ℕ) (c d
         → Outcome (machine_with (caches_shown f 1 a.caches) (length s.frames.held) t) (Some (forest_of (seen a s t) h)) (commands.Lock region) k (Err (troubles.Mapper (faults.Page (record { 0 = page })))) next rises
     fault_outcome f k rises rose next same = (same, rose, under f, subst (λ (x : Answered). NotRefusedButFor (faults.Page (record { 0 = page })) x.answer) (sym (row f)) tt)
 
-    pub fault_call : Rose c.faults d.faults → IsValid (seen a s t) h → CallIs c d (state_at (seen a s t) h) (commands.Lock region) (Err (troubles.Mapper (faults.Page (record { 0 = page })))) (state_at (seen b u t) g)
+    fault_call : Rose c.faults d.faults → IsValid (seen a s t) h → CallIs c d (state_at (seen a s t) h) (commands.Lock region) (Err (troubles.Mapper (faults.Page (record { 0 = page })))) (state_at (seen b u t) g)
     fault_call cause v =
         let p : Manager = seen a s t in
         let q : Manager = seen b u t in
@@ -154,8 +159,11 @@ module _ (a b : Arena) (s u : Store) (h g : Option Held) (i j : Option ℕ) (c d
         (λ e f. fault_outcome f no_segments (rises_between (length reach.pushes) c d) rose (machine_by q f) (ends_by a b s u h g i j c d alike t live sound t f))
         (λ k e. fault_outcome (forest_of p h) k (rises_between (length reach.pushes) c d) rose (machine_of q g) (ends_machine a b s u h g i j c d alike t live sound t)))
 
-    pub fault_numbered : numbered (seen b u t) ≤ numbered (seen a s t) + 8 * pages_of_region (machine_of (seen a s t) h) region.0 + 8
+    fault_numbered : numbered (seen b u t) ≤ numbered (seen a s t) + 8 * pages_of_region (machine_of (seen a s t) h) region.0 + 8
     fault_numbered = omega (arith, alike.made, owned_few (world h i a s) (world g j b u) (pages_of r).cache (pages_of r).first.0 failed.before failed.owned, touched, failed.passed, failed.stop.1)
+
+    pub fault_ended : Rose c.faults d.faults → IsValid (seen a s t) h → Ended (seen a s t) b u t live h g c d (commands.Lock region) (Err (troubles.Mapper (faults.Page (record { 0 = page }))))
+    fault_ended cause v = record { sound = fault_sound; valid = fault_valid v; answers = fault_call cause v; made = fault_numbered }
 
 -- where no more regions were made than may be, one lock more can be counted
 pub few_locks : (a : Arena) (t : Actors) → ((cache page : ℕ) → locks_of a cache page ≡ locks_over t.actors cache page) → (made : ℕ) → region_count t.actors ≤ made → made ≤ MOST_MADE → (cache page : ℕ) → locks_of a cache page + 1 < 2 ^ 32

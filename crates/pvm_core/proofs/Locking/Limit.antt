@@ -11,7 +11,7 @@ use Rattle.local_cache.specs.Whole.{size_of}
 use Rattle.vm_model.specs.Answering.{passes_lock_limit}
 use Rattle.vm_model.specs.Machine as model
 use Rattle.vm_model.specs.Machine.{Region, cache_of, locked_pages, locks, pages_in}
-use Rattle.vm_model.specs.Regions.{mapping_of, region_among, region_with, replace_in, with_lock}
+use Rattle.vm_model.specs.Regions.{mapping_of, region_with, replace_in, with_lock}
 use Rattle.vm_model.specs.PageForest.{PageForest}
 use Rattle.vm_model.specs.declared.limits.TheConstants.{UNLOCKED_FRAMES}
 use Rattle.contexts.specs.Actors.{Actors}

@@ -19,7 +19,7 @@ use Rattle.vm_ids.proofs.Places.{bit, count-set}
 use Rattle.frame_pool.specs.Pool.{is_pinned}
 use Rattle.global_map.specs.Pairs.{node_of}
 use Rattle.local_cache.specs.declared.own_state.OwnState.TheVariants.{Absent}
-use Rattle.local_cache.specs.declared.page_table.PageEntry.{PageEntry}
+use Rattle.local_cache.specs.declared.page_entry.PageEntry.{PageEntry}
 use Rattle.local_cache.specs.Arena.{Arena, HasNode, is_locked, locks_of, node_at, table_locking, with_locks}
 use Rattle.local_cache.specs.Own.{is_absent, own_of}
 use Rattle.local_cache.specs.Reading.{forest_of, name_of}

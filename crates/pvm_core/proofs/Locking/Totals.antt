@@ -1,15 +1,15 @@
 -- How many pages of an extent have no lock, and how many pages are locked with its locks.
-use Rattle.std.proofs.Common.{◌≡◌, ◌≢◌, ℕ, zero, suc, ◌+◌, ◌-◌, ◌<◌, ◌≤◌, ◌&&◌, ◌==◌, not, Bool, true, false, List, [], ◌∷◌, get_or, count_by, sum_by, Option, Some, None, unwrap_or, slice_get, refl, sym, ap, ◌∙◌, subst, arith, inl, inr}
+use Rattle.std.proofs.Common.{◌≡◌, ◌≢◌, ℕ, zero, suc, ◌+◌, ◌-◌, ◌<◌, ◌≤◌, ◌&&◌, not, Bool, true, false, List, [], ◌∷◌, get_or, count_by, sum_by, Option, Some, None, unwrap_or, slice_get, refl, sym, ap, ◌∙◌, arith, inl, inr}
 use Rattle.std.specs.Prelude.{nat_le, nat_lt, option_and_then}
 use Rattle.std.specs.List.{range_with_len}
-use Rattle.std.proofs.lemmas.Bool.{cases_eq, cases_lt, eq-eqb, eqb-true, le-leb, le-ltb, leb-true, lt-leb, lt-ltb, ltb-true}
+use Rattle.std.proofs.lemmas.Bool.{cases_lt, eq-eqb, le-leb, le-ltb, lt-leb, lt-ltb}
 use Rattle.std.proofs.lemmas.List.FromFn.{length-range_with_len}
 use Rattle.std.proofs.lemmas.List.Sums.{count_by-le-length, sum_by-cons}
 use Rattle.vm_ids.specs.declared.command.Extent.{Extent}
 use Rattle.vm_ids.specs.declared.numbers.CacheId.{CacheId}
 use Rattle.vm_ids.proofs.Places.{bit}
 use Rattle.local_cache.specs.Arena.{Arena, Table, is_locked, locked_count, locked_pages, locks_of}
-use Rattle.pvm_core.specs.Holding.{LocksMore, SameLocks, covers, one_page, unlocked_in}
+use Rattle.pvm_core.specs.Holding.{LocksMore, covers, unlocked_in}
 use Rattle.pvm_core.proofs.Locking.Counted.{count_at}
 use Rattle.pvm_core.proofs.Locking.Extents.{covers_no, extent}
 

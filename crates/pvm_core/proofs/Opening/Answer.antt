@@ -6,10 +6,10 @@ use Rattle.std.specs.FinMap.{empty, get, get-insert, insert}
 use Rattle.std.specs.Ordering.{nat_cmp}
 use Rattle.std.specs.List.{All}
 use Rattle.std.proofs.lemmas.List.{length-map, length-replicate}
-use Rattle.std.proofs.lemmas.List.Elements.{All-get_or, All-replicate}
+use Rattle.std.proofs.lemmas.List.Elements.{All-get_or}
 use Rattle.std.proofs.lemmas.Option.{get_or_from_slice_get, slice_get_within}
 use Rattle.vm_ids.specs.Counting.{no_counts}
-use Rattle.vm_ids.specs.Held.{Held, Segments, page_of, segments_in, segments_of}
+use Rattle.vm_ids.specs.Held.{Held, Segments, page_of, segments_of}
 use Rattle.vm_ids.specs.declared.command.Command.TheVariants as commands
 use Rattle.vm_ids.specs.declared.node_name.NodeName.{NodeName}
 use Rattle.vm_ids.specs.declared.node_name.NodeName.TheVariants.{Live, Working}
@@ -18,7 +18,7 @@ use Rattle.vm_ids.specs.declared.numbers.NodeId.{NodeId}
 use Rattle.vm_ids.specs.declared.numbers.SegId.{SegId}
 use Rattle.vm_ids.specs.declared.reply.Reply.TheVariants as replies
 use Rattle.vm_ids.specs.Forest.Commands.{make, page_name, page_names}
-use Rattle.local_cache.proofs.Nodes.Slots.{tied}
+use Rattle.local_cache.proofs.Nodes.Numbers.{tied}
 use Rattle.local_cache.specs.declared.own_state.OwnState.TheVariants.{OnSegment}
 use Rattle.local_cache.specs.Arena.{IsMade, entry_for, new_table, page_count}
 use Rattle.local_cache.specs.Whole as whole

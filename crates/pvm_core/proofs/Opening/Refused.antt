@@ -1,6 +1,6 @@
 -- A segment was not opened: the answer.
-use Rattle.std.proofs.Common.{◌≡◌, ◌⊎◌, ℕ, ◌+◌, ◌<◌, ◌≤◌, List, [], length, replicate, Option, Some, None, refl, sym, ap, ◌∙◌, subst, arith, inl, inr}
-use Rattle.std.specs.Prelude.{Err, IfSome, option_map, sum_by}
+use Rattle.std.proofs.Common.{◌≡◌, ℕ, ◌+◌, ◌<◌, ◌≤◌, List, [], length, replicate, Option, Some, None, refl, sym, ap, ◌∙◌, subst, arith, inl, inr}
+use Rattle.std.specs.Prelude.{Err, sum_by}
 use Rattle.std.proofs.lemmas.Bool.{cases_lt}
 use Rattle.std.proofs.lemmas.List.{length-replicate}
 use Rattle.vm_ids.specs.Counting.{MapperCounts, no_counts}
@@ -24,7 +24,7 @@ use Rattle.vm_model.specs.Run.{AnswerIs}
 use Rattle.vm_model.specs.Synchronised.{IsSynchronised}
 use Rattle.pvm_core.specs.Manager.{IsValid, Manager, forest_of, machine_by, machine_of, state_at}
 use Rattle.pvm_core.specs.Opening.{HasSegment, IsOpened}
-use Rattle.pvm_core.proofs.Answering.Answered.{alike_itself, no_segments}
+use Rattle.pvm_core.proofs.Answering.Answered.{alike_itself}
 use Rattle.pvm_core.proofs.Opening.Answer.{held_for, many, pages_for, zeros_in, zeros_there}
 use Rattle.pvm_core.proofs.Opening.Rows.{many_live, none_held, open_row}
 use Rattle.pvm_core.proofs.Answering.Reaching.{as_segments, no_push}

@@ -1,11 +1,11 @@
 -- What a mapper that was asked for the size of a segment tells.
-use Rattle.std.proofs.Common.{◌≡◌, ℕ, zero, suc, ◌+◌, ◌<◌, ◌≤◌, List, [], ◌∷◌, length, Option, Some, None, refl, sym, ap, ◌∙◌, subst, arith}
-use Rattle.std.specs.Prelude.{IfSome, IsSomeAnd, Result, OnErr, option_and_then, option_map, slice_get}
+use Rattle.std.proofs.Common.{◌≡◌, ℕ, suc, List, [], ◌∷◌, length, Option, Some, None, refl, sym, ap, ◌∙◌, arith}
+use Rattle.std.specs.Prelude.{IfSome, IsSomeAnd, Result, option_and_then, option_map, slice_get}
 use Rattle.std.specs.FinMap.{get}
 use Rattle.std.specs.List.{All}
 use Rattle.std.proofs.lemmas.List.Elements.{All-cons, All-nil}
 use Rattle.vm_ids.specs.Counting.{Counted, MapperCounts, Rise, Rose, no_counts}
-use Rattle.vm_ids.specs.Held.{Held, page_of}
+use Rattle.vm_ids.specs.Held.{Held}
 use Rattle.vm_ids.specs.declared.numbers.SegId.{SegId}
 use Rattle.vm_port.specs.Sizes.{HasPagesOf}
 use Rattle.vm_model.specs.Machine.{Page}

@@ -1,13 +1,13 @@
 -- Pages were saved for their heirs: the machine stays, and each page has the value that it had.
-use Rattle.std.proofs.Common.{◌≡◌, ℕ, Bool, true, false, List, length, get_or, Option, Some, None, is_some, refl, sym, ap, ◌∙◌, subst}
-use Rattle.std.specs.Prelude.{IfErr, IfSome, OnOk, Result, Ok, Err, option_map, option_and_then}
+use Rattle.std.proofs.Common.{◌≡◌, ℕ, Bool, true, false, List, length, get_or, Option, None, refl, sym, ap, ◌∙◌, subst}
+use Rattle.std.specs.Prelude.{IfErr, IfSome, OnOk, Result, Ok, Err, option_map}
 use Rattle.vm_ids.specs.Counting.{MapperCounts}
 use Rattle.vm_ids.specs.Held.{Held}
 use Rattle.vm_ids.specs.declared.node_name.NodeName.{NodeName}
 use Rattle.vm_ids.specs.Forest.NameMap.{len}
 use Rattle.vm_ids.specs.Forest.Nodes.{Forest}
 use Rattle.vm_ids.specs.Forest.Saving.{save_range, saved, saves}
-use Rattle.local_cache.specs.Arena.{Arena, Table, table_at, table_of}
+use Rattle.local_cache.specs.Arena.{Arena, Table, table_at}
 use Rattle.local_cache.specs.Whole.{segment_of, size_of}
 use Rattle.local_cache.proofs.Tables.Sizes.{sizes_same}
 use Rattle.residency.specs.declared.store.Store.{Store}
@@ -20,7 +20,7 @@ use Rattle.vm_model.specs.Machine.{Machine}
 use Rattle.vm_model.specs.Outcome.{HasWholePages}
 use Rattle.vm_model.proofs.Forests.Following.{saves_followed}
 use Rattle.contexts.specs.Actors.{Actors}
-use Rattle.pvm_core.specs.Manager.{IsSound, IsValid, Manager, caches_shown, forest_of, machine_by, machine_of}
+use Rattle.pvm_core.specs.Manager.{IsSound, IsValid, caches_shown, forest_of, machine_of}
 use Rattle.pvm_core.specs.Reaching.{Reach}
 use Rattle.pvm_core.specs.Saving.{KeepsMachine}
 use Rattle.pvm_core.proofs.Meaning.Determined.{IsShaped, followed_is}

@@ -1,5 +1,5 @@
 -- Translations stay right where nodes, own states and frames stay.
-use Rattle.std.proofs.Common.{◌≡◌, ℕ, zero, suc, true, List, ◌∷◌, map, Option, Some, None, is_some, unwrap_or, refl, sym, ap, subst, ◌∙◌}
+use Rattle.std.proofs.Common.{◌≡◌, ℕ, zero, suc, List, ◌∷◌, map, Option, Some, None, is_some, unwrap_or, refl, ap, subst, ◌∙◌}
 use Rattle.std.specs.Prelude.{option_and_then}
 use Rattle.std.specs.FinMap as ids
 use Rattle.vm_ids.specs.declared.node_name.NodeName.{NodeName}

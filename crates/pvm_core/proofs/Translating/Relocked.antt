@@ -3,7 +3,6 @@ use Rattle.std.proofs.Common.{◌≡◌, ℕ, zero, suc, ◌+◌, ◌-◌, ◌*�
 use Rattle.std.specs.Prelude.{Result, Ok, Err, nat_lt, option_and_then}
 use Rattle.vm_ids.specs.declared.refusal.Refusal.{Refusal}
 use Rattle.vm_ids.specs.declared.refusal.Refusal.TheVariants.{Crosses}
-use Rattle.page_tables.specs.declared.entry.Entry.{Entry}
 use Rattle.local_cache.specs.Arena.{Arena}
 use Rattle.residency.specs.declared.store.Store.{Store}
 use Rattle.residency.specs.Seeing.{IsAlone, seen_in}
@@ -12,7 +11,7 @@ use Rattle.vm_model.specs.Machine.{Actor, Region, numbered}
 use Rattle.vm_model.specs.Place.{Place, holds, place_in, place_of_actor, placed, region_at}
 use Rattle.vm_model.specs.Regions.{region_among, replace_in, replace_region, with_lock}
 use Rattle.contexts.specs.Actors.{Actors}
-use Rattle.pvm_core.specs.Translated.{AreTranslationsRight, IsRight, name_at}
+use Rattle.pvm_core.specs.Translated.{AreTranslationsRight, name_at}
 use Rattle.pvm_core.proofs.Locking.Limit.{with_locked}
 
 -- the region, whether it is locked or not

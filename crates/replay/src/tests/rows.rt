@@ -1029,6 +1029,7 @@ map a1 c1 0 9 10000 rw
 map a1 c2 0 9 20000 rw
 map a1 c3 0 9 30000 rw
 store a1 10000 01
+store a1 11000 03
 copy c1 0 c2 0 9
 copy c2 0 c3 0 9
 chain c3 0
@@ -1046,6 +1047,8 @@ chain c2 0
 chain c3 1
 load a1 20000 1
 load a1 30000 1
+load a1 21000 1
+load a1 31000 1
 stat
 ";
 
@@ -1059,22 +1062,25 @@ pub const COPY_OF_A_COPY_EXAMPLE_REPLIES: &str = "1 ok a1
 8 ok
 9 ok
 10 ok
-11 chain c3:0+0 c2:0+1 c1:0+1*
-12 chain c3:1+0 c2:1+1 c1:1+1*
-13 ok
-14 chain c1:0+1*
-15 chain c2:0+1*
-16 chain c3:0+0*
-17 ok 01
-18 ok 02
-19 ok 01
-20 ok
+11 ok
+12 chain c3:0+0 c2:0+1 c1:0+1*
+13 chain c3:1+0 c2:1+1 c1:1+1*
+14 ok
+15 chain c1:0+1*
+16 chain c2:0+1*
+17 chain c3:0+0*
+18 ok 01
+19 ok 02
+20 ok 01
 21 ok
-22 chain c2:0+1*
-23 chain c3:1+0 c2:1+1*
-24 ok 02
-25 ok 01
-26 stat live 18 working 0 copies 2
+22 ok
+23 chain c2:0+1*
+24 chain c3:1+0 c2:1+1*
+25 ok 02
+26 ok 01
+27 ok 03
+28 ok 03
+29 stat live 18 working 0 copies 2
 ";
 
 // A message is copied into a transit cache and moved on from there. It lies in examples/ too.

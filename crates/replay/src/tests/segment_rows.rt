@@ -150,9 +150,16 @@ chain c2 0
 sync c1 0 1
 store a1 10001 45
 load a1 10000 5
+temp 1
+copy c1 0 c3 0 1
+map a1 c3 0 1 30000 r
+chain c3 0
 invalidate c1 0 1
+chain c1 0
+chain c3 0
 load a1 10000 5
 load a1 20000 5
+load a1 30000 5
 unmap r1
 destroy c1
 open 2
@@ -173,13 +180,20 @@ pub const MAPPED_FILE_EXAMPLE_REPLIES: &str = "1 ok a1
 12 ok
 13 ok
 14 ok 48456c6c6f
-15 ok
-16 ok 48656c6c6f
-17 ok 68656c6c6f
-18 ok
+15 ok c3
+16 ok
+17 ok r3
+18 chain c3:0+0 c1:0+1*
 19 ok
-20 no NoSegment
-21 stat live 1 working 0 copies 1
+20 chain c1:0+0*
+21 chain c3:0+0*
+22 ok 48656c6c6f
+23 ok 68656c6c6f
+24 ok 48456c6c6f
+25 ok
+26 ok
+27 no NoSegment
+28 stat live 2 working 0 copies 2
 ";
 
 // examples/failing_disk, letter for letter.

@@ -12,7 +12,7 @@ use Rattle.vm_ids.specs.declared.numbers.NodeId.{NodeId}
 use Rattle.vm_ids.specs.declared.numbers.SlotId.{SlotId}
 use Rattle.vm_ids.proofs.Places.{same_number, other_number, bit, bit_true, bit_false, count-set, only_place, some_place, true_below}
 use Rattle.frame_pool.specs.Lending.{refill}
-use Rattle.frame_pool.specs.Pool.{Frames, bytes_of, is_held}
+use Rattle.frame_pool.specs.Pool.{is_held}
 use Rattle.slot_pool.specs.Slots as swap
 use Rattle.global_map.specs.Pairs.{bound_times, frame_of, is_node, node_of}
 use Rattle.local_cache.specs.declared.home.Home.{Home}
@@ -24,7 +24,7 @@ use Rattle.local_cache.specs.Own.{is_absent, is_in_slot, is_resident, is_slot, o
 use Rattle.local_cache.proofs.Names.Homes.{home-with_own}
 use Rattle.local_cache.proofs.Nodes.OwnStates.{id_cases, id_apart, own_count, own_length, own_other, own_same}
 use Rattle.residency.specs.Causes.{dirty_count, is_dirty}
-use Rattle.residency.specs.World.{World, HoldsPage, IsAway, IsBacked, IsStoreRight, IsTaken, OthersStay, OthersStayBut, StillBut, frame_page, home_page, is_bound, is_clean, is_pulled, is_slot_held, own_page, page_at, page_by, zero_page}
+use Rattle.residency.specs.World.{World, IsAway, IsBacked, IsStoreRight, IsTaken, OthersStay, OthersStayBut, StillBut, frame_page, home_page, is_bound, is_clean, is_slot_held, own_page, page_at, page_by, zero_page}
 use Rattle.residency.proofs.Worlds.Homes.{slot_is_held}
 use Rattle.residency.proofs.Worlds.Nodes.{own_granted, same, with_own_same}
 
@@ -400,19 +400,7 @@ zero_left (Resident d) some away home out = absurd (cc)
 zero_left (Slot s) some away home out = absurd (out s refl)
 zero_left OnSegment some away home out = absurd (home refl)
 
--- what the frame has then
-pub zeros_there : (own : OwnState) (last : Option (List ℕ)) (frames : Frames) (f : ℕ) → own ≡ Zero → bytes_of frames f ≡ replicate frames.page 0 → HoldsPage own last frames f
-zeros_there own last frames f e zeros = record {
-  zeros = λ _. zeros;
-  given = λ pulled. absurd (let out : is_pulled own ≡ false = ap is_pulled e in cc);
-}
-
-last_is : (before last : Option (List ℕ)) (page bytes : List ℕ) → last ≡ option_map (λ _. page) before → bytes ≡ page → IfSome last (λ p. bytes ≡ p)
-last_is None last page bytes e is = subst (λ (o : Option (List ℕ)). IfSome o (λ p. bytes ≡ p)) (sym e) tt
-last_is (Some x) last page bytes e is = subst (λ (o : Option (List ℕ)). IfSome o (λ p. bytes ≡ p)) (sym e) is
-
-pub given_there : (own : OwnState) (before last : Option (List ℕ)) (page : List ℕ) (frames : Frames) (f : ℕ) → (own ≡ Zero → ⊥) → last ≡ option_map (λ _. page) before → bytes_of frames f ≡ page → HoldsPage own last frames f
-given_there own before last page frames f out given is = record {
-  zeros = λ zero. absurd (out zero);
-  given = λ _. last_is before last page (bytes_of frames f) given is;
-}
+-- the page that the mapper gave last, where it tells that
+pub given_is : (before last : Option (List ℕ)) (page : List ℕ) → last ≡ option_map (λ _. page) before → IfSome last (λ p. page ≡ p)
+given_is None last page e = subst (λ (o : Option (List ℕ)). IfSome o (λ p. page ≡ p)) (sym e) tt
+given_is (Some x) last page e = subst (λ (o : Option (List ℕ)). IfSome o (λ p. page ≡ p)) (sym e) refl

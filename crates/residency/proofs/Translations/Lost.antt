@@ -6,7 +6,6 @@ use Rattle.std.proofs.lemmas.List.{get_or-set_same, get_or-set_other, get_or_pas
 use Rattle.vm_ids.specs.declared.numbers.NodeId.{NodeId}
 use Rattle.vm_ids.proofs.Places.{count_cons, none_passes, other_number, same_number}
 use Rattle.global_map.specs.Pairs.{bound_times, is_node, node_of}
-use Rattle.page_tables.specs.declared.entry.Entry.{Entry}
 use Rattle.residency.specs.declared.store.Store.{Store}
 use Rattle.residency.specs.Translating.{IsEmptied, TablesAfter, loses, lost, without}
 use Rattle.residency.specs.World.{OthersStay, World}

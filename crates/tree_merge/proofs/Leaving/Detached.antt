@@ -9,7 +9,7 @@ use Rattle.vm_ids.specs.Forest.Nodes.Hang.{Root}
 use Rattle.vm_ids.specs.Forest.Changes.{put}
 use Rattle.vm_ids.specs.Forest.Rules.{detach, retire}
 use Rattle.local_cache.specs.declared.own_state.OwnState.{OwnState}
-use Rattle.local_cache.specs.declared.page_table.PageEntry.{PageEntry}
+use Rattle.local_cache.specs.declared.page_entry.PageEntry.{PageEntry}
 use Rattle.local_cache.specs.Arena.{Arena, HasNode, IsVacant, as_working, entry_at, find, node_at, tables_with, with_new}
 use Rattle.local_cache.specs.Reading.{name_of, forest_of, page_of}
 use Rattle.local_cache.specs.Sound.{IsSound}

@@ -15,7 +15,7 @@ use Rattle.local_cache.specs.Own.{own_of}
 use Rattle.local_cache.specs.Reading.{name_of, forest_of}
 use Rattle.local_cache.specs.Sound.{IsSound}
 use Rattle.local_cache.proofs.NewNode.Freeing.{freed-forest, freed-kept}
-use Rattle.local_cache.proofs.Nodes.Slots.{tied, apart}
+use Rattle.local_cache.proofs.Nodes.Numbers.{tied, apart}
 use Rattle.tree_merge.specs.Staying.{HasNoChild, IsGone}
 use Rattle.tree_merge.proofs.ChildLists.Names.{loose, no_tree, no_stubs, counted-no_child, none-cut}
 

@@ -19,7 +19,7 @@ use Rattle.local_cache.specs.Own.{is_absent, own_of}
 use Rattle.local_cache.specs.Reading.{name_of, forest_of}
 use Rattle.local_cache.specs.Sound.{IsSound}
 use Rattle.local_cache.specs.Thin.{IsLeastThin}
-use Rattle.local_cache.proofs.Queue.ThinForest.{child_count-is, thin-forest}
+use Rattle.local_cache.proofs.Forest.ThinForest.{child_count-is, thin-forest}
 use Rattle.tree_merge.specs.declared.released.Released.{Released}
 use Rattle.tree_merge.specs.declared.released.Released.TheVariants.{Nothing, Dropped, Moved}
 use Rattle.tree_merge.specs.Releasing.{IsMerged, OwnsAfter, first_child, own_after, released_to}

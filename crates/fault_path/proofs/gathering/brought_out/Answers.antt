@@ -4,11 +4,14 @@ use Rattle.residency.specs.declared.store.Store.{Store}
 use Rattle.residency.specs.World.{World, world}
 use Rattle.residency.proofs.Worlds.Homes.{home}
 use Rattle.residency.proofs.Pushes.Told.{tells_then}
+use Rattle.residency.proofs.Worlds.Composed.{still_then}
+use Rattle.fault_path.proofs.Calls.Answered.{later_then}
+use Rattle.fault_path.proofs.Calls.Gathered.{done_gathers, failed_gathers}
 use Rattle.fault_path.proofs.Frames.GatheredFrames.{bound_below, doubled_page, same_home, then_gathered}
 use Rattle.local_cache.specs.declared.own_state.OwnState.{OwnState}
 use Rattle.local_cache.specs.Own.{own_of}
 use Rattle.residency.specs.Causes.{frames_to_bring}
-use Rattle.fault_path.proofs.Calls.Costs.{brought_more, brought_taken, failed_most, most_more, pulls_most, taken_then}
+use Rattle.fault_path.proofs.Calls.Costs.{brought_more, brought_most, brought_taken, failed_most, most_more, taken_then}
 use Rattle.residency.proofs.Translations.Kept.{drops_trans, still_drops_but}
 use Rattle.fault_path.specs.Translating.{Nobody}
 use Rattle.fault_path.proofs.gathering.brought_out.Goals as goal
@@ -18,67 +21,48 @@ returns-clause-copied g c =
     let old : World = world (g.M.Mapper.held c.args.mapper.now) (g.M.Mapper.page_bytes c.args.mapper.now) c.args.caches.now c.args.store.now in
     let v : World = world (g.M.Mapper.held c.bring_in.new.mapper) (g.M.Mapper.page_bytes c.bring_in.new.mapper) c.bring_in.new.caches c.bring_in.new.self in
     let w : World = world (g.M.Mapper.held c.double.new.mapper) (g.M.Mapper.page_bytes c.double.new.mapper) c.double.new.caches c.double.new.store in
-    let e = c.in-Ok.ensures.doubled in
-    let k = e.gathered in
+    let own : OwnState = own_of c.args.caches.now c.args.node in
     let b = c.in_ok-home.ensures in
     let first = b.still in
+    let same = first.stays.frames in
+    let e = c.in-Ok.ensures.doubled in
+    let d = e.done in
+    let k = d.gathered in
     let within : c.in_ok-home.home.0 < length w.map = omega (arith, b.home.0, first.stays.right.tied.fitted.map_frames, k.still.stays.right.tied.fitted.map_frames, k.still.stays.frames) in
-    record {
+    done_gathers _ _ old w _ _ (tells_then _ _ first.stays _ _ _ _ e.later b.told e.told) (later_then _ _ _ b.later e.later) _ (record {
       gathered = then_gathered old v w c.in-Ok.fresh.0 first b.pinned k;
-      page = doubled_page w c.in-Ok.fresh.0 c.in_ok-home.home.0 c.args.node k.still.stays.right within (e.stays.node ∙ b.home.1) e.bytes;
+      page = doubled_page w c.in-Ok.fresh.0 c.in_ok-home.home.0 c.args.node k.still.stays.right within (d.stays.node ∙ b.home.1) d.bytes;
       home = λ f at.
           let here = home old f c.args.node c.requires.right (bound_below c.args.store.now.map f c.args.node at) at in
           let same : c.bring_in.new.self ≡ c.args.store.now = (b.idle here.resident).1 in
           let there : node_of c.args.store.now.map c.in_ok-home.home.0 ≡ Some c.args.node = ap (λ (s : Store). node_of s.map c.in_ok-home.home.0) (sym same) ∙ b.home.1 in
           let is : f ≡ c.in_ok-home.home.0 = same_home old f c.in_ok-home.home.0 c.args.node c.requires.right at there in
-          ap (λ (j : ℕ). node_of c.double.new.store.map j) is ∙ e.stays.node ∙ b.home.1;
+          ap (λ (j : ℕ). node_of c.double.new.store.map j) is ∙ d.stays.node ∙ b.home.1;
+    })
+    (taken_then (frames_to_bring own) old.frames.held v.frames.held w.frames.held same (brought_taken own old.frames v.frames _ _ same b.held _ b.traffic b.few) e.held)
+    (brought_more own old.frames v.frames _ _ same b.held _ b.traffic b.few _ e.traffic e.later)
+
+pub returns-in_default-clause-copied : goal.returns-in_default-clause-copied
+returns-in_default-clause-copied g c =
+    let own : OwnState = own_of c.args.caches.now c.args.node in
+    let b = c.in_ok-home.ensures in
+    let e = c.in_default.ensures.doubled in
+    record {
+      done = tt;
+      none = record { still = still_then _ _ _ b.still e.none.still; pinned = e.none.pinned ∙ b.pinned };
+      told = tells_then _ _ b.still.stays _ _ _ _ e.later b.told e.told;
+      later = later_then _ _ _ b.later e.later;
+      held = tt;
+      traffic = tt;
+      most = brought_most own c.args.store.now.frames c.bring_in.new.self.frames _ _ b.still.stays.frames b.held _ b.traffic b.few _ e.most e.later;
     }
 
-pub returns-clause-held : goal.returns-clause-held
-returns-clause-held g c =
-    let own : OwnState = own_of c.args.caches.now c.args.node in
-    let b = c.in_ok-home.ensures in
-    let first = b.still in
-    let taken = brought_taken own c.args.store.now.frames c.bring_in.new.self.frames _ _ first.stays.frames b.held _ b.traffic b.few in
-    taken_then (frames_to_bring own) c.args.store.now.frames.held c.bring_in.new.self.frames.held c.double.new.store.frames.held first.stays.frames taken c.in-Ok.ensures.held
-
-pub returns-clause-traffic : goal.returns-clause-traffic
-returns-clause-traffic g c =
-    let own : OwnState = own_of c.args.caches.now c.args.node in
-    let b = c.in_ok-home.ensures in
-    let first = b.still in
-    brought_more own c.args.store.now.frames c.bring_in.new.self.frames _ _ first.stays.frames b.held _ b.traffic b.few _ c.double.ensures.traffic c.double.ensures.later
-
-pub returns-clause-most : goal.returns-clause-most
-returns-clause-most g c =
-    let own : OwnState = own_of c.args.caches.now c.args.node in
-    let b = c.in_ok-home.ensures in
-    let first = b.still in
-    pulls_most _ _ _ _ _ _ (brought_more own c.args.store.now.frames c.bring_in.new.self.frames _ _ first.stays.frames b.held _ b.traffic b.few _ c.double.ensures.traffic c.double.ensures.later) (omega arith) (omega arith)
-
-pub returns-in_default-clause-most : goal.returns-in_default-clause-most
-returns-in_default-clause-most g c =
-    let own : OwnState = own_of c.args.caches.now c.args.node in
-    let b = c.in_ok-home.ensures in
-    let first = b.still in
-    pulls_most _ _ _ _ _ _ (brought_more own c.args.store.now.frames c.bring_in.new.self.frames _ _ first.stays.frames b.held _ b.traffic b.few _ c.double.ensures.traffic c.double.ensures.later) (omega arith) (omega arith)
-
-pub returns-in_err-home-clause-most : goal.returns-in_err-home-clause-most
-returns-in_err-home-clause-most g c =
+pub returns-in_err-home-clause-copied : goal.returns-in_err-home-clause-copied
+returns-in_err-home-clause-copied g c =
     let own : OwnState = own_of c.args.caches.now c.args.node in
     let e = c.in_err-home.ensures in
     let most = failed_most own c.args.store.now.frames _ _ _ _ e.traffic e.few in
-    most_more _ _ _ _ _ _ most (omega arith) (omega arith)
-
-pub returns-clause-told : goal.returns-clause-told
-returns-clause-told g c =
-    let b = c.in_ok-home.ensures in
-    tells_then _ _ b.still.stays _ _ _ _ c.double.ensures.later b.told c.double.ensures.told
-
-pub returns-in_default-clause-told : goal.returns-in_default-clause-told
-returns-in_default-clause-told g c =
-    let b = c.in_ok-home.ensures in
-    tells_then _ _ b.still.stays _ _ _ _ c.double.ensures.later b.told c.double.ensures.told
+    failed_gathers _ _ _ _ _ _ e.told e.later _ c.from_residual.result c.from_residual.ensures.1 (record { still = e.still; pinned = e.pinned }) (most_more _ _ _ _ _ _ most (omega arith) (omega arith))
 
 pub returns-clause-drops : goal.returns-clause-drops
 returns-clause-drops g c =

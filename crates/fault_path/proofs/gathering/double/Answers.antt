@@ -1,8 +1,12 @@
-use Rattle.std.proofs.Common.{sym, subst, rules, refl, ap}
-use Rattle.frame_pool.specs.Pool.{bytes_of}
+use Rattle.std.proofs.Common.{◌≡◌, ◌+◌, ◌-◌, Bool, List, sym, subst, rules, refl, ap}
+use Rattle.std.specs.List.{count_by}
+use Rattle.frame_pool.specs.Pool.{bytes_of, held_count}
+use Rattle.fault_path.specs.Costs.{free_count}
 use Rattle.residency.specs.declared.store.Store.{Store}
 use Rattle.residency.specs.World.{World, world}
 use Rattle.fault_path.specs.Gathering.{IsGathered}
+use Rattle.residency.proofs.Pushes.Told.{tells_as}
+use Rattle.fault_path.proofs.Calls.Gathered.{done_gathers, failed_gathers}
 use Rattle.fault_path.proofs.Frames.GatheredFrames.{filled_gathered}
 use Rattle.residency.proofs.Translations.Kept.{drops_by}
 use Rattle.fault_path.specs.Translating.{Nobody}
@@ -14,13 +18,22 @@ returns-clause-doubled g c =
     let told = g.M.Mapper.held c.make_free_beside.new.mapper in
     let size = g.M.Mapper.page_bytes c.make_free_beside.new.mapper in
     let w : World = world told size c.make_free_beside.new.caches c.make_free_beside.new.store in
-    record {
+    let v : World = world told size c.make_free_beside.new.caches c.copy.new.self in
+    let e = c.in_ok-fresh.ensures.gathered in
+    let same : c.copy.new.self.frames.held ≡ w.frames.held = ap (λ (s : Store). s.frames.held) c.copy.ensures in
+    let held = subst (λ (hs : List Bool). count_by (λ h. h) hs + (1 - free_count old.frames) ≡ held_count old.frames + 1) (sym same) e.held in
+    done_gathers _ _ old v _ _ (tells_as _ _ _ _ _ refl e.told) e.later _ (record {
       gathered = subst (λ (s : Store). IsGathered c.in_ok-fresh.fresh.0 old (world told size c.make_free_beside.new.caches s)) (sym c.copy.ensures)
-          (filled_gathered old w c.in_ok-fresh.fresh.0 (bytes_of w.frames c.args.frame.0) c.in_ok-fresh.ensures.gathered);
+          (filled_gathered old w c.in_ok-fresh.fresh.0 (bytes_of w.frames c.args.frame.0) e.done);
       apart = c.in_ok-fresh.ensures.apart;
       stays = search rules;
       bytes = search rules;
-    }
+    }) held e.traffic
+
+pub returns-in_err-fresh-clause-doubled : goal.returns-in_err-fresh-clause-doubled
+returns-in_err-fresh-clause-doubled g c =
+    let e = c.in_err-fresh.ensures.gathered in
+    failed_gathers _ _ _ _ _ _ e.told e.later _ c.from_residual.result c.from_residual.ensures.1 e.none e.most
 
 pub returns-clause-drops : goal.returns-clause-drops
 returns-clause-drops g c =

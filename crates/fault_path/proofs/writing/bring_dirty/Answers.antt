@@ -1,63 +1,37 @@
 use Rattle.std.proofs.Common.{◌≡◌, inl, sym, ap, subst, ◌∙◌, refl, arith, rules}
-use Rattle.local_cache.specs.Arena.{Arena, HasNode}
+use Rattle.local_cache.specs.Arena.{Arena}
 use Rattle.local_cache.specs.Own.{own_of}
 use Rattle.local_cache.proofs.Nodes.OwnStates.{own_same}
 use Rattle.local_cache.specs.declared.own_state.OwnState.TheVariants.{Resident}
 use Rattle.residency.specs.StoreForest.{store_forest}
 use Rattle.residency.specs.World.{Still, World, world}
-use Rattle.residency.proofs.Worlds.After.{held_stays}
 use Rattle.residency.proofs.Worlds.Composed.{still_then}
-use Rattle.residency.proofs.Worlds.Homes.{home}
 use Rattle.residency.proofs.Forests.StillForest.{still_forest, still_like}
 use Rattle.fault_path.specs.Faults.{Kept}
-use Rattle.fault_path.proofs.Pages.DirtyPage.{dirtied, dirty_still, may_like}
+use Rattle.fault_path.proofs.Pages.DirtyPage.{bound_dirty, dirtied}
 use Rattle.fault_path.proofs.Calls.Kept.{still_kept}
 use Rattle.fault_path.proofs.Rules.ReadyForest.{kept_ready}
 use Rattle.local_cache.proofs.Changes.SameNodes.{copies-put}
 use Rattle.residency.proofs.Forests.StillForest.{still_copies}
 use Rattle.local_cache.specs.declared.own_state.OwnState.{OwnState}
 use Rattle.fault_path.proofs.Calls.Costs.{bring_most, brought_traffic, copy_most, failed_most, most_more, pulls_most}
-use Rattle.fault_path.proofs.Calls.Answered.{still_answered, still_missed_by}
+use Rattle.fault_path.proofs.Calls.Answered.{miss_by}
 use Rattle.residency.proofs.Pushes.Told.{tells_as}
 use Rattle.residency.proofs.Translations.Kept.{drops_more, drops_trans, still_drops_but}
 use Rattle.residency.specs.Translating.{Drops}
 use Rattle.fault_path.specs.Translating.{MayCome, without_homes}
-use Rattle.fault_path.proofs.Translations.Given.{forgot_drops}
+use Rattle.fault_path.proofs.Translations.Given.{failed_leaves, forgot_drops}
 use Rattle.fault_path.proofs.Translations.Whole.{dirtied_drops}
-use Rattle.residency.proofs.Worlds.Arms.{on_err}
 use Rattle.fault_path.proofs.writing.bring_dirty.Goals as goal
 
-pub returns-in_err-frame-clause-answered : goal.returns-in_err-frame-clause-answered
-returns-in_err-frame-clause-answered g c =
+pub returns-in_err-frame-clause-ready : goal.returns-in_err-frame-clause-ready
+returns-in_err-frame-clause-ready g c =
     let told = g.M.Mapper.held c.bring_in.new.mapper in
     let size = g.M.Mapper.page_bytes c.bring_in.new.mapper in
     let old : World = world (g.M.Mapper.held c.args.mapper.now) (g.M.Mapper.page_bytes c.args.mapper.now) c.args.caches.now c.args.store.now in
     let w : World = world told size c.bring_in.new.caches c.bring_in.new.self in
     let e = c.in_err-frame.ensures in
-    still_answered old w e.still _ _ c.requires.right.sound c.requires.right.shaped e.pinned e.later e.told
-
-pub returns-in_err-frame-clause-missed : goal.returns-in_err-frame-clause-missed
-returns-in_err-frame-clause-missed g c =
-    let told = g.M.Mapper.held c.bring_in.new.mapper in
-    let size = g.M.Mapper.page_bytes c.bring_in.new.mapper in
-    let old : World = world (g.M.Mapper.held c.args.mapper.now) (g.M.Mapper.page_bytes c.args.mapper.now) c.args.caches.now c.args.store.now in
-    let w : World = world told size c.bring_in.new.caches c.bring_in.new.self in
-    let e = c.in_err-frame.ensures in
-    still_missed_by old w e.still (g.M.Mapper.counts c.args.mapper.now) (g.M.Mapper.counts c.bring_in.new.mapper) c.from_residual.result (search rules)
-
-pub returns-clause-answered : goal.returns-clause-answered
-returns-clause-answered g c =
-    let told = g.M.Mapper.held c.bring_in.new.mapper in
-    let size = g.M.Mapper.page_bytes c.bring_in.new.mapper in
-    let old : World = world (g.M.Mapper.held c.args.mapper.now) (g.M.Mapper.page_bytes c.args.mapper.now) c.args.caches.now c.args.store.now in
-    let w : World = world told size c.bring_in.new.caches c.bring_in.new.self in
-    let b = c.in_ok-frame.ensures in
-    let first = b.still in
-    let there : HasNode w.caches c.args.node = held_stays old.caches w.caches first.stays.caches c.args.node c.requires.own.node in
-    let at = home w c.in_ok-frame.frame.0 c.args.node first.stays.right b.home.0 b.home.1 in
-    let whole : Still old (dirtied w c.args.node) = still_then old w (dirtied w c.args.node) first (dirty_still w c.args.node first.stays.right there at.resident (may_like old.caches w.caches (still_like old.caches w.caches first.stays.caches) c.args.node c.requires.granted)) in
-    let kept : Kept old (dirtied w c.args.node) = still_kept old (dirtied w c.args.node) whole c.requires.right.sound c.requires.right.shaped b.pinned in
-    record { kept = subst (λ (a : Arena). Kept old (world told size a c.bring_in.new.self)) (sym c.set_state.ensures.changed) kept; later = b.later; told = tells_as _ _ _ _ _ refl b.told }
+    miss_by old w e.still (g.M.Mapper.counts c.args.mapper.now) _ c.requires.right.sound c.requires.right.shaped e.pinned e.later e.told _ c.from_residual.result c.from_residual.ensures.1 (search rules)
 
 pub returns-clause-ready : goal.returns-clause-ready
 returns-clause-ready g c =
@@ -67,14 +41,17 @@ returns-clause-ready g c =
     let w : World = world told size c.bring_in.new.caches c.bring_in.new.self in
     let b = c.in_ok-frame.ensures in
     let first = b.still in
-    let there : HasNode w.caches c.args.node = held_stays old.caches w.caches first.stays.caches c.args.node c.requires.own.node in
-    let at = home w c.in_ok-frame.frame.0 c.args.node first.stays.right b.home.0 b.home.1 in
-    let whole : Still old (dirtied w c.args.node) = still_then old w (dirtied w c.args.node) first (dirty_still w c.args.node first.stays.right there at.resident (may_like old.caches w.caches (still_like old.caches w.caches first.stays.caches) c.args.node c.requires.granted)) in
+    let whole : Still old (dirtied w c.args.node) = still_then old w (dirtied w c.args.node) first (bound_dirty old w c.in_ok-frame.frame.0 c.args.node first.stays.right (still_like old.caches w.caches first.stays.caches) c.requires.own.node c.requires.granted b.home.0 b.home.1) in
+    let kept : Kept old (dirtied w c.args.node) = still_kept old (dirtied w c.args.node) whole c.requires.right.sound c.requires.right.shaped b.pinned in
     record {
-      forest = ap (λ (a : Arena). store_forest (world told size a c.bring_in.new.self)) c.set_state.ensures.changed
-          ∙ still_forest old (dirtied w c.args.node) whole ∙ kept_ready old c.requires.right.sound c.requires.right.shaped c.args.node c.requires.own.node c.requires.own c.requires.none;
-      bound = b.home;
-      resident = ap (λ (a : Arena). own_of a c.args.node) c.set_state.ensures.changed ∙ own_same c.bring_in.new.caches c.args.node (Resident _);
+      answered = record { kept = subst (λ (a : Arena). Kept old (world told size a c.bring_in.new.self)) (sym c.set_state.ensures.changed) kept; later = b.later; told = tells_as _ _ _ _ _ refl b.told };
+      done = record {
+        forest = ap (λ (a : Arena). store_forest (world told size a c.bring_in.new.self)) c.set_state.ensures.changed
+            ∙ still_forest old (dirtied w c.args.node) whole ∙ kept_ready old c.requires.right.sound c.requires.right.shaped c.args.node c.requires.own.node c.requires.own c.requires.none;
+        bound = b.home;
+        resident = ap (λ (a : Arena). own_of a c.args.node) c.set_state.ensures.changed ∙ own_same c.bring_in.new.caches c.args.node (Resident _);
+      };
+      missed = tt;
     }
 
 pub returns-clause-copies : goal.returns-clause-copies
@@ -99,9 +76,9 @@ returns-in_err-frame-clause-most g c =
     let e = c.in_err-frame.ensures in
     most_more _ _ _ _ _ _ (failed_most own c.args.store.now.frames _ _ _ _ e.traffic e.few) bounds.0 (omega (arith, bring_most own))
 
-pub returns-in_err-frame-clause-missed_drops : goal.returns-in_err-frame-clause-missed_drops
-returns-in_err-frame-clause-missed_drops g c =
-    on_err _ c.from_residual.result
+pub returns-in_err-frame-clause-drops : goal.returns-in_err-frame-clause-drops
+returns-in_err-frame-clause-drops g c =
+    failed_leaves _ c.from_residual.result _ _ _ _ _ _ c.from_residual.ensures.1
     (drops_more (λ n. n ≡ c.args.node) (MayCome c.args.caches.now c.args.node) c.args.caches.now c.bring_in.new.caches c.args.store.now c.bring_in.new.self (λ n e. inl e)
     (still_drops_but _ _ _ _ c.args.caches.now c.bring_in.new.caches c.args.store.now c.bring_in.new.self c.requires.right.store.tied c.bring_in.ensures.still.stays c.bring_in.ensures.tables c.args.node c.bring_in.ensures.others))
 
@@ -113,14 +90,13 @@ returns-clause-drops g c =
     let w : World = world told size c.bring_in.new.caches c.bring_in.new.self in
     let b = c.in_ok-frame.ensures in
     let first = b.still in
-    let there : HasNode w.caches c.args.node = held_stays old.caches w.caches first.stays.caches c.args.node c.requires.own.node in
-    let at = home w c.in_ok-frame.frame.0 c.args.node first.stays.right b.home.0 b.home.1 in
-    let dirty : Still w (dirtied w c.args.node) = dirty_still w c.args.node first.stays.right there at.resident (may_like old.caches w.caches (still_like old.caches w.caches first.stays.caches) c.args.node c.requires.granted) in
+    let dirty : Still w (dirtied w c.args.node) = bound_dirty old w c.in_ok-frame.frame.0 c.args.node first.stays.right (still_like old.caches w.caches first.stays.caches) c.requires.own.node c.requires.granted b.home.0 b.home.1 in
     let may = MayCome c.args.caches.now c.args.node in
-    subst (λ (a : Arena). Drops may c.args.caches.now c.args.store.now a (without_homes c.args.node c.args.node c.bring_in.new.self)) (sym c.set_state.ensures.changed)
+    let left = subst (λ (a : Arena). Drops may c.args.caches.now c.args.store.now a (without_homes c.args.node c.args.node c.bring_in.new.self)) (sym c.set_state.ensures.changed)
     (drops_trans may may may c.args.caches.now c.bring_in.new.caches (dirtied w c.args.node).caches c.args.store.now c.bring_in.new.self (without_homes c.args.node c.args.node c.bring_in.new.self) (λ n e. e) (λ n e. e)
     (drops_more (λ n. n ≡ c.args.node) (MayCome c.args.caches.now c.args.node) c.args.caches.now c.bring_in.new.caches c.args.store.now c.bring_in.new.self (λ n e. inl e)
     (still_drops_but _ _ _ _ c.args.caches.now c.bring_in.new.caches c.args.store.now c.bring_in.new.self c.requires.right.store.tied c.bring_in.ensures.still.stays c.bring_in.ensures.tables c.args.node c.bring_in.ensures.others))
     (drops_trans may may may c.bring_in.new.caches c.bring_in.new.caches (dirtied w c.args.node).caches c.bring_in.new.self (without_homes c.args.node c.args.node c.bring_in.new.self) (without_homes c.args.node c.args.node c.bring_in.new.self) (λ n e. e) (λ n e. e)
     (forgot_drops may c.bring_in.new.caches c.bring_in.new.self c.args.node c.args.node first.stays.right.tied.placed (inl refl) (inl refl))
-    (dirtied_drops may told size c.bring_in.new.caches c.bring_in.new.self c.args.node c.args.node c.args.node first.stays.right dirty)))
+    (dirtied_drops may told size c.bring_in.new.caches c.bring_in.new.self c.args.node c.args.node c.args.node first.stays.right dirty))) in
+    record { left = left; failed = tt }

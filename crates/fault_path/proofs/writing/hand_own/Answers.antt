@@ -1,66 +1,56 @@
 use Rattle.std.proofs.Common.{sym, ap, subst, ◌∙◌, ◌≡◌, ◌+◌, arith, Some, inl, refl, rules}
-use Rattle.local_cache.specs.Arena.{Arena, HasNode}
+use Rattle.local_cache.specs.Arena.{Arena}
 use Rattle.local_cache.specs.Own.{own_of}
 use Rattle.local_cache.proofs.Nodes.OwnStates.{own_same}
 use Rattle.local_cache.specs.declared.own_state.OwnState.TheVariants.{Resident}
 use Rattle.residency.specs.StoreForest.{store_forest}
 use Rattle.residency.specs.World.{Still, World, world}
-use Rattle.residency.proofs.Worlds.After.{held_stays}
 use Rattle.residency.proofs.Worlds.Homes.{home}
 use Rattle.residency.proofs.Forests.StillForest.{still_caches_sound, still_forest, still_like}
 use Rattle.vm_ids.specs.Forest.Rules.{heir_gets}
 use Rattle.global_map.specs.Pairs.{node_of}
 use Rattle.local_cache.specs.Reading.{name_of}
 use Rattle.fault_path.specs.Faults.{Kept}
-use Rattle.fault_path.proofs.Pages.DirtyPage.{dirtied, dirty_still, may_like}
+use Rattle.fault_path.proofs.Pages.DirtyPage.{bound_dirty, dirtied}
 use Rattle.fault_path.proofs.Calls.Kept.{still_kept, still_shaped}
 use Rattle.fault_path.proofs.Rules.ReadyForest.{handed_ready}
 use Rattle.fault_path.proofs.Frames.GatheredFrames.{bound_below}
 use Rattle.fault_path.proofs.Rules.Heirs.{still_heir}
 use Rattle.fault_path.proofs.Frames.TwoFrames.{kept_then}
-use Rattle.local_cache.proofs.Changes.SameNodes.{copies-put}
+use Rattle.local_cache.proofs.Changes.SameNodes.{copies-put, like_then}
 use Rattle.residency.proofs.Forests.StillForest.{still_copies}
 use Rattle.local_cache.specs.declared.own_state.OwnState.{OwnState}
 use Rattle.residency.specs.Causes.{HasMissCause, frames_to_bring}
 use Rattle.fault_path.proofs.Calls.Costs.{bring_most, brought_traffic, brought_more, brought_taken, copy_most, failed_most, most_more, most_then, pulls_most, pushes_then, resident_copies, resident_takes}
 use Rattle.residency.proofs.Worlds.Composed.{still_then}
-use Rattle.fault_path.proofs.Calls.Answered.{answered_then, cause_then, later_then, still_answered, still_missed_by}
+use Rattle.fault_path.proofs.Calls.Answered.{cause_then, later_then, miss_by}
 use Rattle.residency.proofs.Pushes.Told.{tells_as, tells_then}
 use Rattle.residency.specs.Translating.{Drops}
 use Rattle.residency.proofs.Translations.Kept.{drops_more, drops_trans, still_drops_but}
 use Rattle.fault_path.specs.Translating.{MayCome, without_homes}
+use Rattle.fault_path.proofs.Translations.Given.{failed_leaves}
 use Rattle.fault_path.proofs.Translations.Whole.{dirtied_drops, may_before}
-use Rattle.residency.proofs.Worlds.Arms.{on_err}
 use Rattle.fault_path.proofs.writing.hand_own.Goals as goal
 
-pub returns-in_err-frame-clause-answered : goal.returns-in_err-frame-clause-answered
-returns-in_err-frame-clause-answered g c =
+pub returns-in_err-frame-clause-ready : goal.returns-in_err-frame-clause-ready
+returns-in_err-frame-clause-ready g c =
     let told = g.M.Mapper.held c.bring_in.new.mapper in
     let size = g.M.Mapper.page_bytes c.bring_in.new.mapper in
     let old : World = world (g.M.Mapper.held c.args.mapper.now) (g.M.Mapper.page_bytes c.args.mapper.now) c.args.caches.now c.args.store.now in
     let w : World = world told size c.bring_in.new.caches c.bring_in.new.self in
     let e = c.in_err-frame.ensures in
-    still_answered old w e.still _ _ c.requires.right.sound c.requires.right.shaped e.pinned e.later e.told
-
-pub returns-in_err-frame-clause-missed : goal.returns-in_err-frame-clause-missed
-returns-in_err-frame-clause-missed g c =
-    let told = g.M.Mapper.held c.bring_in.new.mapper in
-    let size = g.M.Mapper.page_bytes c.bring_in.new.mapper in
-    let old : World = world (g.M.Mapper.held c.args.mapper.now) (g.M.Mapper.page_bytes c.args.mapper.now) c.args.caches.now c.args.store.now in
-    let w : World = world told size c.bring_in.new.caches c.bring_in.new.self in
-    let e = c.in_err-frame.ensures in
-    still_missed_by old w e.still (g.M.Mapper.counts c.args.mapper.now) (g.M.Mapper.counts c.bring_in.new.mapper) c.from_residual.result (search rules)
+    miss_by old w e.still (g.M.Mapper.counts c.args.mapper.now) _ c.requires.right.sound c.requires.right.shaped e.pinned e.later e.told _ c.from_residual.result c.from_residual.ensures.1 (search rules)
 
 pub hand_over-requires-clause-right : goal.hand_over-requires-clause-right
 hand_over-requires-clause-right g c =
     let first = c.in_ok-frame.ensures.still in
     record { store = first.stays.right; sound = still_caches_sound _ _ first c.requires.right.sound; shaped = still_shaped _ _ first c.requires.right.sound c.requires.right.shaped }
 
-pub hand_over-requires-clause-is : goal.hand_over-requires-clause-is
-hand_over-requires-clause-is g c = still_heir _ _ c.in_ok-frame.ensures.still c.requires.right.sound c.args.node c.args.next c.requires.is
+pub hand_over-requires-clause-next : goal.hand_over-requires-clause-next
+hand_over-requires-clause-next g c = still_heir _ _ c.in_ok-frame.ensures.still c.requires.right.sound c.args.node c.args.next c.requires.next
 
-pub returns-in_err-hand_over-clause-answered : goal.returns-in_err-hand_over-clause-answered
-returns-in_err-hand_over-clause-answered g c =
+pub returns-in_err-hand_over-clause-ready : goal.returns-in_err-hand_over-clause-ready
+returns-in_err-hand_over-clause-ready g c =
     let told = g.M.Mapper.held c.bring_in.new.mapper in
     let size = g.M.Mapper.page_bytes c.bring_in.new.mapper in
     let old : World = world (g.M.Mapper.held c.args.mapper.now) (g.M.Mapper.page_bytes c.args.mapper.now) c.args.caches.now c.args.store.now in
@@ -69,48 +59,13 @@ returns-in_err-hand_over-clause-answered g c =
     let size2 = g.M.Mapper.page_bytes c.hand_over.new.mapper in
     let v : World = world told2 size2 c.hand_over.new.caches c.hand_over.new.store in
     let b = c.in_ok-frame.ensures in
-    let e = c.in_err-hand_over.ensures in
-    answered_then old w v b.still c.requires.right.sound c.requires.right.shaped _ _ _ b.pinned b.later b.told e.answered
-
-pub returns-in_err-hand_over-clause-missed : goal.returns-in_err-hand_over-clause-missed
-returns-in_err-hand_over-clause-missed g c =
-    let told = g.M.Mapper.held c.bring_in.new.mapper in
-    let size = g.M.Mapper.page_bytes c.bring_in.new.mapper in
-    let old : World = world (g.M.Mapper.held c.args.mapper.now) (g.M.Mapper.page_bytes c.args.mapper.now) c.args.caches.now c.args.store.now in
-    let w : World = world told size c.bring_in.new.caches c.bring_in.new.self in
-    let told2 = g.M.Mapper.held c.hand_over.new.mapper in
-    let size2 = g.M.Mapper.page_bytes c.hand_over.new.mapper in
-    let v : World = world told2 size2 c.hand_over.new.caches c.hand_over.new.store in
-    let b = c.in_ok-frame.ensures in
-    let e = c.in_err-hand_over.ensures in
-    let cause : HasMissCause (g.M.Mapper.counts c.args.mapper.now) (g.M.Mapper.counts c.hand_over.new.mapper) c.in_err-hand_over.field-0.0 = cause_then _ _ _ _ b.later e.missed.cause in
-    still_missed_by old v (still_then old w v b.still e.missed.still) (g.M.Mapper.counts c.args.mapper.now) (g.M.Mapper.counts c.hand_over.new.mapper) c.from_residual-in_err-hand_over.result (search rules)
-
-pub returns-clause-answered : goal.returns-clause-answered
-returns-clause-answered g c =
-    let told = g.M.Mapper.held c.bring_in.new.mapper in
-    let size = g.M.Mapper.page_bytes c.bring_in.new.mapper in
-    let old : World = world (g.M.Mapper.held c.args.mapper.now) (g.M.Mapper.page_bytes c.args.mapper.now) c.args.caches.now c.args.store.now in
-    let w : World = world told size c.bring_in.new.caches c.bring_in.new.self in
-    let told2 = g.M.Mapper.held c.hand_over.new.mapper in
-    let size2 = g.M.Mapper.page_bytes c.hand_over.new.mapper in
-    let v : World = world told2 size2 c.hand_over.new.caches c.hand_over.new.store in
-    let b = c.in_ok-frame.ensures in
-    let first = b.still in
-    let h = c.in_ok-hand_over.ensures in
-    let k = h.answered.kept in
-    let there : HasNode v.caches c.args.node = k.nodes.held c.args.node ∙ held_stays old.caches w.caches first.stays.caches c.args.node c.requires.own.node in
-    let bound : node_of v.map c.in_ok-frame.frame.0 ≡ Some c.args.node = h.home c.in_ok-frame.frame.0 b.home.1 in
-    let below = bound_below v.map c.in_ok-frame.frame.0 c.args.node bound in
-    let at = home v c.in_ok-frame.frame.0 c.args.node k.right below bound in
-    let dirty : Still v (dirtied v c.args.node) = dirty_still v c.args.node k.right there at.resident (may_like w.caches v.caches k.nodes c.args.node (may_like old.caches w.caches (still_like old.caches w.caches first.stays.caches) c.args.node c.requires.granted)) in
-    let kept : Kept old (dirtied v c.args.node) = kept_then old w (dirtied v c.args.node) (still_kept old w first c.requires.right.sound c.requires.right.shaped b.pinned)
-    (kept_then w v (dirtied v c.args.node) k (still_kept v (dirtied v c.args.node) dirty k.sound k.shaped refl)) in
-    record {
-      kept = subst (λ (a : Arena). Kept old (world told2 size2 a c.hand_over.new.store)) (sym c.set_state.ensures.changed) kept;
-      later = later_then _ _ _ b.later h.answered.later;
-      told = tells_as _ _ _ _ _ refl (tells_then old w first.stays v _ _ _ h.answered.later b.told h.answered.told);
-    }
+    let e = c.in_err-hand_over.ensures.handed in
+    let before = g.M.Mapper.counts c.args.mapper.now in
+    let now = g.M.Mapper.counts c.hand_over.new.mapper in
+    let later = later_then _ _ _ b.later e.answered.later in
+    let told_on = tells_then old w b.still.stays v _ _ _ e.answered.later b.told e.answered.told in
+    let cause : HasMissCause before now c.in_err-hand_over.field-0.0 = cause_then _ _ _ _ b.later e.missed.cause in
+    miss_by old v (still_then old w v b.still e.missed.still) before now c.requires.right.sound c.requires.right.shaped (e.answered.kept.pins ∙ b.pinned) later told_on _ c.from_residual-in_err-hand_over.result c.from_residual-in_err-hand_over.ensures.1 (search rules)
 
 pub returns-clause-ready : goal.returns-clause-ready
 returns-clause-ready g c =
@@ -124,20 +79,28 @@ returns-clause-ready g c =
     let b = c.in_ok-frame.ensures in
     let first = b.still in
     let h = c.in_ok-hand_over.ensures in
-    let k = h.answered.kept in
-    let there : HasNode v.caches c.args.node = k.nodes.held c.args.node ∙ held_stays old.caches w.caches first.stays.caches c.args.node c.requires.own.node in
+    let k = h.handed.answered.kept in
     let bound : node_of v.map c.in_ok-frame.frame.0 ≡ Some c.args.node = h.home c.in_ok-frame.frame.0 b.home.1 in
     let below = bound_below v.map c.in_ok-frame.frame.0 c.args.node bound in
-    let at = home v c.in_ok-frame.frame.0 c.args.node k.right below bound in
-    let dirty : Still v (dirtied v c.args.node) = dirty_still v c.args.node k.right there at.resident (may_like w.caches v.caches k.nodes c.args.node (may_like old.caches w.caches (still_like old.caches w.caches first.stays.caches) c.args.node c.requires.granted)) in
     let like = still_like old.caches w.caches first.stays.caches in
+    let dirty : Still v (dirtied v c.args.node) = bound_dirty old v c.in_ok-frame.frame.0 c.args.node k.right (like_then old.caches w.caches v.caches like k.nodes) c.requires.own.node c.requires.granted below bound in
+    let kept : Kept old (dirtied v c.args.node) = kept_then old w (dirtied v c.args.node) (still_kept old w first c.requires.right.sound c.requires.right.shaped b.pinned)
+    (kept_then w v (dirtied v c.args.node) k (still_kept v (dirtied v c.args.node) dirty k.sound k.shaped refl)) in
     record {
-      forest = ap (λ (a : Arena). store_forest (world told2 size2 a c.hand_over.new.store)) c.set_state.ensures.changed
-          ∙ still_forest v (dirtied v c.args.node) dirty ∙ h.forest
-          ∙ ap (λ f. heir_gets f (name_of w.caches c.args.node)) (still_forest old w first) ∙ ap (heir_gets (store_forest old)) (like.name c.args.node)
-          ∙ handed_ready old c.requires.right.sound c.requires.right.shaped c.args.node c.requires.own.node c.requires.own;
-      bound = (below, bound);
-      resident = ap (λ (a : Arena). own_of a c.args.node) c.set_state.ensures.changed ∙ own_same c.hand_over.new.caches c.args.node (Resident _);
+      answered = record {
+        kept = subst (λ (a : Arena). Kept old (world told2 size2 a c.hand_over.new.store)) (sym c.set_state.ensures.changed) kept;
+        later = later_then _ _ _ b.later h.handed.answered.later;
+        told = tells_as _ _ _ _ _ refl (tells_then old w first.stays v _ _ _ h.handed.answered.later b.told h.handed.answered.told);
+      };
+      done = record {
+        forest = ap (λ (a : Arena). store_forest (world told2 size2 a c.hand_over.new.store)) c.set_state.ensures.changed
+            ∙ still_forest v (dirtied v c.args.node) dirty ∙ h.handed.done
+            ∙ ap (λ f. heir_gets f (name_of w.caches c.args.node)) (still_forest old w first) ∙ ap (heir_gets (store_forest old)) (like.name c.args.node)
+            ∙ handed_ready old c.requires.right.sound c.requires.right.shaped c.args.node c.requires.own.node c.requires.own;
+        bound = (below, bound);
+        resident = ap (λ (a : Arena). own_of a c.args.node) c.set_state.ensures.changed ∙ own_same c.hand_over.new.caches c.args.node (Resident _);
+      };
+      missed = tt;
     }
 
 pub returns-clause-copies : goal.returns-clause-copies
@@ -157,7 +120,7 @@ returns-clause-traffic g c =
     let at = home w c.in_ok-frame.frame.0 c.args.node first.stays.right b.home.0 b.home.1 in
     let h = c.in_ok-hand_over.ensures in
     let over = resident_takes then c.bring_in.new.self.frames _ _ at.resident h.traffic in
-    brought_more own c.args.store.now.frames c.bring_in.new.self.frames _ _ first.stays.frames b.held _ b.traffic b.few _ over h.answered.later
+    brought_more own c.args.store.now.frames c.bring_in.new.self.frames _ _ first.stays.frames b.held _ b.traffic b.few _ over h.handed.answered.later
 
 pub returns-clause-most : goal.returns-clause-most
 returns-clause-most g c =
@@ -170,7 +133,7 @@ returns-clause-most g c =
     let h = c.in_ok-hand_over.ensures in
     let over = resident_takes then c.bring_in.new.self.frames _ _ at.resident h.traffic in
     let bounds = copy_most own in
-    pulls_most _ _ _ _ _ _ (brought_more own c.args.store.now.frames c.bring_in.new.self.frames _ _ first.stays.frames b.held _ b.traffic b.few _ over h.answered.later) bounds.0 (omega (arith, bring_most own))
+    pulls_most _ _ _ _ _ _ (brought_more own c.args.store.now.frames c.bring_in.new.self.frames _ _ first.stays.frames b.held _ b.traffic b.few _ over h.handed.answered.later) bounds.0 (omega (arith, bring_most own))
 
 pub returns-in_err-hand_over-clause-most : goal.returns-in_err-hand_over-clause-most
 returns-in_err-hand_over-clause-most g c =
@@ -185,7 +148,7 @@ returns-in_err-hand_over-clause-most g c =
     let taken = brought_taken own c.args.store.now.frames c.bring_in.new.self.frames _ _ first.stays.frames b.held _ b.traffic b.few in
     let brought = brought_traffic own c.args.store.now.frames c.bring_in.new.self.frames _ _ first.stays.frames b.held _ b.traffic b.few in
     let bounds = copy_most own in
-    most_then _ _ _ _ _ _ _ _ _ brought e.most e.answered.later (omega (arith, one.0, bounds.0)) (omega (arith, one.1, bring_most own, pushes_then (frames_to_bring own) c.args.store.now.frames.held c.bring_in.new.self.frames.held first.stays.frames taken))
+    most_then _ _ _ _ _ _ _ _ _ brought e.most e.handed.answered.later (omega (arith, one.0, bounds.0)) (omega (arith, one.1, bring_most own, pushes_then (frames_to_bring own) c.args.store.now.frames.held c.bring_in.new.self.frames.held first.stays.frames taken))
 
 pub returns-in_err-frame-clause-most : goal.returns-in_err-frame-clause-most
 returns-in_err-frame-clause-most g c =
@@ -194,23 +157,23 @@ returns-in_err-frame-clause-most g c =
     let e = c.in_err-frame.ensures in
     most_more _ _ _ _ _ _ (failed_most own c.args.store.now.frames _ _ _ _ e.traffic e.few) bounds.0 (omega (arith, bring_most own))
 
-pub returns-in_err-frame-clause-missed_drops : goal.returns-in_err-frame-clause-missed_drops
-returns-in_err-frame-clause-missed_drops g c =
-    on_err _ c.from_residual.result
+pub returns-in_err-frame-clause-drops : goal.returns-in_err-frame-clause-drops
+returns-in_err-frame-clause-drops g c =
+    failed_leaves _ c.from_residual.result _ _ _ _ _ _ c.from_residual.ensures.1
     (drops_more (λ n. n ≡ c.args.node) (MayCome c.args.caches.now c.args.node) c.args.caches.now c.bring_in.new.caches c.args.store.now c.bring_in.new.self (λ n e. inl e)
     (still_drops_but _ _ _ _ c.args.caches.now c.bring_in.new.caches c.args.store.now c.bring_in.new.self c.requires.right.store.tied c.bring_in.ensures.still.stays c.bring_in.ensures.tables c.args.node c.bring_in.ensures.others))
 
-pub returns-in_err-hand_over-clause-missed_drops : goal.returns-in_err-hand_over-clause-missed_drops
-returns-in_err-hand_over-clause-missed_drops g c =
+pub returns-in_err-hand_over-clause-drops : goal.returns-in_err-hand_over-clause-drops
+returns-in_err-hand_over-clause-drops g c =
     let old : World = world (g.M.Mapper.held c.args.mapper.now) (g.M.Mapper.page_bytes c.args.mapper.now) c.args.caches.now c.args.store.now in
     let w : World = world (g.M.Mapper.held c.bring_in.new.mapper) (g.M.Mapper.page_bytes c.bring_in.new.mapper) c.bring_in.new.caches c.bring_in.new.self in
     let may = MayCome c.args.caches.now c.args.node in
     let may' = MayCome c.bring_in.new.caches c.args.node in
-    on_err _ c.from_residual-in_err-hand_over.result
+    failed_leaves _ c.from_residual-in_err-hand_over.result _ _ _ _ _ _ c.from_residual-in_err-hand_over.ensures.1
     (drops_trans may may' may c.args.caches.now c.bring_in.new.caches c.hand_over.new.caches c.args.store.now c.bring_in.new.self c.hand_over.new.store (λ n e. e) (may_before old w c.bring_in.ensures.still c.args.node)
     (drops_more (λ n. n ≡ c.args.node) (MayCome c.args.caches.now c.args.node) c.args.caches.now c.bring_in.new.caches c.args.store.now c.bring_in.new.self (λ n e. inl e)
     (still_drops_but _ _ _ _ c.args.caches.now c.bring_in.new.caches c.args.store.now c.bring_in.new.self c.requires.right.store.tied c.bring_in.ensures.still.stays c.bring_in.ensures.tables c.args.node c.bring_in.ensures.others))
-    c.in_err-hand_over.ensures.missed_drops)
+    c.in_err-hand_over.ensures.drops.failed)
 
 pub returns-clause-drops : goal.returns-clause-drops
 returns-clause-drops g c =
@@ -222,18 +185,18 @@ returns-clause-drops g c =
     let b = c.in_ok-frame.ensures in
     let first = b.still in
     let h = c.in_ok-hand_over.ensures in
-    let k = h.answered.kept in
-    let there : HasNode v.caches c.args.node = k.nodes.held c.args.node ∙ held_stays old.caches w.caches first.stays.caches c.args.node c.requires.own.node in
+    let k = h.handed.answered.kept in
     let bound : node_of v.map c.in_ok-frame.frame.0 ≡ Some c.args.node = h.home c.in_ok-frame.frame.0 b.home.1 in
     let below = bound_below v.map c.in_ok-frame.frame.0 c.args.node bound in
-    let at = home v c.in_ok-frame.frame.0 c.args.node k.right below bound in
-    let dirty : Still v (dirtied v c.args.node) = dirty_still v c.args.node k.right there at.resident (may_like w.caches v.caches k.nodes c.args.node (may_like old.caches w.caches (still_like old.caches w.caches first.stays.caches) c.args.node c.requires.granted)) in
+    let like = still_like old.caches w.caches first.stays.caches in
+    let dirty : Still v (dirtied v c.args.node) = bound_dirty old v c.in_ok-frame.frame.0 c.args.node k.right (like_then old.caches w.caches v.caches like k.nodes) c.requires.own.node c.requires.granted below bound in
     let may = MayCome c.args.caches.now c.args.node in
     let may' = MayCome c.bring_in.new.caches c.args.node in
-    subst (λ (a : Arena). Drops may c.args.caches.now c.args.store.now a (without_homes c.args.node c.args.node c.hand_over.new.store)) (sym c.set_state.ensures.changed)
+    let left = subst (λ (a : Arena). Drops may c.args.caches.now c.args.store.now a (without_homes c.args.node c.args.node c.hand_over.new.store)) (sym c.set_state.ensures.changed)
     (drops_trans may may may c.args.caches.now c.bring_in.new.caches (dirtied v c.args.node).caches c.args.store.now c.bring_in.new.self (without_homes c.args.node c.args.node c.hand_over.new.store) (λ n e. e) (λ n e. e)
     (drops_more (λ n. n ≡ c.args.node) (MayCome c.args.caches.now c.args.node) c.args.caches.now c.bring_in.new.caches c.args.store.now c.bring_in.new.self (λ n e. inl e)
     (still_drops_but _ _ _ _ c.args.caches.now c.bring_in.new.caches c.args.store.now c.bring_in.new.self c.requires.right.store.tied c.bring_in.ensures.still.stays c.bring_in.ensures.tables c.args.node c.bring_in.ensures.others))
     (drops_trans may' may may c.bring_in.new.caches c.hand_over.new.caches (dirtied v c.args.node).caches c.bring_in.new.self (without_homes c.args.node c.args.node c.hand_over.new.store) (without_homes c.args.node c.args.node c.hand_over.new.store) (may_before old w c.bring_in.ensures.still c.args.node) (λ n e. e)
-    h.drops
-    (dirtied_drops may told2 size2 c.hand_over.new.caches c.hand_over.new.store c.args.node c.args.node c.args.node k.right dirty)))
+    h.drops.left
+    (dirtied_drops may told2 size2 c.hand_over.new.caches c.hand_over.new.store c.args.node c.args.node c.args.node k.right dirty))) in
+    record { left = left; failed = tt }

@@ -1,5 +1,4 @@
 use Rattle.std.proofs.Common.{sym, ap, subst, ◌∙◌, ◌≡◌, true}
-use Rattle.std.specs.Prelude.{OnErr, OnOk}
 use Rattle.vm_ids.specs.declared.numbers.NodeId.{NodeId}
 use Rattle.vm_ids.specs.Forest.Rules as forest
 use Rattle.local_cache.specs.Own.{is_absent, own_of}
@@ -9,9 +8,8 @@ use Rattle.fault_path.specs.Answers.{IsFramed}
 use Rattle.fault_path.specs.Faults.{readied}
 use Rattle.fault_path.proofs.Calls.Kept.{absent_is}
 use Rattle.fault_path.proofs.Rules.ReadyForest.{own_ready}
-use Rattle.residency.specs.Translating.{Drops}
 use Rattle.residency.specs.World.{HasOwnPage}
-use Rattle.fault_path.specs.Translating.{MayCome, without_homes}
+use Rattle.fault_path.specs.Translating.{LeavesHomes}
 use Rattle.fault_path.proofs.Pages.FoundPage.{itself_owner, owner_same}
 use Rattle.fault_path.proofs.writing.make_ready.Goals as goal
 
@@ -21,29 +19,22 @@ returns-in-None-clause-ready g c =
     let w : World = world (g.M.Mapper.held c.own_framed.new.mapper) (g.M.Mapper.page_bytes c.own_framed.new.mapper) c.own_framed.new.caches c.own_framed.new.store in
     let absent : is_absent (own_of c.args.caches.now c.args.node) ≡ true = sym (c.is_absent.ensures.absent ∙ ap is_absent c.own_state.ensures) ∙ c.if-is_absent.true in
     let ready = own_ready old c.requires.right.sound c.requires.right.shaped c.args.node c.requires.node (absent_is _ absent) (sym c.in-None.ensures.heir) in
-    if_ok (λ f. IsFramed forest.own c.args.node f.0 old w) (λ f. IsFramed readied c.args.node f.0 old w) c.own_framed.result
-    (λ f owned. record { forest = owned.forest ∙ ready; bound = owned.bound; resident = owned.resident }) c.own_framed.ensures.owned
+    let e = c.own_framed.ensures.owned in
+    record {
+      answered = e.answered;
+      done = if_ok (λ f. IsFramed forest.own c.args.node f.0 old w) (λ f. IsFramed readied c.args.node f.0 old w) c.own_framed.result
+          (λ f owned. record { forest = owned.forest ∙ ready; bound = owned.bound; resident = owned.resident }) e.done;
+      missed = e.missed;
+    }
 
 pub returns-in-Some-heir-clause-drops : goal.returns-in-Some-heir-clause-drops
 returns-in-Some-heir-clause-drops g c =
     let own : HasOwnPage c.args.caches.now c.args.node = record { node = c.requires.node; own_page = sym (c.is_absent.ensures.absent ∙ ap is_absent c.own_state.ensures) ∙ c.if-is_absent.false } in
     let itself = itself_owner c.args.caches.now c.requires.right.sound c.requires.right.shaped c.args.node own in
-    λ o is. subst (λ (m : NodeId). OnOk c.hand_own.result (Drops (MayCome c.args.caches.now m) c.args.caches.now c.args.store.now c.hand_own.new.caches (without_homes m c.args.node c.hand_own.new.store))) (sym (owner_same c.args.caches.now c.requires.right.sound c.args.node o c.args.node is itself)) c.hand_own.ensures.drops
-
-pub returns-in-Some-heir-clause-missed_drops : goal.returns-in-Some-heir-clause-missed_drops
-returns-in-Some-heir-clause-missed_drops g c =
-    let own : HasOwnPage c.args.caches.now c.args.node = record { node = c.requires.node; own_page = sym (c.is_absent.ensures.absent ∙ ap is_absent c.own_state.ensures) ∙ c.if-is_absent.false } in
-    let itself = itself_owner c.args.caches.now c.requires.right.sound c.requires.right.shaped c.args.node own in
-    λ o is. subst (λ (m : NodeId). OnErr c.hand_own.result (Drops (MayCome c.args.caches.now m) c.args.caches.now c.args.store.now c.hand_own.new.caches c.hand_own.new.store)) (sym (owner_same c.args.caches.now c.requires.right.sound c.args.node o c.args.node is itself)) c.hand_own.ensures.missed_drops
+    λ o is. subst (λ (m : NodeId). LeavesHomes c.hand_own.result m c.args.node c.args.caches.now c.args.store.now c.hand_own.new.caches c.hand_own.new.store) (sym (owner_same c.args.caches.now c.requires.right.sound c.args.node o c.args.node is itself)) c.hand_own.ensures.drops
 
 pub returns-in-None-heir-clause-drops : goal.returns-in-None-heir-clause-drops
 returns-in-None-heir-clause-drops g c =
     let own : HasOwnPage c.args.caches.now c.args.node = record { node = c.requires.node; own_page = sym (c.is_absent.ensures.absent ∙ ap is_absent c.own_state.ensures) ∙ c.if-is_absent.false } in
     let itself = itself_owner c.args.caches.now c.requires.right.sound c.requires.right.shaped c.args.node own in
-    λ o is. subst (λ (m : NodeId). OnOk c.bring_dirty.result (Drops (MayCome c.args.caches.now m) c.args.caches.now c.args.store.now c.bring_dirty.new.caches (without_homes m c.args.node c.bring_dirty.new.store))) (sym (owner_same c.args.caches.now c.requires.right.sound c.args.node o c.args.node is itself)) c.bring_dirty.ensures.drops
-
-pub returns-in-None-heir-clause-missed_drops : goal.returns-in-None-heir-clause-missed_drops
-returns-in-None-heir-clause-missed_drops g c =
-    let own : HasOwnPage c.args.caches.now c.args.node = record { node = c.requires.node; own_page = sym (c.is_absent.ensures.absent ∙ ap is_absent c.own_state.ensures) ∙ c.if-is_absent.false } in
-    let itself = itself_owner c.args.caches.now c.requires.right.sound c.requires.right.shaped c.args.node own in
-    λ o is. subst (λ (m : NodeId). OnErr c.bring_dirty.result (Drops (MayCome c.args.caches.now m) c.args.caches.now c.args.store.now c.bring_dirty.new.caches c.bring_dirty.new.store)) (sym (owner_same c.args.caches.now c.requires.right.sound c.args.node o c.args.node is itself)) c.bring_dirty.ensures.missed_drops
+    λ o is. subst (λ (m : NodeId). LeavesHomes c.bring_dirty.result m c.args.node c.args.caches.now c.args.store.now c.bring_dirty.new.caches c.bring_dirty.new.store) (sym (owner_same c.args.caches.now c.requires.right.sound c.args.node o c.args.node is itself)) c.bring_dirty.ensures.drops

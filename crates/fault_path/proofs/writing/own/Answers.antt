@@ -13,20 +13,20 @@ use Rattle.fault_path.proofs.writing.own.Goals as goal
 
 pub drop_translations-requires : goal.drop_translations-requires
 drop_translations-requires g c =
-    let fitted = c.own_framed.ensures.answered.kept.right.tied.fitted in
+    let fitted = c.own_framed.ensures.owned.answered.kept.right.tied.fitted in
     omega (arith, fitted.places_frames, fitted.map_frames)
 
 pub returns-clause-answered : goal.returns-clause-answered
 returns-clause-answered g c =
     let old : World = world (g.M.Mapper.held c.args.mapper.now) (g.M.Mapper.page_bytes c.args.mapper.now) c.args.caches.now c.args.store.now in
     let same = forgot_world (g.M.Mapper.held c.own_framed.new.mapper) (g.M.Mapper.page_bytes c.own_framed.new.mapper) c.own_framed.new.caches c.own_framed.new.store c.drop_translations.new.store c.owner_of-owner.result c.args.node c.drop_translations.ensures in
-    subst (λ (w : World). IsAnswered old w (g.M.Mapper.counts c.args.mapper.now) (g.M.Mapper.counts c.own_framed.new.mapper)) (sym same) c.own_framed.ensures.answered
+    subst (λ (w : World). IsAnswered old w (g.M.Mapper.counts c.args.mapper.now) (g.M.Mapper.counts c.own_framed.new.mapper)) (sym same) c.own_framed.ensures.owned.answered
 
 pub returns-clause-forest : goal.returns-clause-forest
 returns-clause-forest g c =
     let old : World = world (g.M.Mapper.held c.args.mapper.now) (g.M.Mapper.page_bytes c.args.mapper.now) c.args.caches.now c.args.store.now in
     let same = forgot_world (g.M.Mapper.held c.own_framed.new.mapper) (g.M.Mapper.page_bytes c.own_framed.new.mapper) c.own_framed.new.caches c.own_framed.new.store c.drop_translations.new.store c.owner_of-owner.result c.args.node c.drop_translations.ensures in
-    ap store_forest same ∙ c.in_ok-own_framed.ensures.owned.forest
+    ap store_forest same ∙ c.in_ok-own_framed.ensures.owned.done.forest
 
 pub returns-clause-drops : goal.returns-clause-drops
 returns-clause-drops g c =
@@ -34,4 +34,4 @@ returns-clause-drops g c =
     let owner : IsOwner c.args.caches.now c.args.node it = record { held = c.owner_of-owner.ensures.held; name = c.owner_of-owner.ensures.owner } in
     λ o is. subst (λ (s : Store). Drops (MayCome c.args.caches.now o) c.args.caches.now c.args.store.now c.own_framed.new.caches s)
     (ap (λ (m : NodeId). without_homes m c.args.node c.own_framed.new.store) (owner_same c.args.caches.now c.requires.right.sound c.args.node o it is owner) ∙ sym c.drop_translations.ensures)
-    (c.in_ok-own_framed.ensures.drops o is)
+    (let e = c.in_ok-own_framed.ensures.drops o is in e.left)

@@ -1,4 +1,5 @@
-use Rattle.std.proofs.Common.{refl, sym, ap, subst, ◌∙◌, ◌≡◌, arith, Some, set, false, ◌+◌, ◌-◌, rules, ℕ, ◌<◌, List, inl, inr, length, length-set, None, Option}
+use Rattle.vm_ids.specs.declared.numbers.FrameId.{FrameId}
+use Rattle.std.proofs.Common.{Err, refl, sym, ap, subst, ◌∙◌, ◌≡◌, arith, Some, set, false, ◌+◌, ◌-◌, rules, ℕ, ◌<◌, List, inl, inr, length, length-set, None, Option}
 use Rattle.vm_ids.proofs.Forest.Owning.{apart_of_heir}
 use Rattle.global_map.specs.Pairs.{bound_times, node_of}
 use Rattle.local_cache.specs.Reading.{forest_of, name_of}
@@ -10,16 +11,16 @@ use Rattle.residency.proofs.Forests.StillForest.{still_caches_sound}
 use Rattle.fault_path.specs.Faults.{IsOwner, Kept}
 use Rattle.fault_path.proofs.Rules.Heirs.{heir_absent, unbound}
 use Rattle.fault_path.proofs.Frames.TwoFrames.{released_pins, released_still, step_copies, step_gives, step_heir, step_there, two_bound, two_copies, two_forest, two_kept, two_resident}
-use Rattle.fault_path.specs.Answers.{IsAnswered, IsMissed}
+use Rattle.fault_path.specs.Answers.{IsAnswered, IsDoneOrMissed}
 use Rattle.residency.specs.declared.miss.Miss.TheVariants.{Victim}
-use Rattle.fault_path.proofs.Calls.Answered.{cause_then, later_then, still_answered, still_missed, still_missed_by}
+use Rattle.fault_path.proofs.Calls.Answered.{cause_then, later_then, miss_by, miss_with}
 use Rattle.residency.proofs.Pushes.Told.{tells_as, tells_then}
 use Rattle.vm_ids.specs.declared.numbers.NodeId.{NodeId}
 use Rattle.local_cache.specs.Own.{own_of}
 use Rattle.fault_path.specs.Costs.{Pulls, frames_to_copy, free_count, pulls_to_copy}
 use Rattle.fault_path.proofs.Pages.FoundPage.{owner_same}
 use Rattle.local_cache.specs.declared.own_state.OwnState.{OwnState}
-use Rattle.fault_path.proofs.Calls.Costs.{copy_most, pulls_more, pulls_most}
+use Rattle.fault_path.proofs.Calls.Costs.{copy_most, most_then, pulls_more, pulls_most, pushes_then}
 use Rattle.std.proofs.lemmas.List.{get_or-set_other}
 use Rattle.local_cache.specs.Own.{is_absent}
 use Rattle.residency.specs.Translating.{Drops}
@@ -29,107 +30,69 @@ use Rattle.fault_path.specs.Faults.{readied}
 use Rattle.fault_path.specs.Translating.{MayCome, Nobody, without_homes}
 use Rattle.fault_path.proofs.Calls.Kept.{store_page}
 use Rattle.fault_path.proofs.Frames.TwoFrames.{absent_none, readied_bare}
-use Rattle.fault_path.proofs.Translations.Given.{may_come, settled_comes, settled_stays}
+use Rattle.fault_path.proofs.Translations.Given.{failed_leaves, may_come, settled_comes, settled_stays}
 use Rattle.fault_path.proofs.Translations.Whole.{both_drops}
-use Rattle.residency.proofs.Worlds.Arms.{on_err}
 use Rattle.fault_path.proofs.writing.own_and_hand.Goals as goal
 
-pub returns-in_err-frame-clause-answered : goal.returns-in_err-frame-clause-answered
-returns-in_err-frame-clause-answered g c =
+pub returns-in_err-frame-clause-ready : goal.returns-in_err-frame-clause-ready
+returns-in_err-frame-clause-ready g c =
     let told = g.M.Mapper.held c.copy_out.new.mapper in
     let size = g.M.Mapper.page_bytes c.copy_out.new.mapper in
     let old : World = world (g.M.Mapper.held c.args.mapper.now) (g.M.Mapper.page_bytes c.args.mapper.now) c.args.caches.now c.args.store.now in
     let w : World = world told size c.copy_out.new.caches c.copy_out.new.store in
-    let n = c.in_err-frame.ensures.none in
-    still_answered old w n.still _ _ c.requires.right.sound c.requires.right.shaped n.pinned c.in_err-frame.ensures.later c.in_err-frame.ensures.told
+    let n = c.in_err-frame.ensures.copied.none in
+    miss_by old w n.still (g.M.Mapper.counts c.args.mapper.now) _ c.requires.right.sound c.requires.right.shaped n.pinned c.in_err-frame.ensures.copied.later c.in_err-frame.ensures.copied.told _ c.from_residual.result c.from_residual.ensures.1 (search rules)
 
-pub returns-in_err-frame-clause-missed : goal.returns-in_err-frame-clause-missed
-returns-in_err-frame-clause-missed g c =
-    let told = g.M.Mapper.held c.copy_out.new.mapper in
-    let size = g.M.Mapper.page_bytes c.copy_out.new.mapper in
-    let old : World = world (g.M.Mapper.held c.args.mapper.now) (g.M.Mapper.page_bytes c.args.mapper.now) c.args.caches.now c.args.store.now in
-    let w : World = world told size c.copy_out.new.caches c.copy_out.new.store in
-    let n = c.in_err-frame.ensures.none in
-    still_missed_by old w n.still (g.M.Mapper.counts c.args.mapper.now) (g.M.Mapper.counts c.copy_out.new.mapper) c.from_residual.result (search rules)
-
-pub returns-in_default-clause-answered : goal.returns-in_default-clause-answered
-returns-in_default-clause-answered g c =
+pub returns-in_default-clause-ready : goal.returns-in_default-clause-ready
+returns-in_default-clause-ready g c =
     let told = g.M.Mapper.held c.copy_out.new.mapper in
     let size = g.M.Mapper.page_bytes c.copy_out.new.mapper in
     let told2 = g.M.Mapper.held c.double.new.mapper in
     let size2 = g.M.Mapper.page_bytes c.double.new.mapper in
+    let before = g.M.Mapper.counts c.args.mapper.now in
+    let now = g.M.Mapper.counts c.double.new.mapper in
     let old : World = world (g.M.Mapper.held c.args.mapper.now) (g.M.Mapper.page_bytes c.args.mapper.now) c.args.caches.now c.args.store.now in
     let w : World = world told size c.copy_out.new.caches c.copy_out.new.store in
     let v : World = world told2 size2 c.double.new.caches c.double.new.store in
-    let one = c.in_ok-frame.ensures.copied.gathered in
-    let n = c.in_default.ensures.none in
-    let later = later_then _ _ _ c.in_ok-frame.ensures.later c.in_default.ensures.later in
-    subst (λ (s : Store). IsAnswered old (world told2 size2 c.double.new.caches s) (g.M.Mapper.counts c.args.mapper.now) (g.M.Mapper.counts c.double.new.mapper)) (sym c.release.ensures)
-    (still_answered old _ (released_still old w v c.in_ok-frame.frame.0 one n) _ _ c.requires.right.sound c.requires.right.shaped (released_pins old w v c.in_ok-frame.frame.0 one n) later (tells_as _ _ _ _ _ refl (tells_then old w one.still.stays v _ _ _ c.in_default.ensures.later c.in_ok-frame.ensures.told c.in_default.ensures.told)))
-
-pub returns-in_default-clause-missed : goal.returns-in_default-clause-missed
-returns-in_default-clause-missed g c =
-    let told = g.M.Mapper.held c.copy_out.new.mapper in
-    let size = g.M.Mapper.page_bytes c.copy_out.new.mapper in
-    let told2 = g.M.Mapper.held c.double.new.mapper in
-    let size2 = g.M.Mapper.page_bytes c.double.new.mapper in
-    let old : World = world (g.M.Mapper.held c.args.mapper.now) (g.M.Mapper.page_bytes c.args.mapper.now) c.args.caches.now c.args.store.now in
-    let w : World = world told size c.copy_out.new.caches c.copy_out.new.store in
-    let v : World = world told2 size2 c.double.new.caches c.double.new.store in
-    let one = c.in_ok-frame.ensures.copied.gathered in
-    let n = c.in_default.ensures.none in
-    subst (λ (s : Store). IsMissed Victim old (world told2 size2 c.double.new.caches s) (g.M.Mapper.counts c.args.mapper.now) (g.M.Mapper.counts c.double.new.mapper)) (sym c.release.ensures)
-    (still_missed old _ (released_still old w v c.in_ok-frame.frame.0 one n) _ _ Victim (cause_then _ _ _ Victim c.in_ok-frame.ensures.later c.in_default.ensures.cause))
+    let one = c.in_ok-frame.ensures.copied.done.gathered in
+    let first = c.in_ok-frame.ensures.copied in
+    let then = c.in_default.ensures.doubled in
+    subst (λ (s : Store). IsDoneOrMissed (Err Victim) (λ (f : FrameId). IsFramed readied c.args.node f.0) old (world told2 size2 c.double.new.caches s) before now) (sym c.release.ensures)
+    (miss_with old _ (released_still old w v c.in_ok-frame.frame.0 one then.none) before now c.requires.right.sound c.requires.right.shaped (released_pins old w v c.in_ok-frame.frame.0 one then.none) (later_then _ _ _ first.later then.later)
+    (tells_as _ _ _ _ _ refl (tells_then old w one.still.stays v _ _ _ then.later first.told then.told)) Victim (cause_then _ _ _ Victim first.later c.in_default.ensures.cause))
 
 pub own_page-requires-clause-sound : goal.own_page-requires-clause-sound
 own_page-requires-clause-sound g c =
-    let one = c.in_ok-frame.ensures.copied in
-    let two = c.in-Ok.ensures.doubled in
+    let one = c.in_ok-frame.ensures.copied.done in
+    let two = c.in-Ok.ensures.doubled.done in
     still_caches_sound _ _ (still_then _ _ _ one.gathered.still two.gathered.still) c.requires.right.sound
 
 pub hand_page-requires-clause-node : goal.hand_page-requires-clause-node
 hand_page-requires-clause-node g c =
     let owner : IsOwner c.args.caches.now c.args.node c.owner_of-owner.result = record { held = c.owner_of-owner.ensures.held; name = c.owner_of-owner.ensures.owner } in
-    step_there c.requires.right c.in_ok-frame.ensures.copied c.in-Ok.ensures.doubled c.requires.node c.requires.bare owner c.own_page.ensures c.args.node c.requires.node
+    step_there c.requires.right c.in_ok-frame.ensures.copied.done c.in-Ok.ensures.doubled.done c.requires.node c.requires.bare owner c.own_page.ensures c.args.node c.requires.node
 
 pub hand_page-requires-clause-heir : goal.hand_page-requires-clause-heir
 hand_page-requires-clause-heir g c =
     let owner : IsOwner c.args.caches.now c.args.node c.owner_of-owner.result = record { held = c.owner_of-owner.ensures.held; name = c.owner_of-owner.ensures.owner } in
-    step_there c.requires.right c.in_ok-frame.ensures.copied c.in-Ok.ensures.doubled c.requires.node c.requires.bare owner c.own_page.ensures c.args.next c.requires.next
-
-pub hand_page-requires-clause-is : goal.hand_page-requires-clause-is
-hand_page-requires-clause-is g c =
-    let owner : IsOwner c.args.caches.now c.args.node c.owner_of-owner.result = record { held = c.owner_of-owner.ensures.held; name = c.owner_of-owner.ensures.owner } in
-    step_heir c.requires.right c.in_ok-frame.ensures.copied c.in-Ok.ensures.doubled c.requires.node c.requires.bare owner c.own_page.ensures c.args.next c.requires.is
+    record {
+      held = step_there c.requires.right c.in_ok-frame.ensures.copied.done c.in-Ok.ensures.doubled.done c.requires.node c.requires.bare owner c.own_page.ensures c.args.next c.requires.next.held;
+      name = step_heir c.requires.right c.in_ok-frame.ensures.copied.done c.in-Ok.ensures.doubled.done c.requires.node c.requires.bare owner c.own_page.ensures c.args.next c.requires.next.name;
+    }
 
 pub hand_page-requires-clause-copies : goal.hand_page-requires-clause-copies
 hand_page-requires-clause-copies g c =
     let owner : IsOwner c.args.caches.now c.args.node c.owner_of-owner.result = record { held = c.owner_of-owner.ensures.held; name = c.owner_of-owner.ensures.owner } in
-    let more = step_copies c.requires.right c.in_ok-frame.ensures.copied c.in-Ok.ensures.doubled c.requires.node c.requires.bare owner c.own_page.ensures in
+    let more = step_copies c.requires.right c.in_ok-frame.ensures.copied.done c.in-Ok.ensures.doubled.done c.requires.node c.requires.bare owner c.own_page.ensures in
     omega (arith, more, c.requires.copies)
 
 pub settle_in-requires-2-clause-away : goal.settle_in-requires-2-clause-away
 settle_in-requires-2-clause-away g c =
     let owner : IsOwner c.args.caches.now c.args.node c.owner_of-owner.result = record { held = c.owner_of-owner.ensures.held; name = c.owner_of-owner.ensures.owner } in
-    let step = step_gives c.requires.right c.in_ok-frame.ensures.copied c.in-Ok.ensures.doubled c.requires.node c.requires.bare owner c.own_page.ensures in
-    let next_there = step_there c.requires.right c.in_ok-frame.ensures.copied c.in-Ok.ensures.doubled c.requires.node c.requires.bare owner c.own_page.ensures c.args.next c.requires.next in
-    let next_is = step_heir c.requires.right c.in_ok-frame.ensures.copied c.in-Ok.ensures.doubled c.requires.node c.requires.bare owner c.own_page.ensures c.args.next c.requires.is in
+    let step = step_gives c.requires.right c.in_ok-frame.ensures.copied.done c.in-Ok.ensures.doubled.done c.requires.node c.requires.bare owner c.own_page.ensures in
+    let next_there = step_there c.requires.right c.in_ok-frame.ensures.copied.done c.in-Ok.ensures.doubled.done c.requires.node c.requires.bare owner c.own_page.ensures c.args.next c.requires.next.held in
+    let next_is = step_heir c.requires.right c.in_ok-frame.ensures.copied.done c.in-Ok.ensures.doubled.done c.requires.node c.requires.bare owner c.own_page.ensures c.args.next c.requires.next.name in
     ap (λ (s : Store). bound_times s.map c.args.next.0) c.settle_in.ensures ∙ unbound _ step.right c.args.next (heir_absent c.own_page.new.caches step.sound _ c.args.next next_there next_is)
-
-pub returns-clause-answered : goal.returns-clause-answered
-returns-clause-answered g c =
-    let told = g.M.Mapper.held c.double.new.mapper in
-    let size = g.M.Mapper.page_bytes c.double.new.mapper in
-    let old : World = world (g.M.Mapper.held c.args.mapper.now) (g.M.Mapper.page_bytes c.args.mapper.now) c.args.caches.now c.args.store.now in
-    let owner : IsOwner c.args.caches.now c.args.node c.owner_of-owner.result = record { held = c.owner_of-owner.ensures.held; name = c.owner_of-owner.ensures.owner } in
-    let store : c.settle_in-2.new.store ≡ record c.double.new.store { frames = record c.double.new.store.frames { pinned = set (set c.double.new.store.frames.pinned c.in_ok-frame.frame.0 false) c.in-Ok.second.0 false }; map = set (set c.double.new.store.map c.in_ok-frame.frame.0 (Some c.args.node)) c.in-Ok.second.0 (Some c.args.next) }
-    = c.settle_in-2.ensures ∙ ap (λ (s : Store). record s { frames = record s.frames { pinned = set s.frames.pinned c.in-Ok.second.0 false }; map = set s.map c.in-Ok.second.0 (Some c.args.next) }) c.settle_in.ensures in
-    let kept = two_kept c.requires.right c.in_ok-frame.ensures.copied c.in-Ok.ensures.doubled c.requires.node c.requires.bare owner c.own_page.ensures c.requires.next c.requires.is c.hand_page.ensures in
-    record {
-      kept = subst (λ (s : Store). Kept old (world told size c.hand_page.new.caches s)) (sym store) kept;
-      later = later_then _ _ _ c.in_ok-frame.ensures.later c.in-Ok.ensures.later;
-      told = tells_as _ _ _ _ _ refl (tells_then _ _ (c.in_ok-frame.ensures.copied.gathered).still.stays _ _ _ _ c.in-Ok.ensures.later c.in_ok-frame.ensures.told c.in-Ok.ensures.told);
-    }
 
 pub returns-clause-ready : goal.returns-clause-ready
 returns-clause-ready g c =
@@ -137,19 +100,30 @@ returns-clause-ready g c =
     let size = g.M.Mapper.page_bytes c.double.new.mapper in
     let old : World = world (g.M.Mapper.held c.args.mapper.now) (g.M.Mapper.page_bytes c.args.mapper.now) c.args.caches.now c.args.store.now in
     let owner : IsOwner c.args.caches.now c.args.node c.owner_of-owner.result = record { held = c.owner_of-owner.ensures.held; name = c.owner_of-owner.ensures.owner } in
-    let store : c.settle_in-2.new.store ≡ record c.double.new.store { frames = record c.double.new.store.frames { pinned = set (set c.double.new.store.frames.pinned c.in_ok-frame.frame.0 false) c.in-Ok.second.0 false }; map = set (set c.double.new.store.map c.in_ok-frame.frame.0 (Some c.args.node)) c.in-Ok.second.0 (Some c.args.next) }
-    = c.settle_in-2.ensures ∙ ap (λ (s : Store). record s { frames = record s.frames { pinned = set s.frames.pinned c.in-Ok.second.0 false }; map = set s.map c.in-Ok.second.0 (Some c.args.next) }) c.settle_in.ensures in
-    let bound = two_bound c.requires.right c.in_ok-frame.ensures.copied c.in-Ok.ensures.doubled c.requires.node c.requires.bare owner c.own_page.ensures c.requires.next c.requires.is c.hand_page.ensures in
     record {
-      forest = ap (λ (s : Store). store_forest (world told size c.hand_page.new.caches s)) store ∙ two_forest c.requires.right c.in_ok-frame.ensures.copied c.in-Ok.ensures.doubled c.requires.node c.requires.bare owner c.own_page.ensures c.requires.next c.requires.is c.hand_page.ensures;
-      bound = search rules;
-      resident = two_resident c.requires.right c.in_ok-frame.ensures.copied c.in-Ok.ensures.doubled c.requires.node c.requires.bare owner c.own_page.ensures c.requires.next c.requires.is c.hand_page.ensures (λ e. apart_of_heir (forest_of c.args.caches.now) c.requires.right.sound.linked (name_of c.args.caches.now c.args.node) (name_of c.args.caches.now c.args.next) c.requires.is (ap (name_of c.args.caches.now) (sym e)));
+      answered = let store : c.settle_in-2.new.store ≡ record c.double.new.store { frames = record c.double.new.store.frames { pinned = set (set c.double.new.store.frames.pinned c.in_ok-frame.frame.0 false) c.in-Ok.second.0 false }; map = set (set c.double.new.store.map c.in_ok-frame.frame.0 (Some c.args.node)) c.in-Ok.second.0 (Some c.args.next) }
+          = c.settle_in-2.ensures ∙ ap (λ (s : Store). record s { frames = record s.frames { pinned = set s.frames.pinned c.in-Ok.second.0 false }; map = set s.map c.in-Ok.second.0 (Some c.args.next) }) c.settle_in.ensures in
+          let kept = two_kept c.requires.right c.in_ok-frame.ensures.copied.done c.in-Ok.ensures.doubled.done c.requires.node c.requires.bare owner c.own_page.ensures c.requires.next.held c.requires.next.name c.hand_page.ensures in
+          record {
+            kept = subst (λ (s : Store). Kept old (world told size c.hand_page.new.caches s)) (sym store) kept;
+            later = later_then _ _ _ c.in_ok-frame.ensures.copied.later c.in-Ok.ensures.doubled.later;
+            told = tells_as _ _ _ _ _ refl (tells_then _ _ (c.in_ok-frame.ensures.copied.done.gathered).still.stays _ _ _ _ c.in-Ok.ensures.doubled.later c.in_ok-frame.ensures.copied.told c.in-Ok.ensures.doubled.told);
+          };
+      done = let store : c.settle_in-2.new.store ≡ record c.double.new.store { frames = record c.double.new.store.frames { pinned = set (set c.double.new.store.frames.pinned c.in_ok-frame.frame.0 false) c.in-Ok.second.0 false }; map = set (set c.double.new.store.map c.in_ok-frame.frame.0 (Some c.args.node)) c.in-Ok.second.0 (Some c.args.next) }
+          = c.settle_in-2.ensures ∙ ap (λ (s : Store). record s { frames = record s.frames { pinned = set s.frames.pinned c.in-Ok.second.0 false }; map = set s.map c.in-Ok.second.0 (Some c.args.next) }) c.settle_in.ensures in
+          let bound = two_bound c.requires.right c.in_ok-frame.ensures.copied.done c.in-Ok.ensures.doubled.done c.requires.node c.requires.bare owner c.own_page.ensures c.requires.next.held c.requires.next.name c.hand_page.ensures in
+          record {
+            forest = ap (λ (s : Store). store_forest (world told size c.hand_page.new.caches s)) store ∙ two_forest c.requires.right c.in_ok-frame.ensures.copied.done c.in-Ok.ensures.doubled.done c.requires.node c.requires.bare owner c.own_page.ensures c.requires.next.held c.requires.next.name c.hand_page.ensures;
+            bound = search rules;
+            resident = two_resident c.requires.right c.in_ok-frame.ensures.copied.done c.in-Ok.ensures.doubled.done c.requires.node c.requires.bare owner c.own_page.ensures c.requires.next.held c.requires.next.name c.hand_page.ensures (λ e. apart_of_heir (forest_of c.args.caches.now) c.requires.right.sound.linked (name_of c.args.caches.now c.args.node) (name_of c.args.caches.now c.args.next) c.requires.next.name (ap (name_of c.args.caches.now) (sym e)));
+          };
+      missed = tt;
     }
 
 pub returns-clause-copies : goal.returns-clause-copies
 returns-clause-copies g c =
     let owner : IsOwner c.args.caches.now c.args.node c.owner_of-owner.result = record { held = c.owner_of-owner.ensures.held; name = c.owner_of-owner.ensures.owner } in
-    two_copies c.requires.right c.in_ok-frame.ensures.copied c.in-Ok.ensures.doubled c.requires.node c.requires.bare owner c.own_page.ensures c.requires.next c.requires.is c.hand_page.ensures
+    two_copies c.requires.right c.in_ok-frame.ensures.copied.done c.in-Ok.ensures.doubled.done c.requires.node c.requires.bare owner c.own_page.ensures c.requires.next.held c.requires.next.name c.hand_page.ensures
 
 pub returns-clause-traffic : goal.returns-clause-traffic
 returns-clause-traffic g c = λ o is. (
@@ -157,9 +131,9 @@ returns-clause-traffic g c = λ o is. (
     let owner : IsOwner c.args.caches.now c.args.node it = record { held = c.owner_of-owner.ensures.held; name = c.owner_of-owner.ensures.owner } in
     let own : OwnState = own_of c.args.caches.now it in
     let first = c.in_ok-frame.ensures in
-    let gathered = first.copied.gathered in
+    let gathered = first.copied.done.gathered in
     let whole = gathered.still in
-    let sum : Pulls (pulls_to_copy own) (frames_to_copy own + 1 - free_count c.args.store.now.frames) (g.M.Mapper.counts c.args.mapper.now) (g.M.Mapper.counts c.double.new.mapper) = pulls_more (frames_to_copy own) (pulls_to_copy own) c.args.store.now.frames.held c.copy_out.new.store.frames.held _ _ _ whole.stays.frames first.held first.traffic c.double.ensures.traffic c.double.ensures.later in
+    let sum : Pulls (pulls_to_copy own) (frames_to_copy own + 1 - free_count c.args.store.now.frames) (g.M.Mapper.counts c.args.mapper.now) (g.M.Mapper.counts c.double.new.mapper) = pulls_more (frames_to_copy own) (pulls_to_copy own) c.args.store.now.frames.held c.copy_out.new.store.frames.held _ _ _ whole.stays.frames first.copied.held first.copied.traffic c.in-Ok.ensures.doubled.traffic c.double.ensures.doubled.later in
     subst (λ (m : NodeId). Pulls (pulls_to_copy (own_of c.args.caches.now m)) (frames_to_copy (own_of c.args.caches.now m) + 1 - free_count c.args.store.now.frames) (g.M.Mapper.counts c.args.mapper.now) (g.M.Mapper.counts c.double.new.mapper)) (sym (owner_same c.args.caches.now c.requires.right.sound c.args.node o it is owner)) sum)
 
 pub returns-clause-most : goal.returns-clause-most
@@ -167,36 +141,38 @@ returns-clause-most g c =
     let it : NodeId = c.owner_of-owner.result in
     let own : OwnState = own_of c.args.caches.now it in
     let first = c.in_ok-frame.ensures in
-    let gathered = first.copied.gathered in
+    let gathered = first.copied.done.gathered in
     let whole = gathered.still in
-    let sum : Pulls (pulls_to_copy own) (frames_to_copy own + 1 - free_count c.args.store.now.frames) (g.M.Mapper.counts c.args.mapper.now) (g.M.Mapper.counts c.double.new.mapper) = pulls_more (frames_to_copy own) (pulls_to_copy own) c.args.store.now.frames.held c.copy_out.new.store.frames.held _ _ _ whole.stays.frames first.held first.traffic c.double.ensures.traffic c.double.ensures.later in
+    let sum : Pulls (pulls_to_copy own) (frames_to_copy own + 1 - free_count c.args.store.now.frames) (g.M.Mapper.counts c.args.mapper.now) (g.M.Mapper.counts c.double.new.mapper) = pulls_more (frames_to_copy own) (pulls_to_copy own) c.args.store.now.frames.held c.copy_out.new.store.frames.held _ _ _ whole.stays.frames first.copied.held first.copied.traffic c.in-Ok.ensures.doubled.traffic c.double.ensures.doubled.later in
     let bounds = copy_most own in
     pulls_most _ _ _ _ _ _ sum bounds.0 (omega (arith, bounds.1))
 
 pub returns-in_default-clause-most : goal.returns-in_default-clause-most
 returns-in_default-clause-most g c =
-    let it : NodeId = c.owner_of-owner.result in
-    let own : OwnState = own_of c.args.caches.now it in
-    let first = c.in_ok-frame.ensures in
-    let gathered = first.copied.gathered in
-    let whole = gathered.still in
-    let sum : Pulls (pulls_to_copy own) (frames_to_copy own + 1 - free_count c.args.store.now.frames) (g.M.Mapper.counts c.args.mapper.now) (g.M.Mapper.counts c.double.new.mapper) = pulls_more (frames_to_copy own) (pulls_to_copy own) c.args.store.now.frames.held c.copy_out.new.store.frames.held _ _ _ whole.stays.frames first.held first.traffic c.double.ensures.traffic c.double.ensures.later in
+    let own : OwnState = own_of c.args.caches.now c.owner_of-owner.result in
+    let first = c.in_ok-frame.ensures.copied in
+    let then = c.in_default.ensures.doubled in
+    let one = c.in_ok-frame.ensures.copied.done.gathered in
     let bounds = copy_most own in
-    pulls_most _ _ _ _ _ _ sum bounds.0 (omega (arith, bounds.1))
+    most_then _ _ _ _ _ _ _ _ _ first.traffic then.most then.later (omega (arith, bounds.0))
+    (omega (arith, bounds.1, pushes_then (frames_to_copy own) c.args.store.now.frames.held c.copy_out.new.store.frames.held one.still.stays.frames first.held))
 
-pub returns-in_err-frame-clause-missed_drops : goal.returns-in_err-frame-clause-missed_drops
-returns-in_err-frame-clause-missed_drops g c =
+pub returns-in_err-frame-clause-drops : goal.returns-in_err-frame-clause-drops
+returns-in_err-frame-clause-drops g c =
     let it : NodeId = c.owner_of-owner.result in
     let owner : IsOwner c.args.caches.now c.args.node it = record { held = c.owner_of-owner.ensures.held; name = c.owner_of-owner.ensures.owner } in
-    λ o is. on_err _ c.from_residual.result (drops_more (λ n. n ≡ it) (MayCome c.args.caches.now o) c.args.caches.now c.copy_out.new.caches c.args.store.now c.copy_out.new.store (λ n e. inl (e ∙ sym (owner_same c.args.caches.now c.requires.right.sound c.args.node o it is owner))) c.copy_out.ensures.drops)
+    λ o is. failed_leaves _ c.from_residual.result _ _ _ _ _ _ c.from_residual.ensures.1 (drops_more (λ n. n ≡ it) (MayCome c.args.caches.now o) c.args.caches.now c.copy_out.new.caches c.args.store.now c.copy_out.new.store (λ n e. inl (e ∙ sym (owner_same c.args.caches.now c.requires.right.sound c.args.node o it is owner))) c.copy_out.ensures.drops)
 
-pub returns-in_default-clause-missed_drops : goal.returns-in_default-clause-missed_drops
-returns-in_default-clause-missed_drops g c =
+pub returns-in_default-clause-drops : goal.returns-in_default-clause-drops
+returns-in_default-clause-drops g c =
     let it : NodeId = c.owner_of-owner.result in
     let owner : IsOwner c.args.caches.now c.args.node it = record { held = c.owner_of-owner.ensures.held; name = c.owner_of-owner.ensures.owner } in
     let gathered : Drops (λ n. n ≡ it) c.args.caches.now c.args.store.now c.double.new.caches c.double.new.store = drops_trans (λ n. n ≡ it) Nobody (λ n. n ≡ it) c.args.caches.now c.copy_out.new.caches c.double.new.caches c.args.store.now c.copy_out.new.store c.double.new.store (λ n e. e) (λ n e. absurd e) c.copy_out.ensures.drops c.double.ensures.drops in
-    λ o is. drops_by (MayCome c.args.caches.now o) c.args.caches.now c.double.new.caches c.args.store.now c.double.new.store c.args.store.now c.release.new.store refl refl (ap (λ (s : Store). s.map) c.release.ensures) (ap (λ (s : Store). s.tables) c.release.ensures)
-    (drops_more (λ n. n ≡ it) (MayCome c.args.caches.now o) c.args.caches.now c.double.new.caches c.args.store.now c.double.new.store (λ n e. inl (e ∙ sym (owner_same c.args.caches.now c.requires.right.sound c.args.node o it is owner))) gathered)
+    λ o is. record {
+      left = tt;
+      failed = drops_by (MayCome c.args.caches.now o) c.args.caches.now c.double.new.caches c.args.store.now c.double.new.store c.args.store.now c.release.new.store refl refl (ap (λ (s : Store). s.map) c.release.ensures) (ap (λ (s : Store). s.tables) c.release.ensures)
+          (drops_more (λ n. n ≡ it) (MayCome c.args.caches.now o) c.args.caches.now c.double.new.caches c.args.store.now c.double.new.store (λ n e. inl (e ∙ sym (owner_same c.args.caches.now c.requires.right.sound c.args.node o it is owner))) gathered);
+    }
 
 pub returns-clause-drops : goal.returns-clause-drops
 returns-clause-drops g c =
@@ -204,8 +180,8 @@ returns-clause-drops g c =
     let owner : IsOwner c.args.caches.now c.args.node it = record { held = c.owner_of-owner.ensures.held; name = c.owner_of-owner.ensures.owner } in
     let old : World = world (g.M.Mapper.held c.args.mapper.now) (g.M.Mapper.page_bytes c.args.mapper.now) c.args.caches.now c.args.store.now in
     let v : World = world (g.M.Mapper.held c.double.new.mapper) (g.M.Mapper.page_bytes c.double.new.mapper) c.hand_page.new.caches c.settle_in-2.new.store in
-    let one = c.in_ok-frame.ensures.copied.gathered in
-    let two = c.in-Ok.ensures.doubled in
+    let one = c.in_ok-frame.ensures.copied.done.gathered in
+    let two = c.in-Ok.ensures.doubled.done in
     let gathered = two.gathered in
     let whole = still_then _ _ _ one.still gathered.still in
     let f1 : ℕ = c.in_ok-frame.frame.0 in
@@ -216,9 +192,10 @@ returns-clause-drops g c =
     let free2 : node_of c.settle_in.new.store.map f2 ≡ None = ap (λ (m : List (Option NodeId)). node_of m f2) map1 ∙ get_or-set_other c.double.new.store.map f1 f2 (Some c.args.node) None two.apart ∙ gathered.taken.unbound in
     let within2 : f2 < length c.settle_in.new.store.map = omega (arith, gathered.taken.within, gathered.still.stays.right.tied.fitted.map_frames, ap (λ (m : List (Option NodeId)). length m) map1, length-set c.double.new.store.map f1 (Some c.args.node)) in
     let map2 : c.settle_in-2.new.store.map ≡ set c.settle_in.new.store.map f2 (Some c.args.next) = ap (λ (s : Store). s.map) c.settle_in-2.ensures in
-    let absent = ap is_absent (heir_absent c.args.caches.now c.requires.right.sound _ c.args.next c.requires.next c.requires.is) in
-    let answered : IsAnswered old v (g.M.Mapper.counts c.args.mapper.now) (g.M.Mapper.counts c.double.new.mapper) = returns-clause-answered g c in
-    let framed : IsFramed readied c.args.node f1 old v = returns-clause-ready g c in
+    let absent = ap is_absent (heir_absent c.args.caches.now c.requires.right.sound _ c.args.next c.requires.next.held c.requires.next.name) in
+    let both = returns-clause-ready g c in
+    let answered : IsAnswered old v (g.M.Mapper.counts c.args.mapper.now) (g.M.Mapper.counts c.double.new.mapper) = both.answered in
+    let framed : IsFramed readied c.args.node f1 old v = both.done in
     let all : Drops (MayCome c.args.caches.now it) c.args.caches.now c.args.store.now c.hand_page.new.caches (without_homes it c.args.node c.settle_in-2.new.store) =
     both_drops c.args.caches.now c.double.new.caches c.hand_page.new.caches c.args.store.now c.double.new.store c.settle_in-2.new.store c.requires.right whole answered.kept c.args.node it c.requires.node owner
     (drops_trans (λ n. n ≡ it) Nobody (λ n. n ≡ it) c.args.caches.now c.copy_out.new.caches c.double.new.caches c.args.store.now c.copy_out.new.store c.double.new.store (λ n e. e) (λ n e. absurd e) c.copy_out.ensures.drops c.double.ensures.drops)
@@ -230,4 +207,4 @@ returns-clause-drops g c =
     ])
     (inr (ap is_absent c.requires.bare)) (ap (λ (s : Store). s.tables) c.settle_in-2.ensures ∙ ap (λ (s : Store). s.tables) c.settle_in.ensures)
     (framed.forest ∙ sym (readied_bare (store_forest old) (name_of c.args.caches.now c.args.node) (store_page old c.requires.right.sound c.args.node c.requires.node ∙ absent_none old c.args.node c.requires.bare))) in
-    λ o is. subst (λ (m : NodeId). Drops (MayCome c.args.caches.now m) c.args.caches.now c.args.store.now c.hand_page.new.caches (without_homes m c.args.node c.settle_in-2.new.store)) (sym (owner_same c.args.caches.now c.requires.right.sound c.args.node o it is owner)) all
+    λ o is. record { left = subst (λ (m : NodeId). Drops (MayCome c.args.caches.now m) c.args.caches.now c.args.store.now c.hand_page.new.caches (without_homes m c.args.node c.settle_in-2.new.store)) (sym (owner_same c.args.caches.now c.requires.right.sound c.args.node o it is owner)) all; failed = tt }

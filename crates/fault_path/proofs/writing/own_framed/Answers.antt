@@ -4,7 +4,7 @@ use Rattle.residency.specs.StoreForest.{store_forest}
 use Rattle.residency.specs.World.{World, world}
 use Rattle.residency.proofs.Forests.StillForest.{still_caches_sound}
 use Rattle.fault_path.specs.Faults.{Kept, IsOwner}
-use Rattle.fault_path.proofs.Calls.Answered.{still_answered, still_missed_by}
+use Rattle.fault_path.proofs.Calls.Answered.{miss_by}
 use Rattle.residency.proofs.Pushes.Told.{tells_as}
 use Rattle.fault_path.proofs.Rules.OneFrameForest.{own_copies, own_forest, own_gives, own_kept}
 use Rattle.vm_ids.specs.declared.numbers.NodeId.{NodeId}
@@ -17,45 +17,21 @@ use Rattle.residency.specs.Translating.{Drops}
 use Rattle.residency.proofs.Translations.Kept.{drops_more}
 use Rattle.fault_path.specs.Answers.{IsAnswered, IsFramed}
 use Rattle.fault_path.specs.Translating.{MayCome, without_homes}
-use Rattle.fault_path.proofs.Translations.Given.{may_come, settled_comes, settled_stays}
+use Rattle.fault_path.proofs.Translations.Given.{failed_leaves, may_come, settled_comes, settled_stays}
 use Rattle.fault_path.proofs.Translations.Whole.{own_drops}
-use Rattle.residency.proofs.Worlds.Arms.{on_err}
 use Rattle.fault_path.proofs.writing.own_framed.Goals as goal
 
-pub returns-in_err-frame-clause-answered : goal.returns-in_err-frame-clause-answered
-returns-in_err-frame-clause-answered g c =
+pub returns-in_err-frame-clause-owned : goal.returns-in_err-frame-clause-owned
+returns-in_err-frame-clause-owned g c =
     let told = g.M.Mapper.held c.copy_out.new.mapper in
     let size = g.M.Mapper.page_bytes c.copy_out.new.mapper in
     let old : World = world (g.M.Mapper.held c.args.mapper.now) (g.M.Mapper.page_bytes c.args.mapper.now) c.args.caches.now c.args.store.now in
     let w : World = world told size c.copy_out.new.caches c.copy_out.new.store in
-    let n = c.in_err-frame.ensures.none in
-    still_answered old w n.still _ _ c.requires.right.sound c.requires.right.shaped n.pinned c.in_err-frame.ensures.later c.in_err-frame.ensures.told
-
-pub returns-in_err-frame-clause-missed : goal.returns-in_err-frame-clause-missed
-returns-in_err-frame-clause-missed g c =
-    let told = g.M.Mapper.held c.copy_out.new.mapper in
-    let size = g.M.Mapper.page_bytes c.copy_out.new.mapper in
-    let old : World = world (g.M.Mapper.held c.args.mapper.now) (g.M.Mapper.page_bytes c.args.mapper.now) c.args.caches.now c.args.store.now in
-    let w : World = world told size c.copy_out.new.caches c.copy_out.new.store in
-    let n = c.in_err-frame.ensures.none in
-    still_missed_by old w n.still (g.M.Mapper.counts c.args.mapper.now) (g.M.Mapper.counts c.copy_out.new.mapper) c.from_residual.result (search rules)
+    let n = c.in_err-frame.ensures.copied.none in
+    miss_by old w n.still (g.M.Mapper.counts c.args.mapper.now) _ c.requires.right.sound c.requires.right.shaped n.pinned c.in_err-frame.ensures.copied.later c.in_err-frame.ensures.copied.told _ c.from_residual.result c.from_residual.ensures.1 (search rules)
 
 pub own_page-requires-clause-sound : goal.own_page-requires-clause-sound
-own_page-requires-clause-sound g c = let k = c.in_ok-frame.ensures.copied.gathered in still_caches_sound _ _ k.still c.requires.right.sound
-
-pub returns-clause-answered : goal.returns-clause-answered
-returns-clause-answered g c =
-    let told = g.M.Mapper.held c.copy_out.new.mapper in
-    let size = g.M.Mapper.page_bytes c.copy_out.new.mapper in
-    let old : World = world (g.M.Mapper.held c.args.mapper.now) (g.M.Mapper.page_bytes c.args.mapper.now) c.args.caches.now c.args.store.now in
-    let w : World = world told size c.copy_out.new.caches c.copy_out.new.store in
-    let k = c.in_ok-frame.ensures.copied.gathered in
-    let owner : IsOwner c.args.caches.now c.args.node c.owner_of-owner.result = record { held = c.owner_of-owner.ensures.held; name = c.owner_of-owner.ensures.owner } in
-    record {
-      kept = subst (Kept old) (sym (ap (λ (s : Store). world told size c.own_page.new.caches s) c.settle_in.ensures)) (own_kept old w c.in_ok-frame.frame.0 k.still k.taken c.requires.right.sound c.requires.right.shaped c.args.node c.owner_of-owner.result c.requires.node c.requires.bare owner c.in_ok-frame.ensures.copied.page c.own_page.new.caches c.own_page.ensures k);
-      later = c.in_ok-frame.ensures.later;
-      told = tells_as _ _ _ _ _ refl c.in_ok-frame.ensures.told;
-    }
+own_page-requires-clause-sound g c = let k = c.in_ok-frame.ensures.copied.done.gathered in still_caches_sound _ _ k.still c.requires.right.sound
 
 pub returns-clause-owned : goal.returns-clause-owned
 returns-clause-owned g c =
@@ -63,13 +39,21 @@ returns-clause-owned g c =
     let size = g.M.Mapper.page_bytes c.copy_out.new.mapper in
     let old : World = world (g.M.Mapper.held c.args.mapper.now) (g.M.Mapper.page_bytes c.args.mapper.now) c.args.caches.now c.args.store.now in
     let w : World = world told size c.copy_out.new.caches c.copy_out.new.store in
-    let k = c.in_ok-frame.ensures.copied.gathered in
+    let k = c.in_ok-frame.ensures.copied.done.gathered in
     let owner : IsOwner c.args.caches.now c.args.node c.owner_of-owner.result = record { held = c.owner_of-owner.ensures.held; name = c.owner_of-owner.ensures.owner } in
-    let gives = own_gives old w c.in_ok-frame.frame.0 k.still k.taken c.requires.right.sound c.requires.right.shaped c.args.node c.owner_of-owner.result c.requires.node c.requires.bare owner c.in_ok-frame.ensures.copied.page c.own_page.new.caches c.own_page.ensures in
+    let gives = own_gives old w c.in_ok-frame.frame.0 k.still k.taken c.requires.right.sound c.requires.right.shaped c.args.node c.owner_of-owner.result c.requires.node c.requires.bare owner c.in_ok-frame.ensures.copied.done.page c.own_page.new.caches c.own_page.ensures in
     record {
-      forest = ap (λ (s : Store). store_forest (world told size c.own_page.new.caches s)) c.settle_in.ensures ∙ own_forest old w c.in_ok-frame.frame.0 k.still k.taken c.requires.right.sound c.requires.right.shaped c.args.node c.owner_of-owner.result c.requires.node c.requires.bare owner c.in_ok-frame.ensures.copied.page c.own_page.new.caches c.own_page.ensures;
-      bound = search rules;
-      resident = gives.resident;
+      answered = record {
+        kept = subst (Kept old) (sym (ap (λ (s : Store). world told size c.own_page.new.caches s) c.settle_in.ensures)) (own_kept old w c.in_ok-frame.frame.0 k.still k.taken c.requires.right.sound c.requires.right.shaped c.args.node c.owner_of-owner.result c.requires.node c.requires.bare owner c.in_ok-frame.ensures.copied.done.page c.own_page.new.caches c.own_page.ensures k);
+        later = c.in_ok-frame.ensures.copied.later;
+        told = tells_as _ _ _ _ _ refl c.in_ok-frame.ensures.copied.told;
+      };
+      done = record {
+        forest = ap (λ (s : Store). store_forest (world told size c.own_page.new.caches s)) c.settle_in.ensures ∙ own_forest old w c.in_ok-frame.frame.0 k.still k.taken c.requires.right.sound c.requires.right.shaped c.args.node c.owner_of-owner.result c.requires.node c.requires.bare owner c.in_ok-frame.ensures.copied.done.page c.own_page.new.caches c.own_page.ensures;
+        bound = search rules;
+        resident = gives.resident;
+      };
+      missed = tt;
     }
 
 pub returns-clause-copies : goal.returns-clause-copies
@@ -78,21 +62,21 @@ returns-clause-copies g c =
     let size = g.M.Mapper.page_bytes c.copy_out.new.mapper in
     let old : World = world (g.M.Mapper.held c.args.mapper.now) (g.M.Mapper.page_bytes c.args.mapper.now) c.args.caches.now c.args.store.now in
     let w : World = world told size c.copy_out.new.caches c.copy_out.new.store in
-    let k = c.in_ok-frame.ensures.copied.gathered in
+    let k = c.in_ok-frame.ensures.copied.done.gathered in
     let owner : IsOwner c.args.caches.now c.args.node c.owner_of-owner.result = record { held = c.owner_of-owner.ensures.held; name = c.owner_of-owner.ensures.owner } in
-    own_copies old w c.in_ok-frame.frame.0 k.still k.taken c.requires.right.sound c.requires.right.shaped c.args.node c.owner_of-owner.result c.requires.node c.requires.bare owner c.in_ok-frame.ensures.copied.page c.own_page.new.caches c.own_page.ensures
+    own_copies old w c.in_ok-frame.frame.0 k.still k.taken c.requires.right.sound c.requires.right.shaped c.args.node c.owner_of-owner.result c.requires.node c.requires.bare owner c.in_ok-frame.ensures.copied.done.page c.own_page.new.caches c.own_page.ensures
 
 pub returns-clause-traffic : goal.returns-clause-traffic
 returns-clause-traffic g c = λ o is. (
     let it : NodeId = c.owner_of-owner.result in
     let owner : IsOwner c.args.caches.now c.args.node it = record { held = c.owner_of-owner.ensures.held; name = c.owner_of-owner.ensures.owner } in
-    subst (λ (m : NodeId). Pulls (pulls_to_copy (own_of c.args.caches.now m)) (frames_to_copy (own_of c.args.caches.now m) - free_count c.args.store.now.frames) (g.M.Mapper.counts c.args.mapper.now) (g.M.Mapper.counts c.copy_out.new.mapper)) (sym (owner_same c.args.caches.now c.requires.right.sound c.args.node o it is owner)) c.in_ok-frame.ensures.traffic)
+    subst (λ (m : NodeId). Pulls (pulls_to_copy (own_of c.args.caches.now m)) (frames_to_copy (own_of c.args.caches.now m) - free_count c.args.store.now.frames) (g.M.Mapper.counts c.args.mapper.now) (g.M.Mapper.counts c.copy_out.new.mapper)) (sym (owner_same c.args.caches.now c.requires.right.sound c.args.node o it is owner)) c.in_ok-frame.ensures.copied.traffic)
 
-pub returns-in_err-frame-clause-missed_drops : goal.returns-in_err-frame-clause-missed_drops
-returns-in_err-frame-clause-missed_drops g c =
+pub returns-in_err-frame-clause-drops : goal.returns-in_err-frame-clause-drops
+returns-in_err-frame-clause-drops g c =
     let it : NodeId = c.owner_of-owner.result in
     let owner : IsOwner c.args.caches.now c.args.node it = record { held = c.owner_of-owner.ensures.held; name = c.owner_of-owner.ensures.owner } in
-    λ o is. on_err _ c.from_residual.result (drops_more (λ n. n ≡ it) (MayCome c.args.caches.now o) c.args.caches.now c.copy_out.new.caches c.args.store.now c.copy_out.new.store (λ n e. inl (e ∙ sym (owner_same c.args.caches.now c.requires.right.sound c.args.node o it is owner))) c.copy_out.ensures.drops)
+    λ o is. failed_leaves _ c.from_residual.result _ _ _ _ _ _ c.from_residual.ensures.1 (drops_more (λ n. n ≡ it) (MayCome c.args.caches.now o) c.args.caches.now c.copy_out.new.caches c.args.store.now c.copy_out.new.store (λ n e. inl (e ∙ sym (owner_same c.args.caches.now c.requires.right.sound c.args.node o it is owner))) c.copy_out.ensures.drops)
 
 pub returns-clause-drops : goal.returns-clause-drops
 returns-clause-drops g c =
@@ -100,9 +84,10 @@ returns-clause-drops g c =
     let owner : IsOwner c.args.caches.now c.args.node it = record { held = c.owner_of-owner.ensures.held; name = c.owner_of-owner.ensures.owner } in
     let old : World = world (g.M.Mapper.held c.args.mapper.now) (g.M.Mapper.page_bytes c.args.mapper.now) c.args.caches.now c.args.store.now in
     let v : World = world (g.M.Mapper.held c.copy_out.new.mapper) (g.M.Mapper.page_bytes c.copy_out.new.mapper) c.own_page.new.caches c.settle_in.new.store in
-    let k = c.in_ok-frame.ensures.copied.gathered in
-    let answered : IsAnswered old v (g.M.Mapper.counts c.args.mapper.now) (g.M.Mapper.counts c.copy_out.new.mapper) = returns-clause-answered g c in
-    let framed : IsFramed forest.own c.args.node c.in_ok-frame.frame.0 old v = returns-clause-owned g c in
+    let k = c.in_ok-frame.ensures.copied.done.gathered in
+    let all = returns-clause-owned g c in
+    let answered : IsAnswered old v (g.M.Mapper.counts c.args.mapper.now) (g.M.Mapper.counts c.copy_out.new.mapper) = all.answered in
+    let framed : IsFramed forest.own c.args.node c.in_ok-frame.frame.0 old v = all.done in
     let within : c.in_ok-frame.frame.0 < length c.copy_out.new.store.map = omega (arith, k.taken.within, k.still.stays.right.tied.fitted.map_frames) in
     let map = ap (λ (s : Store). s.map) c.settle_in.ensures in
     let whole : Drops (MayCome c.args.caches.now it) c.args.caches.now c.args.store.now c.own_page.new.caches (without_homes it c.args.node c.settle_in.new.store) =
@@ -110,4 +95,4 @@ returns-clause-drops g c =
     (λ f p at. ap (λ (m : List (Option NodeId)). node_of m f) map ∙ settled_stays c.copy_out.new.store.map c.in_ok-frame.frame.0 c.args.node k.taken.unbound f p at)
     (λ f p at. may_come c.args.caches.now it c.args.node p (ap is_absent c.requires.bare) (settled_comes c.copy_out.new.store.map c.in_ok-frame.frame.0 c.args.node within f p (ap (λ (m : List (Option NodeId)). node_of m f) (sym map) ∙ at)))
     (inr (ap is_absent c.requires.bare)) (ap (λ (s : Store). s.tables) c.settle_in.ensures) framed.forest in
-    λ o is. subst (λ (m : NodeId). Drops (MayCome c.args.caches.now m) c.args.caches.now c.args.store.now c.own_page.new.caches (without_homes m c.args.node c.settle_in.new.store)) (sym (owner_same c.args.caches.now c.requires.right.sound c.args.node o it is owner)) whole
+    λ o is. record { left = subst (λ (m : NodeId). Drops (MayCome c.args.caches.now m) c.args.caches.now c.args.store.now c.own_page.new.caches (without_homes m c.args.node c.settle_in.new.store)) (sym (owner_same c.args.caches.now c.requires.right.sound c.args.node o it is owner)) whole; failed = tt }

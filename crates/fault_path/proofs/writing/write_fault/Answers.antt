@@ -15,20 +15,20 @@ use Rattle.fault_path.proofs.writing.write_fault.Goals as goal
 
 pub drop_translations-requires : goal.drop_translations-requires
 drop_translations-requires g c =
-    let fitted = c.make_ready.ensures.answered.kept.right.tied.fitted in
+    let fitted = c.make_ready.ensures.ready.answered.kept.right.tied.fitted in
     omega (arith, fitted.places_frames, fitted.map_frames)
 
 pub returns-clause-answered : goal.returns-clause-answered
 returns-clause-answered g c =
     let old : World = world (g.M.Mapper.held c.args.mapper.now) (g.M.Mapper.page_bytes c.args.mapper.now) c.args.caches.now c.args.store.now in
     let same = forgot_world (g.M.Mapper.held c.make_ready.new.mapper) (g.M.Mapper.page_bytes c.make_ready.new.mapper) c.make_ready.new.caches c.make_ready.new.store c.drop_translations.new.store c.owner_of-owner.result c.args.node c.drop_translations.ensures in
-    subst (λ (w : World). IsAnswered old w (g.M.Mapper.counts c.args.mapper.now) (g.M.Mapper.counts c.make_ready.new.mapper)) (sym same) c.make_ready.ensures.answered
+    subst (λ (w : World). IsAnswered old w (g.M.Mapper.counts c.args.mapper.now) (g.M.Mapper.counts c.make_ready.new.mapper)) (sym same) c.make_ready.ensures.ready.answered
 
 pub returns-clause-ready : goal.returns-clause-ready
 returns-clause-ready g c =
     let old : World = world (g.M.Mapper.held c.args.mapper.now) (g.M.Mapper.page_bytes c.args.mapper.now) c.args.caches.now c.args.store.now in
     let same = forgot_world (g.M.Mapper.held c.make_ready.new.mapper) (g.M.Mapper.page_bytes c.make_ready.new.mapper) c.make_ready.new.caches c.make_ready.new.store c.drop_translations.new.store c.owner_of-owner.result c.args.node c.drop_translations.ensures in
-    subst (λ (w : World). IsFramed readied c.args.node c.in_ok-frame.frame.0 old w) (sym same) c.in_ok-frame.ensures.ready
+    subst (λ (w : World). IsFramed readied c.args.node c.in_ok-frame.frame.0 old w) (sym same) c.in_ok-frame.ensures.ready.done
 
 pub returns-clause-drops : goal.returns-clause-drops
 returns-clause-drops g c =
@@ -36,10 +36,10 @@ returns-clause-drops g c =
     let owner : IsOwner c.args.caches.now c.args.node it = record { held = c.owner_of-owner.ensures.held; name = c.owner_of-owner.ensures.owner } in
     λ o is. subst (λ (s : Store). Drops (MayCome c.args.caches.now o) c.args.caches.now c.args.store.now c.make_ready.new.caches s)
     (ap (λ (m : NodeId). without_homes m c.args.node c.make_ready.new.store) (owner_same c.args.caches.now c.requires.right.sound c.args.node o it is owner) ∙ sym c.drop_translations.ensures)
-    (c.in_ok-frame.ensures.drops o is)
+    (let e = c.in_ok-frame.ensures.drops o is in e.left)
 
 pub returns-clause-alone : goal.returns-clause-alone
 returns-clause-alone g c =
     let old : World = world (g.M.Mapper.held c.args.mapper.now) (g.M.Mapper.page_bytes c.args.mapper.now) c.args.caches.now c.args.store.now in
     let w : World = world (g.M.Mapper.held c.make_ready.new.mapper) (g.M.Mapper.page_bytes c.make_ready.new.mapper) c.make_ready.new.caches c.make_ready.new.store in
-    ready_alone old w c.requires.right.sound c.requires.right.shaped c.in_ok-frame.ensures.answered.kept c.args.node c.requires.node c.requires.live c.in_ok-frame.frame.0 c.in_ok-frame.ensures.ready
+    ready_alone old w c.requires.right.sound c.requires.right.shaped c.in_ok-frame.ensures.ready.answered.kept c.args.node c.requires.node c.requires.live c.in_ok-frame.frame.0 c.in_ok-frame.ensures.ready.done

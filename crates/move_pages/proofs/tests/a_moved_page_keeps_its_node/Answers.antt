@@ -1,4 +1,4 @@
-use Rattle.std.proofs.Common.{◌≡◌, ℕ, List, [], length, None, sym, subst, ap, ◌∙◌, refl, arith, lit<}
+use Rattle.std.proofs.Common.{◌≡◌, ℕ, List, [], length, None, is_some, sym, subst, ap, ◌∙◌, refl, arith, lit<}
 use Rattle.vm_ids.specs.declared.node_name.NodeName.{NodeName}
 use Rattle.vm_ids.specs.declared.node_name.NodeName.TheVariants.{Live, Working}
 use Rattle.vm_ids.specs.declared.numbers.CacheId.{CacheId}
@@ -40,6 +40,12 @@ two_pages a sound cache first second = record {
 
 begun : (a b : Arena) → a.caches ≡ [] → forest_of a ≡ no_forest → IsSound a → (cache : CacheId) (nodes : List NodeId) → length nodes ≡ 2 → IsMade a b cache None Zero nodes → forest_of b ≡ make (pages_with Zero cache 2) (forest_of a) → IsSound b → IsConsistent (forest_of b)
 begun a b none empty sound cache nodes size made forest sound_b = (whole_begun a b (none_whole a none empty sound) cache 2 None Zero nodes size made forest sound_b (omega (arith, none_len (forest_of a) empty))).consistent
+
+pub node_of-node-requires : goal.node_of-node-requires
+node_of-node-requires g c = ap is_some (c.make_temp-cache.ensures.pages 0 (lit< tt)).at
+
+pub node_of-gone-requires : goal.node_of-gone-requires
+node_of-gone-requires g c = ap is_some (c.make_temp-cache.ensures.pages 1 (lit< tt)).at
 
 pub move_one-released-requires-clause-consistent : goal.move_one-released-requires-clause-consistent
 move_one-released-requires-clause-consistent g c =

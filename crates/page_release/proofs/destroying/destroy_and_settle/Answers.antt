@@ -1,13 +1,13 @@
-use Rattle.std.proofs.Common.{◌≡◌, [], ◌+◌, None, ap, ◌∙◌, arith, false, sym, subst}
+use Rattle.std.proofs.Common.{◌≡◌, ◌≤◌, ℕ, [], None, length, ap, ◌∙◌, arith, false, sym}
 use Rattle.vm_ids.proofs.Forest.Laws.Commands.{destroy_counts_saves}
-use Rattle.vm_ids.proofs.Forest.Laws.Ranges.{ranges_hold_their_pages}
 use Rattle.vm_ids.specs.Forest.Nodes.{Forest}
-use Rattle.vm_ids.specs.Forest.Commands.{destroy as rule_destroy, page_name, page_names, retire_all}
+use Rattle.vm_ids.specs.Forest.Commands.{page_names, retire_all}
 use Rattle.vm_ids.specs.Forest.Settling.{settle}
 use Rattle.vm_ids.specs.declared.node_name.NodeName.TheVariants.{Working}
 use Rattle.local_cache.specs.declared.own_state.OwnState.{OwnState}
 use Rattle.local_cache.specs.declared.own_state.OwnState.TheVariants.{Zero}
-use Rattle.local_cache.specs.Arena.{Arena}
+use Rattle.local_cache.specs.Arena.{Arena, node_at}
+use Rattle.local_cache.specs.Own.{own_states}
 use Rattle.local_cache.specs.Reading.{forest_of}
 use Rattle.local_cache.proofs.Changes.SameNodes.{forest_of-copies}
 use Rattle.local_cache.proofs.Whole.Commands.{emptied, whole_emptied}
@@ -16,7 +16,7 @@ use Rattle.residency.specs.Seeing.{frame_forest}
 use Rattle.residency.specs.StoreForest.{store_forest}
 use Rattle.residency.specs.World.{world}
 use Rattle.page_release.specs.Homes.{is_named}
-use Rattle.page_release.specs.Steps.{IsUnpinned, zeros_told}
+use Rattle.page_release.specs.Steps.{zeros_told}
 use Rattle.page_release.proofs.Forgotten.Law.{destroy_forgotten}
 use Rattle.page_release.proofs.Framing.Shape.{frame_consistent, frame_pages, frame_saved}
 use Rattle.page_release.proofs.Freeing.Commands.{destroy_replaces}
@@ -24,65 +24,61 @@ use Rattle.page_release.proofs.Tying.Homes.{homed_gone}
 use Rattle.page_release.proofs.Tying.Kept.{kept_both, kept_then, kept_unlisted, unpinned_kept}
 use Rattle.page_release.proofs.Tying.Shape.{store_consistent, store_pages, store_saved}
 use Rattle.page_release.proofs.Tying.Sized.{right_after}
+use Rattle.page_release.proofs.Walking.Forgetting.{retire_kept}
 use Rattle.page_release.proofs.destroying.destroy_and_settle.Goals as goal
 
 pub forget_named-requires-clause-nodes : goal.forget_named-requires-clause-nodes
-forget_named-requires-clause-nodes c = range_there c.args.caches.now c.requires.whole c.args.cache 0 c.args.pages c.args.pages c.requires.pages (omega arith)
-
-pub forget_named-requires-clause-unpinned : goal.forget_named-requires-clause-unpinned
-forget_named-requires-clause-unpinned c x i =
-    let at = (ranges_hold_their_pages c.args.cache 0 c.args.pages x).0 i in
-    subst (IsUnpinned c.args.store.now c.args.caches.now) (sym at.2) (c.requires.unpinned (0 + at.0))
+forget_named-requires-clause-nodes c = range_there c.args.caches.now c.requires.ready.retire.whole c.args.cache 0 c.args.pages c.args.pages c.requires.pages (omega arith)
 
 pub retire_pages-requires-clause-pages : goal.retire_pages-requires-clause-pages
 retire_pages-requires-clause-pages c = c.forget_named.ensures.kept.sizes.sizes c.args.cache.0 ∙ c.requires.pages
 
-pub retire_pages-requires-clause-made : goal.retire_pages-requires-clause-made
-retire_pages-requires-clause-made c = let made = ap (λ (a : Arena). a.made) c.forget_named.ensures.same.rest in omega (arith, made, c.requires.made)
-
-pub retire_pages-requires-clause-unpinned : goal.retire_pages-requires-clause-unpinned
-retire_pages-requires-clause-unpinned c page =
-    unpinned_kept (page_names c.args.cache 0 c.args.pages) c.args.store.now c.args.caches.now c.forget_named.new.store c.forget_named.new.caches c.requires.tied c.forget_named.ensures.kept (page_name c.args.cache page) (c.requires.unpinned page)
+pub retire_pages-requires-clause-retire : goal.retire_pages-requires-clause-retire
+retire_pages-requires-clause-retire c =
+    let f = c.forget_named.ensures in
+    retire_kept c.args.caches.now c.forget_named.new.caches f.same _ (page_names c.args.cache 0 c.args.pages) c.args.store.now c.forget_named.new.store f.kept f.whole _ c.requires.ready.retire
 
 pub settle-requires-clause-unpinned : goal.settle-requires-clause-unpinned
 settle-requires-clause-unpinned c k =
     let f = c.forget_named.ensures in
     let r = c.retire_pages.ensures in
     unpinned_kept [] c.forget_named.new.store c.forget_named.new.caches c.retire_pages.new.store c.retire_pages.new.caches f.kept.tied r.kept (Working k)
-    (unpinned_kept (page_names c.args.cache 0 c.args.pages) c.args.store.now c.args.caches.now c.forget_named.new.store c.forget_named.new.caches c.requires.tied f.kept (Working k) (c.requires.working k))
+    (unpinned_kept (page_names c.args.cache 0 c.args.pages) c.args.store.now c.args.caches.now c.forget_named.new.store c.forget_named.new.caches c.requires.ready.retire.tied f.kept (Working k) (c.requires.ready.working k))
 
-pub returns-clause-nodes : goal.returns-clause-nodes
-returns-clause-nodes c =
-    let names = page_names c.args.cache 0 c.args.pages in
+pub returns-clause-rule : goal.returns-clause-rule
+returns-clause-rule c =
     let a = c.args.caches.now in
-    c.settle.ensures.nodes ∙ ap settle (c.retire_pages.ensures.nodes ∙ ap (retire_all names) c.forget_named.ensures.nodes)
-    ∙ destroy_forgotten (is_named a c.args.cache) names (forest_of a) c.requires.whole.consistent (pages_once a c.requires.whole c.args.cache c.args.pages c.requires.pages) c.requires.saved Zero
-
-pub returns-clause-forest : goal.returns-clause-forest
-returns-clause-forest c told size fit =
-    let names = page_names c.args.cache 0 c.args.pages in
-    let a = c.args.caches.now in
-    let w = world told size a c.args.store.now in
+    let u = c.args.store.now in
+    let m = u.map in
     let f = c.forget_named.ensures in
     let r = c.retire_pages.ensures in
-    let one = (f.kept.gives_back told size fit).tied in
-    let two = (r.kept.gives_back told size one).tied in
-    c.settle.ensures.forest told size two ∙ ap settle (r.forest told size one ∙ ap (retire_all names) (f.forest told size fit))
-    ∙ destroy_forgotten (is_named a c.args.cache) names (store_forest w) (store_consistent w c.requires.whole.sound c.requires.whole.consistent)
-    (store_pages w c.requires.whole.sound names (pages_once a c.requires.whole c.args.cache c.args.pages c.requires.pages))
-    (λ named x i. store_saved w c.requires.whole.sound x (c.requires.saved named x i)) (zeros_told w)
+    let e = c.settle.ensures in
+    let sound = c.requires.ready.retire.whole.sound in
+    let consistent = c.requires.ready.retire.whole.consistent in
+    let saved = c.requires.ready.saved in
+    let names = page_names c.args.cache 0 c.args.pages in
+    let named = is_named a c.args.cache in
+    let there = pages_once a c.requires.ready.retire.whole c.args.cache c.args.pages c.requires.pages in
+    record {
+      nodes =
+          e.rule.nodes ∙ ap settle (r.rule.nodes ∙ ap (retire_all names) f.rule.nodes)
+          ∙ destroy_forgotten named names (forest_of a) consistent there saved Zero;
+      forest = λ told size fit.
+          let w = world told size a u in
+          let one = (f.kept.gives_back told size fit).tied in
+          let two = (r.kept.gives_back told size one).tied in
+          e.rule.forest told size two ∙ ap settle (r.rule.forest told size one ∙ ap (retire_all names) (f.rule.forest told size fit))
+          ∙ destroy_forgotten named names (store_forest w) (store_consistent w sound consistent) (store_pages w sound names there) (λ named x i. store_saved w sound x (saved named x i)) (zeros_told w);
+      frames =
+          e.rule.frames ∙ ap settle (r.rule.frames ∙ ap (retire_all names) f.rule.frames)
+          ∙ destroy_forgotten named names (frame_forest a m) (frame_consistent a m sound consistent) (frame_pages a m sound names there) (λ named x i. frame_saved a m sound x (saved named x i)) None;
+    }
 
-pub returns-clause-empty : goal.returns-clause-empty
-returns-clause-empty c =
+emptied_now : (c : goal.After-settle) → (page : ℕ) → node_at c.settle.new.caches c.args.cache.0 page ≡ None
+emptied_now c =
     let r = c.retire_pages.ensures in
     let s = c.settle.ensures in
-    emptied c.forget_named.new.caches c.retire_pages.new.caches c.settle.new.caches c.forget_named.ensures.whole c.args.cache c.args.pages (c.forget_named.ensures.kept.sizes.sizes c.args.cache.0 ∙ c.requires.pages) r.nodes r.consistent r.kept.sizes r.few s.nodes s.kept.sound s.kept.sizes
-
-pub returns-clause-whole : goal.returns-clause-whole
-returns-clause-whole c =
-    let r = c.retire_pages.ensures in
-    let s = c.settle.ensures in
-    whole_emptied c.forget_named.new.caches c.retire_pages.new.caches c.settle.new.caches c.forget_named.ensures.whole c.args.cache c.args.pages (c.forget_named.ensures.kept.sizes.sizes c.args.cache.0 ∙ c.requires.pages) r.nodes r.consistent r.kept.sizes r.few s.nodes s.kept.sound s.kept.sizes
+    emptied c.forget_named.new.caches c.retire_pages.new.caches c.settle.new.caches c.forget_named.ensures.whole c.args.cache c.args.pages (c.forget_named.ensures.kept.sizes.sizes c.args.cache.0 ∙ c.requires.pages) r.rule.nodes r.consistent r.kept.sizes r.few s.rule.nodes s.kept.sound s.kept.sizes
 
 pub returns-clause-kept : goal.returns-clause-kept
 returns-clause-kept c =
@@ -95,40 +91,37 @@ returns-clause-kept c =
     let d = c.settle.new.caches in
     let f = c.forget_named.ensures.kept in
     let rest = kept_both t b c.retire_pages.new.store c.retire_pages.new.caches u d f.tied c.retire_pages.ensures.kept c.settle.ensures.kept in
-    kept_unlisted names s a u d (kept_then names [] names s a t b u d c.requires.tied (λ x i. i) (λ x i. absurd i) f rest)
-    (homed_gone d c.settle.ensures.kept.sound.kept.listed c.args.cache 0 c.args.pages (returns-clause-empty c))
+    kept_unlisted names s a u d (kept_then names [] names s a t b u d c.requires.ready.retire.tied (λ x i. i) (λ x i. absurd i) f rest)
+    (homed_gone d c.settle.ensures.kept.sound.kept.listed c.args.cache 0 c.args.pages (emptied_now c))
 
-pub returns-clause-copies : goal.returns-clause-copies
-returns-clause-copies c =
-    sym (forest_of-copies c.settle.new.caches) ∙ ap (λ (f : Forest OwnState). f.copies) (returns-clause-nodes c)
-    ∙ destroy_counts_saves false (page_names c.args.cache 0 c.args.pages) (forest_of c.args.caches.now) ∙ forest_of-copies c.args.caches.now
-
-pub returns-clause-made : goal.returns-clause-made
-returns-clause-made c = let made = ap (λ (a : Arena). a.made) c.forget_named.ensures.same.rest in omega (arith, made, c.settle.ensures.counters.0, c.retire_pages.ensures.made)
-
-pub returns-clause-room : goal.returns-clause-room
-returns-clause-room c = let room = ap (λ (a : Arena). a.room.nodes) c.forget_named.ensures.same.rest in omega (arith, room, c.settle.ensures.room, c.retire_pages.ensures.room)
-
-pub returns-clause-fewer : goal.returns-clause-fewer
-returns-clause-fewer c = omega (arith, c.forget_named.ensures.count, c.settle.ensures.fewer, c.retire_pages.ensures.fewer)
-
-pub returns-clause-right : goal.returns-clause-right
-returns-clause-right c =
-    let fewer = returns-clause-fewer c in
-    right_after [] c.args.store.now c.args.caches.now c.settle.new.store c.settle.new.caches (returns-clause-kept c) (λ n some i. absurd i) (λ enough. omega (arith, enough, fewer))
-
-frames_are : (c : goal.After-settle) → frame_forest c.settle.new.caches c.settle.new.store.map ≡ rule_destroy false (page_names c.args.cache 0 c.args.pages) (frame_forest c.args.caches.now c.args.store.now.map)
-frames_are c =
-    let names = page_names c.args.cache 0 c.args.pages in
+pub returns-clause-empties : goal.returns-clause-empties
+returns-clause-empties c =
     let a = c.args.caches.now in
-    let m = c.args.store.now.map in
-    let sound = c.requires.whole.sound in
-    c.settle.ensures.frames ∙ ap settle (c.retire_pages.ensures.frames ∙ ap (retire_all names) c.forget_named.ensures.frames)
-    ∙ destroy_forgotten (is_named a c.args.cache) names (frame_forest a m) (frame_consistent a m sound c.requires.whole.consistent) (frame_pages a m sound names (pages_once a c.requires.whole c.args.cache c.args.pages c.requires.pages))
-    (λ named x i. frame_saved a m sound x (c.requires.saved named x i)) None
+    let b = c.forget_named.new.caches in
+    let d = c.settle.new.caches in
+    let f = c.forget_named.ensures in
+    let r = c.retire_pages.ensures in
+    let s = c.settle.ensures in
+    let room = ap (λ (k : Arena). k.room.nodes) f.same.rest in
+    let made = ap (λ (k : Arena). k.made) f.same.rest in
+    let fewer : length (own_states d) ≤ length (own_states a) = omega (arith, f.count, s.fewer, r.fewer) in
+    record {
+      settles = record {
+        settled = s.settled;
+        bounded = s.bounded;
+        made = omega (arith, made, s.counters.0, r.made);
+        copies = sym (forest_of-copies d) ∙ ap (λ (g : Forest OwnState). g.copies) (returns-clause-rule c).nodes ∙ destroy_counts_saves false (page_names c.args.cache 0 c.args.pages) (forest_of a) ∙ forest_of-copies a;
+      };
+      consistent = s.consistent;
+      empty = emptied_now c;
+      whole = whole_emptied b c.retire_pages.new.caches d f.whole c.args.cache c.args.pages (f.kept.sizes.sizes c.args.cache.0 ∙ c.requires.pages) r.rule.nodes r.consistent r.kept.sizes r.few s.rule.nodes s.kept.sound s.kept.sizes;
+      right = right_after [] c.args.store.now a c.settle.new.store d (returns-clause-kept c) (λ n some i. absurd i) (λ enough. omega (arith, enough, fewer));
+      room = omega (arith, room, s.room, r.room);
+      fewer = fewer;
+    }
 
 pub returns-clause-translations : goal.returns-clause-translations
 returns-clause-translations c =
     let a = c.args.caches.now in
-    destroy_replaces a c.args.store.now c.settle.new.caches c.settle.new.store c.requires.whole.sound c.requires.whole.consistent (returns-clause-kept c).tables
-    (page_names c.args.cache 0 c.args.pages) (pages_once a c.requires.whole c.args.cache c.args.pages c.requires.pages) (returns-clause-nodes c) (frames_are c)
+    destroy_replaces a c.args.store.now c.settle.new.caches c.settle.new.store c.requires.ready.retire.whole.sound c.requires.ready.retire.whole.consistent (returns-clause-kept c).tables
+    (page_names c.args.cache 0 c.args.pages) (pages_once a c.requires.ready.retire.whole c.args.cache c.args.pages c.requires.pages) (returns-clause-rule c).nodes (returns-clause-rule c).frames

@@ -1,7 +1,16 @@
-use Rattle.std.proofs.Common.{◌+◌, is_some, sym, ap, ◌∙◌, subst}
+use Rattle.std.proofs.Common.{◌≡◌, ◌+◌, Bool, true, false, List, None, is_some, sym, ap, ◌∙◌, subst}
+use Rattle.vm_ids.specs.declared.node_name.NodeName.{NodeName}
 use Rattle.vm_ids.specs.Forest.Commands.{page_names}
+use Rattle.vm_ids.specs.Forest.Forgetting.{forgotten}
+use Rattle.vm_ids.specs.Forest.Nodes.{Forest}
 use Rattle.vm_ids.proofs.Forest.Laws.Ranges.{ranges_hold_their_pages}
-use Rattle.page_release.specs.Homes.{IsUnclean}
+use Rattle.local_cache.specs.declared.own_state.OwnState.TheVariants.{Zero}
+use Rattle.local_cache.specs.Reading.{forest_of}
+use Rattle.residency.specs.Seeing.{frame_forest}
+use Rattle.residency.specs.StoreForest.{store_forest}
+use Rattle.residency.specs.World.{world}
+use Rattle.page_release.specs.Homes.{IsUnclean, is_named}
+use Rattle.page_release.specs.Steps.{forgotten_where, zeros_told}
 use Rattle.page_release.proofs.Forgotten.Law.{forgotten_whole}
 use Rattle.page_release.proofs.Tying.Kept.{kept_none}
 use Rattle.page_release.proofs.Tying.Named.{temporary_unclean}
@@ -10,7 +19,39 @@ use Rattle.page_release.proofs.forgetting.forget_named.Goals as goal
 pub returns-then-is_some-clause-whole : goal.returns-then-is_some-clause-whole
 returns-then-is_some-clause-whole c =
     let e = c.forget_pages.ensures in
-    forgotten_whole c.args.caches.now c.forget_pages.new.caches (page_names c.args.cache c.args.first.0 c.args.pages) c.requires.whole e.same e.kept.sound e.nodes
+    forgotten_whole c.args.caches.now c.forget_pages.new.caches (page_names c.args.cache c.args.first.0 c.args.pages) c.requires.whole e.same e.kept.sound e.rule.nodes
+
+-- a named cache's pages are forgotten, and those of a temporary one stay
+where_named : {P : Type 0} (named : Bool) (names : List NodeName) (p : P) (f : Forest P) → named ≡ true → forgotten names p f ≡ forgotten_where named names p f
+where_named named names p f is = ap (λ b. forgotten_where b names p f) (sym is)
+
+where_temporary : {P : Type 0} (named : Bool) (names : List NodeName) (p : P) (f : Forest P) → named ≡ false → f ≡ forgotten_where named names p f
+where_temporary named names p f is = ap (λ b. forgotten_where b names p f) (sym is)
+
+pub returns-then-is_some-clause-rule : goal.returns-then-is_some-clause-rule
+returns-then-is_some-clause-rule c =
+    let a = c.args.caches.now in
+    let s = c.args.store.now in
+    let names = page_names c.args.cache c.args.first.0 c.args.pages in
+    let e = c.forget_pages.ensures.rule in
+    let named : is_named a c.args.cache ≡ true = sym (ap is_some c.segment.ensures) ∙ sym c.is_some.ensures ∙ c.if-is_some.true in
+    record {
+      nodes = e.nodes ∙ where_named (is_named a c.args.cache) names Zero (forest_of a) named;
+      forest = λ told size fit. let w = world told size a s in e.forest told size fit ∙ where_named (is_named a c.args.cache) names (zeros_told w) (store_forest w) named;
+      frames = e.frames ∙ where_named (is_named a c.args.cache) names None (frame_forest a s.map) named;
+    }
+
+pub returns-else-is_some-clause-rule : goal.returns-else-is_some-clause-rule
+returns-else-is_some-clause-rule c =
+    let a = c.args.caches.now in
+    let s = c.args.store.now in
+    let names = page_names c.args.cache c.args.first.0 c.args.pages in
+    let temporary : is_named a c.args.cache ≡ false = sym (ap is_some c.segment.ensures) ∙ sym c.is_some.ensures ∙ c.if-is_some.false in
+    record {
+      nodes = where_temporary (is_named a c.args.cache) names Zero (forest_of a) temporary;
+      forest = λ told size fit. let w = world told size a s in where_temporary (is_named a c.args.cache) names (zeros_told w) (store_forest w) temporary;
+      frames = where_temporary (is_named a c.args.cache) names None (frame_forest a s.map) temporary;
+    }
 
 pub returns-else-is_some-clause-unclean : goal.returns-else-is_some-clause-unclean
 returns-else-is_some-clause-unclean c x i =

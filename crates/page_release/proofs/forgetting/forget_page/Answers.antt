@@ -1,7 +1,8 @@
-use Rattle.std.proofs.Common.{[], ◌∷◌, length, sym, ap, ◌∙◌, subst}
+use Rattle.std.proofs.Common.{◌≡◌, ℕ, [], ◌∷◌, length, Option, sym, ap, ◌∙◌, subst}
+use Rattle.vm_ids.specs.Held.{Held}
 use Rattle.vm_ids.specs.declared.node_name.NodeName.TheVariants.{Live}
 use Rattle.local_cache.specs.declared.own_state.OwnState.TheVariants.{Zero}
-use Rattle.local_cache.specs.Own.{is_absent, own_states}
+use Rattle.local_cache.specs.Own.{is_absent, own_of, own_states}
 use Rattle.local_cache.proofs.Nodes.OwnStates.{own_length}
 use Rattle.residency.specs.World.{SameNodes, world}
 use Rattle.residency.proofs.Worlds.Nodes.{with_own_same, same}
@@ -17,29 +18,22 @@ drop_page-requires c =
     subst (CanLeave c.args.store.now c.node_of-node.result) (sym c.own_state-state.ensures)
     (forget_can c.args.store.now c.args.caches.now c.requires.sound c.requires.tied c.node_of-node.result at.0 (Live c.args.cache c.args.page) at.1 c.requires.unpinned some)
 
-pub returns-then-not-is_absent-clause-nodes : goal.returns-then-not-is_absent-clause-nodes
-returns-then-not-is_absent-clause-nodes c =
-    let at = c.requires.sound.kept.listed.nodes c.args.cache.0 c.args.page.0 c.node_of-node.result c.node_of-node.ensures in
+pub returns-then-not-is_absent-clause-rule : goal.returns-then-not-is_absent-clause-rule
+returns-then-not-is_absent-clause-rule c =
+    let s = c.args.store.now in
+    let a = c.args.caches.now in
+    let n = c.node_of-node.result in
+    let x = Live c.args.cache c.args.page in
+    let t = c.drop_page.new.store in
+    let b = c.set_state.new.self in
+    let at = c.requires.sound.kept.listed.nodes c.args.cache.0 c.args.page.0 n c.node_of-node.ensures in
     let some = ap is_absent (sym c.own_state-state.ensures) ∙ sym c.is_absent.ensures.absent ∙ c.if-not-is_absent.true in
-    forget_nodes c.args.store.now c.args.caches.now c.requires.sound c.requires.tied c.node_of-node.result at.0 (Live c.args.cache c.args.page) at.1 c.requires.unpinned some
-    c.drop_page.new.store c.set_state.new.self c.set_state.ensures.changed
-    (λ told size. c.drop_page.ensures.store told size c.set_state.new.self ∙ ap (without_page (world told size c.set_state.new.self c.args.store.now) c.node_of-node.result) c.own_state-state.ensures)
-
-pub returns-then-not-is_absent-clause-forest : goal.returns-then-not-is_absent-clause-forest
-returns-then-not-is_absent-clause-forest c =
-    let at = c.requires.sound.kept.listed.nodes c.args.cache.0 c.args.page.0 c.node_of-node.result c.node_of-node.ensures in
-    let some = ap is_absent (sym c.own_state-state.ensures) ∙ sym c.is_absent.ensures.absent ∙ c.if-not-is_absent.true in
-    forget_forest c.args.store.now c.args.caches.now c.requires.sound c.requires.tied c.node_of-node.result at.0 (Live c.args.cache c.args.page) at.1 c.requires.unpinned some
-    c.drop_page.new.store c.set_state.new.self c.set_state.ensures.changed
-    (λ told size. c.drop_page.ensures.store told size c.set_state.new.self ∙ ap (without_page (world told size c.set_state.new.self c.args.store.now) c.node_of-node.result) c.own_state-state.ensures)
-
-pub returns-then-not-is_absent-clause-frames : goal.returns-then-not-is_absent-clause-frames
-returns-then-not-is_absent-clause-frames c =
-    let at = c.requires.sound.kept.listed.nodes c.args.cache.0 c.args.page.0 c.node_of-node.result c.node_of-node.ensures in
-    let some = ap is_absent (sym c.own_state-state.ensures) ∙ sym c.is_absent.ensures.absent ∙ c.if-not-is_absent.true in
-    forget_frames c.args.store.now c.args.caches.now c.requires.sound c.requires.tied c.node_of-node.result at.0 (Live c.args.cache c.args.page) at.1 c.requires.unpinned some
-    c.drop_page.new.store c.set_state.new.self c.set_state.ensures.changed
-    (λ told size. c.drop_page.ensures.store told size c.set_state.new.self ∙ ap (without_page (world told size c.set_state.new.self c.args.store.now) c.node_of-node.result) c.own_state-state.ensures)
+    let dropped : (told : Option Held) (size : Option ℕ) → world told size b t ≡ without_page (world told size b s) n (own_of a n) = λ told size. c.drop_page.ensures.store told size b ∙ ap (without_page (world told size b s) n) c.own_state-state.ensures in
+    record {
+      nodes = forget_nodes s a c.requires.sound c.requires.tied n at.0 x at.1 c.requires.unpinned some t b c.set_state.ensures.changed dropped;
+      forest = forget_forest s a c.requires.sound c.requires.tied n at.0 x at.1 c.requires.unpinned some t b c.set_state.ensures.changed dropped;
+      frames = forget_frames s a c.requires.sound c.requires.tied n at.0 x at.1 c.requires.unpinned some t b c.set_state.ensures.changed dropped;
+    }
 
 pub returns-then-not-is_absent-clause-kept : goal.returns-then-not-is_absent-clause-kept
 returns-then-not-is_absent-clause-kept c =
@@ -67,23 +61,19 @@ returns-then-not-is_absent-clause-count c =
     let at = c.requires.sound.kept.listed.nodes c.args.cache.0 c.args.page.0 c.node_of-node.result c.node_of-node.ensures in
     ap (λ a. length (own_states a)) c.set_state.ensures.changed ∙ own_length c.args.caches.now c.node_of-node.result Zero at.0
 
-pub returns-else-not-is_absent-clause-nodes : goal.returns-else-not-is_absent-clause-nodes
-returns-else-not-is_absent-clause-nodes c =
-    let at = c.requires.sound.kept.listed.nodes c.args.cache.0 c.args.page.0 c.node_of-node.result c.node_of-node.ensures in
+pub returns-else-not-is_absent-clause-rule : goal.returns-else-not-is_absent-clause-rule
+returns-else-not-is_absent-clause-rule c =
+    let s = c.args.store.now in
+    let a = c.args.caches.now in
+    let n = c.node_of-node.result in
+    let x = Live c.args.cache c.args.page in
+    let at = c.requires.sound.kept.listed.nodes c.args.cache.0 c.args.page.0 n c.node_of-node.ensures in
     let none = ap is_absent (sym c.own_state-state.ensures) ∙ sym c.is_absent.ensures.absent ∙ c.if-not-is_absent.false in
-    absent_nodes c.args.store.now c.args.caches.now c.requires.sound c.requires.tied c.node_of-node.result at.0 (Live c.args.cache c.args.page) at.1 none
-
-pub returns-else-not-is_absent-clause-forest : goal.returns-else-not-is_absent-clause-forest
-returns-else-not-is_absent-clause-forest c told size fit =
-    let at = c.requires.sound.kept.listed.nodes c.args.cache.0 c.args.page.0 c.node_of-node.result c.node_of-node.ensures in
-    let none = ap is_absent (sym c.own_state-state.ensures) ∙ sym c.is_absent.ensures.absent ∙ c.if-not-is_absent.false in
-    absent_forest c.args.store.now c.args.caches.now c.requires.sound c.requires.tied c.node_of-node.result at.0 (Live c.args.cache c.args.page) at.1 none told size
-
-pub returns-else-not-is_absent-clause-frames : goal.returns-else-not-is_absent-clause-frames
-returns-else-not-is_absent-clause-frames c =
-    let at = c.requires.sound.kept.listed.nodes c.args.cache.0 c.args.page.0 c.node_of-node.result c.node_of-node.ensures in
-    let none = ap is_absent (sym c.own_state-state.ensures) ∙ sym c.is_absent.ensures.absent ∙ c.if-not-is_absent.false in
-    absent_frames c.args.store.now c.args.caches.now c.requires.sound c.requires.tied c.node_of-node.result at.0 (Live c.args.cache c.args.page) at.1 none
+    record {
+      nodes = absent_nodes s a c.requires.sound c.requires.tied n at.0 x at.1 none;
+      forest = λ told size fit. absent_forest s a c.requires.sound c.requires.tied n at.0 x at.1 none told size;
+      frames = absent_frames s a c.requires.sound c.requires.tied n at.0 x at.1 none;
+    }
 
 pub returns-else-not-is_absent-clause-kept : goal.returns-else-not-is_absent-clause-kept
 returns-else-not-is_absent-clause-kept c = kept_none (Live c.args.cache c.args.page ∷ []) c.args.store.now c.args.caches.now c.requires.sound c.requires.tied

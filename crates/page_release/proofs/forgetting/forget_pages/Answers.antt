@@ -59,13 +59,13 @@ loop-page-preserved c =
     let x = page_name cache (p + k) in
     let all = page_names cache p n in
     record {
-      nodes = forgotten_by (forest_of a) (forest_of b) cache p n k low Zero e.nodes ∙ i.nodes;
+      nodes = forgotten_by (forest_of a) (forest_of b) cache p n k low Zero e.rule.nodes ∙ i.nodes;
       forest = λ told size fit.
           let one = i.kept.gives_back told size fit in
           forgotten_by (store_forest (world told size a t)) (store_forest (world told size b u)) cache p n k low (zeros_told (world told size o s))
-          (e.forest told size one.tied ∙ ap (λ (m : ℕ). forget (store_forest (world told size a t)) x (option_map (λ _. replicate m 0) told)) one.page)
+          (e.rule.forest told size one.tied ∙ ap (λ (m : ℕ). forget (store_forest (world told size a t)) x (option_map (λ _. replicate m 0) told)) one.page)
           ∙ i.forest told size fit;
-      frames = forgotten_by (frame_forest a t.map) (frame_forest b u.map) cache p n k low None e.frames ∙ i.frames;
+      frames = forgotten_by (frame_forest a t.map) (frame_forest b u.map) cache p n k low None e.rule.frames ∙ i.frames;
       kept = kept_then all (x ∷ []) all s o t a u b c.requires.tied (λ y j. j) (λ y j. elim j [ inl is ↦ subst (λ z. z ∈ all) (sym is) (in_range cache p n k low) | inr none ↦ absurd none ]) i.kept e.kept;
       same = same_then o a b i.same e.same;
       unclean = λ j below. elim (cases_eq j k) [
@@ -75,20 +75,17 @@ loop-page-preserved c =
       count = e.count ∙ i.count;
     }
 
-pub returns-clause-nodes : goal.returns-clause-nodes
-returns-clause-nodes c =
+pub returns-clause-rule : goal.returns-clause-rule
+returns-clause-rule c =
+    let i = c.loop-page.invariant in
+    let a = c.loop-page.caches in
+    let t = c.loop-page.store in
     let none = names_end c.args.cache (c.args.first.0 + c.loop-page.page) c.args.pages c.loop-page.page (omega (arith, c.loop-page-test.false)) in
-    ap (λ xs. forgotten xs Zero (forest_of c.loop-page.caches)) (sym none) ∙ c.loop-page.invariant.nodes
-
-pub returns-clause-forest : goal.returns-clause-forest
-returns-clause-forest c told size fit =
-    let none = names_end c.args.cache (c.args.first.0 + c.loop-page.page) c.args.pages c.loop-page.page (omega (arith, c.loop-page-test.false)) in
-    ap (λ xs. forgotten xs (zeros_told (world told size c.args.caches.now c.args.store.now)) (store_forest (world told size c.loop-page.caches c.loop-page.store))) (sym none) ∙ c.loop-page.invariant.forest told size fit
-
-pub returns-clause-frames : goal.returns-clause-frames
-returns-clause-frames c =
-    let none = names_end c.args.cache (c.args.first.0 + c.loop-page.page) c.args.pages c.loop-page.page (omega (arith, c.loop-page-test.false)) in
-    ap (λ xs. forgotten xs None (frame_forest c.loop-page.caches c.loop-page.store.map)) (sym none) ∙ c.loop-page.invariant.frames
+    record {
+      nodes = ap (λ xs. forgotten xs Zero (forest_of a)) (sym none) ∙ i.nodes;
+      forest = λ told size fit. ap (λ xs. forgotten xs (zeros_told (world told size c.args.caches.now c.args.store.now)) (store_forest (world told size a t))) (sym none) ∙ i.forest told size fit;
+      frames = ap (λ xs. forgotten xs None (frame_forest a t.map)) (sym none) ∙ i.frames;
+    }
 
 pub returns-clause-unclean : goal.returns-clause-unclean
 returns-clause-unclean c x j =

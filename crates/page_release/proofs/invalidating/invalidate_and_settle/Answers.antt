@@ -1,4 +1,4 @@
-use Rattle.std.proofs.Common.{◌≡◌, [], ◌+◌, None, arith, sym, refl, ap, ◌∙◌, subst}
+use Rattle.std.proofs.Common.{[], ◌+◌, None, arith, sym, refl, ap, ◌∙◌, subst}
 use Rattle.vm_ids.proofs.Forest.Counters.{replace_pages-copies, settle-counters}
 use Rattle.std.proofs.lemmas.Bool.{false≢true}
 use Rattle.vm_ids.proofs.Forest.Laws.Ranges.{ranges_hold_their_pages}
@@ -12,22 +12,22 @@ use Rattle.local_cache.specs.declared.own_state.OwnState.{OwnState}
 use Rattle.local_cache.specs.declared.own_state.OwnState.TheVariants.{OnSegment, Zero}
 use Rattle.local_cache.specs.Arena.{Arena}
 use Rattle.local_cache.specs.Reading.{forest_of, name_of}
-use Rattle.local_cache.proofs.Changes.SameNodes.{forest_of-copies}
-use Rattle.local_cache.proofs.Whole.Commands.{whole_copied}
 use Rattle.residency.specs.Seeing.{frame_forest}
 use Rattle.residency.specs.StoreForest.{store_forest}
 use Rattle.residency.specs.World.{world}
 use Rattle.residency.proofs.Worlds.Nodes.{still_like}
 use Rattle.page_release.specs.Homes.{HasHome, IsClean, named_page}
-use Rattle.page_release.specs.Steps.{forgotten_where, in_no_frame, on_segment, segment_pages, zeros_told}
+use Rattle.page_release.specs.Readings.{held_pages, new_frames, new_pages, new_states}
+use Rattle.page_release.specs.Steps.{forgotten_where, zeros_told}
 use Rattle.page_release.proofs.Framing.Shape.{frame_consistent, frame_pages, frame_saved}
 use Rattle.page_release.proofs.Freeing.Commands.{replace_replaces}
 use Rattle.page_release.proofs.Tying.Kept.{kept_then, unpinned_kept}
 use Rattle.page_release.proofs.Tying.Named.{named_home, named_same}
 use Rattle.page_release.proofs.Tying.Shape.{store_consistent, store_pages, store_saved}
-use Rattle.page_release.proofs.Tying.Sized.{bounded_capacity, right_after, same_live}
-use Rattle.local_cache.proofs.Whole.Like.{like_len, like_node}
+use Rattle.local_cache.proofs.Whole.Like.{like_node}
 use Rattle.page_release.proofs.Walking.Replacing.{clean_then, pages_of, replace_forgotten, segment_pages_same}
+use Rattle.page_release.proofs.Walking.Forgetting.{retire_kept}
+use Rattle.page_release.proofs.Walking.Settled.{pages_kept}
 use Rattle.page_release.proofs.invalidating.invalidate_and_settle.Goals as goal
 
 pub replace_each-requires-clause-named : goal.replace_each-requires-clause-named
@@ -38,15 +38,13 @@ replace_each-requires-clause-nodes c i low =
     let f = c.forget_named.ensures in
     like_node c.args.caches.now c.forget_named.new.caches f.kept.sound (still_like c.args.caches.now c.forget_named.new.caches f.same) (page_name c.args.cache (c.args.first.0 + i)) (c.requires.nodes i low)
 
-pub replace_each-requires-clause-unpinned : goal.replace_each-requires-clause-unpinned
-replace_each-requires-clause-unpinned c x i =
-    unpinned_kept (page_names c.args.cache c.args.first.0 c.args.pages) c.args.store.now c.args.caches.now c.forget_named.new.store c.forget_named.new.caches c.requires.tied c.forget_named.ensures.kept x (c.requires.unpinned x i)
+pub replace_each-requires-clause-retire : goal.replace_each-requires-clause-retire
+replace_each-requires-clause-retire c =
+    let f = c.forget_named.ensures in
+    retire_kept c.args.caches.now c.forget_named.new.caches f.same _ (page_names c.args.cache c.args.first.0 c.args.pages) c.args.store.now c.forget_named.new.store f.kept f.whole _ c.requires.ready.retire
 
 pub replace_each-requires-clause-room : goal.replace_each-requires-clause-room
-replace_each-requires-clause-room c = let room = ap (λ (a : Arena). a.room.nodes) c.forget_named.ensures.same.rest in omega (arith, room, c.requires.room)
-
-pub replace_each-requires-clause-made : goal.replace_each-requires-clause-made
-replace_each-requires-clause-made c = let made = ap (λ (a : Arena). a.made) c.forget_named.ensures.same.rest in omega (arith, made, c.requires.made)
+replace_each-requires-clause-room c = let room = ap (λ (a : Arena). a.room.nodes) c.forget_named.ensures.same.rest in omega (arith, room, c.requires.room.room)
 
 pub settle-requires-clause-unpinned : goal.settle-requires-clause-unpinned
 settle-requires-clause-unpinned c k =
@@ -54,33 +52,41 @@ settle-requires-clause-unpinned c k =
     let f = c.forget_named.ensures in
     let r = c.replace_each.ensures in
     unpinned_kept names c.forget_named.new.store c.forget_named.new.caches c.replace_each.new.store c.replace_each.new.caches f.kept.tied r.kept (Working k)
-    (unpinned_kept names c.args.store.now c.args.caches.now c.forget_named.new.store c.forget_named.new.caches c.requires.tied f.kept (Working k) (c.requires.working k))
+    (unpinned_kept names c.args.store.now c.args.caches.now c.forget_named.new.store c.forget_named.new.caches c.requires.ready.retire.tied f.kept (Working k) (c.requires.ready.working k))
 
-pub returns-clause-nodes : goal.returns-clause-nodes
-returns-clause-nodes c =
+pub returns-clause-rule : goal.returns-clause-rule
+returns-clause-rule c =
     let a = c.args.caches.now in
-    let names = page_names c.args.cache c.args.first.0 c.args.pages in
-    c.settle.ensures.nodes ∙ ap settle (c.replace_each.ensures.nodes ∙ ap (replace_pages (on_segment names)) (c.forget_named.ensures.nodes ∙ ap (λ b. forgotten_where b names Zero (forest_of a)) c.requires.named))
-    ∙ replace_forgotten (λ _. OnSegment) names (forest_of a) c.requires.whole.consistent (pages_of (forest_of a) c.args.cache c.args.first.0 c.args.pages c.requires.nodes) (c.requires.saved c.requires.named) Zero
-
-pub returns-clause-forest : goal.returns-clause-forest
-returns-clause-forest c told size fit =
-    let a = c.args.caches.now in
-    let s = c.args.store.now in
-    let names = page_names c.args.cache c.args.first.0 c.args.pages in
-    let w = world told size a s in
+    let u = c.args.store.now in
+    let m = u.map in
     let f = c.forget_named.ensures in
     let r = c.replace_each.ensures in
-    let sound = c.requires.whole.sound in
-    let one = (f.kept.gives_back told size fit).tied in
-    let two = (r.kept.gives_back told size one).tied in
-    let b = c.forget_named.new.caches in
-    let t = c.forget_named.new.store in
-    c.settle.ensures.forest told size two
-    ∙ ap settle (r.forest told size one ∙ ap (λ ps. replace_pages ps (store_forest (world told size b t))) (segment_pages_same told size s a t b f.kept.sizes names)
-    ∙ ap (replace_pages (segment_pages w names)) (f.forest told size fit ∙ ap (λ k. forgotten_where k names (zeros_told w) (store_forest w)) c.requires.named))
-    ∙ replace_forgotten (named_page w) names (store_forest w) (store_consistent w sound c.requires.whole.consistent) (store_pages w sound names (pages_of (forest_of a) c.args.cache c.args.first.0 c.args.pages c.requires.nodes))
-    (λ x i. store_saved w sound x (c.requires.saved c.requires.named x i)) (zeros_told w)
+    let e = c.settle.ensures in
+    let sound = c.requires.ready.retire.whole.sound in
+    let consistent = c.requires.ready.retire.whole.consistent in
+    let saved = c.requires.ready.saved in
+    let names = page_names c.args.cache c.args.first.0 c.args.pages in
+    let b = c.forget_named.new in
+    let named = c.requires.named in
+    let there = pages_of (forest_of a) c.args.cache c.args.first.0 c.args.pages c.requires.nodes in
+    record {
+      nodes =
+          e.rule.nodes ∙ ap settle (r.rule.nodes ∙ ap (replace_pages (held_pages new_states names)) (f.rule.nodes ∙ ap (λ k. forgotten_where k names Zero (forest_of a)) named))
+          ∙ replace_forgotten (λ _. OnSegment) names (forest_of a) consistent there (saved named) Zero;
+      forest = λ told size fit.
+          let w = world told size a u in
+          let one = (f.kept.gives_back told size fit).tied in
+          let two = (r.kept.gives_back told size one).tied in
+          e.rule.forest told size two
+          ∙ ap settle (r.rule.forest told size one ∙ ap (λ ps. replace_pages ps (store_forest (world told size b.caches b.store))) (segment_pages_same told size u a b.store b.caches f.kept.sizes names)
+          ∙ ap (replace_pages (held_pages (new_pages w) names)) (f.rule.forest told size fit ∙ ap (λ k. forgotten_where k names (zeros_told w) (store_forest w)) named))
+          ∙ replace_forgotten (named_page w) names (store_forest w) (store_consistent w sound consistent) (store_pages w sound names there)
+          (λ x i. store_saved w sound x (saved named x i)) (zeros_told w);
+      frames =
+          e.rule.frames ∙ ap settle (r.rule.frames ∙ ap (replace_pages (held_pages new_frames names)) (f.rule.frames ∙ ap (λ k. forgotten_where k names None (frame_forest a m)) named))
+          ∙ replace_forgotten (λ _. None) names (frame_forest a m) (frame_consistent a m sound consistent) (frame_pages a m sound names there)
+          (λ x i. frame_saved a m sound x (saved named x i)) None;
+    }
 
 pub returns-clause-kept : goal.returns-clause-kept
 returns-clause-kept c =
@@ -92,22 +98,8 @@ returns-clause-kept c =
     let u = c.replace_each.new.store in
     let d = c.replace_each.new.caches in
     let f = c.forget_named.ensures.kept in
-    let both = kept_then names names names s a t b u d c.requires.tied (λ x i. i) (λ x i. i) f c.replace_each.ensures.kept in
-    kept_then names [] names s a u d c.settle.new.store c.settle.new.caches c.requires.tied (λ x i. i) (λ x i. absurd i) both c.settle.ensures.kept
-
-pub returns-clause-whole : goal.returns-clause-whole
-returns-clause-whole c =
-    let f = c.forget_named.ensures in
-    let p = c.replace_each.ensures in
-    let s = c.settle.ensures in
-    let most = like_len c.args.caches.now c.forget_named.new.caches c.requires.whole.sound (still_like c.args.caches.now c.forget_named.new.caches f.same) in
-    whole_copied c.forget_named.new.caches c.replace_each.new.caches c.settle.new.caches f.whole c.args.pages (omega (arith, most, c.requires.few)) p.consistent p.stays p.few p.kept.sizes s.nodes s.kept.sound s.kept.sizes
-
-pub returns-clause-made : goal.returns-clause-made
-returns-clause-made c = let made = ap (λ (a : Arena). a.made) c.forget_named.ensures.same.rest in omega (arith, made, c.settle.ensures.counters.0, c.replace_each.ensures.made)
-
-pub returns-clause-live : goal.returns-clause-live
-returns-clause-live c = same_live c.args.caches.now c.settle.new.caches c.requires.whole (returns-clause-whole c) (returns-clause-kept c).sizes
+    let both = kept_then names names names s a t b u d c.requires.ready.retire.tied (λ x i. i) (λ x i. i) f c.replace_each.ensures.kept in
+    kept_then names [] names s a u d c.settle.new.store c.settle.new.caches c.requires.ready.retire.tied (λ x i. i) (λ x i. absurd i) both c.settle.ensures.kept
 
 -- each of the pages is one of its segment's in the end
 clean_now : (c : goal.After-settle) → (x : NodeName) → x ∈ page_names c.args.cache c.args.first.0 c.args.pages → IsClean c.settle.new.caches x
@@ -117,37 +109,21 @@ clean_now c x i =
     let home = named_home d c.args.cache (named_same c.args.caches.now d (returns-clause-kept c).sizes c.args.cache ∙ c.requires.named) (record { 0 = c.args.first.0 + at.0 }) in
     clean_then [] c.replace_each.new.caches d c.settle.ensures.kept.homes x (subst (HasHome d) (sym at.2) home) (λ k. k) (c.replace_each.ensures.clean x i)
 
-pub returns-clause-right : goal.returns-clause-right
-returns-clause-right c enough =
-    let names = page_names c.args.cache c.args.first.0 c.args.pages in
-    let d = c.settle.new.caches in
-    let kept = returns-clause-kept c in
-    right_after names c.args.store.now c.args.caches.now c.settle.new.store d kept (λ n some i unclean. absurd (false≢true (sym unclean ∙ clean_now c (name_of d n) i n refl)))
-    (λ _. bounded_capacity d _ kept.sound.kept.named c.settle.ensures.bounded (omega (arith, enough, returns-clause-live c)))
-
-pub returns-clause-copies : goal.returns-clause-copies
-returns-clause-copies c =
-    let f = forest_of c.args.caches.now in
-    let pages = on_segment (page_names c.args.cache c.args.first.0 c.args.pages) in
-    sym (forest_of-copies c.settle.new.caches) ∙ ap (λ (g : Forest OwnState). g.copies) (returns-clause-nodes c)
-    ∙ (settle-counters (replace_pages pages f)).copies ∙ replace_pages-copies pages f ∙ forest_of-copies c.args.caches.now
-
-pub returns-clause-room : goal.returns-clause-room
-returns-clause-room c = let room = ap (λ (a : Arena). a.room.nodes) c.forget_named.ensures.same.rest in omega (arith, room, c.settle.ensures.room, c.replace_each.ensures.room)
-
-frames_are : (c : goal.After-settle) → frame_forest c.settle.new.caches c.settle.new.store.map ≡ settle (replace_pages (in_no_frame (page_names c.args.cache c.args.first.0 c.args.pages)) (frame_forest c.args.caches.now c.args.store.now.map))
-frames_are c =
+pub returns-clause-pages : goal.returns-clause-pages
+returns-clause-pages c =
     let names = page_names c.args.cache c.args.first.0 c.args.pages in
     let a = c.args.caches.now in
-    let m = c.args.store.now.map in
-    let f = frame_forest a m in
-    let sound = c.requires.whole.sound in
-    c.settle.ensures.frames ∙ ap settle (c.replace_each.ensures.frames ∙ ap (replace_pages (in_no_frame names)) (c.forget_named.ensures.frames ∙ ap (λ b. forgotten_where b names None f) c.requires.named))
-    ∙ replace_forgotten (λ _. None) names f (frame_consistent a m sound c.requires.whole.consistent) (frame_pages a m sound names (pages_of (forest_of a) c.args.cache c.args.first.0 c.args.pages c.requires.nodes))
-    (λ x i. frame_saved a m sound x (c.requires.saved c.requires.named x i)) None
+    let d = c.settle.new.caches in
+    let f = c.forget_named.ensures in
+    let r = c.replace_each.ensures in
+    let e = c.settle.ensures in
+    let kept = returns-clause-kept c in
+    pages_kept c.args.pages names c.args.store.now a c.forget_named.new.caches c.replace_each.new.caches c.settle.new.store d kept c.requires.ready.retire.whole c.requires.room f.same
+    f.whole r.grows r.kept.sizes e.rule.nodes e.kept.sound e.kept.sizes e.settled e.bounded e.counters.0 e.room
+    (λ n some i unclean. absurd (false≢true (sym unclean ∙ clean_now c (name_of d n) i n refl))) (ap (λ (g : Forest OwnState). g.copies) (returns-clause-rule c).nodes ∙ (settle-counters (replace_pages (held_pages new_states names) (forest_of a))).copies ∙ replace_pages-copies (held_pages new_states names) (forest_of a))
 
 pub returns-clause-translations : goal.returns-clause-translations
 returns-clause-translations c =
     let a = c.args.caches.now in
-    replace_replaces a c.args.store.now c.settle.new.caches c.settle.new.store c.requires.whole.sound c.requires.whole.consistent (returns-clause-kept c).tables
-    (page_names c.args.cache c.args.first.0 c.args.pages) (pages_of (forest_of a) c.args.cache c.args.first.0 c.args.pages c.requires.nodes) (returns-clause-nodes c) (frames_are c)
+    replace_replaces a c.args.store.now c.settle.new.caches c.settle.new.store c.requires.ready.retire.whole.sound c.requires.ready.retire.whole.consistent (returns-clause-kept c).tables
+    (page_names c.args.cache c.args.first.0 c.args.pages) (pages_of (forest_of a) c.args.cache c.args.first.0 c.args.pages c.requires.nodes) (returns-clause-rule c).nodes (returns-clause-rule c).frames

@@ -1,12 +1,33 @@
 use Rattle.vm_ids.specs.Forest.Commands.{page_names}
 use Rattle.vm_ids.specs.Forest.NameLists.{◌∈◌}
-use Rattle.page_release.proofs.Leading.Behind.{kept_behind}
+use Rattle.page_release.proofs.Leading.Behind.{goes_behind, kept_behind, pages_behind, ready_behind}
 use Rattle.page_release.proofs.Leading.Left.{leaves, ready_first}
 use Rattle.page_release.proofs.Leading.Ranges.{tables_mapped}
 use Rattle.page_release.proofs.invalidating.invalidate_pages.Goals as goal
 
+pub invalidate_and_settle-requires-clause-ready : goal.invalidate_and_settle-requires-clause-ready
+invalidate_and_settle-requires-clause-ready c =
+    let s = c.args.store.now in
+    let t = c.drop_seen.new.store in
+    ready_behind s t (tables_mapped s t _ c.drop_seen.ensures) c.args.caches.now c.args.pages c.args.cache (page_names c.args.cache c.args.first.0 c.args.pages) c.requires.ready
+
+pub returns-clause-rule : goal.returns-clause-rule
+returns-clause-rule c =
+    let s = c.args.store.now in
+    let t = c.drop_seen.new.store in
+    goes_behind s t (tables_mapped s t _ c.drop_seen.ensures) c.args.caches.now c.invalidate_and_settle.new.store c.invalidate_and_settle.new.caches _ c.invalidate_and_settle.ensures.rule
+
 pub returns-clause-kept : goal.returns-clause-kept
-returns-clause-kept c = kept_behind (page_names c.args.cache c.args.first.0 c.args.pages) c.args.store.now c.drop_seen.new.store (tables_mapped c.args.store.now c.drop_seen.new.store _ c.drop_seen.ensures) c.args.caches.now c.invalidate_and_settle.new.store c.invalidate_and_settle.new.caches c.invalidate_and_settle.ensures.kept
+returns-clause-kept c =
+    let s = c.args.store.now in
+    let t = c.drop_seen.new.store in
+    kept_behind s t (tables_mapped s t _ c.drop_seen.ensures) c.args.caches.now c.invalidate_and_settle.new.store c.invalidate_and_settle.new.caches (page_names c.args.cache c.args.first.0 c.args.pages) c.invalidate_and_settle.ensures.kept
+
+pub returns-clause-pages : goal.returns-clause-pages
+returns-clause-pages c =
+    let s = c.args.store.now in
+    let t = c.drop_seen.new.store in
+    pages_behind s t (tables_mapped s t _ c.drop_seen.ensures) c.args.caches.now c.invalidate_and_settle.new.store c.invalidate_and_settle.new.caches c.args.pages c.invalidate_and_settle.ensures.pages
 
 pub returns-clause-translations : goal.returns-clause-translations
 returns-clause-translations c =

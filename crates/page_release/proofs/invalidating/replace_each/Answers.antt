@@ -21,7 +21,7 @@ use Rattle.residency.specs.Seeing.{frame_forest}
 use Rattle.residency.specs.StoreForest.{store_forest}
 use Rattle.residency.specs.World.{world}
 use Rattle.page_release.specs.Homes.{HasHome, IsClean, named_page}
-use Rattle.page_release.specs.Steps.{in_no_frame, on_segment, segment_pages}
+use Rattle.page_release.specs.Readings.{held_pages, new_frames, new_pages, new_states}
 use Rattle.page_release.proofs.Forgotten.Range.{in_range, names_end, names_start, same_place}
 use Rattle.page_release.proofs.Tying.Kept.{kept_none, kept_then, unclean_kept, unpinned_kept}
 use Rattle.page_release.proofs.Tying.Named.{named_home, named_same}
@@ -34,13 +34,13 @@ loop-page-init c =
     let s = c.args.store.now in
     let start = names_start c.args.cache c.args.first.0 c.args.pages in
     record {
-      nodes = ap (λ xs. replace_pages (on_segment xs) (forest_of a)) (sym start);
-      forest = λ told size fit. let w = world told size a s in ap (λ xs. replace_pages (segment_pages w xs) (store_forest w)) (sym start);
-      frames = ap (λ xs. replace_pages (in_no_frame xs) (frame_forest a s.map)) (sym start);
-      kept = kept_none (page_names c.args.cache c.args.first.0 c.args.pages) s a c.requires.whole.sound c.requires.tied;
+      nodes = ap (λ xs. replace_pages (held_pages new_states xs) (forest_of a)) (sym start);
+      forest = λ told size fit. let w = world told size a s in ap (λ xs. replace_pages (held_pages (new_pages w) xs) (store_forest w)) (sym start);
+      frames = ap (λ xs. replace_pages (held_pages new_frames xs) (frame_forest a s.map)) (sym start);
+      kept = kept_none (page_names c.args.cache c.args.first.0 c.args.pages) s a c.requires.retire.whole.sound c.requires.retire.tied;
       done = λ i low. absurd (omega (arith, low));
       unclean = λ i low below. c.requires.unclean (page_name c.args.cache (c.args.first.0 + i)) (in_range c.args.cache c.args.first.0 c.args.pages i below);
-      consistent = c.requires.whole.consistent;
+      consistent = c.requires.retire.whole.consistent;
       stays = λ x is. is;
       room = omega arith;
       made = omega arith;
@@ -55,8 +55,8 @@ detach_page-requires-clause-node c =
 pub detach_page-requires-clause-unpinned : goal.detach_page-requires-clause-unpinned
 detach_page-requires-clause-unpinned c =
     let x = page_name c.args.cache (c.args.first.0 + c.loop-page.page) in
-    unpinned_kept (page_names c.args.cache c.args.first.0 c.args.pages) c.args.store.now c.args.caches.now c.loop-page.store c.loop-page.caches c.requires.tied c.loop-page.invariant.kept x
-    (c.requires.unpinned x (in_range c.args.cache c.args.first.0 c.args.pages c.loop-page.page c.loop-page-test.true))
+    unpinned_kept (page_names c.args.cache c.args.first.0 c.args.pages) c.args.store.now c.args.caches.now c.loop-page.store c.loop-page.caches c.requires.retire.tied c.loop-page.invariant.kept x
+    (c.requires.retire.unpinned x (in_range c.args.cache c.args.first.0 c.args.pages c.loop-page.page c.loop-page-test.true))
 
 pub detach_page-requires-clause-unclean : goal.detach_page-requires-clause-unclean
 detach_page-requires-clause-unclean c = c.loop-page.invariant.unclean c.loop-page.page (omega arith) c.loop-page-test.true
@@ -96,7 +96,7 @@ loop-page-preserved c =
           (e.forest told size (i.kept.gives_back told size fit).tied ∙ ap (λ v. detach (store_forest now) x (Some v)) (named_page_same told size s o t a i.kept.sizes x))
           ∙ i.forest told size fit;
       frames = replaced_by (frame_forest a t.map) (frame_forest b u.map) (λ _. None) cache p n k low e.frames ∙ i.frames;
-      kept = kept_then all (x ∷ []) all s o t a u b c.requires.tied (λ y j. j) (λ y j. elim j [ inl same ↦ subst (λ z. z ∈ all) (sym same) (in_range cache p n k low) | inr none ↦ absurd none ]) i.kept e.kept;
+      kept = kept_then all (x ∷ []) all s o t a u b c.requires.retire.tied (λ y j. j) (λ y j. elim j [ inl same ↦ subst (λ z. z ∈ all) (sym same) (in_range cache p n k low) | inr none ↦ absurd none ]) i.kept e.kept;
       done = λ j below. elim (cases_eq j k) [
         | inl same ↦ subst (λ m. IsClean b (page_name cache (p + m))) (sym same) (detached_clean a b e.kept.sound node.0 cache (record { 0 = p + k }) d.0 d.1)
         | inr apart ↦ clean_then (x ∷ []) a b e.kept.homes (page_name cache (p + j)) (home j) (others j apart) (i.done j (omega (arith, below, apart)))
@@ -109,22 +109,31 @@ loop-page-preserved c =
       few = omega (arith, i.few, detach_len f i.consistent x is refl (Some OnSegment), ap (λ (g : Forest OwnState). len g.nodes) e.nodes);
     }
 
-pub returns-clause-nodes : goal.returns-clause-nodes
-returns-clause-nodes c =
+pub returns-clause-rule : goal.returns-clause-rule
+returns-clause-rule c =
+    let i = c.loop-page.invariant in
+    let a = c.loop-page.caches in
+    let t = c.loop-page.store in
     let none = names_end c.args.cache (c.args.first.0 + c.loop-page.page) c.args.pages c.loop-page.page (omega (arith, c.loop-page-test.false)) in
-    ap (λ xs. replace_pages (on_segment xs) (forest_of c.loop-page.caches)) (sym none) ∙ c.loop-page.invariant.nodes
-
-pub returns-clause-forest : goal.returns-clause-forest
-returns-clause-forest c told size fit =
-    let none = names_end c.args.cache (c.args.first.0 + c.loop-page.page) c.args.pages c.loop-page.page (omega (arith, c.loop-page-test.false)) in
-    ap (λ xs. replace_pages (segment_pages (world told size c.args.caches.now c.args.store.now) xs) (store_forest (world told size c.loop-page.caches c.loop-page.store))) (sym none) ∙ c.loop-page.invariant.forest told size fit
-
-pub returns-clause-frames : goal.returns-clause-frames
-returns-clause-frames c =
-    let none = names_end c.args.cache (c.args.first.0 + c.loop-page.page) c.args.pages c.loop-page.page (omega (arith, c.loop-page-test.false)) in
-    ap (λ xs. replace_pages (in_no_frame xs) (frame_forest c.loop-page.caches c.loop-page.store.map)) (sym none) ∙ c.loop-page.invariant.frames
+    record {
+      nodes = ap (λ xs. replace_pages (held_pages new_states xs) (forest_of a)) (sym none) ∙ i.nodes;
+      forest = λ told size fit. ap (λ xs. replace_pages (held_pages (new_pages (world told size c.args.caches.now c.args.store.now)) xs) (store_forest (world told size a t))) (sym none) ∙ i.forest told size fit;
+      frames = ap (λ xs. replace_pages (held_pages new_frames xs) (frame_forest a t.map)) (sym none) ∙ i.frames;
+    }
 
 pub returns-clause-clean : goal.returns-clause-clean
 returns-clause-clean c x j =
     let at = (ranges_hold_their_pages c.args.cache c.args.first.0 c.args.pages x).0 j in
     subst (IsClean c.loop-page.caches) (sym at.2) (c.loop-page.invariant.done at.0 (omega (arith, at.1, c.loop-page-test.false)))
+
+pub returns-clause-grows : goal.returns-clause-grows
+returns-clause-grows c =
+    let i = c.loop-page.invariant in
+    let end = c.loop-page.auto.page-end in
+    record {
+      consistent = i.consistent;
+      stays = i.stays;
+      made = omega (arith, i.made, end);
+      room = omega (arith, i.room, end);
+      few = omega (arith, i.few, end);
+    }

@@ -1,4 +1,4 @@
-use Rattle.std.proofs.Common.{◌≡◌, [], ℕ, None, arith, false, sym, ap, ◌∙◌, subst}
+use Rattle.std.proofs.Common.{[], ℕ, None, arith, false, sym, ap, ◌∙◌, subst}
 use Rattle.std.specs.Prelude.{option_map, replicate}
 use Rattle.vm_ids.proofs.Forest.Laws.Commands.{move_counts_saves, still_can}
 use Rattle.vm_ids.specs.declared.node_name.NodeName.TheVariants.{Working}
@@ -10,8 +10,6 @@ use Rattle.local_cache.specs.declared.own_state.OwnState.{OwnState}
 use Rattle.local_cache.specs.declared.own_state.OwnState.TheVariants.{Zero}
 use Rattle.local_cache.specs.Arena.{Arena}
 use Rattle.local_cache.specs.Reading.{forest_of}
-use Rattle.local_cache.proofs.Changes.SameNodes.{forest_of-copies}
-use Rattle.local_cache.proofs.Whole.Commands.{whole_copied}
 use Rattle.residency.specs.Seeing.{frame_forest}
 use Rattle.residency.specs.StoreForest.{store_forest}
 use Rattle.residency.specs.World.{world}
@@ -25,74 +23,84 @@ use Rattle.page_release.proofs.Tying.Homes.{writable_after}
 use Rattle.page_release.proofs.Tying.Kept.{kept_both, kept_then, unpinned_kept}
 use Rattle.page_release.proofs.Tying.Named.{named_same}
 use Rattle.page_release.proofs.Tying.Shape.{store_can, store_consistent, store_saved}
-use Rattle.page_release.proofs.Tying.Sized.{bounded_capacity, right_after, same_live}
-use Rattle.local_cache.proofs.Whole.Like.{like_len, like_node}
+use Rattle.local_cache.proofs.Whole.Like.{like_node}
 use Rattle.page_release.proofs.Walking.Ranges.{destination_names, destination_nodes}
+use Rattle.page_release.proofs.Walking.Forgetting.{retire_kept}
+use Rattle.page_release.proofs.Walking.Settled.{pages_kept}
 use Rattle.page_release.proofs.moving.move_and_settle.Goals as goal
 
 pub forget_named-requires-clause-nodes : goal.forget_named-requires-clause-nodes
-forget_named-requires-clause-nodes c = destination_nodes (forest_of c.args.caches.now) c.args.span c.requires.can
+forget_named-requires-clause-nodes c = destination_nodes (forest_of c.args.caches.now) c.args.span c.requires.transfer.can
 
 pub forget_named-requires-clause-unpinned : goal.forget_named-requires-clause-unpinned
-forget_named-requires-clause-unpinned c x i = c.requires.unpinned x (subst (λ xs. x ∈ xs) (sym (destination_names c.args.span)) i)
+forget_named-requires-clause-unpinned c x i = c.requires.ready.retire.unpinned x (subst (λ xs. x ∈ xs) (sym (destination_names c.args.span)) i)
 
 pub move_each-requires-clause-can : goal.move_each-requires-clause-can
 move_each-requires-clause-can c =
     let f = c.forget_named.ensures in
     still_can (forest_of c.args.caches.now) (forest_of c.forget_named.new.caches) (span_pairs c.args.span)
-    (λ x live is. like_node c.args.caches.now c.forget_named.new.caches f.kept.sound (still_like c.args.caches.now c.forget_named.new.caches f.same) x is) c.requires.can
+    (λ x live is. like_node c.args.caches.now c.forget_named.new.caches f.kept.sound (still_like c.args.caches.now c.forget_named.new.caches f.same) x is) c.requires.transfer.can
 
-pub move_each-requires-clause-unpinned : goal.move_each-requires-clause-unpinned
-move_each-requires-clause-unpinned c x i =
-    unpinned_kept (page_names c.args.span.to c.args.span.to_page.0 c.args.span.pages) c.args.store.now c.args.caches.now c.forget_named.new.store c.forget_named.new.caches c.requires.tied c.forget_named.ensures.kept x (c.requires.unpinned x i)
+pub move_each-requires-clause-retire : goal.move_each-requires-clause-retire
+move_each-requires-clause-retire c =
+    let f = c.forget_named.ensures in
+    retire_kept c.args.caches.now c.forget_named.new.caches f.same _ (page_names c.args.span.to c.args.span.to_page.0 c.args.span.pages) c.args.store.now c.forget_named.new.store f.kept f.whole _ c.requires.ready.retire
 
 pub move_each-requires-clause-unclean : goal.move_each-requires-clause-unclean
 move_each-requires-clause-unclean c x i = c.forget_named.ensures.unclean x (subst (λ xs. x ∈ xs) (destination_names c.args.span) i)
 
 pub move_each-requires-clause-room : goal.move_each-requires-clause-room
-move_each-requires-clause-room c = let room = ap (λ (a : Arena). a.room.nodes) c.forget_named.ensures.same.rest in omega (arith, room, c.requires.room)
-
-pub move_each-requires-clause-made : goal.move_each-requires-clause-made
-move_each-requires-clause-made c = let made = ap (λ (a : Arena). a.made) c.forget_named.ensures.same.rest in omega (arith, made, c.requires.made)
+move_each-requires-clause-room c = let room = ap (λ (a : Arena). a.room.nodes) c.forget_named.ensures.same.rest in omega (arith, room, c.requires.room.room)
 
 pub move_each-requires-clause-temporary : goal.move_each-requires-clause-temporary
 move_each-requires-clause-temporary c = named_same c.args.caches.now c.forget_named.new.caches c.forget_named.ensures.kept.sizes c.args.span.from ∙ c.requires.temporary
 
 pub move_each-requires-clause-sources : goal.move_each-requires-clause-sources
 move_each-requires-clause-sources c x i =
-    unpinned_kept (page_names c.args.span.to c.args.span.to_page.0 c.args.span.pages) c.args.store.now c.args.caches.now c.forget_named.new.store c.forget_named.new.caches c.requires.tied c.forget_named.ensures.kept x (c.requires.sources x i)
+    unpinned_kept (page_names c.args.span.to c.args.span.to_page.0 c.args.span.pages) c.args.store.now c.args.caches.now c.forget_named.new.store c.forget_named.new.caches c.requires.ready.retire.tied c.forget_named.ensures.kept x (c.requires.sources x i)
 
 pub settle-requires-clause-unpinned : goal.settle-requires-clause-unpinned
 settle-requires-clause-unpinned c k =
     let f = c.forget_named.ensures in
     let r = c.move_each.ensures in
     unpinned_kept [] c.forget_named.new.store c.forget_named.new.caches c.move_each.new.store c.move_each.new.caches f.kept.tied r.kept (Working k)
-    (unpinned_kept (page_names c.args.span.to c.args.span.to_page.0 c.args.span.pages) c.args.store.now c.args.caches.now c.forget_named.new.store c.forget_named.new.caches c.requires.tied f.kept (Working k) (c.requires.working k))
+    (unpinned_kept (page_names c.args.span.to c.args.span.to_page.0 c.args.span.pages) c.args.store.now c.args.caches.now c.forget_named.new.store c.forget_named.new.caches c.requires.ready.retire.tied f.kept (Working k) (c.requires.ready.working k))
 
-pub returns-clause-nodes : goal.returns-clause-nodes
-returns-clause-nodes c =
+pub returns-clause-rule : goal.returns-clause-rule
+returns-clause-rule c =
     let a = c.args.caches.now in
-    let s = c.args.span in
-    let pairs = span_pairs s in
-    c.settle.ensures.nodes ∙ ap settle c.move_each.ensures.nodes
-    ∙ ap (move_ false Zero pairs) (c.forget_named.ensures.nodes ∙ ap (λ xs. forgotten_where (is_named a s.to) xs Zero (forest_of a)) (sym (destination_names s)))
-    ∙ move_forgotten (is_named a s.to) pairs (forest_of a) c.requires.whole.consistent c.requires.can c.requires.saved Zero Zero
-
-pub returns-clause-forest : goal.returns-clause-forest
-returns-clause-forest c told size fit =
-    let a = c.args.caches.now in
-    let s = c.args.span in
-    let pairs = span_pairs s in
-    let w = world told size a c.args.store.now in
+    let u = c.args.store.now in
+    let m = u.map in
     let f = c.forget_named.ensures in
     let r = c.move_each.ensures in
-    let sound = c.requires.whole.sound in
-    let one = (f.kept.gives_back told size fit).tied in
-    let two = (r.kept.gives_back told size one).tied in
-    c.settle.ensures.forest told size two ∙ ap settle (r.forest told size one)
-    ∙ ap (λ z. settle (move_pages z pairs (store_forest (world told size c.forget_named.new.caches c.forget_named.new.store)))) (ap (λ (k : ℕ). option_map (λ _. replicate k 0) told) (f.kept.gives_back told size fit).page)
-    ∙ ap (move_ false (zeros_told w) pairs) (f.forest told size fit ∙ ap (λ xs. forgotten_where (is_named a s.to) xs (zeros_told w) (store_forest w)) (sym (destination_names s)))
-    ∙ move_forgotten (is_named a s.to) pairs (store_forest w) (store_consistent w sound c.requires.whole.consistent) (store_can w sound pairs c.requires.can) (λ named x i. store_saved w sound x (c.requires.saved named x i)) (zeros_told w) (zeros_told w)
+    let e = c.settle.ensures in
+    let sound = c.requires.ready.retire.whole.sound in
+    let consistent = c.requires.ready.retire.whole.consistent in
+    let saved = c.requires.ready.saved in
+    let s = c.args.span in
+    let pairs = span_pairs s in
+    let b = c.forget_named.new in
+    let named = is_named a s.to in
+    let can = c.requires.transfer.can in
+    let names = sym (destination_names s) in
+    record {
+      nodes =
+          e.rule.nodes ∙ ap settle r.rule.nodes
+          ∙ ap (move_ false Zero pairs) (f.rule.nodes ∙ ap (λ xs. forgotten_where named xs Zero (forest_of a)) names)
+          ∙ move_forgotten named pairs (forest_of a) consistent can saved Zero Zero;
+      forest = λ told size fit.
+          let w = world told size a u in
+          let one = (f.kept.gives_back told size fit).tied in
+          let two = (r.kept.gives_back told size one).tied in
+          e.rule.forest told size two ∙ ap settle (r.rule.forest told size one)
+          ∙ ap (λ z. settle (move_pages z pairs (store_forest (world told size b.caches b.store)))) (ap (λ (k : ℕ). option_map (λ _. replicate k 0) told) (f.kept.gives_back told size fit).page)
+          ∙ ap (move_ false (zeros_told w) pairs) (f.rule.forest told size fit ∙ ap (λ xs. forgotten_where named xs (zeros_told w) (store_forest w)) names)
+          ∙ move_forgotten named pairs (store_forest w) (store_consistent w sound consistent) (store_can w sound pairs can) (λ named x i. store_saved w sound x (saved named x i)) (zeros_told w) (zeros_told w);
+      frames =
+          e.rule.frames ∙ ap settle r.rule.frames
+          ∙ ap (move_ false None pairs) (f.rule.frames ∙ ap (λ xs. forgotten_where named xs None (frame_forest a m)) names)
+          ∙ move_forgotten named pairs (frame_forest a m) (frame_consistent a m sound consistent) (frame_can a m sound pairs can) (λ named x i. frame_saved a m sound x (saved named x i)) None None;
+    }
 
 pub returns-clause-kept : goal.returns-clause-kept
 returns-clause-kept c =
@@ -102,50 +110,22 @@ returns-clause-kept c =
     let b = c.forget_named.new.caches in
     let f = c.forget_named.ensures.kept in
     let rest = kept_both t b c.move_each.new.store c.move_each.new.caches c.settle.new.store c.settle.new.caches f.tied c.move_each.ensures.kept c.settle.ensures.kept in
-    kept_then names [] (firsts (span_pairs s)) c.args.store.now c.args.caches.now t b c.settle.new.store c.settle.new.caches c.requires.tied (λ x i. subst (λ xs. x ∈ xs) (sym (destination_names s)) i) (λ x i. absurd i) f rest
+    kept_then names [] (firsts (span_pairs s)) c.args.store.now c.args.caches.now t b c.settle.new.store c.settle.new.caches c.requires.ready.retire.tied (λ x i. subst (λ xs. x ∈ xs) (sym (destination_names s)) i) (λ x i. absurd i) f rest
 
-pub returns-clause-whole : goal.returns-clause-whole
-returns-clause-whole c =
-    let f = c.forget_named.ensures in
-    let p = c.move_each.ensures in
-    let s = c.settle.ensures in
-    let most = like_len c.args.caches.now c.forget_named.new.caches c.requires.whole.sound (still_like c.args.caches.now c.forget_named.new.caches f.same) in
-    whole_copied c.forget_named.new.caches c.move_each.new.caches c.settle.new.caches f.whole c.args.span.pages (omega (arith, most, c.requires.few)) p.consistent p.stays p.few p.kept.sizes s.nodes s.kept.sound s.kept.sizes
-
-pub returns-clause-made : goal.returns-clause-made
-returns-clause-made c = let made = ap (λ (a : Arena). a.made) c.forget_named.ensures.same.rest in omega (arith, made, c.settle.ensures.counters.0, c.move_each.ensures.made)
-
-pub returns-clause-live : goal.returns-clause-live
-returns-clause-live c = same_live c.args.caches.now c.settle.new.caches c.requires.whole (returns-clause-whole c) (returns-clause-kept c).sizes
-
-pub returns-clause-right : goal.returns-clause-right
-returns-clause-right c enough =
+pub returns-clause-pages : goal.returns-clause-pages
+returns-clause-pages c =
     let names = firsts (span_pairs c.args.span) in
-    let kept = returns-clause-kept c in
-    right_after names c.args.store.now c.args.caches.now c.settle.new.store c.settle.new.caches kept (writable_after names c.args.caches.now c.settle.new.caches kept.sizes c.requires.granted)
-    (λ _. bounded_capacity c.settle.new.caches _ kept.sound.kept.named c.settle.ensures.bounded (omega (arith, enough, returns-clause-live c)))
-
-pub returns-clause-copies : goal.returns-clause-copies
-returns-clause-copies c =
-    sym (forest_of-copies c.settle.new.caches) ∙ ap (λ (f : Forest OwnState). f.copies) (returns-clause-nodes c)
-    ∙ move_counts_saves false Zero (span_pairs c.args.span) (forest_of c.args.caches.now) ∙ forest_of-copies c.args.caches.now
-
-pub returns-clause-room : goal.returns-clause-room
-returns-clause-room c = let room = ap (λ (a : Arena). a.room.nodes) c.forget_named.ensures.same.rest in omega (arith, room, c.settle.ensures.room, c.move_each.ensures.room)
-
-frames_are : (c : goal.After-settle) → frame_forest c.settle.new.caches c.settle.new.store.map ≡ move_ false None (span_pairs c.args.span) (frame_forest c.args.caches.now c.args.store.now.map)
-frames_are c =
     let a = c.args.caches.now in
-    let m = c.args.store.now.map in
-    let s = c.args.span in
-    let pairs = span_pairs s in
-    let f = frame_forest a m in
-    let sound = c.requires.whole.sound in
-    c.settle.ensures.frames ∙ ap settle c.move_each.ensures.frames
-    ∙ ap (move_ false None pairs) (c.forget_named.ensures.frames ∙ ap (λ xs. forgotten_where (is_named a s.to) xs None f) (sym (destination_names s)))
-    ∙ move_forgotten (is_named a s.to) pairs f (frame_consistent a m sound c.requires.whole.consistent) (frame_can a m sound pairs c.requires.can) (λ named x i. frame_saved a m sound x (c.requires.saved named x i)) None None
+    let d = c.settle.new.caches in
+    let f = c.forget_named.ensures in
+    let r = c.move_each.ensures in
+    let e = c.settle.ensures in
+    let kept = returns-clause-kept c in
+    pages_kept c.args.span.pages names c.args.store.now a c.forget_named.new.caches c.move_each.new.caches c.settle.new.store d kept c.requires.ready.retire.whole c.requires.room f.same
+    f.whole r.grows r.kept.sizes e.rule.nodes e.kept.sound e.kept.sizes e.settled e.bounded e.counters.0 e.room
+    (writable_after names a d kept.sizes c.requires.transfer.granted) (ap (λ (g : Forest OwnState). g.copies) (returns-clause-rule c).nodes ∙ move_counts_saves false Zero (span_pairs c.args.span) (forest_of a))
 
 pub returns-clause-translations : goal.returns-clause-translations
 returns-clause-translations c =
-    move_replaces c.args.caches.now c.args.store.now c.settle.new.caches c.settle.new.store c.requires.whole.sound c.requires.whole.consistent (returns-clause-kept c).tables
-    (span_pairs c.args.span) c.requires.can (returns-clause-nodes c) (frames_are c)
+    move_replaces c.args.caches.now c.args.store.now c.settle.new.caches c.settle.new.store c.requires.ready.retire.whole.sound c.requires.ready.retire.whole.consistent (returns-clause-kept c).tables
+    (span_pairs c.args.span) c.requires.transfer.can (returns-clause-rule c).nodes (returns-clause-rule c).frames

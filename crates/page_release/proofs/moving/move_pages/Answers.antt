@@ -3,20 +3,41 @@ use Rattle.vm_ids.specs.declared.node_name.NodeName.{NodeName}
 use Rattle.vm_ids.specs.Forest.Commands.{firsts, page_names, seconds, span_pairs}
 use Rattle.vm_ids.specs.Forest.NameLists.{◌∈◌}
 use Rattle.local_cache.specs.Reading.{forest_of}
-use Rattle.page_release.proofs.Leading.Behind.{kept_behind}
+use Rattle.page_release.proofs.Leading.Behind.{goes_behind, kept_behind, pages_behind, ready_behind}
 use Rattle.page_release.proofs.Leading.Left.{AreReady, leaves, ready_first, ready_more}
-use Rattle.page_release.proofs.Leading.Ranges.{tables_mapped, tables_then}
+use Rattle.page_release.proofs.Leading.Ranges.{tables_twice}
 use Rattle.page_release.proofs.Walking.Ranges.{destination_names, destination_nodes, source_names, source_nodes}
 use Rattle.page_release.proofs.moving.move_pages.Goals as goal
 
 pub drop_seen-requires-clause-nodes : goal.drop_seen-requires-clause-nodes
-drop_seen-requires-clause-nodes c = destination_nodes (forest_of c.args.caches.now) c.args.span c.requires.can
+drop_seen-requires-clause-nodes c = destination_nodes (forest_of c.args.caches.now) c.args.span c.requires.transfer.can
 
 pub drop_seen-requires-2-clause-nodes : goal.drop_seen-requires-2-clause-nodes
-drop_seen-requires-2-clause-nodes c = source_nodes (forest_of c.args.caches.now) c.args.span c.requires.can
+drop_seen-requires-2-clause-nodes c = source_nodes (forest_of c.args.caches.now) c.args.span c.requires.transfer.can
+
+pub move_and_settle-requires-clause-ready : goal.move_and_settle-requires-clause-ready
+move_and_settle-requires-clause-ready c =
+    let s = c.args.store.now in
+    let t = c.drop_seen-2.new.store in
+    ready_behind s t (tables_twice s c.drop_seen.new.store t _ _ c.drop_seen.ensures c.drop_seen-2.ensures) c.args.caches.now c.args.span.pages c.args.span.to (firsts (span_pairs c.args.span)) c.requires.ready
+
+pub returns-clause-rule : goal.returns-clause-rule
+returns-clause-rule c =
+    let s = c.args.store.now in
+    let t = c.drop_seen-2.new.store in
+    goes_behind s t (tables_twice s c.drop_seen.new.store t _ _ c.drop_seen.ensures c.drop_seen-2.ensures) c.args.caches.now c.move_and_settle.new.store c.move_and_settle.new.caches _ c.move_and_settle.ensures.rule
 
 pub returns-clause-kept : goal.returns-clause-kept
-returns-clause-kept c = kept_behind (firsts (span_pairs c.args.span)) c.args.store.now c.drop_seen-2.new.store (tables_then c.args.store.now c.drop_seen.new.store c.drop_seen-2.new.store (tables_mapped c.args.store.now c.drop_seen.new.store _ c.drop_seen.ensures) (tables_mapped c.drop_seen.new.store c.drop_seen-2.new.store _ c.drop_seen-2.ensures)) c.args.caches.now c.move_and_settle.new.store c.move_and_settle.new.caches c.move_and_settle.ensures.kept
+returns-clause-kept c =
+    let s = c.args.store.now in
+    let t = c.drop_seen-2.new.store in
+    kept_behind s t (tables_twice s c.drop_seen.new.store t _ _ c.drop_seen.ensures c.drop_seen-2.ensures) c.args.caches.now c.move_and_settle.new.store c.move_and_settle.new.caches (firsts (span_pairs c.args.span)) c.move_and_settle.ensures.kept
+
+pub returns-clause-pages : goal.returns-clause-pages
+returns-clause-pages c =
+    let s = c.args.store.now in
+    let t = c.drop_seen-2.new.store in
+    pages_behind s t (tables_twice s c.drop_seen.new.store t _ _ c.drop_seen.ensures c.drop_seen-2.ensures) c.args.caches.now c.move_and_settle.new.store c.move_and_settle.new.caches c.args.span.pages c.move_and_settle.ensures.pages
 
 pub returns-clause-translations : goal.returns-clause-translations
 returns-clause-translations c =

@@ -52,24 +52,20 @@ loop-preserved c =
       fewer = omega (arith, i.fewer, e.fewer);
     }
 
-pub returns-clause-nodes : goal.returns-clause-nodes
-returns-clause-nodes c =
+pub returns-clause-rule : goal.returns-clause-rule
+returns-clause-rule c =
     let i = c.loop.invariant in
+    let t = c.loop.store in
+    let b = c.loop.caches in
+    let u = c.settle_step.new.store in
     let e = c.settle_step.ensures.idle c.loop-test.false in
-    ap forest_of e.1 ∙ sym (end_nodes c.loop.store c.loop.caches i.kept.sound e.0) ∙ i.nodes
-
-pub returns-clause-forest : goal.returns-clause-forest
-returns-clause-forest c told size fit =
-    let i = c.loop.invariant in
-    let e = c.settle_step.ensures.idle c.loop-test.false in
-    ap (λ k. store_forest (world told size k c.settle_step.new.store)) e.1 ∙ ap (λ k. store_forest (world told size c.loop.caches k)) e.2
-    ∙ sym (end_forest c.loop.store c.loop.caches i.kept.sound e.0 told size) ∙ i.forest told size fit
-
-pub returns-clause-frames : goal.returns-clause-frames
-returns-clause-frames c =
-    let i = c.loop.invariant in
-    let e = c.settle_step.ensures.idle c.loop-test.false in
-    ap (λ k. frame_forest k c.settle_step.new.store.map) e.1 ∙ ap (λ (k : Store). frame_forest c.loop.caches k.map) e.2 ∙ sym (end_frames c.loop.store c.loop.caches i.kept.sound e.0) ∙ i.frames
+    record {
+      nodes = ap forest_of e.1 ∙ sym (end_nodes t b i.kept.sound e.0) ∙ i.nodes;
+      forest = λ told size fit.
+          ap (λ k. store_forest (world told size k u)) e.1 ∙ ap (λ k. store_forest (world told size b k)) e.2
+          ∙ sym (end_forest t b i.kept.sound e.0 told size) ∙ i.forest told size fit;
+      frames = ap (λ k. frame_forest k u.map) e.1 ∙ ap (λ (k : Store). frame_forest b k.map) e.2 ∙ sym (end_frames t b i.kept.sound e.0) ∙ i.frames;
+    }
 
 pub returns-clause-kept : goal.returns-clause-kept
 returns-clause-kept c = kept_both c.args.store.now c.args.caches.now c.loop.store c.loop.caches c.settle_step.new.store c.settle_step.new.caches c.requires.tied c.loop.invariant.kept c.settle_step.ensures.kept

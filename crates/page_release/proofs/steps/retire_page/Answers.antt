@@ -13,19 +13,17 @@ follow-requires c =
     let at = c.requires.sound.kept.listed.nodes c.args.cache.0 c.args.page.0 n.0 n.1 in
     retire_can c.args.store.now c.args.caches.now c.retire-released.new.caches n.0 (Live c.args.cache c.args.page) at.0 at.1 c.retire-released.result (c.retire-released.ensures.retired n.0 n.1) c.retire-released.ensures.released c.requires.tied c.requires.unpinned c.requires.unclean
 
-pub returns-clause-forest : goal.returns-clause-forest
-returns-clause-forest c =
+pub returns-clause-rule : goal.returns-clause-rule
+returns-clause-rule c =
     let n = some_of (node_at c.args.caches.now c.args.cache.0 c.args.page.0) c.requires.node in
     let at = c.requires.sound.kept.listed.nodes c.args.cache.0 c.args.page.0 n.0 n.1 in
-    retire_forest c.args.store.now c.args.caches.now c.retire-released.new.caches n.0 (Live c.args.cache c.args.page) at.0 at.1 c.retire-released.result (c.retire-released.ensures.retired n.0 n.1) c.retire-released.ensures.released c.requires.tied c.requires.unpinned c.requires.unclean
-    c.follow.new.store c.follow.ensures.store c.requires.sound c.retire-released.ensures.sound c.retire-released.ensures.forest
-
-pub returns-clause-frames : goal.returns-clause-frames
-returns-clause-frames c =
-    let n = some_of (node_at c.args.caches.now c.args.cache.0 c.args.page.0) c.requires.node in
-    let at = c.requires.sound.kept.listed.nodes c.args.cache.0 c.args.page.0 n.0 n.1 in
-    retire_frames c.args.store.now c.args.caches.now c.retire-released.new.caches n.0 (Live c.args.cache c.args.page) at.0 at.1 c.retire-released.result (c.retire-released.ensures.retired n.0 n.1) c.retire-released.ensures.released c.requires.tied c.requires.unpinned c.requires.unclean
-    c.follow.new.store c.follow.ensures.store c.requires.sound c.retire-released.ensures.sound c.retire-released.ensures.forest
+    let x = Live c.args.cache c.args.page in
+    let r = c.retire-released.ensures in
+    record {
+      nodes = r.forest;
+      forest = retire_forest c.args.store.now c.args.caches.now c.retire-released.new.caches n.0 x at.0 at.1 c.retire-released.result (r.retired n.0 n.1) r.released c.requires.tied c.requires.unpinned c.requires.unclean c.follow.new.store c.follow.ensures.store c.requires.sound r.sound r.forest;
+      frames = retire_frames c.args.store.now c.args.caches.now c.retire-released.new.caches n.0 x at.0 at.1 c.retire-released.result (r.retired n.0 n.1) r.released c.requires.tied c.requires.unpinned c.requires.unclean c.follow.new.store c.follow.ensures.store c.requires.sound r.sound r.forest;
+    }
 
 pub returns-clause-kept : goal.returns-clause-kept
 returns-clause-kept c =

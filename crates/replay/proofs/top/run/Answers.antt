@@ -1,11 +1,12 @@
 use Rattle.std.proofs.Common.{◌≡◌, ◌∙◌, Some, ap, map, refl, rules, sym}
+use Rattle.std.proofs.lemmas.Option.{none-some}
 use Rattle.vm_ids.specs.Held.{segments_of}
 use Rattle.replay.specs.Commanding.{asked_by}
 use Rattle.replay.specs.declared.asked.Asked.TheVariants as asks
 use Rattle.replay.specs.Ending.{scene_with}
 use Rattle.replay.proofs.CommandLine.Kinds.{run_bounds, run_page, trial_bounds, trial_few, trial_page}
-use Rattle.replay.proofs.Promise.{as_asked, asked_holds, complete, fits_start, limited, limited_same, live_start, run_ends}
-use Rattle.replay.proofs.Statuses.{all_written, not_too_long, not_untouched}
+use Rattle.replay.proofs.Promise.{as_asked, asked_holds, began, complete, fits_start, limited, limited_same, live_start, run_ends}
+use Rattle.replay.proofs.Statuses.{all_written, not_source_fault, not_too_long, not_untouched, not_usage}
 use Rattle.replay.proofs.Trials.{trial_ends}
 use Rattle.replay.proofs.top.run.Goals as goal
 
@@ -75,6 +76,9 @@ returns-in-Ok-clause-ends g c = λ some.
 pub returns-in-Ok-clause-too_long_exactly : goal.returns-in-Ok-clause-too_long_exactly
 returns-in-Ok-clause-too_long_exactly g c = limited c.replay.result _ _ _ _ c.replay.ensures.ends
 
+pub returns-in-Ok-clause-untouched : goal.returns-in-Ok-clause-untouched
+returns-in-Ok-clause-untouched g c = λ why. absurd (began c.replay.result _ _ _ _ c.replay.ensures.ends why)
+
 pub returns-in-Ok-clause-complete : goal.returns-in-Ok-clause-complete
 returns-in-Ok-clause-complete g c = λ short reads readable writes writable.
     let few = asked_holds (asks.Run c.in-Run.size) _ _ (sym (ap Some c.in-Run.is) ∙ sym c.in-Ok-Some.field-0-is ∙ c.in-Ok-Some.ensures) short in
@@ -89,6 +93,14 @@ returns-in-Ok-new-clause-ends g c = λ some.
     as_asked (asks.Trial c.in-Trial.script c.in-Trial.frames) _ _ (sym (ap Some c.in-Trial.is) ∙ sym c.in-Ok-Some.field-0-is ∙ c.in-Ok-Some.ensures)
     (trial_ends c.trial.result c.in-Trial.script c.in-Trial.frames (scene_with M c.args.mapper.now (K.written c.args.sink.now)) (scene_with M c.trial.new.mapper (K.written c.trial.new.sink))
     (segments_of told) _ _ _ _ ends.0 (λ m f. refl) (λ m f. (refl, refl)) (c.in-Ok-new.ensures.machine told) (c.in-Ok-new.ensures.forest told) ends.1 ends.2)
+
+pub returns-in-Ok-new-clause-usage : goal.returns-in-Ok-new-clause-usage
+returns-in-Ok-new-clause-usage g c = λ begun.
+    let is = sym c.in-Ok-Some.ensures ∙ c.in-Ok-Some.field-0-is ∙ ap Some c.in-Trial.is in
+    (λ usage. absurd (not_usage _ _ _ c.trial.result c.trial.ensures.ends.2.writes usage), λ none. absurd (none-some _ (sym none ∙ is)))
+
+pub returns-in-Ok-new-clause-source_fault : goal.returns-in-Ok-new-clause-source_fault
+returns-in-Ok-new-clause-source_fault g c = λ fault. absurd (not_source_fault _ _ _ c.trial.result c.trial.ensures.ends.2.writes fault)
 
 pub returns-in-Ok-new-clause-too_long_exactly : goal.returns-in-Ok-new-clause-too_long_exactly
 returns-in-Ok-new-clause-too_long_exactly g c = limited_same _ _ (not_too_long _ _ _ c.trial.result c.trial.ensures.ends.2.writes)

@@ -1,20 +1,26 @@
-use Rattle.std.proofs.Common.{ℕ, ◌-◌, ap, ◌∙◌, arith}
-use Rattle.vm_ids.specs.declared.reply.Counts.{Counts}
-use Rattle.local_cache.proofs.Nodes.WorkingCount.{forest-counts, forest-len, working_len-le}
+use Rattle.std.proofs.Common.{◌∙◌, ap, arith, subst, sym}
+use Rattle.vm_ids.specs.Forest.NameMap.{len}
+use Rattle.vm_ids.specs.Forest.Reading.{counts_of}
+use Rattle.local_cache.specs.Arena.{Arena}
+use Rattle.local_cache.specs.ArenaBy.{arena_by}
+use Rattle.local_cache.specs.Reading.{IsNamed, forest_of}
+use Rattle.local_cache.proofs.ArenaBy.Counts.{counts_by, forest_len_by}
 use Rattle.local_cache.proofs.caches.Caches.counts.Goals as goal
 
-pub overflow_sub-result : goal.overflow_sub-result
-overflow_sub-result c =
-    let i = c.self.inside in
-    omega (arith, c.self.invariant.counted.counter, working_len-le i.nodes, c.len.ensures)
+named : (c : goal.After-copies) → IsNamed (arena_by c.self.inside.nodes c.self.inside.list)
+named c = subst IsNamed (sym c.self.view_is) c.requires
 
 pub returns-clause-counts : goal.returns-clause-counts
 returns-clause-counts c =
-    let i = c.self.inside in
-    let some : ℕ → Counts = λ k. record { live = k - i.working; working = i.working; copies = i.copies } in
-    ap some c.len.ensures ∙ forest-counts i c.args.self.now c.self.view_is c.requires c.self.invariant.counted.counter
+    (λ i. record { live = c.live.result; working = c.working.result; copies = c.copies.ensures i })
+    ∙ counts_by c.self.inside.nodes c.self.inside.list (named c) c.live.ensures.paged c.live.result c.working.result c.live.ensures.live c.working.ensures.working
+    ∙ ap (λ (a : Arena). counts_of (forest_of a)) c.self.view_is
 
 pub returns-clause-few : goal.returns-clause-few
 returns-clause-few c =
-    let i = c.self.inside in
-    omega (arith, forest-len i c.args.self.now c.self.view_is c.requires, c.self.invariant.ready.fits, c.self.invariant.counted.few)
+    omega (
+      arith,
+      c.working.ensures.few,
+      forest_len_by c.self.inside.nodes c.self.inside.list (named c),
+      ap (λ (a : Arena). len (forest_of a).nodes) c.self.view_is,
+    )

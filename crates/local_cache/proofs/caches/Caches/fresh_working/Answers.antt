@@ -1,21 +1,18 @@
-use Rattle.std.proofs.Common.{◌≡◌, ◌+◌, ℕ, ap, ◌∙◌}
-use Rattle.vm_ids.specs.declared.node_name.NodeName.TheVariants.{Working}
-use Rattle.vm_ids.specs.declared.numbers.NodeId.{NodeId}
-use Rattle.local_cache.specs.declared.own_state.OwnState.TheVariants.{Absent}
-use Rattle.local_cache.specs.Arena.{Arena, with_new, with_working}
-use Rattle.local_cache.proofs.Nodes.Slots.{seen}
+use Rattle.local_cache.proofs.ArenaBy.Seen.{none_seen, working_call}
+use Rattle.local_cache.proofs.Nodes.Cells.{held-working, stays-working}
 use Rattle.local_cache.proofs.caches.Caches.fresh_working.Goals as goal
 
--- the count first, and then the node
-counted : (a : Arena) (made : ℕ) (n : NodeId) → made ≡ a.made → with_new (record a { made = made + 1 }) n (Working (made + 1)) Absent ≡ with_working a n
-unfolding with_new
-counted a made n e = ap (λ (k : ℕ). record (with_new a n (Working (k + 1)) Absent) { made = k + 1 }) e
+pub invariant_of-self : goal.invariant_of-self
+invariant_of-self c = (working_call c.self.inside.nodes c.self.inside.list c.args.self.now c.self.view_is c.self.invariant c.fresh_working.new.self c.fresh_working.result c.fresh_working.ensures.new c.fresh_working.ensures.changed).right
+
+pub returns-clause-new : goal.returns-clause-new
+returns-clause-new c = none_seen c.self.inside.nodes c.self.inside.list c.args.self.now c.self.view_is c.fresh_working.result c.fresh_working.ensures.new
 
 pub returns-clause-changed : goal.returns-clause-changed
-returns-clause-changed c =
-    let k : ℕ = c.self.inside.made in
-    let again : c.insert.inside.made ≡ k + 1 = ap (λ (b : Arena). b.made) c.insert.view_is in
-    c.insert-2.ensures.changed
-    ∙ ap (λ (m : ℕ). with_new (record (seen c.self.inside) { made = k + 1 }) c.insert-2.result (Working m) Absent) again
-    ∙ ap (λ (b : Arena). with_new (record b { made = k + 1 }) c.insert-2.result (Working (k + 1)) Absent) c.self.view_is
-    ∙ counted c.args.self.now k c.insert-2.result (ap (λ (b : Arena). b.made) c.self.view_is)
+returns-clause-changed c = (working_call c.self.inside.nodes c.self.inside.list c.args.self.now c.self.view_is c.self.invariant c.fresh_working.new.self c.fresh_working.result c.fresh_working.ensures.new c.fresh_working.ensures.changed).is
+
+pub returns-clause-held : goal.returns-clause-held
+returns-clause-held c = held-working c.args.self.now _ c.fresh_working.result (returns-clause-changed c)
+
+pub returns-clause-stays : goal.returns-clause-stays
+returns-clause-stays c = stays-working c.args.self.now _ c.fresh_working.result (returns-clause-changed c)

@@ -1,58 +1,43 @@
-use Rattle.std.proofs.Common.{◌≡◌, ◌+◌, length, refl, sym, ap, ◌∙◌, arith}
-use Rattle.std.proofs.lemmas.List.{length-map}
+use Rattle.std.proofs.Common.{◌≡◌, ℕ, ◌+◌, ◌<◌, ◌^◌, length, ap, ◌∙◌, arith}
 use Rattle.vm_ids.specs.declared.numbers.CacheId.{CacheId}
-use Rattle.local_cache.specs.declared.caches.Caches.TheInside.{Inside}
-use Rattle.local_cache.specs.declared.page_table.CacheEntry.{CacheEntry}
-use Rattle.local_cache.specs.Arena.{Arena}
+use Rattle.local_cache.specs.NodeCells.{own_of_plain}
+use Rattle.local_cache.proofs.ArenaBy.Seen.{make_call, make_right, made_seen, next_seen}
 use Rattle.local_cache.proofs.NewCache.Pages.{made_pages, made_stays, made_tables}
-use Rattle.local_cache.proofs.NewCache.Arena.{After, made, right_after}
 use Rattle.local_cache.proofs.caches.Caches.make.Goals as goal
 
--- the fields, the cache's number and its entry after the call
-abbrev fields : goal.After-push_reserved → Inside
-fields c = record c.self.inside { nodes = c.add_pages.new.nodes; caches = c.push_reserved.new.self; lists = c.add_pages.new.lists }
+pub overflow_add-cache : goal.overflow_add-cache
+overflow_add-cache c =
+    let count = made_seen c.self.inside.nodes c.self.inside.list c.args.self.now c.self.view_is in
+    omega (arith, c.made.ensures, count, c.requires.number)
 
-abbrev number : goal.After-push_reserved → CacheId
-number c = record { 0 = c.len.result + 1 }
+pub make_pages-requires-clause-vacant : goal.make_pages-requires-clause-vacant
+make_pages-requires-clause-vacant c =
+    next_seen c.self.inside.nodes c.self.inside.list c.args.self.now c.self.view_is c.self.invariant (record { 0 = c.made.result + 1 }) c.args.pages
+    (ap (λ k. k + 1) c.made.ensures) (omega (arith, c.ranges.pages.fits))
 
-abbrev entry : goal.After-push_reserved → CacheEntry
-entry c = record { segment = c.args.segment; first = c.len-first.result; pages = c.args.pages }
+pub push-requires-clause-number : goal.push-requires-clause-number
+push-requires-clause-number c =
+    let count = made_seen c.self.inside.nodes c.self.inside.list c.args.self.now c.self.view_is in
+    omega (arith, count, c.requires.number)
 
-after : (c : goal.After-push_reserved) → After c.self.inside (fields c) (number c) c.args.segment c.args.own c.args.pages (entry c)
-after c = record {
-  filled = c.add_pages.ensures.filled;
-  nodes_len = c.add_pages.ensures.nodes_len;
-  nodes_capacity = c.add_pages.ensures.nodes_capacity;
-  thin = refl;
-  thin_room = refl;
-  queued = c.add_pages.ensures.queued;
-  caches = c.push_reserved.ensures.items;
-  caches_len = c.push_reserved.ensures.len;
-  caches_capacity = c.push_reserved.ensures.capacity;
-  first = c.len-first.ensures;
-  pages = refl;
-  named = refl;
-  made = refl;
-  copies = refl;
-  working = refl;
-  locked = refl;
-  working_len = c.add_pages.ensures.working;
-}
+abbrev cache : goal.After-push → CacheId
+cache c = record { 0 = c.made.result + 1 }
 
 pub invariant_of-self : goal.invariant_of-self
 invariant_of-self c =
-    let i : Inside = c.self.inside in
-    let count : length c.args.self.now.caches ≡ length i.caches.items = ap (λ (a : Arena). length a.caches) (sym c.self.view_is) ∙ length-map i.caches.items _ in
-    right_after i (fields c) (number c) c.args.segment c.args.own c.args.pages (entry c) c.self.invariant (after c) (omega (arith, c.requires.number)) (omega (arith, ap (λ (a : Arena). a.room.nodes) c.self.view_is)) (omega (arith, ap (λ (a : Arena). a.room.entries) c.self.view_is))
+    make_right c.self.inside.nodes c.self.inside.list c.args.self.now c.self.view_is c.self.invariant c.make_pages.new.self c.push.new.self (cache c) c.args.segment (own_of_plain c.args.own) c.args.pages
+    (omega (arith, c.ranges.pages.fits)) (ap (λ k. k + 1) c.made.ensures) c.make_pages.ensures c.push.ensures.changed
 
 pub returns-clause-made : goal.returns-clause-made
-returns-clause-made c = made c.self.inside (fields c) c.args.self.now (number c) c.args.segment c.args.own c.args.pages (entry c) c.self.view_is c.self.invariant (after c) (ap (λ k. k + 1) c.len.ensures)
+returns-clause-made c =
+    make_call c.self.inside.nodes c.self.inside.list c.args.self.now c.self.view_is c.self.invariant c.make_pages.new.self c.push.new.self (cache c) c.args.segment (own_of_plain c.args.own) c.args.pages
+    (omega (arith, c.ranges.pages.fits)) (ap (λ k. k + 1) c.made.ensures) c.make_pages.ensures c.push.ensures.changed
 
 pub returns-clause-pages : goal.returns-clause-pages
-returns-clause-pages c page h = let m = returns-clause-made c in made_pages c.args.self.now _ (number c) c.args.segment c.args.own m.0 page m.2 (omega (arith, m.1))
+returns-clause-pages c page h = let m = returns-clause-made c in made_pages c.args.self.now _ (cache c) c.args.segment (own_of_plain c.args.own) m.0 page m.2 (omega (arith, m.1))
 
 pub returns-clause-stays : goal.returns-clause-stays
-returns-clause-stays c = let m = returns-clause-made c in made_stays c.args.self.now _ (number c) c.args.segment c.args.own m.0 m.2
+returns-clause-stays c = let m = returns-clause-made c in made_stays c.args.self.now _ (cache c) c.args.segment (own_of_plain c.args.own) m.0 m.2
 
 pub returns-clause-tables : goal.returns-clause-tables
-returns-clause-tables c = let m = returns-clause-made c in made_tables c.args.self.now _ (number c) c.args.segment c.args.own m.0 m.2
+returns-clause-tables c = let m = returns-clause-made c in made_tables c.args.self.now _ (cache c) c.args.segment (own_of_plain c.args.own) m.0 m.2

@@ -1,13 +1,16 @@
-use Rattle.std.proofs.Common.{◌≡◌, Some, sym, ap, ◌∙◌}
-use Rattle.local_cache.specs.Arena.{Arena}
-use Rattle.local_cache.specs.Layout.{entry_at}
-use Rattle.local_cache.proofs.Tables.Entries.{pages_are}
+use Rattle.std.proofs.Common.{sym, ap, ◌∙◌}
+use Rattle.std.specs.Prelude.{option_map}
+use Rattle.local_cache.specs.declared.cache_list.CacheEntry.{CacheEntry}
+use Rattle.local_cache.proofs.ArenaBy.Seen.{size_seen}
 use Rattle.local_cache.proofs.caches.Caches.pages.Goals as goal
+
+pub returns-in_err-entry : goal.returns-in_err-entry
+returns-in_err-entry c =
+    c.from_residual.ensures
+    ∙ ap (option_map (λ (e : CacheEntry). e.pages)) (sym c.in_err-entry.was ∙ c.entry.ensures)
+    ∙ size_seen c.self.inside.nodes c.self.inside.list c.args.self.now c.self.view_is c.args.cache.0
 
 pub returns : goal.returns
 returns c =
-    let i = c.self.inside in
-    let entry = c.in_ok-entry_of.field-0 in
-    let found : entry_at i.caches.items c.args.cache.0 ≡ Some entry
-    = ap (λ es. entry_at es c.args.cache.0) (sym c.deref.ensures.value) ∙ sym c.entry_of.ensures ∙ c.in_ok-entry_of.was in
-    sym (pages_are c.args.self.now i.lists i.caches.items c.args.cache.0 entry (ap (λ (a : Arena). a.caches) c.self.view_is) c.self.invariant.laid.row found)
+    ap (option_map (λ (e : CacheEntry). e.pages)) (sym c.in_ok-entry.was ∙ c.entry.ensures)
+    ∙ size_seen c.self.inside.nodes c.self.inside.list c.args.self.now c.self.view_is c.args.cache.0

@@ -1,23 +1,15 @@
-use Rattle.local_cache.proofs.Nodes.Slots.{some_at, writes}
-use Rattle.local_cache.specs.Arena.{Cell}
+use Rattle.local_cache.proofs.ArenaBy.Seen.{held_seen, links_call}
 use Rattle.local_cache.proofs.Nodes.Cells.{stays-put}
-use Rattle.local_cache.proofs.Queue.Entries.{queued_but_written}
 use Rattle.local_cache.proofs.caches.Caches.set_links.Goals as goal
 
-pub index_mut-requires : goal.index_mut-requires
-index_mut-requires c = some_at c.self.inside c.args.self.now c.args.node c.self.view_is c.requires
+pub set_links-requires : goal.set_links-requires
+set_links-requires c = held_seen c.self.inside.nodes c.self.inside.list c.args.self.now c.self.view_is c.args.node c.requires
 
-pub queue-requires-clause-queued : goal.queue-requires-clause-queued
-queue-requires-clause-queued c =
-    let i = c.self.inside in
-    queued_but_written i.nodes c.args.node.0 _ c.set_links.new.self c.number_at-before.result i.thin.entries c.index_mut.ensures.value c.number_at-before.ensures c.self.invariant.ready.queued
+pub invariant_of-self : goal.invariant_of-self
+invariant_of-self c = (links_call c.self.inside.nodes c.self.inside.list c.args.self.now c.self.view_is c.self.invariant c.set_links.new.self c.args.node c.requires c.args.links c.set_links.ensures).right
 
 pub returns-clause-changed : goal.returns-clause-changed
-returns-clause-changed c =
-    let change : Cell → Cell = λ n. record n { links = c.args.links } in
-    writes c.self.inside c.args.self.now c.args.node _ _ change c.self.view_is c.index_mut.ensures.value c.set_links.ensures
+returns-clause-changed c = (links_call c.self.inside.nodes c.self.inside.list c.args.self.now c.self.view_is c.self.invariant c.set_links.new.self c.args.node c.requires c.args.links c.set_links.ensures).is
 
 pub returns-clause-stays : goal.returns-clause-stays
-returns-clause-stays c =
-    let change : Cell → Cell = λ n. record n { links = c.args.links } in
-    stays-put c.args.self.now _ c.args.node _ (writes c.self.inside c.args.self.now c.args.node _ _ change c.self.view_is c.index_mut.ensures.value c.set_links.ensures)
+returns-clause-stays c = stays-put c.args.self.now _ c.args.node _ (returns-clause-changed c)

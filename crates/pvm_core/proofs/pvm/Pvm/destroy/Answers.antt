@@ -1,20 +1,24 @@
-use Rattle.std.proofs.Common.{◌≡◌, ℕ, ◌+◌, Bool, false, Option, Some, None, is_some, length, refl, sym, ap, subst, ◌∙◌, arith}
+use Rattle.std.proofs.Common.{◌≡◌, ℕ, ◌+◌, ◌-◌, Bool, false, Option, Some, None, is_some, length, refl, sym, ap, subst, ◌∙◌, arith}
 use Rattle.std.specs.Prelude.{IfErr, IsOk, OnErr, Result, Ok, Err, unwrap_or}
 use Rattle.std.proofs.lemmas.Result.{err_from_is_err_and}
-use Rattle.gmi_calls.specs.Calling.{RaisesMade, done_by}
 use Rattle.std.specs.List.{list_any}
-use Rattle.vm_ids.specs.Counting.{Rose}
+use Rattle.vm_ids.specs.Counting.{MapperCounts, Rose}
 use Rattle.vm_ids.specs.declared.command.Command.TheVariants as commands
 use Rattle.vm_ids.specs.declared.command.Extent.{Extent}
 use Rattle.vm_ids.specs.declared.refusal.Refusal.TheVariants as refusals
 use Rattle.vm_ids.specs.declared.reply.Reply.TheVariants as replies
 use Rattle.vm_ids.specs.declared.reply.Trouble.{Trouble}
 use Rattle.vm_ids.specs.declared.reply.Trouble.TheVariants as troubles
+use Rattle.vm_ids.proofs.Forest.Laws.Ranges.{ranges_hold_their_pages}
 use Rattle.vm_ids.specs.Forest.Commands.{destroy, page_names}
 use Rattle.vm_ids.specs.Forest.Shape.{IsBounded}
-use Rattle.vm_ids.specs.Held.{segments_of}
-use Rattle.local_cache.specs.Arena.{table_of}
+use Rattle.vm_ids.specs.Held.{Held, segments_of}
+use Rattle.local_cache.specs.Arena.{Arena, table_of}
 use Rattle.local_cache.specs.Whole.{size_of}
+use Rattle.contexts.specs.Actors.{Actors}
+use Rattle.residency.specs.declared.store.Store.{Store}
+use Rattle.vm_ids.specs.declared.numbers.CacheId.{CacheId}
+use Rattle.page_release.specs.Steps.{IsStoreTied, IsUnpinned}
 use Rattle.page_release.proofs.Tying.Tied.{tied_right}
 use Rattle.segment_ops.specs.Ranges.{HasRange}
 use Rattle.vm_model.specs.Answering.{Answer, is_mapped, maps_in}
@@ -28,8 +32,9 @@ use Rattle.pvm_core.specs.Manager.{IsValid, Manager, forest_of, machine_by, mach
 use Rattle.pvm_core.specs.Saving.{CopiesSaved, IsNotWrittenBack, IsWrittenBack, KeepsMachine, all_of, is_named}
 use Rattle.pvm_core.specs.contracts.pvm.Pvm.{the_view}
 use Rattle.pvm_core.proofs.Answering.Answered.{call_is, failed}
+use Rattle.pvm_core.proofs.Answering.Ended.{Ended}
 use Rattle.pvm_core.proofs.Readiness.Copies.{range_copied}
-use Rattle.pvm_core.proofs.Destroying.Failed.{destroy_copied, destroy_failed, destroy_made, destroy_refused, of_cache, touched}
+use Rattle.pvm_core.proofs.Destroying.Failed.{IsNotDestroyed, of_cache, touched, not_destroyed}
 use Rattle.pvm_core.proofs.Destroying.Rows.{destroy_in_use, destroy_no_cache}
 use Rattle.pvm_core.proofs.Destroying.Taken.{follows, taken, taken_sound, taken_valid}
 use Rattle.pvm_core.proofs.Answering.Kept.{seen}
@@ -46,6 +51,8 @@ use Rattle.pvm_core.proofs.Holding.Actors.{over_none}
 use Rattle.pvm_core.proofs.Translating.Cells.{without_right}
 use Rattle.pvm_core.proofs.Translating.Left.{left_right}
 use Rattle.pvm_core.proofs.Translating.Writable.{homes_writable}
+use Rattle.pvm_core.proofs.pvm.Pvm.destroy.Given.{Over}
+use Rattle.pvm_core.proofs.pvm.Pvm.destroy.Goals.{After-from_residual, After-remove, After-self-2, In-Some}
 use Rattle.pvm_core.proofs.pvm.Pvm.destroy.Goals as goal
 
 pub returns-in_default-clause-answers : goal.returns-in_default-clause-answers
@@ -72,372 +79,174 @@ returns-then-maps-clause-answers g c =
     destroy_in_use (machine_by p f) c.args.cache.0 k.0 k.1
     (sym c.maps.ensures ∙ c.if-maps.true)))
 
+-- so many pages the cache has
+size : (g : Over) (c : In-Some g) → size_of c.self.inside.caches c.args.cache.0 ≡ Some c.in-Some.pages
+size g c = sym c.pages.ensures ∙ c.in-Some.is
+
 pub write_back-requires-clause-range : goal.write_back-requires-clause-range
 write_back-requires-clause-range g c =
+    subst (λ (p : Manager). HasRange p.caches (of_cache c.args.cache c.in-Some.pages)) c.self.view_is (record { pages = c.in-Some.pages; size = size g (goal.at.write_back-requires-clause-range g c).In-Some; within = omega arith })
+
+-- the pages aren't written back
+not_written : (g : Over) (c : After-from_residual g)
+    → IsNotDestroyed c.args.self.now c.write_back.new.self (g.M.Mapper.held c.args.mapper.now) (g.M.Mapper.held c.write_back.new.mapper) (g.M.Mapper.counts c.args.mapper.now) (g.M.Mapper.counts c.write_back.new.mapper) c.args.cache c.from_residual.result
+not_written g c =
     let i = c.self.inside in
-    let pages = c.in-Some.pages in
-    let all : Extent = of_cache c.args.cache pages in
-    let size : size_of i.caches c.args.cache.0 ≡ Some pages = sym c.pages.ensures ∙ c.in-Some.is in
-    let free = sym c.maps.ensures ∙ c.if-maps.false in
-    subst (λ (p : Manager). HasRange p.caches all) c.self.view_is (record { pages = pages; size = size; within = omega arith })
+    let all : Extent = of_cache c.args.cache c.in-Some.pages in
+    let q = c.write_back.new.self in
+    let e = c.write_back.ensures in
+    let h = g.M.Mapper.held c.args.mapper.now in
+    let k = g.M.Mapper.held c.write_back.new.mapper in
+    let before = g.M.Mapper.counts c.args.mapper.now in
+    let after = g.M.Mapper.counts c.write_back.new.mapper in
+    let p : Manager = seen i.caches i.store i.contexts in
+    let keeps : KeepsMachine p q h k before after = subst (λ (p : Manager). KeepsMachine p q h k before after) (sym c.self.view_is) e.keeps in
+    let gave = err_from_is_err_and c.from_residual.result c.from_residual.ensures.1 in
+    let trouble = c.in_err-write_back.field-0.0 in
+    let is : c.from_residual.result ≡ Err trouble = gave.1 ∙ ap (λ t. Err t) gave.2 in
+    let wrong : IsNotWrittenBack all p h q k trouble = subst (λ (p : Manager). IsNotWrittenBack all p h q k trouble) (sym c.self.view_is) (subst (λ (r : Result _ Trouble). IfErr r (IsNotWrittenBack all c.args.self.now h q k)) c.in_err-write_back.was e.not_written) in
+    subst (λ (p : Manager). IsNotDestroyed p q h k before after c.args.cache c.from_residual.result) c.self.view_is
+    (subst (λ (r : Result _ Trouble). IsNotDestroyed p q h k before after c.args.cache r) (sym is)
+    (not_destroyed p q h k before after c.args.cache c.in-Some.pages keeps c.self.invariant.sound.nodes e.whole e.valid (size g (goal.at.After-from_residual g c).In-Some) (λ f. sym c.maps.ensures ∙ c.if-maps.false) trouble wrong
+    (subst (λ (r : Result _ Trouble). OnErr r (Rose before.faults after.faults)) c.in_err-write_back.was e.cause)))
 
 pub returns-in_err-write_back-clause-answers : goal.returns-in_err-write_back-clause-answers
-returns-in_err-write_back-clause-answers g c =
-    let i = c.self.inside in
-    let pages = c.in-Some.pages in
-    let all : Extent = of_cache c.args.cache pages in
-    let size : size_of i.caches c.args.cache.0 ≡ Some pages = sym c.pages.ensures ∙ c.in-Some.is in
-    let free = sym c.maps.ensures ∙ c.if-maps.false in
-    let q = c.write_back.new.self in
-    let x = c.write_back.ensures in
-    let h = g.M.Mapper.held c.args.mapper.now in
-    let k = g.M.Mapper.held c.write_back.new.mapper in
-    let before = g.M.Mapper.counts c.args.mapper.now in
-    let after = g.M.Mapper.counts c.write_back.new.mapper in
-    let p : Manager = seen i.caches i.store i.contexts in
-    let t0 = sized_table (table_of i.caches c.args.cache.0) pages size in
-    let keeps0 : KeepsMachine p q h k before after = subst (λ (p : Manager). KeepsMachine p q h k before after) (sym c.self.view_is) x.keeps in
-    let extent : all_of i.caches c.args.cache ≡ all = ap (λ (o : Option ℕ). of_cache c.args.cache (unwrap_or o 0)) size in
-    let gave = err_from_is_err_and c.from_residual.result c.from_residual.ensures.1 in
-    let trouble = c.in_err-write_back.field-0.0 in
-    let is : c.from_residual.result ≡ Err trouble = gave.1 ∙ ap (λ t. Err t) gave.2 in
-    let wrong : IsNotWrittenBack all p h q k trouble = subst (λ (p : Manager). IsNotWrittenBack all p h q k trouble) (sym c.self.view_is) (subst (λ (r : Result _ Trouble). IfErr r (IsNotWrittenBack all c.args.self.now h q k)) c.in_err-write_back.was x.not_written) in
-    subst (λ (p : Manager). CallIs before after (state_at p h) (commands.Destroy c.args.cache) (done_by c.from_residual.result) (state_at q k)) c.self.view_is
-    (subst (λ (r : Result _ Trouble). CallIs before after (state_at p h) (commands.Destroy c.args.cache) (done_by r) (state_at q k)) (sym is)
-    (destroy_failed p q h k before after c.args.cache pages keeps0 c.self.invariant.sound.nodes x.whole x.valid t0.0 t0.1 t0.2 (λ f. free) trouble wrong (subst (λ (r : Result _ Trouble). OnErr r (Rose before.faults after.faults)) c.in_err-write_back.was x.cause)))
+returns-in_err-write_back-clause-answers g c = (not_written g c).answers
 
 pub returns-in_err-write_back-clause-made : goal.returns-in_err-write_back-clause-made
-returns-in_err-write_back-clause-made g c =
-    let i = c.self.inside in
-    let pages = c.in-Some.pages in
-    let all : Extent = of_cache c.args.cache pages in
-    let size : size_of i.caches c.args.cache.0 ≡ Some pages = sym c.pages.ensures ∙ c.in-Some.is in
-    let free = sym c.maps.ensures ∙ c.if-maps.false in
-    let q = c.write_back.new.self in
-    let x = c.write_back.ensures in
-    let h = g.M.Mapper.held c.args.mapper.now in
-    let k = g.M.Mapper.held c.write_back.new.mapper in
-    let before = g.M.Mapper.counts c.args.mapper.now in
-    let after = g.M.Mapper.counts c.write_back.new.mapper in
-    let p : Manager = seen i.caches i.store i.contexts in
-    let t0 = sized_table (table_of i.caches c.args.cache.0) pages size in
-    let keeps0 : KeepsMachine p q h k before after = subst (λ (p : Manager). KeepsMachine p q h k before after) (sym c.self.view_is) x.keeps in
-    let extent : all_of i.caches c.args.cache ≡ all = ap (λ (o : Option ℕ). of_cache c.args.cache (unwrap_or o 0)) size in
-    let gave = err_from_is_err_and c.from_residual.result c.from_residual.ensures.1 in
-    let trouble = c.in_err-write_back.field-0.0 in
-    let is : c.from_residual.result ≡ Err trouble = gave.1 ∙ ap (λ t. Err t) gave.2 in
-    let wrong : IsNotWrittenBack all p h q k trouble = subst (λ (p : Manager). IsNotWrittenBack all p h q k trouble) (sym c.self.view_is) (subst (λ (r : Result _ Trouble). IfErr r (IsNotWrittenBack all c.args.self.now h q k)) c.in_err-write_back.was x.not_written) in
-    subst (λ (p : Manager). RaisesMade (machine_of p h) (commands.Destroy c.args.cache) (done_by c.from_residual.result) (numbered p) (numbered q)) c.self.view_is
-    (subst (λ (r : Result _ Trouble). RaisesMade (machine_of p h) (commands.Destroy c.args.cache) (done_by r) (numbered p) (numbered q)) (sym is)
-    (destroy_made p q h k before after c.args.cache pages keeps0 c.self.invariant.sound.nodes x.whole x.valid t0.0 t0.1 t0.2 (λ f. free) trouble wrong))
+returns-in_err-write_back-clause-made g c = (not_written g c).made
 
 pub returns-in_err-write_back-clause-copies : goal.returns-in_err-write_back-clause-copies
-returns-in_err-write_back-clause-copies g c =
-    let i = c.self.inside in
-    let pages = c.in-Some.pages in
-    let all : Extent = of_cache c.args.cache pages in
-    let size : size_of i.caches c.args.cache.0 ≡ Some pages = sym c.pages.ensures ∙ c.in-Some.is in
-    let free = sym c.maps.ensures ∙ c.if-maps.false in
-    let q = c.write_back.new.self in
-    let x = c.write_back.ensures in
-    let h = g.M.Mapper.held c.args.mapper.now in
-    let k = g.M.Mapper.held c.write_back.new.mapper in
-    let before = g.M.Mapper.counts c.args.mapper.now in
-    let after = g.M.Mapper.counts c.write_back.new.mapper in
-    let p : Manager = seen i.caches i.store i.contexts in
-    let t0 = sized_table (table_of i.caches c.args.cache.0) pages size in
-    let keeps0 : KeepsMachine p q h k before after = subst (λ (p : Manager). KeepsMachine p q h k before after) (sym c.self.view_is) x.keeps in
-    let extent : all_of i.caches c.args.cache ≡ all = ap (λ (o : Option ℕ). of_cache c.args.cache (unwrap_or o 0)) size in
-    let gave = err_from_is_err_and c.from_residual.result c.from_residual.ensures.1 in
-    let trouble = c.in_err-write_back.field-0.0 in
-    let is : c.from_residual.result ≡ Err trouble = gave.1 ∙ ap (λ t. Err t) gave.2 in
-    let wrong : IsNotWrittenBack all p h q k trouble = subst (λ (p : Manager). IsNotWrittenBack all p h q k trouble) (sym c.self.view_is) (subst (λ (r : Result _ Trouble). IfErr r (IsNotWrittenBack all c.args.self.now h q k)) c.in_err-write_back.was x.not_written) in
-    subst (λ (p : Manager). CopiesSaved (all_of p.caches c.args.cache) p h q c.from_residual.result) c.self.view_is
-    (subst (λ (e : Extent). CopiesSaved e p h q c.from_residual.result) (sym extent)
-    (subst (λ (r : Result _ Trouble). CopiesSaved all p h q r) (sym is) (destroy_copied all p q h k trouble wrong)))
+returns-in_err-write_back-clause-copies g c = (not_written g c).copies
 
 pub returns-in_err-write_back-clause-refused : goal.returns-in_err-write_back-clause-refused
-returns-in_err-write_back-clause-refused g c =
-    let i = c.self.inside in
-    let pages = c.in-Some.pages in
-    let all : Extent = of_cache c.args.cache pages in
-    let size : size_of i.caches c.args.cache.0 ≡ Some pages = sym c.pages.ensures ∙ c.in-Some.is in
-    let free = sym c.maps.ensures ∙ c.if-maps.false in
-    let q = c.write_back.new.self in
-    let x = c.write_back.ensures in
-    let h = g.M.Mapper.held c.args.mapper.now in
-    let k = g.M.Mapper.held c.write_back.new.mapper in
-    let before = g.M.Mapper.counts c.args.mapper.now in
-    let after = g.M.Mapper.counts c.write_back.new.mapper in
-    let p : Manager = seen i.caches i.store i.contexts in
-    let t0 = sized_table (table_of i.caches c.args.cache.0) pages size in
-    let keeps0 : KeepsMachine p q h k before after = subst (λ (p : Manager). KeepsMachine p q h k before after) (sym c.self.view_is) x.keeps in
-    let extent : all_of i.caches c.args.cache ≡ all = ap (λ (o : Option ℕ). of_cache c.args.cache (unwrap_or o 0)) size in
-    let gave = err_from_is_err_and c.from_residual.result c.from_residual.ensures.1 in
-    let trouble = c.in_err-write_back.field-0.0 in
-    let is : c.from_residual.result ≡ Err trouble = gave.1 ∙ ap (λ t. Err t) gave.2 in
-    let wrong : IsNotWrittenBack all p h q k trouble = subst (λ (p : Manager). IsNotWrittenBack all p h q k trouble) (sym c.self.view_is) (subst (λ (r : Result _ Trouble). IfErr r (IsNotWrittenBack all c.args.self.now h q k)) c.in_err-write_back.was x.not_written) in
-    λ r e. absurd (destroy_refused all p q h k trouble wrong r (let x : Err trouble ≡ Err (troubles.Refused r) = sym is ∙ e in cc x))
+returns-in_err-write_back-clause-refused g c = λ r e. absurd ((not_written g c).refused r e)
 
 pub returns-in_err-write_back-clause-idle : goal.returns-in_err-write_back-clause-idle
-returns-in_err-write_back-clause-idle g c =
-    let i = c.self.inside in
-    let pages = c.in-Some.pages in
-    let all : Extent = of_cache c.args.cache pages in
-    let size : size_of i.caches c.args.cache.0 ≡ Some pages = sym c.pages.ensures ∙ c.in-Some.is in
-    let free = sym c.maps.ensures ∙ c.if-maps.false in
-    let q = c.write_back.new.self in
-    let x = c.write_back.ensures in
-    let h = g.M.Mapper.held c.args.mapper.now in
-    let k = g.M.Mapper.held c.write_back.new.mapper in
-    let before = g.M.Mapper.counts c.args.mapper.now in
-    let after = g.M.Mapper.counts c.write_back.new.mapper in
-    let p : Manager = seen i.caches i.store i.contexts in
-    let t0 = sized_table (table_of i.caches c.args.cache.0) pages size in
-    let keeps0 : KeepsMachine p q h k before after = subst (λ (p : Manager). KeepsMachine p q h k before after) (sym c.self.view_is) x.keeps in
-    let extent : all_of i.caches c.args.cache ≡ all = ap (λ (o : Option ℕ). of_cache c.args.cache (unwrap_or o 0)) size in
-    let gave = err_from_is_err_and c.from_residual.result c.from_residual.ensures.1 in
-    let trouble = c.in_err-write_back.field-0.0 in
-    let is : c.from_residual.result ≡ Err trouble = gave.1 ∙ ap (λ t. Err t) gave.2 in
-    let wrong : IsNotWrittenBack all p h q k trouble = subst (λ (p : Manager). IsNotWrittenBack all p h q k trouble) (sym c.self.view_is) (subst (λ (r : Result _ Trouble). IfErr r (IsNotWrittenBack all c.args.self.now h q k)) c.in_err-write_back.was x.not_written) in
-    λ none. absurd (
-    let t = x.temporary none in
-    let fine : IsOk {T = Unit {0}} (Err trouble) = subst (λ (r : Result (Unit {0}) Trouble). IsOk r) c.in_err-write_back.was t.0 in cc fine)
+returns-in_err-write_back-clause-idle g c = λ none. absurd (
+    let t = c.write_back.ensures.temporary none in
+    let fine : IsOk {T = Unit {0}} (Err c.in_err-write_back.field-0.0) = subst (λ (r : Result (Unit {0}) Trouble). IsOk r) c.in_err-write_back.was t.0 in cc fine)
 
-pub destroy_pages-requires-clause-tied : goal.destroy_pages-requires-clause-tied
-destroy_pages-requires-clause-tied g c =
+-- the pages are written back, and no region maps them
+record IsToGo (p : Manager) (h g : Option Held) (c d : MapperCounts) (a : Arena) (s : Store) (t : Actors) (cache : CacheId) (pages : ℕ) : Type 0 where
+  pub valid : IsValid (seen a s t) g
+  pub tied : IsStoreTied s a
+  pub keeps : KeepsMachine p (seen a s t) h g c d
+  pub written : IsWrittenBack (of_cache cache pages) p (seen a s t) h g
+  pub size : size_of a cache.0 ≡ Some pages
+  pub free : list_any (maps_in cache.0) t.actors ≡ false
+
+to_go : (g : Over) (c : After-self-2 g)
+    → IsToGo (seen c.self.inside.caches c.self.inside.store c.self.inside.contexts) (g.M.Mapper.held c.args.mapper.now) (g.M.Mapper.held c.write_back.new.mapper) (g.M.Mapper.counts c.args.mapper.now) (g.M.Mapper.counts c.write_back.new.mapper) c.self-2.inside.caches c.self-2.inside.store c.self-2.inside.contexts c.args.cache c.in-Some.pages
+to_go g c =
     let i = c.self.inside in
-    let pages = c.in-Some.pages in
-    let all : Extent = of_cache c.args.cache pages in
-    let size : size_of i.caches c.args.cache.0 ≡ Some pages = sym c.pages.ensures ∙ c.in-Some.is in
-    let free = sym c.maps.ensures ∙ c.if-maps.false in
+    let j = c.self-2.inside in
+    let all : Extent = of_cache c.args.cache c.in-Some.pages in
     let q = c.write_back.new.self in
-    let x = c.write_back.ensures in
     let h = g.M.Mapper.held c.args.mapper.now in
     let k = g.M.Mapper.held c.write_back.new.mapper in
     let before = g.M.Mapper.counts c.args.mapper.now in
     let after = g.M.Mapper.counts c.write_back.new.mapper in
     let p : Manager = seen i.caches i.store i.contexts in
-    let t0 = sized_table (table_of i.caches c.args.cache.0) pages size in
-    let keeps0 : KeepsMachine p q h k before after = subst (λ (p : Manager). KeepsMachine p q h k before after) (sym c.self.view_is) x.keeps in
-    let extent : all_of i.caches c.args.cache ≡ all = ap (λ (o : Option ℕ). of_cache c.args.cache (unwrap_or o 0)) size in
+    let back = sym c.self-2.view_is in
+    let valid : IsValid (seen j.caches j.store j.contexts) k = subst (λ (p : Manager). IsValid p k) back c.write_back.ensures.valid in
+    let keeps : KeepsMachine p (seen j.caches j.store j.contexts) h k before after = subst (λ (r : Manager). KeepsMachine p r h k before after) back (subst (λ (p : Manager). KeepsMachine p q h k before after) (sym c.self.view_is) c.write_back.ensures.keeps) in
+    record {
+      valid = valid;
+      tied = tied_right k None j.caches j.store valid.right;
+      keeps = keeps;
+      written = subst (λ (r : Manager). IsWrittenBack all p r h k) back (subst (λ (p : Manager). IsWrittenBack all p q h k) (sym c.self.view_is) c.in_ok-write_back.ensures.written);
+      size = keeps.same.sizes c.args.cache.0 ∙ size g (goal.at.After-self-2 g c).In-Some;
+      free = subst (λ (m : Machine). is_mapped m c.args.cache.0 ≡ false) (sym keeps.machine) (sym c.maps.ensures ∙ c.if-maps.false);
+    }
+
+pub destroy_pages-requires-clause-ready : goal.destroy_pages-requires-clause-ready
+destroy_pages-requires-clause-ready g c =
     let j = c.self-2.inside in
-    let v2 = c.self-2.view_is in
-    let m : Manager = seen j.caches j.store j.contexts in
     let sound = c.self-2.invariant.sound in
-    let valid : IsValid m k = subst (λ (p : Manager). IsValid p k) (sym v2) x.valid in
-    let keeps : KeepsMachine p m h k before after = subst (λ (r : Manager). KeepsMachine p r h k before after) (sym v2) keeps0 in
-    let written : IsWrittenBack all p m h k = subst (λ (r : Manager). IsWrittenBack all p r h k) (sym v2) (subst (λ (p : Manager). IsWrittenBack all p q h k) (sym c.self.view_is) c.in_ok-write_back.ensures.written) in
-    let tied = tied_right k None j.caches j.store valid.right in
-    let size2 : size_of j.caches c.args.cache.0 ≡ Some pages = keeps.same.sizes c.args.cache.0 ∙ size in
-    let free2 : list_any (maps_in c.args.cache.0) j.contexts.actors ≡ false = subst (λ (m : Machine). is_mapped m c.args.cache.0 ≡ false) (sym keeps.machine) free in
-    tied
+    let r = to_go g (goal.at.destroy_pages-requires-clause-ready g c).After-self-2 in
+    record {
+      retire = record {
+        tied = r.tied;
+        whole = sound.nodes;
+        unpinned = λ x is.
+            let at = (ranges_hold_their_pages c.args.cache 0 c.in-Some.pages x).0 is in
+            let page = 0 + at.0 in
+            subst (IsUnpinned j.store j.caches) (sym at.2) (unpinned_page j.caches j.store j.contexts.actors sound.locked c.args.cache (record { 0 = page }) (ap is_locked (sound.locked.counted c.args.cache.0 page ∙ over_none c.args.cache.0 page j.contexts.actors r.free)));
+        made = omega (arith, r.keeps.made, c.requires.made, ap numbered c.self.view_is, sound.few, sound.counted, size_le j.caches c.args.cache.0 c.in-Some.pages r.size);
+      };
+      saved = r.written.saved_now;
+      working = working_unpinned j.caches j.store j.contexts.actors sound.locked;
+    }
 
 pub destroy_pages-requires-clause-pages : goal.destroy_pages-requires-clause-pages
-destroy_pages-requires-clause-pages g c =
-    let i = c.self.inside in
-    let pages = c.in-Some.pages in
-    let all : Extent = of_cache c.args.cache pages in
-    let size : size_of i.caches c.args.cache.0 ≡ Some pages = sym c.pages.ensures ∙ c.in-Some.is in
-    let free = sym c.maps.ensures ∙ c.if-maps.false in
-    let q = c.write_back.new.self in
-    let x = c.write_back.ensures in
-    let h = g.M.Mapper.held c.args.mapper.now in
-    let k = g.M.Mapper.held c.write_back.new.mapper in
-    let before = g.M.Mapper.counts c.args.mapper.now in
-    let after = g.M.Mapper.counts c.write_back.new.mapper in
-    let p : Manager = seen i.caches i.store i.contexts in
-    let t0 = sized_table (table_of i.caches c.args.cache.0) pages size in
-    let keeps0 : KeepsMachine p q h k before after = subst (λ (p : Manager). KeepsMachine p q h k before after) (sym c.self.view_is) x.keeps in
-    let extent : all_of i.caches c.args.cache ≡ all = ap (λ (o : Option ℕ). of_cache c.args.cache (unwrap_or o 0)) size in
-    let j = c.self-2.inside in
-    let v2 = c.self-2.view_is in
-    let m : Manager = seen j.caches j.store j.contexts in
-    let sound = c.self-2.invariant.sound in
-    let valid : IsValid m k = subst (λ (p : Manager). IsValid p k) (sym v2) x.valid in
-    let keeps : KeepsMachine p m h k before after = subst (λ (r : Manager). KeepsMachine p r h k before after) (sym v2) keeps0 in
-    let written : IsWrittenBack all p m h k = subst (λ (r : Manager). IsWrittenBack all p r h k) (sym v2) (subst (λ (p : Manager). IsWrittenBack all p q h k) (sym c.self.view_is) c.in_ok-write_back.ensures.written) in
-    let tied = tied_right k None j.caches j.store valid.right in
-    let size2 : size_of j.caches c.args.cache.0 ≡ Some pages = keeps.same.sizes c.args.cache.0 ∙ size in
-    let free2 : list_any (maps_in c.args.cache.0) j.contexts.actors ≡ false = subst (λ (m : Machine). is_mapped m c.args.cache.0 ≡ false) (sym keeps.machine) free in
-    size2
-
-pub destroy_pages-requires-clause-unpinned : goal.destroy_pages-requires-clause-unpinned
-destroy_pages-requires-clause-unpinned g c = λ page.
-    let i = c.self.inside in
-    let j = c.self-2.inside in
-    let q = c.write_back.new.self in
-    let h = g.M.Mapper.held c.args.mapper.now in
-    let k = g.M.Mapper.held c.write_back.new.mapper in
-    let before = g.M.Mapper.counts c.args.mapper.now in
-    let after = g.M.Mapper.counts c.write_back.new.mapper in
-    let p : Manager = seen i.caches i.store i.contexts in
-    let m : Manager = seen j.caches j.store j.contexts in
-    let sound = c.self-2.invariant.sound in
-    let keeps : KeepsMachine p m h k before after = subst (λ (r : Manager). KeepsMachine p r h k before after) (sym c.self-2.view_is) (subst (λ (p : Manager). KeepsMachine p q h k before after) (sym c.self.view_is) c.write_back.ensures.keeps) in
-    let free : list_any (maps_in c.args.cache.0) j.contexts.actors ≡ false = subst (λ (m : Machine). is_mapped m c.args.cache.0 ≡ false) (sym keeps.machine) (sym c.maps.ensures ∙ c.if-maps.false) in
-    unpinned_page j.caches j.store j.contexts.actors sound.locked c.args.cache (record { 0 = page }) (ap is_locked (sound.locked.counted c.args.cache.0 page ∙ over_none c.args.cache.0 page j.contexts.actors free))
-
-pub destroy_pages-requires-clause-working : goal.destroy_pages-requires-clause-working
-destroy_pages-requires-clause-working g c =
-    let j = c.self-2.inside in
-    working_unpinned j.caches j.store j.contexts.actors c.self-2.invariant.sound.locked
-
-pub destroy_pages-requires-clause-saved : goal.destroy_pages-requires-clause-saved
-destroy_pages-requires-clause-saved g c =
-    let i = c.self.inside in
-    let pages = c.in-Some.pages in
-    let all : Extent = of_cache c.args.cache pages in
-    let size : size_of i.caches c.args.cache.0 ≡ Some pages = sym c.pages.ensures ∙ c.in-Some.is in
-    let free = sym c.maps.ensures ∙ c.if-maps.false in
-    let q = c.write_back.new.self in
-    let x = c.write_back.ensures in
-    let h = g.M.Mapper.held c.args.mapper.now in
-    let k = g.M.Mapper.held c.write_back.new.mapper in
-    let before = g.M.Mapper.counts c.args.mapper.now in
-    let after = g.M.Mapper.counts c.write_back.new.mapper in
-    let p : Manager = seen i.caches i.store i.contexts in
-    let t0 = sized_table (table_of i.caches c.args.cache.0) pages size in
-    let keeps0 : KeepsMachine p q h k before after = subst (λ (p : Manager). KeepsMachine p q h k before after) (sym c.self.view_is) x.keeps in
-    let extent : all_of i.caches c.args.cache ≡ all = ap (λ (o : Option ℕ). of_cache c.args.cache (unwrap_or o 0)) size in
-    let j = c.self-2.inside in
-    let v2 = c.self-2.view_is in
-    let m : Manager = seen j.caches j.store j.contexts in
-    let sound = c.self-2.invariant.sound in
-    let valid : IsValid m k = subst (λ (p : Manager). IsValid p k) (sym v2) x.valid in
-    let keeps : KeepsMachine p m h k before after = subst (λ (r : Manager). KeepsMachine p r h k before after) (sym v2) keeps0 in
-    let written : IsWrittenBack all p m h k = subst (λ (r : Manager). IsWrittenBack all p r h k) (sym v2) (subst (λ (p : Manager). IsWrittenBack all p q h k) (sym c.self.view_is) c.in_ok-write_back.ensures.written) in
-    let tied = tied_right k None j.caches j.store valid.right in
-    let size2 : size_of j.caches c.args.cache.0 ≡ Some pages = keeps.same.sizes c.args.cache.0 ∙ size in
-    let free2 : list_any (maps_in c.args.cache.0) j.contexts.actors ≡ false = subst (λ (m : Machine). is_mapped m c.args.cache.0 ≡ false) (sym keeps.machine) free in
-    written.saved_now
-
-pub destroy_pages-requires-clause-made : goal.destroy_pages-requires-clause-made
-destroy_pages-requires-clause-made g c =
-    let i = c.self.inside in
-    let pages = c.in-Some.pages in
-    let all : Extent = of_cache c.args.cache pages in
-    let size : size_of i.caches c.args.cache.0 ≡ Some pages = sym c.pages.ensures ∙ c.in-Some.is in
-    let free = sym c.maps.ensures ∙ c.if-maps.false in
-    let q = c.write_back.new.self in
-    let x = c.write_back.ensures in
-    let h = g.M.Mapper.held c.args.mapper.now in
-    let k = g.M.Mapper.held c.write_back.new.mapper in
-    let before = g.M.Mapper.counts c.args.mapper.now in
-    let after = g.M.Mapper.counts c.write_back.new.mapper in
-    let p : Manager = seen i.caches i.store i.contexts in
-    let t0 = sized_table (table_of i.caches c.args.cache.0) pages size in
-    let keeps0 : KeepsMachine p q h k before after = subst (λ (p : Manager). KeepsMachine p q h k before after) (sym c.self.view_is) x.keeps in
-    let extent : all_of i.caches c.args.cache ≡ all = ap (λ (o : Option ℕ). of_cache c.args.cache (unwrap_or o 0)) size in
-    let j = c.self-2.inside in
-    let v2 = c.self-2.view_is in
-    let m : Manager = seen j.caches j.store j.contexts in
-    let sound = c.self-2.invariant.sound in
-    let valid : IsValid m k = subst (λ (p : Manager). IsValid p k) (sym v2) x.valid in
-    let keeps : KeepsMachine p m h k before after = subst (λ (r : Manager). KeepsMachine p r h k before after) (sym v2) keeps0 in
-    let written : IsWrittenBack all p m h k = subst (λ (r : Manager). IsWrittenBack all p r h k) (sym v2) (subst (λ (p : Manager). IsWrittenBack all p q h k) (sym c.self.view_is) c.in_ok-write_back.ensures.written) in
-    let tied = tied_right k None j.caches j.store valid.right in
-    let size2 : size_of j.caches c.args.cache.0 ≡ Some pages = keeps.same.sizes c.args.cache.0 ∙ size in
-    let free2 : list_any (maps_in c.args.cache.0) j.contexts.actors ≡ false = subst (λ (m : Machine). is_mapped m c.args.cache.0 ≡ false) (sym keeps.machine) free in
-    omega (arith, keeps.made, c.requires.made, ap numbered c.self.view_is, sound.few, sound.counted, size_le j.caches c.args.cache.0 pages size2)
+destroy_pages-requires-clause-pages g c = (to_go g (goal.at.destroy_pages-requires-clause-pages g c).After-self-2).size
 
 pub remove-requires-clause-live : goal.remove-requires-clause-live
 remove-requires-clause-live g c =
-    let i = c.self.inside in
-    let pages = c.in-Some.pages in
-    let all : Extent = of_cache c.args.cache pages in
-    let size : size_of i.caches c.args.cache.0 ≡ Some pages = sym c.pages.ensures ∙ c.in-Some.is in
-    let free = sym c.maps.ensures ∙ c.if-maps.false in
-    let q = c.write_back.new.self in
-    let x = c.write_back.ensures in
-    let h = g.M.Mapper.held c.args.mapper.now in
-    let k = g.M.Mapper.held c.write_back.new.mapper in
-    let before = g.M.Mapper.counts c.args.mapper.now in
-    let after = g.M.Mapper.counts c.write_back.new.mapper in
-    let p : Manager = seen i.caches i.store i.contexts in
-    let t0 = sized_table (table_of i.caches c.args.cache.0) pages size in
-    let keeps0 : KeepsMachine p q h k before after = subst (λ (p : Manager). KeepsMachine p q h k before after) (sym c.self.view_is) x.keeps in
-    let extent : all_of i.caches c.args.cache ≡ all = ap (λ (o : Option ℕ). of_cache c.args.cache (unwrap_or o 0)) size in
-    let j = c.self-2.inside in
-    let v2 = c.self-2.view_is in
-    let m : Manager = seen j.caches j.store j.contexts in
-    let sound = c.self-2.invariant.sound in
-    let valid : IsValid m k = subst (λ (p : Manager). IsValid p k) (sym v2) x.valid in
-    let keeps : KeepsMachine p m h k before after = subst (λ (r : Manager). KeepsMachine p r h k before after) (sym v2) keeps0 in
-    let written : IsWrittenBack all p m h k = subst (λ (r : Manager). IsWrittenBack all p r h k) (sym v2) (subst (λ (p : Manager). IsWrittenBack all p q h k) (sym c.self.view_is) c.in_ok-write_back.ensures.written) in
-    let tied = tied_right k None j.caches j.store valid.right in
-    let size2 : size_of j.caches c.args.cache.0 ≡ Some pages = keeps.same.sizes c.args.cache.0 ∙ size in
-    let free2 : list_any (maps_in c.args.cache.0) j.contexts.actors ≡ false = subst (λ (m : Machine). is_mapped m c.args.cache.0 ≡ false) (sym keeps.machine) free in
-    (let t = sized_table (table_of c.destroy_pages.new.caches c.args.cache.0) pages (c.destroy_pages.ensures.kept.sizes.sizes c.args.cache.0 ∙ size2) in ap is_some t.1)
+    let t = sized_table (table_of c.destroy_pages.new.caches c.args.cache.0) c.in-Some.pages (c.destroy_pages.ensures.kept.sizes.sizes c.args.cache.0 ∙ (to_go g (goal.at.remove-requires-clause-live g c).After-self-2).size) in
+    ap is_some t.1
 
 pub overflow_sub-self : goal.overflow_sub-self
 overflow_sub-self g c =
+    let sound = c.self-2.invariant.sound in
+    omega (arith, size_le c.self-2.inside.caches c.args.cache.0 c.in-Some.pages (to_go g (goal.at.overflow_sub-self g c).After-self-2).size, sound.counted)
+
+-- the cache is gone
+gone : (g : Over) (c : After-remove g)
+    → Ended c.args.self.now c.remove.new.self c.destroy_pages.new.store c.self-2.inside.contexts (c.self-2.inside.live - c.in-Some.pages) (g.M.Mapper.held c.args.mapper.now) (g.M.Mapper.held c.write_back.new.mapper) (g.M.Mapper.counts c.args.mapper.now) (g.M.Mapper.counts c.write_back.new.mapper) (commands.Destroy c.args.cache) (Ok replies.Done)
+    × CopiesSaved (all_of c.args.self.now.caches c.args.cache) c.args.self.now (g.M.Mapper.held c.args.mapper.now) (seen c.remove.new.self c.destroy_pages.new.store c.self-2.inside.contexts) (Ok tt)
+gone g c =
+    let at = goal.at.After-remove g c in
     let i = c.self.inside in
+    let j = c.self-2.inside in
+    let sound = c.self-2.invariant.sound in
     let pages = c.in-Some.pages in
     let all : Extent = of_cache c.args.cache pages in
-    let size : size_of i.caches c.args.cache.0 ≡ Some pages = sym c.pages.ensures ∙ c.in-Some.is in
-    let free = sym c.maps.ensures ∙ c.if-maps.false in
-    let q = c.write_back.new.self in
-    let x = c.write_back.ensures in
     let h = g.M.Mapper.held c.args.mapper.now in
     let k = g.M.Mapper.held c.write_back.new.mapper in
     let before = g.M.Mapper.counts c.args.mapper.now in
     let after = g.M.Mapper.counts c.write_back.new.mapper in
     let p : Manager = seen i.caches i.store i.contexts in
-    let t0 = sized_table (table_of i.caches c.args.cache.0) pages size in
-    let keeps0 : KeepsMachine p q h k before after = subst (λ (p : Manager). KeepsMachine p q h k before after) (sym c.self.view_is) x.keeps in
-    let extent : all_of i.caches c.args.cache ≡ all = ap (λ (o : Option ℕ). of_cache c.args.cache (unwrap_or o 0)) size in
-    let j = c.self-2.inside in
-    let v2 = c.self-2.view_is in
     let m : Manager = seen j.caches j.store j.contexts in
-    let sound = c.self-2.invariant.sound in
-    let valid : IsValid m k = subst (λ (p : Manager). IsValid p k) (sym v2) x.valid in
-    let keeps : KeepsMachine p m h k before after = subst (λ (r : Manager). KeepsMachine p r h k before after) (sym v2) keeps0 in
-    let written : IsWrittenBack all p m h k = subst (λ (r : Manager). IsWrittenBack all p r h k) (sym v2) (subst (λ (p : Manager). IsWrittenBack all p q h k) (sym c.self.view_is) c.in_ok-write_back.ensures.written) in
-    let tied = tied_right k None j.caches j.store valid.right in
-    let size2 : size_of j.caches c.args.cache.0 ≡ Some pages = keeps.same.sizes c.args.cache.0 ∙ size in
-    let free2 : list_any (maps_in c.args.cache.0) j.contexts.actors ≡ false = subst (λ (m : Machine). is_mapped m c.args.cache.0 ≡ false) (sym keeps.machine) free in
-    omega (arith, size_le j.caches c.args.cache.0 pages size2, sound.counted)
+    let w = to_go g at.After-self-2 in
+    let b = c.destroy_pages.new in
+    let e = c.destroy_pages.ensures in
+    let d = c.remove.new.self in
+    let r = c.remove.ensures in
+    let z : Manager = seen d b.store j.contexts in
+    let whole = e.empties.whole d r.changed (r.sound e.kept.sound) r.forest in
+    let bounded = subst IsBounded (sym r.forest) e.empties.settles.bounded in
+    let t0 = sized_table (table_of i.caches c.args.cache.0) pages (size g at.In-Some) in
+    let t = sized_table (table_of j.caches c.args.cache.0) pages w.size in
+    let answer : Answer = Ok replies.Done in
+    let command = commands.Destroy c.args.cache in
+    let rises = rises_between (length w.keeps.reach.pushes) before after in
+    let many : pages_in (cache_of (machine_of p h) c.args.cache.0) ≡ pages = touched p m h k before after c.args.cache pages w.keeps c.self.invariant.sound.nodes sound.nodes w.valid t0.0 t0.1 t0.2 (λ f. sym c.maps.ensures ∙ c.if-maps.false) (forest_of p h) in
+    let named = named_machine p (forest_of p h) c.args.cache.0 in
+    let now : IsValid z k = taken_valid j.caches b.caches d j.store b.store j.contexts j.live c.args.cache pages sound w.size w.free e.kept.sizes e.kept.gives_back w.tied r.changed whole bounded k w.valid e.empties.right e.rule.forest e.kept.sound.kept.listed e.empties.empty t.0 t.1 t.2 in
+    let after_is : forest_of z k ≡ forest_after (forest_of p h) (machine_of p h) command answer (machine_of z k)
+    = follows j.caches b.caches d j.store b.store j.contexts j.live c.args.cache pages sound w.size w.free e.kept.sizes e.kept.gives_back w.tied r.changed whole bounded k w.valid e.empties.right e.rule.forest e.kept.sound.kept.listed e.empties.empty t.0 t.1 t.2 (is_named i.caches c.args.cache.0) (forest_of p h) w.written.forest
+    ∙ ap (λ (n : ℕ). destroy (is_named i.caches c.args.cache.0) (page_names c.args.cache 0 n) (forest_of p h)) (sym many)
+    ∙ ap (λ (x : Bool). destroy x (page_names c.args.cache 0 (pages_in (cache_of (machine_of p h) c.args.cache.0))) (forest_of p h)) (sym named) in
+    let outcome : OutcomeAt (segments_of k) (machine_of p h) (Some (forest_of p h)) command answer (machine_of z k) rises
+    = subst (λ (m : Machine). OutcomeAt (segments_of k) m (Some (forest_of p h)) command answer (machine_of z k) rises) w.keeps.machine (taken j.caches b.caches d j.store b.store j.contexts j.live c.args.cache pages sound w.size w.free e.kept.sizes e.kept.gives_back w.tied r.changed whole bounded k w.valid e.empties.right e.rule.forest e.kept.sound.kept.listed e.empties.empty t.0 t.1 t.2 (forest_of p h) rises) in
+    let saves = range_copied p m h k all c.self.invariant.sound.nodes (is_named i.caches c.args.cache.0) w.written.forest in
+    let copies : CopiesSaved all p h z (Ok tt) = ap (λ a. a.copies) r.changed ∙ e.empties.settles.copies ∙ saves.0 in
+    let whole_extent : all_of i.caches c.args.cache ≡ all = ap (λ (o : Option ℕ). of_cache c.args.cache (unwrap_or o 0)) (size g at.In-Some) in
+    subst (λ (p : Manager). Ended p d b.store j.contexts (j.live - pages) h k before after command answer × CopiesSaved (all_of p.caches c.args.cache) p h z (Ok tt)) c.self.view_is (
+      record {
+        sound = taken_sound j.caches b.caches d j.store b.store j.contexts j.live c.args.cache pages sound w.size w.free e.kept.sizes e.kept.gives_back w.tied r.changed whole bounded e.kept.sound.kept.listed (held_released _ j.caches b.caches j.store b.store e.kept w.tied j.contexts sound.nodes sound.actors sound.locked);
+        valid = now;
+        answers = call_is before after p z h k command answer w.keeps.reach now tt (subst (λ (n : ℕ). ArePushed (machine_of p h) (segments_of k) c.args.cache.0 0 n) (let e : 0 + pages ≡ pages = omega arith in e ∙ sym many) w.written.pushed) after_is outcome;
+        made = omega (arith, many, w.keeps.made, saves.1, e.empties.settles.made, e.empties.settles.copies, ap (λ a. a.made) r.changed, ap (λ a. a.copies) r.changed);
+      },
+      subst (λ (e : Extent). CopiesSaved e p h z (Ok tt)) (sym whole_extent) copies,
+    )
 
 pub invariant_of-self : goal.invariant_of-self
 invariant_of-self g c = record {
-  sound = (
-      let i = c.self.inside in
-      let pages = c.in-Some.pages in
-      let all : Extent = of_cache c.args.cache pages in
-      let size : size_of i.caches c.args.cache.0 ≡ Some pages = sym c.pages.ensures ∙ c.in-Some.is in
-      let free = sym c.maps.ensures ∙ c.if-maps.false in
-      let q = c.write_back.new.self in
-      let x = c.write_back.ensures in
-      let h = g.M.Mapper.held c.args.mapper.now in
-      let k = g.M.Mapper.held c.write_back.new.mapper in
-      let before = g.M.Mapper.counts c.args.mapper.now in
-      let after = g.M.Mapper.counts c.write_back.new.mapper in
-      let p : Manager = seen i.caches i.store i.contexts in
-      let t0 = sized_table (table_of i.caches c.args.cache.0) pages size in
-      let keeps0 : KeepsMachine p q h k before after = subst (λ (p : Manager). KeepsMachine p q h k before after) (sym c.self.view_is) x.keeps in
-      let extent : all_of i.caches c.args.cache ≡ all = ap (λ (o : Option ℕ). of_cache c.args.cache (unwrap_or o 0)) size in
-      let j = c.self-2.inside in
-      let v2 = c.self-2.view_is in
-      let m : Manager = seen j.caches j.store j.contexts in
-      let sound = c.self-2.invariant.sound in
-      let valid : IsValid m k = subst (λ (p : Manager). IsValid p k) (sym v2) x.valid in
-      let keeps : KeepsMachine p m h k before after = subst (λ (r : Manager). KeepsMachine p r h k before after) (sym v2) keeps0 in
-      let written : IsWrittenBack all p m h k = subst (λ (r : Manager). IsWrittenBack all p r h k) (sym v2) (subst (λ (p : Manager). IsWrittenBack all p q h k) (sym c.self.view_is) c.in_ok-write_back.ensures.written) in
-      let tied = tied_right k None j.caches j.store valid.right in
-      let size2 : size_of j.caches c.args.cache.0 ≡ Some pages = keeps.same.sizes c.args.cache.0 ∙ size in
-      let free2 : list_any (maps_in c.args.cache.0) j.contexts.actors ≡ false = subst (λ (m : Machine). is_mapped m c.args.cache.0 ≡ false) (sym keeps.machine) free in
-      let b = c.destroy_pages.new in
-      let e = c.destroy_pages.ensures in
-      let d = c.remove.new.self in
-      let r = c.remove.ensures in
-      let whole = e.whole d r.changed (r.sound e.kept.sound) r.forest in
-      let t = sized_table (table_of j.caches c.args.cache.0) pages size2 in
-      let bounded = subst IsBounded (sym r.forest) e.bounded in
-      let z : Manager = seen d b.store j.contexts in
-      taken_sound j.caches b.caches d j.store b.store j.contexts j.live c.args.cache pages sound size2 free2 e.kept.sizes e.kept.gives_back tied r.changed whole bounded e.kept.sound.kept.listed
-      (held_released _ j.caches b.caches j.store b.store e.kept tied j.contexts sound.nodes sound.actors sound.locked)
-      );
+  sound = (gone g (goal.at.invariant_of-self g c).After-remove).0.sound;
   translated = (
       let j = c.self-2.inside in
       let e = c.destroy_pages.ensures in
@@ -448,212 +257,27 @@ invariant_of-self g c = record {
 }
 
 pub returns-clause-valid : goal.returns-clause-valid
-returns-clause-valid g c =
-    let i = c.self.inside in
-    let pages = c.in-Some.pages in
-    let all : Extent = of_cache c.args.cache pages in
-    let size : size_of i.caches c.args.cache.0 ≡ Some pages = sym c.pages.ensures ∙ c.in-Some.is in
-    let free = sym c.maps.ensures ∙ c.if-maps.false in
-    let q = c.write_back.new.self in
-    let x = c.write_back.ensures in
-    let h = g.M.Mapper.held c.args.mapper.now in
-    let k = g.M.Mapper.held c.write_back.new.mapper in
-    let before = g.M.Mapper.counts c.args.mapper.now in
-    let after = g.M.Mapper.counts c.write_back.new.mapper in
-    let p : Manager = seen i.caches i.store i.contexts in
-    let t0 = sized_table (table_of i.caches c.args.cache.0) pages size in
-    let keeps0 : KeepsMachine p q h k before after = subst (λ (p : Manager). KeepsMachine p q h k before after) (sym c.self.view_is) x.keeps in
-    let extent : all_of i.caches c.args.cache ≡ all = ap (λ (o : Option ℕ). of_cache c.args.cache (unwrap_or o 0)) size in
-    let j = c.self-2.inside in
-    let v2 = c.self-2.view_is in
-    let m : Manager = seen j.caches j.store j.contexts in
-    let sound = c.self-2.invariant.sound in
-    let valid : IsValid m k = subst (λ (p : Manager). IsValid p k) (sym v2) x.valid in
-    let keeps : KeepsMachine p m h k before after = subst (λ (r : Manager). KeepsMachine p r h k before after) (sym v2) keeps0 in
-    let written : IsWrittenBack all p m h k = subst (λ (r : Manager). IsWrittenBack all p r h k) (sym v2) (subst (λ (p : Manager). IsWrittenBack all p q h k) (sym c.self.view_is) c.in_ok-write_back.ensures.written) in
-    let tied = tied_right k None j.caches j.store valid.right in
-    let size2 : size_of j.caches c.args.cache.0 ≡ Some pages = keeps.same.sizes c.args.cache.0 ∙ size in
-    let free2 : list_any (maps_in c.args.cache.0) j.contexts.actors ≡ false = subst (λ (m : Machine). is_mapped m c.args.cache.0 ≡ false) (sym keeps.machine) free in
-    let b = c.destroy_pages.new in
-    let e = c.destroy_pages.ensures in
-    let d = c.remove.new.self in
-    let r = c.remove.ensures in
-    let whole = e.whole d r.changed (r.sound e.kept.sound) r.forest in
-    let t = sized_table (table_of j.caches c.args.cache.0) pages size2 in
-    let bounded = subst IsBounded (sym r.forest) e.bounded in
-    let z : Manager = seen d b.store j.contexts in
-    taken_valid j.caches b.caches d j.store b.store j.contexts j.live c.args.cache pages sound size2 free2 e.kept.sizes e.kept.gives_back tied r.changed whole bounded k valid e.right e.forest e.kept.sound.kept.listed e.empty t.0 t.1 t.2
+returns-clause-valid g c = (gone g (goal.at.returns-clause-valid g c).After-remove).0.valid
 
 pub returns-clause-answers : goal.returns-clause-answers
-returns-clause-answers g c =
-    let i = c.self.inside in
-    let pages = c.in-Some.pages in
-    let all : Extent = of_cache c.args.cache pages in
-    let size : size_of i.caches c.args.cache.0 ≡ Some pages = sym c.pages.ensures ∙ c.in-Some.is in
-    let free = sym c.maps.ensures ∙ c.if-maps.false in
-    let q = c.write_back.new.self in
-    let x = c.write_back.ensures in
-    let h = g.M.Mapper.held c.args.mapper.now in
-    let k = g.M.Mapper.held c.write_back.new.mapper in
-    let before = g.M.Mapper.counts c.args.mapper.now in
-    let after = g.M.Mapper.counts c.write_back.new.mapper in
-    let p : Manager = seen i.caches i.store i.contexts in
-    let t0 = sized_table (table_of i.caches c.args.cache.0) pages size in
-    let keeps0 : KeepsMachine p q h k before after = subst (λ (p : Manager). KeepsMachine p q h k before after) (sym c.self.view_is) x.keeps in
-    let extent : all_of i.caches c.args.cache ≡ all = ap (λ (o : Option ℕ). of_cache c.args.cache (unwrap_or o 0)) size in
-    let j = c.self-2.inside in
-    let v2 = c.self-2.view_is in
-    let m : Manager = seen j.caches j.store j.contexts in
-    let sound = c.self-2.invariant.sound in
-    let valid : IsValid m k = subst (λ (p : Manager). IsValid p k) (sym v2) x.valid in
-    let keeps : KeepsMachine p m h k before after = subst (λ (r : Manager). KeepsMachine p r h k before after) (sym v2) keeps0 in
-    let written : IsWrittenBack all p m h k = subst (λ (r : Manager). IsWrittenBack all p r h k) (sym v2) (subst (λ (p : Manager). IsWrittenBack all p q h k) (sym c.self.view_is) c.in_ok-write_back.ensures.written) in
-    let tied = tied_right k None j.caches j.store valid.right in
-    let size2 : size_of j.caches c.args.cache.0 ≡ Some pages = keeps.same.sizes c.args.cache.0 ∙ size in
-    let free2 : list_any (maps_in c.args.cache.0) j.contexts.actors ≡ false = subst (λ (m : Machine). is_mapped m c.args.cache.0 ≡ false) (sym keeps.machine) free in
-    let b = c.destroy_pages.new in
-    let e = c.destroy_pages.ensures in
-    let d = c.remove.new.self in
-    let r = c.remove.ensures in
-    let whole = e.whole d r.changed (r.sound e.kept.sound) r.forest in
-    let t = sized_table (table_of j.caches c.args.cache.0) pages size2 in
-    let bounded = subst IsBounded (sym r.forest) e.bounded in
-    let z : Manager = seen d b.store j.contexts in
-    let answer : Answer = Ok replies.Done in
-    let command = commands.Destroy c.args.cache in
-    let rises = rises_between (length keeps.reach.pushes) before after in
-    let many : pages_in (cache_of (machine_of p h) c.args.cache.0) ≡ pages = touched p m h k before after c.args.cache pages keeps c.self.invariant.sound.nodes sound.nodes valid t0.0 t0.1 t0.2 (λ f. free) (forest_of p h) in
-    let named = named_machine p (forest_of p h) c.args.cache.0 in
-    let after_is : forest_of z k ≡ forest_after (forest_of p h) (machine_of p h) command answer (machine_of z k)
-    = follows j.caches b.caches d j.store b.store j.contexts j.live c.args.cache pages sound size2 free2 e.kept.sizes e.kept.gives_back tied r.changed whole bounded k valid e.right e.forest e.kept.sound.kept.listed e.empty t.0 t.1 t.2 (is_named i.caches c.args.cache.0) (forest_of p h) written.forest
-    ∙ ap (λ (n : ℕ). destroy (is_named i.caches c.args.cache.0) (page_names c.args.cache 0 n) (forest_of p h)) (sym many)
-    ∙ ap (λ (x : Bool). destroy x (page_names c.args.cache 0 (pages_in (cache_of (machine_of p h) c.args.cache.0))) (forest_of p h)) (sym named) in
-    let outcome : OutcomeAt (segments_of k) (machine_of p h) (Some (forest_of p h)) command answer (machine_of z k) rises
-    = subst (λ (m : Machine). OutcomeAt (segments_of k) m (Some (forest_of p h)) command answer (machine_of z k) rises) keeps.machine (taken j.caches b.caches d j.store b.store j.contexts j.live c.args.cache pages sound size2 free2 e.kept.sizes e.kept.gives_back tied r.changed whole bounded k valid e.right e.forest e.kept.sound.kept.listed e.empty t.0 t.1 t.2 (forest_of p h) rises) in
-    subst (λ (p : Manager). CallIs before after (state_at p h) command answer (state_at z k)) c.self.view_is
-    (call_is before after p z h k command answer keeps.reach (taken_valid j.caches b.caches d j.store b.store j.contexts j.live c.args.cache pages sound size2 free2 e.kept.sizes e.kept.gives_back tied r.changed whole bounded k valid e.right e.forest e.kept.sound.kept.listed e.empty t.0 t.1 t.2) tt
-    (subst (λ (n : ℕ). ArePushed (machine_of p h) (segments_of k) c.args.cache.0 0 n) (let e : 0 + pages ≡ pages = omega arith in e ∙ sym many) written.pushed) after_is outcome)
+returns-clause-answers g c = (gone g (goal.at.returns-clause-answers g c).After-remove).0.answers
 
 pub returns-clause-made : goal.returns-clause-made
-returns-clause-made g c =
-    let i = c.self.inside in
-    let pages = c.in-Some.pages in
-    let all : Extent = of_cache c.args.cache pages in
-    let size : size_of i.caches c.args.cache.0 ≡ Some pages = sym c.pages.ensures ∙ c.in-Some.is in
-    let free = sym c.maps.ensures ∙ c.if-maps.false in
-    let q = c.write_back.new.self in
-    let x = c.write_back.ensures in
-    let h = g.M.Mapper.held c.args.mapper.now in
-    let k = g.M.Mapper.held c.write_back.new.mapper in
-    let before = g.M.Mapper.counts c.args.mapper.now in
-    let after = g.M.Mapper.counts c.write_back.new.mapper in
-    let p : Manager = seen i.caches i.store i.contexts in
-    let t0 = sized_table (table_of i.caches c.args.cache.0) pages size in
-    let keeps0 : KeepsMachine p q h k before after = subst (λ (p : Manager). KeepsMachine p q h k before after) (sym c.self.view_is) x.keeps in
-    let extent : all_of i.caches c.args.cache ≡ all = ap (λ (o : Option ℕ). of_cache c.args.cache (unwrap_or o 0)) size in
-    let j = c.self-2.inside in
-    let v2 = c.self-2.view_is in
-    let m : Manager = seen j.caches j.store j.contexts in
-    let sound = c.self-2.invariant.sound in
-    let valid : IsValid m k = subst (λ (p : Manager). IsValid p k) (sym v2) x.valid in
-    let keeps : KeepsMachine p m h k before after = subst (λ (r : Manager). KeepsMachine p r h k before after) (sym v2) keeps0 in
-    let written : IsWrittenBack all p m h k = subst (λ (r : Manager). IsWrittenBack all p r h k) (sym v2) (subst (λ (p : Manager). IsWrittenBack all p q h k) (sym c.self.view_is) c.in_ok-write_back.ensures.written) in
-    let tied = tied_right k None j.caches j.store valid.right in
-    let size2 : size_of j.caches c.args.cache.0 ≡ Some pages = keeps.same.sizes c.args.cache.0 ∙ size in
-    let free2 : list_any (maps_in c.args.cache.0) j.contexts.actors ≡ false = subst (λ (m : Machine). is_mapped m c.args.cache.0 ≡ false) (sym keeps.machine) free in
-    let b = c.destroy_pages.new in
-    let e = c.destroy_pages.ensures in
-    let d = c.remove.new.self in
-    let r = c.remove.ensures in
-    let whole = e.whole d r.changed (r.sound e.kept.sound) r.forest in
-    let t = sized_table (table_of j.caches c.args.cache.0) pages size2 in
-    let bounded = subst IsBounded (sym r.forest) e.bounded in
-    let z : Manager = seen d b.store j.contexts in
-    let many : pages_in (cache_of (machine_of p h) c.args.cache.0) ≡ pages = touched p m h k before after c.args.cache pages keeps c.self.invariant.sound.nodes sound.nodes valid t0.0 t0.1 t0.2 (λ f. free) (forest_of p h) in
-    let copied = range_copied p m h k all c.self.invariant.sound.nodes (is_named i.caches c.args.cache.0) written.forest in
-    subst (λ (p : Manager). RaisesMade (machine_of p h) (commands.Destroy c.args.cache) (Ok replies.Done) (numbered p) (numbered z)) c.self.view_is
-    (omega (arith, many, keeps.made, copied.1, e.made, e.copies, ap (λ a. a.made) r.changed, ap (λ a. a.copies) r.changed))
+returns-clause-made g c = (gone g (goal.at.returns-clause-made g c).After-remove).0.made
 
 pub returns-clause-copies : goal.returns-clause-copies
-returns-clause-copies g c =
-    let i = c.self.inside in
-    let pages = c.in-Some.pages in
-    let all : Extent = of_cache c.args.cache pages in
-    let size : size_of i.caches c.args.cache.0 ≡ Some pages = sym c.pages.ensures ∙ c.in-Some.is in
-    let free = sym c.maps.ensures ∙ c.if-maps.false in
-    let q = c.write_back.new.self in
-    let x = c.write_back.ensures in
-    let h = g.M.Mapper.held c.args.mapper.now in
-    let k = g.M.Mapper.held c.write_back.new.mapper in
-    let before = g.M.Mapper.counts c.args.mapper.now in
-    let after = g.M.Mapper.counts c.write_back.new.mapper in
-    let p : Manager = seen i.caches i.store i.contexts in
-    let t0 = sized_table (table_of i.caches c.args.cache.0) pages size in
-    let keeps0 : KeepsMachine p q h k before after = subst (λ (p : Manager). KeepsMachine p q h k before after) (sym c.self.view_is) x.keeps in
-    let extent : all_of i.caches c.args.cache ≡ all = ap (λ (o : Option ℕ). of_cache c.args.cache (unwrap_or o 0)) size in
-    let j = c.self-2.inside in
-    let v2 = c.self-2.view_is in
-    let m : Manager = seen j.caches j.store j.contexts in
-    let sound = c.self-2.invariant.sound in
-    let valid : IsValid m k = subst (λ (p : Manager). IsValid p k) (sym v2) x.valid in
-    let keeps : KeepsMachine p m h k before after = subst (λ (r : Manager). KeepsMachine p r h k before after) (sym v2) keeps0 in
-    let written : IsWrittenBack all p m h k = subst (λ (r : Manager). IsWrittenBack all p r h k) (sym v2) (subst (λ (p : Manager). IsWrittenBack all p q h k) (sym c.self.view_is) c.in_ok-write_back.ensures.written) in
-    let tied = tied_right k None j.caches j.store valid.right in
-    let size2 : size_of j.caches c.args.cache.0 ≡ Some pages = keeps.same.sizes c.args.cache.0 ∙ size in
-    let free2 : list_any (maps_in c.args.cache.0) j.contexts.actors ≡ false = subst (λ (m : Machine). is_mapped m c.args.cache.0 ≡ false) (sym keeps.machine) free in
-    let b = c.destroy_pages.new in
-    let e = c.destroy_pages.ensures in
-    let d = c.remove.new.self in
-    let r = c.remove.ensures in
-    let whole = e.whole d r.changed (r.sound e.kept.sound) r.forest in
-    let t = sized_table (table_of j.caches c.args.cache.0) pages size2 in
-    let bounded = subst IsBounded (sym r.forest) e.bounded in
-    let z : Manager = seen d b.store j.contexts in
-    let copied = range_copied p m h k all c.self.invariant.sound.nodes (is_named i.caches c.args.cache.0) written.forest in
-    subst (λ (p : Manager). CopiesSaved (all_of p.caches c.args.cache) p h z (Ok tt)) c.self.view_is
-    (subst (λ (e : Extent). CopiesSaved e p h z (Ok tt)) (sym extent) (ap (λ a. a.copies) r.changed ∙ e.copies ∙ copied.0))
+returns-clause-copies g c = (gone g (goal.at.returns-clause-copies g c).After-remove).1
 
 pub returns-clause-idle : goal.returns-clause-idle
-returns-clause-idle g c =
-    let i = c.self.inside in
-    let pages = c.in-Some.pages in
-    let all : Extent = of_cache c.args.cache pages in
-    let size : size_of i.caches c.args.cache.0 ≡ Some pages = sym c.pages.ensures ∙ c.in-Some.is in
-    let free = sym c.maps.ensures ∙ c.if-maps.false in
-    let q = c.write_back.new.self in
-    let x = c.write_back.ensures in
-    let h = g.M.Mapper.held c.args.mapper.now in
-    let k = g.M.Mapper.held c.write_back.new.mapper in
-    let before = g.M.Mapper.counts c.args.mapper.now in
-    let after = g.M.Mapper.counts c.write_back.new.mapper in
-    let p : Manager = seen i.caches i.store i.contexts in
-    let t0 = sized_table (table_of i.caches c.args.cache.0) pages size in
-    let keeps0 : KeepsMachine p q h k before after = subst (λ (p : Manager). KeepsMachine p q h k before after) (sym c.self.view_is) x.keeps in
-    let extent : all_of i.caches c.args.cache ≡ all = ap (λ (o : Option ℕ). of_cache c.args.cache (unwrap_or o 0)) size in
+returns-clause-idle g c = λ none.
     let j = c.self-2.inside in
-    let v2 = c.self-2.view_is in
-    let m : Manager = seen j.caches j.store j.contexts in
-    let sound = c.self-2.invariant.sound in
-    let valid : IsValid m k = subst (λ (p : Manager). IsValid p k) (sym v2) x.valid in
-    let keeps : KeepsMachine p m h k before after = subst (λ (r : Manager). KeepsMachine p r h k before after) (sym v2) keeps0 in
-    let written : IsWrittenBack all p m h k = subst (λ (r : Manager). IsWrittenBack all p r h k) (sym v2) (subst (λ (p : Manager). IsWrittenBack all p q h k) (sym c.self.view_is) c.in_ok-write_back.ensures.written) in
-    let tied = tied_right k None j.caches j.store valid.right in
-    let size2 : size_of j.caches c.args.cache.0 ≡ Some pages = keeps.same.sizes c.args.cache.0 ∙ size in
-    let free2 : list_any (maps_in c.args.cache.0) j.contexts.actors ≡ false = subst (λ (m : Machine). is_mapped m c.args.cache.0 ≡ false) (sym keeps.machine) free in
-    let b = c.destroy_pages.new in
     let e = c.destroy_pages.ensures in
-    let d = c.remove.new.self in
-    let r = c.remove.ensures in
-    let whole = e.whole d r.changed (r.sound e.kept.sound) r.forest in
-    let t = sized_table (table_of j.caches c.args.cache.0) pages size2 in
-    let bounded = subst IsBounded (sym r.forest) e.bounded in
-    let z : Manager = seen d b.store j.contexts in
-    λ none.
-    let still = x.temporary none in
-    let gives = e.kept.gives_back None None tied in
-    let same : m ≡ c.args.self.now = v2 ∙ still.1 in (
+    let z : Manager = seen c.remove.new.self c.destroy_pages.new.store j.contexts in
+    let still = c.write_back.ensures.temporary none in
+    let gives = e.kept.gives_back None None (to_go g (goal.at.returns-clause-idle g c).After-self-2).tied in
+    let same : seen j.caches j.store j.contexts ≡ c.args.self.now = c.self-2.view_is ∙ still.1 in (
       still.2,
       still.3,
-      (let out : CopiesNothing c.args.self.now z = subst (λ (p : Manager). CopiesNothing p z) same (record { copies = ap (λ k. k.copies) r.changed ∙ e.copies; held = gives.held; bytes = gives.bytes }) in out),
+      (let out : CopiesNothing c.args.self.now z = subst (λ (p : Manager). CopiesNothing p z) same (record { copies = ap (λ k. k.copies) c.remove.ensures.changed ∙ e.empties.settles.copies; held = gives.held; bytes = gives.bytes }) in out),
       tt,
     )

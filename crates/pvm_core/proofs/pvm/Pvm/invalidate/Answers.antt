@@ -1,31 +1,36 @@
-use Rattle.std.proofs.Common.{◌≡◌, ℕ, ◌+◌, ◌*◌, ◌≤◌, None, refl, sym, ap, subst, ◌∙◌, arith}
+use Rattle.std.proofs.Common.{◌≡◌, ℕ, ◌+◌, ◌*◌, ◌≤◌, false, Some, None, refl, sym, ap, subst, ◌∙◌, arith}
 use Rattle.std.specs.Prelude.{Result, Ok, Err, length, option_map}
 use Rattle.std.proofs.lemmas.Result.{err_from_is_err_and}
 use Rattle.gmi_calls.specs.Calling.{RaisesMade, done_by}
+use Rattle.vm_ids.specs.Held.{segments_of}
 use Rattle.vm_ids.specs.declared.command.Command.TheVariants as commands
 use Rattle.vm_ids.specs.declared.reply.Reply.TheVariants as replies
 use Rattle.vm_ids.specs.declared.reply.Trouble.TheVariants as troubles
 use Rattle.local_cache.specs.Arena.{Table, table_of}
+use Rattle.local_cache.specs.Whole.{size_of}
 use Rattle.local_cache.proofs.Nodes.Count.{forest_len}
 use Rattle.local_cache.proofs.Whole.Pages.{range_there}
 use Rattle.page_release.proofs.Tying.Tied.{tied_right}
 use Rattle.vm_model.specs.Machine.{cache_of, pages_in}
-use Rattle.vm_model.specs.Answering.{Answer, held_for}
+use Rattle.vm_model.specs.Answering.{Answer, held_for, is_any_locked}
 use Rattle.vm_model.specs.Outcome.{IsNotRefused}
+use Rattle.vm_model.specs.PageForest.{PageForest}
+use Rattle.vm_model.specs.Synchronised.{ArePushed}
 use Rattle.vm_model.specs.Run.{CallIs, State}
 use Rattle.pvm_core.specs.Manager.{IsValid, Manager, forest_of, machine_by, machine_of, numbered, state_at}
 use Rattle.pvm_core.specs.Saving.{KeepsMachine}
 use Rattle.pvm_core.specs.contracts.pvm.Pvm.{the_view}
 use Rattle.pvm_core.proofs.Answering.Answered.{failed}
+use Rattle.pvm_core.proofs.Answering.Ended.{Ended}
 use Rattle.pvm_core.proofs.Answering.Changed.{changed_sound, slots_enough}
-use Rattle.pvm_core.proofs.Extents.Rows.{extent_by, extent_open, extent_unlocked, invalidate_refused, invalidate_row}
+use Rattle.pvm_core.proofs.Extents.Rows.{IsExtent, extent_by, extent_open, extent_unlocked, invalidate_refused, invalidate_row}
 use Rattle.pvm_core.proofs.Extents.Taken.{IsTaking, taken_is, taken_pushed, taken_valid, taking, taking_copies, taking_saved}
 use Rattle.pvm_core.proofs.Extents.Unsaved.{unsaved_is, unsaved_made}
 use Rattle.pvm_core.proofs.Answering.Kept.{seen}
 use Rattle.pvm_core.proofs.Meaning.Live.{nodes_most}
 use Rattle.pvm_core.proofs.Accesses.Loading.{size_le}
 use Rattle.pvm_core.proofs.Answering.Reaching.{reach_none}
-use Rattle.pvm_core.proofs.Spanning.Reserved.{reserved}
+use Rattle.pvm_core.proofs.Spanning.Reserved.{IsReserved, reserved}
 use Rattle.pvm_core.specs.Locks.{any_locked}
 use Rattle.pvm_core.proofs.Holding.Counted.{any_same, same_locked}
 use Rattle.pvm_core.proofs.Holding.Kept.{held_released}
@@ -33,6 +38,8 @@ use Rattle.pvm_core.proofs.Holding.Loose.{unpinned_names, working_unpinned}
 use Rattle.pvm_core.proofs.Translating.Cells.{roomier_right}
 use Rattle.pvm_core.proofs.Translating.Left.{left_right}
 use Rattle.pvm_core.proofs.Translating.Writable.{homes_writable}
+use Rattle.pvm_core.proofs.pvm.Pvm.invalidate.Given.{Over}
+use Rattle.pvm_core.proofs.pvm.Pvm.invalidate.Goals.{After-invalidate_pages, After-reserve, After-self-2, In-Err, In_default}
 use Rattle.pvm_core.proofs.pvm.Pvm.invalidate.Goals as goal
 
 pub returns-in-Some-clause-answers : goal.returns-in-Some-clause-answers
@@ -46,228 +53,199 @@ returns-in-Some-clause-answers g c =
     (failed before before p p h h (commands.Invalidate c.args.extent) answer (reach_none _ h before) i.nodes i.nodes (subst (λ (p : Manager). IsValid p h) (sym c.self.view_is) c.requires.valid) refl refl tt tt
     (λ f s. invalidate_refused p f c.args.extent i.locked.counted c.in-Some.refusal (sym c.extent_refusal.ensures ∙ c.in-Some.is) (held_for (machine_by p f) s c.args.extent.cache.0)))
 
+-- nothing refuses the extent
+extent : (g : Over) (c : In_default g) → IsExtent c.self.inside.caches c.args.extent
+extent g c = extent_open c.self.inside.caches c.args.extent (any_locked c.self.inside.caches c.args.extent) (sym c.extent_refusal.ensures ∙ c.in_default.is)
+
+unlocked : (g : Over) (c : In_default g) → any_locked c.self.inside.caches c.args.extent ≡ false
+unlocked g c = extent_unlocked (table_of c.self.inside.caches c.args.extent.cache.0) c.args.extent (any_locked c.self.inside.caches c.args.extent) (sym c.extent_refusal.ensures ∙ c.in_default.is)
+
+-- room was taken
+roomy : (g : Over) (c : After-reserve g) → IsReserved c.self.inside.caches c.reserve.new.self c.self.inside.store c.self.inside.contexts c.self.inside.live
+roomy g c =
+    let i = c.self.inside in
+    let r = c.reserve.ensures in
+    reserved i.caches c.reserve.new.self i.store i.contexts i.live r.kept r.no_less.0 r.forest (r.sound c.self.invariant.sound.nodes.sound) c.self.invariant.sound
+
+roomy_valid : (g : Over) (c : After-reserve g) → IsValid (seen c.reserve.new.self c.self.inside.store c.self.inside.contexts) (g.M.Mapper.held c.args.mapper.now)
+roomy_valid g c = (roomy g c).valid (g.M.Mapper.held c.args.mapper.now) (subst (λ (p : Manager). IsValid p (g.M.Mapper.held c.args.mapper.now)) (sym c.self.view_is) c.requires.valid)
+
 pub invariant_of-self : goal.invariant_of-self
 invariant_of-self g c = record {
-  sound = (
-      let i = c.self.inside in
-      let r = c.reserve.ensures in
-      (reserved i.caches c.reserve.new.self i.store i.contexts i.live r.kept r.no_less.0 r.forest (r.sound c.self.invariant.sound.nodes.sound) c.self.invariant.sound).sound
-      );
-  translated = (
-      let i = c.self.inside in
-      roomier_right i.caches c.reserve.new.self i.store c.reserve.ensures.kept i.contexts c.self.invariant.translated
-      );
+  sound = (roomy g (goal.at.invariant_of-self g c).After-reserve).sound;
+  translated = roomier_right c.self.inside.caches c.reserve.new.self c.self.inside.store c.reserve.ensures.kept c.self.inside.contexts c.self.invariant.translated;
 }
 
 pub returns-in_err-reserve-clause-valid : goal.returns-in_err-reserve-clause-valid
-returns-in_err-reserve-clause-valid g c =
-    let h = g.M.Mapper.held c.args.mapper.now in
-    let i = c.self.inside in
-    let r = c.reserve.ensures in
-    (reserved i.caches c.reserve.new.self i.store i.contexts i.live r.kept r.no_less.0 r.forest (r.sound c.self.invariant.sound.nodes.sound) c.self.invariant.sound).valid h (subst (λ (p : Manager). IsValid p h) (sym c.self.view_is) c.requires.valid)
+returns-in_err-reserve-clause-valid g c = roomy_valid g (goal.at.returns-in_err-reserve-clause-valid g c).After-reserve
 
 pub returns-in_err-reserve-clause-answers : goal.returns-in_err-reserve-clause-answers
 returns-in_err-reserve-clause-answers g c =
+    let at = goal.at.returns-in_err-reserve-clause-answers g c in
     let h = g.M.Mapper.held c.args.mapper.now in
     let before = g.M.Mapper.counts c.args.mapper.now in
     let i = c.self.inside in
-    let r = c.reserve.ensures in
-    let b = c.reserve.new.self in
-    let roomy = reserved i.caches b i.store i.contexts i.live r.kept r.no_less.0 r.forest (r.sound c.self.invariant.sound.nodes.sound) c.self.invariant.sound in
+    let r = roomy g at.After-reserve in
     let p : Manager = seen i.caches i.store i.contexts in
-    let q : Manager = seen b i.store i.contexts in
+    let q : Manager = seen c.reserve.new.self i.store i.contexts in
     let command = commands.Invalidate c.args.extent in
     let answer : Answer = Err troubles.Memory in
-    let x = extent_open i.caches c.args.extent (any_locked i.caches c.args.extent) (sym c.extent_refusal.ensures ∙ c.in_default.is) in
     let gave = err_from_is_err_and c.from_residual.result c.from_residual.ensures.1 in
     let is : c.from_residual.result ≡ Err troubles.Memory = gave.1 ∙ ap (λ t. Err t) gave.2 in
     subst (λ (p : Manager). CallIs before before (state_at p h) command (done_by c.from_residual.result) (state_at q h)) c.self.view_is
     (subst (λ (r : Result _ _). CallIs before before (state_at p h) command (done_by r) (state_at q h)) (sym is)
-    (failed before before p q h h command answer (reach_none _ h before) c.self.invariant.sound.nodes roomy.sound.nodes (roomy.valid h (subst (λ (p : Manager). IsValid p h) (sym c.self.view_is) c.requires.valid)) (roomy.forest h) refl tt tt
+    (failed before before p q h h command answer (reach_none _ h before) c.self.invariant.sound.nodes r.sound.nodes (roomy_valid g at.After-reserve) (r.forest h) refl tt tt
     (λ f s. (
-      roomy.by f,
+      r.by f,
       tt,
-      subst (λ a. IsNotRefused a.answer) (sym (invalidate_row p f c.args.extent x (any_same p f c.self.invariant.sound.locked.counted c.args.extent ∙ extent_unlocked (table_of i.caches c.args.extent.cache.0) c.args.extent (any_locked i.caches c.args.extent) (sym c.extent_refusal.ensures ∙ c.in_default.is)) (held_for (machine_by p f) s c.args.extent.cache.0))) tt,
+      subst (λ a. IsNotRefused a.answer) (sym (invalidate_row p f c.args.extent (extent g at.In_default) (any_same p f c.self.invariant.sound.locked.counted c.args.extent ∙ unlocked g at.In_default) (held_for (machine_by p f) s c.args.extent.cache.0))) tt,
     ))))
 
 pub invariant_of-self-2 : goal.invariant_of-self-2
 invariant_of-self-2 g c = record {
-  sound = (
-      let i = c.self.inside in
-      let r = c.reserve.ensures in
-      (reserved i.caches c.reserve.new.self i.store i.contexts i.live r.kept r.no_less.0 r.forest (r.sound c.self.invariant.sound.nodes.sound) c.self.invariant.sound).sound
-      );
-  translated = (
-      let i = c.self.inside in
-      roomier_right i.caches c.reserve.new.self i.store c.reserve.ensures.kept i.contexts c.self.invariant.translated
-      );
+  sound = (roomy g (goal.at.invariant_of-self-2 g c).After-reserve).sound;
+  translated = roomier_right c.self.inside.caches c.reserve.new.self c.self.inside.store c.reserve.ensures.kept c.self.inside.contexts c.self.invariant.translated;
 }
 
 pub save-requires-clause-valid : goal.save-requires-clause-valid
-save-requires-clause-valid g c =
-    let h = g.M.Mapper.held c.args.mapper.now in
-    let i = c.self.inside in
-    let r = c.reserve.ensures in
-    (reserved i.caches c.reserve.new.self i.store i.contexts i.live r.kept r.no_less.0 r.forest (r.sound c.self.invariant.sound.nodes.sound) c.self.invariant.sound).valid h (subst (λ (p : Manager). IsValid p h) (sym c.self.view_is) c.requires.valid)
+save-requires-clause-valid g c = roomy_valid g (goal.at.save-requires-clause-valid g c).After-reserve
 
 pub save-requires-clause-range : goal.save-requires-clause-range
 save-requires-clause-range g c =
-    let x = extent_by c.self.inside.caches c.reserve.new.self c.args.extent (ap (λ a. a.caches) c.reserve.ensures.kept) (extent_open c.self.inside.caches c.args.extent (any_locked c.self.inside.caches c.args.extent) (sym c.extent_refusal.ensures ∙ c.in_default.is)) in
+    let x = extent_by c.self.inside.caches c.reserve.new.self c.args.extent (ap (λ a. a.caches) c.reserve.ensures.kept) (extent g (goal.at.save-requires-clause-range g c).In_default) in
     record { pages = length x.table.pages; size = ap (option_map (λ (t : Table). length t.pages)) x.there; within = x.ends }
 
-pub returns-in-Err-clause-answers : goal.returns-in-Err-clause-answers
-returns-in-Err-clause-answers g c =
+-- a page wasn't saved
+unsaved : (g : Over) (c : In-Err g)
+    → CallIs (g.M.Mapper.counts c.args.mapper.now) (g.M.Mapper.counts c.save.new.mapper) (state_at c.args.self.now (g.M.Mapper.held c.args.mapper.now)) (commands.Invalidate c.args.extent) (Err c.in-Err.trouble) (state_at c.save.new.self (g.M.Mapper.held c.save.new.mapper))
+    × RaisesMade (machine_of c.args.self.now (g.M.Mapper.held c.args.mapper.now)) (commands.Invalidate c.args.extent) (Err c.in-Err.trouble) (numbered c.args.self.now) (numbered c.save.new.self)
+unsaved g c =
+    let at = goal.at.In-Err g c in
     let h = g.M.Mapper.held c.args.mapper.now in
-    let i = c.self.inside in
-    let r = c.reserve.ensures in
-    let b = c.reserve.new.self in
-    let roomy = reserved i.caches b i.store i.contexts i.live r.kept r.no_less.0 r.forest (r.sound c.self.invariant.sound.nodes.sound) c.self.invariant.sound in
-    let p : Manager = seen i.caches i.store i.contexts in
-    let x = extent_open i.caches c.args.extent (any_locked i.caches c.args.extent) (sym c.extent_refusal.ensures ∙ c.in_default.is) in
-    let old : IsValid p h = subst (λ (p : Manager). IsValid p h) (sym c.self.view_is) c.requires.valid in
-    let q : Manager = seen b i.store i.contexts in
     let z = g.M.Mapper.held c.save.new.mapper in
     let before = g.M.Mapper.counts c.args.mapper.now in
     let after = g.M.Mapper.counts c.save.new.mapper in
-    let xb = extent_by i.caches b c.args.extent (ap (λ a. a.caches) r.kept) x in
-    let command = commands.Invalidate c.args.extent in
-    subst (λ (p : Manager). CallIs before after (state_at p h) command (Err c.in-Err.trouble) (state_at c.save.new.self z)) c.self.view_is
-    (subst (λ (s : State). CallIs before after s command (Err c.in-Err.trouble) (state_at c.save.new.self z)) (roomy.state h)
-    (unsaved_is q c.save.new.self h z before after c.args.extent xb (λ f. any_same q f roomy.sound.locked.counted c.args.extent ∙ same_locked p q c.self.invariant.sound.locked.counted roomy.sound.locked.counted roomy.by c.args.extent ∙ extent_unlocked (table_of i.caches c.args.extent.cache.0) c.args.extent (any_locked i.caches c.args.extent) (sym c.extent_refusal.ensures ∙ c.in_default.is)) roomy.sound.nodes c.save.ensures.valid c.save.ensures.keeps c.in-Err.trouble c.in-Err.ensures.failed c.in-Err.ensures.cause))
+    let i = c.self.inside in
+    let b = c.reserve.new.self in
+    let r = roomy g at.After-reserve in
+    let p : Manager = seen i.caches i.store i.contexts in
+    let q : Manager = seen b i.store i.contexts in
+    let x = extent_by i.caches b c.args.extent (ap (λ a. a.caches) c.reserve.ensures.kept) (extent g at.In_default) in
+    let e = c.save.ensures in
+    let free : (f : PageForest) → is_any_locked (machine_by q f) c.args.extent.cache c.args.extent.first.0 c.args.extent.pages ≡ false = λ f. any_same q f r.sound.locked.counted c.args.extent ∙ same_locked p q c.self.invariant.sound.locked.counted r.sound.locked.counted r.by c.args.extent ∙ unlocked g at.In_default in
+    let same : numbered q ≡ numbered c.args.self.now = ap (λ a. a.made + a.copies) c.reserve.ensures.kept ∙ ap numbered c.self.view_is in (
+      subst (λ (p : Manager). CallIs before after (state_at p h) (commands.Invalidate c.args.extent) (Err c.in-Err.trouble) (state_at c.save.new.self z)) c.self.view_is
+          (subst (λ (s : State). CallIs before after s (commands.Invalidate c.args.extent) (Err c.in-Err.trouble) (state_at c.save.new.self z)) (r.state h)
+          (unsaved_is q c.save.new.self h z before after c.args.extent x free r.sound.nodes e.valid e.keeps c.in-Err.trouble c.in-Err.ensures.failed c.in-Err.ensures.cause)),
+      subst (λ (n : ℕ). RaisesMade (machine_of c.args.self.now h) (commands.Invalidate c.args.extent) (Err c.in-Err.trouble) n (numbered c.save.new.self)) same
+          (unsaved_made q c.save.new.self h z before after c.args.extent x free r.sound.nodes e.valid e.keeps c.in-Err.trouble c.in-Err.ensures.failed (machine_of c.args.self.now h)),
+    )
+
+pub returns-in-Err-clause-answers : goal.returns-in-Err-clause-answers
+returns-in-Err-clause-answers g c = (unsaved g c).0
 
 pub returns-in-Err-clause-made : goal.returns-in-Err-clause-made
-returns-in-Err-clause-made g c =
+returns-in-Err-clause-made g c = (unsaved g c).1
+
+-- the pages are saved, and may be taken
+ready : (g : Over) (c : After-self-2 g)
+    → IsTaking (seen c.self.inside.caches c.self.inside.store c.self.inside.contexts) (g.M.Mapper.held c.args.mapper.now) (g.M.Mapper.held c.save.new.mapper) c.self-2.inside.caches c.self-2.inside.store c.self-2.inside.contexts c.args.extent (g.M.Mapper.counts c.args.mapper.now) (g.M.Mapper.counts c.save.new.mapper)
+ready g c =
+    let at = goal.at.After-self-2 g c in
     let h = g.M.Mapper.held c.args.mapper.now in
-    let i = c.self.inside in
-    let r = c.reserve.ensures in
-    let b = c.reserve.new.self in
-    let roomy = reserved i.caches b i.store i.contexts i.live r.kept r.no_less.0 r.forest (r.sound c.self.invariant.sound.nodes.sound) c.self.invariant.sound in
-    let p : Manager = seen i.caches i.store i.contexts in
-    let x = extent_open i.caches c.args.extent (any_locked i.caches c.args.extent) (sym c.extent_refusal.ensures ∙ c.in_default.is) in
-    let old : IsValid p h = subst (λ (p : Manager). IsValid p h) (sym c.self.view_is) c.requires.valid in
-    let q : Manager = seen b i.store i.contexts in
     let z = g.M.Mapper.held c.save.new.mapper in
     let before = g.M.Mapper.counts c.args.mapper.now in
     let after = g.M.Mapper.counts c.save.new.mapper in
-    let xb = extent_by i.caches b c.args.extent (ap (λ a. a.caches) r.kept) x in
-    let same : numbered q ≡ numbered c.args.self.now = ap (λ a. a.made + a.copies) r.kept ∙ ap numbered c.self.view_is in
-    subst (λ (n : ℕ). RaisesMade (machine_of c.args.self.now h) (commands.Invalidate c.args.extent) (Err c.in-Err.trouble) n (numbered c.save.new.self)) same
-    (unsaved_made q c.save.new.self h z before after c.args.extent xb (λ f. any_same q f roomy.sound.locked.counted c.args.extent ∙ same_locked p q c.self.invariant.sound.locked.counted roomy.sound.locked.counted roomy.by c.args.extent ∙ extent_unlocked (table_of i.caches c.args.extent.cache.0) c.args.extent (any_locked i.caches c.args.extent) (sym c.extent_refusal.ensures ∙ c.in_default.is)) roomy.sound.nodes c.save.ensures.valid c.save.ensures.keeps c.in-Err.trouble c.in-Err.ensures.failed (machine_of c.args.self.now h))
+    let i = c.self.inside in
+    let j = c.self-2.inside in
+    let q : Manager = seen c.reserve.new.self i.store i.contexts in
+    let r = roomy g at.After-reserve in
+    let kept = c.reserve.ensures.kept in
+    taking (seen i.caches i.store i.contexts) q h z before after j.caches j.store j.contexts c.args.extent (extent g at.In_default) (ap (λ a. a.caches) kept) (ap (λ a. a.made) kept) (ap (λ (s : State). s.machine) (r.state h)) r.by (r.forest h)
+    (subst (λ (m : Manager). IsValid m z) (sym c.self-2.view_is) c.save.ensures.valid) (subst (λ (m : Manager). KeepsMachine q m h z before after) (sym c.self-2.view_is) c.save.ensures.keeps)
+    (ap (λ (m : Manager). m.caches.caches) c.self-2.view_is ∙ c.save.ensures.tables) (ap (λ (m : Manager). forest_of m z) c.self-2.view_is ∙ c.in-Ok.ensures.saved)
+
+-- so many pages the cache has
+size : (g : Over) (c : After-self-2 g) → size_of c.self-2.inside.caches c.args.extent.cache.0 ≡ Some (length (ready g c).extent.table.pages)
+size g c = ap (option_map (λ (t : Table). length t.pages)) (ready g c).extent.there
+
+-- and none of the extent is locked
+unlocked_still : (g : Over) (c : After-self-2 g) → any_locked c.self-2.inside.caches c.args.extent ≡ false
+unlocked_still g c =
+    let i = c.self.inside in
+    let j = c.self-2.inside in
+    same_locked (seen i.caches i.store i.contexts) (seen j.caches j.store j.contexts) c.self.invariant.sound.locked.counted c.self-2.invariant.sound.locked.counted (ready g c).by c.args.extent ∙ unlocked g (goal.at.After-self-2 g c).In_default
 
 pub invalidate_pages-requires-clause-nodes : goal.invalidate_pages-requires-clause-nodes
 invalidate_pages-requires-clause-nodes g c =
-    let h = g.M.Mapper.held c.args.mapper.now in
+    let at = (goal.at.invalidate_pages-requires-clause-nodes g c).After-self-2 in
+    let r = ready g at in
+    range_there c.self-2.inside.caches c.self-2.invariant.sound.nodes c.args.extent.cache c.args.extent.first.0 c.args.extent.pages (length r.extent.table.pages) (size g at) r.extent.ends
+
+pub invalidate_pages-requires-clause-ready : goal.invalidate_pages-requires-clause-ready
+invalidate_pages-requires-clause-ready g c =
+    let at = (goal.at.invalidate_pages-requires-clause-ready g c).After-self-2 in
     let i = c.self.inside in
-    let r = c.reserve.ensures in
-    let b = c.reserve.new.self in
-    let roomy = reserved i.caches b i.store i.contexts i.live r.kept r.no_less.0 r.forest (r.sound c.self.invariant.sound.nodes.sound) c.self.invariant.sound in
-    let p : Manager = seen i.caches i.store i.contexts in
-    let x = extent_open i.caches c.args.extent (any_locked i.caches c.args.extent) (sym c.extent_refusal.ensures ∙ c.in_default.is) in
-    let old : IsValid p h = subst (λ (p : Manager). IsValid p h) (sym c.self.view_is) c.requires.valid in
-    let before = g.M.Mapper.counts c.args.mapper.now in
-    let after = g.M.Mapper.counts c.save.new.mapper in
-    let z = g.M.Mapper.held c.save.new.mapper in
     let j = c.self-2.inside in
     let k = c.self-2.invariant.sound in
-    let view = sym c.self-2.view_is in
-    let ready : IsTaking p h z j.caches j.store j.contexts c.args.extent before after = taking p (seen b i.store i.contexts) h z before after j.caches j.store j.contexts c.args.extent x (ap (λ a. a.caches) r.kept) (ap (λ a. a.made) r.kept) (ap (λ (s : State). s.machine) (roomy.state h)) roomy.by (roomy.forest h)
-    (subst (λ (m : Manager). IsValid m z) view c.save.ensures.valid) (subst (λ (m : Manager). KeepsMachine (seen b i.store i.contexts) m h z before after) view c.save.ensures.keeps)
-    (ap (λ (m : Manager). m.caches.caches) c.self-2.view_is ∙ c.save.ensures.tables) (ap (λ (m : Manager). forest_of m z) c.self-2.view_is ∙ c.in-Ok.ensures.saved) in
-    range_there j.caches k.nodes c.args.extent.cache c.args.extent.first.0 c.args.extent.pages (length ready.extent.table.pages) (ap (option_map (λ (t : Table). length t.pages)) ready.extent.there) ready.extent.ends
+    let r = ready g at in
+    record {
+      retire = record {
+        tied = tied_right (g.M.Mapper.held c.save.new.mapper) None j.caches j.store r.valid.right;
+        whole = k.nodes;
+        unpinned = unpinned_names j.caches j.store j.contexts.actors k.locked c.args.extent (unlocked_still g at);
+        made = omega (arith, r.made, c.requires.made, ap numbered c.self.view_is, k.few, k.counted, size_le j.caches c.args.extent.cache.0 (length r.extent.table.pages) (size g at), r.extent.ends);
+      };
+      saved = λ named. taking_saved (seen i.caches i.store i.contexts) (g.M.Mapper.held c.args.mapper.now) (g.M.Mapper.held c.save.new.mapper) j.caches j.store j.contexts c.args.extent _ _ c.self.invariant.sound.nodes r k.nodes;
+      working = working_unpinned j.caches j.store j.contexts.actors k.locked;
+    }
 
-pub invalidate_pages-requires-clause-unpinned : goal.invalidate_pages-requires-clause-unpinned
-invalidate_pages-requires-clause-unpinned g c =
-    let h = g.M.Mapper.held c.args.mapper.now in
-    let i = c.self.inside in
-    let r = c.reserve.ensures in
-    let b = c.reserve.new.self in
-    let roomy = reserved i.caches b i.store i.contexts i.live r.kept r.no_less.0 r.forest (r.sound c.self.invariant.sound.nodes.sound) c.self.invariant.sound in
-    let p : Manager = seen i.caches i.store i.contexts in
-    let x = extent_open i.caches c.args.extent (any_locked i.caches c.args.extent) (sym c.extent_refusal.ensures ∙ c.in_default.is) in
-    let old : IsValid p h = subst (λ (p : Manager). IsValid p h) (sym c.self.view_is) c.requires.valid in
-    let before = g.M.Mapper.counts c.args.mapper.now in
-    let after = g.M.Mapper.counts c.save.new.mapper in
-    let z = g.M.Mapper.held c.save.new.mapper in
+pub invalidate_pages-requires-clause-room : goal.invalidate_pages-requires-clause-room
+invalidate_pages-requires-clause-room g c =
+    let at = (goal.at.invalidate_pages-requires-clause-room g c).After-self-2 in
     let j = c.self-2.inside in
     let k = c.self-2.invariant.sound in
-    let view = sym c.self-2.view_is in
-    let ready : IsTaking p h z j.caches j.store j.contexts c.args.extent before after = taking p (seen b i.store i.contexts) h z before after j.caches j.store j.contexts c.args.extent x (ap (λ a. a.caches) r.kept) (ap (λ a. a.made) r.kept) (ap (λ (s : State). s.machine) (roomy.state h)) roomy.by (roomy.forest h)
-    (subst (λ (m : Manager). IsValid m z) view c.save.ensures.valid) (subst (λ (m : Manager). KeepsMachine (seen b i.store i.contexts) m h z before after) view c.save.ensures.keeps)
-    (ap (λ (m : Manager). m.caches.caches) c.self-2.view_is ∙ c.save.ensures.tables) (ap (λ (m : Manager). forest_of m z) c.self-2.view_is ∙ c.in-Ok.ensures.saved) in
-    unpinned_names j.caches j.store j.contexts.actors k.locked c.args.extent
-    (same_locked p (seen j.caches j.store j.contexts) c.self.invariant.sound.locked.counted k.locked.counted ready.by c.args.extent ∙ extent_unlocked (table_of i.caches c.args.extent.cache.0) c.args.extent (any_locked i.caches c.args.extent) (sym c.extent_refusal.ensures ∙ c.in_default.is))
+    let r = ready g at in
+    record {
+      room = let same = ap (λ (m : Manager). m.caches.room.nodes) c.self-2.view_is ∙ ap (λ r. r.nodes) c.save.ensures.room in omega (arith, same, c.in_ok-reserve.ensures.nodes);
+      few = omega (arith, forest_len j.caches, nodes_most k, k.few, k.counted, size_le j.caches c.args.extent.cache.0 (length r.extent.table.pages) (size g at), r.extent.ends);
+    }
 
-pub invalidate_pages-requires-clause-working : goal.invalidate_pages-requires-clause-working
-invalidate_pages-requires-clause-working g c =
-    let j = c.self-2.inside in
-    working_unpinned j.caches j.store j.contexts.actors c.self-2.invariant.sound.locked
-
-pub invalidate_pages-requires-clause-saved : goal.invalidate_pages-requires-clause-saved
-invalidate_pages-requires-clause-saved g c = λ named.
+-- the pages are taken, and are what the segment holds
+taken : (g : Over) (c : After-invalidate_pages g)
+    → Ended c.args.self.now c.invalidate_pages.new.caches c.invalidate_pages.new.store c.self-2.inside.contexts c.self-2.inside.live (g.M.Mapper.held c.args.mapper.now) (g.M.Mapper.held c.save.new.mapper) (g.M.Mapper.counts c.args.mapper.now) (g.M.Mapper.counts c.save.new.mapper) (commands.Invalidate c.args.extent) (Ok replies.Done)
+    × ArePushed (machine_of (seen c.invalidate_pages.new.caches c.invalidate_pages.new.store c.self-2.inside.contexts) (g.M.Mapper.held c.save.new.mapper)) (segments_of (g.M.Mapper.held c.save.new.mapper)) c.args.extent.cache.0 c.args.extent.first.0 (c.args.extent.first.0 + c.args.extent.pages)
+taken g c =
+    let at = (goal.at.After-invalidate_pages g c).After-self-2 in
     let h = g.M.Mapper.held c.args.mapper.now in
-    let i = c.self.inside in
-    let r = c.reserve.ensures in
-    let b = c.reserve.new.self in
-    let roomy = reserved i.caches b i.store i.contexts i.live r.kept r.no_less.0 r.forest (r.sound c.self.invariant.sound.nodes.sound) c.self.invariant.sound in
-    let p : Manager = seen i.caches i.store i.contexts in
-    let x = extent_open i.caches c.args.extent (any_locked i.caches c.args.extent) (sym c.extent_refusal.ensures ∙ c.in_default.is) in
-    let old : IsValid p h = subst (λ (p : Manager). IsValid p h) (sym c.self.view_is) c.requires.valid in
+    let z = g.M.Mapper.held c.save.new.mapper in
     let before = g.M.Mapper.counts c.args.mapper.now in
     let after = g.M.Mapper.counts c.save.new.mapper in
-    let z = g.M.Mapper.held c.save.new.mapper in
-    let j = c.self-2.inside in
-    let k = c.self-2.invariant.sound in
-    let view = sym c.self-2.view_is in
-    let ready : IsTaking p h z j.caches j.store j.contexts c.args.extent before after = taking p (seen b i.store i.contexts) h z before after j.caches j.store j.contexts c.args.extent x (ap (λ a. a.caches) r.kept) (ap (λ a. a.made) r.kept) (ap (λ (s : State). s.machine) (roomy.state h)) roomy.by (roomy.forest h)
-    (subst (λ (m : Manager). IsValid m z) view c.save.ensures.valid) (subst (λ (m : Manager). KeepsMachine (seen b i.store i.contexts) m h z before after) view c.save.ensures.keeps)
-    (ap (λ (m : Manager). m.caches.caches) c.self-2.view_is ∙ c.save.ensures.tables) (ap (λ (m : Manager). forest_of m z) c.self-2.view_is ∙ c.in-Ok.ensures.saved) in
-    taking_saved p h z j.caches j.store j.contexts c.args.extent before after c.self.invariant.sound.nodes ready k.nodes
-
-pub invalidate_pages-requires-clause-few : goal.invalidate_pages-requires-clause-few
-invalidate_pages-requires-clause-few g c =
-    let h = g.M.Mapper.held c.args.mapper.now in
     let i = c.self.inside in
-    let r = c.reserve.ensures in
-    let b = c.reserve.new.self in
-    let roomy = reserved i.caches b i.store i.contexts i.live r.kept r.no_less.0 r.forest (r.sound c.self.invariant.sound.nodes.sound) c.self.invariant.sound in
-    let p : Manager = seen i.caches i.store i.contexts in
-    let x = extent_open i.caches c.args.extent (any_locked i.caches c.args.extent) (sym c.extent_refusal.ensures ∙ c.in_default.is) in
-    let old : IsValid p h = subst (λ (p : Manager). IsValid p h) (sym c.self.view_is) c.requires.valid in
-    let before = g.M.Mapper.counts c.args.mapper.now in
-    let after = g.M.Mapper.counts c.save.new.mapper in
-    let z = g.M.Mapper.held c.save.new.mapper in
     let j = c.self-2.inside in
     let k = c.self-2.invariant.sound in
-    let view = sym c.self-2.view_is in
-    let ready : IsTaking p h z j.caches j.store j.contexts c.args.extent before after = taking p (seen b i.store i.contexts) h z before after j.caches j.store j.contexts c.args.extent x (ap (λ a. a.caches) r.kept) (ap (λ a. a.made) r.kept) (ap (λ (s : State). s.machine) (roomy.state h)) roomy.by (roomy.forest h)
-    (subst (λ (m : Manager). IsValid m z) view c.save.ensures.valid) (subst (λ (m : Manager). KeepsMachine (seen b i.store i.contexts) m h z before after) view c.save.ensures.keeps)
-    (ap (λ (m : Manager). m.caches.caches) c.self-2.view_is ∙ c.save.ensures.tables) (ap (λ (m : Manager). forest_of m z) c.self-2.view_is ∙ c.in-Ok.ensures.saved) in
-    omega (arith, forest_len j.caches, nodes_most k, k.few, k.counted, size_le j.caches c.args.extent.cache.0 (length ready.extent.table.pages) (ap (option_map (λ (t : Table). length t.pages)) ready.extent.there), ready.extent.ends)
+    let p : Manager = seen i.caches i.store i.contexts in
+    let r = ready g at in
+    let e = c.invalidate_pages.ensures in
+    let d = c.invalidate_pages.new.caches in
+    let u = c.invalidate_pages.new.store in
+    let tied = tied_right z None j.caches j.store r.valid.right in
+    let right = e.pages.right (slots_enough j.caches d j.store u j.contexts j.live k e.kept.sizes e.kept.gives_back tied e.pages.whole) in
+    let old : IsValid p h = subst (λ (p : Manager). IsValid p h) (sym c.self.view_is) c.requires.valid in
+    let copies = taking_copies p h z j.caches j.store j.contexts c.args.extent before after c.self.invariant.sound.nodes r in
+    let made : numbered (seen d u j.contexts) ≤ numbered p + 8 * (c.args.extent.pages + pages_in (cache_of (machine_of p h) c.args.extent.cache.0)) + 8 = omega (arith, copies, e.pages.settles.made, e.pages.settles.copies, r.made) in (
+      subst (λ (p : Manager). Ended p d u j.contexts j.live h z before after (commands.Invalidate c.args.extent) (Ok replies.Done)) c.self.view_is (record {
+        sound = changed_sound j.caches d j.store u j.contexts j.live k e.kept.sizes e.kept.gives_back tied e.pages.whole e.pages.settles.bounded (held_released _ j.caches d j.store u e.kept tied j.contexts k.nodes k.actors k.locked);
+        valid = taken_valid p h z j.caches d j.store u j.contexts j.live k r.valid c.args.extent r.extent (unlocked_still g at) r.machine r.by c.self.invariant.sound.nodes old r.forest e.kept.sizes e.kept.gives_back tied e.pages.whole right e.rule.forest;
+        answers = taken_is p h z j.caches d j.store u j.contexts j.live k r.valid c.args.extent r.extent (unlocked_still g at) r.machine r.by c.self.invariant.sound.nodes old r.forest e.kept.sizes e.kept.gives_back tied e.pages.whole right e.rule.forest before after r.reach;
+        made = made;
+      }),
+      taken_pushed p h z j.caches d j.store u j.contexts j.live k r.valid c.args.extent r.extent (unlocked_still g at) r.machine r.by c.self.invariant.sound.nodes old r.forest e.kept.sizes e.kept.gives_back tied e.pages.whole right e.rule.forest,
+    )
 
 pub invariant_of-self-3 : goal.invariant_of-self-3
 invariant_of-self-3 g c = record {
-  sound = (
-      let h = g.M.Mapper.held c.args.mapper.now in
-      let i = c.self.inside in
-      let r = c.reserve.ensures in
-      let b = c.reserve.new.self in
-      let roomy = reserved i.caches b i.store i.contexts i.live r.kept r.no_less.0 r.forest (r.sound c.self.invariant.sound.nodes.sound) c.self.invariant.sound in
-      let p : Manager = seen i.caches i.store i.contexts in
-      let x = extent_open i.caches c.args.extent (any_locked i.caches c.args.extent) (sym c.extent_refusal.ensures ∙ c.in_default.is) in
-      let old : IsValid p h = subst (λ (p : Manager). IsValid p h) (sym c.self.view_is) c.requires.valid in
-      let before = g.M.Mapper.counts c.args.mapper.now in
-      let after = g.M.Mapper.counts c.save.new.mapper in
-      let z = g.M.Mapper.held c.save.new.mapper in
-      let j = c.self-2.inside in
-      let k = c.self-2.invariant.sound in
-      let view = sym c.self-2.view_is in
-      let ready : IsTaking p h z j.caches j.store j.contexts c.args.extent before after = taking p (seen b i.store i.contexts) h z before after j.caches j.store j.contexts c.args.extent x (ap (λ a. a.caches) r.kept) (ap (λ a. a.made) r.kept) (ap (λ (s : State). s.machine) (roomy.state h)) roomy.by (roomy.forest h)
-      (subst (λ (m : Manager). IsValid m z) view c.save.ensures.valid) (subst (λ (m : Manager). KeepsMachine (seen b i.store i.contexts) m h z before after) view c.save.ensures.keeps)
-      (ap (λ (m : Manager). m.caches.caches) c.self-2.view_is ∙ c.save.ensures.tables) (ap (λ (m : Manager). forest_of m z) c.self-2.view_is ∙ c.in-Ok.ensures.saved) in
-      let e = c.invalidate_pages.ensures in
-      changed_sound j.caches c.invalidate_pages.new.caches j.store c.invalidate_pages.new.store j.contexts j.live k e.kept.sizes e.kept.gives_back (tied_right z None j.caches j.store ready.valid.right) e.whole e.bounded
-      (held_released _ j.caches c.invalidate_pages.new.caches j.store c.invalidate_pages.new.store e.kept (tied_right z None j.caches j.store ready.valid.right) j.contexts k.nodes k.actors k.locked)
-      );
+  sound = (taken g c).0.sound;
   translated = (
       let j = c.self-2.inside in
       let e = c.invalidate_pages.ensures in
@@ -278,111 +256,13 @@ invariant_of-self-3 g c = record {
 }
 
 pub returns-clause-valid : goal.returns-clause-valid
-returns-clause-valid g c =
-    let h = g.M.Mapper.held c.args.mapper.now in
-    let i = c.self.inside in
-    let r = c.reserve.ensures in
-    let b = c.reserve.new.self in
-    let roomy = reserved i.caches b i.store i.contexts i.live r.kept r.no_less.0 r.forest (r.sound c.self.invariant.sound.nodes.sound) c.self.invariant.sound in
-    let p : Manager = seen i.caches i.store i.contexts in
-    let x = extent_open i.caches c.args.extent (any_locked i.caches c.args.extent) (sym c.extent_refusal.ensures ∙ c.in_default.is) in
-    let old : IsValid p h = subst (λ (p : Manager). IsValid p h) (sym c.self.view_is) c.requires.valid in
-    let before = g.M.Mapper.counts c.args.mapper.now in
-    let after = g.M.Mapper.counts c.save.new.mapper in
-    let z = g.M.Mapper.held c.save.new.mapper in
-    let j = c.self-2.inside in
-    let k = c.self-2.invariant.sound in
-    let view = sym c.self-2.view_is in
-    let ready : IsTaking p h z j.caches j.store j.contexts c.args.extent before after = taking p (seen b i.store i.contexts) h z before after j.caches j.store j.contexts c.args.extent x (ap (λ a. a.caches) r.kept) (ap (λ a. a.made) r.kept) (ap (λ (s : State). s.machine) (roomy.state h)) roomy.by (roomy.forest h)
-    (subst (λ (m : Manager). IsValid m z) view c.save.ensures.valid) (subst (λ (m : Manager). KeepsMachine (seen b i.store i.contexts) m h z before after) view c.save.ensures.keeps)
-    (ap (λ (m : Manager). m.caches.caches) c.self-2.view_is ∙ c.save.ensures.tables) (ap (λ (m : Manager). forest_of m z) c.self-2.view_is ∙ c.in-Ok.ensures.saved) in
-    let e = c.invalidate_pages.ensures in
-    let d = c.invalidate_pages.new.caches in
-    let u = c.invalidate_pages.new.store in
-    let tied = tied_right z None j.caches j.store ready.valid.right in
-    let right = e.right (slots_enough j.caches d j.store u j.contexts j.live k e.kept.sizes e.kept.gives_back tied e.whole) in
-    taken_valid p h z j.caches d j.store u j.contexts j.live k ready.valid c.args.extent ready.extent
-    (same_locked p (seen j.caches j.store j.contexts) c.self.invariant.sound.locked.counted k.locked.counted ready.by c.args.extent ∙ extent_unlocked (table_of i.caches c.args.extent.cache.0) c.args.extent (any_locked i.caches c.args.extent) (sym c.extent_refusal.ensures ∙ c.in_default.is)) ready.machine ready.by c.self.invariant.sound.nodes old ready.forest e.kept.sizes e.kept.gives_back tied e.whole right e.forest
+returns-clause-valid g c = (taken g c).0.valid
 
 pub returns-clause-answers : goal.returns-clause-answers
-returns-clause-answers g c =
-    let h = g.M.Mapper.held c.args.mapper.now in
-    let i = c.self.inside in
-    let r = c.reserve.ensures in
-    let b = c.reserve.new.self in
-    let roomy = reserved i.caches b i.store i.contexts i.live r.kept r.no_less.0 r.forest (r.sound c.self.invariant.sound.nodes.sound) c.self.invariant.sound in
-    let p : Manager = seen i.caches i.store i.contexts in
-    let x = extent_open i.caches c.args.extent (any_locked i.caches c.args.extent) (sym c.extent_refusal.ensures ∙ c.in_default.is) in
-    let old : IsValid p h = subst (λ (p : Manager). IsValid p h) (sym c.self.view_is) c.requires.valid in
-    let before = g.M.Mapper.counts c.args.mapper.now in
-    let after = g.M.Mapper.counts c.save.new.mapper in
-    let z = g.M.Mapper.held c.save.new.mapper in
-    let j = c.self-2.inside in
-    let k = c.self-2.invariant.sound in
-    let view = sym c.self-2.view_is in
-    let ready : IsTaking p h z j.caches j.store j.contexts c.args.extent before after = taking p (seen b i.store i.contexts) h z before after j.caches j.store j.contexts c.args.extent x (ap (λ a. a.caches) r.kept) (ap (λ a. a.made) r.kept) (ap (λ (s : State). s.machine) (roomy.state h)) roomy.by (roomy.forest h)
-    (subst (λ (m : Manager). IsValid m z) view c.save.ensures.valid) (subst (λ (m : Manager). KeepsMachine (seen b i.store i.contexts) m h z before after) view c.save.ensures.keeps)
-    (ap (λ (m : Manager). m.caches.caches) c.self-2.view_is ∙ c.save.ensures.tables) (ap (λ (m : Manager). forest_of m z) c.self-2.view_is ∙ c.in-Ok.ensures.saved) in
-    let e = c.invalidate_pages.ensures in
-    let d = c.invalidate_pages.new.caches in
-    let u = c.invalidate_pages.new.store in
-    let tied = tied_right z None j.caches j.store ready.valid.right in
-    let right = e.right (slots_enough j.caches d j.store u j.contexts j.live k e.kept.sizes e.kept.gives_back tied e.whole) in
-    subst (λ (p : Manager). CallIs before after (state_at p h) (commands.Invalidate c.args.extent) (Ok replies.Done) (state_at (seen d u j.contexts) z)) c.self.view_is
-    (taken_is p h z j.caches d j.store u j.contexts j.live k ready.valid c.args.extent ready.extent
-    (same_locked p (seen j.caches j.store j.contexts) c.self.invariant.sound.locked.counted k.locked.counted ready.by c.args.extent ∙ extent_unlocked (table_of i.caches c.args.extent.cache.0) c.args.extent (any_locked i.caches c.args.extent) (sym c.extent_refusal.ensures ∙ c.in_default.is)) ready.machine ready.by c.self.invariant.sound.nodes old ready.forest e.kept.sizes e.kept.gives_back tied e.whole right e.forest before after ready.reach)
+returns-clause-answers g c = (taken g c).0.answers
 
 pub returns-clause-made : goal.returns-clause-made
-returns-clause-made g c =
-    let h = g.M.Mapper.held c.args.mapper.now in
-    let i = c.self.inside in
-    let r = c.reserve.ensures in
-    let b = c.reserve.new.self in
-    let roomy = reserved i.caches b i.store i.contexts i.live r.kept r.no_less.0 r.forest (r.sound c.self.invariant.sound.nodes.sound) c.self.invariant.sound in
-    let p : Manager = seen i.caches i.store i.contexts in
-    let x = extent_open i.caches c.args.extent (any_locked i.caches c.args.extent) (sym c.extent_refusal.ensures ∙ c.in_default.is) in
-    let old : IsValid p h = subst (λ (p : Manager). IsValid p h) (sym c.self.view_is) c.requires.valid in
-    let before = g.M.Mapper.counts c.args.mapper.now in
-    let after = g.M.Mapper.counts c.save.new.mapper in
-    let z = g.M.Mapper.held c.save.new.mapper in
-    let j = c.self-2.inside in
-    let k = c.self-2.invariant.sound in
-    let view = sym c.self-2.view_is in
-    let ready : IsTaking p h z j.caches j.store j.contexts c.args.extent before after = taking p (seen b i.store i.contexts) h z before after j.caches j.store j.contexts c.args.extent x (ap (λ a. a.caches) r.kept) (ap (λ a. a.made) r.kept) (ap (λ (s : State). s.machine) (roomy.state h)) roomy.by (roomy.forest h)
-    (subst (λ (m : Manager). IsValid m z) view c.save.ensures.valid) (subst (λ (m : Manager). KeepsMachine (seen b i.store i.contexts) m h z before after) view c.save.ensures.keeps)
-    (ap (λ (m : Manager). m.caches.caches) c.self-2.view_is ∙ c.save.ensures.tables) (ap (λ (m : Manager). forest_of m z) c.self-2.view_is ∙ c.in-Ok.ensures.saved) in
-    let e = c.invalidate_pages.ensures in
-    let d = c.invalidate_pages.new.caches in
-    let u = c.invalidate_pages.new.store in
-    let tied = tied_right z None j.caches j.store ready.valid.right in
-    let right = e.right (slots_enough j.caches d j.store u j.contexts j.live k e.kept.sizes e.kept.gives_back tied e.whole) in
-    let copies = taking_copies p h z j.caches j.store j.contexts c.args.extent before after c.self.invariant.sound.nodes ready in
-    subst (λ (p : Manager). numbered (seen d u j.contexts) ≤ numbered p + 8 * (c.args.extent.pages + pages_in (cache_of (machine_of p h) c.args.extent.cache.0)) + 8) c.self.view_is
-    (omega (arith, copies, e.made, e.copies, ready.made))
+returns-clause-made g c = (taken g c).0.made
 
 pub returns-clause-taken : goal.returns-clause-taken
-returns-clause-taken g c =
-    let h = g.M.Mapper.held c.args.mapper.now in
-    let i = c.self.inside in
-    let r = c.reserve.ensures in
-    let b = c.reserve.new.self in
-    let roomy = reserved i.caches b i.store i.contexts i.live r.kept r.no_less.0 r.forest (r.sound c.self.invariant.sound.nodes.sound) c.self.invariant.sound in
-    let p : Manager = seen i.caches i.store i.contexts in
-    let x = extent_open i.caches c.args.extent (any_locked i.caches c.args.extent) (sym c.extent_refusal.ensures ∙ c.in_default.is) in
-    let old : IsValid p h = subst (λ (p : Manager). IsValid p h) (sym c.self.view_is) c.requires.valid in
-    let before = g.M.Mapper.counts c.args.mapper.now in
-    let after = g.M.Mapper.counts c.save.new.mapper in
-    let z = g.M.Mapper.held c.save.new.mapper in
-    let j = c.self-2.inside in
-    let k = c.self-2.invariant.sound in
-    let view = sym c.self-2.view_is in
-    let ready : IsTaking p h z j.caches j.store j.contexts c.args.extent before after = taking p (seen b i.store i.contexts) h z before after j.caches j.store j.contexts c.args.extent x (ap (λ a. a.caches) r.kept) (ap (λ a. a.made) r.kept) (ap (λ (s : State). s.machine) (roomy.state h)) roomy.by (roomy.forest h)
-    (subst (λ (m : Manager). IsValid m z) view c.save.ensures.valid) (subst (λ (m : Manager). KeepsMachine (seen b i.store i.contexts) m h z before after) view c.save.ensures.keeps)
-    (ap (λ (m : Manager). m.caches.caches) c.self-2.view_is ∙ c.save.ensures.tables) (ap (λ (m : Manager). forest_of m z) c.self-2.view_is ∙ c.in-Ok.ensures.saved) in
-    let e = c.invalidate_pages.ensures in
-    let d = c.invalidate_pages.new.caches in
-    let u = c.invalidate_pages.new.store in
-    let tied = tied_right z None j.caches j.store ready.valid.right in
-    let right = e.right (slots_enough j.caches d j.store u j.contexts j.live k e.kept.sizes e.kept.gives_back tied e.whole) in
-    taken_pushed p h z j.caches d j.store u j.contexts j.live k ready.valid c.args.extent ready.extent
-    (same_locked p (seen j.caches j.store j.contexts) c.self.invariant.sound.locked.counted k.locked.counted ready.by c.args.extent ∙ extent_unlocked (table_of i.caches c.args.extent.cache.0) c.args.extent (any_locked i.caches c.args.extent) (sym c.extent_refusal.ensures ∙ c.in_default.is)) ready.machine ready.by c.self.invariant.sound.nodes old ready.forest e.kept.sizes e.kept.gives_back tied e.whole right e.forest
+returns-clause-taken g c = (taken g c).1

@@ -1,10 +1,7 @@
-use Rattle.std.proofs.Common.{◌≡◌, false, List, [], Some, None, length, refl, sym, ap, subst, ◌∙◌, arith}
-use Rattle.std.specs.Prelude.{◌||◌, IfErr, OnErr, Result, Ok, Err, unwrap_or}
+use Rattle.std.proofs.Common.{◌≡◌, ◌*◌, ◌≤◌, ◌^◌, false, List, [], None, refl, sym, ap, subst, ◌∙◌, arith}
+use Rattle.std.specs.Prelude.{◌||◌, OnErr, Result, Ok, Err, unwrap_or}
 use Rattle.std.proofs.lemmas.Result.{err_from_is_err_and}
-use Rattle.gmi_calls.specs.Calling.{RaisesMade, done_by}
-use Rattle.vm_ids.specs.Held.{Segments, segments_of}
 use Rattle.vm_ids.specs.declared.command.Command.TheVariants as commands
-use Rattle.vm_ids.specs.declared.command.Extent.{Extent}
 use Rattle.vm_ids.specs.declared.node_name.NodeName.{NodeName}
 use Rattle.vm_ids.specs.declared.reply.Reply.TheVariants as replies
 use Rattle.vm_ids.specs.declared.reply.Trouble.{Trouble}
@@ -13,43 +10,35 @@ use Rattle.vm_ids.specs.Forest.Commands.{move_, span_pairs}
 use Rattle.vm_ids.specs.Forest.NameLists.{◌∈◌}
 use Rattle.local_cache.specs.Arena.{table_of}
 use Rattle.local_cache.specs.Whole.{size_of}
-use Rattle.local_cache.proofs.Nodes.Count.{forest_len}
-use Rattle.page_release.specs.Homes.{AreSaved}
-use Rattle.page_release.proofs.Tying.Tied.{tied_right}
-use Rattle.page_release.proofs.Walking.Ranges.{destination_names}
 use Rattle.segment_ops.specs.Ranges.{HasRange}
-use Rattle.vm_model.specs.Answering.{Answer, is_any_denied}
-use Rattle.vm_model.specs.Following.{forest_after}
-use Rattle.vm_model.specs.Machine.{Machine, cache_of}
+use Rattle.vm_model.specs.Answering.{Answer}
+use Rattle.vm_model.specs.Machine.{cache_of}
 use Rattle.vm_model.specs.PageForest.{page_in, told}
-use Rattle.vm_model.specs.Outcome.{OutcomeAt}
 use Rattle.vm_model.specs.Run.{CallIs}
 use Rattle.pvm_core.specs.Keeping.{CopiesNothing, HasMoreRoom}
 use Rattle.pvm_core.specs.Manager.{IsValid, Manager, forest_of, machine_by, machine_of, numbered, state_at}
-use Rattle.pvm_core.specs.Saving.{CopiesSaved, IsNotReady, IsReady, KeepsMachine, NeedsNothing, is_named}
+use Rattle.pvm_core.specs.Saving.{CopiesSaved, NeedsNothing, is_named}
 use Rattle.vm_ids.proofs.Forest.Laws.Ranges.{pairs_read_sources}
 use Rattle.pvm_core.specs.Locks.{any_locked}
 use Rattle.pvm_core.proofs.Holding.Counted.{any_same, same_locked}
-use Rattle.pvm_core.proofs.Holding.Kept.{held_released}
-use Rattle.pvm_core.proofs.Holding.Loose.{unpinned_names, working_unpinned}
-use Rattle.pvm_core.specs.Spans.{move_refusal, read_from, replaced}
+use Rattle.pvm_core.proofs.Holding.Loose.{unpinned_names}
+use Rattle.pvm_core.specs.Spans.{copy_refusal, move_refusal, read_from, replaced}
 use Rattle.pvm_core.specs.contracts.pvm.Pvm.{the_view}
-use Rattle.pvm_core.proofs.Answering.Answered.{call_is, failed}
-use Rattle.pvm_core.proofs.Answering.Changed.{changed_sound, slots_enough}
-use Rattle.pvm_core.proofs.Readiness.Copies.{range_copied}
+use Rattle.pvm_core.proofs.Answering.Answered.{failed}
+use Rattle.pvm_core.proofs.Answering.Ended.{Ended}
 use Rattle.pvm_core.proofs.Answering.Kept.{seen}
-use Rattle.pvm_core.proofs.Meaning.Live.{nodes_most}
-use Rattle.pvm_core.proofs.Accesses.Loading.{size_le, sized_table}
+use Rattle.pvm_core.proofs.Accesses.Loading.{sized_table}
 use Rattle.pvm_core.proofs.Answering.Reaching.{reach_none}
 use Rattle.pvm_core.proofs.Readiness.Readying.{named_same}
-use Rattle.pvm_core.proofs.Spanning.Reserved.{can_copy}
-use Rattle.pvm_core.proofs.Answering.Rising.{rises_between}
+use Rattle.pvm_core.proofs.Spanning.Readied.{IsReadied, readied, readied_replace, readied_room, readied_transfer, transferred, transferred_right, undenied_then}
 use Rattle.pvm_core.proofs.Meaning.Shown.{shown_size}
 use Rattle.pvm_core.proofs.Spanning.SpanRows.{IsOpen, is_movable, is_open, move_refused}
-use Rattle.pvm_core.proofs.Spanning.Transferring.{copies_nothing, failed_copied, failed_made, failed_refused, names_written, transfer_failed, undenied_range}
+use Rattle.pvm_core.proofs.Spanning.Transferring.{IsTransfer, IsUnready, copies_nothing, unready}
 use Rattle.pvm_core.proofs.Spanning.Transfers.{move_follows, moved_outcome, moved_transfer, moved_valid, named_machine, named_there}
 use Rattle.pvm_core.proofs.Translating.Left.{left_right}
 use Rattle.pvm_core.proofs.Translating.Writable.{homes_writable}
+use Rattle.pvm_core.proofs.pvm.Pvm.move_pages.Given.{Over}
+use Rattle.pvm_core.proofs.pvm.Pvm.move_pages.Goals.{After-move_pages, After-from_residual, After-self-2, In_default}
 use Rattle.pvm_core.proofs.pvm.Pvm.move_pages.Goals as goal
 
 pub returns-in-Some-clause-answers : goal.returns-in-Some-clause-answers
@@ -65,572 +54,140 @@ returns-in-Some-clause-answers g c =
     (λ j. any_same p f c.self.invariant.sound.locked.counted (read_from s) j || any_same p f c.self.invariant.sound.locked.counted (replaced s) j)
     ((λ j. move_refusal (shown_size f p.caches.caches s.from.0 j) (is_named p.caches s.from.0) (shown_size f p.caches.caches s.to.0 j) (any_locked p.caches (read_from s) || any_locked p.caches (replaced s)) s) ∙ sym c.move_refusal.ensures ∙ c.in-Some.is)))
 
+-- nothing refuses the move
+movable : (g : Over) (c : In_default g) → (copy_refusal (size_of c.self.inside.caches c.args.span.from.0) (size_of c.self.inside.caches c.args.span.to.0) (any_locked c.self.inside.caches (replaced c.args.span)) c.args.span ≡ None)
+    × (is_named c.self.inside.caches c.args.span.from.0 ≡ false) × (any_locked c.self.inside.caches (read_from c.args.span) ≡ false)
+movable g c =
+    let a = c.self.inside.caches in
+    let s = c.args.span in
+    is_movable (size_of a s.from.0) (size_of a s.to.0) (is_named a s.from.0) (any_locked a (read_from s)) (any_locked a (replaced s)) s (sym c.move_refusal.ensures ∙ c.in_default.is)
+
+open_span : (g : Over) (c : In_default g) → IsOpen (size_of c.self.inside.caches c.args.span.from.0) (size_of c.self.inside.caches c.args.span.to.0) (any_locked c.self.inside.caches (replaced c.args.span)) c.args.span
+open_span g c =
+    let a = c.self.inside.caches in
+    let s = c.args.span in
+    is_open (size_of a s.from.0) (size_of a s.to.0) (any_locked a (replaced s)) s (movable g c).0
+
+transfer : (g : Over) (c : In_default g) → IsTransfer (seen c.self.inside.caches c.self.inside.store c.self.inside.contexts) c.args.span (commands.Move c.args.span)
+transfer g c =
+    let i = c.self.inside in
+    let s = c.args.span in
+    let out = open_span g c in
+    let from = sized_table (table_of i.caches s.from.0) out.from out.from_is in
+    let to = sized_table (table_of i.caches s.to.0) out.to out.to_is in
+    moved_transfer i.caches i.store i.contexts i.live c.self.invariant.sound s out from.0 to.0 from.1 to.1 from.2 to.2 (movable g c).1 (movable g c).2
+
 pub make_ready-requires-clause-range : goal.make_ready-requires-clause-range
 make_ready-requires-clause-range g c =
-    let i = c.self.inside in
-    let s = c.args.span in
-    let open0 = is_open (size_of i.caches s.from.0) (size_of i.caches s.to.0) (any_locked i.caches (replaced s)) s (is_movable (size_of i.caches s.from.0) (size_of i.caches s.to.0) (is_named i.caches s.from.0) (any_locked i.caches (read_from s)) (any_locked i.caches (replaced s)) s (sym c.move_refusal.ensures ∙ c.in_default.is)).0 in
-    let range : HasRange i.caches c.destination.result = subst (HasRange i.caches) (sym c.destination.ensures) (record { pages = open0.to; size = open0.to_is; within = open0.to_ends }) in
+    let out = open_span g (goal.at.make_ready-requires-clause-range g c).In_default in
+    let range : HasRange c.self.inside.caches c.destination.result = subst (HasRange c.self.inside.caches) (sym c.destination.ensures) (record { pages = out.to; size = out.to_is; within = out.to_ends }) in
     subst (λ (p : Manager). HasRange p.caches c.destination.result) c.self.view_is range
 
-pub returns-in_err-make_ready-clause-answers : goal.returns-in_err-make_ready-clause-answers
-returns-in_err-make_ready-clause-answers g c =
-    let i = c.self.inside in
-    let s = c.args.span in
-    let open0 = is_open (size_of i.caches s.from.0) (size_of i.caches s.to.0) (any_locked i.caches (replaced s)) s (is_movable (size_of i.caches s.from.0) (size_of i.caches s.to.0) (is_named i.caches s.from.0) (any_locked i.caches (read_from s)) (any_locked i.caches (replaced s)) s (sym c.move_refusal.ensures ∙ c.in_default.is)).0 in
-    let q = c.make_ready.new.self in
-    let x0 = c.make_ready.ensures in
-    let h = g.M.Mapper.held c.args.mapper.now in
-    let k = g.M.Mapper.held c.make_ready.new.mapper in
-    let before = g.M.Mapper.counts c.args.mapper.now in
-    let after = g.M.Mapper.counts c.make_ready.new.mapper in
-    let p : Manager = seen i.caches i.store i.contexts in
-    let valid0 = (subst (λ (p : Manager). IsValid p h) (sym c.self.view_is) c.requires.valid) in
-    let from0 = sized_table (table_of i.caches s.from.0) open0.from open0.from_is in
-    let to0 = sized_table (table_of i.caches s.to.0) open0.to open0.to_is in
-    let transfer = moved_transfer i.caches i.store i.contexts i.live c.self.invariant.sound s open0 from0.0 to0.0 from0.1 to0.1 from0.2 to0.2 (is_movable (size_of i.caches s.from.0) (size_of i.caches s.to.0) (is_named i.caches s.from.0) (any_locked i.caches (read_from s)) (any_locked i.caches (replaced s)) s (sym c.move_refusal.ensures ∙ c.in_default.is)).1 (is_movable (size_of i.caches s.from.0) (size_of i.caches s.to.0) (is_named i.caches s.from.0) (any_locked i.caches (read_from s)) (any_locked i.caches (replaced s)) s (sym c.move_refusal.ensures ∙ c.in_default.is)).2 in
-    let keeps0 : KeepsMachine p q h k before after = subst (λ (p : Manager). KeepsMachine p q h k before after) (sym c.self.view_is) x0.keeps in
+-- the destination isn't ready
+not_ready : (g : Over) (c : After-from_residual g)
+    → IsUnready c.args.self.now c.make_ready.new.self (g.M.Mapper.held c.args.mapper.now) (g.M.Mapper.held c.make_ready.new.mapper) (g.M.Mapper.counts c.args.mapper.now) (g.M.Mapper.counts c.make_ready.new.mapper) c.args.span (commands.Move c.args.span) c.from_residual.result
+not_ready g c =
+    let at = (goal.at.After-from_residual g c).In_default in
+    let e = c.make_ready.ensures in
+    let out = open_span g at in
     let gave = err_from_is_err_and c.from_residual.result c.from_residual.ensures.1 in
-    let trouble = c.in_err-make_ready.field-0.0 in
-    let is : c.from_residual.result ≡ Err trouble = gave.1 ∙ ap (λ t. Err t) gave.2 in
-    let wrong : IsNotReady (replaced s) p h q k trouble = subst (λ (e : Extent). IsNotReady e p h q k trouble) c.destination.ensures
-    (subst (λ (p : Manager). IsNotReady c.destination.result p h q k trouble) (sym c.self.view_is) (subst (λ (r : Result _ Trouble). IfErr r (IsNotReady c.destination.result c.args.self.now h q k)) c.in_err-make_ready.was x0.not_ready)) in
-    subst (λ (p : Manager). CallIs before after (state_at p h) (commands.Move s) (done_by c.from_residual.result) (state_at q k)) c.self.view_is
-    (subst (λ (r : Result _ Trouble). CallIs before after (state_at p h) (commands.Move s) (done_by r) (state_at q k)) (sym is)
-    (transfer_failed p q h k before after s (commands.Move s) transfer keeps0 c.self.invariant.sound.nodes x0.whole valid0 x0.valid open0.to open0.to_is open0.to_ends trouble wrong (λ at e. x0.cause at (c.in_err-make_ready.was ∙ ap (λ t. Err t) e))))
+    unready (seen c.self.inside.caches c.self.inside.store c.self.inside.contexts) c.args.self.now c.make_ready.new.self c.self.view_is _ _ _ _ c.args.span (commands.Move c.args.span) (transfer g at) c.self.invariant.sound.nodes e.whole c.requires.valid e.valid e.keeps out.to out.to_is out.to_ends
+    c.destination.result c.destination.ensures c.make_ready.result c.from_residual.result c.in_err-make_ready.field-0.0 c.in_err-make_ready.was (gave.1 ∙ ap (λ t. Err t) gave.2) e.not_ready e.cause
+
+pub returns-in_err-make_ready-clause-answers : goal.returns-in_err-make_ready-clause-answers
+returns-in_err-make_ready-clause-answers g c = (not_ready g c).answers
 
 pub returns-in_err-make_ready-clause-made : goal.returns-in_err-make_ready-clause-made
-returns-in_err-make_ready-clause-made g c =
-    let i = c.self.inside in
-    let s = c.args.span in
-    let open0 = is_open (size_of i.caches s.from.0) (size_of i.caches s.to.0) (any_locked i.caches (replaced s)) s (is_movable (size_of i.caches s.from.0) (size_of i.caches s.to.0) (is_named i.caches s.from.0) (any_locked i.caches (read_from s)) (any_locked i.caches (replaced s)) s (sym c.move_refusal.ensures ∙ c.in_default.is)).0 in
-    let q = c.make_ready.new.self in
-    let x0 = c.make_ready.ensures in
-    let h = g.M.Mapper.held c.args.mapper.now in
-    let k = g.M.Mapper.held c.make_ready.new.mapper in
-    let before = g.M.Mapper.counts c.args.mapper.now in
-    let after = g.M.Mapper.counts c.make_ready.new.mapper in
-    let p : Manager = seen i.caches i.store i.contexts in
-    let valid0 = (subst (λ (p : Manager). IsValid p h) (sym c.self.view_is) c.requires.valid) in
-    let from0 = sized_table (table_of i.caches s.from.0) open0.from open0.from_is in
-    let to0 = sized_table (table_of i.caches s.to.0) open0.to open0.to_is in
-    let transfer = moved_transfer i.caches i.store i.contexts i.live c.self.invariant.sound s open0 from0.0 to0.0 from0.1 to0.1 from0.2 to0.2 (is_movable (size_of i.caches s.from.0) (size_of i.caches s.to.0) (is_named i.caches s.from.0) (any_locked i.caches (read_from s)) (any_locked i.caches (replaced s)) s (sym c.move_refusal.ensures ∙ c.in_default.is)).1 (is_movable (size_of i.caches s.from.0) (size_of i.caches s.to.0) (is_named i.caches s.from.0) (any_locked i.caches (read_from s)) (any_locked i.caches (replaced s)) s (sym c.move_refusal.ensures ∙ c.in_default.is)).2 in
-    let keeps0 : KeepsMachine p q h k before after = subst (λ (p : Manager). KeepsMachine p q h k before after) (sym c.self.view_is) x0.keeps in
-    let gave = err_from_is_err_and c.from_residual.result c.from_residual.ensures.1 in
-    let trouble = c.in_err-make_ready.field-0.0 in
-    let is : c.from_residual.result ≡ Err trouble = gave.1 ∙ ap (λ t. Err t) gave.2 in
-    let wrong : IsNotReady (replaced s) p h q k trouble = subst (λ (e : Extent). IsNotReady e p h q k trouble) c.destination.ensures
-    (subst (λ (p : Manager). IsNotReady c.destination.result p h q k trouble) (sym c.self.view_is) (subst (λ (r : Result _ Trouble). IfErr r (IsNotReady c.destination.result c.args.self.now h q k)) c.in_err-make_ready.was x0.not_ready)) in
-    subst (λ (p : Manager). RaisesMade (machine_of p h) (commands.Move s) (done_by c.from_residual.result) (numbered p) (numbered q)) c.self.view_is
-    (subst (λ (r : Result _ Trouble). RaisesMade (machine_of p h) (commands.Move s) (done_by r) (numbered p) (numbered q)) (sym is) (failed_made p q h k before after s (commands.Move s) transfer keeps0 c.self.invariant.sound.nodes trouble wrong))
+returns-in_err-make_ready-clause-made g c = (not_ready g c).made
 
 pub returns-in_err-make_ready-clause-copies : goal.returns-in_err-make_ready-clause-copies
-returns-in_err-make_ready-clause-copies g c =
-    let i = c.self.inside in
-    let s = c.args.span in
-    let open0 = is_open (size_of i.caches s.from.0) (size_of i.caches s.to.0) (any_locked i.caches (replaced s)) s (is_movable (size_of i.caches s.from.0) (size_of i.caches s.to.0) (is_named i.caches s.from.0) (any_locked i.caches (read_from s)) (any_locked i.caches (replaced s)) s (sym c.move_refusal.ensures ∙ c.in_default.is)).0 in
-    let q = c.make_ready.new.self in
-    let x0 = c.make_ready.ensures in
-    let h = g.M.Mapper.held c.args.mapper.now in
-    let k = g.M.Mapper.held c.make_ready.new.mapper in
-    let before = g.M.Mapper.counts c.args.mapper.now in
-    let after = g.M.Mapper.counts c.make_ready.new.mapper in
-    let p : Manager = seen i.caches i.store i.contexts in
-    let valid0 = (subst (λ (p : Manager). IsValid p h) (sym c.self.view_is) c.requires.valid) in
-    let from0 = sized_table (table_of i.caches s.from.0) open0.from open0.from_is in
-    let to0 = sized_table (table_of i.caches s.to.0) open0.to open0.to_is in
-    let transfer = moved_transfer i.caches i.store i.contexts i.live c.self.invariant.sound s open0 from0.0 to0.0 from0.1 to0.1 from0.2 to0.2 (is_movable (size_of i.caches s.from.0) (size_of i.caches s.to.0) (is_named i.caches s.from.0) (any_locked i.caches (read_from s)) (any_locked i.caches (replaced s)) s (sym c.move_refusal.ensures ∙ c.in_default.is)).1 (is_movable (size_of i.caches s.from.0) (size_of i.caches s.to.0) (is_named i.caches s.from.0) (any_locked i.caches (read_from s)) (any_locked i.caches (replaced s)) s (sym c.move_refusal.ensures ∙ c.in_default.is)).2 in
-    let keeps0 : KeepsMachine p q h k before after = subst (λ (p : Manager). KeepsMachine p q h k before after) (sym c.self.view_is) x0.keeps in
-    let gave = err_from_is_err_and c.from_residual.result c.from_residual.ensures.1 in
-    let trouble = c.in_err-make_ready.field-0.0 in
-    let is : c.from_residual.result ≡ Err trouble = gave.1 ∙ ap (λ t. Err t) gave.2 in
-    let wrong : IsNotReady (replaced s) p h q k trouble = subst (λ (e : Extent). IsNotReady e p h q k trouble) c.destination.ensures
-    (subst (λ (p : Manager). IsNotReady c.destination.result p h q k trouble) (sym c.self.view_is) (subst (λ (r : Result _ Trouble). IfErr r (IsNotReady c.destination.result c.args.self.now h q k)) c.in_err-make_ready.was x0.not_ready)) in
-    subst (λ (p : Manager). CopiesSaved (replaced s) p h q c.from_residual.result) c.self.view_is
-    (subst (λ (r : Result _ Trouble). CopiesSaved (replaced s) p h q r) (sym is) (failed_copied p q h k before after s (commands.Move s) transfer keeps0 c.self.invariant.sound.nodes trouble wrong))
+returns-in_err-make_ready-clause-copies g c = (not_ready g c).copies
 
 pub returns-in_err-make_ready-clause-refused : goal.returns-in_err-make_ready-clause-refused
-returns-in_err-make_ready-clause-refused g c =
-    let i = c.self.inside in
-    let s = c.args.span in
-    let open0 = is_open (size_of i.caches s.from.0) (size_of i.caches s.to.0) (any_locked i.caches (replaced s)) s (is_movable (size_of i.caches s.from.0) (size_of i.caches s.to.0) (is_named i.caches s.from.0) (any_locked i.caches (read_from s)) (any_locked i.caches (replaced s)) s (sym c.move_refusal.ensures ∙ c.in_default.is)).0 in
-    let q = c.make_ready.new.self in
-    let x0 = c.make_ready.ensures in
-    let h = g.M.Mapper.held c.args.mapper.now in
-    let k = g.M.Mapper.held c.make_ready.new.mapper in
-    let before = g.M.Mapper.counts c.args.mapper.now in
-    let after = g.M.Mapper.counts c.make_ready.new.mapper in
-    let p : Manager = seen i.caches i.store i.contexts in
-    let valid0 = (subst (λ (p : Manager). IsValid p h) (sym c.self.view_is) c.requires.valid) in
-    let from0 = sized_table (table_of i.caches s.from.0) open0.from open0.from_is in
-    let to0 = sized_table (table_of i.caches s.to.0) open0.to open0.to_is in
-    let transfer = moved_transfer i.caches i.store i.contexts i.live c.self.invariant.sound s open0 from0.0 to0.0 from0.1 to0.1 from0.2 to0.2 (is_movable (size_of i.caches s.from.0) (size_of i.caches s.to.0) (is_named i.caches s.from.0) (any_locked i.caches (read_from s)) (any_locked i.caches (replaced s)) s (sym c.move_refusal.ensures ∙ c.in_default.is)).1 (is_movable (size_of i.caches s.from.0) (size_of i.caches s.to.0) (is_named i.caches s.from.0) (any_locked i.caches (read_from s)) (any_locked i.caches (replaced s)) s (sym c.move_refusal.ensures ∙ c.in_default.is)).2 in
-    let keeps0 : KeepsMachine p q h k before after = subst (λ (p : Manager). KeepsMachine p q h k before after) (sym c.self.view_is) x0.keeps in
-    let gave = err_from_is_err_and c.from_residual.result c.from_residual.ensures.1 in
-    let trouble = c.in_err-make_ready.field-0.0 in
-    let is : c.from_residual.result ≡ Err trouble = gave.1 ∙ ap (λ t. Err t) gave.2 in
-    let wrong : IsNotReady (replaced s) p h q k trouble = subst (λ (e : Extent). IsNotReady e p h q k trouble) c.destination.ensures
-    (subst (λ (p : Manager). IsNotReady c.destination.result p h q k trouble) (sym c.self.view_is) (subst (λ (r : Result _ Trouble). IfErr r (IsNotReady c.destination.result c.args.self.now h q k)) c.in_err-make_ready.was x0.not_ready)) in
-    λ r e other. absurd (failed_refused p q h k before after s (commands.Move s) transfer keeps0 c.self.invariant.sound.nodes trouble wrong r (let x : Err trouble ≡ Err (troubles.Refused r) = sym is ∙ e in cc x) other)
+returns-in_err-make_ready-clause-refused g c = λ r e other. absurd ((not_ready g c).refused r e other)
 
 pub returns-in_err-make_ready-clause-idle : goal.returns-in_err-make_ready-clause-idle
-returns-in_err-make_ready-clause-idle g c =
-    let i = c.self.inside in
-    let s = c.args.span in
-    let open0 = is_open (size_of i.caches s.from.0) (size_of i.caches s.to.0) (any_locked i.caches (replaced s)) s (is_movable (size_of i.caches s.from.0) (size_of i.caches s.to.0) (is_named i.caches s.from.0) (any_locked i.caches (read_from s)) (any_locked i.caches (replaced s)) s (sym c.move_refusal.ensures ∙ c.in_default.is)).0 in
+returns-in_err-make_ready-clause-idle g c = λ nothing.
     let q = c.make_ready.new.self in
-    let x0 = c.make_ready.ensures in
-    let h = g.M.Mapper.held c.args.mapper.now in
-    let k = g.M.Mapper.held c.make_ready.new.mapper in
-    let before = g.M.Mapper.counts c.args.mapper.now in
-    let after = g.M.Mapper.counts c.make_ready.new.mapper in
-    let p : Manager = seen i.caches i.store i.contexts in
-    let valid0 = (subst (λ (p : Manager). IsValid p h) (sym c.self.view_is) c.requires.valid) in
-    let from0 = sized_table (table_of i.caches s.from.0) open0.from open0.from_is in
-    let to0 = sized_table (table_of i.caches s.to.0) open0.to open0.to_is in
-    let transfer = moved_transfer i.caches i.store i.contexts i.live c.self.invariant.sound s open0 from0.0 to0.0 from0.1 to0.1 from0.2 to0.2 (is_movable (size_of i.caches s.from.0) (size_of i.caches s.to.0) (is_named i.caches s.from.0) (any_locked i.caches (read_from s)) (any_locked i.caches (replaced s)) s (sym c.move_refusal.ensures ∙ c.in_default.is)).1 (is_movable (size_of i.caches s.from.0) (size_of i.caches s.to.0) (is_named i.caches s.from.0) (any_locked i.caches (read_from s)) (any_locked i.caches (replaced s)) s (sym c.move_refusal.ensures ∙ c.in_default.is)).2 in
-    let keeps0 : KeepsMachine p q h k before after = subst (λ (p : Manager). KeepsMachine p q h k before after) (sym c.self.view_is) x0.keeps in
     let gave = err_from_is_err_and c.from_residual.result c.from_residual.ensures.1 in
-    let trouble = c.in_err-make_ready.field-0.0 in
-    let is : c.from_residual.result ≡ Err trouble = gave.1 ∙ ap (λ t. Err t) gave.2 in
-    let wrong : IsNotReady (replaced s) p h q k trouble = subst (λ (e : Extent). IsNotReady e p h q k trouble) c.destination.ensures
-    (subst (λ (p : Manager). IsNotReady c.destination.result p h q k trouble) (sym c.self.view_is) (subst (λ (r : Result _ Trouble). IfErr r (IsNotReady c.destination.result c.args.self.now h q k)) c.in_err-make_ready.was x0.not_ready)) in
-    λ nothing.
-    let idle = x0.idle (subst (NeedsNothing c.args.self.now.caches) (sym c.destination.ensures) nothing) in (
+    let is : c.from_residual.result ≡ Err c.in_err-make_ready.field-0.0 = gave.1 ∙ ap (λ t. Err t) gave.2 in
+    let idle = c.make_ready.ensures.idle (subst (NeedsNothing c.args.self.now.caches) (sym c.destination.ensures) nothing) in (
       idle.0,
       idle.1,
       copies_nothing c.args.self.now q idle.2,
       subst (λ (r : Result _ Trouble). OnErr r (HasMoreRoom c.args.self.now q)) (sym is) idle.2,
     )
 
-pub move_pages-requires-clause-tied : goal.move_pages-requires-clause-tied
-move_pages-requires-clause-tied g c =
-    let i = c.self.inside in
-    let s = c.args.span in
-    let open0 = is_open (size_of i.caches s.from.0) (size_of i.caches s.to.0) (any_locked i.caches (replaced s)) s (is_movable (size_of i.caches s.from.0) (size_of i.caches s.to.0) (is_named i.caches s.from.0) (any_locked i.caches (read_from s)) (any_locked i.caches (replaced s)) s (sym c.move_refusal.ensures ∙ c.in_default.is)).0 in
-    let q = c.make_ready.new.self in
-    let x0 = c.make_ready.ensures in
-    let h = g.M.Mapper.held c.args.mapper.now in
-    let k = g.M.Mapper.held c.make_ready.new.mapper in
-    let before = g.M.Mapper.counts c.args.mapper.now in
-    let after = g.M.Mapper.counts c.make_ready.new.mapper in
-    let p : Manager = seen i.caches i.store i.contexts in
-    let valid0 = (subst (λ (p : Manager). IsValid p h) (sym c.self.view_is) c.requires.valid) in
-    let from0 = sized_table (table_of i.caches s.from.0) open0.from open0.from_is in
-    let to0 = sized_table (table_of i.caches s.to.0) open0.to open0.to_is in
-    let transfer = moved_transfer i.caches i.store i.contexts i.live c.self.invariant.sound s open0 from0.0 to0.0 from0.1 to0.1 from0.2 to0.2 (is_movable (size_of i.caches s.from.0) (size_of i.caches s.to.0) (is_named i.caches s.from.0) (any_locked i.caches (read_from s)) (any_locked i.caches (replaced s)) s (sym c.move_refusal.ensures ∙ c.in_default.is)).1 (is_movable (size_of i.caches s.from.0) (size_of i.caches s.to.0) (is_named i.caches s.from.0) (any_locked i.caches (read_from s)) (any_locked i.caches (replaced s)) s (sym c.move_refusal.ensures ∙ c.in_default.is)).2 in
-    let keeps0 : KeepsMachine p q h k before after = subst (λ (p : Manager). KeepsMachine p q h k before after) (sym c.self.view_is) x0.keeps in
+-- the destination is ready
+ready_span : (g : Over) (c : After-self-2 g)
+    → IsReadied (seen c.self.inside.caches c.self.inside.store c.self.inside.contexts) (g.M.Mapper.held c.args.mapper.now) (g.M.Mapper.held c.make_ready.new.mapper) (g.M.Mapper.counts c.args.mapper.now) (g.M.Mapper.counts c.make_ready.new.mapper) c.self-2.inside.caches c.self-2.inside.store c.self-2.inside.contexts c.args.span c.args.span.pages
+ready_span g c =
     let j = c.self-2.inside in
-    let v2 = c.self-2.view_is in
-    let b : Manager = seen j.caches j.store j.contexts in
-    let sound = c.self-2.invariant.sound in
-    let valid : IsValid b k = subst (λ (p : Manager). IsValid p k) (sym v2) x0.valid in
-    let keeps : KeepsMachine p b h k before after = subst (λ (r : Manager). KeepsMachine p r h k before after) (sym v2) keeps0 in
-    let ready : IsReady (replaced s) c.args.span.pages p b h k = subst (λ (e : Extent). IsReady e c.args.span.pages p b h k) c.destination.ensures
-    (subst (λ (r : Manager). IsReady c.destination.result c.args.span.pages p r h k) (sym v2) (subst (λ (p : Manager). IsReady c.destination.result c.args.span.pages p q h k) (sym c.self.view_is) c.in_ok-make_ready.ensures.ready)) in
-    let out : IsOpen (size_of j.caches s.from.0) (size_of j.caches s.to.0) (any_locked j.caches (replaced s)) s = record {
-      from = open0.from;
-      to = open0.to;
-      from_is = keeps.same.sizes s.from.0 ∙ open0.from_is;
-      to_is = keeps.same.sizes s.to.0 ∙ open0.to_is;
-      from_ends = open0.from_ends;
-      to_ends = open0.to_ends;
-      apart = open0.apart;
-      unlocked = same_locked p b c.self.invariant.sound.locked.counted sound.locked.counted keeps.by (replaced s) ∙ open0.unlocked;
-    } in
-    let tied = tied_right k None j.caches j.store valid.right in
-    tied
+    let e = c.make_ready.ensures in
+    readied (seen c.self.inside.caches c.self.inside.store c.self.inside.contexts) (g.M.Mapper.held c.args.mapper.now) (g.M.Mapper.held c.make_ready.new.mapper) (g.M.Mapper.counts c.args.mapper.now) (g.M.Mapper.counts c.make_ready.new.mapper) j.caches j.store j.contexts j.live c.self-2.invariant.sound c.args.span c.args.span.pages
+    c.args.self.now c.make_ready.new.self c.self.view_is c.self-2.view_is c.destination.result c.destination.ensures c.self.invariant.sound.locked.counted (open_span g (goal.at.After-self-2 g c).In_default) e.valid e.keeps c.in_ok-make_ready.ensures.ready
 
-pub move_pages-requires-clause-can : goal.move_pages-requires-clause-can
-move_pages-requires-clause-can g c =
-    let i = c.self.inside in
-    let s = c.args.span in
-    let open0 = is_open (size_of i.caches s.from.0) (size_of i.caches s.to.0) (any_locked i.caches (replaced s)) s (is_movable (size_of i.caches s.from.0) (size_of i.caches s.to.0) (is_named i.caches s.from.0) (any_locked i.caches (read_from s)) (any_locked i.caches (replaced s)) s (sym c.move_refusal.ensures ∙ c.in_default.is)).0 in
-    let q = c.make_ready.new.self in
-    let x0 = c.make_ready.ensures in
-    let h = g.M.Mapper.held c.args.mapper.now in
-    let k = g.M.Mapper.held c.make_ready.new.mapper in
-    let before = g.M.Mapper.counts c.args.mapper.now in
-    let after = g.M.Mapper.counts c.make_ready.new.mapper in
-    let p : Manager = seen i.caches i.store i.contexts in
-    let valid0 = (subst (λ (p : Manager). IsValid p h) (sym c.self.view_is) c.requires.valid) in
-    let from0 = sized_table (table_of i.caches s.from.0) open0.from open0.from_is in
-    let to0 = sized_table (table_of i.caches s.to.0) open0.to open0.to_is in
-    let transfer = moved_transfer i.caches i.store i.contexts i.live c.self.invariant.sound s open0 from0.0 to0.0 from0.1 to0.1 from0.2 to0.2 (is_movable (size_of i.caches s.from.0) (size_of i.caches s.to.0) (is_named i.caches s.from.0) (any_locked i.caches (read_from s)) (any_locked i.caches (replaced s)) s (sym c.move_refusal.ensures ∙ c.in_default.is)).1 (is_movable (size_of i.caches s.from.0) (size_of i.caches s.to.0) (is_named i.caches s.from.0) (any_locked i.caches (read_from s)) (any_locked i.caches (replaced s)) s (sym c.move_refusal.ensures ∙ c.in_default.is)).2 in
-    let keeps0 : KeepsMachine p q h k before after = subst (λ (p : Manager). KeepsMachine p q h k before after) (sym c.self.view_is) x0.keeps in
-    let j = c.self-2.inside in
-    let v2 = c.self-2.view_is in
-    let b : Manager = seen j.caches j.store j.contexts in
-    let sound = c.self-2.invariant.sound in
-    let valid : IsValid b k = subst (λ (p : Manager). IsValid p k) (sym v2) x0.valid in
-    let keeps : KeepsMachine p b h k before after = subst (λ (r : Manager). KeepsMachine p r h k before after) (sym v2) keeps0 in
-    let ready : IsReady (replaced s) c.args.span.pages p b h k = subst (λ (e : Extent). IsReady e c.args.span.pages p b h k) c.destination.ensures
-    (subst (λ (r : Manager). IsReady c.destination.result c.args.span.pages p r h k) (sym v2) (subst (λ (p : Manager). IsReady c.destination.result c.args.span.pages p q h k) (sym c.self.view_is) c.in_ok-make_ready.ensures.ready)) in
-    let out : IsOpen (size_of j.caches s.from.0) (size_of j.caches s.to.0) (any_locked j.caches (replaced s)) s = record {
-      from = open0.from;
-      to = open0.to;
-      from_is = keeps.same.sizes s.from.0 ∙ open0.from_is;
-      to_is = keeps.same.sizes s.to.0 ∙ open0.to_is;
-      from_ends = open0.from_ends;
-      to_ends = open0.to_ends;
-      apart = open0.apart;
-      unlocked = same_locked p b c.self.invariant.sound.locked.counted sound.locked.counted keeps.by (replaced s) ∙ open0.unlocked;
-    } in
-    let tied = tied_right k None j.caches j.store valid.right in
-    can_copy j.caches sound.nodes s out
+pub move_pages-requires-clause-ready : goal.move_pages-requires-clause-ready
+move_pages-requires-clause-ready g c = readied_replace (seen c.self.inside.caches c.self.inside.store c.self.inside.contexts) _ _ _ _ c.self-2.inside.caches c.self-2.inside.store c.self-2.inside.contexts c.self-2.inside.live c.self-2.invariant.sound c.args.span c.args.span.pages (omega arith) (ready_span g (goal.at.move_pages-requires-clause-ready g c).After-self-2) (subst (λ (p : Manager). numbered p ≤ 2 ^ 62) (sym c.self.view_is) c.requires.made)
 
-pub move_pages-requires-clause-unpinned : goal.move_pages-requires-clause-unpinned
-move_pages-requires-clause-unpinned g c = λ x is.
+pub move_pages-requires-clause-room : goal.move_pages-requires-clause-room
+move_pages-requires-clause-room g c = readied_room (seen c.self.inside.caches c.self.inside.store c.self.inside.contexts) _ _ _ _ c.self-2.inside.caches c.self-2.inside.store c.self-2.inside.contexts c.self-2.inside.live c.self-2.invariant.sound c.args.span c.args.span.pages (omega arith) (ready_span g (goal.at.move_pages-requires-clause-room g c).After-self-2)
+
+pub move_pages-requires-clause-transfer : goal.move_pages-requires-clause-transfer
+move_pages-requires-clause-transfer g c = readied_transfer (seen c.self.inside.caches c.self.inside.store c.self.inside.contexts) _ _ _ _ c.self-2.inside.caches c.self-2.inside.store c.self-2.inside.contexts c.self-2.inside.live c.self-2.invariant.sound c.args.span c.args.span.pages (omega arith) (ready_span g (goal.at.move_pages-requires-clause-transfer g c).After-self-2)
+
+-- what was said of the source holds still
+source : (g : Over) (c : After-self-2 g) → (is_named c.self-2.inside.caches c.args.span.from.0 ≡ false) × (any_locked c.self-2.inside.caches (read_from c.args.span) ≡ false)
+source g c =
     let i = c.self.inside in
     let j = c.self-2.inside in
-    let s = c.args.span in
-    let q = c.make_ready.new.self in
-    let h = g.M.Mapper.held c.args.mapper.now in
-    let k = g.M.Mapper.held c.make_ready.new.mapper in
-    let before = g.M.Mapper.counts c.args.mapper.now in
-    let after = g.M.Mapper.counts c.make_ready.new.mapper in
-    let p : Manager = seen i.caches i.store i.contexts in
-    let b : Manager = seen j.caches j.store j.contexts in
-    let sound = c.self-2.invariant.sound in
-    let keeps : KeepsMachine p b h k before after = subst (λ (r : Manager). KeepsMachine p r h k before after) (sym c.self-2.view_is) (subst (λ (p : Manager). KeepsMachine p q h k before after) (sym c.self.view_is) c.make_ready.ensures.keeps) in
-    let free : any_locked j.caches (replaced s) ≡ false = same_locked p b c.self.invariant.sound.locked.counted sound.locked.counted keeps.by (replaced s) ∙ (is_open (size_of i.caches s.from.0) (size_of i.caches s.to.0) (any_locked i.caches (replaced s)) s (is_movable (size_of i.caches s.from.0) (size_of i.caches s.to.0) (is_named i.caches s.from.0) (any_locked i.caches (read_from s)) (any_locked i.caches (replaced s)) s (sym c.move_refusal.ensures ∙ c.in_default.is)).0).unlocked in
-    unpinned_names j.caches j.store j.contexts.actors sound.locked (replaced s) free x (subst (λ (xs : List NodeName). x ∈ xs) (destination_names s) is)
+    let keeps = (ready_span g c).keeps in
+    let was = movable g (goal.at.After-self-2 g c).In_default in (
+      named_same i.caches j.caches keeps.same c.args.span.from.0 ∙ was.1,
+      same_locked (seen i.caches i.store i.contexts) (seen j.caches j.store j.contexts) c.self.invariant.sound.locked.counted c.self-2.invariant.sound.locked.counted keeps.by (read_from c.args.span) ∙ was.2,
+    )
 
 pub move_pages-requires-clause-sources : goal.move_pages-requires-clause-sources
 move_pages-requires-clause-sources g c = λ x is.
-    let i = c.self.inside in
     let j = c.self-2.inside in
     let s = c.args.span in
-    let q = c.make_ready.new.self in
-    let h = g.M.Mapper.held c.args.mapper.now in
-    let k = g.M.Mapper.held c.make_ready.new.mapper in
-    let before = g.M.Mapper.counts c.args.mapper.now in
-    let after = g.M.Mapper.counts c.make_ready.new.mapper in
-    let p : Manager = seen i.caches i.store i.contexts in
-    let b : Manager = seen j.caches j.store j.contexts in
-    let sound = c.self-2.invariant.sound in
-    let keeps : KeepsMachine p b h k before after = subst (λ (r : Manager). KeepsMachine p r h k before after) (sym c.self-2.view_is) (subst (λ (p : Manager). KeepsMachine p q h k before after) (sym c.self.view_is) c.make_ready.ensures.keeps) in
-    let free : any_locked j.caches (read_from s) ≡ false = same_locked p b c.self.invariant.sound.locked.counted sound.locked.counted keeps.by (read_from s) ∙ (is_movable (size_of i.caches s.from.0) (size_of i.caches s.to.0) (is_named i.caches s.from.0) (any_locked i.caches (read_from s)) (any_locked i.caches (replaced s)) s (sym c.move_refusal.ensures ∙ c.in_default.is)).2 in
-    unpinned_names j.caches j.store j.contexts.actors sound.locked (read_from s) free x (subst (λ (xs : List NodeName). x ∈ xs) (pairs_read_sources s.from s.to s.from_page.0 s.to_page.0 s.pages) is)
-
-pub move_pages-requires-clause-working : goal.move_pages-requires-clause-working
-move_pages-requires-clause-working g c =
-    let j = c.self-2.inside in
-    working_unpinned j.caches j.store j.contexts.actors c.self-2.invariant.sound.locked
-
-pub move_pages-requires-clause-saved : goal.move_pages-requires-clause-saved
-move_pages-requires-clause-saved g c =
-    let i = c.self.inside in
-    let s = c.args.span in
-    let open0 = is_open (size_of i.caches s.from.0) (size_of i.caches s.to.0) (any_locked i.caches (replaced s)) s (is_movable (size_of i.caches s.from.0) (size_of i.caches s.to.0) (is_named i.caches s.from.0) (any_locked i.caches (read_from s)) (any_locked i.caches (replaced s)) s (sym c.move_refusal.ensures ∙ c.in_default.is)).0 in
-    let q = c.make_ready.new.self in
-    let x0 = c.make_ready.ensures in
-    let h = g.M.Mapper.held c.args.mapper.now in
-    let k = g.M.Mapper.held c.make_ready.new.mapper in
-    let before = g.M.Mapper.counts c.args.mapper.now in
-    let after = g.M.Mapper.counts c.make_ready.new.mapper in
-    let p : Manager = seen i.caches i.store i.contexts in
-    let valid0 = (subst (λ (p : Manager). IsValid p h) (sym c.self.view_is) c.requires.valid) in
-    let from0 = sized_table (table_of i.caches s.from.0) open0.from open0.from_is in
-    let to0 = sized_table (table_of i.caches s.to.0) open0.to open0.to_is in
-    let transfer = moved_transfer i.caches i.store i.contexts i.live c.self.invariant.sound s open0 from0.0 to0.0 from0.1 to0.1 from0.2 to0.2 (is_movable (size_of i.caches s.from.0) (size_of i.caches s.to.0) (is_named i.caches s.from.0) (any_locked i.caches (read_from s)) (any_locked i.caches (replaced s)) s (sym c.move_refusal.ensures ∙ c.in_default.is)).1 (is_movable (size_of i.caches s.from.0) (size_of i.caches s.to.0) (is_named i.caches s.from.0) (any_locked i.caches (read_from s)) (any_locked i.caches (replaced s)) s (sym c.move_refusal.ensures ∙ c.in_default.is)).2 in
-    let keeps0 : KeepsMachine p q h k before after = subst (λ (p : Manager). KeepsMachine p q h k before after) (sym c.self.view_is) x0.keeps in
-    let j = c.self-2.inside in
-    let v2 = c.self-2.view_is in
-    let b : Manager = seen j.caches j.store j.contexts in
-    let sound = c.self-2.invariant.sound in
-    let valid : IsValid b k = subst (λ (p : Manager). IsValid p k) (sym v2) x0.valid in
-    let keeps : KeepsMachine p b h k before after = subst (λ (r : Manager). KeepsMachine p r h k before after) (sym v2) keeps0 in
-    let ready : IsReady (replaced s) c.args.span.pages p b h k = subst (λ (e : Extent). IsReady e c.args.span.pages p b h k) c.destination.ensures
-    (subst (λ (r : Manager). IsReady c.destination.result c.args.span.pages p r h k) (sym v2) (subst (λ (p : Manager). IsReady c.destination.result c.args.span.pages p q h k) (sym c.self.view_is) c.in_ok-make_ready.ensures.ready)) in
-    let out : IsOpen (size_of j.caches s.from.0) (size_of j.caches s.to.0) (any_locked j.caches (replaced s)) s = record {
-      from = open0.from;
-      to = open0.to;
-      from_is = keeps.same.sizes s.from.0 ∙ open0.from_is;
-      to_is = keeps.same.sizes s.to.0 ∙ open0.to_is;
-      from_ends = open0.from_ends;
-      to_ends = open0.to_ends;
-      apart = open0.apart;
-      unlocked = same_locked p b c.self.invariant.sound.locked.counted sound.locked.counted keeps.by (replaced s) ∙ open0.unlocked;
-    } in
-    let tied = tied_right k None j.caches j.store valid.right in
-    subst (AreSaved j.caches s.to) (sym (destination_names s)) ready.saved_now
-
-pub move_pages-requires-clause-granted : goal.move_pages-requires-clause-granted
-move_pages-requires-clause-granted g c =
-    let i = c.self.inside in
-    let s = c.args.span in
-    let open0 = is_open (size_of i.caches s.from.0) (size_of i.caches s.to.0) (any_locked i.caches (replaced s)) s (is_movable (size_of i.caches s.from.0) (size_of i.caches s.to.0) (is_named i.caches s.from.0) (any_locked i.caches (read_from s)) (any_locked i.caches (replaced s)) s (sym c.move_refusal.ensures ∙ c.in_default.is)).0 in
-    let q = c.make_ready.new.self in
-    let x0 = c.make_ready.ensures in
-    let h = g.M.Mapper.held c.args.mapper.now in
-    let k = g.M.Mapper.held c.make_ready.new.mapper in
-    let before = g.M.Mapper.counts c.args.mapper.now in
-    let after = g.M.Mapper.counts c.make_ready.new.mapper in
-    let p : Manager = seen i.caches i.store i.contexts in
-    let valid0 = (subst (λ (p : Manager). IsValid p h) (sym c.self.view_is) c.requires.valid) in
-    let from0 = sized_table (table_of i.caches s.from.0) open0.from open0.from_is in
-    let to0 = sized_table (table_of i.caches s.to.0) open0.to open0.to_is in
-    let transfer = moved_transfer i.caches i.store i.contexts i.live c.self.invariant.sound s open0 from0.0 to0.0 from0.1 to0.1 from0.2 to0.2 (is_movable (size_of i.caches s.from.0) (size_of i.caches s.to.0) (is_named i.caches s.from.0) (any_locked i.caches (read_from s)) (any_locked i.caches (replaced s)) s (sym c.move_refusal.ensures ∙ c.in_default.is)).1 (is_movable (size_of i.caches s.from.0) (size_of i.caches s.to.0) (is_named i.caches s.from.0) (any_locked i.caches (read_from s)) (any_locked i.caches (replaced s)) s (sym c.move_refusal.ensures ∙ c.in_default.is)).2 in
-    let keeps0 : KeepsMachine p q h k before after = subst (λ (p : Manager). KeepsMachine p q h k before after) (sym c.self.view_is) x0.keeps in
-    let j = c.self-2.inside in
-    let v2 = c.self-2.view_is in
-    let b : Manager = seen j.caches j.store j.contexts in
-    let sound = c.self-2.invariant.sound in
-    let valid : IsValid b k = subst (λ (p : Manager). IsValid p k) (sym v2) x0.valid in
-    let keeps : KeepsMachine p b h k before after = subst (λ (r : Manager). KeepsMachine p r h k before after) (sym v2) keeps0 in
-    let ready : IsReady (replaced s) c.args.span.pages p b h k = subst (λ (e : Extent). IsReady e c.args.span.pages p b h k) c.destination.ensures
-    (subst (λ (r : Manager). IsReady c.destination.result c.args.span.pages p r h k) (sym v2) (subst (λ (p : Manager). IsReady c.destination.result c.args.span.pages p q h k) (sym c.self.view_is) c.in_ok-make_ready.ensures.ready)) in
-    let out : IsOpen (size_of j.caches s.from.0) (size_of j.caches s.to.0) (any_locked j.caches (replaced s)) s = record {
-      from = open0.from;
-      to = open0.to;
-      from_is = keeps.same.sizes s.from.0 ∙ open0.from_is;
-      to_is = keeps.same.sizes s.to.0 ∙ open0.to_is;
-      from_ends = open0.from_ends;
-      to_ends = open0.to_ends;
-      apart = open0.apart;
-      unlocked = same_locked p b c.self.invariant.sound.locked.counted sound.locked.counted keeps.by (replaced s) ∙ open0.unlocked;
-    } in
-    let tied = tied_right k None j.caches j.store valid.right in
-    names_written j.caches s ready.writable
-
-pub move_pages-requires-clause-few : goal.move_pages-requires-clause-few
-move_pages-requires-clause-few g c =
-    let i = c.self.inside in
-    let s = c.args.span in
-    let open0 = is_open (size_of i.caches s.from.0) (size_of i.caches s.to.0) (any_locked i.caches (replaced s)) s (is_movable (size_of i.caches s.from.0) (size_of i.caches s.to.0) (is_named i.caches s.from.0) (any_locked i.caches (read_from s)) (any_locked i.caches (replaced s)) s (sym c.move_refusal.ensures ∙ c.in_default.is)).0 in
-    let q = c.make_ready.new.self in
-    let x0 = c.make_ready.ensures in
-    let h = g.M.Mapper.held c.args.mapper.now in
-    let k = g.M.Mapper.held c.make_ready.new.mapper in
-    let before = g.M.Mapper.counts c.args.mapper.now in
-    let after = g.M.Mapper.counts c.make_ready.new.mapper in
-    let p : Manager = seen i.caches i.store i.contexts in
-    let valid0 = (subst (λ (p : Manager). IsValid p h) (sym c.self.view_is) c.requires.valid) in
-    let from0 = sized_table (table_of i.caches s.from.0) open0.from open0.from_is in
-    let to0 = sized_table (table_of i.caches s.to.0) open0.to open0.to_is in
-    let transfer = moved_transfer i.caches i.store i.contexts i.live c.self.invariant.sound s open0 from0.0 to0.0 from0.1 to0.1 from0.2 to0.2 (is_movable (size_of i.caches s.from.0) (size_of i.caches s.to.0) (is_named i.caches s.from.0) (any_locked i.caches (read_from s)) (any_locked i.caches (replaced s)) s (sym c.move_refusal.ensures ∙ c.in_default.is)).1 (is_movable (size_of i.caches s.from.0) (size_of i.caches s.to.0) (is_named i.caches s.from.0) (any_locked i.caches (read_from s)) (any_locked i.caches (replaced s)) s (sym c.move_refusal.ensures ∙ c.in_default.is)).2 in
-    let keeps0 : KeepsMachine p q h k before after = subst (λ (p : Manager). KeepsMachine p q h k before after) (sym c.self.view_is) x0.keeps in
-    let j = c.self-2.inside in
-    let v2 = c.self-2.view_is in
-    let b : Manager = seen j.caches j.store j.contexts in
-    let sound = c.self-2.invariant.sound in
-    let valid : IsValid b k = subst (λ (p : Manager). IsValid p k) (sym v2) x0.valid in
-    let keeps : KeepsMachine p b h k before after = subst (λ (r : Manager). KeepsMachine p r h k before after) (sym v2) keeps0 in
-    let ready : IsReady (replaced s) c.args.span.pages p b h k = subst (λ (e : Extent). IsReady e c.args.span.pages p b h k) c.destination.ensures
-    (subst (λ (r : Manager). IsReady c.destination.result c.args.span.pages p r h k) (sym v2) (subst (λ (p : Manager). IsReady c.destination.result c.args.span.pages p q h k) (sym c.self.view_is) c.in_ok-make_ready.ensures.ready)) in
-    let out : IsOpen (size_of j.caches s.from.0) (size_of j.caches s.to.0) (any_locked j.caches (replaced s)) s = record {
-      from = open0.from;
-      to = open0.to;
-      from_is = keeps.same.sizes s.from.0 ∙ open0.from_is;
-      to_is = keeps.same.sizes s.to.0 ∙ open0.to_is;
-      from_ends = open0.from_ends;
-      to_ends = open0.to_ends;
-      apart = open0.apart;
-      unlocked = same_locked p b c.self.invariant.sound.locked.counted sound.locked.counted keeps.by (replaced s) ∙ open0.unlocked;
-    } in
-    let tied = tied_right k None j.caches j.store valid.right in
-    omega (arith, forest_len j.caches, nodes_most sound, sound.few, sound.counted, size_le j.caches s.from.0 out.from out.from_is, out.from_ends)
-
-pub move_pages-requires-clause-within : goal.move_pages-requires-clause-within
-move_pages-requires-clause-within g c =
-    let i = c.self.inside in
-    let s = c.args.span in
-    let open0 = is_open (size_of i.caches s.from.0) (size_of i.caches s.to.0) (any_locked i.caches (replaced s)) s (is_movable (size_of i.caches s.from.0) (size_of i.caches s.to.0) (is_named i.caches s.from.0) (any_locked i.caches (read_from s)) (any_locked i.caches (replaced s)) s (sym c.move_refusal.ensures ∙ c.in_default.is)).0 in
-    let q = c.make_ready.new.self in
-    let x0 = c.make_ready.ensures in
-    let h = g.M.Mapper.held c.args.mapper.now in
-    let k = g.M.Mapper.held c.make_ready.new.mapper in
-    let before = g.M.Mapper.counts c.args.mapper.now in
-    let after = g.M.Mapper.counts c.make_ready.new.mapper in
-    let p : Manager = seen i.caches i.store i.contexts in
-    let valid0 = (subst (λ (p : Manager). IsValid p h) (sym c.self.view_is) c.requires.valid) in
-    let from0 = sized_table (table_of i.caches s.from.0) open0.from open0.from_is in
-    let to0 = sized_table (table_of i.caches s.to.0) open0.to open0.to_is in
-    let transfer = moved_transfer i.caches i.store i.contexts i.live c.self.invariant.sound s open0 from0.0 to0.0 from0.1 to0.1 from0.2 to0.2 (is_movable (size_of i.caches s.from.0) (size_of i.caches s.to.0) (is_named i.caches s.from.0) (any_locked i.caches (read_from s)) (any_locked i.caches (replaced s)) s (sym c.move_refusal.ensures ∙ c.in_default.is)).1 (is_movable (size_of i.caches s.from.0) (size_of i.caches s.to.0) (is_named i.caches s.from.0) (any_locked i.caches (read_from s)) (any_locked i.caches (replaced s)) s (sym c.move_refusal.ensures ∙ c.in_default.is)).2 in
-    let keeps0 : KeepsMachine p q h k before after = subst (λ (p : Manager). KeepsMachine p q h k before after) (sym c.self.view_is) x0.keeps in
-    let j = c.self-2.inside in
-    let v2 = c.self-2.view_is in
-    let b : Manager = seen j.caches j.store j.contexts in
-    let sound = c.self-2.invariant.sound in
-    let valid : IsValid b k = subst (λ (p : Manager). IsValid p k) (sym v2) x0.valid in
-    let keeps : KeepsMachine p b h k before after = subst (λ (r : Manager). KeepsMachine p r h k before after) (sym v2) keeps0 in
-    let ready : IsReady (replaced s) c.args.span.pages p b h k = subst (λ (e : Extent). IsReady e c.args.span.pages p b h k) c.destination.ensures
-    (subst (λ (r : Manager). IsReady c.destination.result c.args.span.pages p r h k) (sym v2) (subst (λ (p : Manager). IsReady c.destination.result c.args.span.pages p q h k) (sym c.self.view_is) c.in_ok-make_ready.ensures.ready)) in
-    let out : IsOpen (size_of j.caches s.from.0) (size_of j.caches s.to.0) (any_locked j.caches (replaced s)) s = record {
-      from = open0.from;
-      to = open0.to;
-      from_is = keeps.same.sizes s.from.0 ∙ open0.from_is;
-      to_is = keeps.same.sizes s.to.0 ∙ open0.to_is;
-      from_ends = open0.from_ends;
-      to_ends = open0.to_ends;
-      apart = open0.apart;
-      unlocked = same_locked p b c.self.invariant.sound.locked.counted sound.locked.counted keeps.by (replaced s) ∙ open0.unlocked;
-    } in
-    let tied = tied_right k None j.caches j.store valid.right in
-    (omega (arith, sound.few, sound.counted, size_le j.caches s.from.0 out.from out.from_is, out.from_ends), omega (arith, sound.few, sound.counted, size_le j.caches s.to.0 out.to out.to_is, out.to_ends))
+    unpinned_names j.caches j.store j.contexts.actors c.self-2.invariant.sound.locked (read_from s) (source g (goal.at.move_pages-requires-clause-sources g c).After-self-2).1 x (subst (λ (xs : List NodeName). x ∈ xs) (pairs_read_sources s.from s.to s.from_page.0 s.to_page.0 s.pages) is)
 
 pub move_pages-requires-clause-temporary : goal.move_pages-requires-clause-temporary
-move_pages-requires-clause-temporary g c =
-    let i = c.self.inside in
-    let s = c.args.span in
-    let open0 = is_open (size_of i.caches s.from.0) (size_of i.caches s.to.0) (any_locked i.caches (replaced s)) s (is_movable (size_of i.caches s.from.0) (size_of i.caches s.to.0) (is_named i.caches s.from.0) (any_locked i.caches (read_from s)) (any_locked i.caches (replaced s)) s (sym c.move_refusal.ensures ∙ c.in_default.is)).0 in
-    let q = c.make_ready.new.self in
-    let x0 = c.make_ready.ensures in
-    let h = g.M.Mapper.held c.args.mapper.now in
-    let k = g.M.Mapper.held c.make_ready.new.mapper in
-    let before = g.M.Mapper.counts c.args.mapper.now in
-    let after = g.M.Mapper.counts c.make_ready.new.mapper in
-    let p : Manager = seen i.caches i.store i.contexts in
-    let valid0 = (subst (λ (p : Manager). IsValid p h) (sym c.self.view_is) c.requires.valid) in
-    let from0 = sized_table (table_of i.caches s.from.0) open0.from open0.from_is in
-    let to0 = sized_table (table_of i.caches s.to.0) open0.to open0.to_is in
-    let transfer = moved_transfer i.caches i.store i.contexts i.live c.self.invariant.sound s open0 from0.0 to0.0 from0.1 to0.1 from0.2 to0.2 (is_movable (size_of i.caches s.from.0) (size_of i.caches s.to.0) (is_named i.caches s.from.0) (any_locked i.caches (read_from s)) (any_locked i.caches (replaced s)) s (sym c.move_refusal.ensures ∙ c.in_default.is)).1 (is_movable (size_of i.caches s.from.0) (size_of i.caches s.to.0) (is_named i.caches s.from.0) (any_locked i.caches (read_from s)) (any_locked i.caches (replaced s)) s (sym c.move_refusal.ensures ∙ c.in_default.is)).2 in
-    let keeps0 : KeepsMachine p q h k before after = subst (λ (p : Manager). KeepsMachine p q h k before after) (sym c.self.view_is) x0.keeps in
-    let j = c.self-2.inside in
-    let v2 = c.self-2.view_is in
-    let b : Manager = seen j.caches j.store j.contexts in
-    let sound = c.self-2.invariant.sound in
-    let valid : IsValid b k = subst (λ (p : Manager). IsValid p k) (sym v2) x0.valid in
-    let keeps : KeepsMachine p b h k before after = subst (λ (r : Manager). KeepsMachine p r h k before after) (sym v2) keeps0 in
-    let ready : IsReady (replaced s) c.args.span.pages p b h k = subst (λ (e : Extent). IsReady e c.args.span.pages p b h k) c.destination.ensures
-    (subst (λ (r : Manager). IsReady c.destination.result c.args.span.pages p r h k) (sym v2) (subst (λ (p : Manager). IsReady c.destination.result c.args.span.pages p q h k) (sym c.self.view_is) c.in_ok-make_ready.ensures.ready)) in
-    let out : IsOpen (size_of j.caches s.from.0) (size_of j.caches s.to.0) (any_locked j.caches (replaced s)) s = record {
-      from = open0.from;
-      to = open0.to;
-      from_is = keeps.same.sizes s.from.0 ∙ open0.from_is;
-      to_is = keeps.same.sizes s.to.0 ∙ open0.to_is;
-      from_ends = open0.from_ends;
-      to_ends = open0.to_ends;
-      apart = open0.apart;
-      unlocked = same_locked p b c.self.invariant.sound.locked.counted sound.locked.counted keeps.by (replaced s) ∙ open0.unlocked;
-    } in
-    let tied = tied_right k None j.caches j.store valid.right in
-    named_same i.caches j.caches keeps.same s.from.0 ∙ (is_movable (size_of i.caches s.from.0) (size_of i.caches s.to.0) (is_named i.caches s.from.0) (any_locked i.caches (read_from s)) (any_locked i.caches (replaced s)) s (sym c.move_refusal.ensures ∙ c.in_default.is)).1
+move_pages-requires-clause-temporary g c = (source g (goal.at.move_pages-requires-clause-temporary g c).After-self-2).0
 
-pub move_pages-requires-clause-room : goal.move_pages-requires-clause-room
-move_pages-requires-clause-room g c =
-    let i = c.self.inside in
+-- the pages are moved
+moved : (g : Over) (c : After-move_pages g)
+    → Ended c.args.self.now c.move_pages.new.caches c.move_pages.new.store c.self-2.inside.contexts c.self-2.inside.live (g.M.Mapper.held c.args.mapper.now) (g.M.Mapper.held c.make_ready.new.mapper) (g.M.Mapper.counts c.args.mapper.now) (g.M.Mapper.counts c.make_ready.new.mapper) (commands.Move c.args.span) (Ok replies.Done)
+    × CopiesSaved (replaced c.args.span) c.args.self.now (g.M.Mapper.held c.args.mapper.now) (seen c.move_pages.new.caches c.move_pages.new.store c.self-2.inside.contexts) (Ok tt)
+moved g c =
+    let at = goal.at.After-move_pages g c in
+    let j = c.self-2.inside in
+    let sound = c.self-2.invariant.sound in
     let s = c.args.span in
-    let open0 = is_open (size_of i.caches s.from.0) (size_of i.caches s.to.0) (any_locked i.caches (replaced s)) s (is_movable (size_of i.caches s.from.0) (size_of i.caches s.to.0) (is_named i.caches s.from.0) (any_locked i.caches (read_from s)) (any_locked i.caches (replaced s)) s (sym c.move_refusal.ensures ∙ c.in_default.is)).0 in
-    let q = c.make_ready.new.self in
-    let x0 = c.make_ready.ensures in
     let h = g.M.Mapper.held c.args.mapper.now in
     let k = g.M.Mapper.held c.make_ready.new.mapper in
     let before = g.M.Mapper.counts c.args.mapper.now in
     let after = g.M.Mapper.counts c.make_ready.new.mapper in
-    let p : Manager = seen i.caches i.store i.contexts in
-    let valid0 = (subst (λ (p : Manager). IsValid p h) (sym c.self.view_is) c.requires.valid) in
-    let from0 = sized_table (table_of i.caches s.from.0) open0.from open0.from_is in
-    let to0 = sized_table (table_of i.caches s.to.0) open0.to open0.to_is in
-    let transfer = moved_transfer i.caches i.store i.contexts i.live c.self.invariant.sound s open0 from0.0 to0.0 from0.1 to0.1 from0.2 to0.2 (is_movable (size_of i.caches s.from.0) (size_of i.caches s.to.0) (is_named i.caches s.from.0) (any_locked i.caches (read_from s)) (any_locked i.caches (replaced s)) s (sym c.move_refusal.ensures ∙ c.in_default.is)).1 (is_movable (size_of i.caches s.from.0) (size_of i.caches s.to.0) (is_named i.caches s.from.0) (any_locked i.caches (read_from s)) (any_locked i.caches (replaced s)) s (sym c.move_refusal.ensures ∙ c.in_default.is)).2 in
-    let keeps0 : KeepsMachine p q h k before after = subst (λ (p : Manager). KeepsMachine p q h k before after) (sym c.self.view_is) x0.keeps in
-    let j = c.self-2.inside in
-    let v2 = c.self-2.view_is in
-    let b : Manager = seen j.caches j.store j.contexts in
-    let sound = c.self-2.invariant.sound in
-    let valid : IsValid b k = subst (λ (p : Manager). IsValid p k) (sym v2) x0.valid in
-    let keeps : KeepsMachine p b h k before after = subst (λ (r : Manager). KeepsMachine p r h k before after) (sym v2) keeps0 in
-    let ready : IsReady (replaced s) c.args.span.pages p b h k = subst (λ (e : Extent). IsReady e c.args.span.pages p b h k) c.destination.ensures
-    (subst (λ (r : Manager). IsReady c.destination.result c.args.span.pages p r h k) (sym v2) (subst (λ (p : Manager). IsReady c.destination.result c.args.span.pages p q h k) (sym c.self.view_is) c.in_ok-make_ready.ensures.ready)) in
-    let out : IsOpen (size_of j.caches s.from.0) (size_of j.caches s.to.0) (any_locked j.caches (replaced s)) s = record {
-      from = open0.from;
-      to = open0.to;
-      from_is = keeps.same.sizes s.from.0 ∙ open0.from_is;
-      to_is = keeps.same.sizes s.to.0 ∙ open0.to_is;
-      from_ends = open0.from_ends;
-      to_ends = open0.to_ends;
-      apart = open0.apart;
-      unlocked = same_locked p b c.self.invariant.sound.locked.counted sound.locked.counted keeps.by (replaced s) ∙ open0.unlocked;
-    } in
-    let tied = tied_right k None j.caches j.store valid.right in
-    ready.room
-
-pub move_pages-requires-clause-made : goal.move_pages-requires-clause-made
-move_pages-requires-clause-made g c =
-    let i = c.self.inside in
-    let s = c.args.span in
-    let open0 = is_open (size_of i.caches s.from.0) (size_of i.caches s.to.0) (any_locked i.caches (replaced s)) s (is_movable (size_of i.caches s.from.0) (size_of i.caches s.to.0) (is_named i.caches s.from.0) (any_locked i.caches (read_from s)) (any_locked i.caches (replaced s)) s (sym c.move_refusal.ensures ∙ c.in_default.is)).0 in
-    let q = c.make_ready.new.self in
-    let x0 = c.make_ready.ensures in
-    let h = g.M.Mapper.held c.args.mapper.now in
-    let k = g.M.Mapper.held c.make_ready.new.mapper in
-    let before = g.M.Mapper.counts c.args.mapper.now in
-    let after = g.M.Mapper.counts c.make_ready.new.mapper in
-    let p : Manager = seen i.caches i.store i.contexts in
-    let valid0 = (subst (λ (p : Manager). IsValid p h) (sym c.self.view_is) c.requires.valid) in
-    let from0 = sized_table (table_of i.caches s.from.0) open0.from open0.from_is in
-    let to0 = sized_table (table_of i.caches s.to.0) open0.to open0.to_is in
-    let transfer = moved_transfer i.caches i.store i.contexts i.live c.self.invariant.sound s open0 from0.0 to0.0 from0.1 to0.1 from0.2 to0.2 (is_movable (size_of i.caches s.from.0) (size_of i.caches s.to.0) (is_named i.caches s.from.0) (any_locked i.caches (read_from s)) (any_locked i.caches (replaced s)) s (sym c.move_refusal.ensures ∙ c.in_default.is)).1 (is_movable (size_of i.caches s.from.0) (size_of i.caches s.to.0) (is_named i.caches s.from.0) (any_locked i.caches (read_from s)) (any_locked i.caches (replaced s)) s (sym c.move_refusal.ensures ∙ c.in_default.is)).2 in
-    let keeps0 : KeepsMachine p q h k before after = subst (λ (p : Manager). KeepsMachine p q h k before after) (sym c.self.view_is) x0.keeps in
-    let j = c.self-2.inside in
-    let v2 = c.self-2.view_is in
-    let b : Manager = seen j.caches j.store j.contexts in
-    let sound = c.self-2.invariant.sound in
-    let valid : IsValid b k = subst (λ (p : Manager). IsValid p k) (sym v2) x0.valid in
-    let keeps : KeepsMachine p b h k before after = subst (λ (r : Manager). KeepsMachine p r h k before after) (sym v2) keeps0 in
-    let ready : IsReady (replaced s) c.args.span.pages p b h k = subst (λ (e : Extent). IsReady e c.args.span.pages p b h k) c.destination.ensures
-    (subst (λ (r : Manager). IsReady c.destination.result c.args.span.pages p r h k) (sym v2) (subst (λ (p : Manager). IsReady c.destination.result c.args.span.pages p q h k) (sym c.self.view_is) c.in_ok-make_ready.ensures.ready)) in
-    let out : IsOpen (size_of j.caches s.from.0) (size_of j.caches s.to.0) (any_locked j.caches (replaced s)) s = record {
-      from = open0.from;
-      to = open0.to;
-      from_is = keeps.same.sizes s.from.0 ∙ open0.from_is;
-      to_is = keeps.same.sizes s.to.0 ∙ open0.to_is;
-      from_ends = open0.from_ends;
-      to_ends = open0.to_ends;
-      apart = open0.apart;
-      unlocked = same_locked p b c.self.invariant.sound.locked.counted sound.locked.counted keeps.by (replaced s) ∙ open0.unlocked;
-    } in
-    let tied = tied_right k None j.caches j.store valid.right in
-    omega (arith, keeps.made, c.requires.made, ap numbered c.self.view_is, sound.few, sound.counted, size_le j.caches s.from.0 out.from out.from_is, out.from_ends)
+    let p : Manager = seen c.self.inside.caches c.self.inside.store c.self.inside.contexts in
+    let r = ready_span g at.After-self-2 in
+    let e = c.move_pages.ensures in
+    let d = c.move_pages.new.caches in
+    let u = c.move_pages.new.store in
+    let from = sized_table (table_of j.caches s.from.0) r.out.from r.out.from_is in
+    let to = sized_table (table_of j.caches s.to.0) r.out.to r.out.to_is in
+    let many : c.args.span.pages ≤ 2 * s.pages = omega arith in
+    let right = transferred_right p h k before after j.caches j.store j.contexts j.live sound s c.args.span.pages many r d u e.kept e.pages in
+    let may = undenied_then p h k before after j.caches j.store j.contexts j.live sound s c.args.span.pages many r in
+    let named = named_machine p (forest_of p h) s.to.0 in
+    transferred p h k before after j.caches j.store j.contexts j.live sound s c.args.span.pages many r d u e.kept e.pages c.args.self.now c.self.view_is c.self.invariant.sound.nodes (commands.Move s) (transfer g at.In_default)
+    (moved_valid j.caches j.store j.contexts j.live sound s r.out from.0 to.0 from.1 to.1 from.2 to.2 d u e.kept.sizes e.kept.gives_back r.tied e.pages.whole k r.valid right e.rule.forest)
+    (moved_outcome j.caches j.store j.contexts j.live sound s r.out from.0 to.0 from.1 to.1 from.2 to.2 d u e.kept.sizes e.kept.gives_back r.tied e.pages.whole k r.valid right e.rule.forest (source g at.After-self-2).0 (source g at.After-self-2).1 (forest_of p h) _ may)
+    (move_follows j.caches j.store j.contexts j.live sound s r.out from.0 to.0 from.1 to.1 from.2 to.2 d u e.kept.sizes e.kept.gives_back r.tied e.pages.whole k r.valid right e.rule.forest c.requires.some (is_named p.caches s.to.0) (forest_of p h) r.ready.forest ∙ (λ x. move_ (sym named x) (told (unwrap_or (page_in (machine_of (seen d u j.contexts) k) s.from.0 s.from_page.0) [])) (span_pairs s) (forest_of p h)))
 
 pub invariant_of-self : goal.invariant_of-self
 invariant_of-self g c = record {
-  sound = (
-      let i = c.self.inside in
-      let s = c.args.span in
-      let open0 = is_open (size_of i.caches s.from.0) (size_of i.caches s.to.0) (any_locked i.caches (replaced s)) s (is_movable (size_of i.caches s.from.0) (size_of i.caches s.to.0) (is_named i.caches s.from.0) (any_locked i.caches (read_from s)) (any_locked i.caches (replaced s)) s (sym c.move_refusal.ensures ∙ c.in_default.is)).0 in
-      let q = c.make_ready.new.self in
-      let x0 = c.make_ready.ensures in
-      let h = g.M.Mapper.held c.args.mapper.now in
-      let k = g.M.Mapper.held c.make_ready.new.mapper in
-      let before = g.M.Mapper.counts c.args.mapper.now in
-      let after = g.M.Mapper.counts c.make_ready.new.mapper in
-      let p : Manager = seen i.caches i.store i.contexts in
-      let valid0 = (subst (λ (p : Manager). IsValid p h) (sym c.self.view_is) c.requires.valid) in
-      let from0 = sized_table (table_of i.caches s.from.0) open0.from open0.from_is in
-      let to0 = sized_table (table_of i.caches s.to.0) open0.to open0.to_is in
-      let transfer = moved_transfer i.caches i.store i.contexts i.live c.self.invariant.sound s open0 from0.0 to0.0 from0.1 to0.1 from0.2 to0.2 (is_movable (size_of i.caches s.from.0) (size_of i.caches s.to.0) (is_named i.caches s.from.0) (any_locked i.caches (read_from s)) (any_locked i.caches (replaced s)) s (sym c.move_refusal.ensures ∙ c.in_default.is)).1 (is_movable (size_of i.caches s.from.0) (size_of i.caches s.to.0) (is_named i.caches s.from.0) (any_locked i.caches (read_from s)) (any_locked i.caches (replaced s)) s (sym c.move_refusal.ensures ∙ c.in_default.is)).2 in
-      let keeps0 : KeepsMachine p q h k before after = subst (λ (p : Manager). KeepsMachine p q h k before after) (sym c.self.view_is) x0.keeps in
-      let j = c.self-2.inside in
-      let v2 = c.self-2.view_is in
-      let b : Manager = seen j.caches j.store j.contexts in
-      let sound = c.self-2.invariant.sound in
-      let valid : IsValid b k = subst (λ (p : Manager). IsValid p k) (sym v2) x0.valid in
-      let keeps : KeepsMachine p b h k before after = subst (λ (r : Manager). KeepsMachine p r h k before after) (sym v2) keeps0 in
-      let ready : IsReady (replaced s) c.args.span.pages p b h k = subst (λ (e : Extent). IsReady e c.args.span.pages p b h k) c.destination.ensures
-      (subst (λ (r : Manager). IsReady c.destination.result c.args.span.pages p r h k) (sym v2) (subst (λ (p : Manager). IsReady c.destination.result c.args.span.pages p q h k) (sym c.self.view_is) c.in_ok-make_ready.ensures.ready)) in
-      let out : IsOpen (size_of j.caches s.from.0) (size_of j.caches s.to.0) (any_locked j.caches (replaced s)) s = record {
-        from = open0.from;
-        to = open0.to;
-        from_is = keeps.same.sizes s.from.0 ∙ open0.from_is;
-        to_is = keeps.same.sizes s.to.0 ∙ open0.to_is;
-        from_ends = open0.from_ends;
-        to_ends = open0.to_ends;
-        apart = open0.apart;
-        unlocked = same_locked p b c.self.invariant.sound.locked.counted sound.locked.counted keeps.by (replaced s) ∙ open0.unlocked;
-      } in
-      let tied = tied_right k None j.caches j.store valid.right in
-      let e = c.move_pages.ensures in
-      let d = c.move_pages.new.caches in
-      let u = c.move_pages.new.store in
-      let z : Manager = seen d u j.contexts in
-      let from = sized_table (table_of j.caches s.from.0) out.from out.from_is in
-      let to = sized_table (table_of j.caches s.to.0) out.to out.to_is in
-      let right = e.right (slots_enough j.caches d j.store u j.contexts j.live sound e.kept.sizes e.kept.gives_back tied e.whole) in
-      changed_sound j.caches d j.store u j.contexts j.live sound e.kept.sizes e.kept.gives_back tied e.whole e.bounded
-      (held_released _ j.caches d j.store u e.kept tied j.contexts sound.nodes sound.actors sound.locked)
-      );
+  sound = (moved g c).0.sound;
   translated = (
       let j = c.self-2.inside in
       let e = c.move_pages.ensures in
@@ -641,247 +198,27 @@ invariant_of-self g c = record {
 }
 
 pub returns-clause-valid : goal.returns-clause-valid
-returns-clause-valid g c =
-    let i = c.self.inside in
-    let s = c.args.span in
-    let open0 = is_open (size_of i.caches s.from.0) (size_of i.caches s.to.0) (any_locked i.caches (replaced s)) s (is_movable (size_of i.caches s.from.0) (size_of i.caches s.to.0) (is_named i.caches s.from.0) (any_locked i.caches (read_from s)) (any_locked i.caches (replaced s)) s (sym c.move_refusal.ensures ∙ c.in_default.is)).0 in
-    let q = c.make_ready.new.self in
-    let x0 = c.make_ready.ensures in
-    let h = g.M.Mapper.held c.args.mapper.now in
-    let k = g.M.Mapper.held c.make_ready.new.mapper in
-    let before = g.M.Mapper.counts c.args.mapper.now in
-    let after = g.M.Mapper.counts c.make_ready.new.mapper in
-    let p : Manager = seen i.caches i.store i.contexts in
-    let valid0 = (subst (λ (p : Manager). IsValid p h) (sym c.self.view_is) c.requires.valid) in
-    let from0 = sized_table (table_of i.caches s.from.0) open0.from open0.from_is in
-    let to0 = sized_table (table_of i.caches s.to.0) open0.to open0.to_is in
-    let transfer = moved_transfer i.caches i.store i.contexts i.live c.self.invariant.sound s open0 from0.0 to0.0 from0.1 to0.1 from0.2 to0.2 (is_movable (size_of i.caches s.from.0) (size_of i.caches s.to.0) (is_named i.caches s.from.0) (any_locked i.caches (read_from s)) (any_locked i.caches (replaced s)) s (sym c.move_refusal.ensures ∙ c.in_default.is)).1 (is_movable (size_of i.caches s.from.0) (size_of i.caches s.to.0) (is_named i.caches s.from.0) (any_locked i.caches (read_from s)) (any_locked i.caches (replaced s)) s (sym c.move_refusal.ensures ∙ c.in_default.is)).2 in
-    let keeps0 : KeepsMachine p q h k before after = subst (λ (p : Manager). KeepsMachine p q h k before after) (sym c.self.view_is) x0.keeps in
-    let j = c.self-2.inside in
-    let v2 = c.self-2.view_is in
-    let b : Manager = seen j.caches j.store j.contexts in
-    let sound = c.self-2.invariant.sound in
-    let valid : IsValid b k = subst (λ (p : Manager). IsValid p k) (sym v2) x0.valid in
-    let keeps : KeepsMachine p b h k before after = subst (λ (r : Manager). KeepsMachine p r h k before after) (sym v2) keeps0 in
-    let ready : IsReady (replaced s) c.args.span.pages p b h k = subst (λ (e : Extent). IsReady e c.args.span.pages p b h k) c.destination.ensures
-    (subst (λ (r : Manager). IsReady c.destination.result c.args.span.pages p r h k) (sym v2) (subst (λ (p : Manager). IsReady c.destination.result c.args.span.pages p q h k) (sym c.self.view_is) c.in_ok-make_ready.ensures.ready)) in
-    let out : IsOpen (size_of j.caches s.from.0) (size_of j.caches s.to.0) (any_locked j.caches (replaced s)) s = record {
-      from = open0.from;
-      to = open0.to;
-      from_is = keeps.same.sizes s.from.0 ∙ open0.from_is;
-      to_is = keeps.same.sizes s.to.0 ∙ open0.to_is;
-      from_ends = open0.from_ends;
-      to_ends = open0.to_ends;
-      apart = open0.apart;
-      unlocked = same_locked p b c.self.invariant.sound.locked.counted sound.locked.counted keeps.by (replaced s) ∙ open0.unlocked;
-    } in
-    let tied = tied_right k None j.caches j.store valid.right in
-    let e = c.move_pages.ensures in
-    let d = c.move_pages.new.caches in
-    let u = c.move_pages.new.store in
-    let z : Manager = seen d u j.contexts in
-    let from = sized_table (table_of j.caches s.from.0) out.from out.from_is in
-    let to = sized_table (table_of j.caches s.to.0) out.to out.to_is in
-    let right = e.right (slots_enough j.caches d j.store u j.contexts j.live sound e.kept.sizes e.kept.gives_back tied e.whole) in
-    moved_valid j.caches j.store j.contexts j.live sound s out from.0 to.0 from.1 to.1 from.2 to.2 d u e.kept.sizes e.kept.gives_back tied e.whole k valid right e.forest
+returns-clause-valid g c = (moved g c).0.valid
 
 pub returns-clause-answers : goal.returns-clause-answers
-returns-clause-answers g c =
-    let i = c.self.inside in
-    let s = c.args.span in
-    let open0 = is_open (size_of i.caches s.from.0) (size_of i.caches s.to.0) (any_locked i.caches (replaced s)) s (is_movable (size_of i.caches s.from.0) (size_of i.caches s.to.0) (is_named i.caches s.from.0) (any_locked i.caches (read_from s)) (any_locked i.caches (replaced s)) s (sym c.move_refusal.ensures ∙ c.in_default.is)).0 in
-    let q = c.make_ready.new.self in
-    let x0 = c.make_ready.ensures in
-    let h = g.M.Mapper.held c.args.mapper.now in
-    let k = g.M.Mapper.held c.make_ready.new.mapper in
-    let before = g.M.Mapper.counts c.args.mapper.now in
-    let after = g.M.Mapper.counts c.make_ready.new.mapper in
-    let p : Manager = seen i.caches i.store i.contexts in
-    let valid0 = (subst (λ (p : Manager). IsValid p h) (sym c.self.view_is) c.requires.valid) in
-    let from0 = sized_table (table_of i.caches s.from.0) open0.from open0.from_is in
-    let to0 = sized_table (table_of i.caches s.to.0) open0.to open0.to_is in
-    let transfer = moved_transfer i.caches i.store i.contexts i.live c.self.invariant.sound s open0 from0.0 to0.0 from0.1 to0.1 from0.2 to0.2 (is_movable (size_of i.caches s.from.0) (size_of i.caches s.to.0) (is_named i.caches s.from.0) (any_locked i.caches (read_from s)) (any_locked i.caches (replaced s)) s (sym c.move_refusal.ensures ∙ c.in_default.is)).1 (is_movable (size_of i.caches s.from.0) (size_of i.caches s.to.0) (is_named i.caches s.from.0) (any_locked i.caches (read_from s)) (any_locked i.caches (replaced s)) s (sym c.move_refusal.ensures ∙ c.in_default.is)).2 in
-    let keeps0 : KeepsMachine p q h k before after = subst (λ (p : Manager). KeepsMachine p q h k before after) (sym c.self.view_is) x0.keeps in
-    let j = c.self-2.inside in
-    let v2 = c.self-2.view_is in
-    let b : Manager = seen j.caches j.store j.contexts in
-    let sound = c.self-2.invariant.sound in
-    let valid : IsValid b k = subst (λ (p : Manager). IsValid p k) (sym v2) x0.valid in
-    let keeps : KeepsMachine p b h k before after = subst (λ (r : Manager). KeepsMachine p r h k before after) (sym v2) keeps0 in
-    let ready : IsReady (replaced s) c.args.span.pages p b h k = subst (λ (e : Extent). IsReady e c.args.span.pages p b h k) c.destination.ensures
-    (subst (λ (r : Manager). IsReady c.destination.result c.args.span.pages p r h k) (sym v2) (subst (λ (p : Manager). IsReady c.destination.result c.args.span.pages p q h k) (sym c.self.view_is) c.in_ok-make_ready.ensures.ready)) in
-    let out : IsOpen (size_of j.caches s.from.0) (size_of j.caches s.to.0) (any_locked j.caches (replaced s)) s = record {
-      from = open0.from;
-      to = open0.to;
-      from_is = keeps.same.sizes s.from.0 ∙ open0.from_is;
-      to_is = keeps.same.sizes s.to.0 ∙ open0.to_is;
-      from_ends = open0.from_ends;
-      to_ends = open0.to_ends;
-      apart = open0.apart;
-      unlocked = same_locked p b c.self.invariant.sound.locked.counted sound.locked.counted keeps.by (replaced s) ∙ open0.unlocked;
-    } in
-    let tied = tied_right k None j.caches j.store valid.right in
-    let e = c.move_pages.ensures in
-    let d = c.move_pages.new.caches in
-    let u = c.move_pages.new.store in
-    let z : Manager = seen d u j.contexts in
-    let from = sized_table (table_of j.caches s.from.0) out.from out.from_is in
-    let to = sized_table (table_of j.caches s.to.0) out.to out.to_is in
-    let right = e.right (slots_enough j.caches d j.store u j.contexts j.live sound e.kept.sizes e.kept.gives_back tied e.whole) in
-    let answer : Answer = Ok replies.Done in
-    let rises = rises_between (length keeps.reach.pushes) before after in
-    let may : (sg : Segments) → segments_of k ≡ Some sg → is_any_denied (machine_of b k) sg s ≡ false = λ sg e. undenied_range b k sound.nodes valid.right s out.to out.to_is out.to_ends ready.writable (forest_of b k) k sg refl e in
-    let now = moved_valid j.caches j.store j.contexts j.live sound s out from.0 to.0 from.1 to.1 from.2 to.2 d u e.kept.sizes e.kept.gives_back tied e.whole k valid right e.forest in
-    let named = named_machine p (forest_of p h) s.to.0 in
-    let outcome : OutcomeAt (segments_of k) (machine_of p h) (Some (forest_of p h)) (commands.Move s) answer (machine_of z k) rises
-    = subst (λ (m : Machine). OutcomeAt (segments_of k) m (Some (forest_of p h)) (commands.Move s) answer (machine_of z k) rises) keeps.machine (moved_outcome j.caches j.store j.contexts j.live sound s out from.0 to.0 from.1 to.1 from.2 to.2 d u e.kept.sizes e.kept.gives_back tied e.whole k valid right e.forest (named_same i.caches j.caches keeps.same s.from.0 ∙ (is_movable (size_of i.caches s.from.0) (size_of i.caches s.to.0) (is_named i.caches s.from.0) (any_locked i.caches (read_from s)) (any_locked i.caches (replaced s)) s (sym c.move_refusal.ensures ∙ c.in_default.is)).1)
-    (same_locked p b c.self.invariant.sound.locked.counted sound.locked.counted keeps.by (read_from s) ∙ (is_movable (size_of i.caches s.from.0) (size_of i.caches s.to.0) (is_named i.caches s.from.0) (any_locked i.caches (read_from s)) (any_locked i.caches (replaced s)) s (sym c.move_refusal.ensures ∙ c.in_default.is)).2) (forest_of p h) rises may) in
-    let follows : forest_of z k ≡ forest_after (forest_of p h) (machine_of p h) (commands.Move s) answer (machine_of z k) = move_follows j.caches j.store j.contexts j.live sound s out from.0 to.0 from.1 to.1 from.2 to.2 d u e.kept.sizes e.kept.gives_back tied e.whole k valid right e.forest c.requires.some (is_named i.caches s.to.0) (forest_of p h) ready.forest ∙ (λ x. move_ (sym named x) (told (unwrap_or (page_in (machine_of z k) s.from.0 s.from_page.0) [])) (span_pairs s) (forest_of p h)) in
-    subst (λ (p : Manager). CallIs before after (state_at p h) (commands.Move s) answer (state_at z k)) c.self.view_is
-    (call_is before after p z h k (commands.Move s) answer keeps.reach now tt tt follows outcome)
+returns-clause-answers g c = (moved g c).0.answers
 
 pub returns-clause-made : goal.returns-clause-made
-returns-clause-made g c =
-    let i = c.self.inside in
-    let s = c.args.span in
-    let open0 = is_open (size_of i.caches s.from.0) (size_of i.caches s.to.0) (any_locked i.caches (replaced s)) s (is_movable (size_of i.caches s.from.0) (size_of i.caches s.to.0) (is_named i.caches s.from.0) (any_locked i.caches (read_from s)) (any_locked i.caches (replaced s)) s (sym c.move_refusal.ensures ∙ c.in_default.is)).0 in
-    let q = c.make_ready.new.self in
-    let x0 = c.make_ready.ensures in
-    let h = g.M.Mapper.held c.args.mapper.now in
-    let k = g.M.Mapper.held c.make_ready.new.mapper in
-    let before = g.M.Mapper.counts c.args.mapper.now in
-    let after = g.M.Mapper.counts c.make_ready.new.mapper in
-    let p : Manager = seen i.caches i.store i.contexts in
-    let valid0 = (subst (λ (p : Manager). IsValid p h) (sym c.self.view_is) c.requires.valid) in
-    let from0 = sized_table (table_of i.caches s.from.0) open0.from open0.from_is in
-    let to0 = sized_table (table_of i.caches s.to.0) open0.to open0.to_is in
-    let transfer = moved_transfer i.caches i.store i.contexts i.live c.self.invariant.sound s open0 from0.0 to0.0 from0.1 to0.1 from0.2 to0.2 (is_movable (size_of i.caches s.from.0) (size_of i.caches s.to.0) (is_named i.caches s.from.0) (any_locked i.caches (read_from s)) (any_locked i.caches (replaced s)) s (sym c.move_refusal.ensures ∙ c.in_default.is)).1 (is_movable (size_of i.caches s.from.0) (size_of i.caches s.to.0) (is_named i.caches s.from.0) (any_locked i.caches (read_from s)) (any_locked i.caches (replaced s)) s (sym c.move_refusal.ensures ∙ c.in_default.is)).2 in
-    let keeps0 : KeepsMachine p q h k before after = subst (λ (p : Manager). KeepsMachine p q h k before after) (sym c.self.view_is) x0.keeps in
-    let j = c.self-2.inside in
-    let v2 = c.self-2.view_is in
-    let b : Manager = seen j.caches j.store j.contexts in
-    let sound = c.self-2.invariant.sound in
-    let valid : IsValid b k = subst (λ (p : Manager). IsValid p k) (sym v2) x0.valid in
-    let keeps : KeepsMachine p b h k before after = subst (λ (r : Manager). KeepsMachine p r h k before after) (sym v2) keeps0 in
-    let ready : IsReady (replaced s) c.args.span.pages p b h k = subst (λ (e : Extent). IsReady e c.args.span.pages p b h k) c.destination.ensures
-    (subst (λ (r : Manager). IsReady c.destination.result c.args.span.pages p r h k) (sym v2) (subst (λ (p : Manager). IsReady c.destination.result c.args.span.pages p q h k) (sym c.self.view_is) c.in_ok-make_ready.ensures.ready)) in
-    let out : IsOpen (size_of j.caches s.from.0) (size_of j.caches s.to.0) (any_locked j.caches (replaced s)) s = record {
-      from = open0.from;
-      to = open0.to;
-      from_is = keeps.same.sizes s.from.0 ∙ open0.from_is;
-      to_is = keeps.same.sizes s.to.0 ∙ open0.to_is;
-      from_ends = open0.from_ends;
-      to_ends = open0.to_ends;
-      apart = open0.apart;
-      unlocked = same_locked p b c.self.invariant.sound.locked.counted sound.locked.counted keeps.by (replaced s) ∙ open0.unlocked;
-    } in
-    let tied = tied_right k None j.caches j.store valid.right in
-    let e = c.move_pages.ensures in
-    let d = c.move_pages.new.caches in
-    let u = c.move_pages.new.store in
-    let z : Manager = seen d u j.contexts in
-    let from = sized_table (table_of j.caches s.from.0) out.from out.from_is in
-    let to = sized_table (table_of j.caches s.to.0) out.to out.to_is in
-    let right = e.right (slots_enough j.caches d j.store u j.contexts j.live sound e.kept.sizes e.kept.gives_back tied e.whole) in
-    let copied = range_copied p b h k (replaced s) c.self.invariant.sound.nodes (is_named i.caches s.to.0) ready.forest in
-    subst (λ (p : Manager). RaisesMade (machine_of p h) (commands.Move s) (Ok replies.Done) (numbered p) (numbered z)) c.self.view_is
-    (omega (arith, e.made, e.copies, keeps.made, copied.1, transfer.touched (machine_of p h)))
+returns-clause-made g c = (moved g c).0.made
 
 pub returns-clause-copies : goal.returns-clause-copies
-returns-clause-copies g c =
-    let i = c.self.inside in
-    let s = c.args.span in
-    let open0 = is_open (size_of i.caches s.from.0) (size_of i.caches s.to.0) (any_locked i.caches (replaced s)) s (is_movable (size_of i.caches s.from.0) (size_of i.caches s.to.0) (is_named i.caches s.from.0) (any_locked i.caches (read_from s)) (any_locked i.caches (replaced s)) s (sym c.move_refusal.ensures ∙ c.in_default.is)).0 in
-    let q = c.make_ready.new.self in
-    let x0 = c.make_ready.ensures in
-    let h = g.M.Mapper.held c.args.mapper.now in
-    let k = g.M.Mapper.held c.make_ready.new.mapper in
-    let before = g.M.Mapper.counts c.args.mapper.now in
-    let after = g.M.Mapper.counts c.make_ready.new.mapper in
-    let p : Manager = seen i.caches i.store i.contexts in
-    let valid0 = (subst (λ (p : Manager). IsValid p h) (sym c.self.view_is) c.requires.valid) in
-    let from0 = sized_table (table_of i.caches s.from.0) open0.from open0.from_is in
-    let to0 = sized_table (table_of i.caches s.to.0) open0.to open0.to_is in
-    let transfer = moved_transfer i.caches i.store i.contexts i.live c.self.invariant.sound s open0 from0.0 to0.0 from0.1 to0.1 from0.2 to0.2 (is_movable (size_of i.caches s.from.0) (size_of i.caches s.to.0) (is_named i.caches s.from.0) (any_locked i.caches (read_from s)) (any_locked i.caches (replaced s)) s (sym c.move_refusal.ensures ∙ c.in_default.is)).1 (is_movable (size_of i.caches s.from.0) (size_of i.caches s.to.0) (is_named i.caches s.from.0) (any_locked i.caches (read_from s)) (any_locked i.caches (replaced s)) s (sym c.move_refusal.ensures ∙ c.in_default.is)).2 in
-    let keeps0 : KeepsMachine p q h k before after = subst (λ (p : Manager). KeepsMachine p q h k before after) (sym c.self.view_is) x0.keeps in
-    let j = c.self-2.inside in
-    let v2 = c.self-2.view_is in
-    let b : Manager = seen j.caches j.store j.contexts in
-    let sound = c.self-2.invariant.sound in
-    let valid : IsValid b k = subst (λ (p : Manager). IsValid p k) (sym v2) x0.valid in
-    let keeps : KeepsMachine p b h k before after = subst (λ (r : Manager). KeepsMachine p r h k before after) (sym v2) keeps0 in
-    let ready : IsReady (replaced s) c.args.span.pages p b h k = subst (λ (e : Extent). IsReady e c.args.span.pages p b h k) c.destination.ensures
-    (subst (λ (r : Manager). IsReady c.destination.result c.args.span.pages p r h k) (sym v2) (subst (λ (p : Manager). IsReady c.destination.result c.args.span.pages p q h k) (sym c.self.view_is) c.in_ok-make_ready.ensures.ready)) in
-    let out : IsOpen (size_of j.caches s.from.0) (size_of j.caches s.to.0) (any_locked j.caches (replaced s)) s = record {
-      from = open0.from;
-      to = open0.to;
-      from_is = keeps.same.sizes s.from.0 ∙ open0.from_is;
-      to_is = keeps.same.sizes s.to.0 ∙ open0.to_is;
-      from_ends = open0.from_ends;
-      to_ends = open0.to_ends;
-      apart = open0.apart;
-      unlocked = same_locked p b c.self.invariant.sound.locked.counted sound.locked.counted keeps.by (replaced s) ∙ open0.unlocked;
-    } in
-    let tied = tied_right k None j.caches j.store valid.right in
-    let e = c.move_pages.ensures in
-    let d = c.move_pages.new.caches in
-    let u = c.move_pages.new.store in
-    let z : Manager = seen d u j.contexts in
-    let from = sized_table (table_of j.caches s.from.0) out.from out.from_is in
-    let to = sized_table (table_of j.caches s.to.0) out.to out.to_is in
-    let right = e.right (slots_enough j.caches d j.store u j.contexts j.live sound e.kept.sizes e.kept.gives_back tied e.whole) in
-    let copied = range_copied p b h k (replaced s) c.self.invariant.sound.nodes (is_named i.caches s.to.0) ready.forest in
-    subst (λ (p : Manager). CopiesSaved (replaced s) p h z (Ok tt)) c.self.view_is (e.copies ∙ copied.0)
+returns-clause-copies g c = (moved g c).1
 
 pub returns-clause-idle : goal.returns-clause-idle
-returns-clause-idle g c =
-    let i = c.self.inside in
-    let s = c.args.span in
-    let open0 = is_open (size_of i.caches s.from.0) (size_of i.caches s.to.0) (any_locked i.caches (replaced s)) s (is_movable (size_of i.caches s.from.0) (size_of i.caches s.to.0) (is_named i.caches s.from.0) (any_locked i.caches (read_from s)) (any_locked i.caches (replaced s)) s (sym c.move_refusal.ensures ∙ c.in_default.is)).0 in
-    let q = c.make_ready.new.self in
-    let x0 = c.make_ready.ensures in
-    let h = g.M.Mapper.held c.args.mapper.now in
-    let k = g.M.Mapper.held c.make_ready.new.mapper in
-    let before = g.M.Mapper.counts c.args.mapper.now in
-    let after = g.M.Mapper.counts c.make_ready.new.mapper in
-    let p : Manager = seen i.caches i.store i.contexts in
-    let valid0 = (subst (λ (p : Manager). IsValid p h) (sym c.self.view_is) c.requires.valid) in
-    let from0 = sized_table (table_of i.caches s.from.0) open0.from open0.from_is in
-    let to0 = sized_table (table_of i.caches s.to.0) open0.to open0.to_is in
-    let transfer = moved_transfer i.caches i.store i.contexts i.live c.self.invariant.sound s open0 from0.0 to0.0 from0.1 to0.1 from0.2 to0.2 (is_movable (size_of i.caches s.from.0) (size_of i.caches s.to.0) (is_named i.caches s.from.0) (any_locked i.caches (read_from s)) (any_locked i.caches (replaced s)) s (sym c.move_refusal.ensures ∙ c.in_default.is)).1 (is_movable (size_of i.caches s.from.0) (size_of i.caches s.to.0) (is_named i.caches s.from.0) (any_locked i.caches (read_from s)) (any_locked i.caches (replaced s)) s (sym c.move_refusal.ensures ∙ c.in_default.is)).2 in
-    let keeps0 : KeepsMachine p q h k before after = subst (λ (p : Manager). KeepsMachine p q h k before after) (sym c.self.view_is) x0.keeps in
+returns-clause-idle g c = λ nothing.
     let j = c.self-2.inside in
-    let v2 = c.self-2.view_is in
-    let b : Manager = seen j.caches j.store j.contexts in
-    let sound = c.self-2.invariant.sound in
-    let valid : IsValid b k = subst (λ (p : Manager). IsValid p k) (sym v2) x0.valid in
-    let keeps : KeepsMachine p b h k before after = subst (λ (r : Manager). KeepsMachine p r h k before after) (sym v2) keeps0 in
-    let ready : IsReady (replaced s) c.args.span.pages p b h k = subst (λ (e : Extent). IsReady e c.args.span.pages p b h k) c.destination.ensures
-    (subst (λ (r : Manager). IsReady c.destination.result c.args.span.pages p r h k) (sym v2) (subst (λ (p : Manager). IsReady c.destination.result c.args.span.pages p q h k) (sym c.self.view_is) c.in_ok-make_ready.ensures.ready)) in
-    let out : IsOpen (size_of j.caches s.from.0) (size_of j.caches s.to.0) (any_locked j.caches (replaced s)) s = record {
-      from = open0.from;
-      to = open0.to;
-      from_is = keeps.same.sizes s.from.0 ∙ open0.from_is;
-      to_is = keeps.same.sizes s.to.0 ∙ open0.to_is;
-      from_ends = open0.from_ends;
-      to_ends = open0.to_ends;
-      apart = open0.apart;
-      unlocked = same_locked p b c.self.invariant.sound.locked.counted sound.locked.counted keeps.by (replaced s) ∙ open0.unlocked;
-    } in
-    let tied = tied_right k None j.caches j.store valid.right in
     let e = c.move_pages.ensures in
-    let d = c.move_pages.new.caches in
-    let u = c.move_pages.new.store in
-    let z : Manager = seen d u j.contexts in
-    let from = sized_table (table_of j.caches s.from.0) out.from out.from_is in
-    let to = sized_table (table_of j.caches s.to.0) out.to out.to_is in
-    let right = e.right (slots_enough j.caches d j.store u j.contexts j.live sound e.kept.sizes e.kept.gives_back tied e.whole) in
-    λ nothing.
-    let idle = x0.idle (subst (NeedsNothing c.args.self.now.caches) (sym c.destination.ensures) nothing) in
-    let was : CopiesNothing c.args.self.now b = subst (CopiesNothing c.args.self.now) (sym v2) (copies_nothing c.args.self.now q idle.2) in
-    let gives = e.kept.gives_back None None tied in (
+    let z : Manager = seen c.move_pages.new.caches c.move_pages.new.store j.contexts in
+    let idle = c.make_ready.ensures.idle (subst (NeedsNothing c.args.self.now.caches) (sym c.destination.ensures) nothing) in
+    let was : CopiesNothing c.args.self.now (seen j.caches j.store j.contexts) = subst (CopiesNothing c.args.self.now) (sym c.self-2.view_is) (copies_nothing c.args.self.now c.make_ready.new.self idle.2) in
+    let gives = e.kept.gives_back None None (ready_span g (goal.at.returns-clause-idle g c).After-self-2).tied in (
       idle.0,
       idle.1,
-      (let x : CopiesNothing c.args.self.now z = record { copies = e.copies ∙ was.copies; held = λ f on. was.held f (gives.held f on); bytes = gives.bytes ∙ was.bytes } in x),
+      (let x : CopiesNothing c.args.self.now z = record { copies = e.pages.settles.copies ∙ was.copies; held = λ f on. was.held f (gives.held f on); bytes = gives.bytes ∙ was.bytes } in x),
       tt,
     )

@@ -1,0 +1,26 @@
+-- The arena that page nodes as runs and the rows of caches stand for.
+
+-- The tables when the node of one page is another one.
+pub mod Tables
+-- What holds of each row, after one row was changed, taken away or added.
+pub mod EachRow
+-- Each call that changes one page node, on the arena.
+pub mod Nodes
+-- A cache is made, on the arena.
+pub mod NewCache
+-- The thin page nodes are those of the arena.
+pub mod Thin
+-- How many live and working nodes there are.
+pub mod Counts
+-- What the arena tells of the rows of caches, and each call that changes a row.
+pub mod Rows
+-- Each call keeps that nodes of pages are found under numbers of pages of live caches.
+pub mod Placed
+-- Each call that makes, changes or removes a cache keeps that nodes of pages are placed.
+pub mod PlacedRows
+-- Each call of the caches: what it does to the arena that is read off, and that nodes stay placed.
+pub mod Calls
+-- How many pages are locked by the rows of caches, after each call that changes a row.
+pub mod Locked
+-- The caches as they are seen, an arena, and each call.
+pub mod Seen

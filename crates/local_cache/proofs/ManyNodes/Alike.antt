@@ -1,0 +1,22 @@
+-- Nodes of which one run says all.
+use Rattle.std.proofs.Common.{◌≡◌, ℕ, ◌+◌, ◌-◌, ◌<◌, ◌≤◌, None, Some, ap, ◌∙◌, arith}
+use Rattle.std.specs.FinMap as map
+use Rattle.stretches.specs.Stretches.{SayAs, said}
+use Rattle.stretches.specs.declared.stretch.Stretch.{Stretch}
+use Rattle.stretches.proofs.Reading.Numbers.{within}
+use Rattle.local_cache.specs.declared.runs.node_lists.NodeLists.{NodeLists}
+use Rattle.local_cache.specs.declared.runs.run.Run.{Run}
+use Rattle.local_cache.specs.NodeCells.{bare, cell_of, node_cells}
+use Rattle.local_cache.specs.Records.{each}
+use Rattle.local_cache.specs.Runs.{run, run_after}
+use Rattle.local_cache.proofs.NodeCells.{node_cell}
+
+-- what is said of a node of a run, where it has no record
+pub alike_said : (l : NodeLists) (r : Stretch Run) (n : ℕ) → r.first ≡ n → SayAs run l.runs.list r
+    → ((q : ℕ) → n ≤ q → q < n + r.count → said each l.records.list q ≡ None) → (k : ℕ) → k < r.count
+    → map.get (node_cells l) (n + k) ≡ Some (cell_of (run_after r.value k) (bare r.value.own))
+alike_said l r n begins says plain k less =
+    let far : n + k - r.first ≡ k = omega (arith, begins) in
+    let is : said run l.runs.list (n + k) ≡ Some (run_after r.value k) =
+    says (n + k) (within r (n + k) (omega (arith, begins)) (omega (arith, begins, less))) ∙ ap (λ (j : ℕ). Some (run_after r.value j)) far in
+    node_cell l (n + k) (run_after r.value k) None is (plain (n + k) (omega arith) (omega (arith, less)))

@@ -1,0 +1,28 @@
+-- What is known of some nodes and of some pages, whatever hangs on what.
+use Rattle.std.specs.Prelude.{◌≡◌, ℕ, List, Some}
+use Rattle.std.specs.List.{All}
+use Rattle.vm_ids.specs.declared.node_name.NodeName.{NodeName}
+use Rattle.vm_ids.specs.declared.node_name.NodeName.TheVariants.{Live, Working}
+use Rattle.vm_ids.specs.declared.numbers.CacheId.{CacheId}
+use Rattle.vm_ids.specs.declared.numbers.NodeId.{NodeId}
+use Rattle.vm_ids.specs.declared.numbers.PageNo.{PageNo}
+use Rattle.local_cache.specs.Arena.{Arena, HasNode, IsVacant, node_at}
+use Rattle.local_cache.specs.Reading.{IsNamed, name_of}
+
+-- the names are apart and counted, and a node that is named by a page is that of the page
+pub record IsTold (a : Arena) : Type 0 where
+  pub named : IsNamed a
+  pub pages : (cache page : ℕ) (n : NodeId) → HasNode a n
+      → name_of a n ≡ Live (record { 0 = cache }) (record { 0 = page })
+      → node_at a cache page ≡ Some n
+
+-- so it is, these nodes are there, and these pages have none
+pub record IsKnown (a : Arena) (ns : List NodeId) (ps : List (CacheId × PageNo)) : Type 0 where
+  pub told : IsTold a
+  pub nodes : All (HasNode a) ns
+  pub vacant : All (λ p. IsVacant a p.0 p.1) ps
+
+-- a page of this name has no node
+abbrev pub IsLeft : Arena → NodeName → Type 0
+IsLeft a (Live cache page) = IsVacant a cache page
+IsLeft a (Working k) = Unit {0}

@@ -1,0 +1,62 @@
+-- Many page nodes changed at once: as the calls for one change them, one after the other.
+use Rattle.std.specs.Prelude.{◌≡◌, ℕ, zero, suc, ◌+◌, ◌<◌, None, Some, false}
+use Rattle.vm_ids.specs.declared.node_name.NodeName.TheVariants.{Live}
+use Rattle.vm_ids.specs.declared.numbers.CacheId.{CacheId}
+use Rattle.vm_ids.specs.declared.numbers.NodeId.{NodeId}
+use Rattle.vm_ids.specs.declared.numbers.PageNo.{PageNo}
+use Rattle.local_cache.specs.declared.own_state.OwnState.{OwnState}
+use Rattle.local_cache.specs.declared.runs.run.Run.{Run}
+use Rattle.local_cache.specs.NodeCells.{bare, cell_of}
+use Rattle.local_cache.specs.PageNodes.{HasNode, PageNodes, cell, find, with_links, with_name, with_new, without}
+use Rattle.local_cache.specs.Runs.{run_after}
+
+-- the node so many numbers further on
+abbrev pub next_node : NodeId → ℕ → NodeId
+next_node n k = record { 0 = n.0 + k }
+
+-- so many nodes from one on are there
+abbrev pub HaveNodes : PageNodes → NodeId → ℕ → Type 0
+HaveNodes m n count = (k : ℕ) → k < count → HasNode m (next_node n k)
+
+-- none of so many nodes from one on is there
+abbrev pub HaveNone : PageNodes → NodeId → ℕ → Type 0
+HaveNone m n count = (k : ℕ) → k < count → find m (next_node n k) ≡ None
+
+-- so many nodes from one on are what a run says, each a step further on than the one before
+abbrev pub AreSaidBy : PageNodes → NodeId → Run → ℕ → Type 0
+AreSaidBy m n r count =
+    (k : ℕ) → k < count → find m (next_node n k) ≡ Some (cell_of (run_after r k) (bare r.own))
+
+-- so many nodes from one on are alike: one run says all of them
+abbrev pub AreAlike : PageNodes → NodeId → ℕ → Type 0
+AreAlike m n count = (r : Run) × AreSaidBy m n r count
+
+-- the nodes without so many, from one on
+abbrev pub without_many : PageNodes → NodeId → ℕ → PageNodes
+without_many m n zero = m
+without_many m n (suc k) = without (without_many m n k) (next_node n k)
+
+-- a new node for each of so many pages of a cache, from one page and one node on
+abbrev pub with_new_many : PageNodes → NodeId → CacheId → PageNo → OwnState → ℕ → PageNodes
+with_new_many m n cache page own zero = m
+with_new_many m n cache page own (suc k) =
+    with_new (with_new_many m n cache page own k) (next_node n k)
+    (Live cache (record { 0 = page.0 + k })) own
+
+-- so many nodes from one on as the nodes of pages of a cache, from one page on
+abbrev pub with_names : PageNodes → NodeId → CacheId → PageNo → ℕ → PageNodes
+with_names m n cache page zero = m
+with_names m n cache page (suc k) =
+    with_name (with_names m n cache page k) (next_node n k)
+    (Live cache (record { 0 = page.0 + k }))
+
+-- a node on this parent by a tree link
+abbrev pub hung : PageNodes → NodeId → NodeId → PageNodes
+hung m n parent =
+    with_links m n (record (cell m n).links { parent = Some parent; by_stub = false })
+
+-- so many nodes from one on, each on the next parent by a tree link
+abbrev pub hung_many : PageNodes → NodeId → NodeId → ℕ → PageNodes
+hung_many m n parent zero = m
+hung_many m n parent (suc k) =
+    hung (hung_many m n parent k) (next_node n k) (next_node parent k)

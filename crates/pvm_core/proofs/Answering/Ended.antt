@@ -1,0 +1,19 @@
+-- How a call with a mapper ends: the manager is sound and valid, the call is answered, and the counters rise no further than they may.
+use Rattle.std.proofs.Common.{ℕ, Option}
+use Rattle.vm_ids.specs.Counting.{MapperCounts}
+use Rattle.vm_ids.specs.Held.{Held}
+use Rattle.vm_ids.specs.declared.command.Command.{Command}
+use Rattle.local_cache.specs.Arena.{Arena}
+use Rattle.residency.specs.declared.store.Store.{Store}
+use Rattle.vm_model.specs.Answering.{Answer}
+use Rattle.vm_model.specs.Run.{CallIs}
+use Rattle.gmi_calls.specs.Calling.{RaisesMade}
+use Rattle.contexts.specs.Actors.{Actors}
+use Rattle.pvm_core.specs.Manager.{IsSound, IsValid, Manager, machine_of, numbered, state_at}
+use Rattle.pvm_core.proofs.Answering.Kept.{seen}
+
+pub record Ended (p : Manager) (b : Arena) (u : Store) (t : Actors) (live : ℕ) (h g : Option Held) (c d : MapperCounts) (command : Command) (answer : Answer) : Type 0 where
+  pub sound : IsSound b u t live
+  pub valid : IsValid (seen b u t) g
+  pub answers : CallIs c d (state_at p h) command answer (state_at (seen b u t) g)
+  pub made : RaisesMade (machine_of p h) command answer (numbered p) (numbered (seen b u t))
