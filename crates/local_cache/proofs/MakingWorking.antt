@@ -37,7 +37,7 @@ use Rattle.local_cache.specs.Runs.{run}
 use Rattle.local_cache.specs.Singles.{IsCounted}
 use Rattle.local_cache.specs.Thin.{has_few, number_if, thin_number}
 use Rattle.local_cache.specs.ThinNodes.{first_thin, thin_nodes}
-use Rattle.local_cache.proofs.Added.{added_in, added_out, index_kept, index_more, key_cases, len_added, len_runs, no_run, recorded_added}
+use Rattle.local_cache.proofs.Added.{added_in, added_out, index_kept, index_more, key_cases, len_added, no_run, recorded_added}
 use Rattle.local_cache.proofs.Making.{with_in, with_out}
 use Rattle.local_cache.proofs.ManyNodes.Cleared.{range_cases}
 use Rattle.local_cache.proofs.NodeCells.{len_cells}

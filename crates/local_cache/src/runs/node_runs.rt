@@ -18,7 +18,9 @@ use crate::runs::hanging::hang_from;
 use crate::runs::keys::{keys_of, page_number};
 use crate::runs::making::make_run;
 use crate::runs::making_working::make_working;
-use crate::runs::numbering::{FIRST_WORKING, give_name, give_page_number, give_working_number};
+use crate::runs::numbering::{
+    FIRST_WORKING, give_name, give_page_number, give_working_number, number_behind,
+};
 use crate::runs::parts::{own_of, own_of_plain, parts_of, run_of};
 use crate::runs::placing::place;
 use crate::runs::renaming::{PageName, rename_from};
@@ -430,8 +432,7 @@ impl NodeRuns {
         requires { HasNode self.now (next_node node by) }
         ensures { result ≡ next_node node by }
     {
-        let number = node.0 + by as u64;
-        NodeId(number)
+        NodeId(number_behind(&self.lists, &self.counters, node.0, by))
     }
 
     // Says something else of a node, but for its name.

@@ -46,7 +46,7 @@ fill_thin-requires-2-clause-places c =
 pub overflow_add-counters : goal.overflow_add-counters
 overflow_add-counters c =
     let r = c.requires in
-    nodes_short c.args.lists.now c.args.counters.now r.right c.args.count r.some r.room r.made
+    omega (arith, nodes_short c.args.lists.now c.args.counters.now r.right c.args.count r.some r.room r.made)
 
 pub returns-clause-right : goal.returns-clause-right
 returns-clause-right c =
