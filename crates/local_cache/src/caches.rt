@@ -525,9 +525,8 @@ impl Caches {
         self.nodes.thin()
     }
 
-    /// How many nodes from this one on are alike, each a step further on than the one before, and can be changed at once:
-    /// with each call for many nodes in the time that it takes for one. It is 0 where something is kept of this node that
-    /// can't be said of many, as a frame, a slot or stubs.
+    /// How many nodes from this one on are alike, each a step further on than the one before. It is 0 where something is
+    /// kept of this node that can't be said of many, as a frame, a slot or stubs.
     pub fn stretch(&self, node: NodeId) -> u32
         requires { HasNode self.now node }
         ensures alike { AreAlike self.now node result }

@@ -34,7 +34,7 @@ use vm_ids::{CacheId, NoMemory, NodeId, NodeName, PageNo};
 ///
 /// Its model is `PageNodes` of `specs`: a map from the numbers of nodes to cells, the node of each
 /// page, how many working names were given, and how many more nodes fit before memory is taken.
-/// Each call but the making of pages changes one cell.
+/// Each call changes one cell, but for the making of pages and the calls for many nodes.
 #[derive(Drop)]
 pub(crate) struct NodeRuns {
     lists: NodeLists,
