@@ -13,12 +13,14 @@
 mod children;
 mod cutting;
 mod detaching;
+mod laws;
 mod released;
 mod retiring;
 mod settling;
 mod tree_lists;
 
 pub use detaching::{detach, retire};
+pub use laws::{copying_first, copying_more};
 pub use released::Released;
 pub use settling::settle_step;
 
