@@ -12,6 +12,7 @@ use Rattle.local_cache.specs.ManyNodes.{next_node}
 use Rattle.local_cache.specs.Own.{own_of}
 use Rattle.local_cache.specs.Reading.{forest_of, name_of}
 use Rattle.local_cache.specs.Sound.{IsSound}
+use Rattle.local_cache.specs.Whole.{SameCaches}
 
 -- a node has neither parent nor children
 pub record IsLone (c : Cell) : Type 0 where
@@ -38,9 +39,15 @@ AreNamed a n cache page count =
 abbrev pub AreFree : Arena → NodeId → ℕ → Type 0
 AreFree a n count = (k : ℕ) → k < count → find a (next_node n k) ≡ None
 
--- So many pages, from to_page of one cache on, may become copies of as many of another cache: their
--- nodes, from d on, have neither parents nor children, and none of them is that of a source, which
--- are s and the next ones. The numbers from new on are free.
+-- the arena in which each page has a fresh node, from new on, in place of that from d on
+abbrev pub renewed : Arena → (d new : NodeId) → CacheId → PageNo → ℕ → Arena
+renewed a d new to to_page count =
+    with_new_many (without_many a d count) new to to_page Absent count
+
+-- So many pages, from to_page of one cache on, may become copies of as many of another cache.
+--     lone   their nodes, from d on, have neither parents nor children
+--     apart  none of them is that of a source, which are those from s on
+--     fresh, free   once these nodes are gone, those from new on may come, under other numbers
 pub record CanCopyMany (a : Arena) (d s new : NodeId) (to : CacheId) (to_page : PageNo)
     (from : CacheId) (from_page : PageNo) (count : ℕ) : Type 0 where
   pub sound : IsSound a
@@ -48,29 +55,26 @@ pub record CanCopyMany (a : Arena) (d s new : NodeId) (to : CacheId) (to_page : 
   pub lone : (k : ℕ) → k < count → IsLone (cell a (next_node d k))
   pub sources : AreNamed a s from from_page count
   pub apart : AreApart d s count
-  pub free : AreFree a new count
+  pub fresh : AreApart d new count
+  pub free : AreFree (without_many a d count) new count
 
--- and no source has a tree child
+-- And no source has a tree child.
 pub record CanCopyFirst (a : Arena) (d s new : NodeId) (to : CacheId) (to_page : PageNo)
     (from : CacheId) (from_page : PageNo) (count : ℕ) : Type 0 where
   pub can : CanCopyMany a d s new to to_page from from_page count
   pub trees : (k : ℕ) → k < count → (cell a (next_node s k)).tree ≡ []
 
--- and each source has one tree child, which is h or a next one and no source itself. The numbers
--- from w on are free too, and there is room for a working node for each page.
+-- And each source has one tree child.
+--     histories     it is h or a next one, and no source itself
+--     fresh, free   then working nodes may come, from w on, for which there is room
 pub record CanCopyMore (a : Arena) (d s h new w : NodeId) (to : CacheId) (to_page : PageNo)
     (from : CacheId) (from_page : PageNo) (count : ℕ) : Type 0 where
   pub can : CanCopyMany a d s new to to_page from from_page count
   pub trees : (k : ℕ) → k < count → (cell a (next_node s k)).tree ≡ next_node h k ∷ []
   pub histories : AreApart h s count
-  pub working : AreFree a w count
-  pub fresh : AreApart new w count
+  pub fresh : AreApart d w count
+  pub free : AreFree (renewed a d new to to_page count) w count
   pub room : count ≤ a.room.nodes
-
--- the arena in which each page has a fresh node, from new on, in place of that from d on
-abbrev pub renewed : Arena → NodeId → NodeId → CacheId → PageNo → ℕ → Arena
-renewed a d new to to_page count =
-    with_new_many (without_many a d count) new to to_page Absent count
 
 -- and each fresh node is the only tree child of its source
 abbrev pub copied_first : Arena → (d s new : NodeId) → CacheId → PageNo → ℕ → Arena
@@ -97,15 +101,22 @@ pub record IsLeft (a b : Arena) (n : NodeId) : Type 0 where
   pub name : name_of b n ≡ name_of a n
   pub own : own_of b n ≡ own_of a n
 
+-- a node is there, without an own page
+pub record IsBare (a : Arena) (n : NodeId) : Type 0 where
+  pub held : HasNode a n
+  pub own : own_of a n ≡ Absent
+
 -- The pages are copied, one after the other, by tree links. The nodes from d on are gone, those
--- from new and w on have no own pages, and all others have theirs.
+-- from new and w on are there without own pages, and all others are as they were but for links.
 pub record AreCopied (a b : Arena) (d new w : NodeId) (to : CacheId) (to_page : PageNo)
     (from : CacheId) (from_page : PageNo) (count : ℕ) : Type 0 where
   pub forest : forest_of b
       ≡ copy_pages false (page_pairs from from_page.0 to to_page.0 count) (forest_of a)
   pub sound : IsSound b
   pub gone : (k : ℕ) → k < count → find b (next_node d k) ≡ None
-  pub fresh : (k : ℕ) → k < count → own_of b (next_node new k) ≡ Absent
-  pub working : (k : ℕ) → k < count → own_of b (next_node w k) ≡ Absent
+  pub fresh : (k : ℕ) → k < count → IsBare b (next_node new k)
+  pub working : (k : ℕ) → k < count → IsBare b (next_node w k)
   pub left : (n : NodeId) → IsBeside n d count → IsBeside n new count → IsBeside n w count
       → IsLeft a b n
+  pub sizes : SameCaches a b
+  pub room : a.room.nodes ≤ b.room.nodes + count

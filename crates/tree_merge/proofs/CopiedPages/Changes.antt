@@ -1,6 +1,6 @@
 -- Changes of nodes of different numbers may be made in either order.
-use Rattle.std.proofs.Common.{◌≡◌, ◌≢◌, ℕ, zero, suc, ◌+◌, ◌-◌, ◌≤◌, Bool, true, false, eqb, cond, set, get_or, slice_get, List, Option, Some, None, option_map, unwrap_or, refl, sym, ap, ◌∙◌, inl, inr, arith}
-use Rattle.std.proofs.lemmas.Bool.{cases_eq, eqb-true, ne_eqb, eq-eqb}
+use Rattle.std.proofs.Common.{◌≡◌, ◌≢◌, ℕ, zero, suc, ◌+◌, ◌-◌, ◌≤◌, Bool, true, false, eqb, cond, set, get_or, List, Option, Some, None, option_map, unwrap_or, refl, sym, ap, ◌∙◌, arith}
+use Rattle.std.proofs.lemmas.Bool.{eqb-true, ne_eqb, eq-eqb}
 use Rattle.std.proofs.lemmas.List.{set-set, set_comm}
 use Rattle.std.specs.Ordering.{nat_cmp}
 use Rattle.std.specs.FinMap.{FinMap}
@@ -12,8 +12,7 @@ use Rattle.vm_ids.specs.declared.numbers.NodeId.{NodeId}
 use Rattle.vm_ids.specs.declared.numbers.PageNo.{PageNo}
 use Rattle.local_cache.specs.declared.own_state.OwnState.{OwnState}
 use Rattle.local_cache.specs.declared.own_state.OwnState.TheVariants.{Absent}
-use Rattle.local_cache.specs.declared.page_entry.PageEntry.{PageEntry}
-use Rattle.local_cache.specs.Arena.{Arena, Cell, Room, Table, blank, cache_with, cell, find, new_cell, put, table_with, tables_with, with_new, with_working, without}
+use Rattle.local_cache.specs.Arena.{Arena, Cell, Table, blank, cache_with, cell, find, new_cell, put, table_with, tables_with, with_new, with_working, without}
 use Rattle.local_cache.proofs.Singles.{get_inserted, get_removed, same_maps}
 use Rattle.local_cache.proofs.Tables.Listing.{read_set}
 use Rattle.local_cache.proofs.Nodes.Cells.{cell-put_other}
@@ -80,6 +79,10 @@ cell_by x y n e = cell_of y n ∙ ap (λ (o : Option Cell). unwrap_or o blank) e
 pub find-new_other : (x : Arena) (n m : NodeId) (name : NodeName) (s : OwnState) → m ≢ n → find (with_new x n name s) m ≡ find x m
 unfolding with_new
 find-new_other x n m name s ne = get_inserted x.cells n.0 (new_cell name s) m.0 ∙ ap (λ (t : Bool). cond t (Some (new_cell name s)) (map.get x.cells m.0)) (ne_eqb m.0 n.0 (differ m n ne))
+
+pub find-new : (x : Arena) (n : NodeId) (name : NodeName) (s : OwnState) → find (with_new x n name s) n ≡ Some (new_cell name s)
+unfolding with_new
+find-new x n name s = get_inserted x.cells n.0 (new_cell name s) n.0 ∙ ap (λ (t : Bool). cond t (Some (new_cell name s)) (map.get x.cells n.0)) (eq-eqb n.0 n.0 refl)
 
 pub find-working_other : (x : Arena) (n m : NodeId) → m ≢ n → find (with_working x n) m ≡ find x m
 find-working_other x n m ne = find-new_other x n m (Working (x.made + 1)) Absent ne

@@ -1,5 +1,5 @@
 -- One page is copied to a node that is new.
-use Rattle.std.proofs.Common.{◌≡◌, ◌≢◌, ◌+◌, ◌-◌, ◌≤◌, [], ◌∷◌, length, true, false, Some, None, is_some, refl, sym, ap, ◌∙◌, subst, arith, inl, inr}
+use Rattle.std.proofs.Common.{◌≡◌, ◌≢◌, ◌+◌, ◌-◌, ◌≤◌, [], ◌∷◌, length, true, false, Some, None, is_some, refl, sym, ap, ◌∙◌, subst, arith, inl}
 use Rattle.std.proofs.lemmas.Bool.{false≢true}
 use Rattle.vm_ids.specs.declared.node_name.NodeName.{NodeName}
 use Rattle.vm_ids.specs.declared.node_name.NodeName.TheVariants.{Live, Working}
@@ -13,19 +13,21 @@ use Rattle.vm_ids.specs.Forest.Rules.{copy_page, detach, link, retire}
 use Rattle.vm_ids.proofs.Forest.NodesAfter.{node-put}
 use Rattle.local_cache.specs.declared.own_state.OwnState.{OwnState}
 use Rattle.local_cache.specs.declared.own_state.OwnState.TheVariants.{Absent}
-use Rattle.local_cache.specs.Arena.{Arena, HasNode, IsVacant, cell, find, hung, node_at, with_new, with_tree, with_working, without}
+use Rattle.local_cache.specs.Arena.{Arena, HasNode, IsVacant, cell, find, hung, node_at, tables_with, with_new, with_tree, with_working, without}
 use Rattle.local_cache.specs.Changes.{Rehung}
 use Rattle.local_cache.specs.Own.{own_of}
 use Rattle.local_cache.specs.Reading.{forest_of, name_of}
 use Rattle.local_cache.specs.Sound.{IsSound, ◌∈◌}
+use Rattle.local_cache.specs.Whole.{SameCaches}
 use Rattle.local_cache.proofs.Changes.SameNodes.{rehung-links, rehung-tree, rehung_itself, rehung_then}
 use Rattle.local_cache.proofs.Nodes.Cells.{find-put_other}
 use Rattle.local_cache.proofs.NewNode.FreshNode.{cell-new, page-forest}
 use Rattle.local_cache.proofs.NewNode.States.{fresh_found, fresh_name, fresh_own}
+use Rattle.local_cache.proofs.Tables.Sizes.{sizes_by, sizes_same, sizes_then}
 use Rattle.history_tree.specs.Hanging.{set_one, set_two}
-use Rattle.history_tree.proofs.Hang.{CanLink, Linked, links-first, links-more}
+use Rattle.history_tree.proofs.Hang.{CanLink, links-first, links-more}
 use Rattle.tree_merge.specs.declared.released.Released.TheVariants.{Dropped}
-use Rattle.tree_merge.specs.Copying.{IsLeft, IsLone}
+use Rattle.tree_merge.specs.Copying.{IsBare, IsLeft, IsLone}
 use Rattle.tree_merge.specs.Releasing.{IsRetired}
 use Rattle.tree_merge.proofs.ChildLists.Names.{counted}
 use Rattle.tree_merge.proofs.CopiedPages.Changes.{cell_by, find-new_other, find-without, find-without_other, find-working_other}
@@ -35,16 +37,17 @@ use Rattle.tree_merge.proofs.Leaving.Retired.{retire_none, retired_leaf}
 use Rattle.tree_merge.proofs.Place.Cut.{no_parent-Step}
 
 -- What a copy of one page does: it is the rule, the old node d is gone, the fresh node new and the working node w have
--- no own pages, and other nodes stay. Nothing is changed at those that are none of these, nor the source s or its tree
+-- no own pages, and other nodes stay, as do the sizes of the caches. Nothing is changed at those that are none of these, nor the source s or its tree
 -- child h.
 pub record PageCopied (a b : Arena) (d s h new w : NodeId) (to from : NodeName) : Type 0 where
   pub forest : forest_of b ≡ copy_page false (forest_of a) to from
   pub sound : IsSound b
   pub gone : find b d ≡ None
-  pub fresh : own_of b new ≡ Absent
-  pub working : own_of b w ≡ Absent
+  pub fresh : IsBare b new
+  pub working : IsBare b w
   pub left : (n : NodeId) → n ≢ d → n ≢ new → n ≢ w → IsLeft a b n
   pub same : (n : NodeId) → n ≢ d → n ≢ new → n ≢ w → n ≢ s → n ≢ h → find b n ≡ find a n
+  pub sizes : SameCaches a b
   pub room : a.room.nodes ≤ b.room.nodes + 1
 
 -- a node that is there is none that isn't
@@ -61,6 +64,14 @@ left_then a b c n f g = record { held = g.held ∙ f.held; name = g.name ∙ f.n
 
 left_rehung : (a b : Arena) → Rehung a b → (n : NodeId) → IsLeft a b n
 left_rehung a b r n = record { held = r.like.held n; name = r.like.name n; own = r.own n }
+
+tables_new : (x : Arena) (n : NodeId) (name : NodeName) (s : OwnState) → (with_new x n name s).caches ≡ tables_with x.caches name (Some n)
+unfolding with_new
+tables_new x n name s = refl
+
+tables_working : (x : Arena) (n : NodeId) → (with_working x n).caches ≡ x.caches
+unfolding with_new
+tables_working x n = refl
 
 room_working : (x : Arena) (n : NodeId) → (with_working x n).room.nodes ≡ x.room.nodes - 1
 unfolding with_new
@@ -151,6 +162,11 @@ module _ (a : Arena) (sound : IsSound a) (d : NodeId) (hd : HasNode a d) (lone :
     unfolding with_new without
     room_new = omega arith
 
+    sizes_new : SameCaches a b
+    sizes_new = sizes_then a (without a d) b
+        (sizes_by a (without a d) (name_of a d) None went.gone.caches)
+        (sizes_by (without a d) b (Live cache page) (Some new) (tables_new (without a d) new (Live cache page) Absent))
+
     -- The copy is linked to a live source ------------------------------------------------------------
     module _ (s : NodeId) (hs : HasNode a s) (live : is_live (name_of a s) ≡ true) (s_d : s ≢ d) where
       s_new : s ≢ new
@@ -173,16 +189,17 @@ module _ (a : Arena) (sound : IsSound a) (d : NodeId) (hd : HasNode a d) (lone :
       page_first none =
           let linked = links-first b new s can (ap (λ c. c.tree) (cell_by a b s (find_new s s_d s_new)) ∙ none) in
           let r = rehung_one b s new held_s held_new in
-          let absent : own_of (set_one b s new) new ≡ Absent = r.own new ∙ fresh_own (without a d) new free_then (Live cache page) Absent in
+          let bare_new : IsBare (set_one b s new) new = record { held = r.like.held new ∙ held_new; own = r.own new ∙ fresh_own (without a d) new free_then (Live cache page) Absent } in
           let roomy : (set_one b s new).room.nodes ≡ a.room.nodes = ap (λ k. k.nodes) r.room ∙ room_new in
           record {
             forest = linked.forest ∙ rule;
             sound = linked.sound;
             gone = find_one b s new d (λ e. s_d (sym e)) d_new ∙ gone_new;
-            fresh = absent;
-            working = absent;
+            fresh = bare_new;
+            working = bare_new;
             left = λ n n_d n_new n_w. left_then a b (set_one b s new) n (left_by_find a b n (find_new n n_d n_new)) (left_rehung b (set_one b s new) r n);
             same = λ n n_d n_new n_w n_s n_h. find_one b s new n n_s n_new ∙ find_new n n_d n_new;
+            sizes = sizes_then a b (set_one b s new) sizes_new (sizes_same b (set_one b s new) r.like.caches);
             room = omega arith;
           }
 
@@ -212,10 +229,14 @@ module _ (a : Arena) (sound : IsSound a) (d : NodeId) (hd : HasNode a d) (lone :
             forest = linked.forest ∙ rule;
             sound = linked.sound;
             gone = find_two b2 w h new d d_w (λ e. h_d (sym e)) d_new ∙ find_one b1 s w d (λ e. s_d (sym e)) d_w ∙ old d d_w ∙ gone_new;
-            fresh = r.own new ∙ ap (λ k. k.own) (cell_by b b1 new (old new new_w)) ∙ fresh_own (without a d) new free_then (Live cache page) Absent;
-            working = r.own w ∙ ap (λ k. k.own) (cell-new b w free_b);
+            fresh = record {
+              held = r.like.held new ∙ still new held_new;
+              own = r.own new ∙ ap (λ k. k.own) (cell_by b b1 new (old new new_w)) ∙ fresh_own (without a d) new free_then (Live cache page) Absent;
+            };
+            working = record { held = r.like.held w ∙ held_w; own = r.own w ∙ ap (λ k. k.own) (cell-new b w free_b) };
             left = λ n n_d n_new n_w.
                 left_then a b c n (left_by_find a b n (find_new n n_d n_new)) (left_then b b1 c n (left_by_find b b1 n (old n n_w)) (left_rehung b1 c r n));
             same = λ n n_d n_new n_w n_s n_h. find_two b2 w h new n n_w n_h n_new ∙ find_one b1 s w n n_s n_w ∙ old n n_w ∙ find_new n n_d n_new;
+            sizes = sizes_then a b c sizes_new (sizes_same b c (r.like.caches ∙ tables_working b w));
             room = omega (arith, made, room_new);
           }

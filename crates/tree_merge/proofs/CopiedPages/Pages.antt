@@ -1,7 +1,6 @@
 -- One page is copied after the other.
-use Rattle.std.proofs.Common.{◌≡◌, ◌≢◌, ℕ, zero, suc, ◌+◌, ◌<◌, ◌≤◌, List, [], ◌∷◌, map, true, false, Some, None, is_some, refl, sym, ap, ◌∙◌, subst, arith, inl, inr}
+use Rattle.std.proofs.Common.{◌≡◌, ◌≢◌, ℕ, zero, suc, ◌+◌, ◌<◌, ◌≤◌, List, [], ◌∷◌, map, true, false, None, is_some, refl, sym, ap, ◌∙◌, subst, arith, inl, inr}
 use Rattle.std.proofs.lemmas.Bool.{cases_eq}
-use Rattle.vm_ids.specs.declared.node_name.NodeName.{NodeName}
 use Rattle.vm_ids.specs.declared.node_name.NodeName.TheVariants.{Live}
 use Rattle.vm_ids.specs.declared.numbers.CacheId.{CacheId}
 use Rattle.vm_ids.specs.declared.numbers.NodeId.{NodeId}
@@ -11,18 +10,16 @@ use Rattle.vm_ids.specs.Forest.NameLists as names
 use Rattle.vm_ids.specs.Forest.Nodes.{Forest, is_live, node}
 use Rattle.vm_ids.specs.Forest.Nodes.Hang.{Root, TreeOf}
 use Rattle.vm_ids.specs.Forest.Rules.{copy_page}
-use Rattle.local_cache.specs.declared.own_state.OwnState.{OwnState}
-use Rattle.local_cache.specs.declared.own_state.OwnState.TheVariants.{Absent}
 use Rattle.local_cache.specs.Arena.{Arena, Cell, HasNode, cell, find}
 use Rattle.local_cache.specs.ManyNodes.{next_node}
-use Rattle.local_cache.specs.Own.{own_of}
 use Rattle.local_cache.specs.Reading.{forest_of, hang_by, name_of}
 use Rattle.local_cache.specs.Sound.{IsSound, ◌∈◌}
 use Rattle.local_cache.proofs.Forest.Reading.{node-forest_of}
-use Rattle.tree_merge.specs.Copying.{AreApart, AreCopied, CanCopyFirst, CanCopyMany, CanCopyMore, IsBeside, IsLeft, IsLone, copied_first, copied_more}
+use Rattle.local_cache.proofs.Tables.Sizes.{sizes_same, sizes_then}
+use Rattle.tree_merge.specs.Copying.{AreApart, AreCopied, AreFree, CanCopyFirst, CanCopyMany, CanCopyMore, IsBare, IsBeside, IsLone, copied_first, copied_more}
 use Rattle.tree_merge.proofs.CopiedPages.Changes.{cell_by}
 use Rattle.tree_merge.proofs.CopiedPages.OnePage.{PageCopied, left_by_find, left_then, not_free, page_first, page_more}
-use Rattle.tree_merge.proofs.CopiedPages.Stretches.{RowsApart, copy_first, copy_more, each, each_first, each_more}
+use Rattle.tree_merge.proofs.CopiedPages.Stretches.{RowsApart, apart_from_new, copy_first, copy_more, each, each_first, each_more, free_before, free_then}
 
 -- Pairs of pages -------------------------------------------------------------------------------------
 
@@ -104,7 +101,6 @@ module _ (a : Arena) (d s h new w : NodeId) (to from : CacheId) (to_page from_pa
   pub record SoFar (b : Arena) (k : ℕ) : Type 0 where
     pub copied : AreCopied a b d new w to to_page from from_page k
     pub same : (n : NodeId) → ((m : NodeId) → m ∈ (d ∷ new ∷ w ∷ s ∷ h ∷ []) → IsBeside n m k) → find b n ≡ find a n
-    pub room : a.room.nodes ≤ b.room.nodes + k
 
   -- the nodes of a page that comes later
   later_clear : (n : NodeId) → n ∈ rows → (k : ℕ) → k < count → IsClear (next_node n k) k
@@ -122,9 +118,10 @@ module _ (a : Arena) (d s h new w : NodeId) (to from : CacheId) (to_page from_pa
       fresh = λ k less. absurd (omega arith);
       working = λ k less. absurd (omega arith);
       left = λ n n_d n_new n_w. left_by_find a a n refl;
+      sizes = sizes_same a a refl;
+      room = omega arith;
     };
     same = λ n clear. refl;
-    room = omega arith;
   }
 
   module _ (b c : Arena) (k : ℕ) (below : k < count) (so_far : SoFar b k) (named : name_of b (next_node s k) ≡ Live from (record { 0 = from_page.0 + k }))
@@ -141,19 +138,21 @@ module _ (a : Arena) (d s h new w : NodeId) (to from : CacheId) (to_page from_pa
           ∙ so_far.copied.gone j (omega arith)
     ]
 
-    own_other : (n : NodeId) → n ∈ rows → (j : ℕ) → j < suc k → j ≢ k → own_of c (next_node n j) ≡ own_of b (next_node n j)
-    own_other n is j less ne = (page.left (next_node n j) (other n d is d_in j less ne) (other n new is new_in j less ne) (other n w is w_in j less ne)).own
+    bare_other : (n : NodeId) → n ∈ rows → (j : ℕ) → j < suc k → j ≢ k → IsBare b (next_node n j) → IsBare c (next_node n j)
+    bare_other n is j less ne bare =
+        let left = page.left (next_node n j) (other n d is d_in j less ne) (other n new is new_in j less ne) (other n w is w_in j less ne) in
+        record { held = left.held ∙ bare.held; own = left.own ∙ bare.own }
 
-    fresh_more : (j : ℕ) → j < suc k → own_of c (next_node new j) ≡ Absent
+    fresh_more : (j : ℕ) → j < suc k → IsBare c (next_node new j)
     fresh_more j less = elim (cases_eq j k) [
-      | inl e ↦ ap (λ i. own_of c (next_node new i)) e ∙ page.fresh
-      | inr ne ↦ own_other new new_in j less ne ∙ so_far.copied.fresh j (omega arith)
+      | inl e ↦ subst (λ i. IsBare c (next_node new i)) (sym e) page.fresh
+      | inr ne ↦ bare_other new new_in j less ne (so_far.copied.fresh j (omega arith))
     ]
 
-    working_more : (j : ℕ) → j < suc k → own_of c (next_node w j) ≡ Absent
+    working_more : (j : ℕ) → j < suc k → IsBare c (next_node w j)
     working_more j less = elim (cases_eq j k) [
-      | inl e ↦ ap (λ i. own_of c (next_node w i)) e ∙ page.working
-      | inr ne ↦ own_other w w_in j less ne ∙ so_far.copied.working j (omega arith)
+      | inl e ↦ subst (λ i. IsBare c (next_node w i)) (sym e) page.working
+      | inr ne ↦ bare_other w w_in j less ne (so_far.copied.working j (omega arith))
     ]
 
     one_more : SoFar c (suc k)
@@ -169,11 +168,12 @@ module _ (a : Arena) (d s h new w : NodeId) (to from : CacheId) (to_page from_pa
         left = λ n n_d n_new n_w.
             left_then a b c n (so_far.copied.left n (λ j less. n_d j (omega arith)) (λ j less. n_new j (omega arith)) (λ j less. n_w j (omega arith)))
             (page.left n (n_d k (omega arith)) (n_new k (omega arith)) (n_w k (omega arith)));
+        sizes = sizes_then a b c so_far.copied.sizes page.sizes;
+        room = omega (arith, page.room, so_far.copied.room);
       };
       same = λ n clear.
           page.same n (clear d d_in k (omega arith)) (clear new new_in k (omega arith)) (clear w w_in k (omega arith)) (clear s s_in k (omega arith)) (clear h h_in k (omega arith))
           ∙ so_far.same n (λ m has j less. clear m has j (omega arith));
-      room = omega (arith, page.room, so_far.room);
     }
 
   -- a step that copies the next page, wherever its nodes are as they were
@@ -195,11 +195,11 @@ module _ (a : Arena) (d s new : NodeId) (to : CacheId) (to_page : PageNo) (from 
   pub named : (k : ℕ) → k < count → (cell a (next_node d k)).name ≡ Live to (record { 0 = to_page.0 + k })
   named k less = (can.destinations k less).1
 
-  pub d_new : AreApart d new count
-  d_new i low j high = not_free a (next_node d i) (next_node new j) (can.destinations i low).0 (can.free j high)
+  pub free_new : AreFree a new count
+  free_new = free_before d new to to_page count can.fresh a new can.fresh can.free
 
   pub new_s : AreApart new s count
-  new_s i low j high e = not_free a (next_node s j) (next_node new i) (can.sources j high).0 (can.free i low) (sym e)
+  new_s i low j high e = not_free a (next_node s j) (next_node new i) (can.sources j high).0 (free_new i low) (sym e)
 
   module _ (b : Arena) (k : ℕ) (less : k < count) (same_d : find b (next_node d k) ≡ find a (next_node d k)) (same_s : find b (next_node s k) ≡ find a (next_node s k)) (same_new : find b (next_node new k) ≡ find a (next_node new k)) where
     pub held_d : HasNode b (next_node d k)
@@ -211,8 +211,8 @@ module _ (a : Arena) (d s new : NodeId) (to : CacheId) (to_page : PageNo) (from 
     pub named_d : name_of b (next_node d k) ≡ Live to (record { 0 = to_page.0 + k })
     named_d = ap (λ (c : Cell). c.name) (cell_by a b (next_node d k) same_d) ∙ (can.destinations k less).1
 
-    pub free_new : find b (next_node new k) ≡ None
-    free_new = same_new ∙ can.free k less
+    pub free_next : find b (next_node new k) ≡ None
+    free_next = same_new ∙ free_new k less
 
     pub held_s : HasNode b (next_node s k)
     held_s = ap is_some same_s ∙ (can.sources k less).0
@@ -232,18 +232,12 @@ module _ (a : Arena) (d s new : NodeId) (to : CacheId) (to_page : PageNo) (from 
 -- Sources without tree children ------------------------------------------------------------------------
 
 module _ (a : Arena) (d s new : NodeId) (to : CacheId) (to_page : PageNo) (from : CacheId) (from_page : PageNo) (count : ℕ) (first : CanCopyFirst a d s new to to_page from from_page count) where
-  abbrev can : CanCopyMany a d s new to to_page from from_page count
-  can = first.can
-
-  first_d_new : AreApart d new count
-  first_d_new = d_new a d s new to to_page from from_page count first.can
-
   first_new_s : AreApart new s count
   first_new_s = new_s a d s new to to_page from from_page count first.can
 
   first_pass : AllPass (d ∷ new ∷ new ∷ s ∷ s ∷ []) count
   first_pass =
-      let d_n : Pass d new count = pass_apart d new count first_d_new in
+      let d_n : Pass d new count = pass_apart d new count first.can.fresh in
       let d_s : Pass d s count = pass_apart d s count first.can.apart in
       let n_s : Pass new s count = pass_apart new s count first_new_s in
       ((d_n, (d_n, (d_s, (d_s, tt)))), ((pass_itself new count, (n_s, (n_s, tt))), ((n_s, (n_s, tt)), ((pass_itself s count, tt), (tt, tt)))))
@@ -258,7 +252,7 @@ module _ (a : Arena) (d s new : NodeId) (to : CacheId) (to_page : PageNo) (from 
       (named_s a d s new to to_page from from_page count first.can b k less sd ss sn,
         page_first b so_far.copied.sound (next_node d k) (held_d a d s new to to_page from from_page count first.can b k less sd ss sn) (lone_d a d s new to to_page from from_page count first.can b k less sd ss sn)
         to (record { 0 = to_page.0 + k }) (named_d a d s new to to_page from from_page count first.can b k less sd ss sn)
-        (next_node new k) (free_new a d s new to to_page from from_page count first.can b k less sd ss sn)
+        (next_node new k) (free_next a d s new to to_page from from_page count first.can b k less sd ss sn)
         (next_node s k) (held_s a d s new to to_page from from_page count first.can b k less sd ss sn) (live_s a d s new to to_page from from_page count first.can b k less sd ss sn)
         (s_not_d a d s new to to_page from from_page count first.can b k less sd ss sn)
         (tree_s a d s new to to_page from from_page count first.can b k less sd ss sn ∙ first.trees k less))
@@ -266,7 +260,7 @@ module _ (a : Arena) (d s new : NodeId) (to : CacheId) (to_page : PageNo) (from 
   pub first_copied : AreCopied a (copied_first a d s new to to_page count) d new new to to_page from from_page count
   first_copied =
       subst (λ b. AreCopied a b d new new to to_page from from_page count)
-      (each_first d new to to_page count s a (named a d s new to to_page from from_page count first.can) first_d_new first.can.apart first_new_s)
+      (each_first d new to to_page count s a (named a d s new to to_page from from_page count first.can) first.can.fresh first.can.apart first_new_s)
       (all_pages a d s s new new to from to_page from_page count first_pass first.can.sound (copy_first d new to to_page s) first_step count (omega arith)).copied
 
 -- Sources with one tree child --------------------------------------------------------------------------
@@ -274,6 +268,9 @@ module _ (a : Arena) (d s new : NodeId) (to : CacheId) (to_page : PageNo) (from 
 module _ (a : Arena) (d s h new w : NodeId) (to : CacheId) (to_page : PageNo) (from : CacheId) (from_page : PageNo) (count : ℕ) (more : CanCopyMore a d s h new w to to_page from from_page count) where
   history_held : (k : ℕ) → k < count → HasNode a (next_node h k)
   history_held k less = more.can.sound.kept.children (next_node s k) (next_node h k) (more.can.sources k less).0 (subst (λ ts. next_node h k ∈ ts) (sym (more.trees k less)) (inl refl))
+
+  free_w : AreFree a w count
+  free_w = free_before d new to to_page count more.can.fresh a w more.fresh (free_then d new to to_page count more.can.fresh a w more.free)
 
   -- a history hangs on its source, and a destination on nothing
   hangs : (k : ℕ) → k < count → (node (forest_of a) (name_of a (next_node h k))).hang ≡ TreeOf (name_of a (next_node s k))
@@ -294,16 +291,16 @@ module _ (a : Arena) (d s h new w : NodeId) (to : CacheId) (to_page : PageNo) (f
 
   rows_apart : RowsApart d new to to_page s h w count
   rows_apart = record {
-    d_new = d_new a d s new to to_page from from_page count more.can;
+    d_new = more.can.fresh;
     d_s = more.can.apart;
     d_h = d_h;
-    d_w = λ i low j high. not_free a (next_node d i) (next_node w j) (more.can.destinations i low).0 (more.working j high);
+    d_w = more.fresh;
     new_s = new_s a d s new to to_page from from_page count more.can;
-    new_h = λ i low j high e. not_free a (next_node h j) (next_node new i) (history_held j high) (more.can.free i low) (sym e);
-    new_w = more.fresh;
+    new_h = λ i low j high e. not_free a (next_node h j) (next_node new i) (history_held j high) (free_new a d s new to to_page from from_page count more.can i low) (sym e);
+    new_w = apart_from_new d new to to_page count more.can.fresh a w more.free;
     s_h = λ i low j high e. more.histories j high i low (sym e);
-    s_w = λ i low j high. not_free a (next_node s i) (next_node w j) (more.can.sources i low).0 (more.working j high);
-    h_w = λ i low j high. not_free a (next_node h i) (next_node w j) (history_held i low) (more.working j high);
+    s_w = λ i low j high. not_free a (next_node s i) (next_node w j) (more.can.sources i low).0 (free_w j high);
+    h_w = λ i low j high. not_free a (next_node h i) (next_node w j) (history_held i low) (free_w j high);
   }
 
   more_pass : AllPass (d ∷ new ∷ w ∷ s ∷ h ∷ []) count
@@ -324,12 +321,12 @@ module _ (a : Arena) (d s h new w : NodeId) (to : CacheId) (to_page : PageNo) (f
       (named_s a d s new to to_page from from_page count more.can b k less sd ss sn,
         page_more b so_far.copied.sound (next_node d k) (held_d a d s new to to_page from from_page count more.can b k less sd ss sn) (lone_d a d s new to to_page from from_page count more.can b k less sd ss sn)
         to (record { 0 = to_page.0 + k }) (named_d a d s new to to_page from from_page count more.can b k less sd ss sn)
-        (next_node new k) (free_new a d s new to to_page from from_page count more.can b k less sd ss sn)
+        (next_node new k) (free_next a d s new to to_page from from_page count more.can b k less sd ss sn)
         (next_node s k) (held_s a d s new to to_page from from_page count more.can b k less sd ss sn) (live_s a d s new to to_page from from_page count more.can b k less sd ss sn)
         (s_not_d a d s new to to_page from from_page count more.can b k less sd ss sn)
         (next_node h k) (next_node w k) (tree_s a d s new to to_page from from_page count more.can b k less sd ss sn ∙ more.trees k less)
-        (λ e. rows_apart.d_h k less k less (sym e)) (sw ∙ more.working k less) (λ e. rows_apart.new_w k less k less (sym e))
-        (omega (arith, so_far.room, more.room)))
+        (λ e. rows_apart.d_h k less k less (sym e)) (sw ∙ free_w k less) (λ e. rows_apart.new_w k less k less (sym e))
+        (omega (arith, so_far.copied.room, more.room)))
 
   pub more_copied : AreCopied a (copied_more a d s h new w to to_page count) d new w to to_page from from_page count
   more_copied =

@@ -1,5 +1,6 @@
 -- Changes page by page are changes of all pages, one kind after the other.
-use Rattle.std.proofs.Common.{◌≡◌, ◌≢◌, ℕ, zero, suc, ◌+◌, ◌-◌, ◌<◌, ◌≤◌, [], ◌∷◌, false, Some, refl, sym, ap, ◌∙◌, arith}
+use Rattle.std.proofs.Common.{◌≡◌, ◌≢◌, ℕ, zero, suc, ◌+◌, ◌-◌, ◌<◌, ◌≤◌, [], ◌∷◌, false, Some, is_some, refl, sym, ap, ◌∙◌, subst, arith, inl, inr}
+use Rattle.std.proofs.lemmas.Bool.{cases_eq, false≢true}
 use Rattle.vm_ids.specs.declared.node_name.NodeName.{NodeName}
 use Rattle.vm_ids.specs.declared.node_name.NodeName.TheVariants.{Live}
 use Rattle.vm_ids.specs.declared.numbers.CacheId.{CacheId}
@@ -7,12 +8,12 @@ use Rattle.vm_ids.specs.declared.numbers.NodeId.{NodeId}
 use Rattle.vm_ids.specs.declared.numbers.PageNo.{PageNo}
 use Rattle.local_cache.specs.declared.own_state.OwnState.{OwnState}
 use Rattle.local_cache.specs.declared.own_state.OwnState.TheVariants.{Absent}
-use Rattle.local_cache.specs.Arena.{Arena, Cell, cell, find, hung, put, with_new, with_tree, with_working, without}
+use Rattle.local_cache.specs.Arena.{Arena, Cell, HasNode, cell, find, hung, put, with_new, with_tree, with_working, without}
 use Rattle.local_cache.specs.Many.{hung_many, over_many, over_two_many, with_new_many, with_working_many, without_many}
 use Rattle.local_cache.specs.ManyNodes.{next_node}
 use Rattle.history_tree.specs.Hanging.{set_one, set_two}
-use Rattle.tree_merge.specs.Copying.{AreApart, IsBeside, copied_first, copied_more, renewed}
-use Rattle.tree_merge.proofs.CopiedPages.Changes.{cell_by, change_change, change_new, change_without, change_working, find-new_other, find-without_other, new_without, working_renewed}
+use Rattle.tree_merge.specs.Copying.{AreApart, AreFree, IsBeside, copied_first, copied_more, renewed}
+use Rattle.tree_merge.proofs.CopiedPages.Changes.{cell_by, change_change, change_new, change_without, change_working, find-new, find-new_other, find-without_other, new_without, working_renewed}
 
 -- Steps -------------------------------------------------------------------------------------------
 
@@ -131,18 +132,27 @@ module _ (d new : NodeId) (to : CacheId) (to_page : PageNo) where
   room_came a zero = omega arith
   room_came a (suc k) = omega (arith, room_came a k, room_new (with_new_many a new to to_page Absent k) (next_node new k) (Live to (page_after k)) Absent)
 
-  cell_gone : (a : Arena) (k : ℕ) (m : NodeId) → IsBeside m d k → cell (without_many a d k) m ≡ cell a m
-  cell_gone a zero m beside = refl
-  cell_gone a (suc k) m beside =
-      cell_by (without_many a d k) (without_many a d (suc k)) m (find-without_other (without_many a d k) (next_node d k) m (beside k (omega arith)))
-      ∙ cell_gone a k m (λ j less. beside j (omega arith))
+  find_gone : (a : Arena) (k : ℕ) (m : NodeId) → IsBeside m d k → find (without_many a d k) m ≡ find a m
+  find_gone a zero m beside = refl
+  find_gone a (suc k) m beside =
+      find-without_other (without_many a d k) (next_node d k) m (beside k (omega arith)) ∙ find_gone a k m (λ j less. beside j (omega arith))
 
-  cell_came : (a : Arena) (k : ℕ) (m : NodeId) → IsBeside m new k → cell (with_new_many a new to to_page Absent k) m ≡ cell a m
-  cell_came a zero m beside = refl
-  cell_came a (suc k) m beside =
-      cell_by (with_new_many a new to to_page Absent k) (with_new_many a new to to_page Absent (suc k)) m
-      (find-new_other (with_new_many a new to to_page Absent k) (next_node new k) m (Live to (page_after k)) Absent (beside k (omega arith)))
-      ∙ cell_came a k m (λ j less. beside j (omega arith))
+  find_came : (a : Arena) (k : ℕ) (m : NodeId) → IsBeside m new k → find (with_new_many a new to to_page Absent k) m ≡ find a m
+  find_came a zero m beside = refl
+  find_came a (suc k) m beside =
+      find-new_other (with_new_many a new to to_page Absent k) (next_node new k) m (Live to (page_after k)) Absent (beside k (omega arith))
+      ∙ find_came a k m (λ j less. beside j (omega arith))
+
+  held_came : (a : Arena) (k j : ℕ) → j < k → HasNode (with_new_many a new to to_page Absent k) (next_node new j)
+  held_came a zero j less = absurd (omega arith)
+  held_came a (suc k) j less =
+      let before : Arena = with_new_many a new to to_page Absent k in
+      elim (cases_eq j k) [
+        | inl e ↦ ap (λ i. is_some (find (with_new before (next_node new k) (Live to (page_after k)) Absent) (next_node new i))) e ∙ ap is_some (find-new before (next_node new k) (Live to (page_after k)) Absent)
+        | inr ne ↦
+            ap is_some (find-new_other before (next_node new k) (next_node new j) (Live to (page_after k)) Absent (λ e. let same : new.0 + j ≡ new.0 + k = ap (λ (n : NodeId). n.0) e in ne (omega arith)))
+            ∙ held_came a k j (omega arith)
+      ]
 
   module _ (count : ℕ) (apart : AreApart d new count) where
     -- a node goes before the new ones of earlier pages come
@@ -152,10 +162,23 @@ module _ (d new : NodeId) (to : CacheId) (to_page : PageNo) where
     gone_before x j below named (suc k) le roomy =
         let before : Arena = with_new_many x new to to_page Absent k in
         new_without before (next_node new k) (next_node d j) (λ e. apart j below k (omega arith) (sym e)) to (page_after k) (page_after j) Absent
-        (ap (λ (c : Cell). c.name) (cell_came x k (next_node d j) (λ i less. apart j below i (omega arith))) ∙ named)
+        (ap (λ (c : Cell). c.name) (cell_by x before (next_node d j) (find_came x k (next_node d j) (λ i less. apart j below i (omega arith)))) ∙ named)
         (λ e. omega arith)
         (omega (arith, room_came x k))
         ∙ ap (λ (y : Arena). with_new y (next_node new k) (Live to (page_after k)) Absent) (gone_before x j below named k (omega arith) (omega arith))
+
+    -- a number that is free once the old nodes are gone, and is none of theirs, was free before
+    pub free_before : (a : Arena) (n : NodeId) → AreApart d n count → AreFree (without_many a d count) n count → AreFree a n count
+    free_before a n beside free k less = sym (find_gone a count (next_node n k) (λ j low e. beside j low k less (sym e))) ∙ free k less
+
+    -- one that is free beside the new nodes is none of theirs
+    pub apart_from_new : (a : Arena) (n : NodeId) → AreFree (renewed a d new to to_page count) n count → AreApart new n count
+    apart_from_new a n free k less j low e =
+        false≢true (sym (ap is_some (free j low)) ∙ subst (HasNode (renewed a d new to to_page count)) e (held_came (without_many a d count) count k less))
+
+    pub free_then : (a : Arena) (n : NodeId) → AreFree (renewed a d new to to_page count) n count → AreFree (without_many a d count) n count
+    free_then a n free k less =
+        sym (find_came (without_many a d count) count (next_node n k) (λ j low e. apart_from_new a n free j low k less (sym e))) ∙ free k less
 
     pub each_renewed : (a : Arena) → ((k : ℕ) → k < count → (cell a (next_node d k)).name ≡ Live to (record { 0 = to_page.0 + k }))
         → (k : ℕ) → k ≤ count → each renew a k ≡ renewed a d new to to_page k
@@ -164,7 +187,7 @@ module _ (d new : NodeId) (to : CacheId) (to_page : PageNo) where
         ap (λ (y : Arena). renew y k) (each_renewed a named k (omega arith))
         ∙ ap (λ (y : Arena). with_new y (next_node new k) (Live to (page_after k)) Absent)
         (gone_before (without_many a d k) k (omega arith)
-        (ap (λ (c : Cell). c.name) (cell_gone a k (next_node d k) (λ j less e. let same : d.0 + k ≡ d.0 + j = ap (λ (n : NodeId). n.0) e in omega arith)) ∙ named k (omega arith))
+        (ap (λ (c : Cell). c.name) (cell_by a (without_many a d k) (next_node d k) (find_gone a k (next_node d k) (λ j less e. let same : d.0 + k ≡ d.0 + j = ap (λ (n : NodeId). n.0) e in omega arith))) ∙ named k (omega arith))
         k (omega arith) (omega (arith, room_gone a k)))
 
   -- Sources without tree children -------------------------------------------------------------------
