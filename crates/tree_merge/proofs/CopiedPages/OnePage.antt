@@ -36,6 +36,18 @@ use Rattle.tree_merge.proofs.Leaving.Freed.{Freed, drop-Freed}
 use Rattle.tree_merge.proofs.Leaving.Retired.{retire_none, retired_leaf}
 use Rattle.tree_merge.proofs.Place.Cut.{no_parent-Step}
 
+-- What a copy of one page needs: the node d of the page has neither parent nor children, new is a free number, and s is
+-- the node of another page.
+pub record CanCopyPage (a : Arena) (d s new : NodeId) (cache : CacheId) (page : PageNo) : Type 0 where
+  pub sound : IsSound a
+  pub held_d : HasNode a d
+  pub lone : IsLone (cell a d)
+  pub named : name_of a d ≡ Live cache page
+  pub free_new : find a new ≡ None
+  pub held_s : HasNode a s
+  pub live : is_live (name_of a s) ≡ true
+  pub apart : s ≢ d
+
 -- What a copy of one page does: it is the rule, the old node d is gone, the fresh node new and the working node w have
 -- no own pages, and other nodes stay, as do the sizes of the caches. Nothing is changed at those that are none of these, nor the source s or its tree
 -- child h.
@@ -104,139 +116,138 @@ find_two a p x y n n_p n_x n_y =
 
 -- The old node goes ----------------------------------------------------------------------------------
 
-module _ (a : Arena) (sound : IsSound a) (d : NodeId) (hd : HasNode a d) (lone : IsLone (cell a d)) (cache : CacheId) (page : PageNo) (named : name_of a d ≡ Live cache page) where
+module _ (a : Arena) (d s new : NodeId) (cache : CacheId) (page : PageNo) (can : CanCopyPage a d s new cache page) where
   leaf : child_count (forest_of a) (name_of a d) ≡ 0
-  leaf = counted a sound d hd ∙ omega (arith, ap length lone.tree, lone.stubs)
+  leaf = counted a can.sound d can.held_d ∙ omega (arith, ap length can.lone.tree, can.lone.stubs)
 
   went : Freed a (without a d) d (free (cut (forest_of a) (name_of a d)) (name_of a d))
-  went = drop-Freed a a (without a d) sound d hd leaf (no_parent-Step a sound d hd lone.root).forest sound (rehung_itself a) refl
+  went = drop-Freed a a (without a d) can.sound d can.held_d leaf (no_parent-Step a can.sound d can.held_d can.lone.root).forest can.sound (rehung_itself a) refl
 
   retired : IsRetired a (without a d) d (Dropped d (own_of a d))
   retired = retired_leaf a (without a d) d (Dropped d (own_of a d)) leaf refl went.gone went.owns
 
   retired_forest : forest_of (without a d) ≡ retire (forest_of a) (Live cache page)
-  retired_forest = went.forest ∙ sym (retire_none (forest_of a) (name_of a d) leaf) ∙ ap (retire (forest_of a)) named
+  retired_forest = went.forest ∙ sym (retire_none (forest_of a) (name_of a d) leaf) ∙ ap (retire (forest_of a)) can.named
 
   at_page : node_at a cache.0 page.0 ≡ Some d
-  at_page = sound.kept.listed.pages cache.0 page.0 d hd named
+  at_page = can.sound.kept.listed.pages cache.0 page.0 d can.held_d can.named
 
   vacant : IsVacant (without a d) cache page
-  vacant = retired_vacant a sound cache page d at_page (without a d) (Dropped d (own_of a d)) retired
+  vacant = retired_vacant a can.sound cache page d at_page (without a d) (Dropped d (own_of a d)) retired
 
-  -- and a fresh one comes
-  module _ (new : NodeId) (free_new : find a new ≡ None) where
-    abbrev b : Arena
-    b = with_new (without a d) new (Live cache page) Absent
+  -- A fresh one comes -------------------------------------------------------------------------------
 
-    d_new : d ≢ new
-    d_new = not_free a d new hd free_new
+  abbrev b : Arena
+  b = with_new (without a d) new (Live cache page) Absent
 
-    free_then : find (without a d) new ≡ None
-    free_then = find-without_other a d new (λ e. d_new (sym e)) ∙ free_new
+  d_new : d ≢ new
+  d_new = not_free a d new can.held_d can.free_new
 
-    detached : forest_of b ≡ detach (forest_of a) (Live cache page) None
-    detached = detached-forest a (without a d) b new cache page Absent went.sound retired_forest vacant free_then refl
+  free_then : find (without a d) new ≡ None
+  free_then = find-without_other a d new (λ e. d_new (sym e)) ∙ can.free_new
 
-    sound_new : IsSound b
-    sound_new = detached-sound (without a d) b new cache page Absent went.sound vacant free_then refl
+  detached : forest_of b ≡ detach (forest_of a) (Live cache page) None
+  detached = detached-forest a (without a d) b new cache page Absent went.sound retired_forest vacant free_then refl
 
-    name_new : name_of b new ≡ Live cache page
-    name_new = fresh_name (without a d) new free_then (Live cache page) Absent
+  sound_new : IsSound b
+  sound_new = detached-sound (without a d) b new cache page Absent went.sound vacant free_then refl
 
-    held_new : HasNode b new
-    held_new = ap is_some (fresh_found (without a d) new free_then (Live cache page) Absent)
+  name_new : name_of b new ≡ Live cache page
+  name_new = fresh_name (without a d) new free_then (Live cache page) Absent
 
-    find_new : (n : NodeId) → n ≢ d → n ≢ new → find b n ≡ find a n
-    find_new n n_d n_new = find-new_other (without a d) new n (Live cache page) Absent n_new ∙ find-without_other a d n n_d
+  held_new : HasNode b new
+  held_new = ap is_some (fresh_found (without a d) new free_then (Live cache page) Absent)
 
-    gone_new : find b d ≡ None
-    gone_new = find-new_other (without a d) new d (Live cache page) Absent d_new ∙ find-without a d
+  find_new : (n : NodeId) → n ≢ d → n ≢ new → find b n ≡ find a n
+  find_new n n_d n_new = find-new_other (without a d) new n (Live cache page) Absent n_new ∙ find-without_other a d n n_d
 
-    bare : node (forest_of b) (name_of b new) ≡ childless None Root
-    bare =
-        ap (node (forest_of b)) name_new
-        ∙ ap (λ (f : Forest OwnState). node f (Live cache page)) (page-forest (without a d) went.sound.kept new free_then cache page vacant Absent)
-        ∙ node-put (forest_of (without a d)) (Live cache page) (childless None Root)
+  gone_new : find b d ≡ None
+  gone_new = find-new_other (without a d) new d (Live cache page) Absent d_new ∙ find-without a d
 
-    room_new : b.room.nodes ≡ a.room.nodes
-    unfolding with_new without
-    room_new = omega arith
+  bare : node (forest_of b) (name_of b new) ≡ childless None Root
+  bare =
+      ap (node (forest_of b)) name_new
+      ∙ ap (λ (f : Forest OwnState). node f (Live cache page)) (page-forest (without a d) went.sound.kept new free_then cache page vacant Absent)
+      ∙ node-put (forest_of (without a d)) (Live cache page) (childless None Root)
 
-    sizes_new : SameCaches a b
-    sizes_new = sizes_then a (without a d) b
-        (sizes_by a (without a d) (name_of a d) None went.gone.caches)
-        (sizes_by (without a d) b (Live cache page) (Some new) (tables_new (without a d) new (Live cache page) Absent))
+  room_new : b.room.nodes ≡ a.room.nodes
+  unfolding with_new without
+  room_new = omega arith
 
-    -- The copy is linked to a live source ------------------------------------------------------------
-    module _ (s : NodeId) (hs : HasNode a s) (live : is_live (name_of a s) ≡ true) (s_d : s ≢ d) where
-      s_new : s ≢ new
-      s_new = not_free a s new hs free_new
+  sizes_new : SameCaches a b
+  sizes_new = sizes_then a (without a d) b
+      (sizes_by a (without a d) (name_of a d) None went.gone.caches)
+      (sizes_by (without a d) b (Live cache page) (Some new) (tables_new (without a d) new (Live cache page) Absent))
 
-      left_s : IsLeft a b s
-      left_s = left_by_find a b s (find_new s s_d s_new)
+  -- It is linked to the source ----------------------------------------------------------------------
 
-      held_s : HasNode b s
-      held_s = left_s.held ∙ hs
+  s_new : s ≢ new
+  s_new = not_free a s new can.held_s can.free_new
 
-      can : CanLink b new s
-      can = record { sound = sound_new; held_d = held_new; held_s = held_s; bare = bare; live = ap is_live left_s.name ∙ live; apart = λ e. s_new (sym e) }
+  left_s : IsLeft a b s
+  left_s = left_by_find a b s (find_new s can.apart s_new)
 
-      rule : link (forest_of b) (name_of b new) (name_of b s) ≡ copy_page false (forest_of a) (Live cache page) (name_of a s)
-      rule = λ i. link (detached i) (name_new i) (left_s.name i)
+  held_s : HasNode b s
+  held_s = left_s.held ∙ can.held_s
 
-      -- as its first child
-      pub page_first : (cell a s).tree ≡ [] → PageCopied a (set_one b s new) d s s new new (Live cache page) (name_of a s)
-      page_first none =
-          let linked = links-first b new s can (ap (λ c. c.tree) (cell_by a b s (find_new s s_d s_new)) ∙ none) in
-          let r = rehung_one b s new held_s held_new in
-          let bare_new : IsBare (set_one b s new) new = record { held = r.like.held new ∙ held_new; own = r.own new ∙ fresh_own (without a d) new free_then (Live cache page) Absent } in
-          let roomy : (set_one b s new).room.nodes ≡ a.room.nodes = ap (λ k. k.nodes) r.room ∙ room_new in
-          record {
-            forest = linked.forest ∙ rule;
-            sound = linked.sound;
-            gone = find_one b s new d (λ e. s_d (sym e)) d_new ∙ gone_new;
-            fresh = bare_new;
-            working = bare_new;
-            left = λ n n_d n_new n_w. left_then a b (set_one b s new) n (left_by_find a b n (find_new n n_d n_new)) (left_rehung b (set_one b s new) r n);
-            same = λ n n_d n_new n_w n_s n_h. find_one b s new n n_s n_new ∙ find_new n n_d n_new;
-            sizes = sizes_then a b (set_one b s new) sizes_new (sizes_same b (set_one b s new) r.like.caches);
-            room = omega arith;
-          }
+  can_link : CanLink b new s
+  can_link = record { sound = sound_new; held_d = held_new; held_s = held_s; bare = bare; live = ap is_live left_s.name ∙ can.live; apart = λ e. s_new (sym e) }
 
-      -- beside the child that it has
-      pub page_more : (h w : NodeId) → (cell a s).tree ≡ h ∷ [] → h ≢ d → find a w ≡ None → w ≢ new → 1 ≤ a.room.nodes
-          → PageCopied a (set_two (set_one (with_working b w) s w) w h new) d s h new w (Live cache page) (name_of a s)
-      page_more h w tree h_d free_w w_new roomy =
-          let free_b : find b w ≡ None = find_new w (λ e. not_free a d w hd free_w (sym e)) w_new ∙ free_w in
-          let linked = links-more b new s w h [] can (ap (λ c. c.tree) (cell_by a b s (find_new s s_d s_new)) ∙ tree) free_b (omega (arith, room_new)) in
-          let b1 : Arena = with_working b w in
-          let b2 : Arena = set_one b1 s w in
-          let c : Arena = set_two b2 w h new in
-          let hh : HasNode a h = sound.kept.children s h hs (subst (λ ts. h ∈ ts) (sym tree) (inl refl)) in
-          let h_new : h ≢ new = not_free a h new hh free_new in
-          let old : (n : NodeId) → n ≢ w → find b1 n ≡ find b n = λ n n_w. find-working_other b w n n_w in
-          let still : (n : NodeId) → HasNode b n → HasNode b1 n = λ n held. ap is_some (old n (not_free b n w held free_b)) ∙ held in
-          let held_w : HasNode b1 w = ap is_some (fresh_found b w free_b (Working (b.made + 1)) Absent) in
-          let r2 = rehung_one b1 s w (still s held_s) held_w in
-          let held_h : HasNode b1 h = still h (ap is_some (find_new h h_d h_new) ∙ hh) in
-          let r3 = rehung_two b2 w h new (r2.like.held w ∙ held_w) (r2.like.held h ∙ held_h) (r2.like.held new ∙ still new held_new) in
-          let r = rehung_then b1 b2 c r2 r3 in
-          let w_s : s ≢ w = not_free a s w hs free_w in
-          let d_w : d ≢ w = not_free a d w hd free_w in
-          let new_w : new ≢ w = λ e. w_new (sym e) in
-          let made : c.room.nodes ≡ b.room.nodes - 1 = ap (λ k. k.nodes) r.room ∙ room_working b w in
-          record {
-            forest = linked.forest ∙ rule;
-            sound = linked.sound;
-            gone = find_two b2 w h new d d_w (λ e. h_d (sym e)) d_new ∙ find_one b1 s w d (λ e. s_d (sym e)) d_w ∙ old d d_w ∙ gone_new;
-            fresh = record {
-              held = r.like.held new ∙ still new held_new;
-              own = r.own new ∙ ap (λ k. k.own) (cell_by b b1 new (old new new_w)) ∙ fresh_own (without a d) new free_then (Live cache page) Absent;
-            };
-            working = record { held = r.like.held w ∙ held_w; own = r.own w ∙ ap (λ k. k.own) (cell-new b w free_b) };
-            left = λ n n_d n_new n_w.
-                left_then a b c n (left_by_find a b n (find_new n n_d n_new)) (left_then b b1 c n (left_by_find b b1 n (old n n_w)) (left_rehung b1 c r n));
-            same = λ n n_d n_new n_w n_s n_h. find_two b2 w h new n n_w n_h n_new ∙ find_one b1 s w n n_s n_w ∙ old n n_w ∙ find_new n n_d n_new;
-            sizes = sizes_then a b c sizes_new (sizes_same b c (r.like.caches ∙ tables_working b w));
-            room = omega (arith, made, room_new);
-          }
+  rule : link (forest_of b) (name_of b new) (name_of b s) ≡ copy_page false (forest_of a) (Live cache page) (name_of a s)
+  rule = λ i. link (detached i) (name_new i) (left_s.name i)
+
+  -- as its first child
+  pub page_first : (cell a s).tree ≡ [] → PageCopied a (set_one b s new) d s s new new (Live cache page) (name_of a s)
+  page_first none =
+      let linked = links-first b new s can_link (ap (λ c. c.tree) (cell_by a b s (find_new s can.apart s_new)) ∙ none) in
+      let r = rehung_one b s new held_s held_new in
+      let bare_new : IsBare (set_one b s new) new = record { held = r.like.held new ∙ held_new; own = r.own new ∙ fresh_own (without a d) new free_then (Live cache page) Absent } in
+      let roomy : (set_one b s new).room.nodes ≡ a.room.nodes = ap (λ k. k.nodes) r.room ∙ room_new in
+      record {
+        forest = linked.forest ∙ rule;
+        sound = linked.sound;
+        gone = find_one b s new d (λ e. can.apart (sym e)) d_new ∙ gone_new;
+        fresh = bare_new;
+        working = bare_new;
+        left = λ n n_d n_new n_w. left_then a b (set_one b s new) n (left_by_find a b n (find_new n n_d n_new)) (left_rehung b (set_one b s new) r n);
+        same = λ n n_d n_new n_w n_s n_h. find_one b s new n n_s n_new ∙ find_new n n_d n_new;
+        sizes = sizes_then a b (set_one b s new) sizes_new (sizes_same b (set_one b s new) r.like.caches);
+        room = omega arith;
+      }
+
+  -- beside the child that it has
+  pub page_more : (h w : NodeId) → (cell a s).tree ≡ h ∷ [] → h ≢ d → find a w ≡ None → w ≢ new → 1 ≤ a.room.nodes
+      → PageCopied a (set_two (set_one (with_working b w) s w) w h new) d s h new w (Live cache page) (name_of a s)
+  page_more h w tree h_d free_w w_new roomy =
+      let free_b : find b w ≡ None = find_new w (λ e. not_free a d w can.held_d free_w (sym e)) w_new ∙ free_w in
+      let linked = links-more b new s w h [] can_link (ap (λ c. c.tree) (cell_by a b s (find_new s can.apart s_new)) ∙ tree) free_b (omega (arith, room_new)) in
+      let b1 : Arena = with_working b w in
+      let b2 : Arena = set_one b1 s w in
+      let c : Arena = set_two b2 w h new in
+      let hh : HasNode a h = can.sound.kept.children s h can.held_s (subst (λ ts. h ∈ ts) (sym tree) (inl refl)) in
+      let h_new : h ≢ new = not_free a h new hh can.free_new in
+      let old : (n : NodeId) → n ≢ w → find b1 n ≡ find b n = λ n n_w. find-working_other b w n n_w in
+      let still : (n : NodeId) → HasNode b n → HasNode b1 n = λ n held. ap is_some (old n (not_free b n w held free_b)) ∙ held in
+      let held_w : HasNode b1 w = ap is_some (fresh_found b w free_b (Working (b.made + 1)) Absent) in
+      let r2 = rehung_one b1 s w (still s held_s) held_w in
+      let held_h : HasNode b1 h = still h (ap is_some (find_new h h_d h_new) ∙ hh) in
+      let r3 = rehung_two b2 w h new (r2.like.held w ∙ held_w) (r2.like.held h ∙ held_h) (r2.like.held new ∙ still new held_new) in
+      let r = rehung_then b1 b2 c r2 r3 in
+      let d_w : d ≢ w = not_free a d w can.held_d free_w in
+      let new_w : new ≢ w = λ e. w_new (sym e) in
+      let made : c.room.nodes ≡ b.room.nodes - 1 = ap (λ k. k.nodes) r.room ∙ room_working b w in
+      record {
+        forest = linked.forest ∙ rule;
+        sound = linked.sound;
+        gone = find_two b2 w h new d d_w (λ e. h_d (sym e)) d_new ∙ find_one b1 s w d (λ e. can.apart (sym e)) d_w ∙ old d d_w ∙ gone_new;
+        fresh = record {
+          held = r.like.held new ∙ still new held_new;
+          own = r.own new ∙ ap (λ k. k.own) (cell_by b b1 new (old new new_w)) ∙ fresh_own (without a d) new free_then (Live cache page) Absent;
+        };
+        working = record { held = r.like.held w ∙ held_w; own = r.own w ∙ ap (λ k. k.own) (cell-new b w free_b) };
+        left = λ n n_d n_new n_w.
+            left_then a b c n (left_by_find a b n (find_new n n_d n_new)) (left_then b b1 c n (left_by_find b b1 n (old n n_w)) (left_rehung b1 c r n));
+        same = λ n n_d n_new n_w n_s n_h. find_two b2 w h new n n_w n_h n_new ∙ find_one b1 s w n n_s n_w ∙ old n n_w ∙ find_new n n_d n_new;
+        sizes = sizes_then a b c sizes_new (sizes_same b c (r.like.caches ∙ tables_working b w));
+        room = omega (arith, made, room_new);
+      }

@@ -1,6 +1,7 @@
 -- One page is copied after the other.
-use Rattle.std.proofs.Common.{◌≡◌, ◌≢◌, ℕ, zero, suc, ◌+◌, ◌<◌, ◌≤◌, List, [], ◌∷◌, map, true, false, None, is_some, refl, sym, ap, ◌∙◌, subst, arith, inl, inr}
+use Rattle.std.proofs.Common.{◌≡◌, ◌≢◌, ℕ, zero, suc, ◌+◌, ◌<◌, ◌≤◌, List, [], ◌∷◌, map, false, None, is_some, refl, sym, ap, ◌∙◌, subst, arith, inl, inr}
 use Rattle.std.proofs.lemmas.Bool.{cases_eq}
+use Rattle.vm_ids.specs.declared.node_name.NodeName.{NodeName}
 use Rattle.vm_ids.specs.declared.node_name.NodeName.TheVariants.{Live}
 use Rattle.vm_ids.specs.declared.numbers.CacheId.{CacheId}
 use Rattle.vm_ids.specs.declared.numbers.NodeId.{NodeId}
@@ -18,7 +19,7 @@ use Rattle.local_cache.proofs.Forest.Reading.{node-forest_of}
 use Rattle.local_cache.proofs.Tables.Sizes.{sizes_same, sizes_then}
 use Rattle.tree_merge.specs.Copying.{AreApart, AreCopied, AreFree, CanCopyFirst, CanCopyMany, CanCopyMore, IsBare, IsBeside, IsLone, copied_first, copied_more}
 use Rattle.tree_merge.proofs.CopiedPages.Changes.{cell_by}
-use Rattle.tree_merge.proofs.CopiedPages.OnePage.{PageCopied, left_by_find, left_then, not_free, page_first, page_more}
+use Rattle.tree_merge.proofs.CopiedPages.OnePage.{CanCopyPage, PageCopied, left_by_find, left_then, not_free, page_first, page_more}
 use Rattle.tree_merge.proofs.CopiedPages.Stretches.{RowsApart, apart_from_new, copy_first, copy_more, each, each_first, each_more, free_before, free_then}
 
 -- Pairs of pages -------------------------------------------------------------------------------------
@@ -98,7 +99,7 @@ module _ (a : Arena) (d s h new w : NodeId) (to from : CacheId) (to_page from_pa
   IsClear n k = (m : NodeId) → m ∈ (d ∷ new ∷ w ∷ s ∷ h ∷ []) → IsBeside n m k
 
   -- so many pages are copied, and nothing is changed at the nodes of others
-  pub record SoFar (b : Arena) (k : ℕ) : Type 0 where
+  record SoFar (b : Arena) (k : ℕ) : Type 0 where
     pub copied : AreCopied a b d new w to to_page from from_page k
     pub same : (n : NodeId) → ((m : NodeId) → m ∈ (d ∷ new ∷ w ∷ s ∷ h ∷ []) → IsBeside n m k) → find b n ≡ find a n
 
@@ -106,7 +107,7 @@ module _ (a : Arena) (d s h new w : NodeId) (to from : CacheId) (to_page from_pa
   later_clear : (n : NodeId) → n ∈ rows → (k : ℕ) → k < count → IsClear (next_node n k) k
   later_clear n is k below m has i less = all_pass rows count pass n m is has k i below (omega arith) (λ e. omega arith)
 
-  pub row_same : (b : Arena) (k : ℕ) → k < count → SoFar b k → (n : NodeId) → n ∈ (d ∷ new ∷ w ∷ s ∷ h ∷ []) → find b (next_node n k) ≡ find a (next_node n k)
+  row_same : (b : Arena) (k : ℕ) → k < count → SoFar b k → (n : NodeId) → n ∈ (d ∷ new ∷ w ∷ s ∷ h ∷ []) → find b (next_node n k) ≡ find a (next_node n k)
   row_same b k below so_far n is = so_far.same (next_node n k) (later_clear n is k below)
 
   none_yet : IsSound a → SoFar a 0
@@ -182,52 +183,55 @@ module _ (a : Arena) (d s h new w : NodeId) (to from : CacheId) (to_page from_pa
       → (name_of b (next_node s k) ≡ Live from (record { 0 = from_page.0 + k }))
       × PageCopied b (step b k) (next_node d k) (next_node s k) (next_node h k) (next_node new k) (next_node w k) (Live to (record { 0 = to_page.0 + k })) (name_of b (next_node s k))
 
-  pub all_pages : IsSound a → (step : Arena → ℕ → Arena) → CopiesNext step → (k : ℕ) → k ≤ count → SoFar (each step a k) k
+  all_pages : IsSound a → (step : Arena → ℕ → Arena) → CopiesNext step → (k : ℕ) → k ≤ count → SoFar (each step a k) k
   all_pages sound step copies zero le = none_yet sound
   all_pages sound step copies (suc k) le =
       let so_far : SoFar (each step a k) k = all_pages sound step copies k (omega arith) in
       let next = copies (each step a k) k (omega arith) so_far in
       one_more (each step a k) (step (each step a k) k) k (omega arith) so_far next.0 next.1
 
+-- The next page may be copied, and its source has its name and the tree children that it had.
+record NextPage (a b : Arena) (d s new : NodeId) (to : CacheId) (to_page : PageNo) (from : NodeName) : Type 0 where
+  pub can : CanCopyPage b d s new to to_page
+  pub named_s : name_of b s ≡ from
+  pub tree_s : (cell b s).tree ≡ (cell a s).tree
+
 -- What a page needs of its nodes, wherever they are as they were ----------------------------------------
 
 module _ (a : Arena) (d s new : NodeId) (to : CacheId) (to_page : PageNo) (from : CacheId) (from_page : PageNo) (count : ℕ) (can : CanCopyMany a d s new to to_page from from_page count) where
-  pub named : (k : ℕ) → k < count → (cell a (next_node d k)).name ≡ Live to (record { 0 = to_page.0 + k })
+  named : (k : ℕ) → k < count → (cell a (next_node d k)).name ≡ Live to (record { 0 = to_page.0 + k })
   named k less = (can.destinations k less).1
 
-  pub free_new : AreFree a new count
+  free_new : AreFree a new count
   free_new = free_before d new to to_page count can.fresh a new can.fresh can.free
 
-  pub new_s : AreApart new s count
+  new_s : AreApart new s count
   new_s i low j high e = not_free a (next_node s j) (next_node new i) (can.sources j high).0 (free_new i low) (sym e)
 
-  module _ (b : Arena) (k : ℕ) (less : k < count) (same_d : find b (next_node d k) ≡ find a (next_node d k)) (same_s : find b (next_node s k) ≡ find a (next_node s k)) (same_new : find b (next_node new k) ≡ find a (next_node new k)) where
-    pub held_d : HasNode b (next_node d k)
-    held_d = ap is_some same_d ∙ (can.destinations k less).0
+  module _ (b : Arena) (k : ℕ) (less : k < count) (sound : IsSound b) (same_d : find b (next_node d k) ≡ find a (next_node d k)) (same_s : find b (next_node s k) ≡ find a (next_node s k)) (same_new : find b (next_node new k) ≡ find a (next_node new k)) where
+    cell_d : cell b (next_node d k) ≡ cell a (next_node d k)
+    cell_d = cell_by a b (next_node d k) same_d
 
-    pub lone_d : IsLone (cell b (next_node d k))
-    lone_d = subst IsLone (sym (cell_by a b (next_node d k) same_d)) (can.lone k less)
+    cell_s : cell b (next_node s k) ≡ cell a (next_node s k)
+    cell_s = cell_by a b (next_node s k) same_s
 
-    pub named_d : name_of b (next_node d k) ≡ Live to (record { 0 = to_page.0 + k })
-    named_d = ap (λ (c : Cell). c.name) (cell_by a b (next_node d k) same_d) ∙ (can.destinations k less).1
+    named_s : name_of b (next_node s k) ≡ Live from (record { 0 = from_page.0 + k })
+    named_s = ap (λ (c : Cell). c.name) cell_s ∙ (can.sources k less).1
 
-    pub free_next : find b (next_node new k) ≡ None
-    free_next = same_new ∙ free_new k less
+    can_copy : CanCopyPage b (next_node d k) (next_node s k) (next_node new k) to (record { 0 = to_page.0 + k })
+    can_copy = record {
+      sound = sound;
+      held_d = ap is_some same_d ∙ (can.destinations k less).0;
+      lone = subst IsLone (sym cell_d) (can.lone k less);
+      named = ap (λ (c : Cell). c.name) cell_d ∙ (can.destinations k less).1;
+      free_new = same_new ∙ free_new k less;
+      held_s = ap is_some same_s ∙ (can.sources k less).0;
+      live = ap is_live named_s;
+      apart = λ e. can.apart k less k less (sym e);
+    }
 
-    pub held_s : HasNode b (next_node s k)
-    held_s = ap is_some same_s ∙ (can.sources k less).0
-
-    pub named_s : name_of b (next_node s k) ≡ Live from (record { 0 = from_page.0 + k })
-    named_s = ap (λ (c : Cell). c.name) (cell_by a b (next_node s k) same_s) ∙ (can.sources k less).1
-
-    pub live_s : is_live (name_of b (next_node s k)) ≡ true
-    live_s = ap is_live named_s
-
-    pub s_not_d : next_node s k ≢ next_node d k
-    s_not_d e = can.apart k less k less (sym e)
-
-    pub tree_s : (cell b (next_node s k)).tree ≡ (cell a (next_node s k)).tree
-    tree_s = ap (λ (c : Cell). c.tree) (cell_by a b (next_node s k) same_s)
+    next_page : NextPage a b (next_node d k) (next_node s k) (next_node new k) to (record { 0 = to_page.0 + k }) (Live from (record { 0 = from_page.0 + k }))
+    next_page = record { can = can_copy; named_s = named_s; tree_s = ap (λ (c : Cell). c.tree) cell_s }
 
 -- Sources without tree children ------------------------------------------------------------------------
 
@@ -249,13 +253,10 @@ module _ (a : Arena) (d s new : NodeId) (to : CacheId) (to_page : PageNo) (from 
       let sd = row_same a d s s new new to from to_page from_page count first_pass b k less so_far d (inl refl) in
       let sn = row_same a d s s new new to from to_page from_page count first_pass b k less so_far new (inr (inl refl)) in
       let ss = row_same a d s s new new to from to_page from_page count first_pass b k less so_far s (inr (inr (inr (inl refl)))) in
-      (named_s a d s new to to_page from from_page count first.can b k less sd ss sn,
-        page_first b so_far.copied.sound (next_node d k) (held_d a d s new to to_page from from_page count first.can b k less sd ss sn) (lone_d a d s new to to_page from from_page count first.can b k less sd ss sn)
-        to (record { 0 = to_page.0 + k }) (named_d a d s new to to_page from from_page count first.can b k less sd ss sn)
-        (next_node new k) (free_next a d s new to to_page from from_page count first.can b k less sd ss sn)
-        (next_node s k) (held_s a d s new to to_page from from_page count first.can b k less sd ss sn) (live_s a d s new to to_page from from_page count first.can b k less sd ss sn)
-        (s_not_d a d s new to to_page from from_page count first.can b k less sd ss sn)
-        (tree_s a d s new to to_page from from_page count first.can b k less sd ss sn ∙ first.trees k less))
+      let next = next_page a d s new to to_page from from_page count first.can b k less so_far.copied.sound sd ss sn in (
+        next.named_s,
+        page_first b (next_node d k) (next_node s k) (next_node new k) to (record { 0 = to_page.0 + k }) next.can (next.tree_s ∙ first.trees k less),
+      )
 
   pub first_copied : AreCopied a (copied_first a d s new to to_page count) d new new to to_page from from_page count
   first_copied =
@@ -306,9 +307,14 @@ module _ (a : Arena) (d s h new w : NodeId) (to : CacheId) (to_page : PageNo) (f
   more_pass : AllPass (d ∷ new ∷ w ∷ s ∷ h ∷ []) count
   more_pass = (
     (pass_apart d new count rows_apart.d_new, (pass_apart d w count rows_apart.d_w, (pass_apart d s count rows_apart.d_s, (pass_apart d h count rows_apart.d_h, tt)))),
-    ((pass_apart new w count rows_apart.new_w, (pass_apart new s count rows_apart.new_s, (pass_apart new h count rows_apart.new_h, tt))),
-    ((pass_back s w count (pass_apart s w count rows_apart.s_w), (pass_back h w count (pass_apart h w count rows_apart.h_w), tt)),
-    ((pass_apart s h count rows_apart.s_h, tt), (tt, tt)))))
+    (
+      (pass_apart new w count rows_apart.new_w, (pass_apart new s count rows_apart.new_s, (pass_apart new h count rows_apart.new_h, tt))),
+      (
+        (pass_back s w count (pass_apart s w count rows_apart.s_w), (pass_back h w count (pass_apart h w count rows_apart.h_w), tt)),
+        ((pass_apart s h count rows_apart.s_h, tt), (tt, tt)),
+      ),
+    ),
+  )
 
   more_step : (b : Arena) (k : ℕ) → k < count → SoFar a d s h new w to from to_page from_page count more_pass b k
       → (name_of b (next_node s k) ≡ Live from (record { 0 = from_page.0 + k }))
@@ -318,15 +324,11 @@ module _ (a : Arena) (d s h new w : NodeId) (to : CacheId) (to_page : PageNo) (f
       let sn = row_same a d s h new w to from to_page from_page count more_pass b k less so_far new (inr (inl refl)) in
       let sw = row_same a d s h new w to from to_page from_page count more_pass b k less so_far w (inr (inr (inl refl))) in
       let ss = row_same a d s h new w to from to_page from_page count more_pass b k less so_far s (inr (inr (inr (inl refl)))) in
-      (named_s a d s new to to_page from from_page count more.can b k less sd ss sn,
-        page_more b so_far.copied.sound (next_node d k) (held_d a d s new to to_page from from_page count more.can b k less sd ss sn) (lone_d a d s new to to_page from from_page count more.can b k less sd ss sn)
-        to (record { 0 = to_page.0 + k }) (named_d a d s new to to_page from from_page count more.can b k less sd ss sn)
-        (next_node new k) (free_next a d s new to to_page from from_page count more.can b k less sd ss sn)
-        (next_node s k) (held_s a d s new to to_page from from_page count more.can b k less sd ss sn) (live_s a d s new to to_page from from_page count more.can b k less sd ss sn)
-        (s_not_d a d s new to to_page from from_page count more.can b k less sd ss sn)
-        (next_node h k) (next_node w k) (tree_s a d s new to to_page from from_page count more.can b k less sd ss sn ∙ more.trees k less)
-        (λ e. rows_apart.d_h k less k less (sym e)) (sw ∙ free_w k less) (λ e. rows_apart.new_w k less k less (sym e))
-        (omega (arith, so_far.copied.room, more.room)))
+      let next = next_page a d s new to to_page from from_page count more.can b k less so_far.copied.sound sd ss sn in (
+        next.named_s,
+        page_more b (next_node d k) (next_node s k) (next_node new k) to (record { 0 = to_page.0 + k }) next.can (next_node h k) (next_node w k) (next.tree_s ∙ more.trees k less)
+            (λ e. rows_apart.d_h k less k less (sym e)) (sw ∙ free_w k less) (λ e. rows_apart.new_w k less k less (sym e)) (omega (arith, so_far.copied.room, more.room)),
+      )
 
   pub more_copied : AreCopied a (copied_more a d s h new w to to_page count) d new w to to_page from from_page count
   more_copied =
