@@ -76,7 +76,7 @@ pub record CanCopyMore (a : Arena) (d s h new w : NodeId) (to : CacheId) (to_pag
   pub free : AreFree (renewed a d new to to_page count) w count
   pub room : count ≤ a.room.nodes
 
--- and each fresh node is the only tree child of its source
+-- the arena in which pages are renewed, and each fresh node is the only tree child of its source
 abbrev pub copied_first : Arena → (d s new : NodeId) → CacheId → PageNo → ℕ → Arena
 copied_first a d s new to to_page count =
     hung_many (over_many (renewed a d new to to_page count) s new count) new s count
@@ -86,8 +86,8 @@ abbrev pub put_between : Arena → (s w : NodeId) → ℕ → Arena
 put_between a s w count =
     hung_many (over_many (with_working_many a w count) s w count) w s count
 
--- each fresh node is the second tree child of a new working node, from w on, of which the first
--- one is the tree child that its source had
+-- the arena in which pages are renewed, and each fresh node is the second tree child of a new
+-- working node, from w on, of which the first one is the tree child that its source had
 abbrev pub copied_more : Arena → (d s h new w : NodeId) → CacheId → PageNo → ℕ → Arena
 copied_more a d s h new w to to_page count =
     hung_many
