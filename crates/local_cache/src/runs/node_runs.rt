@@ -23,6 +23,7 @@ use crate::runs::numbering::{
 };
 use crate::runs::parts::{own_of, own_of_plain, parts_of, run_of};
 use crate::runs::placing::place;
+use crate::runs::record::is_same_own;
 use crate::runs::renaming::{PageName, rename_from};
 use crate::runs::{Counters, NodeLists, Parts, PlainState, Record, RunName};
 use crate::{Links, OwnState};
@@ -135,6 +136,9 @@ impl NodeRuns {
         ensures { self.new ≡ with_own self.old node state }
     {
         let before = self.parts(node);
+        if is_same_own(before.record.own, state) {
+            return;
+        }
         let beside = Record {
             own: state,
             ..before.record
