@@ -24,3 +24,9 @@ pub mod Calls
 pub mod Locked
 -- The caches as they are seen, an arena, and each call.
 pub mod Seen
+-- Each call that changes many page nodes, one after the other.
+pub mod Many
+-- The caches as they are seen, after each call that changes many page nodes.
+pub mod SeenMany
+-- Page nodes that are alike, on the arena.
+pub mod Alike

@@ -32,6 +32,10 @@ pub mod Placing
 pub mod NodeRuns
 -- The page nodes of a new cache.
 pub mod Making
+-- Nodes under numbers that no node had, said by one run.
+pub mod Added
+-- Working nodes made, as one run.
+pub mod MakingWorking
 -- A run said in other words.
 pub mod Adapting
 -- Many page nodes at once.

@@ -9,5 +9,13 @@ pub mod KeyRanges
 pub mod Freed
 -- Nodes of one run under other names.
 pub mod Renamed
+-- Nodes of one run of which something else is said, but for their names.
+pub mod Relinked
 -- Nodes of one run on other parents.
 pub mod Hung
+-- Nodes of one run over others, as their tree children.
+pub mod Over
+-- Nodes under the next working names.
+pub mod AsWorking
+-- The numbers of many nodes.
+pub mod Numbers

@@ -10,3 +10,5 @@ pub mod OwnStates
 pub mod Values
 -- There are as many nodes of the forest as own states: each node of the arena has its name, and no two of them one.
 pub mod Count
+-- Nodes that stay there after a change of many nodes.
+pub mod Many

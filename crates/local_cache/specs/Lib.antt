@@ -7,6 +7,7 @@ pub mod GoingOn
 pub mod Home
 pub mod KeyRanges
 pub mod Known
+pub mod Many
 pub mod ManyNodes
 pub mod NodeCells
 pub mod NodeKeys

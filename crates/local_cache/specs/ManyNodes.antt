@@ -1,18 +1,23 @@
 -- Many page nodes changed at once: as the calls for one change them, one after the other.
-use Rattle.std.specs.Prelude.{◌≡◌, ℕ, zero, suc, ◌+◌, ◌<◌, None, Some, false}
+use Rattle.std.specs.Prelude.{◌≡◌, ℕ, zero, suc, ◌+◌, ◌<◌, ◌≤◌, ◌^◌, IfSome, Option, None, Some, false}
 use Rattle.vm_ids.specs.declared.node_name.NodeName.TheVariants.{Live}
 use Rattle.vm_ids.specs.declared.numbers.CacheId.{CacheId}
 use Rattle.vm_ids.specs.declared.numbers.NodeId.{NodeId}
 use Rattle.vm_ids.specs.declared.numbers.PageNo.{PageNo}
 use Rattle.local_cache.specs.declared.own_state.OwnState.{OwnState}
 use Rattle.local_cache.specs.declared.runs.run.Run.{Run}
-use Rattle.local_cache.specs.NodeCells.{bare, cell_of}
-use Rattle.local_cache.specs.PageNodes.{HasNode, PageNodes, cell, find, with_links, with_name, with_new, without}
+use Rattle.local_cache.specs.NodeCells.{bare, cell_of, tree_of}
+use Rattle.local_cache.specs.PageNodes.{HasNode, PageNodes, as_working, cell, find, with_links, with_name, with_new, with_tree, with_working, without}
 use Rattle.local_cache.specs.Runs.{run_after}
 
 -- the node so many numbers further on
 abbrev pub next_node : NodeId → ℕ → NodeId
 next_node n k = record { 0 = n.0 + k }
+
+-- the same, of a node or none
+abbrev pub next_if : Option NodeId → ℕ → Option NodeId
+next_if None k = None
+next_if (Some n) k = Some (next_node n k)
 
 -- so many nodes from one on are there
 abbrev pub HaveNodes : PageNodes → NodeId → ℕ → Type 0
@@ -27,9 +32,14 @@ abbrev pub AreSaidBy : PageNodes → NodeId → Run → ℕ → Type 0
 AreSaidBy m n r count =
     (k : ℕ) → k < count → find m (next_node n k) ≡ Some (cell_of (run_after r k) (bare r.own))
 
--- so many nodes from one on are alike: one run says all of them
-abbrev pub AreAlike : PageNodes → NodeId → ℕ → Type 0
-AreAlike m n count = (r : Run) × AreSaidBy m n r count
+-- so many nodes from one on are alike: one run says all of them, and there are as many numbers
+-- behind each node that it names
+pub record AreAlike (m : PageNodes) (n : NodeId) (count : ℕ) : Type 0 where
+  pub run : Run
+  pub said : AreSaidBy m n run count
+  pub parent : IfSome run.parent (λ p. p.0 + count ≤ 2 ^ 64)
+  pub older : IfSome run.older (λ p. p.0 + count ≤ 2 ^ 64)
+  pub newer : IfSome run.newer (λ p. p.0 + count ≤ 2 ^ 64)
 
 -- the nodes without so many, from one on
 abbrev pub without_many : PageNodes → NodeId → ℕ → PageNodes
@@ -60,3 +70,21 @@ abbrev pub hung_many : PageNodes → NodeId → NodeId → ℕ → PageNodes
 hung_many m n parent zero = m
 hung_many m n parent (suc k) =
     hung (hung_many m n parent k) (next_node n k) (next_node parent k)
+
+-- so many nodes from one on, each over the next one of some nodes and the next one of others, if
+-- there are others
+abbrev pub over_many : PageNodes → NodeId → NodeId → Option NodeId → ℕ → PageNodes
+over_many m n older newer zero = m
+over_many m n older newer (suc k) =
+    with_tree (over_many m n older newer k) (next_node n k)
+    (tree_of (Some (next_node older k)) (next_if newer k))
+
+-- so many new working nodes, under the next names, from one node on
+abbrev pub with_working_many : PageNodes → NodeId → ℕ → PageNodes
+with_working_many m n zero = m
+with_working_many m n (suc k) = with_working (with_working_many m n k) (next_node n k)
+
+-- so many nodes from one on under the next working names
+abbrev pub as_working_many : PageNodes → NodeId → ℕ → PageNodes
+as_working_many m n zero = m
+as_working_many m n (suc k) = as_working (as_working_many m n k) (next_node n k)

@@ -1,5 +1,5 @@
 // The page nodes and the caches that they are pages of.
-ghost use Rattle.std.specs.Prelude.{◌≡◌, ℕ, ◌+◌, ◌-◌, ◌<◌, ◌≤◌, ◌^◌, [], List, length, true, None, Some, option_and_then, option_map, if◌then◌else◌, IsOk, OnOk, OnErr, IsSome, slice_get};
+ghost use Rattle.std.specs.Prelude.{◌≡◌, ℕ, ◌+◌, ◌-◌, ◌<◌, ◌≤◌, ◌^◌, [], List, length, true, None, Some, option_and_then, option_map, if◌then◌else◌, IfSome, IsOk, OnOk, OnErr, IsSome, MatchOption, slice_get};
 ghost use Rattle.vm_ids.specs.declared.numbers.NodeId.{NodeId};
 ghost use Rattle.local_cache.specs.Arena.{HasPlace, HasNode, IsVacant, as_working, cell, find, hung, is_granted, is_locked, locked_count, locks_of, node_at, table_of, with_grant, with_links, with_locks, with_name, with_new, with_own, with_tree, with_working, without, without_cache, HasPages, MakesCache, NodesStay, CellsStay, TablesStay, HasNoLess};
 ghost use Rattle.vm_ids.specs.Forest.Changes.{count_copy};
@@ -8,13 +8,14 @@ ghost use Rattle.vm_ids.specs.Forest.NameMap.{len};
 ghost use Rattle.vm_ids.specs.Forest.Nodes.{no_forest};
 ghost use Rattle.vm_ids.specs.Forest.Reading.{counts_of};
 ghost use Rattle.local_cache.specs.Home.{home_of};
+ghost use Rattle.local_cache.specs.Many.{AreAlike, AreVacant, HaveNodes, HaveNone, IsPlain, as_working_many, hung_many, over_many, over_two_many, with_new_many, with_working_many, without_many};
 ghost use Rattle.local_cache.specs.NodeCells.{own_of_plain};
 ghost use Rattle.local_cache.specs.Reading.{IsNamed, forest_of};
 ghost use Rattle.local_cache.specs.Sound.{IsSound, MakesPages};
 ghost use Rattle.local_cache.specs.Thin.{IsLeastThin};
 
 use crate::cache_list::CacheList;
-use crate::runs::{NodeRuns, PlainState};
+use crate::runs::{Children, NodeRuns, PlainState, plain};
 use crate::{Home, Links, OwnState};
 use std::alloc::Global;
 use std::marker::Model;
@@ -338,6 +339,17 @@ impl Caches {
         );
     }
 
+    /// Hangs so many nodes, from one on, each on the next parent by a tree link. Nothing is done to the children of their
+    /// old and new parents. Those that stand in one run are hung at once.
+    pub fn hang_many(&mut self, node: NodeId, count: u32, parent: NodeId)
+        requires held { HaveNodes self.old node count }
+        requires short { parent.0 + count ≤ 2 ^ 64 }
+        ensures changed { self.new ≡ hung_many self.old node parent count }
+        ensures stays { NodesStay self.old self.new }
+    {
+        self.nodes.hang_many(node, count, parent);
+    }
+
     /// The tree child of a node at a place counted from 0, or `None` exactly where there are no more.
     pub fn tree_child(&self, node: NodeId, place: u32) -> Option<NodeId>
         requires { HasNode self.now node }
@@ -356,6 +368,37 @@ impl Caches {
         self.nodes.set_tree_children(node, children);
     }
 
+    /// Gives each of so many nodes, from one on, the next node as its only tree child. Nodes of pages that stand in one run
+    /// get theirs at once.
+    pub fn adopt_many(&mut self, node: NodeId, count: u32, child: NodeId)
+        requires held { HaveNodes self.old node count }
+        requires short { child.0 + count ≤ 2 ^ 64 }
+        ensures changed { self.new ≡ over_many self.old node child count }
+        ensures stays { NodesStay self.old self.new }
+    {
+        let children = Children {
+            older: child,
+            newer: None,
+        };
+        self.nodes.adopt_many(node, count, children);
+    }
+
+    /// Gives each of so many nodes, from one on, the next older and the next newer node as its tree children, in this
+    /// order. Nodes of pages that stand in one run get theirs at once.
+    pub fn adopt_two_many(&mut self, node: NodeId, count: u32, older: NodeId, newer: NodeId)
+        requires held { HaveNodes self.old node count }
+        requires short_older { older.0 + count ≤ 2 ^ 64 }
+        requires short_newer { newer.0 + count ≤ 2 ^ 64 }
+        ensures changed { self.new ≡ over_two_many self.old node older newer count }
+        ensures stays { NodesStay self.old self.new }
+    {
+        let children = Children {
+            older,
+            newer: Some(newer),
+        };
+        self.nodes.adopt_many(node, count, children);
+    }
+
     /// Makes the node of a page that has none, with this own state and without parent and children. It takes no memory:
     /// there has to be room for a node.
     pub fn fresh(&mut self, cache: CacheId, page: PageNo, state: OwnState) -> NodeId
@@ -367,6 +410,30 @@ impl Caches {
         ensures stays { NodesStay self.old self.new }
     {
         self.nodes.fresh(cache, page, state)
+    }
+
+    /// Makes a node for each of so many pages that have none, from one page on, all with this own state and without parent
+    /// and children, under numbers that follow one another. Where such numbers came to an end it makes none, and answers
+    /// `None`. It takes no memory: there has to be room for the nodes. They are one run, so it takes no time for each page.
+    pub fn fresh_many(
+        &mut self,
+        cache: CacheId,
+        page: PageNo,
+        count: u32,
+        state: OwnState,
+    ) -> Option<NodeId>
+        requires room { count ≤ self.old.room.nodes }
+        requires vacant { AreVacant self.old cache page count }
+        requires plain { IsPlain state }
+        ensures new { IfSome result (λ n. HaveNone self.old n count) }
+        ensures short { IfSome result (λ n. n.0 + count ≤ 2 ^ 64) }
+        ensures changed { MatchOption result (self.new ≡ self.old) (λ n. self.new
+            ≡ with_new_many self.old n cache page state count) }
+        ensures held { IfSome result (λ n. HaveNodes self.new n count) }
+        ensures stays { NodesStay self.old self.new }
+    {
+        let own = plain(state);
+        self.nodes.fresh_many(cache, page, count, own)
     }
 
     /// Makes a working node under the next number, `Absent` and without parent and children. It takes no memory: there
@@ -382,6 +449,21 @@ impl Caches {
         self.nodes.fresh_working()
     }
 
+    /// Makes so many working nodes under the next numbers of working nodes, `Absent` and without parent and children, under
+    /// numbers that follow one another. It takes no memory: there has to be room for the nodes. They are one run, so it
+    /// takes no time for each node.
+    pub fn fresh_working_many(&mut self, count: u32) -> NodeId
+        requires room { count ≤ self.old.room.nodes }
+        requires made { self.old.made + count ≤ 2 ^ 63 }
+        ensures new { HaveNone self.old result count }
+        ensures short { result.0 + count ≤ 2 ^ 64 }
+        ensures changed { self.new ≡ with_working_many self.old result count }
+        ensures held { HaveNodes self.new result count }
+        ensures stays { NodesStay self.old self.new }
+    {
+        self.nodes.fresh_working_many(count)
+    }
+
     /// Names a node by the next number of a working node. The page that it was the node of has none then.
     pub fn to_working(&mut self, node: NodeId)
         requires held { HasNode self.old node }
@@ -390,6 +472,17 @@ impl Caches {
         ensures stays { NodesStay self.old self.new }
     {
         self.nodes.to_working(node);
+    }
+
+    /// Names so many nodes, from one on, by the next numbers of working nodes. The pages that they were the nodes of have
+    /// none then.
+    pub fn to_working_many(&mut self, node: NodeId, count: u32)
+        requires held { HaveNodes self.old node count }
+        requires made { self.old.made + count ≤ 2 ^ 63 }
+        ensures changed { self.new ≡ as_working_many self.old node count }
+        ensures stays { NodesStay self.old self.new }
+    {
+        self.nodes.to_working_many(node, count);
     }
 
     /// Makes a node that of a page that has none. The page that it was the node of has none then.
@@ -410,6 +503,15 @@ impl Caches {
         self.nodes.free(node);
     }
 
+    /// Gives back so many nodes that nothing names, from one on. The pages that they were the nodes of have none then. Those
+    /// that stand in one run go at once.
+    pub fn free_many(&mut self, node: NodeId, count: u32)
+        requires { HaveNodes self.old node count }
+        ensures { self.new ≡ without_many self.old node count }
+    {
+        self.nodes.free_many(node, count);
+    }
+
     /// Counts one copied page more.
     pub fn count_copy(&mut self)
         requires { self.old.copies < 2 ^ 63 }
@@ -427,6 +529,16 @@ impl Caches {
         ensures { IsLeastThin self.now result }
     {
         self.nodes.thin()
+    }
+
+    /// How many nodes from this one on are alike, each a step further on than the one before. It is 0 where something is
+    /// kept of this node that can't be said of many, as a frame, a slot or stubs.
+    pub fn stretch(&self, node: NodeId) -> u32
+        requires { HasNode self.now node }
+        ensures alike { AreAlike self.now node result }
+        ensures short { node.0 + result ≤ 2 ^ 64 }
+    {
+        self.nodes.stretch(node)
     }
 
     /// How many runs the nodes stand in. Nodes that are alike stand as one run.

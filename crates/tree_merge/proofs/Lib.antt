@@ -10,3 +10,5 @@ mod Merge
 pub mod OtherPages
 -- What a call says that it released is what became of the nodes and their own states.
 pub mod Releases
+-- Many pages are copied at once.
+pub mod CopiedPages

@@ -7,18 +7,21 @@
 //!
 //! The model is that of the local caches: each call changes the page forest that is read off them by the rule of its
 //! name, and `Released` tells which node's frame or swap slot falls free or becomes another node's. This crate stands
-//! on `local_cache` and `page_stubs`; `move_pages` and `page_release` stand on it. It keeps no page itself.
+//! on `local_cache`, `page_stubs` and `history_tree`; `move_pages` and `page_release` stand on it. It keeps no page
+//! itself. Pages that are copied at once are these pages copied one after the other, as its laws say.
 #![tactic(auto)]
 
 mod children;
 mod cutting;
 mod detaching;
+mod laws;
 mod released;
 mod retiring;
 mod settling;
 mod tree_lists;
 
 pub use detaching::{detach, retire};
+pub use laws::{copying_first, copying_more};
 pub use released::Released;
 pub use settling::settle_step;
 

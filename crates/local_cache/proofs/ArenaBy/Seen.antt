@@ -144,7 +144,7 @@ module _ (m : PageNodes) (c : CacheRows) (a : Arena) (is : arena_by m c ≡ a) w
 
   module _ (right : AreRight m c) where
     -- after a change of page nodes
-    node_call : (new now : PageNodes) (f : Arena → Arena) → new ≡ now
+    pub node_call : (new now : PageNodes) (f : Arena → Arena) → new ≡ now
         → StandFor now c (f (arena_by m c)) → Seen new c (f a)
     node_call new now f changed stand =
         record {

@@ -1,225 +1,79 @@
 -- Nodes of one run on other parents.
-use Rattle.std.proofs.Common.{◌≡◌, ℕ, zero, suc, ◌+◌, ◌-◌, ◌<◌, ◌≤◌, ◌^◌, Option, Some, None, is_some, refl, ap, sym, subst, ◌∙◌, inl, inr, arith}
-use Rattle.std.specs.Prelude.{false, ◌⊎◌, option_and_then, option_map, unwrap_or}
+use Rattle.std.proofs.Common.{◌≡◌, ℕ, zero, suc, ◌+◌, ◌<◌, ◌≤◌, ◌^◌, Option, Some, None, is_some, refl, ap, sym, ◌∙◌, inl, inr, arith}
+use Rattle.std.specs.Prelude.{false, unwrap_or}
 use Rattle.std.proofs.lemmas.Bool.{cases_eq}
-use Rattle.std.specs.Ordering.{nat_cmp}
-use Rattle.std.specs.FinMap.{FinMap}
 use Rattle.std.specs.FinMap as map
-use Rattle.stretches.specs.Cells.{cells, with_first, with_stretch}
+use Rattle.stretches.specs.Cells.{cells, with_stretch}
 use Rattle.stretches.specs.Stretches.{SayAs, Stretches, number_count, said}
-use Rattle.stretches.specs.declared.rising.Rising.{Rising}
-use Rattle.stretches.specs.declared.says.Says.{Ghosts}
 use Rattle.stretches.specs.declared.stretch.Stretch.{Stretch}
-use Rattle.stretches.proofs.Cells.{get_cells}
 use Rattle.vm_ids.specs.declared.numbers.NodeId.{NodeId}
 use Rattle.local_cache.specs.declared.runs.counters.Counters.{Counters}
 use Rattle.local_cache.specs.declared.runs.node_lists.NodeLists.{NodeLists}
-use Rattle.local_cache.specs.declared.runs.record.Record.{Record}
 use Rattle.local_cache.specs.declared.runs.run.Run.{Run}
-use Rattle.local_cache.specs.declared.runs.thin_nodes.ThinNodes.{ThinNodes}
 use Rattle.local_cache.specs.Arena.{Cell, blank}
+use Rattle.local_cache.specs.KeyRanges.{run_cell}
 use Rattle.local_cache.specs.ManyNodes.{hung_many, hung, next_node}
-use Rattle.local_cache.specs.NodeCells.{bare, cell_by, cell_of, cells_by, node_cells}
-use Rattle.local_cache.specs.NodeKeys.{Indexes, even_key, key_at, odd_key, page_key, working_number}
-use Rattle.local_cache.specs.NodeRuns.{IsNumbered, IsRight, nodes_of}
+use Rattle.local_cache.specs.NodeRuns.{IsRight, nodes_of}
 use Rattle.local_cache.specs.PageNodes.{HasNode, PageNodes, cell, find, put}
 use Rattle.local_cache.specs.Records.{each}
-use Rattle.local_cache.specs.Runs.{further, run, run_after}
-use Rattle.local_cache.specs.ThinNodes.{first_thin}
-use Rattle.local_cache.proofs.Making.{with_in, with_out}
-use Rattle.local_cache.proofs.ManyNodes.Cleared.{range_cases}
-use Rattle.local_cache.proofs.NodeCells.{get_cells_by, inserted_here, inserted_other, len_cells, len_within}
-use Rattle.local_cache.proofs.Singles.{same_maps}
-use Rattle.local_cache.proofs.ManyNodes.Alike.{alike_said}
+use Rattle.local_cache.specs.Runs.{further, run}
+use Rattle.local_cache.proofs.ManyNodes.Relinked.{IsSaid, next_was, nodes_relinked, none_relinked, one_relinked, places_relinked, relinked, right_relinked}
+use Rattle.local_cache.proofs.NodeCells.{inserted_here, inserted_other}
+
+-- a cell that hangs on another node
+abbrev hanging : Cell → NodeId → Cell
+hanging x parent = record x { links = record x.links { parent = Some parent; by_stub = false } }
 
 module _ (l : NodeLists) (c : Counters) (right : IsRight l c) (r : Stretch Run) (says : SayAs run l.runs.list r)
     (plain : (q : ℕ) → r.first ≤ q → q < r.first + r.count → said each l.records.list q ≡ None)
     (parent : NodeId) (short : parent.0 + r.count ≤ 2 ^ 64) where
-  abbrev R : FinMap nat_cmp Run
-  R = cells run l.runs.list
-
-  abbrev D : FinMap nat_cmp Record
-  D = cells each l.records.list
-
-  abbrev new_run : Stretch Run
-  new_run = record { first = r.first; count = r.count; value = record r.value { parent = Some parent } }
-
-  abbrev after : FinMap nat_cmp Cell
-  after = cells_by (with_stretch run R new_run) D
-
-  abbrev cell_was : ℕ → Cell
-  cell_was k = cell_of (run_after r.value k) (bare r.value.own)
+  abbrev value : Run
+  value = record r.value { parent = Some parent }
 
   abbrev cell_is : ℕ → Cell
-  cell_is k = record (cell_was k) { links = record (cell_was k).links { parent = Some (next_node parent k); by_stub = false } }
-
-  at_was : (k : ℕ) → k < r.count → map.get (node_cells l) (r.first + k) ≡ Some (cell_was k)
-  at_was k less = alike_said l r r.first refl says plain k less
+  cell_is k = hanging (run_cell r.value k) (next_node parent k)
 
   parent_is : (k : ℕ) → k < r.count → further parent k ≡ next_node parent k
   parent_is k less =
       let e : (further parent k).0 ≡ parent.0 + k = omega (arith, short, less) in
       λ i. record { 0 = e i }
 
-  at_is : (k : ℕ) → k < r.count → map.get after (r.first + k) ≡ Some (cell_is k)
-  at_is k less =
-      let far : r.first + k - r.first ≡ k = omega arith in
-      get_cells_by (with_stretch run R new_run) D (r.first + k)
-      ∙ ap (option_map (λ s. cell_by s (map.get D (r.first + k)))) (with_in run R new_run r.count (r.first + k) (omega arith) (omega (arith, less)))
-      ∙ ap (λ (o : Option Record). Some (cell_by (run_after new_run.value (r.first + k - r.first)) o)) (get_cells each l.records.list (r.first + k) ∙ plain (r.first + k) (omega arith) (omega (arith, less)))
-      ∙ ap (λ (j : ℕ). Some (cell_by (run_after new_run.value j) None)) far
-      ∙ ap (λ (p : NodeId). Some (record (cell_was k) { links = record (cell_was k).links { parent = Some p; by_stub = false } })) (parent_is k less)
-
-  beside : (q : ℕ) → (q < r.first) ⊎ (r.first + r.count ≤ q) → map.get after q ≡ map.get (node_cells l) q
-  beside q out =
-      get_cells_by (with_stretch run R new_run) D q
-      ∙ ap (option_map (λ s. cell_by s (map.get D q))) (with_out run R new_run r.count q out)
-      ∙ sym (get_cells_by R D q)
-
-  -- a number is that of one of the nodes, or of another
-  number_cases : (q : ℕ) → ((k : ℕ) × (k < r.count) × (q ≡ r.first + k)) ⊎ ((q < r.first) ⊎ (r.first + r.count ≤ q))
-  number_cases q = elim (range_cases r.first r.count q) [
-    | inl inside ↦ inl (q - r.first, omega (arith, inside.0, inside.1), omega (arith, inside.0))
-    | inr out ↦ inr out
-  ]
-
-  held_same : (q : ℕ) → is_some (map.get after q) ≡ is_some (map.get (node_cells l) q)
-  held_same q = elim (number_cases q) [
-    | inl node ↦ ap (λ (j : ℕ). is_some (map.get after j)) node.2 ∙ ap is_some (at_is node.0 node.1) ∙ sym (ap (λ (j : ℕ). is_some (map.get (node_cells l) j)) node.2 ∙ ap is_some (at_was node.0 node.1))
-    | inr out ↦ ap is_some (beside q out)
-  ]
-
-  -- a key that doesn't see the parent
-  key_same : (key : Cell → Option ℕ) → ((k : ℕ) → key (cell_is k) ≡ key (cell_was k)) → (q : ℕ) → key_at key after q ≡ key_at key (node_cells l) q
-  key_same key same q = elim (number_cases q) [
-    | inl node ↦
-        ap (key_at key after) node.2 ∙ ap (option_and_then key) (at_is node.0 node.1) ∙ same node.0
-        ∙ sym (ap (key_at key (node_cells l)) node.2 ∙ ap (option_and_then key) (at_was node.0 node.1))
-    | inr out ↦ ap (option_and_then key) (beside q out)
-  ]
-
-  index_same : {V : Type 0} (number : V → ℕ) (m : FinMap nat_cmp V) (key : Cell → Option ℕ) → ((q : ℕ) → key_at key after q ≡ key_at key (node_cells l) q)
-      → Indexes number m key (node_cells l) → Indexes number m key after
-  index_same number m key same index k n = (λ h. same n ∙ (index k n).0 h, λ h. (index k n).1 (sym (same n) ∙ h))
-
-  len_after : map.len after ≡ map.len (node_cells l)
-  len_after =
-      let most = len_within after (node_cells l) (λ q h. sym (held_same q) ∙ h) in
-      let least = len_within (node_cells l) after (λ q h. held_same q ∙ h) in
-      omega (arith, most, least)
-
-  len_runs : map.len (with_stretch run R new_run) ≡ map.len R
-  len_runs = sym (len_cells (with_stretch run R new_run) D) ∙ len_after ∙ len_cells R D
-
-  numbered_after : IsNumbered after c
-  numbered_after =
-      let same = key_same working_number (λ k. refl) in
+  is_hung : IsSaid r.value value r.count cell_is
+  is_hung =
       record {
-        given = λ q h. right.numbered.given q (sym (held_same q) ∙ h);
-        named = λ q k h. right.numbered.named q k (sym (same q) ∙ h);
-        apart = λ p q k h e. right.numbered.apart p q k (sym (same p) ∙ h) (sym (same q) ∙ e);
-        pages = right.numbered.pages;
-        workings = right.numbered.workings;
-        few = right.numbered.few;
-        made = right.numbered.made;
+        cell = λ k less. ap (hanging (run_cell r.value k)) (parent_is k less);
+        page = λ k. refl;
+        working = λ k. refl;
+        even = λ k. refl;
+        odd = λ k. refl;
       }
 
   pub runs_places : number_count l.runs.list ≤ l.runs.places
-  runs_places = omega (arith, right.kept.counted.runs, len_cells R D, right.kept.fits, right.kept.places.runs)
+  runs_places = places_relinked l c right r says plain value cell_is is_hung
 
-  module _ (runs : Stretches Run) (set : cells run runs.list ≡ with_stretch run R new_run)
+  abbrev first : NodeId
+  first = record { 0 = r.first }
+
+  abbrev on_parents : ℕ → PageNodes
+  on_parents k = relinked l c right r says plain value cell_is is_hung k
+
+  all_hung : (k : ℕ) → k ≤ r.count → hung_many (nodes_of l c) first parent k ≡ on_parents k
+  unfolding put
+  all_hung zero le = sym (none_relinked l c right r says plain value cell_is is_hung)
+  all_hung (suc k) le =
+      let was = next_was l c right r says plain value cell_is is_hung k (omega (arith, le)) in
+      ap (λ (m : PageNodes). hung m (next_node first k) (next_node parent k)) (all_hung k (omega (arith, le)))
+      ∙ ap (λ (x : Cell). record (on_parents k) { cells = map.insert (on_parents k).cells (r.first + k) (hanging x (next_node parent k)) }) was
+      ∙ one_relinked l c right r says plain value cell_is is_hung k
+
+  module _ (runs : Stretches Run) (set : cells run runs.list ≡ with_stretch run (cells run l.runs.list) (record r { value = value }))
       (count : number_count runs.list ≡ number_count l.runs.list) (places : runs.places ≡ l.runs.places) where
-    abbrev new : NodeLists
-    new = record l { runs = runs }
+    pub right_hung : IsRight (record l { runs = runs }) c
+    right_hung = right_relinked l c right r says plain value cell_is is_hung runs set count places
 
-    cells_are : node_cells new ≡ after
-    cells_are = ap (λ (m : FinMap nat_cmp Run). cells_by m D) set
-
-    pub right_hung : IsRight new c
-    right_hung =
-        record {
-          kept = record {
-            counted = record {
-              runs = omega (arith, count, right.kept.counted.runs, ap map.len set, len_runs);
-              records = right.kept.counted.records;
-              pages = right.kept.counted.pages;
-              even = right.kept.counted.even;
-              odd = right.kept.counted.odd;
-            };
-            places = record {
-              few = right.kept.places.few;
-              runs = omega (arith, places, right.kept.places.runs);
-              records = right.kept.places.records;
-              pages = right.kept.places.pages;
-              even = right.kept.places.even;
-              odd = right.kept.places.odd;
-            };
-            fits = omega (arith, ap map.len cells_are, len_after, right.kept.fits);
-            recorded = λ q h. ap (λ (m : FinMap nat_cmp Cell). is_some (map.get m q)) cells_are ∙ held_same q ∙ right.kept.recorded q h;
-          };
-          indexed = record {
-            pages = subst (Indexes (λ (v : Rising). v.0) _ page_key) (sym cells_are) (index_same _ _ page_key (key_same page_key (λ k. refl)) right.indexed.pages);
-            even = subst (Indexes (λ (v : ThinNodes). (first_thin v).0) _ even_key) (sym cells_are) (index_same _ _ even_key (key_same even_key (λ k. refl)) right.indexed.even);
-            odd = subst (Indexes (λ (v : ThinNodes). (first_thin v).0) _ odd_key) (sym cells_are) (index_same _ _ odd_key (key_same odd_key (λ k. refl)) right.indexed.odd);
-          };
-          numbered = subst (λ (m : FinMap nat_cmp Cell). IsNumbered m c) (sym cells_are) numbered_after;
-          nodes = omega (arith, right.nodes, ap map.len cells_are, len_after);
-          live = right.live;
-        }
-
-    -- One after the other ---------------------------------------------------------------------
-
-    cell_by_cell : Ghosts Cell
-    cell_by_cell = record { after = λ x k. cell_is k; lasts = λ x k. Unit {0} }
-
-    cell_stretch : Stretch Cell
-    cell_stretch = record { first = r.first; count = r.count; value = blank }
-
-    abbrev old : PageNodes
-    old = nodes_of l c
-
-    abbrev hanging : ℕ → PageNodes
-    unfolding cell_by_cell cell_stretch
-    hanging k = record {
-      cells = with_first cell_by_cell (node_cells l) cell_stretch k;
-      pages = old.pages;
-      made = old.made;
-      room = old.room;
-    }
-
-    cell_hanging : (k : ℕ) → k < r.count → cell (hanging k) (next_node (record { 0 = r.first }) k) ≡ cell_was k
-    unfolding cell cell_by_cell cell_stretch
-    cell_hanging k less =
-        ap (λ (o : Option Cell). unwrap_or o blank) (with_out cell_by_cell (node_cells l) cell_stretch k (r.first + k) (inr (omega arith)) ∙ at_was k less)
-
-    all_hung : (k : ℕ) → k ≤ r.count → hung_many old (record { 0 = r.first }) parent k ≡ hanging k
-    unfolding hanging put cell_by_cell cell_stretch
-    all_hung zero le = refl
-    all_hung (suc k) le =
-        ap (λ (m : PageNodes). hung m (next_node (record { 0 = r.first }) k) (next_node parent k)) (all_hung k (omega (arith, le)))
-        ∙ (λ i. record {
-          cells = map.insert (with_first cell_by_cell (node_cells l) cell_stretch k) (r.first + k)
-              (let x = cell_hanging k (omega (arith, le)) i in record x { links = record x.links { parent = Some (next_node parent k); by_stub = false } });
-          pages = old.pages;
-          made = old.made;
-          room = old.room;
-        })
-
-    cells_fold : after ≡ with_first cell_by_cell (node_cells l) cell_stretch r.count
-    unfolding cell_by_cell cell_stretch
-    cells_fold = same_maps _ _ (λ q. elim (number_cases q) [
-      | inl node ↦
-          let far : node.0 ≡ r.first + node.0 - r.first = omega arith in
-          ap (map.get after) node.2 ∙ at_is node.0 node.1 ∙ ap (λ (j : ℕ). Some (cell_is j)) far
-          ∙ sym (ap (map.get (with_first cell_by_cell (node_cells l) cell_stretch r.count)) node.2 ∙ with_in cell_by_cell (node_cells l) cell_stretch r.count (r.first + node.0) (omega arith) (omega (arith, node.1)))
-      | inr out ↦ beside q out ∙ sym (with_out cell_by_cell (node_cells l) cell_stretch r.count q out)
-    ])
-
-    pub nodes_hung : nodes_of new c ≡ hung_many old (record { 0 = r.first }) parent r.count
-    unfolding hanging
+    pub nodes_hung : nodes_of (record l { runs = runs }) c ≡ hung_many (nodes_of l c) first parent r.count
     nodes_hung =
-        let same : l.capacity - map.len (node_cells new) ≡ l.capacity - map.len (node_cells l) = omega (arith, ap map.len cells_are, len_after) in
-        (λ i. record { cells = (cells_are ∙ cells_fold) i; pages = old.pages; made = c.made; room = same i })
+        nodes_relinked l c right r says plain value cell_is is_hung runs set count places
         ∙ sym (all_hung r.count (omega arith))
 
 -- Some of many -------------------------------------------------------------------------------------

@@ -1,5 +1,5 @@
 // Page nodes that are alike: one run says all that is said of them.
-ghost use Rattle.std.specs.Prelude.{◌≡◌, ◌+◌, ◌<◌, ◌≤◌, ℕ, IsSome, None};
+ghost use Rattle.std.specs.Prelude.{◌≡◌, ◌+◌, ◌<◌, ◌≤◌, ◌^◌, ℕ, IfSome, IsSome, None};
 ghost use Rattle.std.specs.FinMap as map;
 ghost use Rattle.stretches.specs.Stretch.{IsFit};
 ghost use Rattle.stretches.specs.Stretches.{AreTogether, SayAs, said};
@@ -9,6 +9,7 @@ ghost use Rattle.local_cache.specs.Runs.{run as run_says};
 
 use crate::runs::{NodeLists, Records, Run};
 use stretches::Stretch;
+use vm_ids::NodeId;
 
 // How many numbers from one on have no record, as far as so many.
 fn without_record(records: &Records, node: u64, most: u32) -> u32
@@ -17,6 +18,17 @@ fn without_record(records: &Records, node: u64, most: u32) -> u32
 {
     match records.first_from(node) {
         Some(first) => (first - node).min(most as u64) as u32,
+        None => most,
+    }
+}
+
+// How many numbers there are from a node on, as far as so many: all of them where there is no node.
+pub(crate) fn numbers_from(node: Option<NodeId>, most: u32) -> u32
+    ensures most { result ≤ most }
+    ensures short { IfSome node (λ n. n.0 + result ≤ 2 ^ 64) }
+{
+    match node {
+        Some(node) => (u64::MAX - node.0).min(most as u64) as u32,
         None => most,
     }
 }

@@ -13,7 +13,7 @@ use crate::runs::placing::{place, take};
 use crate::runs::{Counters, Keys, NodeLists, Parts, RunName};
 
 // How many nodes of pages a node of this name is: one or none.
-fn live_of(name: RunName) -> u32
+pub(crate) fn live_of(name: RunName) -> u32
     ensures { result ≡ live_of name }
 {
     match name {

@@ -44,11 +44,9 @@ pub(crate) fn first_of(list: &StretchList<ThinNodes>) -> Option<ThinNode>
         ((k : ℕ) → said thin_nodes list.now.list k ≡ None)
         (IsFirstOf list.now.list) }
 {
-    match list.next_from(0) {
-        Some(stretch) => Some(ThinNode {
-            half: stretch.first,
-            node: stretch.value.first(),
-        }),
-        None => None,
-    }
+    let stretch = list.next_from(0)?;
+    Some(ThinNode {
+        half: stretch.first,
+        node: stretch.value.first(),
+    })
 }

@@ -10,6 +10,7 @@
 //! Nodes of pages and nodes made as working ones have two series of numbers. Each rises, so that
 //! nodes made one behind the other can stand in one run.
 mod adapting;
+mod adopting;
 mod alike;
 mod clearing;
 mod counted;
@@ -23,6 +24,7 @@ mod indexing;
 mod key_ranges;
 mod keys;
 mod making;
+mod making_working;
 mod node_lists;
 mod node_runs;
 mod numbering;
@@ -38,13 +40,14 @@ mod singles;
 mod thin_nodes;
 mod writing;
 
+pub(crate) use adopting::Children;
 pub(crate) use clearing::clear_many;
 pub(crate) use counters::Counters;
 pub(crate) use counting::count_said;
 pub(crate) use keys::{Keys, page_number};
 pub(crate) use node_lists::NodeLists;
 pub(crate) use node_runs::NodeRuns;
-pub(crate) use parts::Parts;
+pub(crate) use parts::{Parts, plain};
 pub(crate) use record::Record;
 pub(crate) use record_key::RecordKey;
 pub(crate) use records::Records;

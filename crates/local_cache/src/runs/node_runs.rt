@@ -4,21 +4,26 @@ ghost use Rattle.std.specs.FinMap as map;
 ghost use Rattle.stretches.specs.Stretch.{IsFit, single};
 ghost use Rattle.local_cache.specs.NodeCells.{cell_of, own_of_plain};
 ghost use Rattle.local_cache.specs.PageNodes.{ArePaged, HasNode, IsLeastThin, MakesAllPages, as_working, cell, find, node_at, put, with_links, with_name, with_new, with_own, with_tree, with_working, without};
-ghost use Rattle.local_cache.specs.ManyNodes.{AreAlike, HaveNodes, HaveNone, hung_many, with_names, with_new_many, without_many};
+ghost use Rattle.local_cache.specs.ManyNodes.{AreAlike, HaveNodes, HaveNone, as_working_many, hung_many, next_node, over_many, with_names, with_new_many, with_working_many, without_many};
 ghost use Rattle.local_cache.specs.NodeKeys.{page_number};
 ghost use Rattle.local_cache.specs.Runs.{run as run_says};
 ghost use Rattle.vm_ids.specs.declared.numbers.NodeId.{NodeId as Id};
 
-use crate::runs::alike::alike_from;
+use crate::runs::adopting::{Children, adopt_from};
+use crate::runs::alike::{alike_from, numbers_from};
 use crate::runs::counted::{add, remove, replace};
 use crate::runs::counted_many::remove_from;
 use crate::runs::first_thin::{first_of, lesser};
 use crate::runs::hanging::hang_from;
 use crate::runs::keys::{keys_of, page_number};
 use crate::runs::making::make_run;
-use crate::runs::numbering::{FIRST_WORKING, give_name, give_page_number, give_working_number};
+use crate::runs::making_working::make_working;
+use crate::runs::numbering::{
+    FIRST_WORKING, give_name, give_page_number, give_working_number, number_behind,
+};
 use crate::runs::parts::{own_of, own_of_plain, parts_of, run_of};
 use crate::runs::placing::place;
+use crate::runs::record::is_same_own;
 use crate::runs::renaming::{PageName, rename_from};
 use crate::runs::{Counters, NodeLists, Parts, PlainState, Record, RunName};
 use crate::{Links, OwnState};
@@ -30,7 +35,7 @@ use vm_ids::{CacheId, NoMemory, NodeId, NodeName, PageNo};
 ///
 /// Its model is `PageNodes` of `specs`: a map from the numbers of nodes to cells, the node of each
 /// page, how many working names were given, and how many more nodes fit before memory is taken.
-/// Each call but the making of pages changes one cell.
+/// Each call changes one cell, but for the making of pages and the calls for many nodes.
 #[derive(Drop)]
 pub(crate) struct NodeRuns {
     lists: NodeLists,
@@ -131,6 +136,9 @@ impl NodeRuns {
         ensures { self.new ≡ with_own self.old node state }
     {
         let before = self.parts(node);
+        if is_same_own(before.record.own, state) {
+            return;
+        }
         let beside = Record {
             own: state,
             ..before.record
@@ -159,6 +167,17 @@ impl NodeRuns {
     {
         let before = self.parts(node);
         self.change(node, before, before.over(children));
+    }
+
+    /// Gives so many nodes, from one on, the next ones of these tree children, as `set_tree_children`
+    /// gives each its own. Nodes of pages of which one run says all get theirs at once.
+    pub(crate) fn adopt_many(&mut self, node: NodeId, count: u32, children: Children)
+        requires held { HaveNodes self.old node count }
+        requires older { children.older.0 + count ≤ 2 ^ 64 }
+        requires newer { IfSome children.newer (λ n. n.0 + count ≤ 2 ^ 64) }
+        ensures { self.new ≡ over_many self.old node children.older children.newer count }
+    {
+        adopt_from(&mut self.lists, &self.counters, node.0, count, children);
     }
 
     /// Hangs so many nodes, from one on, each on the next parent by a tree link. Those of which one
@@ -239,6 +258,7 @@ impl NodeRuns {
         requires vacant { (k : ℕ) → k < count
             → map.get self.old.pages (page_number cache.0 (page.0 + k)) ≡ None }
         ensures new { IfSome result (λ n. HaveNone self.old n count) }
+        ensures short { IfSome result (λ n. n.0 + count ≤ 2 ^ 64) }
         ensures changed { MatchOption result (self.new ≡ self.old) (λ n. self.new
             ≡ with_new_many self.old n cache page (own_of_plain own) count) }
     {
@@ -267,6 +287,22 @@ impl NodeRuns {
         NodeId(node)
     }
 
+    /// Makes so many working nodes under the next names, as `fresh_working` makes each. They are one
+    /// run. It takes no memory: there has to be room for the nodes.
+    pub(crate) fn fresh_working_many(&mut self, count: u32) -> NodeId
+        requires room { count ≤ self.old.room }
+        requires made { self.old.made + count ≤ 2 ^ 63 }
+        ensures new { HaveNone self.old result count }
+        ensures short { result.0 + count ≤ 2 ^ 64 }
+        ensures changed { self.new ≡ with_working_many self.old result count }
+    {
+        let first = self.counters.next_working;
+        if count > 0 {
+            make_working(&mut self.lists, &mut self.counters, count);
+        }
+        NodeId(first)
+    }
+
     /// Names a node by the next working name. The page that it was the node of has none then.
     pub(crate) fn to_working(&mut self, node: NodeId)
         requires held { HasNode self.old node }
@@ -277,6 +313,18 @@ impl NodeRuns {
         give_name(&self.lists, &mut self.counters);
         let now = before.named(RunName::Working(self.counters.made));
         replace(&mut self.lists, &mut self.counters, node.0, before, now);
+    }
+
+    /// Names so many nodes, from one on, by the next working names, as `to_working` names each.
+    pub(crate) fn to_working_many(&mut self, node: NodeId, count: u32)
+        requires held { HaveNodes self.old node count }
+        requires made { self.old.made + count ≤ 2 ^ 63 }
+        ensures { self.new ≡ as_working_many self.old node count }
+    {
+        for done in 0..count {
+            let next = self.node_after(node, done);
+            self.to_working(next);
+        }
     }
 
     /// Makes a node that of a page that has none. The page that it was the node of has none then.
@@ -352,9 +400,13 @@ impl NodeRuns {
     /// than the one before. There is none where a record says something of this node.
     pub(crate) fn stretch(&self, node: NodeId) -> u32
         requires { HasNode self.now node }
-        ensures { AreAlike self.now node result }
+        ensures alike { AreAlike self.now node result }
+        ensures short { node.0 + result ≤ 2 ^ 64 }
     {
-        alike_from(&self.lists, node.0, u32::MAX).count
+        let alike = alike_from(&self.lists, node.0, u32::MAX);
+        let parents = numbers_from(alike.value.parent, alike.count);
+        let older = numbers_from(alike.value.older, parents);
+        numbers_from(alike.value.newer, older)
     }
 
     /// How many runs the nodes stand in.
@@ -377,6 +429,14 @@ impl NodeRuns {
                 None => None,
             },
         }
+    }
+
+    // The node so many numbers further on, which there is.
+    fn node_after(&self, node: NodeId, by: u32) -> NodeId
+        requires { HasNode self.now (next_node node by) }
+        ensures { result ≡ next_node node by }
+    {
+        NodeId(number_behind(&self.lists, &self.counters, node.0, by))
     }
 
     // Says something else of a node, but for its name.

@@ -3,6 +3,7 @@ ghost use Rattle.std.specs.Prelude.{◌≡◌, ◌≤◌, IfSome, IsSome, Some, 
 ghost use Rattle.std.specs.FinMap as map;
 ghost use Rattle.stretches.specs.Stretch.{IsFit, single};
 ghost use Rattle.stretches.specs.Stretches.{said};
+ghost use Rattle.local_cache.specs.Many.{IsPlain};
 ghost use Rattle.local_cache.specs.NodeCells.{bare, cell_by, cell_of, either, node_cells, own_of_plain};
 ghost use Rattle.local_cache.specs.Records.{each};
 ghost use Rattle.local_cache.specs.Arena.{new_cell};
@@ -34,7 +35,8 @@ pub(crate) fn own_of_plain(own: PlainState) -> OwnState
 
 // The word that says this own state, if one does.
 fn plain_of(own: OwnState) -> Option<PlainState>
-    ensures { IfSome result (λ plain. own ≡ own_of_plain plain) }
+    ensures says { IfSome result (λ plain. own ≡ own_of_plain plain) }
+    ensures some { IsPlain own → IsSome result }
 {
     match own {
         OwnState::Absent => Some(PlainState::Absent),
@@ -42,6 +44,17 @@ fn plain_of(own: OwnState) -> Option<PlainState>
         OwnState::OnSegment => Some(PlainState::OnSegment),
         OwnState::Resident { .. } => None,
         OwnState::Slot(_) => None,
+    }
+}
+
+// The word that says this own state, which one does.
+pub(crate) fn plain(own: OwnState) -> PlainState
+    requires { IsPlain own }
+    ensures { own ≡ own_of_plain result }
+{
+    match plain_of(own) {
+        Some(plain) => plain,
+        None => unreachable!(),
     }
 }
 

@@ -14,6 +14,12 @@ pub(crate) struct Record {
     pub links: Links,
 }
 
+pub(crate) fn is_same_own(one: OwnState, other: OwnState) -> bool
+    ensures { IsTrue result ↔ (one ≡ other) }
+{
+    one == other
+}
+
 pub(crate) fn is_same_links(one: Links, other: Links) -> bool
     ensures { IsTrue result ↔ (one ≡ other) }
 {

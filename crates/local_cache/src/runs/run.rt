@@ -50,10 +50,7 @@ fn further(node: NodeId, by: u32) -> NodeId
 fn further_if(node: Option<NodeId>, by: u32) -> Option<NodeId>
     ensures { result ≡ further_if node by }
 {
-    match node {
-        Some(node) => Some(further(node, by)),
-        None => None,
-    }
+    Some(further(node?, by))
 }
 
 // Whether both are the same node, or both are none.

@@ -68,16 +68,12 @@ fn said_already(runs: &StretchList<Run>, node: u64, run: Run, free: bool) -> Opt
     ensures own { IfSome result (λ same. free ≡ false → same.own ≡ run.own) }
     ensures fit { IfSome result (λ same. IsFit run_says (single node same)) }
 {
-    match find_one(runs, node) {
-        Some(now) => {
-            let own = if free { now.own } else { run.own };
-            if now.is_same(Run { own, ..run }) {
-                Some(now)
-            } else {
-                None
-            }
-        }
-        None => None,
+    let now = find_one(runs, node)?;
+    let own = if free { now.own } else { run.own };
+    if now.is_same(Run { own, ..run }) {
+        Some(now)
+    } else {
+        None
     }
 }
 

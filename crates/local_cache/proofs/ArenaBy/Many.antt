@@ -1,0 +1,142 @@
+-- Each call that changes many page nodes, one after the other.
+use Rattle.std.proofs.Common.{◌≡◌, ℕ, zero, suc, ◌+◌, ◌<◌, ◌≤◌, Some, None, refl, ap, sym, ◌∙◌, arith}
+use Rattle.std.specs.Prelude.{List, [], ◌∷◌, false}
+use Rattle.std.proofs.lemmas.Option.{same_Some}
+use Rattle.std.specs.FinMap as ids
+use Rattle.vm_ids.specs.declared.node_name.NodeName.TheVariants.{Live}
+use Rattle.vm_ids.specs.declared.numbers.CacheId.{CacheId}
+use Rattle.vm_ids.specs.declared.numbers.NodeId.{NodeId}
+use Rattle.vm_ids.specs.declared.numbers.PageNo.{PageNo}
+use Rattle.local_cache.specs.declared.own_state.OwnState.{OwnState}
+use Rattle.local_cache.specs.Arena.{Arena}
+use Rattle.local_cache.specs.Arena as arena
+use Rattle.local_cache.specs.ArenaBy.{CacheRows, arena_by}
+use Rattle.local_cache.specs.Many.{AreVacant, as_working_many, hung_many, over_many, over_two_many, with_new_many, with_working_many, without_many}
+use Rattle.local_cache.specs.ManyNodes.{HaveNodes, HaveNone, next_node}
+use Rattle.local_cache.specs.ManyNodes as many
+use Rattle.local_cache.specs.NodeKeys.{page_number}
+use Rattle.local_cache.specs.PageNodes.{PageNodes}
+use Rattle.local_cache.specs.PageNodes as nodes
+use Rattle.local_cache.specs.Placed.{ArePlaced}
+use Rattle.local_cache.proofs.ArenaBy.Calls.{StandFor, freed, links_set, made_working, may_get_node, tree_set, working_made}
+use Rattle.local_cache.proofs.ArenaBy.Nodes.{new_by}
+use Rattle.local_cache.proofs.ArenaBy.Placed.{kept_new, short_name}
+use Rattle.local_cache.proofs.Making.{cells_beside}
+use Rattle.local_cache.proofs.ManyNodes.AsWorking.{held_as_working}
+use Rattle.local_cache.proofs.ManyNodes.Freed.{held_behind}
+use Rattle.local_cache.proofs.ManyNodes.Hung.{held_hung}
+use Rattle.local_cache.proofs.ManyNodes.Over.{held_over}
+use Rattle.local_cache.proofs.NodeCells.{inserted_other}
+
+-- What stays ----------------------------------------------------------------------------------------
+
+-- the pages behind those that got nodes
+pages_beside : (m : PageNodes) (n : NodeId) (cache : CacheId) (page : PageNo) (own : OwnState) (k q : ℕ) → page.0 + k ≤ q
+    → ids.get (many.with_new_many m n cache page own k).pages (page_number cache.0 q) ≡ ids.get m.pages (page_number cache.0 q)
+unfolding nodes.with_new
+pages_beside m n cache page own zero q behind = refl
+pages_beside m n cache page own (suc k) q behind =
+    inserted_other (many.with_new_many m n cache page own k).pages (page_number cache.0 (page.0 + k)) _ (page_number cache.0 q)
+    (λ e. let bad : ⊥ = omega (arith, behind, e) in bad)
+    ∙ pages_beside m n cache page own k q (omega (arith, behind))
+
+module _ (m : PageNodes) (n : NodeId) where
+  -- the numbers behind those of new working nodes
+  working_beside : (k q : ℕ) → n.0 + k ≤ q → ids.get (many.with_working_many m n k).cells q ≡ ids.get m.cells q
+  unfolding nodes.with_new
+  working_beside zero q behind = refl
+  working_beside (suc k) q behind =
+      inserted_other (many.with_working_many m n k).cells (n.0 + k) _ q (λ e. let bad : ⊥ = omega (arith, behind, e) in bad)
+      ∙ working_beside k q (omega (arith, behind))
+
+-- One after the other -------------------------------------------------------------------------------
+
+-- one change more of what stands for an arena
+one_more : (m now : PageNodes) (c : CacheRows) (a : Arena) (f : Arena → Arena) → StandFor m c a
+    → StandFor now c (f (arena_by m c)) → StandFor now c (f a)
+one_more m now c a f before stand = record { is = stand.is ∙ ap f before.is; right = stand.right }
+
+module _ (m : PageNodes) (c : CacheRows) (right : ArePlaced m c.rows) (n : NodeId) where
+  abbrev a : Arena
+  a = arena_by m c
+
+  none_yet : StandFor m c a
+  none_yet = record { is = refl; right = right }
+
+  pub many_freed : (k : ℕ) → HaveNodes m n k → StandFor (many.without_many m n k) c (without_many a n k)
+  many_freed zero held = none_yet
+  many_freed (suc k) held =
+      let now : PageNodes = many.without_many m n k in
+      let before = many_freed k (λ j less. held j (omega (arith, less))) in
+      one_more now (nodes.without now (next_node n k)) c (without_many a n k) (λ (b : Arena). arena.without b (next_node n k)) before
+      (freed now c before.right (next_node n k) (held_behind m n k (held k (omega arith))))
+
+  pub many_hung : (parent : NodeId) (k : ℕ) → HaveNodes m n k
+      → StandFor (many.hung_many m n parent k) c (hung_many a n parent k)
+  unfolding nodes.cell arena.cell
+  many_hung parent zero held = none_yet
+  many_hung parent (suc k) held =
+      let now : PageNodes = many.hung_many m n parent k in
+      let before = many_hung parent k (λ j less. held j (omega (arith, less))) in
+      one_more now (many.hung now (next_node n k) (next_node parent k)) c (hung_many a n parent k)
+      (λ (b : Arena). arena.hung b (next_node n k) (Some (next_node parent k))) before
+      (links_set now c before.right (next_node n k) (held_hung m n parent k (next_node n k) (held k (omega arith)))
+      (record (nodes.cell now (next_node n k)).links { parent = Some (next_node parent k); by_stub = false }))
+
+  pub many_over : (child : NodeId) (k : ℕ) → HaveNodes m n k
+      → StandFor (many.over_many m n child None k) c (over_many a n child k)
+  many_over child zero held = none_yet
+  many_over child (suc k) held =
+      let now : PageNodes = many.over_many m n child None k in
+      let before = many_over child k (λ j less. held j (omega (arith, less))) in
+      let children : List NodeId = next_node child k ∷ [] in
+      one_more now (nodes.with_tree now (next_node n k) children) c (over_many a n child k)
+      (λ (b : Arena). arena.with_tree b (next_node n k) children) before
+      (tree_set now c before.right (next_node n k) (held_over m n child None k (next_node n k) (held k (omega arith))) children)
+
+  pub many_over_two : (older newer : NodeId) (k : ℕ) → HaveNodes m n k
+      → StandFor (many.over_many m n older (Some newer) k) c (over_two_many a n older newer k)
+  many_over_two older newer zero held = none_yet
+  many_over_two older newer (suc k) held =
+      let now : PageNodes = many.over_many m n older (Some newer) k in
+      let before = many_over_two older newer k (λ j less. held j (omega (arith, less))) in
+      let children : List NodeId = next_node older k ∷ next_node newer k ∷ [] in
+      one_more now (nodes.with_tree now (next_node n k) children) c (over_two_many a n older newer k)
+      (λ (b : Arena). arena.with_tree b (next_node n k) children) before
+      (tree_set now c before.right (next_node n k) (held_over m n older (Some newer) k (next_node n k) (held k (omega arith))) children)
+
+  pub many_as_working : (k : ℕ) → HaveNodes m n k
+      → StandFor (many.as_working_many m n k) c (as_working_many a n k)
+  many_as_working zero held = none_yet
+  many_as_working (suc k) held =
+      let now : PageNodes = many.as_working_many m n k in
+      let before = many_as_working k (λ j less. held j (omega (arith, less))) in
+      one_more now (nodes.as_working now (next_node n k)) c (as_working_many a n k) (λ (b : Arena). arena.as_working b (next_node n k)) before
+      (made_working now c before.right (next_node n k) (held_as_working m n k (next_node n k) (held k (omega arith))))
+
+  pub many_working : (k : ℕ) → HaveNone m n k
+      → StandFor (many.with_working_many m n k) c (with_working_many a n k)
+  many_working zero none = none_yet
+  many_working (suc k) none =
+      let now : PageNodes = many.with_working_many m n k in
+      let before = many_working k (λ j less. none j (omega (arith, less))) in
+      one_more now (nodes.with_working now (next_node n k)) c (with_working_many a n k) (λ (b : Arena). arena.with_working b (next_node n k)) before
+      (working_made now c before.right (next_node n k) (working_beside m n k (n.0 + k) (omega arith) ∙ none k (omega arith)))
+
+  pub many_made : (cache : CacheId) (page : PageNo) (own : OwnState) (k : ℕ) → HaveNone m n k → AreVacant a cache page k
+      → StandFor (many.with_new_many m n cache page own k) c (with_new_many a n cache page own k)
+  many_made cache page own zero none vacant = none_yet
+  many_made cache page own (suc k) none vacant =
+      let now : PageNodes = many.with_new_many m n cache page own k in
+      let before = many_made cache page own k (λ j less. none j (omega (arith, less))) (λ j less. vacant j (omega (arith, less))) in
+      let p : PageNo = record { 0 = page.0 + k } in
+      let may = may_get_node m c right cache p (vacant k (omega arith)) in
+      let free = pages_beside m n cache page own k (page.0 + k) (omega arith) ∙ may.vacant in
+      one_more now (nodes.with_new now (next_node n k) (Live cache p) own) c (with_new_many a n cache page own k)
+      (λ (b : Arena). arena.with_new b (next_node n k) (Live cache p) own) before
+      (record {
+        is = new_by now c (next_node n k) before.right.short (Live cache p) own (short_name now c.rows before.right (Live cache p) may.placed);
+        right = kept_new now c.rows before.right (next_node n k) (Live cache p) own
+            (cells_beside m n cache page own k (n.0 + k) (omega arith) ∙ none k (omega arith)) may.placed
+            (λ q e. ap (ids.get now.pages) (sym (same_Some (page_number cache.0 p.0) q e)) ∙ free);
+      })

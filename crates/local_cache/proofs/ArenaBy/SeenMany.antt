@@ -1,0 +1,116 @@
+-- The caches as they are seen, after each call that changes many page nodes.
+use Rattle.std.proofs.Common.{◌≡◌, ℕ, ◌+◌, ◌<◌, ◌^◌, None, Option, Some, ap, sym, subst, ◌∙◌, arith}
+use Rattle.std.specs.Prelude.{IfSome, MatchOption}
+use Rattle.std.specs.FinMap as ids
+use Rattle.vm_ids.specs.declared.numbers.CacheId.{CacheId}
+use Rattle.vm_ids.specs.declared.numbers.NodeId.{NodeId}
+use Rattle.vm_ids.specs.declared.numbers.PageNo.{PageNo}
+use Rattle.local_cache.specs.declared.own_state.OwnState.{OwnState}
+use Rattle.local_cache.specs.Arena.{Arena, NodesStay}
+use Rattle.local_cache.specs.ArenaBy.{CacheRows, arena_by}
+use Rattle.local_cache.specs.Many.{AreVacant, HaveNodes, HaveNone, as_working_many, hung_many, over_many, over_two_many, with_new_many, with_working_many, without_many}
+use Rattle.local_cache.specs.ManyNodes.{next_node}
+use Rattle.local_cache.specs.ManyNodes as many
+use Rattle.local_cache.specs.NodeKeys.{page_number}
+use Rattle.local_cache.specs.PageNodes.{PageNodes}
+use Rattle.local_cache.specs.Placed.{AreRight}
+use Rattle.local_cache.proofs.ArenaBy.Many.{many_as_working, many_freed, many_hung, many_made, many_over, many_over_two, many_working}
+use Rattle.local_cache.proofs.Nodes.Many.{held_new_many, stay_new}
+use Rattle.local_cache.proofs.ArenaBy.Seen.{Seen, held_seen, may_seen, node_call, none_seen}
+
+module _ (m : PageNodes) (c : CacheRows) (a : Arena) (is : arena_by m c ≡ a) (n : NodeId) (count : ℕ) where
+  pub all_held : HaveNodes a n count → many.HaveNodes m n count
+  all_held held k less = held_seen m c a is (next_node n k) (held k less)
+
+  pub none_held : many.HaveNone m n count → HaveNone a n count
+  none_held none k less = none_seen m c a is (next_node n k) (none k less)
+
+module _ (m : PageNodes) (c : CacheRows) (a : Arena) (is : arena_by m c ≡ a) (right : AreRight m c) where
+  -- pages that have no nodes may get some
+  module _ (cache : CacheId) (page : PageNo) (count : ℕ) (vacant : AreVacant a cache page count) where
+    pub all_vacant : (k : ℕ) → k < count → ids.get m.pages (page_number cache.0 (page.0 + k)) ≡ None
+    all_vacant k less = (may_seen m c a is right cache (record { 0 = page.0 + k }) (vacant k less)).vacant
+
+    pub last_short : (last : ℕ) → count ≡ last + 1 → page.0 + count < 2 ^ 32
+    last_short last e = omega (arith, e, (may_seen m c a is right cache (record { 0 = page.0 + last }) (vacant last (omega (arith, e)))).short)
+
+  module _ (new : PageNodes) (n : NodeId) (count : ℕ) where
+    pub free_many_call : HaveNodes a n count → new ≡ many.without_many m n count → Seen new c (without_many a n count)
+    free_many_call held changed =
+        node_call m c a is right new (many.without_many m n count) (λ (b : Arena). without_many b n count) changed
+        (many_freed m c right.placed n count (all_held m c a is n count held))
+
+    pub hang_many_call : (parent : NodeId) → HaveNodes a n count → new ≡ many.hung_many m n parent count
+        → Seen new c (hung_many a n parent count)
+    hang_many_call parent held changed =
+        node_call m c a is right new (many.hung_many m n parent count) (λ (b : Arena). hung_many b n parent count) changed
+        (many_hung m c right.placed n parent count (all_held m c a is n count held))
+
+    pub adopt_many_call : (child : NodeId) → HaveNodes a n count → new ≡ many.over_many m n child None count
+        → Seen new c (over_many a n child count)
+    adopt_many_call child held changed =
+        node_call m c a is right new (many.over_many m n child None count) (λ (b : Arena). over_many b n child count) changed
+        (many_over m c right.placed n child count (all_held m c a is n count held))
+
+    pub adopt_two_many_call : (older newer : NodeId) → HaveNodes a n count → new ≡ many.over_many m n older (Some newer) count
+        → Seen new c (over_two_many a n older newer count)
+    adopt_two_many_call older newer held changed =
+        node_call m c a is right new (many.over_many m n older (Some newer) count)
+        (λ (b : Arena). over_two_many b n older newer count) changed
+        (many_over_two m c right.placed n older newer count (all_held m c a is n count held))
+
+    pub to_working_many_call : HaveNodes a n count → new ≡ many.as_working_many m n count
+        → Seen new c (as_working_many a n count)
+    to_working_many_call held changed =
+        node_call m c a is right new (many.as_working_many m n count) (λ (b : Arena). as_working_many b n count) changed
+        (many_as_working m c right.placed n count (all_held m c a is n count held))
+
+    pub fresh_working_many_call : many.HaveNone m n count → new ≡ many.with_working_many m n count
+        → Seen new c (with_working_many a n count)
+    fresh_working_many_call none changed =
+        node_call m c a is right new (many.with_working_many m n count) (λ (b : Arena). with_working_many b n count) changed
+        (many_working m c right.placed n count none)
+
+    pub fresh_many_call : (cache : CacheId) (page : PageNo) (own : OwnState) → many.HaveNone m n count
+        → AreVacant a cache page count → new ≡ many.with_new_many m n cache page own count
+        → Seen new c (with_new_many a n cache page own count)
+    fresh_many_call cache page own none vacant changed =
+        node_call m c a is right new (many.with_new_many m n cache page own count)
+        (λ (b : Arena). with_new_many b n cache page own count) changed
+        (many_made m c right.placed n cache page own count none
+        (subst (λ (b : Arena). AreVacant b cache page count) (sym is) vacant))
+
+  -- nodes that were made for pages, or none
+  module _ (new : PageNodes) (cache : CacheId) (page : PageNo) (own : OwnState) (count : ℕ)
+      (vacant : AreVacant a cache page count) where
+    abbrev Makes : NodeId → Type 0
+    Makes n = new ≡ many.with_new_many m n cache page own count
+
+    call : (n : NodeId) → many.HaveNone m n count → Makes n → Seen new c (with_new_many a n cache page own count)
+    call n none made = fresh_many_call new n count cache page own none vacant made
+
+    pub made_right : (o : Option NodeId) → IfSome o (λ n. many.HaveNone m n count) → MatchOption o (new ≡ m) Makes → AreRight new c
+    made_right None none made = subst (λ (x : PageNodes). AreRight x c) (sym made) right
+    made_right (Some n) none made = (call n none made).right
+
+    pub made_is : (o : Option NodeId) → IfSome o (λ n. many.HaveNone m n count) → MatchOption o (new ≡ m) Makes
+        → MatchOption o (arena_by new c ≡ a) (λ n. arena_by new c ≡ with_new_many a n cache page own count)
+    made_is None none made = ap (λ (x : PageNodes). arena_by x c) made ∙ is
+    made_is (Some n) none made = (call n none made).is
+
+    pub none_made : (o : Option NodeId) → IfSome o (λ n. many.HaveNone m n count) → IfSome o (λ n. HaveNone a n count)
+    none_made None none = none
+    none_made (Some n) none = none_held m c a is n count none
+
+    pub held_made : (o : Option NodeId) → IfSome o (λ n. many.HaveNone m n count) → MatchOption o (new ≡ m) Makes
+        → IfSome o (λ n. HaveNodes (arena_by new c) n count)
+    held_made None none made = none
+    held_made (Some n) none made =
+        subst (λ (b : Arena). HaveNodes b n count) (sym (call n none made).is) (held_new_many a n cache page own count)
+
+    pub stay_made : (o : Option NodeId) → IfSome o (λ n. many.HaveNone m n count) → MatchOption o (new ≡ m) Makes
+        → NodesStay a (arena_by new c)
+    stay_made None none made =
+        subst (NodesStay a) (sym (ap (λ (x : PageNodes). arena_by x c) made ∙ is)) (λ n held. held)
+    stay_made (Some n) none made =
+        subst (NodesStay a) (sym (call n none made).is) (stay_new a n cache page own count)

@@ -1,0 +1,90 @@
+-- Many page nodes of the caches changed at once: as the calls for one change them, one after the other.
+use Rattle.std.specs.Prelude.{◌≡◌, ℕ, zero, suc, ◌+◌, ◌<◌, [], ◌∷◌, map, None, Some}
+use Rattle.vm_ids.specs.declared.node_name.NodeName.TheVariants.{Live, Working}
+use Rattle.vm_ids.specs.declared.numbers.CacheId.{CacheId}
+use Rattle.vm_ids.specs.declared.numbers.NodeId.{NodeId}
+use Rattle.vm_ids.specs.declared.numbers.PageNo.{PageNo}
+use Rattle.local_cache.specs.declared.own_state.OwnState.{OwnState}
+use Rattle.local_cache.specs.declared.own_state.OwnState.TheVariants.{Absent, Zero, Resident, Slot, OnSegment}
+use Rattle.local_cache.specs.Arena.{Arena, HasNode, IsVacant, as_working, cell, find, hung, no_links, with_new, with_tree, with_working, without}
+use Rattle.local_cache.specs.ManyNodes.{next_if, next_node}
+
+-- so many nodes from one on are there
+abbrev pub HaveNodes : Arena → NodeId → ℕ → Type 0
+HaveNodes a n count = (k : ℕ) → k < count → HasNode a (next_node n k)
+
+-- none of so many nodes from one on is there
+abbrev pub HaveNone : Arena → NodeId → ℕ → Type 0
+HaveNone a n count = (k : ℕ) → k < count → find a (next_node n k) ≡ None
+
+-- a live cache has so many pages from one on, none of which has a node
+abbrev pub AreVacant : Arena → CacheId → PageNo → ℕ → Type 0
+AreVacant a cache page count =
+    (k : ℕ) → k < count → IsVacant a cache (record { 0 = page.0 + k })
+
+-- many nodes can be made in this own state at once: it is neither a frame nor a slot
+abbrev pub IsPlain : OwnState → Type 0
+IsPlain Absent = Unit {0}
+IsPlain Zero = Unit {0}
+IsPlain (Resident dirty) = ⊥
+IsPlain (Slot s) = ⊥
+IsPlain OnSegment = Unit {0}
+
+-- the arena without so many nodes, from one on
+abbrev pub without_many : Arena → NodeId → ℕ → Arena
+without_many a n zero = a
+without_many a n (suc k) = without (without_many a n k) (next_node n k)
+
+-- a new node for each of so many pages of a cache, from one page and one node on
+abbrev pub with_new_many : Arena → NodeId → CacheId → PageNo → OwnState → ℕ → Arena
+with_new_many a n cache page own zero = a
+with_new_many a n cache page own (suc k) =
+    with_new (with_new_many a n cache page own k) (next_node n k)
+    (Live cache (record { 0 = page.0 + k })) own
+
+-- so many new working nodes, under the next names, from one node on
+abbrev pub with_working_many : Arena → NodeId → ℕ → Arena
+with_working_many a n zero = a
+with_working_many a n (suc k) = with_working (with_working_many a n k) (next_node n k)
+
+-- so many nodes from one on under the next working names
+abbrev pub as_working_many : Arena → NodeId → ℕ → Arena
+as_working_many a n zero = a
+as_working_many a n (suc k) = as_working (as_working_many a n k) (next_node n k)
+
+-- so many nodes from one on, each on the next parent by a tree link
+abbrev pub hung_many : Arena → NodeId → NodeId → ℕ → Arena
+hung_many a n parent zero = a
+hung_many a n parent (suc k) =
+    hung (hung_many a n parent k) (next_node n k) (Some (next_node parent k))
+
+-- so many nodes from one on, each over the next node as its only tree child
+abbrev pub over_many : Arena → NodeId → NodeId → ℕ → Arena
+over_many a n child zero = a
+over_many a n child (suc k) =
+    with_tree (over_many a n child k) (next_node n k) (next_node child k ∷ [])
+
+-- so many nodes from one on, each over the next two nodes as its tree children
+abbrev pub over_two_many : Arena → NodeId → NodeId → NodeId → ℕ → Arena
+over_two_many a n older newer zero = a
+over_two_many a n older newer (suc k) =
+    with_tree (over_two_many a n older newer k) (next_node n k)
+    (next_node older k ∷ next_node newer k ∷ [])
+
+-- The node so many numbers behind another one is like it: it has the same own state and no stubs,
+-- its parent by a tree link and its tree children are as many numbers further on, and it is named by
+-- a page as many further on, or is a working node too.
+pub record IsAlike (a : Arena) (n : NodeId) (k : ℕ) : Type 0 where
+  pub held : HasNode a (next_node n k)
+  pub own : (cell a (next_node n k)).own ≡ (cell a n).own
+  pub links : (cell a (next_node n k)).links
+      ≡ record no_links { parent = next_if (cell a n).links.parent k }
+  pub tree : (cell a (next_node n k)).tree ≡ map (λ child. next_node child k) (cell a n).tree
+  pub page : (cache : CacheId) (page : PageNo) → (cell a n).name ≡ Live cache page
+      → (cell a (next_node n k)).name ≡ Live cache (record { 0 = page.0 + k })
+  pub working : (number : ℕ) → (cell a n).name ≡ Working number
+      → (other : ℕ) × ((cell a (next_node n k)).name ≡ Working other)
+
+-- so many nodes from one on are alike
+abbrev pub AreAlike : Arena → NodeId → ℕ → Type 0
+AreAlike a n count = (k : ℕ) → k < count → IsAlike a n k

@@ -1,0 +1,10 @@
+-- Many pages are copied at once.
+
+-- Changes of nodes of different numbers may be made in either order.
+pub mod Changes
+-- Changes page by page are changes of all pages, one kind after the other.
+pub mod Stretches
+-- One page is copied to a node that is new.
+pub mod OnePage
+-- One page is copied after the other.
+pub mod Pages

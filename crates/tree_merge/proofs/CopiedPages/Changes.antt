@@ -1,0 +1,180 @@
+-- Changes of nodes of different numbers may be made in either order.
+use Rattle.std.proofs.Common.{◌≡◌, ◌≢◌, ℕ, zero, suc, ◌+◌, ◌-◌, ◌≤◌, Bool, true, false, eqb, cond, set, get_or, List, Option, Some, None, option_map, unwrap_or, refl, sym, ap, ◌∙◌, arith}
+use Rattle.std.proofs.lemmas.Bool.{eqb-true, ne_eqb, eq-eqb}
+use Rattle.std.proofs.lemmas.List.{set-set, set_comm}
+use Rattle.std.specs.Ordering.{nat_cmp}
+use Rattle.std.specs.FinMap.{FinMap}
+use Rattle.std.specs.FinMap as map
+use Rattle.vm_ids.specs.declared.node_name.NodeName.{NodeName}
+use Rattle.vm_ids.specs.declared.node_name.NodeName.TheVariants.{Live, Working}
+use Rattle.vm_ids.specs.declared.numbers.CacheId.{CacheId}
+use Rattle.vm_ids.specs.declared.numbers.NodeId.{NodeId}
+use Rattle.vm_ids.specs.declared.numbers.PageNo.{PageNo}
+use Rattle.local_cache.specs.declared.own_state.OwnState.{OwnState}
+use Rattle.local_cache.specs.declared.own_state.OwnState.TheVariants.{Absent}
+use Rattle.local_cache.specs.Arena.{Arena, Cell, Table, blank, cache_with, cell, find, new_cell, put, table_with, tables_with, with_new, with_working, without}
+use Rattle.local_cache.proofs.Singles.{get_inserted, get_removed, same_maps}
+use Rattle.local_cache.proofs.Tables.Listing.{read_set}
+use Rattle.local_cache.proofs.Nodes.Cells.{cell-put_other}
+
+pub differ : (n m : NodeId) → n ≢ m → n.0 ≢ m.0
+differ n m ne e = ne (λ i. record { 0 = e i })
+
+-- In a map ---------------------------------------------------------------------------------------
+
+not_both : (p q r : ℕ) → p ≢ q → eqb r q ≡ true → eqb r p ≡ true → ⊥
+not_both p q r ne at_q at_p = ne (sym (eqb-true r p at_p) ∙ eqb-true r q at_q)
+
+module _ {X : Type 0} where
+  by_tests : (t u : Bool) → (t ≡ true → u ≡ true → ⊥) → (x y o : Option X) → cond t x (cond u y o) ≡ cond u y (cond t x o)
+  by_tests true true apart x y o = absurd (apart refl refl)
+  by_tests true false apart x y o = refl
+  by_tests false true apart x y o = refl
+  by_tests false false apart x y o = refl
+
+  pub inserts : (m : FinMap nat_cmp X) (p q : ℕ) (x y : X) → p ≢ q → map.insert (map.insert m p x) q y ≡ map.insert (map.insert m q y) p x
+  inserts m p q x y ne = same_maps _ _ (λ r.
+      get_inserted (map.insert m p x) q y r ∙ ap (cond (eqb r q) (Some y)) (get_inserted m p x r)
+      ∙ by_tests (eqb r q) (eqb r p) (not_both p q r ne) (Some y) (Some x) (map.get m r)
+      ∙ sym (get_inserted (map.insert m q y) p x r ∙ ap (cond (eqb r p) (Some x)) (get_inserted m q y r)))
+
+  pub removes : (m : FinMap nat_cmp X) (p q : ℕ) (x : X) → p ≢ q → map.remove (map.insert m p x) q ≡ map.insert (map.remove m q) p x
+  removes m p q x ne = same_maps _ _ (λ r.
+      get_removed (map.insert m p x) q r ∙ ap (cond (eqb r q) None) (get_inserted m p x r)
+      ∙ by_tests (eqb r q) (eqb r p) (not_both p q r ne) None (Some x) (map.get m r)
+      ∙ sym (get_inserted (map.remove m q) p x r ∙ ap (cond (eqb r p) (Some x)) (get_removed m q r)))
+
+-- In the tables -----------------------------------------------------------------------------------
+
+-- two pages of one cache
+two_pages : (p q : ℕ) (o r : Option NodeId) → p ≢ q → (t : Table) → table_with q r (table_with p o t) ≡ table_with p o (table_with q r t)
+two_pages p q o r ne t = λ i. record t { pages = set_comm t.pages p q (record { node = o }) (record { node = r }) ne i }
+
+two_pages_of : (p q : ℕ) (o r : Option NodeId) → p ≢ q → (t : Option Table) → option_map (table_with q r) (option_map (table_with p o) t) ≡ option_map (table_with p o) (option_map (table_with q r) t)
+two_pages_of p q o r ne None = refl
+two_pages_of p q o r ne (Some t) = ap Some (two_pages p q o r ne t)
+
+changed_twice : (ts : List (Option Table)) (k : ℕ) (f g : Table → Table) → set (set ts k (option_map f (get_or ts k None))) k (option_map g (get_or (set ts k (option_map f (get_or ts k None))) k None)) ≡ set ts k (option_map g (option_map f (get_or ts k None)))
+changed_twice ts k f g =
+    ap (λ (t : Option Table). set (set ts k (option_map f (get_or ts k None))) k (option_map g t)) (read_set ts k f)
+    ∙ set-set ts k (option_map f (get_or ts k None)) (option_map g (option_map f (get_or ts k None)))
+
+pub pages_pass : (ts : List (Option Table)) (cache p q : ℕ) (o r : Option NodeId) → p ≢ q → cache_with (cache_with ts cache p o) cache q r ≡ cache_with (cache_with ts cache q r) cache p o
+pages_pass ts zero p q o r ne = refl
+pages_pass ts (suc k) p q o r ne =
+    changed_twice ts k (table_with p o) (table_with q r)
+    ∙ ap (set ts k) (two_pages_of p q o r ne (get_or ts k None))
+    ∙ sym (changed_twice ts k (table_with q r) (table_with p o))
+
+-- In the caches -----------------------------------------------------------------------------------
+
+cell_of : (x : Arena) (n : NodeId) → cell x n ≡ unwrap_or (map.get x.cells n.0) blank
+unfolding cell
+cell_of x n = refl
+
+pub cell_by : (x y : Arena) (n : NodeId) → find y n ≡ find x n → cell y n ≡ cell x n
+cell_by x y n e = cell_of y n ∙ ap (λ (o : Option Cell). unwrap_or o blank) e ∙ sym (cell_of x n)
+
+-- what is found beside the number that was changed
+pub find-new_other : (x : Arena) (n m : NodeId) (name : NodeName) (s : OwnState) → m ≢ n → find (with_new x n name s) m ≡ find x m
+unfolding with_new
+find-new_other x n m name s ne = get_inserted x.cells n.0 (new_cell name s) m.0 ∙ ap (λ (t : Bool). cond t (Some (new_cell name s)) (map.get x.cells m.0)) (ne_eqb m.0 n.0 (differ m n ne))
+
+pub find-new : (x : Arena) (n : NodeId) (name : NodeName) (s : OwnState) → find (with_new x n name s) n ≡ Some (new_cell name s)
+unfolding with_new
+find-new x n name s = get_inserted x.cells n.0 (new_cell name s) n.0 ∙ ap (λ (t : Bool). cond t (Some (new_cell name s)) (map.get x.cells n.0)) (eq-eqb n.0 n.0 refl)
+
+pub find-working_other : (x : Arena) (n m : NodeId) → m ≢ n → find (with_working x n) m ≡ find x m
+find-working_other x n m ne = find-new_other x n m (Working (x.made + 1)) Absent ne
+
+pub find-without_other : (x : Arena) (n m : NodeId) → m ≢ n → find (without x n) m ≡ find x m
+unfolding without
+find-without_other x n m ne = get_removed x.cells n.0 m.0 ∙ ap (λ (t : Bool). cond t None (map.get x.cells m.0)) (ne_eqb m.0 n.0 (differ m n ne))
+
+pub find-without : (x : Arena) (n : NodeId) → find (without x n) n ≡ None
+unfolding without
+find-without x n = get_removed x.cells n.0 n.0 ∙ ap (λ (t : Bool). cond t None (map.get x.cells n.0)) (eq-eqb n.0 n.0 refl)
+
+module _ (x : Arena) (p q : NodeId) (ne : p ≢ q) where
+  abbrev back : q ≢ p
+  back e = ne (sym e)
+
+  -- two cells
+  puts : (c e : Cell) → put (put x p c) q e ≡ put (put x q e) p c
+  unfolding put
+  puts c e = λ i. record x { cells = inserts x.cells p.0 q.0 c e (differ p q ne) i }
+
+  -- a changed cell, and another one
+  pub change_change : (f g : Cell → Cell) → put (put x p (f (cell x p))) q (g (cell (put x p (f (cell x p))) q)) ≡ put (put x q (g (cell x q))) p (f (cell (put x q (g (cell x q))) p))
+  change_change f g =
+      ap (λ (c : Cell). put (put x p (f (cell x p))) q (g c)) (cell-put_other x p q (f (cell x p)) back)
+      ∙ puts (f (cell x p)) (g (cell x q))
+      ∙ ap (λ (c : Cell). put (put x q (g (cell x q))) p (f c)) (sym (cell-put_other x q p (g (cell x q)) ne))
+
+  -- a changed cell, and a new node
+  put_new : (c : Cell) (name : NodeName) (s : OwnState) → with_new (put x p c) q name s ≡ put (with_new x q name s) p c
+  unfolding put with_new
+  put_new c name s = λ i. record (with_new x q name s) { cells = inserts x.cells p.0 q.0 c (new_cell name s) (differ p q ne) i }
+
+  pub change_new : (f : Cell → Cell) (name : NodeName) (s : OwnState) → with_new (put x p (f (cell x p))) q name s ≡ put (with_new x q name s) p (f (cell (with_new x q name s) p))
+  change_new f name s =
+      put_new (f (cell x p)) name s
+      ∙ ap (λ (c : Cell). put (with_new x q name s) p (f c)) (sym (cell_by x (with_new x q name s) p (find-new_other x q p name s ne)))
+
+  -- a changed cell, and a new working node
+  put_working : (c : Cell) → with_working (put x p c) q ≡ put (with_working x q) p c
+  unfolding put with_new
+  put_working c = λ i. record (with_working x q) { cells = inserts x.cells p.0 q.0 c (new_cell (Working (x.made + 1)) Absent) (differ p q ne) i }
+
+  pub change_working : (f : Cell → Cell) → with_working (put x p (f (cell x p))) q ≡ put (with_working x q) p (f (cell (with_working x q) p))
+  change_working f =
+      put_working (f (cell x p))
+      ∙ ap (λ (c : Cell). put (with_working x q) p (f c)) (sym (cell_by x (with_working x q) p (find-working_other x q p ne)))
+
+  -- a changed cell, and a node that goes
+  put_without : (c : Cell) → without (put x p c) q ≡ put (without x q) p c
+  unfolding put without
+  put_without c = λ i. record (without x q) {
+    cells = removes x.cells p.0 q.0 c (differ p q ne) i;
+    caches = tables_with x.caches (cell-put_other x p q c back i).name None;
+  }
+
+  pub change_without : (f : Cell → Cell) → without (put x p (f (cell x p))) q ≡ put (without x q) p (f (cell (without x q) p))
+  change_without f =
+      put_without (f (cell x p))
+      ∙ ap (λ (c : Cell). put (without x q) p (f c)) (sym (cell_by x (without x q) p (find-without_other x q p ne)))
+
+  -- a new node of a page, and a node of another page of the cache that goes
+  pub new_without : (cache : CacheId) (page other : PageNo) (s : OwnState) → (cell x q).name ≡ Live cache other → page.0 ≢ other.0 → 1 ≤ x.room.nodes
+      → without (with_new x p (Live cache page) s) q ≡ with_new (without x q) p (Live cache page) s
+  unfolding with_new without
+  new_without cache page other s named pages room =
+      let name : (cell (with_new x p (Live cache page) s) q).name ≡ Live cache other = ap (λ (c : Cell). c.name) (cell_by x (with_new x p (Live cache page) s) q (find-new_other x p q (Live cache page) s back)) ∙ named in
+      let tables : tables_with (tables_with x.caches (Live cache page) (Some p)) (cell (with_new x p (Live cache page) s) q).name None ≡ tables_with (tables_with x.caches (cell x q).name None) (Live cache page) (Some p) =
+      ap (λ (y : NodeName). tables_with (tables_with x.caches (Live cache page) (Some p)) y None) name
+      ∙ pages_pass x.caches cache.0 page.0 other.0 (Some p) None pages
+      ∙ ap (λ (y : NodeName). tables_with (tables_with x.caches y None) (Live cache page) (Some p)) (sym named) in
+      let nodes : x.room.nodes - 1 + 1 ≡ x.room.nodes + 1 - 1 = omega arith in
+      λ i. record x {
+        cells = removes x.cells p.0 q.0 (new_cell (Live cache page) s) (differ p q ne) i;
+        caches = tables i;
+        room = record x.room { nodes = nodes i };
+      }
+
+-- a new working node, and a node that goes for a new one
+pub working_renewed : (x : Arena) (w d n : NodeId) (name : NodeName) (s : OwnState) → w ≢ d → w ≢ n
+    → with_new (without (with_working x w) d) n name s ≡ with_working (with_new (without x d) n name s) w
+unfolding with_new without
+working_renewed x w d n name s w_d w_n =
+    let old : (cell (with_working x w) d).name ≡ (cell x d).name = ap (λ (c : Cell). c.name) (cell_by x (with_working x w) d (find-working_other x w d (λ e. w_d (sym e)))) in
+    let work : Cell = new_cell (Working (x.made + 1)) Absent in
+    let cells : map.insert (map.remove (map.insert x.cells w.0 work) d.0) n.0 (new_cell name s) ≡ map.insert (map.insert (map.remove x.cells d.0) n.0 (new_cell name s)) w.0 work =
+    ap (λ (m : FinMap nat_cmp Cell). map.insert m n.0 (new_cell name s)) (removes x.cells w.0 d.0 work (differ w d w_d))
+    ∙ inserts (map.remove x.cells d.0) w.0 n.0 work (new_cell name s) (differ w n w_n) in
+    let nodes : x.room.nodes - 1 + 1 - 1 ≡ x.room.nodes + 1 - 1 - 1 = omega arith in
+    λ i. record x {
+      cells = cells i;
+      caches = tables_with (tables_with x.caches (old i) None) name (Some n);
+      made = x.made + 1;
+      room = record x.room { nodes = nodes i };
+    }
