@@ -1,8 +1,9 @@
 // Entries in leaves, in order, so that one that comes or goes moves few others.
-ghost use Rattle.std.specs.Prelude.{◌≡◌, ◌+◌, ◌<◌, ◌≤◌, [], ◌∷◌, length, insert, remove, slice_index_or, slice_set, IsOk, MatchOption, OnOk};
+ghost use Rattle.std.specs.Prelude.{◌≡◌, ◌+◌, ◌<◌, ◌≤◌, [], ◌∷◌, length, insert, remove, slice_index_or, slice_set, IsOk, MatchOption, IfSome, OnOk};
 ghost use Rattle.stretches.specs.Leaves.{AreSpread, IsShortBehind, entries, flat, halved, joined, leaf_at};
 ghost use Rattle.stretches.specs.Spots.{IsSpot, IsHeld, SameSpots, index};
 
+use crate::hints::Hints;
 use crate::leaf::{FULL, HALF};
 use crate::pool::Pool;
 use crate::spot::Spot;
@@ -17,6 +18,8 @@ pub(crate) struct Directory<T: Copy> {
     count: usize,
     // For how many there are leaves enough.
     places: usize,
+    // Where some were found lately.
+    hints: Hints,
 }
 
 impl<T: Copy> Model for Directory<T> {
@@ -38,6 +41,7 @@ impl<T: Copy> Directory<T> {
             pool: Pool::new(alloc),
             count: 0,
             places: 0,
+            hints: Hints::new(),
         }
     }
 
@@ -133,6 +137,23 @@ impl<T: Copy> Directory<T> {
         }
     }
 
+    // The spot that was remembered last for numbers such as this one, if an entry stands there.
+    pub(crate) fn remembered(&self, number: u64) -> Option<Spot>
+        ensures { IfSome result (IsHeld self.now) }
+    {
+        let spot = self.hints.spot(number);
+        if spot.leaf < self.pool.len() && spot.at < self.pool.leaf(spot.leaf).len() {
+            Some(spot)
+        } else {
+            None
+        }
+    }
+
+    // Remembers a spot for numbers such as this one.
+    pub(crate) fn remember(&self, number: u64, spot: Spot) {
+        self.hints.remember(number, spot);
+    }
+
     // Puts an entry in the place of another.
     pub(crate) fn set(&mut self, spot: Spot, entry: T)
         requires { IsHeld self.old spot }
@@ -194,7 +215,7 @@ impl<T: Copy> Directory<T> {
     }
 
     // The spot behind an entry.
-    fn behind(&self, spot: Spot) -> Spot
+    pub(crate) fn behind(&self, spot: Spot) -> Spot
         requires { IsHeld self.now spot }
         ensures spot { IsSpot self.now result }
         ensures index { index self.now result ≡ index self.now spot + 1 }

@@ -16,6 +16,38 @@ pub(crate) fn first_behind<V: Says>(stretches: &Directory<Stretch<V>>, number: u
         (index stretches.now result) }
     ensures spot { IsSpot stretches.now result }
 {
+    match found_lately(stretches, number) {
+        Some(spot) => stretches.behind(spot),
+        None => search_behind(stretches, number),
+    }
+}
+
+// The spot of the stretch that has a number, if one like it was found there lately.
+fn found_lately<V: Says>(stretches: &Directory<Stretch<V>>, number: u64) -> Option<Spot>
+    requires { AreInOrder V.Says 0 (entries stretches.now) }
+    ensures has { IfSome result
+        (λ spot. HasAt (entries stretches.now) number (index stretches.now spot)) }
+    ensures held { IfSome result (IsHeld stretches.now) }
+{
+    match stretches.remembered(number) {
+        Some(spot) => {
+            if stretches.get(spot).has(number) {
+                Some(spot)
+            } else {
+                None
+            }
+        }
+        None => None,
+    }
+}
+
+// The same by a search.
+fn search_behind<V: Says>(stretches: &Directory<Stretch<V>>, number: u64) -> Spot
+    requires { AreInOrder V.Says 0 (entries stretches.now) }
+    ensures behind { IsFirstBehind (entries stretches.now) number
+        (index stretches.now result) }
+    ensures spot { IsSpot stretches.now result }
+{
     let behind = first_leaf_behind(stretches, number);
     if behind == 0 {
         return Spot { leaf: 0, at: 0 };
@@ -76,6 +108,7 @@ pub(crate) fn spot_of<V: Says>(stretches: &Directory<Stretch<V>>, number: u64) -
     match stretches.held_before(behind) {
         Some(spot) => {
             if stretches.get(spot).has(number) {
+                stretches.remember(number, spot);
                 Some(spot)
             } else {
                 None

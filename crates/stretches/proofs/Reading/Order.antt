@@ -47,6 +47,14 @@ module _ {V : Type 0} (S : Ghosts V) where
     ]
   ]
 
+  -- the stretches behind the one that has a number are the first behind it
+  pub behind_has : (rs : List (Stretch V)) → AreInOrder S 0 rs → (n k : ℕ) → HasAt rs n k → IsFirstBehind rs n (k + 1)
+  behind_has rs order n k has = record {
+    within = omega (arith, has.within);
+    before = λ j d less. omega (arith, first_rises 0 rs order j k d (omega arith) has.within, low (get_or rs k d) n (has.has d));
+    behind = λ j d le less. omega (arith, apart 0 rs order k j d (omega arith) less, high (get_or rs k d) n (has.has d));
+  }
+
 module _ {V : Type 0} where
   -- where a binary search by the first numbers ends
   pub first_behind_from : (rs : List (Stretch V)) (n at : ℕ) → at ≤ length rs → IsPartitionPoint (λ (r : Stretch V). leb r.first n ≡ true) (λ (r : Stretch V). leb r.first n ≡ false) rs at → IsFirstBehind rs n at
