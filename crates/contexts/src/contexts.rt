@@ -266,10 +266,7 @@ impl Contexts {
             ((a : ℕ) → has_region region.0 (numbered self.now.actors a) ≡ false)
             (λ a. has_region region.0 (numbered self.now.actors a.0) ≡ true) }
     {
-        match self.status(region) {
-            Some(status) => Some(status.actor),
-            None => None,
-        }
+        Some(self.status(region)?.actor)
     }
 
     /// What there is to tell of a region. `None` exactly where no living actor has it.
@@ -282,14 +279,12 @@ impl Contexts {
         let Some(regions) = self.regions(actor) else {
             return None;
         };
-        match regions.status(region) {
-            Some(view) => Some(RegionStatus {
-                actor,
-                mapping: view.mapping,
-                locked: view.locked,
-            }),
-            None => None,
-        }
+        let view = regions.status(region)?;
+        Some(RegionStatus {
+            actor,
+            mapping: view.mapping,
+            locked: view.locked,
+        })
     }
 
     /// The region of an actor that holds an address. `NoActor` where the actor isn't alive, else

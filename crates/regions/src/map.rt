@@ -149,10 +149,8 @@ impl RegionMap {
     pub fn status(&self, id: RegionId) -> Option<RegionView>
         ensures { result ≡ option_map view_of (region_among id.0 self.now.regions) }
     {
-        match place_of(&self.regions, id) {
-            Some(place) => Some(self.regions[place].view),
-            None => None,
-        }
+        let place = place_of(&self.regions, id)?;
+        Some(self.regions[place].view)
     }
 
     /// What there is to tell of the region at a place, from 0, in the order of addresses. `None`
@@ -160,10 +158,7 @@ impl RegionMap {
     pub fn nth(&self, place: usize) -> Option<RegionView>
         ensures { result ≡ option_map view_of (slice_get self.now.regions place) }
     {
-        match self.regions.get(place) {
-            Some(region) => Some(region.view),
-            None => None,
-        }
+        Some(self.regions.get(place)?.view)
     }
 
     /// How many regions there are.
@@ -178,10 +173,7 @@ impl RegionMap {
         ensures { result
             ≡ option_map id_of (region_at self.now.page_bytes address self.now.regions) }
     {
-        match region_holding(&self.regions, self.page_bytes, address) {
-            Some(region) => Some(region.number),
-            None => None,
-        }
+        Some(region_holding(&self.regions, self.page_bytes, address)?.number)
     }
 
     /// The place of an access of `length` bytes. `Crosses` where it passes the end of a page, and

@@ -10,3 +10,5 @@ pub mod Changes
 pub mod Cells
 -- Changes step by step are changes stretch by stretch.
 pub mod Steps
+-- An answer that is none.
+pub mod Nothing

@@ -29,15 +29,11 @@ fn found_lately<V: Says>(stretches: &Directory<Stretch<V>>, number: u64) -> Opti
         (λ spot. HasAt (entries stretches.now) number (index stretches.now spot)) }
     ensures held { IfSome result (IsHeld stretches.now) }
 {
-    match stretches.remembered(number) {
-        Some(spot) => {
-            if stretches.get(spot).has(number) {
-                Some(spot)
-            } else {
-                None
-            }
-        }
-        None => None,
+    let spot = stretches.remembered(number)?;
+    if stretches.get(spot).has(number) {
+        Some(spot)
+    } else {
+        None
     }
 }
 
@@ -105,16 +101,12 @@ pub(crate) fn spot_of<V: Says>(stretches: &Directory<Stretch<V>>, number: u64) -
     ensures held { IfSome result (IsHeld stretches.now) }
 {
     let behind = first_behind(stretches, number);
-    match stretches.held_before(behind) {
-        Some(spot) => {
-            if stretches.get(spot).has(number) {
-                stretches.remember(number, spot);
-                Some(spot)
-            } else {
-                None
-            }
-        }
-        None => None,
+    let spot = stretches.held_before(behind)?;
+    if stretches.get(spot).has(number) {
+        stretches.remember(number, spot);
+        Some(spot)
+    } else {
+        None
     }
 }
 
@@ -128,13 +120,9 @@ pub(crate) fn last_two<V: Says>(stretches: &Directory<Stretch<V>>, number: u64) 
         (index stretches.now pair.first + 2)) }
 {
     let behind = first_behind(stretches, number);
-    match stretches.held_before(behind) {
-        Some(second) => match stretches.held_before(second) {
-            Some(first) => Some(Pair { first, second }),
-            None => None,
-        },
-        None => None,
-    }
+    let second = stretches.held_before(behind)?;
+    let first = stretches.held_before(second)?;
+    Some(Pair { first, second })
 }
 
 // The stretch that has a number, or `None` exactly where no stretch has it.
@@ -148,10 +136,8 @@ pub(crate) fn stretch_with<V: Says>(
         (IsStretchWith V.Says (entries stretches.now) number) }
     ensures stands { IfSome result (Stands (entries stretches.now)) }
 {
-    match spot_of(stretches, number) {
-        Some(spot) => Some(stretches.get(spot)),
-        None => None,
-    }
+    let spot = spot_of(stretches, number)?;
+    Some(stretches.get(spot))
 }
 
 // The first stretch that begins behind a number, which is in no stretch, or `None` exactly where
@@ -168,8 +154,6 @@ pub(crate) fn next_behind<V: Says>(
     ensures stands { IfSome result (Stands (entries stretches.now)) }
 {
     let at = first_behind(stretches, number);
-    match stretches.held_from(at) {
-        Some(spot) => Some(stretches.get(spot)),
-        None => None,
-    }
+    let spot = stretches.held_from(at)?;
+    Some(stretches.get(spot))
 }

@@ -62,10 +62,8 @@ impl<V: Says> StretchList<V> {
     pub fn get(&self, number: u64) -> Option<V>
         ensures { result ≡ said V.Says self.now.list number }
     {
-        match stretch_with(&self.stretches, number) {
-            Some(stretch) => Some(stretch.value.after((number - stretch.first) as u32)),
-            None => None,
-        }
+        let stretch = stretch_with(&self.stretches, number)?;
+        Some(stretch.value.after((number - stretch.first) as u32))
     }
 
     /// What is left of the stretch that has a number, from this number on, or `None` exactly where
@@ -76,10 +74,8 @@ impl<V: Says> StretchList<V> {
             (IsStretchFrom V.Says self.now.list number) }
         ensures together { IfSome result (λ r. AreTogether self.now.list r.first r.count) }
     {
-        match stretch_with(&self.stretches, number) {
-            Some(stretch) => Some(stretch.behind((number - stretch.first) as u32)),
-            None => None,
-        }
+        let stretch = stretch_with(&self.stretches, number)?;
+        Some(stretch.behind((number - stretch.first) as u32))
     }
 
     /// What is left of the first stretch with a number at this one or behind it, from this number

@@ -27,27 +27,28 @@ returns-in_default-regions c =
     let not = subst (λ (a : Actors). has_region n (numbered a.actors owner.0) ≡ false) (sym c.self.view_is) (ap (has_region n) dead) in
     sym (subst (λ (a : Actors). status_with n 1 a.actors ≡ None) c.self.view_is (nothing_told i.page i.owners.items n i.actors.items (Some owner) c.self.invariant.kept is not))
 
-pub returns-in-None : goal.returns-in-None
-returns-in-None c =
+pub returns-in_err-view : goal.returns-in_err-view
+returns-in_err-view c =
     let i = c.self.inside in
     let n = c.args.region.0 in
     let owner : ActorId = c.in-Some.actor in
     let is : owner_of i.owners.items n ≡ Some owner = ap (λ (xs : List ActorId). owner_of xs n) (sym c.deref.ensures.value) ∙ sym c.owner_in.ensures ∙ c.in-Some.is in
     let space = c.in-Some-regions.regions.now in
     let alive : numbered c.args.self.now.actors owner.0 ≡ Some space.regions = sym c.in-Some-regions.ensures.regions in
-    let gone : is_some (region_among n space.regions) ≡ false = among_of (region_among n space.regions) _ c.in-None.ensures in
+    let gone : is_some (region_among n space.regions) ≡ false = among_of (region_among n space.regions) _ c.in_err-view.ensures in
     let not = subst (λ (a : Actors). has_region n (numbered a.actors owner.0) ≡ false) (sym c.self.view_is) (ap (has_region n) alive ∙ gone) in
-    sym (subst (λ (a : Actors). status_with n 1 a.actors ≡ None) c.self.view_is (nothing_told i.page i.owners.items n i.actors.items (Some owner) c.self.invariant.kept is not))
+    c.from_residual.ensures
+    ∙ sym (subst (λ (a : Actors). status_with n 1 a.actors ≡ None) c.self.view_is (nothing_told i.page i.owners.items n i.actors.items (Some owner) c.self.invariant.kept is not))
 
-pub returns-in-Some-status : goal.returns-in-Some-status
-returns-in-Some-status c =
+pub returns : goal.returns
+returns c =
     let i = c.self.inside in
     let n = c.args.region.0 in
     let owner : ActorId = c.in-Some.actor in
     let space = c.in-Some-regions.regions.now in
     let alive : numbered (regions_in i.actors.items) owner.0 ≡ Some space.regions =
     subst (λ (a : Actors). numbered a.actors owner.0 ≡ Some space.regions) (sym c.self.view_is) (sym c.in-Some-regions.ensures.regions) in
-    let found = view_told (region_among n space.regions) c.in-Some-status.view c.in-Some-status.ensures in
+    let found = view_told (region_among n space.regions) c.in_ok-view.view c.in_ok-view.ensures in
     let told = told_here i.page i.owners.items n owner.0 i.actors.items space.regions found.0 c.self.invariant.kept alive found.1 in
     ap (λ (v : RegionView). Some (record { actor = owner; mapping = v.mapping; locked = v.locked })) found.2
     ∙ sym (subst (λ (a : Actors). status_with n 1 a.actors ≡ Some (record { actor = owner; mapping = mapping_of found.0; locked = found.0.locked })) c.self.view_is told)

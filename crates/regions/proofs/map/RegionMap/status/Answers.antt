@@ -7,18 +7,19 @@ use Rattle.regions.specs.declared.region.Region.{Region}
 use Rattle.regions.proofs.Found.{among_found, among_none}
 use Rattle.regions.proofs.map.RegionMap.status.Goals as goal
 
-pub returns-in-Some : goal.returns-in-Some
-returns-in-Some c =
+pub returns : goal.returns
+returns c =
     let rs = c.self.inside.regions.items in
     let read = c.index.result.now in
-    let place = subst (λ (ys : List Region). IsPlaceOf c.args.id.0 ys c.in-Some.place) c.deref.ensures.value c.in-Some.ensures in
-    let found = among_found c.args.id.0 rs c.in-Some.place read place in
-    let same : Some read.view ≡ option_map view_of (Some (region_seen (get_or rs c.in-Some.place read))) = ap (λ (r : Region). Some r.view) c.index.ensures in
+    let place = subst (λ (ys : List Region). IsPlaceOf c.args.id.0 ys c.in_ok-place.place) c.deref.ensures.value c.in_ok-place.ensures in
+    let found = among_found c.args.id.0 rs c.in_ok-place.place read place in
+    let same : Some read.view ≡ option_map view_of (Some (region_seen (get_or rs c.in_ok-place.place read))) = ap (λ (r : Region). Some r.view) c.index.ensures in
     same ∙ ap (option_map view_of) (sym found) ∙ ap (λ (s : AddressSpace). option_map view_of (region_among c.args.id.0 s.regions)) c.self.view_is
 
-pub returns-in-None : goal.returns-in-None
-returns-in-None c =
-    let none = among_none c.args.id.0 c.deref.result.now c.in-None.ensures in
-    ap (option_map view_of) (sym none)
+pub returns-in_err-place : goal.returns-in_err-place
+returns-in_err-place c =
+    let none = among_none c.args.id.0 c.deref.result.now c.in_err-place.ensures in
+    c.from_residual.ensures
+    ∙ ap (option_map view_of) (sym none)
     ∙ ap (λ (ys : List Region). option_map view_of (region_among c.args.id.0 (map region_seen ys))) c.deref.ensures.value
     ∙ ap (λ (s : AddressSpace). option_map view_of (region_among c.args.id.0 s.regions)) c.self.view_is

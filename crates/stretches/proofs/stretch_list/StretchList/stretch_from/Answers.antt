@@ -5,6 +5,6 @@ use Rattle.stretches.proofs.stretch_list.StretchList.stretch_from.Goals as goal
 
 pub behind-requires-clause-lasts : goal.behind-requires-clause-lasts
 behind-requires-clause-lasts g c =
-    let stretch = c.in-Some.stretch in
-    let found = c.in-Some.ensures.has in
+    let stretch = c.in_ok-stretch.stretch in
+    let found = c.in_ok-stretch.ensures.has in
     lasts_fewer g.V.Says g.met.V.Says.laws stretch.value (c.args.number - stretch.first) stretch.count (omega (arith, high stretch c.args.number found.has)) found.fit.lasts
