@@ -1,5 +1,5 @@
 -- What a record says of page nodes, and how records stand in a slab.
-use Rattle.std.specs.Prelude.{◌≡◌, ℕ, ◌≤◌, ◌<◌, List, map, None, Some, unwrap_or}
+use Rattle.std.specs.Prelude.{◌≡◌, ℕ, ◌≤◌, ◌<◌, List, map, IsSome, None, Some, unwrap_or}
 use Rattle.slab.specs.Slab.{ContainsKey, Slab, get, slab_len}
 use Rattle.stretches.specs.declared.says.Says.{Ghosts}
 use Rattle.stretches.specs.declared.stretch.Stretch.{Stretch}
@@ -46,4 +46,5 @@ pub record AreStored (keys : Stretches RecordKey) (s : Slab Record) (places : �
 -- the number at this one or behind it is the first of which something is said
 pub record IsFirstFrom (rs : List (Stretch Record)) (n first : ℕ) : Type 0 where
   pub from : n ≤ first
+  pub there : IsSome (said each rs first)
   pub none : (m : ℕ) → n ≤ m → m < first → said each rs m ≡ None

@@ -33,15 +33,19 @@ impl Children {
         ensures older { result.older ≡ next_node self.older by }
         ensures newer { result.newer ≡ next_if self.newer by }
     {
-        let newer = match self.newer {
-            Some(node) => Some(NodeId(node.0 + by as u64)),
-            None => None,
-        };
         Children {
             older: NodeId(self.older.0 + by as u64),
-            newer,
+            newer: next_if(self.newer, by),
         }
     }
+}
+
+// The node so many numbers further on, of a node or none.
+fn next_if(node: Option<NodeId>, by: u32) -> Option<NodeId>
+    requires { IfSome node (λ n. n.0 + by < 2 ^ 64) }
+    ensures { result ≡ next_if node by }
+{
+    Some(NodeId(node?.0 + by as u64))
 }
 
 // Gives so many nodes, from one on, the next ones of these children: at once those of pages of which

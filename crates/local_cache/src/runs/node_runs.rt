@@ -406,10 +406,8 @@ impl NodeRuns {
     pub(crate) fn node_of(&self, cache: CacheId, page: PageNo) -> Option<NodeId>
         ensures { result ≡ node_at self.now (page_number cache.0 page.0) }
     {
-        match self.lists.pages.get(page_number(cache, page)) {
-            Some(node) => Some(NodeId(node.0)),
-            None => None,
-        }
+        let node = self.lists.pages.get(page_number(cache, page))?;
+        Some(NodeId(node.0))
     }
 
     /// How many nodes of pages there are.
@@ -456,10 +454,7 @@ impl NodeRuns {
                 Some(odd) => Some(lesser(even, odd)),
                 None => Some(even.node),
             },
-            None => match first_of(&self.lists.odd) {
-                Some(odd) => Some(odd.node),
-                None => None,
-            },
+            None => Some(first_of(&self.lists.odd)?.node),
         }
     }
 

@@ -70,10 +70,8 @@ impl Records {
     pub(crate) fn get(&self, number: u64) -> Option<Record>
         ensures { result ≡ said each self.now.list number }
     {
-        match self.keys.get(number) {
-            Some(key) => self.slab.get(key.0).copied(),
-            None => None,
-        }
+        let key = self.keys.get(number)?;
+        self.slab.get(key.0).copied()
     }
 
     // The first number at this one or behind it that has a record, or `None` exactly where there is
@@ -83,10 +81,7 @@ impl Records {
             ((m : ℕ) → number ≤ m → said each self.now.list m ≡ None)
             (IsFirstFrom self.now.list number) }
     {
-        match self.keys.next_from(number) {
-            Some(stretch) => Some(stretch.first),
-            None => None,
-        }
+        Some(self.keys.next_from(number)?.first)
     }
 
     // Says this of a number, of which something else was said or nothing.

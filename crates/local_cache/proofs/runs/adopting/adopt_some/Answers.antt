@@ -1,4 +1,3 @@
-use Rattle.std.proofs.Common.{arith}
 use Rattle.local_cache.proofs.ManyNodes.Numbers.{fewer_numbers}
 use Rattle.local_cache.proofs.runs.adopting.adopt_some.Goals as goal
 

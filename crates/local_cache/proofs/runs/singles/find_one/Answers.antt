@@ -3,10 +3,10 @@ use Rattle.stretches.proofs.Changes.Parts.{lasts_fewer}
 use Rattle.local_cache.proofs.runs.singles.find_one.Goals as goal
 
 -- a stretch from the number on says of it what it begins with
-pub returns-in-Some-clause-fit : goal.returns-in-Some-clause-fit
-returns-in-Some-clause-fit g c =
-    let stretch = c.in-Some.stretch in
-    let from = c.in-Some.ensures.from in
+pub returns-clause-fit : goal.returns-clause-fit
+returns-clause-fit g c =
+    let stretch = c.in_ok-stretch_from.field-0 in
+    let from = c.in_ok-stretch_from.ensures.from in
     record {
       some = omega arith;
       short = omega arith;

@@ -1,4 +1,4 @@
-use Rattle.std.proofs.Common.{Some, None, arith, inl, inr, subst, sym}
+use Rattle.std.proofs.Common.{Some, arith, inl, inr, subst, sym}
 use Rattle.std.proofs.lemmas.Bool.{cases_lt}
 use Rattle.vm_ids.specs.declared.numbers.NodeId.{NodeId}
 use Rattle.local_cache.specs.NodeRuns.{nodes_of}
@@ -25,12 +25,14 @@ returns-in-None-first_of c =
     subst (λ (m : PageNodes). IsLeastThin m (Some c.in-Some.even.node)) c.self.view_is
     (even_thin c.self.inside.lists c.self.inside.counters c.self.invariant c.in-Some.even c.in-Some.ensures (λ k h. c.in-None-first_of.ensures k))
 
-pub returns-in-Some-first_of-2 : goal.returns-in-Some-first_of-2
-returns-in-Some-first_of-2 c =
-    subst (λ (m : PageNodes). IsLeastThin m (Some c.in-Some-first_of-2.odd.node)) c.self.view_is
-    (odd_thin c.self.inside.lists c.self.inside.counters c.self.invariant c.in-Some-first_of-2.odd c.in-Some-first_of-2.ensures (λ k h. c.in-None.ensures k))
+pub returns-in_ok-first_of-in-None : goal.returns-in_ok-first_of-in-None
+returns-in_ok-first_of-in-None c =
+    let odd = c.in_ok-first_of-in-None.field-0 in
+    subst (λ (m : PageNodes). IsLeastThin m (Some odd.node)) c.self.view_is
+    (odd_thin c.self.inside.lists c.self.inside.counters c.self.invariant odd c.in_ok-first_of-in-None.ensures (λ k h. c.in-None.ensures k))
 
-pub returns-in-None-first_of-2 : goal.returns-in-None-first_of-2
-returns-in-None-first_of-2 c =
-    subst (λ (m : PageNodes). IsLeastThin m None) c.self.view_is
-    (none_thin c.self.inside.lists c.self.inside.counters c.self.invariant c.in-None.ensures c.in-None-first_of-2.ensures)
+pub returns-in_err-first_of-in-None : goal.returns-in_err-first_of-in-None
+returns-in_err-first_of-in-None c =
+    subst (λ (m : PageNodes). IsLeastThin m c.from_residual.result) c.self.view_is
+    (subst (IsLeastThin (nodes_of c.self.inside.lists c.self.inside.counters)) (sym c.from_residual.ensures)
+    (none_thin c.self.inside.lists c.self.inside.counters c.self.invariant c.in-None.ensures c.in_err-first_of-in-None.ensures))
