@@ -12,6 +12,7 @@
 #![tactic(auto)]
 
 mod children;
+mod copying;
 mod cutting;
 mod detaching;
 mod laws;
@@ -20,6 +21,7 @@ mod retiring;
 mod settling;
 mod tree_lists;
 
+pub use copying::copy_many;
 pub use detaching::{detach, retire};
 pub use laws::{copying_first, copying_more};
 pub use released::Released;
