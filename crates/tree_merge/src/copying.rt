@@ -7,7 +7,7 @@ ghost use Rattle.local_cache.specs.Many.{HaveNodes, HaveNone, IsPlain, with_new_
 ghost use Rattle.local_cache.specs.Own.{own_of};
 ghost use Rattle.local_cache.specs.Reading.{forest_of};
 ghost use Rattle.local_cache.specs.Sound.{IsSound};
-ghost use Rattle.tree_merge.specs.Copyable.{AreCopyable, AreRenewable, IsHistory};
+ghost use Rattle.tree_merge.specs.Copyable.{AreCopyable, AreReady, AreRenewable, IsHistory};
 ghost use Rattle.tree_merge.specs.Copying.{AreApart, AreNamed, IsCopiedAtOnce, IsEmpty, linked_one, linked_two, pairs_left};
 
 use local_cache::{Caches, OwnState};
@@ -155,6 +155,43 @@ fn link_two(caches: &mut Caches, node: NodeId, older: NodeId, newer: NodeId, cou
     caches.hang_many(older, count, node);
 }
 
+// Pages of a span are copied at once, which nodes and sources from one on are ready for: so many, or none where numbers
+// for fresh nodes came to an end.
+fn copy_ready(
+    caches: &mut Caches,
+    span: Span,
+    done: u32,
+    node: NodeId,
+    source: NodeId,
+    count: u32,
+) -> u32
+    requires within { span.to_page.0 + done < 2 ^ 32 }
+    requires ready { AreReady caches.old span done node source count }
+    requires room { count ≤ caches.old.room.nodes }
+    requires made { caches.old.made + count ≤ 2 ^ 63 }
+    ensures few { result ≤ count }
+    ensures none { result ≡ 0 → caches.new ≡ caches.old }
+    ensures copied { 0 < result → IsCopiedAtOnce caches.old caches.new span done result }
+{
+    let page = PageNo(span.to_page.0 + done);
+    let history = caches.tree_child(source, 0);
+    match renew_many(caches, node, count, span.to, page, OwnState::Absent) {
+        None => 0,
+        Some(fresh) => match history {
+            None => {
+                link_one(caches, source, fresh, count);
+                count
+            }
+            Some(history) => {
+                let working = fresh_working_many(caches, count);
+                link_one(caches, source, working, count);
+                link_two(caches, working, history, fresh, count);
+                count
+            }
+        },
+    }
+}
+
 /// Copies the pages of a span, from one of them on, by tree links, all at once, as far as their nodes and those of their
 /// sources are alike, and answers how many. It answers 0, and changes nothing, where the first of these pages can't be
 /// copied so: where its node has a parent, a child, or an own page that isn't zeros, where its source has stubs or two
@@ -171,28 +208,12 @@ pub fn copy_many(caches: &mut Caches, span: Span, done: u32) -> u32
     ensures none { result ≡ 0 → caches.new ≡ caches.old }
     ensures copied { 0 < result → IsCopiedAtOnce caches.old caches.new span done result }
 {
-    let to_page = PageNo(span.to_page.0 + done);
-    let from_page = PageNo(span.from_page.0 + done);
-    let node = caches.node_of(span.to, to_page);
-    let source = caches.node_of(span.from, from_page);
+    let node = caches.node_of(span.to, PageNo(span.to_page.0 + done));
+    let source = caches.node_of(span.from, PageNo(span.from_page.0 + done));
     let count = copyable(caches, node, source, span.pages - done);
     if count == 0 {
-        return 0;
-    }
-    let history = caches.tree_child(source, 0);
-    match renew_many(caches, node, count, span.to, to_page, OwnState::Absent) {
-        None => 0,
-        Some(fresh) => match history {
-            None => {
-                link_one(caches, source, fresh, count);
-                count
-            }
-            Some(history) => {
-                let working = fresh_working_many(caches, count);
-                link_one(caches, source, working, count);
-                link_two(caches, working, history, fresh, count);
-                count
-            }
-        },
+        0
+    } else {
+        copy_ready(caches, span, done, node, source, count)
     }
 }

@@ -154,6 +154,31 @@ module _ (d new : NodeId) (to : CacheId) (to_page : PageNo) where
             ∙ held_came a k j (omega arith)
       ]
 
+  pub room_renewed : (a : Arena) (k : ℕ) → (renewed a d new to to_page k).room.nodes ≡ a.room.nodes
+  room_renewed a k = omega (arith, room_came (without_many a d k) k, room_gone a k)
+
+  made_without : (a : Arena) (n : NodeId) → (without a n).made ≡ a.made
+  unfolding without
+  made_without a n = refl
+
+  made_new : (a : Arena) (n : NodeId) (x : NodeName) (s : OwnState) → (with_new a n x s).made ≡ a.made
+  unfolding with_new
+  made_new a n x s = refl
+
+  made_gone : (a : Arena) (k : ℕ) → (without_many a d k).made ≡ a.made
+  made_gone a zero = refl
+  made_gone a (suc k) = made_without (without_many a d k) (next_node d k) ∙ made_gone a k
+
+  made_came : (a : Arena) (k : ℕ) → (with_new_many a new to to_page Absent k).made ≡ a.made
+  made_came a zero = refl
+  made_came a (suc k) = made_new (with_new_many a new to to_page Absent k) (next_node new k) (Live to (page_after k)) Absent ∙ made_came a k
+
+  pub made_renewed : (a : Arena) (k : ℕ) → (renewed a d new to to_page k).made ≡ a.made
+  made_renewed a k = made_came (without_many a d k) k ∙ made_gone a k
+
+  pub held_renewed : (a : Arena) (k : ℕ) (m : NodeId) → IsBeside m d k → IsBeside m new k → HasNode a m → HasNode (renewed a d new to to_page k) m
+  held_renewed a k m m_d m_new held = ap is_some (find_came (without_many a d k) k m m_new ∙ find_gone a k m m_d) ∙ held
+
   module _ (count : ℕ) (apart : AreApart d new count) where
     -- a node goes before the new ones of earlier pages come
     gone_before : (x : Arena) (j : ℕ) → j < count → (cell x (next_node d j)).name ≡ Live to (page_after j) → (k : ℕ) → k ≤ j → k ≤ x.room.nodes
