@@ -10,7 +10,7 @@ use Rattle.vm_ids.specs.Forest.Commands.{copy_pages, page_pairs}
 use Rattle.local_cache.specs.declared.own_state.OwnState.{OwnState}
 use Rattle.local_cache.specs.declared.own_state.OwnState.TheVariants.{Absent, Zero}
 use Rattle.local_cache.specs.Arena.{Arena, Cell, HasNode, cell, find}
-use Rattle.local_cache.specs.Many.{HaveNone, hung_many, over_many, over_two_many, with_new_many, with_working_many, without_many}
+use Rattle.local_cache.specs.Many.{AreNamed, HaveNone, hung_many, over_many, over_two_many, with_new_many, with_working_many, without_many}
 use Rattle.local_cache.specs.ManyNodes.{next_node}
 use Rattle.local_cache.specs.Own.{own_of}
 use Rattle.local_cache.specs.Reading.{forest_of, name_of}
@@ -30,13 +30,6 @@ IsBeside m n count = (k : ℕ) → k < count → m ≢ next_node n k
 -- of so many nodes from one on, and so many from another one on, none is both
 abbrev pub AreApart : NodeId → NodeId → ℕ → Type 0
 AreApart n m count = (k : ℕ) → k < count → IsBeside (next_node n k) m count
-
--- so many nodes from one on are those of pages of a cache, from one page on
-abbrev pub AreNamed : Arena → NodeId → CacheId → PageNo → ℕ → Type 0
-AreNamed a n cache page count =
-    (k : ℕ) → k < count
-    → HasNode a (next_node n k)
-    × (name_of a (next_node n k) ≡ Live cache (record { 0 = page.0 + k }))
 
 -- an own page is none or zeros
 abbrev pub IsEmpty : OwnState → Type 0

@@ -1,54 +1,20 @@
 // Pages whose nodes are alike are copied by tree links, all at once.
-ghost use Rattle.std.specs.Prelude.{◌≡◌, ◌+◌, ◌-◌, ◌<◌, ◌≤◌, ◌^◌, ℕ, None, [], IsSome, IsTrue, IfSome, MatchOption};
+ghost use Rattle.std.specs.Prelude.{◌≡◌, ◌+◌, ◌-◌, ◌<◌, ◌≤◌, ◌^◌, ℕ, None, [], IsTrue};
 ghost use Rattle.vm_ids.specs.declared.numbers.NodeId.{NodeId};
 ghost use Rattle.vm_ids.specs.Forest.Laws.Commands.{CanCopy};
 ghost use Rattle.local_cache.specs.Arena.{HasNode, NodesStay, cell};
-ghost use Rattle.local_cache.specs.Many.{HaveNodes, HaveNone, IsPlain, with_new_many, without_many, with_working_many};
+ghost use Rattle.local_cache.specs.Many.{HaveNodes};
 ghost use Rattle.local_cache.specs.Own.{own_of};
 ghost use Rattle.local_cache.specs.Reading.{forest_of};
 ghost use Rattle.local_cache.specs.Sound.{IsSound};
 ghost use Rattle.tree_merge.specs.Copyable.{AreCopyable, AreReady, AreRenewable, IsHistory};
-ghost use Rattle.tree_merge.specs.Copying.{AreApart, AreNamed, IsCopiedAtOnce, IsEmpty, linked_one, linked_two, pairs_left};
+ghost use Rattle.tree_merge.specs.Copying.{AreApart, IsCopiedAtOnce, IsEmpty, linked_one, linked_two, pairs_left};
 
 use local_cache::{Caches, OwnState};
-use vm_ids::{CacheId, NodeId, PageNo, Span};
+use vm_ids::{NodeId, PageNo, Span};
 
 // The numbers of new working nodes begin with this one, and those of nodes made for pages are below it.
 const FIRST_WORKING: u64 = 1 << 52;
-
-// STUB
-fn renew_many(
-    _caches: &mut Caches,
-    _node: NodeId,
-    _count: u32,
-    _cache: CacheId,
-    _page: PageNo,
-    _state: OwnState,
-) -> Option<NodeId>
-    requires named { AreNamed _caches.old _node _cache _page _count }
-    requires plain { IsPlain _state }
-    ensures new { IfSome result (λ n. HaveNone _caches.old n _count) }
-    ensures short { IfSome result (λ n. n.0 + _count ≤ 2 ^ 52) }
-    ensures changed { MatchOption result (_caches.new ≡ _caches.old) (λ n. _caches.new
-        ≡ with_new_many (without_many _caches.old _node _count) n _cache _page _state _count) }
-    ensures held { IfSome result (λ n. HaveNodes _caches.new n _count) }
-{
-    None
-}
-
-// STUB
-fn fresh_working_many(caches: &mut Caches, count: u32) -> NodeId
-    requires room { count ≤ caches.old.room.nodes }
-    requires made { caches.old.made + count ≤ 2 ^ 63 }
-    ensures new { HaveNone caches.old result count }
-    ensures high { 2 ^ 52 ≤ result.0 }
-    ensures short { result.0 + count ≤ 2 ^ 64 }
-    ensures changed { caches.new ≡ with_working_many caches.old result count }
-    ensures held { HaveNodes caches.new result count }
-    ensures stays { NodesStay caches.old caches.new }
-{
-    caches.fresh_working_many(count)
-}
 
 // Whether an own page is none or zeros.
 fn is_empty(state: OwnState) -> bool
@@ -175,7 +141,7 @@ fn copy_ready(
 {
     let page = PageNo(span.to_page.0 + done);
     let history = caches.tree_child(source, 0);
-    match renew_many(caches, node, count, span.to, page, OwnState::Absent) {
+    match caches.renew_many(node, count, span.to, page, OwnState::Absent) {
         None => 0,
         Some(fresh) => match history {
             None => {
@@ -183,7 +149,7 @@ fn copy_ready(
                 count
             }
             Some(history) => {
-                let working = fresh_working_many(caches, count);
+                let working = caches.fresh_working_many(count);
                 link_one(caches, source, working, count);
                 link_two(caches, working, history, fresh, count);
                 count
