@@ -56,16 +56,17 @@ fn renewable(caches: &Caches, node: NodeId, most: u32) -> u32
     }
 }
 
-// Whether so many numbers from one on can be named, and none is one of as many from another one on.
-fn are_apart(one: NodeId, other: NodeId, count: u32) -> bool
-    ensures apart { IsTrue result → AreApart one other count }
-    ensures short { IsTrue result → one.0 + count ≤ 2 ^ 64 }
+// Whether there are so many numbers from a node on, none of which is one of as many from another one on.
+fn are_apart(node: NodeId, other: NodeId, count: u32) -> bool
+    ensures apart { IsTrue result → AreApart node other count }
+    ensures short { IsTrue result → node.0 + count ≤ 2 ^ 64 }
 {
     let length = count as u64;
-    one.0 <= u64::MAX - length && one.0.abs_diff(other.0) >= length
+    node.0 <= u64::MAX - length && node.0.abs_diff(other.0) >= length
 }
 
-// Whether a source has no tree child, or one that begins as many histories of so many sources, none of which is one of them.
+// Whether a source has no tree child, or only one, so that none of so many nodes from that one on is one of as many from
+// the source on.
 fn has_history(caches: &Caches, source: NodeId, count: u32) -> bool
     requires { HasNode caches.now source }
     ensures { IsTrue result → IsHistory (cell caches.now source).tree source count }
@@ -121,8 +122,8 @@ fn link_two(caches: &mut Caches, node: NodeId, older: NodeId, newer: NodeId, cou
     caches.hang_many(older, count, node);
 }
 
-// Pages of a span are copied at once, which nodes and sources from one on are ready for: so many, or none where numbers
-// for fresh nodes came to an end.
+// So many pages of a span, whose nodes and sources are ready for it, are copied at once: all of them, or none where
+// numbers for fresh nodes came to an end. How many.
 fn copy_ready(
     caches: &mut Caches,
     span: Span,
@@ -160,8 +161,9 @@ fn copy_ready(
 
 /// Copies the pages of a span, from one of them on, by tree links, all at once, as far as their nodes and those of their
 /// sources are alike, and answers how many. It answers 0, and changes nothing, where the first of these pages can't be
-/// copied so: where its node has a parent, a child, or an own page that isn't zeros, where its source has stubs or two
-/// tree children, where something is kept of one of them that can't be said of many, and where numbers came to an end.
+/// copied so: where its node has a parent, a child, or an own page that isn't zeros; where its source has stubs, two tree
+/// children, or one that is among the sources; where something is kept of one of them that can't be said of many; and
+/// where numbers of nodes came to an end. It takes no time for each page.
 pub fn copy_many(caches: &mut Caches, span: Span, done: u32) -> u32
     requires sound { IsSound caches.old }
     requires can { CanCopy (forest_of caches.old) (pairs_left span done) }
