@@ -8,3 +8,5 @@ pub mod Stretches
 pub mod OnePage
 -- One page is copied after the other.
 pub mod Pages
+-- Pages whose nodes are alike can be copied at once.
+pub mod AtOnce
