@@ -1,4 +1,4 @@
-use Rattle.std.proofs.Common.{◌≡◌, ℕ, ◌+◌, ◌-◌, ◌<◌, ◌≤◌, Option, unwrap_or, is_some, ap, subst, arith, inl}
+use Rattle.std.proofs.Common.{ℕ, ◌+◌, ◌≤◌, Option, unwrap_or, is_some, ap, subst, arith, inl}
 use Rattle.std.specs.Result.{OnOk}
 use Rattle.vm_ids.specs.declared.command.Span.{Span}
 use Rattle.vm_ids.specs.declared.numbers.CacheId.{CacheId}
