@@ -9,7 +9,6 @@ use Rattle.std.specs.FinMap as map
 use Rattle.stretches.specs.Cells.{cells, with_stretch}
 use Rattle.stretches.specs.declared.says.Says.{Ghosts}
 use Rattle.stretches.specs.declared.stretch.Stretch.{Stretch}
-use Rattle.local_cache.specs.declared.runs.key_ranges.KeyRange.{KeyRange}
 use Rattle.local_cache.specs.declared.runs.node_lists.NodeLists.{NodeLists}
 use Rattle.local_cache.specs.declared.runs.record.Record.{Record}
 use Rattle.local_cache.specs.declared.runs.run.Run.{Run}

@@ -14,12 +14,10 @@ use Rattle.stretches.specs.declared.says.Says.{Ghosts}
 use Rattle.stretches.specs.declared.stretch.Stretch.{Stretch}
 use Rattle.vm_ids.specs.declared.node_name.NodeName.{NodeName}
 use Rattle.vm_ids.specs.declared.node_name.NodeName.TheVariants.{Live, Working as WorkingNode}
-use Rattle.vm_ids.specs.declared.numbers.NodeId.{NodeId}
 use Rattle.local_cache.specs.declared.own_state.OwnState.TheVariants.{Absent}
 use Rattle.local_cache.specs.declared.runs.counters.Counters.{Counters}
 use Rattle.local_cache.specs.declared.runs.key_ranges.KeyRange.{KeyRange}
 use Rattle.local_cache.specs.declared.runs.node_lists.NodeLists.{NodeLists}
-use Rattle.local_cache.specs.declared.runs.record.Record.{Record}
 use Rattle.local_cache.specs.declared.runs.run.PlainState.TheVariants.{Absent as PlainAbsent}
 use Rattle.local_cache.specs.declared.runs.run.Run.{Run}
 use Rattle.local_cache.specs.declared.runs.run.RunName.TheVariants.{Working}
@@ -27,7 +25,7 @@ use Rattle.local_cache.specs.declared.runs.thin_nodes.ThinNodes.{ThinNodes}
 use Rattle.local_cache.specs.declared.runs.thin_nodes.ThinNodes.TheVariants.{EverySecond}
 use Rattle.local_cache.specs.Arena.{Cell, blank, new_cell}
 use Rattle.local_cache.specs.KeyRanges.{AreKeysIn, run_cell}
-use Rattle.local_cache.specs.ManyNodes.{HaveNone, next_node, with_working_many}
+use Rattle.local_cache.specs.ManyNodes.{HaveNone, with_working_many}
 use Rattle.local_cache.specs.NodeCells.{cells_by, node_cells}
 use Rattle.local_cache.specs.NodeKeys.{Indexes, even_half, even_key, key_at, number_of_name, odd_half, odd_key, page_key, working_number}
 use Rattle.local_cache.specs.NodeRuns.{IsGiven, IsNumbered, IsRight, nodes_of}

@@ -17,5 +17,7 @@ pub mod Hung
 pub mod Over
 -- Nodes under the next working names.
 pub mod AsWorking
+-- Nodes of pages that go, so that other nodes can come for these pages.
+pub mod Renewed
 -- The numbers of many nodes.
 pub mod Numbers

@@ -17,6 +17,13 @@ HaveNodes a n count = (k : ℕ) → k < count → HasNode a (next_node n k)
 abbrev pub HaveNone : Arena → NodeId → ℕ → Type 0
 HaveNone a n count = (k : ℕ) → k < count → find a (next_node n k) ≡ None
 
+-- so many nodes from one on are those of pages of a cache, from one page on
+abbrev pub AreNamed : Arena → NodeId → CacheId → PageNo → ℕ → Type 0
+AreNamed a n cache page count =
+    (k : ℕ) → k < count
+    → HasNode a (next_node n k)
+    × ((cell a (next_node n k)).name ≡ Live cache (record { 0 = page.0 + k }))
+
 -- a live cache has so many pages from one on, none of which has a node
 abbrev pub AreVacant : Arena → CacheId → PageNo → ℕ → Type 0
 AreVacant a cache page count =

@@ -27,6 +27,13 @@ HaveNodes m n count = (k : ℕ) → k < count → HasNode m (next_node n k)
 abbrev pub HaveNone : PageNodes → NodeId → ℕ → Type 0
 HaveNone m n count = (k : ℕ) → k < count → find m (next_node n k) ≡ None
 
+-- so many nodes from one on are those of pages of a cache, from one page on
+abbrev pub AreNamed : PageNodes → NodeId → CacheId → PageNo → ℕ → Type 0
+AreNamed m n cache page count =
+    (k : ℕ) → k < count
+    → HasNode m (next_node n k)
+    × ((cell m (next_node n k)).name ≡ Live cache (record { 0 = page.0 + k }))
+
 -- so many nodes from one on are what a run says, each a step further on than the one before
 abbrev pub AreSaidBy : PageNodes → NodeId → Run → ℕ → Type 0
 AreSaidBy m n r count =

@@ -8,7 +8,7 @@ ghost use Rattle.vm_ids.specs.Forest.NameMap.{len};
 ghost use Rattle.vm_ids.specs.Forest.Nodes.{no_forest};
 ghost use Rattle.vm_ids.specs.Forest.Reading.{counts_of};
 ghost use Rattle.local_cache.specs.Home.{home_of};
-ghost use Rattle.local_cache.specs.Many.{AreAlike, AreVacant, HaveNodes, HaveNone, IsPlain, as_working_many, hung_many, over_many, over_two_many, with_new_many, with_working_many, without_many};
+ghost use Rattle.local_cache.specs.Many.{AreAlike, AreNamed, AreVacant, HaveNodes, HaveNone, IsPlain, as_working_many, hung_many, over_many, over_two_many, with_new_many, with_working_many, without_many};
 ghost use Rattle.local_cache.specs.NodeCells.{own_of_plain};
 ghost use Rattle.local_cache.specs.Reading.{IsNamed, forest_of};
 ghost use Rattle.local_cache.specs.Sound.{IsSound, MakesPages};
@@ -436,6 +436,30 @@ impl Caches {
         self.nodes.fresh_many(cache, page, count, own)
     }
 
+    /// Gives so many pages of a cache, from one page on, new nodes in place of theirs, which are those from one node on and
+    /// which nothing names: all with this own state and without parent and children, under numbers that no node had, that
+    /// follow one another, and that are below those of nodes made as working ones. Where such numbers came to an end nothing
+    /// changes, and it answers `None`. They are one run, so it takes no time for each page.
+    pub fn renew_many(
+        &mut self,
+        node: NodeId,
+        count: u32,
+        cache: CacheId,
+        page: PageNo,
+        state: OwnState,
+    ) -> Option<NodeId>
+        requires named { AreNamed self.old node cache page count }
+        requires plain { IsPlain state }
+        ensures new { IfSome result (λ n. HaveNone self.old n count) }
+        ensures short { IfSome result (λ n. n.0 + count ≤ 2 ^ 52) }
+        ensures changed { MatchOption result (self.new ≡ self.old) (λ n. self.new
+            ≡ with_new_many (without_many self.old node count) n cache page state count) }
+        ensures held { IfSome result (λ n. HaveNodes self.new n count) }
+    {
+        let own = plain(state);
+        self.nodes.renew_many(node, count, cache, page, own)
+    }
+
     /// Makes a working node under the next number, `Absent` and without parent and children. It takes no memory: there
     /// has to be room for a node.
     pub fn fresh_working(&mut self) -> NodeId
@@ -450,12 +474,13 @@ impl Caches {
     }
 
     /// Makes so many working nodes under the next numbers of working nodes, `Absent` and without parent and children, under
-    /// numbers that follow one another. It takes no memory: there has to be room for the nodes. They are one run, so it
+    /// numbers that follow one another, above those of all nodes made for pages. It takes no memory: there has to be room for the nodes. They are one run, so it
     /// takes no time for each node.
     pub fn fresh_working_many(&mut self, count: u32) -> NodeId
         requires room { count ≤ self.old.room.nodes }
         requires made { self.old.made + count ≤ 2 ^ 63 }
         ensures new { HaveNone self.old result count }
+        ensures high { 2 ^ 52 ≤ result.0 }
         ensures short { result.0 + count ≤ 2 ^ 64 }
         ensures changed { self.new ≡ with_working_many self.old result count }
         ensures held { HaveNodes self.new result count }

@@ -10,3 +10,5 @@ pub mod OnePage
 pub mod Pages
 -- What the copy of each page hands on holds of all pages copied at once.
 pub mod Induction
+-- Pages whose nodes are alike can be copied at once.
+pub mod AtOnce

@@ -1,3 +1,4 @@
+pub mod Copyable
 pub mod Copying
 pub mod Releasing
 pub mod Staying

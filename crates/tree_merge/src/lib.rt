@@ -8,10 +8,15 @@
 //! The model is that of the local caches: each call changes the page forest that is read off them by the rule of its
 //! name, and `Released` tells which node's frame or swap slot falls free or becomes another node's. This crate stands
 //! on `local_cache`, `page_stubs` and `history_tree`; `move_pages` and `page_release` stand on it. It keeps no page
-//! itself. Pages that are copied at once are these pages copied one after the other, as its laws say.
+//! itself.
+//!
+//! Pages of a copy whose nodes are alike, and whose sources are, are copied at once by `copy_many`: their nodes go for
+//! fresh ones, which are linked to the sources. That they are these pages copied one after the other is what its laws
+//! say.
 #![tactic(auto)]
 
 mod children;
+mod copying;
 mod cutting;
 mod detaching;
 mod laws;
@@ -20,6 +25,7 @@ mod retiring;
 mod settling;
 mod tree_lists;
 
+pub use copying::copy_many;
 pub use detaching::{detach, retire};
 pub use laws::{copying_first, copying_more};
 pub use released::Released;

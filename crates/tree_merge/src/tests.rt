@@ -1,7 +1,7 @@
-// A page without children.
-use crate::{Released, retire, settle_step};
+// A page without children, and pages that are copied at once.
+use crate::{Released, copy_many, retire, settle_step};
 use local_cache::{Caches, OwnState};
-use vm_ids::PageNo;
+use vm_ids::{PageNo, Span};
 
 #[test]
 fn a_page_without_children_goes(rt: HostRuntime) {
@@ -12,4 +12,20 @@ fn a_page_without_children_goes(rt: HostRuntime) {
     let released = retire(&mut caches, cache, PageNo(0));
     assert_eq!(&rt; released, Released::Dropped(node, OwnState::Zero));
     assert_eq!(&rt; settle_step(&mut caches), None);
+}
+
+#[test]
+fn alike_pages_are_copied_at_once(rt: HostRuntime) {
+    let mut caches = Caches::new(rt.alloc());
+    caches.reserve(1, 6).expect(&rt, "memory");
+    let cache = caches.make_temp(4);
+    let span = Span {
+        from: cache,
+        from_page: PageNo(0),
+        to: cache,
+        to_page: PageNo(2),
+        pages: 2,
+    };
+    assert_eq!(&rt; copy_many(&mut caches, span, 0), 2);
+    assert_eq!(&rt; caches.runs(), 2);
 }

@@ -1,8 +1,9 @@
 -- Each call that changes many page nodes, one after the other.
-use Rattle.std.proofs.Common.{◌≡◌, ℕ, zero, suc, ◌+◌, ◌<◌, ◌≤◌, Some, None, refl, ap, sym, ◌∙◌, arith}
+use Rattle.std.proofs.Common.{◌≡◌, ℕ, zero, suc, ◌+◌, ◌<◌, ◌≤◌, ◌^◌, Some, None, refl, ap, sym, subst, ◌∙◌, arith}
 use Rattle.std.specs.Prelude.{List, [], ◌∷◌, false}
 use Rattle.std.proofs.lemmas.Option.{same_Some}
 use Rattle.std.specs.FinMap as ids
+use Rattle.vm_ids.specs.declared.node_name.NodeName.{NodeName}
 use Rattle.vm_ids.specs.declared.node_name.NodeName.TheVariants.{Live}
 use Rattle.vm_ids.specs.declared.numbers.CacheId.{CacheId}
 use Rattle.vm_ids.specs.declared.numbers.NodeId.{NodeId}
@@ -12,20 +13,22 @@ use Rattle.local_cache.specs.Arena.{Arena}
 use Rattle.local_cache.specs.Arena as arena
 use Rattle.local_cache.specs.ArenaBy.{CacheRows, arena_by}
 use Rattle.local_cache.specs.Many.{AreVacant, as_working_many, hung_many, over_many, over_two_many, with_new_many, with_working_many, without_many}
-use Rattle.local_cache.specs.ManyNodes.{HaveNodes, HaveNone, next_node}
+use Rattle.local_cache.specs.ManyNodes.{AreNamed, HaveNodes, HaveNone, next_node}
 use Rattle.local_cache.specs.ManyNodes as many
 use Rattle.local_cache.specs.NodeKeys.{page_number}
 use Rattle.local_cache.specs.PageNodes.{PageNodes}
 use Rattle.local_cache.specs.PageNodes as nodes
-use Rattle.local_cache.specs.Placed.{ArePlaced}
-use Rattle.local_cache.proofs.ArenaBy.Calls.{StandFor, freed, links_set, made_working, may_get_node, tree_set, working_made}
+use Rattle.local_cache.specs.Placed.{ArePlaced, IsPlaced}
+use Rattle.local_cache.proofs.ArenaBy.Calls.{MayGetNode, StandFor, freed, links_set, made_working, may_get_node, tree_set, working_made}
 use Rattle.local_cache.proofs.ArenaBy.Nodes.{new_by}
-use Rattle.local_cache.proofs.ArenaBy.Placed.{kept_new, short_name}
+use Rattle.local_cache.proofs.ArenaBy.Placed.{kept_new, placed_name, short_name}
+use Rattle.local_cache.proofs.ArenaBy.Rows.{page_short}
 use Rattle.local_cache.proofs.Making.{cells_beside}
 use Rattle.local_cache.proofs.ManyNodes.AsWorking.{held_as_working}
 use Rattle.local_cache.proofs.ManyNodes.Freed.{held_behind}
 use Rattle.local_cache.proofs.ManyNodes.Hung.{held_hung}
 use Rattle.local_cache.proofs.ManyNodes.Over.{held_over}
+use Rattle.local_cache.proofs.ManyNodes.Renewed.{have_none_left, named_held, pages_gone}
 use Rattle.local_cache.proofs.NodeCells.{inserted_other}
 
 -- What stays ----------------------------------------------------------------------------------------
@@ -123,14 +126,16 @@ module _ (m : PageNodes) (c : CacheRows) (right : ArePlaced m c.rows) (n : NodeI
       one_more now (nodes.with_working now (next_node n k)) c (with_working_many a n k) (λ (b : Arena). arena.with_working b (next_node n k)) before
       (working_made now c before.right (next_node n k) (working_beside m n k (n.0 + k) (omega arith) ∙ none k (omega arith)))
 
-  pub many_made : (cache : CacheId) (page : PageNo) (own : OwnState) (k : ℕ) → HaveNone m n k → AreVacant a cache page k
+  -- pages that may get nodes
+  many_come : (cache : CacheId) (page : PageNo) (own : OwnState) (k : ℕ) → HaveNone m n k
+      → ((j : ℕ) → j < k → MayGetNode m c cache (record { 0 = page.0 + j }))
       → StandFor (many.with_new_many m n cache page own k) c (with_new_many a n cache page own k)
-  many_made cache page own zero none vacant = none_yet
-  many_made cache page own (suc k) none vacant =
+  many_come cache page own zero none may_get = none_yet
+  many_come cache page own (suc k) none may_get =
       let now : PageNodes = many.with_new_many m n cache page own k in
-      let before = many_made cache page own k (λ j less. none j (omega (arith, less))) (λ j less. vacant j (omega (arith, less))) in
+      let before = many_come cache page own k (λ j less. none j (omega (arith, less))) (λ j less. may_get j (omega (arith, less))) in
       let p : PageNo = record { 0 = page.0 + k } in
-      let may = may_get_node m c right cache p (vacant k (omega arith)) in
+      let may = may_get k (omega arith) in
       let free = pages_beside m n cache page own k (page.0 + k) (omega arith) ∙ may.vacant in
       one_more now (nodes.with_new now (next_node n k) (Live cache p) own) c (with_new_many a n cache page own k)
       (λ (b : Arena). arena.with_new b (next_node n k) (Live cache p) own) before
@@ -140,3 +145,34 @@ module _ (m : PageNodes) (c : CacheRows) (right : ArePlaced m c.rows) (n : NodeI
             (cells_beside m n cache page own k (n.0 + k) (omega arith) ∙ none k (omega arith)) may.placed
             (λ q e. ap (ids.get now.pages) (sym (same_Some (page_number cache.0 p.0) q e)) ∙ free);
       })
+
+  pub many_made : (cache : CacheId) (page : PageNo) (own : OwnState) (k : ℕ) → HaveNone m n k → AreVacant a cache page k
+      → StandFor (many.with_new_many m n cache page own k) c (with_new_many a n cache page own k)
+  many_made cache page own k none vacant =
+      many_come cache page own k none (λ j less. may_get_node m c right cache (record { 0 = page.0 + j }) (vacant j less))
+
+-- Pages whose nodes went get new ones ---------------------------------------------------------------
+
+module _ (m : PageNodes) (c : CacheRows) (right : ArePlaced m c.rows) (d : NodeId) (cache : CacheId) (page : PageNo) (count : ℕ)
+    (named : AreNamed m d cache page count) where
+  -- each of the pages is one of a live cache
+  named_placed : (k : ℕ) → k < count → IsPlaced c.rows (Live cache (record { 0 = page.0 + k }))
+  named_placed k less = subst (λ (x : NodeName). IsPlaced c.rows x) (named k less).1 (placed_name m c.rows right (next_node d k) (named k less).0)
+
+  pub named_short : (k : ℕ) → k < count → page.0 + k + 1 < 2 ^ 32
+  named_short k less = page_short m c cache.0 (page.0 + k) right.short (named_placed k less)
+
+  may_come : (k : ℕ) → k < count → MayGetNode (many.without_many m d count) c cache (record { 0 = page.0 + k })
+  may_come k less = record {
+    vacant = pages_gone m d cache page count named count (omega arith) k less;
+    short = named_short k less;
+    placed = named_placed k less;
+  }
+
+  pub many_renewed : (n : NodeId) (own : OwnState) → HaveNone m n count
+      → StandFor (many.with_new_many (many.without_many m d count) n cache page own count) c
+      (with_new_many (without_many (arena_by m c) d count) n cache page own count)
+  many_renewed n own none =
+      let gone = many_freed m c right d count (named_held m d cache page count named) in
+      let come = many_come (many.without_many m d count) c gone.right n cache page own count (have_none_left m d count n count none) may_come in
+      record { is = come.is ∙ ap (λ (b : Arena). with_new_many b n cache page own count) gone.is; right = come.right }

@@ -6,16 +6,16 @@ use Rattle.vm_ids.specs.declared.numbers.CacheId.{CacheId}
 use Rattle.vm_ids.specs.declared.numbers.NodeId.{NodeId}
 use Rattle.vm_ids.specs.declared.numbers.PageNo.{PageNo}
 use Rattle.local_cache.specs.declared.own_state.OwnState.{OwnState}
-use Rattle.local_cache.specs.Arena.{Arena, NodesStay}
+use Rattle.local_cache.specs.Arena.{Arena, Cell, NodesStay, cell}
 use Rattle.local_cache.specs.ArenaBy.{CacheRows, arena_by}
-use Rattle.local_cache.specs.Many.{AreVacant, HaveNodes, HaveNone, as_working_many, hung_many, over_many, over_two_many, with_new_many, with_working_many, without_many}
+use Rattle.local_cache.specs.Many.{AreNamed, AreVacant, HaveNodes, HaveNone, as_working_many, hung_many, over_many, over_two_many, with_new_many, with_working_many, without_many}
 use Rattle.local_cache.specs.ManyNodes.{next_node}
 use Rattle.local_cache.specs.ManyNodes as many
 use Rattle.local_cache.specs.NodeKeys.{page_number}
 use Rattle.local_cache.specs.PageNodes.{PageNodes}
 use Rattle.local_cache.specs.Placed.{AreRight}
-use Rattle.local_cache.proofs.ArenaBy.Many.{many_as_working, many_freed, many_hung, many_made, many_over, many_over_two, many_working}
-use Rattle.local_cache.proofs.Nodes.Many.{held_new_many, stay_new}
+use Rattle.local_cache.proofs.ArenaBy.Many.{many_as_working, many_freed, many_hung, many_made, many_over, many_over_two, many_renewed, many_working}
+use Rattle.local_cache.proofs.ArenaBy.Nodes.{cell_by}
 use Rattle.local_cache.proofs.ArenaBy.Seen.{Seen, held_seen, may_seen, node_call, none_seen}
 
 module _ (m : PageNodes) (c : CacheRows) (a : Arena) (is : arena_by m c ≡ a) (n : NodeId) (count : ℕ) where
@@ -24,6 +24,29 @@ module _ (m : PageNodes) (c : CacheRows) (a : Arena) (is : arena_by m c ≡ a) (
 
   pub none_held : many.HaveNone m n count → HaveNone a n count
   none_held none k less = none_seen m c a is (next_node n k) (none k less)
+
+  pub all_named : (cache : CacheId) (page : PageNo) → AreNamed a n cache page count → many.AreNamed m n cache page count
+  all_named cache page named k less = (
+    held_seen m c a is (next_node n k) (named k less).0,
+    ap (λ (d : Cell). d.name) (cell_by m c (next_node n k) ∙ ap (λ (b : Arena). cell b (next_node n k)) is) ∙ (named k less).1,
+  )
+
+-- Nodes were made, and the caches are seen as `made_by` says of the first one; or nothing is changed.
+pub record MadeOrNone (new : PageNodes) (c : CacheRows) (a : Arena) (made_by : NodeId → Arena) (count : ℕ) (o : Option NodeId) : Type 0 where
+  pub right : AreRight new c
+  pub is : MatchOption o (arena_by new c ≡ a) (λ n. arena_by new c ≡ made_by n)
+  pub none : IfSome o (λ n. HaveNone a n count)
+
+module _ (b a : Arena) (made_by : NodeId → Arena) (count : ℕ) where
+  pub held_made : ((n : NodeId) → HaveNodes (made_by n) n count) → (o : Option NodeId)
+      → MatchOption o (b ≡ a) (λ n. b ≡ made_by n) → IfSome o (λ n. HaveNodes b n count)
+  held_made held None made = tt
+  held_made held (Some n) made = subst (λ (x : Arena). HaveNodes x n count) (sym made) (held n)
+
+  pub stay_made : ((n : NodeId) → NodesStay a (made_by n)) → (o : Option NodeId)
+      → MatchOption o (b ≡ a) (λ n. b ≡ made_by n) → NodesStay a b
+  stay_made stay None made = subst (NodesStay a) (sym made) (λ n held. held)
+  stay_made stay (Some n) made = subst (NodesStay a) (sym made) (stay n)
 
 module _ (m : PageNodes) (c : CacheRows) (a : Arena) (is : arena_by m c ≡ a) (right : AreRight m c) where
   -- pages that have no nodes may get some
@@ -80,37 +103,52 @@ module _ (m : PageNodes) (c : CacheRows) (a : Arena) (is : arena_by m c ≡ a) (
         (many_made m c right.placed n cache page own count none
         (subst (λ (b : Arena). AreVacant b cache page count) (sym is) vacant))
 
-  -- nodes that were made for pages, or none
-  module _ (new : PageNodes) (cache : CacheId) (page : PageNo) (own : OwnState) (count : ℕ)
-      (vacant : AreVacant a cache page count) where
-    abbrev Makes : NodeId → Type 0
-    Makes n = new ≡ many.with_new_many m n cache page own count
+  -- pages whose nodes went get new ones
+  module _ (new : PageNodes) (d n : NodeId) (cache : CacheId) (page : PageNo) (own : OwnState) (count : ℕ) where
+    pub renew_many_call : AreNamed a d cache page count → many.HaveNone m n count
+        → new ≡ many.with_new_many (many.without_many m d count) n cache page own count
+        → Seen new c (with_new_many (without_many a d count) n cache page own count)
+    renew_many_call named none changed =
+        node_call m c a is right new (many.with_new_many (many.without_many m d count) n cache page own count)
+        (λ (b : Arena). with_new_many (without_many b d count) n cache page own count) changed
+        (many_renewed m c right.placed d cache page count (all_named m c a is d count cache page named) n own none)
 
-    call : (n : NodeId) → many.HaveNone m n count → Makes n → Seen new c (with_new_many a n cache page own count)
-    call n none made = fresh_many_call new n count cache page own none vacant made
+  -- What is seen where nodes were made, or none ----------------------------------------------------
 
-    pub made_right : (o : Option NodeId) → IfSome o (λ n. many.HaveNone m n count) → MatchOption o (new ≡ m) Makes → AreRight new c
+  -- the nodes are made as `Makes` says of the first one, or nothing is changed
+  module _ (new : PageNodes) (count : ℕ) (made_by : NodeId → Arena) (Makes : NodeId → Type 0)
+      (call : (n : NodeId) → many.HaveNone m n count → Makes n → Seen new c (made_by n)) where
+    made_right : (o : Option NodeId) → IfSome o (λ n. many.HaveNone m n count) → MatchOption o (new ≡ m) Makes → AreRight new c
     made_right None none made = subst (λ (x : PageNodes). AreRight x c) (sym made) right
     made_right (Some n) none made = (call n none made).right
 
-    pub made_is : (o : Option NodeId) → IfSome o (λ n. many.HaveNone m n count) → MatchOption o (new ≡ m) Makes
-        → MatchOption o (arena_by new c ≡ a) (λ n. arena_by new c ≡ with_new_many a n cache page own count)
+    made_is : (o : Option NodeId) → IfSome o (λ n. many.HaveNone m n count) → MatchOption o (new ≡ m) Makes
+        → MatchOption o (arena_by new c ≡ a) (λ n. arena_by new c ≡ made_by n)
     made_is None none made = ap (λ (x : PageNodes). arena_by x c) made ∙ is
     made_is (Some n) none made = (call n none made).is
 
-    pub none_made : (o : Option NodeId) → IfSome o (λ n. many.HaveNone m n count) → IfSome o (λ n. HaveNone a n count)
+    none_made : (o : Option NodeId) → IfSome o (λ n. many.HaveNone m n count) → IfSome o (λ n. HaveNone a n count)
     none_made None none = none
     none_made (Some n) none = none_held m c a is n count none
 
-    pub held_made : (o : Option NodeId) → IfSome o (λ n. many.HaveNone m n count) → MatchOption o (new ≡ m) Makes
-        → IfSome o (λ n. HaveNodes (arena_by new c) n count)
-    held_made None none made = none
-    held_made (Some n) none made =
-        subst (λ (b : Arena). HaveNodes b n count) (sym (call n none made).is) (held_new_many a n cache page own count)
+    made_or_none : (o : Option NodeId) → IfSome o (λ n. many.HaveNone m n count) → MatchOption o (new ≡ m) Makes
+        → MadeOrNone new c a made_by count o
+    made_or_none o none made = record { right = made_right o none made; is = made_is o none made; none = none_made o none }
 
-    pub stay_made : (o : Option NodeId) → IfSome o (λ n. many.HaveNone m n count) → MatchOption o (new ≡ m) Makes
-        → NodesStay a (arena_by new c)
-    stay_made None none made =
-        subst (NodesStay a) (sym (ap (λ (x : PageNodes). arena_by x c) made ∙ is)) (λ n held. held)
-    stay_made (Some n) none made =
-        subst (NodesStay a) (sym (call n none made).is) (stay_new a n cache page own count)
+  module _ (new : PageNodes) (cache : CacheId) (page : PageNo) (own : OwnState) (count : ℕ) (o : Option NodeId)
+      (none : IfSome o (λ n. many.HaveNone m n count)) where
+    -- new nodes for pages that had none
+    pub fresh_made : AreVacant a cache page count
+        → MatchOption o (new ≡ m) (λ n. new ≡ many.with_new_many m n cache page own count)
+        → MadeOrNone new c a (λ n. with_new_many a n cache page own count) count o
+    fresh_made vacant made =
+        made_or_none new count (λ n. with_new_many a n cache page own count) _
+        (λ n free is_new. fresh_many_call new n count cache page own free vacant is_new) o none made
+
+    -- new nodes in place of those that pages had
+    pub renew_made : (d : NodeId) → AreNamed a d cache page count
+        → MatchOption o (new ≡ m) (λ n. new ≡ many.with_new_many (many.without_many m d count) n cache page own count)
+        → MadeOrNone new c a (λ n. with_new_many (without_many a d count) n cache page own count) count o
+    renew_made d named made =
+        made_or_none new count (λ n. with_new_many (without_many a d count) n cache page own count) _
+        (λ n free is_new. renew_many_call new d n cache page own count named free is_new) o none made

@@ -98,7 +98,7 @@ one_left m n x is new e =
       room = m.room + 1;
     })
 
-cells_left : (m : PageNodes) (n : NodeId) (k : ℕ) → (without_many m n k).cells ≡ without_range m.cells n.0 k
+pub cells_left : (m : PageNodes) (n : NodeId) (k : ℕ) → (without_many m n k).cells ≡ without_range m.cells n.0 k
 unfolding without
 cells_left m n zero = refl
 cells_left m n (suc k) = ap (λ (x : FinMap nat_cmp Cell). map.remove x (n.0 + k)) (cells_left m n k)

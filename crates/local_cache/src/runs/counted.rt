@@ -89,6 +89,7 @@ pub(crate) fn remove(lists: &mut NodeLists, counters: &mut Counters, node: u64, 
           (page_key (cell_of before.run before.record));
       room = (nodes_of lists.old counters.old).room + 1;
     } }
+    ensures given { counters.new.next_page ≡ counters.old.next_page }
 {
     take(lists, node, keys_of(before));
     counters.nodes -= 1;

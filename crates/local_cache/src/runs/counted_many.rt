@@ -23,6 +23,7 @@ pub(crate) fn remove_from(lists: &mut NodeLists, counters: &mut Counters, first:
     ensures right { IsRight lists.new counters.new }
     ensures nodes { nodes_of lists.new counters.new
         ≡ without_many (nodes_of lists.old counters.old) (record { 0 = first }) count }
+    ensures given { counters.new.next_page ≡ counters.old.next_page }
 {
     let mut done = 0;
     while done < count {
@@ -40,6 +41,7 @@ fn remove_some(lists: &mut NodeLists, counters: &mut Counters, node: u64, most: 
     ensures right { IsRight lists.new counters.new }
     ensures nodes { nodes_of lists.new counters.new
         ≡ without_many (nodes_of lists.old counters.old) (record { 0 = node }) result }
+    ensures given { counters.new.next_page ≡ counters.old.next_page }
 {
     let nodes = alike_from(lists, node, most);
     if nodes.count == 0 {
@@ -63,6 +65,7 @@ fn remove_many(lists: &mut NodeLists, counters: &mut Counters, nodes: Stretch<Ru
     ensures nodes { nodes_of lists.new counters.new
         ≡ without_many (nodes_of lists.old counters.old) (record { 0 = nodes.first })
         nodes.count }
+    ensures given { counters.new.next_page ≡ counters.old.next_page }
 {
     let pages = page_range(nodes.value, nodes.count);
     let even = even_range(nodes.value, nodes.count);

@@ -4,7 +4,7 @@ ghost use Rattle.std.specs.FinMap as map;
 ghost use Rattle.stretches.specs.Stretch.{IsFit, single};
 ghost use Rattle.local_cache.specs.NodeCells.{cell_of, own_of_plain};
 ghost use Rattle.local_cache.specs.PageNodes.{ArePaged, HasNode, IsLeastThin, MakesAllPages, as_working, cell, find, node_at, put, with_links, with_name, with_new, with_own, with_tree, with_working, without};
-ghost use Rattle.local_cache.specs.ManyNodes.{AreAlike, HaveNodes, HaveNone, as_working_many, hung_many, next_node, over_many, with_names, with_new_many, with_working_many, without_many};
+ghost use Rattle.local_cache.specs.ManyNodes.{AreAlike, AreNamed, HaveNodes, HaveNone, as_working_many, hung_many, next_node, over_many, with_names, with_new_many, with_working_many, without_many};
 ghost use Rattle.local_cache.specs.NodeKeys.{page_number};
 ghost use Rattle.local_cache.specs.Runs.{run as run_says};
 ghost use Rattle.vm_ids.specs.declared.numbers.NodeId.{NodeId as Id};
@@ -272,6 +272,37 @@ impl NodeRuns {
         Some(NodeId(first))
     }
 
+    /// Gives so many pages of a cache, from one page on, new nodes in place of theirs, which are those
+    /// from one node on and which nothing names, each of one own state. They are one run, under
+    /// numbers that no node had. Where the numbers came to an end nothing changes, and it answers
+    /// `None`.
+    pub(crate) fn renew_many(
+        &mut self,
+        node: NodeId,
+        count: u32,
+        cache: CacheId,
+        page: PageNo,
+        own: PlainState,
+    ) -> Option<NodeId>
+        requires named { AreNamed self.old node cache page count }
+        requires short { page.0 + count < 2 ^ 32 }
+        ensures new { IfSome result (λ n. HaveNone self.old n count) }
+        ensures short { IfSome result (λ n. n.0 + count ≤ 2 ^ 52) }
+        ensures changed { MatchOption result (self.new ≡ self.old) (λ n. self.new
+            ≡ with_new_many (without_many self.old node count) n cache page (own_of_plain own)
+            count) }
+    {
+        let number = self.counters.next_page;
+        if number + count as u64 > FIRST_WORKING {
+            return None;
+        }
+        if count > 0 {
+            remove_from(&mut self.lists, &mut self.counters, node.0, count);
+            make_run(&mut self.lists, &mut self.counters, cache, page, count, own);
+        }
+        Some(NodeId(number))
+    }
+
     /// Makes a working node under the next name, `Absent` and without parent and children. It takes
     /// no memory: there has to be room for a node.
     pub(crate) fn fresh_working(&mut self) -> NodeId
@@ -293,6 +324,7 @@ impl NodeRuns {
         requires room { count ≤ self.old.room }
         requires made { self.old.made + count ≤ 2 ^ 63 }
         ensures new { HaveNone self.old result count }
+        ensures high { 2 ^ 52 ≤ result.0 }
         ensures short { result.0 + count ≤ 2 ^ 64 }
         ensures changed { self.new ≡ with_working_many self.old result count }
     {

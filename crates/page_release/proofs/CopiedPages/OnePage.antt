@@ -27,6 +27,7 @@ use Rattle.residency.specs.StoreForest.{store_forest}
 use Rattle.residency.specs.World.{World, is_clean, world}
 use Rattle.tree_merge.specs.declared.released.Released.{Released}
 use Rattle.tree_merge.specs.declared.released.Released.TheVariants.{Dropped}
+use Rattle.tree_merge.specs.Copying.{IsEmpty}
 use Rattle.tree_merge.specs.Releasing.{IsDropped}
 use Rattle.tree_merge.proofs.CopiedPages.OnePage as caches
 use Rattle.tree_merge.proofs.CopiedPages.OnePage.{CanCopyPage}
@@ -46,24 +47,22 @@ use Rattle.page_release.proofs.Linking.Grown.{grown_kept, linked_forest}
 use Rattle.page_release.proofs.Tying.Kept.{kept_both}
 use Rattle.page_release.proofs.Tying.Tied.{home}
 
--- a page that is nowhere: there is none, or it is one of zeros
-abbrev pub IsNowhere : OwnState → Type 0
-IsNowhere x = (x ≡ Absent) ⊎ (x ≡ Zero)
+-- A page that is none or zeros ------------------------------------------------------------------------
 
-nowhere_framed : (x : OwnState) → IsNowhere x → is_resident x ≡ false
-nowhere_framed x (inl e) = ap is_resident e
-nowhere_framed x (inr e) = ap is_resident e
+empty_framed : (x : OwnState) → IsEmpty x → is_resident x ≡ false
+empty_framed x (inl e) = ap is_resident e
+empty_framed x (inr e) = ap is_resident e
 
-nowhere_clean : (x : OwnState) → IsNowhere x → is_clean x ≡ false
-nowhere_clean x (inl e) = ap is_clean e
-nowhere_clean x (inr e) = ap is_clean e
+empty_clean : (x : OwnState) → IsEmpty x → is_clean x ≡ false
+empty_clean x (inl e) = ap is_clean e
+empty_clean x (inr e) = ap is_clean e
 
 -- where it goes nothing falls free
-nothing_freed : (w : World) (n : NodeId) (x : OwnState) → IsNowhere x → w ≡ without_page w n x
+nothing_freed : (w : World) (n : NodeId) (x : OwnState) → IsEmpty x → w ≡ without_page w n x
 nothing_freed w n x (inl e) = sym (ap (without_page w n) e)
 nothing_freed w n x (inr e) = sym (ap (without_page w n) e)
 
-module _ (t : Store) (a : Arena) (d s new : NodeId) (to : CacheId) (page : PageNo) (can : CanCopyPage a d s new to page) (nowhere : IsNowhere (own_of a d)) (tied : IsStoreTied t a) where
+module _ (t : Store) (a : Arena) (d s new : NodeId) (to : CacheId) (page : PageNo) (can : CanCopyPage a d s new to page) (empty : IsEmpty (own_of a d)) (tied : IsStoreTied t a) where
   abbrev x : NodeName
   x = Live to page
 
@@ -86,14 +85,14 @@ module _ (t : Store) (a : Arena) (d s new : NodeId) (to : CacheId) (page : PageN
       let within : f < length t.map = omega (arith, true_below t.frames.pinned f pin, tied.fitted.pinned_frames, tied.fitted.map_frames) in
       let here = home (world None None a t) f n tied within at in
       let resident : is_resident (own_of a d) ≡ true = subst (λ m. is_resident (own_of a m) ≡ true) (is_destination n here.there named) here.resident in
-      false≢true (sym (nowhere_framed (own_of a d) nowhere) ∙ resident)
+      false≢true (sym (empty_framed (own_of a d) empty) ∙ resident)
 
   unclean : IsUnclean a (Live to page)
   unclean n named = go (find a n) refl
     where
       go : (o : Option Cell) → find a n ≡ o → is_clean (own_of a n) ≡ false
       go None none = ap is_clean (gone_own a n none)
-      go (Some k) some = ap (λ m. is_clean (own_of a m)) (is_destination n (ap is_some some) named) ∙ nowhere_clean (own_of a d) nowhere
+      go (Some k) some = ap (λ m. is_clean (own_of a m)) (is_destination n (ap is_some some) named) ∙ empty_clean (own_of a d) empty
 
   released : IsDropped a b d (own_of a d)
   released =
@@ -101,7 +100,7 @@ module _ (t : Store) (a : Arena) (d s new : NodeId) (to : CacheId) (page : PageN
       record { went = record { was = can.held_d; gone = went.gone.gone; held = went.gone.held }; state_is = refl; others = went.owns }
 
   after : (told : Option Held) (size : Option ℕ) → world told size b t ≡ followed (world told size b t) dropped
-  after told size = nothing_freed (world told size b t) d (own_of a d) nowhere
+  after told size = nothing_freed (world told size b t) d (own_of a d) empty
 
   sound_gone : IsSound b
   sound_gone = (caches.went a d s new to page can).sound

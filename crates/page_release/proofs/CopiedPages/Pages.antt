@@ -7,14 +7,13 @@ use Rattle.vm_ids.specs.Forest.Commands.{page_name}
 use Rattle.vm_ids.specs.Forest.Shape.{IsConsistent}
 use Rattle.local_cache.specs.Arena.{Arena}
 use Rattle.local_cache.specs.ManyNodes.{next_node}
-use Rattle.local_cache.specs.Own.{own_of}
 use Rattle.local_cache.specs.Reading.{forest_of}
 use Rattle.residency.specs.declared.store.Store.{Store}
 use Rattle.tree_merge.specs.Copying.{CanCopyFirst, CanCopyMore, copied_first, copied_more}
-use Rattle.tree_merge.proofs.CopiedPages.Induction.{NextFirst, NextMore, first_by, more_by}
+use Rattle.tree_merge.proofs.CopiedPages.Induction.{first_by, more_by}
 use Rattle.tree_merge.proofs.CopiedPages.Stretches.{copy_first, copy_more}
 use Rattle.page_release.specs.Steps.{IsStoreTied}
-use Rattle.page_release.proofs.CopiedPages.OnePage.{IsNowhere, first_copies, more_copies}
+use Rattle.page_release.proofs.CopiedPages.OnePage.{first_copies, more_copies}
 use Rattle.page_release.proofs.CopiedPages.Parts.{CopiesPage, CopiesPages, copies_none, copies_one, copies_then}
 
 module _ (t : Store) (a : Arena) (to : CacheId) (to_page : PageNo) (from : CacheId) (from_page : PageNo) (tied : IsStoreTied t a) where
@@ -28,14 +27,14 @@ module _ (t : Store) (a : Arena) (to : CacheId) (to_page : PageNo) (from : Cache
       subst (Copied c) next
       (copies_then false from from_page.0 to to_page.0 k 1 t a t b t c tied so_far (copies_one false from (from_page.0 + k) to (to_page.0 + k) t b t c one))
 
-  module _ (d s new : NodeId) (count : ℕ) (consistent : IsConsistent (forest_of a)) (nowhere : (k : ℕ) → k < count → IsNowhere (own_of a (next_node d k))) where
+  module _ (d s new : NodeId) (count : ℕ) (consistent : IsConsistent (forest_of a)) where
     -- from sources without tree children
     pub first_follows : CanCopyFirst a d s new to to_page from from_page count → Copied (copied_first a d s new to to_page count) count
     first_follows first =
         first_by a d s new to to_page from from_page count first Copied (copies_none false from from_page.0 to to_page.0 t a first.can.sound consistent tied)
         (λ b k less next so_far.
             one_more b (copy_first d new to to_page s b k) k so_far
-            (first_copies t b (next_node d k) (next_node s k) (next_node new k) to (record { 0 = to_page.0 + k }) next.can (subst IsNowhere (sym next.own) (nowhere k less)) so_far.kept.tied
+            (first_copies t b (next_node d k) (next_node s k) (next_node new k) to (record { 0 = to_page.0 + k }) next.can next.empty so_far.kept.tied
             so_far.grows.consistent (page_name from (from_page.0 + k)) next.named next.tree))
 
     -- from sources with one tree child
@@ -44,5 +43,5 @@ module _ (t : Store) (a : Arena) (to : CacheId) (to_page : PageNo) (from : Cache
         more_by a d s h new w to to_page from from_page count more Copied (copies_none false from from_page.0 to to_page.0 t a more.can.sound consistent tied)
         (λ b k less next so_far.
             one_more b (copy_more d new to to_page s h w b k) k so_far
-            (more_copies t b (next_node d k) (next_node s k) (next_node new k) to (record { 0 = to_page.0 + k }) next.can (subst IsNowhere (sym next.own) (nowhere k less)) so_far.kept.tied
+            (more_copies t b (next_node d k) (next_node s k) (next_node new k) to (record { 0 = to_page.0 + k }) next.can next.empty so_far.kept.tied
             so_far.grows.consistent (page_name from (from_page.0 + k)) next.named (next_node h k) (next_node w k) next.tree next.free next.apart next.room))

@@ -12,12 +12,13 @@ use Rattle.vm_ids.specs.Forest.Nodes.{Forest, is_live, node}
 use Rattle.vm_ids.specs.Forest.Nodes.Hang.{Root, TreeOf}
 use Rattle.vm_ids.specs.Forest.Rules.{copy_page}
 use Rattle.local_cache.specs.Arena.{Arena, Cell, HasNode, cell, find}
+use Rattle.local_cache.specs.Many.{HaveNone}
 use Rattle.local_cache.specs.ManyNodes.{next_node}
 use Rattle.local_cache.specs.Reading.{forest_of, hang_by, name_of}
 use Rattle.local_cache.specs.Sound.{IsSound, ◌∈◌}
 use Rattle.local_cache.proofs.Forest.Reading.{node-forest_of}
 use Rattle.local_cache.proofs.Tables.Sizes.{sizes_same, sizes_then}
-use Rattle.tree_merge.specs.Copying.{AreApart, AreCopied, AreFree, CanCopyFirst, CanCopyMany, CanCopyMore, IsBare, IsBeside, IsLone, copied_first, copied_more}
+use Rattle.tree_merge.specs.Copying.{AreApart, AreCopied, CanCopyFirst, CanCopyMany, CanCopyMore, IsBare, IsBeside, IsLone, copied_first, copied_more}
 use Rattle.tree_merge.proofs.CopiedPages.Changes.{cell_by}
 use Rattle.tree_merge.proofs.CopiedPages.OnePage.{CanCopyPage, PageCopied, left_by_find, left_then, not_free, page_first, page_more}
 use Rattle.tree_merge.proofs.CopiedPages.Stretches.{RowsApart, apart_from_new, copy_first, copy_more, each, each_first, each_more, free_before, free_then}
@@ -202,11 +203,11 @@ module _ (a : Arena) (d s new : NodeId) (to : CacheId) (to_page : PageNo) (from 
   pub named : (k : ℕ) → k < count → (cell a (next_node d k)).name ≡ Live to (record { 0 = to_page.0 + k })
   named k less = (can.destinations k less).1
 
-  free_new : AreFree a new count
-  free_new = free_before d new to to_page count can.fresh a new can.fresh can.free
+  fresh : AreApart d new count
+  fresh i low j high = not_free a (next_node d i) (next_node new j) (can.destinations i low).0 (can.free j high)
 
   new_s : AreApart new s count
-  new_s i low j high e = not_free a (next_node s j) (next_node new i) (can.sources j high).0 (free_new i low) (sym e)
+  new_s i low j high e = not_free a (next_node s j) (next_node new i) (can.sources j high).0 (can.free i low) (sym e)
 
   module _ (b : Arena) (k : ℕ) (less : k < count) (sound : IsSound b) (same_d : find b (next_node d k) ≡ find a (next_node d k)) (same_s : find b (next_node s k) ≡ find a (next_node s k)) (same_new : find b (next_node new k) ≡ find a (next_node new k)) where
     pub cell_d : cell b (next_node d k) ≡ cell a (next_node d k)
@@ -224,7 +225,7 @@ module _ (a : Arena) (d s new : NodeId) (to : CacheId) (to_page : PageNo) (from 
       held_d = ap is_some same_d ∙ (can.destinations k less).0;
       lone = subst IsLone (sym cell_d) (can.lone k less);
       named = ap (λ (c : Cell). c.name) cell_d ∙ (can.destinations k less).1;
-      free_new = same_new ∙ free_new k less;
+      free_new = same_new ∙ can.free k less;
       held_s = ap is_some same_s ∙ (can.sources k less).0;
       live = ap is_live named_s;
       apart = λ e. can.apart k less k less (sym e);
@@ -236,12 +237,15 @@ module _ (a : Arena) (d s new : NodeId) (to : CacheId) (to_page : PageNo) (from 
 -- Sources without tree children ------------------------------------------------------------------------
 
 module _ (a : Arena) (d s new : NodeId) (to : CacheId) (to_page : PageNo) (from : CacheId) (from_page : PageNo) (count : ℕ) (first : CanCopyFirst a d s new to to_page from from_page count) where
+  pub first_fresh : AreApart d new count
+  first_fresh = fresh a d s new to to_page from from_page count first.can
+
   pub first_new_s : AreApart new s count
   first_new_s = new_s a d s new to to_page from from_page count first.can
 
   pub first_pass : AllPass (d ∷ new ∷ new ∷ s ∷ s ∷ []) count
   first_pass =
-      let d_n : Pass d new count = pass_apart d new count first.can.fresh in
+      let d_n : Pass d new count = pass_apart d new count first_fresh in
       let d_s : Pass d s count = pass_apart d s count first.can.apart in
       let n_s : Pass new s count = pass_apart new s count first_new_s in
       ((d_n, (d_n, (d_s, (d_s, tt)))), ((pass_itself new count, (n_s, (n_s, tt))), ((n_s, (n_s, tt)), ((pass_itself s count, tt), (tt, tt)))))
@@ -261,17 +265,20 @@ module _ (a : Arena) (d s new : NodeId) (to : CacheId) (to_page : PageNo) (from 
   pub first_copied : AreCopied a (copied_first a d s new to to_page count) d new new to to_page from from_page count
   first_copied =
       subst (λ b. AreCopied a b d new new to to_page from from_page count)
-      (each_first d new to to_page count s a (named a d s new to to_page from from_page count first.can) first.can.fresh first.can.apart first_new_s)
+      (each_first d new to to_page count s a (named a d s new to to_page from from_page count first.can) first_fresh first.can.apart first_new_s)
       (all_pages a d s s new new to from to_page from_page count first_pass first.can.sound (copy_first d new to to_page s) first_step count (omega arith)).copied
 
 -- Sources with one tree child --------------------------------------------------------------------------
 
 module _ (a : Arena) (d s h new w : NodeId) (to : CacheId) (to_page : PageNo) (from : CacheId) (from_page : PageNo) (count : ℕ) (more : CanCopyMore a d s h new w to to_page from from_page count) where
-  history_held : (k : ℕ) → k < count → HasNode a (next_node h k)
+  pub history_held : (k : ℕ) → k < count → HasNode a (next_node h k)
   history_held k less = more.can.sound.kept.children (next_node s k) (next_node h k) (more.can.sources k less).0 (subst (λ ts. next_node h k ∈ ts) (sym (more.trees k less)) (inl refl))
 
-  pub free_w : AreFree a w count
-  free_w = free_before d new to to_page count more.can.fresh a w more.fresh (free_then d new to to_page count more.can.fresh a w more.free)
+  more_fresh : AreApart d new count
+  more_fresh = fresh a d s new to to_page from from_page count more.can
+
+  pub free_w : HaveNone a w count
+  free_w = free_before d new to to_page count more_fresh a w more.fresh (free_then d new to to_page count more_fresh a w more.free)
 
   -- a history hangs on its source, and a destination on nothing
   hangs : (k : ℕ) → k < count → (node (forest_of a) (name_of a (next_node h k))).hang ≡ TreeOf (name_of a (next_node s k))
@@ -292,13 +299,13 @@ module _ (a : Arena) (d s h new w : NodeId) (to : CacheId) (to_page : PageNo) (f
 
   pub rows_apart : RowsApart d new to to_page s h w count
   rows_apart = record {
-    d_new = more.can.fresh;
+    d_new = more_fresh;
     d_s = more.can.apart;
     d_h = d_h;
     d_w = more.fresh;
     new_s = new_s a d s new to to_page from from_page count more.can;
-    new_h = λ i low j high e. not_free a (next_node h j) (next_node new i) (history_held j high) (free_new a d s new to to_page from from_page count more.can i low) (sym e);
-    new_w = apart_from_new d new to to_page count more.can.fresh a w more.free;
+    new_h = λ i low j high e. not_free a (next_node h j) (next_node new i) (history_held j high) (more.can.free i low) (sym e);
+    new_w = apart_from_new d new to to_page count more_fresh a w more.free;
     s_h = λ i low j high e. more.histories j high i low (sym e);
     s_w = λ i low j high. not_free a (next_node s i) (next_node w j) (more.can.sources i low).0 (free_w j high);
     h_w = λ i low j high. not_free a (next_node h i) (next_node w j) (history_held i low) (free_w j high);

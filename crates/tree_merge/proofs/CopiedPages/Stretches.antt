@@ -9,10 +9,10 @@ use Rattle.vm_ids.specs.declared.numbers.PageNo.{PageNo}
 use Rattle.local_cache.specs.declared.own_state.OwnState.{OwnState}
 use Rattle.local_cache.specs.declared.own_state.OwnState.TheVariants.{Absent}
 use Rattle.local_cache.specs.Arena.{Arena, Cell, HasNode, cell, find, hung, put, with_new, with_tree, with_working, without}
-use Rattle.local_cache.specs.Many.{hung_many, over_many, over_two_many, with_new_many, with_working_many, without_many}
+use Rattle.local_cache.specs.Many.{HaveNone, hung_many, over_many, over_two_many, with_new_many, with_working_many, without_many}
 use Rattle.local_cache.specs.ManyNodes.{next_node}
 use Rattle.history_tree.specs.Hanging.{set_one, set_two}
-use Rattle.tree_merge.specs.Copying.{AreApart, AreFree, IsBeside, copied_first, copied_more, renewed}
+use Rattle.tree_merge.specs.Copying.{AreApart, IsBeside, copied_first, copied_more, renewed}
 use Rattle.tree_merge.proofs.CopiedPages.Changes.{cell_by, change_change, change_new, change_without, change_working, find-new, find-new_other, find-without_other, new_without, working_renewed}
 
 -- Steps -------------------------------------------------------------------------------------------
@@ -154,6 +154,31 @@ module _ (d new : NodeId) (to : CacheId) (to_page : PageNo) where
             ∙ held_came a k j (omega arith)
       ]
 
+  pub room_renewed : (a : Arena) (k : ℕ) → (renewed a d new to to_page k).room.nodes ≡ a.room.nodes
+  room_renewed a k = omega (arith, room_came (without_many a d k) k, room_gone a k)
+
+  made_without : (a : Arena) (n : NodeId) → (without a n).made ≡ a.made
+  unfolding without
+  made_without a n = refl
+
+  made_new : (a : Arena) (n : NodeId) (x : NodeName) (s : OwnState) → (with_new a n x s).made ≡ a.made
+  unfolding with_new
+  made_new a n x s = refl
+
+  made_gone : (a : Arena) (k : ℕ) → (without_many a d k).made ≡ a.made
+  made_gone a zero = refl
+  made_gone a (suc k) = made_without (without_many a d k) (next_node d k) ∙ made_gone a k
+
+  made_came : (a : Arena) (k : ℕ) → (with_new_many a new to to_page Absent k).made ≡ a.made
+  made_came a zero = refl
+  made_came a (suc k) = made_new (with_new_many a new to to_page Absent k) (next_node new k) (Live to (page_after k)) Absent ∙ made_came a k
+
+  pub made_renewed : (a : Arena) (k : ℕ) → (renewed a d new to to_page k).made ≡ a.made
+  made_renewed a k = made_came (without_many a d k) k ∙ made_gone a k
+
+  pub held_renewed : (a : Arena) (k : ℕ) (m : NodeId) → IsBeside m d k → IsBeside m new k → HasNode a m → HasNode (renewed a d new to to_page k) m
+  held_renewed a k m m_d m_new held = ap is_some (find_came (without_many a d k) k m m_new ∙ find_gone a k m m_d) ∙ held
+
   module _ (count : ℕ) (apart : AreApart d new count) where
     -- a node goes before the new ones of earlier pages come
     gone_before : (x : Arena) (j : ℕ) → j < count → (cell x (next_node d j)).name ≡ Live to (page_after j) → (k : ℕ) → k ≤ j → k ≤ x.room.nodes
@@ -168,15 +193,15 @@ module _ (d new : NodeId) (to : CacheId) (to_page : PageNo) where
         ∙ ap (λ (y : Arena). with_new y (next_node new k) (Live to (page_after k)) Absent) (gone_before x j below named k (omega arith) (omega arith))
 
     -- a number that is free once the old nodes are gone, and is none of theirs, was free before
-    pub free_before : (a : Arena) (n : NodeId) → AreApart d n count → AreFree (without_many a d count) n count → AreFree a n count
+    pub free_before : (a : Arena) (n : NodeId) → AreApart d n count → HaveNone (without_many a d count) n count → HaveNone a n count
     free_before a n beside free k less = sym (find_gone a count (next_node n k) (λ j low e. beside j low k less (sym e))) ∙ free k less
 
     -- one that is free beside the new nodes is none of theirs
-    pub apart_from_new : (a : Arena) (n : NodeId) → AreFree (renewed a d new to to_page count) n count → AreApart new n count
+    pub apart_from_new : (a : Arena) (n : NodeId) → HaveNone (renewed a d new to to_page count) n count → AreApart new n count
     apart_from_new a n free k less j low e =
         false≢true (sym (ap is_some (free j low)) ∙ subst (HasNode (renewed a d new to to_page count)) e (held_came (without_many a d count) count k less))
 
-    pub free_then : (a : Arena) (n : NodeId) → AreFree (renewed a d new to to_page count) n count → AreFree (without_many a d count) n count
+    pub free_then : (a : Arena) (n : NodeId) → HaveNone (renewed a d new to to_page count) n count → HaveNone (without_many a d count) n count
     free_then a n free k less =
         sym (find_came (without_many a d count) count (next_node n k) (λ j low e. apart_from_new a n free j low k less (sym e))) ∙ free k less
 

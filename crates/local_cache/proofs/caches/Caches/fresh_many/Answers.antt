@@ -1,11 +1,12 @@
-use Rattle.std.proofs.Common.{◌≡◌, ◌-◌, subst, sym, inl, inr, arith}
+use Rattle.std.proofs.Common.{◌≡◌, ◌-◌, sym, subst, inl, inr, arith}
 use Rattle.std.specs.Prelude.{MatchOption}
 use Rattle.std.proofs.lemmas.Bool.{cases_eq}
 use Rattle.local_cache.specs.declared.own_state.OwnState.{OwnState}
 use Rattle.local_cache.specs.ArenaBy.{arena_by}
 use Rattle.local_cache.specs.Many.{with_new_many}
 use Rattle.local_cache.specs.NodeCells.{own_of_plain}
-use Rattle.local_cache.proofs.ArenaBy.SeenMany.{all_vacant, held_made, last_short, made_is, made_right, none_made, stay_made}
+use Rattle.local_cache.proofs.ArenaBy.SeenMany.{all_vacant, fresh_made, held_made, last_short, stay_made}
+use Rattle.local_cache.proofs.Nodes.Many.{held_new_many, stay_new}
 use Rattle.local_cache.proofs.caches.Caches.fresh_many.Goals as goal
 
 pub fresh_many-requires-clause-vacant : goal.fresh_many-requires-clause-vacant
@@ -21,28 +22,28 @@ fresh_many-requires-clause-short c = elim (cases_eq c.args.count 0) [
 
 pub invariant_of-self : goal.invariant_of-self
 invariant_of-self c =
-    made_right c.self.inside.nodes c.self.inside.list c.args.self.now c.self.view_is c.self.invariant c.fresh_many.new.self c.args.cache c.args.page (own_of_plain c.plain-own.result) c.args.count
-    c.requires.vacant c.fresh_many.result c.fresh_many.ensures.new c.fresh_many.ensures.changed
+    (fresh_made c.self.inside.nodes c.self.inside.list c.args.self.now c.self.view_is c.self.invariant c.fresh_many.new.self c.args.cache c.args.page (own_of_plain c.plain-own.result) c.args.count
+    c.fresh_many.result c.fresh_many.ensures.new c.requires.vacant c.fresh_many.ensures.changed).right
 
 pub returns-clause-new : goal.returns-clause-new
 returns-clause-new c =
-    none_made c.self.inside.nodes c.self.inside.list c.args.self.now c.self.view_is c.self.invariant c.fresh_many.new.self c.args.cache c.args.page (own_of_plain c.plain-own.result) c.args.count
-    c.requires.vacant c.fresh_many.result c.fresh_many.ensures.new
+    (fresh_made c.self.inside.nodes c.self.inside.list c.args.self.now c.self.view_is c.self.invariant c.fresh_many.new.self c.args.cache c.args.page (own_of_plain c.plain-own.result) c.args.count
+    c.fresh_many.result c.fresh_many.ensures.new c.requires.vacant c.fresh_many.ensures.changed).none
 
 pub returns-clause-changed : goal.returns-clause-changed
 returns-clause-changed c =
     let now = arena_by c.fresh_many.new.self c.self.inside.list in
     subst (λ (s : OwnState). MatchOption c.fresh_many.result (now ≡ c.args.self.now) (λ n. now ≡ with_new_many c.args.self.now n c.args.cache c.args.page s c.args.count))
     (sym c.plain-own.ensures)
-    (made_is c.self.inside.nodes c.self.inside.list c.args.self.now c.self.view_is c.self.invariant c.fresh_many.new.self c.args.cache c.args.page (own_of_plain c.plain-own.result) c.args.count
-    c.requires.vacant c.fresh_many.result c.fresh_many.ensures.new c.fresh_many.ensures.changed)
+    (fresh_made c.self.inside.nodes c.self.inside.list c.args.self.now c.self.view_is c.self.invariant c.fresh_many.new.self c.args.cache c.args.page (own_of_plain c.plain-own.result) c.args.count
+    c.fresh_many.result c.fresh_many.ensures.new c.requires.vacant c.fresh_many.ensures.changed).is
 
 pub returns-clause-held : goal.returns-clause-held
 returns-clause-held c =
-    held_made c.self.inside.nodes c.self.inside.list c.args.self.now c.self.view_is c.self.invariant c.fresh_many.new.self c.args.cache c.args.page (own_of_plain c.plain-own.result) c.args.count
-    c.requires.vacant c.fresh_many.result c.fresh_many.ensures.new c.fresh_many.ensures.changed
+    held_made (arena_by c.fresh_many.new.self c.self.inside.list) c.args.self.now (λ n. with_new_many c.args.self.now n c.args.cache c.args.page c.args.state c.args.count) c.args.count
+    (λ n. held_new_many c.args.self.now n c.args.cache c.args.page c.args.state c.args.count) c.fresh_many.result (returns-clause-changed c)
 
 pub returns-clause-stays : goal.returns-clause-stays
 returns-clause-stays c =
-    stay_made c.self.inside.nodes c.self.inside.list c.args.self.now c.self.view_is c.self.invariant c.fresh_many.new.self c.args.cache c.args.page (own_of_plain c.plain-own.result) c.args.count
-    c.requires.vacant c.fresh_many.result c.fresh_many.ensures.new c.fresh_many.ensures.changed
+    stay_made (arena_by c.fresh_many.new.self c.self.inside.list) c.args.self.now (λ n. with_new_many c.args.self.now n c.args.cache c.args.page c.args.state c.args.count) c.args.count
+    (λ n. stay_new c.args.self.now n c.args.cache c.args.page c.args.state c.args.count) c.fresh_many.result (returns-clause-changed c)

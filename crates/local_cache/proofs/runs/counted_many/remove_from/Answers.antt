@@ -24,4 +24,5 @@ loop-done-preserved c =
       nodes = c.remove_some-done.ensures.nodes
           ∙ ap (λ (m : PageNodes). without_many m (next_node first done) more) c.loop-done.invariant.nodes
           ∙ left_more (nodes_of c.args.lists.now c.args.counters.now) first done more;
+      given = c.remove_some-done.ensures.given ∙ c.loop-done.invariant.given;
     }

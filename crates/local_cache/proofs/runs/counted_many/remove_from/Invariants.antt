@@ -9,6 +9,7 @@ invariant-loop-done l = record {
   right : IsRight l.lists l.counters;
   nodes : nodes_of l.lists l.counters
       ≡ without_many (nodes_of l.initial.lists l.initial.counters) (record { 0 = l.first }) l.done;
+  given : l.counters.next_page ≡ l.initial.counters.next_page;
 }
 
 abbrev pub decreases-loop-done : goal.decreases-loop-done

@@ -1,0 +1,41 @@
+use Rattle.std.proofs.Common.{◌≡◌, ℕ, ◌+◌, ◌-◌, ◌<◌, ◌≤◌, Option, unwrap_or, is_some, ap, subst, arith, inl}
+use Rattle.vm_ids.specs.declared.command.Span.{Span}
+use Rattle.vm_ids.specs.declared.numbers.CacheId.{CacheId}
+use Rattle.vm_ids.specs.Forest.Commands.{page_name, span_pairs}
+use Rattle.vm_ids.specs.Forest.Laws.Commands.{CanCopy}
+use Rattle.vm_ids.specs.Forest.Nodes.{IsNode}
+use Rattle.vm_ids.proofs.Forest.Laws.Ranges.{spans_can_be_copied}
+use Rattle.local_cache.specs.declared.own_state.OwnState.TheVariants.{Zero}
+use Rattle.local_cache.specs.Arena.{Arena, Cell, HasPage, HasPages, blank, cell}
+use Rattle.local_cache.specs.Reading.{IsNamed, forest_of}
+use Rattle.local_cache.specs.Sound.{IsSound}
+use Rattle.local_cache.proofs.Forest.Reading.{IsNode-forest_of}
+use Rattle.tree_merge.proofs.tests.alike_pages_are_copied_at_once.Goals as goal
+
+page_is_node : (a : Arena) → IsNamed a → (cache : CacheId) (page : ℕ) → HasPage a cache page Zero → IsNode (forest_of a) (page_name cache page)
+unfolding cell
+page_is_node a named cache page p = subst (IsNode (forest_of a)) (ap (λ (o : Option Cell). (unwrap_or o blank).name) p.is) (IsNode-forest_of named p.node (ap is_some p.is))
+
+-- the last two of four pages may become copies of the first two
+abbrev halves : CacheId → Span
+halves cache = record { from = cache; from_page = record { 0 = 0 }; to = cache; to_page = record { 0 = 2 }; pages = 2 }
+
+halves_can : (a : Arena) → IsSound a → (cache : CacheId) → HasPages a cache 4 Zero → CanCopy (forest_of a) (span_pairs (halves cache))
+halves_can a sound cache pages =
+    spans_can_be_copied (forest_of a) (halves cache)
+    (λ i low. page_is_node a sound.kept.named cache (0 + i) (pages (0 + i) (omega arith)))
+    (λ i low. page_is_node a sound.kept.named cache (2 + i) (pages (2 + i) (omega arith)))
+    (λ same. inl (omega arith))
+
+pub copy_many-requires-clause-sound : goal.copy_many-requires-clause-sound
+copy_many-requires-clause-sound g c = c.make_temp-cache.ensures.sound (c.reserve.ensures.sound c.new-caches.ensures.sound)
+
+pub copy_many-requires-clause-can : goal.copy_many-requires-clause-can
+copy_many-requires-clause-can g c =
+    halves_can c.make_temp-cache.new.self (c.make_temp-cache.ensures.sound (c.reserve.ensures.sound c.new-caches.ensures.sound)) c.make_temp-cache.result c.make_temp-cache.ensures.pages
+
+pub copy_many-requires-clause-room : goal.copy_many-requires-clause-room
+copy_many-requires-clause-room g c = ?
+
+pub copy_many-requires-clause-made : goal.copy_many-requires-clause-made
+copy_many-requires-clause-made g c = ?
