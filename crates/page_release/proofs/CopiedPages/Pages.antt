@@ -1,5 +1,6 @@
 -- All pages of a copy are copied at once: the store is as it was, as it is where they are copied one after the other.
-use Rattle.std.proofs.Common.{◌≡◌, ℕ, suc, ◌+◌, ◌<◌, false, sym, subst, arith}
+use Rattle.std.proofs.Common.{◌≡◌, ℕ, suc, ◌+◌, ◌<◌, false, sym, subst, inl, inr, arith}
+use Rattle.vm_ids.specs.declared.command.Span.{Span}
 use Rattle.vm_ids.specs.declared.numbers.CacheId.{CacheId}
 use Rattle.vm_ids.specs.declared.numbers.NodeId.{NodeId}
 use Rattle.vm_ids.specs.declared.numbers.PageNo.{PageNo}
@@ -9,12 +10,12 @@ use Rattle.local_cache.specs.Arena.{Arena}
 use Rattle.local_cache.specs.ManyNodes.{next_node}
 use Rattle.local_cache.specs.Reading.{forest_of}
 use Rattle.residency.specs.declared.store.Store.{Store}
-use Rattle.tree_merge.specs.Copying.{CanCopyFirst, CanCopyMore, copied_first, copied_more}
+use Rattle.tree_merge.specs.Copying.{CanCopyFirst, CanCopyMore, IsCopiedAtOnce, copied_first, copied_more, page_after}
 use Rattle.tree_merge.proofs.CopiedPages.Induction.{first_by, more_by}
 use Rattle.tree_merge.proofs.CopiedPages.Stretches.{copy_first, copy_more}
 use Rattle.page_release.specs.Steps.{IsStoreTied}
 use Rattle.page_release.proofs.CopiedPages.OnePage.{first_copies, more_copies}
-use Rattle.page_release.proofs.CopiedPages.Parts.{CopiesPage, CopiesPages, copies_none, copies_one, copies_then}
+use Rattle.page_release.proofs.CopiedPages.Parts.{CopiesPage, CopiesPages, copies_more, copies_none}
 
 module _ (t : Store) (a : Arena) (to : CacheId) (to_page : PageNo) (from : CacheId) (from_page : PageNo) (tied : IsStoreTied t a) where
   -- so many pages are copied
@@ -25,7 +26,7 @@ module _ (t : Store) (a : Arena) (to : CacheId) (to_page : PageNo) (from : Cache
   one_more b c k so_far one =
       let next : k + 1 ≡ suc k = omega arith in
       subst (Copied c) next
-      (copies_then false from from_page.0 to to_page.0 k 1 t a t b t c tied so_far (copies_one false from (from_page.0 + k) to (to_page.0 + k) t b t c one))
+      (copies_more false from from_page.0 to to_page.0 k t a t b t c tied so_far one)
 
   module _ (d s new : NodeId) (count : ℕ) (consistent : IsConsistent (forest_of a)) where
     -- from sources without tree children
@@ -45,3 +46,18 @@ module _ (t : Store) (a : Arena) (to : CacheId) (to_page : PageNo) (from : Cache
             one_more b (copy_more d new to to_page s h w b k) k so_far
             (more_copies t b (next_node d k) (next_node s k) (next_node new k) to (record { 0 = to_page.0 + k }) next.can next.empty so_far.kept.tied
             so_far.grows.consistent (page_name from (from_page.0 + k)) next.named (next_node h k) (next_node w k) next.tree next.free next.apart next.room))
+
+-- so many pages of a span, behind those that are done
+pub at_once_follows : (t : Store) (a b : Arena) (span : Span) (done count : ℕ) → IsStoreTied t a → IsConsistent (forest_of a) → IsCopiedAtOnce a b span done count
+    → CopiesPages false span.from (span.from_page.0 + done) span.to (span.to_page.0 + done) count t a t b
+at_once_follows t a b span done count tied consistent copied =
+    let to_page = page_after span.to_page done in
+    let from_page = page_after span.from_page done in
+    elim copied.at_once [
+      | inl first ↦
+          subst (CopiesPages false span.from (span.from_page.0 + done) span.to (span.to_page.0 + done) count t a t) (sym first.is)
+          (first_follows t a span.to to_page span.from from_page tied first.old first.source first.fresh count consistent first.can)
+      | inr more ↦
+          subst (CopiesPages false span.from (span.from_page.0 + done) span.to (span.to_page.0 + done) count t a t) (sym more.is)
+          (more_follows t a span.to to_page span.from from_page tied more.old more.source more.fresh count consistent more.history more.working more.can)
+    ]

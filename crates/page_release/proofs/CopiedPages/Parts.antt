@@ -1,16 +1,19 @@
 -- Copies of pages, one behind the other.
-use Rattle.std.proofs.Common.{◌≡◌, ℕ, zero, suc, ◌+◌, ◌*◌, ◌≤◌, Bool, [], refl, sym, ap, ◌∙◌, subst, arith}
+use Rattle.std.proofs.Common.{◌≡◌, ℕ, zero, suc, ◌+◌, ◌-◌, ◌*◌, ◌≤◌, Bool, List, [], refl, sym, ap, ◌∙◌, subst, arith}
 use Rattle.vm_ids.specs.declared.node_name.NodeName.{NodeName}
 use Rattle.vm_ids.specs.declared.numbers.CacheId.{CacheId}
 use Rattle.vm_ids.specs.Forest.Commands.{copy_pages, page_name, page_pairs}
+use Rattle.vm_ids.specs.Forest.Laws.Commands.{CanCopy}
 use Rattle.vm_ids.specs.Forest.Laws.Linking.{ArePages}
 use Rattle.vm_ids.specs.Forest.NameMap.{len}
 use Rattle.vm_ids.specs.Forest.Nodes.{Forest, IsNode}
 use Rattle.vm_ids.specs.Forest.Rules.{copy_page}
 use Rattle.vm_ids.specs.Forest.Shape.{IsConsistent}
+use Rattle.vm_ids.proofs.Forest.Laws.Commands.{later_can, still_can}
 use Rattle.vm_ids.proofs.Forest.Lengths.{copy_page_len, copy_page_stays}
 use Rattle.vm_ids.proofs.Forest.Made.{copy_page-made}
 use Rattle.vm_ids.proofs.Forest.Pages.{copy_page-consistent}
+use Rattle.vm_ids.proofs.Forest.Pairs.{pairs_start}
 use Rattle.local_cache.specs.declared.own_state.OwnState.{OwnState}
 use Rattle.local_cache.specs.Arena.{Arena}
 use Rattle.local_cache.specs.Reading.{forest_of}
@@ -21,9 +24,10 @@ use Rattle.residency.specs.Seeing.{frame_forest}
 use Rattle.residency.specs.StoreForest.{store_forest}
 use Rattle.residency.specs.World.{world}
 use Rattle.page_release.specs.Commands.{Grows}
+use Rattle.page_release.specs.Homes.{AreUnclean}
 use Rattle.page_release.specs.Readings.{GoesBy}
-use Rattle.page_release.specs.Steps.{IsStoreTied, Releases}
-use Rattle.page_release.proofs.Tying.Kept.{kept_both, kept_none}
+use Rattle.page_release.specs.Steps.{AreUnpinned, IsStoreTied, Releases}
+use Rattle.page_release.proofs.Tying.Kept.{kept_both, kept_none, unclean_kept, unpinned_kept}
 
 -- One page was copied, from one name to another: no frame and no slot was taken, and there are at most two nodes more.
 pub record CopiesPage (is_small : Bool) (to from : NodeName) (s : Store) (a : Arena) (t : Store) (b : Arena) : Type 0 where
@@ -110,3 +114,31 @@ module _ (is_small : Bool) (c : CacheId) (p : ℕ) (d : CacheId) (q m n : ℕ) (
         kept = kept_both s a t b u e tied f.kept g.kept;
         grows = subst (λ k. Grows k a e) twice (grown_then (2 * m) (2 * n) a b e f.grows g.grows);
       }
+
+-- one page more
+pub copies_more : (is_small : Bool) (c : CacheId) (p : ℕ) (d : CacheId) (q k : ℕ) (s : Store) (a : Arena) (t : Store) (b : Arena) (u : Store) (e : Arena)
+    → IsStoreTied s a → CopiesPages is_small c p d q k s a t b → CopiesPage is_small (page_name d (q + k)) (page_name c (p + k)) t b u e → CopiesPages is_small c p d q (k + 1) s a u e
+copies_more is_small c p d q k s a t b u e tied so_far one = copies_then is_small c p d q k 1 s a t b u e tied so_far (copies_one is_small c (p + k) d (q + k) t b u e one)
+
+-- What is left of a copy -------------------------------------------------------------------------------
+
+pairs_left_can : {P : Type 0} (f : Forest P) (c : CacheId) (p : ℕ) (d : CacheId) (q n k : ℕ) → k ≤ n → CanCopy f (page_pairs c p d q n) → CanCopy f (page_pairs c (p + k) d (q + k) (n - k))
+pairs_left_can f c p d q n zero le can = subst (CanCopy f) (pairs_start c p d q n) can
+pairs_left_can f c p d q zero (suc k) le can = absurd (omega arith)
+pairs_left_can f c p d q (suc n) (suc k) le can =
+    let from : p + 1 + k ≡ p + suc k = omega arith in
+    let to : q + 1 + k ≡ q + suc k = omega arith in
+    let left : n - k ≡ suc n - suc k = omega arith in
+    subst (CanCopy f) (λ i. page_pairs c (from i) d (to i) (left i))
+    (pairs_left_can f c (p + 1) d (q + 1) n k (omega arith) (later_can f (page_name d q, page_name c p) (page_pairs c (p + 1) d (q + 1) n) can))
+
+module _ (is_small : Bool) (c : CacheId) (p : ℕ) (d : CacheId) (q k : ℕ) (s : Store) (a : Arena) (t : Store) (b : Arena) (so_far : CopiesPages is_small c p d q k s a t b) where
+  pub left_can : (n : ℕ) → k ≤ n → CanCopy (forest_of a) (page_pairs c p d q n) → CanCopy (forest_of b) (page_pairs c (p + k) d (q + k) (n - k))
+  left_can n le can =
+      still_can (forest_of a) (forest_of b) (page_pairs c (p + k) d (q + k) (n - k)) (λ x live is. so_far.grows.stays x is) (pairs_left_can (forest_of a) c p d q n k le can)
+
+  pub left_unpinned : (names : List NodeName) → IsStoreTied s a → AreUnpinned s a names → AreUnpinned t b names
+  left_unpinned names tied out x i = unpinned_kept [] s a t b tied so_far.kept x (out x i)
+
+  pub left_unclean : (names : List NodeName) → IsStoreTied s a → AreUnclean a names → AreUnclean b names
+  left_unclean names tied unclean x i = unclean_kept [] s a t b tied so_far.kept x (λ j. j) (unclean x i)
