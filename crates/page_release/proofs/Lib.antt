@@ -18,5 +18,7 @@ pub mod Freeing
 pub mod Leading
 -- What is carried through the steps of a command.
 pub mod Walking
+-- Many pages are copied at once, and the store is as it was.
+pub mod CopiedPages
 -- What the tests know of their pages.
 mod Tried

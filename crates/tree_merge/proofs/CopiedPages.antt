@@ -8,5 +8,7 @@ pub mod Stretches
 pub mod OnePage
 -- One page is copied after the other.
 pub mod Pages
+-- What the copy of each page hands on holds of all pages copied at once.
+pub mod Induction
 -- Pages whose nodes are alike can be copied at once.
 pub mod AtOnce

@@ -25,7 +25,7 @@ use Rattle.local_cache.proofs.NewNode.FreshNode.{cell-new, page-forest}
 use Rattle.local_cache.proofs.NewNode.States.{fresh_found, fresh_name, fresh_own}
 use Rattle.local_cache.proofs.Tables.Sizes.{sizes_by, sizes_same, sizes_then}
 use Rattle.history_tree.specs.Hanging.{set_one, set_two}
-use Rattle.history_tree.proofs.Hang.{CanLink, links-first, links-more}
+use Rattle.history_tree.proofs.Hang.{CanLink, Linked, links-first, links-more}
 use Rattle.tree_merge.specs.declared.released.Released.TheVariants.{Dropped}
 use Rattle.tree_merge.specs.Copying.{IsBare, IsLeft, IsLone}
 use Rattle.tree_merge.specs.Releasing.{IsRetired}
@@ -120,19 +120,19 @@ module _ (a : Arena) (d s new : NodeId) (cache : CacheId) (page : PageNo) (can :
   leaf : child_count (forest_of a) (name_of a d) ≡ 0
   leaf = counted a can.sound d can.held_d ∙ omega (arith, ap length can.lone.tree, can.lone.stubs)
 
-  went : Freed a (without a d) d (free (cut (forest_of a) (name_of a d)) (name_of a d))
+  pub went : Freed a (without a d) d (free (cut (forest_of a) (name_of a d)) (name_of a d))
   went = drop-Freed a a (without a d) can.sound d can.held_d leaf (no_parent-Step a can.sound d can.held_d can.lone.root).forest can.sound (rehung_itself a) refl
 
-  retired : IsRetired a (without a d) d (Dropped d (own_of a d))
+  pub retired : IsRetired a (without a d) d (Dropped d (own_of a d))
   retired = retired_leaf a (without a d) d (Dropped d (own_of a d)) leaf refl went.gone went.owns
 
-  retired_forest : forest_of (without a d) ≡ retire (forest_of a) (Live cache page)
+  pub retired_forest : forest_of (without a d) ≡ retire (forest_of a) (Live cache page)
   retired_forest = went.forest ∙ sym (retire_none (forest_of a) (name_of a d) leaf) ∙ ap (retire (forest_of a)) can.named
 
   at_page : node_at a cache.0 page.0 ≡ Some d
   at_page = can.sound.kept.listed.pages cache.0 page.0 d can.held_d can.named
 
-  vacant : IsVacant (without a d) cache page
+  pub vacant : IsVacant (without a d) cache page
   vacant = retired_vacant a can.sound cache page d at_page (without a d) (Dropped d (own_of a d)) retired
 
   -- A fresh one comes -------------------------------------------------------------------------------
@@ -143,16 +143,16 @@ module _ (a : Arena) (d s new : NodeId) (cache : CacheId) (page : PageNo) (can :
   d_new : d ≢ new
   d_new = not_free a d new can.held_d can.free_new
 
-  free_then : find (without a d) new ≡ None
+  pub free_then : find (without a d) new ≡ None
   free_then = find-without_other a d new (λ e. d_new (sym e)) ∙ can.free_new
 
-  detached : forest_of b ≡ detach (forest_of a) (Live cache page) None
+  pub detached : forest_of b ≡ detach (forest_of a) (Live cache page) None
   detached = detached-forest a (without a d) b new cache page Absent went.sound retired_forest vacant free_then refl
 
-  sound_new : IsSound b
+  pub sound_new : IsSound b
   sound_new = detached-sound (without a d) b new cache page Absent went.sound vacant free_then refl
 
-  name_new : name_of b new ≡ Live cache page
+  pub name_new : name_of b new ≡ Live cache page
   name_new = fresh_name (without a d) new free_then (Live cache page) Absent
 
   held_new : HasNode b new
@@ -170,7 +170,7 @@ module _ (a : Arena) (d s new : NodeId) (cache : CacheId) (page : PageNo) (can :
       ∙ ap (λ (f : Forest OwnState). node f (Live cache page)) (page-forest (without a d) went.sound.kept new free_then cache page vacant Absent)
       ∙ node-put (forest_of (without a d)) (Live cache page) (childless None Root)
 
-  room_new : b.room.nodes ≡ a.room.nodes
+  pub room_new : b.room.nodes ≡ a.room.nodes
   unfolding with_new without
   room_new = omega arith
 
@@ -184,7 +184,7 @@ module _ (a : Arena) (d s new : NodeId) (cache : CacheId) (page : PageNo) (can :
   s_new : s ≢ new
   s_new = not_free a s new can.held_s can.free_new
 
-  left_s : IsLeft a b s
+  pub left_s : IsLeft a b s
   left_s = left_by_find a b s (find_new s can.apart s_new)
 
   held_s : HasNode b s
@@ -196,10 +196,24 @@ module _ (a : Arena) (d s new : NodeId) (cache : CacheId) (page : PageNo) (can :
   rule : link (forest_of b) (name_of b new) (name_of b s) ≡ copy_page false (forest_of a) (Live cache page) (name_of a s)
   rule = λ i. link (detached i) (name_new i) (left_s.name i)
 
+  tree_s : (cell b s).tree ≡ (cell a s).tree
+  tree_s = ap (λ c. c.tree) (cell_by a b s (find_new s can.apart s_new))
+
+  -- a number that was free is free still
+  still_free : (w : NodeId) → find a w ≡ None → w ≢ new → find b w ≡ None
+  still_free w free_w w_new = find_new w (λ e. not_free a d w can.held_d free_w (sym e)) w_new ∙ free_w
+
+  pub first_linked : (cell a s).tree ≡ [] → Linked (with_new (without a d) new (Live cache page) Absent) (set_one (with_new (without a d) new (Live cache page) Absent) s new) new s
+  first_linked none = links-first b new s can_link (tree_s ∙ none)
+
+  pub more_linked : (h w : NodeId) → (cell a s).tree ≡ h ∷ [] → find a w ≡ None → w ≢ new → 1 ≤ a.room.nodes
+      → Linked (with_new (without a d) new (Live cache page) Absent) (set_two (set_one (with_working (with_new (without a d) new (Live cache page) Absent) w) s w) w h new) new s
+  more_linked h w tree free_w w_new roomy = links-more b new s w h [] can_link (tree_s ∙ tree) (still_free w free_w w_new) (omega (arith, room_new))
+
   -- as its first child
   pub page_first : (cell a s).tree ≡ [] → PageCopied a (set_one b s new) d s s new new (Live cache page) (name_of a s)
   page_first none =
-      let linked = links-first b new s can_link (ap (λ c. c.tree) (cell_by a b s (find_new s can.apart s_new)) ∙ none) in
+      let linked = first_linked none in
       let r = rehung_one b s new held_s held_new in
       let bare_new : IsBare (set_one b s new) new = record { held = r.like.held new ∙ held_new; own = r.own new ∙ fresh_own (without a d) new free_then (Live cache page) Absent } in
       let roomy : (set_one b s new).room.nodes ≡ a.room.nodes = ap (λ k. k.nodes) r.room ∙ room_new in
@@ -219,8 +233,8 @@ module _ (a : Arena) (d s new : NodeId) (cache : CacheId) (page : PageNo) (can :
   pub page_more : (h w : NodeId) → (cell a s).tree ≡ h ∷ [] → h ≢ d → find a w ≡ None → w ≢ new → 1 ≤ a.room.nodes
       → PageCopied a (set_two (set_one (with_working b w) s w) w h new) d s h new w (Live cache page) (name_of a s)
   page_more h w tree h_d free_w w_new roomy =
-      let free_b : find b w ≡ None = find_new w (λ e. not_free a d w can.held_d free_w (sym e)) w_new ∙ free_w in
-      let linked = links-more b new s w h [] can_link (ap (λ c. c.tree) (cell_by a b s (find_new s can.apart s_new)) ∙ tree) free_b (omega (arith, room_new)) in
+      let free_b = still_free w free_w w_new in
+      let linked = more_linked h w tree free_w w_new roomy in
       let b1 : Arena = with_working b w in
       let b2 : Arena = set_one b1 s w in
       let c : Arena = set_two b2 w h new in

@@ -42,7 +42,7 @@ pairs_more c p d q (suc k) f =
 -- Rows of nodes --------------------------------------------------------------------------------------
 
 -- nodes of different pages are different
-abbrev Pass : NodeId → NodeId → ℕ → Type 0
+abbrev pub Pass : NodeId → NodeId → ℕ → Type 0
 Pass n m count = (i j : ℕ) → i < count → j < count → i ≢ j → next_node n i ≢ next_node m j
 
 pass_itself : (n : NodeId) (count : ℕ) → Pass n n count
@@ -54,11 +54,11 @@ pass_apart n m count apart i j low high other = apart i low j high
 pass_back : (n m : NodeId) (count : ℕ) → Pass n m count → Pass m n count
 pass_back n m count pass i j low high other e = pass j i high low (λ same. other (sym same)) (sym e)
 
-abbrev EachPass : NodeId → List NodeId → ℕ → Type 0
+abbrev pub EachPass : NodeId → List NodeId → ℕ → Type 0
 EachPass n [] count = Unit {0}
 EachPass n (m ∷ ms) count = Pass n m count × EachPass n ms count
 
-abbrev AllPass : List NodeId → ℕ → Type 0
+abbrev pub AllPass : List NodeId → ℕ → Type 0
 AllPass [] count = Unit {0}
 AllPass (n ∷ ns) count = EachPass n ns count × AllPass ns count
 
@@ -100,7 +100,7 @@ module _ (a : Arena) (d s h new w : NodeId) (to from : CacheId) (to_page from_pa
   IsClear n k = (m : NodeId) → m ∈ (d ∷ new ∷ w ∷ s ∷ h ∷ []) → IsBeside n m k
 
   -- so many pages are copied, and nothing is changed at the nodes of others
-  record SoFar (b : Arena) (k : ℕ) : Type 0 where
+  pub record SoFar (b : Arena) (k : ℕ) : Type 0 where
     pub copied : AreCopied a b d new w to to_page from from_page k
     pub same : (n : NodeId) → ((m : NodeId) → m ∈ (d ∷ new ∷ w ∷ s ∷ h ∷ []) → IsBeside n m k) → find b n ≡ find a n
 
@@ -108,7 +108,7 @@ module _ (a : Arena) (d s h new w : NodeId) (to from : CacheId) (to_page from_pa
   later_clear : (n : NodeId) → n ∈ rows → (k : ℕ) → k < count → IsClear (next_node n k) k
   later_clear n is k below m has i less = all_pass rows count pass n m is has k i below (omega arith) (λ e. omega arith)
 
-  row_same : (b : Arena) (k : ℕ) → k < count → SoFar b k → (n : NodeId) → n ∈ (d ∷ new ∷ w ∷ s ∷ h ∷ []) → find b (next_node n k) ≡ find a (next_node n k)
+  pub row_same : (b : Arena) (k : ℕ) → k < count → SoFar b k → (n : NodeId) → n ∈ (d ∷ new ∷ w ∷ s ∷ h ∷ []) → find b (next_node n k) ≡ find a (next_node n k)
   row_same b k below so_far n is = so_far.same (next_node n k) (later_clear n is k below)
 
   none_yet : IsSound a → SoFar a 0
@@ -179,12 +179,12 @@ module _ (a : Arena) (d s h new w : NodeId) (to from : CacheId) (to_page from_pa
     }
 
   -- a step that copies the next page, wherever its nodes are as they were
-  abbrev CopiesNext : (Arena → ℕ → Arena) → Type 0
+  abbrev pub CopiesNext : (Arena → ℕ → Arena) → Type 0
   CopiesNext step = (b : Arena) (k : ℕ) → k < count → SoFar b k
       → (name_of b (next_node s k) ≡ Live from (record { 0 = from_page.0 + k }))
       × PageCopied b (step b k) (next_node d k) (next_node s k) (next_node h k) (next_node new k) (next_node w k) (Live to (record { 0 = to_page.0 + k })) (name_of b (next_node s k))
 
-  all_pages : IsSound a → (step : Arena → ℕ → Arena) → CopiesNext step → (k : ℕ) → k ≤ count → SoFar (each step a k) k
+  pub all_pages : IsSound a → (step : Arena → ℕ → Arena) → CopiesNext step → (k : ℕ) → k ≤ count → SoFar (each step a k) k
   all_pages sound step copies zero le = none_yet sound
   all_pages sound step copies (suc k) le =
       let so_far : SoFar (each step a k) k = all_pages sound step copies k (omega arith) in
@@ -192,7 +192,7 @@ module _ (a : Arena) (d s h new w : NodeId) (to from : CacheId) (to_page from_pa
       one_more (each step a k) (step (each step a k) k) k (omega arith) so_far next.0 next.1
 
 -- The next page may be copied, and its source has its name and the tree children that it had.
-record NextPage (a b : Arena) (d s new : NodeId) (to : CacheId) (to_page : PageNo) (from : NodeName) : Type 0 where
+pub record NextPage (a b : Arena) (d s new : NodeId) (to : CacheId) (to_page : PageNo) (from : NodeName) : Type 0 where
   pub can : CanCopyPage b d s new to to_page
   pub named_s : name_of b s ≡ from
   pub tree_s : (cell b s).tree ≡ (cell a s).tree
@@ -200,7 +200,7 @@ record NextPage (a b : Arena) (d s new : NodeId) (to : CacheId) (to_page : PageN
 -- What a page needs of its nodes, wherever they are as they were ----------------------------------------
 
 module _ (a : Arena) (d s new : NodeId) (to : CacheId) (to_page : PageNo) (from : CacheId) (from_page : PageNo) (count : ℕ) (can : CanCopyMany a d s new to to_page from from_page count) where
-  named : (k : ℕ) → k < count → (cell a (next_node d k)).name ≡ Live to (record { 0 = to_page.0 + k })
+  pub named : (k : ℕ) → k < count → (cell a (next_node d k)).name ≡ Live to (record { 0 = to_page.0 + k })
   named k less = (can.destinations k less).1
 
   fresh : AreApart d new count
@@ -210,7 +210,7 @@ module _ (a : Arena) (d s new : NodeId) (to : CacheId) (to_page : PageNo) (from 
   new_s i low j high e = not_free a (next_node s j) (next_node new i) (can.sources j high).0 (can.free i low) (sym e)
 
   module _ (b : Arena) (k : ℕ) (less : k < count) (sound : IsSound b) (same_d : find b (next_node d k) ≡ find a (next_node d k)) (same_s : find b (next_node s k) ≡ find a (next_node s k)) (same_new : find b (next_node new k) ≡ find a (next_node new k)) where
-    cell_d : cell b (next_node d k) ≡ cell a (next_node d k)
+    pub cell_d : cell b (next_node d k) ≡ cell a (next_node d k)
     cell_d = cell_by a b (next_node d k) same_d
 
     cell_s : cell b (next_node s k) ≡ cell a (next_node s k)
@@ -231,26 +231,26 @@ module _ (a : Arena) (d s new : NodeId) (to : CacheId) (to_page : PageNo) (from 
       apart = λ e. can.apart k less k less (sym e);
     }
 
-    next_page : NextPage a b (next_node d k) (next_node s k) (next_node new k) to (record { 0 = to_page.0 + k }) (Live from (record { 0 = from_page.0 + k }))
+    pub next_page : NextPage a b (next_node d k) (next_node s k) (next_node new k) to (record { 0 = to_page.0 + k }) (Live from (record { 0 = from_page.0 + k }))
     next_page = record { can = can_copy; named_s = named_s; tree_s = ap (λ (c : Cell). c.tree) cell_s }
 
 -- Sources without tree children ------------------------------------------------------------------------
 
 module _ (a : Arena) (d s new : NodeId) (to : CacheId) (to_page : PageNo) (from : CacheId) (from_page : PageNo) (count : ℕ) (first : CanCopyFirst a d s new to to_page from from_page count) where
-  first_fresh : AreApart d new count
+  pub first_fresh : AreApart d new count
   first_fresh = fresh a d s new to to_page from from_page count first.can
 
-  first_new_s : AreApart new s count
+  pub first_new_s : AreApart new s count
   first_new_s = new_s a d s new to to_page from from_page count first.can
 
-  first_pass : AllPass (d ∷ new ∷ new ∷ s ∷ s ∷ []) count
+  pub first_pass : AllPass (d ∷ new ∷ new ∷ s ∷ s ∷ []) count
   first_pass =
       let d_n : Pass d new count = pass_apart d new count first_fresh in
       let d_s : Pass d s count = pass_apart d s count first.can.apart in
       let n_s : Pass new s count = pass_apart new s count first_new_s in
       ((d_n, (d_n, (d_s, (d_s, tt)))), ((pass_itself new count, (n_s, (n_s, tt))), ((n_s, (n_s, tt)), ((pass_itself s count, tt), (tt, tt)))))
 
-  first_step : (b : Arena) (k : ℕ) → k < count → SoFar a d s s new new to from to_page from_page count first_pass b k
+  pub first_step : (b : Arena) (k : ℕ) → k < count → SoFar a d s s new new to from to_page from_page count first_pass b k
       → (name_of b (next_node s k) ≡ Live from (record { 0 = from_page.0 + k }))
       × PageCopied b (copy_first d new to to_page s b k) (next_node d k) (next_node s k) (next_node s k) (next_node new k) (next_node new k) (Live to (record { 0 = to_page.0 + k })) (name_of b (next_node s k))
   first_step b k less so_far =
@@ -277,7 +277,7 @@ module _ (a : Arena) (d s h new w : NodeId) (to : CacheId) (to_page : PageNo) (f
   more_fresh : AreApart d new count
   more_fresh = fresh a d s new to to_page from from_page count more.can
 
-  free_w : HaveNone a w count
+  pub free_w : HaveNone a w count
   free_w = free_before d new to to_page count more_fresh a w more.fresh (free_then d new to to_page count more_fresh a w more.free)
 
   -- a history hangs on its source, and a destination on nothing
@@ -311,7 +311,7 @@ module _ (a : Arena) (d s h new w : NodeId) (to : CacheId) (to_page : PageNo) (f
     h_w = λ i low j high. not_free a (next_node h i) (next_node w j) (history_held i low) (free_w j high);
   }
 
-  more_pass : AllPass (d ∷ new ∷ w ∷ s ∷ h ∷ []) count
+  pub more_pass : AllPass (d ∷ new ∷ w ∷ s ∷ h ∷ []) count
   more_pass = (
     (pass_apart d new count rows_apart.d_new, (pass_apart d w count rows_apart.d_w, (pass_apart d s count rows_apart.d_s, (pass_apart d h count rows_apart.d_h, tt)))),
     (
@@ -323,7 +323,7 @@ module _ (a : Arena) (d s h new w : NodeId) (to : CacheId) (to_page : PageNo) (f
     ),
   )
 
-  more_step : (b : Arena) (k : ℕ) → k < count → SoFar a d s h new w to from to_page from_page count more_pass b k
+  pub more_step : (b : Arena) (k : ℕ) → k < count → SoFar a d s h new w to from to_page from_page count more_pass b k
       → (name_of b (next_node s k) ≡ Live from (record { 0 = from_page.0 + k }))
       × PageCopied b (copy_more d new to to_page s h w b k) (next_node d k) (next_node s k) (next_node h k) (next_node new k) (next_node w k) (Live to (record { 0 = to_page.0 + k })) (name_of b (next_node s k))
   more_step b k less so_far =

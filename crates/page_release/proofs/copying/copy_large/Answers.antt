@@ -1,0 +1,67 @@
+use Rattle.std.proofs.Common.{◌≡◌, ◌+◌, ◌*◌, false, subst, arith}
+use Rattle.vm_ids.specs.Forest.Commands.{firsts, span_pairs}
+use Rattle.page_release.specs.Commands.{Grows}
+use Rattle.page_release.proofs.CopiedPages.Parts.{CopiesPages, copies_none, copies_then, left_can, left_unclean, left_unpinned}
+use Rattle.page_release.proofs.copying.copy_large.Goals as goal
+
+pub loop-done-init : goal.loop-done-init
+loop-done-init c =
+    let s = c.args.span in
+    let retire = c.requires.retire in
+    record {
+      copied = copies_none false s.from s.from_page.0 s.to s.to_page.0 c.args.store.now c.args.caches.now retire.whole.sound retire.whole.consistent retire.tied;
+      few = omega arith;
+    }
+
+pub copy_next-requires-clause-can : goal.copy_next-requires-clause-can
+copy_next-requires-clause-can c =
+    let s = c.args.span in
+    let i = c.loop-done.invariant in
+    left_can false s.from s.from_page.0 s.to s.to_page.0 c.loop-done.done c.args.store.now c.args.caches.now c.loop-done.store c.loop-done.caches i.copied s.pages i.few c.requires.can
+
+pub copy_next-requires-clause-unpinned : goal.copy_next-requires-clause-unpinned
+copy_next-requires-clause-unpinned c =
+    let s = c.args.span in
+    left_unpinned false s.from s.from_page.0 s.to s.to_page.0 c.loop-done.done c.args.store.now c.args.caches.now c.loop-done.store c.loop-done.caches c.loop-done.invariant.copied
+    (firsts (span_pairs s)) c.requires.retire.tied c.requires.retire.unpinned
+
+pub copy_next-requires-clause-unclean : goal.copy_next-requires-clause-unclean
+copy_next-requires-clause-unclean c =
+    let s = c.args.span in
+    left_unclean false s.from s.from_page.0 s.to s.to_page.0 c.loop-done.done c.args.store.now c.args.caches.now c.loop-done.store c.loop-done.caches c.loop-done.invariant.copied
+    (firsts (span_pairs s)) c.requires.retire.tied c.requires.unclean
+
+pub copy_next-requires-clause-room : goal.copy_next-requires-clause-room
+copy_next-requires-clause-room c =
+    let i = c.loop-done.invariant in
+    record { room = omega (arith, i.few, i.copied.grows.room, c.requires.room.room); few = omega (arith, i.few, i.copied.grows.few, c.requires.room.few) }
+
+pub copy_next-requires-clause-made : goal.copy_next-requires-clause-made
+copy_next-requires-clause-made c =
+    let i = c.loop-done.invariant in
+    omega (arith, i.few, i.copied.grows.made, c.requires.retire.made)
+
+pub loop-done-preserved : goal.loop-done-preserved
+loop-done-preserved c =
+    let s = c.args.span in
+    let i = c.loop-done.invariant in
+    let e = c.copy_next.ensures in
+    record {
+      copied =
+          copies_then false s.from s.from_page.0 s.to s.to_page.0 c.loop-done.done c.copy_next.result c.args.store.now c.args.caches.now c.loop-done.store c.loop-done.caches c.copy_next.new.store c.copy_next.new.caches
+          c.requires.retire.tied i.copied (record { rule = e.rule; kept = e.kept; grows = e.grows });
+      few = e.few;
+    }
+
+pub returns-clause-rule : goal.returns-clause-rule
+returns-clause-rule c =
+    let s = c.args.span in
+    let i = c.loop-done.invariant in
+    let all : c.loop-done.done ≡ s.pages = omega (arith, c.loop-done-test.false, i.few) in
+    (subst (λ k. CopiesPages false s.from s.from_page.0 s.to s.to_page.0 k c.args.store.now c.args.caches.now c.loop-done.store c.loop-done.caches) all i.copied).rule
+
+pub returns-clause-grows : goal.returns-clause-grows
+returns-clause-grows c =
+    let i = c.loop-done.invariant in
+    let all : c.loop-done.done ≡ c.args.span.pages = omega (arith, c.loop-done-test.false, i.few) in
+    subst (λ k. Grows (2 * k) c.args.caches.now c.loop-done.caches) all i.copied.grows
