@@ -72,8 +72,8 @@ fn narrow_own_page(store: &mut Store, caches: &Caches, cache: CacheId, page: Pag
     }
 }
 
-// The translations are dropped that lead to the frames in which the first of so many pages are seen. Nothing is to be done
-// for as many as are alike and their own owners, in no frame: else it is one page. It answers how many.
+// Drops the translations that lead to the frames in which the first of so many pages are seen: as many as are alike, with
+// own pages in no frame, to which none leads, or one. It answers how many.
 fn drop_seen_next(
     store: &mut Store,
     caches: &Caches,
@@ -125,8 +125,8 @@ pub(crate) fn drop_seen(
     }
 }
 
-// The translations that lead to the own pages of the first of so many nodes are for reading alone from then on. Nothing is
-// to be done for as many as are alike and in no frame: else it is one node. It answers how many.
+// Leaves the translations that lead to the own pages of the first of so many nodes for reading alone: as many as are alike
+// and in no frame, to which none leads, or one. It answers how many.
 fn narrow_own_next(
     store: &mut Store,
     caches: &Caches,

@@ -48,7 +48,7 @@ module _ (a : Arena) (map : List (Option NodeId)) (sound : IsSound a) (c : Cache
         let m : NodeId = next_node n k in
         let x : NodeName = page_name c (p.0 + k) in
         let has : IsSome (node (frame_forest a map) x).own =
-            ap (λ y. is_some (node (frame_forest a map) y).own) (sym (named k low))
-            ∙ ap is_some (own_at a map sound m (alike k low).held)
-            ∙ has_own (own_of a m) (frame_of map m.0) (ap is_absent (alike k low).own ∙ own) in
+        ap (λ y. is_some (node (frame_forest a map) y).own) (sym (named k low))
+        ∙ ap is_some (own_at a map sound m (alike k low).held)
+        ∙ has_own (own_of a m) (frame_of map m.0) (ap is_absent (alike k low).own ∙ own) in
         owned_seen a map sound consistent x has ∙ none_owned k low
