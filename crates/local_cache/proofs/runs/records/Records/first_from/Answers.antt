@@ -27,5 +27,5 @@ pub returns-in_err-next_from : goal.returns-in_err-next_from
 returns-in_err-next_from c =
     match_none _ c.from_residual.result c.from_residual.ensures
     (λ m low.
-        ap (λ (l : Stretches Record). said each l.list m) (sym c.self.view_is)
-        ∙ none_in_slab c.self.inside.slab c.self.inside.keys.list m (c.in_err-next_from.ensures.next m low))
+    ap (λ (l : Stretches Record). said each l.list m) (sym c.self.view_is)
+    ∙ none_in_slab c.self.inside.slab c.self.inside.keys.list m (c.in_err-next_from.ensures.next m low))
