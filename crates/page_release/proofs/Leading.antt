@@ -2,7 +2,9 @@
 
 -- The frame in which a page is seen is that of the node that owns it.
 pub mod Seen
--- The translations of a range, page by page.
+-- Pages whose nodes are alike and in no frame are seen in none.
+pub mod Alike
+-- The translations of a range, some pages after others.
 pub mod Ranges
 -- What is left of the translations.
 pub mod Left

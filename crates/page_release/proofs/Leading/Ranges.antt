@@ -1,7 +1,8 @@
--- The translations of a range, page by page.
-use Rattle.std.proofs.Common.{◌≡◌, ℕ, ◌+◌, ◌-◌, ◌<◌, ◌≤◌, ◌||◌, ◌==◌, Bool, true, false, cond, List, [], ◌∷◌, length, map, Option, Some, None, refl, sym, ap, ◌∙◌, subst}
+-- The translations of a range, some pages after others.
+use Rattle.std.proofs.Common.{◌≡◌, ℕ, zero, suc, ◌+◌, ◌-◌, ◌<◌, ◌≤◌, ◌||◌, ◌==◌, Bool, true, false, cond, List, [], ◌∷◌, ◌++◌, length, map, Option, Some, None, refl, sym, ap, ◌∙◌, subst, arith}
 use Rattle.std.specs.List.{list_any}
 use Rattle.std.proofs.lemmas.List.{length-map}
+use Rattle.std.proofs.lemmas.List.Folds.{list_any-append}
 use Rattle.vm_ids.specs.Held.{Held}
 use Rattle.vm_ids.specs.declared.node_name.NodeName.{NodeName}
 use Rattle.vm_ids.specs.declared.numbers.CacheId.{CacheId}
@@ -16,7 +17,18 @@ use Rattle.residency.specs.World.{IsTied, world}
 use Rattle.residency.proofs.Translations.Dropped.{twice, without_as, without_none}
 use Rattle.page_release.specs.Steps.{IsStoreTied}
 use Rattle.page_release.specs.Translating.{is_frame, narrowed_in, with_narrowed}
-use Rattle.page_release.proofs.Forgotten.Range.{names_end, names_start, names_step}
+use Rattle.page_release.proofs.Forgotten.Range.{names_end, names_start}
+
+-- the names of so many pages, and of those behind them
+names_apart : (c : CacheId) (p m r : ℕ) → page_names c p (m + r) ≡ page_names c p m ++ page_names c (p + m) r
+names_apart c p zero r =
+    let all : 0 + r ≡ r = omega arith in
+    let from : p ≡ p + 0 = omega arith in
+    λ k. page_names c (from k) (all k)
+names_apart c p (suc m) r =
+    let all : suc m + r ≡ suc (m + r) = omega arith in
+    let from : p + 1 + m ≡ p + suc m = omega arith in
+    ap (page_names c p) all ∙ ap (λ xs. page_name c p ∷ xs) (names_apart c (p + 1) m r ∙ ap (λ q. page_names c (p + 1) m ++ page_names c q r) from)
 
 or_false : (b : Bool) → (b || false) ≡ b
 or_false true = refl
@@ -63,14 +75,23 @@ module _ (at : NodeName → Option ℕ) where
   abbrev any_at : List NodeName → ℕ → Bool
   any_at names frame = list_any (λ x. is_frame (at x) frame) names
 
-  abbrev first_at : NodeName → List NodeName → ℕ → Bool
-  first_at x xs frame = any_at (x ∷ []) frame || any_at xs frame
-
   one_at : (x : NodeName) (o : Option ℕ) → at x ≡ o → (f : ℕ) → is_frame o f ≡ any_at (x ∷ []) f
   one_at x o is f = ap (λ (p : Option ℕ). is_frame p f) (sym is) ∙ sym (or_false (is_frame (at x) f))
 
-  first_and : (x : NodeName) (xs : List NodeName) (f : ℕ) → first_at x xs f ≡ any_at (x ∷ xs) f
-  first_and x xs f = ap (λ (b : Bool). b || any_at xs f) (or_false (is_frame (at x) f))
+  any_both : (xs ys : List NodeName) (f : ℕ) → (any_at xs f || any_at ys f) ≡ any_at (xs ++ ys) f
+  any_both xs ys f = sym (list_any-append (λ x. is_frame (at x) f) xs ys)
+
+  -- pages of a range that are in no frame
+  abbrev AreFrameless : CacheId → ℕ → ℕ → Type 0
+  AreFrameless c p n = (k : ℕ) → k < n → at (page_name c (p + k)) ≡ None
+
+  none_at : (c : CacheId) (p n : ℕ) → AreFrameless c p n → (f : ℕ) → false ≡ any_at (page_names c p n) f
+  none_at c p zero none f = refl
+  none_at c p (suc n) none f =
+      let here : p + 0 ≡ p = omega arith in
+      let first = ap (λ q. at (page_name c q)) (sym here) ∙ none 0 (omega arith) in
+      none_at c (p + 1) n (λ k low. let next : p + 1 + k ≡ p + (k + 1) = omega arith in ap (λ q. at (page_name c q)) next ∙ none (k + 1) (omega arith)) f
+      ∙ ap (λ (o : Option ℕ). is_frame o f || any_at (page_names c (p + 1) n) f) (sym first)
 
   module _ (tables : List (Option Entry)) where
     pub drop_nothing : (x : NodeName) → at x ≡ None → tables ≡ without (any_at (x ∷ [])) tables
@@ -85,27 +106,39 @@ module _ (at : NodeName → Option ℕ) where
     pub narrow_frame : (x : NodeName) (f : ℕ) → at x ≡ Some f → map (narrowed f) tables ≡ with_narrowed (any_at (x ∷ [])) tables
     narrow_frame x f is = narrowed_one f tables ∙ narrowed_as (is_frame (Some f)) (any_at (x ∷ [])) tables (one_at x (Some f) is)
 
-    drop_then : (x : NodeName) (xs : List NodeName) → without (any_at xs) (without (any_at (x ∷ [])) tables) ≡ without (any_at (x ∷ xs)) tables
-    drop_then x xs = twice (any_at (x ∷ [])) (any_at xs) tables ∙ without_as (first_at x xs) (any_at (x ∷ xs)) tables (first_and x xs)
+    pub drop_frameless : (c : CacheId) (p n : ℕ) → AreFrameless c p n → tables ≡ without (any_at (page_names c p n)) tables
+    drop_frameless c p n none = sym (without_none tables) ∙ without_as (λ f. false) (any_at (page_names c p n)) tables (none_at c p n none)
 
-    narrow_then : (x : NodeName) (xs : List NodeName) → with_narrowed (any_at xs) (with_narrowed (any_at (x ∷ [])) tables) ≡ with_narrowed (any_at (x ∷ xs)) tables
-    narrow_then x xs = narrowed_twice (any_at (x ∷ [])) (any_at xs) tables ∙ narrowed_as (first_at x xs) (any_at (x ∷ xs)) tables (first_and x xs)
+    pub narrow_frameless : (c : CacheId) (p n : ℕ) → AreFrameless c p n → tables ≡ with_narrowed (any_at (page_names c p n)) tables
+    narrow_frameless c p n none = sym (narrowed_none tables) ∙ narrowed_as (λ f. false) (any_at (page_names c p n)) tables (none_at c p n none)
+
+    drop_then : (xs ys : List NodeName) → without (any_at ys) (without (any_at xs) tables) ≡ without (any_at (xs ++ ys)) tables
+    drop_then xs ys = twice (any_at xs) (any_at ys) tables ∙ without_as (λ f. any_at xs f || any_at ys f) (any_at (xs ++ ys)) tables (any_both xs ys)
+
+    narrow_then : (xs ys : List NodeName) → with_narrowed (any_at ys) (with_narrowed (any_at xs) tables) ≡ with_narrowed (any_at (xs ++ ys)) tables
+    narrow_then xs ys = narrowed_twice (any_at xs) (any_at ys) tables ∙ narrowed_as (λ f. any_at xs f || any_at ys f) (any_at (xs ++ ys)) tables (any_both xs ys)
 
     module _ (c : CacheId) (p n i : ℕ) where
       abbrev left : List NodeName
       left = page_names c (p + i) (n - i)
 
-      abbrev next : List NodeName
-      next = page_names c (p + (i + 1)) (n - (i + 1))
+      abbrev next : ℕ → List NodeName
+      next m = page_names c (p + (i + m)) (n - (i + m))
 
-      abbrev page : List NodeName
-      page = page_name c (p + i) ∷ []
+      abbrev first : ℕ → List NodeName
+      first m = page_names c (p + i) m
 
-      pub drop_step : i < n → without (any_at next) (without (any_at page) tables) ≡ without (any_at left) tables
-      drop_step low = drop_then (page_name c (p + i)) next ∙ ap (λ (xs : List NodeName). without (any_at xs) tables) (sym (names_step c p n i low))
+      first_and : (m : ℕ) → i + m ≤ n → first m ++ next m ≡ left
+      first_and m low =
+          let all : m + (n - (i + m)) ≡ n - i = omega arith in
+          let from : p + (i + m) ≡ p + i + m = omega arith in
+          ap (λ q. first m ++ page_names c q (n - (i + m))) from ∙ sym (names_apart c (p + i) m (n - (i + m))) ∙ ap (page_names c (p + i)) all
 
-      pub narrow_step : i < n → with_narrowed (any_at next) (with_narrowed (any_at page) tables) ≡ with_narrowed (any_at left) tables
-      narrow_step low = narrow_then (page_name c (p + i)) next ∙ ap (λ (xs : List NodeName). with_narrowed (any_at xs) tables) (sym (names_step c p n i low))
+      pub drop_step : (m : ℕ) → i + m ≤ n → without (any_at (next m)) (without (any_at (first m)) tables) ≡ without (any_at left) tables
+      drop_step m low = drop_then (first m) (next m) ∙ ap (λ (xs : List NodeName). without (any_at xs) tables) (first_and m low)
+
+      pub narrow_step : (m : ℕ) → i + m ≤ n → with_narrowed (any_at (next m)) (with_narrowed (any_at (first m)) tables) ≡ with_narrowed (any_at left) tables
+      narrow_step m low = narrow_then (first m) (next m) ∙ ap (λ (xs : List NodeName). with_narrowed (any_at xs) tables) (first_and m low)
 
       pub drop_end : n ≤ i → tables ≡ without (any_at left) tables
       drop_end over = sym (without_none tables) ∙ ap (λ (xs : List NodeName). without (any_at xs) tables) (sym (names_end c (p + i) n i over))

@@ -46,7 +46,7 @@ module _ (a : Arena) (map : List (Option NodeId)) (sound : IsSound a) where
   unfolding frame_forest
   frames_bare = sym (bare-of (own_frame a map) a sound.kept.named (λ n. has_page None (Some (frame_of map n.0)) (λ slot. None) None (own_of a n)))
 
-  own_at : (n : NodeId) → HasNode a n → (node (frame_forest a map) (name_of a n)).own ≡ own_frame a map n
+  pub own_at : (n : NodeId) → HasNode a n → (node (frame_forest a map) (name_of a n)).own ≡ own_frame a map n
   unfolding frame_forest
   own_at n h = page-at (own_frame a map) a sound.kept.named n h
 
@@ -63,7 +63,14 @@ module _ (a : Arena) (map : List (Option NodeId)) (sound : IsSound a) where
       ∙ ap (λ x. (node f x).own) (owner_same (name_of a n) ∙ sym is)
       ∙ own_at o k
 
--- a node that has its page to itself is seen in the frame of its own page
+  -- a node that owns its page is seen in the frame of its own page
+  pub owned_seen : IsConsistent (forest_of a) → (x : NodeName) → IsSome (node (frame_forest a map) x).own → seen_in a map x ≡ own_in a map x
+  owned_seen consistent x has =
+      let f = frame_forest a map in
+      let own = some_of (node f x).own has in
+      ap (option_and_then (λ frame. frame)) (value-IsValue f (bare-consistent (forest_of a) f frames_bare consistent).shaped.linked (itself own.1) ∙ sym own.1)
+
+-- and so is a node that has its page to itself
 module _ (a : Arena) (map : List (Option NodeId)) (sound : IsSound a) (consistent : IsConsistent (forest_of a)) (x : NodeName) (alone : IsAlone a x) where
   has_own : IsSome (node (frame_forest a map) x).own
   has_own =
@@ -73,10 +80,7 @@ module _ (a : Arena) (map : List (Option NodeId)) (sound : IsSound a) (consisten
       ∙ is_some-map no_page (node (forest_of a) x).own ∙ alone.owned
 
   pub alone_own : seen_in a map x ≡ own_in a map x
-  alone_own =
-      let f = frame_forest a map in
-      let own = some_of (node f x).own has_own in
-      ap (option_and_then (λ frame. frame)) (value-IsValue f (bare-consistent (forest_of a) f (frames_bare a map sound) consistent).shaped.linked (itself own.1) ∙ sym own.1)
+  alone_own = owned_seen a map sound consistent x has_own
 
 -- what the map says of the frame of a node
 abbrev pub IsFound : List (Option NodeId) → NodeId → Option FrameId → Type 0
@@ -92,7 +96,7 @@ in_frame (Resident d) f h = refl
 in_frame (Slot k) f h = absurd (false≢true h)
 in_frame OnSegment f h = absurd (false≢true h)
 
-in_none : (s : OwnState) (f : ℕ) → is_resident s ≡ false → option_and_then (λ frame. frame) (page_by None (Some f) (λ slot. None) None s) ≡ None
+pub in_none : (s : OwnState) (f : ℕ) → is_resident s ≡ false → option_and_then (λ frame. frame) (page_by None (Some f) (λ slot. None) None s) ≡ None
 in_none Absent f h = refl
 in_none Zero f h = refl
 in_none (Resident d) f h = absurd (false≢true (sym h))

@@ -1,16 +1,20 @@
-use Rattle.std.proofs.Common.{◌≡◌, ◌+◌, ◌-◌}
+use Rattle.std.proofs.Common.{◌≡◌, ◌+◌, ◌-◌, ◌≤◌}
 use Rattle.vm_ids.specs.Forest.Commands.{page_names}
 use Rattle.residency.specs.Translating.{without}
 use Rattle.page_release.specs.Translating.{is_seen}
 use Rattle.page_release.proofs.Leading.Ranges.{OnlyTables}
 use Rattle.page_release.proofs.translations.drop_seen.Given as goal
 
-abbrev pub invariant-loop-page : goal.invariant-loop-page
-invariant-loop-page l =
+abbrev pub invariant-loop-done : goal.invariant-loop-done
+invariant-loop-done l =
     let seen = is_seen l.fn.caches l.fn.store.map in
     let all = page_names l.cache l.first.0 l.pages in
-    let left = page_names l.cache (l.first.0 + l.page) (l.pages - l.page) in
+    let left = page_names l.cache (l.first.0 + l.done) (l.pages - l.done) in
     record {
+      most : l.done ≤ l.pages;
       only : OnlyTables l.fn.store l.store;
       tables : without (seen left) l.store.tables ≡ without (seen all) l.fn.store.tables;
     }
+
+abbrev pub decreases-loop-done : goal.decreases-loop-done
+decreases-loop-done l = l.pages - l.done

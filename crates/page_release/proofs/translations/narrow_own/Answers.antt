@@ -1,6 +1,6 @@
-use Rattle.std.proofs.Common.{[], ◌∷◌, ◌+◌, ◌-◌, List, Option, ap, ◌∙◌, arith}
+use Rattle.std.proofs.Common.{◌+◌, ◌-◌, ◌≤◌, List, Option, ap, ◌∙◌, arith}
 use Rattle.vm_ids.specs.declared.numbers.NodeId.{NodeId}
-use Rattle.vm_ids.specs.Forest.Commands.{page_name, page_names}
+use Rattle.vm_ids.specs.Forest.Commands.{page_names}
 use Rattle.local_cache.proofs.Whole.Pages.{page_there}
 use Rattle.page_tables.specs.declared.entry.Entry.{Entry}
 use Rattle.residency.specs.declared.store.Store.{Store}
@@ -8,30 +8,35 @@ use Rattle.page_release.specs.Translating.{is_owned, own_in, with_narrowed}
 use Rattle.page_release.proofs.Leading.Ranges.{narrow_end, narrow_step, same_map, tables_mapped, tables_then, with_tables}
 use Rattle.page_release.proofs.translations.narrow_own.Goals as goal
 
-pub narrow_own_page-requires-clause-node : goal.narrow_own_page-requires-clause-node
-narrow_own_page-requires-clause-node c =
-    page_there c.args.caches.now c.requires.whole.sound c.args.cache (record { 0 = c.args.first.0 + c.loop-page.page }) (c.requires.nodes c.loop-page.page c.loop-page-test.true)
+pub narrow_own_next-done-requires-clause-node : goal.narrow_own_next-done-requires-clause-node
+narrow_own_next-done-requires-clause-node c =
+    let k = c.loop-done.done in
+    page_there c.args.caches.now c.requires.whole.sound c.args.cache (record { 0 = c.args.first.0 + k }) (c.requires.nodes k c.loop-done-test.true)
 
-pub loop-page-preserved : goal.loop-page-preserved
-loop-page-preserved c =
-    let i = c.loop-page.invariant in
-    let k = c.loop-page.page in
+pub loop-done-preserved : goal.loop-done-preserved
+loop-done-preserved c =
+    let i = c.loop-done.invariant in
+    let k = c.loop-done.done in
+    let m = c.narrow_own_next-done.result in
     let a = c.args.caches.now in
     let s = c.args.store.now in
-    let t = c.loop-page.store in
-    let u = c.narrow_own_page.new.store in
-    let e = c.narrow_own_page.ensures in
-    let page = page_name c.args.cache (c.args.first.0 + k) ∷ [] in
-    let next = page_names c.args.cache (c.args.first.0 + (k + 1)) (c.args.pages - (k + 1)) in
-    let here = ap (λ (r : Store). r.tables) e ∙ ap (λ (m : List (Option NodeId)). with_narrowed (is_owned a m page) t.tables) (same_map s t i.only) in
+    let t = c.loop-done.store in
+    let u = c.narrow_own_next-done.new.store in
+    let e = c.narrow_own_next-done.ensures.narrowed in
+    let most : k + m ≤ c.args.pages = omega (arith, c.narrow_own_next-done.ensures.most, i.most) in
+    let first = page_names c.args.cache (c.args.first.0 + k) m in
+    let next = page_names c.args.cache (c.args.first.0 + (k + m)) (c.args.pages - (k + m)) in
+    let here = ap (λ (r : Store). r.tables) e ∙ ap (λ (l : List (Option NodeId)). with_narrowed (is_owned a l first) t.tables) (same_map s t i.only) in
     record {
+      most = most;
       only = tables_then s t u i.only (tables_mapped t u _ e);
-      tables = ap (λ (l : List (Option Entry)). with_narrowed (is_owned a s.map next) l) here ∙ narrow_step (own_in a s.map) t.tables c.args.cache c.args.first.0 c.args.pages k c.loop-page-test.true ∙ i.tables;
+      tables = ap (λ (l : List (Option Entry)). with_narrowed (is_owned a s.map next) l) here
+          ∙ narrow_step (own_in a s.map) t.tables c.args.cache c.args.first.0 c.args.pages k m most ∙ i.tables;
     }
 
 pub returns : goal.returns
 returns c =
-    let i = c.loop-page.invariant in
+    let i = c.loop-done.invariant in
     let s = c.args.store.now in
-    let over = narrow_end (own_in c.args.caches.now s.map) c.loop-page.store.tables c.args.cache c.args.first.0 c.args.pages c.loop-page.page (omega (arith, c.loop-page-test.false)) in
+    let over = narrow_end (own_in c.args.caches.now s.map) c.loop-done.store.tables c.args.cache c.args.first.0 c.args.pages c.loop-done.done (omega (arith, c.loop-done-test.false)) in
     i.only.is ∙ ap (with_tables s) (over ∙ i.tables)

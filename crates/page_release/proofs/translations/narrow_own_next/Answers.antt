@@ -1,0 +1,14 @@
+use Rattle.std.proofs.Common.{ap}
+use Rattle.page_release.specs.Translating.{own_in}
+use Rattle.page_release.proofs.Leading.Alike.{none_owned}
+use Rattle.page_release.proofs.Leading.Ranges.{narrow_frameless, with_tables}
+use Rattle.page_release.proofs.translations.narrow_own_next.Goals as goal
+
+pub returns-then-alike-gt0-clause-narrowed : goal.returns-then-alike-gt0-clause-narrowed
+returns-then-alike-gt0-clause-narrowed c =
+    let s = c.args.store.now in
+    let a = c.args.caches.now in
+    let alike = c.frameless-alike.ensures in
+    let none = none_owned a s.map c.requires.sound c.args.cache c.args.page c.node_of.result c.node_of.ensures
+    c.frameless-alike.result alike.alike (alike.frameless c.if-alike-gt0.true) in
+    ap (with_tables s) (narrow_frameless (own_in a s.map) s.tables c.args.cache c.args.page.0 c.frameless-alike.result none)
