@@ -115,6 +115,24 @@ impl<T: Copy> Directory<T> {
         })
     }
 
+    // The spot of the entry behind one in its leaf, if there is one.
+    pub(crate) fn next_in_leaf(&self, spot: Spot) -> Option<Spot>
+        requires { IsHeld self.now spot }
+        ensures { IfSome result (λ p. IsHeld self.now p
+            × (index self.now p ≡ index self.now spot + 1)) }
+    {
+        let len = self.pool.leaf(spot.leaf).len();
+        prove!(spot.at < len);
+        if spot.at + 1 < len {
+            Some(Spot {
+                leaf: spot.leaf,
+                at: spot.at + 1,
+            })
+        } else {
+            None
+        }
+    }
+
     // The spot of the entry at a spot or behind it, or `None` exactly where there is none.
     pub(crate) fn held_from(&self, spot: Spot) -> Option<Spot>
         requires { IsSpot self.now spot }

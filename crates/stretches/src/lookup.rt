@@ -1,5 +1,5 @@
 // Where numbers are in a list of stretches.
-ghost use Rattle.std.specs.Prelude.{◌≡◌, ℕ, ◌+◌, ◌<◌, ◌≤◌, nat_le, IfSome, MatchOption, None};
+ghost use Rattle.std.specs.Prelude.{◌≡◌, ℕ, ◌+◌, ◌<◌, ◌≤◌, nat_le, IfSome, IsTrue, MatchOption, None};
 ghost use Rattle.stretches.specs.Leaves.{AreSpread, entries};
 ghost use Rattle.stretches.specs.Places.{HasAt, IsFirstBehind, IsFirstLeafBehind, IsRising, Stands, first_of};
 ghost use Rattle.stretches.specs.Spots.{IsSpot, IsHeld, IsPair, index};
@@ -22,18 +22,43 @@ pub(crate) fn first_behind<V: Says>(stretches: &Directory<Stretch<V>>, number: u
     }
 }
 
-// The spot of the stretch that has a number, if one like it was found there lately.
+// The spot of the last stretch that begins at a number or before it, if it is where one like it was
+// found lately, or right beside.
 fn found_lately<V: Says>(stretches: &Directory<Stretch<V>>, number: u64) -> Option<Spot>
     requires { AreInOrder V.Says 0 (entries stretches.now) }
-    ensures has { IfSome result
-        (λ spot. HasAt (entries stretches.now) number (index stretches.now spot)) }
+    ensures last { IfSome result (λ spot. IsFirstBehind (entries stretches.now) number
+        (index stretches.now spot + 1)) }
     ensures held { IfSome result (IsHeld stretches.now) }
 {
     let spot = stretches.remembered(number)?;
-    if stretches.get(spot).has(number) {
-        Some(spot)
+    if is_last_by(stretches, spot, number) {
+        return Some(spot);
+    }
+    if let Some(next) = stretches.next_in_leaf(spot) {
+        if is_last_by(stretches, next, number) {
+            return Some(next);
+        }
+    }
+    let before = stretches.held_before(spot)?;
+    if is_last_by(stretches, before, number) {
+        Some(before)
     } else {
         None
+    }
+}
+
+// Whether a stretch is the last one that begins at a number or before it, as far as it tells and the
+// next one in its leaf.
+fn is_last_by<V: Says>(stretches: &Directory<Stretch<V>>, spot: Spot, number: u64) -> bool
+    requires order { AreInOrder V.Says 0 (entries stretches.now) }
+    requires held { IsHeld stretches.now spot }
+    ensures { IsTrue result → IsFirstBehind (entries stretches.now) number
+        (index stretches.now spot + 1) }
+{
+    let stretch = stretches.get(spot);
+    match stretches.next_in_leaf(spot) {
+        Some(next) => stretch.first <= number && number < stretches.get(next).first,
+        None => stretch.has(number),
     }
 }
 
@@ -102,8 +127,8 @@ pub(crate) fn spot_of<V: Says>(stretches: &Directory<Stretch<V>>, number: u64) -
 {
     let behind = first_behind(stretches, number);
     let spot = stretches.held_before(behind)?;
+    stretches.remember(number, spot);
     if stretches.get(spot).has(number) {
-        stretches.remember(number, spot);
         Some(spot)
     } else {
         None

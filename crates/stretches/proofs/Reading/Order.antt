@@ -1,5 +1,5 @@
 -- The order of the stretches of a list.
-use Rattle.std.proofs.Common.{◌≡◌, ℕ, zero, suc, ◌+◌, ◌<◌, ◌≤◌, true, false, leb, List, [], ◌∷◌, length, get_or, inl, inr, arith}
+use Rattle.std.proofs.Common.{◌≡◌, ℕ, zero, suc, ◌+◌, ◌<◌, ◌≤◌, true, false, leb, List, [], ◌∷◌, length, get_or, inl, inr, ap, ◌∙◌, arith}
 use Rattle.std.specs.List.Sorted.{IsPartitionPoint}
 use Rattle.std.proofs.lemmas.Bool.{cases_order, leb-true, leb-false}
 use Rattle.stretches.specs.declared.says.Says.{Ghosts}
@@ -7,7 +7,7 @@ use Rattle.stretches.specs.declared.stretch.Stretch.{Stretch}
 use Rattle.stretches.specs.Places.{HasAt, IsFirstBehind}
 use Rattle.stretches.specs.Stretch.{IsFit}
 use Rattle.stretches.specs.Stretches.{AreInOrder}
-use Rattle.stretches.proofs.Reading.Numbers.{high, low}
+use Rattle.stretches.proofs.Reading.Numbers.{any_default, high, low}
 
 module _ {V : Type 0} (S : Ghosts V) where
   -- each stretch begins at the number or behind it
@@ -53,6 +53,15 @@ module _ {V : Type 0} (S : Ghosts V) where
     within = omega (arith, has.within);
     before = λ j d less. omega (arith, first_rises 0 rs order j k d (omega arith) has.within, low (get_or rs k d) n (has.has d));
     behind = λ j d le less. omega (arith, apart 0 rs order k j d (omega arith) less, high (get_or rs k d) n (has.has d));
+  }
+
+  -- where one begins at the number or before it, and the next one behind it, the others are behind it
+  pub behind_between : (rs : List (Stretch V)) → AreInOrder S 0 rs → (n k : ℕ) (r q : Stretch V) → k + 1 < length rs
+      → get_or rs k r ≡ r → get_or rs (k + 1) q ≡ q → r.first ≤ n → n < q.first → IsFirstBehind rs n (k + 1)
+  behind_between rs order n k r q within is next low_end high_end = record {
+    within = omega (arith, within);
+    before = λ j d less. omega (arith, first_rises 0 rs order j k d (omega arith) (omega (arith, within)), ap (λ (x : Stretch V). x.first) (any_default rs k d r (omega (arith, within)) ∙ is), low_end);
+    behind = λ j d le less. omega (arith, first_rises 0 rs order (k + 1) j d le less, ap (λ (x : Stretch V). x.first) (any_default rs (k + 1) d q within ∙ next), high_end);
   }
 
 module _ {V : Type 0} where
