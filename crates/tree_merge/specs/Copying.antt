@@ -2,7 +2,6 @@
 use Rattle.std.specs.Prelude.{◌≡◌, ◌≢◌, ℕ, ◌+◌, ◌-◌, ◌<◌, ◌≤◌, List, [], ◌∷◌, ◌⊎◌, false, None, is_some}
 use Rattle.vm_ids.specs.declared.command.Span.{Span}
 use Rattle.vm_ids.specs.declared.node_name.NodeName.{NodeName}
-use Rattle.vm_ids.specs.declared.node_name.NodeName.TheVariants.{Live}
 use Rattle.vm_ids.specs.declared.numbers.CacheId.{CacheId}
 use Rattle.vm_ids.specs.declared.numbers.NodeId.{NodeId}
 use Rattle.vm_ids.specs.declared.numbers.PageNo.{PageNo}

@@ -1,5 +1,5 @@
 -- Pages whose nodes are alike can be copied at once.
-use Rattle.std.proofs.Common.{◌≡◌, ◌≢◌, ℕ, zero, suc, ◌+◌, ◌-◌, ◌<◌, ◌≤◌, ◌^◌, List, [], ◌∷◌, map, Option, Some, None, IsSome, refl, sym, ap, ◌∙◌, subst, arith, inl, inr}
+use Rattle.std.proofs.Common.{◌≡◌, ℕ, ◌+◌, ◌-◌, ◌<◌, ◌≤◌, ◌^◌, List, [], ◌∷◌, map, Some, None, IsSome, refl, sym, ap, ◌∙◌, subst, arith, inl, inr}
 use Rattle.std.specs.Prelude.{slice_get}
 use Rattle.vm_ids.specs.declared.command.Span.{Span}
 use Rattle.vm_ids.specs.declared.node_name.NodeName.{NodeName}
@@ -10,21 +10,20 @@ use Rattle.vm_ids.specs.declared.numbers.PageNo.{PageNo}
 use Rattle.vm_ids.specs.Forest.Commands.{firsts, page_name, page_pairs, seconds}
 use Rattle.vm_ids.specs.Forest.Laws.Commands.{CanCopy}
 use Rattle.vm_ids.specs.Forest.NameLists as names
-use Rattle.vm_ids.specs.Forest.Nodes.{Forest, IsNode}
+use Rattle.vm_ids.specs.Forest.Nodes.{IsNode}
 use Rattle.vm_ids.proofs.Forest.Laws.Ranges.{pairs_fill_destinations, pairs_read_sources, ranges_hold_their_pages}
-use Rattle.local_cache.specs.declared.own_state.OwnState.TheVariants.{Absent}
-use Rattle.local_cache.specs.Arena.{Arena, HasNode, NodesStay, cell, find, node_at, with_new, without}
-use Rattle.local_cache.specs.Many.{AreAlike, AreNamed, HaveNodes, HaveNone, with_new_many, without_many}
+use Rattle.local_cache.specs.Arena.{Arena, cell, node_at}
+use Rattle.local_cache.specs.Many.{AreAlike, AreNamed, HaveNodes, HaveNone}
 use Rattle.local_cache.specs.ManyNodes.{next_if, next_node}
 use Rattle.local_cache.specs.Own.{own_of}
 use Rattle.local_cache.specs.Reading.{forest_of, name_of}
 use Rattle.local_cache.specs.Sound.{IsSound}
 use Rattle.local_cache.proofs.Whole.Pages.{page_there}
 use Rattle.tree_merge.specs.Copyable.{AreReady, AreRenewable, IsHistory}
-use Rattle.tree_merge.specs.Copying.{AreApart, AreEmpty, CanCopyFirst, CanCopyMany, CanCopyMore, IsBeside, IsCopiedAtOnce, IsEmpty, IsLone, copied_first, copied_more, page_after, pairs_left, renewed}
+use Rattle.tree_merge.specs.Copying.{AreApart, AreEmpty, CanCopyFirst, CanCopyMany, CanCopyMore, IsCopiedAtOnce, IsEmpty, IsLone, copied_first, copied_more, page_after, renewed}
 use Rattle.tree_merge.proofs.CopiedPages.OnePage.{not_free}
 use Rattle.tree_merge.proofs.CopiedPages.Pages.{first_copied, history_held, more_copied, rows_apart}
-use Rattle.tree_merge.proofs.CopiedPages.Stretches.{RowsApart, held_renewed, made_renewed, room_renewed}
+use Rattle.tree_merge.proofs.CopiedPages.Stretches.{held_renewed, made_renewed, room_renewed}
 
 -- Alike nodes ---------------------------------------------------------------------------------------
 

@@ -1,4 +1,4 @@
-use Rattle.std.proofs.Common.{◌≡◌, ◌+◌, ◌*◌, false, subst, arith}
+use Rattle.std.proofs.Common.{◌≡◌, ◌*◌, false, subst, arith}
 use Rattle.vm_ids.specs.Forest.Commands.{firsts, span_pairs}
 use Rattle.page_release.specs.Commands.{Grows}
 use Rattle.page_release.proofs.CopiedPages.Parts.{CopiesPages, copies_none, copies_then, left_can, left_unclean, left_unpinned}

@@ -1,4 +1,4 @@
-use Rattle.std.proofs.Common.{◌+◌, ◌-◌, ◌<◌, arith}
+use Rattle.std.proofs.Common.{◌+◌, ◌-◌, arith}
 use Rattle.tree_merge.proofs.CopiedPages.AtOnce.{destination_there, source_there}
 use Rattle.tree_merge.proofs.copying.copy_many.Goals as goal
 

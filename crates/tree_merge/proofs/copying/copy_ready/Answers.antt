@@ -1,4 +1,4 @@
-use Rattle.std.proofs.Common.{◌≡◌, ◌≤◌, ◌+◌, sym, ap, ◌∙◌, subst, arith}
+use Rattle.std.proofs.Common.{sym, ap, ◌∙◌, subst, arith}
 use Rattle.local_cache.specs.Arena.{Arena}
 use Rattle.local_cache.specs.Many.{HaveNodes, HaveNone, with_working_many}
 use Rattle.tree_merge.specs.Copying.{IsCopiedAtOnce, linked_one, linked_two}
