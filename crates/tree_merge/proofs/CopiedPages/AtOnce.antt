@@ -167,9 +167,6 @@ module _ {a : Arena} {span : Span} {done : ℕ} {d s : NodeId} {count : ℕ} (re
       one : OneHistory (cell a s).tree h s count
       one = one_history (cell a s).tree h s count (ready.copyable.history ready.some) child
 
-      pub history_short : h.0 + count ≤ 2 ^ 64
-      history_short = one.short
-
       module _ (w : NodeId) (high : 2 ^ 52 ≤ w.0) (none : HaveNone after w count) (room : count ≤ a.room.nodes) where
         more : CanCopyMore a d s h new w span.to (page_after span.to_page done) span.from (page_after span.from_page done) count
         more = record {

@@ -1,4 +1,5 @@
-use Rattle.std.proofs.Common.{◌≡◌, ℕ, ◌+◌, ◌-◌, ◌<◌, ◌≤◌, Option, unwrap_or, is_some, ap, subst, arith, inl}
+use Rattle.std.proofs.Common.{ℕ, ◌+◌, ◌≤◌, Option, unwrap_or, is_some, ap, subst, arith, inl}
+use Rattle.std.specs.Result.{OnOk}
 use Rattle.vm_ids.specs.declared.command.Span.{Span}
 use Rattle.vm_ids.specs.declared.numbers.CacheId.{CacheId}
 use Rattle.vm_ids.specs.Forest.Commands.{page_name, span_pairs}
@@ -6,7 +7,7 @@ use Rattle.vm_ids.specs.Forest.Laws.Commands.{CanCopy}
 use Rattle.vm_ids.specs.Forest.Nodes.{IsNode}
 use Rattle.vm_ids.proofs.Forest.Laws.Ranges.{spans_can_be_copied}
 use Rattle.local_cache.specs.declared.own_state.OwnState.TheVariants.{Zero}
-use Rattle.local_cache.specs.Arena.{Arena, Cell, HasPage, HasPages, blank, cell}
+use Rattle.local_cache.specs.Arena.{Arena, Cell, HasPage, HasPages, Room, blank, cell}
 use Rattle.local_cache.specs.Reading.{IsNamed, forest_of}
 use Rattle.local_cache.specs.Sound.{IsSound}
 use Rattle.local_cache.proofs.Forest.Reading.{IsNode-forest_of}
@@ -14,7 +15,7 @@ use Rattle.tree_merge.proofs.tests.alike_pages_are_copied_at_once.Goals as goal
 
 page_is_node : (a : Arena) → IsNamed a → (cache : CacheId) (page : ℕ) → HasPage a cache page Zero → IsNode (forest_of a) (page_name cache page)
 unfolding cell
-page_is_node a named cache page p = subst (IsNode (forest_of a)) (ap (λ (o : Option Cell). (unwrap_or o blank).name) p.is) (IsNode-forest_of named p.node (ap is_some p.is))
+page_is_node a named cache page p = subst (IsNode (forest_of a)) (ap (λ (o : Option Cell). (unwrap_or o blank).name) p.is) (IsNode-forest_of a named p.node (ap is_some p.is))
 
 -- the last two of four pages may become copies of the first two
 abbrev halves : CacheId → Span
@@ -35,7 +36,12 @@ copy_many-requires-clause-can g c =
     halves_can c.make_temp-cache.new.self (c.make_temp-cache.ensures.sound (c.reserve.ensures.sound c.new-caches.ensures.sound)) c.make_temp-cache.result c.make_temp-cache.ensures.pages
 
 pub copy_many-requires-clause-room : goal.copy_many-requires-clause-room
-copy_many-requires-clause-room g c = ?
+copy_many-requires-clause-room g c =
+    let room : 6 ≤ c.reserve.new.self.room.nodes = subst (λ r. OnOk r (6 ≤ c.reserve.new.self.room.nodes)) c.expect.ensures c.reserve.ensures.nodes in
+    let made = c.make_temp-cache.ensures.made in
+    omega (arith, room, made.1, ap (λ (r : Room). r.nodes) made.2.room)
 
 pub copy_many-requires-clause-made : goal.copy_many-requires-clause-made
-copy_many-requires-clause-made g c = ?
+copy_many-requires-clause-made g c =
+    let made = c.make_temp-cache.ensures.made in
+    omega (arith, made.2.made, ap (λ (k : Arena). k.made) c.reserve.ensures.kept, c.new-caches.ensures.counters.0)
