@@ -10,6 +10,9 @@
 //! Every page that a command doesn't replace is seen in the frame in which it was seen, as `Replaces` says: the forest of
 //! frames, `frame_forest`, goes by the rules too. What both make together is the record `Leaves`.
 //!
+//! The pages of a large copy are copied at once as far as their nodes are alike. Such nodes have no own pages but zeros, and
+//! so neither frames nor slots: the store stays as it is.
+//!
 //! A page that its segment holds is never that of a node that stands for no page of a segment. So where pages of a named
 //! cache are replaced or taken away, their own pages give way to pages of zeros first: behind the saves nobody reads them.
 //!

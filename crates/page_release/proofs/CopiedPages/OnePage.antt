@@ -1,5 +1,5 @@
 -- One page is copied to a node that is new, in place of one without frame and slot: the store is as it was.
-use Rattle.std.proofs.Common.{◌≡◌, ◌≢◌, ◌⊎◌, ℕ, ◌+◌, ◌<◌, ◌≤◌, true, false, [], ◌∷◌, length, Option, Some, None, is_some, refl, sym, ap, ◌∙◌, subst, inl, inr, arith}
+use Rattle.std.proofs.Common.{◌≡◌, ◌≢◌, ℕ, ◌<◌, ◌≤◌, true, false, [], ◌∷◌, length, Option, Some, None, is_some, refl, sym, ap, ◌∙◌, subst, inl, inr, arith}
 use Rattle.std.proofs.lemmas.Bool.{false≢true}
 use Rattle.vm_ids.specs.Held.{Held}
 use Rattle.vm_ids.specs.declared.node_name.NodeName.{NodeName}
@@ -13,7 +13,7 @@ use Rattle.vm_ids.specs.Forest.Rules.{copy_page, detach, link, retire}
 use Rattle.vm_ids.specs.Forest.Shape.{IsConsistent}
 use Rattle.vm_ids.proofs.Places.{true_below}
 use Rattle.local_cache.specs.declared.own_state.OwnState.{OwnState}
-use Rattle.local_cache.specs.declared.own_state.OwnState.TheVariants.{Absent, Zero}
+use Rattle.local_cache.specs.declared.own_state.OwnState.TheVariants.{Absent}
 use Rattle.local_cache.specs.Arena.{Arena, Cell, HasNode, cell, find, with_new, with_working, without}
 use Rattle.local_cache.specs.Own.{is_resident, own_of}
 use Rattle.local_cache.specs.Reading.{forest_of, name_of}

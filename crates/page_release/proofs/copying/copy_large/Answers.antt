@@ -1,4 +1,4 @@
-use Rattle.std.proofs.Common.{◌≡◌, ◌+◌, ◌*◌, false, subst, arith}
+use Rattle.std.proofs.Common.{◌≡◌, ◌*◌, false, subst, arith}
 use Rattle.vm_ids.specs.Forest.Commands.{firsts, span_pairs}
 use Rattle.page_release.specs.Commands.{Grows}
 use Rattle.page_release.proofs.CopiedPages.Parts.{CopiesPages, copies_none, copies_then, left_can, left_unclean, left_unpinned}
@@ -13,42 +13,37 @@ loop-done-init c =
       few = omega arith;
     }
 
-pub copy_next-requires-clause-can : goal.copy_next-requires-clause-can
-copy_next-requires-clause-can c =
+pub copy_next-done-requires-clause-can : goal.copy_next-done-requires-clause-can
+copy_next-done-requires-clause-can c =
     let s = c.args.span in
     let i = c.loop-done.invariant in
     left_can false s.from s.from_page.0 s.to s.to_page.0 c.loop-done.done c.args.store.now c.args.caches.now c.loop-done.store c.loop-done.caches i.copied s.pages i.few c.requires.can
 
-pub copy_next-requires-clause-unpinned : goal.copy_next-requires-clause-unpinned
-copy_next-requires-clause-unpinned c =
+pub copy_next-done-requires-clause-unpinned : goal.copy_next-done-requires-clause-unpinned
+copy_next-done-requires-clause-unpinned c =
     let s = c.args.span in
     left_unpinned false s.from s.from_page.0 s.to s.to_page.0 c.loop-done.done c.args.store.now c.args.caches.now c.loop-done.store c.loop-done.caches c.loop-done.invariant.copied
     (firsts (span_pairs s)) c.requires.retire.tied c.requires.retire.unpinned
 
-pub copy_next-requires-clause-unclean : goal.copy_next-requires-clause-unclean
-copy_next-requires-clause-unclean c =
+pub copy_next-done-requires-clause-unclean : goal.copy_next-done-requires-clause-unclean
+copy_next-done-requires-clause-unclean c =
     let s = c.args.span in
     left_unclean false s.from s.from_page.0 s.to s.to_page.0 c.loop-done.done c.args.store.now c.args.caches.now c.loop-done.store c.loop-done.caches c.loop-done.invariant.copied
     (firsts (span_pairs s)) c.requires.retire.tied c.requires.unclean
 
-pub copy_next-requires-clause-room : goal.copy_next-requires-clause-room
-copy_next-requires-clause-room c =
+pub copy_next-done-requires-clause-room : goal.copy_next-done-requires-clause-room
+copy_next-done-requires-clause-room c =
     let i = c.loop-done.invariant in
     record { room = omega (arith, i.few, i.copied.grows.room, c.requires.room.room); few = omega (arith, i.few, i.copied.grows.few, c.requires.room.few) }
-
-pub copy_next-requires-clause-made : goal.copy_next-requires-clause-made
-copy_next-requires-clause-made c =
-    let i = c.loop-done.invariant in
-    omega (arith, i.few, i.copied.grows.made, c.requires.retire.made)
 
 pub loop-done-preserved : goal.loop-done-preserved
 loop-done-preserved c =
     let s = c.args.span in
     let i = c.loop-done.invariant in
-    let e = c.copy_next.ensures in
+    let e = c.copy_next-done.ensures in
     record {
       copied =
-          copies_then false s.from s.from_page.0 s.to s.to_page.0 c.loop-done.done c.copy_next.result c.args.store.now c.args.caches.now c.loop-done.store c.loop-done.caches c.copy_next.new.store c.copy_next.new.caches
+          copies_then false s.from s.from_page.0 s.to s.to_page.0 c.loop-done.done c.copy_next-done.result c.args.store.now c.args.caches.now c.loop-done.store c.loop-done.caches c.copy_next-done.new.store c.copy_next-done.new.caches
           c.requires.retire.tied i.copied (record { rule = e.rule; kept = e.kept; grows = e.grows });
       few = e.few;
     }
