@@ -34,8 +34,8 @@ pub record AreRetired (a b : Arena) (d : NodeId) (cache : CacheId) (page : PageN
   pub sizes : SameCaches a b
   pub room : b.room.nodes ≡ a.room.nodes + count
 
--- From a to b so many pages of an extent, behind those that are done, are retired: as by the rule one
--- after the other, and all at once, where their nodes are those from one on.
+-- From a to b so many pages of an extent, behind those that are done, are retired: as by the rule
+-- one after the other, and all at once. Their nodes are those from one on.
 pub record IsRetiredAtOnce (a b : Arena) (extent : Extent) (done count : ℕ) : Type 0 where
   pub forest : forest_of b
       ≡ retire_all (page_names extent.cache (extent.first.0 + done) count) (forest_of a)
