@@ -18,6 +18,8 @@ pub mod Freeing
 pub mod Leading
 -- What is carried through the steps of a command.
 pub mod Walking
+-- Many pages are retired at once, and the store is as it was.
+pub mod RetiredPages
 -- Many pages are copied at once, and the store is as it was.
 pub mod CopiedPages
 -- What the tests know of their pages.

@@ -1,16 +1,18 @@
 // The pages of a cache go, and the store follows.
-ghost use Rattle.std.specs.Prelude.{◌≡◌, ◌+◌, ◌≤◌, false, [], Some, length};
-ghost use Rattle.vm_ids.specs.Forest.Commands.{destroy as rule_destroy, page_names, retire_all};
+ghost use Rattle.std.specs.Prelude.{◌≡◌, ◌+◌, ◌<◌, ◌≤◌, ◌^◌, false, [], Some, IsSome, length};
+ghost use Rattle.vm_ids.specs.Forest.Commands.{destroy as rule_destroy, page_name, page_names, retire_all};
 ghost use Rattle.vm_ids.specs.Forest.NameLists.{◌∈◌};
 ghost use Rattle.vm_ids.specs.Forest.NameMap.{len};
 ghost use Rattle.vm_ids.specs.Forest.Shape.{IsConsistent};
+ghost use Rattle.local_cache.specs.Arena.{node_at};
 ghost use Rattle.local_cache.specs.Own.{own_states};
 ghost use Rattle.local_cache.specs.Reading.{forest_of};
+ghost use Rattle.local_cache.specs.Sound.{IsSound};
 ghost use Rattle.local_cache.specs.Whole.{size_of};
 ghost use Rattle.page_release.specs.Commands.{CanReplace, CanRetire, Empties};
-ghost use Rattle.page_release.specs.Homes.{AreUnclean};
+ghost use Rattle.page_release.specs.Homes.{AreUnclean, IsUnclean};
 ghost use Rattle.page_release.specs.Readings.{GoesBy};
-ghost use Rattle.page_release.specs.Steps.{Kept, Releases};
+ghost use Rattle.page_release.specs.Steps.{IsStoreTied, IsUnpinned, Kept, Releases};
 ghost use Rattle.page_release.specs.Translating.{Leaves, Replaces};
 
 use crate::forgetting::forget_named;
@@ -19,7 +21,39 @@ use crate::steps::retire_page;
 use crate::translations::drop_seen;
 use local_cache::Caches;
 use residency::Store;
-use vm_ids::{CacheId, PageNo};
+use tree_merge::retire_many;
+use vm_ids::{CacheId, Extent, PageNo};
+
+// Retires the pages of a live cache that come next: as many as are alike at once, or else one. How many.
+fn retire_next(store: &mut Store, caches: &mut Caches, cache: CacheId, pages: u32, done: u32) -> u32
+    requires tied { IsStoreTied store.old caches.old }
+    requires sound { IsSound caches.old }
+    requires done { done < pages }
+    requires node { IsSome (node_at caches.old cache.0 done) }
+    requires made { caches.old.made < 2 ^ 63 }
+    requires unpinned { IsUnpinned store.old caches.old (page_name cache done) }
+    requires unclean { IsUnclean caches.old (page_name cache done) }
+    ensures some { 0 < result }
+    ensures few { done + result ≤ pages }
+    ensures rule { GoesBy (λ P put f. retire_all (page_names cache done result) f)
+        store.old caches.old store.new caches.new }
+    ensures kept { Releases [] store.old caches.old store.new caches.new }
+    ensures room { caches.old.room.nodes ≤ caches.new.room.nodes }
+    ensures fewer { length (own_states caches.new) ≤ length (own_states caches.old) }
+{
+    let extent = Extent {
+        cache,
+        first: PageNo(0),
+        pages,
+    };
+    let many = retire_many(caches, extent, done);
+    if many > 0 {
+        many
+    } else {
+        retire_page(store, caches, cache, PageNo(done));
+        1
+    }
+}
 
 // Retires the pages of a live cache in rising order.
 fn retire_pages(store: &mut Store, caches: &mut Caches, cache: CacheId, pages: u32)
@@ -35,8 +69,9 @@ fn retire_pages(store: &mut Store, caches: &mut Caches, cache: CacheId, pages: u
     ensures room { caches.old.room.nodes ≤ caches.new.room.nodes }
     ensures fewer { length (own_states caches.new) ≤ length (own_states caches.old) }
 {
-    for page in 0..pages {
-        retire_page(store, caches, cache, PageNo(page));
+    let mut done = 0;
+    while done < pages {
+        done += retire_next(store, caches, cache, pages, done);
     }
 }
 

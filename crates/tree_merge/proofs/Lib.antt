@@ -10,5 +10,9 @@ mod Merge
 pub mod OtherPages
 -- What a call says that it released is what became of the nodes and their own states.
 pub mod Releases
+-- Nodes that are alike.
+mod AlikeNodes
+-- Many pages are retired at once.
+pub mod RetiredPages
 -- Many pages are copied at once.
 pub mod CopiedPages

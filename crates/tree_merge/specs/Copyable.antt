@@ -1,4 +1,4 @@
--- What is asked of nodes of pages that are copied at once: they are alike.
+-- What is asked of nodes of pages that are copied or retired at once: they are alike.
 use Rattle.std.specs.Prelude.{◌≡◌, ℕ, ◌+◌, ◌-◌, ◌<◌, ◌≤◌, ◌^◌, List, [], ◌∷◌, Some}
 use Rattle.vm_ids.specs.declared.command.Span.{Span}
 use Rattle.vm_ids.specs.declared.numbers.NodeId.{NodeId}
@@ -10,14 +10,15 @@ use Rattle.local_cache.specs.Reading.{forest_of}
 use Rattle.local_cache.specs.Sound.{IsSound}
 use Rattle.tree_merge.specs.Copying.{AreApart, AreEmpty, IsLone, pairs_left}
 
--- So many nodes, from d on, may go for fresh ones.
---     lone   they have neither parents nor children
---     empty  and no own pages but zeros
---     low    their numbers are below those of new working nodes
-pub record AreRenewable (a : Arena) (d : NodeId) (count : ℕ) : Type 0 where
+-- So many nodes, from d on, have neither parents nor children, and no own pages but zeros.
+pub record AreLone (a : Arena) (d : NodeId) (count : ℕ) : Type 0 where
   pub alike : AreAlike a d count
   pub lone : (k : ℕ) → k < count → IsLone (cell a (next_node d k))
   pub empty : AreEmpty a d count
+
+-- And they may go for fresh ones: their numbers are below those of new working nodes.
+pub record AreRenewable (a : Arena) (d : NodeId) (count : ℕ) : Type 0 where
+  pub lone : AreLone a d count
   pub low : (k : ℕ) → k < count → (next_node d k).0 < 2 ^ 52
 
 -- These are the tree children of s: none, or one, h, so that none of so many nodes from h on is one

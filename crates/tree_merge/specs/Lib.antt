@@ -1,5 +1,6 @@
 pub mod Copyable
 pub mod Copying
 pub mod Releasing
+pub mod Retiring
 pub mod Staying
 pub mod TreeLists

@@ -1,39 +1,20 @@
 // Pages whose nodes are alike are copied by tree links, all at once.
-ghost use Rattle.std.specs.Prelude.{◌≡◌, ◌+◌, ◌-◌, ◌<◌, ◌≤◌, ◌^◌, ℕ, None, [], IsTrue};
+ghost use Rattle.std.specs.Prelude.{◌≡◌, ◌+◌, ◌-◌, ◌<◌, ◌≤◌, ◌^◌, ℕ, IsTrue};
 ghost use Rattle.vm_ids.specs.declared.numbers.NodeId.{NodeId};
 ghost use Rattle.vm_ids.specs.Forest.Laws.Commands.{CanCopy};
 ghost use Rattle.local_cache.specs.Arena.{HasNode, NodesStay, cell};
 ghost use Rattle.local_cache.specs.Many.{HaveNodes};
-ghost use Rattle.local_cache.specs.Own.{own_of};
 ghost use Rattle.local_cache.specs.Reading.{forest_of};
 ghost use Rattle.local_cache.specs.Sound.{IsSound};
 ghost use Rattle.tree_merge.specs.Copyable.{AreCopyable, AreReady, AreRenewable, IsHistory};
-ghost use Rattle.tree_merge.specs.Copying.{AreApart, IsCopiedAtOnce, IsEmpty, linked_one, linked_two, pairs_left};
+ghost use Rattle.tree_merge.specs.Copying.{AreApart, IsCopiedAtOnce, linked_one, linked_two, pairs_left};
 
+use crate::lone::lone_nodes;
 use local_cache::{Caches, OwnState};
 use vm_ids::{NodeId, PageNo, Span};
 
 // The numbers of new working nodes begin with this one, and those of nodes made for pages are below it.
 const FIRST_WORKING: u64 = 1 << 52;
-
-// Whether an own page is none or zeros.
-fn is_empty(state: OwnState) -> bool
-    ensures { IsTrue result → IsEmpty state }
-{
-    matches!(state, OwnState::Absent | OwnState::Zero)
-}
-
-// Whether a node has no parent, no tree children, and no own page but zeros.
-fn is_lone(caches: &Caches, node: NodeId) -> bool
-    requires { HasNode caches.now node }
-    ensures root { IsTrue result → (cell caches.now node).links.parent ≡ None }
-    ensures tree { IsTrue result → (cell caches.now node).tree ≡ [] }
-    ensures empty { IsTrue result → IsEmpty (own_of caches.now node) }
-{
-    is_empty(caches.own_state(node))
-        && caches.links(node).parent.is_none()
-        && caches.tree_child(node, 0).is_none()
-}
 
 // How many numbers from a node on are below those of new working nodes, as far as so many.
 fn numbers_below(node: NodeId, most: u32) -> u32
@@ -49,11 +30,7 @@ fn renewable(caches: &Caches, node: NodeId, most: u32) -> u32
     ensures most { result ≤ most }
     ensures renewable { AreRenewable caches.now node result }
 {
-    if is_lone(caches, node) {
-        numbers_below(node, caches.stretch(node).min(most))
-    } else {
-        0
-    }
+    numbers_below(node, lone_nodes(caches, node, most))
 }
 
 // Whether there are so many numbers from a node on, none of which is one of as many from another one on.

@@ -11,8 +11,8 @@
 //! itself.
 //!
 //! Pages of a copy whose nodes are alike, and whose sources are, are copied at once by `copy_many`: their nodes go for
-//! fresh ones, which are linked to the sources. That they are these pages copied one after the other is what its laws
-//! say.
+//! fresh ones, which are linked to the sources. Pages whose nodes are alike, and have nothing of their own, are retired at
+//! once by `retire_many`. That they are these pages copied or retired one after the other is what the laws say.
 #![tactic(auto)]
 
 mod children;
@@ -20,15 +20,18 @@ mod copying;
 mod cutting;
 mod detaching;
 mod laws;
+mod lone;
 mod released;
 mod retiring;
+mod retiring_many;
 mod settling;
 mod tree_lists;
 
 pub use copying::copy_many;
 pub use detaching::{detach, retire};
-pub use laws::{copying_first, copying_more};
+pub use laws::{copying_first, copying_more, retiring_at_once};
 pub use released::Released;
+pub use retiring_many::retire_many;
 pub use settling::settle_step;
 
 #[cfg(test)]

@@ -1,7 +1,7 @@
-// A page without children, and pages that are copied at once.
-use crate::{Released, copy_many, retire, settle_step};
+// A page without children, and pages that are copied or retired at once.
+use crate::{Released, copy_many, retire, retire_many, settle_step};
 use local_cache::{Caches, OwnState};
-use vm_ids::{PageNo, Span};
+use vm_ids::{Extent, PageNo, Span};
 
 #[test]
 fn a_page_without_children_goes(rt: HostRuntime) {
@@ -27,5 +27,19 @@ fn alike_pages_are_copied_at_once(rt: HostRuntime) {
         pages: 2,
     };
     assert_eq!(&rt; copy_many(&mut caches, span, 0), 2);
+    assert_eq!(&rt; caches.runs(), 2);
+}
+
+#[test]
+fn alike_pages_are_retired_at_once(rt: HostRuntime) {
+    let mut caches = Caches::new(rt.alloc());
+    caches.reserve(1, 4).expect(&rt, "memory");
+    let cache = caches.make_temp(4);
+    let extent = Extent {
+        cache,
+        first: PageNo(0),
+        pages: 3,
+    };
+    assert_eq!(&rt; retire_many(&mut caches, extent, 1), 2);
     assert_eq!(&rt; caches.runs(), 2);
 }

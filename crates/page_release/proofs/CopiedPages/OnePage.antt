@@ -1,7 +1,5 @@
 -- One page is copied to a node that is new, in place of one without frame and slot: the store is as it was.
-use Rattle.std.proofs.Common.{◌≡◌, ◌≢◌, ℕ, ◌<◌, ◌≤◌, true, false, [], ◌∷◌, length, Option, Some, None, is_some, refl, sym, ap, ◌∙◌, subst, inl, inr, arith}
-use Rattle.std.proofs.lemmas.Bool.{false≢true}
-use Rattle.vm_ids.specs.Held.{Held}
+use Rattle.std.proofs.Common.{◌≡◌, ◌≢◌, ◌≤◌, false, [], ◌∷◌, None, refl, sym, ap, ◌∙◌, subst, arith}
 use Rattle.vm_ids.specs.declared.node_name.NodeName.{NodeName}
 use Rattle.vm_ids.specs.declared.node_name.NodeName.TheVariants.{Live}
 use Rattle.vm_ids.specs.declared.numbers.CacheId.{CacheId}
@@ -9,13 +7,11 @@ use Rattle.vm_ids.specs.declared.numbers.NodeId.{NodeId}
 use Rattle.vm_ids.specs.declared.numbers.PageNo.{PageNo}
 use Rattle.vm_ids.specs.Forest.Laws.Linking.{ArePages}
 use Rattle.vm_ids.specs.Forest.Nodes.{IsNode}
-use Rattle.vm_ids.specs.Forest.Rules.{copy_page, detach, link, retire}
+use Rattle.vm_ids.specs.Forest.Rules.{copy_page, detach, link}
 use Rattle.vm_ids.specs.Forest.Shape.{IsConsistent}
-use Rattle.vm_ids.proofs.Places.{true_below}
-use Rattle.local_cache.specs.declared.own_state.OwnState.{OwnState}
 use Rattle.local_cache.specs.declared.own_state.OwnState.TheVariants.{Absent}
-use Rattle.local_cache.specs.Arena.{Arena, Cell, HasNode, cell, find, with_new, with_working, without}
-use Rattle.local_cache.specs.Own.{is_resident, own_of}
+use Rattle.local_cache.specs.Arena.{Arena, cell, find, with_new, with_working, without}
+use Rattle.local_cache.specs.Own.{own_of}
 use Rattle.local_cache.specs.Reading.{forest_of, name_of}
 use Rattle.local_cache.specs.Sound.{IsSound}
 use Rattle.local_cache.proofs.Forest.Reading.{IsNode-forest_of}
@@ -24,43 +20,22 @@ use Rattle.history_tree.proofs.Hang.{Linked}
 use Rattle.residency.specs.declared.store.Store.{Store}
 use Rattle.residency.specs.Seeing.{frame_forest}
 use Rattle.residency.specs.StoreForest.{store_forest}
-use Rattle.residency.specs.World.{World, is_clean, world}
-use Rattle.tree_merge.specs.declared.released.Released.{Released}
 use Rattle.tree_merge.specs.declared.released.Released.TheVariants.{Dropped}
 use Rattle.tree_merge.specs.Copying.{IsEmpty}
-use Rattle.tree_merge.specs.Releasing.{IsDropped}
 use Rattle.tree_merge.proofs.CopiedPages.OnePage as caches
 use Rattle.tree_merge.proofs.CopiedPages.OnePage.{CanCopyPage}
-use Rattle.page_release.specs.Following.{followed, without_page}
+use Rattle.tree_merge.proofs.RetiredPages.OnePage.{CanRetirePage, PageGone, page_gone}
 use Rattle.page_release.specs.Homes.{IsUnclean}
-use Rattle.page_release.specs.Steps.{ForAnyMapper, IsStoreTied, IsUnpinned, Releases}
+use Rattle.page_release.specs.Steps.{ForAnyMapper, IsStoreTied, Releases}
 use Rattle.page_release.proofs.Coming.Detached.{detach_forest, detach_kept}
 use Rattle.page_release.proofs.CopiedPages.Parts.{CopiesPage, grown_page}
 use Rattle.page_release.proofs.Framing.Coming.{detach_frames}
-use Rattle.page_release.proofs.Framing.Leaving.{retire_frames}
 use Rattle.page_release.proofs.Framing.Linking.{linked_frames}
-use Rattle.page_release.proofs.Freeing.Freed.{same_freed}
-use Rattle.page_release.proofs.Leaving.Passed.{gone_own}
-use Rattle.page_release.proofs.Leaving.Retired.{retire_forest, retire_kept}
 use Rattle.page_release.proofs.Linking.Copied.{links_of}
 use Rattle.page_release.proofs.Linking.Grown.{grown_kept, linked_forest}
+use Rattle.page_release.proofs.RetiredPages.OnePage.{page_retires, page_unclean}
+use Rattle.page_release.proofs.RetiredPages.Parts.{RetiresPage}
 use Rattle.page_release.proofs.Tying.Kept.{kept_both}
-use Rattle.page_release.proofs.Tying.Tied.{home}
-
--- A page that is none or zeros ------------------------------------------------------------------------
-
-empty_framed : (x : OwnState) → IsEmpty x → is_resident x ≡ false
-empty_framed x (inl e) = ap is_resident e
-empty_framed x (inr e) = ap is_resident e
-
-empty_clean : (x : OwnState) → IsEmpty x → is_clean x ≡ false
-empty_clean x (inl e) = ap is_clean e
-empty_clean x (inr e) = ap is_clean e
-
--- where it goes nothing falls free
-nothing_freed : (w : World) (n : NodeId) (x : OwnState) → IsEmpty x → w ≡ without_page w n x
-nothing_freed w n x (inl e) = sym (ap (without_page w n) e)
-nothing_freed w n x (inr e) = sym (ap (without_page w n) e)
 
 module _ (t : Store) (a : Arena) (d s new : NodeId) (to : CacheId) (page : PageNo) (can : CanCopyPage a d s new to page) (empty : IsEmpty (own_of a d)) (tied : IsStoreTied t a) where
   abbrev x : NodeName
@@ -72,47 +47,19 @@ module _ (t : Store) (a : Arena) (d s new : NodeId) (to : CacheId) (page : PageN
   abbrev c : Arena
   c = with_new (without a d) new (Live to page) Absent
 
-  abbrev dropped : Released
-  dropped = Dropped d (own_of a d)
-
   -- The old node goes --------------------------------------------------------------------------------
 
-  is_destination : (n : NodeId) → HasNode a n → name_of a n ≡ Live to page → n ≡ d
-  is_destination n held named = can.sound.kept.named.apart n d held can.held_d (named ∙ sym can.named)
+  goes : CanRetirePage a d to page
+  goes = caches.goes a d s new to page can
 
-  unpinned : IsUnpinned t a (Live to page)
-  unpinned f n pin at named =
-      let within : f < length t.map = omega (arith, true_below t.frames.pinned f pin, tied.fitted.pinned_frames, tied.fitted.map_frames) in
-      let here = home (world None None a t) f n tied within at in
-      let resident : is_resident (own_of a d) ≡ true = subst (λ m. is_resident (own_of a m) ≡ true) (is_destination n here.there named) here.resident in
-      false≢true (sym (empty_framed (own_of a d) empty) ∙ resident)
+  went : PageGone a (without a d) d to page
+  went = page_gone a d to page goes
+
+  gone : RetiresPage (Live to page) t a t (without a d)
+  gone = page_retires t a d to page goes empty tied
 
   unclean : IsUnclean a (Live to page)
-  unclean n named = go (find a n) refl
-    where
-      go : (o : Option Cell) → find a n ≡ o → is_clean (own_of a n) ≡ false
-      go None none = ap is_clean (gone_own a n none)
-      go (Some k) some = ap (λ m. is_clean (own_of a m)) (is_destination n (ap is_some some) named) ∙ empty_clean (own_of a d) empty
-
-  released : IsDropped a b d (own_of a d)
-  released =
-      let went = caches.went a d s new to page can in
-      record { went = record { was = can.held_d; gone = went.gone.gone; held = went.gone.held }; state_is = refl; others = went.owns }
-
-  after : (told : Option Held) (size : Option ℕ) → world told size b t ≡ followed (world told size b t) dropped
-  after told size = nothing_freed (world told size b t) d (own_of a d) empty
-
-  sound_gone : IsSound b
-  sound_gone = (caches.went a d s new to page can).sound
-
-  gone_kept : Releases [] t a t b
-  gone_kept = retire_kept t a b d x can.held_d can.named dropped (caches.retired a d s new to page can) released tied unpinned unclean t after sound_gone (same_freed t t refl refl)
-
-  gone_forest : ForAnyMapper t a t b (λ old new. store_forest new ≡ retire (store_forest old) x)
-  gone_forest = retire_forest t a b d x can.held_d can.named dropped (caches.retired a d s new to page can) released tied unpinned unclean t after can.sound sound_gone (caches.retired_forest a d s new to page can)
-
-  gone_frames : frame_forest b t.map ≡ retire (frame_forest a t.map) x
-  gone_frames = retire_frames t a b d x can.held_d can.named dropped (caches.retired a d s new to page can) released tied unpinned unclean t after can.sound sound_gone (caches.retired_forest a d s new to page can)
+  unclean = page_unclean t a d to page goes empty tied
 
   -- A fresh one comes ---------------------------------------------------------------------------------
 
@@ -121,16 +68,16 @@ module _ (t : Store) (a : Arena) (d s new : NodeId) (to : CacheId) (page : PageN
 
   new_kept : Releases [] t a t c
   new_kept =
-      detach_kept t a tied to page unclean d can.named t b dropped (caches.retired a d s new to page can) gone_kept
+      detach_kept t a tied to page unclean d can.named t b (Dropped d (own_of a d)) went.retired gone.kept
       new (caches.free_then a d s new to page can) Absent refl c refl sound_new
 
   new_forest : ForAnyMapper t a t c (λ old new. store_forest new ≡ detach (store_forest old) x None)
   new_forest =
-      detach_forest t a tied to page unclean d can.named t b dropped (caches.retired a d s new to page can) gone_kept
-      new (caches.free_then a d s new to page can) Absent refl c refl sound_new (caches.vacant a d s new to page can) gone_forest
+      detach_forest t a tied to page unclean d can.named t b (Dropped d (own_of a d)) went.retired gone.kept
+      new (caches.free_then a d s new to page can) Absent refl c refl sound_new went.vacant gone.rule.forest
 
   new_frames : frame_forest c t.map ≡ detach (frame_forest a t.map) x None
-  new_frames = detach_frames t.map b sound_gone.kept new (caches.free_then a d s new to page can) to page (caches.vacant a d s new to page can) Absent refl c refl sound_new.kept.named t.map a gone_frames
+  new_frames = detach_frames t.map b went.sound.kept new (caches.free_then a d s new to page can) to page went.vacant Absent refl c refl sound_new.kept.named t.map a gone.rule.frames
 
   -- It is linked to the source --------------------------------------------------------------------------
 

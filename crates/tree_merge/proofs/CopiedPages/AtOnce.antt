@@ -1,63 +1,29 @@
 -- Pages whose nodes are alike can be copied at once.
-use Rattle.std.proofs.Common.{◌≡◌, ℕ, ◌+◌, ◌-◌, ◌<◌, ◌≤◌, ◌^◌, List, [], ◌∷◌, map, Some, None, IsSome, refl, sym, ap, ◌∙◌, subst, arith, inl, inr}
+use Rattle.std.proofs.Common.{◌≡◌, ℕ, ◌+◌, ◌-◌, ◌<◌, ◌≤◌, ◌^◌, List, [], ◌∷◌, Some, None, IsSome, refl, sym, ap, ◌∙◌, subst, arith, inl, inr}
 use Rattle.std.specs.Prelude.{slice_get}
 use Rattle.vm_ids.specs.declared.command.Span.{Span}
 use Rattle.vm_ids.specs.declared.node_name.NodeName.{NodeName}
-use Rattle.vm_ids.specs.declared.node_name.NodeName.TheVariants.{Live}
 use Rattle.vm_ids.specs.declared.numbers.CacheId.{CacheId}
 use Rattle.vm_ids.specs.declared.numbers.NodeId.{NodeId}
-use Rattle.vm_ids.specs.declared.numbers.PageNo.{PageNo}
 use Rattle.vm_ids.specs.Forest.Commands.{firsts, page_name, page_pairs, seconds}
 use Rattle.vm_ids.specs.Forest.Laws.Commands.{CanCopy}
 use Rattle.vm_ids.specs.Forest.NameLists as names
 use Rattle.vm_ids.specs.Forest.Nodes.{IsNode}
 use Rattle.vm_ids.proofs.Forest.Laws.Ranges.{pairs_fill_destinations, pairs_read_sources, ranges_hold_their_pages}
 use Rattle.local_cache.specs.Arena.{Arena, cell, node_at}
-use Rattle.local_cache.specs.Many.{AreAlike, AreNamed, HaveNodes, HaveNone}
-use Rattle.local_cache.specs.ManyNodes.{next_if, next_node}
-use Rattle.local_cache.specs.Own.{own_of}
+use Rattle.local_cache.specs.Many.{AreNamed, HaveNodes, HaveNone}
+use Rattle.local_cache.specs.ManyNodes.{next_node}
 use Rattle.local_cache.specs.Reading.{forest_of, name_of}
 use Rattle.local_cache.specs.Sound.{IsSound}
 use Rattle.local_cache.proofs.Whole.Pages.{page_there}
-use Rattle.tree_merge.specs.Copyable.{AreReady, AreRenewable, IsHistory}
-use Rattle.tree_merge.specs.Copying.{AreApart, AreEmpty, CanCopyFirst, CanCopyMany, CanCopyMore, IsCopiedAtOnce, IsEmpty, IsLone, copied_first, copied_more, page_after, renewed}
+use Rattle.tree_merge.specs.Copyable.{AreReady, IsHistory}
+use Rattle.tree_merge.specs.Copying.{AreApart, CanCopyFirst, CanCopyMany, CanCopyMore, IsCopiedAtOnce, copied_first, copied_more, page_after, renewed}
+use Rattle.tree_merge.proofs.AlikeNodes.{alike_named, alike_trees, no_children}
 use Rattle.tree_merge.proofs.CopiedPages.OnePage.{not_free}
 use Rattle.tree_merge.proofs.CopiedPages.Pages.{first_copied, history_held, more_copied, rows_apart}
 use Rattle.tree_merge.proofs.CopiedPages.Stretches.{held_renewed, made_renewed, room_renewed}
 
--- Alike nodes ---------------------------------------------------------------------------------------
-
-pub fewer : (a : Arena) (n : NodeId) (most count : ℕ) → count ≤ most → AreAlike a n most → AreAlike a n count
-fewer a n most count few alike k less = alike k (omega arith)
-
-module _ (a : Arena) (n : NodeId) (count : ℕ) (alike : AreAlike a n count) where
-  alike_named : (cache : CacheId) (page : PageNo) → name_of a n ≡ Live cache page → AreNamed a n cache page count
-  alike_named cache page e k less = ((alike k less).held, (alike k less).page cache page e)
-
-  alike_empty : IsEmpty (own_of a n) → AreEmpty a n count
-  alike_empty (inl e) k less = inl ((alike k less).own ∙ e)
-  alike_empty (inr e) k less = inr ((alike k less).own ∙ e)
-
-  alike_trees : (ms : List NodeId) → (cell a n).tree ≡ ms → (k : ℕ) → k < count → (cell a (next_node n k)).tree ≡ map (λ m. next_node m k) ms
-  alike_trees ms e k less = (alike k less).tree ∙ ap (map (λ m. next_node m k)) e
-
-  alike_lone : (cell a n).links.parent ≡ None → (cell a n).tree ≡ [] → (k : ℕ) → k < count → IsLone (cell a (next_node n k))
-  alike_lone root leaf k less = record {
-    root = ap (λ l. l.parent) (alike k less).links ∙ ap (λ o. next_if o k) root;
-    tree = alike_trees [] leaf k less;
-    stubs = ap (λ l. l.stubs) (alike k less).links;
-  }
-
-  -- they may go where the first of them may, as far as their numbers are low
-  pub alike_renewable : (cell a n).links.parent ≡ None → (cell a n).tree ≡ [] → IsEmpty (own_of a n)
-      → ((k : ℕ) → k < count → n.0 + k < 2 ^ 52) → AreRenewable a n count
-  alike_renewable root leaf empty low = record { alike = alike; lone = alike_lone root leaf; empty = alike_empty empty; low = low }
-
 -- Tree children -------------------------------------------------------------------------------------
-
-pub no_children : (ms : List NodeId) → slice_get ms 0 ≡ None → ms ≡ []
-no_children [] e = refl
-no_children (m ∷ ms) e = absurd (cc e)
 
 -- a tree child that is the only one, apart from the sources
 pub only_history : (ms : List NodeId) (h s : NodeId) (count : ℕ) → slice_get ms 0 ≡ Some h → slice_get ms 1 ≡ None → AreApart h s count → h.0 + count ≤ 2 ^ 64 → IsHistory ms s count
@@ -109,7 +75,7 @@ module _ (a : Arena) (sound : IsSound a) (to from : CacheId) (q p most : ℕ) (c
 
 module _ {a : Arena} {span : Span} {done : ℕ} {d s : NodeId} {count : ℕ} (ready : AreReady a span done d s count) where
   pub destinations : AreNamed a d span.to (page_after span.to_page done) count
-  destinations = alike_named a d count ready.copyable.renewable.alike span.to (page_after span.to_page done)
+  destinations = alike_named a d count ready.copyable.renewable.lone.alike span.to (page_after span.to_page done)
       (ready.sound.kept.listed.nodes span.to.0 (span.to_page.0 + done) d ready.destination).1
 
   sources : AreNamed a s span.from (page_after span.from_page done) count
@@ -124,8 +90,8 @@ module _ {a : Arena} {span : Span} {done : ℕ} {d s : NodeId} {count : ℕ} (re
     many = record {
       sound = ready.sound;
       destinations = destinations;
-      lone = ready.copyable.renewable.lone;
-      empty = ready.copyable.renewable.empty;
+      lone = ready.copyable.renewable.lone.lone;
+      empty = ready.copyable.renewable.lone.empty;
       sources = sources;
       apart = named_apart a ready.sound span.to span.from (span.to_page.0 + done) (span.from_page.0 + done) (span.pages - done) ready.can d s count ready.few destinations sources;
       free = free;

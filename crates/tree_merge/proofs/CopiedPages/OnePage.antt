@@ -1,40 +1,33 @@
 -- One page is copied to a node that is new.
-use Rattle.std.proofs.Common.{◌≡◌, ◌≢◌, ◌+◌, ◌-◌, ◌≤◌, [], ◌∷◌, length, true, false, Some, None, is_some, refl, sym, ap, ◌∙◌, subst, arith, inl}
+use Rattle.std.proofs.Common.{◌≡◌, ◌≢◌, ◌+◌, ◌-◌, ◌≤◌, [], ◌∷◌, true, false, Some, None, is_some, refl, sym, ap, ◌∙◌, subst, arith, inl}
 use Rattle.std.proofs.lemmas.Bool.{false≢true}
 use Rattle.vm_ids.specs.declared.node_name.NodeName.{NodeName}
 use Rattle.vm_ids.specs.declared.node_name.NodeName.TheVariants.{Live, Working}
 use Rattle.vm_ids.specs.declared.numbers.CacheId.{CacheId}
 use Rattle.vm_ids.specs.declared.numbers.NodeId.{NodeId}
 use Rattle.vm_ids.specs.declared.numbers.PageNo.{PageNo}
-use Rattle.vm_ids.specs.Forest.Changes.{cut, free}
-use Rattle.vm_ids.specs.Forest.Nodes.{Forest, child_count, childless, is_live, node}
+use Rattle.vm_ids.specs.Forest.Nodes.{Forest, childless, is_live, node}
 use Rattle.vm_ids.specs.Forest.Nodes.Hang.{Root}
-use Rattle.vm_ids.specs.Forest.Rules.{copy_page, detach, link, retire}
+use Rattle.vm_ids.specs.Forest.Rules.{copy_page, detach, link}
 use Rattle.vm_ids.proofs.Forest.NodesAfter.{node-put}
 use Rattle.local_cache.specs.declared.own_state.OwnState.{OwnState}
 use Rattle.local_cache.specs.declared.own_state.OwnState.TheVariants.{Absent}
-use Rattle.local_cache.specs.Arena.{Arena, HasNode, IsVacant, cell, find, hung, node_at, tables_with, with_new, with_tree, with_working, without}
+use Rattle.local_cache.specs.Arena.{Arena, HasNode, cell, find, hung, tables_with, with_new, with_tree, with_working, without}
 use Rattle.local_cache.specs.Changes.{Rehung}
-use Rattle.local_cache.specs.Own.{own_of}
 use Rattle.local_cache.specs.Reading.{forest_of, name_of}
 use Rattle.local_cache.specs.Sound.{IsSound, ◌∈◌}
 use Rattle.local_cache.specs.Whole.{SameCaches}
-use Rattle.local_cache.proofs.Changes.SameNodes.{rehung-links, rehung-tree, rehung_itself, rehung_then}
+use Rattle.local_cache.proofs.Changes.SameNodes.{rehung-links, rehung-tree, rehung_then}
 use Rattle.local_cache.proofs.Nodes.Cells.{find-put_other}
 use Rattle.local_cache.proofs.NewNode.FreshNode.{cell-new, page-forest}
 use Rattle.local_cache.proofs.NewNode.States.{fresh_found, fresh_name, fresh_own}
 use Rattle.local_cache.proofs.Tables.Sizes.{sizes_by, sizes_same, sizes_then}
 use Rattle.history_tree.specs.Hanging.{set_one, set_two}
 use Rattle.history_tree.proofs.Hang.{CanLink, Linked, links-first, links-more}
-use Rattle.tree_merge.specs.declared.released.Released.TheVariants.{Dropped}
 use Rattle.tree_merge.specs.Copying.{IsBare, IsLeft, IsLone}
-use Rattle.tree_merge.specs.Releasing.{IsRetired}
-use Rattle.tree_merge.proofs.ChildLists.Names.{counted}
 use Rattle.tree_merge.proofs.CopiedPages.Changes.{cell_by, find-new_other, find-without, find-without_other, find-working_other}
-use Rattle.tree_merge.proofs.Leaving.Detached.{detached-forest, detached-sound, retired_vacant}
-use Rattle.tree_merge.proofs.Leaving.Freed.{Freed, drop-Freed}
-use Rattle.tree_merge.proofs.Leaving.Retired.{retire_none, retired_leaf}
-use Rattle.tree_merge.proofs.Place.Cut.{no_parent-Step}
+use Rattle.tree_merge.proofs.Leaving.Detached.{detached-forest, detached-sound}
+use Rattle.tree_merge.proofs.RetiredPages.OnePage.{CanRetirePage, PageGone, page_gone}
 
 -- What a copy of one page needs: the node d of the page has neither parent nor children, new is a free number, and s is
 -- the node of another page.
@@ -117,23 +110,11 @@ find_two a p x y n n_p n_x n_y =
 -- The old node goes ----------------------------------------------------------------------------------
 
 module _ (a : Arena) (d s new : NodeId) (cache : CacheId) (page : PageNo) (can : CanCopyPage a d s new cache page) where
-  leaf : child_count (forest_of a) (name_of a d) ≡ 0
-  leaf = counted a can.sound d can.held_d ∙ omega (arith, ap length can.lone.tree, can.lone.stubs)
+  pub goes : CanRetirePage a d cache page
+  goes = record { sound = can.sound; held = can.held_d; lone = can.lone; named = can.named }
 
-  pub went : Freed a (without a d) d (free (cut (forest_of a) (name_of a d)) (name_of a d))
-  went = drop-Freed a a (without a d) can.sound d can.held_d leaf (no_parent-Step a can.sound d can.held_d can.lone.root).forest can.sound (rehung_itself a) refl
-
-  pub retired : IsRetired a (without a d) d (Dropped d (own_of a d))
-  retired = retired_leaf a (without a d) d (Dropped d (own_of a d)) leaf refl went.gone went.owns
-
-  pub retired_forest : forest_of (without a d) ≡ retire (forest_of a) (Live cache page)
-  retired_forest = went.forest ∙ sym (retire_none (forest_of a) (name_of a d) leaf) ∙ ap (retire (forest_of a)) can.named
-
-  at_page : node_at a cache.0 page.0 ≡ Some d
-  at_page = can.sound.kept.listed.pages cache.0 page.0 d can.held_d can.named
-
-  pub vacant : IsVacant (without a d) cache page
-  vacant = retired_vacant a can.sound cache page d at_page (without a d) (Dropped d (own_of a d)) retired
+  went : PageGone a (without a d) d cache page
+  went = page_gone a d cache page goes
 
   -- A fresh one comes -------------------------------------------------------------------------------
 
@@ -147,10 +128,10 @@ module _ (a : Arena) (d s new : NodeId) (cache : CacheId) (page : PageNo) (can :
   free_then = find-without_other a d new (λ e. d_new (sym e)) ∙ can.free_new
 
   pub detached : forest_of b ≡ detach (forest_of a) (Live cache page) None
-  detached = detached-forest a (without a d) b new cache page Absent went.sound retired_forest vacant free_then refl
+  detached = detached-forest a (without a d) b new cache page Absent went.sound went.forest went.vacant free_then refl
 
   pub sound_new : IsSound b
-  sound_new = detached-sound (without a d) b new cache page Absent went.sound vacant free_then refl
+  sound_new = detached-sound (without a d) b new cache page Absent went.sound went.vacant free_then refl
 
   pub name_new : name_of b new ≡ Live cache page
   name_new = fresh_name (without a d) new free_then (Live cache page) Absent
@@ -167,7 +148,7 @@ module _ (a : Arena) (d s new : NodeId) (cache : CacheId) (page : PageNo) (can :
   bare : node (forest_of b) (name_of b new) ≡ childless None Root
   bare =
       ap (node (forest_of b)) name_new
-      ∙ ap (λ (f : Forest OwnState). node f (Live cache page)) (page-forest (without a d) went.sound.kept new free_then cache page vacant Absent)
+      ∙ ap (λ (f : Forest OwnState). node f (Live cache page)) (page-forest (without a d) went.sound.kept new free_then cache page went.vacant Absent)
       ∙ node-put (forest_of (without a d)) (Live cache page) (childless None Root)
 
   pub room_new : b.room.nodes ≡ a.room.nodes
@@ -176,7 +157,7 @@ module _ (a : Arena) (d s new : NodeId) (cache : CacheId) (page : PageNo) (can :
 
   sizes_new : SameCaches a b
   sizes_new = sizes_then a (without a d) b
-      (sizes_by a (without a d) (name_of a d) None went.gone.caches)
+      went.sizes
       (sizes_by (without a d) b (Live cache page) (Some new) (tables_new (without a d) new (Live cache page) Absent))
 
   -- It is linked to the source ----------------------------------------------------------------------

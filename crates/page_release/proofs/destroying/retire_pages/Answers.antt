@@ -1,103 +1,102 @@
-use Rattle.std.proofs.Common.{◌≡◌, ◌+◌, [], refl, sym, ap, ◌∙◌, ◌-◌, subst, arith}
-use Rattle.vm_ids.specs.Forest.Commands.{page_name, page_names, retire_all}
-use Rattle.vm_ids.specs.Forest.Laws.Commands.{ArePagesOnce}
+use Rattle.std.proofs.Common.{◌≡◌, ◌+◌, ◌≤◌, ℕ, [], Some, sym, subst, arith}
+use Rattle.vm_ids.specs.declared.numbers.CacheId.{CacheId}
+use Rattle.vm_ids.specs.Forest.Commands.{page_name, page_names}
 use Rattle.vm_ids.specs.Forest.NameLists.{◌∈◌}
-use Rattle.vm_ids.specs.Forest.NameMap.{len}
-use Rattle.vm_ids.specs.Forest.Shape.{IsConsistent}
-use Rattle.vm_ids.proofs.Forest.Pages.{retire-consistent}
+use Rattle.vm_ids.specs.Forest.Nodes.{IsNode}
+use Rattle.local_cache.specs.Arena.{Arena}
 use Rattle.local_cache.specs.Reading.{forest_of}
+use Rattle.local_cache.specs.Whole.{IsWhole, size_of}
 use Rattle.local_cache.proofs.Changes.SameNodes.{forest_of-made}
-use Rattle.residency.specs.Seeing.{frame_forest}
-use Rattle.residency.specs.StoreForest.{store_forest}
-use Rattle.residency.specs.World.{world}
-use Rattle.vm_ids.proofs.Forest.Made.{retire-made}
-use Rattle.vm_ids.proofs.Forest.Lengths.{retire_len}
-use Rattle.vm_ids.proofs.Forest.CachePages.{names_start, page_now, pages_by, retired_by}
-use Rattle.local_cache.proofs.Whole.Pages.{pages_once}
-use Rattle.local_cache.proofs.Whole.Pages.{page_there}
-use Rattle.page_release.proofs.Forgotten.Range.{in_range, names_end}
-use Rattle.page_release.proofs.Framing.Shape.{frame_consistent, frame_pages}
-use Rattle.page_release.proofs.Tying.Kept.{kept_both, kept_none, unclean_kept, unpinned_kept}
-use Rattle.page_release.proofs.Tying.Shape.{store_consistent, store_pages}
+use Rattle.local_cache.proofs.Whole.Pages.{page_there, pages_once}
+use Rattle.residency.specs.declared.store.Store.{Store}
+use Rattle.page_release.proofs.Forgotten.Range.{in_range}
+use Rattle.page_release.proofs.RetiredPages.Parts.{PagesLeft, RetiresPages, next_there, pages_left, retires_none, retires_then}
+use Rattle.page_release.proofs.Tying.Kept.{unclean_kept, unpinned_kept}
 use Rattle.page_release.proofs.destroying.retire_pages.Goals as goal
 
-pub loop-page-init : goal.loop-page-init
-loop-page-init c =
+-- the pages that are left when so many are retired
+left : (s : Store) (a : Arena) (t : Store) (b : Arena) → IsWhole a → (cache : CacheId) (pages k : ℕ) → size_of a cache.0 ≡ Some pages → k ≤ pages → RetiresPages cache 0 k s a t b
+    → PagesLeft (forest_of a) (forest_of b) cache 0 pages k
+left s a t b whole cache pages k size few so_far =
+    subst (λ g. PagesLeft (forest_of a) g cache 0 pages k) (sym so_far.rule.nodes)
+    (pages_left (forest_of a) whole.consistent cache 0 pages k few (pages_once a whole cache pages size))
+
+pub loop-done-init : goal.loop-done-init
+loop-done-init c =
+    let retire = c.requires.retire in
+    record { retired = retires_none c.args.cache 0 c.args.store.now c.args.caches.now retire.whole.sound retire.tied; few = omega arith }
+
+pub retire_next-done-requires-clause-node : goal.retire_next-done-requires-clause-node
+retire_next-done-requires-clause-node c =
+    let i = c.loop-done.invariant in
+    let k = c.loop-done.done in
     let a = c.args.caches.now in
-    let all = names_start c.args.cache c.args.pages in
-    record {
-      nodes = ap (λ xs. retire_all xs (forest_of a)) (sym all);
-      forest = λ told size fit. ap (λ xs. retire_all xs (store_forest (world told size a c.args.store.now))) (sym all);
-      frames = ap (λ xs. retire_all xs (frame_forest a c.args.store.now.map)) (sym all);
-      kept = kept_none [] c.args.store.now a c.requires.retire.whole.sound c.requires.retire.tied;
-      consistent = c.requires.retire.whole.consistent;
-      pages = subst (ArePagesOnce (forest_of a)) all (pages_once a c.requires.retire.whole c.args.cache c.args.pages c.requires.pages);
-      few = omega arith;
-      made = omega arith;
-      room = omega arith;
-      fewer = omega arith;
-    }
+    let b = c.loop-done.caches in
+    let number : 0 + k ≡ k = omega arith in
+    let still = left c.args.store.now a c.loop-done.store b c.requires.retire.whole c.args.cache c.args.pages k c.requires.pages i.few i.retired in
+    page_there b i.retired.kept.sound c.args.cache (record { 0 = k })
+    (subst (λ p. IsNode (forest_of b) (page_name c.args.cache p)) number (next_there (forest_of a) (forest_of b) c.args.cache 0 c.args.pages k (omega (arith, c.loop-done-test.true)) still))
 
-pub retire_page-requires-clause-node : goal.retire_page-requires-clause-node
-retire_page-requires-clause-node c =
-    let i = c.loop-page.invariant in
-    page_there c.loop-page.caches i.kept.sound c.args.cache (record { 0 = c.loop-page.page }) (page_now (forest_of c.loop-page.caches) i.consistent c.args.cache c.args.pages c.loop-page.page c.loop-page-test.true i.pages)
+pub retire_next-done-requires-clause-made : goal.retire_next-done-requires-clause-made
+retire_next-done-requires-clause-made c =
+    let i = c.loop-done.invariant in
+    let a = c.args.caches.now in
+    let b = c.loop-done.caches in
+    let still = left c.args.store.now a c.loop-done.store b c.requires.retire.whole c.args.cache c.args.pages c.loop-done.done c.requires.pages i.few i.retired in
+    omega (arith, i.few, still.made, forest_of-made a, forest_of-made b, c.requires.retire.made)
 
-pub retire_page-requires-clause-unpinned : goal.retire_page-requires-clause-unpinned
-retire_page-requires-clause-unpinned c =
-    let x = page_name c.args.cache c.loop-page.page in
-    let number : 0 + c.loop-page.page ≡ c.loop-page.page = omega arith in
-    let here = subst (λ k. page_name c.args.cache k ∈ page_names c.args.cache 0 c.args.pages) number (in_range c.args.cache 0 c.args.pages c.loop-page.page c.loop-page-test.true) in
-    unpinned_kept [] c.args.store.now c.args.caches.now c.loop-page.store c.loop-page.caches c.requires.retire.tied c.loop-page.invariant.kept x (c.requires.retire.unpinned x here)
-
-pub retire_page-requires-clause-unclean : goal.retire_page-requires-clause-unclean
-retire_page-requires-clause-unclean c =
-    let x = page_name c.args.cache c.loop-page.page in
-    let number : 0 + c.loop-page.page ≡ c.loop-page.page = omega arith in
-    let here = subst (λ k. page_name c.args.cache k ∈ page_names c.args.cache 0 c.args.pages) number (in_range c.args.cache 0 c.args.pages c.loop-page.page c.loop-page-test.true) in
-    unclean_kept [] c.args.store.now c.args.caches.now c.loop-page.store c.loop-page.caches c.requires.retire.tied c.loop-page.invariant.kept x (λ i. i) (c.requires.unclean x here)
-
-pub loop-page-preserved : goal.loop-page-preserved
-loop-page-preserved c =
-    let i = c.loop-page.invariant in
-    let s = c.args.store.now in
-    let o = c.args.caches.now in
-    let t = c.loop-page.store in
-    let a = c.loop-page.caches in
-    let u = c.retire_page.new.store in
-    let b = c.retire_page.new.caches in
-    let k = c.loop-page.page in
-    let low = c.loop-page-test.true in
+pub retire_next-done-requires-clause-unpinned : goal.retire_next-done-requires-clause-unpinned
+retire_next-done-requires-clause-unpinned c =
+    let k = c.loop-done.done in
     let x = page_name c.args.cache k in
-    let e = c.retire_page.ensures in
-    let is = page_now (forest_of a) i.consistent c.args.cache c.args.pages k low i.pages in
+    let number : 0 + k ≡ k = omega arith in
+    let here = subst (λ p. page_name c.args.cache p ∈ page_names c.args.cache 0 c.args.pages) number (in_range c.args.cache 0 c.args.pages k (omega (arith, c.loop-done-test.true))) in
+    unpinned_kept [] c.args.store.now c.args.caches.now c.loop-done.store c.loop-done.caches c.requires.retire.tied c.loop-done.invariant.retired.kept x (c.requires.retire.unpinned x here)
+
+pub retire_next-done-requires-clause-unclean : goal.retire_next-done-requires-clause-unclean
+retire_next-done-requires-clause-unclean c =
+    let k = c.loop-done.done in
+    let x = page_name c.args.cache k in
+    let number : 0 + k ≡ k = omega arith in
+    let here = subst (λ p. page_name c.args.cache p ∈ page_names c.args.cache 0 c.args.pages) number (in_range c.args.cache 0 c.args.pages k (omega (arith, c.loop-done-test.true))) in
+    unclean_kept [] c.args.store.now c.args.caches.now c.loop-done.store c.loop-done.caches c.requires.retire.tied c.loop-done.invariant.retired.kept x (λ i. i) (c.requires.unclean x here)
+
+pub loop-done-preserved : goal.loop-done-preserved
+loop-done-preserved c =
+    let i = c.loop-done.invariant in
+    let e = c.retire_next-done.ensures in
+    let k = c.loop-done.done in
+    let number : k ≡ 0 + k = omega arith in
+    let more : RetiresPages c.args.cache k c.retire_next-done.result c.loop-done.store c.loop-done.caches c.retire_next-done.new.store c.retire_next-done.new.caches =
+    record { rule = e.rule; kept = e.kept; room = e.room; fewer = e.fewer } in
     record {
-      nodes = retired_by (forest_of a) i.consistent c.args.cache c.args.pages k low i.pages (forest_of b) e.rule.nodes ∙ i.nodes;
-      forest = λ told size fit.
-          let w = world told size a t in
-          let now = (i.kept.gives_back told size fit).tied in
-          retired_by (store_forest w) (store_consistent w i.kept.sound i.consistent) c.args.cache c.args.pages k low (store_pages w i.kept.sound (page_names c.args.cache k (c.args.pages - k)) i.pages) (store_forest (world told size b u)) (e.rule.forest told size now)
-          ∙ i.forest told size fit;
-      frames =
-          retired_by (frame_forest a t.map) (frame_consistent a t.map i.kept.sound i.consistent) c.args.cache c.args.pages k low (frame_pages a t.map i.kept.sound (page_names c.args.cache k (c.args.pages - k)) i.pages) (frame_forest b u.map) e.rule.frames
-          ∙ i.frames;
-      kept = kept_both s o t a u b c.requires.retire.tied i.kept e.kept;
-      consistent = subst IsConsistent (sym e.rule.nodes) (retire-consistent (forest_of a) i.consistent x is refl);
-      pages = pages_by (forest_of a) i.consistent c.args.cache c.args.pages k low i.pages (forest_of b) e.rule.nodes;
-      few = omega (arith, i.few, retire_len (forest_of a) i.consistent x is refl, ap (λ g. len g.nodes) e.rule.nodes);
-      made = omega (arith, i.made, retire-made (forest_of a) x, forest_of-made a, forest_of-made b, ap (λ g. g.made) e.rule.nodes);
-      room = omega (arith, i.room, e.room);
-      fewer = omega (arith, i.fewer, e.fewer);
+      retired =
+          retires_then c.args.cache 0 k c.retire_next-done.result c.args.store.now c.args.caches.now c.loop-done.store c.loop-done.caches c.retire_next-done.new.store c.retire_next-done.new.caches
+          c.requires.retire.tied i.retired
+          (subst (λ p. RetiresPages c.args.cache p c.retire_next-done.result c.loop-done.store c.loop-done.caches c.retire_next-done.new.store c.retire_next-done.new.caches) number more);
+      few = e.few;
     }
 
 pub returns-clause-rule : goal.returns-clause-rule
 returns-clause-rule c =
-    let i = c.loop-page.invariant in
-    let a = c.loop-page.caches in
-    let t = c.loop-page.store in
-    let none = names_end c.args.cache c.loop-page.page c.args.pages c.loop-page.page (omega (arith, c.loop-page-test.false)) in
-    record {
-      nodes = ap (λ xs. retire_all xs (forest_of a)) (sym none) ∙ i.nodes;
-      forest = λ told size fit. ap (λ xs. retire_all xs (store_forest (world told size a t))) (sym none) ∙ i.forest told size fit;
-      frames = ap (λ xs. retire_all xs (frame_forest a t.map)) (sym none) ∙ i.frames;
-    }
+    let i = c.loop-done.invariant in
+    let all : c.loop-done.done ≡ c.args.pages = omega (arith, c.loop-done-test.false, i.few) in
+    (subst (λ k. RetiresPages c.args.cache 0 k c.args.store.now c.args.caches.now c.loop-done.store c.loop-done.caches) all i.retired).rule
+
+pub returns-clause-consistent : goal.returns-clause-consistent
+returns-clause-consistent c =
+    let i = c.loop-done.invariant in
+    (left c.args.store.now c.args.caches.now c.loop-done.store c.loop-done.caches c.requires.retire.whole c.args.cache c.args.pages c.loop-done.done c.requires.pages i.few i.retired).consistent
+
+pub returns-clause-made : goal.returns-clause-made
+returns-clause-made c =
+    let i = c.loop-done.invariant in
+    let a = c.args.caches.now in
+    let b = c.loop-done.caches in
+    let still = left c.args.store.now a c.loop-done.store b c.requires.retire.whole c.args.cache c.args.pages c.loop-done.done c.requires.pages i.few i.retired in
+    omega (arith, i.few, still.made, forest_of-made a, forest_of-made b)
+
+pub returns-clause-few : goal.returns-clause-few
+returns-clause-few c =
+    let i = c.loop-done.invariant in
+    (left c.args.store.now c.args.caches.now c.loop-done.store c.loop-done.caches c.requires.retire.whole c.args.cache c.args.pages c.loop-done.done c.requires.pages i.few i.retired).few

@@ -1,0 +1,42 @@
+// Nodes that nothing is linked to, and which have nothing of their own.
+ghost use Rattle.std.specs.Prelude.{◌≡◌, ◌≤◌, None, [], IsTrue};
+ghost use Rattle.local_cache.specs.Arena.{HasNode, cell};
+ghost use Rattle.local_cache.specs.Own.{own_of};
+ghost use Rattle.tree_merge.specs.Copyable.{AreLone};
+ghost use Rattle.tree_merge.specs.Copying.{IsEmpty};
+
+use local_cache::{Caches, OwnState};
+use vm_ids::NodeId;
+
+// Whether an own page is none or zeros.
+fn is_empty(state: OwnState) -> bool
+    ensures { IsTrue result → IsEmpty state }
+{
+    matches!(state, OwnState::Absent | OwnState::Zero)
+}
+
+// Whether a node has no parent, no tree children, and no own page but zeros.
+fn is_lone(caches: &Caches, node: NodeId) -> bool
+    requires { HasNode caches.now node }
+    ensures root { IsTrue result → (cell caches.now node).links.parent ≡ None }
+    ensures tree { IsTrue result → (cell caches.now node).tree ≡ [] }
+    ensures empty { IsTrue result → IsEmpty (own_of caches.now node) }
+{
+    is_empty(caches.own_state(node))
+        && caches.links(node).parent.is_none()
+        && caches.tree_child(node, 0).is_none()
+}
+
+// How many nodes, from one on, are alike and have neither parents nor children nor own pages but zeros, as far as so
+// many.
+pub(crate) fn lone_nodes(caches: &Caches, node: NodeId, most: u32) -> u32
+    requires { HasNode caches.now node }
+    ensures most { result ≤ most }
+    ensures lone { AreLone caches.now node result }
+{
+    if is_lone(caches, node) {
+        caches.stretch(node).min(most)
+    } else {
+        0
+    }
+}
