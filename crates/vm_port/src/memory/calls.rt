@@ -1,6 +1,6 @@
 // Which calls of an object in memory fail.
 ghost use Rattle.std.specs.Prelude.{◌≡◌, ◌==◌, ◌&&◌};
-ghost use Rattle.vm_port.specs.Calls.{is_failing};
+ghost use Rattle.vm_port.specs.Calls.{is_failing, next_call};
 ghost use Rattle.vm_port.specs.Failing.{counted, count_of, is_failing_call, is_kind};
 
 /// The kinds of call of a mapper.
@@ -32,36 +32,27 @@ pub(crate) struct Calls {
     pub swap_out: u64,
 }
 
+// One call more, and its number.
+fn next_call(count: &mut u64) -> u64
+    ensures number { result ≡ count.new }
+    ensures count { count.new ≡ next_call count.old }
+{
+    *count = count.saturating_add(1);
+    *count
+}
+
 // One call more of this kind, and its number.
 fn count_call(calls: &mut Calls, kind: CallKind) -> u64
     ensures number { result ≡ count_of kind calls.new }
     ensures calls { calls.new ≡ counted kind calls.old }
 {
     match kind {
-        CallKind::Size => {
-            calls.size = calls.size.saturating_add(1);
-            calls.size
-        }
-        CallKind::PullIn => {
-            calls.pull_in = calls.pull_in.saturating_add(1);
-            calls.pull_in
-        }
-        CallKind::PushOut => {
-            calls.push_out = calls.push_out.saturating_add(1);
-            calls.push_out
-        }
-        CallKind::Access => {
-            calls.access = calls.access.saturating_add(1);
-            calls.access
-        }
-        CallKind::SwapIn => {
-            calls.swap_in = calls.swap_in.saturating_add(1);
-            calls.swap_in
-        }
-        CallKind::SwapOut => {
-            calls.swap_out = calls.swap_out.saturating_add(1);
-            calls.swap_out
-        }
+        CallKind::Size => next_call(&mut calls.size),
+        CallKind::PullIn => next_call(&mut calls.pull_in),
+        CallKind::PushOut => next_call(&mut calls.push_out),
+        CallKind::Access => next_call(&mut calls.access),
+        CallKind::SwapIn => next_call(&mut calls.swap_in),
+        CallKind::SwapOut => next_call(&mut calls.swap_out),
     }
 }
 
