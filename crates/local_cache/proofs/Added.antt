@@ -59,6 +59,11 @@ module _ (l : NodeLists) (kept : IsKept l) (first count : ℕ) (value : Run)
       ∙ ap (option_map (λ s. cell_by s (map.get D n))) (with_in run R new_run count n low high)
       ∙ ap (λ (o : Option Record). Some (cell_by (run.after value (n - first)) o)) (no_record n low high)
 
+  pub added_at : (i : ℕ) → i < count → map.get after (first + i) ≡ Some (run_cell value i)
+  added_at i less =
+      let far : first + i - first ≡ i = omega arith in
+      added_in (first + i) (omega arith) (omega (arith, less)) ∙ ap (λ (j : ℕ). Some (run_cell value j)) far
+
   pub added_out : (n : ℕ) → (n < first) ⊎ (first + count ≤ n) → map.get after n ≡ map.get (node_cells l) n
   added_out n out =
       get_cells_by (with_stretch run R new_run) D n
@@ -88,22 +93,16 @@ module _ (l : NodeLists) (kept : IsKept l) (first count : ℕ) (value : Run)
       | inr out ↦ ap (option_and_then key) (added_out n out) ∙ h
     ]
 
-    key_out : (n k : ℕ) → (n < first) ⊎ (first + count ≤ n) → key_at key after n ≡ Some k → key_at key (node_cells l) n ≡ Some k
-    key_out n k out h = sym (ap (option_and_then key) (added_out n out)) ∙ h
+    beside : (q : ℕ) → (q < first) ⊎ (first + count ≤ q) → key_at key after q ≡ key_at key (node_cells l) q
+    beside q out = ap (option_and_then key) (added_out q out)
 
     -- a key is that of a new node, or was there
     pub key_cases : (n k : ℕ) → key_at key after n ≡ Some k
         → ((i : ℕ) × (i < count) × (n ≡ first + i) × (key (run_cell value i) ≡ Some k)) ⊎ (key_at key (node_cells l) n ≡ Some k)
     key_cases n k h = elim (range_cases first count n) [
       | inl new ↦ inl (n - first, omega (arith, new.0, new.1), omega (arith, new.0), sym (ap (option_and_then key) (added_in n new.0 new.1)) ∙ h)
-      | inr out ↦ inr (key_out n k out h)
+      | inr out ↦ inr (sym (beside n out) ∙ h)
     ]
-
-    key_new : (i k : ℕ) → i < count → key (run_cell value i) ≡ Some k → key_at key after (first + i) ≡ Some k
-    key_new i k less is =
-        let far : first + i - first ≡ i = omega arith in
-        ap (option_and_then key) (added_in (first + i) (omega arith) (omega (arith, less)))
-        ∙ ap (λ (j : ℕ). key (run_cell value j)) far ∙ is
 
     module _ {V : Type 0} (number : V → ℕ) (m : FinMap nat_cmp V) (index : Indexes number m key (node_cells l)) where
       -- new nodes without keys
@@ -115,37 +114,3 @@ module _ (l : NodeLists) (kept : IsKept l) (first count : ℕ) (value : Run)
           | inr was ↦ (index k n).1 was
         ],
       )
-
-      -- new nodes that are found by a stretch of keys
-      module _ (S : Ghosts V) (new : Stretch V)
-          (keys : AreKeysIn (λ i. key (run_cell value i)) count (record { first = new.first; count = new.count }))
-          (says : (i k : ℕ) → i < count → key (run_cell value i) ≡ Some k → number (S.after new.value (k - new.first)) ≡ first + i)
-          (vacant : (k : ℕ) → new.first ≤ k → k < new.first + new.count → map.get m k ≡ None) where
-        found_new : (i k : ℕ) → i < count → key (run_cell value i) ≡ Some k
-            → option_map number (map.get (with_stretch S m new) k) ≡ Some (first + i)
-        found_new i k less is =
-            let lies = keys.within i k less is in
-            ap (option_map number) (with_in S m new new.count k lies.0 lies.1) ∙ ap Some (says i k less is)
-
-        there : (k n : ℕ) → option_map number (map.get (with_stretch S m new) k) ≡ Some n → key_at key after n ≡ Some k
-        there k n h = elim (range_cases new.first new.count k) [
-          | inl inside ↦
-              let node = keys.reached k inside.0 inside.1 in
-              let same : first + node.0 ≡ n = same_Some _ n (sym (found_new node.0 k node.1 node.2) ∙ h) in
-              ap (key_at key after) (sym same) ∙ key_new node.0 k node.1 node.2
-          | inr out ↦ key_into n k ((index k n).0 (sym (ap (option_map number) (with_out S m new new.count k out)) ∙ h))
-        ]
-
-        back : (k n : ℕ) → key_at key after n ≡ Some k → option_map number (map.get (with_stretch S m new) k) ≡ Some n
-        back k n h = elim (key_cases n k h) [
-          | inl node ↦ found_new node.0 k node.1 node.3 ∙ ap Some (sym node.2)
-          | inr was ↦
-              let had = (index k n).1 was in
-              elim (range_cases new.first new.count k) [
-                | inl inside ↦ absurd (none-some n (sym (ap (option_map number) (vacant k inside.0 inside.1)) ∙ had))
-                | inr out ↦ ap (option_map number) (with_out S m new new.count k out) ∙ had
-              ]
-        ]
-
-        pub index_more : Indexes number (with_stretch S m new) key after
-        index_more k n = (there k n, back k n)

@@ -1,19 +1,17 @@
 -- Working nodes made, as one run.
-use Rattle.std.proofs.Common.{◌≡◌, ℕ, zero, suc, ◌+◌, ◌-◌, ◌*◌, ◌<◌, ◌≤◌, ◌^◌, Bool, true, false, Option, Some, None, IsSome, is_some, refl, ap, sym, subst, ◌∙◌, inl, inr, arith}
-use Rattle.std.specs.Prelude.{◌/◌, ◌%◌, option_and_then, option_map}
-use Rattle.std.proofs.lemmas.Bool.{cases_lt}
-use Rattle.std.proofs.lemmas.Option.{none-some, same_Some}
+use Rattle.std.proofs.Common.{◌≡◌, ℕ, zero, suc, ◌+◌, ◌-◌, ◌*◌, ◌<◌, ◌≤◌, ◌^◌, Option, Some, None, IsSome, is_some, refl, ap, sym, subst, ◌∙◌, inl, inr, arith}
+use Rattle.std.specs.Prelude.{◌⊎◌, ◌%◌, option_and_then}
+use Rattle.std.proofs.lemmas.Bool.{cases_eq}
 use Rattle.std.specs.Ordering.{nat_cmp}
 use Rattle.std.specs.FinMap.{FinMap}
 use Rattle.std.specs.FinMap as map
-use Rattle.stretches.specs.Cells.{cells, with_first, with_stretch}
+use Rattle.stretches.specs.Cells.{cells, with_stretch}
 use Rattle.stretches.specs.Rising.{rising}
 use Rattle.stretches.specs.Stretches.{Stretches}
 use Rattle.stretches.specs.declared.rising.Rising.{Rising}
-use Rattle.stretches.specs.declared.says.Says.{Ghosts}
 use Rattle.stretches.specs.declared.stretch.Stretch.{Stretch}
-use Rattle.vm_ids.specs.declared.node_name.NodeName.{NodeName}
-use Rattle.vm_ids.specs.declared.node_name.NodeName.TheVariants.{Live, Working as WorkingNode}
+use Rattle.vm_ids.specs.declared.node_name.NodeName.TheVariants.{Working as WorkingNode}
+use Rattle.vm_ids.specs.declared.numbers.NodeId.{NodeId}
 use Rattle.local_cache.specs.declared.own_state.OwnState.TheVariants.{Absent}
 use Rattle.local_cache.specs.declared.runs.counters.Counters.{Counters}
 use Rattle.local_cache.specs.declared.runs.key_ranges.KeyRange.{KeyRange}
@@ -22,103 +20,83 @@ use Rattle.local_cache.specs.declared.runs.run.PlainState.TheVariants.{Absent as
 use Rattle.local_cache.specs.declared.runs.run.Run.{Run}
 use Rattle.local_cache.specs.declared.runs.run.RunName.TheVariants.{Working}
 use Rattle.local_cache.specs.declared.runs.thin_nodes.ThinNodes.{ThinNodes}
-use Rattle.local_cache.specs.declared.runs.thin_nodes.ThinNodes.TheVariants.{EverySecond}
-use Rattle.local_cache.specs.Arena.{Cell, blank, new_cell}
+use Rattle.local_cache.specs.Arena.{Cell, new_cell}
 use Rattle.local_cache.specs.KeyRanges.{AreKeysIn, run_cell}
-use Rattle.local_cache.specs.ManyNodes.{HaveNone, with_working_many}
-use Rattle.local_cache.specs.NodeCells.{cells_by, node_cells}
-use Rattle.local_cache.specs.NodeKeys.{Indexes, even_half, even_key, key_at, number_of_name, odd_half, odd_key, page_key, working_number}
+use Rattle.local_cache.specs.ManyNodes.{HaveNone, over_many, with_working_many}
+use Rattle.local_cache.specs.NodeCells.{cells_by, node_cells, tree_of}
+use Rattle.local_cache.specs.NodeKeys.{Indexes, even_key, key_at, odd_key, page_key, working_number}
+use Rattle.local_cache.specs.NodeLists.{thinned}
 use Rattle.local_cache.specs.NodeRuns.{IsGiven, IsNumbered, IsRight, nodes_of}
-use Rattle.local_cache.specs.PageNodes.{PageNodes, with_new, with_working}
+use Rattle.local_cache.specs.PageNodes.{PageNodes, with_new}
 use Rattle.local_cache.specs.Records.{each}
 use Rattle.local_cache.specs.Runs.{run}
 use Rattle.local_cache.specs.Singles.{IsCounted}
-use Rattle.local_cache.specs.Thin.{has_few, number_if, thin_number}
 use Rattle.local_cache.specs.ThinNodes.{first_thin, thin_nodes}
-use Rattle.local_cache.proofs.Added.{added_in, added_out, index_kept, index_more, key_cases, len_added, no_run, recorded_added}
-use Rattle.local_cache.proofs.Making.{with_in, with_out}
+use Rattle.local_cache.proofs.Added.{added_at, added_in, added_out, index_kept, len_added, no_run, recorded_added}
 use Rattle.local_cache.proofs.ManyNodes.Cleared.{range_cases}
-use Rattle.local_cache.proofs.NodeCells.{len_cells}
-use Rattle.local_cache.proofs.NodeKeys.{len_index}
-use Rattle.local_cache.proofs.NodeRuns.{even_back, not_given, odd_back}
-use Rattle.local_cache.proofs.Placing.{even_number, odd_number, then_some}
+use Rattle.local_cache.proofs.ManyNodes.NextNames as next_names
+use Rattle.local_cache.proofs.ManyNodes.Over.{further_is, over_in, over_out, over_rest}
+use Rattle.local_cache.proofs.NodeCells.{inserted_here, inserted_other, len_cells}
+use Rattle.local_cache.proofs.NodeRuns.{not_given}
 use Rattle.local_cache.proofs.Singles.{same_maps}
 
--- What is said of new working nodes ----------------------------------------------------------------
+-- One after the other ------------------------------------------------------------------------------
 
--- so many working nodes from one number on, without parent and children
-abbrev pub working_run : ℕ → Run
-working_run w = record {
+module _ (m : PageNodes) (n : NodeId) where
+  -- what is not said of cells
+  pub working_rest : (k : ℕ) → with_working_many m n k
+      ≡ record m { cells = (with_working_many m n k).cells; made = m.made + k; room = m.room - k }
+  unfolding with_new
+  working_rest zero =
+      let none : m.made ≡ m.made + 0 = omega arith in
+      let same : m.room ≡ m.room - 0 = omega arith in
+      λ i. record m { made = none i; room = same i }
+  working_rest (suc k) =
+      let before = working_rest k in
+      let more : (with_working_many m n k).made + 1 ≡ m.made + suc k = omega (arith, ap (λ (x : PageNodes). x.made) before) in
+      let less : (with_working_many m n k).room - 1 ≡ m.room - suc k = omega (arith, ap (λ (x : PageNodes). x.room) before) in
+      let pages = ap (λ (x : PageNodes). x.pages) before in
+      λ i. record { cells = (with_working_many m n (suc k)).cells; pages = pages i; made = more i; room = less i }
+
+  -- the numbers of other nodes
+  pub working_out : (k q : ℕ) → (q < n.0) ⊎ (n.0 + k ≤ q) → map.get (with_working_many m n k).cells q ≡ map.get m.cells q
+  unfolding with_new
+  working_out zero q out = refl
+  working_out (suc k) q out = elim out [
+    | inl below ↦
+        inserted_other (with_working_many m n k).cells (n.0 + k) _ q (λ e. let bad : ⊥ = omega (arith, below, e) in bad)
+        ∙ working_out k q (inl below)
+    | inr above ↦
+        inserted_other (with_working_many m n k).cells (n.0 + k) _ q (λ e. let bad : ⊥ = omega (arith, above, e) in bad)
+        ∙ working_out k q (inr (omega (arith, above)))
+  ]
+
+  pub working_in : (k j : ℕ) → j < k
+      → map.get (with_working_many m n k).cells (n.0 + j) ≡ Some (new_cell (WorkingNode (m.made + 1 + j)) Absent)
+  unfolding with_new
+  working_in zero j less = let bad : ⊥ = omega (arith, less) in absurd bad
+  working_in (suc k) j less = elim (cases_eq j k) [
+    | inl same ↦
+        let name : (with_working_many m n k).made + 1 ≡ m.made + 1 + j = omega (arith, ap (λ (x : PageNodes). x.made) (working_rest k), same) in
+        ap (λ (i : ℕ). map.get (with_working_many m n (suc k)).cells (n.0 + i)) same
+        ∙ inserted_here (with_working_many m n k).cells (n.0 + k) _
+        ∙ ap (λ (i : ℕ). Some (new_cell (WorkingNode i) Absent)) name
+    | inr other ↦
+        inserted_other (with_working_many m n k).cells (n.0 + k) _ (n.0 + j) (λ e. other (let same : j ≡ k = omega (arith, e) in same))
+        ∙ working_in k j (omega (arith, less, other))
+  ]
+
+-- One run -----------------------------------------------------------------------------------------------
+
+-- so many working nodes from one number on, without parent, over these tree children
+abbrev pub working_run : ℕ → Option NodeId → Option NodeId → Run
+working_run w older newer = record {
   name = Working w;
   own = PlainAbsent;
   parent = None;
-  older = None;
-  newer = None;
+  older = older;
+  newer = newer;
 }
-
--- the even working numbers, or the odd ones, as halves of numbers
-pub record AreHalves (half : ℕ → Option ℕ) (odd : ℕ) : Type 0 where
-  pub few : odd ≤ 1
-  pub whole : (n k : ℕ) → half n ≡ Some k → n ≡ 2 * k + odd
-  pub is_half : (n k : ℕ) → n ≡ 2 * k + odd → half n ≡ Some k
-
-even_halves : AreHalves even_half 0
-even_halves =
-    record {
-      few = omega arith;
-      whole = λ n k is. omega (arith, even_number n k is);
-      is_half = λ n k is. (let same : n ≡ 2 * k = omega (arith, is) in ap even_half same ∙ even_back k);
-    }
-
-odd_halves : AreHalves odd_half 1
-odd_halves =
-    record {
-      few = omega arith;
-      whole = λ n k is. odd_number n k is;
-      is_half = λ n k is. ap odd_half is ∙ odd_back k;
-    }
-
--- the working number of a thin node
-number_named : (name : NodeName) (few : Bool) (k : ℕ) → number_if name few ≡ Some k → number_of_name name ≡ Some k
-number_named (Live cache page) few k is = absurd (none-some k is)
-number_named (WorkingNode n) true k is = is
-number_named (WorkingNode n) false k is = absurd (none-some k is)
-
--- The stretch of their keys ---------------------------------------------------------------------------
-
-module _ (half : ℕ → Option ℕ) (odd : ℕ) (halves : AreHalves half odd) (w count : ℕ) (range : KeyRange)
-    (keys : AreKeysIn (λ i. half (w + i)) count range) where
-  -- the first key is that of the first or the second node
-  first_half : 0 < range.count → 2 * range.first + odd ≡ w + (w + odd) % 2
-  first_half some =
-      let least = keys.reached range.first (omega arith) (omega (arith, some)) in
-      let at : w + least.0 ≡ 2 * range.first + odd = halves.whole (w + least.0) range.first least.2 in
-      let i : ℕ = (w + odd) % 2 in
-      let k : ℕ = (w + 1 - odd) / 2 in
-      let here : w + i ≡ 2 * k + odd = omega (arith, halves.few) in
-      let before : i ≤ least.0 = omega (arith, at, halves.few) in
-      let from : range.first ≤ k = (keys.within i k (omega (arith, before, least.1)) (halves.is_half (w + i) k here)).0 in
-      omega (arith, at, before, here, from)
-
-  -- there are half as many keys as nodes, or one more
-  few_halves : 2 * range.count ≤ count + 1
-  few_halves = elim (cases_lt 0 range.count) [
-    | inl some ↦
-        let last = keys.reached (range.first + range.count - 1) (omega (arith, some)) (omega (arith, some)) in
-        let at : w + last.0 ≡ 2 * (range.first + range.count - 1) + odd = halves.whole (w + last.0) (range.first + range.count - 1) last.2 in
-        omega (arith, at, last.1, first_half some, some)
-    | inr none ↦ omega (arith, none)
-  ]
-
-  -- each next key is that of the node behind the next
-  half_node : (first node : ℕ) → node ≡ first + (w + odd) % 2 → (i k : ℕ) → i < count → half (w + i) ≡ Some k
-      → node + 2 * (k - range.first) ≡ first + i
-  half_node first node begins i k less is =
-      let lies = keys.within i k less is in
-      let at : w + i ≡ 2 * k + odd = halves.whole (w + i) k is in
-      omega (arith, begins, at, lies.0, first_half (omega (arith, lies.0, lies.1)))
-
--- One run -----------------------------------------------------------------------------------------------
 
 -- the next numbers were given to no node
 free : (l : NodeLists) (c : Counters) → IsRight l c → (n : ℕ) → c.next_working ≤ n → map.get (node_cells l) n ≡ None
@@ -139,9 +117,6 @@ module _ (l : NodeLists) (c : Counters) (right : IsRight l c) (count : ℕ) (som
   abbrev w : ℕ
   w = c.made + 1
 
-  abbrev value : Run
-  value = working_run w
-
   -- the numbers are new
   all_free : (n : ℕ) → first ≤ n → n < first + count → map.get (node_cells l) n ≡ None
   all_free n low high = free l c right n low
@@ -149,243 +124,204 @@ module _ (l : NodeLists) (c : Counters) (right : IsRight l c) (count : ℕ) (som
   abbrev R : FinMap nat_cmp Run
   R = cells run l.runs.list
 
-  abbrev new_run : Stretch Run
-  new_run = record { first = first; count = count; value = value }
-
-  abbrev after : FinMap nat_cmp Cell
-  after = cells_by (with_stretch run R new_run) (cells each l.records.list)
-
-  pub runs_free : (n : ℕ) → first ≤ n → n < first + count → map.get R n ≡ None
-  runs_free = no_run l right.kept first count value all_free
+  pub nodes_short : c.nodes + count < 2 ^ 32
+  nodes_short = omega (arith, right.nodes, room, right.kept.places.few)
 
   pub runs_fit : map.len R + count ≤ l.runs.places
   runs_fit = omega (arith, len_cells R (cells each l.records.list), room, right.kept.places.runs)
 
-  len_after : map.len after ≡ map.len (node_cells l) + count
-  len_after = len_added l right.kept first count value all_free
+  module _ (older newer : Option NodeId) where
+    abbrev value : Run
+    value = working_run w older newer
 
-  -- Thin nodes ------------------------------------------------------------------------------------------
+    abbrev new_run : Stretch Run
+    new_run = record { first = first; count = count; value = value }
 
-  module _ (half : ℕ → Option ℕ) (odd : ℕ) (halves : AreHalves half odd)
-      (m : FinMap nat_cmp ThinNodes) (index : Indexes (λ (v : ThinNodes). (first_thin v).0) m (λ c. option_and_then half (thin_number c)) (node_cells l))
-      (range : KeyRange) (keys : AreKeysIn (λ i. half (w + i)) count range) where
-    abbrev key : Cell → Option ℕ
-    key x = option_and_then half (thin_number x)
+    abbrev after : FinMap nat_cmp Cell
+    after = cells_by (with_stretch run R new_run) (cells each l.records.list)
 
-    -- a node that was there has a lesser number
-    none_there : (k q : ℕ) → range.first ≤ k → k < range.first + range.count → key_at key (node_cells l) q ≡ Some k → ⊥
-    none_there k q low high had =
-        let node = keys.reached k low high in
-        let at : w + node.0 ≡ 2 * k + odd = halves.whole (w + node.0) k node.2 in
-        let x = then_some key (map.get (node_cells l) q) k had in
-        let j = then_some half (thin_number x.0) k x.2 in
-        let is : j.0 ≡ 2 * k + odd = halves.whole j.0 k j.2 in
-        let named = number_named x.0.name (has_few x.0) j.0 j.1 in
-        let given = right.numbered.named q j.0 (ap (option_and_then working_number) x.1 ∙ named) in
-        omega (arith, at, is, given)
+    pub runs_free : (n : ℕ) → first ≤ n → n < first + count → map.get R n ≡ None
+    runs_free = no_run l right.kept first count value all_free
 
-    half_free : (k : ℕ) → range.first ≤ k → k < range.first + range.count → map.get m k ≡ None
-    half_free k low high = go (map.get m k) refl
-      where
-        go : (o : Option ThinNodes) → map.get m k ≡ o → map.get m k ≡ None
-        go None e = e
-        go (Some v) e =
-            absurd (none_there k (first_thin v).0 low high ((index k (first_thin v).0).0 (ap (option_map (λ (v : ThinNodes). (first_thin v).0)) e)))
+    len_after : map.len after ≡ map.len (node_cells l) + count
+    len_after = len_added l right.kept first count value all_free
 
-    half_fits : map.len m + range.count ≤ l.capacity
-    half_fits =
-        omega (arith, len_index (λ (v : ThinNodes). (first_thin v).0) m key (node_cells l) index, room, few_halves half odd halves w count range keys, some)
+    beside : (q : ℕ) → (q < first) ⊎ (first + count ≤ q) → map.get after q ≡ map.get (node_cells l) q
+    beside = added_out l right.kept first count value all_free
 
-    half_index : (node : ℕ) → node ≡ first + (w + odd) % 2
-        → Indexes (λ (v : ThinNodes). (first_thin v).0)
-        (with_stretch thin_nodes m (record { first = range.first; count = range.count; value = EverySecond (record { 0 = node }) })) key after
-    half_index node begins =
-        index_more l right.kept first count value all_free key (λ (v : ThinNodes). (first_thin v).0) m index thin_nodes
-        (record { first = range.first; count = range.count; value = EverySecond (record { 0 = node }) }) keys
-        (half_node half odd halves w count range keys first node begins) half_free
+    is : (i : ℕ) → i < count → map.get after (first + i) ≡ Some (run_cell value i)
+    is = added_at l right.kept first count value all_free
 
-  abbrev E : FinMap nat_cmp ThinNodes
-  E = cells thin_nodes l.even.list
+    unnamed : (i : ℕ) → i < count → key_at working_number (node_cells l) (first + i) ≡ None
+    unnamed i less = ap (option_and_then working_number) (all_free (first + i) (omega arith) (omega (arith, less)))
 
-  abbrev O : FinMap nat_cmp ThinNodes
-  O = cells thin_nodes l.odd.list
+    -- The lists of thin nodes -------------------------------------------------------------------------
 
-  module _ (even : KeyRange) (keys : AreKeysIn (λ i. even_key (run_cell value i)) count even) where
-    pub even_few : 2 * even.count ≤ count + 1
-    even_few = few_halves even_half 0 even_halves w count even keys
+    module _ (even : KeyRange) (keys : AreKeysIn (λ i. even_key (run_cell value i)) count even) where
+      pub even_few : 2 * even.count ≤ count + 1
+      even_few = next_names.even_few l c right first count after value refl beside is unnamed even keys
 
-    pub even_free : (k : ℕ) → even.first ≤ k → k < even.first + even.count → map.get E k ≡ None
-    even_free = half_free even_half 0 even_halves E right.indexed.even even keys
+      pub even_free : (k : ℕ) → even.first ≤ k → k < even.first + even.count → map.get (cells thin_nodes l.even.list) k ≡ None
+      even_free = next_names.even_free l c right first count after value refl beside is unnamed even keys
 
-    pub even_fits : map.len E + even.count ≤ l.even.places
-    even_fits = omega (arith, half_fits even_half 0 even_halves E right.indexed.even even keys, right.kept.places.even)
+      pub even_fits : map.len (cells thin_nodes l.even.list) + even.count ≤ l.even.places
+      even_fits = next_names.even_fits l c right first count after value refl beside is unnamed even keys (omega (arith, len_after, room))
 
-  module _ (odd : KeyRange) (keys : AreKeysIn (λ i. odd_key (run_cell value i)) count odd) where
-    pub odd_few : 2 * odd.count ≤ count + 1
-    odd_few = few_halves odd_half 1 odd_halves w count odd keys
+      pub even_index : (m : FinMap nat_cmp ThinNodes) (node : ℕ) → node ≡ first + w % 2
+          → m ≡ with_stretch thin_nodes (cells thin_nodes l.even.list) (record { first = even.first; count = even.count; value = thinned node })
+          → Indexes (λ (v : ThinNodes). (first_thin v).0) m even_key after
+      even_index m node begins set =
+          subst (λ (x : FinMap nat_cmp ThinNodes). Indexes (λ (v : ThinNodes). (first_thin v).0) x even_key after) (sym set)
+          (next_names.even_index l c right first count after value refl beside is unnamed even keys node begins)
 
-    pub odd_free : (k : ℕ) → odd.first ≤ k → k < odd.first + odd.count → map.get O k ≡ None
-    odd_free = half_free odd_half 1 odd_halves O right.indexed.odd odd keys
+    module _ (odd : KeyRange) (keys : AreKeysIn (λ i. odd_key (run_cell value i)) count odd) where
+      pub odd_few : 2 * odd.count ≤ count + 1
+      odd_few = next_names.odd_few l c right first count after value refl beside is unnamed odd keys
 
-    pub odd_fits : map.len O + odd.count ≤ l.odd.places
-    odd_fits = omega (arith, half_fits odd_half 1 odd_halves O right.indexed.odd odd keys, right.kept.places.odd)
+      pub odd_free : (k : ℕ) → odd.first ≤ k → k < odd.first + odd.count → map.get (cells thin_nodes l.odd.list) k ≡ None
+      odd_free = next_names.odd_free l c right first count after value refl beside is unnamed odd keys
 
-  -- All lists -------------------------------------------------------------------------------------------
+      pub odd_fits : map.len (cells thin_nodes l.odd.list) + odd.count ≤ l.odd.places
+      odd_fits = next_names.odd_fits l c right first count after value refl beside is unnamed odd keys (omega (arith, len_after, room))
 
-  pub nodes_short : c.nodes + count < 2 ^ 32
-  nodes_short = omega (arith, right.nodes, room, right.kept.places.few)
+      pub odd_index : (m : FinMap nat_cmp ThinNodes) (node : ℕ) → node ≡ first + (w + 1) % 2
+          → m ≡ with_stretch thin_nodes (cells thin_nodes l.odd.list) (record { first = odd.first; count = odd.count; value = thinned node })
+          → Indexes (λ (v : ThinNodes). (first_thin v).0) m odd_key after
+      odd_index m node begins set =
+          subst (λ (x : FinMap nat_cmp ThinNodes). Indexes (λ (v : ThinNodes). (first_thin v).0) x odd_key after) (sym set)
+          (next_names.odd_index l c right first count after value refl beside is unnamed odd keys node begins)
 
-  module _ (runs : Stretches Run) (evens odds : Stretches ThinNodes) (even odd : KeyRange) (even_node odd_node : ℕ)
-      (even_keys : AreKeysIn (λ i. even_key (run_cell value i)) count even) (odd_keys : AreKeysIn (λ i. odd_key (run_cell value i)) count odd)
-      (even_begins : even_node ≡ first + w % 2) (odd_begins : odd_node ≡ first + (w + 1) % 2)
-      (set : cells run runs.list ≡ with_stretch run R new_run)
-      (set_even : cells thin_nodes evens.list
-      ≡ with_stretch thin_nodes E (record { first = even.first; count = even.count; value = EverySecond (record { 0 = even_node }) }))
-      (set_odd : cells thin_nodes odds.list
-      ≡ with_stretch thin_nodes O (record { first = odd.first; count = odd.count; value = EverySecond (record { 0 = odd_node }) }))
-      (counted : IsCounted run runs) (counted_even : IsCounted thin_nodes evens) (counted_odd : IsCounted thin_nodes odds)
-      (places : runs.places ≡ l.runs.places) (places_even : evens.places ≡ l.even.places) (places_odd : odds.places ≡ l.odd.places)
-      (now : Counters) (nodes : now.nodes ≡ c.nodes + count) (live : now.live ≡ c.live)
-      (made : now.made ≡ c.made + count) (next_page : now.next_page ≡ c.next_page) (next : now.next_working ≡ c.next_working + count) where
-    abbrev new : NodeLists
-    new = record l { runs = runs; even = evens; odd = odds }
+    -- All lists -----------------------------------------------------------------------------------------
 
-    cells_are : node_cells new ≡ after
-    cells_are = ap (λ (m : FinMap nat_cmp Run). cells_by m (cells each l.records.list)) set
+    module _ (runs : Stretches Run) (evens odds : Stretches ThinNodes) (set : cells run runs.list ≡ with_stretch run R new_run)
+        (counted : IsCounted run runs) (counted_even : IsCounted thin_nodes evens) (counted_odd : IsCounted thin_nodes odds)
+        (places : runs.places ≡ l.runs.places) (places_even : evens.places ≡ l.even.places) (places_odd : odds.places ≡ l.odd.places)
+        (found_even : Indexes (λ (v : ThinNodes). (first_thin v).0) (cells thin_nodes evens.list) even_key after)
+        (found_odd : Indexes (λ (v : ThinNodes). (first_thin v).0) (cells thin_nodes odds.list) odd_key after) where
+      abbrev new : NodeLists
+      new = record l { runs = runs; even = evens; odd = odds }
 
-    given_after : (n : ℕ) → IsSome (map.get after n) → IsGiven now n
-    given_after n h = elim (range_cases first count n) [
-      | inl fresh ↦ inr (omega (arith, fresh.0, right.numbered.workings), omega (arith, fresh.1, next))
-      | inr out ↦ elim (right.numbered.given n (sym (ap is_some (added_out l right.kept first count value all_free n out)) ∙ h)) [
-        | inl low ↦ inl (omega (arith, low, next_page))
-        | inr high ↦ inr (high.0, omega (arith, high.1, next))
+      abbrev now : Counters
+      now = record c { nodes = c.nodes + count; made = c.made + count; next_working = c.next_working + count }
+
+      cells_are : node_cells new ≡ after
+      cells_are = ap (λ (m : FinMap nat_cmp Run). cells_by m (cells each l.records.list)) set
+
+      given_after : (n : ℕ) → IsSome (map.get after n) → IsGiven now n
+      given_after n h = elim (range_cases first count n) [
+        | inl fresh ↦ inr (omega (arith, fresh.0, right.numbered.workings), omega (arith, fresh.1))
+        | inr out ↦ elim (right.numbered.given n (sym (ap is_some (beside n out)) ∙ h)) [
+          | inl low ↦ inl low
+          | inr high ↦ inr (high.0, omega (arith, high.1))
+        ]
       ]
-    ]
 
-    -- the working number of a new node
-    new_name : (i k : ℕ) → working_number (run_cell value i) ≡ Some k → w + i ≡ k
-    new_name i k is = same_Some (w + i) k is
+      numbered_after : IsNumbered after now
+      numbered_after =
+          record {
+            given = given_after;
+            named = next_names.names_given l c right first count after value refl beside is unnamed;
+            apart = next_names.names_apart l c right first count after value refl beside is unnamed;
+            pages = right.numbered.pages;
+            workings = omega (arith, right.numbered.workings);
+            few = omega (arith, right.numbered.few);
+            made = short;
+          }
 
-    named_after : (n k : ℕ) → key_at working_number after n ≡ Some k → k ≤ now.made
-    named_after n k h = elim (key_cases l right.kept first count value all_free working_number n k h) [
-      | inl fresh ↦ omega (arith, new_name fresh.0 k fresh.3, fresh.1, made)
-      | inr was ↦ omega (arith, right.numbered.named n k was, made)
-    ]
-
-    apart_after : (n m k : ℕ) → key_at working_number after n ≡ Some k → key_at working_number after m ≡ Some k → n ≡ m
-    apart_after n m k h e = elim (key_cases l right.kept first count value all_free working_number n k h) [
-      | inl one ↦ elim (key_cases l right.kept first count value all_free working_number m k e) [
-        | inl other ↦ omega (arith, new_name one.0 k one.3, new_name other.0 k other.3, one.2, other.2)
-        | inr was ↦ absurd (let bad : ⊥ = omega (arith, new_name one.0 k one.3, right.numbered.named m k was) in bad)
-      ]
-      | inr had ↦ elim (key_cases l right.kept first count value all_free working_number m k e) [
-        | inl other ↦ absurd (let bad : ⊥ = omega (arith, new_name other.0 k other.3, right.numbered.named n k had) in bad)
-        | inr was ↦ right.numbered.apart n m k had was
-      ]
-    ]
-
-    numbered_after : IsNumbered after now
-    numbered_after =
-        record {
-          given = given_after;
-          named = named_after;
-          apart = apart_after;
-          pages = omega (arith, next_page, right.numbered.pages);
-          workings = omega (arith, next, right.numbered.workings);
-          few = omega (arith, next, made, right.numbered.few);
-          made = omega (arith, made, short);
-        }
-
-    even_index : Indexes (λ (v : ThinNodes). (first_thin v).0) (cells thin_nodes evens.list) even_key after
-    even_index =
-        let begins : even_node ≡ first + (w + 0) % 2 = omega (arith, even_begins) in
-        subst (λ (m : FinMap nat_cmp ThinNodes). Indexes (λ (v : ThinNodes). (first_thin v).0) m even_key after) (sym set_even)
-        (half_index even_half 0 even_halves E right.indexed.even even even_keys even_node begins)
-
-    odd_index : Indexes (λ (v : ThinNodes). (first_thin v).0) (cells thin_nodes odds.list) odd_key after
-    odd_index =
-        subst (λ (m : FinMap nat_cmp ThinNodes). Indexes (λ (v : ThinNodes). (first_thin v).0) m odd_key after) (sym set_odd)
-        (half_index odd_half 1 odd_halves O right.indexed.odd odd odd_keys odd_node odd_begins)
-
-    pub right_working : IsRight new now
-    right_working =
-        record {
-          kept = record {
-            counted = record {
-              runs = counted;
-              records = right.kept.counted.records;
-              pages = right.kept.counted.pages;
-              even = counted_even;
-              odd = counted_odd;
+      pub right_made : IsRight new now
+      right_made =
+          record {
+            kept = record {
+              counted = record {
+                runs = counted;
+                records = right.kept.counted.records;
+                pages = right.kept.counted.pages;
+                even = counted_even;
+                odd = counted_odd;
+              };
+              places = record {
+                few = right.kept.places.few;
+                runs = omega (arith, places, right.kept.places.runs);
+                records = right.kept.places.records;
+                pages = right.kept.places.pages;
+                even = omega (arith, places_even, right.kept.places.even);
+                odd = omega (arith, places_odd, right.kept.places.odd);
+              };
+              fits = omega (arith, ap map.len cells_are, len_after, room);
+              recorded = λ n h.
+                  ap (λ (m : FinMap nat_cmp Cell). is_some (map.get m n)) cells_are
+                  ∙ recorded_added l right.kept first count value all_free n h;
             };
-            places = record {
-              few = right.kept.places.few;
-              runs = omega (arith, places, right.kept.places.runs);
-              records = right.kept.places.records;
-              pages = right.kept.places.pages;
-              even = omega (arith, places_even, right.kept.places.even);
-              odd = omega (arith, places_odd, right.kept.places.odd);
+            indexed = record {
+              pages = subst (Indexes (λ (v : Rising). v.0) _ page_key) (sym cells_are)
+                  (index_kept l right.kept first count value all_free page_key (λ (v : Rising). v.0) (cells rising l.pages.list) right.indexed.pages (λ i. refl));
+              even = subst (Indexes (λ (v : ThinNodes). (first_thin v).0) _ even_key) (sym cells_are) found_even;
+              odd = subst (Indexes (λ (v : ThinNodes). (first_thin v).0) _ odd_key) (sym cells_are) found_odd;
             };
-            fits = omega (arith, ap map.len cells_are, len_after, room);
-            recorded = λ n h.
-                ap (λ (m : FinMap nat_cmp Cell). is_some (map.get m n)) cells_are
-                ∙ recorded_added l right.kept first count value all_free n h;
-          };
-          indexed = record {
-            pages = subst (Indexes (λ (v : Rising). v.0) _ page_key) (sym cells_are)
-                (index_kept l right.kept first count value all_free page_key (λ (v : Rising). v.0) (cells rising l.pages.list) right.indexed.pages (λ i. refl));
-            even = subst (Indexes (λ (v : ThinNodes). (first_thin v).0) _ even_key) (sym cells_are) even_index;
-            odd = subst (Indexes (λ (v : ThinNodes). (first_thin v).0) _ odd_key) (sym cells_are) odd_index;
-          };
-          numbered = subst (λ (m : FinMap nat_cmp Cell). IsNumbered m now) (sym cells_are) numbered_after;
-          nodes = omega (arith, nodes, right.nodes, ap map.len cells_are, len_after);
-          live = omega (arith, live, right.live);
-        }
+            numbered = subst (λ (m : FinMap nat_cmp Cell). IsNumbered m now) (sym cells_are) numbered_after;
+            nodes = omega (arith, right.nodes, ap map.len cells_are, len_after);
+            live = right.live;
+          }
 
-    -- One after the other -----------------------------------------------------------------------------
+      pub nodes_made : nodes_of new now ≡ record (nodes_of l c) { cells = after; made = c.made + count; room = (nodes_of l c).room - count }
+      nodes_made =
+          let less : l.capacity - map.len (node_cells new) ≡ l.capacity - map.len (node_cells l) - count =
+          omega (arith, ap map.len cells_are, len_after) in
+          λ i. record { cells = cells_are i; pages = cells rising l.pages.list; made = c.made + count; room = less i }
 
-    cell_by_cell : Ghosts Cell
-    cell_by_cell = record { after = λ x k. run_cell value k; lasts = λ x k. Unit {0} }
-
-    cell_stretch : Stretch Cell
-    cell_stretch = record { first = first; count = count; value = blank }
-
-    abbrev old : PageNodes
-    old = nodes_of l c
-
-    made_first : (k : ℕ) → with_working_many old (record { 0 = first }) k ≡ record {
-      cells = with_first cell_by_cell old.cells cell_stretch k;
-      pages = old.pages;
-      made = old.made + k;
-      room = old.room - k;
-    }
-    unfolding cell_by_cell cell_stretch with_new
-    made_first zero =
-        let none : old.made ≡ old.made + 0 = omega arith in
-        let same : old.room ≡ old.room - 0 = omega arith in
-        λ i. record { cells = old.cells; pages = old.pages; made = none i; room = same i }
-    made_first (suc k) =
-        let less : old.room - k - 1 ≡ old.room - suc k = omega arith in
-        let more : old.made + k + 1 ≡ old.made + suc k = omega arith in
-        let name : old.made + k + 1 ≡ w + k = omega arith in
-        ap (λ (x : PageNodes). with_working x (record { 0 = first + k })) (made_first k)
-        ∙ (λ i. record {
-          cells = map.insert (with_first cell_by_cell old.cells cell_stretch k) (first + k) (new_cell (WorkingNode (name i)) Absent);
-          pages = old.pages;
-          made = more i;
-          room = less i;
-        })
-
-    cells_fold : after ≡ with_first cell_by_cell (node_cells l) cell_stretch count
-    unfolding cell_by_cell cell_stretch
-    cells_fold = same_maps _ _ (λ n. elim (range_cases first count n) [
-      | inl fresh ↦ added_in l right.kept first count value all_free n fresh.0 fresh.1 ∙ sym (with_in cell_by_cell (node_cells l) cell_stretch count n fresh.0 fresh.1)
-      | inr out ↦ added_out l right.kept first count value all_free n out ∙ sym (with_out cell_by_cell (node_cells l) cell_stretch count n out)
+    -- cells that have what the run says of the new nodes, and of the others what was said
+    after_is : (m : FinMap nat_cmp Cell) → ((i : ℕ) → i < count → map.get m (first + i) ≡ Some (run_cell value i))
+        → ((q : ℕ) → (q < first) ⊎ (first + count ≤ q) → map.get m q ≡ map.get (node_cells l) q) → after ≡ m
+    after_is m these others = same_maps _ _ (λ q. elim (range_cases first count q) [
+      | inl inside ↦
+          let at : first + (q - first) ≡ q = omega (arith, inside.0) in
+          added_in l right.kept first count value all_free q inside.0 inside.1
+          ∙ sym (ap (map.get m) (sym at) ∙ these (q - first) (omega (arith, inside.0, inside.1)))
+      | inr out ↦ beside q out ∙ sym (others q out)
     ])
 
-    pub nodes_working : nodes_of new now ≡ with_working_many old (record { 0 = first }) count
-    nodes_working =
-        let less : l.capacity - map.len (node_cells new) ≡ l.capacity - map.len (node_cells l) - count =
-        omega (arith, ap map.len cells_are, len_after) in
-        (λ i. record { cells = (cells_are ∙ cells_fold) i; pages = old.pages; made = made i; room = less i })
-        ∙ sym (made_first count)
+  abbrev old : PageNodes
+  old = nodes_of l c
+
+  abbrev n : NodeId
+  n = record { 0 = first }
+
+  abbrev bare : PageNodes
+  bare = with_working_many old n count
+
+  -- without children
+  pub nodes_working : record old { cells = after None None; made = c.made + count; room = old.room - count } ≡ bare
+  nodes_working =
+      ap (λ (m : FinMap nat_cmp Cell). record old { cells = m; made = c.made + count; room = old.room - count })
+      (after_is None None bare.cells (working_in old n count) (working_out old n count))
+      ∙ sym (working_rest old n count)
+
+  -- over two children each, which are not thin
+  module _ (older newer : NodeId) (short_older : older.0 + count ≤ 2 ^ 64) (short_newer : newer.0 + count ≤ 2 ^ 64) where
+    pub evens_stay : Indexes (λ (v : ThinNodes). (first_thin v).0) (cells thin_nodes l.even.list) even_key (after (Some older) (Some newer))
+    evens_stay =
+        index_kept l right.kept first count (value (Some older) (Some newer)) all_free even_key (λ (v : ThinNodes). (first_thin v).0)
+        (cells thin_nodes l.even.list) right.indexed.even (λ i. refl)
+
+    pub odds_stay : Indexes (λ (v : ThinNodes). (first_thin v).0) (cells thin_nodes l.odd.list) odd_key (after (Some older) (Some newer))
+    odds_stay =
+        index_kept l right.kept first count (value (Some older) (Some newer)) all_free odd_key (λ (v : ThinNodes). (first_thin v).0)
+        (cells thin_nodes l.odd.list) right.indexed.odd (λ i. refl)
+
+    abbrev over : PageNodes
+    over = over_many bare n older (Some newer) count
+
+    over_is : (i : ℕ) → i < count → map.get over.cells (first + i) ≡ Some (run_cell (value (Some older) (Some newer)) i)
+    over_is i less =
+        let one = further_is older count i short_older less in
+        let two = further_is newer count i short_newer less in
+        over_in bare n older (Some newer) count i less _ (working_in old n count i less)
+        ∙ (λ j. Some (record (new_cell (WorkingNode (w + i)) Absent) { tree = tree_of (Some (sym one j)) (Some (sym two j)) }))
+
+    pub nodes_working_over : record old { cells = after (Some older) (Some newer); made = c.made + count; room = old.room - count } ≡ over
+    nodes_working_over =
+        ap (λ (m : FinMap nat_cmp Cell). record old { cells = m; made = c.made + count; room = old.room - count })
+        (after_is (Some older) (Some newer) over.cells over_is
+        (λ q out. over_out bare n older (Some newer) count q out ∙ working_out old n count q out))
+        ∙ ap (λ (x : PageNodes). record x { cells = over.cells }) (sym (working_rest old n count))
+        ∙ sym (over_rest bare n older (Some newer) count)

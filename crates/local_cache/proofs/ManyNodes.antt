@@ -5,6 +5,8 @@ pub mod Cleared
 pub mod Alike
 -- The keys of nodes of one run.
 pub mod KeyRanges
+-- Nodes in a row that are found by their first keys, or are not found any more.
+pub mod Found
 -- Nodes of one run that go.
 pub mod Freed
 -- Nodes of one run under other names.
@@ -15,6 +17,8 @@ pub mod Relinked
 pub mod Hung
 -- Nodes of one run over others, as their tree children.
 pub mod Over
+-- Nodes in a row under the next working names, in the lists of thin nodes.
+pub mod NextNames
 -- Nodes under the next working names.
 pub mod AsWorking
 -- Nodes of pages that go, so that other nodes can come for these pages.

@@ -489,6 +489,26 @@ impl Caches {
         self.nodes.fresh_working_many(count)
     }
 
+    /// Makes so many working nodes under the next numbers of working nodes, each over the next older and the next newer
+    /// node as its tree children, in this order: `Absent` and without parent, under numbers that follow one another, above
+    /// those of all nodes made for pages. It takes no memory: there has to be room for the nodes. They are one run and none
+    /// of them is thin, so it takes no time for each node.
+    pub fn fresh_working_over(&mut self, count: u32, older: NodeId, newer: NodeId) -> NodeId
+        requires room { count ≤ self.old.room.nodes }
+        requires made { self.old.made + count ≤ 2 ^ 63 }
+        requires short_older { older.0 + count ≤ 2 ^ 64 }
+        requires short_newer { newer.0 + count ≤ 2 ^ 64 }
+        ensures new { HaveNone self.old result count }
+        ensures high { 2 ^ 52 ≤ result.0 }
+        ensures short { result.0 + count ≤ 2 ^ 64 }
+        ensures changed { self.new ≡ over_two_many (with_working_many self.old result count)
+            result older newer count }
+        ensures held { HaveNodes self.new result count }
+        ensures stays { NodesStay self.old self.new }
+    {
+        self.nodes.fresh_working_over(count, older, newer)
+    }
+
     /// Names a node by the next number of a working node. The page that it was the node of has none then.
     pub fn to_working(&mut self, node: NodeId)
         requires held { HasNode self.old node }

@@ -1,5 +1,5 @@
 -- Each call that changes many page nodes, one after the other.
-use Rattle.std.proofs.Common.{◌≡◌, ℕ, zero, suc, ◌+◌, ◌<◌, ◌≤◌, ◌^◌, Some, None, refl, ap, sym, subst, ◌∙◌, arith}
+use Rattle.std.proofs.Common.{◌≡◌, ℕ, zero, suc, ◌+◌, ◌<◌, ◌≤◌, ◌^◌, Some, None, is_some, refl, ap, sym, subst, ◌∙◌, inr, arith}
 use Rattle.std.specs.Prelude.{List, [], ◌∷◌, false}
 use Rattle.std.proofs.lemmas.Option.{same_Some}
 use Rattle.std.specs.FinMap as ids
@@ -24,6 +24,7 @@ use Rattle.local_cache.proofs.ArenaBy.Nodes.{new_by}
 use Rattle.local_cache.proofs.ArenaBy.Placed.{kept_new, placed_name, short_name}
 use Rattle.local_cache.proofs.ArenaBy.Rows.{page_short}
 use Rattle.local_cache.proofs.Making.{cells_beside}
+use Rattle.local_cache.proofs.MakingWorking.{working_in, working_out}
 use Rattle.local_cache.proofs.ManyNodes.AsWorking.{held_as_working}
 use Rattle.local_cache.proofs.ManyNodes.Freed.{held_behind}
 use Rattle.local_cache.proofs.ManyNodes.Hung.{held_hung}
@@ -42,15 +43,6 @@ pages_beside m n cache page own (suc k) q behind =
     inserted_other (many.with_new_many m n cache page own k).pages (page_number cache.0 (page.0 + k)) _ (page_number cache.0 q)
     (λ e. let bad : ⊥ = omega (arith, behind, e) in bad)
     ∙ pages_beside m n cache page own k q (omega (arith, behind))
-
-module _ (m : PageNodes) (n : NodeId) where
-  -- the numbers behind those of new working nodes
-  working_beside : (k q : ℕ) → n.0 + k ≤ q → ids.get (many.with_working_many m n k).cells q ≡ ids.get m.cells q
-  unfolding nodes.with_new
-  working_beside zero q behind = refl
-  working_beside (suc k) q behind =
-      inserted_other (many.with_working_many m n k).cells (n.0 + k) _ q (λ e. let bad : ⊥ = omega (arith, behind, e) in bad)
-      ∙ working_beside k q (omega (arith, behind))
 
 -- One after the other -------------------------------------------------------------------------------
 
@@ -124,7 +116,7 @@ module _ (m : PageNodes) (c : CacheRows) (right : ArePlaced m c.rows) (n : NodeI
       let now : PageNodes = many.with_working_many m n k in
       let before = many_working k (λ j less. none j (omega (arith, less))) in
       one_more now (nodes.with_working now (next_node n k)) c (with_working_many a n k) (λ (b : Arena). arena.with_working b (next_node n k)) before
-      (working_made now c before.right (next_node n k) (working_beside m n k (n.0 + k) (omega arith) ∙ none k (omega arith)))
+      (working_made now c before.right (next_node n k) (working_out m n k (n.0 + k) (inr (omega arith)) ∙ none k (omega arith)))
 
   -- pages that may get nodes
   many_come : (cache : CacheId) (page : PageNo) (own : OwnState) (k : ℕ) → HaveNone m n k
@@ -150,6 +142,17 @@ module _ (m : PageNodes) (c : CacheRows) (right : ArePlaced m c.rows) (n : NodeI
       → StandFor (many.with_new_many m n cache page own k) c (with_new_many a n cache page own k)
   many_made cache page own k none vacant =
       many_come cache page own k none (λ j less. may_get_node m c right cache (record { 0 = page.0 + j }) (vacant j less))
+
+-- New working nodes over others ---------------------------------------------------------------------
+
+pub many_working_over : (m : PageNodes) (c : CacheRows) → ArePlaced m c.rows → (n older newer : NodeId) (k : ℕ) → HaveNone m n k
+    → StandFor (many.over_many (many.with_working_many m n k) n older (Some newer) k) c
+    (over_two_many (with_working_many (arena_by m c) n k) n older newer k)
+many_working_over m c right n older newer k none =
+    let made = many_working m c right n k none in
+    let now : PageNodes = many.with_working_many m n k in
+    let over = many_over_two now c made.right n older newer k (λ j less. ap is_some (working_in m n k j less)) in
+    record { is = over.is ∙ ap (λ (b : Arena). over_two_many b n older newer k) made.is; right = over.right }
 
 -- Pages whose nodes went get new ones ---------------------------------------------------------------
 

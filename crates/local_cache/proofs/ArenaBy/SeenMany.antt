@@ -14,7 +14,7 @@ use Rattle.local_cache.specs.ManyNodes as many
 use Rattle.local_cache.specs.NodeKeys.{page_number}
 use Rattle.local_cache.specs.PageNodes.{PageNodes}
 use Rattle.local_cache.specs.Placed.{AreRight}
-use Rattle.local_cache.proofs.ArenaBy.Many.{many_as_working, many_freed, many_hung, many_made, many_over, many_over_two, many_renewed, many_working}
+use Rattle.local_cache.proofs.ArenaBy.Many.{many_as_working, many_freed, many_hung, many_made, many_over, many_over_two, many_renewed, many_working, many_working_over}
 use Rattle.local_cache.proofs.ArenaBy.Nodes.{cell_by}
 use Rattle.local_cache.proofs.ArenaBy.Seen.{Seen, held_seen, may_seen, node_call, none_seen}
 
@@ -93,6 +93,14 @@ module _ (m : PageNodes) (c : CacheRows) (a : Arena) (is : arena_by m c ≡ a) (
     fresh_working_many_call none changed =
         node_call m c a is right new (many.with_working_many m n count) (λ (b : Arena). with_working_many b n count) changed
         (many_working m c right.placed n count none)
+
+    pub fresh_working_over_call : (older newer : NodeId) → many.HaveNone m n count
+        → new ≡ many.over_many (many.with_working_many m n count) n older (Some newer) count
+        → Seen new c (over_two_many (with_working_many a n count) n older newer count)
+    fresh_working_over_call older newer none changed =
+        node_call m c a is right new (many.over_many (many.with_working_many m n count) n older (Some newer) count)
+        (λ (b : Arena). over_two_many (with_working_many b n count) n older newer count) changed
+        (many_working_over m c right.placed n older newer count none)
 
     pub fresh_many_call : (cache : CacheId) (page : PageNo) (own : OwnState) → many.HaveNone m n count
         → AreVacant a cache page count → new ≡ many.with_new_many m n cache page own count

@@ -1,6 +1,6 @@
 -- Nodes of one run that go.
 use Rattle.std.proofs.Common.{◌≡◌, ℕ, zero, suc, ◌+◌, ◌-◌, ◌<◌, ◌≤◌, Option, Some, None, IsSome, is_some, refl, ap, sym, subst, ◌∙◌, inl, inr, arith}
-use Rattle.std.specs.Prelude.{option_and_then, option_map, unwrap_or}
+use Rattle.std.specs.Prelude.{◌⊎◌, option_and_then, option_map, unwrap_or}
 use Rattle.std.proofs.lemmas.Bool.{false≢true}
 use Rattle.std.proofs.lemmas.Option.{none-some}
 use Rattle.std.specs.Ordering.{nat_cmp}
@@ -32,8 +32,9 @@ use Rattle.local_cache.specs.Runs.{first_name, name_after, run}
 use Rattle.local_cache.specs.Singles.{IsCounted, without_range}
 use Rattle.local_cache.specs.ThinNodes.{thin_nodes}
 use Rattle.local_cache.proofs.ManyNodes.Cleared.{len_range, range_cases, range_in, range_out, range_vacant, ranged_by}
+use Rattle.local_cache.proofs.ManyNodes.Found as found
 use Rattle.local_cache.proofs.NodeCells.{get_cells_by}
-use Rattle.local_cache.proofs.NodeKeys.{key_apart, len_index}
+use Rattle.local_cache.proofs.NodeKeys.{len_index}
 
 -- One after the other --------------------------------------------------------------------------
 
@@ -175,52 +176,20 @@ module _ (l : NodeLists) (c : Counters) (right : IsRight l c) (r : Stretch Run)
   module _ {V : Type 0} (number : V → ℕ) (m : FinMap nat_cmp V) (key : Cell → Option ℕ)
       (index : Indexes number m key (node_cells l)) (range : KeyRange)
       (keys : AreKeysIn (λ i. key (run_cell r.value i)) r.count range) where
-    key_of : (i k : ℕ) → i < r.count → key (run_cell r.value i) ≡ Some k → key_at key (node_cells l) (r.first + i) ≡ Some k
-    key_of i k less is = ap (option_and_then key) (node_is i less) ∙ is
+    beside : (q : ℕ) → (q < r.first) ⊎ (r.first + r.count ≤ q) → key_at key after q ≡ key_at key (node_cells l) q
+    beside q out = ap (option_and_then key) (range_out (node_cells l) r.first r.count q out)
 
-    abbrev fewer : FinMap nat_cmp V
-    fewer = without_range m range.first range.count
+    had : (i : ℕ) → i < r.count → key_at key (node_cells l) (r.first + i) ≡ key (run_cell r.value i)
+    had i less = ap (option_and_then key) (node_is i less)
 
-    finds_left : (k q : ℕ) → option_map number (map.get fewer k) ≡ Some q → key_at key after q ≡ Some k
-    finds_left k q h = elim (range_cases range.first range.count k) [
-      | inl gone ↦ absurd (none-some q (sym (ap (option_map number) (range_in m range.first range.count k gone.0 gone.1)) ∙ h))
-      | inr stays ↦
-          let had = (index k q).0 (sym (ap (option_map number) (range_out m range.first range.count k stays)) ∙ h) in
-          elim (range_cases r.first r.count q) [
-            | inl inside ↦
-                let is = sym (ap (option_and_then key) (node_at q inside.0 inside.1)) ∙ had in
-                let lies = keys.within (q - r.first) k (omega (arith, inside.0, inside.1)) is in
-                elim stays [
-                  | inl below ↦ (let bad : ⊥ = omega (arith, below, lies.0) in absurd bad)
-                  | inr above ↦ (let bad : ⊥ = omega (arith, above, lies.1) in absurd bad)
-                ]
-            | inr out ↦ ap (option_and_then key) (range_out (node_cells l) r.first r.count q out) ∙ had
-          ]
-    ]
+    gone : (i : ℕ) → i < r.count → key_at key after (r.first + i) ≡ None
+    gone i less = ap (option_and_then key) (range_in (node_cells l) r.first r.count (r.first + i) (omega arith) (omega (arith, less)))
 
-    found_left : (k q : ℕ) → key_at key after q ≡ Some k → option_map number (map.get fewer k) ≡ Some q
-    found_left k q h =
-        let had = was key q k h in
-        elim (range_cases range.first range.count k) [
-          | inl gone ↦
-              let there = keys.reached k gone.0 gone.1 in
-              let same = key_apart number m key (node_cells l) index k q (r.first + there.0) had (key_of there.0 k there.1 there.2) in
-              let none = ap (λ (j : ℕ). key_at key after j) same ∙ ap (option_and_then key) (range_in (node_cells l) r.first r.count (r.first + there.0) (omega arith) (omega (arith, there.1))) in
-              absurd (none-some k (sym none ∙ h))
-          | inr stays ↦ ap (option_map number) (range_out m range.first range.count k stays) ∙ (index k q).1 had
-        ]
+    pub index_left : Indexes number (without_range m range.first range.count) key after
+    index_left = found.index_left number m key (node_cells l) after index r.first r.count beside (λ i. key (run_cell r.value i)) range keys had gone
 
-    pub index_left : Indexes number fewer key after
-    index_left k q = (finds_left k q, found_left k q)
-
-    some_map : (o : Option V) (q : ℕ) → option_map number o ≡ Some q → IsSome o
-    some_map None q e = absurd (none-some q e)
-    some_map (Some v) q e = refl
-
-    pub len_left : map.len fewer + range.count ≡ map.len m
-    len_left = len_range m range.first range.count (λ k low high.
-        let there = keys.reached k low high in
-        some_map (map.get m k) (r.first + there.0) ((index k (r.first + there.0)).1 (key_of there.0 k there.1 there.2)))
+    pub len_left : map.len (without_range m range.first range.count) + range.count ≡ map.len m
+    len_left = found.len_left number m key (node_cells l) after index r.first r.count beside (λ i. key (run_cell r.value i)) range keys had gone
 
     pub list_fits : map.len m ≤ l.capacity
     list_fits = omega (arith, len_index number m key (node_cells l) index, right.kept.fits)

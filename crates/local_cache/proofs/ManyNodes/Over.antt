@@ -1,6 +1,6 @@
 -- Nodes of one run over others, as their tree children.
 use Rattle.std.proofs.Common.{◌≡◌, ℕ, zero, suc, ◌+◌, ◌<◌, ◌≤◌, ◌^◌, Bool, List, Option, Some, None, is_some, refl, ap, sym, ◌∙◌, inl, inr, arith}
-use Rattle.std.specs.Prelude.{IfSome, option_and_then, unwrap_or}
+use Rattle.std.specs.Prelude.{◌⊎◌, IfSome, option_and_then, unwrap_or}
 use Rattle.std.proofs.lemmas.Bool.{cases_eq}
 use Rattle.std.specs.FinMap as map
 use Rattle.stretches.specs.Cells.{cells, with_stretch}
@@ -32,7 +32,7 @@ not_thin (Pages cache page) one k b d = refl
 not_thin (Working w) one k b d = let bad : ⊥ = omega (arith, one) in absurd bad
 not_thin (EverySecond w) one k b d = let bad : ⊥ = omega (arith, one) in absurd bad
 
-further_is : (p : NodeId) (count k : ℕ) → p.0 + count ≤ 2 ^ 64 → k < count → further p k ≡ next_node p k
+pub further_is : (p : NodeId) (count k : ℕ) → p.0 + count ≤ 2 ^ 64 → k < count → further p k ≡ next_node p k
 further_is p count k short less =
     let e : (further p k).0 ≡ p.0 + k = omega (arith, short, less) in
     λ i. record { 0 = e i }
@@ -114,6 +114,40 @@ module _ (m : PageNodes) (n older : NodeId) (newer : Option NodeId) where
         ap (λ (j : ℕ). is_some (map.get (over_many m n older newer (suc k)).cells j)) same
         ∙ ap is_some (inserted_here (over_many m n older newer k).cells (n.0 + k) _)
     | inr other ↦ ap is_some (inserted_other (over_many m n older newer k).cells (n.0 + k) _ q.0 other) ∙ held_over k q h
+  ]
+
+  -- what is not said of cells
+  pub over_rest : (k : ℕ) → over_many m n older newer k ≡ record m { cells = (over_many m n older newer k).cells }
+  unfolding put
+  over_rest zero = refl
+  over_rest (suc k) = ap (λ (x : PageNodes). record x { cells = (over_many m n older newer (suc k)).cells }) (over_rest k)
+
+  -- other nodes
+  pub over_out : (k q : ℕ) → (q < n.0) ⊎ (n.0 + k ≤ q) → map.get (over_many m n older newer k).cells q ≡ map.get m.cells q
+  unfolding put
+  over_out zero q out = refl
+  over_out (suc k) q out = elim out [
+    | inl below ↦
+        inserted_other (over_many m n older newer k).cells (n.0 + k) _ q (λ e. let bad : ⊥ = omega (arith, below, e) in bad)
+        ∙ over_out k q (inl below)
+    | inr above ↦
+        inserted_other (over_many m n older newer k).cells (n.0 + k) _ q (λ e. let bad : ⊥ = omega (arith, above, e) in bad)
+        ∙ over_out k q (inr (omega (arith, above)))
+  ]
+
+  pub over_in : (k j : ℕ) → j < k → (x : Cell) → find m (next_node n j) ≡ Some x
+      → find (over_many m n older newer k) (next_node n j) ≡ Some (record x { tree = tree_of (Some (next_node older j)) (next_if newer j) })
+  unfolding cell put
+  over_in zero j less x is = let bad : ⊥ = omega (arith, less) in absurd bad
+  over_in (suc k) j less x is = elim (cases_eq j k) [
+    | inl same ↦
+        let was = ap (λ (o : Option Cell). unwrap_or o blank) (over_out k (n.0 + k) (inr (omega arith)) ∙ ap (λ (i : ℕ). map.get m.cells (n.0 + i)) (sym same) ∙ is) in
+        ap (λ (i : ℕ). map.get (over_many m n older newer (suc k)).cells (n.0 + i)) same
+        ∙ inserted_here (over_many m n older newer k).cells (n.0 + k) _
+        ∙ (λ i. Some (record (was i) { tree = tree_of (Some (next_node older (sym same i))) (next_if newer (sym same i)) }))
+    | inr other ↦
+        inserted_other (over_many m n older newer k).cells (n.0 + k) _ (n.0 + j) (λ e. other (let same : j ≡ k = omega (arith, e) in same))
+        ∙ over_in k j (omega (arith, less, other)) x is
   ]
 
   -- so many more

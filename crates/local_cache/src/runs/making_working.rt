@@ -1,8 +1,8 @@
 // Working nodes made, as one run.
-ghost use Rattle.std.specs.Prelude.{◌≡◌, ◌*◌, ◌+◌, ◌<◌, ◌≤◌, ◌^◌, ℕ, None};
+ghost use Rattle.std.specs.Prelude.{◌≡◌, ◌*◌, ◌+◌, ◌<◌, ◌≤◌, ◌^◌, ℕ, None, Some};
 ghost use Rattle.std.specs.FinMap as map;
 ghost use Rattle.stretches.specs.Cells.{cells, with_stretch};
-ghost use Rattle.local_cache.specs.ManyNodes.{with_working_many};
+ghost use Rattle.local_cache.specs.ManyNodes.{over_many, with_working_many};
 ghost use Rattle.local_cache.specs.NodeCells.{node_cells};
 ghost use Rattle.local_cache.specs.NodeLists.{thinned};
 ghost use Rattle.local_cache.specs.NodeRuns.{IsRight, nodes_of};
@@ -48,6 +48,47 @@ pub(crate) fn make_working(lists: &mut NodeLists, counters: &mut Counters, count
     );
     fill_thin(&mut lists.even, even, first + number % 2);
     fill_thin(&mut lists.odd, odd, first + (number + 1) % 2);
+    counters.nodes += count;
+    counters.made += count as u64;
+    counters.next_working += count as u64;
+}
+
+// Makes so many working nodes under the next names and numbers, `Absent` and without parent, each over
+// the next one of some nodes and the next one of others as its tree children, all as one run. Such
+// nodes are not thin.
+pub(crate) fn make_working_over(
+    lists: &mut NodeLists,
+    counters: &mut Counters,
+    count: u32,
+    older: NodeId,
+    newer: NodeId,
+)
+    requires right { IsRight lists.old counters.old }
+    requires some { 0 < count }
+    requires made { counters.old.made + count ≤ 2 ^ 63 }
+    requires room { map.len (node_cells lists.old) + count ≤ lists.old.capacity }
+    requires short_older { older.0 + count ≤ 2 ^ 64 }
+    requires short_newer { newer.0 + count ≤ 2 ^ 64 }
+    ensures right { IsRight lists.new counters.new }
+    ensures nodes { nodes_of lists.new counters.new
+        ≡ over_many (with_working_many (nodes_of lists.old counters.old)
+        (record { 0 = counters.old.next_working }) count)
+        (record { 0 = counters.old.next_working }) older (Some newer) count }
+{
+    fill_many(
+        &mut lists.runs,
+        Stretch {
+            first: counters.next_working,
+            count,
+            value: Run {
+                name: RunName::Working(counters.made + 1),
+                own: PlainState::Absent,
+                parent: None,
+                older: Some(older),
+                newer: Some(newer),
+            },
+        },
+    );
     counters.nodes += count;
     counters.made += count as u64;
     counters.next_working += count as u64;

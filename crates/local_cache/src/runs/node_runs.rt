@@ -17,7 +17,7 @@ use crate::runs::first_thin::{first_of, lesser};
 use crate::runs::hanging::hang_from;
 use crate::runs::keys::{keys_of, page_number};
 use crate::runs::making::make_run;
-use crate::runs::making_working::make_working;
+use crate::runs::making_working::{make_working, make_working_over};
 use crate::runs::numbering::{
     FIRST_WORKING, give_name, give_page_number, give_working_number, number_behind,
 };
@@ -331,6 +331,27 @@ impl NodeRuns {
         let first = self.counters.next_working;
         if count > 0 {
             make_working(&mut self.lists, &mut self.counters, count);
+        }
+        NodeId(first)
+    }
+
+    /// Makes so many working nodes under the next names, each over the next older and the next newer
+    /// node as its tree children, in this order: as `fresh_working_many` makes them and `adopt_many`
+    /// gives them these. They are one run. It takes no memory: there has to be room for the nodes.
+    pub(crate) fn fresh_working_over(&mut self, count: u32, older: NodeId, newer: NodeId) -> NodeId
+        requires room { count ≤ self.old.room }
+        requires made { self.old.made + count ≤ 2 ^ 63 }
+        requires short_older { older.0 + count ≤ 2 ^ 64 }
+        requires short_newer { newer.0 + count ≤ 2 ^ 64 }
+        ensures new { HaveNone self.old result count }
+        ensures high { 2 ^ 52 ≤ result.0 }
+        ensures short { result.0 + count ≤ 2 ^ 64 }
+        ensures changed { self.new ≡ over_many (with_working_many self.old result count) result
+            older (Some newer) count }
+    {
+        let first = self.counters.next_working;
+        if count > 0 {
+            make_working_over(&mut self.lists, &mut self.counters, count, older, newer);
         }
         NodeId(first)
     }
