@@ -6,7 +6,7 @@ use Rattle.vm_ids.specs.declared.numbers.NodeId.{NodeId}
 use Rattle.vm_ids.specs.declared.numbers.PageNo.{PageNo}
 use Rattle.local_cache.specs.declared.own_state.OwnState.{OwnState}
 use Rattle.local_cache.specs.declared.own_state.OwnState.TheVariants.{Absent, Zero, Resident, Slot, OnSegment}
-use Rattle.local_cache.specs.Arena.{Arena, HasNode, IsVacant, as_working, cell, find, hung, no_links, with_new, with_tree, with_working, without}
+use Rattle.local_cache.specs.Arena.{Arena, HasNode, IsVacant, as_working, cell, find, hung, no_links, with_name, with_new, with_tree, with_working, without}
 use Rattle.local_cache.specs.ManyNodes.{next_if, next_node}
 
 -- so many nodes from one on are there
@@ -58,6 +58,13 @@ with_working_many a n (suc k) = with_working (with_working_many a n k) (next_nod
 abbrev pub as_working_many : Arena → NodeId → ℕ → Arena
 as_working_many a n zero = a
 as_working_many a n (suc k) = as_working (as_working_many a n k) (next_node n k)
+
+-- so many nodes from one on as the nodes of pages of a cache, from one page on
+abbrev pub renamed_many : Arena → NodeId → CacheId → PageNo → ℕ → Arena
+renamed_many a n cache page zero = a
+renamed_many a n cache page (suc k) =
+    with_name (renamed_many a n cache page k) (next_node n k)
+    (Live cache (record { 0 = page.0 + k }))
 
 -- so many nodes from one on, each on the next parent by a tree link
 abbrev pub hung_many : Arena → NodeId → NodeId → ℕ → Arena

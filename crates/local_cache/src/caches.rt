@@ -8,7 +8,7 @@ ghost use Rattle.vm_ids.specs.Forest.NameMap.{len};
 ghost use Rattle.vm_ids.specs.Forest.Nodes.{no_forest};
 ghost use Rattle.vm_ids.specs.Forest.Reading.{counts_of};
 ghost use Rattle.local_cache.specs.Home.{home_of};
-ghost use Rattle.local_cache.specs.Many.{AreAlike, AreNamed, AreVacant, HaveNodes, HaveNone, IsPlain, as_working_many, hung_many, over_many, over_two_many, with_new_many, with_working_many, without_many};
+ghost use Rattle.local_cache.specs.Many.{AreAlike, AreNamed, AreVacant, HaveNodes, HaveNone, IsPlain, as_working_many, hung_many, over_many, over_two_many, renamed_many, with_new_many, with_working_many, without_many};
 ghost use Rattle.local_cache.specs.NodeCells.{own_of_plain};
 ghost use Rattle.local_cache.specs.Reading.{IsNamed, forest_of};
 ghost use Rattle.local_cache.specs.Sound.{IsSound, MakesPages};
@@ -538,6 +538,17 @@ impl Caches {
         ensures stays { NodesStay self.old self.new }
     {
         self.nodes.rename(node, cache, page);
+    }
+
+    /// Makes so many nodes, from one on, those of pages that have none, from one page on. The pages that they were the nodes
+    /// of have none then. Nodes of pages that stand in one run get their names at once.
+    pub fn rename_many(&mut self, node: NodeId, count: u32, cache: CacheId, page: PageNo)
+        requires held { HaveNodes self.old node count }
+        requires vacant { AreVacant self.old cache page count }
+        ensures changed { self.new ≡ renamed_many self.old node cache page count }
+        ensures stays { NodesStay self.old self.new }
+    {
+        self.nodes.rename_many(node, count, cache, page);
     }
 
     /// Gives back a node that nothing names. The page that it was the node of has none then.

@@ -114,16 +114,19 @@ module _ (m : PageNodes) (c : CacheRows) (right : ArePlaced m c.rows) where
       pub tree_set : (ts : List NodeId) → StandFor (nodes.with_tree m n ts) c (arena.with_tree a n ts)
       tree_set ts = record { is = tree_by m c n ts; right = kept_tree m c.rows right n ts held }
 
-      pub renamed : (cache : CacheId) (page : PageNo) → IsVacant a cache page
+      pub named_by : (cache : CacheId) (page : PageNo) → MayGetNode m c cache page
           → StandFor (nodes.with_name m n (Live cache page)) c (arena.with_name a n (Live cache page))
-      renamed cache page vacant =
-          let may = may_get_node cache page vacant in
+      named_by cache page may =
           record {
             is = name_by m c n right.short right.paged held (named_short m c.rows right n held)
                 (Live cache page) (short_name m c.rows right (Live cache page) may.placed);
             right = kept_name m c.rows right n (Live cache page) held may.placed
                 (λ k e. ap (ids.get m.pages) (sym (same_Some (page_number cache.0 page.0) k e)) ∙ may.vacant);
           }
+
+      pub renamed : (cache : CacheId) (page : PageNo) → IsVacant a cache page
+          → StandFor (nodes.with_name m n (Live cache page)) c (arena.with_name a n (Live cache page))
+      renamed cache page vacant = named_by cache page (may_get_node cache page vacant)
 
       pub made_working : StandFor (nodes.as_working m n) c (arena.as_working a n)
       made_working =

@@ -1,5 +1,5 @@
 -- Each call that changes many page nodes, one after the other.
-use Rattle.std.proofs.Common.{◌≡◌, ℕ, zero, suc, ◌+◌, ◌<◌, ◌≤◌, ◌^◌, Some, None, is_some, refl, ap, sym, subst, ◌∙◌, inr, arith}
+use Rattle.std.proofs.Common.{◌≡◌, ℕ, zero, suc, ◌+◌, ◌<◌, ◌≤◌, ◌^◌, Some, None, is_some, refl, ap, sym, subst, ◌∙◌, inr, arith, ◌≢◌}
 use Rattle.std.specs.Prelude.{List, [], ◌∷◌, false}
 use Rattle.std.proofs.lemmas.Option.{same_Some}
 use Rattle.std.specs.FinMap as ids
@@ -12,14 +12,14 @@ use Rattle.local_cache.specs.declared.own_state.OwnState.{OwnState}
 use Rattle.local_cache.specs.Arena.{Arena}
 use Rattle.local_cache.specs.Arena as arena
 use Rattle.local_cache.specs.ArenaBy.{CacheRows, arena_by}
-use Rattle.local_cache.specs.Many.{AreVacant, as_working_many, hung_many, over_many, over_two_many, with_new_many, with_working_many, without_many}
+use Rattle.local_cache.specs.Many.{AreVacant, as_working_many, hung_many, over_many, over_two_many, renamed_many, with_new_many, with_working_many, without_many}
 use Rattle.local_cache.specs.ManyNodes.{AreNamed, HaveNodes, HaveNone, next_node}
 use Rattle.local_cache.specs.ManyNodes as many
 use Rattle.local_cache.specs.NodeKeys.{page_number}
 use Rattle.local_cache.specs.PageNodes.{PageNodes}
 use Rattle.local_cache.specs.PageNodes as nodes
 use Rattle.local_cache.specs.Placed.{ArePlaced, IsPlaced}
-use Rattle.local_cache.proofs.ArenaBy.Calls.{MayGetNode, StandFor, freed, links_set, made_working, may_get_node, tree_set, working_made}
+use Rattle.local_cache.proofs.ArenaBy.Calls.{MayGetNode, StandFor, freed, links_set, made_working, may_get_node, named_by, tree_set, working_made}
 use Rattle.local_cache.proofs.ArenaBy.Nodes.{new_by}
 use Rattle.local_cache.proofs.ArenaBy.Placed.{kept_new, placed_name, short_name}
 use Rattle.local_cache.proofs.ArenaBy.Rows.{page_short}
@@ -29,6 +29,7 @@ use Rattle.local_cache.proofs.ManyNodes.AsWorking.{held_as_working}
 use Rattle.local_cache.proofs.ManyNodes.Freed.{held_behind}
 use Rattle.local_cache.proofs.ManyNodes.Hung.{held_hung}
 use Rattle.local_cache.proofs.ManyNodes.Over.{held_over}
+use Rattle.local_cache.proofs.ManyNodes.Renamed.{held_named, vacant_named}
 use Rattle.local_cache.proofs.ManyNodes.Renewed.{have_none_left, named_held, pages_gone}
 use Rattle.local_cache.proofs.NodeCells.{inserted_other}
 
@@ -142,6 +143,25 @@ module _ (m : PageNodes) (c : CacheRows) (right : ArePlaced m c.rows) (n : NodeI
       → StandFor (many.with_new_many m n cache page own k) c (with_new_many a n cache page own k)
   many_made cache page own k none vacant =
       many_come cache page own k none (λ j less. may_get_node m c right cache (record { 0 = page.0 + j }) (vacant j less))
+
+  -- nodes get the names of pages that have none
+  pub many_named : (cache : CacheId) (page : PageNo) (k : ℕ) → HaveNodes m n k → AreVacant a cache page k
+      → StandFor (many.with_names m n cache page k) c (renamed_many a n cache page k)
+  many_named cache page zero held vacant = none_yet
+  many_named cache page (suc k) held vacant =
+      let now : PageNodes = many.with_names m n cache page k in
+      let before = many_named cache page k (λ j less. held j (omega (arith, less))) (λ j less. vacant j (omega (arith, less))) in
+      let p : PageNo = record { 0 = page.0 + k } in
+      let may = may_get_node m c right cache p (vacant k (omega arith)) in
+      let other : (j : ℕ) → j < k → page_number cache.0 p.0 ≢ page_number cache.0 (page.0 + j) =
+      λ j less e. (let bad : ⊥ = omega (arith, less, e) in bad) in
+      one_more now (nodes.with_name now (next_node n k) (Live cache p)) c (renamed_many a n cache page k)
+      (λ (b : Arena). arena.with_name b (next_node n k) (Live cache p)) before
+      (named_by now c before.right (next_node n k) (held_named m n cache page k (next_node n k) (held k (omega arith))) cache p (record {
+        vacant = vacant_named m n cache page k (page_number cache.0 p.0) may.vacant other;
+        short = may.short;
+        placed = may.placed;
+      }))
 
 -- New working nodes over others ---------------------------------------------------------------------
 

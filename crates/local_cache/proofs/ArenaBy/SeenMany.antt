@@ -8,13 +8,13 @@ use Rattle.vm_ids.specs.declared.numbers.PageNo.{PageNo}
 use Rattle.local_cache.specs.declared.own_state.OwnState.{OwnState}
 use Rattle.local_cache.specs.Arena.{Arena, Cell, NodesStay, cell}
 use Rattle.local_cache.specs.ArenaBy.{CacheRows, arena_by}
-use Rattle.local_cache.specs.Many.{AreNamed, AreVacant, HaveNodes, HaveNone, as_working_many, hung_many, over_many, over_two_many, with_new_many, with_working_many, without_many}
+use Rattle.local_cache.specs.Many.{AreNamed, AreVacant, HaveNodes, HaveNone, as_working_many, hung_many, over_many, over_two_many, renamed_many, with_new_many, with_working_many, without_many}
 use Rattle.local_cache.specs.ManyNodes.{next_node}
 use Rattle.local_cache.specs.ManyNodes as many
 use Rattle.local_cache.specs.NodeKeys.{page_number}
 use Rattle.local_cache.specs.PageNodes.{PageNodes}
 use Rattle.local_cache.specs.Placed.{AreRight}
-use Rattle.local_cache.proofs.ArenaBy.Many.{many_as_working, many_freed, many_hung, many_made, many_over, many_over_two, many_renewed, many_working, many_working_over}
+use Rattle.local_cache.proofs.ArenaBy.Many.{many_as_working, many_freed, many_hung, many_made, many_named, many_over, many_over_two, many_renewed, many_working, many_working_over}
 use Rattle.local_cache.proofs.ArenaBy.Nodes.{cell_by}
 use Rattle.local_cache.proofs.ArenaBy.Seen.{Seen, held_seen, may_seen, node_call, none_seen}
 
@@ -109,6 +109,14 @@ module _ (m : PageNodes) (c : CacheRows) (a : Arena) (is : arena_by m c ≡ a) (
         node_call m c a is right new (many.with_new_many m n cache page own count)
         (λ (b : Arena). with_new_many b n cache page own count) changed
         (many_made m c right.placed n cache page own count none
+        (subst (λ (b : Arena). AreVacant b cache page count) (sym is) vacant))
+
+    pub rename_many_call : (cache : CacheId) (page : PageNo) → HaveNodes a n count → AreVacant a cache page count
+        → new ≡ many.with_names m n cache page count → Seen new c (renamed_many a n cache page count)
+    rename_many_call cache page held vacant changed =
+        node_call m c a is right new (many.with_names m n cache page count)
+        (λ (b : Arena). renamed_many b n cache page count) changed
+        (many_named m c right.placed n cache page count (all_held m c a is n count held)
         (subst (λ (b : Arena). AreVacant b cache page count) (sym is) vacant))
 
   -- pages whose nodes went get new ones

@@ -7,9 +7,9 @@ use Rattle.vm_ids.specs.declared.numbers.NodeId.{NodeId}
 use Rattle.vm_ids.specs.declared.numbers.PageNo.{PageNo}
 use Rattle.local_cache.specs.declared.own_state.OwnState.{OwnState}
 use Rattle.local_cache.specs.Arena.{Arena, HasNode, NodesStay}
-use Rattle.local_cache.specs.Many.{HaveNodes, as_working_many, hung_many, over_many, over_two_many, with_new_many, with_working_many}
+use Rattle.local_cache.specs.Many.{HaveNodes, as_working_many, hung_many, over_many, over_two_many, renamed_many, with_new_many, with_working_many}
 use Rattle.local_cache.specs.ManyNodes.{next_node}
-use Rattle.local_cache.proofs.Nodes.Cells.{held-new, held-working, stays-as_working, stays-new, stays-put, stays-working}
+use Rattle.local_cache.proofs.Nodes.Cells.{held-new, held-working, stays-as_working, stays-named, stays-new, stays-put, stays-working}
 
 module _ (a : Arena) (n : NodeId) where
   pub stay_hung : (parent : NodeId) (k : ℕ) → NodesStay a (hung_many a n parent k)
@@ -26,6 +26,12 @@ module _ (a : Arena) (n : NodeId) where
   stay_over_two older newer zero q h = h
   stay_over_two older newer (suc k) q h =
       stays-put (over_two_many a n older newer k) _ (next_node n k) _ refl q (stay_over_two older newer k q h)
+
+  pub stay_renamed : (cache : CacheId) (page : PageNo) (k : ℕ) → NodesStay a (renamed_many a n cache page k)
+  stay_renamed cache page zero q h = h
+  stay_renamed cache page (suc k) q h =
+      stays-named (renamed_many a n cache page k) _ (next_node n k) (Live cache (record { 0 = page.0 + k })) refl q
+      (stay_renamed cache page k q h)
 
   pub stay_as_working : (k : ℕ) → NodesStay a (as_working_many a n k)
   stay_as_working zero q h = h
