@@ -11,6 +11,8 @@ pub mod Found
 pub mod Freed
 -- Nodes of one run under other names.
 pub mod Renamed
+-- Nodes of pages that become those of other pages, and new nodes in their place.
+pub mod Moved
 -- Nodes of one run of which something else is said, but for their names.
 pub mod Relinked
 -- Nodes of one run on other parents.

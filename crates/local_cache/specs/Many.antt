@@ -1,5 +1,6 @@
 -- Many page nodes of the caches changed at once: as the calls for one change them, one after the other.
 use Rattle.std.specs.Prelude.{◌≡◌, ℕ, zero, suc, ◌+◌, ◌<◌, [], ◌∷◌, map, None, Some}
+use Rattle.vm_ids.specs.declared.command.Span.{Span}
 use Rattle.vm_ids.specs.declared.node_name.NodeName.TheVariants.{Live, Working}
 use Rattle.vm_ids.specs.declared.numbers.CacheId.{CacheId}
 use Rattle.vm_ids.specs.declared.numbers.NodeId.{NodeId}
@@ -65,6 +66,14 @@ renamed_many a n cache page zero = a
 renamed_many a n cache page (suc k) =
     with_name (renamed_many a n cache page k) (next_node n k)
     (Live cache (record { 0 = page.0 + k }))
+
+-- The nodes of the source's pages, from s on, as those of the destination's pages, whose own ones,
+-- from d on, are gone, and new nodes of zeros, from n on, for the source's pages.
+abbrev pub moved_many : Arena → (d s n : NodeId) → Span → Arena
+moved_many a d s n span =
+    with_new_many
+    (renamed_many (without_many a d span.pages) s span.to span.to_page span.pages) n
+    span.from span.from_page Zero span.pages
 
 -- so many nodes from one on, each on the next parent by a tree link
 abbrev pub hung_many : Arena → NodeId → NodeId → ℕ → Arena

@@ -1,10 +1,13 @@
 -- Many page nodes changed at once: as the calls for one change them, one after the other.
-use Rattle.std.specs.Prelude.{◌≡◌, ℕ, zero, suc, ◌+◌, ◌<◌, ◌≤◌, ◌^◌, IfSome, Option, None, Some, false}
+use Rattle.std.specs.Prelude.{◌≡◌, ◌≢◌, ℕ, zero, suc, ◌+◌, ◌<◌, ◌≤◌, ◌^◌, IfSome, Option, None, Some, false}
+use Rattle.vm_ids.specs.declared.command.Span.{Span}
 use Rattle.vm_ids.specs.declared.node_name.NodeName.TheVariants.{Live}
 use Rattle.vm_ids.specs.declared.numbers.CacheId.{CacheId}
 use Rattle.vm_ids.specs.declared.numbers.NodeId.{NodeId}
 use Rattle.vm_ids.specs.declared.numbers.PageNo.{PageNo}
+use Rattle.vm_ids.specs.Forest.Commands.{page_name}
 use Rattle.local_cache.specs.declared.own_state.OwnState.{OwnState}
+use Rattle.local_cache.specs.declared.own_state.OwnState.TheVariants.{Zero}
 use Rattle.local_cache.specs.declared.runs.run.Run.{Run}
 use Rattle.local_cache.specs.NodeCells.{bare, cell_of, tree_of}
 use Rattle.local_cache.specs.PageNodes.{HasNode, PageNodes, as_working, cell, find, with_links, with_name, with_new, with_tree, with_working, without}
@@ -66,6 +69,20 @@ with_names m n cache page zero = m
 with_names m n cache page (suc k) =
     with_name (with_names m n cache page k) (next_node n k)
     (Live cache (record { 0 = page.0 + k }))
+
+-- no page of the source of a span is one of its destination
+abbrev pub IsApart : Span → Type 0
+IsApart span =
+    (i j : ℕ) → i < span.pages → j < span.pages
+    → page_name span.from (span.from_page.0 + i) ≢ page_name span.to (span.to_page.0 + j)
+
+-- The nodes of the source's pages, from s on, as those of the destination's pages, whose own ones,
+-- from d on, are gone, and new nodes of zeros, from n on, for the source's pages.
+abbrev pub moved_many : PageNodes → (d s n : NodeId) → Span → PageNodes
+moved_many m d s n span =
+    with_new_many
+    (with_names (without_many m d span.pages) s span.to span.to_page span.pages) n
+    span.from span.from_page Zero span.pages
 
 -- a node on this parent by a tree link
 abbrev pub hung : PageNodes → NodeId → NodeId → PageNodes

@@ -8,7 +8,8 @@ ghost use Rattle.vm_ids.specs.Forest.NameMap.{len};
 ghost use Rattle.vm_ids.specs.Forest.Nodes.{no_forest};
 ghost use Rattle.vm_ids.specs.Forest.Reading.{counts_of};
 ghost use Rattle.local_cache.specs.Home.{home_of};
-ghost use Rattle.local_cache.specs.Many.{AreAlike, AreNamed, AreVacant, HaveNodes, HaveNone, IsPlain, as_working_many, hung_many, over_many, over_two_many, renamed_many, with_new_many, with_working_many, without_many};
+ghost use Rattle.local_cache.specs.Many.{AreAlike, AreNamed, AreVacant, HaveNodes, HaveNone, IsPlain, as_working_many, hung_many, moved_many, over_many, over_two_many, renamed_many, with_new_many, with_working_many, without_many};
+ghost use Rattle.local_cache.specs.ManyNodes.{IsApart};
 ghost use Rattle.local_cache.specs.NodeCells.{own_of_plain};
 ghost use Rattle.local_cache.specs.Reading.{IsNamed, forest_of};
 ghost use Rattle.local_cache.specs.Sound.{IsSound, MakesPages};
@@ -19,7 +20,7 @@ use crate::runs::{Children, NodeRuns, PlainState, plain};
 use crate::{Home, Links, OwnState};
 use std::alloc::Global;
 use std::marker::Model;
-use vm_ids::{CacheId, Counts, NoMemory, NodeId, NodeName, PageNo, SegId};
+use vm_ids::{CacheId, Counts, NoMemory, NodeId, NodeName, PageNo, SegId, Span};
 
 /// All page nodes and all caches.
 ///
@@ -549,6 +550,23 @@ impl Caches {
         ensures stays { NodesStay self.old self.new }
     {
         self.nodes.rename_many(node, count, cache, page);
+    }
+
+    /// Gives the pages of a span's destination the nodes of its source's pages, from one node on, with all that they have, in
+    /// place of their own, which are those from another one on and which nothing names; and the source's pages new nodes of
+    /// zeros without parent and children, under numbers that no node had, that follow one another, and that are below those of
+    /// nodes made as working ones. Where such numbers came to an end nothing changes, and it answers `None`. Nodes that stand
+    /// in one run go, or get their names, at once, and the new ones are one run.
+    pub fn move_many(&mut self, span: Span, gone: NodeId, node: NodeId) -> Option<NodeId>
+        requires destinations { AreNamed self.old gone span.to span.to_page span.pages }
+        requires sources { AreNamed self.old node span.from span.from_page span.pages }
+        requires apart { IsApart span }
+        ensures new { IfSome result (λ n. HaveNone self.old n span.pages) }
+        ensures short { IfSome result (λ n. n.0 + span.pages ≤ 2 ^ 52) }
+        ensures changed { MatchOption result (self.new ≡ self.old) (λ n. self.new
+            ≡ moved_many self.old gone node n span) }
+    {
+        self.nodes.move_many(span, gone, node)
     }
 
     /// Gives back a node that nothing names. The page that it was the node of has none then.

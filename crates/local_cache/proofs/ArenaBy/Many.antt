@@ -3,17 +3,19 @@ use Rattle.std.proofs.Common.{◌≡◌, ℕ, zero, suc, ◌+◌, ◌<◌, ◌�
 use Rattle.std.specs.Prelude.{List, [], ◌∷◌, false}
 use Rattle.std.proofs.lemmas.Option.{same_Some}
 use Rattle.std.specs.FinMap as ids
+use Rattle.vm_ids.specs.declared.command.Span.{Span}
 use Rattle.vm_ids.specs.declared.node_name.NodeName.{NodeName}
 use Rattle.vm_ids.specs.declared.node_name.NodeName.TheVariants.{Live}
 use Rattle.vm_ids.specs.declared.numbers.CacheId.{CacheId}
 use Rattle.vm_ids.specs.declared.numbers.NodeId.{NodeId}
 use Rattle.vm_ids.specs.declared.numbers.PageNo.{PageNo}
 use Rattle.local_cache.specs.declared.own_state.OwnState.{OwnState}
+use Rattle.local_cache.specs.declared.own_state.OwnState.TheVariants.{Zero}
 use Rattle.local_cache.specs.Arena.{Arena}
 use Rattle.local_cache.specs.Arena as arena
 use Rattle.local_cache.specs.ArenaBy.{CacheRows, arena_by}
-use Rattle.local_cache.specs.Many.{AreVacant, as_working_many, hung_many, over_many, over_two_many, renamed_many, with_new_many, with_working_many, without_many}
-use Rattle.local_cache.specs.ManyNodes.{AreNamed, HaveNodes, HaveNone, next_node}
+use Rattle.local_cache.specs.Many.{AreVacant, as_working_many, hung_many, moved_many, over_many, over_two_many, renamed_many, with_new_many, with_working_many, without_many}
+use Rattle.local_cache.specs.ManyNodes.{AreNamed, HaveNodes, HaveNone, IsApart, next_node}
 use Rattle.local_cache.specs.ManyNodes as many
 use Rattle.local_cache.specs.NodeKeys.{page_number}
 use Rattle.local_cache.specs.PageNodes.{PageNodes}
@@ -28,6 +30,7 @@ use Rattle.local_cache.proofs.MakingWorking.{working_in, working_out}
 use Rattle.local_cache.proofs.ManyNodes.AsWorking.{held_as_working}
 use Rattle.local_cache.proofs.ManyNodes.Freed.{held_behind}
 use Rattle.local_cache.proofs.ManyNodes.Hung.{held_hung}
+use Rattle.local_cache.proofs.ManyNodes.Moved.{none_moved, sources_held, sources_left}
 use Rattle.local_cache.proofs.ManyNodes.Over.{held_over}
 use Rattle.local_cache.proofs.ManyNodes.Renamed.{held_named, vacant_named}
 use Rattle.local_cache.proofs.ManyNodes.Renewed.{have_none_left, named_held, pages_gone}
@@ -144,15 +147,16 @@ module _ (m : PageNodes) (c : CacheRows) (right : ArePlaced m c.rows) (n : NodeI
   many_made cache page own k none vacant =
       many_come cache page own k none (λ j less. may_get_node m c right cache (record { 0 = page.0 + j }) (vacant j less))
 
-  -- nodes get the names of pages that have none
-  pub many_named : (cache : CacheId) (page : PageNo) (k : ℕ) → HaveNodes m n k → AreVacant a cache page k
+  -- nodes get the names of pages that may get nodes
+  pub many_named : (cache : CacheId) (page : PageNo) (k : ℕ) → HaveNodes m n k
+      → ((j : ℕ) → j < k → MayGetNode m c cache (record { 0 = page.0 + j }))
       → StandFor (many.with_names m n cache page k) c (renamed_many a n cache page k)
-  many_named cache page zero held vacant = none_yet
-  many_named cache page (suc k) held vacant =
+  many_named cache page zero held may_get = none_yet
+  many_named cache page (suc k) held may_get =
       let now : PageNodes = many.with_names m n cache page k in
-      let before = many_named cache page k (λ j less. held j (omega (arith, less))) (λ j less. vacant j (omega (arith, less))) in
+      let before = many_named cache page k (λ j less. held j (omega (arith, less))) (λ j less. may_get j (omega (arith, less))) in
       let p : PageNo = record { 0 = page.0 + k } in
-      let may = may_get_node m c right cache p (vacant k (omega arith)) in
+      let may = may_get k (omega arith) in
       let other : (j : ℕ) → j < k → page_number cache.0 p.0 ≢ page_number cache.0 (page.0 + j) =
       λ j less e. (let bad : ⊥ = omega (arith, less, e) in bad) in
       one_more now (nodes.with_name now (next_node n k) (Live cache p)) c (renamed_many a n cache page k)
@@ -162,6 +166,11 @@ module _ (m : PageNodes) (c : CacheRows) (right : ArePlaced m c.rows) (n : NodeI
         short = may.short;
         placed = may.placed;
       }))
+
+  pub many_renamed : (cache : CacheId) (page : PageNo) (k : ℕ) → HaveNodes m n k → AreVacant a cache page k
+      → StandFor (many.with_names m n cache page k) c (renamed_many a n cache page k)
+  many_renamed cache page k held vacant =
+      many_named cache page k held (λ j less. may_get_node m c right cache (record { 0 = page.0 + j }) (vacant j less))
 
 -- New working nodes over others ---------------------------------------------------------------------
 
@@ -199,3 +208,39 @@ module _ (m : PageNodes) (c : CacheRows) (right : ArePlaced m c.rows) (d : NodeI
       let gone = many_freed m c right d count (named_held m d cache page count named) in
       let come = many_come (many.without_many m d count) c gone.right n cache page own count (have_none_left m d count n count none) may_come in
       record { is = come.is ∙ ap (λ (b : Arena). with_new_many b n cache page own count) gone.is; right = come.right }
+
+-- Pages get the nodes of others -----------------------------------------------------------------------
+
+module _ (m : PageNodes) (c : CacheRows) (right : ArePlaced m c.rows) (span : Span) (d s : NodeId)
+    (destinations : AreNamed m d span.to span.to_page span.pages) (sources : AreNamed m s span.from span.from_page span.pages)
+    (apart : IsApart span) where
+  short_to : (k : ℕ) → k < span.pages → span.to_page.0 + k < 2 ^ 32
+  short_to k less = omega (arith, named_short m c right d span.to span.to_page span.pages destinations k less)
+
+  short_from : (k : ℕ) → k < span.pages → span.from_page.0 + k < 2 ^ 32
+  short_from k less = omega (arith, named_short m c right s span.from span.from_page span.pages sources k less)
+
+  left_may : (k : ℕ) → k < span.pages
+      → MayGetNode (many.with_names (many.without_many m d span.pages) s span.to span.to_page span.pages) c span.from (record { 0 = span.from_page.0 + k })
+  left_may k less = record {
+    vacant = sources_left m span d s destinations sources apart short_from short_to k less;
+    short = named_short m c right s span.from span.from_page span.pages sources k less;
+    placed = named_placed m c right s span.from span.from_page span.pages sources k less;
+  }
+
+  pub many_moved : (n : NodeId) → HaveNone m n span.pages
+      → StandFor (many.moved_many m d s n span) c (moved_many (arena_by m c) d s n span)
+  many_moved n none =
+      let count = span.pages in
+      let without : PageNodes = many.without_many m d count in
+      let gone = many_freed m c right d count (named_held m d span.to span.to_page count destinations) in
+      let named = many_named without c gone.right s span.to span.to_page count
+      (sources_held m span d s destinations sources apart) (may_come m c right d span.to span.to_page count destinations) in
+      let come = many_come (many.with_names without s span.to span.to_page count) c named.right n span.from span.from_page Zero count
+      (none_moved m span d s destinations sources apart n none) left_may in
+      record {
+        is = come.is
+            ∙ ap (λ (b : Arena). with_new_many b n span.from span.from_page Zero count)
+            (named.is ∙ ap (λ (b : Arena). renamed_many b s span.to span.to_page count) gone.is);
+        right = come.right;
+      }

@@ -2,19 +2,20 @@
 use Rattle.std.proofs.Common.{◌≡◌, ℕ, ◌+◌, ◌<◌, ◌^◌, None, Option, Some, ap, sym, subst, ◌∙◌, arith}
 use Rattle.std.specs.Prelude.{IfSome, MatchOption}
 use Rattle.std.specs.FinMap as ids
+use Rattle.vm_ids.specs.declared.command.Span.{Span}
 use Rattle.vm_ids.specs.declared.numbers.CacheId.{CacheId}
 use Rattle.vm_ids.specs.declared.numbers.NodeId.{NodeId}
 use Rattle.vm_ids.specs.declared.numbers.PageNo.{PageNo}
 use Rattle.local_cache.specs.declared.own_state.OwnState.{OwnState}
 use Rattle.local_cache.specs.Arena.{Arena, Cell, NodesStay, cell}
 use Rattle.local_cache.specs.ArenaBy.{CacheRows, arena_by}
-use Rattle.local_cache.specs.Many.{AreNamed, AreVacant, HaveNodes, HaveNone, as_working_many, hung_many, over_many, over_two_many, renamed_many, with_new_many, with_working_many, without_many}
-use Rattle.local_cache.specs.ManyNodes.{next_node}
+use Rattle.local_cache.specs.Many.{AreNamed, AreVacant, HaveNodes, HaveNone, as_working_many, hung_many, moved_many, over_many, over_two_many, renamed_many, with_new_many, with_working_many, without_many}
+use Rattle.local_cache.specs.ManyNodes.{IsApart, next_node}
 use Rattle.local_cache.specs.ManyNodes as many
 use Rattle.local_cache.specs.NodeKeys.{page_number}
 use Rattle.local_cache.specs.PageNodes.{PageNodes}
 use Rattle.local_cache.specs.Placed.{AreRight}
-use Rattle.local_cache.proofs.ArenaBy.Many.{many_as_working, many_freed, many_hung, many_made, many_named, many_over, many_over_two, many_renewed, many_working, many_working_over}
+use Rattle.local_cache.proofs.ArenaBy.Many.{many_as_working, many_freed, many_hung, many_made, many_moved, many_over, many_over_two, many_renamed, many_renewed, many_working, many_working_over}
 use Rattle.local_cache.proofs.ArenaBy.Nodes.{cell_by}
 use Rattle.local_cache.proofs.ArenaBy.Seen.{Seen, held_seen, may_seen, node_call, none_seen}
 
@@ -116,7 +117,7 @@ module _ (m : PageNodes) (c : CacheRows) (a : Arena) (is : arena_by m c ≡ a) (
     rename_many_call cache page held vacant changed =
         node_call m c a is right new (many.with_names m n cache page count)
         (λ (b : Arena). renamed_many b n cache page count) changed
-        (many_named m c right.placed n cache page count (all_held m c a is n count held)
+        (many_renamed m c right.placed n cache page count (all_held m c a is n count held)
         (subst (λ (b : Arena). AreVacant b cache page count) (sym is) vacant))
 
   -- pages whose nodes went get new ones
@@ -128,6 +129,15 @@ module _ (m : PageNodes) (c : CacheRows) (a : Arena) (is : arena_by m c ≡ a) (
         node_call m c a is right new (many.with_new_many (many.without_many m d count) n cache page own count)
         (λ (b : Arena). with_new_many (without_many b d count) n cache page own count) changed
         (many_renewed m c right.placed d cache page count (all_named m c a is d count cache page named) n own none)
+
+  -- pages get the nodes of others
+  module _ (new : PageNodes) (d s n : NodeId) (span : Span) where
+    pub move_many_call : AreNamed a d span.to span.to_page span.pages → AreNamed a s span.from span.from_page span.pages → IsApart span
+        → many.HaveNone m n span.pages → new ≡ many.moved_many m d s n span → Seen new c (moved_many a d s n span)
+    move_many_call destinations sources apart none changed =
+        node_call m c a is right new (many.moved_many m d s n span) (λ (b : Arena). moved_many b d s n span) changed
+        (many_moved m c right.placed span d s (all_named m c a is d span.pages span.to span.to_page destinations)
+        (all_named m c a is s span.pages span.from span.from_page sources) apart n none)
 
   -- What is seen where nodes were made, or none ----------------------------------------------------
 
@@ -168,3 +178,12 @@ module _ (m : PageNodes) (c : CacheRows) (a : Arena) (is : arena_by m c ≡ a) (
     renew_made d named made =
         made_or_none new count (λ n. with_new_many (without_many a d count) n cache page own count) _
         (λ n free is_new. renew_many_call new d n cache page own count named free is_new) o none made
+
+  -- pages with the nodes of others, which have new ones
+  pub move_made : (new : PageNodes) (d s : NodeId) (span : Span) (o : Option NodeId) → IfSome o (λ n. many.HaveNone m n span.pages)
+      → AreNamed a d span.to span.to_page span.pages → AreNamed a s span.from span.from_page span.pages → IsApart span
+      → MatchOption o (new ≡ m) (λ n. new ≡ many.moved_many m d s n span)
+      → MadeOrNone new c a (λ n. moved_many a d s n span) span.pages o
+  move_made new d s span o none destinations sources apart made =
+      made_or_none new span.pages (λ n. moved_many a d s n span) _
+      (λ n free is_new. move_many_call new d s n span destinations sources apart free is_new) o none made

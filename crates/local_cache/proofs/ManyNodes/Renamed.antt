@@ -54,7 +54,7 @@ without_with S m r k a out = same_maps _ _ (λ q. elim (cases_eq q a) [
   ]
 ])
 
-rekeyed_apart : {V : Type 0} (m : FinMap nat_cmp V) (a b : ℕ) (v : V) → a ≢ b → rekeyed m (Some a) (Some b) v ≡ map.insert (map.remove m a) b v
+pub rekeyed_apart : {V : Type 0} (m : FinMap nat_cmp V) (a b : ℕ) (v : V) → a ≢ b → rekeyed m (Some a) (Some b) v ≡ map.insert (map.remove m a) b v
 rekeyed_apart m a b v differ = ap (λ (t : Bool). cond t m (map.insert (map.remove m a) b v)) (ne_eqb a b differ)
 
 -- a key under which nothing is, and nothing comes

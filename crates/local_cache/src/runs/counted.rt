@@ -71,6 +71,7 @@ pub(crate) fn replace(
           (page_key (cell_of before.run before.record))
           (page_key (cell_of now.run now.record)) (paged node);
     } }
+    ensures given { counters.new.next_page ≡ counters.old.next_page }
 {
     place(lists, node, keys_of(before), now);
     counters.live = counters.live - live_of(before.run.name) + live_of(now.run.name);

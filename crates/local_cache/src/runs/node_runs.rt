@@ -4,7 +4,7 @@ ghost use Rattle.std.specs.FinMap as map;
 ghost use Rattle.stretches.specs.Stretch.{IsFit, single};
 ghost use Rattle.local_cache.specs.NodeCells.{cell_of, own_of_plain};
 ghost use Rattle.local_cache.specs.PageNodes.{ArePaged, HasNode, IsLeastThin, MakesAllPages, as_working, cell, find, node_at, put, with_links, with_name, with_new, with_own, with_tree, with_working, without};
-ghost use Rattle.local_cache.specs.ManyNodes.{AreAlike, AreNamed, HaveNodes, HaveNone, as_working_many, hung_many, next_node, over_many, with_names, with_new_many, with_working_many, without_many};
+ghost use Rattle.local_cache.specs.ManyNodes.{AreAlike, AreNamed, HaveNodes, HaveNone, IsApart, as_working_many, hung_many, moved_many, next_node, over_many, with_names, with_new_many, with_working_many, without_many};
 ghost use Rattle.local_cache.specs.NodeKeys.{page_number};
 ghost use Rattle.local_cache.specs.Runs.{run as run_says};
 ghost use Rattle.vm_ids.specs.declared.numbers.NodeId.{NodeId as Id};
@@ -29,7 +29,7 @@ use crate::runs::{Counters, NodeLists, Parts, PlainState, Record, RunName};
 use crate::{Links, OwnState};
 use std::alloc::Global;
 use std::marker::Model;
-use vm_ids::{CacheId, NoMemory, NodeId, NodeName, PageNo};
+use vm_ids::{CacheId, NoMemory, NodeId, NodeName, PageNo, Span};
 
 /// All page nodes, of which alike ones stand as one run.
 ///
@@ -403,6 +403,45 @@ impl NodeRuns {
     {
         let name = PageName { cache, page };
         rename_from(&mut self.lists, &mut self.counters, node.0, count, name);
+    }
+
+    /// Gives the pages of a span's destination the nodes of its source's pages, from one node on, in
+    /// place of their own, which are those from another one on and which nothing names, and the
+    /// source's pages new nodes of zeros. They are one run, under numbers that no node had. Where the
+    /// numbers came to an end nothing changes, and it answers `None`.
+    pub(crate) fn move_many(&mut self, span: Span, gone: NodeId, node: NodeId) -> Option<NodeId>
+        requires destinations { AreNamed self.old gone span.to span.to_page span.pages }
+        requires sources { AreNamed self.old node span.from span.from_page span.pages }
+        requires apart { IsApart span }
+        requires short { (span.from_page.0 + span.pages < 2 ^ 32)
+            × (span.to_page.0 + span.pages < 2 ^ 32) }
+        ensures new { IfSome result (λ n. HaveNone self.old n span.pages) }
+        ensures short { IfSome result (λ n. n.0 + span.pages ≤ 2 ^ 52) }
+        ensures changed { MatchOption result (self.new ≡ self.old) (λ n. self.new
+            ≡ moved_many self.old gone node n span) }
+    {
+        let fresh = self.counters.next_page;
+        let count = span.pages;
+        if fresh + count as u64 > FIRST_WORKING {
+            return None;
+        }
+        if count > 0 {
+            let name = PageName {
+                cache: span.to,
+                page: span.to_page,
+            };
+            remove_from(&mut self.lists, &mut self.counters, gone.0, count);
+            rename_from(&mut self.lists, &mut self.counters, node.0, count, name);
+            make_run(
+                &mut self.lists,
+                &mut self.counters,
+                span.from,
+                span.from_page,
+                count,
+                PlainState::Zero,
+            );
+        }
+        Some(NodeId(fresh))
     }
 
     /// Gives back a node that nothing names. The page that it was the node of has none then.

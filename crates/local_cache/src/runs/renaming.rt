@@ -44,6 +44,7 @@ pub(crate) fn rename_from(
     ensures nodes { nodes_of lists.new counters.new
         ≡ with_names (nodes_of lists.old counters.old) (record { 0 = first }) now.cache now.page
         count }
+    ensures given { counters.new.next_page ≡ counters.old.next_page }
 {
     let mut done = 0;
     while done < count {
@@ -76,6 +77,7 @@ fn rename_some(
     ensures nodes { nodes_of lists.new counters.new
         ≡ with_names (nodes_of lists.old counters.old) (record { 0 = node }) now.cache now.page
         result }
+    ensures given { counters.new.next_page ≡ counters.old.next_page }
 {
     if let Some(run) = lists.runs.stretch_from(node) {
         if let RunName::Pages(cache, page) = run.value.name {
@@ -101,6 +103,7 @@ fn rename_one(lists: &mut NodeLists, counters: &mut Counters, node: u64, now: Pa
     ensures right { IsRight lists.new counters.new }
     ensures nodes { nodes_of lists.new counters.new
         ≡ with_names (nodes_of lists.old counters.old) (record { 0 = node }) now.cache now.page 1 }
+    ensures given { counters.new.next_page ≡ counters.old.next_page }
 {
     let before = parts_of(lists, node);
     let name = RunName::Pages(now.cache, now.page);

@@ -41,4 +41,5 @@ loop-done-preserved c =
       nodes = c.rename_some-done.ensures.nodes
           ∙ ap (λ (m : PageNodes). with_names m (next_node first done) c.args.now.cache (record { 0 = c.args.now.page.0 + done }) more) c.loop-done.invariant.nodes
           ∙ names_more (nodes_of c.args.lists.now c.args.counters.now) first c.args.now.cache c.args.now.page done more;
+      given = c.rename_some-done.ensures.given ∙ c.loop-done.invariant.given;
     }

@@ -10,6 +10,7 @@ invariant-loop-done l = record {
   nodes : nodes_of l.lists l.counters
       ≡ with_names (nodes_of l.initial.lists l.initial.counters) (record { 0 = l.first })
       l.now.cache l.now.page l.done;
+  given : l.counters.next_page ≡ l.initial.counters.next_page;
 }
 
 abbrev pub decreases-loop-done : goal.decreases-loop-done
