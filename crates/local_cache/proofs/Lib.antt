@@ -26,6 +26,8 @@ pub mod Records
 pub mod Writing
 -- The caches without their page nodes.
 pub mod CacheList
+-- A node that gets another own state and another parent in one write.
+pub mod Rehung
 -- A node placed in all lists, and taken out of them.
 pub mod Placing
 -- What holds of all lists and counters, after a change of one node.

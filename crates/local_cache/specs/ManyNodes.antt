@@ -1,5 +1,5 @@
 -- Many page nodes changed at once: as the calls for one change them, one after the other.
-use Rattle.std.specs.Prelude.{◌≡◌, ◌≢◌, ℕ, zero, suc, ◌+◌, ◌<◌, ◌≤◌, ◌^◌, IfSome, Option, None, Some, false}
+use Rattle.std.specs.Prelude.{◌≡◌, ◌≢◌, ℕ, zero, suc, ◌+◌, ◌<◌, ◌≤◌, ◌^◌, IfSome, Option, None, Some}
 use Rattle.vm_ids.specs.declared.command.Span.{Span}
 use Rattle.vm_ids.specs.declared.node_name.NodeName.TheVariants.{Live}
 use Rattle.vm_ids.specs.declared.numbers.CacheId.{CacheId}
@@ -10,7 +10,7 @@ use Rattle.local_cache.specs.declared.own_state.OwnState.{OwnState}
 use Rattle.local_cache.specs.declared.own_state.OwnState.TheVariants.{Zero}
 use Rattle.local_cache.specs.declared.runs.run.Run.{Run}
 use Rattle.local_cache.specs.NodeCells.{bare, cell_of, tree_of}
-use Rattle.local_cache.specs.PageNodes.{HasNode, PageNodes, as_working, cell, find, with_links, with_name, with_new, with_tree, with_working, without}
+use Rattle.local_cache.specs.PageNodes.{HasNode, PageNodes, as_working, cell, find, hung, with_name, with_new, with_tree, with_working, without}
 use Rattle.local_cache.specs.Runs.{run_after}
 
 -- the node so many numbers further on
@@ -84,16 +84,11 @@ moved_many m d s n span =
     (with_names (without_many m d span.pages) s span.to span.to_page span.pages) n
     span.from span.from_page Zero span.pages
 
--- a node on this parent by a tree link
-abbrev pub hung : PageNodes → NodeId → NodeId → PageNodes
-hung m n parent =
-    with_links m n (record (cell m n).links { parent = Some parent; by_stub = false })
-
 -- so many nodes from one on, each on the next parent by a tree link
 abbrev pub hung_many : PageNodes → NodeId → NodeId → ℕ → PageNodes
 hung_many m n parent zero = m
 hung_many m n parent (suc k) =
-    hung (hung_many m n parent k) (next_node n k) (next_node parent k)
+    hung (hung_many m n parent k) (next_node n k) (Some (next_node parent k))
 
 -- so many nodes from one on, each over the next one of some nodes and the next one of others, if
 -- there are others

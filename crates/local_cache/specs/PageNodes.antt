@@ -1,5 +1,5 @@
 -- What a contract sees of the page nodes: their cells by number, and the nodes of pages.
-use Rattle.std.specs.Prelude.{◌≡◌, ℕ, ◌+◌, ◌-◌, ◌≤◌, List, [], ◌∷◌, length, Option, Some, None, option_map, unwrap_or, IsSome}
+use Rattle.std.specs.Prelude.{◌≡◌, ℕ, ◌+◌, ◌-◌, ◌≤◌, false, List, [], ◌∷◌, length, Option, Some, None, option_map, unwrap_or, IsSome}
 use Rattle.std.specs.Ordering.{nat_cmp}
 use Rattle.std.specs.FinMap.{FinMap}
 use Rattle.std.specs.FinMap as ids
@@ -42,6 +42,10 @@ with_own m n s = put m n (record (cell m n) { own = s })
 
 abbrev pub with_links : PageNodes → NodeId → Links → PageNodes
 with_links m n l = put m n (record (cell m n) { links = l })
+
+-- the node on this parent by a tree link, or on none
+abbrev pub hung : PageNodes → NodeId → Option NodeId → PageNodes
+hung m n parent = with_links m n (record (cell m n).links { parent = parent; by_stub = false })
 
 abbrev pub with_tree : PageNodes → NodeId → List NodeId → PageNodes
 with_tree m n ts = put m n (record (cell m n) { tree = ts })

@@ -340,6 +340,16 @@ impl Caches {
         );
     }
 
+    /// Gives a node this own state and hangs it on this parent by a tree link, or on none, in one write. Nothing is done to
+    /// the children of its old and new parent.
+    pub fn rehang(&mut self, node: NodeId, state: OwnState, parent: Option<NodeId>)
+        requires { HasNode self.old node }
+        ensures changed { self.new ≡ hung (with_own self.old node state) node parent }
+        ensures stays { NodesStay self.old self.new }
+    {
+        self.nodes.rehang(node, state, parent);
+    }
+
     /// Hangs so many nodes, from one on, each on the next parent by a tree link. Nothing is done to the children of their
     /// old and new parents. Those that stand in one run are hung at once.
     pub fn hang_many(&mut self, node: NodeId, count: u32, parent: NodeId)

@@ -1,5 +1,5 @@
 -- Each call of the caches: what it does to the arena that is read off, and that nodes stay placed.
-use Rattle.std.proofs.Common.{◌≡◌, ℕ, ◌+◌, ◌<◌, ◌^◌, List, length, Option, None, refl, ap, sym, ◌∙◌, arith}
+use Rattle.std.proofs.Common.{◌≡◌, ℕ, ◌+◌, ◌<◌, ◌^◌, false, List, length, Option, None, refl, ap, sym, ◌∙◌, arith}
 use Rattle.std.specs.FinMap as ids
 use Rattle.std.proofs.lemmas.Option.{same_Some}
 use Rattle.vm_ids.specs.declared.node_name.NodeName.TheVariants.{Live}
@@ -18,9 +18,10 @@ use Rattle.local_cache.specs.NodeKeys.{page_number}
 use Rattle.local_cache.specs.PageNodes.{HasNode, MakesAllPages, PageNodes, find}
 use Rattle.local_cache.specs.PageNodes as nodes
 use Rattle.local_cache.proofs.ArenaBy.NewCache.{made_by}
-use Rattle.local_cache.proofs.ArenaBy.Nodes.{as_working_by, links_by, name_by, new_by, own_by, tree_by, without_by, working_by}
+use Rattle.local_cache.proofs.ArenaBy.Nodes.{as_working_by, hung_by, links_by, name_by, new_by, own_by, tree_by, without_by, working_by}
 use Rattle.local_cache.proofs.ArenaBy.Placed.{kept_as_working, kept_links, kept_name, kept_new, kept_own, kept_tree, kept_without, kept_working, named_short, next_vacant, short_name}
 use Rattle.local_cache.proofs.ArenaBy.PlacedRows.{kept_changed, kept_made, kept_removed}
+use Rattle.local_cache.proofs.Rehung.{put_there}
 use Rattle.local_cache.proofs.ArenaBy.Rows.{grant_by, lock_by, none_is, page_short, remove_by, vacant_is}
 
 -- the page nodes and rows stand for this arena, and the nodes are placed
@@ -110,6 +111,20 @@ module _ (m : PageNodes) (c : CacheRows) (right : ArePlaced m c.rows) where
 
       pub links_set : (l : Links) → StandFor (nodes.with_links m n l) c (arena.with_links a n l)
       links_set l = record { is = links_by m c n l; right = kept_links m c.rows right n l held }
+
+      -- another own state and another parent
+      pub rehung : (s : OwnState) (parent : Option NodeId)
+          → StandFor (nodes.hung (nodes.with_own m n s) n parent) c
+          (arena.hung (arena.with_own a n s) n parent)
+      rehung s parent =
+          let now : PageNodes = nodes.with_own m n s in
+          record {
+            is = hung_by now c n parent
+                ∙ ap (λ (b : arena.Arena). arena.hung b n parent) (own_by m c n s);
+            right = kept_links now c.rows (kept_own m c.rows right n s held) n
+                (record (nodes.cell now n).links { parent = parent; by_stub = false })
+                (put_there m n (record (nodes.cell m n) { own = s }));
+          }
 
       pub tree_set : (ts : List NodeId) → StandFor (nodes.with_tree m n ts) c (arena.with_tree a n ts)
       tree_set ts = record { is = tree_by m c n ts; right = kept_tree m c.rows right n ts held }

@@ -77,7 +77,7 @@ module _ (m : PageNodes) (c : CacheRows) (right : ArePlaced m c.rows) (n : NodeI
   many_hung parent (suc k) held =
       let now : PageNodes = many.hung_many m n parent k in
       let before = many_hung parent k (λ j less. held j (omega (arith, less))) in
-      one_more now (many.hung now (next_node n k) (next_node parent k)) c (hung_many a n parent k)
+      one_more now (nodes.hung now (next_node n k) (Some (next_node parent k))) c (hung_many a n parent k)
       (λ (b : Arena). arena.hung b (next_node n k) (Some (next_node parent k))) before
       (links_set now c before.right (next_node n k) (held_hung m n parent k (next_node n k) (held k (omega arith)))
       (record (nodes.cell now (next_node n k)).links { parent = Some (next_node parent k); by_stub = false }))

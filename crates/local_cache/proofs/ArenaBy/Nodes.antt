@@ -120,6 +120,11 @@ module _ (m : PageNodes) (c : CacheRows) (n : NodeId) where
   unfolding nodes.put nodes.cell arena.put arena.cell
   links_by l = refl
 
+  pub hung_by : (parent : Option NodeId)
+      → arena_by (nodes.hung m n parent) c ≡ arena.hung (arena_by m c) n parent
+  unfolding nodes.put nodes.cell arena.put arena.cell
+  hung_by parent = refl
+
   pub tree_by : (ts : List NodeId)
       → arena_by (nodes.with_tree m n ts) c ≡ arena.with_tree (arena_by m c) n ts
   unfolding nodes.put nodes.cell arena.put arena.cell

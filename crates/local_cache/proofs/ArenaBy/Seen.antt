@@ -23,7 +23,7 @@ use Rattle.local_cache.specs.RowChanges.{entry_of_row, is_granting, new_row, row
 use Rattle.local_cache.specs.NodeKeys.{page_number}
 use Rattle.local_cache.specs.PageNodes.{MakesAllPages, PageNodes}
 use Rattle.local_cache.specs.PageNodes as nodes
-use Rattle.local_cache.proofs.ArenaBy.Calls.{MayGetNode, StandFor, cache_made, cache_removed, freed, links_set, made_working, may_get_node, next_may, node_made, page_granted, page_locked, renamed, state_set, tree_set, working_made}
+use Rattle.local_cache.proofs.ArenaBy.Calls.{MayGetNode, StandFor, cache_made, cache_removed, freed, links_set, made_working, may_get_node, next_may, node_made, page_granted, page_locked, rehung, renamed, state_set, tree_set, working_made}
 use Rattle.local_cache.proofs.ArenaBy.EachRow.{each_changed, each_left, each_more, full_granting, full_locking, full_new}
 use Rattle.local_cache.proofs.ArenaBy.NewCache.{length_tables}
 use Rattle.local_cache.proofs.ArenaBy.Nodes.{cell_by}
@@ -206,6 +206,14 @@ module _ (m : PageNodes) (c : CacheRows) (a : Arena) (is : arena_by m c ≡ a) w
         links_call l changed =
             node_call new (nodes.with_links m n l) (λ (b : Arena). arena.with_links b n l) changed
             (links_set m c right.placed n (held_seen n held) l)
+
+        pub rehang_call : (s : OwnState) (parent : Option NodeId)
+            → new ≡ nodes.hung (nodes.with_own m n s) n parent
+            → Seen new c (arena.hung (arena.with_own a n s) n parent)
+        rehang_call s parent changed =
+            node_call new (nodes.hung (nodes.with_own m n s) n parent)
+            (λ (b : Arena). arena.hung (arena.with_own b n s) n parent) changed
+            (rehung m c right.placed n (held_seen n held) s parent)
 
         pub tree_call : (ts : List NodeId) → new ≡ nodes.with_tree m n ts
             → Seen new c (arena.with_tree a n ts)

@@ -12,9 +12,9 @@ use Rattle.local_cache.specs.declared.runs.node_lists.NodeLists.{NodeLists}
 use Rattle.local_cache.specs.declared.runs.run.Run.{Run}
 use Rattle.local_cache.specs.Arena.{Cell, blank}
 use Rattle.local_cache.specs.KeyRanges.{run_cell}
-use Rattle.local_cache.specs.ManyNodes.{hung_many, hung, next_node}
+use Rattle.local_cache.specs.ManyNodes.{hung_many, next_node}
 use Rattle.local_cache.specs.NodeRuns.{IsRight, nodes_of}
-use Rattle.local_cache.specs.PageNodes.{HasNode, PageNodes, cell, find, put}
+use Rattle.local_cache.specs.PageNodes.{HasNode, PageNodes, cell, find, hung, put}
 use Rattle.local_cache.specs.Records.{each}
 use Rattle.local_cache.specs.Runs.{further, run}
 use Rattle.local_cache.proofs.ManyNodes.Relinked.{IsSaid, next_was, nodes_relinked, none_relinked, one_relinked, places_relinked, relinked, right_relinked}
@@ -62,7 +62,7 @@ module _ (l : NodeLists) (c : Counters) (right : IsRight l c) (r : Stretch Run) 
   all_hung zero le = sym (none_relinked l c right r says plain value cell_is is_hung)
   all_hung (suc k) le =
       let was = next_was l c right r says plain value cell_is is_hung k (omega (arith, le)) in
-      ap (λ (m : PageNodes). hung m (next_node first k) (next_node parent k)) (all_hung k (omega (arith, le)))
+      ap (λ (m : PageNodes). hung m (next_node first k) (Some (next_node parent k))) (all_hung k (omega (arith, le)))
       ∙ ap (λ (x : Cell). record (on_parents k) { cells = map.insert (on_parents k).cells (r.first + k) (hanging x (next_node parent k)) }) was
       ∙ one_relinked l c right r says plain value cell_is is_hung k
 
@@ -99,7 +99,7 @@ module _ (m : PageNodes) (n parent : NodeId) where
       let same : suc (a + b) ≡ a + suc b = omega arith in
       let node : n.0 + a + b ≡ n.0 + (a + b) = omega arith in
       let on : parent.0 + a + b ≡ parent.0 + (a + b) = omega arith in
-      (λ i. hung (hung_more a b i) (record { 0 = node i }) (record { 0 = on i })) ∙ ap (hung_many m n parent) same
+      (λ i. hung (hung_more a b i) (record { 0 = node i }) (Some (record { 0 = on i }))) ∙ ap (hung_many m n parent) same
 
 -- a node that one call hangs on another
 pub one_hung : (m : PageNodes) (n parent : NodeId) (x y : Cell) → find m n ≡ Some x

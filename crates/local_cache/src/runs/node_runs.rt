@@ -3,7 +3,7 @@ ghost use Rattle.std.specs.Prelude.{◌≡◌, ℕ, ◌+◌, ◌<◌, ◌≤◌,
 ghost use Rattle.std.specs.FinMap as map;
 ghost use Rattle.stretches.specs.Stretch.{IsFit, single};
 ghost use Rattle.local_cache.specs.NodeCells.{cell_of, own_of_plain};
-ghost use Rattle.local_cache.specs.PageNodes.{ArePaged, HasNode, IsLeastThin, MakesAllPages, as_working, cell, find, node_at, put, with_links, with_name, with_new, with_own, with_tree, with_working, without};
+ghost use Rattle.local_cache.specs.PageNodes.{ArePaged, HasNode, IsLeastThin, MakesAllPages, as_working, cell, find, hung, node_at, put, with_links, with_name, with_new, with_own, with_tree, with_working, without};
 ghost use Rattle.local_cache.specs.ManyNodes.{AreAlike, AreNamed, HaveNodes, HaveNone, IsApart, as_working_many, hung_many, moved_many, next_node, over_many, with_names, with_new_many, with_working_many, without_many};
 ghost use Rattle.local_cache.specs.NodeKeys.{page_number};
 ghost use Rattle.local_cache.specs.Runs.{run as run_says};
@@ -25,7 +25,7 @@ use crate::runs::parts::{own_of, own_of_plain, parts_of, run_of};
 use crate::runs::placing::place;
 use crate::runs::record::is_same_own;
 use crate::runs::renaming::{PageName, rename_from};
-use crate::runs::{Counters, NodeLists, Parts, PlainState, Record, RunName};
+use crate::runs::{Counters, NodeLists, Parts, PlainState, RunName};
 use crate::{Links, OwnState};
 use std::alloc::Global;
 use std::marker::Model;
@@ -139,15 +139,7 @@ impl NodeRuns {
         if is_same_own(before.record.own, state) {
             return;
         }
-        let beside = Record {
-            own: state,
-            ..before.record
-        };
-        let now = Parts {
-            run: before.run,
-            record: beside,
-        };
-        self.change(node, before, now);
+        self.change(node, before, before.owning(state));
     }
 
     /// Sets how a node hangs, and the ends of its list of stubs.
@@ -157,6 +149,21 @@ impl NodeRuns {
     {
         let before = self.parts(node);
         self.change(node, before, before.hanging(links));
+    }
+
+    /// Gives a node this own state and hangs it on this parent by a tree link, or on none, in one
+    /// write.
+    pub(crate) fn rehang(&mut self, node: NodeId, state: OwnState, parent: Option<NodeId>)
+        requires { HasNode self.old node }
+        ensures { self.new ≡ hung (with_own self.old node state) node parent }
+    {
+        let before = self.parts(node);
+        let links = Links {
+            parent,
+            by_stub: false,
+            ..before.links()
+        };
+        self.change(node, before, before.owning(state).hanging(links));
     }
 
     /// Sets the tree children of a node, of which there are at most two.

@@ -181,6 +181,18 @@ impl Parts {
         self.run.older.is_some() as usize + self.run.newer.is_some() as usize
     }
 
+    // The same with another own state.
+    pub(crate) fn owning(self, own: OwnState) -> Parts
+        ensures cell { cell_of result.run result.record
+            ≡ record (cell_of self.run self.record) { own = own } }
+        ensures name { result.run.name ≡ self.run.name }
+    {
+        Parts {
+            run: self.run,
+            record: Record { own, ..self.record },
+        }
+    }
+
     // The same with other links.
     pub(crate) fn hanging(self, links: Links) -> Parts
         ensures cell { cell_of result.run result.record
