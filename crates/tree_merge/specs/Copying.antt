@@ -81,25 +81,24 @@ pub record CanCopyMore (a : Arena) (d s h new w : NodeId) (to : CacheId) (to_pag
 abbrev pub linked_one : Arena → (n child : NodeId) → ℕ → Arena
 linked_one a n child count = hung_many (over_many a n child count) child n count
 
--- the arena in which each of so many nodes from n on has the next two as its tree children
-abbrev pub linked_two : Arena → (n older newer : NodeId) → ℕ → Arena
-linked_two a n older newer count =
-    hung_many (hung_many (over_two_many a n older newer count) newer n count) older n count
-
 -- the arena in which pages are renewed, and each fresh node is the only tree child of its source
 abbrev pub copied_first : Arena → (d s new : NodeId) → CacheId → PageNo → ℕ → Arena
 copied_first a d s new to to_page count =
     linked_one (renewed a d new to to_page count) s new count
 
--- the arena in which a new working node, from w on, is the only tree child of each source
-abbrev pub put_between : Arena → (s w : NodeId) → ℕ → Arena
-put_between a s w count = linked_one (with_working_many a w count) s w count
+-- the arena with a new working node, from w on, over each two nodes, from two on, and under each one
+-- from s on as its only tree child
+abbrev pub put_between : Arena → (s w older newer : NodeId) → ℕ → Arena
+put_between a s w older newer count =
+    hung_many (hung_many (linked_one
+    (over_two_many (with_working_many a w count) w older newer count) s w count)
+    newer w count) older w count
 
 -- the arena in which pages are renewed, and each fresh node is the second tree child of a new
 -- working node, from w on, of which the first one is the tree child that its source had
 abbrev pub copied_more : Arena → (d s h new w : NodeId) → CacheId → PageNo → ℕ → Arena
 copied_more a d s h new w to to_page count =
-    linked_two (put_between (renewed a d new to to_page count) s w count) w h new count
+    put_between (renewed a d new to to_page count) s w h new count
 
 -- from a to b a node stays there or away, with its name and its own state
 pub record IsLeft (a b : Arena) (n : NodeId) : Type 0 where

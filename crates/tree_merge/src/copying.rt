@@ -7,7 +7,7 @@ ghost use Rattle.local_cache.specs.Many.{HaveNodes};
 ghost use Rattle.local_cache.specs.Reading.{forest_of};
 ghost use Rattle.local_cache.specs.Sound.{IsSound};
 ghost use Rattle.tree_merge.specs.Copyable.{AreCopyable, AreReady, AreRenewable, IsHistory};
-ghost use Rattle.tree_merge.specs.Copying.{AreApart, IsCopiedAtOnce, linked_one, linked_two, pairs_left};
+ghost use Rattle.tree_merge.specs.Copying.{AreApart, IsCopiedAtOnce, linked_one, pairs_left};
 
 use crate::lone::lone_nodes;
 use local_cache::{Caches, OwnState};
@@ -84,21 +84,6 @@ fn link_one(caches: &mut Caches, node: NodeId, child: NodeId, count: u32)
     caches.hang_many(child, count, node);
 }
 
-// Each of so many nodes, from one on, gets the next older and the next newer node as its tree children.
-fn link_two(caches: &mut Caches, node: NodeId, older: NodeId, newer: NodeId, count: u32)
-    requires held { HaveNodes caches.old node count }
-    requires older { HaveNodes caches.old older count }
-    requires newer { HaveNodes caches.old newer count }
-    requires short { node.0 + count ≤ 2 ^ 64 }
-    requires short_older { older.0 + count ≤ 2 ^ 64 }
-    requires short_newer { newer.0 + count ≤ 2 ^ 64 }
-    ensures { caches.new ≡ linked_two caches.old node older newer count }
-{
-    caches.adopt_two_many(node, count, older, newer);
-    caches.hang_many(newer, count, node);
-    caches.hang_many(older, count, node);
-}
-
 // So many pages of a span, whose nodes and sources are ready for it, are copied at once: all of them, or none where
 // numbers for fresh nodes came to an end. How many.
 fn copy_ready(
@@ -128,8 +113,10 @@ fn copy_ready(
             }
             Some(history) => {
                 let working = caches.fresh_working_many(count);
+                caches.adopt_two_many(working, count, history, fresh);
                 link_one(caches, source, working, count);
-                link_two(caches, working, history, fresh, count);
+                caches.hang_many(fresh, count, working);
+                caches.hang_many(history, count, working);
                 count
             }
         },

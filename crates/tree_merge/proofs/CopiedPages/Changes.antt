@@ -15,7 +15,7 @@ use Rattle.local_cache.specs.declared.own_state.OwnState.TheVariants.{Absent}
 use Rattle.local_cache.specs.Arena.{Arena, Cell, Table, blank, cache_with, cell, find, new_cell, put, table_with, tables_with, with_new, with_working, without}
 use Rattle.local_cache.proofs.Singles.{get_inserted, get_removed, same_maps}
 use Rattle.local_cache.proofs.Tables.Listing.{read_set}
-use Rattle.local_cache.proofs.Nodes.Cells.{cell-put_other}
+use Rattle.local_cache.proofs.Nodes.Cells.{cell-put, cell-put_other}
 
 pub differ : (n m : NodeId) → n ≢ m → n.0 ≢ m.0
 differ n m ne e = ne (λ i. record { 0 = e i })
@@ -32,11 +32,20 @@ module _ {X : Type 0} where
   by_tests false true apart x y o = refl
   by_tests false false apart x y o = refl
 
+  twice : (t : Bool) (x y o : Option X) → cond t x (cond t y o) ≡ cond t x o
+  twice true x y o = refl
+  twice false x y o = refl
+
   pub inserts : (m : FinMap nat_cmp X) (p q : ℕ) (x y : X) → p ≢ q → map.insert (map.insert m p x) q y ≡ map.insert (map.insert m q y) p x
   inserts m p q x y ne = same_maps _ _ (λ r.
       get_inserted (map.insert m p x) q y r ∙ ap (cond (eqb r q) (Some y)) (get_inserted m p x r)
       ∙ by_tests (eqb r q) (eqb r p) (not_both p q r ne) (Some y) (Some x) (map.get m r)
       ∙ sym (get_inserted (map.insert m q y) p x r ∙ ap (cond (eqb r p) (Some x)) (get_inserted m q y r)))
+
+  pub inserted_again : (m : FinMap nat_cmp X) (p : ℕ) (x y : X) → map.insert (map.insert m p x) p y ≡ map.insert m p y
+  inserted_again m p x y = same_maps _ _ (λ r.
+      get_inserted (map.insert m p x) p y r ∙ ap (cond (eqb r p) (Some y)) (get_inserted m p x r)
+      ∙ twice (eqb r p) (Some y) (Some x) (map.get m r) ∙ sym (get_inserted m p y r))
 
   pub removes : (m : FinMap nat_cmp X) (p q : ℕ) (x : X) → p ≢ q → map.remove (map.insert m p x) q ≡ map.insert (map.remove m q) p x
   removes m p q x ne = same_maps _ _ (λ r.
@@ -94,6 +103,19 @@ find-without_other x n m ne = get_removed x.cells n.0 m.0 ∙ ap (λ (t : Bool).
 pub find-without : (x : Arena) (n : NodeId) → find (without x n) n ≡ None
 unfolding without
 find-without x n = get_removed x.cells n.0 n.0 ∙ ap (λ (t : Bool). cond t None (map.get x.cells n.0)) (eq-eqb n.0 n.0 refl)
+
+-- one cell, changed twice: what two changes of different columns do in either order is the same
+put_again : (x : Arena) (n : NodeId) (c e : Cell) → put (put x n c) n e ≡ put x n e
+unfolding put
+put_again x n c e = λ i. record x { cells = inserted_again x.cells n.0 c e i }
+
+pub change_both : (x : Arena) (n : NodeId) (f g : Cell → Cell) → ((c : Cell) → g (f c) ≡ f (g c))
+    → put (put x n (f (cell x n))) n (g (cell (put x n (f (cell x n))) n)) ≡ put (put x n (g (cell x n))) n (f (cell (put x n (g (cell x n))) n))
+change_both x n f g same =
+    put_again x n (f (cell x n)) _
+    ∙ ap (λ (c : Cell). put x n (g c)) (cell-put x n (f (cell x n)))
+    ∙ ap (put x n) (same (cell x n))
+    ∙ sym (put_again x n (g (cell x n)) _ ∙ ap (λ (c : Cell). put x n (f c)) (cell-put x n (g (cell x n))))
 
 module _ (x : Arena) (p q : NodeId) (ne : p ≢ q) where
   abbrev back : q ≢ p

@@ -13,7 +13,7 @@ use Rattle.local_cache.specs.Many.{HaveNone, hung_many, over_many, over_two_many
 use Rattle.local_cache.specs.ManyNodes.{next_node}
 use Rattle.history_tree.specs.Hanging.{set_one, set_two}
 use Rattle.tree_merge.specs.Copying.{AreApart, IsBeside, copied_first, copied_more, renewed}
-use Rattle.tree_merge.proofs.CopiedPages.Changes.{cell_by, change_change, change_new, change_without, change_working, find-new, find-new_other, find-without_other, new_without, working_renewed}
+use Rattle.tree_merge.proofs.CopiedPages.Changes.{cell_by, change_both, change_change, change_new, change_without, change_working, find-new, find-new_other, find-without_other, new_without, working_renewed}
 
 -- Steps -------------------------------------------------------------------------------------------
 
@@ -279,41 +279,59 @@ module _ (d new : NodeId) (to : CacheId) (to_page : PageNo) where
     abbrev link_h : Arena → ℕ → Arena
     link_h = alter h (hanging w)
 
-    -- the steps up to each kind
+    -- The steps up to each kind, in the order in which they are made of all pages: a working node is over its two
+    -- children before anything hangs on it.
     abbrev to_work : Arena → ℕ → Arena
     to_work x i = work (renew x i) i
 
+    abbrev to_tree_w : Arena → ℕ → Arena
+    to_tree_w x i = tree_w (to_work x i) i
+
     abbrev to_tree_s : Arena → ℕ → Arena
-    to_tree_s x i = tree_s (to_work x i) i
+    to_tree_s x i = tree_s (to_tree_w x i) i
 
     abbrev to_link_w : Arena → ℕ → Arena
     to_link_w x i = link_w (to_tree_s x i) i
 
-    abbrev to_tree_w : Arena → ℕ → Arena
-    to_tree_w x i = tree_w (to_link_w x i) i
-
     abbrev to_link_new : Arena → ℕ → Arena
-    to_link_new x i = link_new (to_tree_w x i) i
+    to_link_new x i = link_new (to_link_w x i) i
+
+    abbrev to_link_h : Arena → ℕ → Arena
+    to_link_h x i = link_h (to_link_new x i) i
+
+    -- a copy of one page makes them in another order
+    in_order : (x : Arena) (i : ℕ) → i < count → copy_more s h w x i ≡ to_link_h x i
+    in_order x i less =
+        let made : Arena = to_work x i in
+        let n : NodeId = next_node w i in
+        ap (λ (y : Arena). link_h (link_new y i) i)
+        (change_both (tree_s made i) n (hanging s i) (over_two h new i) (λ c. refl)
+        ∙ ap (λ (y : Arena). link_w y i) (change_change made (next_node s i) n (rows.s_w i less i less) (over_one w i) (over_two h new i)))
+
+    each_in_order : (k : ℕ) → k ≤ count → each (copy_more s h w) a k ≡ each to_link_h a k
+    each_in_order zero le = refl
+    each_in_order (suc k) le = ap (λ (y : Arena). copy_more s h w y k) (each_in_order k (omega arith)) ∙ in_order (each to_link_h a k) k (omega arith)
 
     -- a change of a row may come after each of them
-    module _ (n : NodeId) (change : ℕ → Cell → Cell) (n_d : ArePast n d count) (n_new : ArePast n new count) (n_w : ArePast n w count) (n_s : ArePast n s count) where
+    module _ (n : NodeId) (change : ℕ → Cell → Cell) (n_d : ArePast n d count) (n_new : ArePast n new count) (n_w : ArePast n w count) where
       abbrev last : Arena → ℕ → Arena
       last = alter n change
 
       work_passed : Passes to_work last count
       work_passed = both work renew last count (both came gone last count (without_passed count n d change n_d) (new_passed count n new change n_new (λ j. Live to (page_after j)) Absent)) (working_passed count n w change n_w)
 
-      tree_s_passed : Passes to_tree_s last count
-      tree_s_passed = both tree_s to_work last count work_passed (alter_passed count n s change n_s (over_one w))
-
-      link_w_passed : Passes to_link_w last count
-      link_w_passed = both link_w to_tree_s last count tree_s_passed (alter_passed count n w change n_w (hanging s))
-
       tree_w_passed : Passes to_tree_w last count
-      tree_w_passed = both tree_w to_link_w last count link_w_passed (alter_passed count n w change n_w (over_two h new))
+      tree_w_passed = both tree_w to_work last count work_passed (alter_passed count n w change n_w (over_two h new))
 
-      link_new_passed : Passes to_link_new last count
-      link_new_passed = both link_new to_tree_w last count tree_w_passed (alter_passed count n new change n_new (hanging w))
+      module _ (n_s : ArePast n s count) where
+        tree_s_passed : Passes to_tree_s last count
+        tree_s_passed = both tree_s to_tree_w last count tree_w_passed (alter_passed count n s change n_s (over_one w))
+
+        link_w_passed : Passes to_link_w last count
+        link_w_passed = both link_w to_tree_s last count tree_s_passed (alter_passed count n w change n_w (hanging s))
+
+        link_new_passed : Passes to_link_new last count
+        link_new_passed = both link_new to_link_w last count link_w_passed (alter_passed count n new change n_new (hanging w))
 
     renew_passed_working : Passes renew work count
     renew_passed_working x i j less below =
@@ -322,28 +340,29 @@ module _ (d new : NodeId) (to : CacheId) (to_page : PageNo) where
 
     pub each_more : each (copy_more s h w) a count ≡ copied_more a d s h new w to to_page count
     each_more =
-        let s_past : Passes to_work tree_s count = work_passed s (over_one w) (past_back d s count rows.d_s) (past_back new s count rows.new_s) (past s w count rows.s_w) (past_itself s count) in
         let w_d : ArePast w d count = past_back d w count rows.d_w in
         let w_new : ArePast w new count = past_back new w count rows.new_w in
         let w_w : ArePast w w count = past_itself w count in
         let w_s : ArePast w s count = past_back s w count rows.s_w in
-        let new_past : Passes to_tree_w link_new count = tree_w_passed new (hanging w) (past_back d new count rows.d_new) (past_itself new count) (past new w count rows.new_w) (past new s count rows.new_s) in
+        let s_past : Passes to_tree_w tree_s count = tree_w_passed s (over_one w) (past_back d s count rows.d_s) (past_back new s count rows.new_s) (past s w count rows.s_w) in
+        let new_past : Passes to_link_w link_new count = link_w_passed new (hanging w) (past_back d new count rows.d_new) (past_itself new count) (past new w count rows.new_w) (past new s count rows.new_s) in
         let h_past : Passes to_link_new link_h count = link_new_passed h (hanging w) (past_back d h count rows.d_h) (past_back new h count rows.new_h) (past h w count rows.h_w) (past_back s h count rows.s_h) in
-        parted to_link_new link_h count h_past a count (omega arith)
+        each_in_order count (omega arith)
+        ∙ parted to_link_new link_h count h_past a count (omega arith)
         ∙ each_hung (each to_link_new a count) h w count
         ∙ ap (λ (y : Arena). hung_many y h w count)
-        (parted to_tree_w link_new count new_past a count (omega arith)
-        ∙ each_hung (each to_tree_w a count) new w count
+        (parted to_link_w link_new count new_past a count (omega arith)
+        ∙ each_hung (each to_link_w a count) new w count
         ∙ ap (λ (y : Arena). hung_many y new w count)
-        (parted to_link_w tree_w count (link_w_passed w (over_two h new) w_d w_new w_w w_s) a count (omega arith)
-        ∙ each_over_two (each to_link_w a count) w h new count
-        ∙ ap (λ (y : Arena). over_two_many y w h new count)
         (parted to_tree_s link_w count (tree_s_passed w (hanging s) w_d w_new w_w w_s) a count (omega arith)
         ∙ each_hung (each to_tree_s a count) w s count
         ∙ ap (λ (y : Arena). hung_many y w s count)
-        (parted to_work tree_s count s_past a count (omega arith)
-        ∙ each_over (each to_work a count) s w count
+        (parted to_tree_w tree_s count s_past a count (omega arith)
+        ∙ each_over (each to_tree_w a count) s w count
         ∙ ap (λ (y : Arena). over_many y s w count)
+        (parted to_work tree_w count (work_passed w (over_two h new) w_d w_new w_w) a count (omega arith)
+        ∙ each_over_two (each to_work a count) w h new count
+        ∙ ap (λ (y : Arena). over_two_many y w h new count)
         (parted renew work count renew_passed_working a count (omega arith)
         ∙ each_working (each renew a count) w count
         ∙ ap (λ (y : Arena). with_working_many y w count) (each_renewed count rows.d_new a named count (omega arith)))))))
