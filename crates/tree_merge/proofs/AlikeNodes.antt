@@ -1,5 +1,6 @@
 -- Nodes that are alike, and have neither parents nor children where the first of them has none.
-use Rattle.std.proofs.Common.{◌≡◌, ℕ, ◌<◌, ◌≤◌, List, [], ◌∷◌, map, None, refl, ap, ◌∙◌, arith, inl, inr}
+use Rattle.std.proofs.Common.{◌≡◌, ℕ, ◌<◌, ◌≤◌, List, [], ◌∷◌, length, map, None, refl, ap, ◌∙◌, arith, inl, inr}
+use Rattle.std.proofs.lemmas.List.{length-map}
 use Rattle.std.specs.Prelude.{slice_get}
 use Rattle.vm_ids.specs.declared.node_name.NodeName.TheVariants.{Live}
 use Rattle.vm_ids.specs.declared.numbers.CacheId.{CacheId}
@@ -12,6 +13,7 @@ use Rattle.local_cache.specs.Own.{own_of}
 use Rattle.local_cache.specs.Reading.{name_of}
 use Rattle.tree_merge.specs.Copyable.{AreLone}
 use Rattle.tree_merge.specs.Copying.{AreEmpty, IsEmpty, IsLone}
+use Rattle.tree_merge.specs.Sharing.{AreShared, HasTreeChild}
 
 pub no_children : (ms : List NodeId) → slice_get ms 0 ≡ None → ms ≡ []
 no_children [] e = refl
@@ -47,3 +49,10 @@ module _ (a : Arena) (n : NodeId) (count : ℕ) (alike : AreAlike a n count) whe
 
   pub alike_lone : (cell a n).links.parent ≡ None → (cell a n).tree ≡ [] → IsEmpty (own_of a n) → AreLone a n count
   alike_lone root leaf empty = record { alike = alike; lone = bare root leaf; empty = alike_empty empty }
+
+  pub alike_shared : HasTreeChild (cell a n) → IsEmpty (own_of a n) → AreShared a n count
+  alike_shared some empty = record {
+    alike = alike;
+    shared = λ k less. let as_many = length-map (cell a n).tree (λ m. next_node m k) in omega (arith, some, ap length (alike k less).tree, as_many);
+    empty = alike_empty empty;
+  }

@@ -2,5 +2,6 @@ pub mod Copyable
 pub mod Copying
 pub mod Releasing
 pub mod Retiring
+pub mod Sharing
 pub mod Staying
 pub mod TreeLists

@@ -25,11 +25,12 @@ mod released;
 mod retiring;
 mod retiring_many;
 mod settling;
+mod shared;
 mod tree_lists;
 
 pub use copying::copy_many;
 pub use detaching::{detach, retire};
-pub use laws::{copying_first, copying_more, retiring_at_once};
+pub use laws::{copying_first, copying_more, retiring_at_once, sharing_at_once};
 pub use released::Released;
 pub use retiring_many::retire_many;
 pub use settling::settle_step;

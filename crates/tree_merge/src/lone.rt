@@ -9,7 +9,7 @@ use local_cache::{Caches, OwnState};
 use vm_ids::NodeId;
 
 // Whether an own page is none or zeros.
-fn is_empty(state: OwnState) -> bool
+pub(crate) fn is_empty(state: OwnState) -> bool
     ensures { IsTrue result → IsEmpty state }
 {
     matches!(state, OwnState::Absent | OwnState::Zero)

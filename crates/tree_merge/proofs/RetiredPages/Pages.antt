@@ -21,7 +21,7 @@ use Rattle.tree_merge.proofs.CopiedPages.Changes.{cell_by, find-without, find-wi
 use Rattle.tree_merge.proofs.RetiredPages.OnePage.{CanRetirePage, page_gone}
 
 -- one more page, behind the others
-names_more : {P : Type 0} (c : CacheId) (p k : ℕ) (f : Forest P) → retire_all (page_names c p (suc k)) f ≡ retire (retire_all (page_names c p k) f) (page_name c (p + k))
+pub names_more : {P : Type 0} (c : CacheId) (p k : ℕ) (f : Forest P) → retire_all (page_names c p (suc k)) f ≡ retire (retire_all (page_names c p k) f) (page_name c (p + k))
 names_more c p zero f = let first : p ≡ p + 0 = omega arith in ap (λ i. retire f (page_name c i)) first
 names_more c p (suc k) f =
     let g = retire f (page_name c p) in
