@@ -1,5 +1,5 @@
 // The pages of a cache go, and the store follows.
-ghost use Rattle.std.specs.Prelude.{◌≡◌, ◌+◌, ◌<◌, ◌≤◌, ◌^◌, false, [], Some, IsSome, length};
+ghost use Rattle.std.specs.Prelude.{◌≡◌, ◌+◌, ◌-◌, ◌<◌, ◌≤◌, ◌^◌, false, [], Some, IsSome, length};
 ghost use Rattle.vm_ids.specs.Forest.Commands.{destroy as rule_destroy, page_name, page_names, retire_all};
 ghost use Rattle.vm_ids.specs.Forest.NameLists.{◌∈◌};
 ghost use Rattle.vm_ids.specs.Forest.NameMap.{len};
@@ -30,7 +30,7 @@ fn retire_next(store: &mut Store, caches: &mut Caches, cache: CacheId, pages: u3
     requires sound { IsSound caches.old }
     requires done { done < pages }
     requires node { IsSome (node_at caches.old cache.0 done) }
-    requires made { caches.old.made < 2 ^ 63 }
+    requires made { caches.old.made + (pages - done) < 2 ^ 63 }
     requires unpinned { IsUnpinned store.old caches.old (page_name cache done) }
     requires unclean { IsUnclean caches.old (page_name cache done) }
     ensures some { 0 < result }
