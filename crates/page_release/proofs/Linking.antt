@@ -2,5 +2,3 @@
 
 -- Links were changed, and maybe a working node without a page was made.
 pub mod Grown
--- One page of a copy: what its calls ask, and which nodes it makes.
-pub mod Copied

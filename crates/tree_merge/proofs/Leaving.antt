@@ -6,5 +6,5 @@ pub mod Freed
 pub mod Retired
 -- The page of a retired node, and the fresh node that it gets.
 pub mod Detached
--- As many caches of the same sizes are live after the node of a page was retired.
+-- As many caches of the same sizes are live after the node of a page was retired, or a fresh one was made.
 pub mod Sizes

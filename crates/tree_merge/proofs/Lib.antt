@@ -16,3 +16,5 @@ mod AlikeNodes
 pub mod RetiredPages
 -- Many pages are copied at once.
 pub mod CopiedPages
+-- One page is retired or copied alone.
+pub mod PagesAlone

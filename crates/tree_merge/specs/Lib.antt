@@ -4,4 +4,5 @@ pub mod Releasing
 pub mod Retiring
 pub mod Sharing
 pub mod Staying
+pub mod Stepping
 pub mod TreeLists

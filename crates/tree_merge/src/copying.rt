@@ -123,13 +123,13 @@ fn copy_ready(
     }
 }
 
-/// Copies the pages of a span, from one of them on, by tree links, all at once, as far as their nodes and those of their
-/// sources are alike, and answers how many. It answers 0, and changes nothing, where the first of these pages can't be
-/// copied so: where its node has a parent, a child, or an own page that isn't zeros; where its source has stubs, two tree
-/// children, or one that is among the sources; where something is kept of one of them that can't be said of many; and
-/// where numbers of nodes came to an end. It takes no time for each page, but where the sources have tree children: the
-/// new working nodes between get theirs one by one.
-pub fn copy_many(caches: &mut Caches, span: Span, done: u32) -> u32
+// Copies the pages of a span, from one of them on, by tree links, all at once, as far as their nodes and those of their
+// sources are alike, and answers how many. It answers 0, and changes nothing, where the first of these pages can't be
+// copied so: where its node has a parent, a child, or an own page that isn't zeros; where its source has stubs, two tree
+// children, or one that is among the sources; where something is kept of one of them that can't be said of many; and
+// where numbers of nodes came to an end. It takes no time for each page, but where the sources have tree children: the
+// new working nodes between get theirs one by one.
+pub(crate) fn copy_many(caches: &mut Caches, span: Span, done: u32) -> u32
     requires sound { IsSound caches.old }
     requires can { CanCopy (forest_of caches.old) (pairs_left span done) }
     requires within { (span.from_page.0 + span.pages < 2 ^ 32)

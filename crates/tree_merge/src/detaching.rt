@@ -6,6 +6,7 @@ ghost use Rattle.local_cache.specs.Arena.{IsVacant, node_at};
 ghost use Rattle.local_cache.specs.Reading.{forest_of, page_of};
 ghost use Rattle.local_cache.specs.Sound.{IsSound};
 ghost use Rattle.tree_merge.specs.Releasing.{IsDetached, IsReleased, IsRetired};
+ghost use Rattle.tree_merge.specs.Stepping.{IsDetachedAlone};
 
 use crate::Released;
 use crate::retiring::retire_node;
@@ -44,6 +45,7 @@ pub fn detach(caches: &mut Caches, cache: CacheId, page: PageNo, state: OwnState
     ensures sound { IsSound caches.new }
     ensures detached { (n : NodeId) → node_at caches.old cache.0 page.0 ≡ Some n
         → IsDetached caches.old caches.new n (NodeName.Live cache page) state result }
+    ensures alone { IsDetachedAlone caches.old caches.new cache page state result }
 {
     let released = retire(caches, cache, page);
     caches.fresh(cache, page, state);

@@ -10,9 +10,10 @@
 //! on `local_cache`, `page_stubs` and `history_tree`; `move_pages` and `page_release` stand on it. It keeps no page
 //! itself.
 //!
-//! Pages of a copy whose nodes are alike, and whose sources are, are copied at once by `copy_many`: their nodes go for
-//! fresh ones, which are linked to the sources. Pages whose nodes are alike, and have nothing of their own, are retired at
-//! once by `retire_many`. That they are these pages copied or retired one after the other is what the laws say.
+//! The pages of a command go by steps. `copy_step` copies those of a span that come next, and `retire_step` retires those
+//! of an extent: as many at once as have alike nodes with nothing of their own, or else one. Copied at once, nodes go for
+//! fresh ones, which are linked to the sources. That it comes to these pages copied or retired one after the other is
+//! what the laws say. A `Step` tells how many pages it was, and what the last one released.
 #![tactic(auto)]
 
 mod children;
@@ -26,14 +27,16 @@ mod retiring;
 mod retiring_many;
 mod settling;
 mod shared;
+mod step;
+mod stepping;
 mod tree_lists;
 
-pub use copying::copy_many;
 pub use detaching::{detach, retire};
 pub use laws::{copying_first, copying_more, retiring_at_once, sharing_at_once};
 pub use released::Released;
-pub use retiring_many::retire_many;
 pub use settling::settle_step;
+pub use step::Step;
+pub use stepping::{copy_step, retire_step};
 
 #[cfg(test)]
 mod tests;

@@ -1,5 +1,6 @@
 -- The page of a retired node, and the fresh node that it gets.
-use Rattle.std.proofs.Common.{◌≡◌, ℕ, zero, suc, ◌+◌, ◌≤◌, Option, Some, None, IsSome, option_map, refl, sym, ap, ◌∙◌, subst, arith}
+use Rattle.std.proofs.Common.{◌≡◌, ℕ, zero, suc, ◌+◌, ◌-◌, ◌≤◌, Option, Some, None, IsSome, option_map, refl, sym, ap, ◌∙◌, subst, arith}
+use Rattle.vm_ids.specs.declared.node_name.NodeName.{NodeName}
 use Rattle.vm_ids.specs.declared.node_name.NodeName.TheVariants.{Live}
 use Rattle.vm_ids.specs.declared.numbers.CacheId.{CacheId}
 use Rattle.vm_ids.specs.declared.numbers.NodeId.{NodeId}
@@ -17,7 +18,7 @@ use Rattle.local_cache.proofs.NewNode.FreshNode.{page-forest, page-sound}
 use Rattle.local_cache.proofs.Tables.Listing.{entry-cache_with, node_by_entry, node_of_entry}
 use Rattle.tree_merge.specs.declared.released.Released.{Released}
 use Rattle.tree_merge.specs.Releasing.{IsRetired}
-use Rattle.local_cache.proofs.Names.WorkingName.{room-as_working}
+use Rattle.local_cache.proofs.Names.WorkingName.{room-as_working, room-with_new}
 
 -- the node of a page
 module _ (a : Arena) (sound : IsSound a) (cache : CacheId) (page : PageNo) (n : NodeId) (is : node_at a cache.0 page.0 ≡ Some n) where
@@ -63,6 +64,10 @@ retired_room a b n released r = go (child_count (forest_of a) (name_of a n)) ref
     go (suc k) e =
         let same : b.room.nodes ≡ a.room.nodes = ap (λ c. c.room.nodes) (r.parent (omega arith)).1 ∙ ap (λ k. k.nodes) (room-as_working a n) in
         omega arith
+
+-- and with a fresh node there is room for one fewer
+pub new_room : (b c : Arena) (d : NodeId) (x : NodeName) (s : OwnState) → c ≡ with_new b d x s → b.room.nodes ≤ c.room.nodes + 1
+new_room b c d x s is = let less : c.room.nodes ≡ b.room.nodes - 1 = ap (λ (k : Arena). k.room.nodes) is ∙ room-with_new b d x s in omega arith
 
 pub detached-forest : (a b c : Arena) (d : NodeId) (cache : CacheId) (page : PageNo) (s : OwnState) → IsSound b → forest_of b ≡ retire (forest_of a) (Live cache page) → IsVacant b cache page → find b d ≡ None → c ≡ with_new b d (Live cache page) s
     → forest_of c ≡ detach (forest_of a) (Live cache page) (page_of s)

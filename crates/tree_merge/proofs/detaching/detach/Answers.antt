@@ -4,6 +4,7 @@ use Rattle.local_cache.specs.Arena.{Arena, node_at}
 use Rattle.tree_merge.specs.declared.released.Released.{Released}
 use Rattle.tree_merge.specs.Releasing.{IsRetired}
 use Rattle.tree_merge.proofs.Leaving.Detached.{retired_room, detached-forest, detached-sound}
+use Rattle.tree_merge.proofs.PagesAlone.Retired.{retired_alone}
 use Rattle.tree_merge.proofs.detaching.detach.Goals as goal
 
 room : (a b : Arena) (o : Option NodeId) (released : Released) → IsSome o → ((n : NodeId) → o ≡ Some n → IsRetired a b n released) → 1 ≤ a.room.nodes → 1 ≤ b.room.nodes
@@ -31,3 +32,16 @@ returns-clause-detached c = λ n is. record {
   free = c.fresh.ensures.new;
   is = c.fresh.ensures.changed;
 }
+
+pub returns-clause-alone : goal.returns-clause-alone
+returns-clause-alone c =
+    let e = c.retire-released.ensures in
+    record {
+      forest = returns-clause-forest c;
+      sound = returns-clause-sound c;
+      between = c.retire-released.new.caches;
+      retired = retired_alone c.args.caches.now _ c.args.cache c.args.page _ c.requires.node e.forest e.sound e.retired e.released e.vacant;
+      fresh = c.fresh.result;
+      free = c.fresh.ensures.new;
+      is = c.fresh.ensures.changed;
+    }

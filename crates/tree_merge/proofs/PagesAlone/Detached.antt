@@ -1,18 +1,17 @@
--- One page of a copy: what its calls ask, and which nodes it makes.
+-- A page was detached for a copy: its node and that of its source.
 use Rattle.std.proofs.Common.{◌≡◌, ◌≢◌, ◌+◌, ◌≤◌, ◌⊎◌, Some, None, IsSome, sym, ap, ◌∙◌, subst, inl, inr, arith}
 use Rattle.vm_ids.specs.declared.node_name.NodeName.{NodeName}
 use Rattle.vm_ids.specs.declared.node_name.NodeName.TheVariants.{Live, Working}
 use Rattle.vm_ids.specs.declared.numbers.CacheId.{CacheId}
 use Rattle.vm_ids.specs.declared.numbers.NodeId.{NodeId}
 use Rattle.vm_ids.specs.declared.numbers.PageNo.{PageNo}
-use Rattle.vm_ids.specs.Forest.NameMap.{len}
 use Rattle.vm_ids.specs.Forest.Nodes.{Forest, IsNode, childless, node}
 use Rattle.vm_ids.specs.Forest.Nodes.Hang.{Root}
 use Rattle.vm_ids.specs.Forest.Rules.{detach, link}
 use Rattle.vm_ids.specs.Forest.Shape.{IsConsistent}
 use Rattle.vm_ids.specs.Forest.Laws.Linking.{ArePages}
 use Rattle.vm_ids.proofs.Forest.Detaching.{live_most}
-use Rattle.vm_ids.proofs.Forest.Lengths.{detach_len, detached_pages}
+use Rattle.vm_ids.proofs.Forest.Lengths.{detached_pages}
 use Rattle.vm_ids.proofs.Forest.Linking.{link-Links}
 use Rattle.vm_ids.proofs.Forest.Made.{detach-made}
 use Rattle.vm_ids.proofs.Forest.NodesAfter.{node-put}
@@ -40,9 +39,6 @@ module _ (a b : Arena) (consistent : IsConsistent (forest_of a)) (to from : Cach
 
   pub source_there : IsSome (node_at b from.0 from_page.0)
   source_there = page_there b sound from from_page pages_after.source
-
-  pub few_after : len (forest_of b).nodes ≤ len (forest_of a).nodes + 1
-  few_after = subst (λ g. len g.nodes ≤ len (forest_of a).nodes + 1) (sym forest_is) (detach_len (forest_of a) consistent (Live to to_page) pages.destination pages.live_destination None)
 
   pub made_after : b.made ≤ a.made + 1
   made_after = omega (arith, detach-made (forest_of a) (Live to to_page) None, forest_of-made a, forest_of-made b, ap (λ (g : Forest OwnState). g.made) forest_is)

@@ -1,0 +1,31 @@
+-- A page was retired alone.
+use Rattle.std.proofs.Common.{◌≡◌, ◌≤◌, Some, IsSome}
+use Rattle.vm_ids.specs.declared.node_name.NodeName.TheVariants.{Live}
+use Rattle.vm_ids.specs.declared.numbers.CacheId.{CacheId}
+use Rattle.vm_ids.specs.declared.numbers.NodeId.{NodeId}
+use Rattle.vm_ids.specs.declared.numbers.PageNo.{PageNo}
+use Rattle.vm_ids.specs.Forest.Rules.{retire}
+use Rattle.local_cache.specs.Arena.{Arena, IsVacant, node_at}
+use Rattle.local_cache.specs.Reading.{forest_of}
+use Rattle.local_cache.specs.Sound.{IsSound}
+use Rattle.local_cache.specs.Whole.{SameCaches}
+use Rattle.local_cache.proofs.NewCache.Pages.{some_of}
+use Rattle.tree_merge.specs.declared.released.Released.{Released}
+use Rattle.tree_merge.specs.Releasing.{IsReleased, IsRetired}
+use Rattle.tree_merge.specs.Stepping.{IsRetiredAlone}
+use Rattle.tree_merge.proofs.Leaving.Detached.{retired_room}
+use Rattle.tree_merge.proofs.Leaving.Sizes.{sizes_retired}
+
+module _ (a b : Arena) (cache : CacheId) (page : PageNo) (r : Released) where
+  -- as what retiring says of it
+  pub retired_alone : IsSome (node_at a cache.0 page.0) → forest_of b ≡ retire (forest_of a) (Live cache page) → IsSound b → ((n : NodeId) → node_at a cache.0 page.0 ≡ Some n → IsRetired a b n r) → IsReleased a b r → IsVacant b cache page
+      → IsRetiredAlone a b cache page r
+  retired_alone some forest sound retired told vacant =
+      let n = some_of (node_at a cache.0 page.0) some in
+      record { forest = forest; sound = sound; vacant = vacant; node = n.0; at = n.1; retired = retired n.0 n.1; told = told }
+
+  pub alone_sizes : IsRetiredAlone a b cache page r → SameCaches a b
+  alone_sizes is = sizes_retired a b is.node r is.retired
+
+  pub alone_room : IsRetiredAlone a b cache page r → a.room.nodes ≤ b.room.nodes
+  alone_room is = retired_room a b is.node r is.retired
