@@ -112,8 +112,7 @@ fn copy_ready(
                 count
             }
             Some(history) => {
-                let working = caches.fresh_working_many(count);
-                caches.adopt_two_many(working, count, history, fresh);
+                let working = caches.fresh_working_over(count, history, fresh);
                 link_one(caches, source, working, count);
                 caches.hang_many(fresh, count, working);
                 caches.hang_many(history, count, working);
@@ -127,8 +126,7 @@ fn copy_ready(
 // sources are alike, and answers how many. It answers 0, and changes nothing, where the first of these pages can't be
 // copied so: where its node has a parent, a child, or an own page that isn't zeros; where its source has stubs, two tree
 // children, or one that is among the sources; where something is kept of one of them that can't be said of many; and
-// where numbers of nodes came to an end. It takes no time for each page, but where the sources have tree children: the
-// new working nodes between get theirs one by one.
+// where numbers of nodes came to an end. It takes no time for each page.
 pub(crate) fn copy_many(caches: &mut Caches, span: Span, done: u32) -> u32
     requires sound { IsSound caches.old }
     requires can { CanCopy (forest_of caches.old) (pairs_left span done) }
