@@ -2,18 +2,17 @@
 use Rattle.std.proofs.Common.{◌≡◌, ℕ, ◌+◌, ◌-◌, ◌<◌, ◌≤◌, Option, Some, None, IsSome, is_some, refl, ap, sym, ◌∙◌, inl, inr, arith}
 use Rattle.std.specs.Prelude.{◌⊎◌, option_and_then, option_map}
 use Rattle.std.proofs.lemmas.Bool.{false≢true}
-use Rattle.std.proofs.lemmas.Option.{none-some, same_Some}
+use Rattle.std.proofs.lemmas.Option.{none-some}
 use Rattle.std.specs.Ordering.{nat_cmp}
 use Rattle.std.specs.FinMap.{FinMap}
 use Rattle.std.specs.FinMap as map
 use Rattle.stretches.specs.Cells.{cells, with_stretch}
-use Rattle.stretches.specs.declared.says.Says.{Ghosts}
 use Rattle.stretches.specs.declared.stretch.Stretch.{Stretch}
 use Rattle.local_cache.specs.declared.runs.node_lists.NodeLists.{NodeLists}
 use Rattle.local_cache.specs.declared.runs.record.Record.{Record}
 use Rattle.local_cache.specs.declared.runs.run.Run.{Run}
 use Rattle.local_cache.specs.Arena.{Cell}
-use Rattle.local_cache.specs.KeyRanges.{AreKeysIn, run_cell}
+use Rattle.local_cache.specs.KeyRanges.{run_cell}
 use Rattle.local_cache.specs.NodeCells.{cell_by, cells_by, node_cells}
 use Rattle.local_cache.specs.NodeKeys.{Indexes, key_at}
 use Rattle.local_cache.specs.NodeLists.{IsKept}
