@@ -13,6 +13,9 @@ pub mod Freed
 pub mod Renamed
 -- Nodes of pages that become those of other pages, and new nodes in their place.
 pub mod Moved
+
+-- Nodes of one run of which another run says all.
+pub mod AnotherRun
 -- Nodes of one run of which something else is said, but for their names.
 pub mod Relinked
 -- Nodes of one run on other parents.

@@ -39,10 +39,10 @@ use Rattle.local_cache.proofs.NodeKeys.{len_index}
 -- One after the other --------------------------------------------------------------------------
 
 -- the pages without those of so many nodes of this name
-abbrev pages_without : RunName → FinMap nat_cmp Rising → ℕ → FinMap nat_cmp Rising
+abbrev pub pages_without : RunName → FinMap nat_cmp Rising → ℕ → FinMap nat_cmp Rising
 pages_without name m k = without_range m (page_range name k).first (page_range name k).count
 
-page_left : (name : RunName) (m : FinMap nat_cmp Rising) (k : ℕ)
+pub page_left : (name : RunName) (m : FinMap nat_cmp Rising) (k : ℕ)
     → without_key (pages_without name m k) (page_of_name (first_name (name_after name k))) ≡ pages_without name m (suc k)
 page_left (Pages cache page) m k =
     let at : page_number cache.0 (page.0 + k) ≡ page_number cache.0 page.0 + k = omega arith in
@@ -50,7 +50,7 @@ page_left (Pages cache page) m k =
 page_left (Working w) m k = refl
 page_left (EverySecond w) m k = refl
 
-pages_all : (name : RunName) (m : FinMap nat_cmp Rising) → pages_without name m 0 ≡ m
+pub pages_all : (name : RunName) (m : FinMap nat_cmp Rising) → pages_without name m 0 ≡ m
 pages_all (Pages cache page) m = refl
 pages_all (Working w) m = refl
 pages_all (EverySecond w) m = refl

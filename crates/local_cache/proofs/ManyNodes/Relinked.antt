@@ -26,9 +26,8 @@ use Rattle.local_cache.specs.Records.{each}
 use Rattle.local_cache.specs.Runs.{run}
 use Rattle.local_cache.specs.ThinNodes.{first_thin}
 use Rattle.local_cache.proofs.Making.{with_in, with_out}
-use Rattle.local_cache.proofs.ManyNodes.Alike.{alike_said}
-use Rattle.local_cache.proofs.ManyNodes.Cleared.{range_cases}
-use Rattle.local_cache.proofs.NodeCells.{get_cells_by, len_cells, len_within}
+use Rattle.local_cache.proofs.ManyNodes.AnotherRun.{at_was, beside, held_same, len_after, len_runs, number_cases}
+use Rattle.local_cache.proofs.ManyNodes.AnotherRun as another
 use Rattle.local_cache.proofs.Singles.{same_maps}
 
 -- what another run says of nodes: they have the keys that they had
@@ -54,63 +53,26 @@ module _ (l : NodeLists) (c : Counters) (right : IsRight l c) (r : Stretch Run) 
   abbrev after : FinMap nat_cmp Cell
   after = cells_by (with_stretch run R new_run) D
 
-  pub at_was : (k : ℕ) → k < r.count → map.get (node_cells l) (r.first + k) ≡ Some (run_cell r.value k)
-  at_was k less = alike_said l r r.first refl says plain k less
-
   at_is : (k : ℕ) → k < r.count → map.get after (r.first + k) ≡ Some (cell_is k)
-  at_is k less =
-      let far : r.first + k - r.first ≡ k = omega arith in
-      get_cells_by (with_stretch run R new_run) D (r.first + k)
-      ∙ ap (option_map (λ s. cell_by s (map.get D (r.first + k)))) (with_in run R new_run r.count (r.first + k) (omega arith) (omega (arith, less)))
-      ∙ ap (λ (o : Option Record). Some (cell_by (run.after value (r.first + k - r.first)) o)) (get_cells each l.records.list (r.first + k) ∙ plain (r.first + k) (omega arith) (omega (arith, less)))
-      ∙ ap (λ (j : ℕ). Some (run_cell value j)) far
-      ∙ ap Some (is_said.cell k less)
-
-  beside : (q : ℕ) → (q < r.first) ⊎ (r.first + r.count ≤ q) → map.get after q ≡ map.get (node_cells l) q
-  beside q out =
-      get_cells_by (with_stretch run R new_run) D q
-      ∙ ap (option_map (λ s. cell_by s (map.get D q))) (with_out run R new_run r.count q out)
-      ∙ sym (get_cells_by R D q)
-
-  -- a number is that of one of the nodes, or of another
-  number_cases : (q : ℕ) → ((k : ℕ) × (k < r.count) × (q ≡ r.first + k)) ⊎ ((q < r.first) ⊎ (r.first + r.count ≤ q))
-  number_cases q = elim (range_cases r.first r.count q) [
-    | inl inside ↦ inl (q - r.first, omega (arith, inside.0, inside.1), omega (arith, inside.0))
-    | inr out ↦ inr out
-  ]
-
-  held_same : (q : ℕ) → is_some (map.get after q) ≡ is_some (map.get (node_cells l) q)
-  held_same q = elim (number_cases q) [
-    | inl node ↦ ap (λ (j : ℕ). is_some (map.get after j)) node.2 ∙ ap is_some (at_is node.0 node.1) ∙ sym (ap (λ (j : ℕ). is_some (map.get (node_cells l) j)) node.2 ∙ ap is_some (at_was node.0 node.1))
-    | inr out ↦ ap is_some (beside q out)
-  ]
+  at_is k less = another.at_is l r says plain value k less ∙ ap Some (is_said.cell k less)
 
   key_same : (key : Cell → Option ℕ) → ((k : ℕ) → key (cell_is k) ≡ key (run_cell r.value k)) → (q : ℕ) → key_at key after q ≡ key_at key (node_cells l) q
-  key_same key same q = elim (number_cases q) [
+  key_same key same q = elim (number_cases l r says plain value q) [
     | inl node ↦
         ap (key_at key after) node.2 ∙ ap (option_and_then key) (at_is node.0 node.1) ∙ same node.0
-        ∙ sym (ap (key_at key (node_cells l)) node.2 ∙ ap (option_and_then key) (at_was node.0 node.1))
-    | inr out ↦ ap (option_and_then key) (beside q out)
+        ∙ sym (ap (key_at key (node_cells l)) node.2 ∙ ap (option_and_then key) (at_was l r says plain value node.0 node.1))
+    | inr out ↦ ap (option_and_then key) (beside l r says plain value q out)
   ]
 
   index_same : {V : Type 0} (number : V → ℕ) (m : FinMap nat_cmp V) (key : Cell → Option ℕ) → ((q : ℕ) → key_at key after q ≡ key_at key (node_cells l) q)
       → Indexes number m key (node_cells l) → Indexes number m key after
   index_same number m key same index k n = (λ h. same n ∙ (index k n).0 h, λ h. (index k n).1 (sym (same n) ∙ h))
 
-  len_after : map.len after ≡ map.len (node_cells l)
-  len_after =
-      let most = len_within after (node_cells l) (λ q h. sym (held_same q) ∙ h) in
-      let least = len_within (node_cells l) after (λ q h. held_same q ∙ h) in
-      omega (arith, most, least)
-
-  len_runs : map.len (with_stretch run R new_run) ≡ map.len R
-  len_runs = sym (len_cells (with_stretch run R new_run) D) ∙ len_after ∙ len_cells R D
-
   numbered_after : IsNumbered after c
   numbered_after =
       let same = key_same working_number is_said.working in
       record {
-        given = λ q h. right.numbered.given q (sym (held_same q) ∙ h);
+        given = λ q h. right.numbered.given q (sym (held_same l r says plain value q) ∙ h);
         named = λ q k h. right.numbered.named q k (sym (same q) ∙ h);
         apart = λ p q k h e. right.numbered.apart p q k (sym (same p) ∙ h) (sym (same q) ∙ e);
         pages = right.numbered.pages;
@@ -120,7 +82,7 @@ module _ (l : NodeLists) (c : Counters) (right : IsRight l c) (r : Stretch Run) 
       }
 
   pub places_relinked : number_count l.runs.list ≤ l.runs.places
-  places_relinked = omega (arith, right.kept.counted.runs, len_cells R D, right.kept.fits, right.kept.places.runs)
+  places_relinked = another.places_enough l r says plain value right.kept
 
   -- One after the other -----------------------------------------------------------------------
 
@@ -141,7 +103,7 @@ module _ (l : NodeLists) (c : Counters) (right : IsRight l c) (r : Stretch Run) 
   pub next_was : (k : ℕ) → k < r.count → cell (relinked k) (next_node (record { 0 = r.first }) k) ≡ run_cell r.value k
   unfolding cell relinked cell_by_cell cell_stretch
   next_was k less =
-      ap (λ (o : Option Cell). unwrap_or o blank) (with_out cell_by_cell (node_cells l) cell_stretch k (r.first + k) (inr (omega arith)) ∙ at_was k less)
+      ap (λ (o : Option Cell). unwrap_or o blank) (with_out cell_by_cell (node_cells l) cell_stretch k (r.first + k) (inr (omega arith)) ∙ at_was l r says plain value k less)
 
   pub one_relinked : (k : ℕ) → record (relinked k) { cells = map.insert (relinked k).cells (r.first + k) (cell_is k) } ≡ relinked (suc k)
   unfolding relinked cell_by_cell cell_stretch
@@ -149,12 +111,12 @@ module _ (l : NodeLists) (c : Counters) (right : IsRight l c) (r : Stretch Run) 
 
   cells_fold : after ≡ with_first cell_by_cell (node_cells l) cell_stretch r.count
   unfolding cell_by_cell cell_stretch
-  cells_fold = same_maps _ _ (λ q. elim (number_cases q) [
+  cells_fold = same_maps _ _ (λ q. elim (number_cases l r says plain value q) [
     | inl node ↦
         let far : node.0 ≡ r.first + node.0 - r.first = omega arith in
         ap (map.get after) node.2 ∙ at_is node.0 node.1 ∙ ap (λ (j : ℕ). Some (cell_is j)) far
         ∙ sym (ap (map.get (with_first cell_by_cell (node_cells l) cell_stretch r.count)) node.2 ∙ with_in cell_by_cell (node_cells l) cell_stretch r.count (r.first + node.0) (omega arith) (omega (arith, node.1)))
-    | inr out ↦ beside q out ∙ sym (with_out cell_by_cell (node_cells l) cell_stretch r.count q out)
+    | inr out ↦ beside l r says plain value q out ∙ sym (with_out cell_by_cell (node_cells l) cell_stretch r.count q out)
   ])
 
   module _ (runs : Stretches Run) (set : cells run runs.list ≡ with_stretch run R new_run)
@@ -170,7 +132,7 @@ module _ (l : NodeLists) (c : Counters) (right : IsRight l c) (r : Stretch Run) 
         record {
           kept = record {
             counted = record {
-              runs = omega (arith, count, right.kept.counted.runs, ap map.len set, len_runs);
+              runs = omega (arith, count, right.kept.counted.runs, ap map.len set, len_runs l r says plain value);
               records = right.kept.counted.records;
               pages = right.kept.counted.pages;
               even = right.kept.counted.even;
@@ -184,8 +146,8 @@ module _ (l : NodeLists) (c : Counters) (right : IsRight l c) (r : Stretch Run) 
               even = right.kept.places.even;
               odd = right.kept.places.odd;
             };
-            fits = omega (arith, ap map.len cells_are, len_after, right.kept.fits);
-            recorded = λ q h. ap (λ (m : FinMap nat_cmp Cell). is_some (map.get m q)) cells_are ∙ held_same q ∙ right.kept.recorded q h;
+            fits = omega (arith, ap map.len cells_are, len_after l r says plain value, right.kept.fits);
+            recorded = λ q h. ap (λ (m : FinMap nat_cmp Cell). is_some (map.get m q)) cells_are ∙ held_same l r says plain value q ∙ right.kept.recorded q h;
           };
           indexed = record {
             pages = subst (Indexes (λ (v : Rising). v.0) _ page_key) (sym cells_are) (index_same _ _ page_key (key_same page_key is_said.page) right.indexed.pages);
@@ -193,12 +155,12 @@ module _ (l : NodeLists) (c : Counters) (right : IsRight l c) (r : Stretch Run) 
             odd = subst (Indexes (λ (v : ThinNodes). (first_thin v).0) _ odd_key) (sym cells_are) (index_same _ _ odd_key (key_same odd_key is_said.odd) right.indexed.odd);
           };
           numbered = subst (λ (m : FinMap nat_cmp Cell). IsNumbered m c) (sym cells_are) numbered_after;
-          nodes = omega (arith, right.nodes, ap map.len cells_are, len_after);
+          nodes = omega (arith, right.nodes, ap map.len cells_are, len_after l r says plain value);
           live = right.live;
         }
 
     pub nodes_relinked : nodes_of new c ≡ relinked r.count
     unfolding relinked
     nodes_relinked =
-        let same : l.capacity - map.len (node_cells new) ≡ l.capacity - map.len (node_cells l) = omega (arith, ap map.len cells_are, len_after) in
+        let same : l.capacity - map.len (node_cells new) ≡ l.capacity - map.len (node_cells l) = omega (arith, ap map.len cells_are, len_after l r says plain value) in
         λ i. record (nodes_of l c) { cells = (cells_are ∙ cells_fold) i; room = same i }

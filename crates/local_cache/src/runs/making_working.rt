@@ -96,7 +96,7 @@ pub(crate) fn make_working_over(
 
 // Says of numbers, of which nothing was said, that the first one is that of this thin node, and each
 // next one that of the node behind the next.
-fn fill_thin(list: &mut StretchList<ThinNodes>, range: KeyRange, node: u64)
+pub(crate) fn fill_thin(list: &mut StretchList<ThinNodes>, range: KeyRange, node: u64)
     requires ends { range.first + range.count < 2 ^ 64 }
     requires short { node + 2 * range.count < 2 ^ 64 }
     requires vacant { (k : ℕ) → range.first ≤ k → k < range.first + range.count

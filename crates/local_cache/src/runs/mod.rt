@@ -25,6 +25,7 @@ mod key_ranges;
 mod keys;
 mod making;
 mod making_working;
+mod naming_working;
 mod node_lists;
 mod node_runs;
 mod numbering;

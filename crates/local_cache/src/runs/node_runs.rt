@@ -18,9 +18,8 @@ use crate::runs::hanging::hang_from;
 use crate::runs::keys::{keys_of, page_number};
 use crate::runs::making::make_run;
 use crate::runs::making_working::{make_working, make_working_over};
-use crate::runs::numbering::{
-    FIRST_WORKING, give_name, give_page_number, give_working_number, number_behind,
-};
+use crate::runs::naming_working::{name_working, name_working_from};
+use crate::runs::numbering::{FIRST_WORKING, give_page_number, give_working_number};
 use crate::runs::parts::{own_of, own_of_plain, parts_of, run_of};
 use crate::runs::placing::place;
 use crate::runs::record::is_same_own;
@@ -369,22 +368,17 @@ impl NodeRuns {
         requires made { self.old.made < 2 ^ 63 }
         ensures { self.new ≡ as_working self.old node }
     {
-        let before = self.parts(node);
-        give_name(&self.lists, &mut self.counters);
-        let now = before.named(RunName::Working(self.counters.made));
-        replace(&mut self.lists, &mut self.counters, node.0, before, now);
+        name_working(&mut self.lists, &mut self.counters, node.0);
     }
 
-    /// Names so many nodes, from one on, by the next working names, as `to_working` names each.
+    /// Names so many nodes, from one on, by the next working names, as `to_working` names each. Nodes
+    /// of pages of which one run says all get their names at once.
     pub(crate) fn to_working_many(&mut self, node: NodeId, count: u32)
         requires held { HaveNodes self.old node count }
         requires made { self.old.made + count ≤ 2 ^ 63 }
         ensures { self.new ≡ as_working_many self.old node count }
     {
-        for done in 0..count {
-            let next = self.node_after(node, done);
-            self.to_working(next);
-        }
+        name_working_from(&mut self.lists, &mut self.counters, node.0, count);
     }
 
     /// Makes a node that of a page that has none. The page that it was the node of has none then.
@@ -523,14 +517,6 @@ impl NodeRuns {
             },
             None => Some(first_of(&self.lists.odd)?.node),
         }
-    }
-
-    // The node so many numbers further on, which there is.
-    fn node_after(&self, node: NodeId, by: u32) -> NodeId
-        requires { HasNode self.now (next_node node by) }
-        ensures { result ≡ next_node node by }
-    {
-        NodeId(number_behind(&self.lists, &self.counters, node.0, by))
     }
 
     // Says something else of a node, but for its name.

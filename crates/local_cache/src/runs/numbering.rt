@@ -1,5 +1,5 @@
 // The numbers of new page nodes.
-ghost use Rattle.std.specs.Prelude.{◌≡◌, ◌+◌, ◌<◌, ◌≤◌, ◌^◌, ℕ, IsSome, None, Some};
+ghost use Rattle.std.specs.Prelude.{◌≡◌, ◌+◌, ◌<◌, ◌≤◌, ◌^◌, ℕ, None, Some};
 ghost use Rattle.std.specs.FinMap as map;
 ghost use Rattle.stretches.specs.Cells.{cells};
 ghost use Rattle.stretches.specs.Stretches.{said};
@@ -70,13 +70,4 @@ pub(crate) fn give_name(lists: &NodeLists, counters: &mut Counters)
         → k < counters.new.made }
 {
     counters.made += 1;
-}
-
-// The number so many behind that of a node, where there is a node too.
-pub(crate) fn number_behind(lists: &NodeLists, counters: &Counters, node: u64, by: u32) -> u64
-    requires right { IsRight lists.now counters.now }
-    requires held { IsSome (map.get (node_cells lists.now) (node + by)) }
-    ensures { result ≡ node + by }
-{
-    node + by as u64
 }
