@@ -1,4 +1,5 @@
 -- Many page nodes at once.
+
 -- A stretch of numbers cleared.
 pub mod Cleared
 -- Nodes of which one run says all.
@@ -13,7 +14,6 @@ pub mod Freed
 pub mod Renamed
 -- Nodes of pages that become those of other pages, and new nodes in their place.
 pub mod Moved
-
 -- Nodes of one run of which another run says all.
 pub mod AnotherRun
 -- Nodes of one run of which something else is said, but for their names.

@@ -4,7 +4,7 @@ ghost use Rattle.std.specs.FinMap as map;
 ghost use Rattle.stretches.specs.Stretch.{IsFit, single};
 ghost use Rattle.local_cache.specs.NodeCells.{cell_of, own_of_plain};
 ghost use Rattle.local_cache.specs.PageNodes.{ArePaged, HasNode, IsLeastThin, MakesAllPages, as_working, cell, find, hung, node_at, put, with_links, with_name, with_new, with_own, with_tree, with_working, without};
-ghost use Rattle.local_cache.specs.ManyNodes.{AreAlike, AreNamed, HaveNodes, HaveNone, IsApart, as_working_many, hung_many, moved_many, next_node, over_many, with_names, with_new_many, with_working_many, without_many};
+ghost use Rattle.local_cache.specs.ManyNodes.{AreAlike, AreNamed, HaveNodes, HaveNone, IsApart, as_working_many, hung_many, moved_many, over_many, with_names, with_new_many, with_working_many, without_many};
 ghost use Rattle.local_cache.specs.NodeKeys.{page_number};
 ghost use Rattle.local_cache.specs.Runs.{run as run_says};
 ghost use Rattle.vm_ids.specs.declared.numbers.NodeId.{NodeId as Id};
