@@ -1,20 +1,17 @@
 -- Page nodes that are alike, on the arena.
 use Rattle.std.proofs.Common.{◌≡◌, ℕ, ◌+◌, ◌-◌, ◌*◌, ◌<◌, ◌≤◌, ◌^◌, Option, Some, None, is_some, refl, ap, sym, subst, ◌∙◌, arith}
 use Rattle.std.specs.Prelude.{IfSome, map, max, min, unwrap_or}
-use Rattle.vm_ids.specs.declared.node_name.NodeName.{NodeName}
 use Rattle.vm_ids.specs.declared.node_name.NodeName.TheVariants.{Live, Working as WorkingNode}
 use Rattle.vm_ids.specs.declared.numbers.CacheId.{CacheId}
 use Rattle.vm_ids.specs.declared.numbers.NodeId.{NodeId}
 use Rattle.vm_ids.specs.declared.numbers.PageNo.{PageNo}
-use Rattle.local_cache.specs.declared.links.Links.{Links}
-use Rattle.local_cache.specs.declared.own_state.OwnState.{OwnState}
 use Rattle.local_cache.specs.declared.runs.run.Run.{Run}
 use Rattle.local_cache.specs.declared.runs.run.RunName.{RunName}
 use Rattle.local_cache.specs.declared.runs.run.RunName.TheVariants.{Pages, Working, EverySecond}
 use Rattle.local_cache.specs.Arena.{Arena, Cell, blank, cell, no_links}
 use Rattle.local_cache.specs.ArenaBy.{CacheRows, arena_by}
 use Rattle.local_cache.specs.KeyRanges.{run_cell}
-use Rattle.local_cache.specs.Many.{AreAlike, IsAlike}
+use Rattle.local_cache.specs.Many.{AreAlike}
 use Rattle.local_cache.specs.ManyNodes.{next_if, next_node}
 use Rattle.local_cache.specs.ManyNodes as many
 use Rattle.local_cache.specs.NodeCells.{tree_of}

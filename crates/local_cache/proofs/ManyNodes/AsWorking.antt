@@ -31,7 +31,7 @@ use Rattle.local_cache.specs.PageNodes.{HasNode, PageNodes, as_working, cell, of
 use Rattle.local_cache.specs.Records.{each}
 use Rattle.local_cache.specs.Runs.{run}
 use Rattle.local_cache.specs.Singles.{IsCounted, without_range}
-use Rattle.local_cache.specs.ThinNodes.{first_thin, thin_nodes}
+use Rattle.local_cache.specs.ThinNodes.{thin_nodes}
 use Rattle.local_cache.proofs.Making.{with_in, with_out}
 use Rattle.local_cache.proofs.ManyNodes.AnotherRun as another
 use Rattle.local_cache.proofs.ManyNodes.Found as found

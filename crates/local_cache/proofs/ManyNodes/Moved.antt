@@ -1,10 +1,9 @@
 -- Nodes of pages that become those of other pages, and new nodes in their place.
-use Rattle.std.proofs.Common.{◌≡◌, ◌≢◌, ℕ, zero, suc, ◌+◌, ◌-◌, ◌<◌, ◌≤◌, ◌^◌, Option, Some, None, is_some, refl, ap, sym, subst, ◌∙◌, inl, inr, arith}
+use Rattle.std.proofs.Common.{◌≡◌, ◌≢◌, ℕ, zero, suc, ◌+◌, ◌-◌, ◌<◌, ◌≤◌, ◌^◌, Option, Some, None, is_some, refl, ap, sym, ◌∙◌, inl, inr, arith}
 use Rattle.std.specs.Prelude.{◌⊎◌, unwrap_or}
 use Rattle.std.proofs.lemmas.Bool.{cases_eq, false≢true}
 use Rattle.std.specs.FinMap as map
 use Rattle.vm_ids.specs.declared.command.Span.{Span}
-use Rattle.vm_ids.specs.declared.node_name.NodeName.{NodeName}
 use Rattle.vm_ids.specs.declared.numbers.CacheId.{CacheId}
 use Rattle.vm_ids.specs.declared.numbers.NodeId.{NodeId}
 use Rattle.vm_ids.specs.declared.numbers.PageNo.{PageNo}
@@ -12,7 +11,7 @@ use Rattle.vm_ids.specs.Forest.Commands.{page_name}
 use Rattle.local_cache.specs.Arena.{Cell, blank}
 use Rattle.local_cache.specs.ManyNodes.{AreNamed, HaveNodes, HaveNone, IsApart, next_node, with_names, without_many}
 use Rattle.local_cache.specs.NodeKeys.{page_number, page_of_name, rekeyed}
-use Rattle.local_cache.specs.PageNodes.{HasNode, PageNodes, cell, find, of_page, put}
+use Rattle.local_cache.specs.PageNodes.{PageNodes, cell, find, of_page, put}
 use Rattle.local_cache.proofs.ManyNodes.Cleared.{range_cases, range_out}
 use Rattle.local_cache.proofs.ManyNodes.Freed.{cells_left}
 use Rattle.local_cache.proofs.ManyNodes.Renamed.{rekeyed_apart}

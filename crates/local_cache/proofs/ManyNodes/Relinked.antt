@@ -1,6 +1,6 @@
 -- Nodes of one run of which something else is said, but for their names: they are found as before.
 use Rattle.std.proofs.Common.{◌≡◌, ℕ, suc, ◌+◌, ◌-◌, ◌<◌, ◌≤◌, Option, Some, None, is_some, refl, ap, sym, subst, ◌∙◌, inl, inr, arith}
-use Rattle.std.specs.Prelude.{◌⊎◌, option_and_then, option_map, unwrap_or}
+use Rattle.std.specs.Prelude.{option_and_then, unwrap_or}
 use Rattle.std.specs.Ordering.{nat_cmp}
 use Rattle.std.specs.FinMap.{FinMap}
 use Rattle.std.specs.FinMap as map
@@ -9,7 +9,6 @@ use Rattle.stretches.specs.Stretches.{SayAs, Stretches, number_count, said}
 use Rattle.stretches.specs.declared.rising.Rising.{Rising}
 use Rattle.stretches.specs.declared.says.Says.{Ghosts}
 use Rattle.stretches.specs.declared.stretch.Stretch.{Stretch}
-use Rattle.stretches.proofs.Cells.{get_cells}
 use Rattle.local_cache.specs.declared.runs.counters.Counters.{Counters}
 use Rattle.local_cache.specs.declared.runs.node_lists.NodeLists.{NodeLists}
 use Rattle.local_cache.specs.declared.runs.record.Record.{Record}
@@ -18,7 +17,7 @@ use Rattle.local_cache.specs.declared.runs.thin_nodes.ThinNodes.{ThinNodes}
 use Rattle.local_cache.specs.Arena.{Cell, blank}
 use Rattle.local_cache.specs.KeyRanges.{run_cell}
 use Rattle.local_cache.specs.ManyNodes.{next_node}
-use Rattle.local_cache.specs.NodeCells.{cell_by, cells_by, node_cells}
+use Rattle.local_cache.specs.NodeCells.{cells_by, node_cells}
 use Rattle.local_cache.specs.NodeKeys.{Indexes, even_key, key_at, odd_key, page_key, working_number}
 use Rattle.local_cache.specs.NodeRuns.{IsNumbered, IsRight, nodes_of}
 use Rattle.local_cache.specs.PageNodes.{PageNodes, cell}

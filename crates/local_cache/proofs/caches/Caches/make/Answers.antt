@@ -1,4 +1,4 @@
-use Rattle.std.proofs.Common.{◌≡◌, ℕ, ◌+◌, ◌<◌, ◌^◌, length, ap, ◌∙◌, arith}
+use Rattle.std.proofs.Common.{◌+◌, ap, arith}
 use Rattle.vm_ids.specs.declared.numbers.CacheId.{CacheId}
 use Rattle.local_cache.specs.NodeCells.{own_of_plain}
 use Rattle.local_cache.proofs.ArenaBy.Seen.{make_call, make_right, made_seen, next_seen}

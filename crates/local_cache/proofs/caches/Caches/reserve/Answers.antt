@@ -1,7 +1,6 @@
-use Rattle.std.proofs.Common.{◌≡◌, ap, arith, refl, subst, sym}
+use Rattle.std.proofs.Common.{ap, arith, refl, subst, sym}
 use Rattle.vm_ids.specs.Forest.NameMap.{len}
 use Rattle.local_cache.specs.Arena.{Arena}
-use Rattle.local_cache.specs.ArenaBy.{arena_by}
 use Rattle.local_cache.specs.Reading.{IsNamed, forest_of}
 use Rattle.local_cache.proofs.ArenaBy.Counts.{forest_len_by}
 use Rattle.local_cache.proofs.ArenaBy.Seen.{room_call, room_right}

@@ -1,7 +1,7 @@
 use Rattle.std.proofs.Common.{◌∙◌, ap, sym}
 use Rattle.std.specs.Prelude.{unwrap_or}
 use Rattle.stretches.specs.Stretches.{said}
-use Rattle.local_cache.specs.Arena.{Cell, blank}
+use Rattle.local_cache.specs.Arena.{blank}
 use Rattle.local_cache.specs.PageNodes.{cell, find}
 use Rattle.local_cache.specs.Records.{each}
 use Rattle.local_cache.proofs.NodeCells.{name_by_run}
