@@ -4,12 +4,14 @@ use Rattle.std.specs.Option.{option_or}
 use Rattle.vm_ids.specs.declared.node_name.NodeName.{NodeName}
 use Rattle.vm_ids.specs.declared.numbers.NodeId.{NodeId}
 use Rattle.vm_ids.specs.Forest.Nodes.{child_count}
-use Rattle.vm_ids.specs.Forest.Settling.{settle_step, thin}
+use Rattle.vm_ids.specs.Forest.Changes.{cut}
+use Rattle.vm_ids.specs.Forest.Settling.{give_way, pass_page, settle_step, thin}
 use Rattle.local_cache.specs.declared.own_state.OwnState.{OwnState}
 use Rattle.local_cache.specs.declared.own_state.OwnState.TheVariants.{Absent}
 use Rattle.local_cache.specs.Arena.{Arena, as_working, cell, find, HasNode, with_new}
 use Rattle.local_cache.specs.Own.{is_absent, own_of}
 use Rattle.local_cache.specs.Reading.{forest_of, name_of}
+use Rattle.local_cache.specs.Sound.{IsSound}
 use Rattle.tree_merge.specs.declared.released.Released.{Released}
 use Rattle.tree_merge.specs.declared.released.Released.TheVariants.{Nothing, Dropped, Moved}
 use Rattle.tree_merge.specs.Staying.{IsGone}
@@ -67,6 +69,20 @@ released_to a n None = Dropped n (own_of a n)
 released_to a n (Some y) =
     cond (not (is_absent (own_of a n)) && is_absent (own_of a y))
     (Moved n y) (Dropped n (own_of a n))
+
+-- the own state of a child after it got this one where it had no own page
+abbrev pub given : (from to : OwnState) → OwnState
+given from to = cond (is_absent to) from to
+
+-- From a to b the only child y of n took its page and its place, and n went.
+pub record IsGiven (a b : Arena) (n y : NodeId) (released : Released) : Type 0 where
+  pub forest : forest_of b
+      ≡ give_way (pass_page (cut (forest_of a) (name_of a y)) (name_of a n) (name_of a y))
+      (name_of a n) (name_of a y)
+  pub sound : IsSound b
+  pub told : released ≡ released_to a n (Some y)
+  pub gone : IsGone a b n
+  pub owns : OwnsAfter a b n released
 
 -- The node n is retired: it is gone where it has no children, and its own page with it, and else it is a working node
 -- under the same number.

@@ -1,5 +1,5 @@
 // A working node with fewer than two children gives way.
-ghost use Rattle.std.specs.Prelude.{◌≡◌, ◌≢◌, ◌<◌, ◌&&◌, not, true, false, Some, IfSome, MatchOption};
+ghost use Rattle.std.specs.Prelude.{◌≡◌, ◌≢◌, ◌<◌, ◌&&◌, not, false, Some, IfSome, MatchOption};
 ghost use Rattle.vm_ids.specs.declared.numbers.NodeId.{NodeId};
 ghost use Rattle.vm_ids.specs.Forest.Changes.{cut as rule_cut, free as rule_free};
 ghost use Rattle.vm_ids.specs.Forest.Nodes.{child_count, node as node_named, parent as parent_named};
@@ -11,7 +11,7 @@ ghost use Rattle.local_cache.specs.Changes.{Like, Rehung};
 ghost use Rattle.local_cache.specs.Own.{is_absent, own_of};
 ghost use Rattle.local_cache.specs.Reading.{name_of, forest_of};
 ghost use Rattle.local_cache.specs.Sound.{IsSound};
-ghost use Rattle.tree_merge.specs.Releasing.{IsMerged, IsReleased, OwnsAfter, own_after, released_to};
+ghost use Rattle.tree_merge.specs.Releasing.{IsGiven, IsMerged, IsReleased, OwnsAfter, given, own_after, released_to};
 ghost use Rattle.tree_merge.specs.Releasing as spec;
 ghost use Rattle.tree_merge.specs.Staying.{HasNoChild, IsBelow, IsGone, placed};
 
@@ -19,7 +19,7 @@ use crate::Released;
 use crate::children::first_child;
 use crate::cutting::cut;
 use crate::retiring::drop_node;
-use crate::tree_lists::take_tree_place;
+use crate::tree_lists::{exchange_under, take_tree_place};
 use local_cache::{Caches, OwnState};
 use page_stubs::{cut_stub, take_place_of};
 use vm_ids::NodeId;
@@ -29,6 +29,34 @@ fn passes(from: OwnState, to: OwnState) -> bool
     ensures { result ≡ (not (is_absent from) && is_absent to) }
 {
     !from.is_absent() && to.is_absent()
+}
+
+// What falls free where the node gives way to this child.
+fn released_by(caches: &Caches, node: NodeId, child: NodeId) -> Released
+    requires held { HasNode caches.now node }
+    requires child { HasNode caches.now child }
+    ensures { result ≡ released_to caches.now node (Some child) }
+{
+    let state = caches.own_state(node);
+    if passes(state, caches.own_state(child)) {
+        Released::Moved(node, child)
+    } else {
+        Released::Dropped(node, state)
+    }
+}
+
+// The own state of the child, or that of the node where the child has no own page.
+fn given_state(caches: &Caches, node: NodeId, child: NodeId) -> OwnState
+    requires held { HasNode caches.now node }
+    requires child { HasNode caches.now child }
+    ensures { result ≡ given (own_of caches.now node) (own_of caches.now child) }
+{
+    let state = caches.own_state(child);
+    if state.is_absent() {
+        caches.own_state(node)
+    } else {
+        state
+    }
 }
 
 // The child gets the node's own page, if the node has one and the child has none.
@@ -47,14 +75,10 @@ fn pass_page(caches: &mut Caches, node: NodeId, child: NodeId) -> Released
         × (caches.new.copies ≡ caches.old.copies) }
     ensures room { caches.new.room ≡ caches.old.room }
 {
-    let state = caches.own_state(node);
-    let other = caches.own_state(child);
-    if passes(state, other) {
-        caches.set_state(child, state);
-        Released::Moved(node, child)
-    } else {
-        Released::Dropped(node, state)
-    }
+    let released = released_by(caches, node, child);
+    let state = given_state(caches, node, child);
+    caches.set_state(child, state);
+    released
 }
 
 // The child, which has no parent, comes in the place of the node, where that hangs on a parent. Where it would be a stub
@@ -99,6 +123,44 @@ fn give_way(caches: &mut Caches, node: NodeId, child: NodeId)
     caches.free(node);
 }
 
+// The only child takes the page and the place of the node, which goes, whichever links they hang by.
+fn give_in_steps(caches: &mut Caches, node: NodeId, child: NodeId) -> Released
+    requires sound { IsSound caches.old }
+    requires held { HasNode caches.old node }
+    requires child { HasNode caches.old child }
+    requires up { parent_named (forest_of caches.old) (name_of caches.old child)
+        ≡ Some (name_of caches.old node) }
+    requires few { child_count (forest_of caches.old) (name_of caches.old node) < 2 }
+    ensures { IsGiven caches.old caches.new node child result }
+{
+    cut(caches, child);
+    let released = pass_page(caches, node, child);
+    give_way(caches, node, child);
+    released
+}
+
+// The same where neither hangs by a stub link. The parent, where there is one, the child and the node are written once
+// each: so where many nodes in a row give way, no run of nodes is split.
+fn give_at_once(caches: &mut Caches, node: NodeId, child: NodeId) -> Released
+    requires sound { IsSound caches.old }
+    requires held { HasNode caches.old node }
+    requires child { HasNode caches.old child }
+    requires up { parent_named (forest_of caches.old) (name_of caches.old child)
+        ≡ Some (name_of caches.old node) }
+    requires few { child_count (forest_of caches.old) (name_of caches.old node) < 2 }
+    requires no_stub { (cell caches.old node).links.by_stub ≡ false }
+    requires child_no_stub { (cell caches.old child).links.by_stub ≡ false }
+    ensures { IsGiven caches.old caches.new node child result }
+{
+    let released = released_by(caches, node, child);
+    let state = given_state(caches, node, child);
+    let parent = caches.links(node).parent;
+    exchange_under(caches, parent, node, child);
+    caches.rehang(child, state, parent);
+    caches.free(node);
+    released
+}
+
 // The only child takes the page and the place of the node, which goes.
 fn give_to(caches: &mut Caches, node: NodeId, child: NodeId) -> Released
     requires sound { IsSound caches.old }
@@ -116,10 +178,11 @@ fn give_to(caches: &mut Caches, node: NodeId, child: NodeId) -> Released
     ensures gone { IsGone caches.old caches.new node }
     ensures owns { OwnsAfter caches.old caches.new node result }
 {
-    cut(caches, child);
-    let released = pass_page(caches, node, child);
-    give_way(caches, node, child);
-    released
+    if caches.links(node).by_stub || caches.links(child).by_stub {
+        give_in_steps(caches, node, child)
+    } else {
+        give_at_once(caches, node, child)
+    }
 }
 
 // A node with fewer than two children goes. Its only child, where it has one, takes its page and its place.

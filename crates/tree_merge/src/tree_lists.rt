@@ -1,5 +1,5 @@
 // A node is taken out of its parent's tree children, or another one comes in its place.
-ghost use Rattle.std.specs.Prelude.{◌≡◌, ◌≢◌, ◌≤◌, length, slice_get, false, [], None, Some, option_and_then};
+ghost use Rattle.std.specs.Prelude.{◌≡◌, ◌≢◌, ◌≤◌, IfSome, length, slice_get, false, [], None, Some, option_and_then};
 ghost use Rattle.std.specs.List.{cons_option};
 ghost use Rattle.vm_ids.specs.declared.numbers.NodeId.{NodeId};
 ghost use Rattle.vm_ids.specs.Forest.Nodes.{node as node_named};
@@ -10,7 +10,7 @@ ghost use Rattle.local_cache.specs.Arena.{HasNode, cell, with_tree};
 ghost use Rattle.local_cache.specs.Changes.{Rehung};
 ghost use Rattle.local_cache.specs.Reading.{name_of, forest_of};
 ghost use Rattle.local_cache.specs.Sound.{IsSound};
-ghost use Rattle.tree_merge.specs.TreeLists.{exchanged, in_place};
+ghost use Rattle.tree_merge.specs.TreeLists.{exchanged, exchanged_under, in_place};
 ghost use Rattle.tree_merge.specs.Staying.{IsBelow};
 
 use local_cache::Caches;
@@ -58,6 +58,23 @@ fn exchange(caches: &mut Caches, parent: NodeId, node: NodeId, instead: Option<N
     let first = child_at(caches, parent, 0, node, instead);
     let second = child_at(caches, parent, 1, node, instead);
     set_children(caches, parent, first, second);
+}
+
+// Among the tree children of the parent, where there is one, comes another one in the place of a node.
+pub(crate) fn exchange_under(
+    caches: &mut Caches,
+    parent: Option<NodeId>,
+    node: NodeId,
+    instead: NodeId,
+)
+    requires held { IfSome parent (λ p. HasNode caches.old p) }
+    requires few { IfSome parent (λ p. length (cell caches.old p).tree ≤ 2) }
+    ensures changed { caches.new ≡ exchanged_under caches.old parent node instead }
+    ensures stays { (n : NodeId) → HasNode caches.old n → HasNode caches.new n }
+{
+    if let Some(parent) = parent {
+        exchange(caches, parent, node, Some(instead));
+    }
 }
 
 // The node is taken out of the tree children of its parent, and has no parent.

@@ -1,5 +1,5 @@
 -- A child gets the own page of a node, where the node has one and the child has none.
-use Rattle.std.proofs.Common.{◌≡◌, Bool, true, false, cond, not, ◌&&◌, Option, Some, None, is_some, refl, sym, ap, ap₂, ◌∙◌, subst, inl, inr}
+use Rattle.std.proofs.Common.{◌≡◌, Bool, true, false, cond, not, ◌&&◌, ◌≢◌, Some, None, is_some, refl, sym, ap, ap₂, ◌∙◌, subst, inl, inr}
 use Rattle.std.specs.Option.{option_or}
 use Rattle.std.proofs.lemmas.Bool.{false≢true}
 use Rattle.vm_ids.specs.Forest.Nodes.{Forest, node}
@@ -12,18 +12,17 @@ use Rattle.vm_ids.proofs.Forest.Cutting.{put_page-linked}
 use Rattle.vm_ids.specs.declared.numbers.NodeId.{NodeId}
 use Rattle.local_cache.specs.declared.own_state.OwnState.{OwnState}
 use Rattle.local_cache.specs.declared.own_state.OwnState.TheVariants.{Absent, Zero, Resident, Slot, OnSegment}
-use Rattle.local_cache.specs.Arena.{Arena, cell, HasNode, with_own}
+use Rattle.local_cache.specs.Arena.{Arena, Cell, cell, HasNode, with_own}
 use Rattle.local_cache.specs.Own.{is_absent, own_of}
 use Rattle.local_cache.specs.Reading.{name_of, forest_of, page_of}
 use Rattle.local_cache.specs.Sound.{IsSound}
 use Rattle.local_cache.proofs.Nodes.Cells.{cell-put, cell-put_other}
 use Rattle.local_cache.proofs.Changes.SameNodes.{Like, like-put, id_cases, made-put, copies-put, room-put}
 use Rattle.local_cache.proofs.Changes.OneNode.{own-forest, own-kept}
-use Rattle.local_cache.proofs.Forest.Reading.{node-forest_of, IsNode-forest_of}
+use Rattle.local_cache.proofs.Forest.Reading.{node-forest_of}
 use Rattle.tree_merge.specs.declared.released.Released.{Released}
 use Rattle.tree_merge.specs.declared.released.Released.TheVariants.{Dropped, Moved}
-use Rattle.tree_merge.specs.Releasing.{own_after, released_to}
-use Rattle.tree_merge.proofs.Place.Cut.{put_same}
+use Rattle.tree_merge.specs.Releasing.{given, own_after, released_to}
 use Rattle.tree_merge.proofs.ChildLists.TreeLists.{equal, unequal}
 
 pub page_none : (s : OwnState) → is_absent s ≡ true → page_of s ≡ None
@@ -40,24 +39,30 @@ page_some (Resident d) = refl
 page_some (Slot k) = refl
 page_some OnSegment = refl
 
--- what passes where not both the first is there and the second isn't
-or_same : (from to : OwnState) → (not (is_absent from) && is_absent to) ≡ false → option_or (page_of to) (page_of from) ≡ page_of to
-or_same from to e = go (is_absent from) refl e
-  where
-    some_or : (s : OwnState) (o : Option OwnState) → is_absent s ≡ false → option_or (page_of s) o ≡ page_of s
-    some_or Absent o e = absurd (false≢true (sym e))
-    some_or Zero o e = refl
-    some_or (Resident d) o e = refl
-    some_or (Slot k) o e = refl
-    some_or OnSegment o e = refl
+-- the page that is given is the child's own, or else the node's
+given_page : (from to : OwnState) → page_of (given from to) ≡ option_or (page_of to) (page_of from)
+given_page from Absent = refl
+given_page from Zero = refl
+given_page from (Resident d) = refl
+given_page from (Slot k) = refl
+given_page from OnSegment = refl
 
-    or_none : (o : Option OwnState) → option_or o None ≡ o
-    or_none None = refl
-    or_none (Some v) = refl
+kept_back : (b : Bool) (from to : OwnState) → to ≡ cond (b && false) from to
+kept_back true from to = refl
+kept_back false from to = refl
 
-    go : (b : Bool) → is_absent from ≡ b → (not b && is_absent to) ≡ false → option_or (page_of to) (page_of from) ≡ page_of to
-    go true is e = ap (option_or (page_of to)) (page_none from is) ∙ or_none (page_of to)
-    go false is e = some_or to (page_of from) e
+-- the node's own page is given where the node has one and the child has none
+given_state : (from to : OwnState)
+    → given from to ≡ cond (not (is_absent from) && is_absent to) from to
+given_state Absent Absent = refl
+given_state Zero Absent = refl
+given_state (Resident d) Absent = refl
+given_state (Slot k) Absent = refl
+given_state OnSegment Absent = refl
+given_state from Zero = kept_back (not (is_absent from)) from Zero
+given_state from (Resident d) = kept_back (not (is_absent from)) from (Resident d)
+given_state from (Slot k) = kept_back (not (is_absent from)) from (Slot k)
+given_state from OnSegment = kept_back (not (is_absent from)) from OnSegment
 
 pub record Passed (a b : Arena) (g : Forest OwnState) (released : Released) : Type 0 where
   pub forest : forest_of b ≡ g
@@ -74,60 +79,55 @@ module _ (a : Arena) (is_sound : IsSound a) (w y : NodeId) (hw : HasNode a w) (h
   own_y : (node (forest_of a) (name_of a y)).own ≡ page_of (own_of a y)
   own_y = ap (λ m. m.own) (node-forest_of a is_sound.kept.named y hy)
 
-  abbrev goal_forest : Forest OwnState
-  goal_forest = pass_page (forest_of a) (name_of a w) (name_of a y)
+  abbrev state : OwnState
+  state = given (own_of a w) (own_of a y)
 
-  stays : (not (is_absent (own_of a w)) && is_absent (own_of a y)) ≡ false → forest_of a ≡ pass_page (forest_of a) (name_of a w) (name_of a y)
+  abbrev after : Arena
+  after = with_own a y state
+
+  abbrev written : Cell
+  written = record (cell a y) { own = state }
+
+  after_forest : forest_of after ≡ pass_page (forest_of a) (name_of a w) (name_of a y)
   unfolding pass_page
-  stays e = sym (put_same (forest_of a) (name_of a y) (forest.with_own (option_or (node (forest_of a) (name_of a y)).own (node (forest_of a) (name_of a w)).own) (node (forest_of a) (name_of a y)))
-      (IsNode-forest_of a is_sound.kept.named y hy)
-      (let is : option_or (node (forest_of a) (name_of a y)).own (node (forest_of a) (name_of a w)).own ≡ (node (forest_of a) (name_of a y)).own = ap₂ option_or own_y own_w ∙ or_same (own_of a w) (own_of a y) e ∙ sym own_y in
-      λ i. record (node (forest_of a) (name_of a y)) { own = is i }))
+  after_forest =
+      own-forest a is_sound.kept y hy state
+      ∙ ap (λ o. edit (forest_of a) (name_of a y) (forest.with_own o)) (given_page (own_of a w) (own_of a y) ∙ sym (ap₂ option_or own_y own_w))
 
-  -- nothing passes
-  pub kept_back : (not (is_absent (own_of a w)) && is_absent (own_of a y)) ≡ false → (s : OwnState) → s ≡ own_of a w
-      → Passed a a goal_forest (Dropped w s) × (Dropped w s ≡ released_to a w (Some y))
-  kept_back e s is = (
-    record {
-      forest = stays e;
-      sound = is_sound;
-      like = record { held = λ m. refl; name = λ m. refl; caches = refl };
-      owns = λ m. refl;
-      counters = (refl, refl);
-      room = refl;
-    },
-    ap (Dropped w) is ∙ sym (ap (λ b. cond b (Moved w y) (Dropped w (own_of a w))) e),
-  )
+  after_linked : IsLinked (edit (forest_of a) (name_of a y) (forest.with_own (page_of state)))
+  after_linked = put_page-linked (forest_of a) is_sound.linked (name_of a y) (page_of state) (λ p e. cc (e, root))
 
-  moves : is_absent (own_of a y) ≡ true → (s : OwnState) → s ≡ own_of a w → forest_of (with_own a y s) ≡ pass_page (forest_of a) (name_of a w) (name_of a y)
-  unfolding pass_page
-  moves e s is = own-forest a is_sound.kept y hy s
-      ∙ ap (λ o. edit (forest_of a) (name_of a y) (forest.with_own o)) (ap page_of is ∙ sym (ap₂ option_or (own_y ∙ page_none (own_of a y) e) own_w))
+  -- the child has its state, and all others theirs
+  owns_here : (b : Bool) → cond b (own_of a w) (own_of a y) ≡ own_after a (cond b (Moved w y) (Dropped w (own_of a w))) y
+  owns_here true = sym (ap (λ t. cond t (own_of a w) (own_of a y)) (equal y.0 y.0 refl))
+  owns_here false = refl
 
-  moved-linked : (s : OwnState) → IsLinked (edit (forest_of a) (name_of a y) (forest.with_own (page_of s)))
-  moved-linked s = put_page-linked (forest_of a) is_sound.linked (name_of a y) (page_of s) (λ p e. cc (e, root))
+  owns_other : (b : Bool) (m : NodeId) → m ≢ y → own_of a m ≡ own_after a (cond b (Moved w y) (Dropped w (own_of a w))) m
+  owns_other true m ne = sym (ap (λ t. cond t (own_of a w) (own_of a m)) (unequal m.0 y.0 (λ e. ne (λ i. record { 0 = e i }))))
+  owns_other false m ne = refl
 
-  owns_moved : (s : OwnState) → s ≡ own_of a w → (m : NodeId) → own_of (with_own a y s) m ≡ own_after a (Moved w y) m
-  owns_moved s is m = elim (id_cases m y) [
-    | inl e ↦ ap (λ k. own_of (with_own a y s) k) e ∙ ap (λ c. c.own) (cell-put a y (record (cell a y) { own = s })) ∙ is ∙ sym (ap (λ b. cond b (own_of a w) (own_of a m)) (equal m.0 y.0 (ap (λ k. k.0) e)))
-    | inr ne ↦ ap (λ c. c.own) (cell-put_other a y m (record (cell a y) { own = s }) ne) ∙ sym (ap (λ b. cond b (own_of a w) (own_of a m)) (unequal m.0 y.0 (λ e. ne (λ i. record { 0 = e i }))))
-  ]
+  after_owns : (m : NodeId) → own_of after m ≡ own_after a (released_to a w (Some y)) m
+  after_owns m =
+      let passes : Bool = not (is_absent (own_of a w)) && is_absent (own_of a y) in
+      elim (id_cases m y) [
+        | inl e ↦
+            ap (own_of after) e ∙ ap (λ c. c.own) (cell-put a y written) ∙ given_state (own_of a w) (own_of a y)
+            ∙ owns_here passes ∙ ap (own_after a (released_to a w (Some y))) (sym e)
+        | inr ne ↦ ap (λ c. c.own) (cell-put_other a y m written ne) ∙ owns_other passes m ne
+      ]
 
-  -- the page passes
-  pub passed_on : (not (is_absent (own_of a w)) && is_absent (own_of a y)) ≡ true → (s : OwnState) → s ≡ own_of a w → (b : Arena) → b ≡ with_own a y s
-      → Passed a b goal_forest (Moved w y) × (Moved w y ≡ released_to a w (Some y))
-  passed_on e s is b b_is = (
-    subst (λ k. Passed a k goal_forest (Moved w y)) (sym b_is) (record {
-      forest = moves (right (is_absent (own_of a w)) (is_absent (own_of a y)) e) s is;
-      sound = record { kept = own-kept a is_sound.kept y hy s; linked = subst IsLinked (sym (own-forest a is_sound.kept y hy s)) (moved-linked s) };
-      like = like-put a y (record (cell a y) { own = s }) hy refl;
-      owns = owns_moved s is;
-      counters = (made-put a y (record (cell a y) { own = s }), copies-put a y (record (cell a y) { own = s }));
-      room = room-put a y (record (cell a y) { own = s });
-    }),
-    sym (ap (λ b. cond b (Moved w y) (Dropped w (own_of a w))) e),
-  )
-    where
-      right : (b c : Bool) → (not b && c) ≡ true → c ≡ true
-      right true c e = absurd (false≢true e)
-      right false c e = e
+  passed_after : Passed a after (pass_page (forest_of a) (name_of a w) (name_of a y)) (released_to a w (Some y))
+  passed_after = record {
+    forest = after_forest;
+    sound = record { kept = own-kept a is_sound.kept y hy state; linked = subst IsLinked (sym (own-forest a is_sound.kept y hy state)) after_linked };
+    like = like-put a y written hy refl;
+    owns = after_owns;
+    counters = (made-put a y written, copies-put a y written);
+    room = room-put a y written;
+  }
+
+  pub passed : (s : OwnState) → s ≡ given (own_of a w) (own_of a y) → (b : Arena) → b ≡ with_own a y s → (r : Released) → r ≡ released_to a w (Some y)
+      → Passed a b (pass_page (forest_of a) (name_of a w) (name_of a y)) r
+  passed s s_is b b_is r r_is =
+      subst (Passed a b (pass_page (forest_of a) (name_of a w) (name_of a y))) (sym r_is)
+      (subst (λ k. Passed a k (pass_page (forest_of a) (name_of a w) (name_of a y)) (released_to a w (Some y))) (sym (b_is ∙ ap (with_own a y) s_is)) passed_after)

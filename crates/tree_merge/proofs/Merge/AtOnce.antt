@@ -1,0 +1,240 @@
+-- The only child takes the page and the place of a node where neither hangs by a stub link: each of them and the parent is written once.
+use Rattle.std.proofs.Common.{◌≡◌, ◌≢◌, ◌<◌, ◌≤◌, false, length, Option, Some, None, refl, sym, ap, ap₂, ◌∙◌, subst, arith}
+use Rattle.std.specs.Prelude.{IfSome}
+use Rattle.vm_ids.specs.Forest.Changes.{cut}
+use Rattle.vm_ids.specs.Forest.Nodes.{child_count, node, parent, parent_of}
+use Rattle.vm_ids.specs.Forest.Nodes.Hang.{Root}
+use Rattle.vm_ids.specs.Forest.Settling.{pass_page}
+use Rattle.vm_ids.specs.declared.numbers.NodeId.{NodeId}
+use Rattle.local_cache.specs.declared.own_state.OwnState.{OwnState}
+use Rattle.local_cache.specs.Arena.{Arena, Cell, HasNode, cell, hung, with_own, with_tree, without}
+use Rattle.local_cache.specs.Own.{own_of}
+use Rattle.local_cache.specs.Reading.{forest_of, hang_by, name_of}
+use Rattle.local_cache.specs.Sound.{IsSound}
+use Rattle.local_cache.proofs.Changes.SameNodes.{links-with_links_other, links-with_tree, parent-read}
+use Rattle.local_cache.proofs.Forest.Reading.{node-forest_of}
+use Rattle.local_cache.proofs.Nodes.Cells.{cell-put_other}
+use Rattle.tree_merge.specs.declared.released.Released.{Released}
+use Rattle.tree_merge.specs.Releasing.{IsGiven, given, released_to}
+use Rattle.tree_merge.specs.Staying.{HasNoChild, IsBelow, placed}
+use Rattle.tree_merge.specs.TreeLists.{exchanged, exchanged_under}
+use Rattle.tree_merge.proofs.CopiedPages.Changes.{change_change}
+use Rattle.tree_merge.proofs.Merge.Cells.{alter, altered_again, altered_gone}
+use Rattle.tree_merge.proofs.Merge.Page.{Passed, passed}
+use Rattle.tree_merge.proofs.Merge.Step.{cut_root, given_forest, given_gone, given_owns, given_released, passed_below, passed_none, passed_root}
+use Rattle.tree_merge.proofs.Place.Heir.{give_way-Freed, no_parent-placed, tree-placed}
+use Rattle.tree_merge.proofs.Place.Step.{Step}
+use Rattle.tree_merge.proofs.Place.TreeCut.{cut_tree-Step, few_tree}
+use Rattle.tree_merge.proofs.Place.TreeExchange.{take_tree_place-Step}
+
+-- What is written ------------------------------------------------------------------------
+
+module _ (a : Arena) (w y : NodeId) (y_w : y ≢ w) (s : OwnState) where
+  -- what is done to a cell
+  abbrev on : Option NodeId → Cell → Cell
+  on up c = record c { links = record c.links { parent = up; by_stub = false } }
+
+  abbrev owning : Cell → Cell
+  owning c = record c { own = s }
+
+  abbrev over : NodeId → Option NodeId → Cell → Cell
+  over n instead c = record c { tree = exchanged n instead c.tree }
+
+  abbrev w_y : w ≢ y
+  w_y e = y_w (sym e)
+
+  -- y is cut off, and has its state
+  abbrev cut_off : Arena
+  cut_off = hung (with_tree a w (exchanged y None (cell a w).tree)) y None
+
+  abbrev loose : Arena
+  loose = with_own cut_off y s
+
+  -- the same before anything is written to w
+  abbrev loose_first : Arena
+  loose_first = alter (alter a y (on None)) y owning
+
+  loose_is : loose ≡ alter loose_first w (over y None)
+  loose_is =
+      ap (λ (x : Arena). alter x y owning) (change_change a w y w_y (over y None) (on None))
+      ∙ change_change (alter a y (on None)) w y w_y (over y None) owning
+
+  -- where y is written last, it doesn't matter that it was cut off
+  hung_last : (x : Arena) (up : Option NodeId) → alter (alter (alter x y (on None)) y owning) y (on up) ≡ alter (alter x y owning) y (on up)
+  hung_last x up =
+      ap (λ (z : Arena). alter z y (on up)) (altered_again x y (on None) owning)
+      ∙ altered_again x y (λ c. owning (on None c)) (on up)
+      ∙ sym (altered_again x y owning (on up))
+
+  -- w has no parent
+  once_root : without loose w ≡ without (hung (with_own a y s) y None) w
+  once_root =
+      ap (λ (x : Arena). without x w) loose_is
+      ∙ altered_gone loose_first w (over y None) refl
+      ∙ ap (λ (x : Arena). without x w) (altered_again a y (on None) owning ∙ sym (altered_again a y owning (on None)))
+
+  -- w hangs on p by a tree link
+  module _ (p : NodeId) (p_y : p ≢ y) (p_w : p ≢ w) where
+    abbrev w_p : w ≢ p
+    w_p e = p_w (sym e)
+
+    abbrev y_p : y ≢ p
+    y_p e = p_y (sym e)
+
+    abbrev put_under : Arena
+    put_under = hung (with_tree loose p (exchanged w (Some y) (cell loose p).tree)) y (Some p)
+
+    put_under_is : put_under ≡ alter (alter (alter loose_first p (over w (Some y))) y (on (Some p))) w (over y None)
+    put_under_is =
+        ap (λ (x : Arena). alter (alter x p (over w (Some y))) y (on (Some p))) loose_is
+        ∙ ap (λ (x : Arena). alter x y (on (Some p))) (change_change loose_first w p w_p (over y None) (over w (Some y)))
+        ∙ change_change (alter loose_first p (over w (Some y))) w y w_y (over y None) (on (Some p))
+
+    tree_first : alter loose_first p (over w (Some y)) ≡ alter (alter (alter a p (over w (Some y))) y (on None)) y owning
+    tree_first =
+        change_change (alter a y (on None)) y p y_p owning (over w (Some y))
+        ∙ ap (λ (x : Arena). alter x y owning) (change_change a y p y_p (on None) (over w (Some y)))
+
+    once_tree : without (hung put_under w None) w ≡ without (hung (with_own (with_tree a p (exchanged w (Some y) (cell a p).tree)) y s) y (Some p)) w
+    once_tree =
+        altered_gone put_under w (on None) refl
+        ∙ ap (λ (x : Arena). without x w) put_under_is
+        ∙ altered_gone (alter (alter loose_first p (over w (Some y))) y (on (Some p))) w (over y None) refl
+        ∙ ap (λ (x : Arena). without x w) (ap (λ (x : Arena). alter x y (on (Some p))) tree_first ∙ hung_last (alter a p (over w (Some y))) (Some p))
+
+-- What is needed ---------------------------------------------------------------------------
+
+module _ (a : Arena) (sound : IsSound a) (w : NodeId) (hw : HasNode a w) where
+  pub parent_held : (up : Option NodeId) → up ≡ (cell a w).links.parent → IfSome up (λ p. HasNode a p)
+  parent_held None is = tt
+  parent_held (Some p) is = sound.kept.parents w p hw (sym is)
+
+  -- the parent has at most two tree children
+  pub parent_few : (up : Option NodeId) → up ≡ (cell a w).links.parent → IfSome up (λ p. length (cell a p).tree ≤ 2)
+  parent_few None is = tt
+  parent_few (Some p) is = few_tree a sound p (sound.kept.parents w p hw (sym is))
+
+-- What it is ------------------------------------------------------------------------------
+
+module _ (a : Arena) (sound : IsSound a) (w y : NodeId) (hw : HasNode a w) (hy : HasNode a y) (up : parent (forest_of a) (name_of a y) ≡ Some (name_of a w))
+    (few : child_count (forest_of a) (name_of a w) < 2) (w_tree : (cell a w).links.by_stub ≡ false) (y_tree : (cell a y).links.by_stub ≡ false)
+    (s : OwnState) (s_is : s ≡ given (own_of a w) (own_of a y)) where
+  -- the parent of y, by its number
+  parent_is : (cell a y).links.parent ≡ Some w
+  parent_is = go (cell a y).links.parent refl
+    where
+      read : parent (forest_of a) (name_of a y) ≡ parent_of (hang_by a (cell a y).links.parent (cell a y).links.by_stub)
+      read = ap (λ m. parent_of m.hang) (node-forest_of a sound.kept.named y hy)
+
+      go : (o : Option NodeId) → (cell a y).links.parent ≡ o → (cell a y).links.parent ≡ Some w
+      go None e =
+          let clash : Some (name_of a w) ≡ None = sym up ∙ read ∙ ap (λ o. parent_of (hang_by a o (cell a y).links.by_stub)) e in
+          cc clash
+      go (Some q) e =
+          let named : Some (name_of a q) ≡ Some (name_of a w) = sym (parent-read a sound.kept.named y q hy e) ∙ up in
+          let name : name_of a q ≡ name_of a w = cc named in
+          e ∙ ap Some (sound.kept.named.apart q w (sound.kept.parents y q hy e) hw name)
+
+  y_w : y ≢ w
+  y_w e = let less = sound.linked.order.1 (name_of a y) (name_of a w) up in let same = ap (λ n. sound.linked.order.0 (name_of a n)) e in absurd (omega (arith, less, same))
+
+  abbrev b : Arena
+  b = cut_off a w y y_w s
+
+  abbrev c : Arena
+  c = loose a w y y_w s
+
+  cut_y : Step a b (cut (forest_of a) (name_of a y))
+  cut_y = cut_tree-Step a sound y w hy parent_is y_tree _ _ refl refl
+
+  hw_b : HasNode b w
+  hw_b = cut_y.rehung.like.held w ∙ hw
+
+  hy_b : HasNode b y
+  hy_b = cut_y.rehung.like.held y ∙ hy
+
+  passed_y : Passed b c (pass_page (forest_of b) (name_of b w) (name_of b y)) (released_to b w (Some y))
+  passed_y =
+      passed b cut_y.sound w y hw_b hy_b (cut_root a sound w y up few b cut_y.forest cut_y.rehung)
+      s (s_is ∙ sym (ap₂ given (cut_y.rehung.own w) (cut_y.rehung.own y))) c refl (released_to b w (Some y)) refl
+
+  hw_c : HasNode c w
+  hw_c = passed_y.like.held w ∙ hw_b
+
+  hy_c : HasNode c y
+  hy_c = passed_y.like.held y ∙ hy_b
+
+  root_c : (node (forest_of c) (name_of c y)).hang ≡ Root
+  root_c = passed_root a sound w y up few b cut_y.forest cut_y.rehung c passed_y.forest passed_y.like
+
+  below_c : IsBelow (forest_of c) (name_of c w) (name_of c y)
+  below_c = passed_below a sound w y up few b cut_y.forest cut_y.rehung c passed_y.forest passed_y.like
+
+  none_c : HasNoChild (forest_of c) (name_of c w)
+  none_c = passed_none a sound w y up few b cut_y.forest cut_y.rehung c passed_y.forest passed_y.like
+
+  -- the links of w are what they were
+  links_c : (cell c w).links ≡ (cell a w).links
+  links_c =
+      ap (λ (k : Cell). k.links) (cell-put_other b y w _ (λ e. y_w (sym e)))
+      ∙ links-with_links_other (with_tree a w (exchanged y None (cell a w).tree)) y w _ (λ e. y_w (sym e))
+      ∙ links-with_tree a w (exchanged y None (cell a w).tree) w
+
+  -- y is in the place of w, and w goes
+  gives : (d : Arena) → Step c d (placed (forest_of c) (name_of c w) (name_of c y)) → (r : Released) → r ≡ released_to a w (Some y) → IsGiven a (without d w) w y r
+  gives d step r r_is =
+      let freed = give_way-Freed c d (without d w) passed_y.sound w y hw_c root_c below_c none_c step refl in
+      let told = given_released a b w y (released_to b w (Some y)) cut_y.rehung refl in
+      subst (IsGiven a (without d w) w y) (told ∙ sym r_is) (record {
+        forest = given_forest a sound w y up few b cut_y.forest cut_y.rehung c passed_y.forest passed_y.like (without d w) freed.forest;
+        sound = freed.sound;
+        told = told;
+        gone = given_gone a sound w y up few b cut_y.forest cut_y.rehung c passed_y.forest passed_y.like (without d w) passed_y.counters passed_y.room freed.gone;
+        owns = given_owns a b c (without d w) w (released_to b w (Some y)) cut_y.rehung passed_y.owns freed.owns;
+      })
+
+  given_root : (cell a w).links.parent ≡ None → (r : Released) → r ≡ released_to a w (Some y) → IsGiven a (without (hung (with_own a y s) y None) w) w y r
+  given_root none r r_is =
+      subst (λ (k : Arena). IsGiven a k w y r) (once_root a w y y_w s)
+      (gives c (no_parent-placed c passed_y.sound w y hw_c hy_c root_c (ap (λ l. l.parent) links_c ∙ none)) r r_is)
+
+  module _ (p : NodeId) (up_w : (cell a w).links.parent ≡ Some p) where
+    p_lower : sound.linked.order.0 (name_of a p) < sound.linked.order.0 (name_of a w)
+    p_lower = sound.linked.order.1 (name_of a w) (name_of a p) (parent-read a sound.kept.named w p hw up_w)
+
+    p_w : p ≢ w
+    p_w e = let same = ap (λ n. sound.linked.order.0 (name_of a n)) e in absurd (omega (arith, p_lower, same))
+
+    p_y : p ≢ y
+    p_y e =
+        let less = sound.linked.order.1 (name_of a y) (name_of a w) up in
+        let same = ap (λ n. sound.linked.order.0 (name_of a n)) e in
+        absurd (omega (arith, p_lower, less, same))
+
+    up_c : (cell c w).links.parent ≡ Some p
+    up_c = ap (λ l. l.parent) links_c ∙ up_w
+
+    tree_c : (cell c w).links.by_stub ≡ false
+    tree_c = ap (λ l. l.by_stub) links_c ∙ w_tree
+
+    abbrev d : Arena
+    d = hung (put_under a w y y_w s p p_y p_w) w None
+
+    placed_y : Step c d (placed (forest_of c) (name_of c w) (name_of c y))
+    placed_y =
+        subst (Step c d) (sym (tree-placed c passed_y.sound w y hw_c hy_c root_c p up_c tree_c))
+        (take_tree_place-Step c passed_y.sound w y p hw_c hy_c up_c tree_c root_c below_c _ _ _ refl refl refl)
+
+    given_tree : (r : Released) → r ≡ released_to a w (Some y) → IsGiven a (without (hung (with_own (with_tree a p (exchanged w (Some y) (cell a p).tree)) y s) y (Some p)) w) w y r
+    given_tree r r_is = subst (λ (k : Arena). IsGiven a k w y r) (once_tree a w y y_w s p p_y p_w) (gives d placed_y r r_is)
+
+  given_under : (up_w : Option NodeId) → (cell a w).links.parent ≡ up_w → (r : Released) → r ≡ released_to a w (Some y)
+      → IsGiven a (without (hung (with_own (exchanged_under a up_w w y) y s) y up_w) w) w y r
+  given_under None is r r_is = given_root is r r_is
+  given_under (Some p) is r r_is = given_tree p is r r_is
+
+  pub given_at_once : (up_w : Option NodeId) → up_w ≡ (cell a w).links.parent → (r : Released) → r ≡ released_to a w (Some y) → (k m e : Arena)
+      → k ≡ exchanged_under a up_w w y → m ≡ hung (with_own k y s) y up_w → e ≡ without m w → IsGiven a e w y r
+  given_at_once up_w is r r_is k m e k_is m_is e_is =
+      subst (λ (x : Arena). IsGiven a x w y r) (sym (e_is ∙ ap (λ (x : Arena). without x w) (m_is ∙ ap (λ (x : Arena). hung (with_own x y s) y up_w) k_is)))
+      (given_under up_w (sym is) r r_is)
