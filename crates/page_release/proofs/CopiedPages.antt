@@ -1,8 +1,12 @@
--- Many pages are copied at once, and the store is as it was.
+-- Pages are copied, one alone or many at once, and the store follows.
 
 -- Copies of pages, one behind the other.
 pub mod Parts
+-- One page was copied alone.
+pub mod OneFollowed
 -- One page is copied to a node that is new.
 pub mod OnePage
 -- All pages are copied at once.
 pub mod Pages
+-- A step of a copy.
+pub mod Steps

@@ -10,7 +10,7 @@ pub mod Dropped
 pub mod Followed
 -- What the caches did and released was followed in the store: a page was retired.
 pub mod Retired
--- What a retired page, and a fresh node for it, leave of the tables and of the room.
-pub mod Tables
+-- What is done in the store for a node that went doesn't look at the caches.
+pub mod Elsewhere
 -- One step of settle was followed in the store: it is the rule for the forest of bytes.
 pub mod Merged

@@ -18,9 +18,9 @@ pub mod Freeing
 pub mod Leading
 -- What is carried through the steps of a command.
 pub mod Walking
--- Many pages are retired at once, and the store is as it was.
+-- Pages are retired, one alone or many at once, and the store follows.
 pub mod RetiredPages
--- Many pages are copied at once, and the store is as it was.
+-- Pages are copied, one alone or many at once, and the store follows.
 pub mod CopiedPages
 -- What the tests know of their pages.
 mod Tried

@@ -1,69 +1,28 @@
 // The pages of a copy, and the store follows.
-ghost use Rattle.std.specs.Prelude.{◌+◌, ◌-◌, ◌*◌, ◌<◌, ◌≤◌, ◌^◌, false, true, [], leb};
-ghost use Rattle.vm_ids.specs.declared.node_name.NodeName.{NodeName};
+ghost use Rattle.std.specs.Prelude.{◌+◌, ◌-◌, ◌*◌, ◌<◌, ◌≤◌, ◌^◌, false, [], leb};
 ghost use Rattle.vm_ids.specs.Forest.Commands.{copy as rule_copy, copy_pages as rule_copy_pages, firsts, seconds, small_copy, span_pairs};
 ghost use Rattle.vm_ids.specs.Forest.NameLists.{◌∈◌};
 ghost use Rattle.vm_ids.specs.Forest.Laws.Commands.{CanCopy};
-ghost use Rattle.vm_ids.specs.Forest.Laws.Linking.{ArePages};
-ghost use Rattle.vm_ids.specs.Forest.NameMap.{len};
-ghost use Rattle.vm_ids.specs.Forest.Rules as forest;
 ghost use Rattle.vm_ids.specs.Forest.Shape.{IsConsistent};
 ghost use Rattle.local_cache.specs.Reading.{forest_of};
 ghost use Rattle.local_cache.specs.Sound.{IsSound};
 ghost use Rattle.tree_merge.specs.Copying.{pairs_left, span_pairs_after};
 ghost use Rattle.page_release.specs.Commands.{CanReplace, CanRetire, CanTransfer, Grows, HasRoom, KeepsPages};
-ghost use Rattle.page_release.specs.Homes.{AreUnclean, IsUnclean};
+ghost use Rattle.page_release.specs.Homes.{AreUnclean};
 ghost use Rattle.page_release.specs.Readings.{GoesBy};
-ghost use Rattle.page_release.specs.Steps.{AreUnpinned, IsStoreTied, IsUnpinned, Kept, Releases};
+ghost use Rattle.page_release.specs.Steps.{AreUnpinned, IsStoreTied, Kept, Releases};
 ghost use Rattle.page_release.specs.Translating.{Leaves, Replaces};
 
+use crate::following::follow;
 use crate::forgetting::forget_named;
 use crate::settling::settle;
-use crate::steps::detach_page;
 use crate::translations::{drop_seen, narrow_own};
-use history_tree::link;
-use local_cache::{Caches, OwnState};
-use page_stubs::add_stub;
+use local_cache::Caches;
 use residency::Store;
-use tree_merge::copy_many;
-use vm_ids::{CacheId, NodeName, PageNo, SMALL_COPY, Span};
+use tree_merge::copy_step;
+use vm_ids::Span;
 
-// One page becomes a copy of another: by a stub link, or else by a tree link.
-fn copy_page(
-    store: &mut Store,
-    caches: &mut Caches,
-    is_small: bool,
-    to: CacheId,
-    to_page: PageNo,
-    from: CacheId,
-    from_page: PageNo,
-)
-    requires tied { IsStoreTied store.old caches.old }
-    requires sound { IsSound caches.old }
-    requires consistent { IsConsistent (forest_of caches.old) }
-    requires pages { ArePages (forest_of caches.old) (NodeName.Live to to_page)
-        (NodeName.Live from from_page) }
-    requires unpinned { IsUnpinned store.old caches.old (NodeName.Live to to_page) }
-    requires unclean { IsUnclean caches.old (NodeName.Live to to_page) }
-    requires room { 2 ≤ caches.old.room.nodes }
-    requires made { caches.old.made + 1 < 2 ^ 63 }
-    requires few { len (forest_of caches.old).nodes + 1 < 2 ^ 32 }
-    ensures rule { GoesBy (λ P put f. forest.copy_page is_small f (NodeName.Live to to_page)
-        (NodeName.Live from from_page)) store.old caches.old store.new caches.new }
-    ensures kept { Releases [] store.old caches.old store.new caches.new }
-    ensures room { caches.old.room.nodes ≤ caches.new.room.nodes + 2 }
-{
-    detach_page(store, caches, to, to_page, OwnState::Absent);
-    let fresh = caches.node_of(to, to_page);
-    let origin = caches.node_of(from, from_page);
-    if is_small {
-        add_stub(caches, fresh, origin);
-    } else {
-        link(caches, fresh, origin);
-    }
-}
-
-// Copies the pages of a span that come next, by tree links: as many as are alike at once, or else one. How many.
+// Copies the pages of a span that come next: as many as are alike at once, or else one. How many.
 fn copy_next(store: &mut Store, caches: &mut Caches, span: Span, done: u32) -> u32
     requires tied { IsStoreTied store.old caches.old }
     requires sound { IsSound caches.old }
@@ -78,61 +37,14 @@ fn copy_next(store: &mut Store, caches: &mut Caches, span: Span, done: u32) -> u
     requires made { caches.old.made + 2 * (span.pages - done) < 2 ^ 63 }
     ensures some { 0 < result }
     ensures few { done + result ≤ span.pages }
-    ensures rule { GoesBy (λ P put f. rule_copy_pages false (span_pairs_after span done result) f)
-        store.old caches.old store.new caches.new }
+    ensures rule { GoesBy (λ P put f. rule_copy_pages (leb span.pages small_copy)
+        (span_pairs_after span done result) f) store.old caches.old store.new caches.new }
     ensures kept { Releases [] store.old caches.old store.new caches.new }
     ensures grows { Grows (2 * result) caches.old caches.new }
 {
-    let many = copy_many(caches, span, done);
-    if many > 0 {
-        many
-    } else {
-        let to_page = PageNo(span.to_page.0 + done);
-        let from_page = PageNo(span.from_page.0 + done);
-        copy_page(store, caches, false, span.to, to_page, span.from, from_page);
-        1
-    }
-}
-
-// Each page of the destination becomes a copy of its source by a tree link, in rising order.
-fn copy_large(store: &mut Store, caches: &mut Caches, span: Span)
-    requires can { CanCopy (forest_of caches.old) (span_pairs span) }
-    requires within { (span.from_page.0 + span.pages < 2 ^ 32)
-        × (span.to_page.0 + span.pages < 2 ^ 32) }
-    requires retire { CanRetire (2 * span.pages) (firsts (span_pairs span))
-        store.old caches.old }
-    requires unclean { AreUnclean caches.old (firsts (span_pairs span)) }
-    requires room { HasRoom (2 * span.pages) caches.old }
-    ensures rule { GoesBy (λ P put f. rule_copy_pages false (span_pairs span) f)
-        store.old caches.old store.new caches.new }
-    ensures kept { Releases [] store.old caches.old store.new caches.new }
-    ensures grows { Grows (2 * span.pages) caches.old caches.new }
-{
-    let mut done = 0;
-    while done < span.pages {
-        done += copy_next(store, caches, span, done);
-    }
-}
-
-// Each page of the destination becomes a copy of its source by a stub link, in rising order.
-fn copy_small(store: &mut Store, caches: &mut Caches, span: Span)
-    requires can { CanCopy (forest_of caches.old) (span_pairs span) }
-    requires within { (span.from_page.0 + span.pages < 2 ^ 32)
-        × (span.to_page.0 + span.pages < 2 ^ 32) }
-    requires retire { CanRetire (2 * span.pages) (firsts (span_pairs span))
-        store.old caches.old }
-    requires unclean { AreUnclean caches.old (firsts (span_pairs span)) }
-    requires room { HasRoom (2 * span.pages) caches.old }
-    ensures rule { GoesBy (λ P put f. rule_copy_pages true (span_pairs span) f)
-        store.old caches.old store.new caches.new }
-    ensures kept { Releases [] store.old caches.old store.new caches.new }
-    ensures grows { Grows (2 * span.pages) caches.old caches.new }
-{
-    for page in 0..span.pages {
-        let to_page = PageNo(span.to_page.0 + page);
-        let from_page = PageNo(span.from_page.0 + page);
-        copy_page(store, caches, true, span.to, to_page, span.from, from_page);
-    }
+    let step = copy_step(caches, span, done);
+    follow(store, caches, step.released);
+    step.pages
 }
 
 // Each page of the destination becomes a copy of its source, in rising order.
@@ -149,10 +61,9 @@ fn copy_each(store: &mut Store, caches: &mut Caches, span: Span)
     ensures kept { Releases [] store.old caches.old store.new caches.new }
     ensures grows { Grows (2 * span.pages) caches.old caches.new }
 {
-    if span.pages <= SMALL_COPY {
-        copy_small(store, caches, span);
-    } else {
-        copy_large(store, caches, span);
+    let mut done = 0;
+    while done < span.pages {
+        done += copy_next(store, caches, span, done);
     }
 }
 

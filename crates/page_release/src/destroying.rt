@@ -15,13 +15,13 @@ ghost use Rattle.page_release.specs.Readings.{GoesBy};
 ghost use Rattle.page_release.specs.Steps.{IsStoreTied, IsUnpinned, Kept, Releases};
 ghost use Rattle.page_release.specs.Translating.{Leaves, Replaces};
 
+use crate::following::follow;
 use crate::forgetting::forget_named;
 use crate::settling::settle;
-use crate::steps::retire_page;
 use crate::translations::drop_seen;
 use local_cache::Caches;
 use residency::Store;
-use tree_merge::retire_many;
+use tree_merge::retire_step;
 use vm_ids::{CacheId, Extent, PageNo};
 
 // Retires the pages of a live cache that come next: as many as are alike at once, or else one. How many.
@@ -46,13 +46,9 @@ fn retire_next(store: &mut Store, caches: &mut Caches, cache: CacheId, pages: u3
         first: PageNo(0),
         pages,
     };
-    let many = retire_many(caches, extent, done);
-    if many > 0 {
-        many
-    } else {
-        retire_page(store, caches, cache, PageNo(done));
-        1
-    }
+    let step = retire_step(caches, extent, done);
+    follow(store, caches, step.released);
+    step.pages
 }
 
 // Retires the pages of a live cache in rising order.

@@ -32,12 +32,12 @@ use Rattle.residency.specs.World.{IsTied, is_clean, own_page, page_at, page_by, 
 use Rattle.residency.proofs.Worlds.Telling.{tells}
 use Rattle.tree_merge.specs.declared.released.Released.{Released}
 use Rattle.tree_merge.specs.Releasing.{IsRetired}
+use Rattle.tree_merge.proofs.Leaving.Sizes.{new_tables, sizes_new}
 use Rattle.vm_ids.proofs.Places.{true_below}
 use Rattle.page_release.specs.Homes.{IsUnclean, KeepsHomes, WasThere, cleaned}
 use Rattle.page_release.specs.Steps.{ForAnyMapper, GivesBack, IsStoreTied, Releases, PinnedStayNamed, fresh_page, is_fresh}
 use Rattle.page_release.proofs.Coming.Fresh.{fresh-by, fresh_gives, fresh_page_is, fresh_page_other}
 use Rattle.page_release.proofs.Coming.Taken.{IsFreeHome, retired_free}
-use Rattle.page_release.proofs.Leaving.Tables.{new_tables, sizes_new}
 use Rattle.page_release.proofs.Tying.Homes.{home_name}
 use Rattle.page_release.proofs.Tying.Kept.{gives_then, named_then}
 use Rattle.page_release.proofs.Tying.Tied.{home}

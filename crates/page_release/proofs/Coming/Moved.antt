@@ -1,5 +1,5 @@
 -- A page was moved, and what was released followed in the store: it is the rule for the forest of bytes.
-use Rattle.std.proofs.Common.{◌≡◌, ℕ, zero, suc, [], Option, Some, None, IsSome, refl, sym, ap, ◌∙◌, subst, arith, inl, inr}
+use Rattle.std.proofs.Common.{◌≡◌, ℕ, [], Option, Some, None, IsSome, refl, sym, ap, ◌∙◌, subst, inl, inr}
 use Rattle.std.specs.Prelude.{option_map, replicate}
 use Rattle.vm_ids.specs.Held.{Held}
 use Rattle.vm_ids.specs.declared.node_name.NodeName.{NodeName}
@@ -7,10 +7,10 @@ use Rattle.vm_ids.specs.declared.node_name.NodeName.TheVariants.{Live}
 use Rattle.vm_ids.specs.declared.numbers.CacheId.{CacheId}
 use Rattle.vm_ids.specs.declared.numbers.PageNo.{PageNo}
 use Rattle.vm_ids.specs.Forest.Changes.{put, rename}
-use Rattle.vm_ids.specs.Forest.Nodes.{child_count, childless}
+use Rattle.vm_ids.specs.Forest.Nodes.{childless}
 use Rattle.vm_ids.specs.Forest.Nodes.Hang.{Root}
 use Rattle.vm_ids.specs.Forest.Rules.{move_page, retire}
-use Rattle.local_cache.specs.declared.own_state.OwnState.TheVariants.{Absent, Zero, Resident, Slot, OnSegment}
+use Rattle.local_cache.specs.declared.own_state.OwnState.TheVariants.{Zero}
 use Rattle.vm_ids.specs.declared.numbers.NodeId.{NodeId}
 use Rattle.local_cache.specs.Arena.{Arena, Cell, HasNode, cell, is_granted, locks_of, tables_with, with_name}
 use Rattle.local_cache.specs.Home.{home_named, home_of}
@@ -21,13 +21,12 @@ use Rattle.local_cache.proofs.Changes.Locked.{locks-tables_with}
 use Rattle.local_cache.proofs.Names.PageName.{name_other, renamed_own, renamed_sizes}
 use Rattle.local_cache.proofs.Nodes.Cells.{cell-put}
 use Rattle.local_cache.proofs.Nodes.OwnStates.{id_cases}
-use Rattle.local_cache.specs.Reading.{forest_of, name_of}
+use Rattle.local_cache.specs.Reading.{name_of}
 use Rattle.local_cache.specs.Sound.{IsSound}
 use Rattle.residency.specs.declared.store.Store.{Store}
 use Rattle.residency.specs.StoreForest.{store_forest}
-use Rattle.residency.specs.World.{IsTied, World, is_clean, world}
+use Rattle.residency.specs.World.{IsTied, is_clean, world}
 use Rattle.tree_merge.specs.declared.released.Released.{Released}
-use Rattle.tree_merge.specs.declared.released.Released.TheVariants.{Nothing, Dropped, Moved}
 use Rattle.move_pages.specs.Moved.{IsMoved}
 use Rattle.tree_merge.proofs.Leaving.Sizes.{sizes_retired}
 use Rattle.move_pages.proofs.Moves.{move_sizes, moved_kept, moved_vacant, origin_held, origin_name}
@@ -37,32 +36,11 @@ use Rattle.page_release.specs.Steps.{ForAnyMapper, GivesBack, IsStoreTied, IsUnp
 use Rattle.page_release.specs.Translating.{DropsFreed}
 use Rattle.page_release.proofs.Tying.Homes.{home_name}
 use Rattle.page_release.proofs.Tying.Kept.{gives_then, named_then, unpinned_by}
+use Rattle.page_release.proofs.Leaving.Elsewhere.{StaysPut, can_with, followed_with, retired_put}
 use Rattle.page_release.proofs.Leaving.Retired.{retire_back, retire_can, retire_forest, retire_homes, retire_named}
 use Rattle.page_release.proofs.Coming.Taken.{free_homeless, retired_free}
 use Rattle.page_release.proofs.Coming.Renamed.{renamed_back, renamed_bytes, renamed_home_other, renamed_pinned, renamed_unclean}
 use Rattle.page_release.proofs.Coming.Detached.{fresh_back, fresh_forest, fresh_grants, fresh_is, fresh_locks, fresh_named, fresh_others}
-
--- What is done in the store for a node that went doesn't look at the caches ------------------
-
--- no node took over the page of another
-abbrev pub StaysPut : Released → Type 0
-StaysPut Nothing = Unit {0}
-StaysPut (Dropped n state) = Unit {0}
-StaysPut (Moved from to) = ⊥
-
-can_with : (s : Store) (b d : Arena) (r : Released) → StaysPut r → CanFollow s b r → CanFollow s d r
-can_with s b d Nothing put can = can
-can_with s b d (Dropped n state) put can = can
-can_with s b d (Moved from to) put can = absurd put
-
-without_with : (w : World) (b : Arena) (r : Released) → StaysPut r → record (followed w r) { caches = b } ≡ followed (record w { caches = b }) r
-without_with w b Nothing put = refl
-without_with w b (Dropped n Absent) put = refl
-without_with w b (Dropped n Zero) put = refl
-without_with w b (Dropped n (Resident dirty)) put = refl
-without_with w b (Dropped n (Slot k)) put = refl
-without_with w b (Dropped n OnSegment) put = refl
-without_with w b (Moved from to) put = absurd put
 
 renamed_name : (b : Arena) (n : NodeId) (x : NodeName) → name_of (with_name b n x) n ≡ x
 unfolding cell
@@ -106,11 +84,7 @@ module _ (s : Store) (a : Arena) (sound : IsSound a) (tied : IsStoreTied s a) (f
   there_named = origin_name b m.cleared.sound to to_page m.cleared.vacant from from_page m.origin m.source c refl
 
   put_still : StaysPut r
-  put_still = go (child_count (forest_of a) (name_of a m.cleared.node)) refl
-    where
-      go : (k : ℕ) → child_count (forest_of a) (name_of a m.cleared.node) ≡ k → StaysPut r
-      go zero e = subst StaysPut (sym (m.cleared.retired.leaf e).0) tt
-      go (suc k) e = subst StaysPut (sym (m.cleared.retired.parent (omega (arith, e))).0) tt
+  put_still = retired_put a b m.cleared.node r m.cleared.retired
 
   pub move_can : CanFollow s d r
   move_can = can_with s b d r put_still (retire_can s a b m.cleared.node x was was_named r m.cleared.retired m.cleared.told tied unpinned unclean)
@@ -123,7 +97,7 @@ module _ (s : Store) (a : Arena) (sound : IsSound a) (tied : IsStoreTied s a) (f
 
   module _ (t : Store) (after : (told : Option Held) (size : Option ℕ) → world told size d t ≡ followed (world told size d s) r) where
     pub before : (told : Option Held) (size : Option ℕ) → world told size m.between t ≡ followed (world told size m.between s) r
-    before told size = ap (λ (w : World). record w { caches = b }) (after told size) ∙ without_with (world told size d s) b r put_still
+    before = followed_with s t b d r put_still after
 
   module _ (t : Store) (after : (told : Option Held) (size : Option ℕ) → world told size d t ≡ followed (world told size d s) r) (temporary : home_named a.caches (Live from from_page) ≡ None) where
     cleared_back : ForAnyMapper s a t b GivesBack

@@ -36,7 +36,7 @@ module _ (t : Store) (a : Arena) (to : CacheId) (to_page : PageNo) (from : Cache
         (λ b k less next so_far.
         one_more b (copy_first d new to to_page s b k) k so_far
         (first_copies t b (next_node d k) (next_node s k) (next_node new k) to (record { 0 = to_page.0 + k }) next.can next.empty so_far.kept.tied
-        so_far.grows.consistent (page_name from (from_page.0 + k)) next.named next.tree))
+        so_far.grows.consistent from (record { 0 = from_page.0 + k }) next.named next.tree))
 
     -- from sources with one tree child
     pub more_follows : (h w : NodeId) → CanCopyMore a d s h new w to to_page from from_page count → Copied (copied_more a d s h new w to to_page count) count
@@ -45,7 +45,7 @@ module _ (t : Store) (a : Arena) (to : CacheId) (to_page : PageNo) (from : Cache
         (λ b k less next so_far.
         one_more b (copy_more d new to to_page s h w b k) k so_far
         (more_copies t b (next_node d k) (next_node s k) (next_node new k) to (record { 0 = to_page.0 + k }) next.can next.empty so_far.kept.tied
-        so_far.grows.consistent (page_name from (from_page.0 + k)) next.named (next_node h k) (next_node w k) next.tree next.free next.apart next.room))
+        so_far.grows.consistent from (record { 0 = from_page.0 + k }) next.named (next_node h k) (next_node w k) next.tree next.free next.apart next.room))
 
 -- so many pages of a span, behind those that are done
 pub at_once_follows : (t : Store) (a b : Arena) (span : Span) (done count : ℕ) → IsStoreTied t a → IsConsistent (forest_of a) → IsCopiedAtOnce a b span done count

@@ -31,12 +31,12 @@ module _ (t : Store) (a : Arena) (cache : CacheId) (page : PageNo) (tied : IsSto
   pages_go : (d : NodeId) (count : ℕ) → CanRetireMany a d cache page count → Retired (without_many a d count) count
   pages_go d count can =
       retired_by a d cache page count can Retired (retires_none cache page.0 t a can.sound tied)
-      (λ b k less next so_far. one_more b (without b (next_node d k)) k so_far (page_goes t b (next_node d k) cache (record { 0 = page.0 + k }) next.empty so_far.kept.tied next.can))
+      (λ b k less next so_far. one_more b (without b (next_node d k)) k so_far (page_goes t b (next_node d k) cache (record { 0 = page.0 + k }) next.can next.empty so_far.kept.tied))
 
   pages_stay : (d : NodeId) (count : ℕ) → CanShareMany a d cache page count → Retired (as_working_many a d count) count
   pages_stay d count can =
       shared_by a d cache page count can Retired (retires_none cache page.0 t a can.sound tied)
-      (λ b k less next so_far. one_more b (as_working b (next_node d k)) k so_far (page_stays t b (next_node d k) cache (record { 0 = page.0 + k }) next.empty so_far.kept.tied next.can))
+      (λ b k less next so_far. one_more b (as_working b (next_node d k)) k so_far (page_stays t b (next_node d k) cache (record { 0 = page.0 + k }) next.can next.empty so_far.kept.tied))
 
   pub at_once : (b : Arena) (count : ℕ) → AreFreedAtOnce a b cache page count ⊎ AreSharedAtOnce a b cache page count → Retired b count
   at_once b count (inl all) = subst (λ (e : Arena). Retired e count) (sym all.is) (pages_go all.node count all.can)

@@ -63,7 +63,7 @@ retires_none c p s a sound tied = record {
   fewer = omega arith;
 }
 
-retires_one : (c : CacheId) (p : ℕ) (s : Store) (a : Arena) (t : Store) (b : Arena) → RetiresPage (page_name c p) s a t b → RetiresPages c p 1 s a t b
+pub retires_one : (c : CacheId) (p : ℕ) (s : Store) (a : Arena) (t : Store) (b : Arena) → RetiresPage (page_name c p) s a t b → RetiresPages c p 1 s a t b
 retires_one c p s a t b one = record {
   rule = record { nodes = one.rule.nodes; forest = one.rule.forest; frames = one.rule.frames };
   kept = one.kept;

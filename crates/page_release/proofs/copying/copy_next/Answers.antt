@@ -1,67 +1,52 @@
-use Rattle.std.proofs.Common.{◌≡◌, ◌+◌, false, sym, subst, arith}
-use Rattle.vm_ids.specs.Forest.Commands.{page_name}
-use Rattle.vm_ids.specs.Forest.Laws.Linking.{ArePages}
-use Rattle.vm_ids.specs.Forest.Shape.{IsConsistent}
+use Rattle.std.proofs.Common.{◌+◌, leb}
+use Rattle.vm_ids.specs.Forest.Commands.{page_name, small_copy}
 use Rattle.vm_ids.proofs.Forest.Pairs.{pages_now}
 use Rattle.local_cache.specs.Reading.{forest_of}
-use Rattle.page_release.specs.Commands.{Grows}
-use Rattle.page_release.specs.Homes.{IsUnclean}
-use Rattle.page_release.specs.Steps.{IsUnpinned}
-use Rattle.page_release.proofs.CopiedPages.Pages.{at_once_follows}
-use Rattle.page_release.proofs.CopiedPages.Parts.{grown_page}
+use Rattle.page_release.proofs.CopiedPages.Steps.{step_can, step_copies}
 use Rattle.page_release.proofs.Walking.Ranges.{is_destination}
 use Rattle.page_release.proofs.copying.copy_next.Goals as goal
 
--- None were copied at once: the caches are as they were.
-pub copy_page-requires-clause-pages : goal.copy_page-requires-clause-pages
-copy_page-requires-clause-pages c =
+pub follow-requires : goal.follow-requires
+follow-requires c =
+    let s = c.args.span in
+    let k = c.args.done in
+    let step = c.copy_step-step in
+    let x = page_name s.to (s.to_page.0 + k) in
+    let here = is_destination s k c.requires.done in
+    step_can c.args.store.now c.args.caches.now step.new.caches s k step.result step.ensures.step c.requires.sound c.requires.tied (c.requires.unpinned x here) (c.requires.unclean x here)
+
+pub returns-clause-rule : goal.returns-clause-rule
+returns-clause-rule c =
     let s = c.args.span in
     let k = c.args.done in
     let a = c.args.caches.now in
-    let same : c.copy_many-many.new.caches ≡ a = c.copy_many-many.ensures.none (omega arith) in
-    subst (λ x. ArePages (forest_of x) (page_name s.to (s.to_page.0 + k)) (page_name s.from (s.from_page.0 + k))) (sym same)
-    (pages_now (forest_of a) c.requires.consistent false s.from s.from_page.0 s.to s.to_page.0 s.pages k c.requires.done c.requires.can)
+    let step = c.copy_step-step in
+    let x = page_name s.to (s.to_page.0 + k) in
+    let here = is_destination s k c.requires.done in
+    let pages = pages_now (forest_of a) c.requires.consistent (leb s.pages small_copy) s.from s.from_page.0 s.to s.to_page.0 s.pages k c.requires.done c.requires.can in
+    (step_copies c.args.store.now a step.new.caches s k step.result step.ensures.step c.requires.sound c.requires.tied (c.requires.unpinned x here) (c.requires.unclean x here)
+    c.follow.new.store c.follow.ensures.store c.follow.ensures.tables c.follow.ensures.nothing c.requires.consistent pages).rule
 
-pub copy_page-requires-clause-unpinned : goal.copy_page-requires-clause-unpinned
-copy_page-requires-clause-unpinned c =
-    let s = c.args.span in
-    let x = page_name s.to (s.to_page.0 + c.args.done) in
-    let same : c.copy_many-many.new.caches ≡ c.args.caches.now = c.copy_many-many.ensures.none (omega arith) in
-    subst (λ k. IsUnpinned c.args.store.now k x) (sym same) (c.requires.unpinned x (is_destination s c.args.done c.requires.done))
-
-pub copy_page-requires-clause-unclean : goal.copy_page-requires-clause-unclean
-copy_page-requires-clause-unclean c =
-    let s = c.args.span in
-    let x = page_name s.to (s.to_page.0 + c.args.done) in
-    let same : c.copy_many-many.new.caches ≡ c.args.caches.now = c.copy_many-many.ensures.none (omega arith) in
-    subst (λ k. IsUnclean k x) (sym same) (c.requires.unclean x (is_destination s c.args.done c.requires.done))
-
-pub returns-else-many-gt0-clause-grows : goal.returns-else-many-gt0-clause-grows
-returns-else-many-gt0-clause-grows c =
+pub returns-clause-kept : goal.returns-clause-kept
+returns-clause-kept c =
     let s = c.args.span in
     let k = c.args.done in
     let a = c.args.caches.now in
-    let b = c.copy_page.new.caches in
-    let to = page_name s.to (s.to_page.0 + k) in
-    let from = page_name s.from (s.from_page.0 + k) in
-    let same : c.copy_many-many.new.caches ≡ a = c.copy_many-many.ensures.none (omega arith) in
-    let pages = pages_now (forest_of a) c.requires.consistent false s.from s.from_page.0 s.to s.to_page.0 s.pages k c.requires.done c.requires.can in
-    subst (λ x. Grows 2 x b) same
-    (grown_page false c.copy_many-many.new.caches b to from (subst (λ x. IsConsistent (forest_of x)) (sym same) c.requires.consistent) (subst (λ x. ArePages (forest_of x) to from) (sym same) pages)
-    c.copy_page.ensures.rule.nodes c.copy_page.ensures.room)
+    let step = c.copy_step-step in
+    let x = page_name s.to (s.to_page.0 + k) in
+    let here = is_destination s k c.requires.done in
+    let pages = pages_now (forest_of a) c.requires.consistent (leb s.pages small_copy) s.from s.from_page.0 s.to s.to_page.0 s.pages k c.requires.done c.requires.can in
+    (step_copies c.args.store.now a step.new.caches s k step.result step.ensures.step c.requires.sound c.requires.tied (c.requires.unpinned x here) (c.requires.unclean x here)
+    c.follow.new.store c.follow.ensures.store c.follow.ensures.tables c.follow.ensures.nothing c.requires.consistent pages).kept
 
--- All were copied at once that were alike.
-pub returns-then-many-gt0-clause-rule : goal.returns-then-many-gt0-clause-rule
-returns-then-many-gt0-clause-rule c =
-    let many = c.copy_many-many in
-    (at_once_follows c.args.store.now c.args.caches.now many.new.caches c.args.span c.args.done many.result c.requires.tied c.requires.consistent (many.ensures.copied (omega arith))).rule
-
-pub returns-then-many-gt0-clause-kept : goal.returns-then-many-gt0-clause-kept
-returns-then-many-gt0-clause-kept c =
-    let many = c.copy_many-many in
-    (at_once_follows c.args.store.now c.args.caches.now many.new.caches c.args.span c.args.done many.result c.requires.tied c.requires.consistent (many.ensures.copied (omega arith))).kept
-
-pub returns-then-many-gt0-clause-grows : goal.returns-then-many-gt0-clause-grows
-returns-then-many-gt0-clause-grows c =
-    let many = c.copy_many-many in
-    (at_once_follows c.args.store.now c.args.caches.now many.new.caches c.args.span c.args.done many.result c.requires.tied c.requires.consistent (many.ensures.copied (omega arith))).grows
+pub returns-clause-grows : goal.returns-clause-grows
+returns-clause-grows c =
+    let s = c.args.span in
+    let k = c.args.done in
+    let a = c.args.caches.now in
+    let step = c.copy_step-step in
+    let x = page_name s.to (s.to_page.0 + k) in
+    let here = is_destination s k c.requires.done in
+    let pages = pages_now (forest_of a) c.requires.consistent (leb s.pages small_copy) s.from s.from_page.0 s.to s.to_page.0 s.pages k c.requires.done c.requires.can in
+    (step_copies c.args.store.now a step.new.caches s k step.result step.ensures.step c.requires.sound c.requires.tied (c.requires.unpinned x here) (c.requires.unclean x here)
+    c.follow.new.store c.follow.ensures.store c.follow.ensures.tables c.follow.ensures.nothing c.requires.consistent pages).grows
