@@ -11,7 +11,7 @@ pub mod OtherPages
 -- What a call says that it released is what became of the nodes and their own states.
 pub mod Releases
 -- Nodes that are alike.
-mod AlikeNodes
+pub mod AlikeNodes
 -- Many pages are retired at once.
 pub mod RetiredPages
 -- Many pages are copied at once.

@@ -33,6 +33,7 @@ mod tree_lists;
 
 pub use detaching::{detach, retire};
 pub use laws::{copying_first, copying_more, retiring_at_once, sharing_at_once};
+pub use lone::lone_nodes;
 pub use released::Released;
 pub use settling::settle_step;
 pub use step::Step;

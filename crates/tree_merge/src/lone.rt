@@ -27,9 +27,9 @@ fn is_lone(caches: &Caches, node: NodeId) -> bool
         && caches.tree_child(node, 0).is_none()
 }
 
-// How many nodes, from one on, are alike and have neither parents nor children nor own pages but zeros, as far as so
-// many.
-pub(crate) fn lone_nodes(caches: &Caches, node: NodeId, most: u32) -> u32
+/// How many nodes, from one on, are alike and have neither parents nor children nor own pages but zeros, as far as so
+/// many.
+pub fn lone_nodes(caches: &Caches, node: NodeId, most: u32) -> u32
     requires { HasNode caches.now node }
     ensures most { result ≤ most }
     ensures lone { AreLone caches.now node result }

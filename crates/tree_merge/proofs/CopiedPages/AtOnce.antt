@@ -48,11 +48,11 @@ one_history (m ∷ k ∷ ms) h s count is first = absurd is
 -- The pages of a copy -------------------------------------------------------------------------------
 
 module _ (a : Arena) (sound : IsSound a) (to from : CacheId) (q p most : ℕ) (can : CanCopy (forest_of a) (page_pairs from p to q most)) where
-  filled : (k : ℕ) → k < most → names.◌∈◌ (page_name to (q + k)) (firsts (page_pairs from p to q most))
+  pub filled : (k : ℕ) → k < most → names.◌∈◌ (page_name to (q + k)) (firsts (page_pairs from p to q most))
   filled k less = subst (λ (xs : List NodeName). names.◌∈◌ (page_name to (q + k)) xs) (sym (pairs_fill_destinations from to p q most))
       ((ranges_hold_their_pages to q most (page_name to (q + k))).1 (k, less, refl))
 
-  read : (k : ℕ) → k < most → names.◌∈◌ (page_name from (p + k)) (seconds (page_pairs from p to q most))
+  pub read : (k : ℕ) → k < most → names.◌∈◌ (page_name from (p + k)) (seconds (page_pairs from p to q most))
   read k less = subst (λ (xs : List NodeName). names.◌∈◌ (page_name from (p + k)) xs) (sym (pairs_read_sources from to p q most))
       ((ranges_hold_their_pages from p most (page_name from (p + k))).1 (k, less, refl))
 

@@ -23,10 +23,10 @@ each step a zero = a
 each step a (suc k) = step (each step a k) k
 
 -- a step f may be made before an earlier step g
-abbrev Passes : (f g : Arena → ℕ → Arena) → ℕ → Type 0
+abbrev pub Passes : (f g : Arena → ℕ → Arena) → ℕ → Type 0
 Passes f g count = (x : Arena) (i j : ℕ) → i < j → j < count → f (g x i) j ≡ g (f x j) i
 
-both : (e f g : Arena → ℕ → Arena) (count : ℕ) → Passes f g count → Passes e g count → Passes (λ x i. e (f x i) i) g count
+pub both : (e f g : Arena → ℕ → Arena) (count : ℕ) → Passes f g count → Passes e g count → Passes (λ x i. e (f x i) i) g count
 both e f g count p q x i j less below = ap (λ (y : Arena). e y j) (p x i j less below) ∙ q (f x j) i j less below
 
 slide : (f g : Arena → ℕ → Arena) (count : ℕ) → Passes f g count → (x : Arena) (k j : ℕ) → k ≤ j → j < count → f (each g x k) j ≡ each g (f x j) k
@@ -35,7 +35,7 @@ slide f g count p x (suc k) j le below =
     p (each g x k) k j (omega arith) below ∙ ap (λ (y : Arena). g y k) (slide f g count p x k j (omega arith) below)
 
 -- so all steps f may be made before all steps g
-parted : (f g : Arena → ℕ → Arena) (count : ℕ) → Passes f g count → (a : Arena) (k : ℕ) → k ≤ count → each (λ x i. g (f x i) i) a k ≡ each g (each f a k) k
+pub parted : (f g : Arena → ℕ → Arena) (count : ℕ) → Passes f g count → (a : Arena) (k : ℕ) → k ≤ count → each (λ x i. g (f x i) i) a k ≡ each g (each f a k) k
 parted f g count p a zero le = refl
 parted f g count p a (suc k) le =
     ap (λ (y : Arena). g (f y k) k) (parted f g count p a k (omega arith))
