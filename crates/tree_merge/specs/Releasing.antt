@@ -70,12 +70,12 @@ released_to a n (Some y) =
     cond (not (is_absent (own_of a n)) && is_absent (own_of a y))
     (Moved n y) (Dropped n (own_of a n))
 
--- the own state of a child after it got this one where it had no own page
+-- the own state of a child that had the second one, after it got the first where it had no own page
 abbrev pub given : (from to : OwnState) → OwnState
 given from to = cond (is_absent to) from to
 
--- From a to b the only child y of n took its page and its place, and n went.
-pub record IsGiven (a b : Arena) (n y : NodeId) (released : Released) : Type 0 where
+-- From a to b the node n gave way to its only child y, which took its page and its place.
+pub record HasGivenWay (a b : Arena) (n y : NodeId) (released : Released) : Type 0 where
   pub forest : forest_of b
       ≡ give_way (pass_page (cut (forest_of a) (name_of a y)) (name_of a n) (name_of a y))
       (name_of a n) (name_of a y)

@@ -11,7 +11,7 @@ ghost use Rattle.local_cache.specs.Changes.{Like, Rehung};
 ghost use Rattle.local_cache.specs.Own.{is_absent, own_of};
 ghost use Rattle.local_cache.specs.Reading.{name_of, forest_of};
 ghost use Rattle.local_cache.specs.Sound.{IsSound};
-ghost use Rattle.tree_merge.specs.Releasing.{IsGiven, IsMerged, IsReleased, OwnsAfter, given, own_after, released_to};
+ghost use Rattle.tree_merge.specs.Releasing.{HasGivenWay, IsMerged, IsReleased, OwnsAfter, given, own_after, released_to};
 ghost use Rattle.tree_merge.specs.Releasing as spec;
 ghost use Rattle.tree_merge.specs.Staying.{HasNoChild, IsBelow, IsGone, placed};
 
@@ -31,7 +31,7 @@ fn passes(from: OwnState, to: OwnState) -> bool
     !from.is_absent() && to.is_absent()
 }
 
-// What falls free where the node gives way to this child.
+// What is released where the node gives way to this child.
 fn released_by(caches: &Caches, node: NodeId, child: NodeId) -> Released
     requires held { HasNode caches.now node }
     requires child { HasNode caches.now child }
@@ -45,7 +45,7 @@ fn released_by(caches: &Caches, node: NodeId, child: NodeId) -> Released
     }
 }
 
-// The own state of the child, or that of the node where the child has no own page.
+// The own state of the child, once it got the node's own page where it had none.
 fn given_state(caches: &Caches, node: NodeId, child: NodeId) -> OwnState
     requires held { HasNode caches.now node }
     requires child { HasNode caches.now child }
@@ -131,7 +131,7 @@ fn give_in_steps(caches: &mut Caches, node: NodeId, child: NodeId) -> Released
     requires up { parent_named (forest_of caches.old) (name_of caches.old child)
         ≡ Some (name_of caches.old node) }
     requires few { child_count (forest_of caches.old) (name_of caches.old node) < 2 }
-    ensures { IsGiven caches.old caches.new node child result }
+    ensures { HasGivenWay caches.old caches.new node child result }
 {
     cut(caches, child);
     let released = pass_page(caches, node, child);
@@ -139,8 +139,8 @@ fn give_in_steps(caches: &mut Caches, node: NodeId, child: NodeId) -> Released
     released
 }
 
-// The same where neither hangs by a stub link. The parent, where there is one, the child and the node are written once
-// each: so where many nodes in a row give way, no run of nodes is split.
+// The same where neither hangs by a stub link. The parent, where there is one, and the child are written once each: so
+// where nodes of one run give way one after the other, bounds of runs move, and no run is split for each.
 fn give_at_once(caches: &mut Caches, node: NodeId, child: NodeId) -> Released
     requires sound { IsSound caches.old }
     requires held { HasNode caches.old node }
@@ -150,7 +150,7 @@ fn give_at_once(caches: &mut Caches, node: NodeId, child: NodeId) -> Released
     requires few { child_count (forest_of caches.old) (name_of caches.old node) < 2 }
     requires no_stub { (cell caches.old node).links.by_stub ≡ false }
     requires child_no_stub { (cell caches.old child).links.by_stub ≡ false }
-    ensures { IsGiven caches.old caches.new node child result }
+    ensures { HasGivenWay caches.old caches.new node child result }
 {
     let released = released_by(caches, node, child);
     let state = given_state(caches, node, child);

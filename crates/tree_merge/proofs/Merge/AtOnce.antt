@@ -1,4 +1,4 @@
--- The only child takes the page and the place of a node where neither hangs by a stub link: each of them and the parent is written once.
+-- The only child takes the page and the place of a node where neither hangs by a stub link: it and the parent are written once each.
 use Rattle.std.proofs.Common.{◌≡◌, ◌≢◌, ◌<◌, ◌≤◌, false, length, Option, Some, None, refl, sym, ap, ap₂, ◌∙◌, subst, arith}
 use Rattle.std.specs.Prelude.{IfSome}
 use Rattle.vm_ids.specs.Forest.Changes.{cut}
@@ -15,7 +15,7 @@ use Rattle.local_cache.proofs.Changes.SameNodes.{links-with_links_other, links-w
 use Rattle.local_cache.proofs.Forest.Reading.{node-forest_of}
 use Rattle.local_cache.proofs.Nodes.Cells.{cell-put_other}
 use Rattle.tree_merge.specs.declared.released.Released.{Released}
-use Rattle.tree_merge.specs.Releasing.{IsGiven, given, released_to}
+use Rattle.tree_merge.specs.Releasing.{HasGivenWay, given, released_to}
 use Rattle.tree_merge.specs.Staying.{HasNoChild, IsBelow, placed}
 use Rattle.tree_merge.specs.TreeLists.{exchanged, exchanged_under}
 use Rattle.tree_merge.proofs.CopiedPages.Changes.{change_change}
@@ -181,11 +181,11 @@ module _ (a : Arena) (sound : IsSound a) (w y : NodeId) (hw : HasNode a w) (hy :
       ∙ links-with_tree a w (exchanged y None (cell a w).tree) w
 
   -- y is in the place of w, and w goes
-  gives : (d : Arena) → Step c d (placed (forest_of c) (name_of c w) (name_of c y)) → (r : Released) → r ≡ released_to a w (Some y) → IsGiven a (without d w) w y r
+  gives : (d : Arena) → Step c d (placed (forest_of c) (name_of c w) (name_of c y)) → (r : Released) → r ≡ released_to a w (Some y) → HasGivenWay a (without d w) w y r
   gives d step r r_is =
       let freed = give_way-Freed c d (without d w) passed_y.sound w y hw_c root_c below_c none_c step refl in
       let told = given_released a b w y (released_to b w (Some y)) cut_y.rehung refl in
-      subst (IsGiven a (without d w) w y) (told ∙ sym r_is) (record {
+      subst (HasGivenWay a (without d w) w y) (told ∙ sym r_is) (record {
         forest = given_forest a sound w y up few b cut_y.forest cut_y.rehung c passed_y.forest passed_y.like (without d w) freed.forest;
         sound = freed.sound;
         told = told;
@@ -193,9 +193,9 @@ module _ (a : Arena) (sound : IsSound a) (w y : NodeId) (hw : HasNode a w) (hy :
         owns = given_owns a b c (without d w) w (released_to b w (Some y)) cut_y.rehung passed_y.owns freed.owns;
       })
 
-  given_root : (cell a w).links.parent ≡ None → (r : Released) → r ≡ released_to a w (Some y) → IsGiven a (without (hung (with_own a y s) y None) w) w y r
+  given_root : (cell a w).links.parent ≡ None → (r : Released) → r ≡ released_to a w (Some y) → HasGivenWay a (without (hung (with_own a y s) y None) w) w y r
   given_root none r r_is =
-      subst (λ (k : Arena). IsGiven a k w y r) (once_root a w y y_w s)
+      subst (λ (k : Arena). HasGivenWay a k w y r) (once_root a w y y_w s)
       (gives c (no_parent-placed c passed_y.sound w y hw_c hy_c root_c (ap (λ l. l.parent) links_c ∙ none)) r r_is)
 
   module _ (p : NodeId) (up_w : (cell a w).links.parent ≡ Some p) where
@@ -225,16 +225,16 @@ module _ (a : Arena) (sound : IsSound a) (w y : NodeId) (hw : HasNode a w) (hy :
         subst (Step c d) (sym (tree-placed c passed_y.sound w y hw_c hy_c root_c p up_c tree_c))
         (take_tree_place-Step c passed_y.sound w y p hw_c hy_c up_c tree_c root_c below_c _ _ _ refl refl refl)
 
-    given_tree : (r : Released) → r ≡ released_to a w (Some y) → IsGiven a (without (hung (with_own (with_tree a p (exchanged w (Some y) (cell a p).tree)) y s) y (Some p)) w) w y r
-    given_tree r r_is = subst (λ (k : Arena). IsGiven a k w y r) (once_tree a w y y_w s p p_y p_w) (gives d placed_y r r_is)
+    given_tree : (r : Released) → r ≡ released_to a w (Some y) → HasGivenWay a (without (hung (with_own (with_tree a p (exchanged w (Some y) (cell a p).tree)) y s) y (Some p)) w) w y r
+    given_tree r r_is = subst (λ (k : Arena). HasGivenWay a k w y r) (once_tree a w y y_w s p p_y p_w) (gives d placed_y r r_is)
 
   given_under : (up_w : Option NodeId) → (cell a w).links.parent ≡ up_w → (r : Released) → r ≡ released_to a w (Some y)
-      → IsGiven a (without (hung (with_own (exchanged_under a up_w w y) y s) y up_w) w) w y r
+      → HasGivenWay a (without (hung (with_own (exchanged_under a up_w w y) y s) y up_w) w) w y r
   given_under None is r r_is = given_root is r r_is
   given_under (Some p) is r r_is = given_tree p is r r_is
 
   pub given_at_once : (up_w : Option NodeId) → up_w ≡ (cell a w).links.parent → (r : Released) → r ≡ released_to a w (Some y) → (k m e : Arena)
-      → k ≡ exchanged_under a up_w w y → m ≡ hung (with_own k y s) y up_w → e ≡ without m w → IsGiven a e w y r
+      → k ≡ exchanged_under a up_w w y → m ≡ hung (with_own k y s) y up_w → e ≡ without m w → HasGivenWay a e w y r
   given_at_once up_w is r r_is k m e k_is m_is e_is =
-      subst (λ (x : Arena). IsGiven a x w y r) (sym (e_is ∙ ap (λ (x : Arena). without x w) (m_is ∙ ap (λ (x : Arena). hung (with_own x y s) y up_w) k_is)))
+      subst (λ (x : Arena). HasGivenWay a x w y r) (sym (e_is ∙ ap (λ (x : Arena). without x w) (m_is ∙ ap (λ (x : Arena). hung (with_own x y s) y up_w) k_is)))
       (given_under up_w (sym is) r r_is)

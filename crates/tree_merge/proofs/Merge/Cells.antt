@@ -1,12 +1,10 @@
--- Changes of one node, one after the other: what is written to a node last is what counts, and where the node goes nothing of it.
-use Rattle.std.proofs.Common.{◌≡◌, ◌≢◌, ◌+◌, None, refl, sym, ap, ◌∙◌}
+-- Changes of one node, one after the other: they are one change, and none where the node goes.
+use Rattle.std.proofs.Common.{◌≡◌, None, ap, ◌∙◌}
 use Rattle.std.specs.FinMap as map
-use Rattle.vm_ids.specs.declared.node_name.NodeName.{NodeName}
 use Rattle.vm_ids.specs.declared.numbers.NodeId.{NodeId}
 use Rattle.local_cache.specs.Arena.{Arena, Cell, cell, put, tables_with, without}
 use Rattle.local_cache.proofs.NodeCells.{inserted_by, inserted_here, inserted_other, removed_by, removed_here, removed_other}
 use Rattle.local_cache.proofs.Nodes.Cells.{cell-put}
-use Rattle.tree_merge.proofs.CopiedPages.Changes.{change_change}
 
 -- a node with its cell changed
 abbrev pub alter : Arena → NodeId → (Cell → Cell) → Arena
