@@ -22,5 +22,7 @@ pub mod Walking
 pub mod RetiredPages
 -- Pages are copied, one alone or many at once, and the store follows.
 pub mod CopiedPages
+-- The pages of a move, one by one or many at once, and the store follows.
+pub mod MovedPages
 -- What the tests know of their pages.
 mod Tried

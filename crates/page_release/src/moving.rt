@@ -1,18 +1,16 @@
 // The pages of a move, and the store follows.
 ghost use Rattle.std.specs.Prelude.{◌≡◌, ◌+◌, ◌<◌, ◌≤◌, ◌^◌, ◌⊎◌, false, []};
-ghost use Rattle.vm_ids.specs.declared.node_name.NodeName.{NodeName};
 ghost use Rattle.vm_ids.specs.Forest.Commands.{firsts, move_, move_pages as rule_move_pages, seconds, span_pairs};
 ghost use Rattle.vm_ids.specs.Forest.NameLists.{◌∈◌};
 ghost use Rattle.vm_ids.specs.Forest.Laws.Commands.{CanCopy};
-ghost use Rattle.vm_ids.specs.Forest.Laws.Linking.{ArePages};
-ghost use Rattle.vm_ids.specs.Forest.Rules as forest;
 ghost use Rattle.vm_ids.specs.Forest.Shape.{IsConsistent};
 ghost use Rattle.local_cache.specs.Reading.{forest_of};
 ghost use Rattle.local_cache.specs.Sound.{IsSound};
+ghost use Rattle.tree_merge.specs.Copying.{pairs_left, span_pairs_after};
 ghost use Rattle.page_release.specs.Commands.{CanReplace, CanRetire, CanTransfer, Grows, HasRoom, KeepsPages};
-ghost use Rattle.page_release.specs.Homes.{AreUnclean, IsUnclean, is_named};
+ghost use Rattle.page_release.specs.Homes.{AreUnclean, is_named};
 ghost use Rattle.page_release.specs.Readings.{GoesBy};
-ghost use Rattle.page_release.specs.Steps.{AreUnpinned, IsStoreTied, IsUnpinned, Kept, Releases};
+ghost use Rattle.page_release.specs.Steps.{AreUnpinned, IsStoreTied, Kept, Releases};
 ghost use Rattle.page_release.specs.Translating.{Leaves, Replaces};
 
 use crate::following::follow;
@@ -20,36 +18,36 @@ use crate::forgetting::forget_named;
 use crate::settling::settle;
 use crate::translations::drop_seen;
 use local_cache::Caches;
+use move_pages::move_step;
 use residency::Store;
-use vm_ids::{CacheId, NodeName, PageNo, Span};
+use vm_ids::Span;
 
-// One page is moved, and what became of the destination's old node is followed.
-fn move_one(
-    store: &mut Store,
-    caches: &mut Caches,
-    to: CacheId,
-    to_page: PageNo,
-    from: CacheId,
-    from_page: PageNo,
-)
+// Moves the pages of a span that come next: as many as are alike at once, or else one, and what became of its
+// destination's old node is followed. How many.
+fn move_next(store: &mut Store, caches: &mut Caches, span: Span, done: u32) -> u32
     requires tied { IsStoreTied store.old caches.old }
     requires sound { IsSound caches.old }
     requires consistent { IsConsistent (forest_of caches.old) }
-    requires pages { ArePages (forest_of caches.old) (NodeName.Live to to_page)
-        (NodeName.Live from from_page) }
-    requires temporary { is_named caches.old from ≡ false }
-    requires unpinned { IsUnpinned store.old caches.old (NodeName.Live to to_page) }
-    requires unclean { IsUnclean caches.old (NodeName.Live to to_page) }
-    requires source { IsUnpinned store.old caches.old (NodeName.Live from from_page) }
+    requires can { CanCopy (forest_of caches.old) (pairs_left span done) }
+    requires within { (span.from_page.0 + span.pages < 2 ^ 32)
+        × (span.to_page.0 + span.pages < 2 ^ 32) }
+    requires done { done < span.pages }
+    requires temporary { is_named caches.old span.from ≡ false }
+    requires sources { AreUnpinned store.old caches.old (seconds (span_pairs span)) }
+    requires unpinned { AreUnpinned store.old caches.old (firsts (span_pairs span)) }
+    requires unclean { AreUnclean caches.old (firsts (span_pairs span)) }
     requires room { 1 ≤ caches.old.room.nodes }
     requires made { caches.old.made < 2 ^ 63 }
-    ensures rule { GoesBy (λ P put f. forest.move_page f (NodeName.Live to to_page)
-        (NodeName.Live from from_page) put.zeros) store.old caches.old store.new caches.new }
+    ensures some { 0 < result }
+    ensures few { done + result ≤ span.pages }
+    ensures rule { GoesBy (λ P put f. rule_move_pages put.zeros
+        (span_pairs_after span done result) f) store.old caches.old store.new caches.new }
     ensures kept { Releases [] store.old caches.old store.new caches.new }
-    ensures room { caches.old.room.nodes ≤ caches.new.room.nodes + 1 }
+    ensures grows { Grows result caches.old caches.new }
 {
-    let released = move_pages::move_one(caches, from, from_page, to, to_page);
-    follow(store, caches, released);
+    let step = move_step(caches, span, done);
+    follow(store, caches, step.released);
+    step.pages
 }
 
 // Each page of the source is moved to the destination, in rising order.
@@ -67,15 +65,9 @@ fn move_each(store: &mut Store, caches: &mut Caches, span: Span)
     ensures kept { Releases [] store.old caches.old store.new caches.new }
     ensures grows { Grows span.pages caches.old caches.new }
 {
-    for page in 0..span.pages {
-        move_one(
-            store,
-            caches,
-            span.to,
-            PageNo(span.to_page.0 + page),
-            span.from,
-            PageNo(span.from_page.0 + page),
-        );
+    let mut done = 0;
+    while done < span.pages {
+        done += move_next(store, caches, span, done);
     }
 }
 

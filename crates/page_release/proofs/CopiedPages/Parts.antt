@@ -43,10 +43,10 @@ pub record CopiesPages (is_small : Bool) (from : CacheId) (from_page : ℕ) (to 
 
 -- How many nodes there are ---------------------------------------------------------------------------
 
-grown_none : (a : Arena) → IsConsistent (forest_of a) → Grows 0 a a
+pub grown_none : (a : Arena) → IsConsistent (forest_of a) → Grows 0 a a
 grown_none a consistent = record { consistent = consistent; stays = λ x is. is; made = omega arith; room = omega arith; few = omega arith }
 
-grown_then : (m n : ℕ) (a b c : Arena) → Grows m a b → Grows n b c → Grows (m + n) a c
+pub grown_then : (m n : ℕ) (a b c : Arena) → Grows m a b → Grows n b c → Grows (m + n) a c
 grown_then m n a b c f g = record {
   consistent = g.consistent;
   stays = λ x is. g.stays x (f.stays x is);
@@ -122,7 +122,7 @@ copies_more is_small c p d q k s a t b u e tied so_far one = copies_then is_smal
 
 -- What is left of a copy -------------------------------------------------------------------------------
 
-pairs_left_can : {P : Type 0} (f : Forest P) (c : CacheId) (p : ℕ) (d : CacheId) (q n k : ℕ) → k ≤ n → CanCopy f (page_pairs c p d q n) → CanCopy f (page_pairs c (p + k) d (q + k) (n - k))
+pub pairs_left_can : {P : Type 0} (f : Forest P) (c : CacheId) (p : ℕ) (d : CacheId) (q n k : ℕ) → k ≤ n → CanCopy f (page_pairs c p d q n) → CanCopy f (page_pairs c (p + k) d (q + k) (n - k))
 pairs_left_can f c p d q n zero le can = subst (CanCopy f) (pairs_start c p d q n) can
 pairs_left_can f c p d q zero (suc k) le can = absurd (omega arith)
 pairs_left_can f c p d q (suc n) (suc k) le can =

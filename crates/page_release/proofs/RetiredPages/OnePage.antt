@@ -41,7 +41,7 @@ empty_clean x (inl e) = ap is_clean e
 empty_clean x (inr e) = ap is_clean e
 
 -- where it goes nothing falls free
-nothing_freed : (w : World) (n : NodeId) (x : OwnState) → IsEmpty x → w ≡ without_page w n x
+pub nothing_freed : (w : World) (n : NodeId) (x : OwnState) → IsEmpty x → w ≡ without_page w n x
 nothing_freed w n x (inl e) = sym (ap (without_page w n) e)
 nothing_freed w n x (inr e) = sym (ap (without_page w n) e)
 

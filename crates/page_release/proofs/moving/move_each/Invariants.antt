@@ -1,29 +1,12 @@
-use Rattle.std.proofs.Common.{◌≡◌, ◌+◌, ◌-◌, ◌≤◌, [], None}
-use Rattle.vm_ids.specs.Forest.Commands.{move_pages as rule_move_pages, page_pairs, span_pairs}
-use Rattle.vm_ids.specs.Forest.Laws.Commands.{CanCopy}
-use Rattle.vm_ids.specs.declared.node_name.NodeName.{NodeName}
-use Rattle.vm_ids.specs.Forest.NameMap.{len}
-use Rattle.vm_ids.specs.Forest.Nodes.{IsNode}
-use Rattle.vm_ids.specs.Forest.Shape.{IsConsistent}
-use Rattle.local_cache.specs.declared.own_state.OwnState.TheVariants.{Zero}
-use Rattle.local_cache.specs.Reading.{forest_of}
-use Rattle.residency.specs.Seeing.{frame_forest}
-use Rattle.residency.specs.StoreForest.{store_forest}
-use Rattle.page_release.specs.Steps.{ForAnyMapper, Releases, zeros_told}
+use Rattle.std.proofs.Common.{◌-◌, ◌≤◌}
+use Rattle.page_release.proofs.MovedPages.Parts.{MovesPages}
 use Rattle.page_release.proofs.moving.move_each.Given as goal
 
-abbrev pub invariant-loop-page : goal.invariant-loop-page
-invariant-loop-page l =
-    let left = page_pairs l.span.from (l.span.from_page.0 + l.page) l.span.to (l.span.to_page.0 + l.page) (l.span.pages - l.page) in
-    record {
-      nodes : rule_move_pages Zero left (forest_of l.caches) ≡ rule_move_pages Zero (span_pairs l.span) (forest_of l.fn.caches);
-      forest : ForAnyMapper l.fn.store l.fn.caches l.store l.caches (λ old new. rule_move_pages (zeros_told old) left (store_forest new) ≡ rule_move_pages (zeros_told old) (span_pairs l.span) (store_forest old));
-      frames : rule_move_pages None left (frame_forest l.caches l.store.map) ≡ rule_move_pages None (span_pairs l.span) (frame_forest l.fn.caches l.fn.store.map);
-      kept : Releases [] l.fn.store l.fn.caches l.store l.caches;
-      consistent : IsConsistent (forest_of l.caches);
-      can : CanCopy (forest_of l.caches) left;
-      stays : (x : NodeName) → IsNode (forest_of l.fn.caches) x → IsNode (forest_of l.caches) x;
-      room : l.fn.caches.room.nodes ≤ l.caches.room.nodes + l.page;
-      made : l.caches.made ≤ l.fn.caches.made + l.page;
-      few : len (forest_of l.caches).nodes ≤ len (forest_of l.fn.caches).nodes + l.page;
-    }
+abbrev pub invariant-loop-done : goal.invariant-loop-done
+invariant-loop-done l = record {
+  moved : MovesPages l.span.from l.span.from_page.0 l.span.to l.span.to_page.0 l.done l.fn.store l.fn.caches l.store l.caches;
+  few : l.done ≤ l.span.pages;
+}
+
+abbrev pub decreases-loop-done : goal.decreases-loop-done
+decreases-loop-done l = l.span.pages - l.done
