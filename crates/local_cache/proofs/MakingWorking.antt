@@ -37,6 +37,7 @@ use Rattle.local_cache.proofs.ManyNodes.Cleared.{range_cases}
 use Rattle.local_cache.proofs.ManyNodes.NextNames as next_names
 use Rattle.local_cache.proofs.ManyNodes.Over.{further_is, over_in, over_out, over_rest}
 use Rattle.local_cache.proofs.NodeCells.{inserted_here, inserted_other, len_cells}
+use Rattle.local_cache.proofs.NodeKeys.{index_as}
 use Rattle.local_cache.proofs.NodeRuns.{not_given}
 use Rattle.local_cache.proofs.Singles.{same_maps}
 
@@ -171,7 +172,7 @@ module _ (l : NodeLists) (c : Counters) (right : IsRight l c) (count : ℕ) (som
           → m ≡ with_stretch thin_nodes (cells thin_nodes l.even.list) (record { first = even.first; count = even.count; value = thinned node })
           → Indexes (λ (v : ThinNodes). (first_thin v).0) m even_key after
       even_index m node begins set =
-          subst (λ (x : FinMap nat_cmp ThinNodes). Indexes (λ (v : ThinNodes). (first_thin v).0) x even_key after) (sym set)
+          index_as _ _ _ even_key _ _ set refl
           (next_names.even_index l c right first count after value refl beside is unnamed even keys node begins)
 
     module _ (odd : KeyRange) (keys : AreKeysIn (λ i. odd_key (run_cell value i)) count odd) where
@@ -188,7 +189,7 @@ module _ (l : NodeLists) (c : Counters) (right : IsRight l c) (count : ℕ) (som
           → m ≡ with_stretch thin_nodes (cells thin_nodes l.odd.list) (record { first = odd.first; count = odd.count; value = thinned node })
           → Indexes (λ (v : ThinNodes). (first_thin v).0) m odd_key after
       odd_index m node begins set =
-          subst (λ (x : FinMap nat_cmp ThinNodes). Indexes (λ (v : ThinNodes). (first_thin v).0) x odd_key after) (sym set)
+          index_as _ _ _ odd_key _ _ set refl
           (next_names.odd_index l c right first count after value refl beside is unnamed odd keys node begins)
 
     -- All lists -----------------------------------------------------------------------------------------
@@ -253,10 +254,10 @@ module _ (l : NodeLists) (c : Counters) (right : IsRight l c) (count : ℕ) (som
                   ∙ recorded_added l right.kept first count value all_free n h;
             };
             indexed = record {
-              pages = subst (Indexes (λ (v : Rising). v.0) _ page_key) (sym cells_are)
+              pages = index_as _ _ _ page_key _ _ refl cells_are
                   (index_kept l right.kept first count value all_free page_key (λ (v : Rising). v.0) (cells rising l.pages.list) right.indexed.pages (λ i. refl));
-              even = subst (Indexes (λ (v : ThinNodes). (first_thin v).0) _ even_key) (sym cells_are) found_even;
-              odd = subst (Indexes (λ (v : ThinNodes). (first_thin v).0) _ odd_key) (sym cells_are) found_odd;
+              even = index_as _ _ _ even_key _ _ refl cells_are found_even;
+              odd = index_as _ _ _ odd_key _ _ refl cells_are found_odd;
             };
             numbered = subst (λ (m : FinMap nat_cmp Cell). IsNumbered m now) (sym cells_are) numbered_after;
             nodes = omega (arith, right.nodes, ap map.len cells_are, len_after);

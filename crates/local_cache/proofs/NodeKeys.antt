@@ -1,5 +1,5 @@
 -- The lists by which nodes are found.
-use Rattle.std.proofs.Common.{◌≡◌, ◌≢◌, ℕ, ◌≤◌, Bool, true, cond, Option, Some, None, IsSome, refl, ap, sym, ◌∙◌, inl, inr}
+use Rattle.std.proofs.Common.{◌≡◌, ◌≢◌, ℕ, ◌≤◌, Bool, true, cond, Option, Some, None, IsSome, refl, ap, sym, subst, ◌∙◌, inl, inr}
 use Rattle.std.specs.Prelude.{◌⊎◌, option_and_then, option_map}
 use Rattle.std.proofs.lemmas.Bool.{cases_Bool, cases_eq, eqb-true, false≢true}
 use Rattle.std.proofs.lemmas.Option.{none-some, same_Some}
@@ -46,6 +46,12 @@ module _ {V : Type 0} where
       → map.get (with_key m o v) k ≡ map.get m k
   get_with_other m None v k h = refl
   get_with_other m (Some j) v k h = inserted_other m j v k (λ same. h (ap Some (sym same)))
+
+-- the same list finds the same nodes
+pub index_as : {V : Type 0} (number : V → ℕ) (m now : FinMap nat_cmp V) (key : Cell → Option ℕ) (cells after : FinMap nat_cmp Cell)
+    → now ≡ m → after ≡ cells → Indexes number m key cells → Indexes number now key after
+index_as number m now key cells after same nodes index =
+    subst (Indexes number now key) (sym nodes) (subst (λ (x : FinMap nat_cmp _). Indexes number x key cells) (sym same) index)
 
 module _ {V : Type 0} (number : V → ℕ) (m : FinMap nat_cmp V) (key : Cell → Option ℕ)
     (cells : FinMap nat_cmp Cell) (index : Indexes number m key cells) where

@@ -531,7 +531,7 @@ impl Caches {
     }
 
     /// Names so many nodes, from one on, by the next numbers of working nodes. The pages that they were the nodes of have
-    /// none then.
+    /// none then. Nodes of pages that stand in one run get their names at once.
     pub fn to_working_many(&mut self, node: NodeId, count: u32)
         requires held { HaveNodes self.old node count }
         requires made { self.old.made + count ≤ 2 ^ 63 }

@@ -38,7 +38,7 @@ use Rattle.local_cache.proofs.ManyNodes.Found as found
 use Rattle.local_cache.proofs.ManyNodes.Freed.{page_left, pages_all, pages_without}
 use Rattle.local_cache.proofs.ManyNodes.NextNames as next_names
 use Rattle.local_cache.proofs.NodeCells.{inserted_here, inserted_other}
-use Rattle.local_cache.proofs.NodeKeys.{len_index}
+use Rattle.local_cache.proofs.NodeKeys.{index_as, len_index}
 use Rattle.local_cache.proofs.Singles.{same_maps}
 
 -- Some of many -------------------------------------------------------------------------------------
@@ -108,26 +108,30 @@ module _ (l : NodeLists) (c : Counters) (right : IsRight l c) (r : Stretch Run) 
   abbrev after : FinMap nat_cmp Cell
   after = cells_by (with_stretch run R (record { first = r.first; count = r.count; value = value })) (cells each l.records.list)
 
+  -- so many nodes are changed, and no others
+  abbrev changed : ℕ → FinMap nat_cmp Cell
+  changed k = another.changed l r says plain value (run_cell value) (λ k less. refl) k
+
   at_was : (k : ℕ) → k < r.count → map.get (node_cells l) (r.first + k) ≡ Some (run_cell r.value k)
-  at_was = another.at_was l r says plain value
+  at_was = another.at_was l r says plain value (run_cell value) (λ k less. refl)
 
   at_is : (k : ℕ) → k < r.count → map.get after (r.first + k) ≡ Some (run_cell value k)
-  at_is = another.at_is l r says plain value
+  at_is = another.at_is l r says plain value (run_cell value) (λ k less. refl)
 
   beside : (q : ℕ) → (q < r.first) ⊎ (r.first + r.count ≤ q) → map.get after q ≡ map.get (node_cells l) q
-  beside = another.beside l r says plain value
+  beside = another.beside l r says plain value (run_cell value) (λ k less. refl)
 
   held_same : (q : ℕ) → is_some (map.get after q) ≡ is_some (map.get (node_cells l) q)
-  held_same = another.held_same l r says plain value
+  held_same = another.held_same l r says plain value (run_cell value) (λ k less. refl)
 
   len_after : map.len after ≡ map.len (node_cells l)
-  len_after = another.len_after l r says plain value
+  len_after = another.len_after l r says plain value (run_cell value) (λ k less. refl)
 
   unnamed : (k : ℕ) → k < r.count → key_at working_number (node_cells l) (r.first + k) ≡ None
   unnamed k less = ap (option_and_then working_number) (at_was k less) ∙ not_working r.value.name of_pages k
 
   pub runs_places : number_count l.runs.list ≤ l.runs.places
-  runs_places = another.places_enough l r says plain value right.kept
+  runs_places = another.places_enough l r says plain value (run_cell value) (λ k less. refl) right.kept
 
   -- the first node's number is far from the greatest number
   pub first_short : 0 < r.count → r.first < 2 ^ 52 + c.made + 1
@@ -226,17 +230,12 @@ module _ (l : NodeLists) (c : Counters) (right : IsRight l c) (r : Stretch Run) 
             made = short;
           }
 
-      index_now : {V : Type 0} (number : V → ℕ) (m now : FinMap nat_cmp V) (key : Cell → Option ℕ) → now ≡ m
-          → Indexes number m key after → Indexes number now key (node_cells new)
-      index_now number m now key same index =
-          subst (Indexes number now key) (sym cells_are) (subst (λ (x : FinMap nat_cmp _). Indexes number x key after) (sym same) index)
-
       pub right_as_working : IsRight new now
       right_as_working =
           record {
             kept = record {
               counted = record {
-                runs = omega (arith, count, right.kept.counted.runs, ap map.len set, another.len_runs l r says plain value);
+                runs = omega (arith, count, right.kept.counted.runs, ap map.len set, another.len_runs l r says plain value (run_cell value) (λ k less. refl));
                 records = right.kept.counted.records;
                 pages = pages_counted;
                 even = even_counted;
@@ -254,10 +253,10 @@ module _ (l : NodeLists) (c : Counters) (right : IsRight l c) (r : Stretch Run) 
               recorded = λ q h. ap (λ (m : FinMap nat_cmp Cell). is_some (map.get m q)) cells_are ∙ held_same q ∙ right.kept.recorded q h;
             };
             indexed = record {
-              pages = index_now _ _ _ page_key set_pages index_pages;
-              even = index_now _ _ _ even_key set_even
+              pages = index_as _ _ _ page_key _ _ set_pages cells_are index_pages;
+              even = index_as _ _ _ even_key _ _ set_even cells_are
                   (next_names.even_index l c right r.first r.count after value refl beside at_is unnamed even even_keys even_node even_begins);
-              odd = index_now _ _ _ odd_key set_odd
+              odd = index_as _ _ _ odd_key _ _ set_odd cells_are
                   (next_names.odd_index l c right r.first r.count after value refl beside at_is unnamed odd odd_keys odd_node odd_begins);
             };
             numbered = subst (λ (m : FinMap nat_cmp Cell). IsNumbered m now) (sym cells_are) numbered_after;
@@ -267,12 +266,6 @@ module _ (l : NodeLists) (c : Counters) (right : IsRight l c) (r : Stretch Run) 
 
       -- One after the other ---------------------------------------------------------------------
 
-      cell_by_cell : Ghosts Cell
-      cell_by_cell = record { after = λ x k. run_cell value k; lasts = λ x k. Unit {0} }
-
-      cell_stretch : Stretch Cell
-      cell_stretch = record { first = r.first; count = r.count; value = blank }
-
       abbrev old : PageNodes
       old = nodes_of l c
 
@@ -281,27 +274,26 @@ module _ (l : NodeLists) (c : Counters) (right : IsRight l c) (r : Stretch Run) 
 
       -- so many nodes have working names
       abbrev renamed : ℕ → PageNodes
-      unfolding cell_by_cell cell_stretch
       renamed k = record {
-        cells = with_first cell_by_cell (node_cells l) cell_stretch k;
+        cells = changed k;
         pages = pages_without r.value.name P k;
         made = c.made + k;
         room = old.room;
       }
 
       cell_renamed : (k : ℕ) → k < r.count → cell (renamed k) (next_node n k) ≡ run_cell r.value k
-      unfolding cell cell_by_cell cell_stretch
-      cell_renamed k less =
-          ap (λ (o : Option Cell). unwrap_or o blank) (with_out cell_by_cell (node_cells l) cell_stretch k (r.first + k) (inr (omega arith)) ∙ at_was k less)
+      unfolding cell
+      cell_renamed k less = ap (λ (o : Option Cell). unwrap_or o blank) (another.next_was l r says plain value (run_cell value) (λ k less. refl) k less)
 
       one_name : (k : ℕ) → k < r.count → as_working (renamed k) (next_node n k) ≡ renamed (suc k)
-      unfolding put cell_by_cell cell_stretch
+      unfolding put
       one_name k less =
           let was = cell_renamed k less in
           let name : c.made + k + 1 ≡ w + k = omega arith in
           let more : c.made + k + 1 ≡ c.made + suc k = omega arith in
           λ i. record {
-            cells = map.insert (with_first cell_by_cell (node_cells l) cell_stretch k) (r.first + k) (record (was i) { name = WorkingNode (name i) });
+            cells = ((λ j. map.insert (changed k) (r.first + k) (record (was j) { name = WorkingNode (name j) }))
+                ∙ another.one_changed l r says plain value (run_cell value) (λ k less. refl) k) i;
             pages = (ap (λ (x : Cell). rekeyed (pages_without r.value.name P k) (page_of_name x.name) None (of_page (next_node n k))) was
                 ∙ rekeyed_none (pages_without r.value.name P k) (page_of_name (run_cell r.value k).name) (of_page (next_node n k))
                 ∙ page_left r.value.name P k) i;
@@ -310,30 +302,23 @@ module _ (l : NodeLists) (c : Counters) (right : IsRight l c) (r : Stretch Run) 
           }
 
       all_names : (k : ℕ) → k ≤ r.count → as_working_many old n k ≡ renamed k
-      unfolding renamed
       all_names zero le =
           let none : c.made ≡ c.made + 0 = omega arith in
-          λ i. record { cells = node_cells l; pages = sym (pages_all r.value.name P) i; made = none i; room = old.room }
+          λ i. record {
+            cells = sym (another.none_changed l r says plain value (run_cell value) (λ k less. refl)) i;
+            pages = sym (pages_all r.value.name P) i;
+            made = none i;
+            room = old.room;
+          }
       all_names (suc k) le =
           ap (λ (m : PageNodes). as_working m (next_node n k)) (all_names k (omega (arith, le)))
           ∙ one_name k (omega (arith, le))
 
-      cells_fold : after ≡ with_first cell_by_cell (node_cells l) cell_stretch r.count
-      unfolding cell_by_cell cell_stretch
-      cells_fold = same_maps _ _ (λ q. elim (another.number_cases l r says plain value q) [
-        | inl node ↦
-            let far : node.0 ≡ r.first + node.0 - r.first = omega arith in
-            ap (map.get after) node.2 ∙ at_is node.0 node.1 ∙ ap (λ (j : ℕ). Some (run_cell value j)) far
-            ∙ sym (ap (map.get (with_first cell_by_cell (node_cells l) cell_stretch r.count)) node.2 ∙ with_in cell_by_cell (node_cells l) cell_stretch r.count (r.first + node.0) (omega arith) (omega (arith, node.1)))
-        | inr out ↦ beside q out ∙ sym (with_out cell_by_cell (node_cells l) cell_stretch r.count q out)
-      ])
-
       pub nodes_as_working : pages ≡ page_range r.value.name r.count → nodes_of new now ≡ as_working_many old n r.count
-      unfolding renamed
       nodes_as_working page_is =
           let same : l.capacity - map.len (node_cells new) ≡ l.capacity - map.len (node_cells l) = omega (arith, ap map.len cells_are, len_after) in
           (λ i. record {
-            cells = (cells_are ∙ cells_fold) i;
+            cells = (cells_are ∙ another.all_changed l r says plain value (run_cell value) (λ k less. refl)) i;
             pages = (set_pages ∙ ap (λ (q : KeyRange). without_range P q.first q.count) page_is) i;
             made = c.made + r.count;
             room = same i;

@@ -34,7 +34,7 @@ use Rattle.local_cache.specs.ThinNodes.{thin_nodes}
 use Rattle.local_cache.proofs.ManyNodes.Cleared.{len_range, range_cases, range_in, range_out, range_vacant, ranged_by}
 use Rattle.local_cache.proofs.ManyNodes.Found as found
 use Rattle.local_cache.proofs.NodeCells.{get_cells_by}
-use Rattle.local_cache.proofs.NodeKeys.{len_index}
+use Rattle.local_cache.proofs.NodeKeys.{index_as, len_index}
 
 -- One after the other --------------------------------------------------------------------------
 
@@ -249,11 +249,6 @@ module _ (l : NodeLists) (c : Counters) (right : IsRight l c) (r : Stretch Run)
             ∙ right.kept.recorded q (sym (ap (λ (m : FinMap nat_cmp Record). is_some (map.get m q)) records ∙ ap is_some (range_out D r.first r.count q out)) ∙ h)
       ]
 
-      index_now : {V : Type 0} (number : V → ℕ) (m now : FinMap nat_cmp V) (key : Cell → Option ℕ) → now ≡ m
-          → Indexes number m key after → Indexes number now key (node_cells new)
-      index_now number m now key same index =
-          subst (Indexes number now key) (sym cells_are) (subst (λ (x : FinMap nat_cmp _). Indexes number x key after) (sym same) index)
-
       pub right_left : IsRight new now
       right_left =
           record {
@@ -277,9 +272,9 @@ module _ (l : NodeLists) (c : Counters) (right : IsRight l c) (r : Stretch Run)
               recorded = λ q h. ap (λ (m : FinMap nat_cmp Cell). is_some (map.get m q)) cells_are ∙ recorded_left q h;
             };
             indexed = record {
-              pages = index_now _ _ _ page_key paged (index_left _ P page_key right.indexed.pages pages page_keys);
-              even = index_now _ _ _ even_key evens (index_left _ (cells thin_nodes l.even.list) even_key right.indexed.even even even_keys);
-              odd = index_now _ _ _ odd_key odds (index_left _ (cells thin_nodes l.odd.list) odd_key right.indexed.odd odd odd_keys);
+              pages = index_as _ _ _ page_key _ _ paged cells_are (index_left _ P page_key right.indexed.pages pages page_keys);
+              even = index_as _ _ _ even_key _ _ evens cells_are (index_left _ (cells thin_nodes l.even.list) even_key right.indexed.even even even_keys);
+              odd = index_as _ _ _ odd_key _ _ odds cells_are (index_left _ (cells thin_nodes l.odd.list) odd_key right.indexed.odd odd odd_keys);
             };
             numbered = subst (λ (m : FinMap nat_cmp Cell). IsNumbered m now) (sym cells_are) numbered_left;
             nodes = omega (arith, nodes, right.nodes, len_now);

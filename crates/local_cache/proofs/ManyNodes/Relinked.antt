@@ -52,15 +52,12 @@ module _ (l : NodeLists) (c : Counters) (right : IsRight l c) (r : Stretch Run) 
   abbrev after : FinMap nat_cmp Cell
   after = cells_by (with_stretch run R new_run) D
 
-  at_is : (k : ℕ) → k < r.count → map.get after (r.first + k) ≡ Some (cell_is k)
-  at_is k less = another.at_is l r says plain value k less ∙ ap Some (is_said.cell k less)
-
   key_same : (key : Cell → Option ℕ) → ((k : ℕ) → key (cell_is k) ≡ key (run_cell r.value k)) → (q : ℕ) → key_at key after q ≡ key_at key (node_cells l) q
-  key_same key same q = elim (number_cases l r says plain value q) [
+  key_same key same q = elim (number_cases l r says plain value cell_is is_said.cell q) [
     | inl node ↦
-        ap (key_at key after) node.2 ∙ ap (option_and_then key) (at_is node.0 node.1) ∙ same node.0
-        ∙ sym (ap (key_at key (node_cells l)) node.2 ∙ ap (option_and_then key) (at_was l r says plain value node.0 node.1))
-    | inr out ↦ ap (option_and_then key) (beside l r says plain value q out)
+        ap (key_at key after) node.2 ∙ ap (option_and_then key) (another.at_is l r says plain value cell_is is_said.cell node.0 node.1) ∙ same node.0
+        ∙ sym (ap (key_at key (node_cells l)) node.2 ∙ ap (option_and_then key) (at_was l r says plain value cell_is is_said.cell node.0 node.1))
+    | inr out ↦ ap (option_and_then key) (beside l r says plain value cell_is is_said.cell q out)
   ]
 
   index_same : {V : Type 0} (number : V → ℕ) (m : FinMap nat_cmp V) (key : Cell → Option ℕ) → ((q : ℕ) → key_at key after q ≡ key_at key (node_cells l) q)
@@ -71,7 +68,7 @@ module _ (l : NodeLists) (c : Counters) (right : IsRight l c) (r : Stretch Run) 
   numbered_after =
       let same = key_same working_number is_said.working in
       record {
-        given = λ q h. right.numbered.given q (sym (held_same l r says plain value q) ∙ h);
+        given = λ q h. right.numbered.given q (sym (held_same l r says plain value cell_is is_said.cell q) ∙ h);
         named = λ q k h. right.numbered.named q k (sym (same q) ∙ h);
         apart = λ p q k h e. right.numbered.apart p q k (sym (same p) ∙ h) (sym (same q) ∙ e);
         pages = right.numbered.pages;
@@ -81,42 +78,25 @@ module _ (l : NodeLists) (c : Counters) (right : IsRight l c) (r : Stretch Run) 
       }
 
   pub places_relinked : number_count l.runs.list ≤ l.runs.places
-  places_relinked = another.places_enough l r says plain value right.kept
+  places_relinked = another.places_enough l r says plain value cell_is is_said.cell right.kept
 
   -- One after the other -----------------------------------------------------------------------
 
-  cell_by_cell : Ghosts Cell
-  cell_by_cell = record { after = λ x k. cell_is k; lasts = λ x k. Unit {0} }
-
-  cell_stretch : Stretch Cell
-  cell_stretch = record { first = r.first; count = r.count; value = blank }
-
   -- so many nodes are changed, and no others
   pub relinked : ℕ → PageNodes
-  relinked k = record (nodes_of l c) { cells = with_first cell_by_cell (node_cells l) cell_stretch k }
+  relinked k = record (nodes_of l c) { cells = another.changed l r says plain value cell_is is_said.cell k }
 
   pub none_relinked : relinked 0 ≡ nodes_of l c
   unfolding relinked
-  none_relinked = refl
+  none_relinked = ap (λ (m : FinMap nat_cmp Cell). record (nodes_of l c) { cells = m }) (another.none_changed l r says plain value cell_is is_said.cell)
 
   pub next_was : (k : ℕ) → k < r.count → cell (relinked k) (next_node (record { 0 = r.first }) k) ≡ run_cell r.value k
-  unfolding cell relinked cell_by_cell cell_stretch
-  next_was k less =
-      ap (λ (o : Option Cell). unwrap_or o blank) (with_out cell_by_cell (node_cells l) cell_stretch k (r.first + k) (inr (omega arith)) ∙ at_was l r says plain value k less)
+  unfolding cell relinked
+  next_was k less = ap (λ (o : Option Cell). unwrap_or o blank) (another.next_was l r says plain value cell_is is_said.cell k less)
 
   pub one_relinked : (k : ℕ) → record (relinked k) { cells = map.insert (relinked k).cells (r.first + k) (cell_is k) } ≡ relinked (suc k)
-  unfolding relinked cell_by_cell cell_stretch
-  one_relinked k = refl
-
-  cells_fold : after ≡ with_first cell_by_cell (node_cells l) cell_stretch r.count
-  unfolding cell_by_cell cell_stretch
-  cells_fold = same_maps _ _ (λ q. elim (number_cases l r says plain value q) [
-    | inl node ↦
-        let far : node.0 ≡ r.first + node.0 - r.first = omega arith in
-        ap (map.get after) node.2 ∙ at_is node.0 node.1 ∙ ap (λ (j : ℕ). Some (cell_is j)) far
-        ∙ sym (ap (map.get (with_first cell_by_cell (node_cells l) cell_stretch r.count)) node.2 ∙ with_in cell_by_cell (node_cells l) cell_stretch r.count (r.first + node.0) (omega arith) (omega (arith, node.1)))
-    | inr out ↦ beside l r says plain value q out ∙ sym (with_out cell_by_cell (node_cells l) cell_stretch r.count q out)
-  ])
+  unfolding relinked
+  one_relinked k = ap (λ (m : FinMap nat_cmp Cell). record (nodes_of l c) { cells = m }) (another.one_changed l r says plain value cell_is is_said.cell k)
 
   module _ (runs : Stretches Run) (set : cells run runs.list ≡ with_stretch run R new_run)
       (count : number_count runs.list ≡ number_count l.runs.list) (places : runs.places ≡ l.runs.places) where
@@ -131,7 +111,7 @@ module _ (l : NodeLists) (c : Counters) (right : IsRight l c) (r : Stretch Run) 
         record {
           kept = record {
             counted = record {
-              runs = omega (arith, count, right.kept.counted.runs, ap map.len set, len_runs l r says plain value);
+              runs = omega (arith, count, right.kept.counted.runs, ap map.len set, len_runs l r says plain value cell_is is_said.cell);
               records = right.kept.counted.records;
               pages = right.kept.counted.pages;
               even = right.kept.counted.even;
@@ -145,8 +125,8 @@ module _ (l : NodeLists) (c : Counters) (right : IsRight l c) (r : Stretch Run) 
               even = right.kept.places.even;
               odd = right.kept.places.odd;
             };
-            fits = omega (arith, ap map.len cells_are, len_after l r says plain value, right.kept.fits);
-            recorded = λ q h. ap (λ (m : FinMap nat_cmp Cell). is_some (map.get m q)) cells_are ∙ held_same l r says plain value q ∙ right.kept.recorded q h;
+            fits = omega (arith, ap map.len cells_are, len_after l r says plain value cell_is is_said.cell, right.kept.fits);
+            recorded = λ q h. ap (λ (m : FinMap nat_cmp Cell). is_some (map.get m q)) cells_are ∙ held_same l r says plain value cell_is is_said.cell q ∙ right.kept.recorded q h;
           };
           indexed = record {
             pages = subst (Indexes (λ (v : Rising). v.0) _ page_key) (sym cells_are) (index_same _ _ page_key (key_same page_key is_said.page) right.indexed.pages);
@@ -154,12 +134,12 @@ module _ (l : NodeLists) (c : Counters) (right : IsRight l c) (r : Stretch Run) 
             odd = subst (Indexes (λ (v : ThinNodes). (first_thin v).0) _ odd_key) (sym cells_are) (index_same _ _ odd_key (key_same odd_key is_said.odd) right.indexed.odd);
           };
           numbered = subst (λ (m : FinMap nat_cmp Cell). IsNumbered m c) (sym cells_are) numbered_after;
-          nodes = omega (arith, right.nodes, ap map.len cells_are, len_after l r says plain value);
+          nodes = omega (arith, right.nodes, ap map.len cells_are, len_after l r says plain value cell_is is_said.cell);
           live = right.live;
         }
 
     pub nodes_relinked : nodes_of new c ≡ relinked r.count
     unfolding relinked
     nodes_relinked =
-        let same : l.capacity - map.len (node_cells new) ≡ l.capacity - map.len (node_cells l) = omega (arith, ap map.len cells_are, len_after l r says plain value) in
-        λ i. record (nodes_of l c) { cells = (cells_are ∙ cells_fold) i; room = same i }
+        let same : l.capacity - map.len (node_cells new) ≡ l.capacity - map.len (node_cells l) = omega (arith, ap map.len cells_are, len_after l r says plain value cell_is is_said.cell) in
+        λ i. record (nodes_of l c) { cells = (cells_are ∙ another.all_changed l r says plain value cell_is is_said.cell) i; room = same i }
