@@ -5,11 +5,10 @@ use Rattle.std.proofs.lemmas.Bool.{cases_eq}
 use Rattle.std.specs.Ordering.{nat_cmp}
 use Rattle.std.specs.FinMap.{FinMap}
 use Rattle.std.specs.FinMap as map
-use Rattle.stretches.specs.Cells.{cells, with_first, with_stretch}
+use Rattle.stretches.specs.Cells.{cells, with_stretch}
 use Rattle.stretches.specs.Rising.{rising}
 use Rattle.stretches.specs.Stretches.{SayAs, Stretches, number_count, said}
 use Rattle.stretches.specs.declared.rising.Rising.{Rising}
-use Rattle.stretches.specs.declared.says.Says.{Ghosts}
 use Rattle.stretches.specs.declared.stretch.Stretch.{Stretch}
 use Rattle.vm_ids.specs.declared.node_name.NodeName.TheVariants.{Working as WorkingNode}
 use Rattle.vm_ids.specs.declared.numbers.NodeId.{NodeId}
@@ -32,14 +31,12 @@ use Rattle.local_cache.specs.Records.{each}
 use Rattle.local_cache.specs.Runs.{run}
 use Rattle.local_cache.specs.Singles.{IsCounted, without_range}
 use Rattle.local_cache.specs.ThinNodes.{thin_nodes}
-use Rattle.local_cache.proofs.Making.{with_in, with_out}
 use Rattle.local_cache.proofs.ManyNodes.AnotherRun as another
 use Rattle.local_cache.proofs.ManyNodes.Found as found
 use Rattle.local_cache.proofs.ManyNodes.Freed.{page_left, pages_all, pages_without}
 use Rattle.local_cache.proofs.ManyNodes.NextNames as next_names
 use Rattle.local_cache.proofs.NodeCells.{inserted_here, inserted_other}
 use Rattle.local_cache.proofs.NodeKeys.{index_as, len_index}
-use Rattle.local_cache.proofs.Singles.{same_maps}
 
 -- Some of many -------------------------------------------------------------------------------------
 

@@ -1,13 +1,12 @@
 -- Nodes of one run of which something else is said, but for their names: they are found as before.
-use Rattle.std.proofs.Common.{◌≡◌, ℕ, suc, ◌+◌, ◌-◌, ◌<◌, ◌≤◌, Option, Some, None, is_some, refl, ap, sym, subst, ◌∙◌, inl, inr, arith}
+use Rattle.std.proofs.Common.{◌≡◌, ℕ, suc, ◌+◌, ◌-◌, ◌<◌, ◌≤◌, Option, None, is_some, ap, sym, subst, ◌∙◌, inl, inr, arith}
 use Rattle.std.specs.Prelude.{option_and_then, unwrap_or}
 use Rattle.std.specs.Ordering.{nat_cmp}
 use Rattle.std.specs.FinMap.{FinMap}
 use Rattle.std.specs.FinMap as map
-use Rattle.stretches.specs.Cells.{cells, with_first, with_stretch}
+use Rattle.stretches.specs.Cells.{cells, with_stretch}
 use Rattle.stretches.specs.Stretches.{SayAs, Stretches, number_count, said}
 use Rattle.stretches.specs.declared.rising.Rising.{Rising}
-use Rattle.stretches.specs.declared.says.Says.{Ghosts}
 use Rattle.stretches.specs.declared.stretch.Stretch.{Stretch}
 use Rattle.local_cache.specs.declared.runs.counters.Counters.{Counters}
 use Rattle.local_cache.specs.declared.runs.node_lists.NodeLists.{NodeLists}
@@ -24,10 +23,8 @@ use Rattle.local_cache.specs.PageNodes.{PageNodes, cell}
 use Rattle.local_cache.specs.Records.{each}
 use Rattle.local_cache.specs.Runs.{run}
 use Rattle.local_cache.specs.ThinNodes.{first_thin}
-use Rattle.local_cache.proofs.Making.{with_in, with_out}
 use Rattle.local_cache.proofs.ManyNodes.AnotherRun.{at_was, beside, held_same, len_after, len_runs, number_cases}
 use Rattle.local_cache.proofs.ManyNodes.AnotherRun as another
-use Rattle.local_cache.proofs.Singles.{same_maps}
 
 -- what another run says of nodes: they have the keys that they had
 pub record IsSaid (before now : Run) (count : ℕ) (cell_is : ℕ → Cell) : Type 0 where

@@ -53,9 +53,9 @@ pub(crate) fn make_working(lists: &mut NodeLists, counters: &mut Counters, count
     counters.next_working += count as u64;
 }
 
-// Makes so many working nodes under the next names and numbers, `Absent` and without parent, each over
-// the next one of some nodes and the next one of others as its tree children, all as one run. Such
-// nodes are not thin.
+// Makes so many working nodes under the next names and numbers, `Absent` and without parent, each
+// over the next one of some nodes and the next one of others as its tree children, all as one run.
+// Such nodes are not thin.
 pub(crate) fn make_working_over(
     lists: &mut NodeLists,
     counters: &mut Counters,

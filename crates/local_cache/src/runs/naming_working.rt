@@ -76,8 +76,8 @@ pub(crate) fn name_working(lists: &mut NodeLists, counters: &mut Counters, node:
     replace(lists, counters, node, before, now);
 }
 
-// Names nodes of pages of which one run says all by the next working names. Those with fewer than two
-// children are thin then.
+// Names nodes of pages of which one run says all by the next working names. Those with fewer than
+// two children are thin then.
 fn name_working_run(lists: &mut NodeLists, counters: &mut Counters, nodes: Stretch<Run>)
     requires right { IsRight lists.old counters.old }
     requires fit { IsFit run_says nodes }

@@ -371,8 +371,8 @@ impl NodeRuns {
         name_working(&mut self.lists, &mut self.counters, node.0);
     }
 
-    /// Names so many nodes, from one on, by the next working names, as `to_working` names each. Nodes
-    /// of pages of which one run says all get their names at once.
+    /// Names so many nodes, from one on, by the next working names, as `to_working` names each.
+    /// Nodes of pages of which one run says all get their names at once.
     pub(crate) fn to_working_many(&mut self, node: NodeId, count: u32)
         requires held { HaveNodes self.old node count }
         requires made { self.old.made + count ≤ 2 ^ 63 }
