@@ -69,6 +69,7 @@ module _ (l : NodeLists) (kept : IsKept l) (runs : Stretches Run)
           };
           fits = omega (arith, ap map.len are, kept.fits);
           recorded = λ n h. ap (λ (m : FinMap nat_cmp Cell). is_some (map.get m n)) are ∙ kept.recorded n h;
+          needed = kept.needed;
         };
         others = refl;
         cells = are;

@@ -22,6 +22,8 @@ pub mod NodeCells
 pub mod NodeKeys
 -- The records of nodes in their slab.
 pub mod Records
+-- Records that say what no run can.
+pub mod Needed
 -- What is written of one node.
 pub mod Writing
 -- The caches without their page nodes.

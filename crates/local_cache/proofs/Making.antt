@@ -342,6 +342,7 @@ module _ (l : NodeLists) (c : Counters) (right : IsRight l c) (cache : CacheId) 
                     | inl fresh ↦ ap is_some (after_in n fresh.0 fresh.1)
                     | inr out ↦ ap is_some (after_out n out) ∙ right.kept.recorded n h
                   ];
+              needed = right.kept.needed;
             };
             indexed = record {
               pages = subst (Indexes (λ (v : Rising). v.0) _ page_key) (sym cells_are) (subst (λ (m : FinMap nat_cmp Rising). Indexes (λ (v : Rising). v.0) m page_key after) (sym set_pages) index_pages);

@@ -252,6 +252,7 @@ module _ (l : NodeLists) (c : Counters) (right : IsRight l c) (count : ℕ) (som
               recorded = λ n h.
                   ap (λ (m : FinMap nat_cmp Cell). is_some (map.get m n)) cells_are
                   ∙ recorded_added l right.kept first count value all_free n h;
+              needed = right.kept.needed;
             };
             indexed = record {
               pages = index_as _ _ _ page_key _ _ refl cells_are

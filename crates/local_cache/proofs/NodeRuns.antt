@@ -26,7 +26,7 @@ use Rattle.local_cache.specs.declared.runs.thin_nodes.ThinNodes.{ThinNodes}
 use Rattle.local_cache.specs.Arena.{Cell}
 use Rattle.local_cache.specs.NodeCells.{cells_by, node_cells}
 use Rattle.local_cache.specs.NodeKeys.{AreKeysOf, HasFreeName, HasKeys, Indexes, even_half, even_key, key_at, number_of_name, odd_half, odd_key, page_key, page_of_name, rekeyed, same_key, with_key, without_key, working_number}
-use Rattle.local_cache.specs.NodeLists.{AreEmpty, HasGrown, HasPlaced, HasTaken, paged}
+use Rattle.local_cache.specs.NodeLists.{AreEmpty, AreNeeded, HasGrown, HasPlaced, HasTaken, paged}
 use Rattle.local_cache.specs.NodeRuns.{IsGiven, IsNumbered, IsRight, live_of, nodes_of}
 use Rattle.local_cache.specs.PageNodes.{IsLeastThin, node_at}
 use Rattle.local_cache.specs.Thin.{thin_number}
@@ -96,6 +96,7 @@ module _ (l : NodeLists) (empty : AreEmpty l) where
           };
           fits = omega (arith, no_nodes);
           recorded = λ n h. absurd (no_some _ (empty_get each l.records.list empty.records n) h);
+          needed = λ n r h. absurd (none-some r (sym (empty_get each l.records.list empty.records n) ∙ h));
         };
         indexed = record {
           pages = no_index rising (λ v. v.0) page_key l.pages empty.pages;
@@ -686,6 +687,7 @@ module _ (l : NodeLists) (c : Counters) (right : IsRight l c) (new : NodeLists) 
           recorded = λ n h.
               ap (λ (m : FinMap nat_cmp Cell). is_some (map.get m n)) grown_cells
               ∙ right.kept.recorded n (sym (ap (λ (rs : List (Stretch Record)). is_some (map.get (cells each rs) n)) grown.records) ∙ h);
+          needed = subst (λ (rs : List (Stretch Record)). AreNeeded (cells each rs)) (sym grown.records) right.kept.needed;
         };
         indexed = record {
           pages = grown_index rising (λ v. v.0) page_key l.pages new.pages grown.pages right.indexed.pages;

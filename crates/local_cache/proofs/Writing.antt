@@ -1,5 +1,5 @@
 -- What is written of one node.
-use Rattle.std.proofs.Common.{◌≡◌, ◌≢◌, ℕ, ◌≤◌, is_some, refl, ap, sym, subst, ◌∙◌, inl, inr, arith}
+use Rattle.std.proofs.Common.{◌≡◌, ◌≢◌, ℕ, ◌≤◌, Some, is_some, refl, ap, sym, subst, ◌∙◌, inl, inr, arith}
 use Rattle.std.proofs.lemmas.Bool.{cases_eq, false≢true}
 use Rattle.std.specs.Cmp.{nat_cmp_total}
 use Rattle.std.specs.Ordering.{nat_cmp}
@@ -12,11 +12,12 @@ use Rattle.local_cache.specs.declared.runs.record.Record.{Record}
 use Rattle.local_cache.specs.declared.runs.run.Run.{Run}
 use Rattle.local_cache.specs.Arena.{Cell}
 use Rattle.local_cache.specs.NodeCells.{cell_by, cells_by, node_cells}
-use Rattle.local_cache.specs.NodeLists.{HasErased, HasWritten, IsKept}
+use Rattle.local_cache.specs.NodeLists.{AreNeeded, HasErased, HasWritten, IsKept, IsNeeded}
 use Rattle.local_cache.specs.Records.{each}
 use Rattle.local_cache.specs.Runs.{run}
 use Rattle.local_cache.specs.Singles.{IsCounted}
-use Rattle.local_cache.proofs.NodeCells.{cells_set, cells_taken, inserted_here, inserted_other, len_cells, len_within, removed_here, removed_other}
+use Rattle.local_cache.proofs.NodeCells.{cells_set, cells_taken, inserted_here, inserted_other, len_cells, len_within, removed_here, removed_other, still_there}
+use Rattle.local_cache.proofs.Needed.{needed_but, needed_left}
 
 len_insert_any : {X : Type 0} (m : FinMap nat_cmp X) (k : ℕ) (x y : X)
     → map.len (map.insert m k x) ≡ map.len (map.insert m k y)
@@ -55,6 +56,7 @@ module _ (l : NodeLists) (kept : IsKept l) where
         (set : cells run runs.list ≡ map.insert R n r)
         (others : (q : ℕ) → q ≢ n → map.get (cells each records.list) q ≡ map.get D q)
         (is : cell_by r (map.get (cells each records.list) n) ≡ c)
+        (needed : (b : Record) → map.get (cells each records.list) n ≡ Some b → IsNeeded b)
         (counted : IsCounted run runs) (counted_beside : IsCounted each records)
         (places : runs.places ≡ l.runs.places) (places_beside : records.places ≡ l.records.places) where
       new_cells : cells_by (cells run runs.list) (cells each records.list) ≡ map.insert (node_cells l) n c
@@ -92,6 +94,7 @@ module _ (l : NodeLists) (kept : IsKept l) where
                           ap is_some (inserted_other (node_cells l) n c m other)
                           ∙ kept.recorded m (sym (ap is_some (others m other)) ∙ h)
                     ];
+                needed = needed_but D (cells each records.list) kept.needed n others needed;
               };
               others = refl;
             };
@@ -142,6 +145,8 @@ module _ (l : NodeLists) (kept : IsKept l) where
                         ap is_some (removed_other (node_cells l) n m other)
                         ∙ kept.recorded m (sym (ap is_some (ap (λ (x : FinMap nat_cmp Record). map.get x m) clear_beside ∙ removed_other D n m other)) ∙ h)
                   ];
+              needed = subst AreNeeded (sym clear_beside)
+                  (needed_left D (map.remove D n) kept.needed (λ q b h. (still_there D n q b h).1));
             };
             others = refl;
           };

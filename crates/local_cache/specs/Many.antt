@@ -7,7 +7,7 @@ use Rattle.vm_ids.specs.declared.numbers.NodeId.{NodeId}
 use Rattle.vm_ids.specs.declared.numbers.PageNo.{PageNo}
 use Rattle.local_cache.specs.declared.own_state.OwnState.{OwnState}
 use Rattle.local_cache.specs.declared.own_state.OwnState.TheVariants.{Absent, Zero, Resident, Slot, OnSegment}
-use Rattle.local_cache.specs.Arena.{Arena, HasNode, IsVacant, as_working, cell, find, hung, no_links, with_name, with_new, with_tree, with_working, without}
+use Rattle.local_cache.specs.Arena.{Arena, Cell, HasNode, IsVacant, as_working, cell, find, hung, no_links, with_name, with_new, with_tree, with_working, without}
 use Rattle.local_cache.specs.ManyNodes.{next_if, next_node}
 
 -- so many nodes from one on are there
@@ -37,6 +37,12 @@ IsPlain Zero = Unit {0}
 IsPlain (Resident dirty) = ⊥
 IsPlain (Slot s) = ⊥
 IsPlain OnSegment = Unit {0}
+
+-- What is said of many can be said of such a node: its own page is in no frame and no slot, and it
+-- has no stubs and hangs by no stub link.
+pub record CanBeAlike (c : Cell) : Type 0 where
+  pub own : IsPlain c.own
+  pub links : c.links ≡ record no_links { parent = c.links.parent }
 
 -- the arena without so many nodes, from one on
 abbrev pub without_many : Arena → NodeId → ℕ → Arena

@@ -1,15 +1,20 @@
 -- What holds of the lists in which page nodes stand.
-use Rattle.std.specs.Prelude.{◌≡◌, ℕ, ◌+◌, ◌<◌, ◌≤◌, ◌^◌, IfSome, IsSome, None, []}
+use Rattle.std.specs.Prelude.{◌≡◌, ℕ, ◌+◌, ◌<◌, ◌≤◌, ◌^◌, IfSome, IsSome, None, Some, []}
+use Rattle.std.specs.Ordering.{nat_cmp}
+use Rattle.std.specs.FinMap.{FinMap}
 use Rattle.std.specs.FinMap as map
 use Rattle.stretches.specs.Cells.{cells}
 use Rattle.stretches.specs.Rising.{rising}
 use Rattle.stretches.specs.declared.rising.Rising.{Rising}
 use Rattle.local_cache.specs.declared.runs.keys.Keys.{Keys}
 use Rattle.local_cache.specs.declared.runs.node_lists.NodeLists.{NodeLists}
+use Rattle.local_cache.specs.declared.runs.record.Record.{Record}
+use Rattle.local_cache.specs.declared.runs.run.Run.{Run}
 use Rattle.local_cache.specs.declared.runs.thin_nodes.ThinNodes.{ThinNodes}
 use Rattle.local_cache.specs.declared.runs.thin_nodes.ThinNodes.TheVariants.{EverySecond}
 use Rattle.local_cache.specs.Arena.{Cell}
-use Rattle.local_cache.specs.NodeCells.{node_cells}
+use Rattle.local_cache.specs.Many.{CanBeAlike}
+use Rattle.local_cache.specs.NodeCells.{cell_of, node_cells}
 use Rattle.local_cache.specs.NodeKeys.{Indexes, even_key, key_at, odd_key, page_key, rekeyed}
 use Rattle.local_cache.specs.Records.{each}
 use Rattle.local_cache.specs.Runs.{run}
@@ -52,13 +57,23 @@ pub record HasGrown (old new : NodeLists) : Type 0 where
   pub places : HavePlaces new
   pub no_fewer : old.capacity ≤ new.capacity
 
--- there are no more nodes than there may be, only nodes have records, and the lists are in order
+-- no run can say of a node what this record says
+abbrev pub IsNeeded : Record → Type 0
+IsNeeded c = (r : Run) → CanBeAlike (cell_of r c) → ⊥
+
+-- no run can say what one of these records says
+abbrev pub AreNeeded : FinMap nat_cmp Record → Type 0
+AreNeeded records = (n : ℕ) (c : Record) → map.get records n ≡ Some c → IsNeeded c
+
+-- there are no more nodes than there may be, only nodes of which a run can't say all have records,
+-- and the lists are in order
 pub record IsKept (l : NodeLists) : Type 0 where
   pub counted : AreCounted l
   pub places : HavePlaces l
   pub fits : map.len (node_cells l) ≤ l.capacity
   pub recorded : (n : ℕ) → IsSome (map.get (cells each l.records.list) n)
       → IsSome (map.get (node_cells l) n)
+  pub needed : AreNeeded (cells each l.records.list)
 
 -- nodes are found under their keys
 pub record IsIndexed (l : NodeLists) : Type 0 where

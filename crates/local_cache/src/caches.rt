@@ -8,7 +8,7 @@ ghost use Rattle.vm_ids.specs.Forest.NameMap.{len};
 ghost use Rattle.vm_ids.specs.Forest.Nodes.{no_forest};
 ghost use Rattle.vm_ids.specs.Forest.Reading.{counts_of};
 ghost use Rattle.local_cache.specs.Home.{home_of};
-ghost use Rattle.local_cache.specs.Many.{AreAlike, AreNamed, AreVacant, HaveNodes, HaveNone, IsPlain, as_working_many, hung_many, moved_many, over_many, over_two_many, renamed_many, with_new_many, with_working_many, without_many};
+ghost use Rattle.local_cache.specs.Many.{AreAlike, AreNamed, AreVacant, CanBeAlike, HaveNodes, HaveNone, IsPlain, as_working_many, hung_many, moved_many, over_many, over_two_many, renamed_many, with_new_many, with_working_many, without_many};
 ghost use Rattle.local_cache.specs.ManyNodes.{IsApart};
 ghost use Rattle.local_cache.specs.NodeCells.{own_of_plain};
 ghost use Rattle.local_cache.specs.Reading.{IsNamed, forest_of};
@@ -621,6 +621,7 @@ impl Caches {
         requires { HasNode self.now node }
         ensures alike { AreAlike self.now node result }
         ensures short { node.0 + result ≤ 2 ^ 64 }
+        ensures some { CanBeAlike (cell self.now node) → 0 < result }
     {
         self.nodes.stretch(node)
     }

@@ -2,6 +2,7 @@
 use Rattle.std.proofs.Common.{◌≡◌, ℕ, zero, suc, ◌+◌, ◌-◌, ◌<◌, ◌≤◌, false, cond, List, Some, None, IsSome, is_some, refl, ap, sym, ◌∙◌, inl, inr, arith}
 use Rattle.std.specs.Prelude.{◌⊎◌}
 use Rattle.std.proofs.lemmas.Bool.{cases_eq, cases_lt, false≢true}
+use Rattle.std.proofs.lemmas.Option.{none-some}
 use Rattle.std.specs.Ordering.{nat_cmp}
 use Rattle.std.specs.FinMap.{FinMap}
 use Rattle.std.specs.FinMap as map
@@ -38,6 +39,13 @@ module _ {V : Type 0} (m : FinMap nat_cmp V) (first : ℕ) where
   range_in (suc k) n from under = elim (cases_eq n (first + k)) [
     | inl same ↦ ap (map.get (without_range m first (suc k))) same ∙ removed_here (without_range m first k) (first + k)
     | inr other ↦ removed_other (without_range m first k) (first + k) n other ∙ range_in k n from (omega arith)
+  ]
+
+  -- what is still there was there
+  pub range_left : (k n : ℕ) (v : V) → map.get (without_range m first k) n ≡ Some v → map.get m n ≡ Some v
+  range_left k n v h = elim (range_cases first k n) [
+    | inl inside ↦ absurd (none-some v (sym (range_in k n inside.0 inside.1) ∙ h))
+    | inr out ↦ sym (range_out k n out) ∙ h
   ]
 
   -- a map that has nothing in a range, and beside it what was there

@@ -25,15 +25,17 @@ use Rattle.local_cache.specs.KeyRanges.{AreKeysIn, page_range, run_cell}
 use Rattle.local_cache.specs.ManyNodes.{AreSaidBy, next_node, without_many}
 use Rattle.local_cache.specs.NodeCells.{cell_by, cells_by, node_cells}
 use Rattle.local_cache.specs.NodeKeys.{Indexes, even_key, key_at, odd_key, page_key, page_number, page_of_name, without_key, working_number}
+use Rattle.local_cache.specs.NodeLists.{AreNeeded}
 use Rattle.local_cache.specs.NodeRuns.{IsNumbered, IsRight, nodes_of}
 use Rattle.local_cache.specs.PageNodes.{HasNode, PageNodes, cell, find, without}
 use Rattle.local_cache.specs.Records.{each}
 use Rattle.local_cache.specs.Runs.{first_name, name_after, run}
 use Rattle.local_cache.specs.Singles.{IsCounted, without_range}
 use Rattle.local_cache.specs.ThinNodes.{thin_nodes}
-use Rattle.local_cache.proofs.ManyNodes.Cleared.{len_range, range_cases, range_in, range_out, range_vacant, ranged_by}
+use Rattle.local_cache.proofs.ManyNodes.Cleared.{len_range, range_cases, range_in, range_left, range_out, range_vacant, ranged_by}
 use Rattle.local_cache.proofs.ManyNodes.Found as found
 use Rattle.local_cache.proofs.NodeCells.{get_cells_by}
+use Rattle.local_cache.proofs.Needed.{needed_left}
 use Rattle.local_cache.proofs.NodeKeys.{index_as, len_index}
 
 -- One after the other --------------------------------------------------------------------------
@@ -270,6 +272,7 @@ module _ (l : NodeLists) (c : Counters) (right : IsRight l c) (r : Stretch Run)
               };
               fits = omega (arith, capacity, len_now, right.kept.fits);
               recorded = λ q h. ap (λ (m : FinMap nat_cmp Cell). is_some (map.get m q)) cells_are ∙ recorded_left q h;
+              needed = subst AreNeeded (sym records) (needed_left D (without_range D r.first r.count) right.kept.needed (range_left D r.first r.count));
             };
             indexed = record {
               pages = index_as _ _ _ page_key _ _ paged cells_are (index_left _ P page_key right.indexed.pages pages page_keys);

@@ -124,6 +124,7 @@ module _ (l : NodeLists) (c : Counters) (right : IsRight l c) (r : Stretch Run) 
             };
             fits = omega (arith, ap map.len cells_are, len_after l r says plain value cell_is is_said.cell, right.kept.fits);
             recorded = λ q h. ap (λ (m : FinMap nat_cmp Cell). is_some (map.get m q)) cells_are ∙ held_same l r says plain value cell_is is_said.cell q ∙ right.kept.recorded q h;
+            needed = right.kept.needed;
           };
           indexed = record {
             pages = subst (Indexes (λ (v : Rising). v.0) _ page_key) (sym cells_are) (index_same _ _ page_key (key_same page_key is_said.page) right.indexed.pages);

@@ -332,6 +332,7 @@ module _ (l : NodeLists) (c : Counters) (right : IsRight l c) (r : Stretch Run) 
             };
             fits = omega (arith, ap map.len cells_are, len_after, right.kept.fits);
             recorded = λ q h. ap (λ (m : FinMap nat_cmp Cell). is_some (map.get m q)) cells_are ∙ held_same q ∙ right.kept.recorded q h;
+            needed = right.kept.needed;
           };
           indexed = record {
             pages = subst (Indexes (λ (v : Rising). v.0) _ page_key) (sym cells_are)

@@ -15,6 +15,7 @@ use vm_ids::NodeId;
 fn without_record(records: &Records, node: u64, most: u32) -> u32
     ensures most { result ≤ most }
     ensures none { (n : ℕ) → node ≤ n → n < node + result → said each records.now.list n ≡ None }
+    ensures some { said each records.now.list node ≡ None → 0 < most → 0 < result }
 {
     match records.first_from(node) {
         Some(first) => (first - node).min(most as u64) as u32,
@@ -26,9 +27,10 @@ fn without_record(records: &Records, node: u64, most: u32) -> u32
 pub(crate) fn numbers_from(node: Option<NodeId>, most: u32) -> u32
     ensures most { result ≤ most }
     ensures short { IfSome node (λ n. n.0 + result ≤ 2 ^ 64) }
+    ensures some { 0 < most → 0 < result }
 {
     match node {
-        Some(node) => (u64::MAX - node.0).min(most as u64) as u32,
+        Some(node) => (u64::MAX - node.0).saturating_add(1).min(most as u64) as u32,
         None => most,
     }
 }
@@ -44,6 +46,7 @@ pub(crate) fn alike_from(lists: &NodeLists, node: u64, most: u32) -> Stretch<Run
     ensures together { AreTogether lists.now.runs.list result.first result.count }
     ensures plain { (n : ℕ) → node ≤ n → n < node + result.count
         → said each lists.now.records.list n ≡ None }
+    ensures some { said each lists.now.records.list node ≡ None → 0 < most → 0 < result.count }
 {
     match lists.runs.stretch_from(node) {
         Some(stretch) => Stretch {

@@ -4,6 +4,7 @@ ghost use Rattle.std.specs.FinMap as map;
 ghost use Rattle.stretches.specs.Stretch.{IsFit, single};
 ghost use Rattle.local_cache.specs.NodeCells.{cell_of, own_of_plain};
 ghost use Rattle.local_cache.specs.PageNodes.{ArePaged, HasNode, IsLeastThin, MakesAllPages, as_working, cell, find, hung, node_at, put, with_links, with_name, with_new, with_own, with_tree, with_working, without};
+ghost use Rattle.local_cache.specs.Many.{CanBeAlike};
 ghost use Rattle.local_cache.specs.ManyNodes.{AreAlike, AreNamed, HaveNodes, HaveNone, IsApart, as_working_many, hung_many, moved_many, over_many, with_names, with_new_many, with_working_many, without_many};
 ghost use Rattle.local_cache.specs.NodeKeys.{page_number};
 ghost use Rattle.local_cache.specs.Runs.{run as run_says};
@@ -493,6 +494,7 @@ impl NodeRuns {
         requires { HasNode self.now node }
         ensures alike { AreAlike self.now node result }
         ensures short { node.0 + result ≤ 2 ^ 64 }
+        ensures some { CanBeAlike (cell self.now node) → 0 < result }
     {
         let alike = alike_from(&self.lists, node.0, u32::MAX);
         let parents = numbers_from(alike.value.parent, alike.count);

@@ -3,7 +3,7 @@ ghost use Rattle.std.specs.Prelude.{◌≡◌, ◌≤◌, IfSome, IsSome, Some, 
 ghost use Rattle.std.specs.FinMap as map;
 ghost use Rattle.stretches.specs.Stretch.{IsFit, single};
 ghost use Rattle.stretches.specs.Stretches.{said};
-ghost use Rattle.local_cache.specs.Many.{IsPlain};
+ghost use Rattle.local_cache.specs.Many.{CanBeAlike, IsPlain};
 ghost use Rattle.local_cache.specs.NodeCells.{bare, cell_by, cell_of, either, node_cells, own_of_plain};
 ghost use Rattle.local_cache.specs.Records.{each};
 ghost use Rattle.local_cache.specs.Arena.{new_cell};
@@ -68,15 +68,27 @@ pub(crate) fn bare(own: PlainState) -> Record
     }
 }
 
-// The own state of a record that a run can say for it, if there is one.
-pub(crate) fn said_by_run(beside: Record) -> Option<PlainState>
-    ensures { IfSome result (λ own. beside ≡ bare own) }
+// The run that says all that is said of a node, if one can.
+pub(crate) fn said_by_run(parts: Parts) -> Option<Run>
+    ensures says { IfSome result (λ run. cell_of run (bare run.own)
+        ≡ cell_of parts.run parts.record) }
+    ensures name { IfSome result (λ run. run.name ≡ parts.run.name) }
+    ensures some { CanBeAlike (cell_of parts.run parts.record) → IsSome result }
 {
-    if is_same_links(beside.links, Links::NONE) {
-        plain_of(beside.own)
-    } else {
-        None
+    let links = parts.links();
+    let none = Links {
+        parent: None,
+        ..links
+    };
+    if !is_same_links(none, Links::NONE) {
+        return None;
     }
+    let own = plain_of(parts.record.own)?;
+    Some(Run {
+        own,
+        parent: links.parent,
+        ..parts.run
+    })
 }
 
 // The first node, or the second where there is no first.

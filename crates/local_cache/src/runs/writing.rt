@@ -4,7 +4,7 @@ ghost use Rattle.std.specs.FinMap as map;
 ghost use Rattle.stretches.specs.Stretch.{IsFit, single};
 ghost use Rattle.stretches.specs.Stretches.{said};
 ghost use Rattle.local_cache.specs.NodeCells.{bare, cell_of, node_cells};
-ghost use Rattle.local_cache.specs.NodeLists.{HasErased, HasWritten, IsKept};
+ghost use Rattle.local_cache.specs.NodeLists.{HasErased, HasWritten, IsKept, IsNeeded};
 ghost use Rattle.local_cache.specs.Runs.{SaysAlike, run as run_says};
 
 use crate::runs::adapting::adapt;
@@ -21,8 +21,8 @@ pub(crate) fn write(lists: &mut NodeLists, node: u64, parts: Parts)
         (cell_of parts.run parts.record)) ≤ lists.old.capacity }
     ensures { HasWritten lists.old node (cell_of parts.run parts.record) lists.new }
 {
-    match said_by_run(parts.record) {
-        Some(own) => write_plain(lists, node, Run { own, ..parts.run }),
+    match said_by_run(parts) {
+        Some(run) => write_plain(lists, node, run),
         None => write_beside(lists, node, parts),
     }
 }
@@ -50,6 +50,7 @@ fn write_beside(lists: &mut NodeLists, node: u64, parts: Parts)
     requires fit { IsFit run_says (single node parts.run) }
     requires room { map.len (map.insert (node_cells lists.old) node
         (cell_of parts.run parts.record)) ≤ lists.old.capacity }
+    requires needed { IsNeeded parts.record }
     ensures { HasWritten lists.old node (cell_of parts.run parts.record) lists.new }
 {
     match said_already(&lists.runs, node, parts.run, true) {
@@ -95,6 +96,7 @@ fn keep_both(lists: &mut NodeLists, node: u64, run: Run, beside: Record)
     requires fit { IsFit run_says (single node run) }
     requires room { map.len (map.insert (node_cells lists.old) node (cell_of run beside))
         ≤ lists.old.capacity }
+    requires needed { IsNeeded beside }
     ensures { HasWritten lists.old node (cell_of run beside) lists.new }
 {
     lists.records.set(node, beside);
@@ -118,6 +120,7 @@ fn write_both(lists: &mut NodeLists, node: u64, run: Run, beside: Record)
     requires fit { IsFit run_says (single node run) }
     requires room { map.len (map.insert (node_cells lists.old) node (cell_of run beside))
         ≤ lists.old.capacity }
+    requires needed { IsNeeded beside }
     ensures { HasWritten lists.old node (cell_of run beside) lists.new }
 {
     set_one(&mut lists.runs, node, run);

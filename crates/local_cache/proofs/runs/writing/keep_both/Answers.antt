@@ -4,6 +4,7 @@ use Rattle.stretches.specs.Cells.{cells}
 use Rattle.stretches.proofs.Cells.{get_cells}
 use Rattle.local_cache.specs.NodeCells.{cell_by}
 use Rattle.local_cache.specs.Runs.{run}
+use Rattle.local_cache.proofs.Needed.{one_needed}
 use Rattle.local_cache.proofs.NodeCells.{inserted_here, inserted_other}
 use Rattle.local_cache.proofs.Singles.{insert_again}
 use Rattle.local_cache.proofs.Writing.{has_written, record_fits}
@@ -20,4 +21,5 @@ returns c =
     (insert_again (cells run runs.list) c.args.node c.args.run (get_cells run runs.list c.args.node ∙ c.requires.said))
     (λ q other. ap (λ m. map.get m q) beside ∙ inserted_other _ c.args.node c.args.beside q other)
     (ap (cell_by c.args.run) (ap (λ m. map.get m c.args.node) beside ∙ inserted_here _ c.args.node c.args.beside))
+    (one_needed _ c.args.node c.args.beside (ap (λ m. map.get m c.args.node) beside ∙ inserted_here _ c.args.node c.args.beside) c.requires.needed)
     c.requires.kept.counted.runs c.set.ensures.counted refl c.set.ensures.places

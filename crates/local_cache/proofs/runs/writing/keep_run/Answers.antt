@@ -4,6 +4,7 @@ use Rattle.stretches.specs.Cells.{cells}
 use Rattle.stretches.proofs.Cells.{get_cells}
 use Rattle.local_cache.specs.NodeCells.{cell_by}
 use Rattle.local_cache.specs.Runs.{run}
+use Rattle.local_cache.proofs.Needed.{none_needed}
 use Rattle.local_cache.proofs.NodeCells.{removed_here, removed_other}
 use Rattle.local_cache.proofs.Singles.{insert_again}
 use Rattle.local_cache.proofs.Writing.{has_written}
@@ -17,4 +18,5 @@ returns c =
     (insert_again (cells run runs.list) c.args.node c.args.run (get_cells run runs.list c.args.node ∙ c.requires.said))
     (λ q other. ap (λ m. map.get m q) beside ∙ removed_other _ c.args.node q other)
     (ap (cell_by c.args.run) (ap (λ m. map.get m c.args.node) beside ∙ removed_here _ c.args.node))
+    (none_needed _ c.args.node (ap (λ m. map.get m c.args.node) beside ∙ removed_here _ c.args.node))
     c.requires.kept.counted.runs c.clear.ensures.counted refl c.clear.ensures.places
