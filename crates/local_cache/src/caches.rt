@@ -615,8 +615,8 @@ impl Caches {
         self.nodes.thin()
     }
 
-    /// How many nodes from this one on are alike, each a step further on than the one before. It is 0 where something is
-    /// kept of this node that can't be said of many, as a frame, a slot or stubs.
+    /// How many nodes from this one on are alike, each a step further on than the one before. It is 0 only where something
+    /// is kept of this node that can't be said of many, as a frame, a slot or stubs.
     pub fn stretch(&self, node: NodeId) -> u32
         requires { HasNode self.now node }
         ensures alike { AreAlike self.now node result }

@@ -489,7 +489,7 @@ impl NodeRuns {
     }
 
     /// How many nodes from this one on are alike: one run says all of them, each a step further on
-    /// than the one before. There is none where a record says something of this node.
+    /// than the one before. There is none only where a run can't say all of this node.
     pub(crate) fn stretch(&self, node: NodeId) -> u32
         requires { HasNode self.now node }
         ensures alike { AreAlike self.now node result }

@@ -1,7 +1,8 @@
-use Rattle.std.proofs.Common.{ap, is_some, subst, arith}
+use Rattle.std.proofs.Common.{ap, is_some, subst, sym, arith}
+use Rattle.local_cache.specs.Many.{CanBeAlike}
 use Rattle.local_cache.specs.ManyNodes.{AreSaidBy}
-use Rattle.local_cache.specs.PageNodes.{PageNodes}
-use Rattle.local_cache.proofs.ManyNodes.Alike.{alike_said}
+use Rattle.local_cache.specs.PageNodes.{HasNode, PageNodes, cell}
+use Rattle.local_cache.proofs.ManyNodes.Alike.{alike_said, unrecorded}
 use Rattle.local_cache.proofs.ManyNodes.Numbers.{fewer_numbers, many_short}
 use Rattle.local_cache.proofs.runs.node_runs.NodeRuns.stretch.Goals as goal
 
@@ -27,3 +28,12 @@ returns-clause-short c =
     many_short c.self.inside.lists c.self.inside.counters c.self.invariant c.args.node.0 c.numbers_from.result (omega arith)
     (λ k less. ap is_some (alike_said c.self.inside.lists r c.args.node.0 is.begins is.says is.plain k
     (omega (arith, less, c.numbers_from.ensures.most, c.numbers_from-older.ensures.most, c.numbers_from-parents.ensures.most))))
+
+pub returns-clause-some : goal.returns-clause-some
+unfolding cell
+returns-clause-some c can =
+    let held = subst (λ (m : PageNodes). HasNode m c.args.node) (sym c.self.view_is) c.requires in
+    let here = subst (λ (m : PageNodes). CanBeAlike (cell m c.args.node)) (sym c.self.view_is) can in
+    let none = unrecorded c.self.inside.lists c.self.invariant.kept c.args.node.0 held here in
+    c.numbers_from.ensures.some (c.numbers_from-older.ensures.some (c.numbers_from-parents.ensures.some
+    (c.alike_from-alike.ensures.some none (omega arith))))
