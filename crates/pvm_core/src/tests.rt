@@ -21,16 +21,16 @@ use vm_ids::{
 use vm_model::EagerMachine;
 use vm_port::{Chooser, Clock, Mapper, MemoryMapper};
 
-// Each cache has so many pages of so many bytes. Eight pages are copied by stub links, more by
-// tree links.
+// Each segment has so many pages of so many bytes.
 const PAGES: u32 = 12;
 
 const PAGE: u32 = 4;
 
-// Four caches can be mapped, side by side.
-const PLACES: u32 = 4;
+// The longest caches of a history have so many pages.
+const LONG: u32 = 30;
 
-const MAPPED: u32 = PLACES * PAGES * PAGE;
+// Four caches of any of these lengths can be mapped, side by side.
+const PLACES: u32 = 4;
 
 // A large cache has so many pages.
 const MANY: u32 = 3_000;
@@ -38,8 +38,7 @@ const MANY: u32 = 3_000;
 // So long is a history.
 const STEPS: u32 = 15_000;
 
-// The segments, each of as many pages as a cache. The last page of the second is denied for
-// writing.
+// The segments. The last page of the second is denied for writing.
 const FIRST: &[u8] = b"The first segment's twelve pages of four bytes.\n";
 
 const SECOND: &[u8] = b"The second one's twelve pages, the last denied.\n";
@@ -47,14 +46,14 @@ const SECOND: &[u8] = b"The second one's twelve pages, the last denied.\n";
 const DENIED: (SegId, PageNo) = (SegId(2), PageNo(PAGES - 1));
 
 // So many kinds of commands are counted, and each is to be done so often.
-const KINDS: usize = 19;
+const KINDS: usize = 21;
 
 const OFTEN: u32 = 20;
 
 // The kinds that are never done in three frames, which have to stay unlocked.
-const LOCKS: usize = 17;
+const LOCKS: usize = 19;
 
-const UNLOCKS: usize = 18;
+const UNLOCKS: usize = 20;
 
 // This actor looks, and others act.
 const WATCHER: ActorId = ActorId(1);
@@ -71,6 +70,8 @@ struct Acting {
 #[derive(Drop)]
 struct Script {
     state: u64,
+    // Whether all caches are long and temporary, and copied more often than stored to.
+    long: bool,
     caches: u32,
     // The caches that the segments name, or named last.
     named: [CacheId; 2],
@@ -88,13 +89,14 @@ struct Script {
 }
 
 impl Script {
-    fn new(seed: u64, apart: u32) -> Script {
+    fn new(seed: u64, apart: u32, long: bool) -> Script {
         let nobody = Acting {
             actor: None,
             region: RegionId(0),
         };
         Script {
             state: seed,
+            long,
             caches: 0,
             named: [CacheId(0); 2],
             acting: nobody,
@@ -133,21 +135,62 @@ impl Script {
 
     fn cache(&mut self) -> CacheId {
         match self.below(3) {
-            0 => self.of_segment(),
-            _ => self.recent(4),
+            0 if !self.long => self.of_segment(),
+            _ => self.recent(6),
         }
+    }
+
+    // The pages of a cache, or of one that is still to be made. Eight are copied by stub links,
+    // more by tree links.
+    fn pages_of(&self, cache: CacheId) -> u32
+        ensures least { 1 ≤ result }
+        ensures most { result ≤ 30 }
+    {
+        if self.long {
+            return LONG;
+        }
+        if is_one_of(&self.named, cache) {
+            return PAGES;
+        }
+        match cache.0 % 6 {
+            0 => 8,
+            1 => 9,
+            2 => 12,
+            3 => 1,
+            _ => LONG,
+        }
+    }
+
+    // A number of pages, of so many: often all of them, and now and then one more than there are.
+    fn count(&mut self, most: u32) -> u32
+        requires least { 1 ≤ most }
+        requires most { most ≤ 30 }
+        ensures { 1 ≤ result }
+    {
+        match self.below(16) {
+            0..=3 => most,
+            4 => most + 1,
+            _ => 1 + self.below(most),
+        }
+    }
+
+    // A page of a cache that so many pages begin at, or the first where there are fewer.
+    fn first(&mut self, cache: CacheId, pages: u32) -> PageNo {
+        let last = self.pages_of(cache).saturating_sub(pages);
+        PageNo(self.below(last + 1))
     }
 
     // Pages of two caches.
     fn span(&mut self) -> Span
         ensures { 1 ≤ result.pages }
     {
-        let pages = 1 + self.below(PAGES);
+        let (from, to) = (self.cache(), self.cache());
+        let pages = self.count(self.pages_of(from).min(self.pages_of(to)));
         Span {
-            from: self.cache(),
-            from_page: PageNo(self.below(PAGES + 1 - pages)),
-            to: self.cache(),
-            to_page: PageNo(self.below(PAGES + 1 - pages)),
+            from,
+            from_page: self.first(from, pages),
+            to,
+            to_page: self.first(to, pages),
             pages,
         }
     }
@@ -156,34 +199,55 @@ impl Script {
     fn extent(&mut self) -> Extent
         ensures { 1 ≤ result.pages }
     {
-        let pages = 1 + self.below(PAGES);
+        let cache = match self.below(4) {
+            0 => self.cache(),
+            _ => self.of_segment(),
+        };
+        let pages = self.count(self.pages_of(cache));
         Extent {
-            cache: match self.below(4) {
-                0 => self.cache(),
-                _ => self.of_segment(),
-            },
-            first: PageNo(self.below(PAGES + 1 - pages)),
+            cache,
+            first: self.first(cache, pages),
             pages,
         }
     }
 
+    // One at a place, the more often the nearer to where the place begins, as short caches may be
+    // there.
     fn address(&mut self) -> u64 {
-        self.below(MAPPED) as u64
+        let place = self.below(PLACES);
+        let bytes = (1 + self.below(LONG)) * PAGE;
+        (place * LONG * PAGE + self.below(bytes)) as u64
     }
 
     // Two pages of one at most, anywhere.
     fn few(&mut self) -> Mapping
         ensures { 1 ≤ result.extent.pages }
     {
+        let cache = self.cache();
         let pages = 1 + self.below(2);
         Mapping {
             extent: Extent {
-                cache: self.cache(),
-                first: PageNo(self.below(PAGES + 1 - pages)),
+                cache,
+                first: self.first(cache, pages),
                 pages,
             },
-            address: (self.below(PLACES * PAGES) * PAGE) as u64,
+            address: (self.below(PLACES * LONG) * PAGE) as u64,
             prot: self.prot(),
+        }
+    }
+
+    // A whole one at an address.
+    fn whole(&self, cache: CacheId, address: u64, prot: Prot) -> Mapping
+        ensures { 1 ≤ result.extent.pages }
+    {
+        Mapping {
+            extent: Extent {
+                cache,
+                first: PageNo(0),
+                pages: self.pages_of(cache),
+            },
+            address,
+            prot,
         }
     }
 
@@ -202,6 +266,19 @@ impl Script {
         }
     }
 
+    // A number of a kind of commands. Where all caches are long, none is of a segment, and most
+    // stores give way to copies and moves.
+    fn kind(&mut self) -> u32 {
+        let kind = self.below(45);
+        match kind {
+            2..=3 if self.long => 0,
+            4 if self.long => 5,
+            17..=19 if self.long => 7,
+            20..=21 if self.long => 11,
+            _ => kind,
+        }
+    }
+
     // A command. An actor that ended is followed by the next.
     fn command(&mut self) -> Result<Command, Fail>
         ensures { IfOk result (λ c. IsWellFormed c) }
@@ -211,8 +288,11 @@ impl Script {
         let Some(actor) = actor else {
             return Ok(Command::MakeActor);
         };
-        Ok(match self.below(44) {
-            0..=1 => Command::MakeTemp(PAGES),
+        Ok(match self.kind() {
+            0..=1 => {
+                let next = CacheId(self.caches.saturating_add(1));
+                Command::MakeTemp(self.pages_of(next))
+            }
             2..=3 => Command::OpenSegment(SegId(1 + self.below(2))),
             4 => Command::Destroy(self.of_segment()),
             5..=6 => Command::Destroy(self.recent(8)),
@@ -220,7 +300,8 @@ impl Script {
             11..=12 => Command::Move(self.span()),
             13..=14 => {
                 let cache = self.cache();
-                Command::Map(actor, whole(cache, cache.0 % PLACES, self.prot()))
+                let prot = self.prot();
+                Command::Map(actor, self.whole(cache, place_of(cache), prot))
             }
             15 => Command::Map(actor, self.few()),
             16 => Command::Unmap(region),
@@ -239,7 +320,7 @@ impl Script {
             34 => Command::Status(region),
             35..=38 => Command::Find(actor, self.address()),
             39..=40 => Command::Lock(region),
-            41..=42 => Command::Unlock(region),
+            41..=43 => Command::Unlock(region),
             _ => Command::ExitActor(actor),
         })
     }
@@ -252,9 +333,9 @@ impl Script {
         self.step = step.saturating_add(1);
         if step == 0 {
             let prot = Prot { write: false };
-            return Command::Map(WATCHER, whole(CacheId(self.seen), 0, prot));
+            return Command::Map(WATCHER, self.whole(CacheId(self.seen), 0, prot));
         }
-        if step <= PAGES {
+        if step <= self.pages_of(CacheId(self.seen)) {
             let address = (step - 1) * PAGE;
             return Command::Load(WATCHER, address as u64, PAGE as u8);
         }
@@ -304,20 +385,9 @@ impl Script {
     }
 }
 
-// A whole cache at a place.
-fn whole(cache: CacheId, place: u32, prot: Prot) -> Mapping
-    requires { place < 4 }
-    ensures { 1 ≤ result.extent.pages }
-{
-    Mapping {
-        extent: Extent {
-            cache,
-            first: PageNo(0),
-            pages: PAGES,
-        },
-        address: (place * PAGES * PAGE) as u64,
-        prot,
-    }
+// The address at which a whole cache is mapped.
+fn place_of(cache: CacheId) -> u64 {
+    (cache.0 % PLACES * LONG * PAGE) as u64
 }
 
 // Puts one in its place, where there is such a place.
@@ -437,6 +507,8 @@ impl Tally {
             (Command::Flush(_), _) => 4,
             (Command::Invalidate(_), _) => 5,
             (Command::Destroy(cache), _) => 6 + is_one_of(named, *cache) as usize,
+            (Command::Copy(span), _) if span.pages == LONG => 17,
+            (Command::Move(span), _) if span.pages == LONG => 18,
             (Command::Copy(span), _) => 8 + is_one_of(named, span.to) as usize,
             (Command::Move(span), _) => 10 + is_one_of(named, span.to) as usize,
             (Command::ExitActor(_), _) => 12,
@@ -492,13 +564,12 @@ fn answer_both<G: Gmi<MemoryMapper, C>, C: Chooser>(
     Ok(())
 }
 
-// Over so many frames, with looks so many commands apart.
+// Over so many frames.
 fn answers_as_plain_pages(
     rt: &impl Abort,
     alloc: Global,
     frames: u32,
-    seed: u64,
-    apart: u32,
+    script: &mut Script,
     tally: &mut Tally,
 ) -> Result<(), Fail>
     requires some { 3 ≤ frames }
@@ -512,22 +583,27 @@ fn answers_as_plain_pages(
         &mut mapper,
         &mut Clock::new(),
         &mut Plain::new(alloc, frames)?,
-        &mut Script::new(seed, apart),
+        script,
         tally,
     )
 }
 
-// Histories with a look after each command, and a long one with few looks, in which pages are in
-// frames, slots and segments as the commands left them.
+// Histories with a look after each command, and two with few looks, in which pages are in frames,
+// slots and segments as the commands left them. In the last one the nodes of long caches are alike
+// for long.
 fn answer_as_plain_pages(rt: &impl Abort, alloc: Global, frames: u32) -> Result<(), Fail>
     requires some { 3 ≤ frames }
     requires few { frames ≤ 6 }
 {
     let mut tally = Tally { done: [0; KINDS] };
     for seed in 0..20 {
-        answers_as_plain_pages(rt, alloc, frames, seed, 1, &mut tally)?;
+        let mut script = Script::new(seed, 1, false);
+        answers_as_plain_pages(rt, alloc, frames, &mut script, &mut tally)?;
     }
-    answers_as_plain_pages(rt, alloc, frames, 20, 400, &mut tally)?;
+    let mut mixed = Script::new(20, 400, false);
+    answers_as_plain_pages(rt, alloc, frames, &mut mixed, &mut tally)?;
+    let mut long = Script::new(21, 400, true);
+    answers_as_plain_pages(rt, alloc, frames, &mut long, &mut tally)?;
     let kinds = if frames > 3 { KINDS } else { LOCKS };
     for kind in 0..kinds {
         assert!(rt; tally.done[kind] >= OFTEN, "{kind} is seldom");
