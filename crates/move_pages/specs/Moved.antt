@@ -4,32 +4,18 @@ use Rattle.vm_ids.specs.declared.node_name.NodeName.TheVariants.{Live}
 use Rattle.vm_ids.specs.declared.numbers.CacheId.{CacheId}
 use Rattle.vm_ids.specs.declared.numbers.NodeId.{NodeId}
 use Rattle.vm_ids.specs.declared.numbers.PageNo.{PageNo}
-use Rattle.vm_ids.specs.Forest.Rules.{retire}
 use Rattle.local_cache.specs.declared.own_state.OwnState.TheVariants.{Zero}
-use Rattle.local_cache.specs.Arena.{Arena, IsVacant, find, node_at, with_name, with_new}
+use Rattle.local_cache.specs.Arena.{Arena, find, node_at, with_name, with_new}
 use Rattle.local_cache.specs.Own.{own_of}
-use Rattle.local_cache.specs.Reading.{forest_of}
-use Rattle.local_cache.specs.Sound.{IsSound}
 use Rattle.tree_merge.specs.declared.released.Released.{Released}
-use Rattle.tree_merge.specs.Releasing.{IsReleased, IsRetired}
-
--- From a to b the destination's node was retired, and this was released.
-pub record IsCleared (a b : Arena) (to : CacheId) (to_page : PageNo)
-    (released : Released) : Type 0 where
-  pub node : NodeId
-  pub at : node_at a to.0 to_page.0 ≡ Some node
-  pub retired : IsRetired a b node released
-  pub told : IsReleased a b released
-  pub forest : forest_of b ≡ retire (forest_of a) (Live to to_page)
-  pub sound : IsSound b
-  pub vacant : IsVacant b to to_page
+use Rattle.tree_merge.specs.Stepping.{IsRetiredAlone}
 
 -- From a to b a page was moved: the destination's node was retired, the source's node took its name, and a fresh node of
 -- zeros that of the source. The fresh node may have the number of the one that went; all others have their own states.
 pub record IsMoved (a b : Arena) (from : CacheId) (from_page : PageNo) (to : CacheId)
     (to_page : PageNo) (released : Released) : Type 0 where
   pub between : Arena
-  pub cleared : IsCleared a between to to_page released
+  pub cleared : IsRetiredAlone a between to to_page released
   pub origin : NodeId
   pub source : node_at between from.0 from_page.0 ≡ Some origin
   pub fresh : NodeId

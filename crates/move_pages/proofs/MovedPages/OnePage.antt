@@ -20,10 +20,11 @@ use Rattle.local_cache.proofs.Names.WorkingName.{room-with_new}
 use Rattle.local_cache.proofs.Nodes.Cells.{find-put_other}
 use Rattle.tree_merge.specs.declared.released.Released.TheVariants.{Dropped}
 use Rattle.tree_merge.specs.Copying.{IsLone}
+use Rattle.tree_merge.specs.Stepping.{IsRetiredAlone}
 use Rattle.tree_merge.proofs.CopiedPages.Changes.{cell_by, find-new_other, find-without_other}
 use Rattle.tree_merge.proofs.CopiedPages.OnePage.{not_free}
-use Rattle.tree_merge.proofs.RetiredPages.OnePage.{PageGone, page_gone}
-use Rattle.move_pages.specs.Moved.{IsCleared, IsMoved}
+use Rattle.tree_merge.proofs.RetiredPages.OnePage.{PageGone, page_alone, page_gone}
+use Rattle.move_pages.specs.Moved.{IsMoved}
 use Rattle.move_pages.proofs.Moves.{move_consistent, move_nodes, move_others, move_sizes, move_sound, move_zero, moved_room}
 
 -- What it needs: d is the node of the destination, s that of the source, and n a free number.
@@ -61,16 +62,8 @@ module _ (a : Arena) (d s n : NodeId) (to : CacheId) (to_page : PageNo) (from : 
   went : PageGone a (without a d) d to to_page
   went = page_gone a d to to_page (record { sound = can.sound; held = can.held_d; lone = can.lone; named = can.named_d })
 
-  cleared : IsCleared a (without a d) to to_page (Dropped d (own_of a d))
-  cleared = record {
-    node = d;
-    at = can.sound.kept.listed.pages to.0 to_page.0 d can.held_d can.named_d;
-    retired = went.retired;
-    told = record { went = record { was = can.held_d; gone = went.gone.gone; held = went.gone.held }; state_is = refl; others = went.owns };
-    forest = went.forest;
-    sound = went.sound;
-    vacant = went.vacant;
-  }
+  cleared : IsRetiredAlone a (without a d) to to_page (Dropped d (own_of a d))
+  cleared = page_alone a d to to_page (record { sound = can.sound; held = can.held_d; lone = can.lone; named = can.named_d })
 
   -- The source's node is the one of the destination then ----------------------------------------------
 

@@ -22,12 +22,12 @@ use Rattle.tree_merge.specs.Copying.{IsEmpty}
 use Rattle.tree_merge.specs.Stepping.{IsCopiedAlone, IsDetachedAlone}
 use Rattle.tree_merge.proofs.CopiedPages.OnePage as caches
 use Rattle.tree_merge.proofs.CopiedPages.OnePage.{CanCopyPage}
-use Rattle.tree_merge.proofs.RetiredPages.OnePage.{CanRetirePage}
+use Rattle.tree_merge.proofs.RetiredPages.OnePage.{CanRetirePage, page_alone}
 use Rattle.page_release.specs.Steps.{IsStoreTied}
 use Rattle.page_release.proofs.CopiedPages.OneFollowed.{one_copies}
 use Rattle.page_release.proofs.CopiedPages.Parts.{CopiesPage}
 use Rattle.page_release.proofs.Freeing.Freed.{same_freed}
-use Rattle.page_release.proofs.RetiredPages.OnePage.{page_alone, page_followed, page_unclean, page_unpinned}
+use Rattle.page_release.proofs.RetiredPages.OnePage.{page_followed, page_unclean, page_unpinned}
 
 module _ (t : Store) (a : Arena) (d s new : NodeId) (to : CacheId) (page : PageNo) (can : CanCopyPage a d s new to page) (empty : IsEmpty (own_of a d)) (tied : IsStoreTied t a) where
   abbrev c : Arena
@@ -42,7 +42,7 @@ module _ (t : Store) (a : Arena) (d s new : NodeId) (to : CacheId) (page : PageN
     forest = caches.detached a d s new to page can;
     sound = caches.sound_new a d s new to page can;
     between = without a d;
-    retired = page_alone t a d to page goes empty;
+    retired = page_alone a d to page goes;
     fresh = new;
     free = caches.free_then a d s new to page can;
     is = refl;

@@ -11,15 +11,12 @@ use Rattle.local_cache.specs.Arena.{Arena, Cell, HasNode, as_working, find, with
 use Rattle.local_cache.specs.Own.{is_resident, own_of}
 use Rattle.local_cache.specs.Reading.{name_of}
 use Rattle.local_cache.specs.Sound.{IsSound}
-use Rattle.local_cache.proofs.Names.WorkingName.{vacated}
 use Rattle.residency.specs.declared.store.Store.{Store}
 use Rattle.residency.specs.World.{World, is_clean, world}
 use Rattle.tree_merge.specs.declared.released.Released.TheVariants.{Dropped, Nothing}
 use Rattle.tree_merge.specs.Copying.{IsEmpty}
-use Rattle.tree_merge.specs.Stepping.{IsRetiredAlone}
-use Rattle.tree_merge.proofs.Releases.{retire_released}
-use Rattle.tree_merge.proofs.RetiredPages.OnePage.{CanRetirePage, page_gone}
-use Rattle.tree_merge.proofs.RetiredPages.SharedPage.{CanSharePage, page_shared}
+use Rattle.tree_merge.proofs.RetiredPages.OnePage.{CanRetirePage, page_alone}
+use Rattle.tree_merge.proofs.RetiredPages.SharedPage.{CanSharePage, shared_alone}
 use Rattle.page_release.specs.Following.{without_page}
 use Rattle.page_release.specs.Homes.{IsUnclean}
 use Rattle.page_release.specs.Steps.{IsStoreTied, IsUnpinned}
@@ -66,48 +63,21 @@ module _ (t : Store) (a : Arena) (d : NodeId) (cache : CacheId) (page : PageNo) 
 -- It has neither parent nor children, and goes --------------------------------------------------------
 
 module _ (t : Store) (a : Arena) (d : NodeId) (cache : CacheId) (page : PageNo) (can : CanRetirePage a d cache page) (empty : IsEmpty (own_of a d)) where
-  pub page_alone : IsRetiredAlone a (without a d) cache page (Dropped d (own_of a d))
-  page_alone =
-      let went = page_gone a d cache page can in
-      record {
-        forest = went.forest;
-        sound = went.sound;
-        vacant = went.vacant;
-        node = d;
-        at = can.sound.kept.listed.pages cache.0 page.0 d can.held can.named;
-        retired = went.retired;
-        told = retire_released a (without a d) d can.held (Dropped d (own_of a d)) went.retired;
-      }
-
   -- over any caches
   pub page_followed : (c : Arena) → IsFollowed t t c (Dropped d (own_of a d))
   page_followed c told size = nothing_freed (world told size c t) d (own_of a d) empty
 
   pub page_goes : IsStoreTied t a → RetiresPage (Live cache page) t a t (without a d)
   page_goes tied =
-      one_retires t a (without a d) cache page (Dropped d (own_of a d)) page_alone can.sound tied
+      one_retires t a (without a d) cache page (Dropped d (own_of a d)) (page_alone a d cache page can) can.sound tied
       (page_unpinned t a d cache page can.sound can.held can.named empty tied) (page_unclean t a d cache page can.sound can.held can.named empty)
       t (page_followed (without a d)) (same_freed t t refl refl)
 
 -- It has children, and becomes a working node ---------------------------------------------------------
 
 module _ (t : Store) (a : Arena) (d : NodeId) (cache : CacheId) (page : PageNo) (can : CanSharePage a d cache page) (empty : IsEmpty (own_of a d)) where
-  page_shared_alone : IsRetiredAlone a (as_working a d) cache page Nothing
-  page_shared_alone =
-      let shared = page_shared a d cache page can in
-      let at = can.sound.kept.listed.pages cache.0 page.0 d can.held can.named in
-      record {
-        forest = shared.forest;
-        sound = shared.sound;
-        vacant = vacated a d cache page can.named at;
-        node = d;
-        at = at;
-        retired = shared.retired;
-        told = shared.still;
-      }
-
   pub page_stays : IsStoreTied t a → RetiresPage (Live cache page) t a t (as_working a d)
   page_stays tied =
-      one_retires t a (as_working a d) cache page Nothing page_shared_alone can.sound tied
+      one_retires t a (as_working a d) cache page Nothing (shared_alone a d cache page can) can.sound tied
       (page_unpinned t a d cache page can.sound can.held can.named empty tied) (page_unclean t a d cache page can.sound can.held can.named empty)
       t (λ told size. refl) (same_freed t t refl refl)

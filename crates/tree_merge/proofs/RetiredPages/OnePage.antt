@@ -19,11 +19,13 @@ use Rattle.tree_merge.specs.declared.released.Released.TheVariants.{Dropped}
 use Rattle.tree_merge.specs.Copying.{IsLone}
 use Rattle.tree_merge.specs.Releasing.{IsRetired}
 use Rattle.tree_merge.specs.Staying.{IsGone}
+use Rattle.tree_merge.specs.Stepping.{IsRetiredAlone}
 use Rattle.tree_merge.proofs.ChildLists.Names.{counted}
 use Rattle.tree_merge.proofs.Leaving.Detached.{retired_vacant}
 use Rattle.tree_merge.proofs.Leaving.Freed.{Freed, drop-Freed}
 use Rattle.tree_merge.proofs.Leaving.Retired.{retire_none, retired_leaf}
 use Rattle.tree_merge.proofs.Place.Cut.{no_parent-Step}
+use Rattle.tree_merge.proofs.Releases.{retire_released}
 
 -- What it needs: d is the node of the page.
 pub record CanRetirePage (a : Arena) (d : NodeId) (cache : CacheId) (page : PageNo) : Type 0 where
@@ -61,4 +63,16 @@ module _ (a : Arena) (d : NodeId) (cache : CacheId) (page : PageNo) (can : CanRe
     retired = retired;
     vacant = retired_vacant a can.sound cache page d (can.sound.kept.listed.pages cache.0 page.0 d can.held can.named) (without a d) (Dropped d (own_of a d)) retired;
     sizes = sizes_by a (without a d) (name_of a d) None went.gone.caches;
+  }
+
+  -- so the page is retired alone
+  pub page_alone : IsRetiredAlone a (without a d) cache page (Dropped d (own_of a d))
+  page_alone = record {
+    forest = page_gone.forest;
+    sound = page_gone.sound;
+    vacant = page_gone.vacant;
+    node = d;
+    at = can.sound.kept.listed.pages cache.0 page.0 d can.held can.named;
+    retired = page_gone.retired;
+    told = retire_released a (without a d) d can.held (Dropped d (own_of a d)) page_gone.retired;
   }

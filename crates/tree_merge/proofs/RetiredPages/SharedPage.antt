@@ -9,9 +9,11 @@ use Rattle.vm_ids.specs.Forest.Rules.{retire}
 use Rattle.local_cache.specs.Arena.{Arena, HasNode, as_working, cell}
 use Rattle.local_cache.specs.Reading.{forest_of, name_of}
 use Rattle.local_cache.specs.Sound.{IsSound}
+use Rattle.local_cache.proofs.Names.WorkingName.{vacated}
 use Rattle.tree_merge.specs.declared.released.Released.TheVariants.{Nothing}
 use Rattle.tree_merge.specs.Releasing.{IsRetired, IsStill}
 use Rattle.tree_merge.specs.Sharing.{HasTreeChild}
+use Rattle.tree_merge.specs.Stepping.{IsRetiredAlone}
 use Rattle.tree_merge.proofs.ChildLists.Names.{counted}
 use Rattle.tree_merge.proofs.Leaving.Retired.{retired-forest, retired-sound, retired_parent}
 use Rattle.tree_merge.proofs.Releases.{retire_released}
@@ -41,3 +43,17 @@ module _ (a : Arena) (d : NodeId) (cache : CacheId) (page : PageNo) (can : CanSh
     still = retire_released a (as_working a d) d can.held Nothing (retired_parent a (as_working a d) d children refl);
     retired = retired_parent a (as_working a d) d children refl;
   }
+
+  -- so the page is retired alone
+  pub shared_alone : IsRetiredAlone a (as_working a d) cache page Nothing
+  shared_alone =
+      let at = can.sound.kept.listed.pages cache.0 page.0 d can.held can.named in
+      record {
+        forest = page_shared.forest;
+        sound = page_shared.sound;
+        vacant = vacated a d cache page can.named at;
+        node = d;
+        at = at;
+        retired = page_shared.retired;
+        told = page_shared.still;
+      }
