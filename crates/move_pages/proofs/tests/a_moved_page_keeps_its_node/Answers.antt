@@ -15,12 +15,8 @@ use Rattle.local_cache.specs.Sound.{IsSound}
 use Rattle.local_cache.proofs.NewCache.Whole.{none_len, none_whole, pages_with, whole_begun}
 use Rattle.local_cache.proofs.Forest.Reading.{IsNode-forest_of}
 use Rattle.local_cache.proofs.Whole.Pages.{page_there}
+use Rattle.move_pages.proofs.Tried.{begun, page_is}
 use Rattle.move_pages.proofs.tests.a_moved_page_keeps_its_node.Goals as goal
-
-page_is : (a : Arena) → IsSound a → (cache : CacheId) (page : ℕ) → HasPage a cache page Zero → IsNode (forest_of a) (page_name cache page)
-page_is a sound cache page has =
-    let l = sound.kept.listed.nodes cache.0 page has.node has.at in
-    subst (IsNode (forest_of a)) l.1 (IsNode-forest_of a sound.kept.named has.node l.0)
 
 abbrev page_number : NodeName → ℕ
 page_number (Live cache page) = page.0
@@ -38,9 +34,6 @@ two_pages a sound cache first second = record {
   live_source = refl;
 }
 
-begun : (a b : Arena) → a.caches ≡ [] → forest_of a ≡ no_forest → IsSound a → (cache : CacheId) (nodes : List NodeId) → length nodes ≡ 2 → IsMade a b cache None Zero nodes → forest_of b ≡ make (pages_with Zero cache 2) (forest_of a) → IsSound b → IsConsistent (forest_of b)
-begun a b none empty sound cache nodes size made forest sound_b = (whole_begun a b (none_whole a none empty sound) cache 2 None Zero nodes size made forest sound_b (omega (arith, none_len (forest_of a) empty))).consistent
-
 pub node_of-node-requires : goal.node_of-node-requires
 node_of-node-requires g c = ap is_some (c.make_temp-cache.ensures.pages 0 (lit< tt)).at
 
@@ -51,7 +44,7 @@ pub move_one-released-requires-clause-consistent : goal.move_one-released-requir
 move_one-released-requires-clause-consistent g c =
     let e = c.make_temp-cache.ensures in
     let sound = c.reserve.ensures.sound c.new-caches.ensures.sound in
-    begun c.reserve.new.self c.make_temp-cache.new.self (ap (λ (k : Arena). k.caches) c.reserve.ensures.kept ∙ c.new-caches.ensures.caches) (c.reserve.ensures.forest ∙ c.new-caches.ensures.forest) sound c.make_temp-cache.result e.made.0 e.made.1 e.made.2 (e.forest sound) (e.sound sound)
+    begun 2 (lit< tt) c.reserve.new.self c.make_temp-cache.new.self (ap (λ (k : Arena). k.caches) c.reserve.ensures.kept ∙ c.new-caches.ensures.caches) (c.reserve.ensures.forest ∙ c.new-caches.ensures.forest) sound c.make_temp-cache.result e.made.0 e.made.1 e.made.2 (e.forest sound) (e.sound sound)
 
 pub move_one-released-requires-clause-pages : goal.move_one-released-requires-clause-pages
 move_one-released-requires-clause-pages g c =
@@ -65,7 +58,7 @@ node_of-requires g c =
     let e = c.make_temp-cache.ensures in
     let empty = c.reserve.ensures.sound c.new-caches.ensures.sound in
     let sound = e.sound empty in
-    let consistent = begun c.reserve.new.self a (ap (λ (k : Arena). k.caches) c.reserve.ensures.kept ∙ c.new-caches.ensures.caches) (c.reserve.ensures.forest ∙ c.new-caches.ensures.forest) empty cache e.made.0 e.made.1 e.made.2 (e.forest empty) sound in
+    let consistent = begun 2 (lit< tt) c.reserve.new.self a (ap (λ (k : Arena). k.caches) c.reserve.ensures.kept ∙ c.new-caches.ensures.caches) (c.reserve.ensures.forest ∙ c.new-caches.ensures.forest) empty cache e.made.0 e.made.1 e.made.2 (e.forest empty) sound in
     let pages = two_pages a sound cache (e.pages 0 (lit< tt)) (e.pages 1 (lit< tt)) in
     page_there c.move_one-released.new.caches c.move_one-released.ensures.sound cache (record { 0 = 1 })
     (subst (λ f. IsNode f (page_name cache 1)) (sym c.move_one-released.ensures.forest)

@@ -1,5 +1,4 @@
 use Rattle.std.proofs.Common.{◌≡◌, [], ◌∙◌, subst, arith}
-use Rattle.vm_ids.specs.Forest.Commands.{firsts, seconds, span_pairs}
 use Rattle.page_release.specs.Commands.{Grows}
 use Rattle.page_release.proofs.MovedPages.Parts.{MovesPages, left_can, moves_none, moves_then}
 use Rattle.page_release.proofs.Tying.Kept.{unclean_kept, unpinned_kept}

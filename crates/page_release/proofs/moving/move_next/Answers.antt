@@ -1,11 +1,10 @@
-use Rattle.std.proofs.Common.{◌≡◌, ℕ, ◌+◌, ◌<◌, Option, sym, subst, ap, arith, inl, inr}
+use Rattle.std.proofs.Common.{◌≡◌, ℕ, ◌+◌, ◌<◌, Option, sym, subst, arith, inl, inr}
 use Rattle.vm_ids.specs.Held.{Held}
-use Rattle.vm_ids.specs.declared.node_name.NodeName.{NodeName}
 use Rattle.vm_ids.specs.Forest.Commands.{move_pages, page_name, page_pairs}
 use Rattle.vm_ids.proofs.Forest.Pairs.{move_now}
 use Rattle.local_cache.specs.declared.own_state.OwnState.TheVariants.{Zero}
 use Rattle.local_cache.specs.Reading.{forest_of}
-use Rattle.residency.specs.World.{World, world}
+use Rattle.residency.specs.World.{world}
 use Rattle.tree_merge.specs.declared.released.Released.{Released}
 use Rattle.page_release.specs.Following.{CanFollow, followed}
 use Rattle.page_release.specs.Steps.{IsUnpinned}
