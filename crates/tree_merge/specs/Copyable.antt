@@ -3,12 +3,18 @@ use Rattle.std.specs.Prelude.{◌≡◌, ℕ, ◌+◌, ◌-◌, ◌<◌, ◌≤�
 use Rattle.vm_ids.specs.declared.command.Span.{Span}
 use Rattle.vm_ids.specs.declared.numbers.NodeId.{NodeId}
 use Rattle.vm_ids.specs.Forest.Laws.Commands.{CanCopy}
-use Rattle.local_cache.specs.Arena.{Arena, cell, node_at}
+use Rattle.local_cache.specs.Arena.{Arena, Cell, cell, no_links, node_at}
 use Rattle.local_cache.specs.Many.{AreAlike}
 use Rattle.local_cache.specs.ManyNodes.{next_node}
 use Rattle.local_cache.specs.Reading.{forest_of}
 use Rattle.local_cache.specs.Sound.{IsSound}
-use Rattle.tree_merge.specs.Copying.{AreApart, AreEmpty, IsLone, pairs_left}
+use Rattle.tree_merge.specs.Copying.{AreApart, AreEmpty, IsEmpty, IsLone, pairs_left}
+
+-- a node is linked to no other, and has no own page but zeros
+pub record IsBlank (c : Cell) : Type 0 where
+  pub links : c.links ≡ no_links
+  pub tree : c.tree ≡ []
+  pub empty : IsEmpty c.own
 
 -- So many nodes, from d on, have neither parents nor children, and no own pages but zeros.
 pub record AreLone (a : Arena) (d : NodeId) (count : ℕ) : Type 0 where
