@@ -9,9 +9,9 @@ use Rattle.std.proofs.lemmas.Bool.Decides.{nat_tests}
 use Rattle.std.proofs.lemmas.List.FromFn.{get_or-range_with_len, length-range_with_len}
 use Rattle.std.proofs.lemmas.List.Folds.{list_any_at, list_any_none}
 use Rattle.std.proofs.lemmas.Option.{slice_get-get_or}
-use Rattle.vm_ids.specs.Counting.{MapperCounts}
+use Rattle.vm_ids.specs.Counting.{MapperCounts, no_counts}
 use Rattle.vm_ids.specs.Denying.{denies}
-use Rattle.vm_ids.specs.Held.{Held, Segments, segments_in}
+use Rattle.vm_ids.specs.Held.{Held, Segments, segments_in, segments_of}
 use Rattle.vm_ids.specs.declared.command.Command.{Command}
 use Rattle.vm_ids.specs.declared.refusal.Refusal.TheVariants as refusals
 use Rattle.vm_ids.specs.declared.numbers.PageNo.{PageNo}
@@ -21,12 +21,15 @@ use Rattle.vm_model.specs.Machine.{Machine, Cache, cache_of, pages_in, segment_o
 use Rattle.vm_model.specs.PageForest.{plain_forest}
 use Rattle.vm_model.specs.Allowed.{AwaitsAccess, AllowedOutcome, is_denied}
 use Rattle.vm_model.specs.Answering.{Answer, Answered, answer_of, is_denied_page}
-use Rattle.vm_model.specs.Outcome.{IsNamed, IsNotRefused, MayFault, NotRefusedButFor, Outcome}
+use Rattle.vm_model.specs.Asking.{ReachesMapper}
+use Rattle.vm_model.specs.Outcome.{HasWholePages, IsNamed, IsNotRefused, MayFault, NotRefusedButFor, Outcome}
+use Rattle.vm_model.specs.Run.{CallIs}
+use Rattle.vm_model.specs.Synchronised.{IsSynchronised}
 use Rattle.vm_model.proofs.Parts.Naming.{segment_cache}
-use Rattle.gmi_calls.specs.Backing.{IsReady}
-use Rattle.gmi_calls.specs.Reaching.{HasPages}
+use Rattle.gmi_calls.specs.Backing.{IsReady, eager_state}
+use Rattle.gmi_calls.specs.Reaching.{HasPages, Reached}
 use Rattle.gmi_calls.proofs.Asking.{denied_is, granted_is}
-use Rattle.gmi_calls.proofs.Called.{OutcomeFor, any_rises, no_segments}
+use Rattle.gmi_calls.proofs.Called.{OutcomeFor, any_rises, call_reached, no_segments, ready_after}
 
 -- the pages of a cache that a segment names are the segment's
 pub asked_pages : (m : Machine) (n seg first pages : ℕ) (told : Option Held) → segment_of m n ≡ Some seg → first + pages ≤ pages_in (cache_of m n) → IsReady m told → IfSome told (HasPages seg first pages)
@@ -120,11 +123,11 @@ range_denied m n first pages None may f some named answer =
 -- What a command that awaits write access answers ------------------------------------------
 
 -- the page may be written
-pub granted_for : (told : Option Held) (m next : Machine) (c : Command) (a : Answer) (rises : MapperCounts) → AllowedOutcome m c a next → is_denied m (segments_for told) c ≡ false → OutcomeFor told m c a next rises
+granted_for : (told : Option Held) (m next : Machine) (c : Command) (a : Answer) (rises : MapperCounts) → AllowedOutcome m c a next → is_denied m (segments_for told) c ≡ false → OutcomeFor told m c a next rises
 granted_for told m next c a rises f allowed = by_segments told m next c a rises (any_rises m next c (segments_for told) a rises (f (segments_for told) allowed))
 
 -- it is denied
-pub denied_for : (told : Option Held) (m : Machine) (c : Command) (rises : MapperCounts) → AwaitsAccess m c → (s : Segments) → IfSome told (λ h. s ≡ segments_in h) → is_denied m s c ≡ true → OutcomeFor told m c (Err (troubles.Refused refusals.WriteDenied)) m rises
+denied_for : (told : Option Held) (m : Machine) (c : Command) (rises : MapperCounts) → AwaitsAccess m c → (s : Segments) → IfSome told (λ h. s ≡ segments_in h) → is_denied m s c ≡ true → OutcomeFor told m c (Err (troubles.Refused refusals.WriteDenied)) m rises
 denied_for None m c rises A s same denied = (s, A.denied s denied)
 denied_for (Some h) m c rises A s same denied = subst (λ (x : Segments). Outcome m None c x (Err (troubles.Refused refusals.WriteDenied)) m rises) same (A.denied s denied)
 
@@ -133,10 +136,31 @@ hidden p (Ok r) h = tt
 hidden p (Err e) h = absurd h
 
 -- the mapper fails
-pub failed_for : (told : Option Held) (m : Machine) (c : Command) (p : PageNo) (rises : MapperCounts) → AwaitsAccess m c → 0 < rises.faults → MayFault m None c (segments_for told) (faults.Access p) rises
+failed_for : (told : Option Held) (m : Machine) (c : Command) (p : PageNo) (rises : MapperCounts) → AwaitsAccess m c → 0 < rises.faults → MayFault m None c (segments_for told) (faults.Access p) rises
     → OutcomeFor told m c (Err (troubles.Mapper (faults.Access p))) m rises
 failed_for told m c p rises A failed may = by_segments told m m c (Err (troubles.Mapper (faults.Access p))) rises (refl, failed, may, go (is_denied m (segments_for told) c) refl)
   where
     go : (b : Bool) → is_denied m (segments_for told) c ≡ b → NotRefusedButFor (faults.Access p) (answer_of m (plain_forest m) c (segments_for told)).answer
     go true e = subst (λ (x : Answered). NotRefusedButFor (faults.Access p) x.answer) (sym (A.denied (segments_for told) e)) tt
     go false e = hidden p (answer_of m (plain_forest m) c (segments_for told)).answer (A.allowed (segments_for told) e)
+
+-- The call of such a command, after the mapper was asked and held what it held before.
+module _ {T E : Type 0} (told after : Option Held) (counts now : MapperCounts) (m : Machine) (c : Command) (r : Result T E) (same : after ≡ told) (R : Reached counts now r) (ready : IsReady m told) (reaches : ReachesMapper c R.rises) where
+  -- the page may be written
+  module _ (next : Machine) (a : Answer) (whole : HasWholePages next) (f : AllowedOutcome m c a next) (allowed : is_denied m (segments_for told) c ≡ false) where
+    pub granted_ready : IsReady next after
+    granted_ready = subst (IsReady next) (sym same) (ready_after told m next c a no_counts ready whole (granted_for told m next c a no_counts f allowed))
+
+    pub granted_call : IsSynchronised m (segments_of after) c a → CallIs counts now (eager_state told m) c a (eager_state after next)
+    granted_call = call_reached told after counts now m next c a r same R ready.whole whole reaches (granted_for told m next c a R.rises f allowed)
+
+  module _ (A : AwaitsAccess m c) where
+    -- it is denied
+    pub denied_call : (s : Segments) × (IfSome told (λ h. s ≡ segments_in h)) × (is_denied m s c ≡ true) → IsSynchronised m (segments_of after) c (Err (troubles.Refused refusals.WriteDenied))
+        → CallIs counts now (eager_state told m) c (Err (troubles.Refused refusals.WriteDenied)) (eager_state after m)
+    denied_call D = call_reached told after counts now m m c (Err (troubles.Refused refusals.WriteDenied)) r same R ready.whole ready.whole reaches (denied_for told m c R.rises A D.0 D.1 D.2)
+
+    -- the mapper fails
+    pub failed_call : (p : PageNo) → 0 < R.rises.faults → MayFault m None c (segments_for told) (faults.Access p) R.rises → IsSynchronised m (segments_of after) c (Err (troubles.Mapper (faults.Access p)))
+        → CallIs counts now (eager_state told m) c (Err (troubles.Mapper (faults.Access p))) (eager_state after m)
+    failed_call p failed may = call_reached told after counts now m m c (Err (troubles.Mapper (faults.Access p))) r same R ready.whole ready.whole reaches (failed_for told m c p R.rises A failed may)
