@@ -8,3 +8,4 @@ pub mod Sound
 pub mod Gone
 pub mod Told
 pub mod Replaced
+pub mod Changing

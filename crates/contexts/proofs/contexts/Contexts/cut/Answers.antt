@@ -1,38 +1,33 @@
 use Rattle.std.proofs.Common.{◌≡◌, ℕ, ◌+◌, ◌<◌, [], ◌∷◌, ◌++◌, List, Option, Some, length, refl, sym, ap, subst, ◌∙◌, arith}
-use Rattle.std.specs.Prelude.{IsSome, IsSomeAnd}
+use Rattle.std.specs.Prelude.{IsSomeAnd}
 use Rattle.std.specs.List.{All}
 use Rattle.std.proofs.lemmas.List.{length-append, with_items_is}
 use Rattle.std.proofs.lemmas.List.Elements.{All-cons, All-nil}
 use Rattle.vm_ids.specs.declared.numbers.ActorId.{ActorId}
 use Rattle.vm_ids.specs.declared.reply.RegionStatus.{RegionStatus}
 use Rattle.vm_model.specs.Machine.{Actor, Region, numbered}
-use Rattle.vm_model.specs.Regions.{back_of, region_among, replace_in, replace_region, split_at, status_with}
+use Rattle.vm_model.specs.Regions.{back_of, region_among, replace_in, replace_region, split_at}
 use Rattle.vm_model.specs.declared.limits.TheConstants.{MOST_MADE}
 use Rattle.regions.specs.AddressSpace.{AddressSpace}
 use Rattle.contexts.specs.Actors.{Actors, with_split}
 use Rattle.contexts.specs.Layout.{IsChanged, regions_in}
+use Rattle.contexts.proofs.Changing.{inside_alive, told_inside}
 use Rattle.contexts.proofs.Kept.{changed_same, err_all}
 use Rattle.contexts.proofs.Once.{times_split}
 use Rattle.contexts.proofs.Replaced.{all_replaced}
 use Rattle.contexts.proofs.Sound.{sound_more, sound_same, sound_still}
-use Rattle.contexts.proofs.Told.{is_told, told_alive, told_among, told_becomes, told_page, IsTold}
+use Rattle.contexts.proofs.Told.{told_among, told_becomes, told_page}
 use Rattle.contexts.proofs.contexts.Contexts.cut.Goals as goal
 
 pub split_region-requires-clause-alive : goal.split_region-requires-clause-alive
-split_region-requires-clause-alive c =
-    let n = c.args.region.0 in
-    let s : RegionStatus = c.args.status in
-    let xs = c.self.inside.actors.items in
-    let is : status_with n 1 (regions_in xs) ≡ Some s = subst (λ (a : Actors). status_with n 1 a.actors ≡ Some s) (sym c.self.view_is) c.requires.told in
-    subst (λ (ys : List (Option AddressSpace)). IsSome (numbered ys s.actor.0)) (sym c.deref_mut.ensures.value) (told_alive n xs s (is_told n 1 (regions_in xs) s is))
+split_region-requires-clause-alive c = inside_alive c.self.inside c.args.self.now c.self.view_is c.args.region.0 c.args.status c.requires.told _ c.deref_mut.ensures.value
 
 pub split_region-requires-clause-fewer : goal.split_region-requires-clause-fewer
 split_region-requires-clause-fewer c =
     let n = c.args.region.0 in
     let s : RegionStatus = c.args.status in
     let xs = c.self.inside.actors.items in
-    let is : status_with n 1 (regions_in xs) ≡ Some s = subst (λ (a : Actors). status_with n 1 a.actors ≡ Some s) (sym c.self.view_is) c.requires.told in
-    let t : IsTold n 1 (regions_in xs) s = is_told n 1 (regions_in xs) s is in
+    let t = told_inside c.self.inside c.args.self.now c.self.view_is n s c.requires.told in
     let fewer : c.args.pages < t.region.pages = subst (λ (u : RegionStatus). c.args.pages < u.mapping.extent.pages) t.told c.requires.fewer in
     subst (λ (ys : List (Option AddressSpace)). (u : AddressSpace) → numbered ys s.actor.0 ≡ Some u → IsSomeAnd (region_among n u.regions) (λ r. c.args.pages < r.pages)) (sym c.deref_mut.ensures.value)
     (λ u here. subst (λ (o : Option Region). IsSomeAnd o (λ r. c.args.pages < r.pages)) (sym (told_among n xs s t u here)) fewer)
@@ -71,8 +66,7 @@ invariant_of-self-2 c =
     let fresh : ℕ = c.next_region-fresh.result.0 in
     let cut : ℕ → Region → List Region = λ page. split_at page c.args.pages fresh in
     let by : ℕ → Actor → Actor = λ page. replace_region n (cut page) in
-    let is : status_with n 1 (regions_in xs) ≡ Some s = subst (λ (a : Actors). status_with n 1 a.actors ≡ Some s) (sym c.self.view_is) c.requires.told in
-    let t : IsTold n 1 (regions_in xs) s = is_told n 1 (regions_in xs) s is in
+    let t = told_inside c.self.inside c.args.self.now c.self.view_is n s c.requires.told in
     let items = with_items_is i.actors ys (omega (arith, c.split_region.auto.spaces, c.deref_mut.ensures.len)) in
     let change = subst (λ (zs : List (Option AddressSpace)). (u : AddressSpace) → numbered zs s.actor.0 ≡ Some u → IsChanged s.actor.0 (by u.page_bytes) zs ys) c.deref_mut.ensures.value c.in_ok-split_region.ensures.ok in
     let e : IsChanged s.actor.0 (by i.page) xs (Rattle.std.specs.Vec.with_items i.actors ys).items =
@@ -98,8 +92,7 @@ returns-clause-ok c =
     let ys = c.split_region.new.spaces in
     let fresh : ℕ = c.next_region-fresh.result.0 in
     let by : ℕ → Actor → Actor = λ page. replace_region n (split_at page c.args.pages fresh) in
-    let is : status_with n 1 (regions_in xs) ≡ Some s = subst (λ (a : Actors). status_with n 1 a.actors ≡ Some s) (sym c.self.view_is) c.requires.told in
-    let t : IsTold n 1 (regions_in xs) s = is_told n 1 (regions_in xs) s is in
+    let t = told_inside c.self.inside c.args.self.now c.self.view_is n s c.requires.told in
     let items = with_items_is i.actors ys (omega (arith, c.split_region.auto.spaces, c.deref_mut.ensures.len)) in
     let change = subst (λ (zs : List (Option AddressSpace)). (u : AddressSpace) → numbered zs s.actor.0 ≡ Some u → IsChanged s.actor.0 (by u.page_bytes) zs ys) c.deref_mut.ensures.value c.in_ok-split_region.ensures.ok in
     let e : IsChanged s.actor.0 (by i.page) xs ys = told_page n xs s t i.page i.owners.items by ys c.self.invariant.kept change in
