@@ -1,3 +1,4 @@
 -- What the mapper holds after a push.
 pub mod Outside
+pub mod PushedPages
 pub mod Told

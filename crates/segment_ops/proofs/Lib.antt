@@ -4,6 +4,7 @@ pub mod Granting
 pub mod Pushed
 pub mod PushedPage
 pub mod Saves
+pub mod StillRange
 pub mod SyncedPages
 pub mod Tried
 pub mod Unsaved

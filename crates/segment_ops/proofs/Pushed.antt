@@ -1,10 +1,10 @@
 -- What a node reads is pushed to its home, and its own page is clean then.
-use Rattle.std.proofs.Common.{◌≡◌, ◌≢◌, ℕ, ◌+◌, Bool, true, false, List, [], ◌∷◌, Option, Some, None, is_some, unwrap_or, refl, sym, ap, ◌∙◌, arith, inl, inr}
+use Rattle.std.proofs.Common.{◌≡◌, ◌≢◌, ℕ, ◌+◌, Bool, true, false, List, Option, Some, None, is_some, refl, sym, ap, ◌∙◌, arith, inl, inr}
 use Rattle.std.specs.List.{count_by}
-use Rattle.std.specs.Option.{IfSome, IsSome, option_map_or}
+use Rattle.std.specs.Option.{IfSome, IsSome}
 use Rattle.std.specs.Prelude.{option_map, option_and_then}
 use Rattle.vm_ids.specs.Counting.{MapperCounts, RoseBy}
-use Rattle.vm_ids.specs.Held.{Held, put_segment_page, segments_in, segments_of, slot_of}
+use Rattle.vm_ids.specs.Held.{Held, slot_of}
 use Rattle.vm_ids.specs.declared.numbers.NodeId.{NodeId}
 use Rattle.vm_ids.proofs.Places.{bit, bit_false}
 use Rattle.local_cache.specs.declared.home.Home.{Home}
@@ -19,7 +19,8 @@ use Rattle.residency.specs.World.{IsStoreRight, Still, World, brought_in, frame_
 use Rattle.residency.proofs.Worlds.Homes.{resident_not_in_slot, resident_not_slot}
 use Rattle.residency.proofs.Worlds.Nodes.{own_granted, same, with_own_same}
 use Rattle.residency.proofs.Pushes.Outside.{home_told, homes_elsewhere, none_denied, put_at, same_denied, same_told, there_homes}
-use Rattle.segment_ops.specs.Pushing.{TellsValues, put_value, value_at, value_bytes}
+use Rattle.residency.proofs.Pushes.PushedPages.{tells_one}
+use Rattle.segment_ops.specs.Pushing.{TellsValues, value_at}
 
 none_then : {X : Type 0} (told : Option Held) → option_and_then {T = Held} {U = X} (λ _. None) told ≡ None
 none_then None = refl
@@ -93,18 +94,7 @@ module _ (w : World) (n : NodeId) (home : Home) (bytes : List ℕ) (right : IsSt
 
   -- which is a push of what the node reads
   pub pushed_told : value_at w n ≡ Some (option_map (λ _. bytes) w.told) → (c d : MapperCounts) → RoseBy 1 c.pushes d.pushes → TellsValues w (record w { told = option_map (put_at home bytes) w.told }) c d
-  pushed_told value c d rose = record {
-    pushed = n ∷ [];
-    may = (record { home = home; is = at; allowed = right.granted.allowed n home at (right.granted.granted n (ap is_some at) unclean) }, tt);
-    segments = by_told w.told value;
-    counted = λ below. omega (arith, rose below);
-  }
-    where
-      by_told : (told : Option Held) → value_at w n ≡ Some (option_map (λ _. bytes) told) → segments_of (option_map (put_at home bytes) told) ≡ option_map (put_value w n) (segments_of told)
-      by_told None page = refl
-      by_told (Some g) page = sym (
-          ap (λ (o : Option Home). Some (option_map_or (λ (home : Home). put_segment_page home.segment.0 home.page.0 (value_bytes w n) (segments_in g)) o (segments_in g))) at
-          ∙ ap (λ (o : Option (Option (List ℕ))). Some (put_segment_page home.segment.0 home.page.0 (unwrap_or (unwrap_or o None) []) (segments_in g))) page)
+  pushed_told value c d rose = tells_one w then c d n home bytes (record { home = home; is = at; allowed = right.granted.allowed n home at (right.granted.granted n (ap is_some at) unclean) }) at value refl rose
 
 -- A page in a frame that its segment holds is called clean -----------------------------------------
 

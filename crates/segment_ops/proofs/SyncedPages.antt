@@ -27,7 +27,8 @@ use Rattle.residency.proofs.Pushes.Outside.{home_elsewhere, home_here}
 use Rattle.residency.proofs.Forests.StillForest.{still_caches_sound, still_like}
 use Rattle.fault_path.specs.Costs.{TrafficAtMost}
 use Rattle.fault_path.proofs.Calls.Kept.{still_shaped}
-use Rattle.segment_ops.specs.Pushing.{TellsValues, put_value, segments_with, value_bytes}
+use Rattle.residency.specs.Pushing.{put_home, put_homes, told_bytes}
+use Rattle.segment_ops.specs.Pushing.{TellsValues, value_at}
 use Rattle.segment_ops.specs.Synced.{AreSynced, CleanStays, IsSynced, is_settled, unclean, unclean_at, unclean_count}
 use Rattle.segment_ops.proofs.Granting.{range_home}
 use Rattle.segment_ops.proofs.PushedPage.{still_reads}
@@ -53,37 +54,37 @@ home_cases a b = elim (cases_eq a.segment.0 b.segment.0) [
 
 -- the page at the home of node n is what n reads, and stays so
 module _ (w : World) (right : IsStoreRight w) (n : NodeId) (home : Home) (at : home_of w.caches n ≡ Some home) where
-  one_stays : (k : NodeId) (s : Segments) → page_in s home ≡ Some (value_bytes w n) → page_in (put_value w k s) home ≡ Some (value_bytes w n)
+  one_stays : (k : NodeId) (s : Segments) → page_in s home ≡ Some (told_bytes (value_at w n)) → page_in (put_home w.caches (value_at w) k s) home ≡ Some (told_bytes (value_at w n))
   one_stays k s e = go (home_of w.caches k) refl
     where
-      go : (o : Option Home) → home_of w.caches k ≡ o → page_in (option_map_or (λ (h : Home). put_segment_page h.segment.0 h.page.0 (value_bytes w k) s) o s) home ≡ Some (value_bytes w n)
+      go : (o : Option Home) → home_of w.caches k ≡ o → page_in (option_map_or (λ (h : Home). put_segment_page h.segment.0 h.page.0 (told_bytes (value_at w k)) s) o s) home ≡ Some (told_bytes (value_at w n))
       go None q = e
       go (Some other) q = elim (home_cases home other) [
         | inl same ↦ (
             let is : k ≡ n = right.tied.backed.apart k n home (q ∙ ap Some (sym same)) at in
-            ap (page_in (put_segment_page other.segment.0 other.page.0 (value_bytes w k) s)) same
-            ∙ home_here (held_as s) other (value_bytes w k) (ap is_some (ap (page_in s) (sym same) ∙ e)) ∙ ap (λ m. Some (value_bytes w m)) is)
-        | inr d ↦ home_elsewhere (held_as s) other home (value_bytes w k) d ∙ e
+            ap (page_in (put_segment_page other.segment.0 other.page.0 (told_bytes (value_at w k)) s)) same
+            ∙ home_here (held_as s) other (told_bytes (value_at w k)) (ap is_some (ap (page_in s) (sym same) ∙ e)) ∙ ap (λ m. Some (told_bytes (value_at w m))) is)
+        | inr d ↦ home_elsewhere (held_as s) other home (told_bytes (value_at w k)) d ∙ e
       ]
 
-  all_stay : (ns : List NodeId) (s : Segments) → page_in s home ≡ Some (value_bytes w n) → (t : Segments) → segments_with w ns (Some s) ≡ Some t → page_in t home ≡ Some (value_bytes w n)
+  all_stay : (ns : List NodeId) (s : Segments) → page_in s home ≡ Some (told_bytes (value_at w n)) → (t : Segments) → put_homes w.caches (value_at w) ns (Some s) ≡ Some t → page_in t home ≡ Some (told_bytes (value_at w n))
   all_stay [] s e t q = let same : s ≡ t = cc q in ap (λ u. page_in u home) (sym same) ∙ e
-  all_stay (k ∷ ns) s e t q = all_stay ns (put_value w k s) (one_stays k s e) t q
+  all_stay (k ∷ ns) s e t q = all_stay ns (put_home w.caches (value_at w) k s) (one_stays k s e) t q
 
-  none_told : (ns : List NodeId) → segments_with w ns None ≡ None
+  none_told : (ns : List NodeId) → put_homes w.caches (value_at w) ns None ≡ None
   none_told [] = refl
   none_told (k ∷ ns) = none_told ns
 
   -- by what is told before and after
-  told_stays : (ns : List NodeId) (told now : Option Held) → segments_of now ≡ segments_with w ns (segments_of told) → IfSome told (λ h. page_at h home ≡ Some (value_bytes w n))
+  told_stays : (ns : List NodeId) (told now : Option Held) → segments_of now ≡ put_homes w.caches (value_at w) ns (segments_of told) → IfSome told (λ h. page_at h home ≡ Some (told_bytes (value_at w n)))
       → option_and_then (λ h. page_at h home) now ≡ option_and_then (λ h. page_at h home) told
   told_stays ns None None e is = refl
   told_stays ns None (Some g) e is = absurd (let none = none_told ns in cc (e, none))
   told_stays ns (Some h) None e is = absurd (some_told ns (segments_in h) (sym e))
     where
-      some_told : (ns : List NodeId) (s : Segments) → segments_with w ns (Some s) ≡ None → ⊥
+      some_told : (ns : List NodeId) (s : Segments) → put_homes w.caches (value_at w) ns (Some s) ≡ None → ⊥
       some_told [] s q = cc q
-      some_told (k ∷ ns) s q = some_told ns (put_value w k s) q
+      some_told (k ∷ ns) s q = some_told ns (put_home w.caches (value_at w) k s) q
   told_stays ns (Some h) (Some g) e is = all_stay ns (segments_in h) is (segments_in g) (sym e) ∙ sym is
 
 clean_there : (x : OwnState) → is_clean x ≡ true → is_absent x ≡ false
@@ -125,7 +126,7 @@ module _ (w v : World) (right : IsStoreRight w) (still : Still w v) (sound : IsS
   inherited n home at synced =
       let here : home_page w n ≡ option_and_then (λ h. page_at h home) w.told = ap (λ (o : Option Home). option_and_then (λ h. option_and_then (page_at h) o) w.told) at in
       let now : home_page v n ≡ option_and_then (λ h. page_at h home) v.told = ap (λ (o : Option Home). option_and_then (λ h. option_and_then (page_at h) o) v.told) (homes n ∙ at) in
-      let bytes : value_bytes w n ≡ unwrap_or (home_page w n) [] = ap (λ o. unwrap_or (unwrap_or o None) []) synced.page in
+      let bytes : told_bytes (value_at w n) ≡ unwrap_or (home_page w n) [] = ap told_bytes synced.page in
       now ∙ told_stays w right n home at told.pushed w.told v.told told.segments
       (subst (λ b. IfSome w.told (λ h. page_at h home ≡ Some b)) (sym bytes) (reads w.told home (home_page w n) (right.tied.backed.lies n home at) here)) ∙ sym here
 

@@ -17,7 +17,8 @@ use Rattle.residency.proofs.Moves.Brought.{given_page, place_other}
 use Rattle.residency.proofs.Worlds.Composed.{still_then}
 use Rattle.residency.proofs.Worlds.Homes.{IsHome, home, page_here}
 use Rattle.residency.proofs.Worlds.Nodes.{same}
-use Rattle.residency.proofs.Pushes.Told.{tells_as, tells_none, tells_then}
+use Rattle.residency.proofs.Pushes.PushedPages.{tells_as, tells_none}
+use Rattle.residency.proofs.Pushes.Told.{tells_then}
 use Rattle.fault_path.specs.Gathering.{HasPageOf, IsGathered, NoneGathered}
 
 pub set_comm : {X : Type 0} (xs : List X) (i j : ℕ) (a b : X) → i ≢ j → set (set xs i a) j b ≡ set (set xs j b) i a

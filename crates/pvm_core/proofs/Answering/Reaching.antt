@@ -1,7 +1,6 @@
 -- What calls of a mapper come to, one after the other.
 use Rattle.std.proofs.Common.{◌≡◌, ℕ, List, [], ◌∷◌, ◌++◌, Option, Some, None, refl, sym, ap, ◌∙◌, arith}
 use Rattle.std.specs.Prelude.{is_some, option_map, unwrap_or, IfSome}
-use Rattle.std.specs.List.{AllByRecursion}
 use Rattle.std.proofs.lemmas.List.{length-append}
 use Rattle.vm_ids.specs.Counting.{MapperCounts}
 use Rattle.vm_ids.specs.Denying.{denies}
@@ -9,6 +8,7 @@ use Rattle.vm_ids.specs.Held.{Held, Segments, put_segment_page, segments_of}
 use Rattle.vm_model.specs.Machine.{Machine}
 use Rattle.vm_model.specs.Pushing.{MayPush, PushRule, page_named, segments_after}
 use Rattle.residency.specs.Causes.{Later}
+use Rattle.residency.proofs.Pushes.PushedPages.{all_both, all_then}
 use Rattle.pvm_core.specs.Reaching.{Reach}
 
 pub no_later : (c : MapperCounts) → Later c c
@@ -46,17 +46,9 @@ may_before m None t same p may = tt
 may_before m (Some s) None same p may = absurd (cc same)
 may_before m (Some s) (Some t) same p may = (may.0, (let e : t.denied ≡ s.denied = cc same in ap (λ d. denies d p.0 p.1) (sym e) ∙ may.1))
 
-all_before : (m : Machine) (s t : Option Segments) → option_map (λ (s : Segments). s.denied) t ≡ option_map (λ (s : Segments). s.denied) s → (ps : List (ℕ × ℕ)) → AllByRecursion (MayPush m t) ps → AllByRecursion (MayPush m s) ps
-all_before m s t same [] all = tt
-all_before m s t same (p ∷ ps) all = (may_before m s t same p all.0, all_before m s t same ps all.1)
-
-all_append : {A : Type 0} (P : A → Type 0) (xs ys : List A) → AllByRecursion P xs → AllByRecursion P ys → AllByRecursion P (xs ++ ys)
-all_append P [] ys a b = b
-all_append P (x ∷ xs) ys a b = (a.0, all_append P xs ys a.1 b)
-
 pub push_then : (m : Machine) (s t u : Option Segments) (ps qs : List (ℕ × ℕ)) → PushRule m s ps t → PushRule m t qs u → PushRule m s (ps ++ qs) u
 push_then m s t u ps qs p q = record {
-  may = all_append (MayPush m s) ps qs p.may (all_before m s t (ap (option_map (λ (s : Segments). s.denied)) p.pushed ∙ still_denied m ps s) qs q.may);
+  may = all_both (MayPush m s) ps qs p.may (all_then (MayPush m t) (MayPush m s) qs (may_before m s t (ap (option_map (λ (s : Segments). s.denied)) p.pushed ∙ still_denied m ps s)) q.may);
   pushed = q.pushed ∙ ap (segments_after m qs) p.pushed ∙ sym (after_append m ps qs s);
 }
 

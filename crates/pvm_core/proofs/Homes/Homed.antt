@@ -1,5 +1,5 @@
 -- Pushes of own pages to their homes are those that the machine may make.
-use Rattle.std.proofs.Common.{◌≡◌, ◌≢◌, ℕ, ◌+◌, ◌<◌, Bool, true, false, List, [], ◌∷◌, length, map, Option, Some, None, is_some, refl, sym, ap, ◌∙◌, subst, arith}
+use Rattle.std.proofs.Common.{◌≡◌, ℕ, ◌<◌, true, false, List, [], ◌∷◌, length, map, suc, Option, Some, None, is_some, refl, sym, ap, ◌∙◌, subst, arith}
 use Rattle.std.specs.Prelude.{option_map, option_and_then, unwrap_or, IfSome, IsSome}
 use Rattle.std.specs.Option.{option_map_or}
 use Rattle.std.specs.List.{AllByRecursion}
@@ -24,9 +24,10 @@ use Rattle.local_cache.proofs.Forest.Reading.{IsNode-forest_of}
 use Rattle.local_cache.proofs.Names.Homes.{home_none}
 use Rattle.local_cache.proofs.Whole.Pages.{node_page}
 use Rattle.residency.specs.Pushing as homes
-use Rattle.residency.specs.Pushing.{RoseAtLeast, TellsOn, own_bytes, segments_pushed}
+use Rattle.residency.specs.Pushing.{HasOpenHome, Pages, RoseAtLeast, TellsBy, TellsOn, put_home, put_homes, told_bytes}
+use Rattle.residency.proofs.Pushes.PushedPages.{all_then}
 use Rattle.residency.specs.Causes.{Later}
-use Rattle.residency.specs.World.{IsAllowed, World, own_page, world}
+use Rattle.residency.specs.World.{own_page, world}
 use Rattle.residency.specs.declared.store.Store.{Store}
 use Rattle.vm_model.specs.Machine.{Machine}
 use Rattle.vm_model.specs.Pushing.{MayPush, PushRule, page_named, segments_after}
@@ -74,12 +75,6 @@ has_home a n home is = by_name (name_of a n) refl is
 
 -- Pushes of nodes' pages -------------------------------------------------------------------------
 
--- a node has a home to which it may be pushed
-pub record IsPushable (w : World) (n : NodeId) : Type 0 where
-  pub home : Home
-  pub is : home_of w.caches n ≡ Some home
-  pub allowed : IsAllowed w home
-
 -- the segment and the page of a home
 abbrev pub place_of : Option Home → ℕ × ℕ
 place_of o = option_map_or (λ (h : Home). (h.segment.0, h.page.0)) o (0, 0)
@@ -87,13 +82,9 @@ place_of o = option_map_or (λ (h : Home). (h.segment.0, h.page.0)) o (0, 0)
 abbrev pub places_of : Arena → List NodeId → List (ℕ × ℕ)
 places_of a ns = map (λ n. place_of (home_of a n)) ns
 
--- the segments with these bytes of a node at its home
-abbrev pub put_at_home : Arena → (NodeId → List ℕ) → NodeId → Segments → Segments
-put_at_home a bytes n s = option_map_or (λ (home : Home). put_segment_page home.segment.0 home.page.0 (bytes n) s) (home_of a n) s
-
-abbrev pub put_all : Arena → (NodeId → List ℕ) → List NodeId → Option Segments → Option Segments
-put_all a bytes [] s = s
-put_all a bytes (n ∷ ns) s = put_all a bytes ns (option_map (put_at_home a bytes n) s)
+count_places : (a : Arena) (ns : List NodeId) → length (places_of a ns) ≡ length ns
+count_places a [] = refl
+count_places a (n ∷ ns) = ap suc (count_places a ns)
 
 module _ (p : Manager) (h : Option Held) (nodes : IsWhole p.caches) (apart : AreApart p.caches) where
   -- the page of the machine at a node's home is the node's value
@@ -106,12 +97,15 @@ module _ (p : Manager) (h : Option Held) (nodes : IsWhole p.caches) (apart : Are
       page_of_segment p apart (forest_of p h) r.cache.0 r.table r.there home.segment r.of home.page.0 less
       ∙ ap (λ x. Some (shown (value_of (forest_of p h) x))) (sym r.name)
 
-  module _ (bytes : NodeId → List ℕ) where
-    -- these bytes are the node's value, where a push of it is told
+  module _ (pages : Pages) where
+    -- such a page is the node's value, where a push of it is told
     abbrev pub IsValue : NodeId → Type 0
-    IsValue n = IfSome h (λ _. bytes n ≡ shown (value_of (forest_of p h) (name_of p.caches n)))
+    IsValue n = IfSome h (λ _. told_bytes (pages n) ≡ shown (value_of (forest_of p h) (name_of p.caches n)))
 
-    may_push : (n : NodeId) → IsPushable (world_of p h) n → MayPush (machine_of p h) (segments_of h) (place_of (home_of p.caches n))
+    abbrev IsPushed : NodeId → Type 0
+    IsPushed n = HasOpenHome (world_of p h) n × IsValue n
+
+    may_push : (n : NodeId) → HasOpenHome (world_of p h) n → MayPush (machine_of p h) (segments_of h) (place_of (home_of p.caches n))
     may_push n may = subst (λ (o : Option Home). MayPush (machine_of p h) (segments_of h) (place_of o)) (sym may.is) (by_told h may.allowed)
       where
         there : IsSome (page_named (machine_of p h) may.home.segment.0 may.home.page.0)
@@ -121,91 +115,69 @@ module _ (p : Manager) (h : Option Held) (nodes : IsWhole p.caches) (apart : Are
         by_told None allowed = tt
         by_told (Some g) allowed = (there, allowed)
 
-    all_may : (ns : List NodeId) → AllByRecursion (IsPushable (world_of p h)) ns → AllByRecursion (MayPush (machine_of p h) (segments_of h)) (places_of p.caches ns)
+    all_may : (ns : List NodeId) → AllByRecursion IsPushed ns → AllByRecursion (MayPush (machine_of p h) (segments_of h)) (places_of p.caches ns)
     all_may [] all = tt
-    all_may (n ∷ ns) all = (may_push n all.0, all_may ns all.1)
+    all_may (n ∷ ns) all = (may_push n all.0.0, all_may ns all.1)
 
-    put_same : (k : Held) → h ≡ Some k → (n : NodeId) → IsPushable (world_of p h) n → IsValue n → (s : Option Segments)
-        → option_map (put_segment_page (place_of (home_of p.caches n)).0 (place_of (home_of p.caches n)).1 (unwrap_or (page_named (machine_of p h) (place_of (home_of p.caches n)).0 (place_of (home_of p.caches n)).1) [])) s ≡ option_map (put_at_home p.caches bytes n) s
-    put_same k e n may is s =
-        let value : bytes n ≡ shown (value_of (forest_of p h) (name_of p.caches n)) = subst (λ (o : Option Held). IfSome o (λ _. bytes n ≡ shown (value_of (forest_of p h) (name_of p.caches n)))) e is in
+    put_same : (k : Held) → h ≡ Some k → (n : NodeId) → IsPushed n → (s : Option Segments)
+        → option_map (put_segment_page (place_of (home_of p.caches n)).0 (place_of (home_of p.caches n)).1 (unwrap_or (page_named (machine_of p h) (place_of (home_of p.caches n)).0 (place_of (home_of p.caches n)).1) [])) s ≡ option_map (put_home p.caches pages n) s
+    put_same k e n is s =
+        let may = is.0 in
+        let value : told_bytes (pages n) ≡ shown (value_of (forest_of p h) (name_of p.caches n)) = subst (λ (o : Option Held). IfSome o (λ _. told_bytes (pages n) ≡ shown (value_of (forest_of p h) (name_of p.caches n)))) e is.1 in
         ap (λ (o : Option Home). option_map (put_segment_page (place_of o).0 (place_of o).1 (unwrap_or (page_named (machine_of p h) (place_of o).0 (place_of o).1) [])) s) may.is
         ∙ ap (λ (o : Option (List ℕ)). option_map (put_segment_page may.home.segment.0 may.home.page.0 (unwrap_or o [])) s) (page_at_home n may.home may.is)
         ∙ ap (λ (b : List ℕ). option_map (put_segment_page may.home.segment.0 may.home.page.0 b) s) (sym value)
-        ∙ ap (λ (o : Option Home). option_map (λ (s : Segments). option_map_or (λ (home : Home). put_segment_page home.segment.0 home.page.0 (bytes n) s) o s) s) (sym may.is)
+        ∙ ap (λ (o : Option Home). option_map (λ (s : Segments). option_map_or (λ (home : Home). put_segment_page home.segment.0 home.page.0 (told_bytes (pages n)) s) o s) s) (sym may.is)
 
-    all_put : (k : Held) → h ≡ Some k → (ns : List NodeId) → AllByRecursion (IsPushable (world_of p h)) ns → AllByRecursion IsValue ns → (s : Option Segments) → segments_after (machine_of p h) (places_of p.caches ns) s ≡ put_all p.caches bytes ns s
-    all_put k e [] all is s = refl
-    all_put k e (n ∷ ns) all is s = ap (segments_after (machine_of p h) (places_of p.caches ns)) (put_same k e n all.0 is.0 s) ∙ all_put k e ns all.1 is.1 (option_map (put_at_home p.caches bytes n) s)
+    all_put : (k : Held) → h ≡ Some k → (ns : List NodeId) → AllByRecursion IsPushed ns → (s : Option Segments) → segments_after (machine_of p h) (places_of p.caches ns) s ≡ put_homes p.caches pages ns s
+    all_put k e [] all s = refl
+    all_put k e (n ∷ ns) all s = ap (segments_after (machine_of p h) (places_of p.caches ns)) (put_same k e n all.0 s) ∙ all_put k e ns all.1 (option_map (put_home p.caches pages n) s)
 
-    none_put : (m : Machine) (ns : List NodeId) → segments_after m (places_of p.caches ns) None ≡ put_all p.caches bytes ns None
+    none_put : (m : Machine) (ns : List NodeId) → segments_after m (places_of p.caches ns) None ≡ put_homes p.caches pages ns None
     none_put m [] = refl
     none_put m (n ∷ ns) = none_put m ns
 
     -- the machine makes these pushes
-    pub pushes_are : (ns : List NodeId) (after : Option Segments) → AllByRecursion (IsPushable (world_of p h)) ns → AllByRecursion IsValue ns → after ≡ put_all p.caches bytes ns (segments_of h) → PushRule (machine_of p h) (segments_of h) (places_of p.caches ns) after
-    pushes_are ns after all is e = record { may = all_may ns all; pushed = e ∙ sym (go h refl) }
+    pushes_are : (ns : List NodeId) (after : Option Segments) → AllByRecursion IsPushed ns → after ≡ put_homes p.caches pages ns (segments_of h) → PushRule (machine_of p h) (segments_of h) (places_of p.caches ns) after
+    pushes_are ns after all e = record { may = all_may ns all; pushed = e ∙ sym (go h refl) }
       where
-        go : (g : Option Held) → h ≡ g → segments_after (machine_of p h) (places_of p.caches ns) (segments_of g) ≡ put_all p.caches bytes ns (segments_of g)
+        go : (g : Option Held) → h ≡ g → segments_after (machine_of p h) (places_of p.caches ns) (segments_of g) ≡ put_homes p.caches pages ns (segments_of g)
         go None q = none_put (machine_of p h) ns
-        go (Some k) q = all_put k q ns all is (segments_of (Some k))
+        go (Some k) q = all_put k q ns all (segments_of (Some k))
+
+    -- what a call pushed of these pages, where each that may be pushed is its node's value
+    pub pages_reached : (May : NodeId → Type 0) (i j : Option ℕ) (b : Arena) (s : Store) (g : Option Held) (c d : MapperCounts) → ((n : NodeId) → May n → HasOpenHome (world h i p.caches p.store) n × IsValue n)
+        → Later c d → TellsBy May pages (world h i p.caches p.store) (world g j b s) c d → Reach (machine_of p h) h g c d
+    pages_reached May i j b s g c d may later t = record {
+      later = later;
+      pushes = places_of p.caches t.pushed;
+      few = subst (λ (n : ℕ). RoseAtLeast n c.pushes d.pushes) (sym (count_places p.caches t.pushed)) t.counted;
+      rule = pushes_are t.pushed (segments_of g) (all_then May IsPushed t.pushed (λ n m. (let o = (may n m).0 in record { home = o.home; is = o.is; allowed = o.allowed }, (may n m).1)) t.may) t.segments;
+    }
+
+-- the bytes that are told are those that are shown
+pub shown_told : (o : Option (Option (List ℕ))) → told_bytes o ≡ shown o
+shown_told None = refl
+shown_told (Some None) = refl
+shown_told (Some (Some b)) = refl
 
 -- Own pages ------------------------------------------------------------------------------------------
 
 module _ (p : Manager) (h : Option Held) (nodes : IsWhole p.caches) (apart : AreApart p.caches) where
-  w : World
-  w = world_of p h
-
-  abbrev bytes : NodeId → List ℕ
-  bytes n = own_bytes (world_of p h) n
-
-  pushable : (n : NodeId) → homes.MayPush (world_of p h) n → IsPushable (world_of p h) n
-  pushable n may = record { home = may.home; is = may.is; allowed = may.allowed }
-
-  all_pushable : (ns : List NodeId) → AllByRecursion (homes.MayPush (world_of p h)) ns → AllByRecursion (IsPushable (world_of p h)) ns
-  all_pushable [] all = tt
-  all_pushable (n ∷ ns) all = (pushable n all.0, all_pushable ns all.1)
-
-  valued : (n : NodeId) → homes.MayPush (world_of p h) n → IsValue p h nodes apart (own_bytes (world_of p h)) n
+  valued : (n : NodeId) → homes.MayPush (world_of p h) n → IsValue p h nodes apart (own_page (world_of p h)) n
   valued n may =
-      let r = has_home p.caches n may.home may.is in
-      let value : value_of (forest_of p h) (name_of p.caches n) ≡ own_page (world_of p h) n = own_value p h nodes n r.held may.own_page in
-      by_told h (sym (ap shown value))
+      let r = has_home p.caches n may.at.home may.at.is in
+      by_told h (shown_told (own_page (world_of p h) n) ∙ sym (ap shown (own_value p h nodes n r.held may.own_page)))
     where
-      shown_own : (o : Option (Option (List ℕ))) → unwrap_or (unwrap_or o None) [] ≡ shown o
-      shown_own None = refl
-      shown_own (Some None) = refl
-      shown_own (Some (Some b)) = refl
-
-      by_told : (g : Option Held) → shown (own_page (world_of p h) n) ≡ shown (value_of (forest_of p h) (name_of p.caches n)) → IfSome g (λ _. own_bytes (world_of p h) n ≡ shown (value_of (forest_of p h) (name_of p.caches n)))
+      by_told : (g : Option Held) → told_bytes (own_page (world_of p h) n) ≡ shown (value_of (forest_of p h) (name_of p.caches n)) → IfSome g (λ _. told_bytes (own_page (world_of p h) n) ≡ shown (value_of (forest_of p h) (name_of p.caches n)))
       by_told None e = tt
-      by_told (Some g) e = shown_own (own_page (world_of p h) n) ∙ e
-
-  all_valued : (ns : List NodeId) → AllByRecursion (homes.MayPush (world_of p h)) ns → AllByRecursion (IsValue p h nodes apart (own_bytes (world_of p h))) ns
-  all_valued [] all = tt
-  all_valued (n ∷ ns) all = (valued n all.0, all_valued ns all.1)
-
-  put_pushed : (ns : List NodeId) (s : Option Segments) → segments_pushed (world_of p h) ns s ≡ put_all p.caches (own_bytes (world_of p h)) ns s
-  put_pushed [] s = refl
-  put_pushed (n ∷ ns) s = put_pushed ns (option_map (put_at_home p.caches (own_bytes (world_of p h)) n) s)
-
-  count : (ns : List NodeId) → length (places_of p.caches ns) ≡ length ns
-  count [] = refl
-  count (n ∷ ns) = ap Rattle.std.proofs.Common.suc (count ns)
+      by_told (Some g) e = e
 
   -- what a call pushed while pages left their frames
   pub reached : (i j : Option ℕ) (b : Arena) (s : Store) (g : Option Held) (c d : MapperCounts) → Later c d → TellsOn (world h i p.caches p.store) (world g j b s) c d → Reach (machine_of p h) h g c d
-  reached i j b s g c d later t = record {
-    later = later;
-    pushes = places_of p.caches t.pushed;
-    few = subst (λ (n : ℕ). RoseAtLeast n c.pushes d.pushes) (sym (count t.pushed)) t.counted;
-    rule = pushes_are p h nodes apart (own_bytes (world_of p h)) t.pushed (segments_of g) (all_pushable t.pushed (may t.pushed t.may)) (all_valued t.pushed (may t.pushed t.may)) (t.segments ∙ sized t.pushed (segments_of h) ∙ put_pushed t.pushed (segments_of h));
-  }
+  reached i j b s g c d later t =
+      let at : NodeId → Type 0 = homes.MayPush (world h i p.caches p.store) in
+      pages_reached p h nodes apart (own_page (world h i p.caches p.store)) at i j b s g c d (λ n may. (may.at, valued n (sized may))) later t
     where
-      may : (ns : List NodeId) → AllByRecursion (homes.MayPush (world h i p.caches p.store)) ns → AllByRecursion (homes.MayPush (world_of p h)) ns
-      may [] all = tt
-      may (n ∷ ns) all = (record { home = all.0.home; is = all.0.is; allowed = all.0.allowed; own_page = all.0.own_page }, may ns all.1)
-
-      sized : (ns : List NodeId) (s' : Option Segments) → segments_pushed (world h i p.caches p.store) ns s' ≡ segments_pushed (world_of p h) ns s'
-      sized [] s' = refl
-      sized (n ∷ ns) s' = sized ns (option_map (homes.put_home (world_of p h) n) s')
+      sized : {n : NodeId} → homes.MayPush (world h i p.caches p.store) n → homes.MayPush (world_of p h) n
+      sized may = record { at = record { home = may.at.home; is = may.at.is; allowed = may.at.allowed }; own_page = may.own_page }

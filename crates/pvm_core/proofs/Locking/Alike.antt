@@ -16,7 +16,8 @@ use Rattle.residency.specs.World.{IsStoreRight, World}
 use Rattle.fault_path.specs.Answers.{IsAnswered}
 use Rattle.fault_path.proofs.Calls.Answered.{later_then}
 use Rattle.residency.specs.Causes.{Later}
-use Rattle.segment_ops.proofs.Values.{ReadsOn, tells_values, values_none, values_then}
+use Rattle.residency.proofs.Pushes.PushedPages.{tells_none}
+use Rattle.segment_ops.proofs.Values.{ReadsOn, tells_values, values_then}
 use Rattle.pvm_core.specs.Holding.{ReadsAlike}
 
 no_later : (c : MapperCounts) → Later c c
@@ -38,7 +39,7 @@ alike_still w v c right whole same held names forest made frames page page_bytes
   page_bytes = page_bytes;
   slots = slots;
   later = no_later c;
-  told = values_none w v c c (ap segments_of told) (omega arith);
+  told = tells_none w v c c (ap segments_of told) (omega arith);
 }
 
 pub alike_itself : (w : World) (c : MapperCounts) → IsStoreRight w → IsWhole w.caches → ReadsAlike w w c c

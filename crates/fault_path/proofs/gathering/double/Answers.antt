@@ -5,7 +5,7 @@ use Rattle.fault_path.specs.Costs.{free_count}
 use Rattle.residency.specs.declared.store.Store.{Store}
 use Rattle.residency.specs.World.{World, world}
 use Rattle.fault_path.specs.Gathering.{IsGathered}
-use Rattle.residency.proofs.Pushes.Told.{tells_as}
+use Rattle.residency.proofs.Pushes.PushedPages.{tells_as}
 use Rattle.fault_path.proofs.Calls.Gathered.{done_gathers, failed_gathers}
 use Rattle.fault_path.proofs.Frames.GatheredFrames.{filled_gathered}
 use Rattle.residency.proofs.Translations.Kept.{drops_by}

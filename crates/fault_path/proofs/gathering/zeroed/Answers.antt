@@ -6,7 +6,7 @@ use Rattle.residency.specs.declared.store.Store.{Store}
 use Rattle.residency.specs.World.{World, world}
 use Rattle.residency.proofs.Worlds.Homes.{home}
 use Rattle.fault_path.specs.Gathering.{IsGathered}
-use Rattle.residency.proofs.Pushes.Told.{tells_as}
+use Rattle.residency.proofs.Pushes.PushedPages.{tells_as}
 use Rattle.fault_path.proofs.Calls.Gathered.{one_gathers}
 use Rattle.fault_path.proofs.Frames.GatheredFrames.{bound_below, filled_gathered, free_gathered}
 use Rattle.residency.proofs.Translations.Kept.{drops_by, still_drops}

@@ -16,7 +16,7 @@ use Rattle.residency.proofs.Forests.StillForest.{still_copies}
 use Rattle.local_cache.specs.declared.own_state.OwnState.{OwnState}
 use Rattle.fault_path.proofs.Calls.Costs.{bring_most, brought_traffic, copy_most, failed_most, most_more, pulls_most}
 use Rattle.fault_path.proofs.Calls.Answered.{miss_by}
-use Rattle.residency.proofs.Pushes.Told.{tells_as}
+use Rattle.residency.proofs.Pushes.PushedPages.{tells_as}
 use Rattle.residency.proofs.Translations.Kept.{drops_more, drops_trans, still_drops_but}
 use Rattle.residency.specs.Translating.{Drops}
 use Rattle.fault_path.specs.Translating.{MayCome, without_homes}

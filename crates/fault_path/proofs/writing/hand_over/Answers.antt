@@ -9,7 +9,7 @@ use Rattle.fault_path.proofs.Rules.Heirs.{has_own, heir_absent, still_heir, unbo
 use Rattle.fault_path.proofs.Rules.OneFrameForest.{hand_forest, hand_kept}
 use Rattle.fault_path.proofs.Rules.OneFrameForest.{hand_copies}
 use Rattle.fault_path.proofs.Calls.Answered.{miss_by}
-use Rattle.residency.proofs.Pushes.Told.{tells_as}
+use Rattle.residency.proofs.Pushes.PushedPages.{tells_as}
 use Rattle.global_map.specs.Pairs.{node_of}
 use Rattle.local_cache.specs.Own.{is_absent}
 use Rattle.vm_ids.specs.declared.numbers.NodeId.{NodeId}

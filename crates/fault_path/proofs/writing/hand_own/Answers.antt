@@ -24,7 +24,8 @@ use Rattle.residency.specs.Causes.{HasMissCause, frames_to_bring}
 use Rattle.fault_path.proofs.Calls.Costs.{bring_most, brought_traffic, brought_more, brought_taken, copy_most, failed_most, most_more, most_then, pulls_most, pushes_then, resident_copies, resident_takes}
 use Rattle.residency.proofs.Worlds.Composed.{still_then}
 use Rattle.fault_path.proofs.Calls.Answered.{cause_then, later_then, miss_by}
-use Rattle.residency.proofs.Pushes.Told.{tells_as, tells_then}
+use Rattle.residency.proofs.Pushes.PushedPages.{tells_as}
+use Rattle.residency.proofs.Pushes.Told.{tells_then}
 use Rattle.residency.specs.Translating.{Drops}
 use Rattle.residency.proofs.Translations.Kept.{drops_more, drops_trans, still_drops_but}
 use Rattle.fault_path.specs.Translating.{MayCome, without_homes}

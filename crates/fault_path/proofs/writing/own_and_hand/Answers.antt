@@ -14,7 +14,8 @@ use Rattle.fault_path.proofs.Frames.TwoFrames.{released_pins, released_still, st
 use Rattle.fault_path.specs.Answers.{IsAnswered, IsDoneOrMissed}
 use Rattle.residency.specs.declared.miss.Miss.TheVariants.{Victim}
 use Rattle.fault_path.proofs.Calls.Answered.{cause_then, later_then, miss_by, miss_with}
-use Rattle.residency.proofs.Pushes.Told.{tells_as, tells_then}
+use Rattle.residency.proofs.Pushes.PushedPages.{tells_as}
+use Rattle.residency.proofs.Pushes.Told.{tells_then}
 use Rattle.vm_ids.specs.declared.numbers.NodeId.{NodeId}
 use Rattle.local_cache.specs.Own.{own_of}
 use Rattle.fault_path.specs.Costs.{Pulls, frames_to_copy, free_count, pulls_to_copy}

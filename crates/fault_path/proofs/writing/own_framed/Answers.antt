@@ -5,7 +5,7 @@ use Rattle.residency.specs.World.{World, world}
 use Rattle.residency.proofs.Forests.StillForest.{still_caches_sound}
 use Rattle.fault_path.specs.Faults.{Kept, IsOwner}
 use Rattle.fault_path.proofs.Calls.Answered.{miss_by}
-use Rattle.residency.proofs.Pushes.Told.{tells_as}
+use Rattle.residency.proofs.Pushes.PushedPages.{tells_as}
 use Rattle.fault_path.proofs.Rules.OneFrameForest.{own_copies, own_forest, own_gives, own_kept}
 use Rattle.vm_ids.specs.declared.numbers.NodeId.{NodeId}
 use Rattle.vm_ids.specs.Forest.Rules as forest

@@ -1,23 +1,22 @@
-use Rattle.std.proofs.Common.{◌≡◌, ◌+◌, ℕ, Some, is_some, refl, sym, ap, ◌∙◌, arith, inl, inr}
+use Rattle.std.proofs.Common.{◌≡◌, ◌+◌, ℕ, Some, refl, sym, ap, ◌∙◌, arith, inl, inr}
 use Rattle.std.proofs.lemmas.Bool.{cases_eq}
 use Rattle.vm_ids.specs.declared.numbers.NodeId.{NodeId}
 use Rattle.vm_ids.specs.Held.{segments_of}
 use Rattle.local_cache.specs.Arena.{node_at}
 use Rattle.local_cache.specs.Own.{is_resident, own_of}
-use Rattle.local_cache.proofs.Tables.Sizes.{sizes_same}
 use Rattle.residency.specs.World.{World, world}
 use Rattle.residency.proofs.Worlds.Composed.{still, still_then}
-use Rattle.residency.proofs.Forests.StillForest.{still_caches_sound, still_like}
+use Rattle.residency.proofs.Forests.StillForest.{still_like}
 use Rattle.fault_path.proofs.Calls.Answered.{later_then}
-use Rattle.fault_path.proofs.Calls.Kept.{still_shaped}
 use Rattle.fault_path.specs.Translating.{Nobody}
+use Rattle.segment_ops.specs.Pushing.{TellsValues}
 use Rattle.segment_ops.proofs.GivenUp.{loose_stays, traffic_then}
-use Rattle.segment_ops.proofs.Granting.{range_home}
 use Rattle.residency.proofs.Translations.Kept.{drops_trans, same_drops}
 use Rattle.segment_ops.proofs.PushedPage.{others_clean}
+use Rattle.segment_ops.proofs.StillRange.{now_home, now_named, now_shaped, now_sound, now_there}
 use Rattle.segment_ops.proofs.SyncedPages.{same_node, synced_kept}
-use Rattle.segment_ops.proofs.Unsaved.{range_fits, range_node}
-use Rattle.segment_ops.proofs.Values.{values_none}
+use Rattle.segment_ops.proofs.Unsaved.{range_fits}
+use Rattle.residency.proofs.Pushes.PushedPages.{tells_none}
 use Rattle.segment_ops.proofs.pushing.give_up_pages.Goals as goal
 
 pub overflow_add-number-end : goal.overflow_add-number-end
@@ -40,28 +39,10 @@ loop-number-init g c =
     }
 
 pub node_of-node-requires : goal.node_of-node-requires
-node_of-node-requires g c =
-    let M = g.M.Mapper in
-    let old : World = world (M.held c.args.mapper.now) (M.page_bytes c.args.mapper.now) c.args.caches.now c.args.store.now in
-    let w : World = world (M.held c.loop-number.mapper) (M.page_bytes c.loop-number.mapper) c.loop-number.caches c.loop-number.store in
-    let i = c.loop-number.invariant in
-    let like = still_like old.caches w.caches i.still.stays.caches in
-    let sound = still_caches_sound old w i.still c.requires.whole.sound in
-    let shaped = still_shaped old w i.still c.requires.whole.sound c.requires.whole.consistent.shaped in
-    let named = (sizes_same old.caches w.caches like.caches).segments c.args.range.cache.0 ∙ c.requires.named.1 in
-    ap is_some (same_node old.caches w.caches like c.args.range.cache.0 c.loop-number.number) ∙ range_node c.args.caches.now c.requires.whole c.args.range c.requires.range c.loop-number.number c.loop-number-test.true
+node_of-node-requires g c = now_there c.loop-number.invariant.still c.requires.whole c.args.range c.requires.range c.loop-number.number c.loop-number-test.true
 
 pub let_go-requires-clause-home : goal.let_go-requires-clause-home
-let_go-requires-clause-home g c =
-    let M = g.M.Mapper in
-    let old : World = world (M.held c.args.mapper.now) (M.page_bytes c.args.mapper.now) c.args.caches.now c.args.store.now in
-    let w : World = world (M.held c.loop-number.mapper) (M.page_bytes c.loop-number.mapper) c.loop-number.caches c.loop-number.store in
-    let i = c.loop-number.invariant in
-    let like = still_like old.caches w.caches i.still.stays.caches in
-    let sound = still_caches_sound old w i.still c.requires.whole.sound in
-    let shaped = still_shaped old w i.still c.requires.whole.sound c.requires.whole.consistent.shaped in
-    let named = (sizes_same old.caches w.caches like.caches).segments c.args.range.cache.0 ∙ c.requires.named.1 in
-    ap is_some (range_home w.caches sound c.args.range.cache c.loop-number.number c.node_of-node.result c.requires.named.0 c.node_of-node.ensures named)
+let_go-requires-clause-home g c = now_home c.loop-number.invariant.still c.requires.whole c.args.range c.requires.named c.loop-number.number c.node_of-node.result c.node_of-node.ensures
 
 pub let_go-requires-clause-settled : goal.let_go-requires-clause-settled
 let_go-requires-clause-settled g c =
@@ -76,24 +57,19 @@ let_go-requires-clause-loose g c =
 pub loop-number-preserved : goal.loop-number-preserved
 loop-number-preserved g c =
     let M = g.M.Mapper in
-    let old : World = world (M.held c.args.mapper.now) (M.page_bytes c.args.mapper.now) c.args.caches.now c.args.store.now in
     let w : World = world (M.held c.loop-number.mapper) (M.page_bytes c.loop-number.mapper) c.loop-number.caches c.loop-number.store in
-    let i = c.loop-number.invariant in
-    let like = still_like old.caches w.caches i.still.stays.caches in
-    let sound = still_caches_sound old w i.still c.requires.whole.sound in
-    let shaped = still_shaped old w i.still c.requires.whole.sound c.requires.whole.consistent.shaped in
-    let named = (sizes_same old.caches w.caches like.caches).segments c.args.range.cache.0 ∙ c.requires.named.1 in
     let v : World = world (M.held c.let_go.new.mapper) (M.page_bytes c.let_go.new.mapper) c.let_go.new.caches c.let_go.new.store in
+    let i = c.loop-number.invariant in
     let e = c.let_go.ensures in
-    let told = values_none w v (M.counts c.loop-number.mapper) (M.counts c.let_go.new.mapper) (ap segments_of e.held) e.later.pushes in
+    let told : TellsValues w v (M.counts c.loop-number.mapper) (M.counts c.let_go.new.mapper) = tells_none w v (M.counts c.loop-number.mapper) (M.counts c.let_go.new.mapper) (ap segments_of e.held) e.later.pushes in
     let back = λ (page : ℕ). sym (same_node w.caches v.caches (still_like w.caches v.caches e.still.stays.caches) c.args.range.cache.0 page) in
     record {
-      still = still_then old w v i.still e.still;
+      still = still_then _ _ _ i.still e.still;
       held = e.held ∙ i.held;
       pinned = e.pinned ∙ i.pinned;
       later = later_then _ _ _ i.later e.later;
       traffic = traffic_then _ _ _ i.traffic e.traffic;
-      synced = synced_kept c.args.range (c.args.range.first.0 + c.args.range.pages) w v i.still.stays.right e.still sound shaped (others_clean w v i.still.stays.right e.others) _ _ told (c.requires.named.0, named) i.synced;
+      synced = synced_kept c.args.range (c.args.range.first.0 + c.args.range.pages) w v i.still.stays.right e.still (now_sound i.still c.requires.whole) (now_shaped i.still c.requires.whole) (others_clean w v i.still.stays.right e.others) _ _ told (now_named i.still c.requires.whole c.args.range c.requires.named) i.synced;
       loose = loose_stays c.args.range w v e.still e.others e.pinned i.loose;
       drops = drops_trans Nobody Nobody Nobody c.args.caches.now c.loop-number.caches c.let_go.new.caches c.args.store.now c.loop-number.store c.let_go.new.store (λ n none. none) (λ n none. none) i.drops e.drops;
       out = λ page n from below at. elim (cases_eq page c.loop-number.number) [

@@ -5,6 +5,7 @@ use Rattle.vm_ids.specs.Forest.NameMap.{len}
 use Rattle.vm_ids.specs.Forest.Nodes.{is_live}
 use Rattle.vm_ids.specs.Forest.Rules.{heir, heir_gets}
 use Rattle.vm_ids.specs.Forest.Saving.{is_unsaved, saves}
+use Rattle.local_cache.specs.Arena.{HasNode}
 use Rattle.local_cache.specs.Reading.{forest_of, name_of}
 use Rattle.local_cache.specs.Sound.{IsSound}
 use Rattle.residency.specs.StoreForest.{store_forest}
@@ -17,8 +18,10 @@ use Rattle.segment_ops.proofs.Dropped.{absent_before, saved_or_absent}
 use Rattle.residency.proofs.Translations.Kept.{drops_trans, same_drops}
 use Rattle.segment_ops.proofs.SyncedPages.{same_node}
 use Rattle.segment_ops.proofs.Unsaved.{all_done, failed_here, copies_then, few_done, measured, node_named, no_saves, nodes_by, not_idle, one_more, range_fits, range_node, still_in_range, saved_on, saved_then, unsaved_by, unsaved_owns}
-use Rattle.segment_ops.proofs.Values.{values_none}
+use Rattle.residency.proofs.Pushes.PushedPages.{tells_none}
 use Rattle.segment_ops.proofs.Wholly.{saves_read, stays_then}
+use Rattle.segment_ops.proofs.saving.save_range.Given.{Over}
+use Rattle.segment_ops.proofs.saving.save_range.Goals.{After-node_of-node, In-Some}
 use Rattle.segment_ops.proofs.saving.save_range.Goals as goal
 
 pub overflow_add-end : goal.overflow_add-end
@@ -33,7 +36,7 @@ loop-page-init g c =
         kept = still_kept old old (still old c.requires.right) c.requires.whole.sound c.requires.whole.consistent.shaped refl;
         whole = c.requires.whole;
         later = record { faults = omega arith; pulls = omega arith; pushes = omega arith };
-        told = values_none old old _ _ refl (omega arith);
+        told = tells_none old old _ _ refl (omega arith);
       };
       forest = (let none : saves 0 (extent_names c.args.range) (store_forest old) ≡ store_forest old = no_saves (extent_names c.args.range) (store_forest old) in sym none);
       saved = λ p from below. absurd (omega (arith, from, below));
@@ -52,11 +55,31 @@ node_of-node-requires g c =
     let kept = i.stays.kept in
     range_node c.loop-page.caches i.stays.whole c.args.range (still_in_range c.args.caches.now c.loop-page.caches kept.nodes c.args.range c.requires.range) c.loop-page.page c.loop-page-test.true
 
+-- the node of the page has its name
+named : (g : Over) (c : After-node_of-node g) → HasNode c.loop-page.caches c.node_of-node.result × (name_of c.loop-page.caches c.node_of-node.result ≡ page_name c.args.range.cache c.loop-page.page)
+named g c = node_named c.loop-page.caches c.loop-page.invariant.stays.whole.sound c.args.range.cache c.loop-page.page c.node_of-node.result c.node_of-node.ensures
+
+-- the page isn't saved yet
+unsaved : (g : Over) (c : In-Some g) → is_unsaved (store_forest (world (g.M.Mapper.held c.loop-page.mapper) (g.M.Mapper.page_bytes c.loop-page.mapper) c.loop-page.caches c.loop-page.store)) (page_name c.args.range.cache c.loop-page.page) ≡ true
+unsaved g c =
+    let w : World = world (g.M.Mapper.held c.loop-page.mapper) (g.M.Mapper.page_bytes c.loop-page.mapper) c.loop-page.caches c.loop-page.store in
+    unsaved_by w c.loop-page.invariant.stays.whole.sound _ ∙ ap (is_unsaved (forest_of w.caches)) (sym (named g (goal.at.In-Some g c).After-node_of-node).1) ∙ sym c.in-Some.ensures.unsaved
+
+-- so fewer pages were saved than there are nodes
+fewer : (g : Over) (c : In-Some g) → c.loop-page.done < len (forest_of c.args.caches.now).nodes
+fewer g c =
+    let M = g.M.Mapper in
+    let old : World = world (M.held c.args.mapper.now) (M.page_bytes c.args.mapper.now) c.args.caches.now c.args.store.now in
+    let w : World = world (M.held c.loop-page.mapper) (M.page_bytes c.loop-page.mapper) c.loop-page.caches c.loop-page.store in
+    let i = c.loop-page.invariant in
+    let low = few_done old w c.args.range c.loop-page.done c.loop-page.page i.forest i.first i.saved (store_shaped old c.requires.whole.sound c.requires.whole.consistent.shaped) c.loop-page-test.true (unsaved g c) in
+    omega (arith, low, nodes_by old c.requires.whole.sound)
+
 pub reader-requires-clause-node : goal.reader-requires-clause-node
-reader-requires-clause-node g c = let i = c.loop-page.invariant in (node_named c.loop-page.caches i.stays.whole.sound c.args.range.cache c.loop-page.page c.node_of-node.result c.node_of-node.ensures).0
+reader-requires-clause-node g c = (named g (goal.at.reader-requires-clause-node g c).After-node_of-node).0
 
 pub reader-requires-clause-live : goal.reader-requires-clause-live
-reader-requires-clause-live g c = let i = c.loop-page.invariant in ap is_live (node_named c.loop-page.caches i.stays.whole.sound c.args.range.cache c.loop-page.page c.node_of-node.result c.node_of-node.ensures).1
+reader-requires-clause-live g c = ap is_live (named g (goal.at.reader-requires-clause-live g c).After-node_of-node).1
 
 pub save-requires-clause-right : goal.save-requires-clause-right
 save-requires-clause-right g c =
@@ -64,13 +87,10 @@ save-requires-clause-right g c =
     record { store = i.stays.kept.right; sound = i.stays.whole.sound; shaped = i.stays.whole.consistent.shaped }
 
 pub save-requires-clause-own : goal.save-requires-clause-own
-save-requires-clause-own g c =
-    let i = c.loop-page.invariant in
-    let at = node_named c.loop-page.caches i.stays.whole.sound c.args.range.cache c.loop-page.page c.node_of-node.result c.node_of-node.ensures in
-    unsaved_owns c.loop-page.caches i.stays.whole.sound c.node_of-node.result at.0 c.in-Some.ensures.unsaved
+save-requires-clause-own g c = unsaved_owns c.loop-page.caches c.loop-page.invariant.stays.whole.sound c.node_of-node.result (named g (goal.at.save-requires-clause-own g c).After-node_of-node).0 c.in-Some.ensures.unsaved
 
 pub save-requires-clause-live : goal.save-requires-clause-live
-save-requires-clause-live g c = let i = c.loop-page.invariant in ap is_live (node_named c.loop-page.caches i.stays.whole.sound c.args.range.cache c.loop-page.page c.node_of-node.result c.node_of-node.ensures).1
+save-requires-clause-live g c = ap is_live (named g (goal.at.save-requires-clause-live g c).After-node_of-node).1
 
 pub save-requires-clause-loose : goal.save-requires-clause-loose
 save-requires-clause-loose g c = let i = c.loop-page.invariant in subst (λ (ps : List Bool). count_by (λ p. p) ps + 2 ≤ length ps) (sym i.stays.kept.pins) c.requires.loose
@@ -94,34 +114,15 @@ returns-in_default-clause-failed g c =
     let w : World = world (M.held c.loop-page.mapper) (M.page_bytes c.loop-page.mapper) c.loop-page.caches c.loop-page.store in
     let v : World = world (M.held c.save.new.mapper) (M.page_bytes c.save.new.mapper) c.save.new.caches c.save.new.store in
     let i = c.loop-page.invariant in
-    let at = node_named c.loop-page.caches i.stays.whole.sound c.args.range.cache c.loop-page.page c.node_of-node.result c.node_of-node.ensures in
-    let is : is_unsaved (store_forest w) (page_name c.args.range.cache c.loop-page.page) ≡ true = unsaved_by w i.stays.whole.sound _ ∙ ap (is_unsaved (forest_of w.caches)) (sym at.1) ∙ sym c.in-Some.ensures.unsaved in
+    let is = unsaved g (goal.at.returns-in_default-clause-failed g c).In-Some in
     failed_here old w c.args.range c.loop-page.done c.loop-page.page i.forest i.first i.saved v c.loop-page-test.true is c.in_default.ensures.missed.forest
 
 pub overflow_add-done : goal.overflow_add-done
-overflow_add-done g c =
-    let M = g.M.Mapper in
-    let old : World = world (M.held c.args.mapper.now) (M.page_bytes c.args.mapper.now) c.args.caches.now c.args.store.now in
-    let w : World = world (M.held c.loop-page.mapper) (M.page_bytes c.loop-page.mapper) c.loop-page.caches c.loop-page.store in
-    let i = c.loop-page.invariant in
-    let at = node_named c.loop-page.caches i.stays.whole.sound c.args.range.cache c.loop-page.page c.node_of-node.result c.node_of-node.ensures in
-    let is : is_unsaved (store_forest w) (page_name c.args.range.cache c.loop-page.page) ≡ true = unsaved_by w i.stays.whole.sound _ ∙ ap (is_unsaved (forest_of w.caches)) (sym at.1) ∙ sym c.in-Some.ensures.unsaved in
-    let low = few_done old w c.args.range c.loop-page.done c.loop-page.page i.forest i.first i.saved (store_shaped old c.requires.whole.sound c.requires.whole.consistent.shaped) c.loop-page-test.true is in
-    let few : c.loop-page.done < len (forest_of c.args.caches.now).nodes = omega (arith, low, nodes_by old c.requires.whole.sound) in
-    omega (arith, few, c.requires.whole.few)
+overflow_add-done g c = omega (arith, fewer g (goal.at.overflow_add-done g c).In-Some, c.requires.whole.few)
 
 pub loop-page-smaller-in-Some : goal.loop-page-smaller-in-Some
 loop-page-smaller-in-Some g c =
-    let M = g.M.Mapper in
-    let old : World = world (M.held c.args.mapper.now) (M.page_bytes c.args.mapper.now) c.args.caches.now c.args.store.now in
-    let w : World = world (M.held c.loop-page.mapper) (M.page_bytes c.loop-page.mapper) c.loop-page.caches c.loop-page.store in
-    let i = c.loop-page.invariant in
-    let at = node_named c.loop-page.caches i.stays.whole.sound c.args.range.cache c.loop-page.page c.node_of-node.result c.node_of-node.ensures in
-    let is : is_unsaved (store_forest w) (page_name c.args.range.cache c.loop-page.page) ≡ true = unsaved_by w i.stays.whole.sound _ ∙ ap (is_unsaved (forest_of w.caches)) (sym at.1) ∙ sym c.in-Some.ensures.unsaved in
-    let low = few_done old w c.args.range c.loop-page.done c.loop-page.page i.forest i.first i.saved (store_shaped old c.requires.whole.sound c.requires.whole.consistent.shaped) c.loop-page-test.true is in
-    let few : c.loop-page.done < len (forest_of c.args.caches.now).nodes = omega (arith, low, nodes_by old c.requires.whole.sound) in
-    let e = c.next_page-page.ensures in
-    measured (len (forest_of c.args.caches.now).nodes) c.loop-page.done (c.args.range.first.0 + c.args.range.pages) c.loop-page.page c.next_page-page.result few (range_fits c.args.caches.now c.requires.whole c.args.range c.requires.range)
+    measured (len (forest_of c.args.caches.now).nodes) c.loop-page.done (c.args.range.first.0 + c.args.range.pages) c.loop-page.page c.next_page-page.result (fewer g (goal.at.loop-page-smaller-in-Some g c).In-Some) (range_fits c.args.caches.now c.requires.whole c.args.range c.requires.range)
 
 pub loop-page-preserved-in-Some : goal.loop-page-preserved-in-Some
 loop-page-preserved-in-Some g c =
@@ -129,10 +130,9 @@ loop-page-preserved-in-Some g c =
     let old : World = world (M.held c.args.mapper.now) (M.page_bytes c.args.mapper.now) c.args.caches.now c.args.store.now in
     let w : World = world (M.held c.loop-page.mapper) (M.page_bytes c.loop-page.mapper) c.loop-page.caches c.loop-page.store in
     let i = c.loop-page.invariant in
-    let at = node_named c.loop-page.caches i.stays.whole.sound c.args.range.cache c.loop-page.page c.node_of-node.result c.node_of-node.ensures in
-    let is : is_unsaved (store_forest w) (page_name c.args.range.cache c.loop-page.page) ≡ true = unsaved_by w i.stays.whole.sound _ ∙ ap (is_unsaved (forest_of w.caches)) (sym at.1) ∙ sym c.in-Some.ensures.unsaved in
-    let low = few_done old w c.args.range c.loop-page.done c.loop-page.page i.forest i.first i.saved (store_shaped old c.requires.whole.sound c.requires.whole.consistent.shaped) c.loop-page-test.true is in
-    let few : c.loop-page.done < len (forest_of c.args.caches.now).nodes = omega (arith, low, nodes_by old c.requires.whole.sound) in
+    let at = named g (goal.at.loop-page-preserved-in-Some g c).After-node_of-node in
+    let is = unsaved g (goal.at.loop-page-preserved-in-Some g c).In-Some in
+    let few = fewer g (goal.at.loop-page-preserved-in-Some g c).In-Some in
     let v : World = world (M.held c.save.new.mapper) (M.page_bytes c.save.new.mapper) c.save.new.caches c.save.new.store in
     let e = c.in-Ok.ensures in
     let k = e.answered.kept in
@@ -163,7 +163,7 @@ loop-page-preserved g c =
     let old : World = world (M.held c.args.mapper.now) (M.page_bytes c.args.mapper.now) c.args.caches.now c.args.store.now in
     let w : World = world (M.held c.loop-page.mapper) (M.page_bytes c.loop-page.mapper) c.loop-page.caches c.loop-page.store in
     let i = c.loop-page.invariant in
-    let at = node_named c.loop-page.caches i.stays.whole.sound c.args.range.cache c.loop-page.page c.node_of-node.result c.node_of-node.ensures in
+    let at = named g (goal.at.loop-page-preserved g c).After-node_of-node in
     let is : is_unsaved (store_forest w) (page_name c.args.range.cache c.loop-page.page) ≡ false = unsaved_by w i.stays.whole.sound _ ∙ ap (is_unsaved (forest_of w.caches)) (sym at.1) ∙ sym c.in-None.ensures.unsaved in
     record {
       stays = i.stays;
@@ -195,7 +195,7 @@ returns-clause-saved g c =
 pub returns-in_default-clause-idle : goal.returns-in_default-clause-idle
 returns-in_default-clause-idle g c = λ none.
     let i = c.loop-page.invariant in
-    let at = node_named c.loop-page.caches i.stays.whole.sound c.args.range.cache c.loop-page.page c.node_of-node.result c.node_of-node.ensures in
+    let at = named g (goal.at.returns-in_default-clause-idle g c).After-node_of-node in
     absurd (not_idle c.args.caches.now c.loop-page.caches c.args.range c.loop-page.page i.first c.loop-page-test.true none (i.idle none).1 (sym (ap (is_unsaved (forest_of c.loop-page.caches)) at.1) ∙ sym c.in-Some.ensures.unsaved))
 
 pub returns-in_default-clause-drops : goal.returns-in_default-clause-drops

@@ -5,9 +5,11 @@ use Rattle.vm_ids.proofs.Places.{bit-le}
 use Rattle.global_map.specs.Pairs.{node_of}
 use Rattle.local_cache.specs.Own.{own_of}
 use Rattle.residency.specs.Causes.{is_dirty}
-use Rattle.residency.proofs.Pushes.Told.{tells_marks, tells_none, tells_then}
+use Rattle.residency.proofs.Pushes.PushedPages.{tells_none}
+use Rattle.residency.proofs.Pushes.Told.{tells_marks, tells_then}
 use Rattle.frame_pool.specs.Pool.{held_count, pinned_count}
-use Rattle.residency.specs.World.{World, world}
+use Rattle.residency.specs.Pushing.{MayPush}
+use Rattle.residency.specs.World.{World, own_page, world}
 use Rattle.residency.specs.declared.store.Store.{Store}
 use Rattle.residency.proofs.Worlds.Arms.{on_err}
 use Rattle.residency.proofs.Worlds.Counted.{one_fewer, pinned_held, none_left, some_left}
@@ -39,7 +41,7 @@ loop-done-init g c =
       others = others_same w;
       later = search rules;
       pulls = search rules;
-      told = tells_none w w (g.M.Mapper.counts c.args.mapper.now) (g.M.Mapper.counts c.args.mapper.now) refl (omega arith);
+      told = tells_none {May = MayPush w} {pages = own_page w} w w (g.M.Mapper.counts c.args.mapper.now) (g.M.Mapper.counts c.args.mapper.now) refl (omega arith);
       dirty = search rules;
       few = search rules;
       pushes = search rules;

@@ -1,0 +1,45 @@
+-- A range of a named cache, in a world in which every page is still.
+use Rattle.std.proofs.Common.{◌≡◌, ℕ, ◌+◌, ◌<◌, Some, is_some, sym, ap, ◌∙◌}
+use Rattle.std.specs.Option.{IsSome}
+use Rattle.vm_ids.specs.declared.command.Extent.{Extent}
+use Rattle.vm_ids.specs.declared.numbers.NodeId.{NodeId}
+use Rattle.vm_ids.specs.Forest.Shape.{IsWellShaped}
+use Rattle.local_cache.specs.Arena.{node_at}
+use Rattle.local_cache.specs.Changes.{Like}
+use Rattle.local_cache.specs.Home.{home_of}
+use Rattle.local_cache.specs.Reading.{forest_of}
+use Rattle.local_cache.specs.Sound.{IsSound}
+use Rattle.local_cache.specs.Whole.{IsWhole}
+use Rattle.local_cache.proofs.Tables.Sizes.{sizes_same}
+use Rattle.residency.specs.World.{Still, World}
+use Rattle.residency.proofs.Forests.StillForest.{still_caches_sound, still_like}
+use Rattle.fault_path.proofs.Calls.Kept.{still_shaped}
+use Rattle.segment_ops.specs.Ranges.{HasRange, IsNamed}
+use Rattle.segment_ops.proofs.Granting.{range_home}
+use Rattle.segment_ops.proofs.SyncedPages.{same_node}
+use Rattle.segment_ops.proofs.Unsaved.{range_node}
+
+module _ {old w : World} (still : Still old w) (whole : IsWhole old.caches) where
+  pub now_sound : IsSound w.caches
+  now_sound = still_caches_sound old w still whole.sound
+
+  pub now_shaped : IsWellShaped (forest_of w.caches)
+  now_shaped = still_shaped old w still whole.sound whole.consistent.shaped
+
+  module _ (range : Extent) where
+    like : Like old.caches w.caches
+    like = still_like old.caches w.caches still.stays.caches
+
+    -- a page's node was its node before
+    pub node_first : (page : ℕ) (n : NodeId) → node_at w.caches range.cache.0 page ≡ Some n → node_at old.caches range.cache.0 page ≡ Some n
+    node_first page n at = sym (same_node old.caches w.caches like range.cache.0 page) ∙ at
+
+    pub now_there : HasRange old.caches range → (page : ℕ) → page < range.first.0 + range.pages → IsSome (node_at w.caches range.cache.0 page)
+    now_there here page below = ap is_some (same_node old.caches w.caches like range.cache.0 page) ∙ range_node old.caches whole range here page below
+
+    module _ (named : IsNamed old.caches range) where
+      pub now_named : IsNamed w.caches range
+      now_named = (named.0, (sizes_same old.caches w.caches like.caches).segments range.cache.0 ∙ named.1)
+
+      pub now_home : (page : ℕ) (n : NodeId) → node_at w.caches range.cache.0 page ≡ Some n → IsSome (home_of w.caches n)
+      now_home page n at = ap is_some (range_home w.caches now_sound range.cache page n now_named.0 at now_named.1)
