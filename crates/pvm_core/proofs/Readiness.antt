@@ -4,3 +4,4 @@ pub mod Denied
 pub mod Copies
 pub mod Saved
 pub mod Readying
+pub mod Steps

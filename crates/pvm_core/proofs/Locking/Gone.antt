@@ -74,34 +74,43 @@ actor_locks a t actor rs here counted cache page =
 pub actor_placed : (sizes : ℕ → Option ℕ) (t : Actors) (actor : ℕ) (rs : model.Actor) → model.numbered t.actors actor ≡ Some rs → AreRight sizes t → All (IsPlaced sizes) rs
 actor_placed sizes t actor rs here right = all_at (ArePlaced sizes) t.actors (actor - 1) (Some rs) right.placed (at_number t.actors actor rs here)
 
-module _ (a b : Arena) (s u : Store) (k : KeepsPages a b s u) (holds : HoldsLocked b u) (t x : Actors) (live : ℕ) (sound : IsSound a s t live) (page : x.page_bytes ≡ t.page_bytes) (right : AreRight (size_of a) x)
-    (counted : (cache page : ℕ) → locks_of b cache page ≡ locks_over x.actors cache page) (low : (cache page : ℕ) → locks_of b cache page ≤ locks_of a cache page) (h : Option Held) (v : IsValid (seen a s t) h) where
+-- Locks were let go, of a region or of an actor: the pages stay, and these are the locks of the actors x.
+pub record IsGone (a b : Arena) (s u : Store) (t x : Actors) (live : ℕ) : Type 0 where
+  pub pages : KeepsPages a b s u
+  pub holds : HoldsLocked b u
+  pub sound : IsSound a s t live
+  pub page : x.page_bytes ≡ t.page_bytes
+  pub right : AreRight (size_of a) x
+  pub counted : (cache page : ℕ) → locks_of b cache page ≡ locks_over x.actors cache page
+  pub low : (cache page : ℕ) → locks_of b cache page ≤ locks_of a cache page
+
+module _ {a b : Arena} {s u : Store} {t x : Actors} {live : ℕ} (gone : IsGone a b s u t x live) (h : Option Held) (v : IsValid (seen a s t) h) where
   alike : ReadsAlike (world h None a s) (world h None b u) no_counts no_counts
-  alike = k.alike h None no_counts v.right
+  alike = gone.pages.alike h None no_counts v.right
 
   held : AreHeld b u x.actors
-  held = held_of b u x.actors counted holds (omega (arith, locked_fewer a b low, sound.locked.few, alike.frames))
+  held = held_of b u x.actors gone.counted gone.holds (omega (arith, locked_fewer a b gone.low, gone.sound.locked.few, alike.frames))
 
   pub gone_sound : IsSound b u x live
-  gone_sound = ends_sound a b s u h h None None no_counts no_counts alike t live sound x page right held
+  gone_sound = ends_sound a b s u h h None None no_counts no_counts alike t live gone.sound x gone.page gone.right held
 
   pub gone_valid : IsValid (seen b u x) h
-  gone_valid = ends_valid a b s u h h None None no_counts no_counts alike t live sound x page v
+  gone_valid = ends_valid a b s u h h None None no_counts no_counts alike t live gone.sound x gone.page v
 
   gone_forest : forest_of (seen b u x) h ≡ forest_of (seen a s t) h
-  gone_forest = k.forest h None
+  gone_forest = gone.pages.forest h None
 
   -- no node was made, and no page copied
   pub gone_numbered : numbered (seen b u x) ≡ numbered (seen a s t)
-  gone_numbered = omega (arith, alike.made, store_copies (world h None a s), store_copies (world h None b u), ap (λ f. f.copies) (k.forest h None))
+  gone_numbered = omega (arith, alike.made, store_copies (world h None a s), store_copies (world h None b u), ap (λ f. f.copies) (gone.pages.forest h None))
 
   pub gone_answer : (command : Command) → ReachesMapper command no_counts → ((m next : model.Machine) (f : PageForest) → followed f m command next ≡ f) → ((m : model.Machine) (g : Option Segments) → IsSynchronised m g command (Ok replies.Done))
       → ((f : PageForest) (g : PageForest) (c : Segments) → answer_of (machine_with (caches_shown f 1 a.caches) (length s.frames.held) t) g command c ≡ reply replies.Done (machine_with (caches_shown f 1 a.caches) (length s.frames.held) x))
       → AnswerIs (state_at (seen a s t) h) command (Ok replies.Done) [] no_counts (state_at (seen b u x) h)
   gone_answer command reaches stays synchronised row =
-      answered (seen a s t) (seen b u x) h command (Ok replies.Done) sound.nodes alike.whole gone_valid gone_forest
+      answered (seen a s t) (seen b u x) h command (Ok replies.Done) gone.sound.nodes alike.whole gone_valid gone_forest
       (stays (machine_of (seen a s t) h) (machine_of (seen b u x) h) (forest_of (seen a s t) h)) reaches (synchronised (machine_of (seen a s t) h) (segments_of h))
-      (λ f c. row f (forest_of (seen a s t) h) c ∙ ap (reply replies.Done) (sym (ends_by a b s u h h None None no_counts no_counts alike t live sound x f)))
+      (λ f c. row f (forest_of (seen a s t) h) c ∙ ap (reply replies.Done) (sym (ends_by a b s u h h None None no_counts no_counts alike t live gone.sound x f)))
 
 -- unlock changes no page
 pub unlocked_is : (region : RegionId) → IsOfActors (commands.Unlock region)

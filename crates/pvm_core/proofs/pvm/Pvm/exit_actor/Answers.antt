@@ -16,10 +16,11 @@ use Rattle.contexts.specs.Actors.{Actors}
 use Rattle.pvm_core.specs.Manager.{IsKept, IsValid, Manager, caches_shown, numbered, state_at}
 use Rattle.pvm_core.proofs.Acting.{exited, told}
 use Rattle.pvm_core.proofs.Answering.Kept.{seen}
-use Rattle.pvm_core.proofs.Locking.Gone.{actor_locks, actor_placed, ended_counts, gone_answer, gone_numbered, gone_sound, gone_valid, mapped_is, mapped_none}
+use Rattle.pvm_core.proofs.Locking.Gone.{IsGone, actor_locks, actor_placed, ended_counts, gone_answer, gone_numbered, gone_sound, gone_valid, mapped_is, mapped_none}
 use Rattle.pvm_core.proofs.RegionRows.{exit_none, exit_row, right_without_actor, without_actor}
 use Rattle.pvm_core.proofs.Translating.Commands.{ended_right}
 use Rattle.pvm_core.proofs.Translating.Tables.{tables_sound, tables_state, tables_valid, with_tables}
+use Rattle.pvm_core.proofs.pvm.Pvm.exit_actor.Goals.{After-drop_actor, After-let_all_go, In-Some}
 use Rattle.pvm_core.proofs.pvm.Pvm.exit_actor.Goals as goal
 
 pub returns-in_default-clause-answers : goal.returns-in_default-clause-answers
@@ -29,83 +30,72 @@ returns-in_default-clause-answers c = λ h v.
     (λ f g k. exit_none (caches_shown f 1 i.caches.caches) (length i.store.frames.held) i.contexts c.args.actor.0
     (mapped_none _ c.regions.result _ c.regions.ensures.regions c.in_default.is))
 
+-- the actor has these regions
+here : (c : In-Some) → actor_numbered c.self.inside.contexts.actors c.args.actor.0 ≡ Some c.in-Some.regions.now.regions
+here c = mapped_is _ c.regions.result c.in-Some.regions _ c.regions.ensures.regions c.in-Some.is
+
 pub let_all_go-requires-clause-placed : goal.let_all_go-requires-clause-placed
-let_all_go-requires-clause-placed c =
-    let i = c.self.inside in
-    actor_placed (size_of i.caches) i.contexts c.args.actor.0 c.in-Some.regions.now.regions (mapped_is _ c.regions.result c.in-Some.regions _ c.regions.ensures.regions c.in-Some.is) c.self.invariant.sound.actors
+let_all_go-requires-clause-placed c = actor_placed (size_of c.self.inside.caches) c.self.inside.contexts c.args.actor.0 c.in-Some.regions.now.regions (here (goal.at.let_all_go-requires-clause-placed c).In-Some) c.self.invariant.sound.actors
 
 pub let_all_go-requires-clause-locked : goal.let_all_go-requires-clause-locked
-let_all_go-requires-clause-locked c =
+let_all_go-requires-clause-locked c = actor_locks c.self.inside.caches c.self.inside.contexts c.args.actor.0 c.in-Some.regions.now.regions (here (goal.at.let_all_go-requires-clause-locked c).In-Some) c.self.invariant.sound.locked.counted
+
+-- their locks were let go
+gone : (c : After-let_all_go) → IsGone c.self.inside.caches c.let_all_go.new.caches c.self.inside.store c.let_all_go.new.store c.self.inside.contexts (without_actor c.args.actor.0 c.self.inside.contexts) c.self.inside.live
+gone c =
     let i = c.self.inside in
-    actor_locks i.caches i.contexts c.args.actor.0 c.in-Some.regions.now.regions (mapped_is _ c.regions.result c.in-Some.regions _ c.regions.ensures.regions c.in-Some.is) c.self.invariant.sound.locked.counted
+    let e = c.let_all_go.ensures in
+    record {
+      pages = e.pages;
+      holds = e.held;
+      sound = c.self.invariant.sound;
+      page = refl;
+      right = right_without_actor (size_of i.caches) c.args.actor.0 i.contexts c.self.invariant.sound.actors;
+      counted = ended_counts i.caches c.let_all_go.new.caches i.contexts c.args.actor.0 c.in-Some.regions.now.regions (here (goal.at.After-let_all_go c).In-Some) c.self.invariant.sound.locked.counted e.locks;
+      low = λ cache page. omega (arith, e.locks cache page);
+    }
+
+-- and its translations were dropped
+dropped : (c : After-drop_actor) → c.drop_actor.new.self ≡ map (unless (is_of_actor c.args.actor.0)) c.let_all_go.new.store.tables
+dropped c = c.drop_actor.ensures ∙ ap (map (unless (is_of_actor c.args.actor.0))) c.tables_mut.ensures.tables
 
 pub invariant_of-self : goal.invariant_of-self
 invariant_of-self c =
     let i = c.self.inside in
-    let t : Actors = i.contexts in
     let n = c.let_all_go.new in
-    let e = c.let_all_go.ensures in
-    let actor = c.args.actor.0 in
-    let here : actor_numbered t.actors actor ≡ Some c.in-Some.regions.now.regions = mapped_is _ c.regions.result c.in-Some.regions _ c.regions.ensures.regions c.in-Some.is in
-    let h = c.requires.0 in
-    let v = subst (λ (p : Manager). IsValid p h) (sym c.self.view_is) c.requires.1 in
-    let ts : List (Option Entry) = map (unless (is_of_actor actor)) n.store.tables in
-    let dropped : c.drop_actor.new.self ≡ ts = c.drop_actor.ensures ∙ ap (map (unless (is_of_actor actor))) c.tables_mut.ensures.tables in
-    subst (λ (xs : List (Option Entry)). IsKept n.caches (with_tables n.store xs) c.exit.new.self i.live) (sym dropped)
+    let v = subst (λ (p : Manager). IsValid p c.requires.0) (sym c.self.view_is) c.requires.1 in
+    let ts : List (Option Entry) = map (unless (is_of_actor c.args.actor.0)) n.store.tables in
+    subst (λ (xs : List (Option Entry)). IsKept n.caches (with_tables n.store xs) c.exit.new.self i.live) (sym (dropped (goal.at.invariant_of-self c).After-drop_actor))
     (subst (λ (x : Actors). IsKept n.caches (with_tables n.store ts) x i.live) (sym c.exit.ensures) (record {
-      sound = tables_sound n.caches n.store ts (without_actor actor t) i.live
-          (gone_sound i.caches n.caches i.store n.store e.pages e.held t (without_actor actor t) i.live c.self.invariant.sound refl (right_without_actor (size_of i.caches) actor t c.self.invariant.sound.actors)
-          (ended_counts i.caches n.caches t actor c.in-Some.regions.now.regions here c.self.invariant.sound.locked.counted e.locks) (λ cache page. omega (arith, e.locks cache page)) h v);
-      translated = ended_right n.caches n.store t (e.pages.translated t c.self.invariant.translated) actor c.in-Some.regions.now.regions here;
+      sound = tables_sound n.caches n.store ts (without_actor c.args.actor.0 i.contexts) i.live (gone_sound (gone (goal.at.invariant_of-self c).After-let_all_go) c.requires.0 v);
+      translated = ended_right n.caches n.store i.contexts (c.let_all_go.ensures.pages.translated i.contexts c.self.invariant.translated) c.args.actor.0 c.in-Some.regions.now.regions (here (goal.at.invariant_of-self c).In-Some);
     }))
 
 pub returns-clause-valid : goal.returns-clause-valid
 returns-clause-valid c = λ h valid.
-    let i = c.self.inside in
-    let t : Actors = i.contexts in
     let n = c.let_all_go.new in
-    let e = c.let_all_go.ensures in
-    let actor = c.args.actor.0 in
-    let here : actor_numbered t.actors actor ≡ Some c.in-Some.regions.now.regions = mapped_is _ c.regions.result c.in-Some.regions _ c.regions.ensures.regions c.in-Some.is in
     let v = subst (λ (p : Manager). IsValid p h) (sym c.self.view_is) valid in
-    let ts : List (Option Entry) = map (unless (is_of_actor actor)) n.store.tables in
-    let dropped : c.drop_actor.new.self ≡ ts = c.drop_actor.ensures ∙ ap (map (unless (is_of_actor actor))) c.tables_mut.ensures.tables in
-    subst (λ (xs : List (Option Entry)). IsValid (seen n.caches (with_tables n.store xs) c.exit.new.self) h) (sym dropped)
-    (tables_valid (seen n.caches n.store c.exit.new.self) ts (length-map n.store.tables (unless (is_of_actor actor))) h
-    (subst (λ (x : Actors). IsValid (seen n.caches n.store x) h) (sym c.exit.ensures)
-    (gone_valid i.caches n.caches i.store n.store e.pages e.held t (without_actor actor t) i.live c.self.invariant.sound refl (right_without_actor (size_of i.caches) actor t c.self.invariant.sound.actors)
-    (ended_counts i.caches n.caches t actor c.in-Some.regions.now.regions here c.self.invariant.sound.locked.counted e.locks) (λ cache page. omega (arith, e.locks cache page)) h v)))
+    let ts : List (Option Entry) = map (unless (is_of_actor c.args.actor.0)) n.store.tables in
+    subst (λ (xs : List (Option Entry)). IsValid (seen n.caches (with_tables n.store xs) c.exit.new.self) h) (sym (dropped (goal.at.returns-clause-valid c).After-drop_actor))
+    (tables_valid (seen n.caches n.store c.exit.new.self) ts (length-map n.store.tables (unless (is_of_actor c.args.actor.0))) h
+    (subst (λ (x : Actors). IsValid (seen n.caches n.store x) h) (sym c.exit.ensures) (gone_valid (gone (goal.at.returns-clause-valid c).After-let_all_go) h v)))
 
 pub returns-clause-answers : goal.returns-clause-answers
 returns-clause-answers c = λ h valid.
     let i = c.self.inside in
-    let t : Actors = i.contexts in
     let n = c.let_all_go.new in
-    let e = c.let_all_go.ensures in
-    let actor = c.args.actor.0 in
-    let here : actor_numbered t.actors actor ≡ Some c.in-Some.regions.now.regions = mapped_is _ c.regions.result c.in-Some.regions _ c.regions.ensures.regions c.in-Some.is in
     let v = subst (λ (p : Manager). IsValid p h) (sym c.self.view_is) valid in
-    let ts : List (Option Entry) = map (unless (is_of_actor actor)) n.store.tables in
-    let dropped : c.drop_actor.new.self ≡ ts = c.drop_actor.ensures ∙ ap (map (unless (is_of_actor actor))) c.tables_mut.ensures.tables in
+    let ts : List (Option Entry) = map (unless (is_of_actor c.args.actor.0)) n.store.tables in
     let last : Manager = seen n.caches n.store c.exit.new.self in
-    subst (λ (xs : List (Option Entry)). AnswerIs (state_at c.args.self.now h) (commands.ExitActor c.args.actor) (Ok replies.Done) [] no_counts (state_at (seen n.caches (with_tables n.store xs) c.exit.new.self) h)) (sym dropped)
-    (subst (λ (m : State). AnswerIs (state_at c.args.self.now h) (commands.ExitActor c.args.actor) (Ok replies.Done) [] no_counts m) (sym (tables_state last ts (length-map n.store.tables (unless (is_of_actor actor))) h))
+    subst (λ (xs : List (Option Entry)). AnswerIs (state_at c.args.self.now h) (commands.ExitActor c.args.actor) (Ok replies.Done) [] no_counts (state_at (seen n.caches (with_tables n.store xs) c.exit.new.self) h)) (sym (dropped (goal.at.returns-clause-answers c).After-drop_actor))
+    (subst (λ (m : State). AnswerIs (state_at c.args.self.now h) (commands.ExitActor c.args.actor) (Ok replies.Done) [] no_counts m) (sym (tables_state last ts (length-map n.store.tables (unless (is_of_actor c.args.actor.0))) h))
     (subst (λ (p : Manager). AnswerIs (state_at p h) (commands.ExitActor c.args.actor) (Ok replies.Done) [] no_counts (state_at last h)) c.self.view_is
-    (subst (λ (x : Actors). AnswerIs (state_at (seen i.caches i.store t) h) (commands.ExitActor c.args.actor) (Ok replies.Done) [] no_counts (state_at (seen n.caches n.store x) h)) (sym c.exit.ensures)
-    (gone_answer i.caches n.caches i.store n.store e.pages e.held t (without_actor actor t) i.live c.self.invariant.sound refl (right_without_actor (size_of i.caches) actor t c.self.invariant.sound.actors)
-    (ended_counts i.caches n.caches t actor c.in-Some.regions.now.regions here c.self.invariant.sound.locked.counted e.locks) (λ cache page. omega (arith, e.locks cache page)) h v
-    (commands.ExitActor c.args.actor) refl (λ m next f. refl) (λ m g. tt)
-    (λ f g k. exit_row (caches_shown f 1 i.caches.caches) (length i.store.frames.held) t actor (ap is_some here))))))
+    (subst (λ (x : Actors). AnswerIs (state_at (seen i.caches i.store i.contexts) h) (commands.ExitActor c.args.actor) (Ok replies.Done) [] no_counts (state_at (seen n.caches n.store x) h)) (sym c.exit.ensures)
+    (gone_answer (gone (goal.at.returns-clause-answers c).After-let_all_go) h v (commands.ExitActor c.args.actor) refl (λ m next f. refl) (λ m g. tt)
+    (λ f g k. exit_row (caches_shown f 1 i.caches.caches) (length i.store.frames.held) i.contexts c.args.actor.0 (ap is_some (here (goal.at.returns-clause-answers c).In-Some)))))))
 
 pub returns-clause-made : goal.returns-clause-made
 returns-clause-made c = λ h valid.
-    let i = c.self.inside in
-    let t : Actors = i.contexts in
-    let n = c.let_all_go.new in
-    let e = c.let_all_go.ensures in
-    let actor = c.args.actor.0 in
-    let here : actor_numbered t.actors actor ≡ Some c.in-Some.regions.now.regions = mapped_is _ c.regions.result c.in-Some.regions _ c.regions.ensures.regions c.in-Some.is in
     let v = subst (λ (p : Manager). IsValid p h) (sym c.self.view_is) valid in
-    let same = gone_numbered i.caches n.caches i.store n.store e.pages e.held t (without_actor actor t) i.live c.self.invariant.sound refl (right_without_actor (size_of i.caches) actor t c.self.invariant.sound.actors)
-    (ended_counts i.caches n.caches t actor c.in-Some.regions.now.regions here c.self.invariant.sound.locked.counted e.locks) (λ cache page. omega (arith, e.locks cache page)) h v in
-    subst (λ (p : Manager). numbered (seen n.caches n.store c.exit.new.self) ≤ numbered p + 0 + 8) c.self.view_is (omega (arith, same))
+    let same = gone_numbered (gone (goal.at.returns-clause-made c).After-let_all_go) h v in
+    subst (λ (p : Manager). numbered (seen c.let_all_go.new.caches c.let_all_go.new.store c.exit.new.self) ≤ numbered p + 0 + 8) c.self.view_is (omega (arith, same))

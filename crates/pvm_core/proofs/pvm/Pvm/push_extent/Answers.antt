@@ -1,5 +1,5 @@
 use Rattle.std.proofs.Common.{◌≡◌, ◌+◌, Bool, true, false, None, Some, refl, sym, ap, subst, ◌∙◌}
-use Rattle.std.specs.Prelude.{◌&&◌, OnOk, Err, IfErr, Result, option_map}
+use Rattle.std.specs.Prelude.{◌&&◌, OnOk, Err, Result, option_map}
 use Rattle.vm_ids.specs.declared.command.Command.TheVariants as commands
 use Rattle.vm_ids.specs.declared.command.Extent.{Extent}
 use Rattle.vm_ids.specs.declared.reply.Trouble.{Trouble}
@@ -18,13 +18,16 @@ use Rattle.pvm_core.specs.contracts.pvm.Pvm.{the_view}
 use Rattle.pvm_core.proofs.Answering.Answered.{called}
 use Rattle.pvm_core.proofs.Extents.Push.{all_unsized, failing, failing_ok, flush_is, stop_unsized, sync_is}
 use Rattle.pvm_core.proofs.Extents.Rows.{extent_open, extent_unlocked, flush_refused, sync_refused}
-use Rattle.pvm_core.proofs.Answering.Kept.{kept_by, kept_forest, kept_machine, kept_sound, kept_valid, seen}
-use Rattle.pvm_core.proofs.Homes.Pushed.{values_reached}
+use Rattle.pvm_core.proofs.Answering.Kept.{seen}
+use Rattle.pvm_core.proofs.Answering.Standing.{Stands}
+use Rattle.pvm_core.proofs.Readiness.Steps.{stands_pushed}
 use Rattle.pvm_core.proofs.Answering.Reaching.{reach_none}
 use Rattle.pvm_core.proofs.Holding.Counted.{any_same}
 use Rattle.pvm_core.proofs.Holding.Loose.{loose_range}
 use Rattle.pvm_core.proofs.Translating.Dropped.{dropped_right}
 use Rattle.pvm_core.proofs.Translating.Writable.{tables_writable}
+use Rattle.pvm_core.proofs.pvm.Pvm.push_extent.Given.{Over}
+use Rattle.pvm_core.proofs.pvm.Pvm.push_extent.Goals.{After-push_range}
 use Rattle.pvm_core.proofs.pvm.Pvm.push_extent.Goals as goal
 use Rattle.pvm_core.proofs.pvm.Pvm.push_extent.Goals.{in-Ok, in-Err}
 
@@ -72,14 +75,17 @@ push_range-requires-clause-loose g c = λ up.
     let i = c.self.inside in
     loose_range i.caches i.store i.contexts.actors c.self.invariant.sound.locked (g.M.Mapper.held c.args.mapper.now) (g.M.Mapper.page_bytes c.args.mapper.now) c.self.invariant.sound.nodes.sound c.args.extent (none_locked i.caches c.args.extent c.args.give_up up (sym c.extent_refusal.ensures ∙ c.in_default.is))
 
+-- what the manager stands for stays
+pushed : (g : Over) (c : After-push_range g) → Stands (seen c.self.inside.caches c.self.inside.store c.self.inside.contexts) c.push_range.new.caches c.push_range.new.store c.self.inside.contexts c.self.inside.live (g.M.Mapper.held c.args.mapper.now) (g.M.Mapper.held c.push_range.new.mapper) (g.M.Mapper.counts c.args.mapper.now) (g.M.Mapper.counts c.push_range.new.mapper)
+pushed g c =
+    let i = c.self.inside in
+    let n = c.push_range.new in
+    let e = c.push_range.ensures in
+    stands_pushed i.caches n.caches i.store n.store (g.M.Mapper.held c.args.mapper.now) (g.M.Mapper.held n.mapper) (g.M.Mapper.page_bytes c.args.mapper.now) (g.M.Mapper.page_bytes c.push_range.new.mapper) i.contexts i.live c.self.invariant.sound _ _ e.stays e.forest (subst (λ (p : Manager). IsValid p (g.M.Mapper.held c.args.mapper.now)) (sym c.self.view_is) c.requires.valid)
+
 pub invariant_of-self : goal.invariant_of-self
 invariant_of-self g c = record {
-  sound = (
-      let i = c.self.inside in
-      let n = c.push_range.new in
-      kept_sound i.caches n.caches i.store n.store (g.M.Mapper.held c.args.mapper.now) (g.M.Mapper.held n.mapper) (g.M.Mapper.page_bytes c.args.mapper.now) (g.M.Mapper.page_bytes n.mapper) c.push_range.ensures.stays.kept i.contexts i.live c.self.invariant.sound
-      (subst (λ (p : Manager). IsValid p (g.M.Mapper.held c.args.mapper.now)) (sym c.self.view_is) c.requires.valid).right.tied.placed.bound
-      );
+  sound = (pushed g (goal.at.invariant_of-self g c).After-push_range).sound;
   translated = (
       let i = c.self.inside in
       let n = c.push_range.new in
@@ -89,19 +95,7 @@ invariant_of-self g c = record {
 }
 
 pub returns-clause-valid : goal.returns-clause-valid
-returns-clause-valid g c =
-    let i = c.self.inside in
-    let n = c.push_range.new in
-    let e = c.push_range.ensures in
-    let h = g.M.Mapper.held c.args.mapper.now in
-    let k = g.M.Mapper.held n.mapper in
-    let size = g.M.Mapper.page_bytes c.args.mapper.now in
-    let now = g.M.Mapper.page_bytes n.mapper in
-    let before = g.M.Mapper.counts c.args.mapper.now in
-    let after = g.M.Mapper.counts n.mapper in
-    let p : Manager = seen i.caches i.store i.contexts in
-    let reach = values_reached p h c.self.invariant.sound.nodes c.self.invariant.sound.apart size now n.caches n.store k before after e.stays.later e.stays.told in
-    kept_valid i.caches n.caches i.store n.store h k size now e.stays.kept i.contexts e.forest before after reach (subst (λ (p : Manager). IsValid p h) (sym c.self.view_is) c.requires.valid)
+returns-clause-valid g c = (pushed g (goal.at.returns-clause-valid g c).After-push_range).valid
 
 pub returns-clause-sync : goal.returns-clause-sync
 returns-clause-sync g c = λ keep.
@@ -110,24 +104,21 @@ returns-clause-sync g c = λ keep.
     let e = c.push_range.ensures in
     let h = g.M.Mapper.held c.args.mapper.now in
     let k = g.M.Mapper.held n.mapper in
-    let size = g.M.Mapper.page_bytes c.args.mapper.now in
     let now = g.M.Mapper.page_bytes n.mapper in
     let before = g.M.Mapper.counts c.args.mapper.now in
     let after = g.M.Mapper.counts n.mapper in
     let p : Manager = seen i.caches i.store i.contexts in
     let q : Manager = seen n.caches n.store i.contexts in
     let x = extent_open i.caches c.args.extent _ (sym c.extent_refusal.ensures ∙ c.in_default.is) in
-    let reach = values_reached p h c.self.invariant.sound.nodes c.self.invariant.sound.apart size now n.caches n.store k before after e.stays.later e.stays.told in
-    let valid = kept_valid i.caches n.caches i.store n.store h k size now e.stays.kept i.contexts e.forest before after reach (subst (λ (p : Manager). IsValid p h) (sym c.self.view_is) c.requires.valid) in
-    let forest = kept_forest i.caches n.caches i.store n.store h k size now e.stays.kept i.contexts e.forest in
     let turned : failing c.push_range.result ≡ c.match-push_range.result = elim c.match-push_range.branch [
       | in-Ok w ↦ ap failing w.in-Ok.is ∙ sym w.result-is
       | in-Err w ↦ ap failing w.in-Err.is ∙ sym w.result-is
     ] in
+    let s = pushed g (goal.at.returns-clause-sync g c).After-push_range in
     subst (λ (p : Manager). CallIs before after (state_at p h) (commands.Sync c.args.extent) (done_by c.match-push_range.result) (state_at q k)) c.self.view_is
     (subst (λ (r : Result (Unit {0}) Trouble). CallIs before after (state_at p h) (commands.Sync c.args.extent) (done_by r) (state_at q k)) turned
-    (sync_is p q h k c.args.extent x c.self.invariant.sound.apart before after reach c.self.invariant.sound.nodes e.stays.whole valid e.stays.kept.nodes.caches forest
-    (kept_by i.caches n.caches i.store n.store h k size now e.stays.kept i.contexts) c.push_range.result (all_unsized k now n.caches n.store c.args.extent c.push_range.result e.synced) (stop_unsized k now n.caches n.store c.args.extent c.push_range.result e.failed) e.cause))
+    (sync_is p q h k c.args.extent x c.self.invariant.sound.apart before after s.reach c.self.invariant.sound.nodes e.stays.whole s.valid e.stays.kept.nodes.caches s.forest s.by c.push_range.result
+    (all_unsized k now n.caches n.store c.args.extent c.push_range.result e.synced) (stop_unsized k now n.caches n.store c.args.extent c.push_range.result e.failed) e.cause))
 
 pub returns-clause-flush : goal.returns-clause-flush
 returns-clause-flush g c = λ up.
@@ -136,40 +127,28 @@ returns-clause-flush g c = λ up.
     let e = c.push_range.ensures in
     let h = g.M.Mapper.held c.args.mapper.now in
     let k = g.M.Mapper.held n.mapper in
-    let size = g.M.Mapper.page_bytes c.args.mapper.now in
     let now = g.M.Mapper.page_bytes n.mapper in
     let before = g.M.Mapper.counts c.args.mapper.now in
     let after = g.M.Mapper.counts n.mapper in
     let p : Manager = seen i.caches i.store i.contexts in
     let q : Manager = seen n.caches n.store i.contexts in
     let x = extent_open i.caches c.args.extent _ (sym c.extent_refusal.ensures ∙ c.in_default.is) in
-    let reach = values_reached p h c.self.invariant.sound.nodes c.self.invariant.sound.apart size now n.caches n.store k before after e.stays.later e.stays.told in
-    let valid = kept_valid i.caches n.caches i.store n.store h k size now e.stays.kept i.contexts e.forest before after reach (subst (λ (p : Manager). IsValid p h) (sym c.self.view_is) c.requires.valid) in
-    let forest = kept_forest i.caches n.caches i.store n.store h k size now e.stays.kept i.contexts e.forest in
     let turned : failing c.push_range.result ≡ c.match-push_range.result = elim c.match-push_range.branch [
       | in-Ok w ↦ ap failing w.in-Ok.is ∙ sym w.result-is
       | in-Err w ↦ ap failing w.in-Err.is ∙ sym w.result-is
     ] in
+    let s = pushed g (goal.at.returns-clause-flush g c).After-push_range in
     subst (λ (p : Manager). CallIs before after (state_at p h) (commands.Flush c.args.extent) (done_by c.match-push_range.result) (state_at q k)) c.self.view_is
     (subst (λ (r : Result (Unit {0}) Trouble). CallIs before after (state_at p h) (commands.Flush c.args.extent) (done_by r) (state_at q k)) turned
-    (flush_is p q h k c.args.extent x c.self.invariant.sound.apart before after reach c.self.invariant.sound.nodes e.stays.whole valid e.stays.kept.nodes.caches forest
-    (kept_by i.caches n.caches i.store n.store h k size now e.stays.kept i.contexts) c.push_range.result (all_unsized k now n.caches n.store c.args.extent c.push_range.result e.synced) (stop_unsized k now n.caches n.store c.args.extent c.push_range.result e.failed) e.cause
+    (flush_is p q h k c.args.extent x c.self.invariant.sound.apart before after s.reach c.self.invariant.sound.nodes e.stays.whole s.valid e.stays.kept.nodes.caches s.forest s.by c.push_range.result
+    (all_unsized k now n.caches n.store c.args.extent c.push_range.result e.synced) (stop_unsized k now n.caches n.store c.args.extent c.push_range.result e.failed) e.cause
     (λ f. any_same p f c.self.invariant.sound.locked.counted c.args.extent ∙ none_locked i.caches c.args.extent c.args.give_up up (sym c.extent_refusal.ensures ∙ c.in_default.is))))
 
 pub returns-clause-stays : goal.returns-clause-stays
 returns-clause-stays g c =
-    let i = c.self.inside in
-    let n = c.push_range.new in
-    let e = c.push_range.ensures in
-    let h = g.M.Mapper.held c.args.mapper.now in
-    let k = g.M.Mapper.held n.mapper in
-    let size = g.M.Mapper.page_bytes c.args.mapper.now in
-    let now = g.M.Mapper.page_bytes n.mapper in
-    let q : Manager = seen n.caches n.store i.contexts in
-    subst (λ (p : Manager). SameMeaning p q h k) c.self.view_is (record {
-      machine = kept_machine i.caches n.caches i.store n.store h k size now e.stays.kept i.contexts e.forest;
-      forest = kept_forest i.caches n.caches i.store n.store h k size now e.stays.kept i.contexts e.forest;
-    })
+    let k = pushed g (goal.at.returns-clause-stays g c).After-push_range in
+    let q : Manager = seen c.push_range.new.caches c.push_range.new.store c.self.inside.contexts in
+    subst (λ (p : Manager). SameMeaning p q (g.M.Mapper.held c.args.mapper.now) (g.M.Mapper.held c.push_range.new.mapper)) c.self.view_is (record { machine = k.machine; forest = k.forest })
 
 pub returns-clause-synced : goal.returns-clause-synced
 returns-clause-synced g c =

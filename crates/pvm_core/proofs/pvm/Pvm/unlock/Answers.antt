@@ -1,4 +1,4 @@
-use Rattle.std.proofs.Common.{ℕ, ◌+◌, ◌<◌, ◌≤◌, false, [], length, refl, sym, ap, subst, ◌∙◌, arith}
+use Rattle.std.proofs.Common.{◌≡◌, ℕ, ◌+◌, ◌<◌, ◌≤◌, false, [], length, refl, sym, ap, subst, ◌∙◌, arith}
 use Rattle.std.specs.Prelude.{Ok, Err, is_some}
 use Rattle.std.proofs.lemmas.Bool.{not-false, not-true}
 use Rattle.vm_ids.specs.Counting.{no_counts}
@@ -18,12 +18,13 @@ use Rattle.pvm_core.specs.Manager.{IsSound, IsValid, Manager, caches_shown, numb
 use Rattle.pvm_core.proofs.Acting.{told}
 use Rattle.pvm_core.proofs.Answering.Kept.{seen}
 use Rattle.pvm_core.proofs.Locking.Covered.{placed_with}
-use Rattle.pvm_core.proofs.Locking.Gone.{gone_answer, gone_numbered, gone_sound, gone_valid, region_locks, unlocked_counts, unlocked_is}
+use Rattle.pvm_core.proofs.Locking.Gone.{IsGone, gone_answer, gone_numbered, gone_sound, gone_valid, region_locks, unlocked_counts, unlocked_is}
 use Rattle.pvm_core.proofs.Locking.Limit.{right_with_locked, with_locked}
 use Rattle.pvm_core.proofs.Locking.Regions.{placed_range}
-use Rattle.pvm_core.proofs.Locking.Rows.{told_of, unlock_none, unlock_not, unlock_row, untold_of}
+use Rattle.pvm_core.proofs.Locking.Rows.{IsToldOf, told_of, unlock_none, unlock_not, unlock_row, untold_of}
 use Rattle.pvm_core.specs.Translated.{AreTranslationsRight}
 use Rattle.pvm_core.proofs.Translating.Relocked.{relocked_right}
+use Rattle.pvm_core.proofs.pvm.Pvm.unlock.Goals.{After-let_go, After-set_locked, In-Some}
 use Rattle.pvm_core.proofs.pvm.Pvm.unlock.Goals as goal
 
 pub returns-in_default-clause-answers : goal.returns-in_default-clause-answers
@@ -32,100 +33,85 @@ returns-in_default-clause-answers c = λ h v.
     told i.caches i.store i.contexts _ c.self.view_is h v (commands.Unlock c.args.region) (unlocked_is c.args.region) (Err (troubles.Refused refusals.NoRegion)) c.self.invariant.sound.nodes
     (λ f g k. unlock_none (caches_shown f 1 i.caches.caches) (length i.store.frames.held) i.contexts c.args.region.0 (untold_of c.args.region.0 i.contexts (sym c.status.ensures ∙ c.in_default.is)))
 
+-- the region of which this is told
+region : (c : In-Some) → IsToldOf c.args.region.0 c.self.inside.contexts c.in-Some.status
+region c = told_of c.args.region.0 c.self.inside.contexts c.in-Some.status (sym c.status.ensures ∙ c.in-Some.is)
+
 pub returns-then-not-status-clause-answers : goal.returns-then-not-status-clause-answers
 returns-then-not-status-clause-answers c = λ h v.
     let i = c.self.inside in
-    let r = told_of c.args.region.0 i.contexts c.in-Some.status (sym c.status.ensures ∙ c.in-Some.is) in
+    let r = region (goal.at.returns-then-not-status-clause-answers c).In-Some in
     told i.caches i.store i.contexts _ c.self.view_is h v (commands.Unlock c.args.region) (unlocked_is c.args.region) (Err (troubles.Refused refusals.NotLocked)) c.self.invariant.sound.nodes
     (λ f g k. unlock_not (caches_shown f 1 i.caches.caches) (length i.store.frames.held) i.contexts c.args.region.0 r.region r.found (sym r.locked ∙ not-true c.in-Some.status.locked c.if-not-status.true))
 
 pub let_go-requires-clause-range : goal.let_go-requires-clause-range
 let_go-requires-clause-range c =
     let i = c.self.inside in
-    let r = told_of c.args.region.0 i.contexts c.in-Some.status (sym c.status.ensures ∙ c.in-Some.is) in
+    let r = region (goal.at.let_go-requires-clause-range c).In-Some in
     let placed = placed_with (size_of i.caches) c.args.region.0 r.region i.contexts.actors c.self.invariant.sound.actors.placed r.found in
     subst (λ (m : Mapping). HasRange i.caches m.extent) (sym r.mapping) (placed_range i.caches i.caches r.region (sizes_same i.caches i.caches refl) placed)
 
 pub let_go-requires-clause-locked : goal.let_go-requires-clause-locked
 let_go-requires-clause-locked c =
     let i = c.self.inside in
-    let r = told_of c.args.region.0 i.contexts c.in-Some.status (sym c.status.ensures ∙ c.in-Some.is) in
+    let r = region (goal.at.let_go-requires-clause-locked c).In-Some in
     subst (λ (m : Mapping). (page : ℕ) → IsPageOf m.extent page → 0 < locks_of i.caches m.extent.cache.0 page) (sym r.mapping)
     (region_locks i.caches i.contexts c.args.region.0 r.region r.found (sym r.locked ∙ not-false c.in-Some.status.locked c.if-not-status.false) c.self.invariant.sound.locked.counted)
+
+-- its locks were let go
+gone : (c : After-let_go) → IsGone c.self.inside.caches c.let_go.new.caches c.self.inside.store c.let_go.new.store c.self.inside.contexts (with_locked c.args.region.0 false c.self.inside.contexts) c.self.inside.live
+gone c =
+    let i = c.self.inside in
+    let e = c.let_go.ensures in
+    let r = region (goal.at.After-let_go c).In-Some in
+    let locked = sym r.locked ∙ not-false c.in-Some.status.locked c.if-not-status.false in
+    let less = subst (λ (m : Mapping). LocksMore m.extent c.let_go.new.caches i.caches) r.mapping e.locks in
+    record {
+      pages = e.pages;
+      holds = e.held;
+      sound = c.self.invariant.sound;
+      page = refl;
+      right = right_with_locked (size_of i.caches) c.args.region.0 false r.region i.contexts r.found c.self.invariant.sound.actors;
+      counted = unlocked_counts i.caches c.let_go.new.caches i.contexts c.args.region.0 r.region r.found locked c.self.invariant.sound.locked.counted less;
+      low = λ cache page. omega (arith, less cache page);
+    }
+
+-- and it is locked no more
+unlocked : (c : After-set_locked) → c.set_locked.new.self ≡ with_locked c.args.region.0 false c.self.inside.contexts
+unlocked c = c.set_locked.ensures.changed (c.set_locked.ensures.found ∙ ap is_some (region (goal.at.After-set_locked c).In-Some).found)
 
 pub invariant_of-self : goal.invariant_of-self
 invariant_of-self c = record {
   sound = (
-      let i = c.self.inside in
-      let t : Actors = i.contexts in
       let n = c.let_go.new in
-      let e = c.let_go.ensures in
-      let region = c.args.region.0 in
-      let r = told_of region t c.in-Some.status (sym c.status.ensures ∙ c.in-Some.is) in
-      let locked = sym r.locked ∙ not-false c.in-Some.status.locked c.if-not-status.false in
-      let less = subst (λ (m : Mapping). LocksMore m.extent n.caches i.caches) r.mapping e.locks in
-      let is = c.set_locked.ensures.changed (c.set_locked.ensures.found ∙ ap is_some r.found) in
-      let h = c.requires.0 in
-      let v = subst (λ (p : Manager). IsValid p h) (sym c.self.view_is) c.requires.1 in
-      subst (λ (x : Actors). IsSound n.caches n.store x i.live) (sym is)
-      (gone_sound i.caches n.caches i.store n.store e.pages e.held t (with_locked region false t) i.live c.self.invariant.sound refl (right_with_locked (size_of i.caches) region false r.region t r.found c.self.invariant.sound.actors)
-      (unlocked_counts i.caches n.caches t region r.region r.found locked c.self.invariant.sound.locked.counted less) (λ cache page. omega (arith, less cache page)) h v)
+      let v = subst (λ (p : Manager). IsValid p c.requires.0) (sym c.self.view_is) c.requires.1 in
+      subst (λ (x : Actors). IsSound n.caches n.store x c.self.inside.live) (sym (unlocked (goal.at.invariant_of-self c).After-set_locked)) (gone_sound (gone (goal.at.invariant_of-self c).After-let_go) c.requires.0 v)
       );
   translated = (
       let i = c.self.inside in
       let n = c.let_go.new in
-      let r = told_of c.args.region.0 i.contexts c.in-Some.status (sym c.status.ensures ∙ c.in-Some.is) in
-      let is = c.set_locked.ensures.changed (c.set_locked.ensures.found ∙ ap is_some r.found) in
-      subst (AreTranslationsRight n.caches n.store) (sym is) (relocked_right n.caches n.store i.contexts c.args.region.0 false (c.let_go.ensures.pages.translated i.contexts c.self.invariant.translated))
+      subst (AreTranslationsRight n.caches n.store) (sym (unlocked (goal.at.invariant_of-self c).After-set_locked)) (relocked_right n.caches n.store i.contexts c.args.region.0 false (c.let_go.ensures.pages.translated i.contexts c.self.invariant.translated))
       );
 }
 
 pub returns-clause-valid : goal.returns-clause-valid
 returns-clause-valid c = λ h valid.
-    let i = c.self.inside in
-    let t : Actors = i.contexts in
-    let n = c.let_go.new in
-    let e = c.let_go.ensures in
-    let region = c.args.region.0 in
-    let r = told_of region t c.in-Some.status (sym c.status.ensures ∙ c.in-Some.is) in
-    let locked = sym r.locked ∙ not-false c.in-Some.status.locked c.if-not-status.false in
-    let less = subst (λ (m : Mapping). LocksMore m.extent n.caches i.caches) r.mapping e.locks in
-    let is = c.set_locked.ensures.changed (c.set_locked.ensures.found ∙ ap is_some r.found) in
     let v = subst (λ (p : Manager). IsValid p h) (sym c.self.view_is) valid in
-    subst (λ (x : Actors). IsValid (seen n.caches n.store x) h) (sym is)
-    (gone_valid i.caches n.caches i.store n.store e.pages e.held t (with_locked region false t) i.live c.self.invariant.sound refl (right_with_locked (size_of i.caches) region false r.region t r.found c.self.invariant.sound.actors)
-    (unlocked_counts i.caches n.caches t region r.region r.found locked c.self.invariant.sound.locked.counted less) (λ cache page. omega (arith, less cache page)) h v)
+    subst (λ (x : Actors). IsValid (seen c.let_go.new.caches c.let_go.new.store x) h) (sym (unlocked (goal.at.returns-clause-valid c).After-set_locked)) (gone_valid (gone (goal.at.returns-clause-valid c).After-let_go) h v)
 
 pub returns-clause-answers : goal.returns-clause-answers
 returns-clause-answers c = λ h valid.
     let i = c.self.inside in
-    let t : Actors = i.contexts in
     let n = c.let_go.new in
-    let e = c.let_go.ensures in
-    let region = c.args.region.0 in
-    let r = told_of region t c.in-Some.status (sym c.status.ensures ∙ c.in-Some.is) in
-    let locked = sym r.locked ∙ not-false c.in-Some.status.locked c.if-not-status.false in
-    let less = subst (λ (m : Mapping). LocksMore m.extent n.caches i.caches) r.mapping e.locks in
-    let is = c.set_locked.ensures.changed (c.set_locked.ensures.found ∙ ap is_some r.found) in
+    let r = region (goal.at.returns-clause-answers c).In-Some in
     let v = subst (λ (p : Manager). IsValid p h) (sym c.self.view_is) valid in
     subst (λ (p : Manager). AnswerIs (state_at p h) (commands.Unlock c.args.region) (Ok replies.Done) [] no_counts (state_at (seen n.caches n.store c.set_locked.new.self) h)) c.self.view_is
-    (subst (λ (x : Actors). AnswerIs (state_at (seen i.caches i.store t) h) (commands.Unlock c.args.region) (Ok replies.Done) [] no_counts (state_at (seen n.caches n.store x) h)) (sym is)
-    (gone_answer i.caches n.caches i.store n.store e.pages e.held t (with_locked region false t) i.live c.self.invariant.sound refl (right_with_locked (size_of i.caches) region false r.region t r.found c.self.invariant.sound.actors)
-    (unlocked_counts i.caches n.caches t region r.region r.found locked c.self.invariant.sound.locked.counted less) (λ cache page. omega (arith, less cache page)) h v
-    (commands.Unlock c.args.region) refl (λ m next f. refl) (λ m g. tt)
-    (λ f g k. unlock_row (caches_shown f 1 i.caches.caches) (length i.store.frames.held) t region r.region r.found locked)))
+    (subst (λ (x : Actors). AnswerIs (state_at (seen i.caches i.store i.contexts) h) (commands.Unlock c.args.region) (Ok replies.Done) [] no_counts (state_at (seen n.caches n.store x) h)) (sym (unlocked (goal.at.returns-clause-answers c).After-set_locked))
+    (gone_answer (gone (goal.at.returns-clause-answers c).After-let_go) h v (commands.Unlock c.args.region) refl (λ m next f. refl) (λ m g. tt)
+    (λ f g k. unlock_row (caches_shown f 1 i.caches.caches) (length i.store.frames.held) i.contexts c.args.region.0 r.region r.found (sym r.locked ∙ not-false c.in-Some.status.locked c.if-not-status.false))))
 
 pub returns-clause-made : goal.returns-clause-made
 returns-clause-made c = λ h valid.
-    let i = c.self.inside in
-    let t : Actors = i.contexts in
-    let n = c.let_go.new in
-    let e = c.let_go.ensures in
-    let region = c.args.region.0 in
-    let r = told_of region t c.in-Some.status (sym c.status.ensures ∙ c.in-Some.is) in
-    let locked = sym r.locked ∙ not-false c.in-Some.status.locked c.if-not-status.false in
-    let less = subst (λ (m : Mapping). LocksMore m.extent n.caches i.caches) r.mapping e.locks in
     let v = subst (λ (p : Manager). IsValid p h) (sym c.self.view_is) valid in
-    let same = gone_numbered i.caches n.caches i.store n.store e.pages e.held t (with_locked region false t) i.live c.self.invariant.sound refl (right_with_locked (size_of i.caches) region false r.region t r.found c.self.invariant.sound.actors)
-    (unlocked_counts i.caches n.caches t region r.region r.found locked c.self.invariant.sound.locked.counted less) (λ cache page. omega (arith, less cache page)) h v in
-    subst (λ (p : Manager). numbered (seen n.caches n.store c.set_locked.new.self) ≤ numbered p + 0 + 8) c.self.view_is (omega (arith, same))
+    let same = gone_numbered (gone (goal.at.returns-clause-made c).After-let_go) h v in
+    subst (λ (p : Manager). numbered (seen c.let_go.new.caches c.let_go.new.store c.set_locked.new.self) ≤ numbered p + 0 + 8) c.self.view_is (omega (arith, same))
