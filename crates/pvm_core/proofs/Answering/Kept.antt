@@ -23,10 +23,8 @@ use Rattle.local_cache.proofs.Forest.Reading.{IsNode-forest_of, forest_of-IsNode
 use Rattle.local_cache.proofs.Nodes.Values.{same_keys}
 use Rattle.residency.specs.declared.store.Store.{Store}
 use Rattle.residency.specs.StoreForest.{store_forest}
-use Rattle.residency.specs.World.{IsStoreRight, Still, world}
-use Rattle.residency.proofs.Forests.StillForest.{still_forest}
+use Rattle.residency.specs.World.{IsStoreRight, world}
 use Rattle.fault_path.specs.Faults.{Kept}
-use Rattle.fault_path.proofs.Calls.Kept.{still_kept}
 use Rattle.local_cache.proofs.Nodes.Count.{forest_len}
 use Rattle.local_cache.specs.Whole.{segment_of, size_of}
 use Rattle.vm_model.specs.Machine.{Machine}
@@ -229,23 +227,6 @@ module _ (a b : Arena) (s t : Store) (h g : Option Held) (i j : Option ℕ) (k :
 
         same_size : (cache : ℕ) → size_of b cache ≡ size_of a cache
         same_size cache = ap (λ (ts : List (Option Table)). option_map (λ (t : Table). length t.pages) (table_at ts cache)) k.nodes.caches
-
--- a call that leaves every page keeps all this
-module _ (a b : Arena) (s t : Store) (h g : Option Held) (i j : Option ℕ) (still : Still (world h i a s) (world g j b t)) (pins : t.frames.pinned ≡ s.frames.pinned) (actors : Actors) (live : ℕ) (sound : IsSound a s actors live) where
-  pub stilled : Kept (world h i a s) (world g j b t)
-  stilled = still_kept (world h i a s) (world g j b t) still sound.nodes.sound sound.nodes.consistent.shaped pins
-
-  pub stilled_sound : AreBound a s.map → IsSound b t actors live
-  stilled_sound was = kept_sound a b s t h g i j stilled actors live sound was
-
-  pub stilled_valid : (c d : MapperCounts) → Reach (machine_of (seen a s actors) h) h g c d → IsValid (seen a s actors) h → IsValid (seen b t actors) g
-  stilled_valid c d reach v = kept_valid a b s t h g i j stilled actors (still_forest (world h i a s) (world g j b t) still) c d reach v
-
-  pub stilled_forest : forest_of (seen b t actors) g ≡ forest_of (seen a s actors) h
-  stilled_forest = kept_forest a b s t h g i j stilled actors (still_forest (world h i a s) (world g j b t) still)
-
-  pub stilled_machine : machine_of (seen b t actors) g ≡ machine_of (seen a s actors) h
-  stilled_machine = kept_machine a b s t h g i j stilled actors (still_forest (world h i a s) (world g j b t) still)
 
 -- actors that look the same
 pub seated_same : (a : Arena) (s : Store) (t u : Actors) → u ≡ t → seen a s u ≡ seen a s t

@@ -1,7 +1,8 @@
-use Rattle.std.proofs.Common.{◌≡◌, ◌-◌, ◌<◌, ◌≤◌, true, false, List, length, Option, Some, sym, ap, subst, arith}
+use Rattle.std.proofs.Common.{◌≡◌, ℕ, ◌-◌, ◌<◌, ◌≤◌, true, false, List, length, Option, Some, sym, ap, subst, arith}
 use Rattle.vm_ids.specs.declared.numbers.FrameId.{FrameId}
 use Rattle.vm_ids.specs.declared.numbers.NodeId.{NodeId}
 use Rattle.vm_ids.proofs.Places.{bit_true}
+use Rattle.frame_pool.specs.Pool.{is_pinned}
 use Rattle.global_map.specs.Pairs.{bound_times, node_of}
 use Rattle.local_cache.specs.Arena.{is_locked, locks_of}
 use Rattle.local_cache.specs.Own.{is_resident, own_of}
@@ -10,6 +11,7 @@ use Rattle.pvm_core.proofs.Holding.Bound.{frame_within}
 use Rattle.pvm_core.proofs.Locking.Totals.{locked_above}
 use Rattle.pvm_core.proofs.Locking.Holds.{locked_frame}
 use Rattle.pvm_core.proofs.Locking.Pages.{found_at, found_some, one_less, paged_held, paged_kept, pinned_again}
+use Rattle.pvm_core.proofs.page_locks.unpin_page.Goals.{After-drop_lock, After-unwrap-frame}
 use Rattle.pvm_core.proofs.page_locks.unpin_page.Goals as goal
 
 pub node_of-node-requires : goal.node_of-node-requires
@@ -30,60 +32,55 @@ unwrap-frame-requires c =
     ) in
     found_some c.get.result (bound_times c.map.result.now n.0) _ c.get.ensures.found some
 
+-- the page has one lock fewer
+left : (c : After-drop_lock) → locks_of c.drop_lock.new.self c.args.cache.0 c.args.page.0 ≡ locks_of c.args.caches.now c.args.cache.0 c.args.page.0 - 1
+left c = omega (arith, c.drop_lock.ensures.locks)
+
+-- the frame of its node
+framed : (c : After-unwrap-frame) → (c.unwrap-frame.result.0 < length c.args.store.now.map) × (node_of c.args.store.now.map c.unwrap-frame.result.0 ≡ Some c.node_of-node.result)
+framed c =
+    let n = c.node_of-node.result in
+    let found = found_at c.get.result _ (λ (f : FrameId). (f.0 < length c.map.result.now) × (node_of c.map.result.now f.0 ≡ Some n)) c.unwrap-frame.result c.get.ensures.found c.unwrap-frame.ensures in
+    subst (λ (map : List (Option NodeId)). (c.unwrap-frame.result.0 < length map) × (node_of map c.unwrap-frame.result.0 ≡ Some n)) c.map.ensures found
+
+-- a page that has a lock still has a frame that is pinned
+still_pinned : (c : After-drop_lock) → (f : ℕ) × (node_of c.args.store.now.map f ≡ Some c.node_of-node.result) × (is_pinned c.args.store.now.frames f ≡ true)
+still_pinned c =
+    let a = c.args.caches.now in
+    locked_frame a c.args.store.now c.requires.whole.sound c.requires.right.2.tied.placed.bound c.requires.held c.args.cache.0 c.args.page.0 c.node_of-node.result c.node_of-node.ensures (locked_above (locks_of a c.args.cache.0 c.args.page.0) c.requires.locked)
+
 pub returns-then-locks-eq0-clause-pages : goal.returns-then-locks-eq0-clause-pages
 returns-then-locks-eq0-clause-pages c =
-    let a = c.args.caches.now in
-    let s = c.args.store.now in
-    let n = c.node_of-node.result in
-    let k = locks_of a c.args.cache.0 c.args.page.0 in
-    let found = found_at c.get.result _ (λ (f : FrameId). (f.0 < length c.map.result.now) × (node_of c.map.result.now f.0 ≡ Some n)) c.unwrap-frame.result c.get.ensures.found c.unwrap-frame.ensures in
-    let less = subst (λ (map : List (Option NodeId)). c.unwrap-frame.result.0 < length map) c.map.ensures found.0 in
-    let here = subst (λ (map : List (Option NodeId)). node_of map c.unwrap-frame.result.0 ≡ Some n) c.map.ensures found.1 in
-    let left : locks_of c.drop_lock.new.self c.args.cache.0 c.args.page.0 ≡ k - 1 = omega (arith, c.drop_lock.ensures.locks) in
-    let none : k - 1 ≡ 0 = omega (arith, c.drop_lock.ensures.locks, c.locks.ensures.count, c.if-locks-eq0.true) in
-    paged_kept a c.drop_lock.new.self s c.unpin.new.self c.requires.right c.requires.whole c.requires.held c.args.cache c.args.page (k - 1) c.unwrap-frame.result.0 n c.node_of-node.ensures here less
-    c.drop_lock.ensures.changed left false c.unpin.ensures (sym (ap is_locked none))
+    let at = framed (goal.at.returns-then-locks-eq0-clause-pages c).After-unwrap-frame in
+    let none : locks_of c.args.caches.now c.args.cache.0 c.args.page.0 - 1 ≡ 0 = omega (arith, c.drop_lock.ensures.locks, c.locks.ensures.count, c.if-locks-eq0.true) in
+    paged_kept c.args.caches.now c.drop_lock.new.self c.args.store.now c.unpin.new.self c.requires.right c.requires.whole c.requires.held c.args.cache c.args.page _ c.unwrap-frame.result.0 c.node_of-node.result c.node_of-node.ensures at.1 at.0
+    c.drop_lock.ensures.changed (left (goal.at.returns-then-locks-eq0-clause-pages c).After-drop_lock) false c.unpin.ensures (sym (ap is_locked none))
 
 pub returns-then-locks-eq0-clause-held : goal.returns-then-locks-eq0-clause-held
 returns-then-locks-eq0-clause-held c =
-    let a = c.args.caches.now in
-    let s = c.args.store.now in
-    let n = c.node_of-node.result in
-    let k = locks_of a c.args.cache.0 c.args.page.0 in
-    let found = found_at c.get.result _ (λ (f : FrameId). (f.0 < length c.map.result.now) × (node_of c.map.result.now f.0 ≡ Some n)) c.unwrap-frame.result c.get.ensures.found c.unwrap-frame.ensures in
-    let less = subst (λ (map : List (Option NodeId)). c.unwrap-frame.result.0 < length map) c.map.ensures found.0 in
-    let here = subst (λ (map : List (Option NodeId)). node_of map c.unwrap-frame.result.0 ≡ Some n) c.map.ensures found.1 in
-    let left : locks_of c.drop_lock.new.self c.args.cache.0 c.args.page.0 ≡ k - 1 = omega (arith, c.drop_lock.ensures.locks) in
-    let none : k - 1 ≡ 0 = omega (arith, c.drop_lock.ensures.locks, c.locks.ensures.count, c.if-locks-eq0.true) in
-    paged_held a c.drop_lock.new.self s c.unpin.new.self c.requires.right c.requires.whole c.requires.held c.args.cache c.args.page (k - 1) c.unwrap-frame.result.0 n c.node_of-node.ensures here less
-    c.drop_lock.ensures.changed left false c.unpin.ensures (sym (ap is_locked none))
+    let at = framed (goal.at.returns-then-locks-eq0-clause-held c).After-unwrap-frame in
+    let none : locks_of c.args.caches.now c.args.cache.0 c.args.page.0 - 1 ≡ 0 = omega (arith, c.drop_lock.ensures.locks, c.locks.ensures.count, c.if-locks-eq0.true) in
+    paged_held c.args.caches.now c.drop_lock.new.self c.args.store.now c.unpin.new.self c.requires.right c.requires.whole c.requires.held c.args.cache c.args.page _ c.unwrap-frame.result.0 c.node_of-node.result c.node_of-node.ensures at.1 at.0
+    c.drop_lock.ensures.changed (left (goal.at.returns-then-locks-eq0-clause-held c).After-drop_lock) false c.unpin.ensures (sym (ap is_locked none))
 
 pub returns-then-locks-eq0-clause-locks : goal.returns-then-locks-eq0-clause-locks
 returns-then-locks-eq0-clause-locks c = one_less c.args.caches.now c.drop_lock.new.self c.args.cache c.args.page.0 _ c.drop_lock.ensures.changed c.drop_lock.ensures.locks
 
 pub returns-else-locks-eq0-clause-pages : goal.returns-else-locks-eq0-clause-pages
 returns-else-locks-eq0-clause-pages c =
-    let a = c.args.caches.now in
     let s = c.args.store.now in
-    let n = c.node_of-node.result in
-    let k = locks_of a c.args.cache.0 c.args.page.0 in
-    let f = locked_frame a s c.requires.whole.sound c.requires.right.2.tied.placed.bound c.requires.held c.args.cache.0 c.args.page.0 n c.node_of-node.ensures (locked_above k c.requires.locked) in
-    let left : locks_of c.drop_lock.new.self c.args.cache.0 c.args.page.0 ≡ k - 1 = omega (arith, c.drop_lock.ensures.locks) in
-    let some : 0 < k - 1 = omega (arith, c.drop_lock.ensures.locks, c.locks.ensures.count, c.if-locks-eq0.false) in
-    paged_kept a c.drop_lock.new.self s s c.requires.right c.requires.whole c.requires.held c.args.cache c.args.page (k - 1) f.0 n c.node_of-node.ensures f.1 (frame_within s.map f.0 n f.1)
-    c.drop_lock.ensures.changed left true (pinned_again s f.0 f.2) (sym (locked_above (k - 1) some))
+    let f = still_pinned (goal.at.returns-else-locks-eq0-clause-pages c).After-drop_lock in
+    let some : 0 < locks_of c.args.caches.now c.args.cache.0 c.args.page.0 - 1 = omega (arith, c.drop_lock.ensures.locks, c.locks.ensures.count, c.if-locks-eq0.false) in
+    paged_kept c.args.caches.now c.drop_lock.new.self s s c.requires.right c.requires.whole c.requires.held c.args.cache c.args.page _ f.0 c.node_of-node.result c.node_of-node.ensures f.1 (frame_within s.map f.0 c.node_of-node.result f.1)
+    c.drop_lock.ensures.changed (left (goal.at.returns-else-locks-eq0-clause-pages c).After-drop_lock) true (pinned_again s f.0 f.2) (sym (locked_above (locks_of c.args.caches.now c.args.cache.0 c.args.page.0 - 1) some))
 
 pub returns-else-locks-eq0-clause-held : goal.returns-else-locks-eq0-clause-held
 returns-else-locks-eq0-clause-held c =
-    let a = c.args.caches.now in
     let s = c.args.store.now in
-    let n = c.node_of-node.result in
-    let k = locks_of a c.args.cache.0 c.args.page.0 in
-    let f = locked_frame a s c.requires.whole.sound c.requires.right.2.tied.placed.bound c.requires.held c.args.cache.0 c.args.page.0 n c.node_of-node.ensures (locked_above k c.requires.locked) in
-    let left : locks_of c.drop_lock.new.self c.args.cache.0 c.args.page.0 ≡ k - 1 = omega (arith, c.drop_lock.ensures.locks) in
-    let some : 0 < k - 1 = omega (arith, c.drop_lock.ensures.locks, c.locks.ensures.count, c.if-locks-eq0.false) in
-    paged_held a c.drop_lock.new.self s s c.requires.right c.requires.whole c.requires.held c.args.cache c.args.page (k - 1) f.0 n c.node_of-node.ensures f.1 (frame_within s.map f.0 n f.1)
-    c.drop_lock.ensures.changed left true (pinned_again s f.0 f.2) (sym (locked_above (k - 1) some))
+    let f = still_pinned (goal.at.returns-else-locks-eq0-clause-held c).After-drop_lock in
+    let some : 0 < locks_of c.args.caches.now c.args.cache.0 c.args.page.0 - 1 = omega (arith, c.drop_lock.ensures.locks, c.locks.ensures.count, c.if-locks-eq0.false) in
+    paged_held c.args.caches.now c.drop_lock.new.self s s c.requires.right c.requires.whole c.requires.held c.args.cache c.args.page _ f.0 c.node_of-node.result c.node_of-node.ensures f.1 (frame_within s.map f.0 c.node_of-node.result f.1)
+    c.drop_lock.ensures.changed (left (goal.at.returns-else-locks-eq0-clause-held c).After-drop_lock) true (pinned_again s f.0 f.2) (sym (locked_above (locks_of c.args.caches.now c.args.cache.0 c.args.page.0 - 1) some))
 
 pub returns-else-locks-eq0-clause-locks : goal.returns-else-locks-eq0-clause-locks
 returns-else-locks-eq0-clause-locks c = one_less c.args.caches.now c.drop_lock.new.self c.args.cache c.args.page.0 _ c.drop_lock.ensures.changed c.drop_lock.ensures.locks

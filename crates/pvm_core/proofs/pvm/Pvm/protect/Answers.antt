@@ -26,7 +26,7 @@ use Rattle.pvm_core.proofs.RegionRows.{over_allowed, protect_none, protect_row, 
 use Rattle.pvm_core.proofs.Translating.Commands.{forgotten, forgotten_count, protected_right}
 use Rattle.pvm_core.proofs.Translating.Tables.{tables_sound, tables_state, tables_valid, with_tables}
 use Rattle.pvm_core.proofs.pvm.Pvm.protect.Goals as goal
-use Rattle.pvm_core.proofs.pvm.Pvm.protect.Goals.{else-not-prot, then-not-prot}
+use Rattle.pvm_core.proofs.pvm.Pvm.protect.Goals.{After-protect, In-Some, else-not-prot, then-not-prot}
 
 pub returns-in_default-clause-answers : goal.returns-in_default-clause-answers
 returns-in_default-clause-answers c = λ h v.
@@ -39,74 +39,71 @@ returns-in_default-clause-answers c = λ h v.
 abbrev with_forgotten : Inside → List (Option Entry) → Inside
 with_forgotten i ts = record i { store = with_tables i.store ts }
 
+-- an actor has the region
+there : (c : In-Some) → is_some (region_with c.args.region.0 c.self.inside.contexts.actors) ≡ true
+there c = sym (told_some c.args.region.0 1 c.self.inside.contexts.actors) ∙ ap is_some (sym c.status.ensures ∙ c.in-Some.is)
+
+-- its translations were dropped where it may be written no more
+inside : (c : After-protect) → c.if-not-prot.self-inside ≡ with_forgotten c.self.inside (forgotten c.self.inside.contexts.page_bytes c.args.prot c.in-Some.was c.self.inside.store.tables)
+inside c =
+    let i = c.self.inside in
+    elim c.if-not-prot.branch [
+      | then-not-prot w ↦ w.self-inside-is ∙ ap (λ (s : Store). record i { store = s }) (w.forget_region.ensures ∙ ap (with_tables i.store) (sym (cond-true _ _ _ w.if-not-prot.true)))
+      | else-not-prot w ↦ w.self-inside-is ∙ ap (with_forgotten i) (sym (cond-false _ _ _ w.if-not-prot.false))
+    ]
+
+-- and it allows what was asked
+allowed : (c : After-protect) → c.protect.new.self ≡ with_allowed c.args.region.0 c.args.prot c.self.inside.contexts
+allowed c =
+    let n = c.args.region.0 in
+    let e = c.protect.ensures in
+    let found = e.found ∙ ap (λ (x : Inside). is_some (region_with n x.contexts.actors)) (inside c) ∙ there (goal.at.After-protect c).In-Some in
+    e.changed found ∙ ap (λ (x : Inside). with_allowed n c.args.prot x.contexts) (inside c)
+
 pub invariant_of-self : goal.invariant_of-self
 invariant_of-self c =
     let i = c.self.inside in
-    let n = c.args.region.0 in
     let t : Actors = i.contexts in
     let u : Actors = c.protect.new.self in
-    let st = c.in-Some.was in
-    let status = sym c.status.ensures ∙ c.in-Some.is in
-    let there : is_some (region_with n t.actors) ≡ true = sym (told_some n 1 t.actors) ∙ ap is_some status in
-    let ts : List (Option Entry) = forgotten t.page_bytes c.args.prot st i.store.tables in
-    let inside : c.if-not-prot.self-inside ≡ with_forgotten i ts = elim c.if-not-prot.branch [
-      | then-not-prot w ↦ w.self-inside-is ∙ ap (λ (s : Store). record i { store = s }) (w.forget_region.ensures ∙ ap (with_tables i.store) (sym (cond-true _ _ _ w.if-not-prot.true)))
-      | else-not-prot w ↦ w.self-inside-is ∙ ap (with_forgotten i) (sym (cond-false _ _ _ w.if-not-prot.false))
-    ] in
-    let e = c.protect.ensures in
-    let found : c.protect.result ≡ true = e.found ∙ ap (λ (x : Inside). is_some (region_with n x.contexts.actors)) inside ∙ there in
-    let new : u ≡ with_allowed n c.args.prot t = e.changed found ∙ ap (λ (x : Inside). with_allowed n c.args.prot x.contexts) inside in
-    subst (λ (x : Inside). IsKept x.caches x.store u x.live) (sym inside) (record {
+    let ts : List (Option Entry) = forgotten t.page_bytes c.args.prot c.in-Some.was i.store.tables in
+    let at = (goal.at.invariant_of-self c).After-protect in
+    let new = allowed at in
+    let some = there (goal.at.invariant_of-self c).In-Some in
+    subst (λ (x : Inside). IsKept x.caches x.store u x.live) (sym (inside at)) (record {
       sound = tables_sound i.caches i.store ts u i.live
           (seated_sound i.caches i.store t u i.live (ap (λ (w : Actors). w.page_bytes) new)
-          (subst (AreRight (size_of i.caches)) (sym new) (right_with_allowed (size_of i.caches) n c.args.prot t there c.self.invariant.sound.actors))
-          (λ cache page. ap (λ (w : Actors). locks_over w.actors cache page) new ∙ over_allowed n c.args.prot t there cache page) c.self.invariant.sound);
+          (subst (AreRight (size_of i.caches)) (sym new) (right_with_allowed (size_of i.caches) c.args.region.0 c.args.prot t some c.self.invariant.sound.actors))
+          (λ cache page. ap (λ (w : Actors). locks_over w.actors cache page) new ∙ over_allowed c.args.region.0 c.args.prot t some cache page) c.self.invariant.sound);
       translated = subst (AreTranslationsRight i.caches (with_tables i.store ts)) (sym new)
-          (protected_right i.caches i.store t n c.args.prot st c.self.invariant.sound.actors.some c.self.invariant.translated status);
+          (protected_right i.caches i.store t c.args.region.0 c.args.prot c.in-Some.was c.self.invariant.sound.actors.some c.self.invariant.translated (sym c.status.ensures ∙ c.in-Some.is));
     })
 
 pub returns-clause-valid : goal.returns-clause-valid
 returns-clause-valid c = λ h v.
     let i = c.self.inside in
-    let n = c.args.region.0 in
     let t : Actors = i.contexts in
     let u : Actors = c.protect.new.self in
-    let st = c.in-Some.was in
-    let there : is_some (region_with n t.actors) ≡ true = sym (told_some n 1 t.actors) ∙ ap is_some (sym c.status.ensures ∙ c.in-Some.is) in
-    let ts : List (Option Entry) = forgotten t.page_bytes c.args.prot st i.store.tables in
-    let inside : c.if-not-prot.self-inside ≡ with_forgotten i ts = elim c.if-not-prot.branch [
-      | then-not-prot w ↦ w.self-inside-is ∙ ap (λ (s : Store). record i { store = s }) (w.forget_region.ensures ∙ ap (with_tables i.store) (sym (cond-true _ _ _ w.if-not-prot.true)))
-      | else-not-prot w ↦ w.self-inside-is ∙ ap (with_forgotten i) (sym (cond-false _ _ _ w.if-not-prot.false))
-    ] in
-    let e = c.protect.ensures in
-    let found : c.protect.result ≡ true = e.found ∙ ap (λ (x : Inside). is_some (region_with n x.contexts.actors)) inside ∙ there in
-    let new : u ≡ with_allowed n c.args.prot t = e.changed found ∙ ap (λ (x : Inside). with_allowed n c.args.prot x.contexts) inside in
-    subst (λ (x : Inside). IsValid (seen x.caches x.store u) h) (sym inside)
-    (tables_valid (seen i.caches i.store u) ts (forgotten_count t.page_bytes c.args.prot st i.store.tables) h
+    let ts : List (Option Entry) = forgotten t.page_bytes c.args.prot c.in-Some.was i.store.tables in
+    let at = (goal.at.returns-clause-valid c).After-protect in
+    let new = allowed at in
+    subst (λ (x : Inside). IsValid (seen x.caches x.store u) h) (sym (inside at))
+    (tables_valid (seen i.caches i.store u) ts (forgotten_count t.page_bytes c.args.prot c.in-Some.was i.store.tables) h
     (acted_valid i.caches i.store t _ c.self.view_is h v u (ap (λ (w : Actors). w.page_bytes) new)))
 
 pub returns-clause-answers : goal.returns-clause-answers
 returns-clause-answers c = λ h v.
     let i = c.self.inside in
-    let n = c.args.region.0 in
     let t : Actors = i.contexts in
     let u : Actors = c.protect.new.self in
-    let st = c.in-Some.was in
-    let there : is_some (region_with n t.actors) ≡ true = sym (told_some n 1 t.actors) ∙ ap is_some (sym c.status.ensures ∙ c.in-Some.is) in
-    let ts : List (Option Entry) = forgotten t.page_bytes c.args.prot st i.store.tables in
-    let inside : c.if-not-prot.self-inside ≡ with_forgotten i ts = elim c.if-not-prot.branch [
-      | then-not-prot w ↦ w.self-inside-is ∙ ap (λ (s : Store). record i { store = s }) (w.forget_region.ensures ∙ ap (with_tables i.store) (sym (cond-true _ _ _ w.if-not-prot.true)))
-      | else-not-prot w ↦ w.self-inside-is ∙ ap (with_forgotten i) (sym (cond-false _ _ _ w.if-not-prot.false))
-    ] in
-    let e = c.protect.ensures in
-    let found : c.protect.result ≡ true = e.found ∙ ap (λ (x : Inside). is_some (region_with n x.contexts.actors)) inside ∙ there in
-    let new : u ≡ with_allowed n c.args.prot t = e.changed found ∙ ap (λ (x : Inside). with_allowed n c.args.prot x.contexts) inside in
+    let ts : List (Option Entry) = forgotten t.page_bytes c.args.prot c.in-Some.was i.store.tables in
+    let at = (goal.at.returns-clause-answers c).After-protect in
+    let new = allowed at in
     let command = commands.Protect c.args.region c.args.prot in
-    subst (λ (x : Inside). AnswerIs (state_at c.args.self.now h) command (Ok replies.Done) [] no_counts (state_at (seen x.caches x.store u) h)) (sym inside)
+    subst (λ (x : Inside). AnswerIs (state_at c.args.self.now h) command (Ok replies.Done) [] no_counts (state_at (seen x.caches x.store u) h)) (sym (inside at))
     (subst (λ (m : State). AnswerIs (state_at c.args.self.now h) command (Ok replies.Done) [] no_counts m)
-    (sym (tables_state (seen i.caches i.store u) ts (forgotten_count t.page_bytes c.args.prot st i.store.tables) h))
+    (sym (tables_state (seen i.caches i.store u) ts (forgotten_count t.page_bytes c.args.prot c.in-Some.was i.store.tables) h))
     (acted i.caches i.store t _ c.self.view_is h v command (protected c.args.region c.args.prot) (Ok replies.Done) c.self.invariant.sound.nodes u
     (ap (λ (w : Actors). w.page_bytes) new)
     (λ f g k. let caches = caches_shown f 1 i.caches.caches in
     let frames = length i.store.frames.held in
-    protect_row caches frames t n c.args.prot there ∙ ap (λ (w : Actors). reply replies.Done (machine_with caches frames w)) (sym new))))
+    protect_row caches frames t c.args.region.0 c.args.prot (there (goal.at.returns-clause-answers c).In-Some) ∙ ap (λ (w : Actors). reply replies.Done (machine_with caches frames w)) (sym new))))
