@@ -3,8 +3,10 @@ use Rattle.vm_ids.specs.Held.{Held, segments_of}
 use Rattle.vm_model.specs.PageForest.{page_in}
 use Rattle.vm_model.specs.Synchronised.{ArePushed}
 use Rattle.gmi_calls.specs.Backing.{IsReady}
-use Rattle.gmi_calls.proofs.Pushing.{IsGranted, held_page, named_bytes, named_page, named_size, page_is, page_kept, page_pushed, page_ready, page_there, pushed_none, pushed_then, there_denied}
+use Rattle.gmi_calls.proofs.Pushing.{IsGranted, IsNamedPage, held_page, named_bytes, named_page, named_size, page_is, page_kept, page_pushed, page_ready, page_there, pushed_none, pushed_then, there_denied}
 use Rattle.gmi_calls.proofs.Rising.{counted, fault_counted, on_err, one_call, one_failed}
+use Rattle.gmi_calls.proofs.segments.push_page.Given.{Over}
+use Rattle.gmi_calls.proofs.segments.push_page.Goals.{In-Some}
 use Rattle.gmi_calls.proofs.segments.push_page.Goals as goal
 
 pub get_write_access-requires : goal.get_write_access-requires
@@ -38,49 +40,38 @@ unreachable-requires g c =
     let f : None ≡ Some N.page = c.in-None.ensures ∙ page_is c.args.machine.now c.args.cache.0 c.args.seg.0 c.args.page.0 N in
     cc f
 
+-- the page that is read
+abbrev read : (g : Over) (c : In-Some g) → IsNamedPage c.args.machine.now c.args.cache.0 c.args.seg.0 c.args.page.0
+read g c = named_bytes c.args.machine.now c.args.cache.0 c.args.seg.0 c.args.page.0 c.in-Some.bytes.now c.requires.named (sym c.in-Some.ensures)
+
+-- may be written
+granted : (g : Over) (c : In-Some g) → IsGranted c.args.machine.now c.args.cache.0 c.args.seg.0 c.args.page.0 (read g c) c.in_ok-get_write_access.field-0 (g.M.Mapper.held c.get_write_access.new.self)
+granted g c = subst (λ (o : Option Held). IsGranted c.args.machine.now c.args.cache.0 c.args.seg.0 c.args.page.0 (read g c) c.in_ok-get_write_access.field-0 o) (sym c.get_write_access.ensures.held) c.in_ok-get_write_access.ensures.granted
+
+ready : (g : Over) (c : In-Some g) → IsReady c.args.machine.now (g.M.Mapper.held c.get_write_access.new.self)
+ready g c = subst (IsReady c.args.machine.now) (sym c.get_write_access.ensures.held) c.requires.ready
+
 pub returns-clause-pushed : goal.returns-clause-pushed
 returns-clause-pushed g c =
     let m = c.args.machine.now in
     let mid = g.M.Mapper.held c.get_write_access.new.self in
-    let read : page_in m c.args.cache.0 c.args.page.0 ≡ Some c.in-Some.bytes.now = sym c.in-Some.ensures in
-    let N = named_bytes m c.args.cache.0 c.args.seg.0 c.args.page.0 c.in-Some.bytes.now c.requires.named read in
-    let may = c.in_ok-get_write_access.field-0 in
-    let granted = subst (λ (o : Option Held). IsGranted m c.args.cache.0 c.args.seg.0 c.args.page.0 N may o) (sym c.get_write_access.ensures.held) c.in_ok-get_write_access.ensures.granted in
-    let ready = subst (IsReady m) (sym c.get_write_access.ensures.held) c.requires.ready in
+    let at = (goal.at.returns-clause-pushed g c).In-Some in
     pushed_then m _ mid _ _ _ _ c.get_write_access.result c.push_out.result
     (pushed_none m _ mid _ _ (one_call 0 0 c.get_write_access.result) c.get_write_access.result c.get_write_access.ensures.held (counted 0 0 _ _ c.get_write_access.result c.get_write_access.ensures.counts) (one_failed 0 0 c.get_write_access.result))
-    (page_pushed m _ _ _ N mid _ may c.if-not-branch.false granted ready c.push_out.result _ _ c.push_out.ensures.ok c.push_out.ensures.err (counted 0 1 _ _ c.push_out.result c.push_out.ensures.counts))
+    (page_pushed m _ _ _ (read g at) mid _ c.in_ok-get_write_access.field-0 c.if-not-branch.false (granted g at) (ready g at) c.push_out.result _ _ c.push_out.ensures.ok c.push_out.ensures.err (counted 0 1 _ _ c.push_out.result c.push_out.ensures.counts))
 
 pub returns-clause-there : goal.returns-clause-there
 returns-clause-there g c =
-    let m = c.args.machine.now in
-    let mid = g.M.Mapper.held c.get_write_access.new.self in
-    let read : page_in m c.args.cache.0 c.args.page.0 ≡ Some c.in-Some.bytes.now = sym c.in-Some.ensures in
-    let N = named_bytes m c.args.cache.0 c.args.seg.0 c.args.page.0 c.in-Some.bytes.now c.requires.named read in
-    let may = c.in_ok-get_write_access.field-0 in
-    let granted = subst (λ (o : Option Held). IsGranted m c.args.cache.0 c.args.seg.0 c.args.page.0 N may o) (sym c.get_write_access.ensures.held) c.in_ok-get_write_access.ensures.granted in
-    let ready = subst (IsReady m) (sym c.get_write_access.ensures.held) c.requires.ready in
-    page_there m _ _ _ N mid _ may c.if-not-branch.false granted ready c.push_out.result c.push_out.ensures.ok
+    let at = (goal.at.returns-clause-there g c).In-Some in
+    page_there c.args.machine.now _ _ _ (read g at) (g.M.Mapper.held c.get_write_access.new.self) _ c.in_ok-get_write_access.field-0 c.if-not-branch.false (granted g at) (ready g at) c.push_out.result c.push_out.ensures.ok
 
 pub returns-clause-kept : goal.returns-clause-kept
-returns-clause-kept g c =
-    let m = c.args.machine.now in
-    let mid = g.M.Mapper.held c.get_write_access.new.self in
-    let read : page_in m c.args.cache.0 c.args.page.0 ≡ Some c.in-Some.bytes.now = sym c.in-Some.ensures in
-    let N = named_bytes m c.args.cache.0 c.args.seg.0 c.args.page.0 c.in-Some.bytes.now c.requires.named read in
-    let may = c.in_ok-get_write_access.field-0 in
-    let granted = subst (λ (o : Option Held). IsGranted m c.args.cache.0 c.args.seg.0 c.args.page.0 N may o) (sym c.get_write_access.ensures.held) c.in_ok-get_write_access.ensures.granted in
-    let ready = subst (IsReady m) (sym c.get_write_access.ensures.held) c.requires.ready in
-    λ first before. page_kept m _ _ _ N mid _ may c.if-not-branch.false granted ready c.push_out.result c.push_out.ensures.ok c.push_out.ensures.err first
-    (subst (λ (o : Option Held). ArePushed m (segments_of o) c.args.cache.0 first c.args.page.0) (sym c.get_write_access.ensures.held) before)
+returns-clause-kept g c = λ first before.
+    let at = (goal.at.returns-clause-kept g c).In-Some in
+    page_kept c.args.machine.now _ _ _ (read g at) (g.M.Mapper.held c.get_write_access.new.self) _ c.in_ok-get_write_access.field-0 c.if-not-branch.false (granted g at) (ready g at) c.push_out.result c.push_out.ensures.ok c.push_out.ensures.err first
+    (subst (λ (o : Option Held). ArePushed c.args.machine.now (segments_of o) c.args.cache.0 first c.args.page.0) (sym c.get_write_access.ensures.held) before)
 
 pub returns-clause-ready : goal.returns-clause-ready
 returns-clause-ready g c =
-    let m = c.args.machine.now in
-    let mid = g.M.Mapper.held c.get_write_access.new.self in
-    let read : page_in m c.args.cache.0 c.args.page.0 ≡ Some c.in-Some.bytes.now = sym c.in-Some.ensures in
-    let N = named_bytes m c.args.cache.0 c.args.seg.0 c.args.page.0 c.in-Some.bytes.now c.requires.named read in
-    let may = c.in_ok-get_write_access.field-0 in
-    let granted = subst (λ (o : Option Held). IsGranted m c.args.cache.0 c.args.seg.0 c.args.page.0 N may o) (sym c.get_write_access.ensures.held) c.in_ok-get_write_access.ensures.granted in
-    let ready = subst (IsReady m) (sym c.get_write_access.ensures.held) c.requires.ready in
-    page_ready m _ _ _ N mid _ may c.if-not-branch.false granted ready c.push_out.result c.push_out.ensures.ok c.push_out.ensures.err
+    let at = (goal.at.returns-clause-ready g c).In-Some in
+    page_ready c.args.machine.now _ _ _ (read g at) (g.M.Mapper.held c.get_write_access.new.self) _ c.in_ok-get_write_access.field-0 c.if-not-branch.false (granted g at) (ready g at) c.push_out.result c.push_out.ensures.ok c.push_out.ensures.err

@@ -3,7 +3,7 @@ use Rattle.std.proofs.lemmas.List.{length-map, with_items_is}
 use Rattle.std.specs.Prelude.{All, IfSome, Result}
 use Rattle.std.specs.Vec.{with_items}
 use Rattle.vm_port.specs.declared.traits.failed.Failed.{Failed}
-use Rattle.vm_ids.specs.Counting.{no_counts}
+use Rattle.vm_ids.specs.Counting.{MapperCounts, no_counts}
 use Rattle.vm_ids.specs.declared.command.Command.TheVariants as commands
 use Rattle.vm_ids.specs.declared.reply.FaultAt.TheVariants as faults
 use Rattle.vm_ids.specs.declared.reply.Reply.TheVariants.{Done}
@@ -12,9 +12,11 @@ use Rattle.vm_model.proofs.Parts.Naming.{segment_names}
 use Rattle.gmi_calls.specs.Backing.{IsReady}
 use Rattle.gmi_calls.specs.Reaching.{ArePagesOf}
 use Rattle.gmi_calls.proofs.Accessing.{asked_pages}
-use Rattle.gmi_calls.proofs.Called.{call_each, call_reached, fault_for, memory_for, ready_after}
+use Rattle.gmi_calls.proofs.Called.{OutcomeFor, call_each, call_reached, fault_for, memory_for, ready_after}
 use Rattle.gmi_calls.proofs.Opening.{fit_pages, seen_fits, taken_for, zeros_many, zeros_whole}
 use Rattle.gmi_calls.proofs.Rising.{reached_none}
+use Rattle.gmi_calls.proofs.eager.EagerMachineGmi.invalidate.Given.{Over}
+use Rattle.gmi_calls.proofs.eager.EagerMachineGmi.invalidate.Goals.{After-invalidate, After-pull_pages}
 use Rattle.gmi_calls.proofs.eager.EagerMachineGmi.invalidate.Goals as goal
 
 pub returns-in-Err-clause-answers : goal.returns-in-Err-clause-answers
@@ -45,53 +47,42 @@ pull_pages-requires-clause-there g c =
     let many : length c.deref_mut.result.now ≡ e.pages = ap length c.deref_mut.ensures.value ∙ zeros_many c.in-Ok-zero_pages.pages.items e.pages m.page_bytes c.in-Ok-zero_pages.ensures in
     asked_pages m e.cache.0 c.in-Ok.seg.0 e.first.0 (length c.deref_mut.result.now) _ c.in-Ok.ensures.segment (omega (arith, c.in-Ok.ensures.within, many)) c.requires.valid
 
+-- the pages, after they were pulled
+pulled : (g : Over) (c : After-pull_pages g) → (with_items c.in-Ok-zero_pages.pages c.pull_pages.new.pages).items ≡ c.pull_pages.new.pages
+pulled g c = with_items_is c.in-Ok-zero_pages.pages c.pull_pages.new.pages (c.pull_pages.ensures.many ∙ ap length c.deref_mut.ensures.value ∙ sym c.in-Ok-zero_pages.pages.ok.0)
+
 pub invalidate-requires-clause-whole : goal.invalidate-requires-clause-whole
 invalidate-requires-clause-whole g c =
     let bytes = c.args.self.now.page_bytes in
+    let whole : All (λ (p : Vec ℕ Global). length p.items ≡ bytes) c.pull_pages.new.pages =
+    c.pull_pages.ensures.whole bytes (subst (λ (vs : List (Vec ℕ Global)). All (λ (p : Vec ℕ Global). length p.items ≡ bytes) vs) (sym c.deref_mut.ensures.value) (zeros_whole c.in-Ok-zero_pages.pages.items c.args.extent.pages bytes c.in-Ok-zero_pages.ensures)) in
+    subst (λ (vs : List (Vec ℕ Global)). All (λ (p : Vec ℕ Global). length p.items ≡ bytes) vs) (sym (pulled g (goal.at.invalidate-requires-clause-whole g c).After-pull_pages)) whole
+
+-- are taken
+taken : (g : Over) (c : After-invalidate g) (rises : MapperCounts) → OutcomeFor (g.M.Mapper.held c.args.mapper.now) c.args.self.now (commands.Invalidate c.args.extent) (Ok Done) c.invalidate.new.self rises
+taken g c rises =
+    let m = c.args.self.now in
+    let e = c.args.extent in
+    let told = g.M.Mapper.held c.args.mapper.now in
     let room = c.in-Ok-zero_pages.pages in
     let new = c.pull_pages.new.pages in
-    let many : length new ≡ length room.items = c.pull_pages.ensures.many ∙ ap length c.deref_mut.ensures.value in
-    let is : (with_items room new).items ≡ new = with_items_is room new (many ∙ sym room.ok.0) in
-    let whole : All (λ (p : Vec ℕ Global). length p.items ≡ bytes) new =
-    c.pull_pages.ensures.whole bytes (subst (λ (vs : List (Vec ℕ Global)). All (λ (p : Vec ℕ Global). length p.items ≡ bytes) vs) (sym c.deref_mut.ensures.value) (zeros_whole room.items c.args.extent.pages bytes c.in-Ok-zero_pages.ensures)) in
-    subst (λ (vs : List (Vec ℕ Global)). All (λ (p : Vec ℕ Global). length p.items ≡ bytes) vs) (sym is) whole
+    let is = pulled g (goal.at.After-invalidate g c).After-pull_pages in
+    let pages : List (List ℕ) = map (λ p. p.items) (with_items room new).items in
+    let count : length pages ≡ e.pages = length-map (with_items room new).items (λ p. p.items) ∙ ap length is ∙ c.pull_pages.ensures.many ∙ ap length c.deref_mut.ensures.value ∙ zeros_many room.items e.pages m.page_bytes c.in-Ok-zero_pages.ensures in
+    let are = subst (λ (vs : List (Vec ℕ Global)). IfSome told (ArePagesOf c.in-Ok.seg.0 e.first.0 (map (λ p. p.items) vs))) (sym is) c.in-Ok-pull_pages.ensures.pulled in
+    taken_for told told m c.invalidate.new.self (commands.Invalidate e) (Ok Done) e.cache.0 c.in-Ok.seg.0 e.first.0 e.pages pages rises refl c.requires.valid c.in-Ok.ensures.segment c.in-Ok.ensures.within count are c.invalidate.ensures.outcome
 
 pub returns-in-Ok-pull_pages-clause-valid : goal.returns-in-Ok-pull_pages-clause-valid
 returns-in-Ok-pull_pages-clause-valid g c =
-    let m = c.args.self.now in
-    let e = c.args.extent in
     let next = c.invalidate.new.self in
-    let command = commands.Invalidate e in
-    let told = g.M.Mapper.held c.args.mapper.now in
-    let room = c.in-Ok-zero_pages.pages in
-    let new = c.pull_pages.new.pages in
-    let many : length new ≡ length room.items = c.pull_pages.ensures.many ∙ ap length c.deref_mut.ensures.value in
-    let is : (with_items room new).items ≡ new = with_items_is room new (many ∙ sym room.ok.0) in
-    let pages : List (List ℕ) = map (λ p. p.items) (with_items room new).items in
-    let count : length pages ≡ e.pages = length-map (with_items room new).items (λ p. p.items) ∙ ap length is ∙ many ∙ zeros_many room.items e.pages m.page_bytes c.in-Ok-zero_pages.ensures in
-    let E = c.in-Ok-pull_pages.ensures in
-    let pulled = subst (λ (vs : List (Vec ℕ Global)). IfSome told (ArePagesOf c.in-Ok.seg.0 e.first.0 (map (λ p. p.items) vs))) (sym is) E.pulled in
-    subst (IsReady next) (sym E.held)
-    (ready_after told m next command (Ok Done) no_counts c.requires.valid c.invalidate.ensures.whole
-    (taken_for told told m next command (Ok Done) e.cache.0 c.in-Ok.seg.0 e.first.0 e.pages pages no_counts refl c.requires.valid c.in-Ok.ensures.segment c.in-Ok.ensures.within count pulled c.invalidate.ensures.outcome))
+    subst (IsReady next) (sym c.in-Ok-pull_pages.ensures.held)
+    (ready_after (g.M.Mapper.held c.args.mapper.now) c.args.self.now next (commands.Invalidate c.args.extent) (Ok Done) no_counts c.requires.valid c.invalidate.ensures.whole (taken g (goal.at.returns-in-Ok-pull_pages-clause-valid g c).After-invalidate no_counts))
 
 pub returns-in-Ok-pull_pages-clause-answers : goal.returns-in-Ok-pull_pages-clause-answers
 returns-in-Ok-pull_pages-clause-answers g c =
-    let m = c.args.self.now in
-    let e = c.args.extent in
-    let next = c.invalidate.new.self in
-    let command = commands.Invalidate e in
-    let told = g.M.Mapper.held c.args.mapper.now in
-    let room = c.in-Ok-zero_pages.pages in
-    let new = c.pull_pages.new.pages in
-    let many : length new ≡ length room.items = c.pull_pages.ensures.many ∙ ap length c.deref_mut.ensures.value in
-    let is : (with_items room new).items ≡ new = with_items_is room new (many ∙ sym room.ok.0) in
-    let pages : List (List ℕ) = map (λ p. p.items) (with_items room new).items in
-    let count : length pages ≡ e.pages = length-map (with_items room new).items (λ p. p.items) ∙ ap length is ∙ many ∙ zeros_many room.items e.pages m.page_bytes c.in-Ok-zero_pages.ensures in
     let E = c.in-Ok-pull_pages.ensures in
-    let pulled = subst (λ (vs : List (Vec ℕ Global)). IfSome told (ArePagesOf c.in-Ok.seg.0 e.first.0 (map (λ p. p.items) vs))) (sym is) E.pulled in
-    call_reached told _ _ _ m next command (Ok Done) _ E.held E.reached c.requires.valid.whole c.invalidate.ensures.whole tt
-    (taken_for told told m next command (Ok Done) e.cache.0 c.in-Ok.seg.0 e.first.0 e.pages pages E.reached.rises refl c.requires.valid c.in-Ok.ensures.segment c.in-Ok.ensures.within count pulled c.invalidate.ensures.outcome) tt
+    call_reached (g.M.Mapper.held c.args.mapper.now) _ _ _ c.args.self.now c.invalidate.new.self (commands.Invalidate c.args.extent) (Ok Done) _ E.held E.reached c.requires.valid.whole c.invalidate.ensures.whole tt
+    (taken g (goal.at.returns-in-Ok-pull_pages-clause-answers g c).After-invalidate E.reached.rises) tt
 
 pub returns-in-Err-pull_pages-clause-answers : goal.returns-in-Err-pull_pages-clause-answers
 returns-in-Err-pull_pages-clause-answers g c =

@@ -4,16 +4,18 @@ use Rattle.vm_port.specs.declared.traits.failed.Failed.{Failed}
 use Rattle.gmi_calls.specs.Reaching.{ArePagesOf}
 use Rattle.std.proofs.lemmas.List.{length-map, with_items_is}
 use Rattle.std.specs.Vec.{with_items}
-use Rattle.vm_ids.specs.Counting.{no_counts}
+use Rattle.vm_ids.specs.Counting.{MapperCounts, no_counts}
 use Rattle.vm_ids.specs.declared.command.Command.TheVariants as commands
 use Rattle.vm_ids.specs.declared.reply.FaultAt.TheVariants as faults
 use Rattle.vm_ids.specs.declared.reply.Reply.TheVariants.{Cache}
 use Rattle.vm_ids.specs.declared.reply.Trouble.TheVariants as troubles
 use Rattle.vm_model.specs.Answering.{answer_by}
 use Rattle.gmi_calls.specs.Backing.{IsReady}
-use Rattle.gmi_calls.proofs.Called.{call_each, call_reached, every_segments, ready_after}
+use Rattle.gmi_calls.proofs.Called.{OutcomeFor, call_each, call_reached, every_segments, ready_after}
 use Rattle.gmi_calls.proofs.Opening.{opened_for, sized_for, sized_pages}
 use Rattle.gmi_calls.proofs.Rising.{fault_counted, reached_one, reached_then}
+use Rattle.gmi_calls.proofs.eager.EagerMachineGmi.open_segment.Given.{Over}
+use Rattle.gmi_calls.proofs.eager.EagerMachineGmi.open_segment.Goals.{After-open_segment, After-pull_pages}
 use Rattle.gmi_calls.proofs.eager.EagerMachineGmi.open_segment.Goals as goal
 
 pub returns-in-Err-clause-answers : goal.returns-in-Err-clause-answers
@@ -45,55 +47,43 @@ pub pull_pages-requires-clause-there : goal.pull_pages-requires-clause-there
 pull_pages-requires-clause-there g c =
     sized_pages (g.M.Mapper.held c.args.mapper.now) (g.M.Mapper.held c.size.new.self) c.args.seg.0 (length c.deref_mut.result.now) c.in-Ok.size c.size.ensures.held (ap Some (ap length c.deref_mut.ensures.value) ∙ c.in-Ok-room_for.ensures.size) c.in-Ok.ensures.pages
 
+-- the pages, after they were pulled
+pulled : (g : Over) (c : After-pull_pages g) → (with_items c.in-Ok-room_for.pages c.pull_pages.new.pages).items ≡ c.pull_pages.new.pages
+pulled g c = with_items_is c.in-Ok-room_for.pages c.pull_pages.new.pages (c.pull_pages.ensures.many ∙ ap length c.deref_mut.ensures.value ∙ sym c.in-Ok-room_for.pages.ok.0)
+
 pub open_segment-requires-clause-whole : goal.open_segment-requires-clause-whole
 open_segment-requires-clause-whole g c =
     let bytes = c.args.self.now.page_bytes in
+    let whole : All (λ (p : Vec ℕ Global). length p.items ≡ bytes) c.pull_pages.new.pages =
+    c.pull_pages.ensures.whole bytes (subst (λ (vs : List (Vec ℕ Global)). All (λ (p : Vec ℕ Global). length p.items ≡ bytes) vs) (sym c.deref_mut.ensures.value) c.in-Ok-room_for.ensures.whole) in
+    subst (λ (vs : List (Vec ℕ Global)). All (λ (p : Vec ℕ Global). length p.items ≡ bytes) vs) (sym (pulled g (goal.at.open_segment-requires-clause-whole g c).After-pull_pages)) whole
+
+-- are those of the cache that is opened
+opened : (g : Over) (c : After-open_segment g) (rises : MapperCounts) → OutcomeFor (g.M.Mapper.held c.args.mapper.now) c.args.self.now (commands.OpenSegment c.args.seg) (answer_by (λ x. Cache x) c.open_segment.result) c.open_segment.new.self rises
+opened g c rises =
+    let told = g.M.Mapper.held c.args.mapper.now in
+    let now = g.M.Mapper.held c.size.new.self in
     let room = c.in-Ok-room_for.pages in
     let new = c.pull_pages.new.pages in
-    let many : length new ≡ length room.items = c.pull_pages.ensures.many ∙ ap length c.deref_mut.ensures.value in
-    let is : (with_items room new).items ≡ new = with_items_is room new (many ∙ sym room.ok.0) in
-    let whole : All (λ (p : Vec ℕ Global). length p.items ≡ bytes) new =
-    c.pull_pages.ensures.whole bytes (subst (λ (vs : List (Vec ℕ Global)). All (λ (p : Vec ℕ Global). length p.items ≡ bytes) vs) (sym c.deref_mut.ensures.value) c.in-Ok-room_for.ensures.whole) in
-    subst (λ (vs : List (Vec ℕ Global)). All (λ (p : Vec ℕ Global). length p.items ≡ bytes) vs) (sym is) whole
+    let is = pulled g (goal.at.After-open_segment g c).After-pull_pages in
+    let pages : List (List ℕ) = map (λ p. p.items) (with_items room new).items in
+    let sized : Some (length pages) ≡ c.in-Ok.size = ap Some (length-map (with_items room new).items (λ p. p.items) ∙ ap length is ∙ c.pull_pages.ensures.many ∙ ap length c.deref_mut.ensures.value) ∙ c.in-Ok-room_for.ensures.size in
+    let are = subst (λ (vs : List (Vec ℕ Global)). IfSome now (ArePagesOf c.args.seg.0 0 (map (λ p. p.items) vs))) (sym is) c.in-Ok-pull_pages.ensures.pulled in
+    opened_for told now c.args.self.now c.open_segment.new.self (commands.OpenSegment c.args.seg) (answer_by (λ x. Cache x) c.open_segment.result) c.args.seg.0 c.in-Ok.size pages rises c.size.ensures.held sized c.in-Ok.ensures.pages are c.open_segment.ensures.outcome
 
 pub returns-in-Ok-pull_pages-clause-valid : goal.returns-in-Ok-pull_pages-clause-valid
 returns-in-Ok-pull_pages-clause-valid g c =
-    let m = c.args.self.now in
     let next = c.open_segment.new.self in
-    let command = commands.OpenSegment c.args.seg in
-    let told = g.M.Mapper.held c.args.mapper.now in
-    let answer = answer_by (λ x. Cache x) c.open_segment.result in
-    let room = c.in-Ok-room_for.pages in
-    let new = c.pull_pages.new.pages in
-    let many : length new ≡ length room.items = c.pull_pages.ensures.many ∙ ap length c.deref_mut.ensures.value in
-    let is : (with_items room new).items ≡ new = with_items_is room new (many ∙ sym room.ok.0) in
-    let pages : List (List ℕ) = map (λ p. p.items) (with_items room new).items in
-    let sized : Some (length pages) ≡ c.in-Ok.size = ap Some (length-map (with_items room new).items (λ p. p.items) ∙ ap length is ∙ many) ∙ c.in-Ok-room_for.ensures.size in
-    let pulled = subst (λ (vs : List (Vec ℕ Global)). IfSome (g.M.Mapper.held c.size.new.self) (ArePagesOf c.args.seg.0 0 (map (λ p. p.items) vs))) (sym is) c.in-Ok-pull_pages.ensures.pulled in
-    let held = c.in-Ok-pull_pages.ensures.held ∙ c.size.ensures.held in
-    subst (IsReady next) (sym held)
-    (ready_after told m next command answer no_counts c.requires.valid c.open_segment.ensures.whole
-    (opened_for told (g.M.Mapper.held c.size.new.self) m next command answer c.args.seg.0 c.in-Ok.size pages no_counts c.size.ensures.held sized c.in-Ok.ensures.pages pulled c.open_segment.ensures.outcome))
+    subst (IsReady next) (sym (c.in-Ok-pull_pages.ensures.held ∙ c.size.ensures.held))
+    (ready_after (g.M.Mapper.held c.args.mapper.now) c.args.self.now next (commands.OpenSegment c.args.seg) (answer_by (λ x. Cache x) c.open_segment.result) no_counts c.requires.valid c.open_segment.ensures.whole (opened g (goal.at.returns-in-Ok-pull_pages-clause-valid g c).After-open_segment no_counts))
 
 pub returns-in-Ok-pull_pages-clause-answers : goal.returns-in-Ok-pull_pages-clause-answers
 returns-in-Ok-pull_pages-clause-answers g c =
-    let m = c.args.self.now in
-    let next = c.open_segment.new.self in
-    let command = commands.OpenSegment c.args.seg in
-    let told = g.M.Mapper.held c.args.mapper.now in
-    let answer = answer_by (λ x. Cache x) c.open_segment.result in
-    let room = c.in-Ok-room_for.pages in
-    let new = c.pull_pages.new.pages in
-    let many : length new ≡ length room.items = c.pull_pages.ensures.many ∙ ap length c.deref_mut.ensures.value in
-    let is : (with_items room new).items ≡ new = with_items_is room new (many ∙ sym room.ok.0) in
-    let pages : List (List ℕ) = map (λ p. p.items) (with_items room new).items in
-    let sized : Some (length pages) ≡ c.in-Ok.size = ap Some (length-map (with_items room new).items (λ p. p.items) ∙ ap length is ∙ many) ∙ c.in-Ok-room_for.ensures.size in
-    let pulled = subst (λ (vs : List (Vec ℕ Global)). IfSome (g.M.Mapper.held c.size.new.self) (ArePagesOf c.args.seg.0 0 (map (λ p. p.items) vs))) (sym is) c.in-Ok-pull_pages.ensures.pulled in
-    let held = c.in-Ok-pull_pages.ensures.held ∙ c.size.ensures.held in
     let P = c.in-Ok-pull_pages.ensures.reached in
-    let R = reached_then _ _ _ c.size.result (let r : Result (Unit {0}) Failed = Ok tt in r) (reached_one 0 0 _ _ c.size.result c.size.ensures.counts) P.rises P.rose tt in
-    call_reached told _ _ _ m next command answer (let r : Result (Unit {0}) Failed = Ok tt in r) held R c.requires.valid.whole c.open_segment.ensures.whole tt
-    (opened_for told (g.M.Mapper.held c.size.new.self) m next command answer c.args.seg.0 c.in-Ok.size pages R.rises c.size.ensures.held sized c.in-Ok.ensures.pages pulled c.open_segment.ensures.outcome) tt
+    let r : Result (Unit {0}) Failed = Ok tt in
+    let R = reached_then _ _ _ c.size.result r (reached_one 0 0 _ _ c.size.result c.size.ensures.counts) P.rises P.rose tt in
+    call_reached (g.M.Mapper.held c.args.mapper.now) _ _ _ c.args.self.now c.open_segment.new.self (commands.OpenSegment c.args.seg) (answer_by (λ x. Cache x) c.open_segment.result) r (c.in-Ok-pull_pages.ensures.held ∙ c.size.ensures.held) R
+    c.requires.valid.whole c.open_segment.ensures.whole tt (opened g (goal.at.returns-in-Ok-pull_pages-clause-answers g c).After-open_segment R.rises) tt
 
 pub returns-in-Err-pull_pages-clause-answers : goal.returns-in-Err-pull_pages-clause-answers
 returns-in-Err-pull_pages-clause-answers g c =
