@@ -1,4 +1,4 @@
-use Rattle.std.proofs.Common.{◌≡◌, ◌≤◌, ℕ, length, ap, subst, ◌∙◌, arith}
+use Rattle.std.proofs.Common.{◌≡◌, ◌≤◌, length, subst, arith}
 use Rattle.contexts.specs.Actors.{Actors, region_count}
 use Rattle.contexts.specs.Layout.{IsSound, actors_seen}
 use Rattle.contexts.specs.declared.contexts.Contexts.TheInside.{Inside}
