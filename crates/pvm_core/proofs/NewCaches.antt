@@ -1,4 +1,5 @@
 -- Caches that are made.
 pub mod Making
 pub mod Begun
+pub mod Roomy
 pub mod NewCache

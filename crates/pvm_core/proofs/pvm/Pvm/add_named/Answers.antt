@@ -1,8 +1,7 @@
-use Rattle.std.proofs.Common.{◌≡◌, ◌<◌, [], Some, length, refl, sym, ap, subst, ◌∙◌, arith}
+use Rattle.std.proofs.Common.{◌≡◌, ◌<◌, [], length, refl, sym, ap, subst, ◌∙◌, arith}
 use Rattle.std.specs.Prelude.{Result, Ok, Err}
 use Rattle.std.proofs.lemmas.Result.{err_from_is_err_and}
 use Rattle.vm_ids.specs.Counting.{no_counts}
-use Rattle.vm_ids.specs.Held.{segments_of}
 use Rattle.vm_ids.specs.declared.command.Command.TheVariants as commands
 use Rattle.vm_ids.specs.declared.refusal.Refusal.TheVariants as refusals
 use Rattle.vm_ids.specs.declared.reply.Reply.TheVariants as replies
@@ -17,11 +16,12 @@ use Rattle.local_cache.specs.Whole.{segment_of}
 use Rattle.vm_ids.specs.declared.numbers.SegId.{SegId}
 use Rattle.vm_model.specs.declared.limits.TheConstants.{MOST_MADE}
 use Rattle.pvm_core.specs.contracts.pvm.Pvm.{the_view}
-use Rattle.pvm_core.proofs.NewCaches.Begun.{roomy_by, roomy_forest, roomy_machine, roomy_sound, roomy_valid}
+use Rattle.pvm_core.proofs.NewCaches.Roomy.{IsRoomy, roomy}
 use Rattle.pvm_core.proofs.Answering.Kept.{seen}
 use Rattle.pvm_core.proofs.Opening.Named.{named_answer, named_sound, named_valid}
 use Rattle.pvm_core.proofs.Opening.Refused.{lacking, too_many}
 use Rattle.pvm_core.proofs.Translating.Made.{made_right, roomy_right}
+use Rattle.pvm_core.proofs.pvm.Pvm.add_named.Goals.{After-reserve}
 use Rattle.pvm_core.proofs.pvm.Pvm.add_named.Goals as goal
 
 -- what is asked of the caches, of the manager as it is seen
@@ -46,23 +46,23 @@ returns-then-self-pages-clause-answers c = λ h v has.
     (too_many p p h c.args.seg c.args.pages (free_of c.self.view_is c.requires.free) (few_of c.self.view_is c.requires.few)
     (subst (λ (p : Manager). HasSegment h c.args.seg p.page_bytes c.args.pages) (sym c.self.view_is) has) i.nodes i.nodes (subst (λ (p : Manager). IsValid p h) (sym c.self.view_is) v) refl (λ f. refl) c.self.inside.live i.counted (omega (arith, c.if-self-pages.true)))
 
+-- there is more room
+roomier : (c : After-reserve) → IsRoomy c.self.inside.caches c.reserve.new.caches c.self.inside.store c.reserve.new.store c.self.inside.contexts c.self.inside.live
+roomier c =
+    let i = c.self.inside in
+    let r = c.reserve.new in
+    let e = c.reserve.ensures in
+    roomy i.caches r.caches i.store r.store i.contexts i.live e.caches e.store e.slots e.no_less e.forest e.sound c.self.invariant.sound
+
 pub invariant_of-self : goal.invariant_of-self
 invariant_of-self c = record {
-  sound = (
-      let i = c.self.inside in
-      let r = c.reserve.new in
-      let e = c.reserve.ensures in
-      roomy_sound i.caches r.caches i.store r.store i.contexts i.live e.caches e.store e.slots e.no_less e.forest e.sound c.self.invariant.sound
-      );
+  sound = (roomier (goal.at.invariant_of-self c).After-reserve).sound;
   translated = roomy_right c.self.inside.caches c.reserve.new.caches c.self.inside.store c.reserve.new.store c.reserve.ensures.caches c.reserve.ensures.store c.self.inside.contexts c.self.invariant.translated;
 }
 
 pub returns-in_err-reserve-clause-valid : goal.returns-in_err-reserve-clause-valid
 returns-in_err-reserve-clause-valid c = λ h v has.
-    let i = c.self.inside in
-    let r = c.reserve.new in
-    let e = c.reserve.ensures in
-    roomy_valid i.caches r.caches i.store r.store i.contexts i.live e.caches e.store e.slots e.no_less e.forest e.sound c.self.invariant.sound h (subst (λ (p : Manager). IsValid p h) (sym c.self.view_is) v)
+    (roomier (goal.at.returns-in_err-reserve-clause-valid c).After-reserve).valid h (subst (λ (p : Manager). IsValid p h) (sym c.self.view_is) v)
 
 pub returns-in_err-reserve-clause-answers : goal.returns-in_err-reserve-clause-answers
 returns-in_err-reserve-clause-answers c = λ h v has.
@@ -71,7 +71,8 @@ returns-in_err-reserve-clause-answers c = λ h v has.
     let e = c.reserve.ensures in
     let p : Manager = seen i.caches i.store i.contexts in
     let q : Manager = seen r.caches r.store i.contexts in
-    let k = roomy_sound i.caches r.caches i.store r.store i.contexts i.live e.caches e.store e.slots e.no_less e.forest e.sound c.self.invariant.sound in
+    let room = roomier (goal.at.returns-in_err-reserve-clause-answers c).After-reserve in
+    let k = room.sound in
     let answer : Answer = Err troubles.Memory in
     let gave = err_from_is_err_and c.from_residual.result c.from_residual.ensures.1 in
     let is : c.from_residual.result ≡ Err troubles.Memory = gave.1 ∙ ap (λ t. Err t) gave.2 in
@@ -79,9 +80,9 @@ returns-in_err-reserve-clause-answers c = λ h v has.
     (subst (λ (r : Result _ _). AnswerIs (state_at p h) (commands.OpenSegment c.args.seg) (answer_by replies.Cache r) [] no_counts (state_at q h)) (sym is)
     (lacking p q h c.args.seg c.args.pages (free_of c.self.view_is c.requires.free) (few_of c.self.view_is c.requires.few)
     (subst (λ (p : Manager). HasSegment h c.args.seg p.page_bytes c.args.pages) (sym c.self.view_is) has) c.self.invariant.sound.nodes k.nodes
-    (roomy_valid i.caches r.caches i.store r.store i.contexts i.live e.caches e.store e.slots e.no_less e.forest e.sound c.self.invariant.sound h (subst (λ (p : Manager). IsValid p h) (sym c.self.view_is) v))
-    (roomy_forest i.caches r.caches i.store r.store i.contexts i.live e.caches e.store e.slots e.no_less e.forest e.sound c.self.invariant.sound h)
-    (roomy_by i.caches r.caches i.store r.store i.contexts i.live e.caches e.store e.slots e.no_less e.forest e.sound c.self.invariant.sound)
+    (room.valid h (subst (λ (p : Manager). IsValid p h) (sym c.self.view_is) v))
+    (room.forest h)
+    (room.by)
     i.live c.self.invariant.sound.counted (omega (arith, c.if-self-pages.false))))
 
 pub invariant_of-self-2 : goal.invariant_of-self-2
@@ -91,7 +92,8 @@ invariant_of-self-2 c = record {
       let r = c.reserve.new in
       let e = c.reserve.ensures in
       let m = c.make_named.ensures in
-      let k = roomy_sound i.caches r.caches i.store r.store i.contexts i.live e.caches e.store e.slots e.no_less e.forest e.sound c.self.invariant.sound in
+      let room = roomier (goal.at.invariant_of-self-2 c).After-reserve in
+      let k = room.sound in
       named_sound r.caches c.make_named.new.self r.store i.contexts i.live c.args.pages c.make_named.result c.args.seg m.made.0 m.made.1 m.made.2 m.pages m.stays (m.forest e.sound) (m.sound e.sound) k
       (free_in i.caches r.caches c.reserve.ensures.caches (free_of c.self.view_is c.requires.free)) (omega (arith, c.if-self-pages.false)) c.in_ok-reserve.ensures.capacity
       );
@@ -100,7 +102,8 @@ invariant_of-self-2 c = record {
       let r = c.reserve.new in
       let e = c.reserve.ensures in
       let m = c.make_named.ensures in
-      let k = roomy_sound i.caches r.caches i.store r.store i.contexts i.live e.caches e.store e.slots e.no_less e.forest e.sound c.self.invariant.sound in
+      let room = roomier (goal.at.invariant_of-self-2 c).After-reserve in
+      let k = room.sound in
       made_right r.caches c.make_named.new.self r.store c.make_named.result c.args.pages OnSegment (λ f. refl) m.made.2.number m.pages m.stays m.tables (m.forest e.sound) k.nodes (m.sound e.sound) i.contexts
       (roomy_right i.caches r.caches i.store r.store e.caches e.store i.contexts c.self.invariant.translated)
       );
@@ -112,8 +115,9 @@ returns-clause-valid c = λ h v has.
     let r = c.reserve.new in
     let e = c.reserve.ensures in
     let m = c.make_named.ensures in
-    let k = roomy_sound i.caches r.caches i.store r.store i.contexts i.live e.caches e.store e.slots e.no_less e.forest e.sound c.self.invariant.sound in
-    let w = roomy_valid i.caches r.caches i.store r.store i.contexts i.live e.caches e.store e.slots e.no_less e.forest e.sound c.self.invariant.sound h (subst (λ (p : Manager). IsValid p h) (sym c.self.view_is) v) in
+    let room = roomier (goal.at.returns-clause-valid c).After-reserve in
+    let k = room.sound in
+    let w = room.valid h (subst (λ (p : Manager). IsValid p h) (sym c.self.view_is) v) in
     named_valid r.caches c.make_named.new.self r.store i.contexts i.live c.args.pages c.make_named.result c.args.seg m.made.0 m.made.1 m.made.2 m.pages m.stays (m.forest e.sound) (m.sound e.sound) k
     (free_in i.caches r.caches c.reserve.ensures.caches (free_of c.self.view_is c.requires.free)) (omega (arith, c.if-self-pages.false)) c.in_ok-reserve.ensures.capacity h w (subst (λ (p : Manager). HasSegment h c.args.seg p.page_bytes c.args.pages) (sym c.self.view_is) has)
 
@@ -123,18 +127,13 @@ returns-clause-answers c = λ h v has.
     let r = c.reserve.new in
     let e = c.reserve.ensures in
     let m = c.make_named.ensures in
-    let k = roomy_sound i.caches r.caches i.store r.store i.contexts i.live e.caches e.store e.slots e.no_less e.forest e.sound c.self.invariant.sound in
-    let o : Manager = seen i.caches i.store i.contexts in
+    let room = roomier (goal.at.returns-clause-answers c).After-reserve in
+    let k = room.sound in
     let p : Manager = seen r.caches r.store i.contexts in
     let q : Manager = seen c.make_named.new.self r.store i.contexts in
-    let w = roomy_valid i.caches r.caches i.store r.store i.contexts i.live e.caches e.store e.slots e.no_less e.forest e.sound c.self.invariant.sound h (subst (λ (p : Manager). IsValid p h) (sym c.self.view_is) v) in
+    let w = room.valid h (subst (λ (p : Manager). IsValid p h) (sym c.self.view_is) v) in
     let answer : Answer = Ok (replies.Cache c.make_named.result) in
-    let same : state_at p h ≡ state_at o h = λ j. record {
-      machine = roomy_machine i.caches r.caches i.store r.store i.contexts i.live e.caches e.store e.slots e.no_less e.forest e.sound c.self.invariant.sound h j;
-      forest = Some (roomy_forest i.caches r.caches i.store r.store i.contexts i.live e.caches e.store e.slots e.no_less e.forest e.sound c.self.invariant.sound h j);
-      segments = segments_of h;
-    } in
     subst (λ (p : Manager). AnswerIs (state_at p h) (commands.OpenSegment c.args.seg) answer [] no_counts (state_at q h)) c.self.view_is
-    (subst (λ (x : State). AnswerIs x (commands.OpenSegment c.args.seg) answer [] no_counts (state_at q h)) same
+    (subst (λ (x : State). AnswerIs x (commands.OpenSegment c.args.seg) answer [] no_counts (state_at q h)) (room.state h)
     (named_answer r.caches c.make_named.new.self r.store i.contexts i.live c.args.pages c.make_named.result c.args.seg m.made.0 m.made.1 m.made.2 m.pages m.stays (m.forest e.sound) (m.sound e.sound) k
     (free_in i.caches r.caches c.reserve.ensures.caches (free_of c.self.view_is c.requires.free)) (omega (arith, c.if-self-pages.false)) c.in_ok-reserve.ensures.capacity h w (subst (λ (p : Manager). HasSegment h c.args.seg p.page_bytes c.args.pages) (sym c.self.view_is) has) (few_in i.caches r.caches c.reserve.ensures.caches (few_of c.self.view_is c.requires.few))))

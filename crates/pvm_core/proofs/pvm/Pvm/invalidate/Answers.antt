@@ -30,7 +30,8 @@ use Rattle.pvm_core.proofs.Answering.Kept.{seen}
 use Rattle.pvm_core.proofs.Meaning.Live.{nodes_most}
 use Rattle.pvm_core.proofs.Accesses.Loading.{size_le}
 use Rattle.pvm_core.proofs.Answering.Reaching.{reach_none}
-use Rattle.pvm_core.proofs.Spanning.Reserved.{IsReserved, reserved}
+use Rattle.pvm_core.proofs.NewCaches.Roomy.{IsRoomy}
+use Rattle.pvm_core.proofs.Spanning.Reserved.{reserved}
 use Rattle.pvm_core.specs.Locks.{any_locked}
 use Rattle.pvm_core.proofs.Holding.Counted.{any_same, same_locked}
 use Rattle.pvm_core.proofs.Holding.Kept.{held_released}
@@ -61,7 +62,7 @@ unlocked : (g : Over) (c : In_default g) → any_locked c.self.inside.caches c.a
 unlocked g c = extent_unlocked (table_of c.self.inside.caches c.args.extent.cache.0) c.args.extent (any_locked c.self.inside.caches c.args.extent) (sym c.extent_refusal.ensures ∙ c.in_default.is)
 
 -- room was taken
-roomy : (g : Over) (c : After-reserve g) → IsReserved c.self.inside.caches c.reserve.new.self c.self.inside.store c.self.inside.contexts c.self.inside.live
+roomy : (g : Over) (c : After-reserve g) → IsRoomy c.self.inside.caches c.reserve.new.self c.self.inside.store c.self.inside.store c.self.inside.contexts c.self.inside.live
 roomy g c =
     let i = c.self.inside in
     let r = c.reserve.ensures in
