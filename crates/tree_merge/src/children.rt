@@ -11,5 +11,8 @@ pub(crate) fn first_child(caches: &Caches, node: NodeId) -> Option<NodeId>
     requires { HasNode caches.now node }
     ensures { result ≡ spec.first_child caches.now node }
 {
-    caches.tree_child(node, 0).or(caches.links(node).first)
+    match caches.tree_child(node, 0) {
+        Some(child) => Some(child),
+        None => caches.links(node).first,
+    }
 }

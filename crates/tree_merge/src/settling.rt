@@ -31,31 +31,34 @@ fn passes(from: OwnState, to: OwnState) -> bool
     !from.is_absent() && to.is_absent()
 }
 
-// What is released where the node gives way to this child.
-fn released_by(caches: &Caches, node: NodeId, child: NodeId) -> Released
-    requires held { HasNode caches.now node }
-    requires child { HasNode caches.now child }
-    ensures { result ≡ released_to caches.now node (Some child) }
-{
-    let state = caches.own_state(node);
-    if passes(state, caches.own_state(child)) {
-        Released::Moved(node, child)
-    } else {
-        Released::Dropped(node, state)
-    }
+// What becomes of the own pages of a node that gives way and of its child.
+#[derive(Clone, Copy)]
+struct Passed {
+    // What is released.
+    released: Released,
+    // The own state of the child then.
+    state: OwnState,
 }
 
-// The own state of the child, once it got the node's own page where it had none.
-fn given_state(caches: &Caches, node: NodeId, child: NodeId) -> OwnState
+// What becomes of their own pages where the node gives way to this child: it gets that of the node where it has none.
+fn passed_to(caches: &Caches, node: NodeId, child: NodeId) -> Passed
     requires held { HasNode caches.now node }
     requires child { HasNode caches.now child }
-    ensures { result ≡ given (own_of caches.now node) (own_of caches.now child) }
+    ensures released { result.released ≡ released_to caches.now node (Some child) }
+    ensures state { result.state ≡ given (own_of caches.now node) (own_of caches.now child) }
 {
-    let state = caches.own_state(child);
-    if state.is_absent() {
-        caches.own_state(node)
+    let from = caches.own_state(node);
+    let to = caches.own_state(child);
+    if passes(from, to) {
+        Passed {
+            released: Released::Moved(node, child),
+            state: from,
+        }
     } else {
-        state
+        Passed {
+            released: Released::Dropped(node, from),
+            state: to,
+        }
     }
 }
 
@@ -75,8 +78,7 @@ fn pass_page(caches: &mut Caches, node: NodeId, child: NodeId) -> Released
         × (caches.new.copies ≡ caches.old.copies) }
     ensures room { caches.new.room ≡ caches.old.room }
 {
-    let released = released_by(caches, node, child);
-    let state = given_state(caches, node, child);
+    let Passed { released, state } = passed_to(caches, node, child);
     caches.set_state(child, state);
     released
 }
@@ -141,20 +143,24 @@ fn give_in_steps(caches: &mut Caches, node: NodeId, child: NodeId) -> Released
 
 // The same where neither hangs by a stub link. The parent, where there is one, and the child are written once each: so
 // where nodes of one run give way one after the other, bounds of runs move, and no run is split for each.
-fn give_at_once(caches: &mut Caches, node: NodeId, child: NodeId) -> Released
+fn give_at_once(
+    caches: &mut Caches,
+    node: NodeId,
+    child: NodeId,
+    parent: Option<NodeId>,
+) -> Released
     requires sound { IsSound caches.old }
     requires held { HasNode caches.old node }
     requires child { HasNode caches.old child }
     requires up { parent_named (forest_of caches.old) (name_of caches.old child)
         ≡ Some (name_of caches.old node) }
     requires few { child_count (forest_of caches.old) (name_of caches.old node) < 2 }
+    requires parent { parent ≡ (cell caches.old node).links.parent }
     requires no_stub { (cell caches.old node).links.by_stub ≡ false }
     requires child_no_stub { (cell caches.old child).links.by_stub ≡ false }
     ensures { HasGivenWay caches.old caches.new node child result }
 {
-    let released = released_by(caches, node, child);
-    let state = given_state(caches, node, child);
-    let parent = caches.links(node).parent;
+    let Passed { released, state } = passed_to(caches, node, child);
     exchange_under(caches, parent, node, child);
     caches.rehang(child, state, parent);
     caches.free(node);
@@ -178,10 +184,11 @@ fn give_to(caches: &mut Caches, node: NodeId, child: NodeId) -> Released
     ensures gone { IsGone caches.old caches.new node }
     ensures owns { OwnsAfter caches.old caches.new node result }
 {
-    if caches.links(node).by_stub || caches.links(child).by_stub {
+    let links = caches.links(node);
+    if links.by_stub || caches.links(child).by_stub {
         give_in_steps(caches, node, child)
     } else {
-        give_at_once(caches, node, child)
+        give_at_once(caches, node, child, links.parent)
     }
 }
 
