@@ -1,6 +1,6 @@
 -- Frames of pages that aren't locked aren't pinned.
 use Rattle.std.proofs.Common.{◌≡◌, ℕ, zero, suc, ◌+◌, ◌-◌, ◌<◌, ◌≤◌, Bool, true, false, List, length, Option, Some, refl, sym, ap, ◌∙◌, subst, arith}
-use Rattle.std.specs.Prelude.{◌||◌}
+use Rattle.std.specs.Prelude.{◌||◌, [], ◌∷◌, None, count_by, get_or, option_and_then, slice_get, unwrap_or}
 use Rattle.std.specs.List.{list_any, range_with_len}
 use Rattle.std.proofs.lemmas.List.Folds.{list_any_at}
 use Rattle.std.proofs.lemmas.List.FromFn.{get_or-range_with_len, length-range_with_len}
@@ -14,9 +14,10 @@ use Rattle.vm_ids.specs.Forest.Commands.{extent_names}
 use Rattle.vm_ids.specs.Forest.NameLists.{◌∈◌}
 use Rattle.vm_ids.proofs.Forest.Laws.Ranges.{ranges_hold_their_pages}
 use Rattle.vm_ids.specs.Held.{Held}
+use Rattle.vm_ids.proofs.Places.{count_cons}
 use Rattle.frame_pool.specs.Pool.{is_pinned}
 use Rattle.global_map.specs.Pairs.{node_of}
-use Rattle.local_cache.specs.Arena.{Arena, is_locked, locks_of}
+use Rattle.local_cache.specs.Arena.{Arena, Table, is_locked, locked_count, locked_pages, locks_of}
 use Rattle.local_cache.specs.Reading.{name_of}
 use Rattle.local_cache.specs.Sound.{IsSound}
 use Rattle.residency.specs.declared.store.Store.{Store}
@@ -24,6 +25,7 @@ use Rattle.residency.specs.World.{world}
 use Rattle.page_release.specs.Steps.{IsUnpinned, IsWorkingUnpinned}
 use Rattle.segment_ops.specs.Synced.{AreLoose}
 use Rattle.vm_model.specs.Machine.{Actor}
+use Rattle.vm_model.proofs.Parts.Lists.{sum_by_part}
 use Rattle.pvm_core.specs.Locks.{AreHeld, any_locked}
 use Rattle.pvm_core.proofs.Holding.Counted.{locked_some, some_locked}
 use Rattle.pvm_core.proofs.Holding.Kept.{locked_in}
@@ -43,6 +45,26 @@ none_from p first zero none = refl
 none_from p first (suc n) none = ap (λ b. b || list_any p (range_with_len (first + 1) n)) (none first (omega arith) (omega arith)) ∙ none_from p (first + 1) n (λ k low less. none k (omega (arith, low)) (omega (arith, less)))
 
 -- none is
+-- Where no page is locked, no region holds any.
+none_among : (counts : List ℕ) → count_by is_locked counts ≡ 0 → (i : ℕ) → unwrap_or (slice_get counts i) 0 ≡ 0
+none_among [] e i = refl
+none_among (zero ∷ counts) e zero = refl
+none_among (zero ∷ counts) e (suc i) = none_among counts (omega (arith, e, count_cons is_locked 0 counts)) i
+none_among (suc k ∷ counts) e i = absurd (omega (arith, e, count_cons is_locked (suc k) counts))
+
+none_at : (tables : List (Option Table)) → ((i : ℕ) (t : Option Table) → slice_get tables i ≡ Some t → locked_pages t ≡ 0) → (k : ℕ) → locked_pages (get_or tables k None) ≡ 0
+none_at [] none k = refl
+none_at (t ∷ tables) none zero = none 0 t refl
+none_at (t ∷ tables) none (suc k) = none_at tables (λ i u is. none (suc i) u is) k
+
+pub none_locked : (a : Arena) → locked_count a ≡ 0 → (cache page : ℕ) → locks_of a cache page ≡ 0
+none_locked a e zero page = refl
+none_locked a e (suc k) page = by_table (get_or a.caches k None) (none_at a.caches (λ i t is. (let part = sum_by_part locked_pages a.caches i t is in omega (arith, e, part))) k)
+  where
+    by_table : (o : Option Table) → locked_pages o ≡ 0 → unwrap_or (option_and_then (λ (t : Table). slice_get t.locks page) o) 0 ≡ 0
+    by_table None none = refl
+    by_table (Some t) none = none_among t.locks none page
+
 pub any_none : (a : Arena) (e : Extent) → ((page : ℕ) → e.first.0 ≤ page → page < e.first.0 + e.pages → locks_of a e.cache.0 page ≡ 0) → any_locked a e ≡ false
 any_none a e none = none_from (λ n. is_locked (locks_of a e.cache.0 n)) e.first.0 e.pages (λ k low less. ap is_locked (none k low less))
 
