@@ -1,7 +1,8 @@
 -- The lines of a generator, one after another.
-use Rattle.std.proofs.Common.{◌≡◌, ◌+◌, ◌-◌, ◌<◌, ℕ, zero, suc, List, [], ◌∷◌, length, take, drop, drop_of_length-le, Some, None, refl, sym, ap, arith, add-one, inl, inr, ◌∙◌}
+use Rattle.std.proofs.Common.{◌≡◌, ◌+◌, ◌-◌, ◌/◌, ◌<◌, ◌≤◌, ℕ, decimal, zero, suc, List, [], ◌∷◌, length, take, drop, drop_of_length-le, Some, None, refl, sym, ap, arith, add-one, inl, inr, ◌∙◌}
 use Rattle.std.specs.Prelude.{slice_get}
 use Rattle.std.proofs.Math.Seq.{take-nil}
+use Rattle.std.proofs.lemmas.Fmt.{decimal_digit}
 use Rattle.std.proofs.lemmas.List.{drop_more, length-append, length-take}
 use Rattle.std.proofs.lemmas.Option.{get_or_from_slice_get, slice_get_cases, slice_get_within}
 use Rattle.actor_script.specs.Generator.{Position, drawn_line, drawn_lines, lines_from, opening}
@@ -60,3 +61,10 @@ unfolding lines_from
 length-lines_from at count =
     let behind = count - length at.left in
     omega (arith, length-append (take count at.left) (drawn_lines at.state behind), length-take count at.left, drawn_so_many at.state behind)
+
+-- the actor of a mapping
+pub first_actor : (mapping : ℕ) → mapping < 2 → decimal (mapping / 2 + 1) ≡ 49 ∷ []
+first_actor mapping h = let one : mapping / 2 + 1 ≡ 1 = omega arith in ap decimal one ∙ decimal_digit 1 (omega arith)
+
+pub second_actor : (mapping : ℕ) → mapping < 4 → 2 ≤ mapping → decimal (mapping / 2 + 1) ≡ 50 ∷ []
+second_actor mapping h k = let two : mapping / 2 + 1 ≡ 2 = omega arith in ap decimal two ∙ decimal_digit 2 (omega arith)

@@ -1,32 +1,10 @@
--- Hexadecimal digits, one after another.
-use Rattle.std.proofs.Common.{◌≡◌, ◌+◌, ◌-◌, ◌*◌, ◌/◌, ◌%◌, ◌^◌, ◌<◌, ◌≤◌, ◌==◌, ℕ, zero, suc, true, false, List, ◌∷◌, length, take, drop, set, drop_of_length-le, get_or, arith, sym, ap, ◌∙◌, lit<}
-use Rattle.std.specs.Char.{digit_value, is_digit}
+-- A number, written from its last hexadecimal digit to its first.
+use Rattle.std.proofs.Common.{◌≡◌, ◌+◌, ◌-◌, ◌/◌, ◌%◌, ◌^◌, ◌<◌, ◌≤◌, ◌==◌, ℕ, zero, suc, false, List, ◌∷◌, length, take, drop, set, drop_of_length-le, arith, sym, ap}
 use Rattle.std.specs.Fmt.{digit_glyph, digits, digits_onto}
 use Rattle.std.proofs.lemmas.List.{drop-set, length-drop, length-set, take_all}
-use Rattle.std.specs.List.{list_all}
-use Rattle.std.specs.Str.Parse.{digits_value}
-use Rattle.std.proofs.Math.Nat.{pow-le-pow_right}
-use Rattle.std.proofs.lemmas.Bool.{and_from, lt-ltb, cond-true, cond-false, eq-eqb, ne_eqb}
+use Rattle.std.proofs.lemmas.Bool.{cond-true, cond-false, eq-eqb, ne_eqb}
 use Rattle.std.proofs.lemmas.Grind.{pow_more}
-use Rattle.std.proofs.lemmas.Int.Digits.{digits_value_more}
-use Rattle.std.proofs.lemmas.List.Folds.{list_all_more}
 use Rattle.actor_script.specs.Text.{hexadecimal}
-
--- an address of fewer than twelve digits
-pub sixteen_below : (i : ℕ) → i < 12 → 16 ^ i ≤ 16 ^ 11
-sixteen_below i h = pow-le-pow_right {n = 16} (lit< tt) {i = i} {j = 11} (omega arith)
-
--- one digit more
-pub digits_more : (word : List ℕ) (i : ℕ) → i < length word → list_all (λ c. is_digit c 16) (take i word) ≡ true → digit_value (get_or word i 0) < 16 → list_all (λ c. is_digit c 16) (take (i + 1) word) ≡ true
-digits_more word i within all digit = list_all_more (λ c. is_digit c 16) word i 0 within ∙ and_from _ _ all (lt-ltb (digit_value (get_or word i 0)) 16 digit)
-
-pub value_more : (word : List ℕ) (i address digit : ℕ) → i < length word → address ≡ digits_value 16 (take i word) → digit ≡ digit_value (get_or word i 0) → 16 * address + digit ≡ digits_value 16 (take (i + 1) word)
-value_more word i address digit within value is = omega (arith, digits_value_more 16 word i within)
-
-pub small_more : (i address digit : ℕ) → address < 16 ^ i → digit < 16 → 16 * address + digit < 16 ^ (i + 1)
-small_more i address digit small below = omega (arith, pow_more 16 i)
-
--- A number, written from its last digit to its first.
 
 last_of : (j k n : ℕ) (acc : List ℕ) → j ≡ suc k → n < 16 → digits_onto j 16 false n acc ≡ digit_glyph false (n % 16) ∷ acc
 last_of j k n acc e h = rw e (cond-true (n / 16 == 0) _ _ (eq-eqb (n / 16) 0 (omega arith)))

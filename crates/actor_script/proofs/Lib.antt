@@ -1,3 +1,4 @@
+pub mod Digits
 pub mod Forms
 pub mod Generated
 pub mod Hexadecimal
@@ -5,6 +6,7 @@ pub mod Numbers
 pub mod Replies
 pub mod Splitting
 pub mod Tallied
+pub mod Verbs
 pub mod WellFormed
 pub mod Worked
 pub mod Written

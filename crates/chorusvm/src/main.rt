@@ -1,19 +1,24 @@
-//! The program `chorusvm`: it replays a script of actors on standard input, and writes the replies to standard output; or
-//! it writes the script that a number makes, or the summary of its replay.
+//! The program `chorusvm`: it replays a script of actors on standard input, and writes the replies
+//! to standard output; or it writes the script that a number makes, or the summary of its replay.
 //!
-//! It is the top of the layers, and has no model of its own: what it answers is said by the contract of the one call
-//! that it makes, `replay::run`. Here stand only the adapters over the real streams and over the files of a folder, and
-//! the messages on standard error. The words name the folder, which is the working folder where they don't, and the size
-//! of a page. In the folder the file `seg.N` is segment N, and `swap` is the swap area.
+//! It is the top of the layers, and has no model of its own: what it answers is said by the
+//! contract of the one call that it makes, `replay::run`. It makes it where standard output is
+//! open. Here stand only the adapters over the real streams and over the files of a folder, and the
+//! messages on standard error. The words name the folder, which is the working folder where they
+//! don't, and the size of a page. In the folder the file `seg.N` is segment N, and the swap area is
+//! made there.
 #![tactic(auto)]
 
 mod fault;
 mod file_mapper;
 mod folder;
+mod opened;
 mod sink;
 mod source;
+mod swap_area;
 #[cfg(test)]
 mod tests;
+mod waiting;
 
 use fault::Fault;
 use file_mapper::FileMapper;
@@ -22,6 +27,7 @@ use sink::StreamSink;
 use source::StreamSource;
 use std::env;
 use std::io::ErrorKind;
+use std::os::fd::AsFd;
 use std::process::ExitCode;
 use vm_port::Clock;
 
@@ -41,16 +47,26 @@ fn words_given(rt: &HostRuntime) -> Result<Vec<String>, Status> {
     Ok(words)
 }
 
+// Whether standard output is open. Where it isn't, nothing is carried out: nobody would get the
+// replies.
+fn has_output(rt: &HostRuntime) -> bool {
+    let output = rt.stdout();
+    output.as_fd().try_clone_to_owned().is_ok()
+}
+
 // Runs these words over standard input and output.
 fn run_words(rt: &HostRuntime, words: &[String]) -> Status {
+    if !has_output(rt) {
+        return Status::SinkFault;
+    }
     let mut texts = Vec::new(rt.alloc());
     for word in words {
         if texts.push(word.as_str()).is_err() {
             return Status::NoMemory;
         }
     }
-    let mut source = StreamSource::new(rt.stdin());
-    let mut sink = StreamSink::new(rt.stdout());
+    let mut source = StreamSource::new(rt.stdin(), rt);
+    let mut sink = StreamSink::new(rt.stdout(), rt);
     let Ok(mut mapper) = FileMapper::new(rt, rt.alloc(), folder(&texts), page_size(&texts)) else {
         return Status::NoMemory;
     };

@@ -1,10 +1,13 @@
 // The adapters over real streams and files, and the messages, by values from outside.
+ghost use Rattle.std.specs.Prelude.{◌≡◌, ◌≤◌, IfOk, Some, None};
+
 use crate::fault::Fault;
 use crate::file_mapper::FileMapper;
 use crate::sink::StreamSink;
 use crate::source::StreamSource;
 use replay::{Status, run};
-use std::io::Read;
+use std::io::{ErrorKind, Read, Write};
+use std::os::unix::fs::symlink;
 use std::{env, fs, io, process};
 use vm_ids::{PAGE, PageNo, SegId, SlotId};
 use vm_port::{Clock, Failed, Mapper, MemorySink, MemorySource, Sink, Source};
@@ -15,23 +18,62 @@ struct Broken;
 
 impl Read for Broken {
     fn read(&mut self, _into: &mut [u8]) -> io::Result<usize> {
-        Err(io::Error::from(io::ErrorKind::Other))
+        Err(io::Error::from(ErrorKind::Other))
+    }
+}
+
+// A stream that is broken off, then would have to wait, and then has done all.
+#[derive(Drop)]
+struct Slow {
+    calls: u32,
+}
+
+impl Slow {
+    fn all(&mut self, count: usize) -> io::Result<usize>
+        ensures { IfOk result (λ n. n ≤ count) }
+    {
+        self.calls = self.calls.saturating_add(1);
+        match self.calls {
+            1 => Err(io::Error::from(ErrorKind::Interrupted)),
+            2 => Err(io::Error::from(ErrorKind::WouldBlock)),
+            _ => Ok(count),
+        }
+    }
+}
+
+impl Read for Slow {
+    fn read(&mut self, into: &mut [u8]) -> io::Result<usize> {
+        self.all(into.len())
+    }
+}
+
+impl Write for Slow {
+    fn write(&mut self, from: &[u8]) -> io::Result<usize> {
+        self.all(from.len())
+    }
+
+    fn flush(&mut self) -> io::Result<()> {
+        Ok(())
     }
 }
 
 #[test]
 fn streams_are_sources_and_sinks(rt: HostRuntime) -> io::Result<()> {
-    let mut source = StreamSource::new(b"actor\n".as_slice());
+    let mut source = StreamSource::new(b"actor\n".as_slice(), &rt);
     let mut into = [0u8; 8];
     assert_eq!(&rt; source.read(&mut into), Ok(6));
     assert_eq!(&rt; into[..6], *b"actor\n".as_slice());
     assert_eq!(&rt; source.read(&mut into), Ok(0));
-    let mut broken = StreamSource::new(Broken);
+    let mut broken = StreamSource::new(Broken, &rt);
     assert_eq!(&rt; broken.read(&mut into), Err(Failed));
+    let mut slow = StreamSource::new(Slow { calls: 0 }, &rt);
+    assert_eq!(&rt; slow.read(&mut into), Ok(8));
     let mut room = [0u8; 4];
-    let mut full = StreamSink::new(room.as_mut_slice());
+    let mut full = StreamSink::new(room.as_mut_slice(), &rt);
     assert_eq!(&rt; full.write(b"hello"), Ok(4));
     assert_eq!(&rt; full.write(b"o"), Err(Failed));
+    let mut slow = StreamSink::new(Slow { calls: 0 }, &rt);
+    assert_eq!(&rt; slow.write(b"hello"), Ok(5));
     Ok(())
 }
 
@@ -106,24 +148,78 @@ fn files_are_segments_of_whole_pages(rt: HostRuntime) -> io::Result<()> {
     fs::remove_dir_all(&rt, folder)
 }
 
+// A mapper over the files of a folder, with pages of 512 bytes.
+fn mapper_over<'a>(rt: &'a HostRuntime, folder: &str) -> io::Result<FileMapper<'a>>
+    ensures { IfOk result (λ m. m.page_bytes ≡ 512) }
+{
+    match FileMapper::new(rt, rt.alloc(), folder, 512) {
+        Ok(mapper) => Ok(mapper),
+        Err(_) => Err(io::Error::from(ErrorKind::OutOfMemory)),
+    }
+}
+
 #[test]
-fn the_swap_area_is_made_by_its_first_push(rt: HostRuntime) -> io::Result<()> {
-    let folder = new_folder(&rt, "swap")?;
-    let swap = path_in(&rt, &folder, "swap")?;
-    let Ok(mut mapper) = FileMapper::new(&rt, rt.alloc(), &folder, 512) else {
-        panic!(&rt; "no memory");
-    };
+fn a_segment_is_the_file_that_was_opened(rt: HostRuntime) -> io::Result<()> {
+    let folder = new_folder(&rt, "replaced")?;
+    let (file, other) = (
+        path_in(&rt, &folder, "seg.1")?,
+        path_in(&rt, &folder, "other")?,
+    );
+    fs::write(&rt, file.as_str(), [7u8; 512].as_slice())?;
+    fs::write(&rt, other.as_str(), [9u8; 1024].as_slice())?;
+    let mut mapper = mapper_over(&rt, &folder)?;
     let mut page = [1u8; 512];
-    assert_eq!(&rt; mapper.swap_in(SlotId(0), &mut page), Err(Failed));
-    assert!(&rt; !fs::exists(&rt, swap.as_str())?);
-    assert_eq!(&rt; mapper.swap_out(SlotId(5), &[8; 512]), Ok(()));
-    assert_eq!(&rt; fs::metadata(&rt, swap.as_str())?.len(), 3072);
-    assert_eq!(&rt; mapper.swap_in(SlotId(5), &mut page), Ok(()));
-    assert_eq!(&rt; page, [8; 512]);
+    assert_eq!(&rt; mapper.size(SegId(1)), Ok(Some(1)));
+    fs::rename(&rt, other.as_str(), file.as_str())?;
+    assert_eq!(&rt; mapper.pull_in(SegId(1), PageNo(0), &mut page), Ok(()));
+    assert_eq!(&rt; page, [7; 512]);
+    assert_eq!(&rt; mapper.size(SegId(1)), Ok(Some(2)));
+    assert_eq!(&rt; mapper.pull_in(SegId(1), PageNo(0), &mut page), Ok(()));
+    assert_eq!(&rt; page, [9; 512]);
     fs::remove_dir_all(&rt, folder)
 }
 
-// Four pages in three frames: a page is pushed to the swap area at the fourth store, and pulled back at the loads.
+#[test]
+fn a_segment_is_written_by_one_run(rt: HostRuntime) -> io::Result<()> {
+    let folder = new_folder(&rt, "runs")?;
+    fs::write(&rt, path_in(&rt, &folder, "seg.1")?, [7u8; 512].as_slice())?;
+    let (mut one, mut other) = (mapper_over(&rt, &folder)?, mapper_over(&rt, &folder)?);
+    assert_eq!(&rt; one.size(SegId(1)), Ok(Some(1)));
+    assert_eq!(&rt; one.get_write_access(SegId(1), PageNo(0)), Ok(true));
+    assert_eq!(&rt; other.size(SegId(1)), Err(Failed));
+    assert_eq!(&rt; one.size(SegId(1)), Ok(Some(1)));
+    assert_eq!(&rt; other.size(SegId(1)), Ok(Some(1)));
+    assert_eq!(&rt; one.get_write_access(SegId(1), PageNo(0)), Err(Failed));
+    let mut page = [1u8; 512];
+    assert_eq!(&rt; one.pull_in(SegId(1), PageNo(0), &mut page), Ok(()));
+    fs::remove_dir_all(&rt, folder)
+}
+
+#[test]
+fn a_swap_area_is_of_one_run_alone(rt: HostRuntime) -> io::Result<()> {
+    let folder = new_folder(&rt, "swap")?;
+    let swap = path_in(&rt, &folder, "swap")?;
+    let (mut one, mut other) = (mapper_over(&rt, &folder)?, mapper_over(&rt, &folder)?);
+    let mut page = [1u8; 512];
+    assert_eq!(&rt; one.swap_in(SlotId(0), &mut page), Err(Failed));
+    fs::write(&rt, swap.as_str(), "mine")?;
+    assert_eq!(&rt; one.swap_out(SlotId(5), &[8; 512]), Err(Failed));
+    assert_eq!(&rt; fs::read(&rt, swap.as_str())?.len(), 4);
+    fs::remove_file(&rt, swap.as_str())?;
+    symlink(&rt, "nowhere", swap.as_str())?;
+    assert_eq!(&rt; one.swap_out(SlotId(5), &[8; 512]), Err(Failed));
+    fs::remove_file(&rt, swap.as_str())?;
+    assert_eq!(&rt; one.swap_out(SlotId(5), &[8; 512]), Ok(()));
+    assert!(&rt; !fs::exists(&rt, swap.as_str())?);
+    assert_eq!(&rt; other.swap_out(SlotId(5), &[9; 512]), Ok(()));
+    assert_eq!(&rt; one.swap_in(SlotId(5), &mut page), Ok(()));
+    assert_eq!(&rt; page, [8; 512]);
+    assert_eq!(&rt; one.swap_in(SlotId(6), &mut page), Err(Failed));
+    fs::remove_dir(&rt, folder)
+}
+
+// Four pages in three frames: a page is pushed to the swap area at the fourth store, and pulled
+// back at the loads.
 const SWAPS: &str = "actor
 temp 4
 map a1 c1 0 4 10000 rw
@@ -153,11 +249,9 @@ const SWAPS_REPLIES: &str = "1 ok a1
 #[test]
 fn a_run_swaps_to_a_file(rt: HostRuntime) -> io::Result<()> {
     let folder = new_folder(&rt, "run")?;
-    let swap = path_in(&rt, &folder, "swap")?;
     let Ok(mut mapper) = FileMapper::new(&rt, rt.alloc(), &folder, PAGE as u32) else {
         panic!(&rt; "no memory");
     };
-    assert!(&rt; !fs::exists(&rt, swap.as_str())?);
     let mut source = MemorySource::new(SWAPS.as_bytes(), &[]);
     let Ok(mut sink) = MemorySink::new(rt.alloc(), 4096, &[]) else {
         panic!(&rt; "no memory");
@@ -174,8 +268,7 @@ fn a_run_swaps_to_a_file(rt: HostRuntime) -> io::Result<()> {
     );
     assert_eq!(&rt; status, Status::Done);
     assert_eq!(&rt; sink.written(), SWAPS_REPLIES.as_bytes());
-    assert!(&rt; fs::exists(&rt, swap.as_str())?);
-    fs::remove_dir_all(&rt, folder)
+    fs::remove_dir(&rt, folder)
 }
 
 // A file of one page is opened, mapped, stored to and pushed.
@@ -225,6 +318,114 @@ fn a_run_writes_a_mapped_file(rt: HostRuntime) -> io::Result<()> {
     assert_eq!(&rt;
         (bytes.len(), bytes.get(..6)),
         (PAGE, Some(b"Hello\0".as_slice()))
+    );
+    fs::remove_dir_all(&rt, folder)
+}
+
+// A mapper over files whose disk is full at the first push: half of the page is written.
+#[derive(Drop)]
+struct Filling<'a> {
+    rt: &'a HostRuntime,
+    files: FileMapper<'a>,
+    file: &'a str,
+    is_full: bool,
+}
+
+impl<'a> Mapper for Filling<'a> {
+    ghost held = { λ _. None };
+
+    ghost given = { λ _. None };
+
+    ghost counts = { λ m. m.files.counts };
+
+    ghost page_bytes = { λ m. Some m.files.page_bytes };
+
+    fn size(&mut self, seg: SegId) -> Result<Option<u32>, Failed> {
+        self.files.size(seg)
+    }
+
+    fn pull_in(&mut self, seg: SegId, page: PageNo, into: &mut [u8]) -> Result<(), Failed> {
+        self.files.pull_in(seg, page, into)
+    }
+
+    fn push_out(&mut self, seg: SegId, page: PageNo, from: &[u8]) -> Result<(), Failed> {
+        if !self.is_full {
+            return self.files.push_out(seg, page, from);
+        }
+        self.is_full = false;
+        let _ = fs::write(self.rt, self.file, &from[..from.len() / 2]);
+        // There is no such segment.
+        self.files.push_out(SegId(99), page, from)
+    }
+
+    fn get_write_access(&mut self, seg: SegId, page: PageNo) -> Result<bool, Failed> {
+        self.files.get_write_access(seg, page)
+    }
+
+    fn swap_in(&mut self, slot: SlotId, into: &mut [u8]) -> Result<(), Failed> {
+        self.files.swap_in(slot, into)
+    }
+
+    fn swap_out(&mut self, slot: SlotId, from: &[u8]) -> Result<(), Failed> {
+        self.files.swap_out(slot, from)
+    }
+}
+
+// The page is pushed twice.
+const FILLS: &str = "actor
+open 1
+map a1 c1 0 1 10000 rw
+store a1 10000 48
+store a1 10fff 21
+sync c1 0 1
+load a1 10fff 1
+sync c1 0 1
+";
+
+const FILLS_REPLIES: &str = "1 ok a1
+2 ok c1
+3 ok r1
+4 ok
+5 ok
+6 fault mapper page 0
+7 ok 21
+8 ok
+";
+
+#[test]
+fn a_later_push_mends_a_torn_page(rt: HostRuntime) -> io::Result<()> {
+    let folder = new_folder(&rt, "torn")?;
+    let file = path_in(&rt, &folder, "seg.1")?;
+    fs::write(&rt, file.as_str(), "hello")?;
+    let Ok(files) = FileMapper::new(&rt, rt.alloc(), &folder, PAGE as u32) else {
+        panic!(&rt; "no memory");
+    };
+    let mut mapper = Filling {
+        rt: &rt,
+        files,
+        file: file.as_str(),
+        is_full: true,
+    };
+    let mut source = MemorySource::new(FILLS.as_bytes(), &[]);
+    let Ok(mut sink) = MemorySink::new(rt.alloc(), 4096, &[]) else {
+        panic!(&rt; "no memory");
+    };
+    let words = ["run", "--frames", "3"];
+    let mut chooser = Clock::new();
+    let status = run(
+        rt.alloc(),
+        &words,
+        &mut source,
+        &mut sink,
+        &mut mapper,
+        &mut chooser,
+    );
+    assert_eq!(&rt; status, Status::Done);
+    assert_eq!(&rt; sink.written(), FILLS_REPLIES.as_bytes());
+    let bytes = fs::read(&rt, file.as_str())?;
+    assert_eq!(&rt;
+        (bytes.get(..6), bytes.get(PAGE - 1..)),
+        (Some(b"Hello\0".as_slice()), Some(b"!".as_slice()))
     );
     fs::remove_dir_all(&rt, folder)
 }

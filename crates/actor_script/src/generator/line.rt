@@ -1,21 +1,26 @@
 // A line that is handed on by itself.
-ghost use Rattle.std.specs.Prelude.{◌≡◌, ℕ, ◌≤◌, List, length, take};
+ghost use Rattle.std.specs.Prelude.{◌≡◌, ℕ, ◌≤◌, List, length};
 
+use crate::draft::put;
+use arrayvec::ArrayVec;
 use std::marker::Model;
+
+/// No line that is made has more bytes.
+pub const LONGEST: usize = 64;
+
+/// The text of a line, as far as it has come.
+pub type Text = ArrayVec<u8, LONGEST>;
 
 /// A line of a script, without a line feed: at most 256 bytes, kept without a heap.
 #[derive(Drop)]
 pub struct Line {
-    length: u16,
-    bytes: [u8; 256],
+    pub(super) text: Text,
 }
 
 impl Model for Line {
     ghost Value = { List ℕ };
 
-    ghost view = { λ line. take line.length line.bytes };
-
-    ghost invariant = { λ line. line.length ≤ 256 };
+    ghost view = { λ line. line.text.items };
 }
 
 impl Line {
@@ -24,19 +29,16 @@ impl Line {
         ensures bytes { result.now ≡ self.now }
         ensures most { length self.now ≤ 256 }
     {
-        &self.bytes[..self.length as usize]
+        self.text.as_slice()
     }
 }
 
 /// These bytes as a line.
 pub fn line_of(text: &[u8]) -> Line
-    requires { length text.now ≤ 256 }
+    requires { length text.now ≤ LONGEST }
     ensures { result ≡ text.now }
 {
-    let mut bytes = [0u8; 256];
-    bytes[..text.len()].copy_from_slice(text);
-    Line {
-        length: text.len() as u16,
-        bytes,
-    }
+    let mut line = ArrayVec::new();
+    put(&mut line, text);
+    Line { text: line }
 }

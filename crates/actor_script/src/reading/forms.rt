@@ -1,5 +1,5 @@
 // The forms of lines.
-ghost use Rattle.std.specs.Prelude.{◌≡◌, map, IfOk};
+ghost use Rattle.std.specs.Prelude.{◌≡◌, bytes_eq, map, IfOk};
 ghost use Rattle.vm_model.specs.Asking.{IsWellFormed};
 ghost use Rattle.actor_script.specs.Forms.{command_of, form_of, verb_form, actor_form, exit_form, temp_form, open_form, destroy_form, span_of, copy_form, move_form, map_form, split_form, protect_form, lock_form, unlock_form, unmap_form, status_form, find_form, load_form, store_form, extent_of, sync_form, flush_form, invalidate_form, pageout_form, chain_form, stat_form};
 ghost use Rattle.actor_script.specs.Operands.{mode_of};
@@ -356,60 +356,103 @@ fn read_stat(operands: &[&[u8]]) -> Option<Command>
     }
 }
 
-// The form of a verb.
+// Whether a verb is this word. Most others are told from it by their length.
+#[inline(always)]
+fn is(verb: &[u8], word: &[u8]) -> bool
+    ensures { result ≡ bytes_eq verb.now word.now }
+{
+    verb.len() == word.len() && verb == word
+}
+
+// The form of any verb.
 #[tactic(auto, unfolding(crate::specs::Forms::verb_form))]
+fn read_any(verb: &[u8], operands: &[&[u8]]) -> Option<Command>
+    ensures { result ≡ verb_form verb.now (map (λ w. w.now) operands.now) }
+{
+    if is(verb, b"actor") {
+        return read_actor(operands);
+    }
+    if is(verb, b"exit") {
+        return read_exit(operands);
+    }
+    if is(verb, b"temp") {
+        return read_temp(operands);
+    }
+    if is(verb, b"open") {
+        return read_open(operands);
+    }
+    if is(verb, b"destroy") {
+        return read_destroy(operands);
+    }
+    if is(verb, b"copy") {
+        return read_copy(operands);
+    }
+    if is(verb, b"move") {
+        return read_move(operands);
+    }
+    if is(verb, b"map") {
+        return read_map(operands);
+    }
+    if is(verb, b"split") {
+        return read_split(operands);
+    }
+    if is(verb, b"protect") {
+        return read_protect(operands);
+    }
+    if is(verb, b"lock") {
+        return read_lock(operands);
+    }
+    if is(verb, b"unlock") {
+        return read_unlock(operands);
+    }
+    if is(verb, b"unmap") {
+        return read_unmap(operands);
+    }
+    if is(verb, b"status") {
+        return read_status(operands);
+    }
+    if is(verb, b"find") {
+        return read_find(operands);
+    }
+    if is(verb, b"load") {
+        return read_load(operands);
+    }
+    if is(verb, b"store") {
+        return read_store(operands);
+    }
+    if is(verb, b"sync") {
+        return read_sync(operands);
+    }
+    if is(verb, b"flush") {
+        return read_flush(operands);
+    }
+    if is(verb, b"invalidate") {
+        return read_invalidate(operands);
+    }
+    if is(verb, b"pageout") {
+        return read_pageout(operands);
+    }
+    if is(verb, b"chain") {
+        return read_chain(operands);
+    }
+    if is(verb, b"stat") {
+        return read_stat(operands);
+    }
+    None
+}
+
+// The form of a verb: accesses are looked for first, since most lines are these.
+#[tactic(auto, using(crate::proofs::Verbs::is_load, crate::proofs::Verbs::is_store))]
 fn read_verb(verb: &[u8], operands: &[&[u8]]) -> Option<Command>
     ensures { result ≡ verb_form verb.now (map (λ w. w.now) operands.now) }
 {
-    if verb == b"actor".as_slice() {
-        read_actor(operands)
-    } else if verb == b"exit".as_slice() {
-        read_exit(operands)
-    } else if verb == b"temp".as_slice() {
-        read_temp(operands)
-    } else if verb == b"open".as_slice() {
-        read_open(operands)
-    } else if verb == b"destroy".as_slice() {
-        read_destroy(operands)
-    } else if verb == b"copy".as_slice() {
-        read_copy(operands)
-    } else if verb == b"move".as_slice() {
-        read_move(operands)
-    } else if verb == b"map".as_slice() {
-        read_map(operands)
-    } else if verb == b"split".as_slice() {
-        read_split(operands)
-    } else if verb == b"protect".as_slice() {
-        read_protect(operands)
-    } else if verb == b"lock".as_slice() {
-        read_lock(operands)
-    } else if verb == b"unlock".as_slice() {
-        read_unlock(operands)
-    } else if verb == b"unmap".as_slice() {
-        read_unmap(operands)
-    } else if verb == b"status".as_slice() {
-        read_status(operands)
-    } else if verb == b"find".as_slice() {
-        read_find(operands)
-    } else if verb == b"load".as_slice() {
-        read_load(operands)
-    } else if verb == b"store".as_slice() {
-        read_store(operands)
-    } else if verb == b"sync".as_slice() {
-        read_sync(operands)
-    } else if verb == b"flush".as_slice() {
-        read_flush(operands)
-    } else if verb == b"invalidate".as_slice() {
-        read_invalidate(operands)
-    } else if verb == b"pageout".as_slice() {
-        read_pageout(operands)
-    } else if verb == b"chain".as_slice() {
-        read_chain(operands)
-    } else if verb == b"stat".as_slice() {
-        read_stat(operands)
-    } else {
-        None
+    if is(verb, b"load") {
+        return read_load(operands);
     }
+    if is(verb, b"store") {
+        return read_store(operands);
+    }
+    read_any(verb, operands)
 }
 
 fn read_form(words: &[&[u8]]) -> Option<Command>

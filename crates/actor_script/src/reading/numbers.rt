@@ -2,21 +2,30 @@
 ghost use Rattle.std.specs.Prelude.{◌≡◌};
 ghost use Rattle.actor_script.specs.Operands.{number_of, count_of, length_of, lettered};
 
-use itoa::Buffer;
+use super::digits::read_digits;
+
+// A number below 2^32 has no more digits.
+const MOST_DIGITS: usize = 10;
+
+// A number isn't as large as this.
+const TOO_LARGE: u64 = 1 << 32;
 
 /// A number below 2^32, spelled as it is printed.
 pub fn read_number(word: &[u8]) -> Option<u32>
     ensures { result ≡ number_of word.now }
 {
-    let Ok(text) = str::from_utf8(word) else {
+    if word.is_empty() {
         return None;
-    };
-    let Ok(number) = text.parse::<u32>() else {
+    }
+    if word.len() > MOST_DIGITS {
         return None;
-    };
-    let mut buffer = Buffer::new();
-    if buffer.format(number).as_bytes() == word {
-        Some(number)
+    }
+    if word.len() > 1 && word[0] == b'0' {
+        return None;
+    }
+    let number = read_digits(10, word)?;
+    if number < TOO_LARGE {
+        Some(number as u32)
     } else {
         None
     }

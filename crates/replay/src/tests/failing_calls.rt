@@ -1,11 +1,15 @@
-// The hostile script over mappers of which one call fails, or two: the lines that tell no fault are
-// answered as if those that tell one weren't there.
+// Scripts over mappers of which one call fails, or two: the lines that tell no fault are answered
+// as if those that tell one weren't there, and chains and counts are those of the page forest that
+// follows the replies.
 ghost use Rattle.std.specs.Prelude.{◌≡◌, map, IfOk};
 ghost use Rattle.replay.specs.Commanding.{page_size_of};
 
-use super::SLOTS;
+use super::following::Follower;
+use super::rows;
 use super::segment_rows::{
-    FAILING_DISK_EXAMPLE, FAILING_DISK_EXAMPLE_REPLIES, HOSTILE, HOSTILE_REPLIES,
+    A_SAVE_FAILS, A_SAVE_FAILS_REPLIES, FAILING_DISK_EXAMPLE, FAILING_DISK_EXAMPLE_REPLIES,
+    HOSTILE, HOSTILE_REPLIES, SAVES, SAVES_REPLIES, TEXT_SHARED_AND_DATA_FORKED,
+    TEXT_SHARED_AND_DATA_FORKED_REPLIES,
 };
 use super::segments::two_pages;
 use crate::replaying::replay;
@@ -16,7 +20,10 @@ use vm_ids::{NoMemory, PAGE, PageNo, SegId};
 use vm_model::EagerMachine;
 use vm_port::{CallKind, CallNo, Clock, MemoryMapper, MemorySink, MemorySource};
 
-// A mapper over the script's segment, which fails at these calls.
+// Slots enough for each script here.
+const SLOTS: u32 = 40;
+
+// A mapper over a segment of two pages, which fails at these calls.
 fn failing(alloc: Global, fails: &[CallNo]) -> Result<MemoryMapper, NoMemory>
     ensures { IfOk result (λ m. m.page_bytes ≡ PAGE) }
 {
@@ -48,16 +55,34 @@ fn written(
     Ok(sink)
 }
 
-// What the machine that copies at once writes, with as many frames for locked pages as four leave.
-fn written_at_once(
+// What a run writes for a script at three, four or five page frames.
+fn written_at(
     rt: &impl Abort,
     alloc: Global,
+    frames: u32,
     script: &str,
     mapper: &mut MemoryMapper,
 ) -> Result<MemorySink, NoMemory>
     requires { mapper.old.page_bytes ≡ PAGE }
 {
-    let mut machine = EagerMachine::new(alloc, 4, PAGE as u32);
+    match frames {
+        3 => written(rt, alloc, &["run", "--frames", "3"], script, mapper),
+        4 => written(rt, alloc, &["run", "--frames", "4"], script, mapper),
+        _ => written(rt, alloc, &["run", "--frames", "5"], script, mapper),
+    }
+}
+
+// What the machine that copies at once writes, which locks pages as so many frames allow.
+fn written_at_once(
+    rt: &impl Abort,
+    alloc: Global,
+    frames: u32,
+    script: &str,
+    mapper: &mut MemoryMapper,
+) -> Result<MemorySink, NoMemory>
+    requires { mapper.old.page_bytes ≡ PAGE }
+{
+    let mut machine = EagerMachine::new(alloc, frames, PAGE as u32);
     let mut source = MemorySource::new(script.as_bytes(), &[]);
     let mut sink = MemorySink::new(alloc, 4096, &[])?;
     let status = replay(
@@ -78,23 +103,26 @@ fn text<'a>(rt: &impl Abort, sink: &'a MemorySink) -> &'a str {
     }
 }
 
-fn tells_a_fault(reply: &str) -> bool {
-    reply.contains(" fault ")
+// A reply without the number of its line.
+fn said(reply: &str) -> &str {
+    match reply.split_once(" ") {
+        Some((_, rest)) => rest,
+        None => reply,
+    }
 }
 
-// Whether the reply to a line tells of the page forest.
-fn asks_of_the_forest(line: &str) -> bool {
-    line == "stat" || line.starts_with("chain ")
+fn tells_a_fault(reply: &str) -> bool {
+    said(reply).starts_with("fault ")
 }
 
 // The script with a line that is no command in place of each that these replies answer by a fault.
-fn without_faults(alloc: Global, replies: &str) -> Result<String, NoMemory> {
-    let mut script = String::new(alloc);
-    for (line, reply) in HOSTILE.lines().zip(replies.lines()) {
-        script.push_str(if tells_a_fault(reply) { "none" } else { line })?;
-        script.push_str("\n")?;
+fn without_faults(alloc: Global, script: &str, replies: &str) -> Result<String, NoMemory> {
+    let mut rest = String::new(alloc);
+    for (line, reply) in script.lines().zip(replies.lines()) {
+        rest.push_str(if tells_a_fault(reply) { "none" } else { line })?;
+        rest.push_str("\n")?;
     }
-    Ok(script)
+    Ok(rest)
 }
 
 // Two mappers hold the same segment.
@@ -106,37 +134,106 @@ fn hold_the_same(rt: &impl Abort, one: &MemoryMapper, other: &MemoryMapper) {
     }
 }
 
-// The lines that tell a fault where these calls fail. Without those lines the machine that copies at
-// once answers the same, and so do many frames over a mapper that never fails, which tell of the page
-// forest.
-fn faults_of(rt: &impl Abort, alloc: Global, fails: &[CallNo]) -> Result<String, NoMemory> {
-    let mut mapper = failing(alloc, fails)?;
-    let sink = written(rt, alloc, &["run", "--frames", "4"], HOSTILE, &mut mapper)?;
-    let replies = text(rt, &sink);
-    let script = without_faults(alloc, replies)?;
-    let mut right = failing(alloc, &[])?;
-    let at_once = written_at_once(rt, alloc, script.as_str(), &mut right)?;
-    hold_the_same(rt, &mapper, &right);
-    let roomy = written(
-        rt,
-        alloc,
-        &["run", "--frames", "64"],
-        script.as_str(),
-        &mut failing(alloc, &[])?,
-    )?;
-    let wanted = text(rt, &at_once).lines().zip(text(rt, &roomy).lines());
+// What has to be said to a line: what the page forest tells, where the line asks for that and the
+// machine doesn't refuse it, and else what the machine answers.
+fn wanted_of(
+    alloc: Global,
+    follower: &Follower,
+    line: &str,
+    answer: &str,
+) -> Result<String, NoMemory> {
+    let answer = said(answer);
+    if !answer.starts_with("no ") {
+        if let Some(told) = follower.tells(alloc, line)? {
+            return Ok(told);
+        }
+    }
+    let mut wanted = String::new(alloc);
+    wanted.push_str(answer)?;
+    Ok(wanted)
+}
+
+// The replies that tell a fault. Each other one says what is wanted of it, after the replies before.
+fn compared(
+    rt: &impl Abort,
+    alloc: Global,
+    script: &str,
+    replies: &str,
+    machine: &str,
+) -> Result<String, NoMemory> {
+    let mut follower = Follower::new(alloc, 2);
     let mut faults = String::new(alloc);
-    for ((line, reply), (machine, forest)) in HOSTILE.lines().zip(replies.lines()).zip(wanted) {
+    assert_eq!(rt; replies.lines().count(), script.lines().count());
+    for ((line, reply), answer) in script.lines().zip(replies.lines()).zip(machine.lines()) {
         if tells_a_fault(reply) {
             faults.push_str(reply)?;
             faults.push_str("\n")?;
-        } else if asks_of_the_forest(line) {
-            assert_eq!(rt; reply, forest, "{fails:?}");
         } else {
-            assert_eq!(rt; reply, machine, "{fails:?}");
+            let wanted = wanted_of(alloc, &follower, line, answer)?;
+            assert_eq!(rt; said(reply), wanted.as_str(), "{line}");
         }
+        follower.follow(line, said(reply))?;
     }
     Ok(faults)
+}
+
+// The lines that tell a fault where these calls fail. Without those lines the machine that copies
+// at once answers the same, and its segment is the same.
+fn faults_of(
+    rt: &impl Abort,
+    alloc: Global,
+    frames: u32,
+    script: &str,
+    fails: &[CallNo],
+) -> Result<String, NoMemory> {
+    let mut mapper = failing(alloc, fails)?;
+    let sink = written_at(rt, alloc, frames, script, &mut mapper)?;
+    let replies = text(rt, &sink);
+    let rest = without_faults(alloc, script, replies)?;
+    let mut right = failing(alloc, &[])?;
+    let at_once = written_at_once(rt, alloc, frames, rest.as_str(), &mut right)?;
+    hold_the_same(rt, &mapper, &right);
+    compared(rt, alloc, script, replies, text(rt, &at_once))
+}
+
+// The plain page forest tells what was worked out by hand.
+#[test]
+fn worked_scripts_tell_of_the_page_forest(rt: HostRuntime) -> Result<(), NoMemory> {
+    for (script, replies) in [
+        (
+            rows::TREE_COPY_OF_NINE_PAGES,
+            rows::TREE_COPY_OF_NINE_PAGES_REPLIES,
+        ),
+        (rows::COPIED_THREE_TIMES, rows::COPIED_THREE_TIMES_REPLIES),
+        (rows::STUBS, rows::STUBS_REPLIES),
+        (rows::THERE_AND_BACK, rows::THERE_AND_BACK_REPLIES),
+        (rows::COPY_OF_A_COPY, rows::COPY_OF_A_COPY_REPLIES),
+        (
+            rows::DEAD_SOURCE_THEN_A_MERGE,
+            rows::DEAD_SOURCE_THEN_A_MERGE_REPLIES,
+        ),
+        (
+            rows::MOVE_OF_A_COPIED_PAGE,
+            rows::MOVE_OF_A_COPIED_PAGE_REPLIES,
+        ),
+        (
+            rows::TREE_CHILD_BEFORE_STUBS,
+            rows::TREE_CHILD_BEFORE_STUBS_REPLIES,
+        ),
+        (
+            rows::MOVE_INSIDE_ONE_CACHE,
+            rows::MOVE_INSIDE_ONE_CACHE_REPLIES,
+        ),
+        (rows::LOCKS, rows::LOCKS_REPLIES),
+        (A_SAVE_FAILS, A_SAVE_FAILS_REPLIES),
+        (
+            TEXT_SHARED_AND_DATA_FORKED,
+            TEXT_SHARED_AND_DATA_FORKED_REPLIES,
+        ),
+    ] {
+        compared(&rt, rt.alloc(), script, replies, replies)?;
+    }
+    Ok(())
 }
 
 // Of each kind the first call fails, then the second, and so on until none fails.
@@ -176,47 +273,157 @@ fn each_call_fails_in_turn(rt: HostRuntime) -> Result<(), NoMemory> {
         ),
     ] {
         for (nth, wanted) in (1..16u32).zip(faults) {
-            let found = faults_of(&rt, rt.alloc(), &[CallNo { kind, nth }])?;
+            let found = faults_of(&rt, rt.alloc(), 4, HOSTILE, &[CallNo { kind, nth }])?;
             assert_eq!(&rt; found.as_str(), *wanted, "{kind:?} {nth}");
         }
     }
     Ok(())
 }
 
-// The first pull fails, and with it the first push to the swap area, then the second, and so on until
-// no push fails.
-#[test]
-fn a_pull_and_each_push_fail(rt: HostRuntime) -> Result<(), NoMemory> {
-    for (kind, faults) in [
-        (
-            CallKind::PullIn,
-            [
-                "7 fault mapper page 0\n19 fault mapper victim\n",
-                "7 fault mapper page 0\n19 fault mapper victim\n",
-                "7 fault mapper page 0\n",
-            ]
-            .as_slice(),
-        ),
-        (
-            CallKind::SwapIn,
-            &[
-                "19 fault mapper victim\n",
-                "19 fault mapper victim\n",
-                "19 fault mapper victim\n",
-                "",
-            ],
-        ),
-    ] {
-        for (nth, wanted) in (1..16u32).zip(faults) {
-            let pull = CallNo { kind, nth: 1 };
-            let push = CallNo {
-                kind: CallKind::SwapOut,
-                nth,
-            };
-            let found = faults_of(&rt, rt.alloc(), &[pull, push])?;
-            assert_eq!(&rt; found.as_str(), *wanted, "{kind:?} {nth}");
+// Of each call of a kind the line that tells a fault where it fails, in the order of the calls.
+fn each_fails(
+    rt: &impl Abort,
+    alloc: Global,
+    frames: u32,
+    kind: CallKind,
+) -> Result<Vec<String>, NoMemory> {
+    let mut faults = Vec::new(alloc);
+    for nth in 1..100u32 {
+        let fault = faults_of(rt, alloc, frames, SAVES, &[CallNo { kind, nth }])?;
+        if fault.is_empty() {
+            return Ok(faults);
+        }
+        assert_eq!(rt; fault.as_str().lines().count(), 1, "{kind:?} {nth}");
+        faults.push(fault)?;
+    }
+    panic!(rt; "each call fails");
+}
+
+// The lines that tell a fault where one call fails, by its kind.
+#[derive(Drop)]
+struct Faults {
+    pull_in: Vec<String>,
+    swap_in: Vec<String>,
+    push_out: Vec<String>,
+    swap_out: Vec<String>,
+}
+
+// Whether some of these faults is told by this line.
+fn is_told(faults: &[String], line: &str) -> bool {
+    for fault in faults {
+        if fault.as_str().trim_end() == line {
+            return true;
         }
     }
+    false
+}
+
+// Each pull and each push of the script fails. There are as many as are made where none does, and
+// these lines are among the faults of the pulls.
+fn pulls_and_pushes_fail(
+    rt: &impl Abort,
+    alloc: Global,
+    frames: u32,
+    wanted: &[&str],
+) -> Result<Faults, NoMemory> {
+    let faults = Faults {
+        pull_in: each_fails(rt, alloc, frames, CallKind::PullIn)?,
+        swap_in: each_fails(rt, alloc, frames, CallKind::SwapIn)?,
+        push_out: each_fails(rt, alloc, frames, CallKind::PushOut)?,
+        swap_out: each_fails(rt, alloc, frames, CallKind::SwapOut)?,
+    };
+    let mut mapper = failing(alloc, &[])?;
+    written_at(rt, alloc, frames, SAVES, &mut mapper)?;
+    let pulls = faults.pull_in.len().saturating_add(faults.swap_in.len());
+    let pushes = faults.push_out.len().saturating_add(faults.swap_out.len());
+    assert_eq!(rt;
+        (pulls as u64, pushes as u64),
+        (mapper.pulls(), mapper.pushes())
+    );
+    assert!(rt; !faults.swap_in.is_empty() && !faults.push_out.is_empty());
+    for line in wanted {
+        assert!(rt; is_told(faults.pull_in.as_slice(), *line), "{line}");
+    }
+    Ok(faults)
+}
+
+// Each call of a kind fails together with each of another one. Where only one of the two is reached
+// its fault is the only one, and else there are two.
+fn each_pair_fails(
+    rt: &impl Abort,
+    alloc: Global,
+    frames: u32,
+    (kind, faults): (CallKind, &[String]),
+    (other, others): (CallKind, &[String]),
+) -> Result<(), NoMemory> {
+    for (nth, fault) in (1..100u32).zip(faults) {
+        for (place, behind) in (1..100u32).zip(others) {
+            let fails = [
+                CallNo { kind, nth },
+                CallNo {
+                    kind: other,
+                    nth: place,
+                },
+            ];
+            let both = faults_of(rt, alloc, frames, SAVES, &fails)?;
+            let two = both.as_str().lines().count() == 2;
+            let alone = both.as_str() == fault.as_str() || both.as_str() == behind.as_str();
+            assert!(rt; two || alone, "{fails:?}");
+        }
+    }
+    Ok(())
+}
+
+// Each pull fails with each push.
+fn pairs_fail(
+    rt: &impl Abort,
+    alloc: Global,
+    frames: u32,
+    faults: &Faults,
+) -> Result<(), NoMemory> {
+    let push_out = (CallKind::PushOut, faults.push_out.as_slice());
+    let swap_out = (CallKind::SwapOut, faults.swap_out.as_slice());
+    for pull in [
+        (CallKind::PullIn, faults.pull_in.as_slice()),
+        (CallKind::SwapIn, faults.swap_in.as_slice()),
+    ] {
+        each_pair_fails(rt, alloc, frames, pull, push_out)?;
+        each_pair_fails(rt, alloc, frames, pull, swap_out)?;
+    }
+    Ok(())
+}
+
+// The saves of a copy, a move, an invalidate and a destroy, of which each needs a pull.
+const SAVE_FAULTS: [&str; 7] = [
+    "10 fault mapper save 0",
+    "10 fault mapper save 1",
+    "17 fault mapper save 0",
+    "28 fault mapper save 0",
+    "28 fault mapper save 1",
+    "39 fault mapper save 0",
+    "39 fault mapper save 1",
+];
+
+#[test]
+fn saves_and_swaps_fail_in_three_frames(rt: HostRuntime) -> Result<(), NoMemory> {
+    let faults = pulls_and_pushes_fail(&rt, rt.alloc(), 3, &SAVE_FAULTS)?;
+    pairs_fail(&rt, rt.alloc(), 3, &faults)
+}
+
+#[test]
+fn saves_and_swaps_fail_in_four_frames(rt: HostRuntime) -> Result<(), NoMemory> {
+    let mut mapper = failing(rt.alloc(), &[])?;
+    let sink = written_at(&rt, rt.alloc(), 4, SAVES, &mut mapper)?;
+    assert_eq!(&rt; sink.written(), SAVES_REPLIES.as_bytes());
+    let faults = pulls_and_pushes_fail(&rt, rt.alloc(), 4, &SAVE_FAULTS)?;
+    pairs_fail(&rt, rt.alloc(), 4, &faults)
+}
+
+// Two pages can be locked, of which each has to be brought in.
+#[test]
+fn locks_fail_in_five_frames(rt: HostRuntime) -> Result<(), NoMemory> {
+    let wanted = ["35 fault mapper page 4", "35 fault mapper page 5"];
+    pulls_and_pushes_fail(&rt, rt.alloc(), 5, &wanted)?;
     Ok(())
 }
 

@@ -2,9 +2,11 @@
 ghost use Rattle.std.specs.Prelude.{◌≡◌, ◌≤◌, ◌^◌, None, IfOk};
 
 mod failing_calls;
+mod following;
 mod generated;
 mod lines;
 mod lying;
+mod page_forest;
 mod rows;
 mod segment_rows;
 mod segments;
@@ -94,6 +96,7 @@ fn scripts_have_their_replies_however_they_are_cut(rt: HostRuntime) -> Result<()
             rows::COPIED_THREE_TIMES,
             rows::COPIED_THREE_TIMES_REPLIES,
         ),
+        ("3", rows::LINKS_AS_RUNS, rows::LINKS_AS_RUNS_REPLIES),
         ("8", rows::STUBS, rows::STUBS_REPLIES),
         ("8", rows::THERE_AND_BACK, rows::THERE_AND_BACK_REPLIES),
         ("8", rows::COPY_OF_A_COPY, rows::COPY_OF_A_COPY_REPLIES),

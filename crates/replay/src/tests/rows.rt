@@ -107,6 +107,25 @@ pub const TREE_COPY_OF_NINE_PAGES_REPLIES: &str = "1 ok a1
 14 stat live 18 working 0 copies 1
 ";
 
+// Two copies of 300,000 pages: working nodes stand between, as in copies of few pages.
+pub const LINKS_AS_RUNS: &str = "temp 300000
+temp 300000
+temp 300000
+copy c1 0 c2 0 300000
+copy c1 0 c3 0 300000
+stat
+chain c2 7
+";
+
+pub const LINKS_AS_RUNS_REPLIES: &str = "1 ok c1
+2 ok c2
+3 ok c3
+4 ok
+5 ok
+6 stat live 900000 working 300000 copies 0
+7 chain c2:7+0 w8+2 c1:7+1*
+";
+
 // One cache copied three times, with working nodes.
 pub const COPIED_THREE_TIMES: &str = "actor
 temp 9

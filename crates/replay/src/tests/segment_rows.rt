@@ -368,3 +368,111 @@ pub const HOSTILE_REPLIES: &str = "1 ok a1
 31 chain c3:8+0*
 32 stat live 18 working 0 copies 4
 ";
+
+// Pages of a segment that are saved for a copy, a move, an invalidate and a destroy of its cache,
+// after pageouts, so that each save needs a pull. What fails is asked for again: three syncs and
+// three destroys suffice where two calls fail. Two pages can be locked in five frames, and not in
+// four.
+pub const SAVES: &str = "actor
+open 1
+temp 9
+map a1 c1 0 2 10000 rw
+map a1 c2 0 9 20000 rw
+store a1 20000 61
+store a1 21000 62
+store a1 22000 63
+copy c1 0 c2 4 2
+copy c2 0 c1 0 2
+chain c1 1
+load a1 24000 1
+sync c1 0 2
+store a1 11000 58
+copy c1 1 c2 6 1
+pageout 4
+move c2 2 c1 1 1
+chain c2 6
+load a1 26000 1
+copy c1 0 c2 7 1
+store a1 10001 59
+copy c1 0 c2 7 2
+chain c2 7
+sync c1 0 2
+sync c1 0 2
+sync c1 0 2
+pageout 4
+invalidate c1 0 2
+stat
+load a1 10000 2
+copy c1 0 c2 2 2
+copy c1 0 c2 4 2
+map a1 c2 4 2 30000 r
+pageout 4
+lock r3
+stat
+unlock r3
+unmap r1
+destroy c1
+destroy c1
+destroy c1
+chain c2 4
+load a1 22000 2
+load a1 23000 1
+load a1 24000 2
+load a1 25000 1
+load a1 26000 1
+load a1 27000 2
+load a1 28000 1
+stat
+";
+
+pub const SAVES_REPLIES: &str = "1 ok a1
+2 ok c1
+3 ok c2
+4 ok r1
+5 ok r2
+6 ok
+7 ok
+8 ok
+9 ok
+10 ok
+11 chain c1:1+0 c2:1+1*
+12 ok 41
+13 ok
+14 ok
+15 ok
+16 ok
+17 ok
+18 chain c2:6+0*
+19 ok 58
+20 ok
+21 ok
+22 ok
+23 chain c2:7+0 c1:0+1*
+24 ok
+25 ok
+26 ok
+27 ok
+28 ok
+29 stat live 11 working 0 copies 8
+30 ok 6159
+31 ok
+32 ok
+33 ok r3
+34 ok
+35 no LockLimit
+36 stat live 11 working 0 copies 8
+37 no NotLocked
+38 ok
+39 ok
+40 no NoCache
+41 no NoCache
+42 chain c2:4+0 c2:2+1*
+43 ok 6159
+44 ok 63
+45 ok 6159
+46 ok 63
+47 ok 58
+48 ok 6159
+49 ok 63
+50 stat live 9 working 0 copies 10
+";

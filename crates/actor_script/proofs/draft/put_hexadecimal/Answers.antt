@@ -3,7 +3,7 @@ use Rattle.actor_script.proofs.Hexadecimal.{none_written, one_written, last_writ
 use Rattle.actor_script.proofs.draft.put_hexadecimal.Goals as goal
 
 pub loop-left-init : goal.loop-left-init
-loop-left-init c = record {
+loop-left-init g c = record {
   within = omega arith;
   room = omega arith;
   small = omega (arith, c.ranges.number);
@@ -11,7 +11,7 @@ loop-left-init c = record {
 }
 
 pub loop-left-preserved : goal.loop-left-preserved
-loop-left-preserved c =
+loop-left-preserved g c =
     let l = c.loop-left in
     let more = c.loop-left-test.true in
     let some = some_left l.left l.first l.invariant.small more in
@@ -23,7 +23,7 @@ loop-left-preserved c =
     }
 
 pub returns-clause-text : goal.returns-clause-text
-returns-clause-text c =
+returns-clause-text g c =
     let l = c.loop-left in
     let all = last_written l.first l.left l.digits c.last_digit-2.result c.loop-left-test.false (omega (arith, l.invariant)) l.invariant.room c.last_digit-2.ensures in
     c.put.ensures ∙ ap (λ digits. c.args.line.now.items ++ digits) (all ∙ l.invariant.text)

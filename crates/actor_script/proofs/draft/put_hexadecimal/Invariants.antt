@@ -4,7 +4,7 @@ use Rattle.actor_script.specs.Text.{hexadecimal}
 use Rattle.actor_script.proofs.draft.put_hexadecimal.Given as goal
 
 abbrev pub invariant-loop-left : goal.invariant-loop-left
-invariant-loop-left l = record {
+invariant-loop-left g l = record {
   within : l.first ≤ 15;
   room : length l.digits ≡ 16;
   small : l.left < 16 ^ (l.first + 1);
@@ -12,4 +12,4 @@ invariant-loop-left l = record {
 }
 
 abbrev pub decreases-loop-left : goal.decreases-loop-left
-decreases-loop-left l = l.left
+decreases-loop-left g l = l.left

@@ -1,31 +1,30 @@
-use Rattle.std.proofs.Common.{◌≡◌, ◌≢◌, ◌<◌, ◌^◌, true, false, decimal, sym, arith, ◌∙◌}
-use Rattle.std.specs.Prelude.{bytes_eq}
-use Rattle.std.proofs.lemmas.Bool.{both_ways}
-use Rattle.std.proofs.lemmas.Slice.Eq.{bytes_eq-Decides}
-use Rattle.actor_script.proofs.Numbers.{number_of-decimal, no_number-utf8, no_number-parse, no_number-otherwise}
+use Rattle.std.proofs.Common.{sym, arith}
+use Rattle.std.proofs.lemmas.Grind.{common_steps}
+use Rattle.actor_script.proofs.Numbers.{IsSpelled, no_number, not_digits, are_digits, number_small, number_large}
 use Rattle.actor_script.proofs.reading.numbers.read_number.Goals as goal
 
-pub returns-in_default : goal.returns-in_default
-returns-in_default c = sym (no_number-utf8 c.args.word.now c.in_default.ensures.cases.0)
+pub returns-then-is_empty : goal.returns-then-is_empty
+returns-then-is_empty c = sym (no_number c.args.word.now (λ s. grind (arith, common_steps, s.some)))
 
-pub returns-in_default-parse : goal.returns-in_default-parse
-returns-in_default-parse c =
-    sym (no_number-parse c.args.word.now c.parse.result c.in_default-parse.field-0 c.in_default-parse.is (rw (c.in-Ok.ensures.cases.0) at c.parse.ensures.value.0))
+pub returns-then-word-gt-MOST_DIGITS : goal.returns-then-word-gt-MOST_DIGITS
+returns-then-word-gt-MOST_DIGITS c = sym (no_number c.args.word.now (λ s. omega (arith, s.few)))
 
-pub returns-then-eq : goal.returns-then-eq
-returns-then-eq c =
-    let n = c.in-Ok-parse.number in
-    let read = c.in-Ok-parse.ensures.value.0 in
-    let small : n < 2 ^ 32 = omega (arith, read.0.1, read.1) in
-    let equal : bytes_eq c.as_bytes.result.now c.args.word.now ≡ true = sym (c.if-eq.ensures {u = tt}) in
-    let printed : decimal n ≡ c.args.word.now = sym (c.as_bytes.ensures.value ∙ c.format.ensures.text) ∙ (bytes_eq-Decides c.as_bytes.result.now c.args.word.now).0 equal in
-    sym (number_of-decimal c.args.word.now n small printed)
+pub returns-then-word-eq48 : goal.returns-then-word-eq48
+returns-then-word-eq48 c = sym (no_number c.args.word.now (λ s. grind (arith, s.lead)))
 
-pub returns-else-eq : goal.returns-else-eq
-returns-else-eq c =
-    let n = c.in-Ok-parse.number in
+pub returns-in_err-number : goal.returns-in_err-number
+returns-in_err-number c = cc (c.from_residual.ensures, not_digits c.args.word.now c.read_digits.result c.read_digits.ensures c.in_err-number.was)
+
+pub returns-then-number-lt-TOO_LARGE : goal.returns-then-number-lt-TOO_LARGE
+returns-then-number-lt-TOO_LARGE c =
     let word = c.args.word.now in
-    let printed = c.as_bytes.result.now in
-    let differ : bytes_eq printed word ≡ false = sym (c.if-eq.ensures {u = tt}) in
-    let otherwise : decimal n ≢ word = λ e. both_ways (bytes_eq printed word) differ ((bytes_eq-Decides printed word).1 (c.as_bytes.ensures.value ∙ c.format.ensures.text ∙ e)) in
-    sym (no_number-otherwise word c.parse.result n c.in-Ok-parse.is (rw (c.in-Ok.ensures.cases.0) at c.parse.ensures.value.0) otherwise)
+    let parts = are_digits word c.read_digits.result c.in_ok-number.number c.read_digits.ensures c.in_ok-number.was in
+    let spelled : IsSpelled word = record { some = grind (arith, common_steps); few = omega arith; lead = λ e. grind (arith, common_steps); digits = parts.0 } in
+    sym (number_small word c.in_ok-number.number spelled parts.1 (omega arith))
+
+pub returns-else-number-lt-TOO_LARGE : goal.returns-else-number-lt-TOO_LARGE
+returns-else-number-lt-TOO_LARGE c =
+    let word = c.args.word.now in
+    let parts = are_digits word c.read_digits.result c.in_ok-number.number c.read_digits.ensures c.in_ok-number.was in
+    let spelled : IsSpelled word = record { some = grind (arith, common_steps); few = omega arith; lead = λ e. grind (arith, common_steps); digits = parts.0 } in
+    sym (number_large word c.in_ok-number.number spelled parts.1 (omega arith))

@@ -29,10 +29,10 @@ replay-status-requires g c =
     let starts = c.new-machine.ensures.machine in
     record {
       call = record {
-        valid = record { whole = c.new-machine.ensures.whole; backed = none_backed 4 4096 _ _ starts };
+        valid = record { whole = c.new-machine.ensures.whole; backed = none_backed c.args.frames 4096 _ _ starts };
         unlimited = λ manager. refl;
         fits = c.requires ∙ sym (ap (λ (m : Machine). m.page_bytes) starts);
-        live = live_start 4 4096 _ starts;
+        live = live_start c.args.frames 4096 _ starts;
       };
       made = search rules;
     }

@@ -1,0 +1,5 @@
+pub mod Chaining
+pub mod Parts
+pub mod Masks
+pub mod Placed
+pub mod Buckets
