@@ -20,6 +20,10 @@ pub record TrafficAtMost (pulls pushes : ℕ) (before now : MapperCounts) : Type
   pub pulled : RoseAtMost pulls before.pulls now.pulls
   pub pushed : RoseAtMost pushes before.pushes now.pushes
 
+-- there was no pull
+abbrev pub NoPull : MapperCounts → MapperCounts → Type 0
+NoPull before now = RoseBy 0 before.pulls now.pulls
+
 -- there were so many pulls, and no more pushes than these
 pub record Pulls (pulls pushes : ℕ) (before now : MapperCounts) : Type 0 where
   pub pulled : RoseBy pulls before.pulls now.pulls

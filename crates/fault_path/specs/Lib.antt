@@ -1,4 +1,5 @@
 pub mod Answers
+pub mod Coming
 pub mod Costs
 pub mod Faults
 pub mod Gathering

@@ -1,6 +1,8 @@
 -- Which translations a fault drops.
-use Rattle.std.specs.Prelude.{◌≡◌, ℕ, Bool, true, ◌||◌, List, Option, ◌⊎◌, OnErr, OnOk, Result}
+use Rattle.std.specs.Prelude.{◌≡◌, ◌≢◌, ℕ, Bool, true, ◌||◌, List, Option, Some, ◌⊎◌, OnErr, OnOk, Result}
 use Rattle.vm_ids.specs.declared.numbers.NodeId.{NodeId}
+use Rattle.page_tables.specs.Translations.{entry_at}
+use Rattle.page_tables.specs.declared.entry.Entry.{Entry}
 use Rattle.global_map.specs.Pairs.{is_node, node_of}
 use Rattle.local_cache.specs.Arena.{Arena}
 use Rattle.local_cache.specs.Own.{is_absent, own_of}
@@ -19,6 +21,21 @@ is_home_of n m map frame = is_home n map frame || is_home m map frame
 abbrev pub without_homes : NodeId → NodeId → Store → Store
 without_homes n m s = record s { tables = without (is_home_of n m s.map) s.tables }
 
+-- no translation leads to this frame
+abbrev pub NoneLeadTo : ℕ → List (Option Entry) → Type 0
+NoneLeadTo frame tables = (place : ℕ) (e : Entry) → entry_at tables place ≡ Some e
+    → e.to.frame.0 ≢ frame
+
+-- node o is in the frame in which it was, or no translation leads there any more
+abbrev pub StaysOrUnseen : NodeId → Store → Store → Type 0
+StaysOrUnseen o s t = (f : ℕ) → node_of s.map f ≡ Some o
+    → (node_of t.map f ≡ Some o) ⊎ NoneLeadTo f t.tables
+
+-- No translation leads to the frame in which node o was, and none to those in which o and n are.
+pub record DropsHomes (o n : NodeId) (old new : Store) : Type 0 where
+  pub was : (f : ℕ) → node_of old.map f ≡ Some o → NoneLeadTo f new.tables
+  pub are : (f : ℕ) → is_home_of o n new.map f ≡ true → NoneLeadTo f new.tables
+
 -- no node
 abbrev pub Nobody : NodeId → Type 0
 Nobody n = ⊥
@@ -33,4 +50,5 @@ MayCome a owner n = (n ≡ owner) ⊎ (is_absent (own_of a n) ≡ true)
 pub record LeavesHomes {T E : Type 0} (result : Result T E) (o n : NodeId)
     (a : Arena) (s : Store) (b : Arena) (t : Store) : Type 0 where
   pub left : OnOk result (Drops (MayCome a o) a s b (without_homes o n t))
+  pub home : OnOk result (StaysOrUnseen o s t)
   pub failed : OnErr result (Drops (MayCome a o) a s b t)

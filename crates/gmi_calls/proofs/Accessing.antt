@@ -9,7 +9,7 @@ use Rattle.std.proofs.lemmas.Bool.Decides.{nat_tests}
 use Rattle.std.proofs.lemmas.List.FromFn.{get_or-range_with_len, length-range_with_len}
 use Rattle.std.proofs.lemmas.List.Folds.{list_any_at, list_any_none}
 use Rattle.std.proofs.lemmas.Option.{slice_get-get_or}
-use Rattle.vm_ids.specs.Counting.{MapperCounts, no_counts}
+use Rattle.vm_ids.specs.Counting.{MapperCounts}
 use Rattle.vm_ids.specs.Denying.{denies}
 use Rattle.vm_ids.specs.Held.{Held, Segments, segments_in, segments_of}
 use Rattle.vm_ids.specs.declared.command.Command.{Command}
@@ -23,13 +23,15 @@ use Rattle.vm_model.specs.Allowed.{AwaitsAccess, AllowedOutcome, is_denied}
 use Rattle.vm_model.specs.Answering.{Answer, Answered, answer_of, is_denied_page}
 use Rattle.vm_model.specs.Asking.{ReachesMapper}
 use Rattle.vm_model.specs.Outcome.{HasWholePages, IsNamed, IsNotRefused, MayFault, NotRefusedButFor, Outcome}
-use Rattle.vm_model.specs.Run.{CallIs}
 use Rattle.vm_model.specs.Synchronised.{IsSynchronised}
 use Rattle.vm_model.proofs.Parts.Naming.{segment_cache}
-use Rattle.gmi_calls.specs.Backing.{IsReady, eager_state}
-use Rattle.gmi_calls.specs.Reaching.{HasPages, Reached}
+use Rattle.gmi_calls.specs.Backing.{IsReady}
+use Rattle.vm_port.specs.declared.traits.mapper.Mapper.{Ghosts as GhostsOfMapper}
+use Rattle.gmi_calls.specs.Calling.{MapperCall}
+use Rattle.gmi_calls.specs.Reaching.{Asked, HasPages}
 use Rattle.gmi_calls.proofs.Asking.{denied_is, granted_is}
-use Rattle.gmi_calls.proofs.Called.{OutcomeFor, any_rises, call_reached, no_segments, ready_after}
+use Rattle.gmi_calls.proofs.Called.{OutcomeFor, any_rises, call_reached, eager, eager_call, no_segments, ready_after}
+use Rattle.gmi_calls.proofs.Still.{asks_quiet}
 
 -- the pages of a cache that a segment names are the segment's
 pub asked_pages : (m : Machine) (n seg first pages : ℕ) (told : Option Held) → segment_of m n ≡ Some seg → first + pages ≤ pages_in (cache_of m n) → IsReady m told → IfSome told (HasPages seg first pages)
@@ -144,23 +146,24 @@ failed_for told m c p rises A failed may = by_segments told m m c (Err (troubles
     go true e = subst (λ (x : Answered). NotRefusedButFor (faults.Access p) x.answer) (sym (A.denied (segments_for told) e)) tt
     go false e = hidden p (answer_of m (plain_forest m) c (segments_for told)).answer (A.allowed (segments_for told) e)
 
--- The call of such a command, after the mapper was asked and held what it held before.
-module _ {T E : Type 0} (told after : Option Held) (counts now : MapperCounts) (m : Machine) (c : Command) (r : Result T E) (same : after ≡ told) (R : Reached counts now r) (ready : IsReady m told) (reaches : ReachesMapper c R.rises) where
-  -- the page may be written
-  module _ (next : Machine) (a : Answer) (whole : HasWholePages next) (f : AllowedOutcome m c a next) (allowed : is_denied m (segments_for told) c ≡ false) where
-    pub granted_ready : IsReady next after
-    granted_ready = subst (IsReady next) (sym same) (ready_after told m next c a no_counts ready whole (granted_for told m next c a no_counts f allowed))
+-- The call of such a command, after the mapper was asked.
+module _ {X T E : Type 0} (M : GhostsOfMapper X) (before after : X) (m : Machine) (c : Command) (r : Result T E) (asked : Asked M before after r) (ready : IsReady m (M.held before)) (reaches : ReachesMapper c asked.reached.rises) where
+  ended : (next : Machine) (a : Answer) → HasWholePages next → OutcomeFor (M.held before) m c a next asked.reached.rises → IsSynchronised m (segments_of (M.held after)) c a → MapperCall M eager before m c a after next
+  ended next a whole o said =
+      eager_call M before after m next c a (subst (IsReady next) (sym asked.held) (ready_after (M.held before) m next c a asked.reached.rises ready whole o))
+      (call_reached (M.held before) (M.held after) _ _ m next c a r asked.held asked.reached ready.whole whole reaches o said) (asks_quiet c a _ _ asked.quiet) asked.page
 
-    pub granted_call : IsSynchronised m (segments_of after) c a → CallIs counts now (eager_state told m) c a (eager_state after next)
-    granted_call = call_reached told after counts now m next c a r same R ready.whole whole reaches (granted_for told m next c a R.rises f allowed)
+  -- the page may be written
+  pub granted_call : (next : Machine) (a : Answer) → HasWholePages next → AllowedOutcome m c a next → is_denied m (segments_for (M.held before)) c ≡ false → IsSynchronised m (segments_of (M.held after)) c a → MapperCall M eager before m c a after next
+  granted_call next a whole f allowed = ended next a whole (granted_for (M.held before) m next c a asked.reached.rises f allowed)
 
   module _ (A : AwaitsAccess m c) where
     -- it is denied
-    pub denied_call : (s : Segments) × (IfSome told (λ h. s ≡ segments_in h)) × (is_denied m s c ≡ true) → IsSynchronised m (segments_of after) c (Err (troubles.Refused refusals.WriteDenied))
-        → CallIs counts now (eager_state told m) c (Err (troubles.Refused refusals.WriteDenied)) (eager_state after m)
-    denied_call D = call_reached told after counts now m m c (Err (troubles.Refused refusals.WriteDenied)) r same R ready.whole ready.whole reaches (denied_for told m c R.rises A D.0 D.1 D.2)
+    pub denied_call : (s : Segments) × (IfSome (M.held before) (λ h. s ≡ segments_in h)) × (is_denied m s c ≡ true) → IsSynchronised m (segments_of (M.held after)) c (Err (troubles.Refused refusals.WriteDenied))
+        → MapperCall M eager before m c (Err (troubles.Refused refusals.WriteDenied)) after m
+    denied_call D = ended m (Err (troubles.Refused refusals.WriteDenied)) ready.whole (denied_for (M.held before) m c asked.reached.rises A D.0 D.1 D.2)
 
     -- the mapper fails
-    pub failed_call : (p : PageNo) → 0 < R.rises.faults → MayFault m None c (segments_for told) (faults.Access p) R.rises → IsSynchronised m (segments_of after) c (Err (troubles.Mapper (faults.Access p)))
-        → CallIs counts now (eager_state told m) c (Err (troubles.Mapper (faults.Access p))) (eager_state after m)
-    failed_call p failed may = call_reached told after counts now m m c (Err (troubles.Mapper (faults.Access p))) r same R ready.whole ready.whole reaches (failed_for told m c p R.rises A failed may)
+    pub failed_call : (p : PageNo) → 0 < asked.reached.rises.faults → MayFault m None c (segments_for (M.held before)) (faults.Access p) asked.reached.rises → IsSynchronised m (segments_of (M.held after)) c (Err (troubles.Mapper (faults.Access p)))
+        → MapperCall M eager before m c (Err (troubles.Mapper (faults.Access p))) after m
+    failed_call p failed may = ended m (Err (troubles.Mapper (faults.Access p))) ready.whole (failed_for (M.held before) m c p asked.reached.rises A failed may)

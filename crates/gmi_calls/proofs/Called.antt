@@ -1,12 +1,14 @@
 -- Calls of the eager machine, with what a mapper tells or without it.
 use Rattle.std.proofs.Common.{◌≡◌, ℕ, ◌<◌, List, [], ◌∷◌, Option, Some, None, refl, sym, subst, ◌∙◌, arith}
-use Rattle.std.specs.Prelude.{IfSome, Result, Ok, Err, unwrap_or}
+use Rattle.std.specs.Prelude.{IfErr, IfSome, Result, Ok, Err, unwrap_or}
 use Rattle.std.specs.List.{AllByRecursion}
 use Rattle.std.specs.FinMap.{empty}
 use Rattle.vm_ids.specs.Counting.{MapperCounts, no_counts}
 use Rattle.vm_ids.specs.Held.{Held, Segments, put_segment_page, segments_in, segments_of}
 use Rattle.vm_ids.specs.declared.command.Command.{Command}
 use Rattle.vm_ids.specs.declared.command.Command.TheVariants as commands
+use Rattle.vm_ids.specs.declared.numbers.CacheId.{CacheId}
+use Rattle.vm_ids.specs.declared.numbers.SegId.{SegId}
 use Rattle.vm_ids.specs.declared.reply.Reply.TheVariants as replies
 use Rattle.vm_ids.specs.declared.reply.FaultAt.{FaultAt}
 use Rattle.vm_ids.specs.declared.reply.FaultAt.TheVariants as faults
@@ -15,18 +17,20 @@ use Rattle.vm_ids.specs.declared.command.Extent.{Extent}
 use Rattle.vm_ids.specs.declared.reply.Trouble.TheVariants as troubles
 use Rattle.vm_model.specs.Machine.{Machine, cache_of, pages_in}
 use Rattle.vm_model.specs.PageForest.{plain_forest}
-use Rattle.vm_model.specs.Answering.{Answer, answer_of}
+use Rattle.vm_model.specs.Answering.{Answer, Answered, answer_by, answer_of}
 use Rattle.vm_model.specs.Asking.{ReachesMapper}
 use Rattle.vm_model.specs.Outcome.{Outcome, OutcomeAt, PlainOutcome, IsAlike, IsNotRefused, MayFault, MayLackMemory, NotRefusedButFor, HasWholePages, blank, seen_at}
 use Rattle.vm_model.specs.Pushing.{MayPush, PushRule, page_named, segments_after}
 use Rattle.vm_model.specs.Run.{AnswerIs, CallIs}
 use Rattle.vm_model.specs.Synchronised.{ArePushed, IsCachePushed, IsExtentPushed, IsSynchronised}
 use Rattle.gmi_calls.specs.Backing.{IsReady, eager_state}
-use Rattle.gmi_calls.specs.Calling.{RaisesMade}
+use Rattle.vm_port.specs.declared.traits.mapper.Mapper.{Ghosts as GhostsOfMapper}
+use Rattle.gmi_calls.specs.Calling.{AsksFirst, CallDone, MapperCall, Meanings, meanings}
 use Rattle.gmi_calls.specs.Reaching.{Pushed, Reached}
 use Rattle.gmi_calls.proofs.Backing.{backed_after}
 use Rattle.gmi_calls.proofs.Pushing.{pushed_none}
-use Rattle.gmi_calls.proofs.Still.{made_still, without_mapper}
+use Rattle.gmi_calls.proofs.Rising.{quiet_none}
+use Rattle.gmi_calls.proofs.Still.{asks_quiet, call_still, made_still}
 
 alike_same : (a : Answer) → IsAlike a a
 alike_same (Ok replies.Done) = refl
@@ -181,7 +185,7 @@ answer_each told m next c a reaches ready x f s = record {
 -- the same for a call that is handed the mapper and leaves it
 pub call_each : (counts : MapperCounts) (told : Option Held) (m next : Machine) (c : Command) (a : Answer) → ReachesMapper c no_counts → IsReady m told → HasWholePages next → PlainOutcome m c a next → IsSynchronised m (segments_of told) c a
     → CallIs counts counts (eager_state told m) c a (eager_state told next)
-call_each counts told m next c a reaches ready x f s = without_mapper None counts (eager_state told m) (eager_state told next) c a (answer_each told m next c a reaches ready x f s)
+call_each counts told m next c a reaches ready x f s = call_still None counts (eager_state told m) (eager_state told next) c a (answer_each told m next c a reaches ready x f s)
 
 -- What is ready stays so --------------------------------------------------------------------
 
@@ -192,9 +196,39 @@ ready_after None m next c a rises R x o = record { whole = x; backed = tt }
 pub ready_plain : (told : Option Held) (m next : Machine) (c : Command) (a : Answer) → PlainOutcome m c a next → HasWholePages next → IsReady m told → IsReady next told
 ready_plain told m next c a f x R = ready_after told m next c a no_counts R x (every_segments told m next c a no_counts f)
 
--- it numbers nothing
-pub made_none : (m : Machine) (c : Command) (a : Answer) → RaisesMade m c a 0 0
-made_none m c a = made_still m c a 0
+-- What a call says of itself ----------------------------------------------------------------
+
+-- what the eager machine stands for, beside any mapper
+abbrev pub eager : Meanings Machine
+eager = meanings (λ m told. seen_at told m) (λ m told. None) (λ m told. IsReady m told) (λ m. 0) (λ m. None)
+
+module _ {X : Type 0} (M : GhostsOfMapper X) where
+  pub eager_call : (a b : X) (m next : Machine) (c : Command) (answer : Answer) → IsReady next (M.held b)
+      → CallIs (M.counts a) (M.counts b) (eager_state (M.held a) m) c answer (eager_state (M.held b) next) → AsksFirst c answer (M.counts a) (M.counts b)
+      → M.page_bytes b ≡ M.page_bytes a → MapperCall M eager a m c answer b next
+  eager_call a b m next c answer ready is asks page = record {
+    valid = ready;
+    answers = is;
+    asks_first = asks;
+    made = made_still (seen_at (M.held a) m) c answer (seen_at (M.held b) next) 0;
+    room = refl;
+    page = page;
+  }
+
+  -- a call that is handed the mapper and leaves it
+  pub eager_left : (a : X) (m next : Machine) (c : Command) (answer : Answer) → ReachesMapper c no_counts → IsReady m (M.held a) → HasWholePages next → PlainOutcome m c answer next → IsSynchronised m (segments_of (M.held a)) c answer
+      → MapperCall M eager a m c answer a next
+  eager_left a m next c answer reaches ready whole f said =
+      eager_call a a m next c answer (ready_plain (M.held a) m next c answer f whole ready) (call_each (M.counts a) (M.held a) m next c answer reaches ready whole f said) (asks_quiet c answer _ _ (quiet_none (M.counts a))) refl
+
+-- a call that takes none
+pub eager_done : (m next : Machine) (c : Command) (answer : Answer) → ReachesMapper c no_counts → HasWholePages next → PlainOutcome m c answer next → ((h : Option Segments) → IsSynchronised m h c answer) → CallDone eager m c answer next
+eager_done m next c answer reaches whole f said = record {
+  valid = λ h ready. ready_plain h m next c answer f whole ready;
+  answers = λ h ready. answer_each h m next c answer reaches ready whole f (said (segments_of h));
+  made = λ h ready. made_still (seen_at h m) c answer (seen_at h next) 0;
+  room = refl;
+}
 
 -- Faults and refusals -----------------------------------------------------------------------
 
@@ -232,3 +266,17 @@ pub no_cache_said : (m next : Machine) (h : Option Segments) (c : Command) (n : 
 no_cache_said m next h c n (troubles.Refused r) f = tt
 no_cache_said m next h c n (troubles.Mapper at) f = absurd (unfaulted m next c at f)
 no_cache_said m next h c n troubles.Memory f = tt
+
+-- after a call of the machine that was awaited, write access had been asked and memory taken
+pub asks_awaited : (m next : Machine) (c : Command) (a : Answer) (before now : MapperCounts) → ((s : Segments) → IsNotRefused (answer_of m (plain_forest m) c s).answer) → (MayLackMemory c → ⊥) → PlainOutcome m c a next → AsksFirst c a before now
+asks_awaited m next c (Ok r) before now free memory f = tt
+asks_awaited m next c (Err (troubles.Refused r)) before now free memory f = absurd (subst (λ (x : Answered). IsNotRefused x.answer) (f no_segments) (free no_segments))
+asks_awaited m next c (Err (troubles.Mapper at)) before now free memory f = absurd (unfaulted m next c at f)
+asks_awaited m next c (Err troubles.Memory) before now free memory f = let o = f no_segments in absurd (memory o.1)
+
+-- after the machine made a cache of the pages that were pulled, or lacked memory
+pub asks_opened : (seg : SegId) (r : Result CacheId Trouble) (before now : MapperCounts) → IfErr r (λ e. e ≡ troubles.Memory) → AsksFirst (commands.OpenSegment seg) (answer_by (λ x. replies.Cache x) r) before now
+asks_opened seg (Ok x) before now only = tt
+asks_opened seg (Err (troubles.Refused r)) before now only = absurd (cc only)
+asks_opened seg (Err (troubles.Mapper at)) before now only = absurd (cc only)
+asks_opened seg (Err troubles.Memory) before now only = tt

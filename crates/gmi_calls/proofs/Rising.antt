@@ -1,8 +1,10 @@
 -- By how much counts rise in calls one after the other.
-use Rattle.std.proofs.Common.{◌≡◌, ℕ, ◌<◌, arith}
+use Rattle.std.proofs.Common.{◌≡◌, ℕ, ◌+◌, ◌<◌, refl, ◌∙◌, arith}
 use Rattle.std.specs.Prelude.{Result, Ok, Err, OnErr}
 use Rattle.vm_ids.specs.Counting.{Counted, MapperCounts, Rise, counts_sum, no_counts}
-use Rattle.gmi_calls.specs.Reaching.{Reached}
+use Rattle.vm_port.specs.declared.traits.mapper.Mapper.{Ghosts as GhostsOfMapper}
+use Rattle.gmi_calls.specs.Calling.{NoTraffic}
+use Rattle.gmi_calls.specs.Reaching.{Asked, Reached}
 
 pub rise_none : (a : MapperCounts) → Rise a a no_counts
 rise_none a = record {
@@ -72,3 +74,32 @@ on_err (Err e) P h = h
 -- one call
 abbrev pub reached_one : {T E : Type 0} (pulls pushes : ℕ) (before now : MapperCounts) (r : Result T E) → Counted pulls pushes before now r → Reached before now r
 reached_one pulls pushes before now r c = record { rises = one_call pulls pushes r; rose = counted pulls pushes before now r c; failed = one_failed pulls pushes r }
+
+-- nothing was pulled or pushed
+pub quiet_none : (a : MapperCounts) → NoTraffic a a
+quiet_none a = record { pulled = λ h. omega arith; pushed = λ h. omega arith }
+
+pub quiet_then : {T E : Type 0} (a b c : MapperCounts) (r : Result T E) → NoTraffic a b → Counted 0 0 b c r → NoTraffic a c
+quiet_then a b c r q k = record {
+  pulled = λ h. let e : c.pulls ≡ b.pulls + 0 = k.pulled h in omega (arith, e, q.pulled, h);
+  pushed = λ h. let e : c.pushes ≡ b.pushes + 0 = k.pushed h in omega (arith, e, q.pushed, h);
+}
+
+module _ {X : Type 0} (M : GhostsOfMapper X) where
+  -- the mapper wasn't asked yet
+  pub asked_none : {T E : Type 0} (a : X) (x : T) → Asked M a a (let r : Result T E = Ok x in r)
+  asked_none a x = record { held = refl; reached = reached_none (M.counts a) x; quiet = quiet_none (M.counts a); page = refl }
+
+  -- it was asked once more, after which all is said
+  pub asked_then : {T U V E F : Type 0} (a b c : X) (r : Result T F) (s : Result U V) → Asked M a b (let o : Result (Unit {0}) E = Ok tt in o) → M.held c ≡ M.held b → Counted 0 0 (M.counts b) (M.counts c) r → M.page_bytes c ≡ M.page_bytes b
+      → OnErr s (0 < (one_call 0 0 r).faults) → Asked M a c s
+  asked_then a b c r s A held k page failed = record {
+    held = held ∙ A.held;
+    reached = reached_then (M.counts a) (M.counts b) (M.counts c) _ s A.reached (one_call 0 0 r) (counted 0 0 (M.counts b) (M.counts c) r k) failed;
+    quiet = quiet_then (M.counts a) (M.counts b) (M.counts c) r A.quiet k;
+    page = page ∙ A.page;
+  }
+
+  -- whatever it tells then
+  pub asked_alike : {T U E : Type 0} {r : Result T E} (a b : X) (x : U) → Asked M a b r → Asked M a b (let o : Result U E = Ok x in o)
+  asked_alike a b x A = record { held = A.held; reached = record { rises = A.reached.rises; rose = A.reached.rose; failed = tt }; quiet = A.quiet; page = A.page }

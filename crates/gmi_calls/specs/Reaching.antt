@@ -6,12 +6,23 @@ use Rattle.vm_ids.specs.Held.{Held, page_of, segments_of}
 use Rattle.vm_ids.specs.declared.numbers.PageNo.{PageNo}
 use Rattle.vm_model.specs.Machine.{Machine}
 use Rattle.vm_model.specs.Pushing.{PushRule}
+use Rattle.vm_port.specs.declared.traits.mapper.Mapper.{Ghosts as GhostsOfMapper}
+use Rattle.gmi_calls.specs.Calling.{NoTraffic}
 
 -- By how much the counts of the mapper rose; where the result is an error, a call failed.
 pub record Reached {T E : Type 0} (before now : MapperCounts) (result : Result T E) : Type 0 where
   pub rises : MapperCounts
   pub rose : Rise before now rises
   pub failed : OnErr result (0 < rises.faults)
+
+-- The mapper was asked about its pages, and no more: it holds what it held, and no page came or
+-- went. Where the result is an error, a call failed.
+pub record Asked {Mapper T E : Type 0} (M : GhostsOfMapper Mapper) (before after : Mapper)
+    (result : Result T E) : Type 0 where
+  pub held : M.held after ≡ M.held before
+  pub reached : Reached (M.counts before) (M.counts after) result
+  pub quiet : NoTraffic (M.counts before) (M.counts after)
+  pub page : M.page_bytes after ≡ M.page_bytes before
 
 -- the segment has these pages
 abbrev pub HasPages : ℕ → ℕ → ℕ → Held → Type 0

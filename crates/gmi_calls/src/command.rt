@@ -3,9 +3,8 @@ ghost use Rattle.std.specs.Prelude.{◌≡◌, ℕ, ◌≤◌, ◌+◌, ◌*◌,
 ghost use Rattle.vm_model.specs.declared.limits.TheConstants.{LIVE_PAGES};
 ghost use Rattle.vm_model.specs.Machine.{live_pages};
 ghost use Rattle.vm_model.specs.Asking.{IsWellFormed};
-ghost use Rattle.vm_model.specs.Run.{state_of};
-ghost use Rattle.gmi_calls.specs.Calling.{Fits, RaisesMade};
-ghost use Rattle.gmi_calls.specs.Room.{CallsWithin};
+ghost use Rattle.gmi_calls.specs.Calling.{Fits, IsNoAccess, MapperCall};
+ghost use Rattle.gmi_calls.specs.Managing.{meanings_of};
 
 use crate::Gmi;
 use vm_ids::{Answer, Command, Reply};
@@ -22,24 +21,21 @@ pub fn answer<G: Gmi<M, C>, M: Mapper, C: Chooser>(
     requires valid { G.valid gmi.old (M.held mapper.old) }
     requires made { G.made gmi.old ≤ 2 ^ 62 }
     requires fits { Fits (M.page_bytes mapper.old) (G.machine gmi.old (M.held mapper.old)) }
-    requires live { live_pages (G.machine gmi.old (M.held mapper.old)) ≤ LIVE_PAGES }
-    ensures valid { G.valid gmi.new (M.held mapper.new) }
-    ensures answers { CallsWithin M.counts M.held (state_of G.machine G.forest) G.room
-        mapper.old gmi.old command.now result mapper.new gmi.new }
-    ensures made { RaisesMade (G.machine gmi.old (M.held mapper.old)) command.now result
-        (G.made gmi.old) (G.made gmi.new) }
-    ensures page { M.page_bytes mapper.new ≡ M.page_bytes mapper.old }
+    ensures call { MapperCall M.Mapper (meanings_of G.Gmi) mapper.old gmi.old command.now result
+        mapper.new gmi.new }
     // What the next command needs: pages of one size, live pages within their limit, and counters
     // that don't wrap.
     ensures fits { Fits (M.page_bytes mapper.new) (G.machine gmi.new (M.held mapper.new)) }
-    ensures live { live_pages (G.machine gmi.new (M.held mapper.new)) ≤ LIVE_PAGES }
-    ensures made_little { G.made gmi.new ≤ G.made gmi.old + 24 * LIVE_PAGES + 8 }
+    ensures live { live_pages (G.machine gmi.old (M.held mapper.old)) ≤ LIVE_PAGES
+        → live_pages (G.machine gmi.new (M.held mapper.new)) ≤ LIVE_PAGES }
+    ensures made_little { live_pages (G.machine gmi.old (M.held mapper.old)) ≤ LIVE_PAGES
+        → G.made gmi.new ≤ G.made gmi.old + 32 * LIVE_PAGES + 8 }
 {
     call(gmi, command, mapper, chooser)
 }
 
 // The call itself.
-#[tactic(auto, using(crate::proofs::Still::without_mapper, crate::proofs::Still::made_still))]
+#[tactic(auto, using(crate::proofs::Still::without_mapper, crate::proofs::Still::without_change))]
 fn call<G: Gmi<M, C>, M: Mapper, C: Chooser>(
     gmi: &mut G,
     command: &Command,
@@ -50,12 +46,38 @@ fn call<G: Gmi<M, C>, M: Mapper, C: Chooser>(
     requires valid { G.valid gmi.old (M.held mapper.old) }
     requires made { G.made gmi.old ≤ 2 ^ 62 }
     requires fits { Fits (M.page_bytes mapper.old) (G.machine gmi.old (M.held mapper.old)) }
-    ensures valid { G.valid gmi.new (M.held mapper.new) }
-    ensures answers { CallsWithin M.counts M.held (state_of G.machine G.forest) G.room
-        mapper.old gmi.old command.now result mapper.new gmi.new }
-    ensures made { RaisesMade (G.machine gmi.old (M.held mapper.old)) command.now result
-        (G.made gmi.old) (G.made gmi.new) }
-    ensures page { M.page_bytes mapper.new ≡ M.page_bytes mapper.old }
+    ensures { MapperCall M.Mapper (meanings_of G.Gmi) mapper.old gmi.old command.now result
+        mapper.new gmi.new }
+{
+    match command {
+        Command::Load(actor, address, bytes) => {
+            let piece = gmi.load(*actor, *address, *bytes, mapper, chooser)?;
+            Ok(Reply::Bytes(piece))
+        }
+        Command::Store(actor, address, piece) => {
+            gmi.store(*actor, *address, piece, mapper, chooser)?;
+            Ok(Reply::Done)
+        }
+        _ => call_other(gmi, command, mapper, chooser),
+    }
+}
+
+// The call of a command that is no access. It is a function of its own since a function pays at its
+// entry for the locals of all its arms.
+#[tactic(auto, using(crate::proofs::Still::without_mapper, crate::proofs::Still::without_change))]
+fn call_other<G: Gmi<M, C>, M: Mapper, C: Chooser>(
+    gmi: &mut G,
+    command: &Command,
+    mapper: &mut M,
+    chooser: &mut C,
+) -> Answer
+    requires other { IsNoAccess command.now }
+    requires well_formed { IsWellFormed command.now }
+    requires valid { G.valid gmi.old (M.held mapper.old) }
+    requires made { G.made gmi.old ≤ 2 ^ 62 }
+    requires fits { Fits (M.page_bytes mapper.old) (G.machine gmi.old (M.held mapper.old)) }
+    ensures { MapperCall M.Mapper (meanings_of G.Gmi) mapper.old gmi.old command.now result
+        mapper.new gmi.new }
 {
     match command {
         Command::MakeActor => Ok(Reply::Actor(gmi.make_actor()?)),
@@ -97,14 +119,6 @@ fn call<G: Gmi<M, C>, M: Mapper, C: Chooser>(
         }
         Command::Status(region) => Ok(Reply::Status(gmi.status(*region)?)),
         Command::Find(actor, address) => Ok(Reply::Region(gmi.find(*actor, *address)?)),
-        Command::Load(actor, address, bytes) => {
-            let piece = gmi.load(*actor, *address, *bytes, mapper, chooser)?;
-            Ok(Reply::Bytes(piece))
-        }
-        Command::Store(actor, address, piece) => {
-            gmi.store(*actor, *address, piece, mapper, chooser)?;
-            Ok(Reply::Done)
-        }
         Command::Sync(extent) => {
             gmi.sync(*extent, mapper, chooser)?;
             Ok(Reply::Done)
@@ -123,5 +137,6 @@ fn call<G: Gmi<M, C>, M: Mapper, C: Chooser>(
         }
         Command::Chain(cache, page) => Ok(Reply::Chain(gmi.chain(*cache, *page)?)),
         Command::Stat => Ok(Reply::Stat(gmi.stat())),
+        Command::Load(..) | Command::Store(..) => unreachable!(),
     }
 }

@@ -13,12 +13,11 @@ ghost use Rattle.page_release.specs.Commands.{CanReplace, CanRetire, Empties};
 ghost use Rattle.page_release.specs.Homes.{AreUnclean, IsUnclean};
 ghost use Rattle.page_release.specs.Readings.{GoesBy};
 ghost use Rattle.page_release.specs.Steps.{IsStoreTied, IsUnpinned, Kept, Releases};
-ghost use Rattle.page_release.specs.Translating.{Leaves, Replaces};
+ghost use Rattle.page_release.specs.Translating.{Replaces};
 
 use crate::following::follow;
 use crate::forgetting::forget_named;
 use crate::settling::settle;
-use crate::translations::drop_seen;
 use local_cache::Caches;
 use residency::Store;
 use tree_merge::retire_step;
@@ -71,25 +70,10 @@ fn retire_pages(store: &mut Store, caches: &mut Caches, cache: CacheId, pages: u
     }
 }
 
-// The pages go, once no translation leads to one of them.
-fn destroy_and_settle(store: &mut Store, caches: &mut Caches, cache: CacheId, pages: u32)
-    requires pages { size_of caches.old cache.0 ≡ Some pages }
-    requires ready { CanReplace pages cache (page_names cache 0 pages) store.old caches.old }
-    ensures rule { GoesBy (λ P put f. rule_destroy false (page_names cache 0 pages) f)
-        store.old caches.old store.new caches.new }
-    ensures kept { Releases [] store.old caches.old store.new caches.new }
-    ensures empties { Empties cache pages store.old caches.old store.new caches.new }
-    ensures translations { Replaces (λ x. x ∈ page_names cache 0 pages) (λ x. ⊥)
-        caches.old store.old caches.new store.new }
-{
-    forget_named(store, caches, cache, PageNo(0), pages);
-    retire_pages(store, caches, cache, pages);
-    settle(store, caches);
-}
-
-/// Retires all pages of a live cache, none of which is pinned, and settles. The cache can be removed then. Where it is
-/// named by a segment the heirs of its pages have their saves: what it has is forgotten first. No translation leads to
-/// where a page of it was seen.
+/// Retires all pages of a live cache, none of which is pinned, and settles. The cache can be removed
+/// then. Where it is named by a segment the heirs of its pages have their saves: what it has is
+/// forgotten first. The translations of the frames that fall free are dropped; a frame that stays
+/// has a page that others see there still.
 pub fn destroy_pages(store: &mut Store, caches: &mut Caches, cache: CacheId, pages: u32)
     requires pages { size_of caches.old cache.0 ≡ Some pages }
     requires ready { CanReplace pages cache (page_names cache 0 pages) store.old caches.old }
@@ -97,9 +81,10 @@ pub fn destroy_pages(store: &mut Store, caches: &mut Caches, cache: CacheId, pag
         store.old caches.old store.new caches.new }
     ensures kept { Kept [] store.old caches.old store.new caches.new }
     ensures empties { Empties cache pages store.old caches.old store.new caches.new }
-    ensures translations { Leaves (λ x. x ∈ page_names cache 0 pages) (λ x. ⊥)
+    ensures translations { Replaces (λ x. x ∈ page_names cache 0 pages) (λ x. ⊥)
         caches.old store.old caches.new store.new }
 {
-    drop_seen(store, caches, cache, PageNo(0), pages);
-    destroy_and_settle(store, caches, cache, pages);
+    forget_named(store, caches, cache, PageNo(0), pages);
+    retire_pages(store, caches, cache, pages);
+    settle(store, caches);
 }

@@ -8,3 +8,4 @@ pub mod Pages
 pub mod Seen
 pub mod There
 pub mod Written
+pub mod Asked

@@ -8,3 +8,4 @@ pub mod Listed
 pub mod Rising
 pub mod Reaching
 pub mod Standing
+pub mod Recorded

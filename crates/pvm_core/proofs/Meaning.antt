@@ -5,3 +5,4 @@ pub mod Empty
 pub mod Determined
 pub mod Live
 pub mod Same
+pub mod Kept

@@ -3,3 +3,4 @@ pub mod Making
 pub mod Begun
 pub mod Roomy
 pub mod NewCache
+pub mod Ungranted

@@ -5,3 +5,4 @@ pub mod Copies
 pub mod Saved
 pub mod Readying
 pub mod Steps
+pub mod Filled

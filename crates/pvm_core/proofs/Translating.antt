@@ -1,6 +1,7 @@
 -- What keeps translations right.
 pub mod Dropped
 pub mod Left
+pub mod Unmapped
 pub mod Alike
 pub mod Tables
 pub mod Places

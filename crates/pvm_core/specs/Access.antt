@@ -1,15 +1,19 @@
 -- The page that an access is at, and what a load finds there.
-use Rattle.std.specs.Prelude.{◌≡◌, ℕ, true, if◌then◌else◌, List, drop, take, Option, Some, None, option_map, Result, Ok, IfSome}
+use Rattle.std.specs.Prelude.{◌≡◌, ℕ, true, false, if◌then◌else◌, List, drop, take, Option, Some, None, option_map, Result, Ok, Err, IfSome}
 use Rattle.vm_ids.specs.Counting.{MapperCounts, RoseBy}
 use Rattle.vm_ids.specs.declared.numbers.FrameId.{FrameId}
 use Rattle.vm_ids.specs.declared.numbers.NodeId.{NodeId}
 use Rattle.vm_ids.specs.declared.refusal.Refusal.{Refusal}
+use Rattle.vm_ids.specs.declared.refusal.Refusal.TheVariants.{WriteDenied}
+use Rattle.vm_ids.specs.declared.reply.FaultAt.TheVariants.{Access}
+use Rattle.vm_ids.specs.declared.reply.Trouble.{Trouble}
+use Rattle.vm_ids.specs.declared.reply.Trouble.TheVariants.{Mapper, Refused}
 use Rattle.vm_ids.specs.Forest.Commands.{page_name}
 use Rattle.vm_ids.specs.Forest.Nodes.{no_forest}
 use Rattle.vm_ids.specs.Forest.Reading.{owner_of}
 use Rattle.global_map.specs.Pairs.{node_of}
 use Rattle.local_cache.specs.declared.own_state.OwnState.TheVariants.{Zero}
-use Rattle.local_cache.specs.Arena.{HasNode}
+use Rattle.local_cache.specs.Arena.{HasNode, is_granted}
 use Rattle.local_cache.specs.Own.{is_resident, own_of}
 use Rattle.local_cache.specs.Reading.{name_of}
 use Rattle.residency.specs.World.{is_pulled}
@@ -69,3 +73,17 @@ pub record IsLoaded (c d : MapperCounts) (page_given : Option (List ℕ)) (old n
   pub given : is_pulled (own_of old.caches owner) ≡ true
       → IfSome page_given (λ page. bytes_found new.store frame ≡ page)
   pub translated : IfSome frame (IsTranslated new actor address length)
+
+-- The mapper was asked in vain whether the page that a store is at may be written: the manager
+-- stays, and the page wasn't granted.
+pub record AskedInVain (old new : Manager) (actor address length : ℕ) : Type 0 where
+  pub same : new ≡ old
+  pub at : Place
+  pub place : place_of old actor address length ≡ Ok at
+  pub not_granted : is_granted old.caches at.region.cache at.page ≡ false
+
+-- P holds where it was asked so: after `WriteDenied` and after the fault `Access`
+abbrev pub OnNoAccess : Result (Unit {0}) Trouble → Type 0 → Type 0
+OnNoAccess (Err (Refused WriteDenied)) P = P
+OnNoAccess (Err (Mapper (Access page))) P = P
+OnNoAccess result P = Unit {0}

@@ -1,13 +1,20 @@
 -- What calls keep of a manager.
-use Rattle.std.specs.Prelude.{◌≡◌, ℕ, ◌<◌, ◌⊎◌, ◌++◌, true, false, if◌then◌else◌, is_some, count_by, replicate, Option}
+use Rattle.std.specs.Prelude.{◌≡◌, ℕ, ◌<◌, ◌⊎◌, ◌++◌, true, false, if◌then◌else◌, is_some, count_by, replicate, Option, Some}
 use Rattle.vm_ids.specs.Held.{Held}
 use Rattle.vm_ids.specs.declared.reply.Counts.{Counts}
+use Rattle.vm_ids.specs.declared.command.Extent.{Extent}
+use Rattle.vm_ids.specs.declared.node_name.NodeName.{NodeName}
 use Rattle.vm_ids.specs.declared.numbers.NodeId.{NodeId}
-use Rattle.frame_pool.specs.Pool.{is_held}
+use Rattle.vm_ids.specs.Forest.Commands.{extent_names}
+use Rattle.vm_ids.specs.Forest.NameLists.{◌∈◌}
+use Rattle.vm_ids.specs.Forest.Nodes.{is_live}
+use Rattle.vm_ids.specs.Forest.Reading.{owner_of}
+use Rattle.frame_pool.specs.Pool.{bytes_of, is_held}
+use Rattle.residency.specs.Seeing.{seen_in}
 use Rattle.slot_pool.specs.Slots as swap
 use Rattle.global_map.specs.Pairs.{bound_times, node_of}
 use Rattle.local_cache.specs.Own.{is_resident, is_slot, own_of, own_states}
-use Rattle.pvm_core.specs.Manager.{Manager, forest_of, machine_of}
+use Rattle.pvm_core.specs.Manager.{Manager, forest_of, machine_of, nodes_of}
 use Rattle.pvm_core.specs.Translated.{OnlySeen}
 
 -- no page was copied, and each frame that is held was held before, with the bytes that it has
@@ -48,3 +55,13 @@ HasFewWorking c = (c.working < c.live) ⊎ ((c.working ≡ 0) × (c.live ≡ 0))
 pub record SameMeaning (old new : Manager) (told now : Option Held) : Type 0 where
   pub machine : machine_of new now ≡ machine_of old told
   pub forest : forest_of new now ≡ forest_of old told
+
+-- No page comes to a frame but those of a range, which are saved, and those that were read off them;
+-- each other page that is seen in a frame, and wasn't replaced, was seen there before, and the frame
+-- has its bytes.
+abbrev pub FillsOnly : Extent → (NodeName → Type 0) → Manager → Manager → Type 0
+FillsOnly range replaced old new = (x : NodeName) (frame : ℕ) → is_live x ≡ true
+    → (replaced x → ⊥) → (owner_of (nodes_of old) x ∈ extent_names range → ⊥)
+    → seen_in new.caches new.store.map x ≡ Some frame
+    → (seen_in old.caches old.store.map x ≡ Some frame)
+    × (bytes_of new.store.frames frame ≡ bytes_of old.store.frames frame)

@@ -14,3 +14,4 @@ pub mod Reaching
 pub mod Writes
 pub mod Saving
 pub mod Translated
+pub mod Standing

@@ -20,6 +20,7 @@ use Rattle.vm_model.specs.Outcome.{HasWholePages}
 use Rattle.vm_model.specs.PageForest.{PageForest}
 use Rattle.vm_model.specs.Run.{State}
 use Rattle.vm_model.specs.declared.limits.TheConstants.{LIVE_PAGES}
+use Rattle.gmi_calls.specs.Calling.{Meanings}
 use Rattle.contexts.specs.Actors.{Actors}
 use Rattle.pvm_core.specs.Locks.{AreHeld}
 use Rattle.pvm_core.specs.Placed.{AreRight}
@@ -150,4 +151,14 @@ state_at p told = record {
   machine = machine_of p told;
   forest = Some (forest_of p told);
   segments = segments_of told;
+}
+
+-- the same, as the interface asks for it
+abbrev pub meaning : Meanings Manager
+meaning = record {
+  machine = machine_of;
+  forest = λ p told. Some (forest_of p told);
+  valid = IsValid;
+  made = numbered;
+  room = λ p. None;
 }

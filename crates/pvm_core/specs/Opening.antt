@@ -1,11 +1,11 @@
 -- What is asked and said where a segment is opened.
-use Rattle.std.specs.Prelude.{◌≡◌, ℕ, ◌<◌, List, length, All, Option, Some, IfSome, IsSomeAnd}
+use Rattle.std.specs.Prelude.{◌≡◌, ℕ, ◌<◌, false, List, length, All, Option, Some, IfSome, IsSomeAnd}
 use Rattle.std.specs.FinMap.{get}
 use Rattle.vm_ids.specs.Held.{Held}
 use Rattle.vm_ids.specs.declared.numbers.CacheId.{CacheId}
 use Rattle.vm_ids.specs.declared.numbers.SegId.{SegId}
 use Rattle.local_cache.specs.declared.own_state.OwnState.TheVariants.{OnSegment}
-use Rattle.local_cache.specs.Arena.{Arena, HasPage}
+use Rattle.local_cache.specs.Arena.{Arena, HasPage, is_granted}
 use Rattle.local_cache.specs.Whole.{segment_of, size_of}
 use Rattle.pvm_core.specs.Manager.{Manager}
 
@@ -27,3 +27,7 @@ HasSegment told seg page_bytes count =
 abbrev pub LieOnSegment : Manager → CacheId → Type 0
 LieOnSegment p cache = (page count : ℕ) → size_of p.caches cache.0 ≡ Some count → page < count
     → HasPage p.caches cache page OnSegment
+
+-- no page of a cache was granted to be written
+abbrev pub HasNoGrants : Manager → CacheId → Type 0
+HasNoGrants p cache = (page : ℕ) → is_granted p.caches cache.0 page ≡ false

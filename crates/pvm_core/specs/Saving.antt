@@ -14,14 +14,14 @@ use Rattle.vm_ids.specs.Forest.Saving.{saved, saves, unsaved}
 use Rattle.local_cache.specs.Arena.{Arena, table_of}
 use Rattle.local_cache.specs.Whole.{SameCaches, size_of}
 use Rattle.page_release.specs.Homes.{AreSaved}
-use Rattle.segment_ops.specs.Access.{IsGranted}
+use Rattle.segment_ops.specs.Access.{GrantsBefore, IsGranted}
 use Rattle.segment_ops.specs.Saving.{AreSavedNow}
 use Rattle.segment_ops.specs.Ranges.{IsPageOf}
 use Rattle.vm_model.specs.PageForest.{PageForest}
 use Rattle.vm_model.specs.Synchronised.{ArePushed}
 use Rattle.pvm_core.specs.Manager.{Manager, forest_of, machine_by, machine_of}
 use Rattle.pvm_core.specs.Reaching.{Reach}
-use Rattle.pvm_core.specs.Writes.{AreWritable, IsNotGranted}
+use Rattle.pvm_core.specs.Writes.{AreWritable, IsNotGranted, asked_end}
 
 -- The machine stays, whose pages may have been pushed meanwhile, and no node was made.
 pub record KeepsMachine (p q : Manager) (h g : Option Held) (c d : MapperCounts) : Type 0 where
@@ -91,17 +91,39 @@ pub record IsReady (range : Extent) (nodes : ℕ) (p q : Manager) (h g : Option 
   pub saved_now : AreSaved q.caches range.cache (extent_names range)
   pub room : nodes ≤ q.caches.room.nodes
 
--- Why they may not: one is denied, or the mapper failed when it was asked for one, or memory is
--- wanting, or a save failed.
+-- of the manager the caches alone may have changed
+abbrev pub KeepsStore : Manager → Manager → Type 0
+KeepsStore p q = q ≡ record p { caches = q.caches }
+
+-- all writes of a range were granted, room was taken, and else nothing changed
+pub record HasGranted (range : Extent) (p q : Manager) : Type 0 where
+  pub store : KeepsStore p q
+  pub grants : GrantsBefore range (asked_end p.caches range) p.caches
+      (record q.caches { room = p.caches.room })
+
+-- Why they may not, and what is kept: one is denied, or the mapper failed when it was asked for one,
+-- and the pages before it are granted; or memory is wanting, or a save failed, and all are.
 abbrev pub IsNotReady : Extent → Manager → Option Held → Manager → Option Held → Trouble → Type 0
 IsNotReady range p h q g (Refused WriteDenied) =
     KeepsForest p q h g × IsNotGranted range h p.caches q.caches (Refused WriteDenied)
+    × KeepsStore p q
 IsNotReady range p h q g (Mapper (Access page)) =
     KeepsForest p q h g × IsNotGranted range h p.caches q.caches (Mapper (Access page))
-IsNotReady range p h q g Memory = KeepsForest p q h g × AreWritable range q.caches
+    × KeepsStore p q
+IsNotReady range p h q g Memory =
+    KeepsForest p q h g × AreWritable range q.caches × HasGranted range p q
 IsNotReady range p h q g (Mapper (Save done)) =
     FailedToSave range done p q h g × AreWritable range q.caches
 IsNotReady range p h q g trouble = ⊥
+
+-- what comes before any save: every trouble but a failed save
+abbrev pub IsBeforeSaves : Trouble → Type 0
+IsBeforeSaves trouble = (done : ℕ) → trouble ≢ Mapper (Save done)
+
+-- No page of a range needs a save: no segment names their cache, or none has an own page that an
+-- heir reads.
+abbrev pub NeedsNoSave : Arena → Extent → Type 0
+NeedsNoSave a range = (is_named a range.cache.0 ≡ false) ⊎ AreSavedNow a (extent_names range)
 
 -- The pages of a range may be replaced with neither push nor save: no segment names their cache, or
 -- each was granted, and none has an own page that an heir reads.
@@ -130,3 +152,9 @@ CopiesSaved range p h q (Err trouble) = q.caches.copies ≡ p.caches.copies
 abbrev pub RefusedOf : {M : Type 0} → Manager → Manager → M → M → Result (Unit {0}) Trouble → Type 0
 RefusedOf p q before after result = (r : Refusal) → result ≡ Err (Refused r) → r ≢ WriteDenied
     → (q ≡ p) × (after ≡ before)
+
+-- Any other error of a call that replaces the pages of a range tells why they weren't ready.
+abbrev pub IfNotReady : Extent → Manager → Option Held → Manager → Option Held
+    → Result (Unit {0}) Trouble → Type 0
+IfNotReady range p h q g result = (trouble : Trouble) → result ≡ Err trouble
+    → ((r : Refusal) → trouble ≡ Refused r → r ≡ WriteDenied) → IsNotReady range p h q g trouble

@@ -1,5 +1,6 @@
 -- How pages of caches that segments name come to be written.
-use Rattle.std.specs.Prelude.{◌≡◌, ℕ, true, Option}
+use Rattle.std.specs.Prelude.{◌≡◌, ℕ, ◌+◌, Option, if◌then◌else◌}
+use Rattle.vm_port.specs.declared.traits.mapper.Mapper.{Ghosts}
 use Rattle.vm_ids.specs.Held.{Held}
 use Rattle.vm_ids.specs.declared.command.Extent.{Extent}
 use Rattle.vm_ids.specs.declared.numbers.SegId.{SegId}
@@ -11,17 +12,38 @@ use Rattle.vm_ids.specs.Forest.Commands.{page_name}
 use Rattle.local_cache.specs.Arena.{Arena, is_granted, locks_of}
 use Rattle.local_cache.specs.Reading.{forest_of}
 use Rattle.local_cache.specs.Whole.{IsWhole, SameCaches}
-use Rattle.page_release.specs.Homes.{IsWritable}
-use Rattle.segment_ops.specs.Access.{IsAskedFor, OneDenied}
+use Rattle.page_release.specs.Homes.{IsWritable, is_named}
+use Rattle.residency.specs.Causes.{Traffic}
+use Rattle.segment_ops.specs.Access.{GrantsStay, IsAskedFor, OneDenied}
 use Rattle.segment_ops.specs.Ranges.{IsNamedBy, IsPageOf}
+
+-- the same pages are granted
+abbrev pub SameGrants : Arena → Arena → Type 0
+SameGrants old new = (cache page : ℕ) → is_granted new cache page ≡ is_granted old cache page
+
+-- granted pages stay so, and no other becomes so but those of the range
+pub record GrantsWithin (range : Extent) (old new : Arena) : Type 0 where
+  pub kept : GrantsStay old new
+  pub others : (cache page : ℕ) → (cache ≡ range.cache.0 → IsPageOf range page → ⊥)
+      → is_granted new cache page ≡ is_granted old cache page
+
+-- where the pages of a range end for which the mapper is asked: of a temporary cache for none
+abbrev pub asked_end : Arena → Extent → ℕ
+asked_end a range = range.first.0 + (if is_named a range.cache then range.pages else 0)
+
+-- The mapper was called for write access alone, where it was called at all: no page was pulled or
+-- pushed, and it holds and gives what it did.
+pub record OnlyAsked {M : Type 0} (mapper : Ghosts M) (before after : M) : Type 0 where
+  pub traffic : Traffic 0 0 (mapper.counts before) (mapper.counts after)
+  pub held : mapper.held after ≡ mapper.held before
+  pub given : mapper.given after ≡ mapper.given before
 
 -- grants alone changed, and none went: the nodes stay, and so do the sizes and segments of the
 -- caches, the locks, the counters and the room
 pub record KeepsNodes (old new : Arena) : Type 0 where
   pub same : SameCaches old new
   pub cells : new.cells ≡ old.cells
-  pub grants : (cache page : ℕ) → is_granted old cache page ≡ true
-      → is_granted new cache page ≡ true
+  pub grants : GrantsStay old new
   pub locks : (cache page : ℕ) → locks_of new cache page ≡ locks_of old cache page
   pub nodes : forest_of new ≡ forest_of old
   pub whole : IsWhole new

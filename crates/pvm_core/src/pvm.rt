@@ -1,21 +1,26 @@
 // The manager.
-ghost use Rattle.std.specs.Prelude.{◌≡◌, ◌≢◌, ℕ, ◌+◌, ◌≤◌, ◌^◌, false, min, Option, length, Ok, Err, IfOk, IsOk, IsSome, OnErr, OnOk};
+ghost use Rattle.std.specs.Prelude.{◌≡◌, ◌≢◌, ◌⊎◌, ℕ, ◌+◌, ◌≤◌, ◌^◌, false, min, Option, length, Ok, Err, IfErr, IfOk, IsOk, IsSome, OnErr, OnOk};
 ghost use Rattle.vm_ids.specs.Held.{Held};
+ghost use Rattle.vm_ids.specs.Forest.Commands.{extent_names};
+ghost use Rattle.vm_ids.specs.Forest.NameLists.{◌∈◌};
 ghost use Rattle.vm_ids.specs.Forest.Laws.Settling.{IsSettled};
 ghost use Rattle.vm_ids.specs.Forest.Nodes.{no_forest};
 ghost use Rattle.vm_ids.specs.Forest.Reading.{live_count, working_count};
 ghost use Rattle.frame_pool.specs.Pool.{held_count};
-ghost use Rattle.residency.specs.Causes.{Traffic};
+ghost use Rattle.page_tables.specs.Translations.{entry_count};
 ghost use Rattle.residency.specs.Frames.{evictable_count};
 ghost use Rattle.vm_model.specs.Answering.{answer_by};
 ghost use Rattle.vm_model.specs.Machine.{start};
-ghost use Rattle.gmi_calls.specs.Calling.{Answers, Calls, Fits, Numbers, RaisesMade, StaysValid, done_by};
-ghost use Rattle.pvm_core.specs.Access.{IsAtHand, IsLoaded};
-ghost use Rattle.pvm_core.specs.Keeping.{CopiesNothing, HasFewWorking, HasMoreRoom, HoldsEachOnce, SameButSeen};
-ghost use Rattle.pvm_core.specs.Saving.{CopiesSaved, NeedsNothing, RefusedOf, all_of, is_named};
-ghost use Rattle.pvm_core.specs.Spans.{replaced};
+ghost use Rattle.gmi_calls.specs.Calling.{AnswersWithin, CallDone, Fits, MapperCall, done_by};
+ghost use Rattle.pvm_core.specs.Access.{AskedInVain, IsAtHand, IsLoaded, OnNoAccess};
+ghost use Rattle.pvm_core.specs.Keeping.{CopiesNothing, FillsOnly, HasFewWorking, HasMoreRoom, SameButSeen};
+ghost use Rattle.pvm_core.specs.Saving.{CopiesSaved, IfNotReady, IsBeforeSaves, NeedsNoSave, NeedsNothing, RefusedOf, all_of, is_named};
+ghost use Rattle.pvm_core.specs.Spans.{read_from, replaced};
+ghost use Rattle.pvm_core.specs.Standing.{StandsRight};
 ghost use Rattle.pvm_core.specs.Translated.{found_for, frame_to_write};
-ghost use Rattle.pvm_core.specs.Manager.{IsValid, forest_of, machine_of, nodes_of, numbered, state_at};
+ghost use Rattle.pvm_core.specs.Writes.{AreWritable, GrantsWithin, OnlyAsked};
+ghost use Rattle.segment_ops.specs.Access.{GrantsStay};
+ghost use Rattle.pvm_core.specs.Manager.{IsValid, forest_of, machine_of, meaning, nodes_of, numbered};
 
 use crate::nodes::{node_of, reserve};
 use crate::pieces::{fault_of, part_of, write_found, write_frame};
@@ -92,6 +97,7 @@ impl Pvm {
         ensures forest { IfOk result (λ p. (h : Option Held) → forest_of p h ≡ no_forest) }
         ensures valid { IfOk result (λ p. (h : Option Held) → IsValid p h) }
         ensures free { IfOk result (λ p. held_count p.store.frames ≡ 0) }
+        ensures translations { IfOk result (λ p. entry_count p.store.tables ≡ 0) }
         ensures made { IfOk result (λ p. numbered p ≡ 0) }
     {
         let store = Store::new(alloc, frames, page)?;
@@ -104,18 +110,19 @@ impl Pvm {
         })
     }
 
-    /// How many runs of alike page nodes there are. No answer depends on that; it tells how little a
-    /// large copy keeps.
-    pub fn runs(&self) -> usize {
-        self.caches.runs()
+    /// How many runs of alike page nodes there are, no more than nodes. No answer depends on that; it
+    /// tells how little a large copy keeps.
+    pub fn runs(&self) -> u32
+        ensures few { result ≤ live_count (nodes_of self.now) + working_count (nodes_of self.now) }
+    {
+        let counts = self.caches.counts();
+        let nodes = counts.live + counts.working;
+        (self.caches.runs() as u64).min(nodes as u64) as u32
     }
 
     /// Makes an actor without regions. Refused as `TooMany` exactly where 256 actors are alive or 65,535 were made.
     pub fn make_actor(&mut self) -> Result<ActorId, Trouble>
-        ensures valid { StaysValid IsValid self.old self.new }
-        ensures answers { Answers IsValid state_at self.old
-            Command.MakeActor (answer_by Reply.Actor result) self.new }
-        ensures made { Numbers IsValid machine_of numbered self.old
+        ensures call { CallDone meaning self.old
             Command.MakeActor (answer_by Reply.Actor result) self.new }
         ensures err { OnErr result (self.new ≡ self.old) }
     {
@@ -125,10 +132,7 @@ impl Pvm {
     /// Makes a temporary cache of so many zero pages. Refused as `TooMany` exactly where 65,535 caches were made or
     /// the live pages would be too many.
     pub fn make_temp(&mut self, pages: u32) -> Result<CacheId, Trouble>
-        ensures valid { StaysValid IsValid self.old self.new }
-        ensures answers { Answers IsValid state_at self.old
-            (Command.MakeTemp pages) (answer_by Reply.Cache result) self.new }
-        ensures made { Numbers IsValid machine_of numbered self.old
+        ensures call { CallDone meaning self.old
             (Command.MakeTemp pages) (answer_by Reply.Cache result) self.new }
         ensures err { OnErr result (HasMoreRoom self.old self.new) }
     {
@@ -154,12 +158,8 @@ impl Pvm {
         requires valid { IsValid self.old (M.held mapper.old) }
         requires made { numbered self.old ≤ 2 ^ 62 }
         requires fits { Fits (M.page_bytes mapper.old) (machine_of self.old (M.held mapper.old)) }
-        ensures valid { IsValid self.new (M.held mapper.new) }
-        ensures answers { Calls M.counts M.held state_at mapper.old self.old
+        ensures call { MapperCall M.Mapper meaning mapper.old self.old
             (Command.Destroy cache) (done_by result) mapper.new self.new }
-        ensures made { RaisesMade (machine_of self.old (M.held mapper.old))
-            (Command.Destroy cache) (done_by result) (numbered self.old) (numbered self.new) }
-        ensures page { M.page_bytes mapper.new ≡ M.page_bytes mapper.old }
         // A page is copied for a save alone, and of a temporary cache none is pulled or pushed either, and frames are given
         // back alone.
         ensures copies { CopiesSaved (all_of self.old.caches cache)
@@ -201,20 +201,30 @@ impl Pvm {
         requires valid { IsValid self.old (M.held mapper.old) }
         requires made { numbered self.old ≤ 2 ^ 62 }
         requires fits { Fits (M.page_bytes mapper.old) (machine_of self.old (M.held mapper.old)) }
-        ensures valid { IsValid self.new (M.held mapper.new) }
-        ensures answers { Calls M.counts M.held state_at mapper.old self.old
+        ensures call { MapperCall M.Mapper meaning mapper.old self.old
             (Command.Copy span) (done_by result) mapper.new self.new }
-        ensures made { RaisesMade (machine_of self.old (M.held mapper.old))
-            (Command.Copy span) (done_by result) (numbered self.old) (numbered self.new) }
-        ensures page { M.page_bytes mapper.new ≡ M.page_bytes mapper.old }
-        // A page is copied for a save alone, and where none is needed and the writes are granted, none is pulled or pushed
-        // either, and frames are given back alone.
+        // A page is copied for a save alone. Where none is needed, none is pulled or pushed either,
+        // and frames are given back alone; where the writes are granted too, the mapper isn't
+        // called. Where saves are needed, no page comes to a frame but those that are saved and
+        // those that get them.
         ensures copies { CopiesSaved (replaced span) self.old (M.held mapper.old) self.new result }
+        ensures still { NeedsNoSave self.old.caches (replaced span)
+            → OnlyAsked M.Mapper mapper.old mapper.new × (chooser.new ≡ chooser.old)
+            × CopiesNothing self.old self.new }
         ensures idle { NeedsNothing self.old.caches (replaced span) → (mapper.new ≡ mapper.old)
-            × (chooser.new ≡ chooser.old) × CopiesNothing self.old self.new
             × OnErr result (HasMoreRoom self.old self.new) }
+        ensures fills { FillsOnly (replaced span)
+            (λ x. x ∈ extent_names (replaced span)) self.old self.new }
         ensures settled { OnOk result (IsSettled (nodes_of self.new)) }
+        // Write access is asked first, then memory is taken; every page is as before then, and what
+        // was granted stays so.
         ensures refused { RefusedOf self.old self.new mapper.old mapper.new result }
+        ensures unready { IfNotReady (replaced span)
+            self.old (M.held mapper.old) self.new (M.held mapper.new) result }
+        ensures first { IfErr result (λ trouble. IsBeforeSaves trouble
+            → OnlyAsked M.Mapper mapper.old mapper.new × (chooser.new ≡ chooser.old)) }
+        ensures grants { GrantsWithin (replaced span) self.old.caches self.new.caches }
+        ensures writable { OnOk result (AreWritable (replaced span) self.new.caches) }
     {
         if let Some(refusal) = copy_refusal(&self.caches, span) {
             return Err(Trouble::Refused(refusal));
@@ -236,20 +246,31 @@ impl Pvm {
         requires valid { IsValid self.old (M.held mapper.old) }
         requires made { numbered self.old ≤ 2 ^ 62 }
         requires fits { Fits (M.page_bytes mapper.old) (machine_of self.old (M.held mapper.old)) }
-        ensures valid { IsValid self.new (M.held mapper.new) }
-        ensures answers { Calls M.counts M.held state_at mapper.old self.old
+        ensures call { MapperCall M.Mapper meaning mapper.old self.old
             (Command.Move span) (done_by result) mapper.new self.new }
-        ensures made { RaisesMade (machine_of self.old (M.held mapper.old))
-            (Command.Move span) (done_by result) (numbered self.old) (numbered self.new) }
-        ensures page { M.page_bytes mapper.new ≡ M.page_bytes mapper.old }
-        // A page is copied for a save alone, and where none is needed and the writes are granted, none is pulled or pushed
-        // either, and frames are given back alone.
+        // A page is copied for a save alone. Where none is needed, none is pulled or pushed either,
+        // and frames are given back alone; where the writes are granted too, the mapper isn't
+        // called. Where saves are needed, no page comes to a frame but those that are saved and
+        // those that get them.
         ensures copies { CopiesSaved (replaced span) self.old (M.held mapper.old) self.new result }
+        ensures still { NeedsNoSave self.old.caches (replaced span)
+            → OnlyAsked M.Mapper mapper.old mapper.new × (chooser.new ≡ chooser.old)
+            × CopiesNothing self.old self.new }
         ensures idle { NeedsNothing self.old.caches (replaced span) → (mapper.new ≡ mapper.old)
-            × (chooser.new ≡ chooser.old) × CopiesNothing self.old self.new
             × OnErr result (HasMoreRoom self.old self.new) }
+        ensures fills { FillsOnly (replaced span)
+            (λ x. (x ∈ extent_names (replaced span)) ⊎ (x ∈ extent_names (read_from span)))
+            self.old self.new }
         ensures settled { OnOk result (IsSettled (nodes_of self.new)) }
+        // Write access is asked first, then memory is taken; every page is as before then, and what
+        // was granted stays so.
         ensures refused { RefusedOf self.old self.new mapper.old mapper.new result }
+        ensures unready { IfNotReady (replaced span)
+            self.old (M.held mapper.old) self.new (M.held mapper.new) result }
+        ensures first { IfErr result (λ trouble. IsBeforeSaves trouble
+            → OnlyAsked M.Mapper mapper.old mapper.new × (chooser.new ≡ chooser.old)) }
+        ensures grants { GrantsWithin (replaced span) self.old.caches self.new.caches }
+        ensures writable { OnOk result (AreWritable (replaced span) self.new.caches) }
     {
         if let Some(refusal) = move_refusal(&self.caches, span) {
             return Err(Trouble::Refused(refusal));
@@ -273,14 +294,9 @@ impl Pvm {
         requires few { bytes ≤ 64 }
         requires valid { IsValid self.old (M.held mapper.old) }
         requires fits { Fits (M.page_bytes mapper.old) (machine_of self.old (M.held mapper.old)) }
-        ensures valid { IsValid self.new (M.held mapper.new) }
-        ensures answers { Calls M.counts M.held state_at mapper.old self.old
+        ensures call { MapperCall M.Mapper meaning mapper.old self.old
             (Command.Load actor address bytes) (answer_by Reply.Bytes result) mapper.new self.new }
         ensures length { IfOk result (λ piece. length piece ≡ bytes) }
-        ensures made { RaisesMade (machine_of self.old (M.held mapper.old))
-            (Command.Load actor address bytes) (answer_by Reply.Bytes result)
-            (numbered self.old) (numbered self.new) }
-        ensures page { M.page_bytes mapper.new ≡ M.page_bytes mapper.old }
         ensures copies { self.new.caches.copies ≡ self.old.caches.copies }
         ensures refused { (r : Refusal) → result ≡ Err (Trouble.Refused r)
             → (self.new ≡ self.old) × (mapper.new ≡ mapper.old) }
@@ -319,18 +335,15 @@ impl Pvm {
         requires valid { IsValid self.old (M.held mapper.old) }
         requires made { numbered self.old ≤ 2 ^ 62 }
         requires fits { Fits (M.page_bytes mapper.old) (machine_of self.old (M.held mapper.old)) }
-        ensures valid { IsValid self.new (M.held mapper.new) }
-        ensures answers { Calls M.counts M.held state_at mapper.old self.old
+        ensures call { MapperCall M.Mapper meaning mapper.old self.old
             (Command.Store actor address piece.now) (done_by result) mapper.new self.new }
-        ensures made { RaisesMade (machine_of self.old (M.held mapper.old))
-            (Command.Store actor address piece.now) (done_by result)
-            (numbered self.old) (numbered self.new) }
-        ensures page { M.page_bytes mapper.new ≡ M.page_bytes mapper.old }
         ensures copies { self.new.caches.copies ≤ self.old.caches.copies + 2 }
-        // No page is pulled or pushed before a refusal, and before `WriteDenied` alone the mapper is asked.
+        // Before `WriteDenied` alone the mapper is asked.
         ensures refused { (r : Refusal) → result ≡ Err (Trouble.Refused r)
-            → (self.new ≡ self.old) × Traffic 0 0 (M.counts mapper.old) (M.counts mapper.new)
-            × (r ≢ Refusal.WriteDenied → mapper.new ≡ mapper.old) }
+            → (self.new ≡ self.old) × (r ≢ Refusal.WriteDenied → mapper.new ≡ mapper.old) }
+        ensures asked { OnNoAccess result
+            (AskedInVain self.old self.new actor.0 address (length piece.now)) }
+        ensures grants { GrantsStay self.old.caches self.new.caches }
         ensures translated { OnOk result (IsSome (frame_to_write (found_for self.new.page_bytes
             self.new.store.tables actor.0 address (length piece.now)))) }
     {
@@ -381,12 +394,8 @@ impl Pvm {
     ) -> Result<(), Trouble>
         requires valid { IsValid self.old (M.held mapper.old) }
         requires fits { Fits (M.page_bytes mapper.old) (machine_of self.old (M.held mapper.old)) }
-        ensures valid { IsValid self.new (M.held mapper.new) }
-        ensures answers { Calls M.counts M.held state_at mapper.old self.old
+        ensures call { MapperCall M.Mapper meaning mapper.old self.old
             (Command.PageOut count) (done_by result) mapper.new self.new }
-        ensures made { RaisesMade (machine_of self.old (M.held mapper.old))
-            (Command.PageOut count) (done_by result) (numbered self.old) (numbered self.new) }
-        ensures page { M.page_bytes mapper.new ≡ M.page_bytes mapper.old }
         ensures copies { self.new.caches.copies ≡ self.old.caches.copies }
         ensures machine { machine_of self.new (M.held mapper.new)
             ≡ machine_of self.old (M.held mapper.old) }
@@ -407,7 +416,7 @@ impl Pvm {
 
     /// The nodes from that of a page up to the one that has its bytes. Refused as `NoCache` or `OutOfCache`, in this order.
     pub fn chain(&self, cache: CacheId, page: PageNo) -> Result<ChainList, Trouble>
-        ensures answers { Answers IsValid state_at self.now
+        ensures answers { AnswersWithin meaning self.now
             (Command.Chain cache page) (answer_by Reply.Chain result) self.now }
         ensures short { IfOk result (λ items.
             length items ≤ live_count (nodes_of self.now) + working_count (nodes_of self.now)) }
@@ -427,10 +436,12 @@ impl Pvm {
 
     /// How many live pages and working nodes there are, and how many pages were copied.
     pub fn stat(&self) -> Counts
-        ensures answers { Answers IsValid state_at self.now
+        ensures answers { AnswersWithin meaning self.now
             Command.Stat (Ok (Reply.Stat result)) self.now }
         ensures bounded { HasFewWorking result }
-        ensures once { (h : Option Held) → IsValid self.now h → HoldsEachOnce self.now }
+        ensures counters { (h : Option Held) → numbered self.now
+            ≡ (forest_of self.now h).made + (forest_of self.now h).copies }
+        ensures stands { (h : Option Held) → IsValid self.now h → StandsRight self.now h }
     {
         self.caches.counts()
     }

@@ -10,7 +10,7 @@ use Rattle.vm_model.specs.Asking.{IsWellFormed}
 use Rattle.vm_model.specs.Laws.{IsFollowed}
 use Rattle.vm_model.specs.Machine.{Machine, live_pages, start}
 use Rattle.vm_model.specs.PageForest.{PageForest}
-use Rattle.vm_model.specs.Run.{Read, Step, State, RunOf, lines_answered, numbered_from}
+use Rattle.vm_model.specs.Run.{Chain, Read, Step, State, RunOf, lines_answered, numbered_from}
 use Rattle.vm_model.specs.declared.limits.TheConstants.{LIVE_PAGES}
 use Rattle.vm_model.proofs.WholeRuns.Runs.{runs_are_followed}
 use Rattle.actor_script.specs.Forms.{command_of}
@@ -48,7 +48,7 @@ steps_formed first (r ∷ reads) (step ∷ steps) e h =
 module _ (a : Scene) (frames page : ℕ) (some : 1 ≤ page) (told : Option Segments) (begins : a.state ≡ record { machine = start frames page; forest = Some no_forest; segments = told }) where
   pub run_followed : (reads : List Read) (steps : List Step) (after : State) → AreWellFormed reads → RunOf a.state reads steps after → IsSomeAnd after.forest (IsFollowed after.machine)
   run_followed reads steps after h run =
-      runs_are_followed frames page told reads steps after some (steps_formed 1 reads steps run.order h) (subst (λ (s : State). RunOf s reads steps after) begins run)
+      runs_are_followed frames page told steps after some (steps_formed 1 reads steps run.order h) (subst (λ (s : State). Chain s steps after) begins run.chain)
 
   pub ends_followed : (status : Status) (b : Scene) (l k : Option (List ℕ)) → Ends status a b l k → IsSomeAnd b.state.forest (IsFollowed b.state.machine)
   ends_followed statuses.Done b l k h = run_followed _ h.answered.steps b.state (lines_formed (lines_of h.script)) h.answered.runs

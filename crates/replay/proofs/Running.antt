@@ -8,7 +8,7 @@ use Rattle.vm_ids.specs.declared.command.Command.{Command}
 use Rattle.vm_ids.specs.declared.refusal.Refusal.{Refusal}
 use Rattle.vm_ids.specs.declared.reply.Trouble.TheVariants.{Refused}
 use Rattle.vm_model.specs.Answering.{Answer}
-use Rattle.gmi_calls.specs.Room.{CallWithin}
+use Rattle.gmi_calls.specs.Room.{CallWithin, StaysLimited}
 use Rattle.vm_model.specs.Run.{CallIs, Read, Step, State, StepIs, Chain, RunOf, numbered_from, rises_of}
 use Rattle.actor_script.specs.Forms.{command_of}
 use Rattle.actor_script.specs.Text.{text_of}
@@ -112,6 +112,12 @@ answered_more (Err x) a b c reads number read h at done =
       rose = subst (Rise a.counts c.counts) (rises-push h.steps step) (rise_then a.counts b.counts c.counts (rises_of h.steps) step.rises h.rose line.rose);
       writes = subst (WritesFront a.written c.written) (texts-push h.steps step) (front_then a.written b.written c.written (texts_of h.steps) (text_of number done.answer) h.writes done.wrote);
     }
+
+-- a room that isn't limited isn't after a call
+pub still_unlimited : (before now : Option ℕ) → StaysLimited before now → before ≡ None → now ≡ None
+still_unlimited before None stays e = refl
+still_unlimited None (Some room) stays e = absurd (cc stays)
+still_unlimited (Some room) now stays e = absurd (cc e)
 
 -- the call of a command, by a manager whose room isn't limited
 pub line_called : (room : Option ℕ) (line : List ℕ) (command : Command) (answer : Answer) (c d : MapperCounts) (a b : State) → room ≡ None → Ok command ≡ command_of line → CallWithin room c d a command answer b → LineIs c d a (command_of line) answer b

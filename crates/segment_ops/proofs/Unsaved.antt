@@ -1,6 +1,7 @@
 -- Pages of a range that have an own page and an heir.
-use Rattle.std.proofs.Common.{◌≡◌, ◌≢◌, ℕ, zero, suc, length, ◌+◌, ◌-◌, ◌<◌, ◌≤◌, ◌^◌, ◌*◌, cond, ◌&&◌, List, Bool, true, false, Option, Some, None, is_some, option_map, refl, sym, ap, ◌∙◌, arith, inl, inr}
+use Rattle.std.proofs.Common.{◌≡◌, ◌≢◌, ℕ, zero, suc, length, ◌+◌, ◌-◌, ◌<◌, ◌≤◌, ◌^◌, ◌*◌, cond, ◌&&◌, List, Bool, true, false, Option, Some, None, is_some, option_map, Result, Ok, Err, refl, sym, ap, ◌∙◌, arith, inl, inr}
 use Rattle.std.specs.Option.{IsSome}
+use Rattle.std.specs.Prelude.{IfErr}
 use Rattle.std.proofs.lemmas.Bool.{cases_eq}
 use Rattle.vm_ids.specs.declared.command.Extent.{Extent}
 use Rattle.vm_ids.specs.declared.node_name.NodeName.{NodeName}
@@ -34,9 +35,10 @@ use Rattle.local_cache.proofs.Tables.Sizes.{sizes_same}
 use Rattle.local_cache.proofs.Whole.Pages.{page_there, pages_once}
 use Rattle.residency.specs.StoreForest.{store_forest}
 use Rattle.residency.specs.World.{HasOwnPage, World, own_page}
-use Rattle.fault_path.proofs.Calls.Kept.{store_bare}
+use Rattle.fault_path.specs.Coming.{IsOfSave}
+use Rattle.fault_path.proofs.Calls.Kept.{store_bare, store_heir}
 use Rattle.segment_ops.specs.Ranges.{HasRange}
-use Rattle.segment_ops.specs.Saving.{AreSaved, AreSavedNow, SavesEnd}
+use Rattle.segment_ops.specs.Saving.{AreSaved, AreSavedNow, IsOfSaves, SavesEnd}
 use Rattle.segment_ops.proofs.Saves.{all_saved, first_unsaved, none_unsaved, saved_now, saved_stays, saves_before, saves_left}
 
 -- Ranges and nodes -----------------------------------------------------------------------
@@ -150,6 +152,20 @@ module _ (old w : World) (range : Extent) (done at : ℕ) (forest : store_forest
   pub few_done : IsWellShaped (store_forest old) → at < range.first.0 + range.pages → is_unsaved (store_forest w) (page_name range.cache at) ≡ true → done < len (store_forest old).nodes
   few_done shaped past is = saves_left done (extent_names range) (store_forest old) shaped (ap (λ f. is_some (unsaved f (extent_names range))) (sym forest) ∙ ap is_some (next_is past is))
 
+  -- the node of the page there and its heir are those of the next save
+  pub next_save_is : (n m : NodeId) → IsSound w.caches → Like old.caches w.caches → at < range.first.0 + range.pages → is_unsaved (store_forest w) (page_name range.cache at) ≡ true → name_of w.caches n ≡ page_name range.cache at
+      → IsOfSave w.caches n m → IsOfSaves {T = ℕ} (Err done) (extent_names range) old m
+  next_save_is n m sound like past is named save = record {
+    step = done;
+    early = omega arith;
+    page = page_name range.cache at;
+    next = ap (λ f. unsaved f (extent_names range)) (sym forest) ∙ next_is past is;
+    one = elim save.one [
+      | inl e ↦ inl (sym (like.name m) ∙ ap (name_of w.caches) e ∙ named)
+      | inr e ↦ inr (ap (λ f. heir f (page_name range.cache at)) (sym forest) ∙ store_heir w sound (page_name range.cache at) ∙ ap (heir (forest_of w.caches)) (sym named) ∙ save.is_heir ∙ ap Some (sym e ∙ like.name m))
+    ];
+  }
+
   -- it was saved
   module _ (v : World) (h : NodeName) (past : at < range.first.0 + range.pages) (is : is_unsaved (store_forest w) (page_name range.cache at) ≡ true) (is_heir : heir (store_forest w) (page_name range.cache at) ≡ Some h)
       (after : store_forest v ≡ heir_gets (store_forest w) (page_name range.cache at)) where
@@ -207,3 +223,8 @@ not_idle a b range page from below none same is =
     let i = (ranges_hold_their_pages range.cache range.first.0 range.pages (page_name range.cache page)).1 (page - range.first.0, omega (arith, from, below), ap (page_name range.cache) (let e : page ≡ range.first.0 + (page - range.first.0) = omega (arith, from) in e)) in
     let k : false ≡ true = sym (none (page_name range.cache page) i) ∙ ap (λ (x : Arena). is_unsaved (forest_of x) (page_name range.cache page)) (sym same) ∙ is in
     cc k
+
+-- saves that were done before more were done, or all
+pub in_more_saves : {T : Type 0} (r : Result T ℕ) (done : ℕ) (names : List NodeName) (w : World) (n : NodeId) → IfErr r (λ more. done ≤ more) → IsOfSaves {T = ℕ} (Err done) names w n → IsOfSaves r names w n
+in_more_saves (Ok x) done names w n low k = record { step = k.step; early = tt; page = k.page; next = k.next; one = k.one }
+in_more_saves (Err more) done names w n low k = record { step = k.step; early = omega (arith, low, k.early); page = k.page; next = k.next; one = k.one }

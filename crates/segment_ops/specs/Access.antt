@@ -24,6 +24,11 @@ pub record GrantsBefore (range : Extent) (past : ℕ) (old new : Arena) : Type 0
   pub rest : record new { caches = old.caches } ≡ old
   pub none : past ≡ range.first.0 → new ≡ old
 
+-- each page that was granted is granted still
+abbrev pub GrantsStay : Arena → Arena → Type 0
+GrantsStay old new = (cache page : ℕ) → is_granted old cache page ≡ true
+    → is_granted new cache page ≡ true
+
 -- each page of the range is granted
 abbrev pub IsGranted : Arena → Extent → Type 0
 IsGranted a range =
@@ -34,10 +39,12 @@ abbrev pub AllowsBefore : Extent → ℕ → Option Held → SegId → Type 0
 AllowsBefore range past told segment = (page : ℕ) → range.first.0 ≤ page → page < past
     → IfSome told (λ h. denies h.denied segment.0 page ≡ false)
 
--- the mapper was asked for the pages of the range in rising order, up to this one
+-- the mapper was asked for the pages of the range in rising order, up to this one, which wasn't
+-- granted before
 pub record IsAskedFor (range : Extent) (page : ℕ) (told : Option Held) (segment : SegId)
     (old new : Arena) : Type 0 where
   pub page_of : IsPageOf range page
+  pub ungranted : is_granted old range.cache.0 page ≡ false
   pub grants : GrantsBefore range page old new
   pub allows : AllowsBefore range page told segment
 

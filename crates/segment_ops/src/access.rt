@@ -7,36 +7,38 @@ ghost use Rattle.local_cache.specs.Whole.{IsWhole, SameCaches};
 ghost use Rattle.residency.specs.Between.{Between, RightStore};
 ghost use Rattle.residency.specs.Causes.{Later, Traffic};
 ghost use Rattle.fault_path.specs.Faults.{SameForest};
-ghost use Rattle.segment_ops.specs.Access.{IsAccess, IsGranted};
+ghost use Rattle.residency.specs.declared.store.Store.{Store};
+ghost use Rattle.segment_ops.specs.Access.{GrantsStay, IsAccess, IsGranted};
 ghost use Rattle.segment_ops.specs.Ranges.{HasRange, IsNamed, IsNamedBy};
 
 use local_cache::Caches;
-use residency::Store;
 use vm_ids::{Extent, PageNo};
 use vm_port::Mapper;
 
 /// Whether the pages of a range of a named cache may be written: the mapper is asked for each that
 /// wasn't granted, in rising order, and what it allows is granted. False exactly where it denies a
 /// page; the error is the page whose call failed. After either no more is asked. Nothing is pulled
-/// or pushed, and only grants change.
+/// or pushed, and only grants change: each store that was right beside the caches is right still.
 pub fn write_access<M: Mapper>(
-    _store: &Store,
     caches: &mut Caches,
     range: Extent,
     mapper: &mut M,
 ) -> Result<bool, PageNo>
-    requires right { RightStore M.held M.page_bytes mapper.old caches.old _store.now }
+    requires right { (store : Store) × RightStore M.held M.page_bytes mapper.old caches.old store }
     requires whole { IsWhole caches.old }
     requires range { HasRange caches.old range }
     requires named { IsNamed caches.old range }
     ensures access { (segment : SegId) → IsNamedBy caches.old range segment
         → IsAccess range (M.held mapper.old) segment caches.old caches.new result }
-    ensures right { RightStore M.held M.page_bytes mapper.new caches.new _store.now }
+    ensures stay { GrantsStay caches.old caches.new }
+    ensures right { (store : Store) → RightStore M.held M.page_bytes mapper.old caches.old store
+        → RightStore M.held M.page_bytes mapper.new caches.new store }
     ensures whole { IsWhole caches.new }
     ensures sizes { SameCaches caches.old caches.new }
     ensures nodes { forest_of caches.new ≡ forest_of caches.old }
-    ensures forest { Between SameForest M.held M.page_bytes
-        mapper.old caches.old _store.now mapper.new caches.new _store.now }
+    ensures forest { (store : Store) → RightStore M.held M.page_bytes mapper.old caches.old store
+        → Between SameForest M.held M.page_bytes
+        mapper.old caches.old store mapper.new caches.new store }
     ensures held { M.held mapper.new ≡ M.held mapper.old }
     ensures given { M.given mapper.new ≡ M.given mapper.old }
     ensures page_bytes { M.page_bytes mapper.new ≡ M.page_bytes mapper.old }

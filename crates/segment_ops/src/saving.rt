@@ -14,7 +14,7 @@ ghost use Rattle.residency.specs.Translating.{Drops};
 ghost use Rattle.fault_path.specs.Faults.{HasLoose};
 ghost use Rattle.segment_ops.specs.Keeping.{StaysWhole};
 ghost use Rattle.segment_ops.specs.Ranges.{HasRange};
-ghost use Rattle.segment_ops.specs.Saving.{AreSaved, AreSavedNow, HasFailed, SavesEnd};
+ghost use Rattle.segment_ops.specs.Saving.{AreSaved, AreSavedNow, HasFailed, OnlySavedCome, SavesEnd};
 ghost use Rattle.segment_ops.specs.Translating.{IsSavedOrAbsent};
 
 use fault_path::save;
@@ -90,6 +90,8 @@ pub fn save_range<M: Mapper, C: Chooser>(
         × (mapper.new ≡ mapper.old) × (chooser.new ≡ chooser.old) }
     ensures drops { Drops (IsSavedOrAbsent caches.old range)
         caches.old store.old caches.new store.new }
+    ensures frames { Between (OnlySavedCome result (extent_names range)) M.held M.page_bytes
+        mapper.old caches.old store.old mapper.new caches.new store.new }
 {
     let mut done = 0;
     let mut page = range.first.0;

@@ -65,7 +65,7 @@ fn a_denied_page_is_not_granted(rt: HostRuntime) -> Result<(), Fail> {
     let mut opened = open_segment(rt.alloc())?;
     let range = opened.range;
     assert_eq!(&rt;
-        write_access(&opened.store, &mut opened.caches, range, &mut opened.mapper),
+        write_access(&mut opened.caches, range, &mut opened.mapper),
         Ok(false)
     );
     Ok(())

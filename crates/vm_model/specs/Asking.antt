@@ -1,11 +1,11 @@
 -- What a caller of the commands keeps to, and what a command may do beside answering.
-use Rattle.std.specs.Prelude.{◌≡◌, ◌≤◌, ℕ, ◌+◌, min}
+use Rattle.std.specs.Prelude.{◌≡◌, ◌≤◌, ℕ, ◌+◌, ◌-◌, min}
 use Rattle.std.specs.Option.{option_map_or}
 use Rattle.vm_ids.specs.Counting.{MapperCounts, no_counts}
 use Rattle.vm_ids.specs.declared.command.Command.{Command}
 use Rattle.vm_ids.specs.declared.command.Command.TheVariants as commands
 use Rattle.vm_ids.specs.declared.command.Span.{Span}
-use Rattle.vm_model.specs.Machine.{Machine, Region, cache_of, pages_in}
+use Rattle.vm_model.specs.Machine.{Machine, Region, cache_of, live_pages, pages_in}
 use Rattle.vm_model.specs.Regions.{region_with}
 
 -- counts of pages are at least 1, and a load is of 1 to 64 bytes
@@ -48,9 +48,9 @@ pages_of_region m number =
 abbrev pub pages_of_span : Machine → Span → ℕ
 pages_of_span m s = s.pages + pages_in (cache_of m s.from.0) + pages_in (cache_of m s.to.0)
 
--- The pages that a command names, and those of the caches and regions that it names or makes, where it can number a node.
+-- The pages that a command names, and those of the caches and regions that it names, where it can
+-- number a node.
 abbrev pub pages_touched : Machine → Command → ℕ
-pages_touched m (commands.MakeTemp pages) = pages
 pages_touched m (commands.Destroy cache) = pages_in (cache_of m cache.0)
 pages_touched m (commands.Copy span) = pages_of_span m span
 pages_touched m (commands.Move span) = pages_of_span m span
@@ -62,3 +62,7 @@ pages_touched m (commands.Store actor address piece) = 1
 pages_touched m (commands.Invalidate extent) =
     extent.pages + pages_in (cache_of m extent.cache.0)
 pages_touched m command = 0
+
+-- How many live pages there are more than before a command: those of the cache that it made.
+abbrev pub pages_made : Machine → Machine → ℕ
+pages_made m next = live_pages next - live_pages m

@@ -16,7 +16,7 @@ use Rattle.vm_model.specs.Answering.{Answer}
 use Rattle.vm_model.specs.Asking.{IsWellFormed}
 use Rattle.vm_model.specs.Following.{forest_after}
 use Rattle.vm_model.specs.Outcome.{BlankOutcome, HasWholePages, Outcome}
-use Rattle.vm_model.specs.Run.{Read, RunOf, State, Step}
+use Rattle.vm_model.specs.Run.{Chain, State, Step}
 
 -- The forest has its shape, and agrees with the machine.
 pub record IsFollowed (m : Machine) (f : PageForest) : Type 0 where
@@ -68,14 +68,13 @@ abbrev pub started : ℕ → ℕ → Option Segments → State
 started frames bytes told =
     record { machine = start frames bytes; forest = Some no_forest; segments = told }
 
--- A run from the start and the empty forest ends with a forest that agrees with its machine, whether the mapper tells what
--- it holds or not.
+-- Whatever steps lead from the start and the empty forest, the last forest agrees with the last
+-- machine, whether the mapper tells what it holds or not.
 abbrev pub RunsAreFollowed : Type 0
 RunsAreFollowed =
-    (frames bytes : ℕ) (told : Option Segments) (reads : List Read) (steps : List Step)
-    (after : State) → 1 ≤ bytes
+    (frames bytes : ℕ) (told : Option Segments) (steps : List Step) (after : State) → 1 ≤ bytes
     → AllByRecursion (λ (step : Step). IfOk step.read IsWellFormed) steps
-    → RunOf (started frames bytes told) reads steps after
+    → Chain (started frames bytes told) steps after
     → IsSomeAnd after.forest (IsFollowed after.machine)
 
 abbrev pub PlainForestFollows : Type 0

@@ -1,5 +1,5 @@
 // Caches are made and taken away.
-ghost use Rattle.std.specs.Prelude.{None, Some, ◌≡◌, ℕ, ◌+◌, ◌≤◌, ◌<◌, ◌∷◌, ◌++◌, [], ◌==◌, map, option_map, is_some, length, replicate, IfOk, OnOk, OnErr, All, IsSome, false};
+ghost use Rattle.std.specs.Prelude.{None, Some, ◌≡◌, ℕ, ◌+◌, ◌≤◌, ◌<◌, ◌∷◌, ◌++◌, [], ◌==◌, map, option_map, is_some, length, replicate, IfErr, IfOk, OnOk, OnErr, All, IsSome, false};
 ghost use Rattle.std.specs.FinMap.{get};
 ghost use Rattle.std.specs.List.{list_any};
 ghost use Rattle.vm_model.specs.Answering.{answer_by, maps_in};
@@ -152,6 +152,7 @@ pub(crate) fn open_segment(
         → get h.pages seg.0 ≡ Some (map (λ p. p.items) pages.items)
         → Outcome (machine_seen tables.old) None (Command.OpenSegment seg) h
         (answer_by Reply.Cache result) (machine_seen tables.new) no_counts }
+    ensures memory { IfErr result (λ trouble. trouble ≡ Trouble.Memory) }
 {
     let cache = Cache {
         segment: Some(seg),

@@ -1,5 +1,5 @@
 // The eager machine: the plain one, computed.
-ghost use Rattle.std.specs.Prelude.{None, Some, Ok, false, ◌≡◌, ◌+◌, ◌≤◌, ◌<◌, ◌^◌, length, map, replicate, option_map, All, IfOk, IsOkAnd, IsSome, OnOk, OnErr};
+ghost use Rattle.std.specs.Prelude.{None, Some, Ok, false, ◌≡◌, ◌+◌, ◌≤◌, ◌<◌, ◌^◌, length, map, replicate, option_map, All, IfErr, IfOk, IsOkAnd, IsSome, OnOk, OnErr};
 ghost use Rattle.std.specs.FinMap.{get};
 ghost use Rattle.vm_ids.specs.Counting.{no_counts};
 ghost use Rattle.vm_ids.specs.Held.{Segments};
@@ -139,6 +139,7 @@ impl EagerMachine {
             → get h.pages seg.0 ≡ Some (map (λ p. p.items) pages.items)
             → Outcome self.old None (Command.OpenSegment seg) h
             (answer_by Reply.Cache result) self.new no_counts }
+        ensures memory { IfErr result (λ trouble. trouble ≡ Trouble.Memory) }
         ensures whole { HasWholePages self.new }
     {
         caches::open_segment(&mut self.tables, seg, pages)

@@ -1,4 +1,3 @@
 pub mod Choosing
 pub mod Finding
 pub mod Holding
-mod Sizes

@@ -6,3 +6,4 @@ pub mod Mapping
 pub mod Rows
 pub mod Sizes
 pub mod Streams
+pub mod Telling

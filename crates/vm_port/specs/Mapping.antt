@@ -1,5 +1,5 @@
 -- What a mapper in memory is.
-use Rattle.std.specs.Prelude.{zero, suc, ◌∷◌, ◌++◌, ◌/◌, take, drop, replicate, ◌≡◌, ◌==◌, ℕ, ◌+◌, ◌-◌, ◌≤◌, ◌<◌, Bool, List, map, length, Option, Some, None, if◌then◌else◌, All, option_and_then, slice_get, slice_set, slice_index_or, [], min, ◌^◌}
+use Rattle.std.specs.Prelude.{zero, suc, ◌∷◌, ◌++◌, ◌/◌, take, drop, replicate, ◌≡◌, ◌==◌, ℕ, ◌+◌, ◌-◌, ◌≤◌, ◌<◌, Bool, List, map, length, Option, option_map, Some, None, if◌then◌else◌, All, option_and_then, slice_get, slice_set, slice_index_or, [], min, ◌^◌}
 use Rattle.vm_ids.specs.Counting.{MapperCounts}
 use Rattle.vm_ids.specs.Held.{Held}
 use Rattle.vm_ids.specs.declared.numbers.SegId.{SegId}
@@ -34,12 +34,19 @@ pub record MapperInMemory : Type 0 where
   pub calls : Calls
   pub counts : MapperCounts
 
--- what it holds: segments count from 1, slots from 0
+-- a page of just so many bytes: those that it has, and zeros behind them
+abbrev pub sized : ℕ → List ℕ → List ℕ
+sized zero bytes = []
+sized (suc n) [] = 0 ∷ sized n []
+sized (suc n) (b ∷ bytes) = b ∷ sized n bytes
+
+-- What it holds: segments count from 1, slots from 0. Each page of a mapper has all its bytes, and
+-- `sized` leaves it; so the pages held have one size whatever the record.
 abbrev pub held_of : MapperInMemory → Held
 held_of m =
     record {
-      segments = from_row 1 (map (λ pages. Some pages) m.segments);
-      slots = from_row 0 m.slots;
+      segments = from_row 1 (map (λ pages. Some pages) (map (map (sized m.page_bytes)) m.segments));
+      slots = from_row 0 (map (option_map (sized m.page_bytes)) m.slots);
       denied = m.denied;
     }
 

@@ -10,7 +10,8 @@ use Rattle.local_cache.specs.declared.own_state.OwnState.TheVariants.{Absent, Ze
 use Rattle.local_cache.specs.Own.{is_absent, is_resident}
 use Rattle.residency.specs.Causes.{Later, Traffic, frames_to_bring, pushes_for, pushes_to_bring}
 use Rattle.residency.specs.World.{is_pulled}
-use Rattle.fault_path.specs.Costs.{TrafficAtMost, Pulls, Takes, TakesAtMost, frames_to_copy, pulls_to_copy}
+use Rattle.fault_path.specs.Costs.{NoPull, TrafficAtMost, Pulls, Takes, TakesAtMost, frames_to_copy, pulls_to_copy}
+use Rattle.fault_path.specs.Faults.{is_at_hand}
 
 count_most : (xs : List Bool) → count_by (λ h. h) xs ≤ length xs
 count_most xs = count_by-le-length (λ h. h) xs
@@ -152,6 +153,17 @@ module _ (own : OwnState) (before now : Frames) (x y : MapperCounts) (same : len
 pub failed_most : (own : OwnState) (before : Frames) (b : Bool) (pushes : ℕ) (x y : MapperCounts) → Traffic (cond {A = ℕ} b 0 (cond {A = ℕ} (is_pulled own) 1 0)) pushes x y → pushes ≤ pushes_to_bring own before.held
     → TakesAtMost (pulls_to_copy own) (frames_to_bring own) before x y
 failed_most own before b pushes x y traffic few = pulls_most _ _ _ _ _ _ (pulls_few _ _ _ _ _ traffic few) (tried_most b own) (omega (arith, pushes_bring own before.held))
+
+-- a page that is at hand is not pulled
+pub at_hand_pulls : (own : OwnState) (pushes : ℕ) (x y : MapperCounts) → TrafficAtMost (pulls_to_copy own) pushes x y → Later x y → is_at_hand own ≡ true → NoPull x y
+at_hand_pulls own pushes x y most later at low = (let up : y.pulls ≤ x.pulls + pulls_to_copy own = most.pulled low in omega (arith, up, none own at, later.pulls))
+  where
+    none : (own : OwnState) → is_at_hand own ≡ true → pulls_to_copy own ≡ 0
+    none Absent e = absurd (cc e)
+    none Zero e = refl
+    none (Resident d) e = refl
+    none (Slot s) e = absurd (cc e)
+    none OnSegment e = absurd (cc e)
 
 -- a copy of a resident page takes the one frame
 pub resident_takes : (own : OwnState) (now : Frames) (y z : MapperCounts) → is_resident own ≡ true → Takes (pulls_to_copy own) (frames_to_copy own) now y z → Takes 0 1 now y z

@@ -8,7 +8,7 @@ use Rattle.vm_ids.specs.declared.numbers.NodeId.{NodeId}
 use Rattle.vm_ids.proofs.Places.{back, true_below}
 use Rattle.frame_pool.specs.Pool.{bytes_of, is_held, is_pinned, with_bytes}
 use Rattle.global_map.specs.Pairs.{node_of}
-use Rattle.local_cache.specs.Own.{own_of}
+use Rattle.local_cache.specs.Own.{is_resident, own_of}
 use Rattle.residency.specs.Causes.{Later}
 use Rattle.residency.specs.Pushing.{TellsOn}
 use Rattle.residency.specs.World.{IsMadeFree, IsStoreRight, PagesStay, PinnedStays, Still, World, is_bound}
@@ -19,6 +19,7 @@ use Rattle.residency.proofs.Worlds.Homes.{IsHome, home, page_here}
 use Rattle.residency.proofs.Worlds.Nodes.{same}
 use Rattle.residency.proofs.Pushes.PushedPages.{tells_as, tells_none}
 use Rattle.residency.proofs.Pushes.Told.{tells_then}
+use Rattle.fault_path.specs.Faults.{StaysHome}
 use Rattle.fault_path.specs.Gathering.{HasPageOf, IsGathered, NoneGathered}
 
 pub set_comm : {X : Type 0} (xs : List X) (i j : ℕ) (a b : X) → i ≢ j → set (set xs i a) j b ≡ set (set xs j b) i a
@@ -143,6 +144,12 @@ same_home w k h n right a b =
     let x = home w k n right (bound_below w.map k n a) a in
     let y = home w h n right (bound_below w.map h n b) b in
     sym x.place ∙ y.place
+
+-- a node stays in its frame, where the map stays whose node has its page in one
+pub brought_home : (old new : World) (n : NodeId) → IsStoreRight old → (is_resident (own_of old.caches n) ≡ true → new.map ≡ old.map) → StaysHome n old.map new.map
+brought_home old new n right idle f at =
+    let here = home old f n right (bound_below old.map f n at) at in
+    ap (λ (m : List (Option NodeId)). node_of m f) (idle here.resident) ∙ at
 
 -- a frame that is gathered where every page was still before
 pub then_gathered : (a b c : World) (f : ℕ) → Still a b → b.frames.pinned ≡ a.frames.pinned → IsGathered f b c → IsGathered f a c

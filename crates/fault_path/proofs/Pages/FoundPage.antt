@@ -1,5 +1,5 @@
 -- What a read fault finds.
-use Rattle.std.proofs.Common.{◌≡◌, ℕ, ◌<◌, true, false, length, Some, None, is_none, refl, sym, ap, ◌∙◌}
+use Rattle.std.proofs.Common.{◌≡◌, ℕ, ◌<◌, true, false, length, Some, None, is_none, refl, sym, ap, subst, ◌∙◌}
 use Rattle.std.specs.Prelude.{option_map, option_and_then}
 use Rattle.vm_ids.specs.Held.{slot_of}
 use Rattle.vm_ids.specs.declared.numbers.NodeId.{NodeId}
@@ -24,6 +24,10 @@ use Rattle.std.specs.Option.{IsSome}
 
 pub owner_same : (a : Arena) → IsSound a → (n o p : NodeId) → IsOwner a n o → IsOwner a n p → o ≡ p
 owner_same a sound n o p x y = sound.kept.named.apart o p x.held y.held (x.name ∙ sym y.name)
+
+-- what holds of one owner holds of each
+pub each_owner : (P : NodeId → Type 0) (a : Arena) → IsSound a → (n o : NodeId) → IsOwner a n o → P o → (p : NodeId) → IsOwner a n p → P p
+each_owner P a sound n o owner holds p is = subst P (owner_same a sound n o p owner is) holds
 
 -- who has an own page is its owner
 pub itself_owner : (a : Arena) → IsSound a → IsWellShaped (forest_of a) → (n : NodeId) → HasOwnPage a n → IsOwner a n n

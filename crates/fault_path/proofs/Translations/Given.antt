@@ -78,4 +78,4 @@ may_come a o n p absent c = elim c [
 -- a call that failed left nothing to drop
 pub failed_leaves : {T E : Type 0} (P : E → Type 0) (r : Result T E) (o n : NodeId) (a b : Arena) (s t : Store) → IsErrAnd r P → Drops (MayCome a o) a s b t → LeavesHomes r o n a s b t
 failed_leaves P (Ok x) o n a b s t is drops = absurd is
-failed_leaves P (Err e) o n a b s t is drops = record { left = tt; failed = drops }
+failed_leaves P (Err e) o n a b s t is drops = record { left = tt; home = tt; failed = drops }

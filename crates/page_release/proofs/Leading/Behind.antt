@@ -11,7 +11,7 @@ use Rattle.residency.specs.declared.store.Store.{Store}
 use Rattle.residency.specs.Seeing.{frame_forest}
 use Rattle.residency.specs.StoreForest.{store_forest}
 use Rattle.residency.specs.World.{IsStoreRight, IsTied, world}
-use Rattle.page_release.specs.Commands.{CanReplace, Empties, KeepsPages}
+use Rattle.page_release.specs.Commands.{CanReplace, KeepsPages}
 use Rattle.page_release.specs.Readings.{GoesBy, NewPages, new_frames, new_pages}
 use Rattle.page_release.specs.Steps.{GivesBack, IsUnpinned, Kept, PinnedStayNamed, Releases, StaysRight}
 use Rattle.page_release.proofs.Leading.Ranges.{OnlyTables, same_world, tied_still}
@@ -62,15 +62,4 @@ module _ (s t : Store) (only : OnlyTables s t) (a : Arena) where
       live = pages.live;
       right = λ enough. right_behind (pages.right (subst (λ (r : Store). 2 * live_count (forest_of a) ≤ length r.slots) (sym only.is) enough));
       room = pages.room;
-    }
-
-    pub empties_behind : (cache : CacheId) (pages : ℕ) → Empties cache pages t a u b → Empties cache pages s a u b
-    empties_behind cache pages empties = record {
-      settles = empties.settles;
-      consistent = empties.consistent;
-      empty = empties.empty;
-      whole = empties.whole;
-      right = right_behind empties.right;
-      room = empties.room;
-      fewer = empties.fewer;
     }

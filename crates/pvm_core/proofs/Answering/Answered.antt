@@ -165,11 +165,11 @@ seated p q h command answer nodes then valid forest none reaches synchronised sa
     reaches synchronised outcome
 
 -- the counters stay
-pub made_stays : (m : Machine) (command : Command) (answer : Answer) (n k : ℕ) → k ≡ n → RaisesMade m command answer n k
-made_stays m command (Ok r) n k e = omega (arith, e)
-made_stays m command (Err (troubles.Refused r)) n k e = e
-made_stays m command (Err (troubles.Mapper at)) n k e = omega (arith, e)
-made_stays m command (Err troubles.Memory) n k e = omega (arith, e)
+pub made_stays : (m : Machine) (command : Command) (answer : Answer) (next : Machine) (n k : ℕ) → k ≡ n → RaisesMade m command answer next n k
+made_stays m command (Ok r) next n k e = omega (arith, e)
+made_stays m command (Err (troubles.Refused r)) next n k e = e
+made_stays m command (Err (troubles.Mapper at)) next n k e = omega (arith, e)
+made_stays m command (Err troubles.Memory) next n k e = omega (arith, e)
 
 -- The mapper was reached before, with neither pull nor push.
 pub call_later : (c d e : MapperCounts) (s t : State) (command : Command) (answer : Answer) → Later c d → Traffic 0 0 c d → CallIs d e s command answer t → CallIs c e s command answer t

@@ -16,4 +16,4 @@ pub record Ended (p : Manager) (b : Arena) (u : Store) (t : Actors) (live : ℕ)
   pub sound : IsSound b u t live
   pub valid : IsValid (seen b u t) g
   pub answers : CallIs c d (state_at p h) command answer (state_at (seen b u t) g)
-  pub made : RaisesMade (machine_of p h) command answer (numbered p) (numbered (seen b u t))
+  pub made : RaisesMade (machine_of p h) command answer (machine_of (seen b u t) g) (numbered p) (numbered (seen b u t))

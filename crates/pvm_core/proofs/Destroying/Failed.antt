@@ -16,7 +16,7 @@ use Rattle.vm_ids.specs.Forest.Commands.{page_names}
 use Rattle.vm_ids.specs.Forest.Saving.{saves}
 use Rattle.local_cache.specs.Arena.{Table, table_of}
 use Rattle.local_cache.specs.Whole.{IsWhole, size_of}
-use Rattle.gmi_calls.specs.Calling.{RaisesMade, done_by}
+use Rattle.gmi_calls.specs.Calling.{AsksFirst, RaisesMade, done_by}
 use Rattle.vm_model.specs.Answering.{is_mapped}
 use Rattle.vm_model.specs.Machine.{cache_of, pages_in}
 use Rattle.vm_model.specs.Outcome.{CanFailAtSave, NotRefusedButFor, Outcome}
@@ -116,11 +116,18 @@ module _ (p q : Manager) (h g : Option Held) (c d : MapperCounts) (cache : Cache
     | inr w ↦ subst (λ (t : Trouble). CallIs c d (state_at p h) (commands.Destroy cache) (Err t) (state_at q g)) (sym w.1) (save_call w.0 w.2 w.3 rose)
   ]
 
-  destroy_made : (trouble : Trouble) → IsNotWrittenBack (of_cache cache pages) p h q g trouble → RaisesMade (machine_of p h) (commands.Destroy cache) (Err trouble) (numbered p) (numbered q)
+  destroy_made : (trouble : Trouble) → IsNotWrittenBack (of_cache cache pages) p h q g trouble → RaisesMade (machine_of p h) (commands.Destroy cache) (Err trouble) (machine_of q g) (numbered p) (numbered q)
   destroy_made trouble out = elim (not_written_cases (of_cache cache pages) p q h g trouble out).is [
-    | inl w ↦ subst (λ (t : Trouble). RaisesMade (machine_of p h) (commands.Destroy cache) (Err t) (numbered p) (numbered q)) (sym w.1) (omega (arith, keeps.made, w.2.kept.copies))
-    | inr w ↦ subst (λ (t : Trouble). RaisesMade (machine_of p h) (commands.Destroy cache) (Err t) (numbered p) (numbered q)) (sym w.1) (omega (arith, keeps.made, saves_copied p q h g (of_cache cache pages) nodes w.0 w.2.forest, touched (forest_of p h)))
+    | inl w ↦ subst (λ (t : Trouble). RaisesMade (machine_of p h) (commands.Destroy cache) (Err t) (machine_of q g) (numbered p) (numbered q)) (sym w.1) (omega (arith, keeps.made, w.2.kept.copies))
+    | inr w ↦ subst (λ (t : Trouble). RaisesMade (machine_of p h) (commands.Destroy cache) (Err t) (machine_of q g) (numbered p) (numbered q)) (sym w.1) (omega (arith, keeps.made, saves_copied p q h g (of_cache cache pages) nodes w.0 w.2.forest, touched (forest_of p h)))
   ]
+
+-- no memory was wanted then
+destroy_asks : (e : Extent) (p q : Manager) (h g : Option Held) (c d : MapperCounts) (cache : CacheId) (trouble : Trouble) → IsNotWrittenBack e p h q g trouble → AsksFirst (commands.Destroy cache) (Err trouble) c d
+destroy_asks e p q h g c d cache trouble out = elim (not_written_cases e p q h g trouble out).is [
+  | inl w ↦ subst (λ (t : Trouble). AsksFirst (commands.Destroy cache) (Err t) c d) (sym w.1) tt
+  | inr w ↦ subst (λ (t : Trouble). AsksFirst (commands.Destroy cache) (Err t) c d) (sym w.1) tt
+]
 
 -- the pages copied are those of the saves that were done
 destroy_copied : (e : Extent) (p q : Manager) (h g : Option Held) (trouble : Trouble) → IsNotWrittenBack e p h q g trouble → CopiesSaved e p h q (Err trouble)
@@ -139,7 +146,8 @@ destroy_refused e p q h g trouble out r is = elim (not_written_cases e p q h g t
 -- how a call ends whose pages aren't written back
 pub record IsNotDestroyed (p q : Manager) (h g : Option Held) (c d : MapperCounts) (cache : CacheId) (result : Result (Unit {0}) Trouble) : Type 0 where
   pub answers : CallIs c d (state_at p h) (commands.Destroy cache) (done_by result) (state_at q g)
-  pub made : RaisesMade (machine_of p h) (commands.Destroy cache) (done_by result) (numbered p) (numbered q)
+  pub asks_first : AsksFirst (commands.Destroy cache) (done_by result) c d
+  pub made : RaisesMade (machine_of p h) (commands.Destroy cache) (done_by result) (machine_of q g) (numbered p) (numbered q)
   pub copies : CopiesSaved (all_of p.caches cache) p h q result
   pub refused : (r : Refusal) → result ≡ Err (troubles.Refused r) → ⊥
 
@@ -150,6 +158,7 @@ not_destroyed p q h g c d cache pages keeps nodes then now size free trouble out
     let all : all_of p.caches cache ≡ of_cache cache pages = ap (λ (o : Option ℕ). of_cache cache (unwrap_or o 0)) size in
     record {
       answers = destroy_failed p q h g c d cache pages keeps nodes then now t.0 t.1 t.2 free trouble out rose;
+      asks_first = destroy_asks (of_cache cache pages) p q h g c d cache trouble out;
       made = destroy_made p q h g c d cache pages keeps nodes then now t.0 t.1 t.2 free trouble out;
       copies = subst (λ (e : Extent). CopiesSaved e p h q (Err trouble)) (sym all) (destroy_copied (of_cache cache pages) p q h g trouble out);
       refused = λ r e. destroy_refused (of_cache cache pages) p q h g trouble out r (let k : trouble ≡ troubles.Refused r = cc e in k);

@@ -8,11 +8,11 @@ use Rattle.vm_model.specs.Answering.{maps_in}
 use Rattle.vm_model.specs.Machine as model
 use Rattle.pvm_core.specs.Placed.{ArePlaced, IsPlaced}
 
-neither : (a b : Bool) → (a || b) ≡ false → (a ≡ false) × (b ≡ false)
+pub neither : (a b : Bool) → (a || b) ≡ false → (a ≡ false) × (b ≡ false)
 neither true b e = absurd (search rules)
 neither false b e = (refl, e)
 
-other_number : (n k : ℕ) → (k == n) ≡ false → k ≢ n
+pub other_number : (n k : ℕ) → (k == n) ≡ false → k ≢ n
 other_number n k e same = grind (arith, nat_tests)
 
 module _ (n : ℕ) (f g : ℕ → Option ℕ) (others : (k : ℕ) → k ≢ n → g k ≡ f k) where

@@ -105,6 +105,10 @@ module _ (p : Manager) (h g : Option Held) (b : Arena) (s : Store) (t : Actors) 
       let most = saved_most true (extent_names e) (forest_of p h) (consistent_of p h nodes).shaped (extent_live e) in
       omega (arith, most, extent_count e, ap (λ f. f.copies) ready.forest, forest_copies p h, forest_copies (seen b s t) g)
 
+  -- as many as the saves of the range copy
+  pub taking_copied : IsExtent p.caches e → b.copies ≡ (saved (is_named p.caches e.cache.0) (extent_names e) (forest_of p h)).copies
+  taking_copied x = sym (forest_copies (seen b s t) g) ∙ ap (λ f. f.copies) ready.forest ∙ (λ j. (saved (sym (named_true p.caches e x) j) (extent_names e) (forest_of p h)).copies)
+
 -- From p, over what the mapper held then, pages were saved, which led to the caches b and the store s and to what the mapper
 -- holds now; and then those of the range were taken from their segment.
 module _ (p : Manager) (h g : Option Held) (b d : Arena) (s u : Store) (t : Actors) (live : ℕ) (k : IsSound b s t live) (v : IsValid (seen b s t) g) (e : Extent) (x : IsExtent b e) (unlocked : any_locked b e ≡ false)

@@ -14,11 +14,11 @@ use Rattle.vm_ids.specs.declared.reply.Trouble.TheVariants as troubles
 use Rattle.vm_ids.specs.Forest.Commands.{extent_names}
 use Rattle.local_cache.specs.Whole.{IsWhole}
 use Rattle.vm_model.specs.Answering.{Answer, held_for, is_any_locked, is_named}
-use Rattle.vm_model.specs.Machine.{Cache}
+use Rattle.vm_model.specs.Machine.{Cache, Machine}
 use Rattle.vm_model.specs.Outcome.{NotRefusedButFor, OutcomeAt, blank}
 use Rattle.vm_model.specs.PageForest.{PageForest}
 use Rattle.vm_model.specs.Run.{CallIs}
-use Rattle.gmi_calls.specs.Calling.{RaisesMade}
+use Rattle.gmi_calls.specs.Calling.{AsksFirst, RaisesMade}
 use Rattle.pvm_core.specs.Manager.{IsValid, Manager, forest_of, machine_by, machine_of, numbered, state_at}
 use Rattle.pvm_core.specs.Saving.{FailedToSave, IsNotSaved, KeepsMachine}
 use Rattle.pvm_core.proofs.Answering.Answered.{call_is, no_segments}
@@ -70,11 +70,20 @@ module _ (p q : Manager) (h g : Option Held) (c d : MapperCounts) (e : Extent) (
       let most = saves_most done (extent_names e) (forest_of p h) (consistent_of p h nodes).shaped (extent_live e) in
       omega (arith, most, extent_count e, ap (λ f. f.copies) failed.forest, forest_copies p h, forest_copies q g, keeps.made)
 
-  pub unsaved_made : (r : Trouble) → IsNotSaved e p h q g r → (m : _) → RaisesMade m (commands.Invalidate e) (Err r) (numbered p) (numbered q)
-  unsaved_made (troubles.Mapper (faults.Save done)) failed m = (let n = numbers done failed in omega (arith, n))
-  unsaved_made (troubles.Mapper faults.Opening) failed m = absurd failed
-  unsaved_made (troubles.Mapper (faults.Access page)) failed m = absurd failed
-  unsaved_made (troubles.Mapper (faults.Page page)) failed m = absurd failed
-  unsaved_made (troubles.Mapper faults.Victim) failed m = absurd failed
-  unsaved_made troubles.Memory failed m = absurd failed
-  unsaved_made (troubles.Refused r) failed m = absurd failed
+  pub unsaved_made : (r : Trouble) → IsNotSaved e p h q g r → (m next : Machine) → RaisesMade m (commands.Invalidate e) (Err r) next (numbered p) (numbered q)
+  unsaved_made (troubles.Mapper (faults.Save done)) failed m next = (let n = numbers done failed in omega (arith, n))
+  unsaved_made (troubles.Mapper faults.Opening) failed m next = absurd failed
+  unsaved_made (troubles.Mapper (faults.Access page)) failed m next = absurd failed
+  unsaved_made (troubles.Mapper (faults.Page page)) failed m next = absurd failed
+  unsaved_made (troubles.Mapper faults.Victim) failed m next = absurd failed
+  unsaved_made troubles.Memory failed m next = absurd failed
+  unsaved_made (troubles.Refused r) failed m next = absurd failed
+
+  pub unsaved_asks : (r : Trouble) → IsNotSaved e p h q g r → AsksFirst (commands.Invalidate e) (Err r) c d
+  unsaved_asks (troubles.Mapper (faults.Save done)) failed = tt
+  unsaved_asks (troubles.Mapper faults.Opening) failed = absurd failed
+  unsaved_asks (troubles.Mapper (faults.Access page)) failed = absurd failed
+  unsaved_asks (troubles.Mapper (faults.Page page)) failed = absurd failed
+  unsaved_asks (troubles.Mapper faults.Victim) failed = absurd failed
+  unsaved_asks troubles.Memory failed = absurd failed
+  unsaved_asks (troubles.Refused r) failed = absurd failed

@@ -118,7 +118,7 @@ module _ (a b : Arena) (s u : Store) (h g : Option Held) (i j : Option ℕ) (c d
 
     -- a region that is locked
     pub lock_ended : IsValid (seen a s t) h → Ended (seen a s t) b u (with_locked region.0 true t) live h g c d (commands.Lock region) (Ok replies.Done)
-    lock_ended v = record { sound = lock_sound; valid = lock_valid v; answers = lock_call v; made = lock_numbered }
+    lock_ended v = record { sound = lock_sound; valid = lock_valid v; answers = lock_call v; made = omega (arith, lock_numbered) }
 
   -- where the mapper failed at a page
   module _ (page : ℕ) (holds : HoldsLocked b u) (failed : FailedToHold (pages_of r) page (world h i a s) (world g j b u)) where
@@ -163,7 +163,7 @@ module _ (a b : Arena) (s u : Store) (h g : Option Held) (i j : Option ℕ) (c d
     fault_numbered = omega (arith, alike.made, owned_few (world h i a s) (world g j b u) (pages_of r).cache (pages_of r).first.0 failed.before failed.owned, touched, failed.passed, failed.stop.1)
 
     pub fault_ended : Rose c.faults d.faults → IsValid (seen a s t) h → Ended (seen a s t) b u t live h g c d (commands.Lock region) (Err (troubles.Mapper (faults.Page (record { 0 = page }))))
-    fault_ended cause v = record { sound = fault_sound; valid = fault_valid v; answers = fault_call cause v; made = fault_numbered }
+    fault_ended cause v = record { sound = fault_sound; valid = fault_valid v; answers = fault_call cause v; made = omega (arith, fault_numbered) }
 
 -- where no more regions were made than may be, one lock more can be counted
 pub few_locks : (a : Arena) (t : Actors) → ((cache page : ℕ) → locks_of a cache page ≡ locks_over t.actors cache page) → (made : ℕ) → region_count t.actors ≤ made → made ≤ MOST_MADE → (cache page : ℕ) → locks_of a cache page + 1 < 2 ^ 32

@@ -25,7 +25,7 @@ has_segment (Some h) (Some k) seg b n size whole fits = go (get h.segments seg.0
     go None e size = absurd (cc size)
     go (Some ps) e size = record {
       count = (let same : n ≡ length ps = cc size in sym same);
-      whole = all_whole b ps (λ i p at. whole seg.0 i p (ap (option_and_then (λ (ps : List Page). slice_get ps i)) e ∙ at) ∙ fits);
+      whole = all_whole b ps (λ i p at. whole.pages seg.0 i p (ap (option_and_then (λ (ps : List Page). slice_get ps i)) e ∙ at) ∙ fits);
     }
 
 pub no_segment : (o : Option (List Page)) → None ≡ option_map (λ (ps : List Page). length ps) o → o ≡ None

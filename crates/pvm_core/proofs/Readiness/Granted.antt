@@ -1,9 +1,10 @@
 -- The writes of a range were granted: the manager stands for the same.
-use Rattle.std.proofs.Common.{◌≡◌, ℕ, zero, suc, ◌+◌, true, false, List, [], ◌∷◌, get_or, length, map, Option, Some, None, is_some, refl, sym, ap, ◌∙◌, subst, arith, inl, inr}
-use Rattle.std.specs.Prelude.{IfSome, IsSome, option_map, option_and_then}
+use Rattle.std.proofs.Common.{◌≡◌, ℕ, zero, suc, ◌+◌, ◌≤◌, Bool, true, false, List, [], ◌∷◌, get_or, length, map, Option, Some, None, is_some, refl, sym, ap, ◌∙◌, subst, arith, inl, inr}
+use Rattle.std.specs.Prelude.{if◌then◌else◌, IfSome, IsSome, Result, Ok, Err, option_map, option_and_then}
 use Rattle.std.proofs.lemmas.Bool.{cases_eq, cases_lt}
 use Rattle.vm_ids.specs.Held.{Held, segments_of}
 use Rattle.vm_ids.specs.declared.command.Extent.{Extent}
+use Rattle.vm_ids.specs.declared.numbers.PageNo.{PageNo}
 use Rattle.vm_ids.specs.declared.numbers.SegId.{SegId}
 use Rattle.vm_ids.specs.Forest.Shape.{IsBounded}
 use Rattle.local_cache.specs.Arena.{Arena, Table, is_granted, table_at}
@@ -15,18 +16,19 @@ use Rattle.local_cache.specs.Home.{home_named}
 use Rattle.local_cache.specs.Reading as arena
 use Rattle.local_cache.specs.Reading.{name_of}
 use Rattle.fault_path.specs.Faults.{MayWrite}
-use Rattle.page_release.specs.Homes.{IsWritable}
+use Rattle.page_release.specs.Homes.{IsWritable, is_named}
 use Rattle.local_cache.specs.Whole.{IsWhole, SameCaches, size_of}
 use Rattle.residency.specs.declared.store.Store.{Store}
 use Rattle.residency.specs.StoreForest.{store_forest}
 use Rattle.residency.specs.World.{IsStoreRight, is_name_granted, world}
-use Rattle.segment_ops.specs.Access.{GrantsBefore, without_grants}
+use Rattle.segment_ops.specs.Access.{GrantsBefore, IsAccess, without_grants}
 use Rattle.vm_model.specs.Machine.{Machine}
 use Rattle.vm_model.specs.Outcome.{HasWholePages}
 use Rattle.vm_model.specs.PageForest.{PageForest}
 use Rattle.contexts.specs.Actors.{Actors}
 use Rattle.pvm_core.specs.Manager.{AreFull, AreSized, IsSound, IsValid, cache_shown, caches_shown, forest_of, machine_by, machine_of, pages_shown, state_at}
-use Rattle.pvm_core.specs.Writes.{KeepsNodes}
+use Rattle.pvm_core.specs.Writes.{GrantsWithin, KeepsNodes, OnlyAsked, SameGrants, asked_end}
+use Rattle.vm_port.specs.declared.traits.mapper.Mapper.{Ghosts}
 use Rattle.segment_ops.proofs.Granting.{granted_locks}
 use Rattle.pvm_core.proofs.Holding.Made.{held_by_cells}
 use Rattle.pvm_core.proofs.NewCaches.Begun.{right_with}
@@ -161,6 +163,50 @@ grants_stay range past a b g cache page e = elim (cases_eq cache range.cache.0) 
     ]
   ]
 ]
+
+pub grants_within : (range : Extent) (past : ℕ) (a b : Arena) → past ≤ range.first.0 + range.pages → GrantsBefore range past a b → GrantsWithin range a b
+grants_within range past a b few g = record {
+  kept = grants_stay range past a b g;
+  others = λ cache page out. g.others cache page (λ same from below. out same (from, omega (arith, below, few)));
+}
+
+-- what an access grants, whatever the answer is: the pages before one of the range or its end
+pub access_before : (range : Extent) (told : Option Held) (segment : SegId) (a b : Arena) (r : Result Bool PageNo) → IsAccess range told segment a b r → (past : ℕ) × (past ≤ range.first.0 + range.pages) × GrantsBefore range past a b
+access_before range told segment a b (Ok true) d = (range.first.0 + range.pages, omega arith, d.grants)
+access_before range told segment a b (Ok false) d = (d.page, omega (arith, d.asked.page_of.1), d.asked.grants)
+access_before range told segment a b (Err page) d = (page.0, omega (arith, d.page_of.1), d.grants)
+
+pub within_itself : (range : Extent) (a : Arena) → GrantsWithin range a a
+within_itself range a = record { kept = λ cache page e. e; others = λ cache page out. refl }
+
+-- and then the same pages are
+pub within_then : (range : Extent) (a b d : Arena) → GrantsWithin range a b → SameGrants b d → GrantsWithin range a d
+within_then range a b d w same = record {
+  kept = λ cache page e. same cache page ∙ w.kept cache page e;
+  others = λ cache page out. same cache page ∙ w.others cache page out;
+}
+
+-- as they are where the tables stay
+pub tables_grants : (a b : Arena) → b.caches ≡ a.caches → SameGrants a b
+tables_grants a b e cache page = ap (λ (ts : List (Option Table)). is_granted (record a { caches = ts }) cache page) e
+
+-- of a temporary cache no page is asked for
+pub unasked_grants : (a : Arena) (range : Extent) → is_named a range.cache ≡ false → GrantsBefore range (asked_end a range) a a
+unasked_grants a range e = subst (λ (past : ℕ). GrantsBefore range past a a) (sym (ap (λ (b : Bool). range.first.0 + (if b then range.pages else 0)) e ∙ (let z : range.first.0 + 0 ≡ range.first.0 = omega arith in z))) (record {
+  granted = λ page from below. absurd (omega (arith, from, below));
+  others = λ cache page out. refl;
+  tables = refl;
+  rest = refl;
+  none = λ e. refl;
+})
+
+-- and of a named one for all
+pub all_asked : (a b : Arena) (range : Extent) → is_named a range.cache ≡ true → GrantsBefore range (range.first.0 + range.pages) a b → GrantsBefore range (asked_end a range) a b
+all_asked a b range e = subst (λ (past : ℕ). GrantsBefore range past a b) (sym (ap (λ (b : Bool). range.first.0 + (if b then range.pages else 0)) e))
+
+-- a mapper that wasn't called
+pub asked_itself : {M : Type 0} (mapper : Ghosts M) (m : M) → OnlyAsked mapper m m
+asked_itself mapper m = record { traffic = record { pulled = λ low. omega arith; pushed = λ low. omega arith }; held = refl; given = refl }
 
 -- what was granted before a page of a range stays so
 pub stays_granted : (range : Extent) (past : ℕ) (a b : Arena) → GrantsBefore range past a b → arena.forest_of b ≡ arena.forest_of a → IsWhole b → KeepsNodes a b

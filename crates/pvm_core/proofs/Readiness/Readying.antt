@@ -5,7 +5,6 @@ use Rattle.std.proofs.lemmas.List.{append-nil}
 use Rattle.vm_ids.specs.Counting.{MapperCounts}
 use Rattle.vm_ids.specs.Held.{Held}
 use Rattle.vm_ids.specs.declared.command.Extent.{Extent}
-use Rattle.vm_ids.specs.declared.refusal.Refusal.TheVariants as refusals
 use Rattle.vm_ids.specs.declared.reply.FaultAt.TheVariants as faults
 use Rattle.vm_ids.specs.declared.reply.Trouble.{Trouble}
 use Rattle.vm_ids.specs.declared.reply.Trouble.TheVariants as troubles
@@ -18,13 +17,14 @@ use Rattle.local_cache.specs.Home.{home_named}
 use Rattle.local_cache.specs.Whole.{IsWhole, SameCaches}
 use Rattle.local_cache.proofs.Tables.Sizes.{sizes_then}
 use Rattle.page_release.specs.Homes.{AreSaved}
+use Rattle.segment_ops.specs.Access.{GrantsBefore}
 use Rattle.segment_ops.proofs.Unsaved.{unsaved_by}
 use Rattle.vm_model.specs.Machine.{Machine}
 use Rattle.vm_model.specs.PageForest.{PageForest}
 use Rattle.pvm_core.specs.Manager.{Manager, forest_of, machine_of, world_of}
 use Rattle.pvm_core.specs.Reaching.{Reach}
-use Rattle.pvm_core.specs.Saving.{FailedToSave, IsNotReady, IsNotSaved, KeepsForest, KeepsMachine, is_named}
-use Rattle.pvm_core.specs.Writes.{AreWritable, IsNotGranted}
+use Rattle.pvm_core.specs.Saving.{FailedToSave, HasGranted, IsNotReady, IsNotSaved, KeepsForest, KeepsMachine, KeepsStore, NeedsNoSave, NeedsNothing, is_named}
+use Rattle.pvm_core.specs.Writes.{AreWritable, IsNotGranted, asked_end}
 use Rattle.pvm_core.specs.Keeping.{HasMoreRoom}
 use Rattle.contexts.specs.Actors.{Actors}
 use Rattle.residency.specs.declared.store.Store.{Store}
@@ -67,6 +67,10 @@ pub if_err_by : {T E : Type 0} {P Q : E → Type 0} (r : Result T E) → ((e : E
 if_err_by (Ok x) f p = tt
 if_err_by (Err e) f p = f e p
 
+pub if_err_all : {T E : Type 0} {P : E → Type 0} (r : Result T E) → ((e : E) → P e) → IfErr r P
+if_err_all (Ok x) f = tt
+if_err_all (Err e) f = f e
+
 -- what failed where not all pages were saved is a save
 pub failed_save : (range : Extent) (p q : Manager) (h g : Option Held) (trouble : Trouble) → IsNotSaved range p h q g trouble → (done : ℕ) × (trouble ≡ troubles.Mapper (faults.Save done)) × FailedToSave range done p q h g
 failed_save range p q h g (troubles.Mapper (faults.Save done)) d = (done, refl, d)
@@ -75,27 +79,7 @@ failed_save range p q h g (troubles.Mapper faults.Opening) d = absurd d
 failed_save range p q h g (troubles.Mapper (faults.Access page)) d = absurd d
 failed_save range p q h g (troubles.Mapper (faults.Page page)) d = absurd d
 failed_save range p q h g (troubles.Mapper faults.Victim) d = absurd d
-failed_save range p q h g (troubles.Refused refusals.BadLine) d = absurd d
-failed_save range p q h g (troubles.Refused refusals.NoActor) d = absurd d
-failed_save range p q h g (troubles.Refused refusals.NoCache) d = absurd d
-failed_save range p q h g (troubles.Refused refusals.NoRegion) d = absurd d
-failed_save range p q h g (troubles.Refused refusals.NoSegment) d = absurd d
-failed_save range p q h g (troubles.Refused refusals.SegmentInUse) d = absurd d
-failed_save range p q h g (troubles.Refused refusals.OutOfCache) d = absurd d
-failed_save range p q h g (troubles.Refused refusals.BadAddress) d = absurd d
-failed_save range p q h g (troubles.Refused refusals.Protection) d = absurd d
-failed_save range p q h g (troubles.Refused refusals.Overlap) d = absurd d
-failed_save range p q h g (troubles.Refused refusals.Unaligned) d = absurd d
-failed_save range p q h g (troubles.Refused refusals.Crosses) d = absurd d
-failed_save range p q h g (troubles.Refused refusals.Locked) d = absurd d
-failed_save range p q h g (troubles.Refused refusals.LockLimit) d = absurd d
-failed_save range p q h g (troubles.Refused refusals.InUse) d = absurd d
-failed_save range p q h g (troubles.Refused refusals.TooMany) d = absurd d
-failed_save range p q h g (troubles.Refused refusals.NotTemp) d = absurd d
-failed_save range p q h g (troubles.Refused refusals.NotNamed) d = absurd d
-failed_save range p q h g (troubles.Refused refusals.NotLocked) d = absurd d
-failed_save range p q h g (troubles.Refused refusals.Full) d = absurd d
-failed_save range p q h g (troubles.Refused refusals.WriteDenied) d = absurd d
+failed_save range p q h g (troubles.Refused r) d = absurd d
 
 -- where a save failed, the pages weren't ready
 pub unsaved_ready : (range : Extent) (p q r : Manager) (h g k : Option Held) → is_named q.caches range.cache.0 ≡ is_named p.caches range.cache.0 → KeepsForest p q h g → AreWritable range r.caches → (trouble : Trouble) → IsNotSaved range q g r k trouble → IsNotReady range p h r k trouble
@@ -112,11 +96,23 @@ unsaved_ready range p q r h g k named forest writable trouble out =
     )
 
 -- where the pages may not be written, they aren't ready
-pub ungranted_ready : (range : Extent) (p q : Manager) (h g : Option Held) → KeepsForest p q h g → (trouble : Trouble) → IsNotGranted range h p.caches q.caches trouble → IsNotReady range p h q g trouble
-ungranted_ready range p q h g forest trouble out = elim (denied_cases range h out.segment p.caches q.caches trouble out.denied) [
-  | inl w ↦ subst (IsNotReady range p h q g) (sym w.0) (forest, record { segment = out.segment; named = out.named; denied = w.1 })
-  | inr w ↦ subst (IsNotReady range p h q g) (sym w.1) (forest, record { segment = out.segment; named = out.named; denied = w.2 })
+pub ungranted_ready : (range : Extent) (p q : Manager) (h g : Option Held) → KeepsForest p q h g → KeepsStore p q → (trouble : Trouble) → IsNotGranted range h p.caches q.caches trouble → IsNotReady range p h q g trouble
+ungranted_ready range p q h g forest store trouble out = elim (denied_cases range h out.segment p.caches q.caches trouble out.denied) [
+  | inl w ↦ subst (IsNotReady range p h q g) (sym w.0) (forest, record { segment = out.segment; named = out.named; denied = w.1 }, store)
+  | inr w ↦ subst (IsNotReady range p h q g) (sym w.1) (forest, record { segment = out.segment; named = out.named; denied = w.2 }, store)
 ]
+
+-- what needs nothing needs no save
+pub no_save : (a : Arena) (range : Extent) → NeedsNothing a range → NeedsNoSave a range
+no_save a range (inl none) = inl none
+no_save a range (inr all) = inr all.1
+
+-- all writes of a range were granted, and room was taken
+pub roomier_granted : (range : Extent) (a b d : Arena) (s : Store) (t : Actors) → b.room ≡ a.room → d ≡ record b { room = d.room } → GrantsBefore range (asked_end a range) a b → HasGranted range (seen a s t) (seen d s t)
+roomier_granted range a b d s t room kept grants = record {
+  store = refl;
+  grants = subst (GrantsBefore range (asked_end a range) a) (sym (ap (λ (k : Arena). record k { room = a.room }) kept ∙ (λ j. record b { room = sym room j }))) grants;
+}
 
 -- more room alone
 pub more_room : (a b d : Arena) (s : Store) (t : Actors) → b ≡ a → d ≡ record b { room = d.room } → HasMoreRoom (seen a s t) (seen d s t)

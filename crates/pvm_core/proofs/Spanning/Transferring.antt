@@ -1,6 +1,6 @@
 -- A copy or a move that isn't carried out, though nothing refuses it but the mapper: a write that is denied, a fault, or want
 -- of memory.
-use Rattle.std.proofs.Common.{◌≡◌, ◌≢◌, ◌⊎◌, ℕ, ◌+◌, ◌-◌, ◌<◌, ◌≤◌, Bool, true, false, length, Option, Some, refl, sym, ap, ◌∙◌, subst, arith, inl, inr}
+use Rattle.std.proofs.Common.{◌≡◌, ◌≢◌, ◌⊎◌, ℕ, ◌+◌, ◌-◌, ◌<◌, ◌≤◌, Bool, true, false, length, Option, Some, None, refl, sym, ap, ◌∙◌, subst, arith, inl, inr}
 use Rattle.std.specs.Prelude.{Err, IfErr, Result, option_map}
 use Rattle.std.specs.List.{list_any, range_with_len}
 use Rattle.std.proofs.lemmas.List.Folds.{list_any_at, list_any_none}
@@ -21,7 +21,10 @@ use Rattle.vm_ids.specs.declared.node_name.NodeName.{NodeName}
 use Rattle.vm_ids.specs.Forest.Commands.{extent_names, firsts, span_pairs}
 use Rattle.vm_ids.specs.Forest.Saving.{saves}
 use Rattle.local_cache.specs.Whole.{IsWhole, size_of}
-use Rattle.residency.specs.World.{IsStoreRight}
+use Rattle.residency.specs.declared.store.Store.{Store}
+use Rattle.residency.specs.World.{IsStoreRight, world}
+use Rattle.page_release.specs.Steps.{GivesBack}
+use Rattle.contexts.specs.Actors.{Actors}
 use Rattle.segment_ops.specs.Access.{IsAskedFor, OneDenied}
 use Rattle.vm_model.specs.Answering.{Answer, answer_of, is_any_denied, is_denied_page, refuse, reply}
 use Rattle.vm_model.specs.Asking.{ReachesMapper, pages_touched}
@@ -32,13 +35,13 @@ use Rattle.vm_model.specs.PageForest.{PageForest, forest_shown}
 use Rattle.vm_model.specs.Run.{CallIs}
 use Rattle.vm_model.specs.Synchronised.{IsSynchronised}
 use Rattle.pvm_core.specs.Manager.{IsValid, Manager, forest_of, machine_by, machine_of, numbered, state_at, world_of}
-use Rattle.pvm_core.specs.Saving.{CopiesSaved, FailedToSave, IsNotReady, KeepsForest, KeepsMachine}
+use Rattle.pvm_core.specs.Saving.{CopiesSaved, FailedToSave, IfNotReady, IsNotReady, KeepsForest, KeepsMachine}
 use Rattle.local_cache.specs.Arena.{Arena, table_of}
-use Rattle.frame_pool.specs.Pool.{is_held}
+use Rattle.pvm_core.proofs.Answering.Kept.{seen}
 use Rattle.page_release.specs.Homes.{IsWritable}
 use Rattle.page_release.proofs.Walking.Ranges.{destination_names}
 use Rattle.vm_ids.proofs.Forest.Laws.Ranges.{ranges_hold_their_pages}
-use Rattle.pvm_core.specs.Keeping.{CopiesNothing, HasMoreRoom}
+use Rattle.pvm_core.specs.Keeping.{CopiesNothing}
 use Rattle.pvm_core.proofs.Readiness.Copies.{saves_copied}
 use Rattle.gmi_calls.specs.Calling.{RaisesMade, done_by}
 use Rattle.vm_ids.specs.declared.refusal.Refusal.{Refusal}
@@ -214,14 +217,14 @@ module _ (p q : Manager) (h g : Option Held) (c d : MapperCounts) (span : Span) 
 -- What was numbered and copied ------------------------------------------------------------------
 
 module _ (p q : Manager) (h g : Option Held) (c d : MapperCounts) (span : Span) (command : Command) (T : IsTransfer p span command) (keeps : KeepsMachine p q h g c d) (nodes : IsWhole p.caches) where
-  failed_made : (trouble : Trouble) → IsNotReady (replaced span) p h q g trouble → RaisesMade (machine_of p h) command (Err trouble) (numbered p) (numbered q)
+  failed_made : (trouble : Trouble) → IsNotReady (replaced span) p h q g trouble → RaisesMade (machine_of p h) command (Err trouble) (machine_of q g) (numbered p) (numbered q)
   failed_made trouble out = elim (not_ready_cases (replaced span) p q h g trouble out).is [
-    | inl w ↦ subst (λ (t : Trouble). RaisesMade (machine_of p h) command (Err t) (numbered p) (numbered q)) (sym w.0) (let e : numbered q ≡ numbered p = omega (arith, keeps.made, w.1.copies) in e)
+    | inl w ↦ subst (λ (t : Trouble). RaisesMade (machine_of p h) command (Err t) (machine_of q g) (numbered p) (numbered q)) (sym w.0) (let e : numbered q ≡ numbered p = omega (arith, keeps.made, w.1.copies) in e)
     | inr w ↦ elim w [
-      | inl w ↦ subst (λ (t : Trouble). RaisesMade (machine_of p h) command (Err t) (numbered p) (numbered q)) (sym w.1) (omega (arith, keeps.made, w.2.copies))
+      | inl w ↦ subst (λ (t : Trouble). RaisesMade (machine_of p h) command (Err t) (machine_of q g) (numbered p) (numbered q)) (sym w.1) (omega (arith, keeps.made, w.2.copies))
       | inr w ↦ elim w [
-        | inl w ↦ subst (λ (t : Trouble). RaisesMade (machine_of p h) command (Err t) (numbered p) (numbered q)) (sym w.0) (omega (arith, keeps.made, w.1.copies))
-        | inr w ↦ subst (λ (t : Trouble). RaisesMade (machine_of p h) command (Err t) (numbered p) (numbered q)) (sym w.1) (omega (arith, keeps.made, saves_copied p q h g (replaced span) nodes w.0 w.2.forest, T.touched (machine_of p h)))
+        | inl w ↦ subst (λ (t : Trouble). RaisesMade (machine_of p h) command (Err t) (machine_of q g) (numbered p) (numbered q)) (sym w.0) (omega (arith, keeps.made, w.1.copies))
+        | inr w ↦ subst (λ (t : Trouble). RaisesMade (machine_of p h) command (Err t) (machine_of q g) (numbered p) (numbered q)) (sym w.1) (omega (arith, keeps.made, saves_copied p q h g (replaced span) nodes w.0 w.2.forest, T.touched (machine_of p h)))
       ]
     ]
   ]
@@ -254,9 +257,10 @@ module _ (p q : Manager) (h g : Option Held) (c d : MapperCounts) (span : Span) 
 -- how a call ends where the pages of its span aren't ready
 pub record IsUnready (p q : Manager) (h g : Option Held) (c d : MapperCounts) (span : Span) (command : Command) (result : Result (Unit {0}) Trouble) : Type 0 where
   pub answers : CallIs c d (state_at p h) command (done_by result) (state_at q g)
-  pub made : RaisesMade (machine_of p h) command (done_by result) (numbered p) (numbered q)
+  pub made : RaisesMade (machine_of p h) command (done_by result) (machine_of q g) (numbered p) (numbered q)
   pub copies : CopiesSaved (replaced span) p h q result
   pub refused : (r : Refusal) → result ≡ Err (troubles.Refused r) → r ≢ refusals.WriteDenied → ⊥
+  pub unready : IfNotReady (replaced span) p h q g result
 
 -- from p, which the call that readied the range of these pages knows as old
 pub unready : (p old q : Manager) → p ≡ old → (h g : Option Held) (c d : MapperCounts) (span : Span) (command : Command) → IsTransfer p span command → IsWhole p.caches → IsWhole q.caches → IsValid old h → IsValid q g → KeepsMachine old q h g c d
@@ -272,6 +276,7 @@ unready p old q view h g c d span command T nodes then valid now keeps count siz
       made = failed_made p q h g c d span command T kept nodes trouble out;
       copies = failed_copied p q h g c d span command T kept nodes trouble out;
       refused = λ r e other. failed_refused p q h g c d span command T kept nodes trouble out r (let k : trouble ≡ troubles.Refused r = cc e in k) other;
+      unready = λ t e only. subst (IsNotReady (replaced span) p h q g) (let k : trouble ≡ t = cc e in k) out;
     }))
 
 -- each page that is replaced may be written
@@ -280,10 +285,13 @@ names_written a span writable x i =
     let at = (ranges_hold_their_pages span.to span.to_page.0 span.pages x).0 (subst (λ xs. x ∈ xs) (destination_names span) i) in
     subst (IsWritable a) (sym at.2) (writable (span.to_page.0 + at.0) (omega arith, omega (arith, at.1)))
 
--- more room copies nothing
-pub copies_nothing : (p q : Manager) → HasMoreRoom p q → CopiesNothing p q
-copies_nothing p q more = record {
-  copies = ap (λ k. k.caches.copies) more.same;
-  held = λ f held. subst (λ (k : Manager). is_held k.store.frames f ≡ true) more.same held;
-  bytes = ap (λ k. k.store.frames.bytes) more.same;
+pub copies_itself : (p : Manager) → CopiesNothing p p
+copies_itself p = record { copies = refl; held = λ f on. on; bytes = refl }
+
+-- where nothing was copied and frames fell free, nothing was copied
+pub nothing_given_back : (p : Manager) (a b : Arena) (s u : Store) (t : Actors) → CopiesNothing p (seen a s t) → b.copies ≡ a.copies → GivesBack (world None None a s) (world None None b u) → CopiesNothing p (seen b u t)
+nothing_given_back p a b s u t was copies gives = record {
+  copies = copies ∙ was.copies;
+  held = λ f on. was.held f (gives.held f on);
+  bytes = gives.bytes ∙ was.bytes;
 }

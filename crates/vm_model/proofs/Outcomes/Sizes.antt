@@ -56,12 +56,12 @@ within a b x y e = grind (arith, nat_tests)
 
 temp_sizes : (m : Machine) (pages : ℕ) → HasSizes m (commands.MakeTemp pages) (make_temp_of m pages)
 unfolding make_temp_of
-temp_sizes m pages = each_unless (HasSizes m (commands.MakeTemp pages)) _ _ m _ (refused m _ _ (λ h n. absurd n)) (λ e.
+temp_sizes m pages = each_unless (HasSizes m (commands.MakeTemp pages)) _ _ m _ (refused m _ _ (λ h n. omega arith)) (λ e.
     let few : live_pages m + pages ≤ LIVE_PAGES = within _ _ _ _ e in
     record {
       page = refl;
       live = λ h. omega (arith, few, sum_by_push pages_in m.caches (Some (temporary m.page_bytes pages)), length-replicate pages (zero_page m.page_bytes));
-      touched = λ h n. omega (arith, few);
+      touched = λ h n. omega arith;
     })
 
 not_past : (a b : ℕ) → nat_lt a b ≡ false → b ≤ a

@@ -92,6 +92,6 @@ told_and : (o : Option PageForest) (f : PageForest) (P : PageForest → Type 0) 
 told_and o f P e p = subst (λ (x : Option PageForest). IsSomeAnd x P) (sym e) p
 
 pub runs_are_followed : RunsAreFollowed
-runs_are_followed frames bytes told reads steps after some w run =
-    let H : Holds after = chain_holds steps _ after w (record { forest = no_forest; told_forest = refl; laid = start_laid frames bytes some; whole = start_whole frames bytes told; follows = start_follows frames bytes }) run.chain in
+runs_are_followed frames bytes told steps after some w chain =
+    let H : Holds after = chain_holds steps _ after w (record { forest = no_forest; told_forest = refl; laid = start_laid frames bytes some; whole = start_whole frames bytes told; follows = start_follows frames bytes }) chain in
     told_and after.forest H.forest (IsFollowed after.machine) H.told_forest H.follows

@@ -4,8 +4,8 @@ ghost use Rattle.std.specs.FinMap as FinMap;
 ghost use Rattle.vm_ids.specs.Counting.{Counted, no_counts};
 ghost use Rattle.vm_ids.specs.Denying.{denies};
 ghost use Rattle.vm_ids.specs.Held.{page_of, slot_of, with_page, with_slot};
-ghost use Rattle.vm_port.specs.Sizes.{HasPagesOf};
 ghost use Rattle.vm_port.specs.Mapping.{pages_seen, slot_seen, denied_seen, held_of, page_in, put_page_in, filled, cut, pages_of, called, fails_next, MapperInMemory, IsWholeMapper};
+ghost use Rattle.vm_port.specs.Telling.{held_sized};
 
 use super::calls::{Calls, fails_now};
 use super::pages::{
@@ -96,7 +96,6 @@ impl MemoryMapper {
     }
 
     /// Whether a segment is there and has this page.
-    #[tactic(auto, using(crate::proofs::Holding::page_held))]
     pub fn has_page(&self, seg: SegId, page: PageNo) -> bool
         ensures { result ≡ is_some (page_of (held_of self.now) seg.0 page.0) }
     {
@@ -104,7 +103,6 @@ impl MemoryMapper {
     }
 
     /// Whether a slot is there and has a page.
-    #[tactic(auto, using(crate::proofs::Holding::slot_held))]
     pub fn has_slot(&self, slot: SlotId) -> bool
         ensures { result ≡ is_some (slot_of (held_of self.now) slot.0) }
     {
@@ -112,7 +110,6 @@ impl MemoryMapper {
     }
 
     /// A page of a segment, which has it.
-    #[tactic(auto, using(crate::proofs::Holding::page_held))]
     pub fn page(&self, seg: SegId, page: PageNo) -> &[u8]
         requires { IsSome (page_of (held_of self.now) seg.0 page.0) }
         ensures { Some result.now ≡ page_of (held_of self.now) seg.0 page.0 }
@@ -184,7 +181,6 @@ impl Mapper for MemoryMapper {
     fn size(&mut self, seg: SegId) -> Result<Option<u32>, Failed>
         ensures pages { IfOk result
             (λ pages. pages ≡ option_map length (FinMap.get (held_of self.old).segments seg.0)) }
-        ensures whole { OnOk result (HasPagesOf (held_of self.old) self.old.page_bytes) }
         ensures counts { Counted 0 0 self.old.counts self.new.counts result }
         ensures failing { is_err result ≡ fails_next CallKind.Size self.old }
         ensures after { self.new ≡ called CallKind.Size 0 0 (is_err result) self.old }
@@ -270,4 +266,6 @@ impl Mapper for MemoryMapper {
         put_slot(&mut self.slots, slot.0, from);
         Ok(())
     }
+
+    ghost sized = { held_sized };
 }

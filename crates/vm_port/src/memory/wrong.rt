@@ -125,4 +125,6 @@ impl Mapper for WrongMapper {
     {
         self.lose()
     }
+
+    ghost sized = { λ _. tt };
 }

@@ -28,14 +28,11 @@ pub trait Mapper {
     /// How many bytes its pages have, where that is told. Where it isn't, it takes slices of any length.
     ghost page_bytes: { Self → Option ℕ };
 
-    /// The number of pages of a segment, or `None` exactly where there is no such segment. A mapper that tells what it
-    /// holds tells how many bytes its pages have, and every page of its segments has so many.
+    /// The number of pages of a segment, or `None` exactly where there is no such segment.
     fn size(&mut self, seg: SegId) -> Result<Option<u32>, Failed>
         ensures pages { IfOk result
             (λ pages. IfSome (held self.old)
             (λ h. pages ≡ option_map length (FinMap.get h.segments seg.0))) }
-        ensures whole { OnOk result (IfSome (held self.old)
-            (λ h. IsSomeAnd (page_bytes self.old) (HasPagesOf h))) }
         ensures held { held self.new ≡ held self.old }
         ensures given { given self.new ≡ given self.old }
         ensures counts { Counted 0 0 (counts self.old) (counts self.new) result }
@@ -95,4 +92,8 @@ pub trait Mapper {
         ensures given { given self.new ≡ given self.old }
         ensures counts { Counted 0 1 (counts self.old) (counts self.new) result }
         ensures page { page_bytes self.new ≡ page_bytes self.old };
+
+    /// A mapper that tells what it holds tells how many bytes its pages have, and each page that it
+    /// holds has so many.
+    ghost sized: { (m : Self) → IfSome (held m) (λ h. IsSomeAnd (page_bytes m) (HasPagesOf h)) };
 }

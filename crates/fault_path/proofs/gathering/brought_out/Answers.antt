@@ -7,6 +7,7 @@ use Rattle.residency.proofs.Pushes.Told.{tells_then}
 use Rattle.residency.proofs.Worlds.Composed.{still_then}
 use Rattle.fault_path.proofs.Calls.Answered.{later_then}
 use Rattle.fault_path.proofs.Calls.Gathered.{done_gathers, failed_gathers}
+use Rattle.fault_path.proofs.Frames.ComingFrames.{come_then, more_come, one_comes}
 use Rattle.fault_path.proofs.Frames.GatheredFrames.{bound_below, doubled_page, same_home, then_gathered}
 use Rattle.local_cache.specs.declared.own_state.OwnState.{OwnState}
 use Rattle.local_cache.specs.Own.{own_of}
@@ -76,3 +77,12 @@ returns-in_default-clause-drops g c =
 
 pub returns-in_err-home-clause-drops : goal.returns-in_err-home-clause-drops
 returns-in_err-home-clause-drops g c = still_drops_but _ _ _ _ c.args.caches.now c.bring_in.new.caches c.args.store.now c.bring_in.new.self c.requires.right.tied c.bring_in.ensures.still.stays c.bring_in.ensures.tables c.args.node c.bring_in.ensures.others
+
+pub returns-clause-frames : goal.returns-clause-frames
+returns-clause-frames g c = come_then (λ n. n ≡ c.args.node) _ _ _ (one_comes c.args.node _ _ c.bring_in.ensures.others) (more_come Nobody (λ n. n ≡ c.args.node) _ _ (λ n e. absurd e) c.double.ensures.frames)
+
+pub returns-in_default-clause-frames : goal.returns-in_default-clause-frames
+returns-in_default-clause-frames g c = come_then (λ n. n ≡ c.args.node) _ _ _ (one_comes c.args.node _ _ c.bring_in.ensures.others) (more_come Nobody (λ n. n ≡ c.args.node) _ _ (λ n e. absurd e) c.double.ensures.frames)
+
+pub returns-in_err-home-clause-frames : goal.returns-in_err-home-clause-frames
+returns-in_err-home-clause-frames g c = one_comes c.args.node _ _ c.bring_in.ensures.others

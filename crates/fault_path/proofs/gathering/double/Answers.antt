@@ -7,7 +7,10 @@ use Rattle.residency.specs.World.{World, world}
 use Rattle.fault_path.specs.Gathering.{IsGathered}
 use Rattle.residency.proofs.Pushes.PushedPages.{tells_as}
 use Rattle.fault_path.proofs.Calls.Gathered.{done_gathers, failed_gathers}
+use Rattle.fault_path.specs.Coming.{OnlyCome}
+use Rattle.fault_path.proofs.Frames.ComingFrames.{come_filled}
 use Rattle.fault_path.proofs.Frames.GatheredFrames.{filled_gathered}
+use Rattle.residency.specs.Translating.{TablesAfter}
 use Rattle.residency.proofs.Translations.Kept.{drops_by}
 use Rattle.fault_path.specs.Translating.{Nobody}
 use Rattle.fault_path.proofs.gathering.double.Goals as goal
@@ -38,3 +41,15 @@ returns-in_err-fresh-clause-doubled g c =
 pub returns-clause-drops : goal.returns-clause-drops
 returns-clause-drops g c =
     drops_by Nobody c.args.caches.now c.make_free_beside.new.caches c.args.store.now c.make_free_beside.new.store c.args.store.now c.copy.new.self refl refl (ap (λ (s : Store). s.map) c.copy.ensures) (ap (λ (s : Store). s.tables) c.copy.ensures) c.make_free_beside.ensures.drops
+
+pub returns-clause-tables : goal.returns-clause-tables
+returns-clause-tables g c = subst (TablesAfter c.args.store.now) (sym c.copy.ensures) c.make_free_beside.ensures.tables
+
+pub returns-clause-frames : goal.returns-clause-frames
+returns-clause-frames g c =
+    let old : World = world (g.M.Mapper.held c.args.mapper.now) (g.M.Mapper.page_bytes c.args.mapper.now) c.args.caches.now c.args.store.now in
+    let told = g.M.Mapper.held c.make_free_beside.new.mapper in
+    let size = g.M.Mapper.page_bytes c.make_free_beside.new.mapper in
+    let w : World = world told size c.make_free_beside.new.caches c.make_free_beside.new.store in
+    subst (λ (s : Store). OnlyCome Nobody old (world told size c.make_free_beside.new.caches s)) (sym c.copy.ensures)
+    (come_filled Nobody old w c.in_ok-fresh.fresh.0 (bytes_of w.frames c.args.frame.0) c.in_ok-fresh.ensures.gathered.done.taken.unbound c.make_free_beside.ensures.frames)

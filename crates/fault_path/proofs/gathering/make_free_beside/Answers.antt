@@ -11,6 +11,7 @@ use Rattle.residency.proofs.Worlds.After.{pin_set}
 use Rattle.fault_path.specs.Gathering.{Gathers, IsGathered, NoneGathered}
 use Rattle.fault_path.proofs.Calls.Gathered.{one_gathers}
 use Rattle.residency.proofs.Worlds.Arms.{if_ok, on_err_then}
+use Rattle.fault_path.proofs.Frames.ComingFrames.{come_by, none_come}
 use Rattle.fault_path.proofs.Frames.GatheredFrames.{beside_gathered, beside_none, beside_still, beside_told, free_gathered}
 use Rattle.residency.specs.Frames.{with_pinned}
 use Rattle.residency.specs.Translating.{Drops, TablesAfter}
@@ -65,3 +66,22 @@ returns-clause-drops g c =
     subst (λ (s : Store). Drops Nobody c.args.caches.now c.args.store.now c.make_free-fresh.new.caches s) (sym c.unpin.ensures)
     (stays_drops _ _ _ _ c.args.caches.now c.make_free-fresh.new.caches c.args.store.now loosed c.requires.right.tied whole.stays tables Nobody
     (λ f n at. inl (sym (ap (λ (s : Store). node_of s.map f) c.pin.ensures) ∙ sym (c.make_free-fresh.ensures.free.others.frames f (ap is_some at)).node ∙ at)))
+
+pub returns-clause-tables : goal.returns-clause-tables
+returns-clause-tables g c =
+    let loosed : Store = record c.make_free-fresh.new.self { frames = with_pinned c.make_free-fresh.new.self.frames c.args.frame.0 false } in
+    subst (TablesAfter c.args.store.now) (sym c.unpin.ensures) (subst (λ (s : Store). TablesAfter s loosed) c.pin.ensures c.make_free-fresh.ensures.tables)
+
+pub returns-then-is_pinned-clause-frames : goal.returns-then-is_pinned-clause-frames
+returns-then-is_pinned-clause-frames g c = none_come _ _ c.make_free.ensures.free.others
+
+pub returns-clause-frames : goal.returns-clause-frames
+returns-clause-frames g c =
+    let old : World = world (g.M.Mapper.held c.args.mapper.now) (g.M.Mapper.page_bytes c.args.mapper.now) c.args.caches.now c.args.store.now in
+    let first : World = world (g.M.Mapper.held c.args.mapper.now) (g.M.Mapper.page_bytes c.args.mapper.now) c.args.caches.now c.pin.new.self in
+    let told = g.M.Mapper.held c.make_free-fresh.new.mapper in
+    let size = g.M.Mapper.page_bytes c.make_free-fresh.new.mapper in
+    let w : World = world told size c.make_free-fresh.new.caches c.make_free-fresh.new.self in
+    let v : World = world told size c.make_free-fresh.new.caches c.unpin.new.self in
+    come_by Nobody first w old v (ap (λ (s : Store). s.map) (sym c.pin.ensures)) (ap (λ (s : Store). s.frames.bytes) (sym c.pin.ensures)) (ap (λ (s : Store). s.map) c.unpin.ensures) (ap (λ (s : Store). s.frames.bytes) c.unpin.ensures)
+    (none_come first w c.make_free-fresh.ensures.free.others)

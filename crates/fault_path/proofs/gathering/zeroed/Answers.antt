@@ -8,6 +8,8 @@ use Rattle.residency.proofs.Worlds.Homes.{home}
 use Rattle.fault_path.specs.Gathering.{IsGathered}
 use Rattle.residency.proofs.Pushes.PushedPages.{tells_as}
 use Rattle.fault_path.proofs.Calls.Gathered.{one_gathers}
+use Rattle.fault_path.specs.Coming.{OnlyCome}
+use Rattle.fault_path.proofs.Frames.ComingFrames.{come_filled, none_come}
 use Rattle.fault_path.proofs.Frames.GatheredFrames.{bound_below, filled_gathered, free_gathered}
 use Rattle.residency.proofs.Translations.Kept.{drops_by, still_drops}
 use Rattle.fault_path.specs.Translating.{Nobody}
@@ -44,3 +46,15 @@ returns-clause-drops g c =
 
 pub returns-in_default-clause-drops : goal.returns-in_default-clause-drops
 returns-in_default-clause-drops g c = still_drops _ _ _ _ c.args.caches.now c.make_free.new.caches c.args.store.now c.make_free.new.self c.requires.right.tied c.make_free.ensures.free.still.stays c.make_free.ensures.tables c.make_free.ensures.free.others
+
+pub returns-clause-frames : goal.returns-clause-frames
+returns-clause-frames g c =
+    let old : World = world (g.M.Mapper.held c.args.mapper.now) (g.M.Mapper.page_bytes c.args.mapper.now) c.args.caches.now c.args.store.now in
+    let told = g.M.Mapper.held c.make_free.new.mapper in
+    let size = g.M.Mapper.page_bytes c.make_free.new.mapper in
+    let w : World = world told size c.make_free.new.caches c.make_free.new.self in
+    subst (λ (s : Store). OnlyCome Nobody old (world told size c.make_free.new.caches s)) (sym c.zero.ensures)
+    (come_filled Nobody old w c.in-Ok.fresh.0 (replicate w.frames.page 0) c.in-Ok.ensures.free.done.unbound (none_come old w c.make_free.ensures.free.others))
+
+pub returns-in_default-clause-frames : goal.returns-in_default-clause-frames
+returns-in_default-clause-frames g c = none_come _ _ c.make_free.ensures.free.others

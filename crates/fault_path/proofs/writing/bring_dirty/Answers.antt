@@ -14,7 +14,9 @@ use Rattle.fault_path.proofs.Rules.ReadyForest.{kept_ready}
 use Rattle.local_cache.proofs.Changes.SameNodes.{copies-put}
 use Rattle.residency.proofs.Forests.StillForest.{still_copies}
 use Rattle.local_cache.specs.declared.own_state.OwnState.{OwnState}
-use Rattle.fault_path.proofs.Calls.Costs.{bring_most, brought_traffic, copy_most, failed_most, most_more, pulls_most}
+use Rattle.fault_path.proofs.Calls.Costs.{bring_most, brought_traffic, failed_most, most_more, pulls_most}
+use Rattle.fault_path.proofs.Frames.GatheredFrames.{brought_home}
+use Rattle.residency.specs.declared.store.Store.{Store}
 use Rattle.fault_path.proofs.Calls.Answered.{miss_by}
 use Rattle.residency.proofs.Pushes.PushedPages.{tells_as}
 use Rattle.residency.proofs.Translations.Kept.{drops_more, drops_trans, still_drops_but}
@@ -65,16 +67,14 @@ returns-clause-traffic g c =
 pub returns-clause-most : goal.returns-clause-most
 returns-clause-most g c =
     let own : OwnState = own_of c.args.caches.now c.args.node in
-    let bounds = copy_most own in
     let b = c.in_ok-frame.ensures in
-    pulls_most _ _ _ _ _ _ (brought_traffic own c.args.store.now.frames c.bring_in.new.self.frames _ _ b.still.stays.frames b.held _ b.traffic b.few) bounds.0 (omega (arith, bring_most own))
+    pulls_most _ _ _ _ _ _ (brought_traffic own c.args.store.now.frames c.bring_in.new.self.frames _ _ b.still.stays.frames b.held _ b.traffic b.few) (omega arith) (omega (arith, bring_most own))
 
 pub returns-in_err-frame-clause-most : goal.returns-in_err-frame-clause-most
 returns-in_err-frame-clause-most g c =
     let own : OwnState = own_of c.args.caches.now c.args.node in
-    let bounds = copy_most own in
     let e = c.in_err-frame.ensures in
-    most_more _ _ _ _ _ _ (failed_most own c.args.store.now.frames _ _ _ _ e.traffic e.few) bounds.0 (omega (arith, bring_most own))
+    most_more _ _ _ _ _ _ (failed_most own c.args.store.now.frames _ _ _ _ e.traffic e.few) (omega arith) (omega (arith, bring_most own))
 
 pub returns-in_err-frame-clause-drops : goal.returns-in_err-frame-clause-drops
 returns-in_err-frame-clause-drops g c =
@@ -99,4 +99,4 @@ returns-clause-drops g c =
     (drops_trans may may may c.bring_in.new.caches c.bring_in.new.caches (dirtied w c.args.node).caches c.bring_in.new.self (without_homes c.args.node c.args.node c.bring_in.new.self) (without_homes c.args.node c.args.node c.bring_in.new.self) (λ n e. e) (λ n e. e)
     (forgot_drops may c.bring_in.new.caches c.bring_in.new.self c.args.node c.args.node first.stays.right.tied.placed (inl refl) (inl refl))
     (dirtied_drops may told size c.bring_in.new.caches c.bring_in.new.self c.args.node c.args.node c.args.node first.stays.right dirty))) in
-    record { left = left; failed = tt }
+    record { left = left; home = λ f at. inl (brought_home old w c.args.node c.requires.right.store (λ here. ap (λ (s : Store). s.map) (b.idle here).1) f at); failed = tt }

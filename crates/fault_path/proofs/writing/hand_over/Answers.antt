@@ -1,4 +1,4 @@
-use Rattle.std.proofs.Common.{◌≡◌, List, Option, inl, refl, sym, ap, subst, ◌∙◌, rules, ◌<◌, length, arith}
+use Rattle.std.proofs.Common.{◌≡◌, List, Option, inl, inr, refl, sym, ap, subst, ◌∙◌, rules, ◌<◌, length, arith}
 use Rattle.residency.specs.declared.store.Store.{Store}
 use Rattle.residency.specs.StoreForest.{store_forest}
 use Rattle.residency.specs.World.{World, world}
@@ -19,6 +19,9 @@ use Rattle.fault_path.specs.Translating.{MayCome}
 use Rattle.fault_path.proofs.Pages.FoundPage.{itself_owner}
 use Rattle.fault_path.proofs.Translations.Given.{failed_leaves, may_come, settled_comes, settled_stays}
 use Rattle.fault_path.proofs.Translations.Whole.{heir_drops}
+use Rattle.local_cache.specs.Reading.{name_of}
+use Rattle.fault_path.specs.Coming.{IsOfSave}
+use Rattle.fault_path.proofs.Frames.ComingFrames.{come_settled, more_come}
 use Rattle.fault_path.proofs.writing.hand_over.Goals as goal
 
 pub returns-in_err-frame-clause-handed : goal.returns-in_err-frame-clause-handed
@@ -96,4 +99,26 @@ returns-clause-drops g c =
     (λ f p at. ap (λ (m : List (Option NodeId)). node_of m f) map ∙ settled_stays c.copy_out.new.store.map c.in_ok-frame.frame.0 c.args.next k.taken.unbound f p at)
     (λ f p at. may_come c.args.caches.now c.args.node c.args.next p absent (settled_comes c.copy_out.new.store.map c.in_ok-frame.frame.0 c.args.next within f p (ap (λ (m : List (Option NodeId)). node_of m f) (sym map) ∙ at)))
     (inl refl) (ap (λ (s : Store). s.tables) c.settle_in.ensures) c.requires.own.own_page refl all.done in
-    record { left = whole; failed = tt }
+    record {
+      left = whole;
+      home = λ f at. inl (ap (λ (m : List (Option NodeId)). node_of m f) map ∙ settled_stays c.copy_out.new.store.map c.in_ok-frame.frame.0 c.args.next k.taken.unbound f c.args.node (c.in_ok-frame.ensures.copied.done.home f at));
+      failed = tt;
+    }
+
+pub returns-in_err-frame-clause-frames : goal.returns-in_err-frame-clause-frames
+returns-in_err-frame-clause-frames g c =
+    more_come (λ m. m ≡ c.args.node) (IsOfSave c.args.caches.now c.args.node) _ _ (λ m e. record { heir_name = name_of c.args.caches.now c.args.next; is_heir = c.requires.next.name; one = inl e }) c.copy_out.ensures.frames
+
+pub returns-clause-frames : goal.returns-clause-frames
+returns-clause-frames g c =
+    let old : World = world (g.M.Mapper.held c.args.mapper.now) (g.M.Mapper.page_bytes c.args.mapper.now) c.args.caches.now c.args.store.now in
+    let told = g.M.Mapper.held c.copy_out.new.mapper in
+    let size = g.M.Mapper.page_bytes c.copy_out.new.mapper in
+    let w : World = world told size c.copy_out.new.caches c.copy_out.new.store in
+    let v : World = world told size c.hand_page.new.caches c.settle_in.new.store in
+    let may = IsOfSave c.args.caches.now c.args.node in
+    let k = c.in_ok-frame.ensures.copied.done.gathered in
+    let within : c.in_ok-frame.frame.0 < length c.copy_out.new.store.map = omega (arith, k.taken.within, k.still.stays.right.tied.fitted.map_frames) in
+    let heir = name_of c.args.caches.now c.args.next in
+    come_settled may old w v c.in_ok-frame.frame.0 c.args.next within (record { heir_name = heir; is_heir = c.requires.next.name; one = inr refl }) (ap (λ (s : Store). s.map) c.settle_in.ensures) (ap (λ (s : Store). s.frames.bytes) c.settle_in.ensures)
+    (more_come (λ m. m ≡ c.args.node) may old w (λ m e. record { heir_name = heir; is_heir = c.requires.next.name; one = inl e }) c.copy_out.ensures.frames)

@@ -14,14 +14,15 @@ use Rattle.fault_path.specs.Faults.{Kept}
 use Rattle.fault_path.proofs.Pages.DirtyPage.{bound_dirty, dirtied}
 use Rattle.fault_path.proofs.Calls.Kept.{still_kept, still_shaped}
 use Rattle.fault_path.proofs.Rules.ReadyForest.{handed_ready}
-use Rattle.fault_path.proofs.Frames.GatheredFrames.{bound_below}
+use Rattle.fault_path.proofs.Frames.GatheredFrames.{bound_below, brought_home}
+use Rattle.residency.specs.declared.store.Store.{Store}
 use Rattle.fault_path.proofs.Rules.Heirs.{still_heir}
 use Rattle.fault_path.proofs.Frames.TwoFrames.{kept_then}
 use Rattle.local_cache.proofs.Changes.SameNodes.{copies-put, like_then}
 use Rattle.residency.proofs.Forests.StillForest.{still_copies}
 use Rattle.local_cache.specs.declared.own_state.OwnState.{OwnState}
 use Rattle.residency.specs.Causes.{HasMissCause, frames_to_bring}
-use Rattle.fault_path.proofs.Calls.Costs.{bring_most, brought_traffic, brought_more, brought_taken, copy_most, failed_most, most_more, most_then, pulls_most, pushes_then, resident_copies, resident_takes}
+use Rattle.fault_path.proofs.Calls.Costs.{bring_most, brought_traffic, brought_more, brought_taken, failed_most, most_more, most_then, pulls_most, pushes_then, resident_copies, resident_takes}
 use Rattle.residency.proofs.Worlds.Composed.{still_then}
 use Rattle.fault_path.proofs.Calls.Answered.{cause_then, later_then, miss_by}
 use Rattle.residency.proofs.Pushes.PushedPages.{tells_as}
@@ -133,8 +134,7 @@ returns-clause-most g c =
     let at = home w c.in_ok-frame.frame.0 c.args.node first.stays.right b.home.0 b.home.1 in
     let h = c.in_ok-hand_over.ensures in
     let over = resident_takes then c.bring_in.new.self.frames _ _ at.resident h.traffic in
-    let bounds = copy_most own in
-    pulls_most _ _ _ _ _ _ (brought_more own c.args.store.now.frames c.bring_in.new.self.frames _ _ first.stays.frames b.held _ b.traffic b.few _ over h.handed.answered.later) bounds.0 (omega (arith, bring_most own))
+    pulls_most _ _ _ _ _ _ (brought_more own c.args.store.now.frames c.bring_in.new.self.frames _ _ first.stays.frames b.held _ b.traffic b.few _ over h.handed.answered.later) (omega arith) (omega (arith, bring_most own))
 
 pub returns-in_err-hand_over-clause-most : goal.returns-in_err-hand_over-clause-most
 returns-in_err-hand_over-clause-most g c =
@@ -148,15 +148,13 @@ returns-in_err-hand_over-clause-most g c =
     let one = resident_copies then at.resident in
     let taken = brought_taken own c.args.store.now.frames c.bring_in.new.self.frames _ _ first.stays.frames b.held _ b.traffic b.few in
     let brought = brought_traffic own c.args.store.now.frames c.bring_in.new.self.frames _ _ first.stays.frames b.held _ b.traffic b.few in
-    let bounds = copy_most own in
-    most_then _ _ _ _ _ _ _ _ _ brought e.most e.handed.answered.later (omega (arith, one.0, bounds.0)) (omega (arith, one.1, bring_most own, pushes_then (frames_to_bring own) c.args.store.now.frames.held c.bring_in.new.self.frames.held first.stays.frames taken))
+    most_then _ _ _ _ _ _ _ _ _ brought e.most e.handed.answered.later (omega (arith, one.0)) (omega (arith, one.1, bring_most own, pushes_then (frames_to_bring own) c.args.store.now.frames.held c.bring_in.new.self.frames.held first.stays.frames taken))
 
 pub returns-in_err-frame-clause-most : goal.returns-in_err-frame-clause-most
 returns-in_err-frame-clause-most g c =
     let own : OwnState = own_of c.args.caches.now c.args.node in
-    let bounds = copy_most own in
     let e = c.in_err-frame.ensures in
-    most_more _ _ _ _ _ _ (failed_most own c.args.store.now.frames _ _ _ _ e.traffic e.few) bounds.0 (omega (arith, bring_most own))
+    most_more _ _ _ _ _ _ (failed_most own c.args.store.now.frames _ _ _ _ e.traffic e.few) (omega arith) (omega (arith, bring_most own))
 
 pub returns-in_err-frame-clause-drops : goal.returns-in_err-frame-clause-drops
 returns-in_err-frame-clause-drops g c =
@@ -200,4 +198,4 @@ returns-clause-drops g c =
     (drops_trans may' may may c.bring_in.new.caches c.hand_over.new.caches (dirtied v c.args.node).caches c.bring_in.new.self (without_homes c.args.node c.args.node c.hand_over.new.store) (without_homes c.args.node c.args.node c.hand_over.new.store) (may_before old w c.bring_in.ensures.still c.args.node) (λ n e. e)
     h.drops.left
     (dirtied_drops may told2 size2 c.hand_over.new.caches c.hand_over.new.store c.args.node c.args.node c.args.node k.right dirty))) in
-    record { left = left; failed = tt }
+    record { left = left; home = λ f at. h.drops.home f (brought_home old w c.args.node c.requires.right.store (λ here. ap (λ (s : Store). s.map) (b.idle here).1) f at); failed = tt }

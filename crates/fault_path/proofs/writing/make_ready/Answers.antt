@@ -1,4 +1,4 @@
-use Rattle.std.proofs.Common.{sym, ap, subst, ◌∙◌, ◌≡◌, true}
+use Rattle.std.proofs.Common.{sym, ap, subst, ◌∙◌, ◌≡◌, true, arith}
 use Rattle.vm_ids.specs.declared.numbers.NodeId.{NodeId}
 use Rattle.vm_ids.specs.Forest.Rules as forest
 use Rattle.local_cache.specs.Own.{is_absent, own_of}
@@ -10,7 +10,9 @@ use Rattle.fault_path.proofs.Calls.Kept.{absent_is}
 use Rattle.fault_path.proofs.Rules.ReadyForest.{own_ready}
 use Rattle.residency.specs.World.{HasOwnPage}
 use Rattle.fault_path.specs.Translating.{LeavesHomes}
-use Rattle.fault_path.proofs.Pages.FoundPage.{itself_owner, owner_same}
+use Rattle.fault_path.specs.Costs.{TakesAtMost, pulls_to_copy}
+use Rattle.fault_path.proofs.Calls.Costs.{most_more}
+use Rattle.fault_path.proofs.Pages.FoundPage.{each_owner, itself_owner, owner_same}
 use Rattle.fault_path.proofs.writing.make_ready.Goals as goal
 
 pub returns-in-None-clause-ready : goal.returns-in-None-clause-ready
@@ -38,3 +40,18 @@ returns-in-None-heir-clause-drops g c =
     let own : HasOwnPage c.args.caches.now c.args.node = record { node = c.requires.node; own_page = sym (c.is_absent.ensures.absent ∙ ap is_absent c.own_state.ensures) ∙ c.if-is_absent.false } in
     let itself = itself_owner c.args.caches.now c.requires.right.sound c.requires.right.shaped c.args.node own in
     λ o is. subst (λ (m : NodeId). LeavesHomes c.bring_dirty.result m c.args.node c.args.caches.now c.args.store.now c.bring_dirty.new.caches c.bring_dirty.new.store) (sym (owner_same c.args.caches.now c.requires.right.sound c.args.node o c.args.node is itself)) c.bring_dirty.ensures.drops
+
+pub returns-in-None-clause-most : goal.returns-in-None-clause-most
+returns-in-None-clause-most g c = λ o is. most_more _ _ _ _ _ _ (c.own_framed.ensures.most o is) (omega arith) (omega arith)
+
+pub returns-in-Some-heir-clause-most : goal.returns-in-Some-heir-clause-most
+returns-in-Some-heir-clause-most g c =
+    let own : HasOwnPage c.args.caches.now c.args.node = record { node = c.requires.node; own_page = sym (c.is_absent.ensures.absent ∙ ap is_absent c.own_state.ensures) ∙ c.if-is_absent.false } in
+    each_owner (λ (m : NodeId). TakesAtMost (pulls_to_copy (own_of c.args.caches.now m)) 3 c.args.store.now.frames (g.M.Mapper.counts c.args.mapper.now) (g.M.Mapper.counts c.hand_own.new.mapper)) c.args.caches.now c.requires.right.sound c.args.node c.args.node
+    (itself_owner c.args.caches.now c.requires.right.sound c.requires.right.shaped c.args.node own) (most_more _ _ _ _ _ _ c.hand_own.ensures.most (omega arith) (omega arith))
+
+pub returns-in-None-heir-clause-most : goal.returns-in-None-heir-clause-most
+returns-in-None-heir-clause-most g c =
+    let own : HasOwnPage c.args.caches.now c.args.node = record { node = c.requires.node; own_page = sym (c.is_absent.ensures.absent ∙ ap is_absent c.own_state.ensures) ∙ c.if-is_absent.false } in
+    each_owner (λ (m : NodeId). TakesAtMost (pulls_to_copy (own_of c.args.caches.now m)) 3 c.args.store.now.frames (g.M.Mapper.counts c.args.mapper.now) (g.M.Mapper.counts c.bring_dirty.new.mapper)) c.args.caches.now c.requires.right.sound c.args.node c.args.node
+    (itself_owner c.args.caches.now c.requires.right.sound c.requires.right.shaped c.args.node own) (most_more _ _ _ _ _ _ c.bring_dirty.ensures.most (omega arith) (omega arith))

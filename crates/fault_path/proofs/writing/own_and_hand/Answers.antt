@@ -18,20 +18,21 @@ use Rattle.residency.proofs.Pushes.PushedPages.{tells_as}
 use Rattle.residency.proofs.Pushes.Told.{tells_then}
 use Rattle.vm_ids.specs.declared.numbers.NodeId.{NodeId}
 use Rattle.local_cache.specs.Own.{own_of}
-use Rattle.fault_path.specs.Costs.{Pulls, frames_to_copy, free_count, pulls_to_copy}
-use Rattle.fault_path.proofs.Pages.FoundPage.{owner_same}
+use Rattle.fault_path.specs.Costs.{Pulls, TakesAtMost, frames_to_copy, free_count, pulls_to_copy}
+use Rattle.fault_path.proofs.Pages.FoundPage.{each_owner, owner_same}
 use Rattle.local_cache.specs.declared.own_state.OwnState.{OwnState}
-use Rattle.fault_path.proofs.Calls.Costs.{copy_most, most_then, pulls_more, pulls_most, pushes_then}
+use Rattle.fault_path.proofs.Calls.Costs.{copy_most, most_more, most_then, pulls_more, pulls_most, pushes_then}
 use Rattle.std.proofs.lemmas.List.{get_or-set_other}
 use Rattle.local_cache.specs.Own.{is_absent}
 use Rattle.residency.specs.Translating.{Drops}
 use Rattle.residency.proofs.Translations.Kept.{drops_by, drops_more, drops_trans}
 use Rattle.fault_path.specs.Answers.{IsFramed}
 use Rattle.fault_path.specs.Faults.{readied}
-use Rattle.fault_path.specs.Translating.{MayCome, Nobody, without_homes}
+use Rattle.fault_path.specs.Translating.{MayCome, Nobody, NoneLeadTo, StaysOrUnseen, without_homes}
 use Rattle.fault_path.proofs.Calls.Kept.{store_page}
 use Rattle.fault_path.proofs.Frames.TwoFrames.{absent_none, readied_bare}
 use Rattle.fault_path.proofs.Translations.Given.{failed_leaves, may_come, settled_comes, settled_stays}
+use Rattle.fault_path.proofs.Translations.Homes.{stays_or_unseen}
 use Rattle.fault_path.proofs.Translations.Whole.{both_drops}
 use Rattle.fault_path.proofs.writing.own_and_hand.Goals as goal
 
@@ -140,23 +141,35 @@ returns-clause-traffic g c = λ o is. (
 pub returns-clause-most : goal.returns-clause-most
 returns-clause-most g c =
     let it : NodeId = c.owner_of-owner.result in
+    let owner : IsOwner c.args.caches.now c.args.node it = record { held = c.owner_of-owner.ensures.held; name = c.owner_of-owner.ensures.owner } in
     let own : OwnState = own_of c.args.caches.now it in
     let first = c.in_ok-frame.ensures in
     let gathered = first.copied.done.gathered in
     let whole = gathered.still in
     let sum : Pulls (pulls_to_copy own) (frames_to_copy own + 1 - free_count c.args.store.now.frames) (g.M.Mapper.counts c.args.mapper.now) (g.M.Mapper.counts c.double.new.mapper) = pulls_more (frames_to_copy own) (pulls_to_copy own) c.args.store.now.frames.held c.copy_out.new.store.frames.held _ _ _ whole.stays.frames first.copied.held first.copied.traffic c.in-Ok.ensures.doubled.traffic c.double.ensures.doubled.later in
     let bounds = copy_most own in
-    pulls_most _ _ _ _ _ _ sum bounds.0 (omega (arith, bounds.1))
+    each_owner (λ (m : NodeId). TakesAtMost (pulls_to_copy (own_of c.args.caches.now m)) 3 c.args.store.now.frames (g.M.Mapper.counts c.args.mapper.now) (g.M.Mapper.counts c.double.new.mapper)) c.args.caches.now c.requires.right.sound c.args.node it owner
+    (pulls_most _ _ _ _ _ _ sum (omega arith) (omega (arith, bounds.1)))
 
 pub returns-in_default-clause-most : goal.returns-in_default-clause-most
 returns-in_default-clause-most g c =
-    let own : OwnState = own_of c.args.caches.now c.owner_of-owner.result in
+    let it : NodeId = c.owner_of-owner.result in
+    let owner : IsOwner c.args.caches.now c.args.node it = record { held = c.owner_of-owner.ensures.held; name = c.owner_of-owner.ensures.owner } in
+    let own : OwnState = own_of c.args.caches.now it in
     let first = c.in_ok-frame.ensures.copied in
     let then = c.in_default.ensures.doubled in
     let one = c.in_ok-frame.ensures.copied.done.gathered in
     let bounds = copy_most own in
-    most_then _ _ _ _ _ _ _ _ _ first.traffic then.most then.later (omega (arith, bounds.0))
-    (omega (arith, bounds.1, pushes_then (frames_to_copy own) c.args.store.now.frames.held c.copy_out.new.store.frames.held one.still.stays.frames first.held))
+    each_owner (λ (m : NodeId). TakesAtMost (pulls_to_copy (own_of c.args.caches.now m)) 3 c.args.store.now.frames (g.M.Mapper.counts c.args.mapper.now) (g.M.Mapper.counts c.double.new.mapper)) c.args.caches.now c.requires.right.sound c.args.node it owner
+    (most_then _ _ _ _ _ _ _ _ _ first.traffic then.most then.later (omega arith)
+    (omega (arith, bounds.1, pushes_then (frames_to_copy own) c.args.store.now.frames.held c.copy_out.new.store.frames.held one.still.stays.frames first.held)))
+
+pub returns-in_err-frame-clause-most : goal.returns-in_err-frame-clause-most
+returns-in_err-frame-clause-most g c =
+    let it : NodeId = c.owner_of-owner.result in
+    let owner : IsOwner c.args.caches.now c.args.node it = record { held = c.owner_of-owner.ensures.held; name = c.owner_of-owner.ensures.owner } in
+    each_owner (λ (m : NodeId). TakesAtMost (pulls_to_copy (own_of c.args.caches.now m)) 3 c.args.store.now.frames (g.M.Mapper.counts c.args.mapper.now) (g.M.Mapper.counts c.copy_out.new.mapper)) c.args.caches.now c.requires.right.sound c.args.node it owner
+    (let bounds = copy_most (own_of c.args.caches.now it) in most_more _ _ _ _ _ _ c.copy_out.ensures.copied.most (omega arith) (omega (arith, bounds.1)))
 
 pub returns-in_err-frame-clause-drops : goal.returns-in_err-frame-clause-drops
 returns-in_err-frame-clause-drops g c =
@@ -171,6 +184,7 @@ returns-in_default-clause-drops g c =
     let gathered : Drops (λ n. n ≡ it) c.args.caches.now c.args.store.now c.double.new.caches c.double.new.store = drops_trans (λ n. n ≡ it) Nobody (λ n. n ≡ it) c.args.caches.now c.copy_out.new.caches c.double.new.caches c.args.store.now c.copy_out.new.store c.double.new.store (λ n e. e) (λ n e. absurd e) c.copy_out.ensures.drops c.double.ensures.drops in
     λ o is. record {
       left = tt;
+      home = tt;
       failed = drops_by (MayCome c.args.caches.now o) c.args.caches.now c.double.new.caches c.args.store.now c.double.new.store c.args.store.now c.release.new.store refl refl (ap (λ (s : Store). s.map) c.release.ensures) (ap (λ (s : Store). s.tables) c.release.ensures)
           (drops_more (λ n. n ≡ it) (MayCome c.args.caches.now o) c.args.caches.now c.double.new.caches c.args.store.now c.double.new.store (λ n e. inl (e ∙ sym (owner_same c.args.caches.now c.requires.right.sound c.args.node o it is owner))) gathered);
     }
@@ -194,18 +208,28 @@ returns-clause-drops g c =
     let within2 : f2 < length c.settle_in.new.store.map = omega (arith, gathered.taken.within, gathered.still.stays.right.tied.fitted.map_frames, ap (λ (m : List (Option NodeId)). length m) map1, length-set c.double.new.store.map f1 (Some c.args.node)) in
     let map2 : c.settle_in-2.new.store.map ≡ set c.settle_in.new.store.map f2 (Some c.args.next) = ap (λ (s : Store). s.map) c.settle_in-2.ensures in
     let absent = ap is_absent (heir_absent c.args.caches.now c.requires.right.sound _ c.args.next c.requires.next.held c.requires.next.name) in
+    let stays : (f : ℕ) (p : NodeId) → node_of c.double.new.store.map f ≡ Some p → node_of c.settle_in-2.new.store.map f ≡ Some p = λ f p at. ap (λ (m : List (Option NodeId)). node_of m f) map2 ∙ settled_stays c.settle_in.new.store.map f2 c.args.next free2 f p
+    (ap (λ (m : List (Option NodeId)). node_of m f) map1 ∙ settled_stays c.double.new.store.map f1 c.args.node free1 f p at) in
+    let tables : c.settle_in-2.new.store.tables ≡ c.double.new.store.tables = ap (λ (s : Store). s.tables) c.settle_in-2.ensures ∙ ap (λ (s : Store). s.tables) c.settle_in.ensures in
     let both = returns-clause-ready g c in
     let answered : IsAnswered old v (g.M.Mapper.counts c.args.mapper.now) (g.M.Mapper.counts c.double.new.mapper) = both.answered in
     let framed : IsFramed readied c.args.node f1 old v = both.done in
     let all : Drops (MayCome c.args.caches.now it) c.args.caches.now c.args.store.now c.hand_page.new.caches (without_homes it c.args.node c.settle_in-2.new.store) =
     both_drops c.args.caches.now c.double.new.caches c.hand_page.new.caches c.args.store.now c.double.new.store c.settle_in-2.new.store c.requires.right whole answered.kept c.args.node it c.requires.node owner
     (drops_trans (λ n. n ≡ it) Nobody (λ n. n ≡ it) c.args.caches.now c.copy_out.new.caches c.double.new.caches c.args.store.now c.copy_out.new.store c.double.new.store (λ n e. e) (λ n e. absurd e) c.copy_out.ensures.drops c.double.ensures.drops)
-    (λ f p at. ap (λ (m : List (Option NodeId)). node_of m f) map2 ∙ settled_stays c.settle_in.new.store.map f2 c.args.next free2 f p
-    (ap (λ (m : List (Option NodeId)). node_of m f) map1 ∙ settled_stays c.double.new.store.map f1 c.args.node free1 f p at))
+    stays
     (λ f p at. elim (settled_comes c.settle_in.new.store.map f2 c.args.next within2 f p (ap (λ (m : List (Option NodeId)). node_of m f) (sym map2) ∙ at)) [
       | inl there ↦ may_come c.args.caches.now it c.args.node p (ap is_absent c.requires.bare) (settled_comes c.double.new.store.map f1 c.args.node within1 f p (ap (λ (m : List (Option NodeId)). node_of m f) (sym map1) ∙ there))
       | inr e ↦ may_come c.args.caches.now it c.args.next p absent (inr e)
     ])
-    (inr (ap is_absent c.requires.bare)) (ap (λ (s : Store). s.tables) c.settle_in-2.ensures ∙ ap (λ (s : Store). s.tables) c.settle_in.ensures)
+    (inr (ap is_absent c.requires.bare)) tables
     (framed.forest ∙ sym (readied_bare (store_forest old) (name_of c.args.caches.now c.args.node) (store_page old c.requires.right.sound c.args.node c.requires.node ∙ absent_none old c.args.node c.requires.bare))) in
-    λ o is. record { left = subst (λ (m : NodeId). Drops (MayCome c.args.caches.now m) c.args.caches.now c.args.store.now c.hand_page.new.caches (without_homes m c.args.node c.settle_in-2.new.store)) (sym (owner_same c.args.caches.now c.requires.right.sound c.args.node o it is owner)) all; failed = tt }
+    λ o is. record {
+      left = each_owner (λ (m : NodeId). Drops (MayCome c.args.caches.now m) c.args.caches.now c.args.store.now c.hand_page.new.caches (without_homes m c.args.node c.settle_in-2.new.store)) c.args.caches.now c.requires.right.sound c.args.node it owner all o is;
+      home = each_owner (λ (m : NodeId). StaysOrUnseen m c.args.store.now c.settle_in-2.new.store) c.args.caches.now c.requires.right.sound c.args.node it owner
+          (λ f at. elim (stays_or_unseen it c.copy_out.new.store c.double.new.store c.double.ensures.tables f (c.in_ok-frame.ensures.copied.done.home f at)) [
+            | inl there ↦ inl (stays f it there)
+            | inr none ↦ inr (subst (NoneLeadTo f) (sym tables) none)
+          ]) o is;
+      failed = tt;
+    }

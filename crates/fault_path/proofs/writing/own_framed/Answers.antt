@@ -11,12 +11,13 @@ use Rattle.vm_ids.specs.declared.numbers.NodeId.{NodeId}
 use Rattle.vm_ids.specs.Forest.Rules as forest
 use Rattle.global_map.specs.Pairs.{node_of}
 use Rattle.local_cache.specs.Own.{is_absent, own_of}
-use Rattle.fault_path.specs.Costs.{Pulls, frames_to_copy, free_count, pulls_to_copy}
-use Rattle.fault_path.proofs.Pages.FoundPage.{owner_same}
+use Rattle.fault_path.specs.Costs.{Pulls, TakesAtMost, frames_to_copy, free_count, pulls_to_copy}
+use Rattle.fault_path.proofs.Calls.Costs.{copy_most, most_more}
+use Rattle.fault_path.proofs.Pages.FoundPage.{each_owner, owner_same}
 use Rattle.residency.specs.Translating.{Drops}
 use Rattle.residency.proofs.Translations.Kept.{drops_more}
 use Rattle.fault_path.specs.Answers.{IsAnswered, IsFramed}
-use Rattle.fault_path.specs.Translating.{MayCome, without_homes}
+use Rattle.fault_path.specs.Translating.{MayCome, StaysOrUnseen, without_homes}
 use Rattle.fault_path.proofs.Translations.Given.{failed_leaves, may_come, settled_comes, settled_stays}
 use Rattle.fault_path.proofs.Translations.Whole.{own_drops}
 use Rattle.fault_path.proofs.writing.own_framed.Goals as goal
@@ -95,4 +96,23 @@ returns-clause-drops g c =
     (λ f p at. ap (λ (m : List (Option NodeId)). node_of m f) map ∙ settled_stays c.copy_out.new.store.map c.in_ok-frame.frame.0 c.args.node k.taken.unbound f p at)
     (λ f p at. may_come c.args.caches.now it c.args.node p (ap is_absent c.requires.bare) (settled_comes c.copy_out.new.store.map c.in_ok-frame.frame.0 c.args.node within f p (ap (λ (m : List (Option NodeId)). node_of m f) (sym map) ∙ at)))
     (inr (ap is_absent c.requires.bare)) (ap (λ (s : Store). s.tables) c.settle_in.ensures) framed.forest in
-    λ o is. record { left = subst (λ (m : NodeId). Drops (MayCome c.args.caches.now m) c.args.caches.now c.args.store.now c.own_page.new.caches (without_homes m c.args.node c.settle_in.new.store)) (sym (owner_same c.args.caches.now c.requires.right.sound c.args.node o it is owner)) whole; failed = tt }
+    λ o is. record {
+      left = each_owner (λ (m : NodeId). Drops (MayCome c.args.caches.now m) c.args.caches.now c.args.store.now c.own_page.new.caches (without_homes m c.args.node c.settle_in.new.store)) c.args.caches.now c.requires.right.sound c.args.node it owner whole o is;
+      home = each_owner (λ (m : NodeId). StaysOrUnseen m c.args.store.now c.settle_in.new.store) c.args.caches.now c.requires.right.sound c.args.node it owner
+          (λ f at. inl (ap (λ (m : List (Option NodeId)). node_of m f) map ∙ settled_stays c.copy_out.new.store.map c.in_ok-frame.frame.0 c.args.node k.taken.unbound f it (c.in_ok-frame.ensures.copied.done.home f at))) o is;
+      failed = tt;
+    }
+
+pub returns-clause-most : goal.returns-clause-most
+returns-clause-most g c =
+    let it : NodeId = c.owner_of-owner.result in
+    let owner : IsOwner c.args.caches.now c.args.node it = record { held = c.owner_of-owner.ensures.held; name = c.owner_of-owner.ensures.owner } in
+    each_owner (λ (m : NodeId). TakesAtMost (pulls_to_copy (own_of c.args.caches.now m)) 2 c.args.store.now.frames (g.M.Mapper.counts c.args.mapper.now) (g.M.Mapper.counts c.copy_out.new.mapper)) c.args.caches.now c.requires.right.sound c.args.node it owner
+    (let bounds = copy_most (own_of c.args.caches.now it) in most_more _ _ _ _ _ _ c.copy_out.ensures.copied.most (omega arith) (omega (arith, bounds.1)))
+
+pub returns-in_err-frame-clause-most : goal.returns-in_err-frame-clause-most
+returns-in_err-frame-clause-most g c =
+    let it : NodeId = c.owner_of-owner.result in
+    let owner : IsOwner c.args.caches.now c.args.node it = record { held = c.owner_of-owner.ensures.held; name = c.owner_of-owner.ensures.owner } in
+    each_owner (λ (m : NodeId). TakesAtMost (pulls_to_copy (own_of c.args.caches.now m)) 2 c.args.store.now.frames (g.M.Mapper.counts c.args.mapper.now) (g.M.Mapper.counts c.copy_out.new.mapper)) c.args.caches.now c.requires.right.sound c.args.node it owner
+    (let bounds = copy_most (own_of c.args.caches.now it) in most_more _ _ _ _ _ _ c.copy_out.ensures.copied.most (omega arith) (omega (arith, bounds.1)))

@@ -5,7 +5,7 @@ pub returns-clause-fits : goal.returns-clause-fits
 returns-clause-fits g c = fits_after _ _ _ _ _ _ _ _ _ c.call.ensures.answers c.call.ensures.page c.requires.fits
 
 pub returns-clause-live : goal.returns-clause-live
-returns-clause-live g c = live_after _ _ _ _ _ _ _ c.call.ensures.answers c.requires.live
+returns-clause-live g c = λ few. live_after _ _ _ _ _ _ _ c.call.ensures.answers few
 
 pub returns-clause-made_little : goal.returns-clause-made_little
-returns-clause-made_little g c = made_after _ _ _ _ _ _ _ _ _ c.call.ensures.answers c.requires.live c.call.ensures.made
+returns-clause-made_little g c = λ few. made_after _ _ _ _ _ _ _ _ _ c.call.ensures.answers few c.call.ensures.made

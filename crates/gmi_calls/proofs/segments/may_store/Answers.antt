@@ -1,5 +1,5 @@
-use Rattle.gmi_calls.proofs.Rising.{reached_none}
+use Rattle.gmi_calls.proofs.Rising.{asked_none}
 use Rattle.gmi_calls.proofs.segments.may_store.Goals as goal
 
-pub returns-in-None-clause-reached : goal.returns-in-None-clause-reached
-returns-in-None-clause-reached g c = reached_none _ _
+pub returns-in-None-clause-asked : goal.returns-in-None-clause-asked
+returns-in-None-clause-asked g c = asked_none g.M.Mapper _ _

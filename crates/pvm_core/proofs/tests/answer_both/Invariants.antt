@@ -10,7 +10,7 @@ invariant-loop-step g l =
     let machine = G.machine l.gmi (Some (held_of l.mapper)) in
     record {
       valid : G.valid l.gmi (Some (held_of l.mapper));
-      made : G.made l.gmi ≤ G.made l.fn.gmi + (l.step-counter + 1) * 134217728;
+      made : G.made l.gmi ≤ G.made l.fn.gmi + (l.step-counter + 1) * 268435456;
       fits : l.mapper.page_bytes ≡ machine.page_bytes;
       live : live_pages machine ≤ LIVE_PAGES;
     }

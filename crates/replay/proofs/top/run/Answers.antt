@@ -31,7 +31,7 @@ replay-requires g c =
     record {
       call = record {
         valid = c.in-Ok.ensures.valid told;
-        unlimited = λ manager. refl;
+        unlimited = refl;
         fits = fits_start (M.page_bytes c.args.mapper.now) size.frames size.page_bytes _ _ c.requires (run_page _ size (sym c.in-Ok-Some.ensures ∙ c.in-Ok-Some.field-0-is ∙ ap Some c.in-Run.is)) starts;
         live = live_start size.frames size.page_bytes _ starts;
       };
@@ -53,7 +53,7 @@ trial-requires-clause-able g c =
     record {
       call = record {
         valid = c.in-Ok-new.ensures.valid told;
-        unlimited = λ manager. refl;
+        unlimited = refl;
         fits = fits_start (M.page_bytes c.args.mapper.now) frames 4096 _ _ c.requires (trial_page _ c.in-Trial.script frames (sym c.in-Ok-Some.ensures ∙ c.in-Ok-Some.field-0-is ∙ ap Some c.in-Trial.is)) starts;
         live = live_start frames 4096 _ starts;
       };

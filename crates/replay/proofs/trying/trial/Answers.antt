@@ -29,7 +29,7 @@ returns-in-Ok-clause-ends g c =
     let call = c.loop-line.invariant.able.call in
     let counts = c.stat-counts.result in (
       counts,
-      told_counts _ _ counts (call.unlimited c.loop-line.gmi) (c.stat-counts.ensures.answers (M.held c.loop-line.mapper) call.valid),
+      told_counts _ _ counts call.unlimited (c.stat-counts.ensures.answers (M.held c.loop-line.mapper) call.valid),
       summed _ _ _ _ _ _ _ _ c.loop-line.invariant.tried _ c.args.script.lines counts _ _ (omega arith) c.in-Ok.ensures.wrote,
     )
 
@@ -39,6 +39,6 @@ returns-in-Err-clause-ends g c =
     let call = c.loop-line.invariant.able.call in
     let counts = c.stat-counts.result in (
       counts,
-      told_counts _ _ counts (call.unlimited c.loop-line.gmi) (c.stat-counts.ensures.answers (M.held c.loop-line.mapper) call.valid),
+      told_counts _ _ counts call.unlimited (c.stat-counts.ensures.answers (M.held c.loop-line.mapper) call.valid),
       summed _ _ _ _ _ _ _ _ c.loop-line.invariant.tried _ c.args.script.lines counts _ _ (omega arith) c.in-Err.ensures.wrote,
     )

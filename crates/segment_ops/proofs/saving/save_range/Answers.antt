@@ -1,4 +1,4 @@
-use Rattle.std.proofs.Common.{◌≡◌, ◌+◌, ◌<◌, ◌≤◌, Bool, List, length, true, false, Some, refl, sym, ap, ◌∙◌, subst, arith}
+use Rattle.std.proofs.Common.{◌≡◌, ℕ, ◌+◌, ◌<◌, ◌≤◌, Bool, List, length, true, false, Some, Ok, Err, refl, sym, ap, ◌∙◌, subst, arith}
 use Rattle.std.specs.List.{count_by}
 use Rattle.vm_ids.specs.Forest.Commands.{extent_names, page_name}
 use Rattle.vm_ids.specs.Forest.NameMap.{len}
@@ -16,8 +16,10 @@ use Rattle.fault_path.specs.Translating.{MayCome}
 use Rattle.segment_ops.specs.Translating.{IsSavedOrAbsent}
 use Rattle.segment_ops.proofs.Dropped.{absent_before, saved_or_absent}
 use Rattle.residency.proofs.Translations.Kept.{drops_trans, same_drops}
+use Rattle.fault_path.proofs.Frames.ComingFrames.{come_then, more_come, same_come}
+use Rattle.segment_ops.specs.Saving.{IsOfSaves}
 use Rattle.segment_ops.proofs.SyncedPages.{same_node}
-use Rattle.segment_ops.proofs.Unsaved.{all_done, failed_here, copies_then, few_done, measured, node_named, no_saves, nodes_by, not_idle, one_more, range_fits, range_node, still_in_range, saved_on, saved_then, unsaved_by, unsaved_owns}
+use Rattle.segment_ops.proofs.Unsaved.{all_done, failed_here, copies_then, few_done, in_more_saves, measured, next_save_is, node_named, no_saves, nodes_by, not_idle, one_more, range_fits, range_node, still_in_range, saved_on, saved_then, unsaved_by, unsaved_owns}
 use Rattle.residency.proofs.Pushes.PushedPages.{tells_none}
 use Rattle.segment_ops.proofs.Wholly.{saves_read, stays_then}
 use Rattle.segment_ops.proofs.saving.save_range.Given.{Over}
@@ -41,6 +43,7 @@ loop-page-init g c =
       forest = (let none : saves 0 (extent_names c.args.range) (store_forest old) ≡ store_forest old = no_saves (extent_names c.args.range) (store_forest old) in sym none);
       saved = λ p from below. absurd (omega (arith, from, below));
       absent = λ n e. e;
+      frames = same_come (IsOfSaves {T = ℕ} (Err 0) (extent_names c.args.range) old) old;
       drops = same_drops (IsSavedOrAbsent c.args.caches.now c.args.range) c.args.caches.now c.args.store.now c.requires.right.tied.placed;
       first = omega arith;
       end = omega arith;
@@ -148,6 +151,12 @@ loop-page-preserved-in-Some g c =
       saved = saved_then old w c.args.range c.loop-page.done c.loop-page.page i.forest i.first i.saved v h c.loop-page-test.true is is_heir after (store_shaped w i.stays.whole.sound i.stays.whole.consistent.shaped) c.next_page-page.result next.past
           (λ p from below other q. next.apart p from below other (k.nodes.name c.in-Some.heir ∙ q));
       absent = λ n bare. i.absent n (absent_before w v i.stays.whole.sound k.sound (store_shaped w i.stays.whole.sound i.stays.whole.consistent.shaped) k.nodes (page_name c.args.range.cache c.loop-page.page) h is is_heir after n bare);
+      frames = (
+          let more = IsOfSaves {T = ℕ} (Err (c.loop-page.done + 1)) (extent_names c.args.range) old in
+          come_then more old w v
+          (more_come _ more old w (λ m k. in_more_saves (Err (c.loop-page.done + 1)) c.loop-page.done (extent_names c.args.range) old m (omega arith) k) i.frames)
+          (more_come _ more w v (λ m k. in_more_saves (Err (c.loop-page.done + 1)) c.loop-page.done (extent_names c.args.range) old m (omega arith)
+          (next_save_is old w c.args.range c.loop-page.done c.loop-page.page i.forest i.first i.saved c.node_of-node.result m i.stays.whole.sound i.stays.kept.nodes c.loop-page-test.true is at.1 k)) e.frames));
       drops = drops_trans (IsSavedOrAbsent c.args.caches.now c.args.range) (MayCome c.loop-page.caches c.node_of-node.result) (IsSavedOrAbsent c.args.caches.now c.args.range) c.args.caches.now c.loop-page.caches c.save.new.caches c.args.store.now c.loop-page.store c.save.new.store
           (λ n came. came) (saved_or_absent c.args.caches.now c.loop-page.caches c.args.range c.node_of-node.result (c.loop-page.page, (i.first, c.loop-page-test.true), sym (same_node c.args.caches.now c.loop-page.caches i.stays.kept.nodes c.args.range.cache.0 c.loop-page.page) ∙ c.node_of-node.ensures) i.absent) i.drops e.drops;
       first = next.first;
@@ -171,6 +180,7 @@ loop-page-preserved g c =
       saved = saved_on old w c.args.range c.loop-page.done c.loop-page.page i.forest i.first i.saved is;
       absent = i.absent;
       drops = i.drops;
+      frames = i.frames;
       first = omega (arith, i.first);
       end = omega (arith, c.loop-page-test.true);
       done = i.done;
@@ -203,3 +213,23 @@ returns-in_default-clause-drops g c =
     let i = c.loop-page.invariant in
     drops_trans (IsSavedOrAbsent c.args.caches.now c.args.range) (MayCome c.loop-page.caches c.node_of-node.result) (IsSavedOrAbsent c.args.caches.now c.args.range) c.args.caches.now c.loop-page.caches c.save.new.caches c.args.store.now c.loop-page.store c.save.new.store
     (λ n came. came) (saved_or_absent c.args.caches.now c.loop-page.caches c.args.range c.node_of-node.result (c.loop-page.page, (i.first, c.loop-page-test.true), sym (same_node c.args.caches.now c.loop-page.caches i.stays.kept.nodes c.args.range.cache.0 c.loop-page.page) ∙ c.node_of-node.ensures) i.absent) i.drops c.save.ensures.drops
+
+pub returns-in_default-clause-frames : goal.returns-in_default-clause-frames
+returns-in_default-clause-frames g c =
+    let M = g.M.Mapper in
+    let old : World = world (M.held c.args.mapper.now) (M.page_bytes c.args.mapper.now) c.args.caches.now c.args.store.now in
+    let w : World = world (M.held c.loop-page.mapper) (M.page_bytes c.loop-page.mapper) c.loop-page.caches c.loop-page.store in
+    let v : World = world (M.held c.save.new.mapper) (M.page_bytes c.save.new.mapper) c.save.new.caches c.save.new.store in
+    let i = c.loop-page.invariant in
+    let at = named g (goal.at.returns-in_default-clause-frames g c).After-node_of-node in
+    let is = unsaved g (goal.at.returns-in_default-clause-frames g c).In-Some in
+    come_then _ old w v (more_come _ _ old w (λ m k. in_more_saves (Err c.loop-page.done) c.loop-page.done (extent_names c.args.range) old m (omega arith) k) i.frames)
+    (more_come _ _ w v (λ m k. in_more_saves (Err c.loop-page.done) c.loop-page.done (extent_names c.args.range) old m (omega arith)
+    (next_save_is old w c.args.range c.loop-page.done c.loop-page.page i.forest i.first i.saved c.node_of-node.result m i.stays.whole.sound i.stays.kept.nodes c.loop-page-test.true is at.1 k)) c.save.ensures.frames)
+
+pub returns-clause-frames : goal.returns-clause-frames
+returns-clause-frames g c =
+    let M = g.M.Mapper in
+    let old : World = world (M.held c.args.mapper.now) (M.page_bytes c.args.mapper.now) c.args.caches.now c.args.store.now in
+    let i = c.loop-page.invariant in
+    more_come _ _ old _ (λ m k. in_more_saves (Ok _) c.loop-page.done (extent_names c.args.range) old m tt k) i.frames

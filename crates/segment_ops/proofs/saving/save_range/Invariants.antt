@@ -1,4 +1,4 @@
-use Rattle.std.proofs.Common.{◌≡◌, ℕ, ◌+◌, ◌*◌, ◌-◌, ◌≤◌, ◌<◌, ◌^◌, true, false}
+use Rattle.std.proofs.Common.{◌≡◌, ℕ, ◌+◌, ◌*◌, ◌-◌, ◌≤◌, ◌<◌, ◌^◌, true, false, Err}
 use Rattle.vm_ids.specs.Forest.Commands.{extent_names, page_name}
 use Rattle.vm_ids.specs.Forest.NameMap.{len}
 use Rattle.vm_ids.specs.Forest.Saving.{is_unsaved, saves}
@@ -9,7 +9,8 @@ use Rattle.residency.specs.StoreForest.{store_forest}
 use Rattle.residency.specs.Translating.{Drops}
 use Rattle.residency.specs.World.{World, world}
 use Rattle.segment_ops.specs.Keeping.{StaysWhole}
-use Rattle.segment_ops.specs.Saving.{AreSavedNow}
+use Rattle.fault_path.specs.Coming.{OnlyCome}
+use Rattle.segment_ops.specs.Saving.{AreSavedNow, IsOfSaves}
 use Rattle.segment_ops.specs.Translating.{IsSavedOrAbsent}
 use Rattle.segment_ops.proofs.saving.save_range.Given as goal
 
@@ -24,6 +25,7 @@ invariant-loop-page g l =
       saved : (p : ℕ) → l.range.first.0 ≤ p → p < l.page → is_unsaved (store_forest now) (page_name l.range.cache p) ≡ false;
       absent : (n : NodeId) → is_absent (own_of l.caches n) ≡ true → is_absent (own_of l.fn.caches n) ≡ true;
       drops : Drops (IsSavedOrAbsent l.fn.caches l.range) l.fn.caches l.fn.store l.caches l.store;
+      frames : OnlyCome (IsOfSaves {T = ℕ} (Err l.done) (extent_names l.range) old) old now;
       first : l.range.first.0 ≤ l.page;
       end : l.page ≤ l.range.first.0 + l.range.pages;
       done : l.done ≤ len (forest_of l.fn.caches).nodes;

@@ -3,7 +3,7 @@ use Rattle.std.proofs.lemmas.List.{length-replicate}
 use Rattle.vm_ids.specs.Held.{Held, page_of}
 use Rattle.vm_ids.specs.declared.numbers.SegId.{SegId}
 use Rattle.vm_port.specs.Mapping.{MapperInMemory, held_of, page_in}
-use Rattle.vm_port.proofs.Holding.{page_held}
+use Rattle.vm_port.proofs.Holding.{page_is_held}
 use Rattle.local_cache.specs.declared.own_state.OwnState.{OwnState}
 use Rattle.local_cache.specs.declared.own_state.OwnState.TheVariants.{OnSegment}
 use Rattle.local_cache.specs.Arena.{Arena, find}
@@ -40,7 +40,7 @@ returns-clause-right c =
     let sound = c.reserve.ensures.sound c.new-caches.ensures.sound in
     let tables = ap (λ (k : Arena). k.caches) c.reserve.ensures.kept ∙ c.new-caches.ensures.caches in
     let there : (page : ℕ) → page < length made.0 → IsSome (page_of (held_of m) 1 page) = λ page low.
-    ap is_some (page_held m 1 page) ∙ ap (λ (k : MapperInMemory). is_some (page_in k.segments 1 page)) c.in_ok-mapper.ensures
+    page_is_held m 1 page ∙ ap (λ (k : MapperInMemory). is_some (page_in k.segments 1 page)) c.in_ok-mapper.ensures
     ∙ two_pages c.in_ok-segment.segment.items (ap (λ (xs : List ℕ). length xs) c.in_ok-segment.ensures.items) page (omega (arith, low, made.1)) in
     opened_right (world told size a c.reserve_slots.new.self) b c.make_named-cache.result segment made.0 second made.2 sound (c.make_named-cache.ensures.sound sound)
     (λ other e. no_segment a tables other (Some segment) e) there (omega (arith, made.1))

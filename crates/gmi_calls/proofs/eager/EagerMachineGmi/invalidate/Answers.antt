@@ -1,9 +1,8 @@
 use Rattle.std.proofs.Common.{◌≡◌, ℕ, List, Vec, Global, Ok, Err, length, map, refl, sym, ap, subst, ◌∙◌, arith}
 use Rattle.std.proofs.lemmas.List.{length-map, with_items_is}
-use Rattle.std.specs.Prelude.{All, IfSome, Result}
+use Rattle.std.specs.Prelude.{All, IfSome}
 use Rattle.std.specs.Vec.{with_items}
-use Rattle.vm_port.specs.declared.traits.failed.Failed.{Failed}
-use Rattle.vm_ids.specs.Counting.{MapperCounts, no_counts}
+use Rattle.vm_ids.specs.Counting.{MapperCounts}
 use Rattle.vm_ids.specs.declared.command.Command.TheVariants as commands
 use Rattle.vm_ids.specs.declared.reply.FaultAt.TheVariants as faults
 use Rattle.vm_ids.specs.declared.reply.Reply.TheVariants.{Done}
@@ -12,26 +11,22 @@ use Rattle.vm_model.proofs.Parts.Naming.{segment_names}
 use Rattle.gmi_calls.specs.Backing.{IsReady}
 use Rattle.gmi_calls.specs.Reaching.{ArePagesOf}
 use Rattle.gmi_calls.proofs.Accessing.{asked_pages}
-use Rattle.gmi_calls.proofs.Called.{OutcomeFor, call_each, call_reached, fault_for, memory_for, ready_after}
+use Rattle.gmi_calls.proofs.Called.{OutcomeFor, call_reached, eager_call, eager_left, fault_for, ready_after}
 use Rattle.gmi_calls.proofs.Opening.{fit_pages, seen_fits, taken_for, zeros_many, zeros_whole}
-use Rattle.gmi_calls.proofs.Rising.{reached_none}
 use Rattle.gmi_calls.proofs.eager.EagerMachineGmi.invalidate.Given.{Over}
 use Rattle.gmi_calls.proofs.eager.EagerMachineGmi.invalidate.Goals.{After-invalidate, After-pull_pages}
 use Rattle.gmi_calls.proofs.eager.EagerMachineGmi.invalidate.Goals as goal
 
-pub returns-in-Err-clause-answers : goal.returns-in-Err-clause-answers
-returns-in-Err-clause-answers g c =
+pub returns-in-Err : goal.returns-in-Err
+returns-in-Err g c =
     let m = c.args.self.now in
-    call_each _ _ m m (commands.Invalidate c.args.extent) (Err c.in-Err.trouble) tt c.requires.valid c.requires.valid.whole c.in-Err.ensures.refused tt
+    eager_left g.M.Mapper _ m m (commands.Invalidate c.args.extent) (Err c.in-Err.trouble) tt c.requires.valid c.requires.valid.whole c.in-Err.ensures.refused tt
 
-pub returns-in_default-clause-answers : goal.returns-in_default-clause-answers
-returns-in_default-clause-answers g c =
+pub returns-in_default : goal.returns-in_default
+returns-in_default g c =
     let m = c.args.self.now in
     let command = commands.Invalidate c.args.extent in
-    let told = g.M.Mapper.held c.args.mapper.now in
-    let r : Result (Unit {0}) Failed = Ok tt in
-    call_reached told _ _ _ m m command (Err troubles.Memory) r refl (reached_none _ tt) c.requires.valid.whole c.requires.valid.whole tt
-    (memory_for told m command _ tt (λ s. c.in-Ok.ensures.awaits.allowed s refl)) tt
+    eager_left g.M.Mapper _ m m command (Err troubles.Memory) tt c.requires.valid c.requires.valid.whole (λ s. (refl, tt, c.in-Ok.ensures.awaits.allowed s refl)) tt
 
 pub pull_pages-requires-clause-room : goal.pull_pages-requires-clause-room
 pull_pages-requires-clause-room g c =
@@ -72,24 +67,24 @@ taken g c rises =
     let are = subst (λ (vs : List (Vec ℕ Global)). IfSome told (ArePagesOf c.in-Ok.seg.0 e.first.0 (map (λ p. p.items) vs))) (sym is) c.in-Ok-pull_pages.ensures.pulled in
     taken_for told told m c.invalidate.new.self (commands.Invalidate e) (Ok Done) e.cache.0 c.in-Ok.seg.0 e.first.0 e.pages pages rises refl c.requires.valid c.in-Ok.ensures.segment c.in-Ok.ensures.within count are c.invalidate.ensures.outcome
 
-pub returns-in-Ok-pull_pages-clause-valid : goal.returns-in-Ok-pull_pages-clause-valid
-returns-in-Ok-pull_pages-clause-valid g c =
+pub returns-in-Ok-pull_pages : goal.returns-in-Ok-pull_pages
+returns-in-Ok-pull_pages g c =
+    let told = g.M.Mapper.held c.args.mapper.now in
+    let m = c.args.self.now in
     let next = c.invalidate.new.self in
-    subst (IsReady next) (sym c.in-Ok-pull_pages.ensures.held)
-    (ready_after (g.M.Mapper.held c.args.mapper.now) c.args.self.now next (commands.Invalidate c.args.extent) (Ok Done) no_counts c.requires.valid c.invalidate.ensures.whole (taken g (goal.at.returns-in-Ok-pull_pages-clause-valid g c).After-invalidate no_counts))
-
-pub returns-in-Ok-pull_pages-clause-answers : goal.returns-in-Ok-pull_pages-clause-answers
-returns-in-Ok-pull_pages-clause-answers g c =
+    let command = commands.Invalidate c.args.extent in
     let E = c.in-Ok-pull_pages.ensures in
-    call_reached (g.M.Mapper.held c.args.mapper.now) _ _ _ c.args.self.now c.invalidate.new.self (commands.Invalidate c.args.extent) (Ok Done) _ E.held E.reached c.requires.valid.whole c.invalidate.ensures.whole tt
-    (taken g (goal.at.returns-in-Ok-pull_pages-clause-answers g c).After-invalidate E.reached.rises) tt
+    let o = taken g (goal.at.returns-in-Ok-pull_pages g c).After-invalidate E.reached.rises in
+    eager_call g.M.Mapper _ _ m next command (Ok Done) (subst (IsReady next) (sym E.held) (ready_after told m next command (Ok Done) E.reached.rises c.requires.valid c.invalidate.ensures.whole o))
+    (call_reached told _ _ _ m next command (Ok Done) _ E.held E.reached c.requires.valid.whole c.invalidate.ensures.whole tt o tt) tt E.page
 
-pub returns-in-Err-pull_pages-clause-answers : goal.returns-in-Err-pull_pages-clause-answers
-returns-in-Err-pull_pages-clause-answers g c =
+pub returns-in-Err-pull_pages : goal.returns-in-Err-pull_pages
+returns-in-Err-pull_pages g c =
     let m = c.args.self.now in
     let command = commands.Invalidate c.args.extent in
     let told = g.M.Mapper.held c.args.mapper.now in
     let E = c.in-Err-pull_pages.ensures in
     let named = segment_names m c.args.extent.cache.0 c.in-Ok.seg.0 c.in-Ok.ensures.segment in
-    call_reached told _ _ _ m m command (Err (troubles.Mapper (faults.Save 0))) _ E.held E.reached c.requires.valid.whole c.requires.valid.whole tt
-    (fault_for told m command (faults.Save 0) E.reached.rises E.reached.failed (λ s. (named, refl)) (λ s. c.in-Ok.ensures.awaits.allowed s refl)) tt
+    eager_call g.M.Mapper _ _ m m command (Err (troubles.Mapper (faults.Save 0))) (subst (IsReady m) (sym E.held) c.requires.valid)
+    (call_reached told _ _ _ m m command (Err (troubles.Mapper (faults.Save 0))) _ E.held E.reached c.requires.valid.whole c.requires.valid.whole tt
+    (fault_for told m command (faults.Save 0) E.reached.rises E.reached.failed (λ s. (named, refl)) (λ s. c.in-Ok.ensures.awaits.allowed s refl)) tt) tt E.page

@@ -1,6 +1,7 @@
+use Rattle.std.proofs.Common.{refl}
 use Rattle.vm_ids.specs.declared.command.Command.TheVariants as commands
-use Rattle.gmi_calls.proofs.Called.{ready_plain}
+use Rattle.gmi_calls.proofs.Called.{eager_done}
 use Rattle.gmi_calls.proofs.eager.EagerMachineGmi.make_temp.Goals as goal
 
-pub returns-clause-valid : goal.returns-clause-valid
-returns-clause-valid g c = λ told ready. ready_plain told _ _ (commands.MakeTemp c.args.pages) _ c.make_temp.ensures.outcome c.make_temp.ensures.whole ready
+pub returns : goal.returns
+returns g c = eager_done _ _ (commands.MakeTemp c.args.pages) _ refl c.make_temp.ensures.whole c.make_temp.ensures.outcome (λ h. tt)

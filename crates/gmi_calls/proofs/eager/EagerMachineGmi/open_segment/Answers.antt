@@ -4,44 +4,49 @@ use Rattle.vm_port.specs.declared.traits.failed.Failed.{Failed}
 use Rattle.gmi_calls.specs.Reaching.{ArePagesOf}
 use Rattle.std.proofs.lemmas.List.{length-map, with_items_is}
 use Rattle.std.specs.Vec.{with_items}
-use Rattle.vm_ids.specs.Counting.{MapperCounts, no_counts}
+use Rattle.vm_ids.specs.Counting.{MapperCounts}
 use Rattle.vm_ids.specs.declared.command.Command.TheVariants as commands
 use Rattle.vm_ids.specs.declared.reply.FaultAt.TheVariants as faults
 use Rattle.vm_ids.specs.declared.reply.Reply.TheVariants.{Cache}
 use Rattle.vm_ids.specs.declared.reply.Trouble.TheVariants as troubles
 use Rattle.vm_model.specs.Answering.{answer_by}
 use Rattle.gmi_calls.specs.Backing.{IsReady}
-use Rattle.gmi_calls.proofs.Called.{OutcomeFor, call_each, call_reached, every_segments, ready_after}
+use Rattle.gmi_calls.proofs.Called.{OutcomeFor, asks_opened, call_reached, eager_call, eager_left, every_segments, ready_after}
 use Rattle.gmi_calls.proofs.Opening.{opened_for, sized_for, sized_pages}
-use Rattle.gmi_calls.proofs.Rising.{fault_counted, reached_one, reached_then}
+use Rattle.gmi_calls.proofs.Rising.{fault_counted, quiet_none, quiet_then, reached_one, reached_then}
+use Rattle.gmi_calls.proofs.Still.{asks_quiet}
 use Rattle.gmi_calls.proofs.eager.EagerMachineGmi.open_segment.Given.{Over}
 use Rattle.gmi_calls.proofs.eager.EagerMachineGmi.open_segment.Goals.{After-open_segment, After-pull_pages}
 use Rattle.gmi_calls.proofs.eager.EagerMachineGmi.open_segment.Goals as goal
 
-pub returns-in-Err-clause-answers : goal.returns-in-Err-clause-answers
-returns-in-Err-clause-answers g c =
+pub returns-in-Err : goal.returns-in-Err
+returns-in-Err g c =
     let m = c.args.self.now in
-    call_each _ _ m m (commands.OpenSegment c.args.seg) (Err c.in-Err.trouble) tt c.requires.valid c.requires.valid.whole c.in-Err.ensures.refused tt
+    eager_left g.M.Mapper _ m m (commands.OpenSegment c.args.seg) (Err c.in-Err.trouble) tt c.requires.valid c.requires.valid.whole c.in-Err.ensures.refused tt
 
-pub returns-in_default-size-clause-answers : goal.returns-in_default-size-clause-answers
-returns-in_default-size-clause-answers g c =
+pub returns-in_default-size : goal.returns-in_default-size
+returns-in_default-size g c =
     let m = c.args.self.now in
     let command = commands.OpenSegment c.args.seg in
     let told = g.M.Mapper.held c.args.mapper.now in
     let answer = Err (troubles.Mapper faults.Opening) in
     let R = reached_one 0 0 _ _ c.size.result c.size.ensures.counts in
-    call_reached told _ _ _ m m command answer c.size.result c.size.ensures.held R c.requires.valid.whole c.requires.valid.whole tt
-    (every_segments told m m command answer R.rises (λ s. c.in_default.ensures.fault s R.rises (fault_counted 0 0 c.size.result _ c.in_default-size.is))) tt
+    eager_call g.M.Mapper _ _ m m command answer (subst (IsReady m) (sym c.size.ensures.held) c.requires.valid)
+    (call_reached told _ _ _ m m command answer c.size.result c.size.ensures.held R c.requires.valid.whole c.requires.valid.whole tt
+    (every_segments told m m command answer R.rises (λ s. c.in_default.ensures.fault s R.rises (fault_counted 0 0 c.size.result _ c.in_default-size.is))) tt)
+    tt c.size.ensures.page
 
-pub returns-in-Err-room_for-clause-answers : goal.returns-in-Err-room_for-clause-answers
-returns-in-Err-room_for-clause-answers g c =
+pub returns-in-Err-room_for : goal.returns-in-Err-room_for
+returns-in-Err-room_for g c =
     let m = c.args.self.now in
     let command = commands.OpenSegment c.args.seg in
     let told = g.M.Mapper.held c.args.mapper.now in
     let answer = Err c.in-Err-room_for.trouble in
     let R = reached_one 0 0 _ _ c.size.result c.size.ensures.counts in
-    call_reached told _ _ _ m m command answer c.size.result c.size.ensures.held R c.requires.valid.whole c.requires.valid.whole tt
-    (sized_for told m command answer c.args.seg.0 c.in-Ok.size R.rises c.in-Ok.ensures.pages c.in-Err-room_for.ensures.refused) tt
+    eager_call g.M.Mapper _ _ m m command answer (subst (IsReady m) (sym c.size.ensures.held) c.requires.valid)
+    (call_reached told _ _ _ m m command answer c.size.result c.size.ensures.held R c.requires.valid.whole c.requires.valid.whole tt
+    (sized_for told m command answer c.args.seg.0 c.in-Ok.size R.rises c.in-Ok.ensures.pages c.in-Err-room_for.ensures.refused) tt)
+    (asks_quiet command answer _ _ (quiet_then _ _ _ c.size.result (quiet_none _) c.size.ensures.counts)) c.size.ensures.page
 
 pub pull_pages-requires-clause-there : goal.pull_pages-requires-clause-there
 pull_pages-requires-clause-there g c =
@@ -71,28 +76,33 @@ opened g c rises =
     let are = subst (λ (vs : List (Vec ℕ Global)). IfSome now (ArePagesOf c.args.seg.0 0 (map (λ p. p.items) vs))) (sym is) c.in-Ok-pull_pages.ensures.pulled in
     opened_for told now c.args.self.now c.open_segment.new.self (commands.OpenSegment c.args.seg) (answer_by (λ x. Cache x) c.open_segment.result) c.args.seg.0 c.in-Ok.size pages rises c.size.ensures.held sized c.in-Ok.ensures.pages are c.open_segment.ensures.outcome
 
-pub returns-in-Ok-pull_pages-clause-valid : goal.returns-in-Ok-pull_pages-clause-valid
-returns-in-Ok-pull_pages-clause-valid g c =
+pub returns-in-Ok-pull_pages : goal.returns-in-Ok-pull_pages
+returns-in-Ok-pull_pages g c =
+    let told = g.M.Mapper.held c.args.mapper.now in
+    let m = c.args.self.now in
     let next = c.open_segment.new.self in
-    subst (IsReady next) (sym (c.in-Ok-pull_pages.ensures.held ∙ c.size.ensures.held))
-    (ready_after (g.M.Mapper.held c.args.mapper.now) c.args.self.now next (commands.OpenSegment c.args.seg) (answer_by (λ x. Cache x) c.open_segment.result) no_counts c.requires.valid c.open_segment.ensures.whole (opened g (goal.at.returns-in-Ok-pull_pages-clause-valid g c).After-open_segment no_counts))
-
-pub returns-in-Ok-pull_pages-clause-answers : goal.returns-in-Ok-pull_pages-clause-answers
-returns-in-Ok-pull_pages-clause-answers g c =
-    let P = c.in-Ok-pull_pages.ensures.reached in
+    let command = commands.OpenSegment c.args.seg in
+    let answer = answer_by (λ x. Cache x) c.open_segment.result in
+    let E = c.in-Ok-pull_pages.ensures in
+    let P = E.reached in
     let r : Result (Unit {0}) Failed = Ok tt in
     let R = reached_then _ _ _ c.size.result r (reached_one 0 0 _ _ c.size.result c.size.ensures.counts) P.rises P.rose tt in
-    call_reached (g.M.Mapper.held c.args.mapper.now) _ _ _ c.args.self.now c.open_segment.new.self (commands.OpenSegment c.args.seg) (answer_by (λ x. Cache x) c.open_segment.result) r (c.in-Ok-pull_pages.ensures.held ∙ c.size.ensures.held) R
-    c.requires.valid.whole c.open_segment.ensures.whole tt (opened g (goal.at.returns-in-Ok-pull_pages-clause-answers g c).After-open_segment R.rises) tt
+    let same = E.held ∙ c.size.ensures.held in
+    let o = opened g (goal.at.returns-in-Ok-pull_pages g c).After-open_segment R.rises in
+    eager_call g.M.Mapper _ _ m next command answer (subst (IsReady next) (sym same) (ready_after told m next command answer R.rises c.requires.valid c.open_segment.ensures.whole o))
+    (call_reached told _ _ _ m next command answer r same R c.requires.valid.whole c.open_segment.ensures.whole tt o tt) (asks_opened c.args.seg c.open_segment.result _ _ c.open_segment.ensures.memory) (E.page ∙ c.size.ensures.page)
 
-pub returns-in-Err-pull_pages-clause-answers : goal.returns-in-Err-pull_pages-clause-answers
-returns-in-Err-pull_pages-clause-answers g c =
+pub returns-in-Err-pull_pages : goal.returns-in-Err-pull_pages
+returns-in-Err-pull_pages g c =
     let m = c.args.self.now in
     let command = commands.OpenSegment c.args.seg in
     let told = g.M.Mapper.held c.args.mapper.now in
     let answer = Err (troubles.Mapper faults.Opening) in
-    let P = c.in-Err-pull_pages.ensures.reached in
+    let E = c.in-Err-pull_pages.ensures in
+    let P = E.reached in
     let r : Result (Unit {0}) Failed = Err c.in-Err-pull_pages.field-0 in
     let R = reached_then _ _ _ c.size.result r (reached_one 0 0 _ _ c.size.result c.size.ensures.counts) P.rises P.rose P.failed in
-    call_reached told _ _ _ m m command answer r (c.in-Err-pull_pages.ensures.held ∙ c.size.ensures.held) R c.requires.valid.whole c.requires.valid.whole tt
-    (every_segments told m m command answer R.rises (λ s. c.in_default.ensures.fault s R.rises R.failed)) tt
+    let same = E.held ∙ c.size.ensures.held in
+    eager_call g.M.Mapper _ _ m m command answer (subst (IsReady m) (sym same) c.requires.valid)
+    (call_reached told _ _ _ m m command answer r same R c.requires.valid.whole c.requires.valid.whole tt
+    (every_segments told m m command answer R.rises (λ s. c.in_default.ensures.fault s R.rises R.failed)) tt) tt (E.page ∙ c.size.ensures.page)

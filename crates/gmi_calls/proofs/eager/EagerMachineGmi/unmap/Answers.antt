@@ -1,6 +1,7 @@
+use Rattle.std.proofs.Common.{refl}
 use Rattle.vm_ids.specs.declared.command.Command.TheVariants as commands
-use Rattle.gmi_calls.proofs.Called.{ready_plain}
+use Rattle.gmi_calls.proofs.Called.{eager_done}
 use Rattle.gmi_calls.proofs.eager.EagerMachineGmi.unmap.Goals as goal
 
-pub returns-clause-valid : goal.returns-clause-valid
-returns-clause-valid g c = λ told ready. ready_plain told _ _ (commands.Unmap c.args.region) _ c.unmap.ensures.outcome c.unmap.ensures.whole ready
+pub returns : goal.returns
+returns g c = eager_done _ _ (commands.Unmap c.args.region) _ refl c.unmap.ensures.whole c.unmap.ensures.outcome (λ h. tt)

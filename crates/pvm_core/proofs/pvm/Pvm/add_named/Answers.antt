@@ -1,4 +1,4 @@
-use Rattle.std.proofs.Common.{◌≡◌, ◌<◌, [], length, refl, sym, ap, subst, ◌∙◌, arith}
+use Rattle.std.proofs.Common.{◌≡◌, ◌<◌, [], Some, length, refl, sym, ap, subst, ◌∙◌, arith}
 use Rattle.std.specs.Prelude.{Result, Ok, Err}
 use Rattle.std.proofs.lemmas.Result.{err_from_is_err_and}
 use Rattle.vm_ids.specs.Counting.{no_counts}
@@ -17,6 +17,7 @@ use Rattle.vm_ids.specs.declared.numbers.SegId.{SegId}
 use Rattle.vm_model.specs.declared.limits.TheConstants.{MOST_MADE}
 use Rattle.pvm_core.specs.contracts.pvm.Pvm.{the_view}
 use Rattle.pvm_core.proofs.NewCaches.Roomy.{IsRoomy, roomy}
+use Rattle.pvm_core.proofs.NewCaches.Ungranted.{ungranted}
 use Rattle.pvm_core.proofs.Answering.Kept.{seen}
 use Rattle.pvm_core.proofs.Opening.Named.{named_answer, named_sound, named_valid}
 use Rattle.pvm_core.proofs.Opening.Refused.{lacking, too_many}
@@ -137,3 +138,6 @@ returns-clause-answers c = λ h v has.
     (subst (λ (x : State). AnswerIs x (commands.OpenSegment c.args.seg) answer [] no_counts (state_at q h)) (room.state h)
     (named_answer r.caches c.make_named.new.self r.store i.contexts i.live c.args.pages c.make_named.result c.args.seg m.made.0 m.made.1 m.made.2 m.pages m.stays (m.forest e.sound) (m.sound e.sound) k
     (free_in i.caches r.caches c.reserve.ensures.caches (free_of c.self.view_is c.requires.free)) (omega (arith, c.if-self-pages.false)) c.in_ok-reserve.ensures.capacity h w (subst (λ (p : Manager). HasSegment h c.args.seg p.page_bytes c.args.pages) (sym c.self.view_is) has) (few_in i.caches r.caches c.reserve.ensures.caches (few_of c.self.view_is c.requires.few))))
+
+pub returns-clause-grants : goal.returns-clause-grants
+returns-clause-grants c = let made = c.make_named.ensures.made in ungranted c.reserve.new.caches c.make_named.new.self c.make_named.result (Some c.args.seg) OnSegment made.0 made.2

@@ -1,4 +1,4 @@
-use Rattle.std.proofs.Common.{◌≡◌, ℕ, ◌+◌, ◌-◌, Bool, false, Option, Some, None, is_some, length, refl, sym, ap, subst, ◌∙◌, arith}
+use Rattle.std.proofs.Common.{rules, ◌≡◌, ℕ, ◌+◌, ◌-◌, Bool, false, Option, Some, None, is_some, length, refl, sym, ap, subst, ◌∙◌, arith}
 use Rattle.std.specs.Prelude.{IfErr, IsOk, OnErr, Result, Ok, Err, unwrap_or}
 use Rattle.std.proofs.lemmas.Result.{err_from_is_err_and}
 use Rattle.std.specs.List.{list_any}
@@ -49,14 +49,15 @@ use Rattle.pvm_core.proofs.Holding.Kept.{held_released}
 use Rattle.pvm_core.proofs.Holding.Loose.{unpinned_page, working_unpinned}
 use Rattle.pvm_core.proofs.Holding.Actors.{over_none}
 use Rattle.pvm_core.proofs.Translating.Cells.{without_right}
-use Rattle.pvm_core.proofs.Translating.Left.{left_right}
+use Rattle.pvm_core.proofs.Translating.Unmapped.{unmapped_right}
 use Rattle.pvm_core.proofs.Translating.Writable.{homes_writable}
+use Rattle.pvm_core.proofs.Answering.Recorded.{refused_mapper_call}
 use Rattle.pvm_core.proofs.pvm.Pvm.destroy.Given.{Over}
 use Rattle.pvm_core.proofs.pvm.Pvm.destroy.Goals.{After-from_residual, After-remove, After-self-2, In-Some}
 use Rattle.pvm_core.proofs.pvm.Pvm.destroy.Goals as goal
 
-pub returns-in_default-clause-answers : goal.returns-in_default-clause-answers
-returns-in_default-clause-answers g c =
+pub returns-in_default-clause-call : goal.returns-in_default-clause-call
+returns-in_default-clause-call g c = refused_mapper_call c.requires.valid (
     let h = g.M.Mapper.held c.args.mapper.now in
     let counts = g.M.Mapper.counts c.args.mapper.now in
     let p : Manager = the_view c.self.inside in
@@ -64,10 +65,10 @@ returns-in_default-clause-answers g c =
     let answer : Answer = Err (troubles.Refused refusals.NoCache) in
     subst (λ (p : Manager). CallIs counts counts (state_at p h) command answer (state_at p h)) c.self.view_is
     (failed counts counts p p h h command answer (reach_none (machine_of p h) h counts) c.self.invariant.sound.nodes c.self.invariant.sound.nodes (subst (λ (p : Manager). IsValid p h) (sym c.self.view_is) c.requires.valid) refl refl tt tt
-    (λ f s. destroy_no_cache (machine_by p f) c.args.cache.0 (unsized _ (shown_size f p.caches.caches c.args.cache.0 ∙ sym c.pages.ensures ∙ c.in_default.is))))
+    (λ f s. destroy_no_cache (machine_by p f) c.args.cache.0 (unsized _ (shown_size f p.caches.caches c.args.cache.0 ∙ sym c.pages.ensures ∙ c.in_default.is)))))
 
-pub returns-then-maps-clause-answers : goal.returns-then-maps-clause-answers
-returns-then-maps-clause-answers g c =
+pub returns-then-maps-clause-call : goal.returns-then-maps-clause-call
+returns-then-maps-clause-call g c = refused_mapper_call c.requires.valid (
     let h = g.M.Mapper.held c.args.mapper.now in
     let counts = g.M.Mapper.counts c.args.mapper.now in
     let p : Manager = the_view c.self.inside in
@@ -77,7 +78,7 @@ returns-then-maps-clause-answers g c =
     (failed counts counts p p h h command answer (reach_none (machine_of p h) h counts) c.self.invariant.sound.nodes c.self.invariant.sound.nodes (subst (λ (p : Manager). IsValid p h) (sym c.self.view_is) c.requires.valid) refl refl tt tt
     (λ f s. let k = sized _ c.in-Some.pages (shown_size f p.caches.caches c.args.cache.0 ∙ sym c.pages.ensures ∙ c.in-Some.is) in
     destroy_in_use (machine_by p f) c.args.cache.0 k.0 k.1
-    (sym c.maps.ensures ∙ c.if-maps.true)))
+    (sym c.maps.ensures ∙ c.if-maps.true))))
 
 -- so many pages the cache has
 size : (g : Over) (c : In-Some g) → size_of c.self.inside.caches c.args.cache.0 ≡ Some c.in-Some.pages
@@ -110,11 +111,15 @@ not_written g c =
     (not_destroyed p q h k before after c.args.cache c.in-Some.pages keeps c.self.invariant.sound.nodes e.whole e.valid (size g (goal.at.After-from_residual g c).In-Some) (λ f. sym c.maps.ensures ∙ c.if-maps.false) trouble wrong
     (subst (λ (r : Result _ Trouble). OnErr r (Rose before.faults after.faults)) c.in_err-write_back.was e.cause)))
 
-pub returns-in_err-write_back-clause-answers : goal.returns-in_err-write_back-clause-answers
-returns-in_err-write_back-clause-answers g c = (not_written g c).answers
-
-pub returns-in_err-write_back-clause-made : goal.returns-in_err-write_back-clause-made
-returns-in_err-write_back-clause-made g c = (not_written g c).made
+pub returns-in_err-write_back-clause-call : goal.returns-in_err-write_back-clause-call
+returns-in_err-write_back-clause-call g c = record {
+  valid = search rules;
+  answers = (not_written g c).answers;
+  asks_first = (not_written g c).asks_first;
+  made = (not_written g c).made;
+  room = refl;
+  page = search rules;
+}
 
 pub returns-in_err-write_back-clause-copies : goal.returns-in_err-write_back-clause-copies
 returns-in_err-write_back-clause-copies g c = (not_written g c).copies
@@ -252,18 +257,19 @@ invariant_of-self g c = record {
       let e = c.destroy_pages.ensures in
       let b = c.destroy_pages.new in
       without_right b.caches c.remove.new.self b.store c.args.cache c.remove.ensures.changed j.contexts
-      (left_right _ _ j.caches b.caches j.store b.store j.contexts e.translations (homes_writable _ j.caches b.caches e.kept.sizes e.kept.homes) c.self-2.invariant.translated)
+      (unmapped_right c.args.cache c.in-Some.pages j.caches b.caches j.store b.store j.contexts (to_go g (goal.at.invariant_of-self g c).After-self-2).free e.translations (homes_writable _ j.caches b.caches e.kept.sizes e.kept.homes) c.self-2.invariant.translated)
       );
 }
 
-pub returns-clause-valid : goal.returns-clause-valid
-returns-clause-valid g c = (gone g (goal.at.returns-clause-valid g c).After-remove).0.valid
-
-pub returns-clause-answers : goal.returns-clause-answers
-returns-clause-answers g c = (gone g (goal.at.returns-clause-answers g c).After-remove).0.answers
-
-pub returns-clause-made : goal.returns-clause-made
-returns-clause-made g c = (gone g (goal.at.returns-clause-made g c).After-remove).0.made
+pub returns-clause-call : goal.returns-clause-call
+returns-clause-call g c = record {
+  valid = (gone g (goal.at.returns-clause-call g c).After-remove).0.valid;
+  answers = (gone g (goal.at.returns-clause-call g c).After-remove).0.answers;
+  asks_first = tt;
+  made = (gone g (goal.at.returns-clause-call g c).After-remove).0.made;
+  room = refl;
+  page = search rules;
+}
 
 pub returns-clause-copies : goal.returns-clause-copies
 returns-clause-copies g c = (gone g (goal.at.returns-clause-copies g c).After-remove).1

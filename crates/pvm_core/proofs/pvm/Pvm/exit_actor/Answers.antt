@@ -1,4 +1,4 @@
-use Rattle.std.proofs.Common.{◌≡◌, ◌+◌, ◌≤◌, List, [], length, map, Option, Some, refl, sym, ap, subst, ◌∙◌, arith}
+use Rattle.std.proofs.Common.{◌≡◌, List, [], length, map, Option, Some, refl, sym, ap, subst, ◌∙◌, arith}
 use Rattle.std.proofs.lemmas.List.{length-map}
 use Rattle.std.specs.Prelude.{Ok, Err, is_some}
 use Rattle.vm_ids.specs.Counting.{no_counts}
@@ -20,15 +20,17 @@ use Rattle.pvm_core.proofs.Locking.Gone.{IsGone, actor_locks, actor_placed, ende
 use Rattle.pvm_core.proofs.RegionRows.{exit_none, exit_row, right_without_actor, without_actor}
 use Rattle.pvm_core.proofs.Translating.Commands.{ended_right}
 use Rattle.pvm_core.proofs.Translating.Tables.{tables_sound, tables_state, tables_valid, with_tables}
+use Rattle.pvm_core.proofs.Answering.Recorded.{refused_call}
 use Rattle.pvm_core.proofs.pvm.Pvm.exit_actor.Goals.{After-drop_actor, After-let_all_go, In-Some}
 use Rattle.pvm_core.proofs.pvm.Pvm.exit_actor.Goals as goal
 
-pub returns-in_default-clause-answers : goal.returns-in_default-clause-answers
-returns-in_default-clause-answers c = λ h v.
+pub returns-in_default-clause-call : goal.returns-in_default-clause-call
+returns-in_default-clause-call c = refused_call (
+    λ h v.
     let i = c.self.inside in
     told i.caches i.store i.contexts _ c.self.view_is h v (commands.ExitActor c.args.actor) (exited c.args.actor) (Err (troubles.Refused refusals.NoActor)) c.self.invariant.sound.nodes
     (λ f g k. exit_none (caches_shown f 1 i.caches.caches) (length i.store.frames.held) i.contexts c.args.actor.0
-    (mapped_none _ c.regions.result _ c.regions.ensures.regions c.in_default.is))
+    (mapped_none _ c.regions.result _ c.regions.ensures.regions c.in_default.is)))
 
 -- the actor has these regions
 here : (c : In-Some) → actor_numbered c.self.inside.contexts.actors c.args.actor.0 ≡ Some c.in-Some.regions.now.regions
@@ -71,31 +73,36 @@ invariant_of-self c =
       translated = ended_right n.caches n.store i.contexts (c.let_all_go.ensures.pages.translated i.contexts c.self.invariant.translated) c.args.actor.0 c.in-Some.regions.now.regions (here (goal.at.invariant_of-self c).In-Some);
     }))
 
-pub returns-clause-valid : goal.returns-clause-valid
-returns-clause-valid c = λ h valid.
-    let n = c.let_all_go.new in
-    let v = subst (λ (p : Manager). IsValid p h) (sym c.self.view_is) valid in
-    let ts : List (Option Entry) = map (unless (is_of_actor c.args.actor.0)) n.store.tables in
-    subst (λ (xs : List (Option Entry)). IsValid (seen n.caches (with_tables n.store xs) c.exit.new.self) h) (sym (dropped (goal.at.returns-clause-valid c).After-drop_actor))
-    (tables_valid (seen n.caches n.store c.exit.new.self) ts (length-map n.store.tables (unless (is_of_actor c.args.actor.0))) h
-    (subst (λ (x : Actors). IsValid (seen n.caches n.store x) h) (sym c.exit.ensures) (gone_valid (gone (goal.at.returns-clause-valid c).After-let_all_go) h v)))
-
-pub returns-clause-answers : goal.returns-clause-answers
-returns-clause-answers c = λ h valid.
-    let i = c.self.inside in
-    let n = c.let_all_go.new in
-    let v = subst (λ (p : Manager). IsValid p h) (sym c.self.view_is) valid in
-    let ts : List (Option Entry) = map (unless (is_of_actor c.args.actor.0)) n.store.tables in
-    let last : Manager = seen n.caches n.store c.exit.new.self in
-    subst (λ (xs : List (Option Entry)). AnswerIs (state_at c.args.self.now h) (commands.ExitActor c.args.actor) (Ok replies.Done) [] no_counts (state_at (seen n.caches (with_tables n.store xs) c.exit.new.self) h)) (sym (dropped (goal.at.returns-clause-answers c).After-drop_actor))
-    (subst (λ (m : State). AnswerIs (state_at c.args.self.now h) (commands.ExitActor c.args.actor) (Ok replies.Done) [] no_counts m) (sym (tables_state last ts (length-map n.store.tables (unless (is_of_actor c.args.actor.0))) h))
-    (subst (λ (p : Manager). AnswerIs (state_at p h) (commands.ExitActor c.args.actor) (Ok replies.Done) [] no_counts (state_at last h)) c.self.view_is
-    (subst (λ (x : Actors). AnswerIs (state_at (seen i.caches i.store i.contexts) h) (commands.ExitActor c.args.actor) (Ok replies.Done) [] no_counts (state_at (seen n.caches n.store x) h)) (sym c.exit.ensures)
-    (gone_answer (gone (goal.at.returns-clause-answers c).After-let_all_go) h v (commands.ExitActor c.args.actor) refl (λ m next f. refl) (λ m g. tt)
-    (λ f g k. exit_row (caches_shown f 1 i.caches.caches) (length i.store.frames.held) i.contexts c.args.actor.0 (ap is_some (here (goal.at.returns-clause-answers c).In-Some)))))))
-
-pub returns-clause-made : goal.returns-clause-made
-returns-clause-made c = λ h valid.
-    let v = subst (λ (p : Manager). IsValid p h) (sym c.self.view_is) valid in
-    let same = gone_numbered (gone (goal.at.returns-clause-made c).After-let_all_go) h v in
-    subst (λ (p : Manager). numbered (seen c.let_all_go.new.caches c.let_all_go.new.store c.exit.new.self) ≤ numbered p + 0 + 8) c.self.view_is (omega (arith, same))
+pub returns-clause-call : goal.returns-clause-call
+returns-clause-call c = record {
+  valid = (
+      λ h valid.
+      let n = c.let_all_go.new in
+      let v = subst (λ (p : Manager). IsValid p h) (sym c.self.view_is) valid in
+      let ts : List (Option Entry) = map (unless (is_of_actor c.args.actor.0)) n.store.tables in
+      subst (λ (xs : List (Option Entry)). IsValid (seen n.caches (with_tables n.store xs) c.exit.new.self) h) (sym (dropped (goal.at.returns-clause-call c).After-drop_actor))
+      (tables_valid (seen n.caches n.store c.exit.new.self) ts (length-map n.store.tables (unless (is_of_actor c.args.actor.0))) h
+      (subst (λ (x : Actors). IsValid (seen n.caches n.store x) h) (sym c.exit.ensures) (gone_valid (gone (goal.at.returns-clause-call c).After-let_all_go) h v)))
+      );
+  answers = (
+      λ h valid.
+      let i = c.self.inside in
+      let n = c.let_all_go.new in
+      let v = subst (λ (p : Manager). IsValid p h) (sym c.self.view_is) valid in
+      let ts : List (Option Entry) = map (unless (is_of_actor c.args.actor.0)) n.store.tables in
+      let last : Manager = seen n.caches n.store c.exit.new.self in
+      subst (λ (xs : List (Option Entry)). AnswerIs (state_at c.args.self.now h) (commands.ExitActor c.args.actor) (Ok replies.Done) [] no_counts (state_at (seen n.caches (with_tables n.store xs) c.exit.new.self) h)) (sym (dropped (goal.at.returns-clause-call c).After-drop_actor))
+      (subst (λ (m : State). AnswerIs (state_at c.args.self.now h) (commands.ExitActor c.args.actor) (Ok replies.Done) [] no_counts m) (sym (tables_state last ts (length-map n.store.tables (unless (is_of_actor c.args.actor.0))) h))
+      (subst (λ (p : Manager). AnswerIs (state_at p h) (commands.ExitActor c.args.actor) (Ok replies.Done) [] no_counts (state_at last h)) c.self.view_is
+      (subst (λ (x : Actors). AnswerIs (state_at (seen i.caches i.store i.contexts) h) (commands.ExitActor c.args.actor) (Ok replies.Done) [] no_counts (state_at (seen n.caches n.store x) h)) (sym c.exit.ensures)
+      (gone_answer (gone (goal.at.returns-clause-call c).After-let_all_go) h v (commands.ExitActor c.args.actor) refl (λ m next f. refl) (λ m g. tt)
+      (λ f g k. exit_row (caches_shown f 1 i.caches.caches) (length i.store.frames.held) i.contexts c.args.actor.0 (ap is_some (here (goal.at.returns-clause-call c).In-Some)))))))
+      );
+  made = (
+      λ h valid.
+      let v = subst (λ (p : Manager). IsValid p h) (sym c.self.view_is) valid in
+      let same = gone_numbered (gone (goal.at.returns-clause-call c).After-let_all_go) h v in
+      omega (arith, same, ap numbered c.self.view_is)
+      );
+  room = refl;
+}

@@ -1,12 +1,14 @@
-use Rattle.std.proofs.Common.{◌≡◌, ℕ, ◌+◌, ◌*◌, ◌≤◌, false, Some, None, refl, sym, ap, subst, ◌∙◌, arith}
+use Rattle.std.proofs.Common.{rules, ◌≡◌, ℕ, ◌+◌, ◌*◌, ◌≤◌, false, Some, None, refl, sym, ap, subst, ◌∙◌, arith}
 use Rattle.std.specs.Prelude.{Result, Ok, Err, length, option_map}
 use Rattle.std.proofs.lemmas.Result.{err_from_is_err_and}
-use Rattle.gmi_calls.specs.Calling.{RaisesMade, done_by}
+use Rattle.gmi_calls.specs.Calling.{AsksFirst, RaisesMade, done_by}
 use Rattle.vm_ids.specs.Held.{segments_of}
 use Rattle.vm_ids.specs.declared.command.Command.TheVariants as commands
+use Rattle.vm_ids.specs.declared.reply.FaultAt.TheVariants as faults
 use Rattle.vm_ids.specs.declared.reply.Reply.TheVariants as replies
+use Rattle.vm_ids.specs.declared.reply.Trouble.{Trouble}
 use Rattle.vm_ids.specs.declared.reply.Trouble.TheVariants as troubles
-use Rattle.local_cache.specs.Arena.{Table, table_of}
+use Rattle.local_cache.specs.Arena.{Arena, Table, is_granted, table_of}
 use Rattle.local_cache.specs.Whole.{size_of}
 use Rattle.local_cache.proofs.Nodes.Count.{forest_len}
 use Rattle.local_cache.proofs.Whole.Pages.{range_there}
@@ -18,14 +20,18 @@ use Rattle.vm_model.specs.PageForest.{PageForest}
 use Rattle.vm_model.specs.Synchronised.{ArePushed}
 use Rattle.vm_model.specs.Run.{CallIs, State}
 use Rattle.pvm_core.specs.Manager.{IsValid, Manager, forest_of, machine_by, machine_of, numbered, state_at}
-use Rattle.pvm_core.specs.Saving.{KeepsMachine}
+use Rattle.pvm_core.specs.Keeping.{HasMoreRoom}
+use Rattle.pvm_core.specs.Saving.{CopiesSaved, KeepsMachine}
+use Rattle.pvm_core.specs.Writes.{SameGrants}
+use Rattle.pvm_core.proofs.Readiness.Granted.{tables_grants}
+use Rattle.pvm_core.proofs.Readiness.Readying.{failed_save, more_room}
 use Rattle.pvm_core.specs.contracts.pvm.Pvm.{the_view}
-use Rattle.pvm_core.proofs.Answering.Answered.{failed}
+use Rattle.pvm_core.proofs.Answering.Answered.{failed, made_stays}
 use Rattle.pvm_core.proofs.Answering.Ended.{Ended}
 use Rattle.pvm_core.proofs.Answering.Changed.{changed_sound, slots_enough}
 use Rattle.pvm_core.proofs.Extents.Rows.{IsExtent, extent_by, extent_open, extent_unlocked, invalidate_refused, invalidate_row}
-use Rattle.pvm_core.proofs.Extents.Taken.{IsTaking, taken_is, taken_pushed, taken_valid, taking, taking_copies, taking_saved}
-use Rattle.pvm_core.proofs.Extents.Unsaved.{unsaved_is, unsaved_made}
+use Rattle.pvm_core.proofs.Extents.Taken.{IsTaking, taken_is, taken_pushed, taken_valid, taking, taking_copied, taking_copies, taking_saved}
+use Rattle.pvm_core.proofs.Extents.Unsaved.{unsaved_asks, unsaved_is, unsaved_made}
 use Rattle.pvm_core.proofs.Answering.Kept.{seen}
 use Rattle.pvm_core.proofs.Meaning.Live.{nodes_most}
 use Rattle.pvm_core.proofs.Accesses.Loading.{size_le}
@@ -39,12 +45,13 @@ use Rattle.pvm_core.proofs.Holding.Loose.{unpinned_names, working_unpinned}
 use Rattle.pvm_core.proofs.Translating.Cells.{roomier_right}
 use Rattle.pvm_core.proofs.Translating.Left.{left_right}
 use Rattle.pvm_core.proofs.Translating.Writable.{homes_writable}
+use Rattle.pvm_core.proofs.Answering.Recorded.{asks_quiet, no_traffic, refused_mapper_call}
 use Rattle.pvm_core.proofs.pvm.Pvm.invalidate.Given.{Over}
-use Rattle.pvm_core.proofs.pvm.Pvm.invalidate.Goals.{After-invalidate_pages, After-reserve, After-self-2, In-Err, In_default}
+use Rattle.pvm_core.proofs.pvm.Pvm.invalidate.Goals.{After-invalidate_pages, After-reserve, After-save, After-self-2, In-Err, In_default}
 use Rattle.pvm_core.proofs.pvm.Pvm.invalidate.Goals as goal
 
-pub returns-in-Some-clause-answers : goal.returns-in-Some-clause-answers
-returns-in-Some-clause-answers g c =
+pub returns-in-Some-clause-call : goal.returns-in-Some-clause-call
+returns-in-Some-clause-call g c = refused_mapper_call c.requires.valid (
     let h = g.M.Mapper.held c.args.mapper.now in
     let before = g.M.Mapper.counts c.args.mapper.now in
     let p : Manager = the_view c.self.inside in
@@ -52,7 +59,7 @@ returns-in-Some-clause-answers g c =
     let answer : Answer = Err (troubles.Refused c.in-Some.refusal) in
     subst (λ (p : Manager). CallIs before before (state_at p h) (commands.Invalidate c.args.extent) answer (state_at p h)) c.self.view_is
     (failed before before p p h h (commands.Invalidate c.args.extent) answer (reach_none _ h before) i.nodes i.nodes (subst (λ (p : Manager). IsValid p h) (sym c.self.view_is) c.requires.valid) refl refl tt tt
-    (λ f s. invalidate_refused p f c.args.extent i.locked.counted c.in-Some.refusal (sym c.extent_refusal.ensures ∙ c.in-Some.is) (held_for (machine_by p f) s c.args.extent.cache.0)))
+    (λ f s. invalidate_refused p f c.args.extent i.locked.counted c.in-Some.refusal (sym c.extent_refusal.ensures ∙ c.in-Some.is) (held_for (machine_by p f) s c.args.extent.cache.0))))
 
 -- nothing refuses the extent
 extent : (g : Over) (c : In_default g) → IsExtent c.self.inside.caches c.args.extent
@@ -77,30 +84,35 @@ invariant_of-self g c = record {
   translated = roomier_right c.self.inside.caches c.reserve.new.self c.self.inside.store c.reserve.ensures.kept c.self.inside.contexts c.self.invariant.translated;
 }
 
-pub returns-in_err-reserve-clause-valid : goal.returns-in_err-reserve-clause-valid
-returns-in_err-reserve-clause-valid g c = roomy_valid g (goal.at.returns-in_err-reserve-clause-valid g c).After-reserve
-
-pub returns-in_err-reserve-clause-answers : goal.returns-in_err-reserve-clause-answers
-returns-in_err-reserve-clause-answers g c =
-    let at = goal.at.returns-in_err-reserve-clause-answers g c in
-    let h = g.M.Mapper.held c.args.mapper.now in
-    let before = g.M.Mapper.counts c.args.mapper.now in
-    let i = c.self.inside in
-    let r = roomy g at.After-reserve in
-    let p : Manager = seen i.caches i.store i.contexts in
-    let q : Manager = seen c.reserve.new.self i.store i.contexts in
-    let command = commands.Invalidate c.args.extent in
-    let answer : Answer = Err troubles.Memory in
-    let gave = err_from_is_err_and c.from_residual.result c.from_residual.ensures.1 in
-    let is : c.from_residual.result ≡ Err troubles.Memory = gave.1 ∙ ap (λ t. Err t) gave.2 in
-    subst (λ (p : Manager). CallIs before before (state_at p h) command (done_by c.from_residual.result) (state_at q h)) c.self.view_is
-    (subst (λ (r : Result _ _). CallIs before before (state_at p h) command (done_by r) (state_at q h)) (sym is)
-    (failed before before p q h h command answer (reach_none _ h before) c.self.invariant.sound.nodes r.sound.nodes (roomy_valid g at.After-reserve) (r.forest h) refl tt tt
-    (λ f s. (
-      r.by f,
-      tt,
-      subst (λ a. IsNotRefused a.answer) (sym (invalidate_row p f c.args.extent (extent g at.In_default) (any_same p f c.self.invariant.sound.locked.counted c.args.extent ∙ unlocked g at.In_default) (held_for (machine_by p f) s c.args.extent.cache.0))) tt,
-    ))))
+pub returns-in_err-reserve-clause-call : goal.returns-in_err-reserve-clause-call
+returns-in_err-reserve-clause-call g c = record {
+  valid = roomy_valid g (goal.at.returns-in_err-reserve-clause-call g c).After-reserve;
+  answers = (
+      let at = goal.at.returns-in_err-reserve-clause-call g c in
+      let h = g.M.Mapper.held c.args.mapper.now in
+      let before = g.M.Mapper.counts c.args.mapper.now in
+      let i = c.self.inside in
+      let r = roomy g at.After-reserve in
+      let p : Manager = seen i.caches i.store i.contexts in
+      let q : Manager = seen c.reserve.new.self i.store i.contexts in
+      let command = commands.Invalidate c.args.extent in
+      let answer : Answer = Err troubles.Memory in
+      let gave = err_from_is_err_and c.from_residual.result c.from_residual.ensures.1 in
+      let is : c.from_residual.result ≡ Err troubles.Memory = gave.1 ∙ ap (λ t. Err t) gave.2 in
+      subst (λ (p : Manager). CallIs before before (state_at p h) command (done_by c.from_residual.result) (state_at q h)) c.self.view_is
+      (subst (λ (r : Result _ _). CallIs before before (state_at p h) command (done_by r) (state_at q h)) (sym is)
+      (failed before before p q h h command answer (reach_none _ h before) c.self.invariant.sound.nodes r.sound.nodes (roomy_valid g at.After-reserve) (r.forest h) refl tt tt
+      (λ f s. (
+        r.by f,
+        tt,
+        subst (λ a. IsNotRefused a.answer) (sym (invalidate_row p f c.args.extent (extent g at.In_default) (any_same p f c.self.invariant.sound.locked.counted c.args.extent ∙ unlocked g at.In_default) (held_for (machine_by p f) s c.args.extent.cache.0))) tt,
+      ))))
+      );
+  asks_first = asks_quiet (commands.Invalidate c.args.extent) (done_by c.from_residual.result) (g.M.Mapper.counts c.args.mapper.now) (g.M.Mapper.counts c.args.mapper.now) (no_traffic (g.M.Mapper.counts c.args.mapper.now));
+  made = made_stays (machine_of c.args.self.now (g.M.Mapper.held c.args.mapper.now)) (commands.Invalidate c.args.extent) (done_by c.from_residual.result) (machine_of (seen c.reserve.new.self c.self.inside.store c.self.inside.contexts) (g.M.Mapper.held c.args.mapper.now)) (numbered c.args.self.now) (numbered (seen c.reserve.new.self c.self.inside.store c.self.inside.contexts)) (ap (λ a. a.made + a.copies) c.reserve.ensures.kept ∙ ap numbered c.self.view_is);
+  room = refl;
+  page = search rules;
+}
 
 pub invariant_of-self-2 : goal.invariant_of-self-2
 invariant_of-self-2 g c = record {
@@ -119,7 +131,8 @@ save-requires-clause-range g c =
 -- a page wasn't saved
 unsaved : (g : Over) (c : In-Err g)
     → CallIs (g.M.Mapper.counts c.args.mapper.now) (g.M.Mapper.counts c.save.new.mapper) (state_at c.args.self.now (g.M.Mapper.held c.args.mapper.now)) (commands.Invalidate c.args.extent) (Err c.in-Err.trouble) (state_at c.save.new.self (g.M.Mapper.held c.save.new.mapper))
-    × RaisesMade (machine_of c.args.self.now (g.M.Mapper.held c.args.mapper.now)) (commands.Invalidate c.args.extent) (Err c.in-Err.trouble) (numbered c.args.self.now) (numbered c.save.new.self)
+    × RaisesMade (machine_of c.args.self.now (g.M.Mapper.held c.args.mapper.now)) (commands.Invalidate c.args.extent) (Err c.in-Err.trouble) (machine_of c.save.new.self (g.M.Mapper.held c.save.new.mapper)) (numbered c.args.self.now) (numbered c.save.new.self)
+    × AsksFirst (commands.Invalidate c.args.extent) (Err c.in-Err.trouble) (g.M.Mapper.counts c.args.mapper.now) (g.M.Mapper.counts c.save.new.mapper)
 unsaved g c =
     let at = goal.at.In-Err g c in
     let h = g.M.Mapper.held c.args.mapper.now in
@@ -138,15 +151,20 @@ unsaved g c =
       subst (λ (p : Manager). CallIs before after (state_at p h) (commands.Invalidate c.args.extent) (Err c.in-Err.trouble) (state_at c.save.new.self z)) c.self.view_is
           (subst (λ (s : State). CallIs before after s (commands.Invalidate c.args.extent) (Err c.in-Err.trouble) (state_at c.save.new.self z)) (r.state h)
           (unsaved_is q c.save.new.self h z before after c.args.extent x free r.sound.nodes e.valid e.keeps c.in-Err.trouble c.in-Err.ensures.failed c.in-Err.ensures.cause)),
-      subst (λ (n : ℕ). RaisesMade (machine_of c.args.self.now h) (commands.Invalidate c.args.extent) (Err c.in-Err.trouble) n (numbered c.save.new.self)) same
-          (unsaved_made q c.save.new.self h z before after c.args.extent x free r.sound.nodes e.valid e.keeps c.in-Err.trouble c.in-Err.ensures.failed (machine_of c.args.self.now h)),
+      subst (λ (n : ℕ). RaisesMade (machine_of c.args.self.now h) (commands.Invalidate c.args.extent) (Err c.in-Err.trouble) (machine_of c.save.new.self (g.M.Mapper.held c.save.new.mapper)) n (numbered c.save.new.self)) same
+          (unsaved_made q c.save.new.self h z before after c.args.extent x free r.sound.nodes e.valid e.keeps c.in-Err.trouble c.in-Err.ensures.failed (machine_of c.args.self.now h) (machine_of c.save.new.self (g.M.Mapper.held c.save.new.mapper))),
+      unsaved_asks q c.save.new.self h z before after c.args.extent x free r.sound.nodes e.valid e.keeps c.in-Err.trouble c.in-Err.ensures.failed,
     )
 
-pub returns-in-Err-clause-answers : goal.returns-in-Err-clause-answers
-returns-in-Err-clause-answers g c = (unsaved g c).0
-
-pub returns-in-Err-clause-made : goal.returns-in-Err-clause-made
-returns-in-Err-clause-made g c = (unsaved g c).1
+pub returns-in-Err-clause-call : goal.returns-in-Err-clause-call
+returns-in-Err-clause-call g c = record {
+  valid = search rules;
+  answers = (unsaved g c).0;
+  asks_first = (unsaved g c).2;
+  made = (unsaved g c).1;
+  room = refl;
+  page = search rules;
+}
 
 -- the pages are saved, and may be taken
 ready : (g : Over) (c : After-self-2 g)
@@ -239,7 +257,7 @@ taken g c =
         sound = changed_sound j.caches d j.store u j.contexts j.live k e.kept.sizes e.kept.gives_back tied e.pages.whole e.pages.settles.bounded (held_released _ j.caches d j.store u e.kept tied j.contexts k.nodes k.actors k.locked);
         valid = taken_valid p h z j.caches d j.store u j.contexts j.live k r.valid c.args.extent r.extent (unlocked_still g at) r.machine r.by c.self.invariant.sound.nodes old r.forest e.kept.sizes e.kept.gives_back tied e.pages.whole right e.rule.forest;
         answers = taken_is p h z j.caches d j.store u j.contexts j.live k r.valid c.args.extent r.extent (unlocked_still g at) r.machine r.by c.self.invariant.sound.nodes old r.forest e.kept.sizes e.kept.gives_back tied e.pages.whole right e.rule.forest before after r.reach;
-        made = made;
+        made = omega (arith, made);
       }),
       taken_pushed p h z j.caches d j.store u j.contexts j.live k r.valid c.args.extent r.extent (unlocked_still g at) r.machine r.by c.self.invariant.sound.nodes old r.forest e.kept.sizes e.kept.gives_back tied e.pages.whole right e.rule.forest,
     )
@@ -256,14 +274,83 @@ invariant_of-self-3 g c = record {
       );
 }
 
-pub returns-clause-valid : goal.returns-clause-valid
-returns-clause-valid g c = (taken g c).0.valid
-
-pub returns-clause-answers : goal.returns-clause-answers
-returns-clause-answers g c = (taken g c).0.answers
-
-pub returns-clause-made : goal.returns-clause-made
-returns-clause-made g c = (taken g c).0.made
+pub returns-clause-call : goal.returns-clause-call
+returns-clause-call g c = record {
+  valid = (taken g c).0.valid;
+  answers = (taken g c).0.answers;
+  asks_first = tt;
+  made = (taken g c).0.made;
+  room = refl;
+  page = search rules;
+}
 
 pub returns-clause-taken : goal.returns-clause-taken
 returns-clause-taken g c = (taken g c).1
+
+-- Copies and grants ---------------------------------------------------------------------------------
+
+pub returns-in-Some-clause-memory : goal.returns-in-Some-clause-memory
+returns-in-Some-clause-memory g c = λ memory. absurd (let k : troubles.Refused c.in-Some.refusal ≡ troubles.Memory = cc memory in cc k)
+
+pub returns-in-Some-clause-grants : goal.returns-in-Some-clause-grants
+returns-in-Some-clause-grants g c = λ cache page. refl
+
+pub returns-in_err-reserve-clause-copies : goal.returns-in_err-reserve-clause-copies
+returns-in_err-reserve-clause-copies g c =
+    let h = g.M.Mapper.held c.args.mapper.now in
+    let i = c.self.inside in
+    let p : Manager = seen i.caches i.store i.contexts in
+    let q : Manager = seen c.reserve.new.self i.store i.contexts in
+    let gave = err_from_is_err_and c.from_residual.result c.from_residual.ensures.1 in
+    let is : c.from_residual.result ≡ Err troubles.Memory = gave.1 ∙ ap (λ t. Err t) gave.2 in
+    subst (λ (p : Manager). CopiesSaved c.args.extent p h q c.from_residual.result) c.self.view_is
+    (subst (λ (r : Result (Unit {0}) Trouble). CopiesSaved c.args.extent p h q r) (sym is) (ap (λ (k : Arena). k.copies) c.reserve.ensures.kept))
+
+pub returns-in_err-reserve-clause-memory : goal.returns-in_err-reserve-clause-memory
+returns-in_err-reserve-clause-memory g c = λ memory. (
+  (let i = c.self.inside in subst (λ (p : Manager). HasMoreRoom p (seen c.reserve.new.self i.store i.contexts)) c.self.view_is (more_room i.caches i.caches c.reserve.new.self i.store i.contexts refl c.reserve.ensures.kept)),
+  refl,
+  refl,
+)
+
+pub returns-in_err-reserve-clause-grants : goal.returns-in_err-reserve-clause-grants
+returns-in_err-reserve-clause-grants g c = subst (λ (p : Manager). SameGrants p.caches c.reserve.new.self) c.self.view_is (tables_grants c.self.inside.caches c.reserve.new.self (ap (λ (k : Arena). k.caches) c.reserve.ensures.kept))
+
+pub returns-in-Err-clause-copies : goal.returns-in-Err-clause-copies
+returns-in-Err-clause-copies g c =
+    let h = g.M.Mapper.held c.args.mapper.now in
+    let i = c.self.inside in
+    let p : Manager = seen i.caches i.store i.contexts in
+    let q = c.save.new.self in
+    let s = failed_save c.args.extent (seen c.reserve.new.self i.store i.contexts) q h (g.M.Mapper.held c.save.new.mapper) c.in-Err.trouble c.in-Err.ensures.failed in
+    subst (λ (p : Manager). CopiesSaved c.args.extent p h q (Err c.in-Err.trouble)) c.self.view_is
+    (subst (λ (t : Trouble). CopiesSaved c.args.extent p h q (Err t)) (sym s.1) (s.2.copies ∙ ap (λ (k : Arena). k.copies + s.0) c.reserve.ensures.kept))
+
+pub returns-in-Err-clause-memory : goal.returns-in-Err-clause-memory
+returns-in-Err-clause-memory g c = λ memory. absurd (
+    let s = failed_save c.args.extent _ _ _ _ c.in-Err.trouble c.in-Err.ensures.failed in
+    let t : c.in-Err.trouble ≡ troubles.Memory = cc memory in
+    let k : troubles.Memory ≡ troubles.Mapper (faults.Save s.0) = sym t ∙ s.1 in
+    cc k)
+
+-- the saves leave what is granted
+saved_grants : (g : Over) (c : After-save g) → SameGrants c.args.self.now.caches c.save.new.self.caches
+saved_grants g c = subst (λ (p : Manager). SameGrants p.caches c.save.new.self.caches) c.self.view_is (tables_grants c.self.inside.caches c.save.new.self.caches (c.save.ensures.tables ∙ ap (λ (k : Arena). k.caches) c.reserve.ensures.kept))
+
+pub returns-in-Err-clause-grants : goal.returns-in-Err-clause-grants
+returns-in-Err-clause-grants g c = saved_grants g (goal.at.returns-in-Err-clause-grants g c).After-save
+
+pub returns-clause-copies : goal.returns-clause-copies
+returns-clause-copies g c =
+    let at = (goal.at.returns-clause-copies g c).After-self-2 in
+    let h = g.M.Mapper.held c.args.mapper.now in
+    let i = c.self.inside in
+    let j = c.self-2.inside in
+    let p : Manager = seen i.caches i.store i.contexts in
+    let z : Manager = seen c.invalidate_pages.new.caches c.invalidate_pages.new.store j.contexts in
+    subst (λ (p : Manager). CopiesSaved c.args.extent p h z (Ok tt)) c.self.view_is
+    (c.invalidate_pages.ensures.pages.settles.copies ∙ taking_copied p h (g.M.Mapper.held c.save.new.mapper) j.caches j.store j.contexts c.args.extent _ _ c.self.invariant.sound.nodes (ready g at) (extent g (goal.at.returns-clause-copies g c).In_default))
+
+pub returns-clause-grants : goal.returns-clause-grants
+returns-clause-grants g c = λ cache page. c.invalidate_pages.ensures.kept.homes.grants cache page
+    ∙ ap (λ (m : Manager). is_granted m.caches cache page) c.self-2.view_is ∙ saved_grants g (goal.at.returns-clause-grants g c).After-save cache page

@@ -1,4 +1,4 @@
-use Rattle.std.proofs.Common.{true, false, ◌≡◌, Option, Some, length, refl, sym, ap, subst, ◌∙◌, arith}
+use Rattle.std.proofs.Common.{rules, true, false, ◌≡◌, Option, Some, length, refl, sym, ap, subst, ◌∙◌, arith}
 use Rattle.std.specs.Prelude.{◌+◌, ◌-◌, ◌%◌, Result, Ok, Err, IfSome, IsOk, take, drop}
 use Rattle.std.proofs.lemmas.Result.{err_from_is_err_and}
 use Rattle.vm_ids.specs.declared.command.Command.TheVariants as commands
@@ -28,9 +28,10 @@ use Rattle.vm_model.specs.Machine.{numbered}
 use Rattle.vm_model.specs.Place.{Place, place}
 use Rattle.vm_model.specs.Run.{CallIs}
 use Rattle.local_cache.specs.Whole.{size_of}
+use Rattle.pvm_core.specs.Manager as managers
 use Rattle.pvm_core.specs.Manager.{IsValid, Manager, forest_of, machine_by, machine_of, nodes_of, state_at}
 use Rattle.pvm_core.specs.Pieces.{fault_at}
-use Rattle.pvm_core.proofs.Answering.Answered.{call_is, called}
+use Rattle.pvm_core.proofs.Answering.Answered.{call_is, called, made_stays}
 use Rattle.pvm_core.proofs.Homes.Homed.{reached}
 use Rattle.pvm_core.proofs.Answering.Reaching.{reach_none, reach_told}
 use Rattle.pvm_core.proofs.Answering.Kept.{seen, sizeless}
@@ -41,23 +42,33 @@ use Rattle.pvm_core.proofs.Accesses.Pages.{ends_within}
 use Rattle.pvm_core.proofs.Accesses.Seen.{found_led, found_right, found_seen, led_found, marked, same_grants, seen_by, seen_forest, seen_machine, seen_right, seen_sound, seen_valid, seen_world}
 use Rattle.pvm_core.proofs.Accesses.There.{IsThere, load_there, loaded_there, there_is}
 use Rattle.pvm_core.proofs.Translating.Dropped.{dropped_right}
+use Rattle.pvm_core.proofs.Answering.Recorded.{asks_missed, asks_quiet, no_traffic}
+use Rattle.gmi_calls.specs.Calling.{AsksFirst}
 use Rattle.pvm_core.proofs.pvm.Pvm.load.Given.{Over}
 use Rattle.pvm_core.proofs.pvm.Pvm.load.Goals.{After-node_of-node, After-part_of, After-read_fault, After-remember_found, After-self, In-Some, In_ok-place}
 use Rattle.pvm_core.proofs.pvm.Pvm.load.Goals as goal
 
-pub returns-in_err-place-clause-answers : goal.returns-in_err-place-clause-answers
-returns-in_err-place-clause-answers g c =
-    let i = c.self.inside in
-    let h = g.M.Mapper.held c.args.mapper.now in
-    let counts = g.M.Mapper.counts c.args.mapper.now in
-    let p : Manager = seen i.caches i.store i.contexts in
-    let answer : Answer = Err (troubles.Refused c.in_err-place.field-0.0) in
-    let gave = err_from_is_err_and c.from_residual.result c.from_residual.ensures.1 in
-    let is : c.from_residual.result ≡ Err (troubles.Refused c.in_err-place.field-0.0) = gave.1 ∙ ap (λ t. Err t) gave.2 in
-    subst (λ (p : Manager). CallIs counts counts (state_at p h) (commands.Load c.args.actor c.args.address c.args.bytes) (answer_by replies.Bytes c.from_residual.result) (state_at p h)) c.self.view_is
-    (subst (λ (r : Result _ _). CallIs counts counts (state_at p h) (commands.Load c.args.actor c.args.address c.args.bytes) (answer_by replies.Bytes r) (state_at p h)) (sym is)
-    (called counts counts p p h h (commands.Load c.args.actor c.args.address c.args.bytes) answer (reach_none (machine_of p h) h counts) c.self.invariant.sound.nodes c.self.invariant.sound.nodes (subst (λ (p : Manager). IsValid p h) (sym c.self.view_is) c.requires.valid) refl (λ done m f s none. none) tt tt (λ f. refl) (λ page. refl)
-    (λ f s. load_refused (machine_by p f) c.args.actor.0 c.args.address c.args.bytes c.in_err-place.field-0.0 (refused_at (place (machine_by p f) c.args.actor.0 c.args.address c.args.bytes) c.in_err-place.field-0.0 (sym c.in_err-place.was ∙ c.locate.ensures)))))
+pub returns-in_err-place-clause-call : goal.returns-in_err-place-clause-call
+returns-in_err-place-clause-call g c = record {
+  valid = search rules;
+  answers = (
+      let i = c.self.inside in
+      let h = g.M.Mapper.held c.args.mapper.now in
+      let counts = g.M.Mapper.counts c.args.mapper.now in
+      let p : Manager = seen i.caches i.store i.contexts in
+      let answer : Answer = Err (troubles.Refused c.in_err-place.field-0.0) in
+      let gave = err_from_is_err_and c.from_residual.result c.from_residual.ensures.1 in
+      let is : c.from_residual.result ≡ Err (troubles.Refused c.in_err-place.field-0.0) = gave.1 ∙ ap (λ t. Err t) gave.2 in
+      subst (λ (p : Manager). CallIs counts counts (state_at p h) (commands.Load c.args.actor c.args.address c.args.bytes) (answer_by replies.Bytes c.from_residual.result) (state_at p h)) c.self.view_is
+      (subst (λ (r : Result _ _). CallIs counts counts (state_at p h) (commands.Load c.args.actor c.args.address c.args.bytes) (answer_by replies.Bytes r) (state_at p h)) (sym is)
+      (called counts counts p p h h (commands.Load c.args.actor c.args.address c.args.bytes) answer (reach_none (machine_of p h) h counts) c.self.invariant.sound.nodes c.self.invariant.sound.nodes (subst (λ (p : Manager). IsValid p h) (sym c.self.view_is) c.requires.valid) refl (λ done m f s none. none) tt tt (λ f. refl) (λ page. refl)
+      (λ f s. load_refused (machine_by p f) c.args.actor.0 c.args.address c.args.bytes c.in_err-place.field-0.0 (refused_at (place (machine_by p f) c.args.actor.0 c.args.address c.args.bytes) c.in_err-place.field-0.0 (sym c.in_err-place.was ∙ c.locate.ensures)))))
+      );
+  asks_first = asks_quiet (commands.Load c.args.actor c.args.address c.args.bytes) (answer_by replies.Bytes c.from_residual.result) (g.M.Mapper.counts c.args.mapper.now) (g.M.Mapper.counts c.args.mapper.now) (no_traffic (g.M.Mapper.counts c.args.mapper.now));
+  made = made_stays (machine_of c.args.self.now (g.M.Mapper.held c.args.mapper.now)) (commands.Load c.args.actor c.args.address c.args.bytes) (answer_by replies.Bytes c.from_residual.result) (machine_of c.args.self.now (g.M.Mapper.held c.args.mapper.now)) (managers.numbered c.args.self.now) (managers.numbered c.args.self.now) (refl);
+  room = refl;
+  page = search rules;
+}
 
 -- the access is in a region
 found : (g : Over) (c : In_ok-place g) → IsFoundAt (size_of c.self.inside.caches) c.self.inside.contexts.page_bytes (numbered c.self.inside.contexts.actors c.args.actor.0) c.args.address c.args.bytes c.in_ok-place.place
@@ -112,11 +123,6 @@ invariant_of-self g c =
       translated = seen_right i.store c.touch.new.self only i.caches i.contexts (ap (λ (s : Store). s.tables) c.touch.ensures) c.self.invariant.translated;
     }
 
-pub returns-in-Some-clause-valid : goal.returns-in-Some-clause-valid
-returns-in-Some-clause-valid g c =
-    let i = c.self.inside in
-    seen_valid i.store c.touch.new.self (marked i.store c.touch.new.self c.in-Some.seen.frame.0 c.touch.ensures) i.caches i.contexts (g.M.Mapper.held c.args.mapper.now) (valid_before g (goal.at.returns-in-Some-clause-valid g c).After-self)
-
 -- the bytes are those in the frame
 read_there : (g : Over) (c : After-part_of g)
     → CallIs (g.M.Mapper.counts c.args.mapper.now) (g.M.Mapper.counts c.args.mapper.now) (state_at c.args.self.now (g.M.Mapper.held c.args.mapper.now)) (commands.Load c.args.actor c.args.address c.args.bytes) (Ok (replies.Bytes c.part_of.result)) (state_at (seen c.self.inside.caches c.touch.new.self c.self.inside.contexts) (g.M.Mapper.held c.args.mapper.now))
@@ -139,8 +145,18 @@ read_there g c =
           (loaded_there i.caches i.store c.touch.new.self i.contexts i.live c.self.invariant.sound c.self.invariant.translated h valid c.args.actor c.args.address c.args.bytes c.in-Some.seen led only piece is counts given (ap (λ (s : Store). s.tables) c.touch.ensures)),
     )
 
-pub returns-in-Some-clause-answers : goal.returns-in-Some-clause-answers
-returns-in-Some-clause-answers g c = (read_there g (goal.at.returns-in-Some-clause-answers g c).After-part_of).0
+pub returns-in-Some-clause-call : goal.returns-in-Some-clause-call
+returns-in-Some-clause-call g c = record {
+  valid = (
+      let i = c.self.inside in
+      seen_valid i.store c.touch.new.self (marked i.store c.touch.new.self c.in-Some.seen.frame.0 c.touch.ensures) i.caches i.contexts (g.M.Mapper.held c.args.mapper.now) (valid_before g (goal.at.returns-in-Some-clause-call g c).After-self)
+      );
+  answers = (read_there g (goal.at.returns-in-Some-clause-call g c).After-part_of).0;
+  asks_first = tt;
+  made = search rules;
+  room = refl;
+  page = search rules;
+}
 
 pub returns-in-Some-clause-loaded : goal.returns-in-Some-clause-loaded
 returns-in-Some-clause-loaded g c = (read_there g (goal.at.returns-in-Some-clause-loaded g c).After-part_of).1
@@ -230,66 +246,77 @@ invariant_of-self-in-Err g c =
     let at = (goal.at.invariant_of-self-in-Err g c).After-read_fault in
     record { sound = (looked g at).sound; translated = still_right g at }
 
-pub returns-in-Ok-clause-valid : goal.returns-in-Ok-clause-valid
-returns-in-Ok-clause-valid g c =
-    let at = goal.at.returns-in-Ok-clause-valid g c in
-    seen_valid c.read_fault.new.store c.remember_found.new.store (only g at.After-remember_found) c.read_fault.new.caches c.self.inside.contexts (g.M.Mapper.held c.read_fault.new.mapper) (looked g at.After-read_fault).valid
+pub returns-in-Ok-clause-call : goal.returns-in-Ok-clause-call
+returns-in-Ok-clause-call g c = record {
+  valid = (
+      let at = goal.at.returns-in-Ok-clause-call g c in
+      seen_valid c.read_fault.new.store c.remember_found.new.store (only g at.After-remember_found) c.read_fault.new.caches c.self.inside.contexts (g.M.Mapper.held c.read_fault.new.mapper) (looked g at.After-read_fault).valid
+      );
+  answers = (
+      let places = goal.at.returns-in-Ok-clause-call g c in
+      let i = c.self.inside in
+      let n = c.read_fault.new in
+      let e = c.read_fault.ensures in
+      let h = g.M.Mapper.held c.args.mapper.now in
+      let k = g.M.Mapper.held c.read_fault.new.mapper in
+      let size = g.M.Mapper.page_bytes c.args.mapper.now in
+      let then_size = g.M.Mapper.page_bytes n.mapper in
+      let before = g.M.Mapper.counts c.args.mapper.now in
+      let after = g.M.Mapper.counts c.read_fault.new.mapper in
+      let p : Manager = seen i.caches i.store i.contexts in
+      let u = c.remember_found.new.store in
+      let q : Manager = seen n.caches u i.contexts in
+      let l = looked g places.After-read_fault in
+      let led = only g places.After-remember_found in
+      let pl = c.in_ok-place.place in
+      let r = found g places.In_ok-place in
+      let at : Place = found_at r.region pl in
+      let command = commands.Load c.args.actor c.args.address c.args.bytes in
+      let is : (f : PageForest) → Ok at ≡ place (machine_by p f) c.args.actor.0 c.args.address c.args.bytes = λ f. r.is in
+      let both = reach_told (machine_of p h) h k before after l.reach in
+      let piece = c.part_of-in-Ok.result in
+      let value = (λ j. value_of (sym (e.forest ∙ sizeless h size i.caches i.store) j) (sym c.node_of-node.ensures.name j)) ∙ c.in-Ok.ensures.value
+      ∙ ap (λ (w : World). Some (found_page w c.in-Ok.found)) (sym (seen_world n.store u led k then_size n.caches)) in
+      subst (λ (p : Manager). CallIs before after (state_at p h) command (Ok (replies.Bytes piece)) (state_at q k)) c.self.view_is
+      (call_is before after p q h k command (Ok (replies.Bytes piece)) l.reach (seen_valid n.store u led n.caches i.contexts k l.valid) tt tt (seen_forest n.store u led n.caches i.contexts k ∙ l.forest)
+      (loaded p q h k then_size n.caches u c.args.actor c.args.address c.args.bytes at pl.cache pl.page.0 r.count c.in-Ok.found piece _ c.self.invariant.sound.nodes is refl refl r.there r.less r.fits
+      c.part_of-in-Ok.ensures.piece c.part_of-in-Ok.ensures.length value both (λ f. seen_by n.store u led n.caches i.contexts k f ∙ l.by f) (seen_machine n.store u led n.caches i.contexts k ∙ l.machine)))
+      );
+  asks_first = tt;
+  made = search rules;
+  room = refl;
+  page = search rules;
+}
 
-pub returns-in-Err-clause-valid : goal.returns-in-Err-clause-valid
-returns-in-Err-clause-valid g c = (looked g (goal.at.returns-in-Err-clause-valid g c).After-read_fault).valid
-
-pub returns-in-Ok-clause-answers : goal.returns-in-Ok-clause-answers
-returns-in-Ok-clause-answers g c =
-    let places = goal.at.returns-in-Ok-clause-answers g c in
-    let i = c.self.inside in
-    let n = c.read_fault.new in
-    let e = c.read_fault.ensures in
-    let h = g.M.Mapper.held c.args.mapper.now in
-    let k = g.M.Mapper.held c.read_fault.new.mapper in
-    let size = g.M.Mapper.page_bytes c.args.mapper.now in
-    let then_size = g.M.Mapper.page_bytes n.mapper in
-    let before = g.M.Mapper.counts c.args.mapper.now in
-    let after = g.M.Mapper.counts c.read_fault.new.mapper in
-    let p : Manager = seen i.caches i.store i.contexts in
-    let u = c.remember_found.new.store in
-    let q : Manager = seen n.caches u i.contexts in
-    let l = looked g places.After-read_fault in
-    let led = only g places.After-remember_found in
-    let pl = c.in_ok-place.place in
-    let r = found g places.In_ok-place in
-    let at : Place = found_at r.region pl in
-    let command = commands.Load c.args.actor c.args.address c.args.bytes in
-    let is : (f : PageForest) → Ok at ≡ place (machine_by p f) c.args.actor.0 c.args.address c.args.bytes = λ f. r.is in
-    let both = reach_told (machine_of p h) h k before after l.reach in
-    let piece = c.part_of-in-Ok.result in
-    let value = (λ j. value_of (sym (e.forest ∙ sizeless h size i.caches i.store) j) (sym c.node_of-node.ensures.name j)) ∙ c.in-Ok.ensures.value
-    ∙ ap (λ (w : World). Some (found_page w c.in-Ok.found)) (sym (seen_world n.store u led k then_size n.caches)) in
-    subst (λ (p : Manager). CallIs before after (state_at p h) command (Ok (replies.Bytes piece)) (state_at q k)) c.self.view_is
-    (call_is before after p q h k command (Ok (replies.Bytes piece)) l.reach (seen_valid n.store u led n.caches i.contexts k l.valid) tt tt (seen_forest n.store u led n.caches i.contexts k ∙ l.forest)
-    (loaded p q h k then_size n.caches u c.args.actor c.args.address c.args.bytes at pl.cache pl.page.0 r.count c.in-Ok.found piece _ c.self.invariant.sound.nodes is refl refl r.there r.less r.fits
-    c.part_of-in-Ok.ensures.piece c.part_of-in-Ok.ensures.length value both (λ f. seen_by n.store u led n.caches i.contexts k f ∙ l.by f) (seen_machine n.store u led n.caches i.contexts k ∙ l.machine)))
-
-pub returns-in-Err-clause-answers : goal.returns-in-Err-clause-answers
-returns-in-Err-clause-answers g c =
-    let places = goal.at.returns-in-Err-clause-answers g c in
-    let i = c.self.inside in
-    let n = c.read_fault.new in
-    let h = g.M.Mapper.held c.args.mapper.now in
-    let k = g.M.Mapper.held c.read_fault.new.mapper in
-    let before = g.M.Mapper.counts c.args.mapper.now in
-    let after = g.M.Mapper.counts c.read_fault.new.mapper in
-    let p : Manager = seen i.caches i.store i.contexts in
-    let q : Manager = seen n.caches n.store i.contexts in
-    let l = looked g places.After-read_fault in
-    let r = found g places.In_ok-place in
-    let page : PageNo = c.in_ok-place.place.page in
-    let at : Place = found_at r.region c.in_ok-place.place in
-    let command = commands.Load c.args.actor c.args.address c.args.bytes in
-    let is : (f : PageForest) → Ok at ≡ place (machine_by p f) c.args.actor.0 c.args.address c.args.bytes = λ f. r.is in
-    subst (λ (p : Manager). CallIs before after (state_at p h) command (Err (troubles.Mapper c.fault_of.result)) (state_at q k)) c.self.view_is
-    (subst (λ (f : FaultAt). CallIs before after (state_at p h) command (Err (troubles.Mapper f)) (state_at q k)) (sym c.fault_of.ensures)
-    (called before after p q h k command (Err (troubles.Mapper (fault_at c.in-Err.miss page))) l.reach c.self.invariant.sound.nodes l.sound.nodes l.valid l.forest (λ done m f s none. none) tt tt (λ f. refl) (λ page. refl)
-    (λ f s. load_fault (length l.reach.pushes) (machine_by p f) (machine_by q f) (forest_of p h) c.args.actor c.args.address c.args.bytes s before after c.in-Err.miss page at (l.by f) (is f) refl c.in-Err.ensures.cause)))
+pub returns-in-Err-clause-call : goal.returns-in-Err-clause-call
+returns-in-Err-clause-call g c = record {
+  valid = (looked g (goal.at.returns-in-Err-clause-call g c).After-read_fault).valid;
+  answers = (
+      let places = goal.at.returns-in-Err-clause-call g c in
+      let i = c.self.inside in
+      let n = c.read_fault.new in
+      let h = g.M.Mapper.held c.args.mapper.now in
+      let k = g.M.Mapper.held c.read_fault.new.mapper in
+      let before = g.M.Mapper.counts c.args.mapper.now in
+      let after = g.M.Mapper.counts c.read_fault.new.mapper in
+      let p : Manager = seen i.caches i.store i.contexts in
+      let q : Manager = seen n.caches n.store i.contexts in
+      let l = looked g places.After-read_fault in
+      let r = found g places.In_ok-place in
+      let page : PageNo = c.in_ok-place.place.page in
+      let at : Place = found_at r.region c.in_ok-place.place in
+      let command = commands.Load c.args.actor c.args.address c.args.bytes in
+      let is : (f : PageForest) → Ok at ≡ place (machine_by p f) c.args.actor.0 c.args.address c.args.bytes = λ f. r.is in
+      subst (λ (p : Manager). CallIs before after (state_at p h) command (Err (troubles.Mapper c.fault_of.result)) (state_at q k)) c.self.view_is
+      (subst (λ (f : FaultAt). CallIs before after (state_at p h) command (Err (troubles.Mapper f)) (state_at q k)) (sym c.fault_of.ensures)
+      (called before after p q h k command (Err (troubles.Mapper (fault_at c.in-Err.miss page))) l.reach c.self.invariant.sound.nodes l.sound.nodes l.valid l.forest (λ done m f s none. none) tt tt (λ f. refl) (λ page. refl)
+      (λ f s. load_fault (length l.reach.pushes) (machine_by p f) (machine_by q f) (forest_of p h) c.args.actor c.args.address c.args.bytes s before after c.in-Err.miss page at (l.by f) (is f) refl c.in-Err.ensures.cause)))
+      );
+  asks_first = subst (λ (f : FaultAt). AsksFirst (commands.Load c.args.actor c.args.address c.args.bytes) (Err (troubles.Mapper f)) (g.M.Mapper.counts c.args.mapper.now) (g.M.Mapper.counts c.read_fault.new.mapper)) (sym c.fault_of.ensures) (asks_missed (commands.Load c.args.actor c.args.address c.args.bytes) c.in-Err.miss c.in_ok-place.place.page (g.M.Mapper.counts c.args.mapper.now) (g.M.Mapper.counts c.read_fault.new.mapper));
+  made = search rules;
+  room = refl;
+  page = search rules;
+}
 
 -- where the page is at hand, nothing but that it was seen changes
 read_at_hand : (g : Over) (c : After-read_fault g) → IsAtHand c.args.self.now c.args.actor.0 c.args.address c.args.bytes

@@ -1,4 +1,4 @@
-use Rattle.std.proofs.Common.{◌≡◌, ◌+◌, ◌-◌, ◌<◌, ◌≤◌, ◌^◌, true, length, refl, sym, ap, subst, ◌∙◌, arith}
+use Rattle.std.proofs.Common.{rules, ◌≡◌, ◌+◌, ◌-◌, ◌<◌, ◌≤◌, ◌^◌, true, length, refl, sym, ap, subst, ◌∙◌, arith}
 use Rattle.std.specs.Prelude.{Ok, Err, is_some, nat_lt}
 use Rattle.vm_ids.specs.Counting.{MapperCounts}
 use Rattle.vm_ids.specs.declared.command.Command.TheVariants as commands
@@ -33,6 +33,7 @@ use Rattle.pvm_core.proofs.Locking.Regions.{placed_range}
 use Rattle.pvm_core.proofs.Locking.Rows.{IsToldOf, lock_limit, lock_locked, lock_none, told_of, untold_of}
 use Rattle.pvm_core.specs.Translated.{AreTranslationsRight}
 use Rattle.pvm_core.proofs.Translating.Relocked.{relocked_right}
+use Rattle.pvm_core.proofs.Answering.Recorded.{refused_mapper_call}
 use Rattle.pvm_core.proofs.pvm.Pvm.lock.Given.{Over}
 use Rattle.pvm_core.proofs.pvm.Pvm.lock.Goals.{After-passes_limit, After-set_locked, After-status, In-Err, In-Some}
 use Rattle.pvm_core.proofs.pvm.Pvm.lock.Goals as goal
@@ -50,11 +51,11 @@ refused g c r row =
     subst (λ (p : Manager). CallIs counts counts (state_at p h) (commands.Lock c.args.region) answer (state_at p h)) c.self.view_is
     (failed counts counts p p h h (commands.Lock c.args.region) answer (reach_none (machine_of p h) h counts) c.self.invariant.sound.nodes c.self.invariant.sound.nodes (subst (λ (p : Manager). IsValid p h) (sym c.self.view_is) c.requires.valid) refl refl tt tt (λ f s. row f))
 
-pub returns-in_default-clause-answers : goal.returns-in_default-clause-answers
-returns-in_default-clause-answers g c =
+pub returns-in_default-clause-call : goal.returns-in_default-clause-call
+returns-in_default-clause-call g c = refused_mapper_call c.requires.valid (
     let i = c.self.inside in
-    refused g (goal.at.returns-in_default-clause-answers g c).After-status refusals.NoRegion
-    (λ f. lock_none (caches_shown f 1 i.caches.caches) (length i.store.frames.held) i.contexts c.args.region.0 (untold_of c.args.region.0 i.contexts (sym c.status.ensures ∙ c.in_default.is)))
+    refused g (goal.at.returns-in_default-clause-call g c).After-status refusals.NoRegion
+    (λ f. lock_none (caches_shown f 1 i.caches.caches) (length i.store.frames.held) i.contexts c.args.region.0 (untold_of c.args.region.0 i.contexts (sym c.status.ensures ∙ c.in_default.is))))
 
 -- the region of which the status tells
 told : (g : Over) (c : In-Some g) → IsToldOf c.args.region.0 c.self.inside.contexts c.in-Some.status
@@ -68,13 +69,13 @@ range g c =
     let placed = placed_with (size_of i.caches) c.args.region.0 r.region i.contexts.actors c.self.invariant.sound.actors.placed r.found in
     subst (λ (m : Mapping). HasRange i.caches m.extent) (sym r.mapping) (placed_range i.caches i.caches r.region (sizes_same i.caches i.caches refl) placed)
 
-pub returns-then-status-clause-answers : goal.returns-then-status-clause-answers
-returns-then-status-clause-answers g c =
+pub returns-then-status-clause-call : goal.returns-then-status-clause-call
+returns-then-status-clause-call g c = refused_mapper_call c.requires.valid (
     let i = c.self.inside in
-    let at = goal.at.returns-then-status-clause-answers g c in
+    let at = goal.at.returns-then-status-clause-call g c in
     let r = told g at.In-Some in
     refused g at.After-status refusals.Locked
-    (λ f. lock_locked (caches_shown f 1 i.caches.caches) (length i.store.frames.held) i.contexts c.args.region.0 r.region r.found (sym r.locked ∙ c.if-status.true))
+    (λ f. lock_locked (caches_shown f 1 i.caches.caches) (length i.store.frames.held) i.contexts c.args.region.0 r.region r.found (sym r.locked ∙ c.if-status.true)))
 
 pub passes_limit-requires : goal.passes_limit-requires
 passes_limit-requires g c = omega (arith, range_fits c.self.inside.caches c.self.invariant.sound.nodes c.in-Some.status.mapping.extent (range g (goal.at.passes_limit-requires g c).In-Some))
@@ -85,15 +86,15 @@ limit g c =
     let i = c.self.inside in
     ap (λ (m : Mapping). nat_lt (length i.store.frames.held - UNLOCKED_FRAMES) (locked_count i.caches + unlocked_in i.caches m.extent)) (sym (told g (goal.at.After-passes_limit g c).In-Some).mapping) ∙ sym c.passes_limit.ensures
 
-pub returns-then-passes_limit-clause-answers : goal.returns-then-passes_limit-clause-answers
-returns-then-passes_limit-clause-answers g c =
+pub returns-then-passes_limit-clause-call : goal.returns-then-passes_limit-clause-call
+returns-then-passes_limit-clause-call g c = refused_mapper_call c.requires.valid (
     let i = c.self.inside in
-    let at = goal.at.returns-then-passes_limit-clause-answers g c in
+    let at = goal.at.returns-then-passes_limit-clause-call g c in
     let r = told g at.In-Some in
     let free = sym r.locked ∙ c.if-status.false in
     refused g at.After-status refusals.LockLimit
     (λ f. lock_limit (caches_shown f 1 i.caches.caches) (length i.store.frames.held) i.contexts c.args.region.0 r.region r.found free
-    (limit_is i.caches i.contexts c.self.invariant.sound.locked.counted c.self.invariant.sound.actors c.args.region.0 r.region r.found free f (length i.store.frames.held) ∙ limit g at.After-passes_limit ∙ c.if-passes_limit.true))
+    (limit_is i.caches i.contexts c.self.invariant.sound.locked.counted c.self.invariant.sound.actors c.args.region.0 r.region r.found free f (length i.store.frames.held) ∙ limit g at.After-passes_limit ∙ c.if-passes_limit.true)))
 
 pub hold_pages-requires-clause-range : goal.hold_pages-requires-clause-range
 hold_pages-requires-clause-range g c = range g (goal.at.hold_pages-requires-clause-range g c).In-Some
@@ -136,14 +137,15 @@ invariant_of-self g c = record {
   translated = c.hold_pages.ensures.translated c.self.inside.contexts c.self.invariant.translated;
 }
 
-pub returns-in-Err-clause-valid : goal.returns-in-Err-clause-valid
-returns-in-Err-clause-valid g c = (faulted g c).valid
-
-pub returns-in-Err-clause-answers : goal.returns-in-Err-clause-answers
-returns-in-Err-clause-answers g c = (faulted g c).answers
-
-pub returns-in-Err-clause-made : goal.returns-in-Err-clause-made
-returns-in-Err-clause-made g c = (faulted g c).made
+pub returns-in-Err-clause-call : goal.returns-in-Err-clause-call
+returns-in-Err-clause-call g c = record {
+  valid = (faulted g c).valid;
+  answers = (faulted g c).answers;
+  asks_first = tt;
+  made = (faulted g c).made;
+  room = refl;
+  page = search rules;
+}
 
 -- the region is locked then
 relocked : (g : Over) (c : After-set_locked g) → c.set_locked.new.self ≡ with_locked c.args.region.0 true c.self.inside.contexts
@@ -179,11 +181,12 @@ invariant_of-self-2 g c = record {
       );
 }
 
-pub returns-clause-valid : goal.returns-clause-valid
-returns-clause-valid g c = (locked g c).valid
-
-pub returns-clause-answers : goal.returns-clause-answers
-returns-clause-answers g c = (locked g c).answers
-
-pub returns-clause-made : goal.returns-clause-made
-returns-clause-made g c = (locked g c).made
+pub returns-clause-call : goal.returns-clause-call
+returns-clause-call g c = record {
+  valid = (locked g c).valid;
+  answers = (locked g c).answers;
+  asks_first = tt;
+  made = (locked g c).made;
+  room = refl;
+  page = search rules;
+}

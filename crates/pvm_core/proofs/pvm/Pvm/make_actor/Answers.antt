@@ -1,4 +1,4 @@
-use Rattle.std.proofs.Common.{◌≡◌, ℕ, [], ◌∷◌, ◌++◌, Some, length, refl, sym, subst}
+use Rattle.std.proofs.Common.{ap, ◌≡◌, ℕ, [], ◌∷◌, ◌++◌, Some, length, refl, sym, subst}
 use Rattle.std.specs.Prelude.{OnErr}
 use Rattle.vm_ids.specs.Counting.{no_counts}
 use Rattle.vm_ids.specs.declared.command.Command.TheVariants as commands
@@ -10,11 +10,11 @@ use Rattle.contexts.specs.Actors.{Actors, is_full}
 use Rattle.pvm_core.specs.Locks.{locks_over}
 use Rattle.pvm_core.specs.Placed.{AreRight}
 use Rattle.pvm_core.proofs.Holding.Actors.{over_made}
-use Rattle.pvm_core.specs.Manager.{IsValid, Manager, caches_shown, forest_of, state_at}
+use Rattle.pvm_core.specs.Manager.{IsValid, Manager, caches_shown, forest_of, machine_of, numbered, state_at}
 use Rattle.pvm_core.specs.Translated.{AreTranslationsRight}
 use Rattle.pvm_core.specs.contracts.pvm.Pvm.{the_view}
 use Rattle.pvm_core.proofs.Translating.Commands.{made_right}
-use Rattle.pvm_core.proofs.Answering.Answered.{seated}
+use Rattle.pvm_core.proofs.Answering.Answered.{made_stays, seated}
 use Rattle.pvm_core.proofs.Answering.Kept.{on_err, seated_same, seated_sound, seated_valid}
 use Rattle.pvm_core.proofs.Answering.Listed.{actor_outcome, after_either, right_made}
 use Rattle.pvm_core.proofs.pvm.Pvm.make_actor.Goals as goal
@@ -35,25 +35,31 @@ invariant_of-self c = record {
   translated = after_either (λ (t : Actors). AreTranslationsRight c.self.inside.caches c.self.inside.store t) c.self.inside.contexts c.make.new.self (more c.self.inside.contexts) c.make.result c.make.ensures.ok c.make.ensures.err (made_right c.self.inside.caches c.self.inside.store c.self.inside.contexts c.self.invariant.translated) c.self.invariant.translated;
 }
 
-pub returns-clause-valid : goal.returns-clause-valid
-returns-clause-valid c = λ h v.
-    let i = c.self.inside in
-    let e = c.make.ensures in
-    let u = c.make.new.self in
-    let q : Manager = the_view (record i { contexts = u }) in
-    seated_valid (the_view i) q h refl refl (after_either (λ (t : Actors). t.page_bytes ≡ i.contexts.page_bytes) i.contexts u (more i.contexts) c.make.result e.ok e.err refl refl) (subst (λ (p : Manager). IsValid p h) (sym c.self.view_is) v)
-
-pub returns-clause-answers : goal.returns-clause-answers
-returns-clause-answers c = λ h v.
-    let i = c.self.inside in
-    let e = c.make.ensures in
-    let u = c.make.new.self in
-    let q : Manager = the_view (record i { contexts = u }) in
-    let command = commands.MakeActor in
-    let answer = answer_by replies.Actor c.make.result in
-    subst (λ (p : Manager). AnswerIs (state_at p h) command answer [] no_counts (state_at q h)) c.self.view_is
-    (seated (the_view i) q h command answer c.self.invariant.sound.nodes c.self.invariant.sound.nodes (seated_valid (the_view i) q h refl refl (after_either (λ (t : Actors). t.page_bytes ≡ i.contexts.page_bytes) i.contexts u (more i.contexts) c.make.result e.ok e.err refl refl) (subst (λ (p : Manager). IsValid p h) (sym c.self.view_is) v)) refl (λ done m f s none. none) refl tt (λ f. refl) (λ page. refl)
-    (λ f s. actor_outcome (caches_shown f 1 i.caches.caches) (length i.store.frames.held) i.contexts u (Some (forest_of (the_view i) h)) s (is_full i.contexts) c.make.result refl e.refused e.made e.ok e.err))
+pub returns-clause-call : goal.returns-clause-call
+returns-clause-call c = record {
+  valid = (
+      λ h v.
+      let i = c.self.inside in
+      let e = c.make.ensures in
+      let u = c.make.new.self in
+      let q : Manager = the_view (record i { contexts = u }) in
+      seated_valid (the_view i) q h refl refl (after_either (λ (t : Actors). t.page_bytes ≡ i.contexts.page_bytes) i.contexts u (more i.contexts) c.make.result e.ok e.err refl refl) (subst (λ (p : Manager). IsValid p h) (sym c.self.view_is) v)
+      );
+  answers = (
+      λ h v.
+      let i = c.self.inside in
+      let e = c.make.ensures in
+      let u = c.make.new.self in
+      let q : Manager = the_view (record i { contexts = u }) in
+      let command = commands.MakeActor in
+      let answer = answer_by replies.Actor c.make.result in
+      subst (λ (p : Manager). AnswerIs (state_at p h) command answer [] no_counts (state_at q h)) c.self.view_is
+      (seated (the_view i) q h command answer c.self.invariant.sound.nodes c.self.invariant.sound.nodes (seated_valid (the_view i) q h refl refl (after_either (λ (t : Actors). t.page_bytes ≡ i.contexts.page_bytes) i.contexts u (more i.contexts) c.make.result e.ok e.err refl refl) (subst (λ (p : Manager). IsValid p h) (sym c.self.view_is) v)) refl (λ done m f s none. none) refl tt (λ f. refl) (λ page. refl)
+      (λ f s. actor_outcome (caches_shown f 1 i.caches.caches) (length i.store.frames.held) i.contexts u (Some (forest_of (the_view i) h)) s (is_full i.contexts) c.make.result refl e.refused e.made e.ok e.err))
+      );
+  made = λ h v. made_stays (machine_of c.args.self.now h) commands.MakeActor (answer_by replies.Actor c.make.result) (machine_of (the_view (record c.self.inside { contexts = c.make.new.self })) h) (numbered c.args.self.now) (numbered (the_view (record c.self.inside { contexts = c.make.new.self }))) (ap numbered c.self.view_is);
+  room = refl;
+}
 
 pub returns-clause-err : goal.returns-clause-err
 returns-clause-err c =

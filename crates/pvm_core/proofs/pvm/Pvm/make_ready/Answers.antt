@@ -9,18 +9,19 @@ use Rattle.local_cache.specs.Arena.{Arena, Room, table_of}
 use Rattle.local_cache.specs.Reading as arena
 use Rattle.local_cache.specs.Whole.{size_of}
 use Rattle.local_cache.proofs.Tables.Sizes.{sizes_same}
-use Rattle.pvm_core.specs.Keeping.{HasMoreRoom}
+use Rattle.pvm_core.specs.Keeping.{CopiesNothing, FillsOnly, HasMoreRoom}
 use Rattle.pvm_core.specs.Manager.{IsValid, Manager, forest_of}
-use Rattle.pvm_core.specs.Saving.{IsNotReady, IsReady, NeedsNothing, is_named}
-use Rattle.pvm_core.specs.Writes.{IsNotGranted}
-use Rattle.pvm_core.proofs.Readiness.Granted.{unnamed_of}
+use Rattle.pvm_core.specs.Saving.{IsNotReady, IsReady, NeedsNoSave, NeedsNothing, is_named}
+use Rattle.pvm_core.specs.Writes.{GrantsWithin, IsNotGranted, OnlyAsked}
+use Rattle.pvm_core.proofs.Readiness.Granted.{tables_grants, unnamed_of, within_then}
+use Rattle.pvm_core.proofs.Readiness.Filled.{fills_itself, fills_later}
 use Rattle.pvm_core.proofs.Readiness.Steps.{Keeps, keeps_granted, keeps_reserved, keeps_seen}
 use Rattle.pvm_core.proofs.Answering.Kept.{seen}
-use Rattle.pvm_core.proofs.Readiness.Readying.{more_room, ungranted_ready, if_err_by, keeps_then, named_same, on_ok_by, saved_all, unsaved_ready, writable_same}
+use Rattle.pvm_core.proofs.Readiness.Readying.{failed_save, more_room, no_save, roomier_granted, ungranted_ready, if_err_all, if_err_by, keeps_then, named_same, on_ok_by, saved_all, unsaved_ready, writable_same}
 use Rattle.pvm_core.proofs.Meaning.Values.{consistent_of}
 use Rattle.pvm_core.proofs.Translating.Cells.{granted_right, roomier_right}
 use Rattle.pvm_core.proofs.pvm.Pvm.make_ready.Given.{Over}
-use Rattle.pvm_core.proofs.pvm.Pvm.make_ready.Goals.{After-grant_range, After-reserve}
+use Rattle.pvm_core.proofs.pvm.Pvm.make_ready.Goals.{After-grant_range, After-reserve, After-save}
 use Rattle.pvm_core.proofs.pvm.Pvm.make_ready.Goals as goal
 
 -- pages were granted
@@ -74,7 +75,7 @@ returns-in_err-grant_range-clause-not_ready g c =
     let is : c.from_residual.result ≡ Err trouble = gave.1 ∙ ap (λ t. Err t) gave.2 in
     let out : IsNotGranted c.args.range h i.caches c.grant_range.new.caches trouble = subst (λ (x : Result _ Trouble). IfErr x (IsNotGranted c.args.range h i.caches c.grant_range.new.caches)) c.in_err-grant_range.was c.grant_range.ensures.refused in
     subst (λ (p : Manager). IfErr c.from_residual.result (IsNotReady c.args.range p h p1 k)) c.self.view_is
-    (subst (λ (x : Result _ Trouble). IfErr x (IsNotReady c.args.range p h p1 k)) (sym is) (ungranted_ready c.args.range p p1 h k (granted g (goal.at.returns-in_err-grant_range-clause-not_ready g c).After-grant_range).forest trouble out))
+    (subst (λ (x : Result _ Trouble). IfErr x (IsNotReady c.args.range p h p1 k)) (sym is) (ungranted_ready c.args.range p p1 h k (granted g (goal.at.returns-in_err-grant_range-clause-not_ready g c).After-grant_range).forest refl trouble out))
 
 pub returns-in_err-grant_range-clause-idle : goal.returns-in_err-grant_range-clause-idle
 returns-in_err-grant_range-clause-idle g c = λ nothing. absurd (
@@ -106,14 +107,17 @@ returns-in_err-reserve-clause-not_ready g c =
     let gave = err_from_is_err_and c.from_residual-in_err-reserve.result c.from_residual-in_err-reserve.ensures.1 in
     let is : c.from_residual-in_err-reserve.result ≡ Err troubles.Memory = gave.1 ∙ ap (λ t. Err t) gave.2 in
     subst (λ (p : Manager). IfErr c.from_residual-in_err-reserve.result (IsNotReady c.args.range p h p2 k)) c.self.view_is
-    (subst (λ (x : Result _ Trouble). IfErr x (IsNotReady c.args.range p h p2 k)) (sym is) ((reserved g (goal.at.returns-in_err-reserve-clause-not_ready g c).After-reserve).forest, writable_same c.grant_range.new.caches c.reserve.new.self c.args.range (ap (λ (k : Arena). k.caches) c.reserve.ensures.kept) c.in_ok-grant_range.ensures.granted))
+    (subst (λ (x : Result _ Trouble). IfErr x (IsNotReady c.args.range p h p2 k)) (sym is) (
+      (reserved g (goal.at.returns-in_err-reserve-clause-not_ready g c).After-reserve).forest,
+      writable_same c.grant_range.new.caches c.reserve.new.self c.args.range (ap (λ (k : Arena). k.caches) c.reserve.ensures.kept) c.in_ok-grant_range.ensures.granted,
+      roomier_granted c.args.range i.caches c.grant_range.new.caches c.reserve.new.self i.store i.contexts c.grant_range.ensures.nodes.room c.reserve.ensures.kept c.in_ok-grant_range.ensures.all,
+    ))
 
 pub returns-in_err-reserve-clause-idle : goal.returns-in_err-reserve-clause-idle
 returns-in_err-reserve-clause-idle g c = λ nothing.
     let i = c.self.inside in
     let still = unasked g (goal.at.returns-in_err-reserve-clause-idle g c).After-grant_range nothing in (
       still.2,
-      refl,
       subst (λ (p : Manager). HasMoreRoom p (seen c.reserve.new.self i.store i.contexts)) c.self.view_is (more_room i.caches c.grant_range.new.caches c.reserve.new.self i.store i.contexts still.1 c.reserve.ensures.kept),
     )
 
@@ -175,22 +179,98 @@ returns-in_err-reserve-clause-whole g c = (reserved g (goal.at.returns-in_err-re
 pub returns-clause-whole : goal.returns-clause-whole
 returns-clause-whole g c = c.save.ensures.whole
 
+-- where no page needs a save, nothing is done behind the grants but to take room
+unsaved : (g : Over) (c : After-save g) → NeedsNoSave c.args.self.now.caches c.args.range → (c.save.new.self ≡ seen c.reserve.new.self c.self.inside.store c.self.inside.contexts) × (c.save.new.mapper ≡ c.grant_range.new.mapper) × (c.save.new.chooser ≡ c.args.chooser.now)
+unsaved g c none =
+    let i = c.self.inside in
+    let b = c.reserve.new.self in
+    let before = reserved g (goal.at.After-save g c).After-reserve in
+    let same : arena.forest_of b ≡ arena.forest_of i.caches = c.reserve.ensures.forest ∙ c.grant_range.ensures.nodes.nodes in
+    elim (subst (λ (p : Manager). NeedsNoSave p.caches c.args.range) (sym c.self.view_is) none) [
+      | inl unnamed ↦ c.save.ensures.temporary (named_same i.caches b before.machine.same c.args.range.cache.0 ∙ unnamed)
+      | inr all ↦ (let t = c.save.ensures.idle (λ x i. ap (λ f. is_unsaved f x) same ∙ all x i) in (t.1, t.2, t.3))
+    ]
+
 pub returns-clause-idle : goal.returns-clause-idle
 returns-clause-idle g c = λ nothing.
+    let at = goal.at.returns-clause-idle g c in
     let i = c.self.inside in
-    let a = c.grant_range.new.caches in
     let b = c.reserve.new.self in
     let p : Manager = seen i.caches i.store i.contexts in
-    let p2 : Manager = seen b i.store i.contexts in
-    let q = c.save.new.self in
-    let s = c.save.ensures in
-    let still = unasked g (goal.at.returns-clause-idle g c).After-grant_range nothing in
-    let same : arena.forest_of b ≡ arena.forest_of i.caches = c.reserve.ensures.forest ∙ ap arena.forest_of still.1 in
-    let idle : (q ≡ p2) × (c.save.new.mapper ≡ c.grant_range.new.mapper) × (c.save.new.chooser ≡ c.args.chooser.now) = elim (subst (λ (p : Manager). NeedsNothing p.caches c.args.range) (sym c.self.view_is) nothing) [
-      | inl none ↦ s.temporary (named_same i.caches b (reserved g (goal.at.returns-clause-idle g c).After-reserve).machine.same c.args.range.cache.0 ∙ none)
-      | inr all ↦ (let t = s.idle (λ x i. ap (λ f. is_unsaved f x) same ∙ all.1 x i) in (t.1, t.2, t.3))
-    ] in (
+    let still = unasked g at.After-grant_range nothing in
+    let idle = unsaved g at.After-save (no_save c.args.self.now.caches c.args.range nothing) in (
       idle.1 ∙ still.2,
-      idle.2,
-      subst (λ (p : Manager). HasMoreRoom p q) c.self.view_is (subst (HasMoreRoom p) (sym idle.0) (more_room i.caches a b i.store i.contexts still.1 c.reserve.ensures.kept)),
+      subst (λ (p : Manager). HasMoreRoom p c.save.new.self) c.self.view_is (subst (HasMoreRoom p) (sym idle.0) (more_room i.caches c.grant_range.new.caches b i.store i.contexts still.1 c.reserve.ensures.kept)),
     )
+
+-- Write access is asked first ---------------------------------------------------------------------
+
+asked : (g : Over) (c : After-grant_range g) → OnlyAsked g.M.Mapper c.args.mapper.now c.grant_range.new.mapper
+asked g c = (let e = c.grant_range.ensures in record { traffic = e.traffic; held = e.held; given = e.given })
+
+within : (g : Over) (c : After-grant_range g) → GrantsWithin c.args.range c.args.self.now.caches c.grant_range.new.caches
+within g c = subst (λ (p : Manager). GrantsWithin c.args.range p.caches c.grant_range.new.caches) c.self.view_is c.grant_range.ensures.grants
+
+within_reserved : (g : Over) (c : After-reserve g) → GrantsWithin c.args.range c.args.self.now.caches c.reserve.new.self
+within_reserved g c = within_then c.args.range c.args.self.now.caches c.grant_range.new.caches c.reserve.new.self (within g (goal.at.After-reserve g c).After-grant_range) (tables_grants c.grant_range.new.caches c.reserve.new.self (ap (λ (k : Arena). k.caches) c.reserve.ensures.kept))
+
+-- the manager with other caches of as many copies
+same_store : (g : Over) (c : After-grant_range g) (b : Arena) → b.copies ≡ c.grant_range.new.caches.copies → CopiesNothing c.args.self.now (seen b c.self.inside.store c.self.inside.contexts)
+same_store g c b copies = subst (λ (p : Manager). CopiesNothing p (seen b c.self.inside.store c.self.inside.contexts)) c.self.view_is (record { copies = copies ∙ c.grant_range.ensures.nodes.copies; held = λ f on. on; bytes = refl })
+
+pub returns-in_err-grant_range-clause-grants : goal.returns-in_err-grant_range-clause-grants
+returns-in_err-grant_range-clause-grants g c = within g (goal.at.returns-in_err-grant_range-clause-grants g c).After-grant_range
+
+pub returns-in_err-reserve-clause-grants : goal.returns-in_err-reserve-clause-grants
+returns-in_err-reserve-clause-grants g c = within_reserved g (goal.at.returns-in_err-reserve-clause-grants g c).After-reserve
+
+pub returns-clause-grants : goal.returns-clause-grants
+returns-clause-grants g c = within_then c.args.range c.args.self.now.caches c.reserve.new.self c.save.new.self.caches (within_reserved g (goal.at.returns-clause-grants g c).After-reserve) (tables_grants c.reserve.new.self c.save.new.self.caches c.save.ensures.tables)
+
+pub returns-in_err-grant_range-clause-first : goal.returns-in_err-grant_range-clause-first
+returns-in_err-grant_range-clause-first g c = if_err_all c.from_residual.result (λ trouble before. (asked g (goal.at.returns-in_err-grant_range-clause-first g c).After-grant_range, refl))
+
+pub returns-in_err-reserve-clause-first : goal.returns-in_err-reserve-clause-first
+returns-in_err-reserve-clause-first g c = if_err_all c.from_residual-in_err-reserve.result (λ trouble before. (asked g (goal.at.returns-in_err-reserve-clause-first g c).After-grant_range, refl))
+
+pub returns-clause-first : goal.returns-clause-first
+returns-clause-first g c = if_err_by c.save.result (λ trouble out before. absurd (let s = failed_save c.args.range _ _ _ _ trouble out in before s.0 s.1)) c.save.ensures.failed
+
+pub returns-in_err-grant_range-clause-still : goal.returns-in_err-grant_range-clause-still
+returns-in_err-grant_range-clause-still g c = λ none. (let at = (goal.at.returns-in_err-grant_range-clause-still g c).After-grant_range in (asked g at, refl, same_store g at c.grant_range.new.caches refl))
+
+pub returns-in_err-reserve-clause-still : goal.returns-in_err-reserve-clause-still
+returns-in_err-reserve-clause-still g c = λ none. (let at = (goal.at.returns-in_err-reserve-clause-still g c).After-grant_range in (asked g at, refl, same_store g at c.reserve.new.self (ap (λ (k : Arena). k.copies) c.reserve.ensures.kept)))
+
+pub returns-clause-still : goal.returns-clause-still
+returns-clause-still g c = λ none.
+    let at = goal.at.returns-clause-still g c in
+    let s = unsaved g at.After-save none in (
+      subst (OnlyAsked g.M.Mapper c.args.mapper.now) (sym s.1) (asked g at.After-grant_range),
+      s.2,
+      subst (CopiesNothing c.args.self.now) (sym s.0) (same_store g at.After-grant_range c.reserve.new.self (ap (λ (k : Arena). k.copies) c.reserve.ensures.kept)),
+    )
+
+-- Which pages come to frames ------------------------------------------------------------------------
+
+-- none while writes are granted and room is taken
+unfilled : (g : Over) (c : After-grant_range g) (b : Arena) (q : Manager) → b.cells ≡ c.grant_range.new.caches.cells → b.made ≡ c.grant_range.new.caches.made → b.copies ≡ c.grant_range.new.caches.copies → arena.forest_of b ≡ arena.forest_of c.grant_range.new.caches → FillsOnly c.args.range (λ x. ⊥) (seen b c.self.inside.store c.self.inside.contexts) q → FillsOnly c.args.range (λ x. ⊥) c.args.self.now q
+unfilled g c b q cells made copies same fills =
+    let i = c.self.inside in
+    let n = c.grant_range.ensures.nodes in
+    subst (λ (p : Manager). FillsOnly c.args.range (λ x. ⊥) p q) c.self.view_is (fills_later c.args.range i.caches b i.store i.contexts q (cells ∙ n.cells) (made ∙ n.made) (copies ∙ n.copies) (same ∙ n.nodes) fills)
+
+pub returns-in_err-grant_range-clause-fills : goal.returns-in_err-grant_range-clause-fills
+returns-in_err-grant_range-clause-fills g c = unfilled g (goal.at.returns-in_err-grant_range-clause-fills g c).After-grant_range c.grant_range.new.caches (seen c.grant_range.new.caches c.self.inside.store c.self.inside.contexts) refl refl refl refl (fills_itself c.args.range (λ x. ⊥) (seen c.grant_range.new.caches c.self.inside.store c.self.inside.contexts))
+
+-- and none while room is taken
+roomy_unfilled : (g : Over) (c : After-reserve g) (q : Manager) → FillsOnly c.args.range (λ x. ⊥) (seen c.reserve.new.self c.self.inside.store c.self.inside.contexts) q → FillsOnly c.args.range (λ x. ⊥) c.args.self.now q
+roomy_unfilled g c q =
+    let kept = c.reserve.ensures.kept in
+    unfilled g (goal.at.After-reserve g c).After-grant_range c.reserve.new.self q (ap (λ (k : Arena). k.cells) kept) (ap (λ (k : Arena). k.made) kept) (ap (λ (k : Arena). k.copies) kept) c.reserve.ensures.forest
+
+pub returns-in_err-reserve-clause-fills : goal.returns-in_err-reserve-clause-fills
+returns-in_err-reserve-clause-fills g c = roomy_unfilled g (goal.at.returns-in_err-reserve-clause-fills g c).After-reserve (seen c.reserve.new.self c.self.inside.store c.self.inside.contexts) (fills_itself c.args.range (λ x. ⊥) (seen c.reserve.new.self c.self.inside.store c.self.inside.contexts))
+
+pub returns-clause-fills : goal.returns-clause-fills
+returns-clause-fills g c = roomy_unfilled g (goal.at.returns-clause-fills g c).After-reserve c.save.new.self c.save.ensures.fills

@@ -12,7 +12,8 @@ use Rattle.vm_model.specs.PageForest.{PageForest}
 use Rattle.vm_model.specs.Run.{AnswerIs}
 use Rattle.local_cache.specs.Whole.{size_of}
 use Rattle.contexts.specs.Actors.{Actors, next_region, with_region}
-use Rattle.pvm_core.specs.Manager.{Manager, caches_shown, state_at, IsValid}
+use Rattle.pvm_core.specs.Manager as managers
+use Rattle.pvm_core.specs.Manager.{IsValid, Manager, caches_shown, machine_of, state_at}
 use Rattle.pvm_core.specs.Locks.{locks_over}
 use Rattle.pvm_core.specs.Maps.{map_refusal}
 use Rattle.pvm_core.proofs.Holding.Actors.{over_mapped}
@@ -20,15 +21,17 @@ use Rattle.pvm_core.specs.Placed.{AreRight}
 use Rattle.pvm_core.specs.Translated.{AreTranslationsRight}
 use Rattle.pvm_core.specs.contracts.pvm.Pvm.{the_view}
 use Rattle.pvm_core.proofs.Translating.Commands.{mapped_right}
-use Rattle.pvm_core.proofs.Answering.Answered.{seated}
+use Rattle.pvm_core.proofs.Answering.Answered.{made_stays, seated}
 use Rattle.pvm_core.proofs.Answering.Kept.{seated_sound, seated_valid}
 use Rattle.pvm_core.proofs.Answering.Listed.{IsMappable, after_either, is_mappable, machine_with, map_refused, map_row, next_placed, right_mapped, size_in}
 use Rattle.pvm_core.proofs.Meaning.Shown.{shown_size}
+use Rattle.pvm_core.proofs.Answering.Recorded.{refused_call}
 use Rattle.pvm_core.proofs.pvm.Pvm.map.Goals as goal
 use Rattle.pvm_core.proofs.pvm.Pvm.map.Goals.{in-Ok, in-Err}
 
-pub returns-in-Some-clause-answers : goal.returns-in-Some-clause-answers
-returns-in-Some-clause-answers c = λ h v.
+pub returns-in-Some-clause-call : goal.returns-in-Some-clause-call
+returns-in-Some-clause-call c = refused_call (
+    λ h v.
     let i = c.self.inside in
     let p : Manager = the_view i in
     let t : Actors = i.contexts in
@@ -40,7 +43,7 @@ returns-in-Some-clause-answers c = λ h v.
     (λ f s. let caches = caches_shown f 1 i.caches.caches in
     let size : size_in (numbered caches x.extent.cache.0) ≡ c.pages-count.result = shown_size f i.caches.caches x.extent.cache.0 ∙ sym c.pages-count.ensures in
     map_refused t x caches (length i.store.frames.held) actor c.in-Some.refusal (numbered t.actors actor) (numbered caches x.extent.cache.0) refl refl
-    (ap (λ (q : Option ℕ). map_refusal t (numbered t.actors actor) q x) size ∙ sym c.map_refusal.ensures ∙ c.in-Some.is)))
+    (ap (λ (q : Option ℕ). map_refusal t (numbered t.actors actor) q x) size ∙ sym c.map_refusal.ensures ∙ c.in-Some.is))))
 
 pub invariant_of-self : goal.invariant_of-self
 invariant_of-self c = record {
@@ -72,42 +75,48 @@ invariant_of-self c = record {
       );
 }
 
-pub returns-clause-answers : goal.returns-clause-answers
-returns-clause-answers c = λ h v.
-    let i = c.self.inside in
-    let t : Actors = i.contexts in
-    let u : Actors = c.map.new.self in
-    let p : Manager = the_view i in
-    let q : Manager = the_view (record i { contexts = u }) in
-    let x = c.args.mapping in
-    let actor = c.args.actor.0 in
-    let e = c.map.ensures in
-    let command = commands.Map c.args.actor x in
-    let frames = length i.store.frames.held in
-    let size : (f : PageForest) → size_in (numbered (caches_shown f 1 i.caches.caches) x.extent.cache.0) ≡ c.pages-count.result
-    = λ f. shown_size f i.caches.caches x.extent.cache.0 ∙ sym c.pages-count.ensures in
-    let k : (f : PageForest) → IsMappable t (numbered t.actors actor) (size_in (numbered (caches_shown f 1 i.caches.caches) x.extent.cache.0)) x
-    = λ f. is_mappable t x (numbered t.actors actor) (size_in (numbered (caches_shown f 1 i.caches.caches) x.extent.cache.0))
-    (ap (λ (n : Option ℕ). map_refusal t (numbered t.actors actor) n x) (size f) ∙ sym c.map_refusal.ensures ∙ c.in_default.is) in
-    let row = λ (f : PageForest). map_row t x (caches_shown f 1 i.caches.caches) frames actor (k f) in
-    let page : u.page_bytes ≡ t.page_bytes = after_either (λ (w : Actors). w.page_bytes ≡ t.page_bytes) t u (with_region t actor x) c.map.result e.ok e.err refl refl in
-    let valid = seated_valid p q h refl refl page (subst (λ (p : Manager). IsValid p h) (sym c.self.view_is) v) in
-    let at : Result RegionId Trouble → Type 0 = λ r. AnswerIs (state_at p h) command (answer_by replies.Region r) [] no_counts (state_at q h) in
-    subst (λ (p : Manager). AnswerIs (state_at p h) command (answer_by replies.Region c.match-map.result) [] no_counts (state_at q h)) c.self.view_is
-    (elim c.match-map.branch [
-      | in-Ok w ↦ subst at (sym w.result-is)
-          (seated p q h command (Ok (replies.Region w.in-Ok.region)) c.self.invariant.sound.nodes c.self.invariant.sound.nodes valid refl (λ done m f s none. none) refl tt (λ f. refl) (λ page. refl)
-          (λ f s. row f ∙ (λ j. reply (replies.Region (record { 0 = sym w.in-Ok.ensures.number j })) (machine_with (caches_shown f 1 i.caches.caches) frames (sym w.in-Ok.ensures.ok j)))))
-      | in-Err w ↦ subst at (sym w.result-is)
-          (seated p q h command (Err troubles.Memory) c.self.invariant.sound.nodes c.self.invariant.sound.nodes valid refl (λ done m f s none. none) refl tt (λ f. refl) (λ page. refl)
-          (λ f s. (ap (machine_with (caches_shown f 1 i.caches.caches) frames) w.in-Err.ensures.err, tt, (let line = row f in rw line tt))))
-    ])
-
-pub returns-clause-valid : goal.returns-clause-valid
-returns-clause-valid c = λ h v.
-    let i = c.self.inside in
-    let t : Actors = i.contexts in
-    let u : Actors = c.map.new.self in
-    let e = c.map.ensures in
-    let page : u.page_bytes ≡ t.page_bytes = after_either (λ (w : Actors). w.page_bytes ≡ t.page_bytes) t u (with_region t c.args.actor.0 c.args.mapping) c.map.result e.ok e.err refl refl in
-    seated_valid (the_view i) (the_view (record i { contexts = u })) h refl refl page (subst (λ (p : Manager). IsValid p h) (sym c.self.view_is) v)
+pub returns-clause-call : goal.returns-clause-call
+returns-clause-call c = record {
+  valid = (
+      λ h v.
+      let i = c.self.inside in
+      let t : Actors = i.contexts in
+      let u : Actors = c.map.new.self in
+      let e = c.map.ensures in
+      let page : u.page_bytes ≡ t.page_bytes = after_either (λ (w : Actors). w.page_bytes ≡ t.page_bytes) t u (with_region t c.args.actor.0 c.args.mapping) c.map.result e.ok e.err refl refl in
+      seated_valid (the_view i) (the_view (record i { contexts = u })) h refl refl page (subst (λ (p : Manager). IsValid p h) (sym c.self.view_is) v)
+      );
+  answers = (
+      λ h v.
+      let i = c.self.inside in
+      let t : Actors = i.contexts in
+      let u : Actors = c.map.new.self in
+      let p : Manager = the_view i in
+      let q : Manager = the_view (record i { contexts = u }) in
+      let x = c.args.mapping in
+      let actor = c.args.actor.0 in
+      let e = c.map.ensures in
+      let command = commands.Map c.args.actor x in
+      let frames = length i.store.frames.held in
+      let size : (f : PageForest) → size_in (numbered (caches_shown f 1 i.caches.caches) x.extent.cache.0) ≡ c.pages-count.result
+      = λ f. shown_size f i.caches.caches x.extent.cache.0 ∙ sym c.pages-count.ensures in
+      let k : (f : PageForest) → IsMappable t (numbered t.actors actor) (size_in (numbered (caches_shown f 1 i.caches.caches) x.extent.cache.0)) x
+      = λ f. is_mappable t x (numbered t.actors actor) (size_in (numbered (caches_shown f 1 i.caches.caches) x.extent.cache.0))
+      (ap (λ (n : Option ℕ). map_refusal t (numbered t.actors actor) n x) (size f) ∙ sym c.map_refusal.ensures ∙ c.in_default.is) in
+      let row = λ (f : PageForest). map_row t x (caches_shown f 1 i.caches.caches) frames actor (k f) in
+      let page : u.page_bytes ≡ t.page_bytes = after_either (λ (w : Actors). w.page_bytes ≡ t.page_bytes) t u (with_region t actor x) c.map.result e.ok e.err refl refl in
+      let valid = seated_valid p q h refl refl page (subst (λ (p : Manager). IsValid p h) (sym c.self.view_is) v) in
+      let at : Result RegionId Trouble → Type 0 = λ r. AnswerIs (state_at p h) command (answer_by replies.Region r) [] no_counts (state_at q h) in
+      subst (λ (p : Manager). AnswerIs (state_at p h) command (answer_by replies.Region c.match-map.result) [] no_counts (state_at q h)) c.self.view_is
+      (elim c.match-map.branch [
+        | in-Ok w ↦ subst at (sym w.result-is)
+            (seated p q h command (Ok (replies.Region w.in-Ok.region)) c.self.invariant.sound.nodes c.self.invariant.sound.nodes valid refl (λ done m f s none. none) refl tt (λ f. refl) (λ page. refl)
+            (λ f s. row f ∙ (λ j. reply (replies.Region (record { 0 = sym w.in-Ok.ensures.number j })) (machine_with (caches_shown f 1 i.caches.caches) frames (sym w.in-Ok.ensures.ok j)))))
+        | in-Err w ↦ subst at (sym w.result-is)
+            (seated p q h command (Err troubles.Memory) c.self.invariant.sound.nodes c.self.invariant.sound.nodes valid refl (λ done m f s none. none) refl tt (λ f. refl) (λ page. refl)
+            (λ f s. (ap (machine_with (caches_shown f 1 i.caches.caches) frames) w.in-Err.ensures.err, tt, (let line = row f in rw line tt))))
+      ])
+      );
+  made = λ h v. made_stays (machine_of c.args.self.now h) (commands.Map c.args.actor c.args.mapping) (answer_by replies.Region c.match-map.result) (machine_of (the_view (record c.self.inside { contexts = c.map.new.self })) h) (managers.numbered c.args.self.now) (managers.numbered (the_view (record c.self.inside { contexts = c.map.new.self }))) (ap managers.numbered c.self.view_is);
+  room = refl;
+}

@@ -1,4 +1,6 @@
-use Rattle.std.proofs.Common.{◌*◌, None, ap}
+use Rattle.std.proofs.Common.{◌*◌, None, ap, is_some, refl, ◌∙◌}
+use Rattle.vm_ids.proofs.Places.{count-replicate_none}
+use Rattle.page_tables.specs.Translations.{entry_count}
 use Rattle.pvm_core.proofs.Meaning.Empty.{none_sound, none_forest, none_full, none_sized, none_whole}
 use Rattle.residency.specs.declared.store.Store.{Store}
 use Rattle.pvm_core.proofs.Translating.Dropped.{none_right}
@@ -22,3 +24,6 @@ returns-clause-valid c = λ h. record {
   full = none_full c.new-2.result c.new-3.result.page_bytes h c.new-2.ensures.caches;
   whole = none_whole h c.new-3.result.page_bytes c.new-2.result c.in_ok-store.store c.new-2.ensures.caches;
 }
+
+pub returns-clause-translations : goal.returns-clause-translations
+returns-clause-translations c = ap (λ (s : Store). entry_count s.tables) c.in_ok-store.ensures.is ∙ count-replicate_none is_some (4 * c.args.frames) None refl

@@ -1,4 +1,4 @@
-use Rattle.std.proofs.Common.{◌≡◌, ℕ, ◌<◌, ◌≤◌, [], Option, None, Some, length, refl, sym, ap, subst, ◌∙◌, arith}
+use Rattle.std.proofs.Common.{rules, ◌≡◌, ℕ, ◌<◌, ◌≤◌, [], Option, None, Some, length, refl, sym, ap, subst, ◌∙◌, arith}
 use Rattle.std.specs.Prelude.{Err, IfSome, List, option_map}
 use Rattle.std.specs.FinMap.{get, get-empty}
 use Rattle.std.specs.Ordering.{nat_cmp}
@@ -14,13 +14,14 @@ use Rattle.vm_model.specs.Answering.{Answer, answer_by}
 use Rattle.vm_model.specs.Machine.{Page}
 use Rattle.vm_model.specs.Run.{AnswerIs}
 use Rattle.vm_model.specs.PageForest.{PageForest}
-use Rattle.pvm_core.specs.Manager.{IsValid, Manager, forest_of, machine_by, machine_of, state_at}
+use Rattle.pvm_core.specs.Manager.{IsValid, Manager, forest_of, machine_by, machine_of, numbered, state_at}
 use Rattle.pvm_core.proofs.Meaning.Shown.{shown_made}
 use Rattle.pvm_core.specs.contracts.pvm.Pvm.{the_view}
-use Rattle.pvm_core.proofs.Answering.Answered.{no_segments}
+use Rattle.pvm_core.proofs.Answering.Answered.{made_stays, no_segments}
 use Rattle.pvm_core.proofs.Opening.Refused.{may_open, outcome_over, stayed}
 use Rattle.pvm_core.proofs.Opening.Rows.{in_use, many_made, none_held}
 use Rattle.pvm_core.proofs.Opening.Told.{failed_rise, has_segment, no_segment, one_fault, quiet, still_rise}
+use Rattle.pvm_core.proofs.Answering.Recorded.{asks_quiet, refused_mapper_call}
 use Rattle.pvm_core.proofs.pvm.Pvm.open_segment.Goals as goal
 
 -- as many caches were made as the machine has
@@ -32,8 +33,8 @@ counted : (h : Option Held) (seg : ℕ) {o n : Option ℕ} → o ≡ n → IfSom
 counted None seg e size = tt
 counted (Some h) seg e size = sym e ∙ size
 
-pub returns-then-is_opened-clause-answers : goal.returns-then-is_opened-clause-answers
-returns-then-is_opened-clause-answers g c =
+pub returns-then-is_opened-clause-call : goal.returns-then-is_opened-clause-call
+returns-then-is_opened-clause-call g c = refused_mapper_call c.requires.valid (
     let h : Option Held = g.M.Mapper.held c.args.mapper.now in
     let p : Manager = the_view c.self.inside in
     let i = c.self.invariant.sound in
@@ -48,10 +49,10 @@ returns-then-is_opened-clause-answers g c =
           (outcome_over p p h no_segments (commands.OpenSegment c.args.seg) answer no_counts i.nodes i.nodes
           (λ f. in_use p f c.args.seg (get no_segments.pages c.args.seg.0) opened.0 opened.1)
           (λ k e. in_use p (forest_of p h) c.args.seg (get k.segments c.args.seg.0) opened.0 opened.1)));
-    }
+    })
 
-pub returns-then-caches_made-ge-MOST_MADE-clause-answers : goal.returns-then-caches_made-ge-MOST_MADE-clause-answers
-returns-then-caches_made-ge-MOST_MADE-clause-answers g c =
+pub returns-then-caches_made-ge-MOST_MADE-clause-call : goal.returns-then-caches_made-ge-MOST_MADE-clause-call
+returns-then-caches_made-ge-MOST_MADE-clause-call g c = refused_mapper_call c.requires.valid (
     let h : Option Held = g.M.Mapper.held c.args.mapper.now in
     let p : Manager = the_view c.self.inside in
     let i = c.self.invariant.sound in
@@ -66,64 +67,86 @@ returns-then-caches_made-ge-MOST_MADE-clause-answers g c =
           (outcome_over p p h no_segments (commands.OpenSegment c.args.seg) answer no_counts i.nodes i.nodes
           (λ f. many_made p f c.args.seg (λ n e. c.is_opened.ensures.free c.if-is_opened.false (n, e)) (get no_segments.pages c.args.seg.0) many)
           (λ k e. many_made p (forest_of p h) c.args.seg (λ n e. c.is_opened.ensures.free c.if-is_opened.false (n, e)) (get k.segments c.args.seg.0) many)));
-    }
+    })
 
-pub returns-in-Ok-Some-clause-valid : goal.returns-in-Ok-Some-clause-valid
-returns-in-Ok-Some-clause-valid g c =
-    let h : Option Held = g.M.Mapper.held c.args.mapper.now in
-    subst (λ (k : Option Held). IsValid c.add_named.new.self k) (sym c.size.ensures.held)
-    (c.add_named.ensures.valid h c.requires.valid
-    (has_segment h (g.M.Mapper.page_bytes c.args.mapper.now) c.args.seg c.args.self.now.page_bytes c.in-Ok-Some.pages (counted h c.args.seg.0 c.in-Ok-Some.field-0-is c.in-Ok-Some.ensures.pages) c.in-Ok-Some.ensures.whole c.requires.fits))
+pub returns-in-Ok-Some-clause-call : goal.returns-in-Ok-Some-clause-call
+returns-in-Ok-Some-clause-call g c = record {
+  valid = (
+      let h : Option Held = g.M.Mapper.held c.args.mapper.now in
+      subst (λ (k : Option Held). IsValid c.add_named.new.self k) (sym c.size.ensures.held)
+      (c.add_named.ensures.valid h c.requires.valid
+      (has_segment h (g.M.Mapper.page_bytes c.args.mapper.now) c.args.seg c.args.self.now.page_bytes c.in-Ok-Some.pages (counted h c.args.seg.0 c.in-Ok-Some.field-0-is c.in-Ok-Some.ensures.pages) (g.met.M.Mapper.sized c.args.mapper.now) c.requires.fits))
+      );
+  answers = (
+      let h : Option Held = g.M.Mapper.held c.args.mapper.now in
+      record {
+        pushes = [];
+        rises = no_counts;
+        rose = quiet (g.M.Mapper.counts c.args.mapper.now) (g.M.Mapper.counts c.size.new.self) c.size.result c.size.ensures.counts;
+        is = subst (λ (k : Option Held). AnswerIs (state_at c.args.self.now h) (commands.OpenSegment c.args.seg) (answer_by replies.Cache c.add_named.result) [] no_counts (state_at c.add_named.new.self k)) (sym c.size.ensures.held)
+            (c.add_named.ensures.answers h c.requires.valid
+            (has_segment h (g.M.Mapper.page_bytes c.args.mapper.now) c.args.seg c.args.self.now.page_bytes c.in-Ok-Some.pages (counted h c.args.seg.0 c.in-Ok-Some.field-0-is c.in-Ok-Some.ensures.pages) (g.met.M.Mapper.sized c.args.mapper.now) c.requires.fits));
+      }
+      );
+  asks_first = asks_quiet (commands.OpenSegment c.args.seg) (answer_by replies.Cache c.add_named.result) (g.M.Mapper.counts c.args.mapper.now) (g.M.Mapper.counts c.size.new.self) (record { pulled = c.size.ensures.counts.pulled; pushed = c.size.ensures.counts.pushed });
+  made = made_stays (machine_of c.args.self.now (g.M.Mapper.held c.args.mapper.now)) (commands.OpenSegment c.args.seg) (answer_by replies.Cache c.add_named.result) (machine_of c.add_named.new.self (g.M.Mapper.held c.size.new.self)) (numbered c.args.self.now) (numbered c.add_named.new.self) (c.add_named.ensures.made);
+  room = refl;
+  page = search rules;
+}
 
-pub returns-in-Ok-Some-clause-answers : goal.returns-in-Ok-Some-clause-answers
-returns-in-Ok-Some-clause-answers g c =
-    let h : Option Held = g.M.Mapper.held c.args.mapper.now in
-    record {
-      pushes = [];
-      rises = no_counts;
-      rose = quiet (g.M.Mapper.counts c.args.mapper.now) (g.M.Mapper.counts c.size.new.self) c.size.result c.size.ensures.counts;
-      is = subst (λ (k : Option Held). AnswerIs (state_at c.args.self.now h) (commands.OpenSegment c.args.seg) (answer_by replies.Cache c.add_named.result) [] no_counts (state_at c.add_named.new.self k)) (sym c.size.ensures.held)
-          (c.add_named.ensures.answers h c.requires.valid
-          (has_segment h (g.M.Mapper.page_bytes c.args.mapper.now) c.args.seg c.args.self.now.page_bytes c.in-Ok-Some.pages (counted h c.args.seg.0 c.in-Ok-Some.field-0-is c.in-Ok-Some.ensures.pages) c.in-Ok-Some.ensures.whole c.requires.fits));
-    }
+pub returns-in-Ok-None-clause-call : goal.returns-in-Ok-None-clause-call
+returns-in-Ok-None-clause-call g c = record {
+  valid = search rules;
+  answers = (
+      let h : Option Held = g.M.Mapper.held c.args.mapper.now in
+      let p : Manager = the_view c.self.inside in
+      let i = c.self.invariant.sound in
+      let answer : Answer = Err (troubles.Refused refusals.NoSegment) in
+      let few : length p.caches.caches < MOST_MADE = omega (arith, c.if-caches_made-ge-MOST_MADE.false, c.caches_made.ensures) in
+      record {
+        pushes = [];
+        rises = no_counts;
+        rose = quiet (g.M.Mapper.counts c.args.mapper.now) (g.M.Mapper.counts c.size.new.self) c.size.result c.size.ensures.counts;
+        is = subst (λ (k : Option Held). AnswerIs (state_at c.args.self.now h) (commands.OpenSegment c.args.seg) answer [] no_counts (state_at c.args.self.now k)) (sym c.size.ensures.held)
+            (subst (λ (p : Manager). AnswerIs (state_at p h) (commands.OpenSegment c.args.seg) answer [] no_counts (state_at p h)) c.self.view_is
+            (stayed p p h (commands.OpenSegment c.args.seg) answer no_counts (subst (λ (p : Manager). IsValid p h) (sym c.self.view_is) c.requires.valid) refl refl tt tt
+            (outcome_over p p h no_segments (commands.OpenSegment c.args.seg) answer no_counts i.nodes i.nodes
+            (λ f. ap (Rattle.vm_model.specs.Answering.open_of (machine_by p f) c.args.seg.0) (get-empty nat_cmp c.args.seg.0) ∙ none_held p f c.args.seg (λ n e. c.is_opened.ensures.free c.if-is_opened.false (n, e)) few)
+            (λ k e.
+            ap (Rattle.vm_model.specs.Answering.open_of (machine_of p h) c.args.seg.0) (no_segment (get k.segments c.args.seg.0) (subst (λ (o : Option Held). IfSome o (λ h. None ≡ option_map (λ (ps : List Page). length ps) (get h.segments c.args.seg.0))) e (counted h c.args.seg.0 c.in-Ok-None.field-0-is c.in-Ok-None.ensures.pages)))
+            ∙ none_held p (forest_of p h) c.args.seg (λ n e. c.is_opened.ensures.free c.if-is_opened.false (n, e)) few))));
+      }
+      );
+  asks_first = record { pulled = c.size.ensures.counts.pulled; pushed = c.size.ensures.counts.pushed };
+  made = search rules;
+  room = refl;
+  page = search rules;
+}
 
-pub returns-in-Ok-None-clause-answers : goal.returns-in-Ok-None-clause-answers
-returns-in-Ok-None-clause-answers g c =
-    let h : Option Held = g.M.Mapper.held c.args.mapper.now in
-    let p : Manager = the_view c.self.inside in
-    let i = c.self.invariant.sound in
-    let answer : Answer = Err (troubles.Refused refusals.NoSegment) in
-    let few : length p.caches.caches < MOST_MADE = omega (arith, c.if-caches_made-ge-MOST_MADE.false, c.caches_made.ensures) in
-    record {
-      pushes = [];
-      rises = no_counts;
-      rose = quiet (g.M.Mapper.counts c.args.mapper.now) (g.M.Mapper.counts c.size.new.self) c.size.result c.size.ensures.counts;
-      is = subst (λ (k : Option Held). AnswerIs (state_at c.args.self.now h) (commands.OpenSegment c.args.seg) answer [] no_counts (state_at c.args.self.now k)) (sym c.size.ensures.held)
-          (subst (λ (p : Manager). AnswerIs (state_at p h) (commands.OpenSegment c.args.seg) answer [] no_counts (state_at p h)) c.self.view_is
-          (stayed p p h (commands.OpenSegment c.args.seg) answer no_counts (subst (λ (p : Manager). IsValid p h) (sym c.self.view_is) c.requires.valid) refl refl tt tt
-          (outcome_over p p h no_segments (commands.OpenSegment c.args.seg) answer no_counts i.nodes i.nodes
-          (λ f. ap (Rattle.vm_model.specs.Answering.open_of (machine_by p f) c.args.seg.0) (get-empty nat_cmp c.args.seg.0) ∙ none_held p f c.args.seg (λ n e. c.is_opened.ensures.free c.if-is_opened.false (n, e)) few)
-          (λ k e.
-          ap (Rattle.vm_model.specs.Answering.open_of (machine_of p h) c.args.seg.0) (no_segment (get k.segments c.args.seg.0) (subst (λ (o : Option Held). IfSome o (λ h. None ≡ option_map (λ (ps : List Page). length ps) (get h.segments c.args.seg.0))) e (counted h c.args.seg.0 c.in-Ok-None.field-0-is c.in-Ok-None.ensures.pages)))
-          ∙ none_held p (forest_of p h) c.args.seg (λ n e. c.is_opened.ensures.free c.if-is_opened.false (n, e)) few))));
-    }
-
-pub returns-in-Err-clause-answers : goal.returns-in-Err-clause-answers
-returns-in-Err-clause-answers g c =
-    let h : Option Held = g.M.Mapper.held c.args.mapper.now in
-    let p : Manager = the_view c.self.inside in
-    let i = c.self.invariant.sound in
-    let answer : Answer = Err (troubles.Mapper faults.Opening) in
-    let few : length p.caches.caches < MOST_MADE = omega (arith, c.if-caches_made-ge-MOST_MADE.false, c.caches_made.ensures) in
-    let counts = c.size.ensures.counts in
-    record {
-      pushes = [];
-      rises = one_fault;
-      rose = failed_rise (g.M.Mapper.counts c.args.mapper.now) (g.M.Mapper.counts c.size.new.self) c.size.result counts c.in-Err.ensures.counts.faults.failed;
-      is = subst (λ (k : Option Held). AnswerIs (state_at c.args.self.now h) (commands.OpenSegment c.args.seg) answer [] one_fault (state_at c.args.self.now k)) (sym c.size.ensures.held)
-          (subst (λ (p : Manager). AnswerIs (state_at p h) (commands.OpenSegment c.args.seg) answer [] one_fault (state_at p h)) c.self.view_is
-          (stayed p p h (commands.OpenSegment c.args.seg) answer one_fault (subst (λ (p : Manager). IsValid p h) (sym c.self.view_is) c.requires.valid) refl refl tt tt
-          (outcome_over p p h no_segments (commands.OpenSegment c.args.seg) answer one_fault i.nodes i.nodes
-          (λ f. (refl, omega arith, shown_few p f few, may_open p f c.args.seg (c.is_opened.ensures.free c.if-is_opened.false) few (get no_segments.pages c.args.seg.0)))
-          (λ k e. (refl, omega arith, shown_few p (forest_of p h) few, may_open p (forest_of p h) c.args.seg (c.is_opened.ensures.free c.if-is_opened.false) few (get k.segments c.args.seg.0))))));
-    }
+pub returns-in-Err-clause-call : goal.returns-in-Err-clause-call
+returns-in-Err-clause-call g c = record {
+  valid = search rules;
+  answers = (
+      let h : Option Held = g.M.Mapper.held c.args.mapper.now in
+      let p : Manager = the_view c.self.inside in
+      let i = c.self.invariant.sound in
+      let answer : Answer = Err (troubles.Mapper faults.Opening) in
+      let few : length p.caches.caches < MOST_MADE = omega (arith, c.if-caches_made-ge-MOST_MADE.false, c.caches_made.ensures) in
+      let counts = c.size.ensures.counts in
+      record {
+        pushes = [];
+        rises = one_fault;
+        rose = failed_rise (g.M.Mapper.counts c.args.mapper.now) (g.M.Mapper.counts c.size.new.self) c.size.result counts c.in-Err.ensures.counts.faults.failed;
+        is = subst (λ (k : Option Held). AnswerIs (state_at c.args.self.now h) (commands.OpenSegment c.args.seg) answer [] one_fault (state_at c.args.self.now k)) (sym c.size.ensures.held)
+            (subst (λ (p : Manager). AnswerIs (state_at p h) (commands.OpenSegment c.args.seg) answer [] one_fault (state_at p h)) c.self.view_is
+            (stayed p p h (commands.OpenSegment c.args.seg) answer one_fault (subst (λ (p : Manager). IsValid p h) (sym c.self.view_is) c.requires.valid) refl refl tt tt
+            (outcome_over p p h no_segments (commands.OpenSegment c.args.seg) answer one_fault i.nodes i.nodes
+            (λ f. (refl, omega arith, shown_few p f few, may_open p f c.args.seg (c.is_opened.ensures.free c.if-is_opened.false) few (get no_segments.pages c.args.seg.0)))
+            (λ k e. (refl, omega arith, shown_few p (forest_of p h) few, may_open p (forest_of p h) c.args.seg (c.is_opened.ensures.free c.if-is_opened.false) few (get k.segments c.args.seg.0))))));
+      }
+      );
+  asks_first = tt;
+  made = search rules;
+  room = refl;
+  page = search rules;
+}

@@ -1,4 +1,4 @@
-use Rattle.std.proofs.Common.{◌≡◌, refl, sym, ap, subst, ◌∙◌}
+use Rattle.std.proofs.Common.{rules, ◌≡◌, refl, sym, ap, subst, ◌∙◌}
 use Rattle.std.specs.Prelude.{◌+◌, length, min, IfSome, OnOk, Result}
 use Rattle.frame_pool.specs.Pool.{held_count}
 use Rattle.local_cache.specs.Arena.{Arena}
@@ -12,13 +12,15 @@ use Rattle.vm_ids.specs.declared.reply.Reply.TheVariants as replies
 use Rattle.vm_ids.specs.declared.reply.Trouble.{Trouble}
 use Rattle.vm_model.specs.Answering.{answer_by}
 use Rattle.vm_model.specs.Run.{CallIs}
-use Rattle.pvm_core.specs.Manager.{IsValid, Manager, forest_of, machine_by, machine_of, state_at}
-use Rattle.pvm_core.proofs.Answering.Answered.{called, on_victim, paged_out, victim}
+use Rattle.pvm_core.specs.Manager.{IsValid, Manager, forest_of, machine_by, machine_of, numbered, state_at}
+use Rattle.pvm_core.proofs.Answering.Answered.{called, made_stays, on_victim, paged_out, victim}
 use Rattle.pvm_core.proofs.Accesses.Seen.{fits_frames, same_grants}
 use Rattle.pvm_core.proofs.Homes.Homed.{reached}
 use Rattle.pvm_core.proofs.Translating.Dropped.{dropped_right}
 use Rattle.pvm_core.proofs.Answering.Kept.{seen, sized_right}
 use Rattle.pvm_core.proofs.Answering.Standing.{Stands, stands}
+use Rattle.pvm_core.proofs.Answering.Recorded.{asks_victim}
+use Rattle.gmi_calls.specs.Calling.{AsksFirst}
 use Rattle.pvm_core.proofs.pvm.Pvm.page_out.Given.{Over}
 use Rattle.pvm_core.proofs.pvm.Pvm.page_out.Goals as goal
 use Rattle.pvm_core.proofs.pvm.Pvm.page_out.Goals.{After-page_out, in-Ok, in-Err}
@@ -58,29 +60,40 @@ invariant_of-self g c = record {
       );
 }
 
-pub returns-clause-valid : goal.returns-clause-valid
-returns-clause-valid g c = (paged g (goal.at.returns-clause-valid g c).After-page_out).valid
-
-pub returns-clause-answers : goal.returns-clause-answers
-returns-clause-answers g c =
-    let i = c.self.inside in
-    let n = c.page_out.new in
-    let h = g.M.Mapper.held c.args.mapper.now in
-    let k = g.M.Mapper.held n.mapper in
-    let before = g.M.Mapper.counts c.args.mapper.now in
-    let after = g.M.Mapper.counts n.mapper in
-    let p : Manager = seen i.caches i.store i.contexts in
-    let q : Manager = seen n.caches n.self i.contexts in
-    let command = commands.PageOut c.args.count in
-    let s = paged g (goal.at.returns-clause-answers g c).After-page_out in
-    let turned : victim c.page_out.result ≡ c.match-page_out.result = elim c.match-page_out.branch [
-      | in-Ok w ↦ ap victim w.in-Ok.is ∙ sym w.result-is
-      | in-Err w ↦ ap victim w.in-Err.is ∙ sym w.result-is
-    ] in
-    subst (λ (p : Manager). CallIs before after (state_at p h) command (answer_by (λ _. replies.Done) c.match-page_out.result) (state_at q k)) c.self.view_is
-    (subst (λ (r : Result (Unit {0}) Trouble). CallIs before after (state_at p h) command (answer_by (λ _. replies.Done) r) (state_at q k)) turned
-    (called before after p q h k command (answer_by (λ _. replies.Done) (victim c.page_out.result)) s.reach c.self.invariant.sound.nodes s.sound.nodes s.valid s.forest (λ done m f s none. none) tt tt (λ f. refl) (λ page. refl)
-    (λ f g. paged_out (length s.reach.pushes) (machine_by p f) (machine_by q f) (forest_of p h) c.args.count g before after c.page_out.result (s.by f) c.page_out.ensures.cause)))
+pub returns-clause-call : goal.returns-clause-call
+returns-clause-call g c = record {
+  valid = (paged g (goal.at.returns-clause-call g c).After-page_out).valid;
+  answers = (
+      let i = c.self.inside in
+      let n = c.page_out.new in
+      let h = g.M.Mapper.held c.args.mapper.now in
+      let k = g.M.Mapper.held n.mapper in
+      let before = g.M.Mapper.counts c.args.mapper.now in
+      let after = g.M.Mapper.counts n.mapper in
+      let p : Manager = seen i.caches i.store i.contexts in
+      let q : Manager = seen n.caches n.self i.contexts in
+      let command = commands.PageOut c.args.count in
+      let s = paged g (goal.at.returns-clause-call g c).After-page_out in
+      let turned : victim c.page_out.result ≡ c.match-page_out.result = elim c.match-page_out.branch [
+        | in-Ok w ↦ ap victim w.in-Ok.is ∙ sym w.result-is
+        | in-Err w ↦ ap victim w.in-Err.is ∙ sym w.result-is
+      ] in
+      subst (λ (p : Manager). CallIs before after (state_at p h) command (answer_by (λ _. replies.Done) c.match-page_out.result) (state_at q k)) c.self.view_is
+      (subst (λ (r : Result (Unit {0}) Trouble). CallIs before after (state_at p h) command (answer_by (λ _. replies.Done) r) (state_at q k)) turned
+      (called before after p q h k command (answer_by (λ _. replies.Done) (victim c.page_out.result)) s.reach c.self.invariant.sound.nodes s.sound.nodes s.valid s.forest (λ done m f s none. none) tt tt (λ f. refl) (λ page. refl)
+      (λ f g. paged_out (length s.reach.pushes) (machine_by p f) (machine_by q f) (forest_of p h) c.args.count g before after c.page_out.result (s.by f) c.page_out.ensures.cause)))
+      );
+  asks_first = (
+      let turned : victim c.page_out.result ≡ c.match-page_out.result = elim c.match-page_out.branch [
+        | in-Ok w ↦ ap victim w.in-Ok.is ∙ sym w.result-is
+        | in-Err w ↦ ap victim w.in-Err.is ∙ sym w.result-is
+      ] in
+      subst (λ (r : Result (Unit {0}) Trouble). AsksFirst (commands.PageOut c.args.count) (answer_by (λ _. replies.Done) r) (g.M.Mapper.counts c.args.mapper.now) (g.M.Mapper.counts c.page_out.new.mapper)) turned (asks_victim (commands.PageOut c.args.count) c.page_out.result (g.M.Mapper.counts c.args.mapper.now) (g.M.Mapper.counts c.page_out.new.mapper))
+      );
+  made = made_stays (machine_of c.args.self.now (g.M.Mapper.held c.args.mapper.now)) (commands.PageOut c.args.count) (answer_by (λ _. replies.Done) c.match-page_out.result) (machine_of (seen c.page_out.new.caches c.page_out.new.self c.self.inside.contexts) (g.M.Mapper.held c.page_out.new.mapper)) (numbered c.args.self.now) (numbered (seen c.page_out.new.caches c.page_out.new.self c.self.inside.contexts)) (ap (λ (a : Arena). a.made + a.copies) c.page_out.ensures.still.stays.caches.rest ∙ ap numbered c.self.view_is);
+  room = refl;
+  page = search rules;
+}
 
 pub returns-clause-machine : goal.returns-clause-machine
 returns-clause-machine g c =

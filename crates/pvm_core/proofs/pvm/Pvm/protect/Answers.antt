@@ -1,4 +1,4 @@
-use Rattle.std.proofs.Common.{◌≡◌, true, List, [], length, Option, sym, ap, subst, ◌∙◌}
+use Rattle.std.proofs.Common.{arith, refl, ◌≡◌, true, List, [], length, Option, sym, ap, subst, ◌∙◌}
 use Rattle.std.specs.Prelude.{Ok, Err, is_some}
 use Rattle.std.proofs.lemmas.Bool.{cond-false, cond-true}
 use Rattle.vm_ids.specs.Counting.{no_counts}
@@ -14,7 +14,7 @@ use Rattle.page_tables.specs.declared.entry.Entry.{Entry}
 use Rattle.residency.specs.declared.store.Store.{Store}
 use Rattle.contexts.specs.Actors.{Actors}
 use Rattle.contexts.proofs.Told.{told_some}
-use Rattle.pvm_core.specs.Manager.{IsKept, IsValid, caches_shown, state_at}
+use Rattle.pvm_core.specs.Manager.{IsKept, IsValid, caches_shown, numbered, state_at}
 use Rattle.pvm_core.specs.Locks.{locks_over}
 use Rattle.pvm_core.specs.Placed.{AreRight}
 use Rattle.pvm_core.specs.Translated.{AreTranslationsRight}
@@ -25,16 +25,18 @@ use Rattle.pvm_core.proofs.Answering.Listed.{machine_with}
 use Rattle.pvm_core.proofs.RegionRows.{over_allowed, protect_none, protect_row, right_with_allowed, with_allowed}
 use Rattle.pvm_core.proofs.Translating.Commands.{forgotten, forgotten_count, protected_right}
 use Rattle.pvm_core.proofs.Translating.Tables.{tables_sound, tables_state, tables_valid, with_tables}
+use Rattle.pvm_core.proofs.Answering.Recorded.{refused_call}
 use Rattle.pvm_core.proofs.pvm.Pvm.protect.Goals as goal
 use Rattle.pvm_core.proofs.pvm.Pvm.protect.Goals.{After-protect, In-Some, else-not-prot, then-not-prot}
 
-pub returns-in_default-clause-answers : goal.returns-in_default-clause-answers
-returns-in_default-clause-answers c = λ h v.
+pub returns-in_default-clause-call : goal.returns-in_default-clause-call
+returns-in_default-clause-call c = refused_call (
+    λ h v.
     let i = c.self.inside in
     let n = c.args.region.0 in
     told i.caches i.store i.contexts _ c.self.view_is h v (commands.Protect c.args.region c.args.prot) (protected c.args.region c.args.prot) (Err (troubles.Refused refusals.NoRegion)) c.self.invariant.sound.nodes
     (λ f g k. protect_none (caches_shown f 1 i.caches.caches) (length i.store.frames.held) i.contexts n c.args.prot
-    (sym (told_some n 1 i.contexts.actors) ∙ ap is_some (sym c.status.ensures ∙ c.in_default.is)))
+    (sym (told_some n 1 i.contexts.actors) ∙ ap is_some (sym c.status.ensures ∙ c.in_default.is))))
 
 abbrev with_forgotten : Inside → List (Option Entry) → Inside
 with_forgotten i ts = record i { store = with_tables i.store ts }
@@ -78,32 +80,38 @@ invariant_of-self c =
           (protected_right i.caches i.store t c.args.region.0 c.args.prot c.in-Some.was c.self.invariant.sound.actors.some c.self.invariant.translated (sym c.status.ensures ∙ c.in-Some.is));
     })
 
-pub returns-clause-valid : goal.returns-clause-valid
-returns-clause-valid c = λ h v.
-    let i = c.self.inside in
-    let t : Actors = i.contexts in
-    let u : Actors = c.protect.new.self in
-    let ts : List (Option Entry) = forgotten t.page_bytes c.args.prot c.in-Some.was i.store.tables in
-    let at = (goal.at.returns-clause-valid c).After-protect in
-    let new = allowed at in
-    subst (λ (x : Inside). IsValid (seen x.caches x.store u) h) (sym (inside at))
-    (tables_valid (seen i.caches i.store u) ts (forgotten_count t.page_bytes c.args.prot c.in-Some.was i.store.tables) h
-    (acted_valid i.caches i.store t _ c.self.view_is h v u (ap (λ (w : Actors). w.page_bytes) new)))
-
-pub returns-clause-answers : goal.returns-clause-answers
-returns-clause-answers c = λ h v.
-    let i = c.self.inside in
-    let t : Actors = i.contexts in
-    let u : Actors = c.protect.new.self in
-    let ts : List (Option Entry) = forgotten t.page_bytes c.args.prot c.in-Some.was i.store.tables in
-    let at = (goal.at.returns-clause-answers c).After-protect in
-    let new = allowed at in
-    let command = commands.Protect c.args.region c.args.prot in
-    subst (λ (x : Inside). AnswerIs (state_at c.args.self.now h) command (Ok replies.Done) [] no_counts (state_at (seen x.caches x.store u) h)) (sym (inside at))
-    (subst (λ (m : State). AnswerIs (state_at c.args.self.now h) command (Ok replies.Done) [] no_counts m)
-    (sym (tables_state (seen i.caches i.store u) ts (forgotten_count t.page_bytes c.args.prot c.in-Some.was i.store.tables) h))
-    (acted i.caches i.store t _ c.self.view_is h v command (protected c.args.region c.args.prot) (Ok replies.Done) c.self.invariant.sound.nodes u
-    (ap (λ (w : Actors). w.page_bytes) new)
-    (λ f g k. let caches = caches_shown f 1 i.caches.caches in
-    let frames = length i.store.frames.held in
-    protect_row caches frames t c.args.region.0 c.args.prot (there (goal.at.returns-clause-answers c).In-Some) ∙ ap (λ (w : Actors). reply replies.Done (machine_with caches frames w)) (sym new))))
+pub returns-clause-call : goal.returns-clause-call
+returns-clause-call c = record {
+  valid = (
+      λ h v.
+      let i = c.self.inside in
+      let t : Actors = i.contexts in
+      let u : Actors = c.protect.new.self in
+      let ts : List (Option Entry) = forgotten t.page_bytes c.args.prot c.in-Some.was i.store.tables in
+      let at = (goal.at.returns-clause-call c).After-protect in
+      let new = allowed at in
+      subst (λ (x : Inside). IsValid (seen x.caches x.store u) h) (sym (inside at))
+      (tables_valid (seen i.caches i.store u) ts (forgotten_count t.page_bytes c.args.prot c.in-Some.was i.store.tables) h
+      (acted_valid i.caches i.store t _ c.self.view_is h v u (ap (λ (w : Actors). w.page_bytes) new)))
+      );
+  answers = (
+      λ h v.
+      let i = c.self.inside in
+      let t : Actors = i.contexts in
+      let u : Actors = c.protect.new.self in
+      let ts : List (Option Entry) = forgotten t.page_bytes c.args.prot c.in-Some.was i.store.tables in
+      let at = (goal.at.returns-clause-call c).After-protect in
+      let new = allowed at in
+      let command = commands.Protect c.args.region c.args.prot in
+      subst (λ (x : Inside). AnswerIs (state_at c.args.self.now h) command (Ok replies.Done) [] no_counts (state_at (seen x.caches x.store u) h)) (sym (inside at))
+      (subst (λ (m : State). AnswerIs (state_at c.args.self.now h) command (Ok replies.Done) [] no_counts m)
+      (sym (tables_state (seen i.caches i.store u) ts (forgotten_count t.page_bytes c.args.prot c.in-Some.was i.store.tables) h))
+      (acted i.caches i.store t _ c.self.view_is h v command (protected c.args.region c.args.prot) (Ok replies.Done) c.self.invariant.sound.nodes u
+      (ap (λ (w : Actors). w.page_bytes) new)
+      (λ f g k. let caches = caches_shown f 1 i.caches.caches in
+      let frames = length i.store.frames.held in
+      protect_row caches frames t c.args.region.0 c.args.prot (there (goal.at.returns-clause-call c).In-Some) ∙ ap (λ (w : Actors). reply replies.Done (machine_with caches frames w)) (sym new))))
+      );
+  made = λ h v. omega (arith, ap (λ (x : Inside). numbered (seen x.caches x.store c.protect.new.self)) (inside (goal.at.returns-clause-call c).After-protect), ap numbered c.self.view_is);
+  room = refl;
+}

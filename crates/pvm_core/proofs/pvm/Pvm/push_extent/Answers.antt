@@ -1,5 +1,6 @@
-use Rattle.std.proofs.Common.{◌≡◌, ◌+◌, Bool, true, false, None, Some, refl, sym, ap, subst, ◌∙◌}
+use Rattle.std.proofs.Common.{rules, ◌≡◌, ◌+◌, Bool, true, false, None, Some, refl, sym, ap, subst, ◌∙◌}
 use Rattle.std.specs.Prelude.{◌&&◌, OnOk, Err, Result, option_map}
+use Rattle.vm_ids.specs.declared.command.Command.{Command}
 use Rattle.vm_ids.specs.declared.command.Command.TheVariants as commands
 use Rattle.vm_ids.specs.declared.command.Extent.{Extent}
 use Rattle.vm_ids.specs.declared.reply.Trouble.{Trouble}
@@ -9,13 +10,14 @@ use Rattle.segment_ops.specs.Synced.{AreSynced}
 use Rattle.residency.specs.World.{world}
 use Rattle.vm_model.specs.Answering.{Answer}
 use Rattle.vm_model.specs.Run.{CallIs}
-use Rattle.gmi_calls.specs.Calling.{done_by}
+use Rattle.gmi_calls.specs.Calling.{AsksFirst, RaisesMade, done_by}
 use Rattle.pvm_core.specs.Extents.{extent_refusal}
 use Rattle.pvm_core.specs.Keeping.{SameMeaning}
 use Rattle.pvm_core.specs.Locks.{any_locked}
-use Rattle.pvm_core.specs.Manager.{IsValid, Manager, state_at}
+use Rattle.pvm_core.specs.Manager.{IsValid, Manager, machine_of, numbered, state_at}
 use Rattle.pvm_core.specs.contracts.pvm.Pvm.{the_view}
-use Rattle.pvm_core.proofs.Answering.Answered.{called}
+use Rattle.pvm_core.proofs.Answering.Answered.{called, made_stays}
+use Rattle.pvm_core.proofs.Answering.Recorded.{asks_failing, refused_mapper_call}
 use Rattle.pvm_core.proofs.Extents.Push.{all_unsized, failing, failing_ok, flush_is, stop_unsized, sync_is}
 use Rattle.pvm_core.proofs.Extents.Rows.{extent_open, extent_unlocked, flush_refused, sync_refused}
 use Rattle.pvm_core.proofs.Answering.Kept.{seen}
@@ -39,7 +41,7 @@ none_locked : (a : Arena) (e : Extent) (b : Bool) → b ≡ true → extent_refu
 none_locked a e b up none = ap (λ (b : Bool). b && any_locked a e) (sym up) ∙ extent_unlocked (table_of a e.cache.0) e (b && any_locked a e) none
 
 pub returns-in-Some-clause-sync : goal.returns-in-Some-clause-sync
-returns-in-Some-clause-sync g c = λ keep.
+returns-in-Some-clause-sync g c = λ keep. refused_mapper_call c.requires.valid (
     let h = g.M.Mapper.held c.args.mapper.now in
     let before = g.M.Mapper.counts c.args.mapper.now in
     let p : Manager = the_view c.self.inside in
@@ -47,10 +49,10 @@ returns-in-Some-clause-sync g c = λ keep.
     let answer : Answer = Err (troubles.Refused c.in-Some.refusal) in
     subst (λ (p : Manager). CallIs before before (state_at p h) (commands.Sync c.args.extent) answer (state_at p h)) c.self.view_is
     (called before before p p h h (commands.Sync c.args.extent) answer (reach_none _ h before) i.nodes i.nodes (subst (λ (p : Manager). IsValid p h) (sym c.self.view_is) c.requires.valid) refl (λ done m f s none. none) tt tt (λ f. refl) (λ page. refl)
-    (λ f s. sync_refused p f c.args.extent c.in-Some.refusal (any_or c.self.inside.caches c.args.extent false c.args.give_up (sym keep) ∙ sym c.extent_refusal.ensures ∙ c.in-Some.is)))
+    (λ f s. sync_refused p f c.args.extent c.in-Some.refusal (any_or c.self.inside.caches c.args.extent false c.args.give_up (sym keep) ∙ sym c.extent_refusal.ensures ∙ c.in-Some.is))))
 
 pub returns-in-Some-clause-flush : goal.returns-in-Some-clause-flush
-returns-in-Some-clause-flush g c = λ up.
+returns-in-Some-clause-flush g c = λ up. refused_mapper_call c.requires.valid (
     let h = g.M.Mapper.held c.args.mapper.now in
     let before = g.M.Mapper.counts c.args.mapper.now in
     let p : Manager = the_view c.self.inside in
@@ -58,7 +60,7 @@ returns-in-Some-clause-flush g c = λ up.
     let answer : Answer = Err (troubles.Refused c.in-Some.refusal) in
     subst (λ (p : Manager). CallIs before before (state_at p h) (commands.Flush c.args.extent) answer (state_at p h)) c.self.view_is
     (called before before p p h h (commands.Flush c.args.extent) answer (reach_none _ h before) i.nodes i.nodes (subst (λ (p : Manager). IsValid p h) (sym c.self.view_is) c.requires.valid) refl (λ done m f s none. none) tt tt (λ f. refl) (λ page. refl)
-    (λ f s. flush_refused p f c.args.extent i.locked.counted c.in-Some.refusal (any_or c.self.inside.caches c.args.extent true c.args.give_up (sym up) ∙ sym c.extent_refusal.ensures ∙ c.in-Some.is)))
+    (λ f s. flush_refused p f c.args.extent i.locked.counted c.in-Some.refusal (any_or c.self.inside.caches c.args.extent true c.args.give_up (sym up) ∙ sym c.extent_refusal.ensures ∙ c.in-Some.is))))
 
 pub push_range-requires-clause-range : goal.push_range-requires-clause-range
 push_range-requires-clause-range g c =
@@ -94,55 +96,86 @@ invariant_of-self g c = record {
       );
 }
 
-pub returns-clause-valid : goal.returns-clause-valid
-returns-clause-valid g c = (pushed g (goal.at.returns-clause-valid g c).After-push_range).valid
+-- and nothing is numbered
+numbers : (g : Over) (c : After-push_range g) (command : Command) (answer : Answer) → RaisesMade (machine_of c.args.self.now (g.M.Mapper.held c.args.mapper.now)) command answer (machine_of (seen c.push_range.new.caches c.push_range.new.store c.self.inside.contexts) (g.M.Mapper.held c.push_range.new.mapper)) (numbered c.args.self.now) (numbered (seen c.push_range.new.caches c.push_range.new.store c.self.inside.contexts))
+numbers g c command answer =
+    let same : numbered (seen c.push_range.new.caches c.push_range.new.store c.self.inside.contexts) ≡ numbered c.args.self.now = search rules in
+    made_stays (machine_of c.args.self.now (g.M.Mapper.held c.args.mapper.now)) command answer (machine_of (seen c.push_range.new.caches c.push_range.new.store c.self.inside.contexts) (g.M.Mapper.held c.push_range.new.mapper)) (numbered c.args.self.now) (numbered (seen c.push_range.new.caches c.push_range.new.store c.self.inside.contexts)) same
 
 pub returns-clause-sync : goal.returns-clause-sync
-returns-clause-sync g c = λ keep.
-    let i = c.self.inside in
-    let n = c.push_range.new in
-    let e = c.push_range.ensures in
-    let h = g.M.Mapper.held c.args.mapper.now in
-    let k = g.M.Mapper.held n.mapper in
-    let now = g.M.Mapper.page_bytes n.mapper in
-    let before = g.M.Mapper.counts c.args.mapper.now in
-    let after = g.M.Mapper.counts n.mapper in
-    let p : Manager = seen i.caches i.store i.contexts in
-    let q : Manager = seen n.caches n.store i.contexts in
-    let x = extent_open i.caches c.args.extent _ (sym c.extent_refusal.ensures ∙ c.in_default.is) in
-    let turned : failing c.push_range.result ≡ c.match-push_range.result = elim c.match-push_range.branch [
-      | in-Ok w ↦ ap failing w.in-Ok.is ∙ sym w.result-is
-      | in-Err w ↦ ap failing w.in-Err.is ∙ sym w.result-is
-    ] in
-    let s = pushed g (goal.at.returns-clause-sync g c).After-push_range in
-    subst (λ (p : Manager). CallIs before after (state_at p h) (commands.Sync c.args.extent) (done_by c.match-push_range.result) (state_at q k)) c.self.view_is
-    (subst (λ (r : Result (Unit {0}) Trouble). CallIs before after (state_at p h) (commands.Sync c.args.extent) (done_by r) (state_at q k)) turned
-    (sync_is p q h k c.args.extent x c.self.invariant.sound.apart before after s.reach c.self.invariant.sound.nodes e.stays.whole s.valid e.stays.kept.nodes.caches s.forest s.by c.push_range.result
-    (all_unsized k now n.caches n.store c.args.extent c.push_range.result e.synced) (stop_unsized k now n.caches n.store c.args.extent c.push_range.result e.failed) e.cause))
+returns-clause-sync g c = λ keep. record {
+  valid = (pushed g (goal.at.returns-clause-sync g c).After-push_range).valid;
+  answers = (
+      let i = c.self.inside in
+      let n = c.push_range.new in
+      let e = c.push_range.ensures in
+      let h = g.M.Mapper.held c.args.mapper.now in
+      let k = g.M.Mapper.held n.mapper in
+      let now = g.M.Mapper.page_bytes n.mapper in
+      let before = g.M.Mapper.counts c.args.mapper.now in
+      let after = g.M.Mapper.counts n.mapper in
+      let p : Manager = seen i.caches i.store i.contexts in
+      let q : Manager = seen n.caches n.store i.contexts in
+      let x = extent_open i.caches c.args.extent _ (sym c.extent_refusal.ensures ∙ c.in_default.is) in
+      let turned : failing c.push_range.result ≡ c.match-push_range.result = elim c.match-push_range.branch [
+        | in-Ok w ↦ ap failing w.in-Ok.is ∙ sym w.result-is
+        | in-Err w ↦ ap failing w.in-Err.is ∙ sym w.result-is
+      ] in
+      let s = pushed g (goal.at.returns-clause-sync g c).After-push_range in
+      subst (λ (p : Manager). CallIs before after (state_at p h) (commands.Sync c.args.extent) (done_by c.match-push_range.result) (state_at q k)) c.self.view_is
+      (subst (λ (r : Result (Unit {0}) Trouble). CallIs before after (state_at p h) (commands.Sync c.args.extent) (done_by r) (state_at q k)) turned
+      (sync_is p q h k c.args.extent x c.self.invariant.sound.apart before after s.reach c.self.invariant.sound.nodes e.stays.whole s.valid e.stays.kept.nodes.caches s.forest s.by c.push_range.result
+      (all_unsized k now n.caches n.store c.args.extent c.push_range.result e.synced) (stop_unsized k now n.caches n.store c.args.extent c.push_range.result e.failed) e.cause))
+      );
+  asks_first = (
+      let turned : failing c.push_range.result ≡ c.match-push_range.result = elim c.match-push_range.branch [
+        | in-Ok w ↦ ap failing w.in-Ok.is ∙ sym w.result-is
+        | in-Err w ↦ ap failing w.in-Err.is ∙ sym w.result-is
+      ] in
+      subst (λ (r : Result (Unit {0}) Trouble). AsksFirst (commands.Sync c.args.extent) (done_by r) (g.M.Mapper.counts c.args.mapper.now) (g.M.Mapper.counts c.push_range.new.mapper)) turned (asks_failing (commands.Sync c.args.extent) c.push_range.result (g.M.Mapper.counts c.args.mapper.now) (g.M.Mapper.counts c.push_range.new.mapper))
+      );
+  made = numbers g (goal.at.returns-clause-sync g c).After-push_range (commands.Sync c.args.extent) (done_by c.match-push_range.result);
+  room = refl;
+  page = search rules;
+}
 
 pub returns-clause-flush : goal.returns-clause-flush
-returns-clause-flush g c = λ up.
-    let i = c.self.inside in
-    let n = c.push_range.new in
-    let e = c.push_range.ensures in
-    let h = g.M.Mapper.held c.args.mapper.now in
-    let k = g.M.Mapper.held n.mapper in
-    let now = g.M.Mapper.page_bytes n.mapper in
-    let before = g.M.Mapper.counts c.args.mapper.now in
-    let after = g.M.Mapper.counts n.mapper in
-    let p : Manager = seen i.caches i.store i.contexts in
-    let q : Manager = seen n.caches n.store i.contexts in
-    let x = extent_open i.caches c.args.extent _ (sym c.extent_refusal.ensures ∙ c.in_default.is) in
-    let turned : failing c.push_range.result ≡ c.match-push_range.result = elim c.match-push_range.branch [
-      | in-Ok w ↦ ap failing w.in-Ok.is ∙ sym w.result-is
-      | in-Err w ↦ ap failing w.in-Err.is ∙ sym w.result-is
-    ] in
-    let s = pushed g (goal.at.returns-clause-flush g c).After-push_range in
-    subst (λ (p : Manager). CallIs before after (state_at p h) (commands.Flush c.args.extent) (done_by c.match-push_range.result) (state_at q k)) c.self.view_is
-    (subst (λ (r : Result (Unit {0}) Trouble). CallIs before after (state_at p h) (commands.Flush c.args.extent) (done_by r) (state_at q k)) turned
-    (flush_is p q h k c.args.extent x c.self.invariant.sound.apart before after s.reach c.self.invariant.sound.nodes e.stays.whole s.valid e.stays.kept.nodes.caches s.forest s.by c.push_range.result
-    (all_unsized k now n.caches n.store c.args.extent c.push_range.result e.synced) (stop_unsized k now n.caches n.store c.args.extent c.push_range.result e.failed) e.cause
-    (λ f. any_same p f c.self.invariant.sound.locked.counted c.args.extent ∙ none_locked i.caches c.args.extent c.args.give_up up (sym c.extent_refusal.ensures ∙ c.in_default.is))))
+returns-clause-flush g c = λ up. record {
+  valid = (pushed g (goal.at.returns-clause-flush g c).After-push_range).valid;
+  answers = (
+      let i = c.self.inside in
+      let n = c.push_range.new in
+      let e = c.push_range.ensures in
+      let h = g.M.Mapper.held c.args.mapper.now in
+      let k = g.M.Mapper.held n.mapper in
+      let now = g.M.Mapper.page_bytes n.mapper in
+      let before = g.M.Mapper.counts c.args.mapper.now in
+      let after = g.M.Mapper.counts n.mapper in
+      let p : Manager = seen i.caches i.store i.contexts in
+      let q : Manager = seen n.caches n.store i.contexts in
+      let x = extent_open i.caches c.args.extent _ (sym c.extent_refusal.ensures ∙ c.in_default.is) in
+      let turned : failing c.push_range.result ≡ c.match-push_range.result = elim c.match-push_range.branch [
+        | in-Ok w ↦ ap failing w.in-Ok.is ∙ sym w.result-is
+        | in-Err w ↦ ap failing w.in-Err.is ∙ sym w.result-is
+      ] in
+      let s = pushed g (goal.at.returns-clause-flush g c).After-push_range in
+      subst (λ (p : Manager). CallIs before after (state_at p h) (commands.Flush c.args.extent) (done_by c.match-push_range.result) (state_at q k)) c.self.view_is
+      (subst (λ (r : Result (Unit {0}) Trouble). CallIs before after (state_at p h) (commands.Flush c.args.extent) (done_by r) (state_at q k)) turned
+      (flush_is p q h k c.args.extent x c.self.invariant.sound.apart before after s.reach c.self.invariant.sound.nodes e.stays.whole s.valid e.stays.kept.nodes.caches s.forest s.by c.push_range.result
+      (all_unsized k now n.caches n.store c.args.extent c.push_range.result e.synced) (stop_unsized k now n.caches n.store c.args.extent c.push_range.result e.failed) e.cause
+      (λ f. any_same p f c.self.invariant.sound.locked.counted c.args.extent ∙ none_locked i.caches c.args.extent c.args.give_up up (sym c.extent_refusal.ensures ∙ c.in_default.is))))
+      );
+  asks_first = (
+      let turned : failing c.push_range.result ≡ c.match-push_range.result = elim c.match-push_range.branch [
+        | in-Ok w ↦ ap failing w.in-Ok.is ∙ sym w.result-is
+        | in-Err w ↦ ap failing w.in-Err.is ∙ sym w.result-is
+      ] in
+      subst (λ (r : Result (Unit {0}) Trouble). AsksFirst (commands.Flush c.args.extent) (done_by r) (g.M.Mapper.counts c.args.mapper.now) (g.M.Mapper.counts c.push_range.new.mapper)) turned (asks_failing (commands.Flush c.args.extent) c.push_range.result (g.M.Mapper.counts c.args.mapper.now) (g.M.Mapper.counts c.push_range.new.mapper))
+      );
+  made = numbers g (goal.at.returns-clause-flush g c).After-push_range (commands.Flush c.args.extent) (done_by c.match-push_range.result);
+  room = refl;
+  page = search rules;
+}
 
 pub returns-clause-stays : goal.returns-clause-stays
 returns-clause-stays g c =

@@ -6,7 +6,9 @@ use Rattle.vm_ids.specs.declared.reply.Trouble.{Trouble}
 use Rattle.residency.specs.StoreForest.{store_forest}
 use Rattle.residency.specs.World.{World, world}
 use Rattle.pvm_core.specs.Manager.{IsValid, Manager, forest_of}
+use Rattle.pvm_core.specs.Keeping.{FillsOnly}
 use Rattle.pvm_core.specs.Saving.{IsNotSaved, KeepsMachine, is_named}
+use Rattle.pvm_core.proofs.Readiness.Filled.{fills_itself, seen_before}
 use Rattle.pvm_core.proofs.Answering.Kept.{kept_sound, seen, sizeless}
 use Rattle.pvm_core.proofs.Homes.Pushed.{values_reached}
 use Rattle.pvm_core.proofs.Readiness.Saved.{all_saved, saved_keeps, saved_valid, saves_done}
@@ -107,3 +109,24 @@ returns-clause-failed g c =
         copies = b.in-Err.ensures.copied;
       })
     ])
+
+pub returns-then-is_none-clause-fills : goal.returns-then-is_none-clause-fills
+returns-then-is_none-clause-fills g c = fills_itself c.args.range (λ x. ⊥) c.args.self.now
+
+pub returns-clause-fills : goal.returns-clause-fills
+returns-clause-fills g c =
+    let i = c.self.inside in
+    let n = c.save_range.new in
+    let e = c.save_range.ensures in
+    let h = g.M.Mapper.held c.args.mapper.now in
+    let k = g.M.Mapper.held n.mapper in
+    let size = g.M.Mapper.page_bytes c.args.mapper.now in
+    let then_size = g.M.Mapper.page_bytes n.mapper in
+    let xs = extent_names c.args.range in
+    let w : World = world h size i.caches i.store in
+    let v : World = world k then_size n.caches n.store in
+    let valid = subst (λ (p : Manager). IsValid p h) (sym c.self.view_is) c.requires.valid in
+    let done : (m : ℕ) × (store_forest v ≡ saves m xs (store_forest w)) = saves_done w v xs c.save_range.result e.saved e.failed in
+    subst (λ (p : Manager). FillsOnly c.args.range (λ x. ⊥) p (seen n.caches n.store i.contexts)) c.self.view_is
+    (λ x frame live out apart shown. seen_before w v c.self.invariant.sound.nodes.sound c.self.invariant.sound.nodes.consistent.shaped e.stays.kept.sound e.stays.kept.shaped e.stays.kept.nodes done.0 xs done.1
+    c.save_range.result valid.right.tied.placed e.stays.kept.right.tied.placed e.frames x frame apart shown)

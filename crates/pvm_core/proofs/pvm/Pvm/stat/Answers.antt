@@ -11,10 +11,13 @@ use Rattle.vm_model.specs.Answering.{reply}
 use Rattle.vm_model.specs.Run.{AnswerIs}
 use Rattle.pvm_core.specs.Keeping.{HasFewWorking, HoldsEachOnce}
 use Rattle.pvm_core.specs.Manager.{IsValid, Manager, machine_by, state_at}
+use Rattle.pvm_core.specs.Standing.{StandsRight}
 use Rattle.pvm_core.specs.contracts.pvm.Pvm.{the_view}
 use Rattle.pvm_core.proofs.Answering.Answered.{seated}
 use Rattle.pvm_core.proofs.Answering.Kept.{seen}
 use Rattle.pvm_core.proofs.Holding.Kept.{locked_in}
+use Rattle.pvm_core.proofs.Meaning.Kept.{few_kept, numbered_by}
+use Rattle.pvm_core.proofs.Meaning.Values.{followed_of}
 use Rattle.pvm_core.proofs.Answering.Chains.{counts_are}
 use Rattle.pvm_core.proofs.pvm.Pvm.stat.Goals as goal
 
@@ -35,13 +38,25 @@ returns-clause-answers c = λ h v.
 pub returns-clause-bounded : goal.returns-clause-bounded
 returns-clause-bounded c = subst HasFewWorking (sym c.counts.ensures.counts) c.self.invariant.sound.bounded
 
-pub returns-clause-once : goal.returns-clause-once
-returns-clause-once c = λ h v.
+pub returns-clause-counters : goal.returns-clause-counters
+returns-clause-counters c = λ h. numbered_by c.args.self.now h
+
+pub returns-clause-stands : goal.returns-clause-stands
+returns-clause-stands c = λ h v.
     let i = c.self.inside in
     let p : Manager = seen i.caches i.store i.contexts in
     let w = subst (λ (p : Manager). IsValid p h) (sym c.self.view_is) v in
-    subst HoldsEachOnce c.self.view_is (record {
-      bound = w.right.tied.placed.bound;
-      held = λ f. w.right.tied.placed.held f ∙ bound_or (is_some (node_of i.store.map f)) (is_pinned i.store.frames f) (λ pinned. ap is_some (locked_in i.caches i.store.map f (sym (c.self.invariant.sound.locked.pinned f) ∙ pinned)).here);
-      slots = w.right.tied.placed.slots;
+    let sound = c.self.invariant.sound in
+    let placed = w.right.tied.placed in
+    let once : HoldsEachOnce p = record {
+      bound = placed.bound;
+      held = λ f. placed.held f ∙ bound_or (is_some (node_of i.store.map f)) (is_pinned i.store.frames f) (λ pinned. ap is_some (locked_in i.caches i.store.map f (sym (sound.locked.pinned f) ∙ pinned)).here);
+      slots = placed.slots;
+    } in
+    subst (λ (p : Manager). StandsRight p h) c.self.view_is (record {
+      forest = followed_of p h sound.nodes sound.actors.some w.whole;
+      once = once;
+      translated = c.self.invariant.translated;
+      locked = sound.locked;
+      few = few_kept p once w.right.tied.fitted.map_frames placed.in_slots sound.nodes.sound.kept.named sound.bounded;
     })

@@ -1,7 +1,7 @@
-use Rattle.std.proofs.Common.{◌≡◌, ℕ, List, Option, ◌+◌, ◌<◌, ◌≤◌, Bool, true, false, Some, None, length, refl, sym, ap, subst, ◌∙◌, arith, inl, inr}
+use Rattle.std.proofs.Common.{rules, ◌≡◌, ℕ, List, Option, ◌+◌, ◌<◌, ◌≤◌, Bool, true, false, Some, None, length, refl, sym, ap, subst, ◌∙◌, arith, inl, inr}
 use Rattle.std.specs.Prelude.{Result, Ok, Err, IfErr, IfSome, IsSomeAnd, not, option_map, slice_set}
 use Rattle.std.proofs.lemmas.Result.{err_from_is_err_and}
-use Rattle.gmi_calls.specs.Calling.{RaisesMade, done_by}
+use Rattle.gmi_calls.specs.Calling.{AsksFirst, RaisesMade, done_by}
 use Rattle.vm_ids.specs.Denying.{denies}
 use Rattle.vm_ids.specs.Held.{segments_of}
 use Rattle.vm_ids.specs.declared.command.Command.TheVariants as commands
@@ -20,7 +20,7 @@ use Rattle.vm_ids.specs.declared.numbers.FrameId.{FrameId}
 use Rattle.vm_ids.specs.declared.numbers.NodeId.{NodeId}
 use Rattle.global_map.specs.Pairs.{node_of}
 use Rattle.local_cache.specs.declared.own_state.OwnState.TheVariants.{Resident}
-use Rattle.local_cache.specs.Arena.{Arena, HasNode, Table, table_at, table_of, with_own}
+use Rattle.local_cache.specs.Arena.{Arena, HasNode, Table, is_granted, put, table_at, table_of, with_own}
 use Rattle.local_cache.specs.Reading.{name_of}
 use Rattle.local_cache.specs.Whole.{size_of}
 use Rattle.residency.specs.declared.store.Store.{Store}
@@ -38,11 +38,13 @@ use Rattle.vm_model.specs.PageForest.{PageForest}
 use Rattle.vm_model.specs.Place.{Place, place, place_of_actor}
 use Rattle.vm_model.specs.Run.{CallIs, State}
 use Rattle.regions.specs.AddressSpace.{place_told}
+use Rattle.pvm_core.specs.Access.{AskedInVain}
 use Rattle.pvm_core.specs.Manager.{IsSound, IsValid, Manager, forest_of, machine_by, machine_of, numbered, state_at}
 use Rattle.pvm_core.specs.Pieces.{fault_at}
 use Rattle.pvm_core.specs.Translated.{AreTranslationsRight, MayBeWritten, found_for, frame_to_write, name_at}
+use Rattle.segment_ops.specs.Access.{GrantsStay}
 use Rattle.pvm_core.specs.Writes.{IsNotGranted}
-use Rattle.pvm_core.proofs.Answering.Answered.{made_stays, call_is, call_later, failed, failed_at, no_segments}
+use Rattle.pvm_core.proofs.Answering.Answered.{call_is, call_later, failed, failed_at, made_stays, no_segments}
 use Rattle.pvm_core.proofs.Readiness.Denied.{denied_cases, denied_there, told_denied, denies_one, one_denied}
 use Rattle.pvm_core.proofs.Readiness.Granted.{granted_forest, granted_sound, granted_state, granted_valid, granted_by, writable_node}
 use Rattle.pvm_core.proofs.Homes.Full.{full_after}
@@ -52,6 +54,7 @@ use Rattle.pvm_core.specs.Reaching.{Reach}
 use Rattle.pvm_core.proofs.Answering.Kept.{kept_by, kept_sound, seen, sizeless, unsized_right}
 use Rattle.pvm_core.proofs.Answering.Standing.{Stands, stands}
 use Rattle.pvm_core.proofs.Answering.Listed.{IsFoundAt, found_at, refused_at, spot}
+use Rattle.pvm_core.proofs.Accesses.Asked.{missed_by, on_no_access, same_tables, unplaced_by}
 use Rattle.pvm_core.proofs.Accesses.Loading.{owner_there, sized_table}
 use Rattle.pvm_core.proofs.Accesses.Pages.{ends_within}
 use Rattle.pvm_core.proofs.Accesses.Seen.{alone_seen, led_page, led_right, led_writes, same_grants, seen_sound, seen_state, seen_valid}
@@ -64,6 +67,7 @@ use Rattle.pvm_core.proofs.Homes.Sized.{sized_after}
 use Rattle.pvm_core.proofs.Accesses.Storing.{store_denied, store_protected, store_refused, stored_forest}
 use Rattle.pvm_core.proofs.Accesses.Stored.{kept_copies, access_fault, bytes_right, bytes_sound, copied_most, dirty_here, named_in, not_saved, store_fault, stored, undenied, undenied_blank, whole_stored}
 use Rattle.pvm_core.proofs.Meaning.Values.{followed_of}
+use Rattle.pvm_core.proofs.Answering.Recorded.{asks_missed, asks_quiet, no_traffic, quiet_traffic, refused_mapper_call}
 use Rattle.pvm_core.proofs.pvm.Pvm.store.Given.{Over}
 use Rattle.pvm_core.proofs.pvm.Pvm.store.Goals.{After-grant_range, After-remember, After-self, After-write_fault, After-write_found, In-Err, In-Ok, In-Some, In_err-grant_range, In_ok-place}
 use Rattle.pvm_core.proofs.pvm.Pvm.store.Goals as goal
@@ -169,14 +173,15 @@ invariant_of-self g c =
     let w = written g (goal.at.invariant_of-self g c).After-write_found in
     record { sound = w.0.sound; translated = w.1 }
 
-pub returns-in-Some-clause-valid : goal.returns-in-Some-clause-valid
-returns-in-Some-clause-valid g c = (written g (goal.at.returns-in-Some-clause-valid g c).After-write_found).0.valid
-
-pub returns-in-Some-clause-answers : goal.returns-in-Some-clause-answers
-returns-in-Some-clause-answers g c = (written g (goal.at.returns-in-Some-clause-answers g c).After-write_found).0.answers
-
-pub returns-in-Some-clause-made : goal.returns-in-Some-clause-made
-returns-in-Some-clause-made g c = (written g (goal.at.returns-in-Some-clause-made g c).After-write_found).0.made
+pub returns-in-Some-clause-call : goal.returns-in-Some-clause-call
+returns-in-Some-clause-call g c = record {
+  valid = (written g (goal.at.returns-in-Some-clause-call g c).After-write_found).0.valid;
+  answers = (written g (goal.at.returns-in-Some-clause-call g c).After-write_found).0.answers;
+  asks_first = tt;
+  made = (written g (goal.at.returns-in-Some-clause-call g c).After-write_found).0.made;
+  room = refl;
+  page = search rules;
+}
 
 pub returns-in-Some-clause-copies : goal.returns-in-Some-clause-copies
 returns-in-Some-clause-copies g c =
@@ -209,26 +214,34 @@ remember-requires-clause-mark g c =
     let fitted = e.answered.kept.right.tied.fitted in
     omega (arith, c.in-Ok.ensures.ready.bound.0, fitted.map_frames, fitted.marks_frames, ap (λ (s : Store). length s.marks) c.write_frame.ensures)
 
-pub returns-in_err-place-clause-answers : goal.returns-in_err-place-clause-answers
-returns-in_err-place-clause-answers g c =
-    let i = c.self.inside in
-    let h = g.M.Mapper.held c.args.mapper.now in
-    let counts = g.M.Mapper.counts c.args.mapper.now in
-    let p : Manager = seen i.caches i.store i.contexts in
-    let answer : Answer = Err (troubles.Refused c.in_err-place.field-0.0) in
-    let bs : c.as_slice-bytes.result.now ≡ c.args.piece.now = c.as_slice-bytes.ensures.bytes in
-    let gave = err_from_is_err_and c.from_residual.result c.from_residual.ensures.1 in
-    let is : c.from_residual.result ≡ Err (troubles.Refused c.in_err-place.field-0.0) = gave.1 ∙ ap (λ t. Err t) gave.2 in
-    subst (λ (p : Manager). CallIs counts counts (state_at p h) (commands.Store c.args.actor c.args.address c.args.piece.now) (done_by c.from_residual.result) (state_at p h)) c.self.view_is
-    (subst (λ (r : Result _ _). CallIs counts counts (state_at p h) (commands.Store c.args.actor c.args.address c.args.piece.now) (done_by r) (state_at p h)) (sym is)
-    (failed counts counts p p h h (commands.Store c.args.actor c.args.address c.args.piece.now) answer (reach_none (machine_of p h) h counts) c.self.invariant.sound.nodes c.self.invariant.sound.nodes (subst (λ (p : Manager). IsValid p (g.M.Mapper.held c.args.mapper.now)) (sym c.self.view_is) c.requires.valid) refl refl tt tt
-    (λ f s. store_refused (machine_by p f) c.args.actor.0 c.args.address c.args.piece.now s c.in_err-place.field-0.0
-    (refused_at (place (machine_by p f) c.args.actor.0 c.args.address (length c.as_slice-bytes.result.now)) c.in_err-place.field-0.0 (sym c.in_err-place.was ∙ c.locate.ensures)
-    ∙ ap (λ xs. place (machine_by p f) c.args.actor.0 c.args.address (length xs)) bs))))
+pub returns-in_err-place-clause-call : goal.returns-in_err-place-clause-call
+returns-in_err-place-clause-call g c = record {
+  valid = search rules;
+  answers = (
+      let i = c.self.inside in
+      let h = g.M.Mapper.held c.args.mapper.now in
+      let counts = g.M.Mapper.counts c.args.mapper.now in
+      let p : Manager = seen i.caches i.store i.contexts in
+      let answer : Answer = Err (troubles.Refused c.in_err-place.field-0.0) in
+      let bs : c.as_slice-bytes.result.now ≡ c.args.piece.now = c.as_slice-bytes.ensures.bytes in
+      let gave = err_from_is_err_and c.from_residual.result c.from_residual.ensures.1 in
+      let is : c.from_residual.result ≡ Err (troubles.Refused c.in_err-place.field-0.0) = gave.1 ∙ ap (λ t. Err t) gave.2 in
+      subst (λ (p : Manager). CallIs counts counts (state_at p h) (commands.Store c.args.actor c.args.address c.args.piece.now) (done_by c.from_residual.result) (state_at p h)) c.self.view_is
+      (subst (λ (r : Result _ _). CallIs counts counts (state_at p h) (commands.Store c.args.actor c.args.address c.args.piece.now) (done_by r) (state_at p h)) (sym is)
+      (failed counts counts p p h h (commands.Store c.args.actor c.args.address c.args.piece.now) answer (reach_none (machine_of p h) h counts) c.self.invariant.sound.nodes c.self.invariant.sound.nodes (subst (λ (p : Manager). IsValid p (g.M.Mapper.held c.args.mapper.now)) (sym c.self.view_is) c.requires.valid) refl refl tt tt
+      (λ f s. store_refused (machine_by p f) c.args.actor.0 c.args.address c.args.piece.now s c.in_err-place.field-0.0
+      (refused_at (place (machine_by p f) c.args.actor.0 c.args.address (length c.as_slice-bytes.result.now)) c.in_err-place.field-0.0 (sym c.in_err-place.was ∙ c.locate.ensures)
+      ∙ ap (λ xs. place (machine_by p f) c.args.actor.0 c.args.address (length xs)) bs))))
+      );
+  asks_first = asks_quiet (commands.Store c.args.actor c.args.address c.args.piece.now) (done_by c.from_residual.result) (g.M.Mapper.counts c.args.mapper.now) (g.M.Mapper.counts c.args.mapper.now) (no_traffic (g.M.Mapper.counts c.args.mapper.now));
+  made = made_stays (machine_of c.args.self.now (g.M.Mapper.held c.args.mapper.now)) (commands.Store c.args.actor c.args.address c.args.piece.now) (done_by c.from_residual.result) (machine_of c.args.self.now (g.M.Mapper.held c.args.mapper.now)) (numbered c.args.self.now) (numbered c.args.self.now) (refl);
+  room = refl;
+  page = search rules;
+}
 
-pub returns-then-not-place-clause-answers : goal.returns-then-not-place-clause-answers
-returns-then-not-place-clause-answers g c =
-    let places = goal.at.returns-then-not-place-clause-answers g c in
+pub returns-then-not-place-clause-call : goal.returns-then-not-place-clause-call
+returns-then-not-place-clause-call g c = refused_mapper_call c.requires.valid (
+    let places = goal.at.returns-then-not-place-clause-call g c in
     let i = c.self.inside in
     let h = g.M.Mapper.held c.args.mapper.now in
     let counts = g.M.Mapper.counts c.args.mapper.now in
@@ -237,7 +250,7 @@ returns-then-not-place-clause-answers g c =
     let r = found g places.In_ok-place in
     subst (λ (p : Manager). CallIs counts counts (state_at p h) (commands.Store c.args.actor c.args.address c.args.piece.now) answer (state_at p h)) c.self.view_is
     (failed counts counts p p h h (commands.Store c.args.actor c.args.address c.args.piece.now) answer (reach_none (machine_of p h) h counts) c.self.invariant.sound.nodes c.self.invariant.sound.nodes (valid_before g places.After-self) refl refl tt tt
-    (λ f s. store_protected (machine_by p f) c.args.actor.0 c.args.address c.args.piece.now s (found_at r.region c.in_ok-place.place) r.is (denied c.in_ok-place.place.prot.write c.if-not-place.true)))
+    (λ f s. store_protected (machine_by p f) c.args.actor.0 c.args.address c.args.piece.now s (found_at r.region c.in_ok-place.place) r.is (denied c.in_ok-place.place.prot.write c.if-not-place.true))))
 
 pub grant_range-requires-clause-range : goal.grant_range-requires-clause-range
 grant_range-requires-clause-range g c =
@@ -260,65 +273,68 @@ invariant_of-self-in_err-grant_range g c = record {
   translated = granted_right c.self.inside.caches c.grant_range.new.caches c.self.inside.store c.grant_range.ensures.nodes c.self.inside.contexts c.self.invariant.translated;
 }
 
-pub returns-in_err-grant_range-clause-valid : goal.returns-in_err-grant_range-clause-valid
-returns-in_err-grant_range-clause-valid g c = (asked g (goal.at.returns-in_err-grant_range-clause-valid g c).After-grant_range).1
-
 -- why it isn't granted
 not_granted : (g : Over) (c : In_err-grant_range g) → IsNotGranted (record { cache = c.in_ok-place.place.cache; first = c.in_ok-place.place.page; pages = 1 }) (g.M.Mapper.held c.args.mapper.now) c.self.inside.caches c.grant_range.new.caches c.in_err-grant_range.field-0.0
 not_granted g c = subst (λ (x : Result _ Trouble). IfErr x (IsNotGranted (record { cache = c.in_ok-place.place.cache; first = c.in_ok-place.place.page; pages = 1 }) (g.M.Mapper.held c.args.mapper.now) c.self.inside.caches c.grant_range.new.caches)) c.in_err-grant_range.was c.grant_range.ensures.refused
 
-pub returns-in_err-grant_range-clause-answers : goal.returns-in_err-grant_range-clause-answers
-returns-in_err-grant_range-clause-answers g c =
-    let places = goal.at.returns-in_err-grant_range-clause-answers g c in
-    let i = c.self.inside in
-    let e = c.grant_range.ensures in
-    let a = c.grant_range.new.caches in
-    let h0 = g.M.Mapper.held c.args.mapper.now in
-    let h = g.M.Mapper.held c.grant_range.new.mapper in
-    let begun = g.M.Mapper.counts c.args.mapper.now in
-    let before = g.M.Mapper.counts c.grant_range.new.mapper in
-    let k = asked g places.After-grant_range in
-    let pl = c.in_ok-place.place in
-    let r = found g places.In_ok-place in
-    let gave = err_from_is_err_and c.from_residual-in_err-grant_range.result c.from_residual-in_err-grant_range.ensures.1 in
-    let trouble = c.in_err-grant_range.field-0.0 in
-    let is : c.from_residual-in_err-grant_range.result ≡ Err trouble = gave.1 ∙ ap (λ t. Err t) gave.2 in
-    let out = not_granted g places.In_err-grant_range in
-    let range : Extent = record { cache = pl.cache; first = pl.page; pages = 1 } in
-    let at : Place = found_at r.region pl in
-    let p : Manager = seen i.caches i.store i.contexts in
-    let q : Manager = seen a i.store i.contexts in
-    let is_at : (f : PageForest) → Ok at ≡ place (machine_by p f) c.args.actor.0 c.args.address (length c.args.piece.now) = λ f. r.is in
-    let may = granted c.in_ok-place.place.prot.write c.if-not-place.false in
-    let reach = reach_quiet (machine_of p h0) h0 h begun before (ap segments_of e.held) e.later in
-    let forest = granted_forest i.caches a i.store i.contexts i.live e.nodes c.self.invariant.sound h0 h (g.M.Mapper.page_bytes c.args.mapper.now) (g.M.Mapper.page_bytes c.grant_range.new.mapper) e.held e.forest in
-    let by = granted_by i.caches a i.store i.contexts i.live e.nodes c.self.invariant.sound in
-    subst (λ (p : Manager). CallIs begun before (state_at p h0) (commands.Store c.args.actor c.args.address c.args.piece.now) (done_by c.from_residual-in_err-grant_range.result) (state_at q h)) c.self.view_is
-    (subst (λ (x : Result _ Trouble). CallIs begun before (state_at p h0) (commands.Store c.args.actor c.args.address c.args.piece.now) (done_by x) (state_at q h)) (sym is) (elim (denied_cases range h0 out.segment i.caches a trouble out.denied) [
-      | inl w ↦ (
-          let page : pl.page.0 ≡ w.1.page = omega (arith, w.1.asked.page_of.0, w.1.asked.page_of.1) in
-          subst (λ (t : Trouble). CallIs begun before (state_at p h0) (commands.Store c.args.actor c.args.address c.args.piece.now) (Err t) (state_at q h)) (sym w.0)
-          (failed_at begun before p q h0 h (commands.Store c.args.actor c.args.address c.args.piece.now) (Err (troubles.Refused refusals.WriteDenied)) (one_denied out.segment.0 pl.page.0) reach c.self.invariant.sound.nodes k.0.nodes k.1 forest refl tt tt
-          (λ f. store_denied (machine_by p f) c.args.actor.0 c.args.address c.args.piece.now (one_denied out.segment.0 pl.page.0) at (is_at f) may (denied_there p f (one_denied out.segment.0 pl.page.0) pl.cache.0 pl.page.0 out.segment out.named (denies_one out.segment.0 pl.page.0))
-          ∙ ap (λ (n : Machine). refuse n refusals.WriteDenied) (sym (by f)))
-          (λ f s told. store_denied (machine_by p f) c.args.actor.0 c.args.address c.args.piece.now s at (is_at f) may
-          (denied_there p f s pl.cache.0 pl.page.0 out.segment out.named (ap (denies s.denied out.segment.0) page ∙ told_denied h0 out.segment.0 w.1.page w.1.denied s (sym (ap segments_of e.held) ∙ told)))
-          ∙ ap (λ (n : Machine). refuse n refusals.WriteDenied) (sym (by f)))))
-      | inr w ↦ (
-          let page : pl.page.0 ≡ w.0.0 = omega (arith, w.2.page_of.0, w.2.page_of.1) in
-          subst (λ (t : Trouble). CallIs begun before (state_at p h0) (commands.Store c.args.actor c.args.address c.args.piece.now) (Err t) (state_at q h)) (sym w.1)
-          (failed begun before p q h0 h (commands.Store c.args.actor c.args.address c.args.piece.now) (Err (troubles.Mapper (faults.Access w.0))) reach c.self.invariant.sound.nodes k.0.nodes k.1 forest refl tt tt
-          (λ f s. access_fault (length reach.pushes) (machine_by p f) (machine_by q f) (forest_of p h0) c.args.actor c.args.address c.args.piece.now s begun before w.0 at (by f) (is_at f) may page (named_in p f pl.cache.0 out.segment out.named)
-          (e.cause (faults.Access w.0) (c.in_err-grant_range.was ∙ ap (λ t. Err t) w.1)))))
-    ]))
-
-pub returns-in_err-grant_range-clause-made : goal.returns-in_err-grant_range-clause-made
-returns-in_err-grant_range-clause-made g c =
-    let i = c.self.inside in
-    let nodes = c.grant_range.ensures.nodes in
-    let q : Manager = seen c.grant_range.new.caches i.store i.contexts in
-    subst (λ (p : Manager). RaisesMade (machine_of p (g.M.Mapper.held c.args.mapper.now)) (commands.Store c.args.actor c.args.address c.args.piece.now) (done_by c.from_residual-in_err-grant_range.result) (numbered p) (numbered q)) c.self.view_is
-    (made_stays (machine_of (seen i.caches i.store i.contexts) (g.M.Mapper.held c.args.mapper.now)) (commands.Store c.args.actor c.args.address c.args.piece.now) (done_by c.from_residual-in_err-grant_range.result) (numbered (seen i.caches i.store i.contexts)) (numbered q) (omega (arith, nodes.made, nodes.copies)))
+pub returns-in_err-grant_range-clause-call : goal.returns-in_err-grant_range-clause-call
+returns-in_err-grant_range-clause-call g c = record {
+  valid = (asked g (goal.at.returns-in_err-grant_range-clause-call g c).After-grant_range).1;
+  answers = (
+      let places = goal.at.returns-in_err-grant_range-clause-call g c in
+      let i = c.self.inside in
+      let e = c.grant_range.ensures in
+      let a = c.grant_range.new.caches in
+      let h0 = g.M.Mapper.held c.args.mapper.now in
+      let h = g.M.Mapper.held c.grant_range.new.mapper in
+      let begun = g.M.Mapper.counts c.args.mapper.now in
+      let before = g.M.Mapper.counts c.grant_range.new.mapper in
+      let k = asked g places.After-grant_range in
+      let pl = c.in_ok-place.place in
+      let r = found g places.In_ok-place in
+      let gave = err_from_is_err_and c.from_residual-in_err-grant_range.result c.from_residual-in_err-grant_range.ensures.1 in
+      let trouble = c.in_err-grant_range.field-0.0 in
+      let is : c.from_residual-in_err-grant_range.result ≡ Err trouble = gave.1 ∙ ap (λ t. Err t) gave.2 in
+      let out = not_granted g places.In_err-grant_range in
+      let range : Extent = record { cache = pl.cache; first = pl.page; pages = 1 } in
+      let at : Place = found_at r.region pl in
+      let p : Manager = seen i.caches i.store i.contexts in
+      let q : Manager = seen a i.store i.contexts in
+      let is_at : (f : PageForest) → Ok at ≡ place (machine_by p f) c.args.actor.0 c.args.address (length c.args.piece.now) = λ f. r.is in
+      let may = granted c.in_ok-place.place.prot.write c.if-not-place.false in
+      let reach = reach_quiet (machine_of p h0) h0 h begun before (ap segments_of e.held) e.later in
+      let forest = granted_forest i.caches a i.store i.contexts i.live e.nodes c.self.invariant.sound h0 h (g.M.Mapper.page_bytes c.args.mapper.now) (g.M.Mapper.page_bytes c.grant_range.new.mapper) e.held e.forest in
+      let by = granted_by i.caches a i.store i.contexts i.live e.nodes c.self.invariant.sound in
+      subst (λ (p : Manager). CallIs begun before (state_at p h0) (commands.Store c.args.actor c.args.address c.args.piece.now) (done_by c.from_residual-in_err-grant_range.result) (state_at q h)) c.self.view_is
+      (subst (λ (x : Result _ Trouble). CallIs begun before (state_at p h0) (commands.Store c.args.actor c.args.address c.args.piece.now) (done_by x) (state_at q h)) (sym is) (elim (denied_cases range h0 out.segment i.caches a trouble out.denied) [
+        | inl w ↦ (
+            let page : pl.page.0 ≡ w.1.page = omega (arith, w.1.asked.page_of.0, w.1.asked.page_of.1) in
+            subst (λ (t : Trouble). CallIs begun before (state_at p h0) (commands.Store c.args.actor c.args.address c.args.piece.now) (Err t) (state_at q h)) (sym w.0)
+            (failed_at begun before p q h0 h (commands.Store c.args.actor c.args.address c.args.piece.now) (Err (troubles.Refused refusals.WriteDenied)) (one_denied out.segment.0 pl.page.0) reach c.self.invariant.sound.nodes k.0.nodes k.1 forest refl tt tt
+            (λ f. store_denied (machine_by p f) c.args.actor.0 c.args.address c.args.piece.now (one_denied out.segment.0 pl.page.0) at (is_at f) may (denied_there p f (one_denied out.segment.0 pl.page.0) pl.cache.0 pl.page.0 out.segment out.named (denies_one out.segment.0 pl.page.0))
+            ∙ ap (λ (n : Machine). refuse n refusals.WriteDenied) (sym (by f)))
+            (λ f s told. store_denied (machine_by p f) c.args.actor.0 c.args.address c.args.piece.now s at (is_at f) may
+            (denied_there p f s pl.cache.0 pl.page.0 out.segment out.named (ap (denies s.denied out.segment.0) page ∙ told_denied h0 out.segment.0 w.1.page w.1.denied s (sym (ap segments_of e.held) ∙ told)))
+            ∙ ap (λ (n : Machine). refuse n refusals.WriteDenied) (sym (by f)))))
+        | inr w ↦ (
+            let page : pl.page.0 ≡ w.0.0 = omega (arith, w.2.page_of.0, w.2.page_of.1) in
+            subst (λ (t : Trouble). CallIs begun before (state_at p h0) (commands.Store c.args.actor c.args.address c.args.piece.now) (Err t) (state_at q h)) (sym w.1)
+            (failed begun before p q h0 h (commands.Store c.args.actor c.args.address c.args.piece.now) (Err (troubles.Mapper (faults.Access w.0))) reach c.self.invariant.sound.nodes k.0.nodes k.1 forest refl tt tt
+            (λ f s. access_fault (length reach.pushes) (machine_by p f) (machine_by q f) (forest_of p h0) c.args.actor c.args.address c.args.piece.now s begun before w.0 at (by f) (is_at f) may page (named_in p f pl.cache.0 out.segment out.named)
+            (e.cause (faults.Access w.0) (c.in_err-grant_range.was ∙ ap (λ t. Err t) w.1)))))
+      ]))
+      );
+  asks_first = asks_quiet (commands.Store c.args.actor c.args.address c.args.piece.now) (done_by c.from_residual-in_err-grant_range.result) (g.M.Mapper.counts c.args.mapper.now) (g.M.Mapper.counts c.grant_range.new.mapper) (quiet_traffic c.grant_range.ensures.traffic);
+  made = (
+      let i = c.self.inside in
+      let nodes = c.grant_range.ensures.nodes in
+      let q : Manager = seen c.grant_range.new.caches i.store i.contexts in
+      subst (λ (p : Manager). RaisesMade (machine_of p (g.M.Mapper.held c.args.mapper.now)) (commands.Store c.args.actor c.args.address c.args.piece.now) (done_by c.from_residual-in_err-grant_range.result) (machine_of q (g.M.Mapper.held c.grant_range.new.mapper)) (numbered p) (numbered q)) c.self.view_is
+      (made_stays (machine_of (seen i.caches i.store i.contexts) (g.M.Mapper.held c.args.mapper.now)) (commands.Store c.args.actor c.args.address c.args.piece.now) (done_by c.from_residual-in_err-grant_range.result) (machine_of q (g.M.Mapper.held c.grant_range.new.mapper)) (numbered (seen i.caches i.store i.contexts)) (numbered q) (omega (arith, nodes.made, nodes.copies)))
+      );
+  room = refl;
+  page = search rules;
+}
 
 pub returns-in_err-grant_range-clause-copies : goal.returns-in_err-grant_range-clause-copies
 returns-in_err-grant_range-clause-copies g c = subst (λ (p : Manager). c.grant_range.new.caches.copies ≤ p.caches.copies + 2) c.self.view_is (omega (arith, c.grant_range.ensures.nodes.copies))
@@ -336,7 +352,6 @@ returns-in_err-grant_range-clause-refused g c = λ r e.
       | inl w ↦ (
           let kept : a ≡ i.caches = w.1.asked.grants.none (omega (arith, w.1.asked.page_of.0, w.1.asked.page_of.1)) in (
             subst (λ (p : Manager). seen a i.store i.contexts ≡ p) c.self.view_is (λ j. seen (kept j) i.store i.contexts),
-            c.grant_range.ensures.traffic,
             λ other. absurd (other (let q : troubles.Refused r ≡ troubles.Refused refusals.WriteDenied = sym same ∙ w.0 in cc q)),
           ))
       | inr w ↦ absurd (let q : troubles.Refused r ≡ troubles.Mapper (faults.Access w.0) = sym same ∙ w.1 in cc q)
@@ -481,22 +496,24 @@ written_then g c =
           is (granted c.in_ok-place.place.prot.write c.if-not-place.false) (λ f s told. undenied p h sound.nodes valid.right pl.cache pl.page.0 r.count there r.less writable f k s (reach_denied (machine_of p h) h k before after reach) told) _))))),
     )
 
-pub returns-in-Ok-clause-valid : goal.returns-in-Ok-clause-valid
-returns-in-Ok-clause-valid g c = (written_then g (goal.at.returns-in-Ok-clause-valid g c).After-remember).0
-
-pub returns-in-Ok-clause-answers : goal.returns-in-Ok-clause-answers
-returns-in-Ok-clause-answers g c = (written_then g (goal.at.returns-in-Ok-clause-answers g c).After-remember).1
-
 -- at most two pages are copied
 most : (g : Over) (c : In-Ok g) → c.write_fault.new.caches.copies ≤ c.grant_range.new.caches.copies + 2
 most g c =
     let n = c.write_fault.new in
     copied_most (world (g.M.Mapper.held c.grant_range.new.mapper) (g.M.Mapper.page_bytes c.grant_range.new.mapper) c.grant_range.new.caches c.self.inside.store) (world (g.M.Mapper.held c.write_fault.new.mapper) (g.M.Mapper.page_bytes n.mapper) n.caches n.store) _ c.in-Ok.ensures.ready.forest
 
-pub returns-in-Ok-clause-made : goal.returns-in-Ok-clause-made
-returns-in-Ok-clause-made g c =
-    let nodes = c.grant_range.ensures.nodes in
-    omega (arith, most g (goal.at.returns-in-Ok-clause-made g c).In-Ok, c.write_fault.ensures.answered.kept.made, nodes.made, nodes.copies, ap numbered c.self.view_is)
+pub returns-in-Ok-clause-call : goal.returns-in-Ok-clause-call
+returns-in-Ok-clause-call g c = record {
+  valid = (written_then g (goal.at.returns-in-Ok-clause-call g c).After-remember).0;
+  answers = (written_then g (goal.at.returns-in-Ok-clause-call g c).After-remember).1;
+  asks_first = tt;
+  made = (
+      let nodes = c.grant_range.ensures.nodes in
+      omega (arith, most g (goal.at.returns-in-Ok-clause-call g c).In-Ok, c.write_fault.ensures.answered.kept.made, nodes.made, nodes.copies, ap numbered c.self.view_is)
+      );
+  room = refl;
+  page = search rules;
+}
 
 pub returns-in-Ok-clause-copies : goal.returns-in-Ok-clause-copies
 returns-in-Ok-clause-copies g c =
@@ -511,52 +528,123 @@ missed g c =
     let k = asked g places.After-grant_range in
     stands c.grant_range.new.caches n.caches i.store n.store (g.M.Mapper.held c.grant_range.new.mapper) (g.M.Mapper.held c.write_fault.new.mapper) (g.M.Mapper.page_bytes c.grant_range.new.mapper) (g.M.Mapper.page_bytes n.mapper) c.write_fault.ensures.answered.kept i.contexts i.live k.0 (g.M.Mapper.counts c.grant_range.new.mapper) (g.M.Mapper.counts c.write_fault.new.mapper) c.in-Err.ensures.missed.forest (reach_then g places.After-write_fault) k.1
 
-pub returns-in-Err-clause-valid : goal.returns-in-Err-clause-valid
-returns-in-Err-clause-valid g c = (missed g (goal.at.returns-in-Err-clause-valid g c).In-Err).valid
-
-pub returns-in-Err-clause-answers : goal.returns-in-Err-clause-answers
-returns-in-Err-clause-answers g c =
-    let places = goal.at.returns-in-Err-clause-answers g c in
-    let i = c.self.inside in
-    let e0 = c.grant_range.ensures in
-    let a = c.grant_range.new.caches in
-    let h0 = g.M.Mapper.held c.args.mapper.now in
-    let h = g.M.Mapper.held c.grant_range.new.mapper in
-    let begun = g.M.Mapper.counts c.args.mapper.now in
-    let before = g.M.Mapper.counts c.grant_range.new.mapper in
-    let k = g.M.Mapper.held c.write_fault.new.mapper in
-    let after = g.M.Mapper.counts c.write_fault.new.mapper in
-    let n = c.write_fault.new in
-    let p : Manager = seen a i.store i.contexts in
-    let q : Manager = seen n.caches n.store i.contexts in
-    let old = asked g places.After-grant_range in
-    let l = missed g places.In-Err in
-    let pl = c.in_ok-place.place in
-    let r = found g places.In_ok-place in
-    let at : Place = found_at r.region pl in
-    let is : (f : PageForest) → Ok at ≡ place (machine_by p f) c.args.actor.0 c.args.address (length c.args.piece.now) = λ f. r.is in
-    let page : PageNo = pl.page in
-    let there = e0.nodes.same.sizes pl.cache.0 ∙ r.there in
-    let answer : Answer = Err (troubles.Mapper (fault_at c.in-Err.miss page)) in
-    let may = granted c.in_ok-place.place.prot.write c.if-not-place.false in
-    let state : state_at p h ≡ state_at (seen i.caches i.store i.contexts) h0 = granted_state i.caches a i.store i.contexts i.live e0.nodes c.self.invariant.sound h0 h (g.M.Mapper.page_bytes c.args.mapper.now) (g.M.Mapper.page_bytes c.grant_range.new.mapper) e0.held e0.forest in
-    let writable = c.in_ok-grant_range.ensures.granted pl.page.0 (omega arith, omega arith) in
-    subst (λ (p : Manager). CallIs begun after (state_at p h0) (commands.Store c.args.actor c.args.address c.args.piece.now) (Err (troubles.Mapper c.fault_of.result)) (state_at q k)) c.self.view_is
-    (subst (λ (f : FaultAt). CallIs begun after (state_at (seen i.caches i.store i.contexts) h0) (commands.Store c.args.actor c.args.address c.args.piece.now) (Err (troubles.Mapper f)) (state_at q k)) (sym c.fault_of.ensures)
-    (subst (λ (x : State). CallIs begun after x (commands.Store c.args.actor c.args.address c.args.piece.now) answer (state_at q k)) state
-    (call_later begun before after (state_at p h) (state_at q k) (commands.Store c.args.actor c.args.address c.args.piece.now) answer e0.later e0.traffic
-    (failed_at before after p q h k (commands.Store c.args.actor c.args.address c.args.piece.now) answer no_segments l.reach old.0.nodes l.sound.nodes l.valid l.forest (not_saved c.in-Err.miss page (forest_of p h) (machine_of p h) (commands.Store c.args.actor c.args.address c.args.piece.now) (machine_of q k) refl) tt tt
-    (λ f. store_fault (length l.reach.pushes) (machine_by p f) (machine_by q f) (forest_of p h) c.args.actor c.args.address c.args.piece.now no_segments before after c.in-Err.miss page at (l.by f) (is f) may (undenied_blank p f pl.cache.0 pl.page.0) refl c.in-Err.ensures.missed.cause)
-    (λ f s told. store_fault (length l.reach.pushes) (machine_by p f) (machine_by q f) (forest_of p h) c.args.actor c.args.address c.args.piece.now s before after c.in-Err.miss page at (l.by f) (is f) may
-    (undenied p h old.0.nodes old.1.right pl.cache pl.page.0 r.count there r.less writable f k s (reach_denied (machine_of p h) h k before after l.reach) told) refl c.in-Err.ensures.missed.cause)))))
+pub returns-in-Err-clause-call : goal.returns-in-Err-clause-call
+returns-in-Err-clause-call g c = record {
+  valid = (missed g (goal.at.returns-in-Err-clause-call g c).In-Err).valid;
+  answers = (
+      let places = goal.at.returns-in-Err-clause-call g c in
+      let i = c.self.inside in
+      let e0 = c.grant_range.ensures in
+      let a = c.grant_range.new.caches in
+      let h0 = g.M.Mapper.held c.args.mapper.now in
+      let h = g.M.Mapper.held c.grant_range.new.mapper in
+      let begun = g.M.Mapper.counts c.args.mapper.now in
+      let before = g.M.Mapper.counts c.grant_range.new.mapper in
+      let k = g.M.Mapper.held c.write_fault.new.mapper in
+      let after = g.M.Mapper.counts c.write_fault.new.mapper in
+      let n = c.write_fault.new in
+      let p : Manager = seen a i.store i.contexts in
+      let q : Manager = seen n.caches n.store i.contexts in
+      let old = asked g places.After-grant_range in
+      let l = missed g places.In-Err in
+      let pl = c.in_ok-place.place in
+      let r = found g places.In_ok-place in
+      let at : Place = found_at r.region pl in
+      let is : (f : PageForest) → Ok at ≡ place (machine_by p f) c.args.actor.0 c.args.address (length c.args.piece.now) = λ f. r.is in
+      let page : PageNo = pl.page in
+      let there = e0.nodes.same.sizes pl.cache.0 ∙ r.there in
+      let answer : Answer = Err (troubles.Mapper (fault_at c.in-Err.miss page)) in
+      let may = granted c.in_ok-place.place.prot.write c.if-not-place.false in
+      let state : state_at p h ≡ state_at (seen i.caches i.store i.contexts) h0 = granted_state i.caches a i.store i.contexts i.live e0.nodes c.self.invariant.sound h0 h (g.M.Mapper.page_bytes c.args.mapper.now) (g.M.Mapper.page_bytes c.grant_range.new.mapper) e0.held e0.forest in
+      let writable = c.in_ok-grant_range.ensures.granted pl.page.0 (omega arith, omega arith) in
+      subst (λ (p : Manager). CallIs begun after (state_at p h0) (commands.Store c.args.actor c.args.address c.args.piece.now) (Err (troubles.Mapper c.fault_of.result)) (state_at q k)) c.self.view_is
+      (subst (λ (f : FaultAt). CallIs begun after (state_at (seen i.caches i.store i.contexts) h0) (commands.Store c.args.actor c.args.address c.args.piece.now) (Err (troubles.Mapper f)) (state_at q k)) (sym c.fault_of.ensures)
+      (subst (λ (x : State). CallIs begun after x (commands.Store c.args.actor c.args.address c.args.piece.now) answer (state_at q k)) state
+      (call_later begun before after (state_at p h) (state_at q k) (commands.Store c.args.actor c.args.address c.args.piece.now) answer e0.later e0.traffic
+      (failed_at before after p q h k (commands.Store c.args.actor c.args.address c.args.piece.now) answer no_segments l.reach old.0.nodes l.sound.nodes l.valid l.forest (not_saved c.in-Err.miss page (forest_of p h) (machine_of p h) (commands.Store c.args.actor c.args.address c.args.piece.now) (machine_of q k) refl) tt tt
+      (λ f. store_fault (length l.reach.pushes) (machine_by p f) (machine_by q f) (forest_of p h) c.args.actor c.args.address c.args.piece.now no_segments before after c.in-Err.miss page at (l.by f) (is f) may (undenied_blank p f pl.cache.0 pl.page.0) refl c.in-Err.ensures.missed.cause)
+      (λ f s told. store_fault (length l.reach.pushes) (machine_by p f) (machine_by q f) (forest_of p h) c.args.actor c.args.address c.args.piece.now s before after c.in-Err.miss page at (l.by f) (is f) may
+      (undenied p h old.0.nodes old.1.right pl.cache pl.page.0 r.count there r.less writable f k s (reach_denied (machine_of p h) h k before after l.reach) told) refl c.in-Err.ensures.missed.cause)))))
+      );
+  asks_first = subst (λ (f : FaultAt). AsksFirst (commands.Store c.args.actor c.args.address c.args.piece.now) (Err (troubles.Mapper f)) (g.M.Mapper.counts c.args.mapper.now) (g.M.Mapper.counts c.write_fault.new.mapper)) (sym c.fault_of.ensures) (asks_missed (commands.Store c.args.actor c.args.address c.args.piece.now) c.in-Err.miss c.in_ok-place.place.page (g.M.Mapper.counts c.args.mapper.now) (g.M.Mapper.counts c.write_fault.new.mapper));
+  made = (
+      let n = c.write_fault.new in
+      let nodes = c.grant_range.ensures.nodes in
+      omega (arith, kept_copies (g.M.Mapper.held c.grant_range.new.mapper) (g.M.Mapper.held c.write_fault.new.mapper) (g.M.Mapper.page_bytes c.grant_range.new.mapper) (g.M.Mapper.page_bytes n.mapper) c.grant_range.new.caches n.caches c.self.inside.store n.store c.in-Err.ensures.missed.forest, c.write_fault.ensures.answered.kept.made, nodes.made, nodes.copies, ap numbered c.self.view_is)
+      );
+  room = refl;
+  page = search rules;
+}
 
 pub returns-in-Err-clause-copies : goal.returns-in-Err-clause-copies
 returns-in-Err-clause-copies g c =
     let n = c.write_fault.new in
     subst (λ (p : Manager). n.caches.copies ≤ p.caches.copies + 2) c.self.view_is (omega (arith, kept_copies (g.M.Mapper.held c.grant_range.new.mapper) (g.M.Mapper.held c.write_fault.new.mapper) (g.M.Mapper.page_bytes c.grant_range.new.mapper) (g.M.Mapper.page_bytes n.mapper) c.grant_range.new.caches n.caches c.self.inside.store n.store c.in-Err.ensures.missed.forest, c.grant_range.ensures.nodes.copies))
 
-pub returns-in-Err-clause-made : goal.returns-in-Err-clause-made
-returns-in-Err-clause-made g c =
-    let n = c.write_fault.new in
-    let nodes = c.grant_range.ensures.nodes in
-    omega (arith, kept_copies (g.M.Mapper.held c.grant_range.new.mapper) (g.M.Mapper.held c.write_fault.new.mapper) (g.M.Mapper.page_bytes c.grant_range.new.mapper) (g.M.Mapper.page_bytes n.mapper) c.grant_range.new.caches n.caches c.self.inside.store n.store c.in-Err.ensures.missed.forest, c.write_fault.ensures.answered.kept.made, nodes.made, nodes.copies, ap numbered c.self.view_is)
+-- What stays granted ------------------------------------------------------------------------
+
+pub returns-in-Some-clause-grants : goal.returns-in-Some-clause-grants
+unfolding put
+returns-in-Some-clause-grants g c =
+    let places = goal.at.returns-in-Some-clause-grants g c in
+    let caches : c.write_found.new.caches ≡ with_own c.self.inside.caches (there g places.In-Some).owner (Resident true)
+    = subst (λ (o : Option NodeId). IfSome o (λ n. c.write_found.new.caches ≡ with_own c.self.inside.caches n (Resident true))) (node_is g places.In-Some) c.write_found.ensures.dirty in
+    subst (λ (p : Manager). GrantsStay p.caches c.write_found.new.caches) c.self.view_is (same_tables c.self.inside.caches c.write_found.new.caches (ap (λ (a : Arena). a.caches) caches))
+
+pub returns-in_err-grant_range-clause-grants : goal.returns-in_err-grant_range-clause-grants
+returns-in_err-grant_range-clause-grants g c = subst (λ (p : Manager). GrantsStay p.caches c.grant_range.new.caches) c.self.view_is c.grant_range.ensures.nodes.grants
+
+kept_grants : (g : Over) (c : After-write_fault g) → GrantsStay c.args.self.now.caches c.write_fault.new.caches
+kept_grants g c =
+    let still = same_tables c.grant_range.new.caches c.write_fault.new.caches c.write_fault.ensures.answered.kept.nodes.caches in
+    subst (λ (p : Manager). GrantsStay p.caches c.write_fault.new.caches) c.self.view_is (λ cache page e. still cache page (c.grant_range.ensures.nodes.grants cache page e))
+
+pub returns-in-Ok-clause-grants : goal.returns-in-Ok-clause-grants
+returns-in-Ok-clause-grants g c = kept_grants g (goal.at.returns-in-Ok-clause-grants g c).After-write_fault
+
+pub returns-in-Err-clause-grants : goal.returns-in-Err-clause-grants
+returns-in-Err-clause-grants g c = kept_grants g (goal.at.returns-in-Err-clause-grants g c).After-write_fault
+
+-- What was asked in vain --------------------------------------------------------------------
+
+pub returns-in_err-place-clause-asked : goal.returns-in_err-place-clause-asked
+returns-in_err-place-clause-asked g c =
+    let i = c.self.inside in
+    let bs : c.as_slice-bytes.result.now ≡ c.args.piece.now = c.as_slice-bytes.ensures.bytes in
+    let gave = err_from_is_err_and c.from_residual.result c.from_residual.ensures.1 in
+    let is : c.from_residual.result ≡ Err (troubles.Refused c.in_err-place.field-0.0) = gave.1 ∙ ap (λ t. Err t) gave.2 in
+    unplaced_by _ c.from_residual.result i.contexts.page_bytes (has_number i.contexts.actors c.args.actor.0) c.args.address (length c.as_slice-bytes.result.now) c.in_err-place.field-0.0 is
+    (refused_at (place_of_actor i.contexts.page_bytes (has_number i.contexts.actors c.args.actor.0) c.args.address (length c.as_slice-bytes.result.now)) c.in_err-place.field-0.0 (sym c.in_err-place.was ∙ c.locate.ensures))
+
+-- the page may not be written: nothing changed, and it wasn't granted
+in_vain : (g : Over) (c : In_err-grant_range g) → AskedInVain c.args.self.now (seen c.grant_range.new.caches c.self.inside.store c.self.inside.contexts) c.args.actor.0 c.args.address (length c.args.piece.now)
+in_vain g c =
+    let i = c.self.inside in
+    let a = c.grant_range.new.caches in
+    let pl = c.in_ok-place.place in
+    let range : Extent = record { cache = pl.cache; first = pl.page; pages = 1 } in
+    let out = not_granted g c in
+    let r = found g (goal.at.In_err-grant_range g c).In_ok-place in
+    let at : ℕ → Type 0 = λ page. is_granted i.caches pl.cache.0 page ≡ false in
+    let both : (a ≡ i.caches) × at pl.page.0 = elim (denied_cases range (g.M.Mapper.held c.args.mapper.now) out.segment i.caches a c.in_err-grant_range.field-0.0 out.denied) [
+      | inl w ↦ (
+        w.1.asked.grants.none (omega (arith, w.1.asked.page_of.0, w.1.asked.page_of.1)),
+        subst at (let e : w.1.page ≡ pl.page.0 = omega (arith, w.1.asked.page_of.0, w.1.asked.page_of.1) in e) w.1.asked.ungranted,
+      )
+      | inr w ↦ (
+        w.2.grants.none (omega (arith, w.2.page_of.0, w.2.page_of.1)),
+        subst at (let e : w.0.0 ≡ pl.page.0 = omega (arith, w.2.page_of.0, w.2.page_of.1) in e) w.2.ungranted,
+      )
+    ] in
+    subst (λ (p : Manager). AskedInVain p (seen a i.store i.contexts) c.args.actor.0 c.args.address (length c.args.piece.now)) c.self.view_is (record {
+      same = λ j. seen (both.0 j) i.store i.contexts;
+      at = found_at r.region pl;
+      place = sym r.is;
+      not_granted = both.1;
+    })
+
+pub returns-in_err-grant_range-clause-asked : goal.returns-in_err-grant_range-clause-asked
+returns-in_err-grant_range-clause-asked g c = on_no_access c.from_residual-in_err-grant_range.result _ (in_vain g (goal.at.returns-in_err-grant_range-clause-asked g c).In_err-grant_range)
+
+pub returns-in-Err-clause-asked : goal.returns-in-Err-clause-asked
+returns-in-Err-clause-asked g c = missed_by _ c.fault_of.result c.in-Err.miss c.in_ok-place.place.page c.fault_of.ensures

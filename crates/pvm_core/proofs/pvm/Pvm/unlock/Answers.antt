@@ -1,4 +1,4 @@
-use Rattle.std.proofs.Common.{◌≡◌, ℕ, ◌+◌, ◌<◌, ◌≤◌, false, [], length, refl, sym, ap, subst, ◌∙◌, arith}
+use Rattle.std.proofs.Common.{◌≡◌, ℕ, ◌<◌, false, [], length, refl, sym, ap, subst, ◌∙◌, arith}
 use Rattle.std.specs.Prelude.{Ok, Err, is_some}
 use Rattle.std.proofs.lemmas.Bool.{not-false, not-true}
 use Rattle.vm_ids.specs.Counting.{no_counts}
@@ -24,25 +24,28 @@ use Rattle.pvm_core.proofs.Locking.Regions.{placed_range}
 use Rattle.pvm_core.proofs.Locking.Rows.{IsToldOf, told_of, unlock_none, unlock_not, unlock_row, untold_of}
 use Rattle.pvm_core.specs.Translated.{AreTranslationsRight}
 use Rattle.pvm_core.proofs.Translating.Relocked.{relocked_right}
+use Rattle.pvm_core.proofs.Answering.Recorded.{refused_call}
 use Rattle.pvm_core.proofs.pvm.Pvm.unlock.Goals.{After-let_go, After-set_locked, In-Some}
 use Rattle.pvm_core.proofs.pvm.Pvm.unlock.Goals as goal
 
-pub returns-in_default-clause-answers : goal.returns-in_default-clause-answers
-returns-in_default-clause-answers c = λ h v.
+pub returns-in_default-clause-call : goal.returns-in_default-clause-call
+returns-in_default-clause-call c = refused_call (
+    λ h v.
     let i = c.self.inside in
     told i.caches i.store i.contexts _ c.self.view_is h v (commands.Unlock c.args.region) (unlocked_is c.args.region) (Err (troubles.Refused refusals.NoRegion)) c.self.invariant.sound.nodes
-    (λ f g k. unlock_none (caches_shown f 1 i.caches.caches) (length i.store.frames.held) i.contexts c.args.region.0 (untold_of c.args.region.0 i.contexts (sym c.status.ensures ∙ c.in_default.is)))
+    (λ f g k. unlock_none (caches_shown f 1 i.caches.caches) (length i.store.frames.held) i.contexts c.args.region.0 (untold_of c.args.region.0 i.contexts (sym c.status.ensures ∙ c.in_default.is))))
 
 -- the region of which this is told
 region : (c : In-Some) → IsToldOf c.args.region.0 c.self.inside.contexts c.in-Some.status
 region c = told_of c.args.region.0 c.self.inside.contexts c.in-Some.status (sym c.status.ensures ∙ c.in-Some.is)
 
-pub returns-then-not-status-clause-answers : goal.returns-then-not-status-clause-answers
-returns-then-not-status-clause-answers c = λ h v.
+pub returns-then-not-status-clause-call : goal.returns-then-not-status-clause-call
+returns-then-not-status-clause-call c = refused_call (
+    λ h v.
     let i = c.self.inside in
-    let r = region (goal.at.returns-then-not-status-clause-answers c).In-Some in
+    let r = region (goal.at.returns-then-not-status-clause-call c).In-Some in
     told i.caches i.store i.contexts _ c.self.view_is h v (commands.Unlock c.args.region) (unlocked_is c.args.region) (Err (troubles.Refused refusals.NotLocked)) c.self.invariant.sound.nodes
-    (λ f g k. unlock_not (caches_shown f 1 i.caches.caches) (length i.store.frames.held) i.contexts c.args.region.0 r.region r.found (sym r.locked ∙ not-true c.in-Some.status.locked c.if-not-status.true))
+    (λ f g k. unlock_not (caches_shown f 1 i.caches.caches) (length i.store.frames.held) i.contexts c.args.region.0 r.region r.found (sym r.locked ∙ not-true c.in-Some.status.locked c.if-not-status.true)))
 
 pub let_go-requires-clause-range : goal.let_go-requires-clause-range
 let_go-requires-clause-range c =
@@ -94,24 +97,29 @@ invariant_of-self c = record {
       );
 }
 
-pub returns-clause-valid : goal.returns-clause-valid
-returns-clause-valid c = λ h valid.
-    let v = subst (λ (p : Manager). IsValid p h) (sym c.self.view_is) valid in
-    subst (λ (x : Actors). IsValid (seen c.let_go.new.caches c.let_go.new.store x) h) (sym (unlocked (goal.at.returns-clause-valid c).After-set_locked)) (gone_valid (gone (goal.at.returns-clause-valid c).After-let_go) h v)
-
-pub returns-clause-answers : goal.returns-clause-answers
-returns-clause-answers c = λ h valid.
-    let i = c.self.inside in
-    let n = c.let_go.new in
-    let r = region (goal.at.returns-clause-answers c).In-Some in
-    let v = subst (λ (p : Manager). IsValid p h) (sym c.self.view_is) valid in
-    subst (λ (p : Manager). AnswerIs (state_at p h) (commands.Unlock c.args.region) (Ok replies.Done) [] no_counts (state_at (seen n.caches n.store c.set_locked.new.self) h)) c.self.view_is
-    (subst (λ (x : Actors). AnswerIs (state_at (seen i.caches i.store i.contexts) h) (commands.Unlock c.args.region) (Ok replies.Done) [] no_counts (state_at (seen n.caches n.store x) h)) (sym (unlocked (goal.at.returns-clause-answers c).After-set_locked))
-    (gone_answer (gone (goal.at.returns-clause-answers c).After-let_go) h v (commands.Unlock c.args.region) refl (λ m next f. refl) (λ m g. tt)
-    (λ f g k. unlock_row (caches_shown f 1 i.caches.caches) (length i.store.frames.held) i.contexts c.args.region.0 r.region r.found (sym r.locked ∙ not-false c.in-Some.status.locked c.if-not-status.false))))
-
-pub returns-clause-made : goal.returns-clause-made
-returns-clause-made c = λ h valid.
-    let v = subst (λ (p : Manager). IsValid p h) (sym c.self.view_is) valid in
-    let same = gone_numbered (gone (goal.at.returns-clause-made c).After-let_go) h v in
-    subst (λ (p : Manager). numbered (seen c.let_go.new.caches c.let_go.new.store c.set_locked.new.self) ≤ numbered p + 0 + 8) c.self.view_is (omega (arith, same))
+pub returns-clause-call : goal.returns-clause-call
+returns-clause-call c = record {
+  valid = (
+      λ h valid.
+      let v = subst (λ (p : Manager). IsValid p h) (sym c.self.view_is) valid in
+      subst (λ (x : Actors). IsValid (seen c.let_go.new.caches c.let_go.new.store x) h) (sym (unlocked (goal.at.returns-clause-call c).After-set_locked)) (gone_valid (gone (goal.at.returns-clause-call c).After-let_go) h v)
+      );
+  answers = (
+      λ h valid.
+      let i = c.self.inside in
+      let n = c.let_go.new in
+      let r = region (goal.at.returns-clause-call c).In-Some in
+      let v = subst (λ (p : Manager). IsValid p h) (sym c.self.view_is) valid in
+      subst (λ (p : Manager). AnswerIs (state_at p h) (commands.Unlock c.args.region) (Ok replies.Done) [] no_counts (state_at (seen n.caches n.store c.set_locked.new.self) h)) c.self.view_is
+      (subst (λ (x : Actors). AnswerIs (state_at (seen i.caches i.store i.contexts) h) (commands.Unlock c.args.region) (Ok replies.Done) [] no_counts (state_at (seen n.caches n.store x) h)) (sym (unlocked (goal.at.returns-clause-call c).After-set_locked))
+      (gone_answer (gone (goal.at.returns-clause-call c).After-let_go) h v (commands.Unlock c.args.region) refl (λ m next f. refl) (λ m g. tt)
+      (λ f g k. unlock_row (caches_shown f 1 i.caches.caches) (length i.store.frames.held) i.contexts c.args.region.0 r.region r.found (sym r.locked ∙ not-false c.in-Some.status.locked c.if-not-status.false))))
+      );
+  made = (
+      λ h valid.
+      let v = subst (λ (p : Manager). IsValid p h) (sym c.self.view_is) valid in
+      let same = gone_numbered (gone (goal.at.returns-clause-call c).After-let_go) h v in
+      omega (arith, same, ap numbered c.self.view_is)
+      );
+  room = refl;
+}

@@ -1,4 +1,4 @@
-use Rattle.std.proofs.Common.{◌≡◌, true, [], length, map, sym, subst, ap, ◌∙◌}
+use Rattle.std.proofs.Common.{arith, refl, ◌≡◌, true, [], length, map, sym, subst, ap, ◌∙◌}
 use Rattle.std.proofs.lemmas.List.{length-map}
 use Rattle.vm_ids.specs.Counting.{no_counts}
 use Rattle.std.specs.Prelude.{Ok, Err, is_some}
@@ -14,7 +14,7 @@ use Rattle.residency.specs.declared.store.Store.{Store}
 use Rattle.local_cache.specs.Whole.{size_of}
 use Rattle.contexts.specs.Actors.{Actors}
 use Rattle.contexts.proofs.Told.{told_some}
-use Rattle.pvm_core.specs.Manager.{IsKept, IsValid, caches_shown, state_at}
+use Rattle.pvm_core.specs.Manager.{IsKept, IsValid, caches_shown, numbered, state_at}
 use Rattle.pvm_core.specs.Translated.{AreTranslationsRight, is_in_region}
 use Rattle.pvm_core.specs.Locks.{locks_over}
 use Rattle.pvm_core.specs.Placed.{AreRight}
@@ -24,23 +24,26 @@ use Rattle.pvm_core.proofs.Answering.Listed.{locked_told, machine_with, right_wi
 use Rattle.pvm_core.proofs.Holding.Actors.{over_unmapped}
 use Rattle.pvm_core.proofs.Translating.Commands.{unmapped_right}
 use Rattle.pvm_core.proofs.Translating.Tables.{tables_sound, tables_state, tables_valid, with_tables}
+use Rattle.pvm_core.proofs.Answering.Recorded.{refused_call}
 use Rattle.pvm_core.proofs.pvm.Pvm.unmap.Goals as goal
 
-pub returns-in_default-clause-answers : goal.returns-in_default-clause-answers
-returns-in_default-clause-answers c = λ h v.
+pub returns-in_default-clause-call : goal.returns-in_default-clause-call
+returns-in_default-clause-call c = refused_call (
+    λ h v.
     let i = c.self.inside in
     let n = c.args.region.0 in
     told i.caches i.store i.contexts _ c.self.view_is h v (commands.Unmap c.args.region) (unmapped c.args.region) (Err (troubles.Refused refusals.NoRegion)) c.self.invariant.sound.nodes
     (λ f g k. unmap_none (caches_shown f 1 i.caches.caches) (length i.store.frames.held) i.contexts n
-    (sym (told_some n 1 i.contexts.actors) ∙ ap is_some (sym c.status.ensures ∙ c.in_default.is)))
+    (sym (told_some n 1 i.contexts.actors) ∙ ap is_some (sym c.status.ensures ∙ c.in_default.is))))
 
-pub returns-then-status-clause-answers : goal.returns-then-status-clause-answers
-returns-then-status-clause-answers c = λ h v.
+pub returns-then-status-clause-call : goal.returns-then-status-clause-call
+returns-then-status-clause-call c = refused_call (
+    λ h v.
     let i = c.self.inside in
     let n = c.args.region.0 in
     let r = locked_told n 1 i.contexts.actors c.in-Some.status (sym c.status.ensures ∙ c.in-Some.is) in
     told i.caches i.store i.contexts _ c.self.view_is h v (commands.Unmap c.args.region) (unmapped c.args.region) (Err (troubles.Refused refusals.Locked)) c.self.invariant.sound.nodes
-    (λ f g k. unmap_locked (caches_shown f 1 i.caches.caches) (length i.store.frames.held) i.contexts n r.0 r.1 (r.2 ∙ c.if-status.true))
+    (λ f g k. unmap_locked (caches_shown f 1 i.caches.caches) (length i.store.frames.held) i.contexts n r.0 r.1 (r.2 ∙ c.if-status.true)))
 
 pub invariant_of-self : goal.invariant_of-self
 invariant_of-self c =
@@ -63,31 +66,37 @@ invariant_of-self c =
           (unmapped_right i.caches i.store t c.self.invariant.translated n c.in-Some.status some c.unmap.ensures.once status);
     })
 
-pub returns-clause-valid : goal.returns-clause-valid
-returns-clause-valid c = λ h v.
-    let i = c.self.inside in
-    let n = c.args.region.0 in
-    let u = c.unmap.new.self in
-    let r = locked_told n 1 i.contexts.actors c.in-Some.status (sym c.status.ensures ∙ c.in-Some.is) in
-    let there : is_some (region_with n i.contexts.actors) ≡ true = ap is_some r.1 in
-    subst (λ (s : Store). IsValid (seen i.caches s u) h) (sym c.forget_region.ensures)
-    (tables_valid (seen i.caches i.store u) (map (unless (is_in_region i.contexts.page_bytes c.in-Some.status)) i.store.tables) (length-map i.store.tables (unless (is_in_region i.contexts.page_bytes c.in-Some.status))) h
-    (acted_valid i.caches i.store i.contexts _ c.self.view_is h v u (ap (λ (t : Actors). t.page_bytes) (c.unmap.ensures.gone (c.unmap.ensures.found ∙ there)))))
-
-pub returns-clause-answers : goal.returns-clause-answers
-returns-clause-answers c = λ h v.
-    let i = c.self.inside in
-    let n = c.args.region.0 in
-    let t : Actors = i.contexts in
-    let u = c.unmap.new.self in
-    let r = locked_told n 1 t.actors c.in-Some.status (sym c.status.ensures ∙ c.in-Some.is) in
-    let there : is_some (region_with n t.actors) ≡ true = ap is_some r.1 in
-    let gone = c.unmap.ensures.gone (c.unmap.ensures.found ∙ there) in
-    subst (λ (s : Store). AnswerIs (state_at c.args.self.now h) (commands.Unmap c.args.region) (Ok replies.Done) [] no_counts (state_at (seen i.caches s u) h)) (sym c.forget_region.ensures)
-    (subst (λ (m : State). AnswerIs (state_at c.args.self.now h) (commands.Unmap c.args.region) (Ok replies.Done) [] no_counts m)
-    (sym (tables_state (seen i.caches i.store u) (map (unless (is_in_region t.page_bytes c.in-Some.status)) i.store.tables) (length-map i.store.tables (unless (is_in_region t.page_bytes c.in-Some.status))) h))
-    (acted i.caches i.store t _ c.self.view_is h v (commands.Unmap c.args.region) (unmapped c.args.region) (Ok replies.Done) c.self.invariant.sound.nodes u
-    (ap (λ (w : Actors). w.page_bytes) gone)
-    (λ f g k. let caches = caches_shown f 1 i.caches.caches in
-    let frames = length i.store.frames.held in
-    unmap_row caches frames t n r.0 r.1 (r.2 ∙ c.if-status.false) ∙ ap (λ (w : Actors). reply replies.Done (machine_with caches frames w)) (sym gone))))
+pub returns-clause-call : goal.returns-clause-call
+returns-clause-call c = record {
+  valid = (
+      λ h v.
+      let i = c.self.inside in
+      let n = c.args.region.0 in
+      let u = c.unmap.new.self in
+      let r = locked_told n 1 i.contexts.actors c.in-Some.status (sym c.status.ensures ∙ c.in-Some.is) in
+      let there : is_some (region_with n i.contexts.actors) ≡ true = ap is_some r.1 in
+      subst (λ (s : Store). IsValid (seen i.caches s u) h) (sym c.forget_region.ensures)
+      (tables_valid (seen i.caches i.store u) (map (unless (is_in_region i.contexts.page_bytes c.in-Some.status)) i.store.tables) (length-map i.store.tables (unless (is_in_region i.contexts.page_bytes c.in-Some.status))) h
+      (acted_valid i.caches i.store i.contexts _ c.self.view_is h v u (ap (λ (t : Actors). t.page_bytes) (c.unmap.ensures.gone (c.unmap.ensures.found ∙ there)))))
+      );
+  answers = (
+      λ h v.
+      let i = c.self.inside in
+      let n = c.args.region.0 in
+      let t : Actors = i.contexts in
+      let u = c.unmap.new.self in
+      let r = locked_told n 1 t.actors c.in-Some.status (sym c.status.ensures ∙ c.in-Some.is) in
+      let there : is_some (region_with n t.actors) ≡ true = ap is_some r.1 in
+      let gone = c.unmap.ensures.gone (c.unmap.ensures.found ∙ there) in
+      subst (λ (s : Store). AnswerIs (state_at c.args.self.now h) (commands.Unmap c.args.region) (Ok replies.Done) [] no_counts (state_at (seen i.caches s u) h)) (sym c.forget_region.ensures)
+      (subst (λ (m : State). AnswerIs (state_at c.args.self.now h) (commands.Unmap c.args.region) (Ok replies.Done) [] no_counts m)
+      (sym (tables_state (seen i.caches i.store u) (map (unless (is_in_region t.page_bytes c.in-Some.status)) i.store.tables) (length-map i.store.tables (unless (is_in_region t.page_bytes c.in-Some.status))) h))
+      (acted i.caches i.store t _ c.self.view_is h v (commands.Unmap c.args.region) (unmapped c.args.region) (Ok replies.Done) c.self.invariant.sound.nodes u
+      (ap (λ (w : Actors). w.page_bytes) gone)
+      (λ f g k. let caches = caches_shown f 1 i.caches.caches in
+      let frames = length i.store.frames.held in
+      unmap_row caches frames t n r.0 r.1 (r.2 ∙ c.if-status.false) ∙ ap (λ (w : Actors). reply replies.Done (machine_with caches frames w)) (sym gone))))
+      );
+  made = λ h v. omega (arith, ap numbered c.self.view_is);
+  room = refl;
+}

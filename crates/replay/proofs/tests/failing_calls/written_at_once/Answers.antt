@@ -30,7 +30,7 @@ replay-status-requires g c =
     record {
       call = record {
         valid = record { whole = c.new-machine.ensures.whole; backed = none_backed c.args.frames 4096 _ _ starts };
-        unlimited = λ manager. refl;
+        unlimited = refl;
         fits = c.requires ∙ sym (ap (λ (m : Machine). m.page_bytes) starts);
         live = live_start c.args.frames 4096 _ starts;
       };

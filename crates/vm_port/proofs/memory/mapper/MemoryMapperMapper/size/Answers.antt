@@ -3,7 +3,6 @@ use Rattle.std.specs.Prelude.{slice_get, option_map}
 use Rattle.vm_port.specs.Mapping.{MapperInMemory, pages_seen}
 use Rattle.vm_port.specs.declared.memory.pages.Segment.{Segment}
 use Rattle.vm_port.proofs.Holding.{size_held}
-use Rattle.vm_port.proofs.Sizes.{whole}
 use Rattle.vm_port.proofs.memory.mapper.MemoryMapperMapper.size.Goals as goal
 
 pub returns-clause-pages : goal.returns-clause-pages
@@ -13,8 +12,3 @@ returns-clause-pages c =
     ∙ ap (λ (xs : List Segment). cond (seg == 0) None (option_map length (slice_get (map pages_seen xs) (seg - 1)))) c.deref.ensures.value
     ∙ ap (λ (m : MapperInMemory). cond (seg == 0) None (option_map length (slice_get m.segments (seg - 1)))) (c.self.view_is ∙ c.may_fail.ensures.after)
     ∙ size_held c.args.self.now seg
-
-pub returns-clause-whole : goal.returns-clause-whole
-returns-clause-whole c =
-    let same = c.self.view_is ∙ c.may_fail.ensures.after in
-    whole c.args.self.now c.self.inside.page_bytes c.self.inside.segments.items (ap (λ (m : MapperInMemory). m.segments) same) (ap (λ (m : MapperInMemory). m.page_bytes) same) c.self.invariant.pages

@@ -1,4 +1,4 @@
-use Rattle.std.proofs.Common.{map, ◌<◌, length, ap, ◌∙◌, arith}
+use Rattle.std.proofs.Common.{map, ◌<◌, length, ap, sym, ◌∙◌, arith}
 use Rattle.std.proofs.lemmas.List.{length-map}
 use Rattle.vm_ids.specs.Held.{with_slot}
 use Rattle.vm_port.specs.Mapping.{MapperInMemory, denied_seen, held_of, pages_seen, slot_seen}
@@ -14,5 +14,5 @@ returns-clause-held c =
     let slots = λ (m : MapperInMemory). length m.slots in
     let there : slot < length v.slots = grind (arith, c.in_ok-may_fail.ensures, ap slots same, ap slots c.self.view_is, length-map c.self.inside.slots.items slot_seen, length-map i.slots.items slot_seen, c.len.ensures) in
     ap (λ xs. held_of (record v { slots = xs })) c.put_slot.ensures.put
-    ∙ put_slot_held v slot c.args.from.now there
+    ∙ put_slot_held v slot c.args.from.now there (c.requires ∙ sym (ap (λ (m : MapperInMemory). m.page_bytes) same))
     ∙ ap (λ (m : MapperInMemory). with_slot slot c.args.from.now (held_of m)) same
