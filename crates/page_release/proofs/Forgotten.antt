@@ -6,3 +6,5 @@ pub mod One
 pub mod Range
 -- What is forgotten isn't seen in the end, and the caches are whole still.
 pub mod Law
+-- Pages are forgotten some of which were forgotten before.
+pub mod Again

@@ -8,6 +8,8 @@ pub mod Linking
 pub mod Coming
 -- Own pages give way to pages of zeros, and the store follows.
 pub mod Forgotten
+-- Pages of which nothing is in memory, and to whose nodes nothing is linked.
+pub mod PassedOver
 -- In which frames pages are seen.
 pub mod Framing
 -- A page that is its node's alone stays so.

@@ -4,6 +4,7 @@ use Rattle.vm_ids.specs.declared.node_name.NodeName.{NodeName}
 use Rattle.vm_ids.specs.declared.numbers.CacheId.{CacheId}
 use Rattle.vm_ids.specs.declared.numbers.NodeId.{NodeId}
 use Rattle.vm_ids.specs.Forest.NameLists.{◌∈◌}
+use Rattle.vm_ids.specs.Forest.Nodes.{child_count}
 use Rattle.vm_ids.specs.Forest.Saving.{is_unsaved}
 use Rattle.local_cache.specs.declared.own_state.OwnState.{OwnState}
 use Rattle.local_cache.specs.Arena.{Arena, is_granted, locks_of, table_of}
@@ -33,6 +34,15 @@ IsUnclean a x = (n : NodeId) → name_of a n ≡ x → is_clean (own_of a n) ≡
 -- nor is that of any of these
 abbrev pub AreUnclean : Arena → List NodeName → Type 0
 AreUnclean a names = (x : NodeName) → x ∈ names → IsUnclean a x
+
+-- The node of this name may be retired: its own page isn't one that its segment holds, or nothing
+-- hangs on it.
+abbrev pub MayGo : Arena → NodeName → Type 0
+MayGo a x = IsUnclean a x ⊎ (child_count (forest_of a) x ≡ 0)
+
+-- and so may each of these
+abbrev pub AllMayGo : Arena → List NodeName → Type 0
+AllMayGo a names = (x : NodeName) → x ∈ names → MayGo a x
 
 -- the own page of the node of this name is the one that its segment holds
 abbrev pub IsClean : Arena → NodeName → Type 0

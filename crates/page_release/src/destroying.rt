@@ -10,14 +10,15 @@ ghost use Rattle.local_cache.specs.Reading.{forest_of};
 ghost use Rattle.local_cache.specs.Sound.{IsSound};
 ghost use Rattle.local_cache.specs.Whole.{size_of};
 ghost use Rattle.page_release.specs.Commands.{CanReplace, CanRetire, Empties};
-ghost use Rattle.page_release.specs.Homes.{AreUnclean, IsUnclean};
+ghost use Rattle.page_release.specs.Homes.{AllMayGo, MayGo};
 ghost use Rattle.page_release.specs.Readings.{GoesBy};
 ghost use Rattle.page_release.specs.Steps.{IsStoreTied, IsUnpinned, Kept, Releases};
 ghost use Rattle.page_release.specs.Translating.{Replaces};
 
 use crate::following::follow;
-use crate::forgetting::forget_named;
+use crate::forgetting::forget_touched;
 use crate::settling::settle;
+use crate::untouched::untouched_nodes;
 use local_cache::Caches;
 use residency::Store;
 use tree_merge::retire_step;
@@ -31,7 +32,7 @@ fn retire_next(store: &mut Store, caches: &mut Caches, cache: CacheId, pages: u3
     requires node { IsSome (node_at caches.old cache.0 done) }
     requires made { caches.old.made + (pages - done) < 2 ^ 63 }
     requires unpinned { IsUnpinned store.old caches.old (page_name cache done) }
-    requires unclean { IsUnclean caches.old (page_name cache done) }
+    requires may { MayGo caches.old (page_name cache done) }
     ensures some { 0 < result }
     ensures few { done + result ≤ pages }
     ensures rule { GoesBy (λ P put f. retire_all (page_names cache done result) f)
@@ -40,6 +41,12 @@ fn retire_next(store: &mut Store, caches: &mut Caches, cache: CacheId, pages: u3
     ensures room { caches.old.room.nodes ≤ caches.new.room.nodes }
     ensures fewer { length (own_states caches.new) ≤ length (own_states caches.old) }
 {
+    let node = caches.node_of(cache, PageNo(done));
+    let untouched = untouched_nodes(caches, node, pages - done);
+    if untouched > 0 {
+        caches.free_many(node, untouched);
+        return untouched;
+    }
     let extent = Extent {
         cache,
         first: PageNo(0),
@@ -54,7 +61,7 @@ fn retire_next(store: &mut Store, caches: &mut Caches, cache: CacheId, pages: u3
 fn retire_pages(store: &mut Store, caches: &mut Caches, cache: CacheId, pages: u32)
     requires pages { size_of caches.old cache.0 ≡ Some pages }
     requires retire { CanRetire pages (page_names cache 0 pages) store.old caches.old }
-    requires unclean { AreUnclean caches.old (page_names cache 0 pages) }
+    requires may { AllMayGo caches.old (page_names cache 0 pages) }
     ensures rule { GoesBy (λ P put f. retire_all (page_names cache 0 pages) f)
         store.old caches.old store.new caches.new }
     ensures kept { Releases [] store.old caches.old store.new caches.new }
@@ -84,7 +91,7 @@ pub fn destroy_pages(store: &mut Store, caches: &mut Caches, cache: CacheId, pag
     ensures translations { Replaces (λ x. x ∈ page_names cache 0 pages) (λ x. ⊥)
         caches.old store.old caches.new store.new }
 {
-    forget_named(store, caches, cache, PageNo(0), pages);
+    forget_touched(store, caches, cache, PageNo(0), pages);
     retire_pages(store, caches, cache, pages);
     settle(store, caches);
 }

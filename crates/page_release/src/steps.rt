@@ -10,9 +10,10 @@ ghost use Rattle.local_cache.specs.Reading.{forest_of, page_of};
 ghost use Rattle.local_cache.specs.Sound.{IsSound};
 ghost use Rattle.residency.specs.Seeing.{frame_forest};
 ghost use Rattle.residency.specs.StoreForest.{store_forest};
+ghost use Rattle.residency.specs.World.{is_clean};
 ghost use Rattle.tree_merge.specs.declared.released.Released.{Released as Freed};
 ghost use Rattle.tree_merge.specs.Releasing.{IsDetached, IsRetired};
-ghost use Rattle.page_release.specs.Homes.{IsUnclean, cleaned};
+ghost use Rattle.page_release.specs.Homes.{IsUnclean, MayGo, cleaned};
 ghost use Rattle.page_release.specs.Readings.{GoesBy};
 ghost use Rattle.page_release.specs.Steps.{ForAnyMapper, IsSettleStep, IsStoreTied, IsUnpinned, IsWorkingUnpinned, Releases, fresh_frame, fresh_page, is_fresh};
 
@@ -22,15 +23,16 @@ use residency::Store;
 use tree_merge::retire;
 use vm_ids::{CacheId, NodeName, PageNo};
 
-// Retires the node of a page, which has none then. Where it has no children its frame or its swap slot falls free with
-// it. Its frame must not be pinned, and its own page must not be one that its segment holds.
+// Retires the node of a page, which has none then. Where it has no children its frame or its swap
+// slot falls free with it. Its frame must not be pinned. Where it has children its own page must
+// not be one that its segment holds.
 pub(crate) fn retire_page(store: &mut Store, caches: &mut Caches, cache: CacheId, page: PageNo)
     requires tied { IsStoreTied store.old caches.old }
     requires sound { IsSound caches.old }
     requires node { IsSome (node_at caches.old cache.0 page.0) }
     requires made { caches.old.made < 2 ^ 63 }
     requires unpinned { IsUnpinned store.old caches.old (NodeName.Live cache page) }
-    requires unclean { IsUnclean caches.old (NodeName.Live cache page) }
+    requires may { MayGo caches.old (NodeName.Live cache page) }
     ensures rule { GoesBy (λ P put f. rule_retire f (NodeName.Live cache page))
         store.old caches.old store.new caches.new }
     ensures kept { Releases [] store.old caches.old store.new caches.new }
@@ -59,7 +61,9 @@ pub(crate) fn detach_page(
     requires room { 1 ≤ caches.old.room.nodes }
     requires made { caches.old.made < 2 ^ 63 }
     requires unpinned { IsUnpinned store.old caches.old (NodeName.Live cache page) }
-    requires unclean { IsUnclean caches.old (NodeName.Live cache page) }
+    requires may { MayGo caches.old (NodeName.Live cache page) }
+    requires unclean { is_clean state ≡ false
+        → IsUnclean caches.old (NodeName.Live cache page) }
     requires fresh { is_fresh caches.old (NodeName.Live cache page) state ≡ true }
     ensures nodes { forest_of caches.new ≡ rule_detach (forest_of caches.old)
         (NodeName.Live cache page) (page_of state) }

@@ -1,3 +1,4 @@
+pub mod AlikePages
 pub mod Dropped
 pub mod GivenUp
 pub mod Granting

@@ -22,7 +22,7 @@ use Rattle.vm_ids.proofs.Forest.Reading.{value-IsValue}
 use Rattle.vm_ids.proofs.Forest.Saving.{no_more_saves, save_range_ends}
 use Rattle.vm_ids.proofs.Forest.Values.{handed, heir_hangs, heir_own, node-count_copy, own_kept}
 
-both_false : (a : Bool) → (a && false) ≡ false
+pub both_false : (a : Bool) → (a && false) ≡ false
 both_false true = refl
 both_false false = refl
 

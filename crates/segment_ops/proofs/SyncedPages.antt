@@ -1,9 +1,9 @@
 -- Pages whose segment holds what their nodes read, while further pages are pushed.
-use Rattle.std.proofs.Common.{◌≡◌, ◌≢◌, ℕ, zero, suc, ◌+◌, ◌*◌, ◌-◌, ◌≤◌, ◌||◌, Bool, true, false, cond, List, [], ◌∷◌, Option, Some, None, is_some, unwrap_or, refl, sym, ap, ◌∙◌, subst, arith, inl, inr, ◌⊎◌}
+use Rattle.std.proofs.Common.{◌≡◌, ◌≢◌, ℕ, zero, suc, ◌+◌, ◌*◌, ◌-◌, ◌<◌, ◌≤◌, ◌||◌, Bool, true, false, cond, List, [], ◌∷◌, Option, Some, None, is_some, unwrap_or, refl, sym, ap, ◌∙◌, subst, arith, inl, inr, ◌⊎◌}
 use Rattle.std.specs.FinMap.{empty}
 use Rattle.std.specs.Option.{IfSome, IsSome, option_map_or}
 use Rattle.std.specs.Prelude.{option_and_then, slice_get}
-use Rattle.std.proofs.lemmas.Bool.{cases_eq}
+use Rattle.std.proofs.lemmas.Bool.{cases_eq, cases_lt}
 use Rattle.vm_ids.specs.Counting.{MapperCounts}
 use Rattle.vm_ids.specs.Forest.Shape.{IsWellShaped}
 use Rattle.vm_ids.specs.Held.{Held, Segments, put_segment_page, segments_in, segments_of}
@@ -172,13 +172,19 @@ module _ (range : Extent) (at : ℕ) (w v : World) (right : IsStoreRight w) (sti
       let before = node_before page n e in
       synced_stays w v right still sound shaped (still_caches_sound w v still sound) clean c d told n _ (range_home w.caches sound range.cache page n named.0 before named.1) (synced page n from below before)
 
-  pub synced_then : (m : NodeId) → node_at w.caches range.cache.0 at ≡ Some m → IsSynced v m → AreSynced range (at + 1) v
-  synced_then m here one page n from below e = elim (cases_eq page at) [
-    | inl q ↦ (
-        let same : m ≡ n = cc (here, sym (ap (node_at w.caches range.cache.0) q) ∙ node_before page n e) in
-        subst (IsSynced v) same one)
-    | inr d ↦ synced_kept page n from (omega (arith, below, d)) e
-  ]
+-- its node is synced, and so is the range as far as behind this page
+pub one_synced : (range : Extent) (v : World) (m : NodeId) → node_at v.caches range.cache.0 range.first.0 ≡ Some m → IsSynced v m → AreSynced range (range.first.0 + 1) v
+one_synced range v m here one page n from below e =
+    let place : page ≡ range.first.0 = omega (arith, from, below) in
+    let same : m ≡ n = cc (here, sym (ap (node_at v.caches range.cache.0) place) ∙ e) in
+    subst (IsSynced v) same one
+
+-- the range up to this page is synced, and its rest up to another one
+pub synced_on : (range : Extent) (at left past : ℕ) (v : World) → AreSynced range at v → AreSynced (record range { first = record { 0 = at }; pages = left }) past v → AreSynced range past v
+synced_on range at left past v before behind page n from below e = elim (cases_lt page at) [
+  | inl low ↦ before page n from low e
+  | inr high ↦ behind page n high below e
+]
 
 -- What it costs ----------------------------------------------------------------------------------
 
@@ -202,19 +208,27 @@ count_up a cache first k (suc j) =
 pub no_traffic : (a : Arena) (cache first : ℕ) (c : MapperCounts) → TrafficAtMost (unclean_count a cache first (first - first)) (2 * unclean_count a cache first (first - first)) c c
 no_traffic a cache first c = record { pulled = λ low. omega arith; pushed = λ low. omega arith }
 
--- the pages up to this one were pushed
-pub costs_then : (a : Arena) (range : Extent) (at : ℕ) (n : NodeId) (own : OwnState) (b c d : MapperCounts) → range.first.0 ≤ at → node_at a range.cache.0 at ≡ Some n → (is_clean (own_of a n) ≡ true → is_clean own ≡ true)
-    → TrafficAtMost (unclean_count a range.cache.0 range.first.0 (at - range.first.0)) (2 * unclean_count a range.cache.0 range.first.0 (at - range.first.0)) b c → TrafficAtMost (unclean own) (2 * unclean own) c d → Later c d
-    → TrafficAtMost (unclean_count a range.cache.0 range.first.0 (at + 1 - range.first.0)) (2 * unclean_count a range.cache.0 range.first.0 (at + 1 - range.first.0)) b d
-costs_then a range at n own b c d low here stays one two later =
-    let k : at + 1 - range.first.0 ≡ suc (at - range.first.0) = omega (arith, low) in
+-- no more pages are unclean than were, where clean ones stay so
+pub unclean_stays : (a b : Arena) → Like a b → CleanStays a b → (cache page : ℕ) → unclean_at b cache page ≤ unclean_at a cache page
+unclean_stays a b like clean cache page = subst (λ (o : Option NodeId). option_map_or (λ n. unclean (own_of b n)) o 0 ≤ unclean_at a cache page) (sym (same_node a b like cache page)) (go (node_at a cache page))
+  where
+    go : (o : Option NodeId) → option_map_or (λ n. unclean (own_of b n)) o 0 ≤ option_map_or (λ n. unclean (own_of a n)) o 0
+    go None = omega arith
+    go (Some n) = unclean_less (own_of a n) (own_of b n) (clean n)
+
+-- the pages up to this one were pushed, and it and so many from it on, of which no other one needed a push
+pub costs_then : (a : Arena) (range : Extent) (at pages here : ℕ) (b c d : MapperCounts) → range.first.0 ≤ at → 0 < pages → here ≤ unclean_at a range.cache.0 at
+    → TrafficAtMost (unclean_count a range.cache.0 range.first.0 (at - range.first.0)) (2 * unclean_count a range.cache.0 range.first.0 (at - range.first.0)) b c → TrafficAtMost here (2 * here) c d → Later c d
+    → TrafficAtMost (unclean_count a range.cache.0 range.first.0 (at + pages - range.first.0)) (2 * unclean_count a range.cache.0 range.first.0 (at + pages - range.first.0)) b d
+costs_then a range at pages here b c d low some less one two later =
+    let k : at + pages - range.first.0 ≡ (pages - 1) + suc (at - range.first.0) = omega (arith, low, some) in
     let place : range.first.0 + (at - range.first.0) ≡ at = omega (arith, low) in
     let count = ap (unclean_count a range.cache.0 range.first.0) k in
-    let this : unclean_at a range.cache.0 (range.first.0 + (at - range.first.0)) ≡ unclean (own_of a n) = ap (unclean_at a range.cache.0) place ∙ ap (λ o. option_map_or (λ n. unclean (own_of a n)) o 0) here in
-    let less = unclean_less (own_of a n) own stays in
+    let more = count_up a range.cache.0 range.first.0 (suc (at - range.first.0)) (pages - 1) in
+    let this = ap (unclean_at a range.cache.0) place in
     record {
-      pulled = λ below. (let first : c.pulls ≤ b.pulls + unclean_count a range.cache.0 range.first.0 (at - range.first.0) = one.pulled (omega (arith, later.pulls, below)) in let second : d.pulls ≤ c.pulls + unclean own = two.pulled below in omega (arith, count, this, less));
-      pushed = λ below. (let first : c.pushes ≤ b.pushes + 2 * unclean_count a range.cache.0 range.first.0 (at - range.first.0) = one.pushed (omega (arith, later.pushes, below)) in let second : d.pushes ≤ c.pushes + 2 * unclean own = two.pushed below in omega (arith, count, this, less));
+      pulled = λ below. (let first : c.pulls ≤ b.pulls + unclean_count a range.cache.0 range.first.0 (at - range.first.0) = one.pulled (omega (arith, later.pulls, below)) in let second : d.pulls ≤ c.pulls + here = two.pulled below in omega (arith, count, more, this, less));
+      pushed = λ below. (let first : c.pushes ≤ b.pushes + 2 * unclean_count a range.cache.0 range.first.0 (at - range.first.0) = one.pushed (omega (arith, later.pushes, below)) in let second : d.pushes ≤ c.pushes + 2 * here = two.pushed below in omega (arith, count, more, this, less));
     }
 
 -- and no more of them are left out

@@ -2,7 +2,7 @@
 use Rattle.std.proofs.Common.{◌≡◌, ◌≢◌, ℕ, zero, suc, length, ◌+◌, ◌-◌, ◌<◌, ◌≤◌, ◌^◌, ◌*◌, cond, ◌&&◌, List, Bool, true, false, Option, Some, None, is_some, option_map, Result, Ok, Err, refl, sym, ap, ◌∙◌, arith, inl, inr}
 use Rattle.std.specs.Option.{IsSome}
 use Rattle.std.specs.Prelude.{IfErr}
-use Rattle.std.proofs.lemmas.Bool.{cases_eq}
+use Rattle.std.proofs.lemmas.Bool.{cases_eq, cases_lt}
 use Rattle.vm_ids.specs.declared.command.Extent.{Extent}
 use Rattle.vm_ids.specs.declared.node_name.NodeName.{NodeName}
 use Rattle.vm_ids.specs.declared.node_name.NodeName.TheVariants.{Live, Working}
@@ -189,11 +189,11 @@ module _ (old w : World) (range : Extent) (done at : ℕ) (forest : store_forest
         pages_apart : (cache : CacheId) (p q : ℕ) → page_name cache p ≡ page_name cache q → p ≡ q
         pages_apart cache p q e = ap page_number e
 
-  -- the page there is saved
-  pub saved_on : is_unsaved (store_forest w) (page_name range.cache at) ≡ false → (p : ℕ) → range.first.0 ≤ p → p < at + 1 → is_unsaved (store_forest w) (page_name range.cache p) ≡ false
-  saved_on is p from below = elim (cases_eq p at) [
-    | inl e ↦ ap (λ k. is_unsaved (store_forest w) (page_name range.cache k)) e ∙ is
-    | inr d ↦ saved p from (omega (arith, d))
+  -- the pages from there on, as far as another one, are saved
+  pub saved_on : (next : ℕ) → ((p : ℕ) → at ≤ p → p < next → is_unsaved (store_forest w) (page_name range.cache p) ≡ false) → (p : ℕ) → range.first.0 ≤ p → p < next → is_unsaved (store_forest w) (page_name range.cache p) ≡ false
+  saved_on next here p from below = elim (cases_lt p at) [
+    | inl low ↦ saved p from low
+    | inr high ↦ here p high below
   ]
 
   -- all pages are saved

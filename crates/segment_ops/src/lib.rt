@@ -7,7 +7,8 @@
 //! owner has it, and stays inherited. Where pages of a named cache are to be replaced, from a copy,
 //! a move or their segment, whoever still reads them through the cache owns them first, since the
 //! segment may change afterwards (`save_range`; sync, flush, invalidate and getWriteAccess of
-//! Abrossimov, Rozier and Shapiro, SOSP 1989).
+//! Abrossimov, Rozier and Shapiro, SOSP 1989). Pages of which nothing is to be pushed, given up or
+//! saved are passed over, as many at once as have alike nodes.
 //!
 //! The model is that of `residency` and `fault_path`: worlds, and the page forest of a store.
 //! `StaysWhole` of `specs` says what the calls that reach the forest keep, and `TellsValues` in it
@@ -19,6 +20,7 @@
 #![tactic(auto)]
 
 mod access;
+mod alike;
 mod pushing;
 mod saving;
 

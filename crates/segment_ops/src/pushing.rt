@@ -1,11 +1,12 @@
 // Pages of segments are pushed home, and given up.
-ghost use Rattle.std.specs.Prelude.{◌≡◌, ℕ, ◌*◌, ◌+◌, true, false, Some, IfErr, IsSome, OnErr, OnOk};
+ghost use Rattle.std.specs.Prelude.{◌≡◌, ℕ, ◌*◌, ◌+◌, ◌<◌, ◌≤◌, true, false, Some, IfErr, IfOk, IsSome, OnErr, OnOk};
 ghost use Rattle.vm_ids.specs.declared.numbers.NodeId.{NodeId};
 ghost use Rattle.frame_pool.specs.Pool.{is_pinned};
 ghost use Rattle.global_map.specs.Pairs.{node_of};
-ghost use Rattle.local_cache.specs.Arena.{HasNode};
+ghost use Rattle.local_cache.specs.Arena.{node_at};
 ghost use Rattle.local_cache.specs.Home.{home_of};
 ghost use Rattle.local_cache.specs.Own.{is_resident, own_of};
+ghost use Rattle.local_cache.specs.Sound.{IsSound};
 ghost use Rattle.local_cache.specs.Whole.{IsWhole};
 ghost use Rattle.residency.specs.Between.{Across, Between, RightStore};
 ghost use Rattle.residency.specs.Causes.{Later, Traffic};
@@ -19,9 +20,10 @@ ghost use Rattle.segment_ops.specs.Keeping.{StaysWhole};
 ghost use Rattle.segment_ops.specs.Pushing.{TellsValues};
 ghost use Rattle.segment_ops.specs.Ranges.{HasRange, IsNamed, IsPageOf};
 ghost use Rattle.segment_ops.specs.Saving.{HasFailed};
-ghost use Rattle.segment_ops.specs.Synced.{AreLoose, AreOut, AreSynced, CleanStays, IsSynced, is_settled, unclean, unclean_count};
+ghost use Rattle.segment_ops.specs.Synced.{AreLoose, AreOut, AreSynced, CleanStays, IsSynced, is_settled, unclean, unclean_at, unclean_count};
 ghost use Rattle.segment_ops.specs.Translating.{IsReadBy};
 
+use crate::alike::{clean_nodes, frameless_nodes, is_clean};
 use history_tree::owner_of;
 use local_cache::{Caches, Home, OwnState};
 use residency::Store;
@@ -66,17 +68,6 @@ fn push_page<M: Mapper, C: Chooser>(
     Ok(())
 }
 
-// Whether a segment holds the own page of a node.
-fn is_clean(caches: &Caches, node: NodeId) -> bool
-    requires { HasNode caches.now node }
-    ensures { result ≡ is_page_clean (own_of caches.now node) }
-{
-    matches!(
-        caches.own_state(node),
-        OwnState::OnSegment | OwnState::Resident { dirty: false }
-    )
-}
-
 // The same where the home may hold it. Nothing is done then.
 fn sync_page<M: Mapper, C: Chooser>(
     store: &mut Store,
@@ -107,6 +98,47 @@ fn sync_page<M: Mapper, C: Chooser>(
     }
     let home = caches.home(node).unwrap();
     push_page(store, caches, node, home, mapper, chooser)
+}
+
+// Pushes the first page of a range home, where its segment doesn't hold it. As many pages from
+// there on as are alike and held by their segment are passed over at once. It answers how many
+// pages were done.
+fn push_next<M: Mapper, C: Chooser>(
+    store: &mut Store,
+    caches: &mut Caches,
+    range: Extent,
+    mapper: &mut M,
+    chooser: &mut C,
+) -> Result<u32, Failed>
+    requires right { RightForest M.held M.page_bytes mapper.old caches.old store.old }
+    requires node { IsSome (node_at caches.old range.cache.0 range.first.0) }
+    requires named { IsNamed caches.old range }
+    requires some { 0 < range.pages }
+    requires unpinned { HasUnpinned store.old.frames }
+    ensures still { Between Still M.held M.page_bytes
+        mapper.old caches.old store.old mapper.new caches.new store.new }
+    ensures told { Across TellsValues M.held M.page_bytes M.counts
+        mapper.old caches.old store.old mapper.new caches.new store.new }
+    ensures pinned { store.new.frames.pinned ≡ store.old.frames.pinned }
+    ensures later { Later (M.counts mapper.old) (M.counts mapper.new) }
+    ensures clean { CleanStays caches.old caches.new }
+    ensures some { IfOk result (λ pages. 0 < pages) }
+    ensures few { IfOk result (λ pages. pages ≤ range.pages) }
+    ensures synced { IfOk result (λ pages. AreSynced range (range.first.0 + pages)
+        (world (M.held mapper.new) (M.page_bytes mapper.new) caches.new store.new)) }
+    ensures most { TrafficAtMost (unclean_at caches.old range.cache.0 range.first.0)
+        (2 * unclean_at caches.old range.cache.0 range.first.0)
+        (M.counts mapper.old) (M.counts mapper.new) }
+    ensures cause { OnErr result (HasFailed (M.counts mapper.old) (M.counts mapper.new)) }
+    ensures drops { Drops (IsReadBy caches.old range) caches.old store.old caches.new store.new }
+{
+    let node = caches.node_of(range.cache, range.first);
+    let clean = clean_nodes(caches, node, range.pages);
+    if clean > 0 {
+        return Ok(clean);
+    }
+    sync_page(store, caches, node, mapper, chooser)?;
+    Ok(1)
 }
 
 // Pushes the pages of a range that their segment doesn't hold, in rising order. The error is the
@@ -140,12 +172,18 @@ fn push_pages<M: Mapper, C: Chooser>(
     ensures cause { OnErr result (HasFailed (M.counts mapper.old) (M.counts mapper.new)) }
     ensures drops { Drops (IsReadBy caches.old range) caches.old store.old caches.new store.new }
 {
-    for number in range.first.0..range.first.0 + range.pages {
-        let page = PageNo(number);
-        let node = caches.node_of(range.cache, page);
-        let Ok(()) = sync_page(store, caches, node, mapper, chooser) else {
-            return Err(page);
+    let mut page = range.first.0;
+    let end = range.first.0 + range.pages;
+    while page < end {
+        let rest = Extent {
+            cache: range.cache,
+            first: PageNo(page),
+            pages: end - page,
         };
+        let Ok(pages) = push_next(store, caches, rest, mapper, chooser) else {
+            return Err(PageNo(page));
+        };
+        page += pages;
     }
     Ok(())
 }
@@ -173,7 +211,46 @@ fn let_go<M: Mapper>(store: &mut Store, caches: &mut Caches, node: NodeId, mappe
     }
 }
 
-// The same for the pages of a range.
+// The same for the first page of a range. As many pages from there on as are alike and in no frame
+// are passed over at once. It answers how many pages were done.
+fn give_up_next<M: Mapper>(
+    store: &mut Store,
+    caches: &mut Caches,
+    range: Extent,
+    mapper: &mut M,
+) -> u32
+    requires right { RightStore M.held M.page_bytes mapper.old caches.old store.old }
+    requires sound { IsSound caches.old }
+    requires node { IsSome (node_at caches.old range.cache.0 range.first.0) }
+    requires named { IsNamed caches.old range }
+    requires some { 0 < range.pages }
+    requires synced { AreSynced range (range.first.0 + range.pages)
+        (world (M.held mapper.old) (M.page_bytes mapper.old) caches.old store.old) }
+    requires loose { AreLoose range
+        (world (M.held mapper.old) (M.page_bytes mapper.old) caches.old store.old) }
+    ensures still { Between Still M.held M.page_bytes
+        mapper.old caches.old store.old mapper.new caches.new store.new }
+    ensures others { Between OthersStay M.held M.page_bytes
+        mapper.old caches.old store.old mapper.new caches.new store.new }
+    ensures held { M.held mapper.new ≡ M.held mapper.old }
+    ensures pinned { store.new.frames.pinned ≡ store.old.frames.pinned }
+    ensures later { Later (M.counts mapper.old) (M.counts mapper.new) }
+    ensures traffic { Traffic 0 0 (M.counts mapper.old) (M.counts mapper.new) }
+    ensures some { 0 < result }
+    ensures few { result ≤ range.pages }
+    ensures out { AreOut (record range { pages = result }) caches.new }
+    ensures drops { Drops Nobody caches.old store.old caches.new store.new }
+{
+    let node = caches.node_of(range.cache, range.first);
+    let out = frameless_nodes(caches, node, range.pages);
+    if out > 0 {
+        return out;
+    }
+    let_go(store, caches, node, mapper);
+    1
+}
+
+// The same for all pages of a range.
 fn give_up_pages<M: Mapper>(store: &mut Store, caches: &mut Caches, range: Extent, mapper: &mut M)
     requires right { RightStore M.held M.page_bytes mapper.old caches.old store.old }
     requires whole { IsWhole caches.old }
@@ -194,9 +271,15 @@ fn give_up_pages<M: Mapper>(store: &mut Store, caches: &mut Caches, range: Exten
     ensures out { AreOut range caches.new }
     ensures drops { Drops Nobody caches.old store.old caches.new store.new }
 {
-    for number in range.first.0..range.first.0 + range.pages {
-        let node = caches.node_of(range.cache, PageNo(number));
-        let_go(store, caches, node, mapper);
+    let mut page = range.first.0;
+    let end = range.first.0 + range.pages;
+    while page < end {
+        let rest = Extent {
+            cache: range.cache,
+            first: PageNo(page),
+            pages: end - page,
+        };
+        page += give_up_next(store, caches, rest, mapper);
     }
 }
 

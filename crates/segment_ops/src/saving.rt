@@ -1,11 +1,11 @@
 // The heirs of a range get its pages, before these are replaced.
-ghost use Rattle.std.specs.Prelude.{◌≡◌, ◌≢◌, ℕ, ◌+◌, ◌<◌, ◌≤◌, ◌^◌, true, Some, is_some, IfErr, IfSome, IsOk, OnErr, OnOk};
+ghost use Rattle.std.specs.Prelude.{◌≡◌, ◌≢◌, ℕ, ◌+◌, ◌<◌, ◌≤◌, ◌^◌, true, false, Some, is_some, IfErr, IfSome, IsOk, OnErr, OnOk};
 ghost use Rattle.vm_ids.specs.Forest.Commands.{extent_names, page_name};
 ghost use Rattle.vm_ids.specs.Forest.NameMap.{len};
 ghost use Rattle.vm_ids.specs.Forest.Nodes.{is_live};
 ghost use Rattle.vm_ids.specs.Forest.Rules as forest;
 ghost use Rattle.vm_ids.specs.Forest.Saving.{is_unsaved};
-ghost use Rattle.local_cache.specs.Arena.{HasNode};
+ghost use Rattle.local_cache.specs.Arena.{HasNode, node_at};
 ghost use Rattle.local_cache.specs.Reading.{forest_of, name_of};
 ghost use Rattle.local_cache.specs.Sound.{IsSound};
 ghost use Rattle.local_cache.specs.Whole.{IsWhole};
@@ -17,6 +17,7 @@ ghost use Rattle.segment_ops.specs.Ranges.{HasRange};
 ghost use Rattle.segment_ops.specs.Saving.{AreSaved, AreSavedNow, HasFailed, OnlySavedCome, SavesEnd};
 ghost use Rattle.segment_ops.specs.Translating.{IsSavedOrAbsent};
 
+use crate::alike::heirless_nodes;
 use fault_path::save;
 use history_tree::heir;
 use local_cache::Caches;
@@ -39,6 +40,22 @@ fn reader(caches: &Caches, node: NodeId) -> Option<NodeId>
     } else {
         heir(caches, node)
     }
+}
+
+// How many pages, from the first one of a range on, need no save, where that one needs none: as
+// many as have nodes that are alike and without heirs, or else one.
+fn saved_pages(caches: &Caches, range: Extent, node: NodeId) -> u32
+    requires sound { IsSound caches.now }
+    requires node { node_at caches.now range.cache.0 range.first.0 ≡ Some node }
+    requires some { 0 < range.pages }
+    requires saved { is_unsaved (forest_of caches.now) (page_name range.cache range.first.0)
+        ≡ false }
+    ensures some { 0 < result }
+    ensures few { result ≤ range.pages }
+    ensures saved { (p : ℕ) → range.first.0 ≤ p → p < range.first.0 + result
+        → is_unsaved (forest_of caches.now) (page_name range.cache p) ≡ false }
+{
+    heirless_nodes(caches, node, range.pages).max(1)
 }
 
 // Where the next page to save may be, after that of `page` was saved for its heir: at the heir,
@@ -106,7 +123,14 @@ pub fn save_range<M: Mapper, C: Chooser>(
                 done += 1;
                 page = next_page(caches, range, page, heir);
             }
-            None => page += 1,
+            None => {
+                let rest = Extent {
+                    cache: range.cache,
+                    first: PageNo(page),
+                    pages: end - page,
+                };
+                page += saved_pages(caches, rest, node);
+            }
         }
     }
     Ok(())

@@ -98,8 +98,8 @@ fresh_in a b same x (Resident dirty) e = e
 fresh_in a b same x (Slot k) e = e
 fresh_in a b same x OnSegment e = ap is_some (home_name a b same x) ∙ e
 
-module _ (s : Store) (a : Arena) (tied : IsStoreTied s a) (cache : CacheId) (no : PageNo) (unclean : IsUnclean a (Live cache no)) (n : NodeId) (named : name_of a n ≡ Live cache no) (t : Store) (b : Arena) (r : Released) (retired : IsRetired a b n r) (kept : Releases [] s a t b)
-    (d : NodeId) (free : find b d ≡ None) (state : OwnState) (fresh : is_fresh a (Live cache no) state ≡ true) (c : Arena) (is : c ≡ with_new b d (Live cache no) state) where
+module _ (s : Store) (a : Arena) (tied : IsStoreTied s a) (cache : CacheId) (no : PageNo) (state : OwnState) (unclean : is_clean state ≡ false → IsUnclean a (Live cache no)) (n : NodeId) (named : name_of a n ≡ Live cache no) (t : Store) (b : Arena) (r : Released) (retired : IsRetired a b n r) (kept : Releases [] s a t b)
+    (d : NodeId) (free : find b d ≡ None) (fresh : is_fresh a (Live cache no) state ≡ true) (c : Arena) (is : c ≡ with_new b d (Live cache no) state) where
   abbrev x : NodeName
   x = Live cache no
 
@@ -112,16 +112,16 @@ module _ (s : Store) (a : Arena) (tied : IsStoreTied s a) (cache : CacheId) (no 
       gives_then (world told size a s) (world told size b t) (world told size c t) one
       (fresh_back t b d free cache no state fresh_now c is told size one.tied (retired_free s a t b told size fit n x named r retired))
 
-  was_unclean : (u : Bool) → (u ≡ false) ⊎ (x ∈ cleaned state x) → is_clean (own_of c d) ≡ u → (is_clean (own_of c d) ≡ is_clean (own_of a n)) ⊎ (name_of c d ∈ cleaned state x)
-  was_unclean u (inl out) e = inl (e ∙ out ∙ sym (unclean n named))
-  was_unclean u (inr i) e = inr (subst (λ k. k ∈ cleaned state x) (sym (fresh_is t b d free cache no state fresh_now c is).0) i)
+  was_unclean : (is_clean state ≡ false) ⊎ (x ∈ cleaned state x) → is_clean (own_of c d) ≡ is_clean state → (is_clean (own_of c d) ≡ is_clean (own_of a n)) ⊎ (name_of c d ∈ cleaned state x)
+  was_unclean (inl out) e = inl (e ∙ out ∙ sym (unclean out n named))
+  was_unclean (inr i) e = inr (subst (λ k. k ∈ cleaned state x) (sym (fresh_is t b d free cache no state fresh_now c is).0) i)
 
   detach_was : (m : NodeId) → IsSome (home_of c m) → WasThere (cleaned state (Live cache no)) a c m
   detach_was m some = elim (id_cases m d) [
     | inl e ↦ subst (WasThere (cleaned state x) a c) (sym e) (record {
       node = n;
       named = named ∙ sym (fresh_is t b d free cache no state fresh_now c is).0;
-      clean = was_unclean (is_clean state) (clean_or_listed (is_clean state) x) (ap is_clean (fresh_is t b d free cache no state fresh_now c is).1);
+      clean = was_unclean (clean_or_listed (is_clean state) x) (ap is_clean (fresh_is t b d free cache no state fresh_now c is).1);
     })
     | inr other ↦
         let same = fresh_others t b d free cache no state fresh_now c is m other in

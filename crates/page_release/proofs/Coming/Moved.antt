@@ -41,6 +41,7 @@ use Rattle.page_release.proofs.Leaving.Retired.{retire_back, retire_can, retire_
 use Rattle.page_release.proofs.Coming.Taken.{free_homeless, retired_free}
 use Rattle.page_release.proofs.Coming.Renamed.{renamed_back, renamed_bytes, renamed_home_other, renamed_pinned, renamed_unclean}
 use Rattle.page_release.proofs.Coming.Detached.{fresh_back, fresh_forest, fresh_grants, fresh_is, fresh_locks, fresh_named, fresh_others}
+use Rattle.page_release.proofs.Tying.Named.{unclean_may}
 
 renamed_name : (b : Arena) (n : NodeId) (x : NodeName) → name_of (with_name b n x) n ≡ x
 unfolding cell
@@ -87,7 +88,7 @@ module _ (s : Store) (a : Arena) (sound : IsSound a) (tied : IsStoreTied s a) (f
   put_still = retired_put a b m.cleared.node r m.cleared.retired
 
   pub move_can : CanFollow s d r
-  move_can = can_with s b d r put_still (retire_can s a b m.cleared.node x was was_named r m.cleared.retired m.cleared.told tied unpinned unclean)
+  move_can = can_with s b d r put_still (retire_can s a b m.cleared.node x was was_named r m.cleared.retired m.cleared.told tied unpinned (unclean_may a x unclean))
 
   cleared_sizes : SameCaches a m.between
   cleared_sizes = sizes_retired a b m.cleared.node r m.cleared.retired
@@ -101,16 +102,16 @@ module _ (s : Store) (a : Arena) (sound : IsSound a) (tied : IsStoreTied s a) (f
 
   module _ (t : Store) (after : (told : Option Held) (size : Option ℕ) → world told size d t ≡ followed (world told size d s) r) (temporary : home_named a.caches (Live from from_page) ≡ None) where
     cleared_back : ForAnyMapper s a t b GivesBack
-    cleared_back = retire_back s a b m.cleared.node x was was_named r m.cleared.retired m.cleared.told tied unpinned unclean t (before t after)
+    cleared_back = retire_back s a b m.cleared.node x was was_named r m.cleared.retired m.cleared.told tied unpinned (unclean_may a x unclean) t (before t after)
 
     cleared_forest : ForAnyMapper s a t b (λ old now. store_forest now ≡ retire (store_forest old) (Live to to_page))
-    cleared_forest = retire_forest s a b m.cleared.node x was was_named r m.cleared.retired m.cleared.told tied unpinned unclean t (before t after) sound m.cleared.sound m.cleared.forest
+    cleared_forest = retire_forest s a b m.cleared.node x was was_named r m.cleared.retired m.cleared.told tied unpinned (unclean_may a x unclean) t (before t after) sound m.cleared.sound m.cleared.forest
 
     cleared_named : PinnedStayNamed s a b
-    cleared_named = retire_named s a b m.cleared.node x was was_named r m.cleared.retired m.cleared.told tied unpinned unclean
+    cleared_named = retire_named s a b m.cleared.node x was was_named r m.cleared.retired m.cleared.told tied unpinned (unclean_may a x unclean)
 
     cleared_homes : KeepsHomes [] a b
-    cleared_homes = retire_homes s a b m.cleared.node x was was_named r m.cleared.retired m.cleared.told tied unpinned unclean
+    cleared_homes = retire_homes s a b m.cleared.node x was was_named r m.cleared.retired m.cleared.told tied unpinned (unclean_may a x unclean)
 
     -- neither the node of the source nor the fresh one has a home
     source_home : home_named m.between.caches (Live from from_page) ≡ None

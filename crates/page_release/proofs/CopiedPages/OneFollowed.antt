@@ -32,6 +32,7 @@ use Rattle.page_release.proofs.Linking.Grown.{grown_kept, linked_forest, relinke
 use Rattle.page_release.proofs.RetiredPages.OneFollowed.{one_can, one_named, one_retires}
 use Rattle.page_release.proofs.RetiredPages.Parts.{RetiresPage}
 use Rattle.page_release.proofs.Tying.Kept.{kept_both}
+use Rattle.page_release.proofs.Tying.Named.{unclean_may}
 
 -- A node was hung on another one: the store is as it was, and the rule holds of pages and of frames too.
 record HangsPage (is_small : Bool) (x y : NodeName) (t : Store) (a b : Arena) : Type 0 where
@@ -71,21 +72,21 @@ module _ (s : Store) (a b : Arena) (is_small : Bool) (to : CacheId) (to_page : P
   put = retired_put a c is.detached.retired.node r is.detached.retired.retired
 
   pub copied_can : CanFollow s b r
-  copied_can = can_with s c b r put (one_can s a c to to_page r is.detached.retired sound tied unpinned unclean)
+  copied_can = can_with s c b r put (one_can s a c to to_page r is.detached.retired sound tied unpinned (unclean_may a x unclean))
 
   module _ (t : Store) (after : IsFollowed s t b r) (tables : DropsFreed s t) where
     retired : RetiresPage (Live to to_page) s a t is.detached.between
-    retired = one_retires s a c to to_page r is.detached.retired sound tied unpinned unclean t (followed_with s t c b r put after) tables
+    retired = one_retires s a c to to_page r is.detached.retired sound tied unpinned (unclean_may a x unclean) t (followed_with s t c b r put after) tables
 
     detached_kept : Releases [] s a t is.between
     detached_kept =
-        detach_kept s a tied to to_page unclean is.detached.retired.node (one_named s a c to to_page r is.detached.retired sound tied unpinned unclean) t c r is.detached.retired.retired retired.kept
-        is.detached.fresh is.detached.free Absent refl m is.detached.is is.detached.sound
+        detach_kept s a tied to to_page Absent (λ _. unclean) is.detached.retired.node (one_named s a c to to_page r is.detached.retired sound tied unpinned (unclean_may a x unclean)) t c r is.detached.retired.retired retired.kept
+        is.detached.fresh is.detached.free refl m is.detached.is is.detached.sound
 
     detached_forest : ForAnyMapper s a t is.between (λ old new. store_forest new ≡ detach (store_forest old) (Live to to_page) None)
     detached_forest =
-        detach_forest s a tied to to_page unclean is.detached.retired.node (one_named s a c to to_page r is.detached.retired sound tied unpinned unclean) t c r is.detached.retired.retired retired.kept
-        is.detached.fresh is.detached.free Absent refl m is.detached.is is.detached.sound is.detached.retired.vacant retired.rule.forest
+        detach_forest s a tied to to_page Absent (λ _. unclean) is.detached.retired.node (one_named s a c to to_page r is.detached.retired sound tied unpinned (unclean_may a x unclean)) t c r is.detached.retired.retired retired.kept
+        is.detached.fresh is.detached.free refl m is.detached.is is.detached.sound is.detached.retired.vacant retired.rule.forest
 
     detached_frames : frame_forest is.between t.map ≡ detach (frame_forest a s.map) (Live to to_page) None
     detached_frames =

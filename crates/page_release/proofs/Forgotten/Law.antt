@@ -1,16 +1,16 @@
 -- What is forgotten isn't seen in the end, and the caches are whole still.
 use Rattle.std.proofs.Common.{◌≡◌, Bool, true, false, List, refl, sym, ap, ◌∙◌}
 use Rattle.vm_ids.specs.declared.node_name.NodeName.{NodeName}
-use Rattle.vm_ids.specs.Forest.Commands.{copy, destroy, firsts, move_}
+use Rattle.vm_ids.specs.Forest.Commands.{copy, firsts, move_}
 use Rattle.vm_ids.specs.Forest.Forgetting.{forgotten}
-use Rattle.vm_ids.specs.Forest.Laws.Commands.{ArePagesOnce, CanCopy}
+use Rattle.vm_ids.specs.Forest.Laws.Commands.{CanCopy}
 use Rattle.vm_ids.specs.Forest.NameLists.{◌∈◌}
 use Rattle.vm_ids.specs.Forest.Nodes.{Forest}
 use Rattle.vm_ids.specs.Forest.PageMap.{bare}
 use Rattle.vm_ids.specs.Forest.Saving.{is_unsaved}
 use Rattle.vm_ids.specs.Forest.Shape.{IsConsistent}
 use Rattle.vm_ids.proofs.Forest.BareShape.{bare-shaped}
-use Rattle.vm_ids.proofs.Forest.Laws.Forgetting.{copy-forgets, destroy-forgets, move-forgets}
+use Rattle.vm_ids.proofs.Forest.Laws.Forgetting.{copy-forgets, move-forgets}
 use Rattle.vm_ids.proofs.Forest.LostPages.{forgotten-bare}
 use Rattle.local_cache.specs.Arena.{Arena}
 use Rattle.local_cache.specs.Reading.{forest_of}
@@ -29,11 +29,6 @@ forgotten_whole a b names whole same sound is = like_whole a b whole (still_like
 
 -- A command that goes on isn't told --------------------------------------------------------------
 module _ {P : Type 0} where
-  pub destroy_forgotten : (named : Bool) (xs : List NodeName) (f : Forest P) → IsConsistent f → ArePagesOnce f xs → (named ≡ true → (x : NodeName) → x ∈ xs → is_unsaved f x ≡ false) → (p : P)
-      → destroy false xs (forgotten_where named xs p f) ≡ destroy false xs f
-  destroy_forgotten false xs f c are saved p = refl
-  destroy_forgotten true xs f c are saved p = destroy-forgets xs f c are (saved refl) p
-
   pub copy_forgotten : (named : Bool) (pairs : List (NodeName × NodeName)) (f : Forest P) → IsConsistent f → CanCopy f pairs → (named ≡ true → (x : NodeName) → x ∈ firsts pairs → is_unsaved f x ≡ false) → (p : P)
       → copy false pairs (forgotten_where named (firsts pairs) p f) ≡ copy false pairs f
   copy_forgotten false pairs f c can saved p = refl

@@ -33,6 +33,7 @@ use Rattle.page_release.proofs.Coming.Fresh.{fresh-by}
 use Rattle.page_release.proofs.Coming.Moved.{before, there, there_named, was, was_named}
 use Rattle.page_release.proofs.Framing.Leaving.{retire_frames}
 use Rattle.page_release.proofs.Framing.Pages.{frame_as, frame_tells, no_frame}
+use Rattle.page_release.proofs.Tying.Named.{unclean_may}
 
 -- A fresh node -----------------------------------------------------------------------------------
 module _ (map : List (Option NodeId)) (a : Arena) (kept : IsKept a) (d : NodeId) (free : find a d ≡ None) (cache : CacheId) (no : PageNo) (vacant : IsVacant a cache no) (state : OwnState) (fresh : is_fresh a (Live cache no) state ≡ true) (c : Arena) (is : c ≡ with_new a d (Live cache no) state) (named : IsNamed c) where
@@ -82,7 +83,7 @@ module _ (s : Store) (a : Arena) (sound : IsSound a) (tied : IsStoreTied s a) (f
       let b = m.between in
       let c = with_name m.between m.origin (Live to to_page) in
       let cleared : frame_forest b t.map ≡ retire (frame_forest a s.map) x =
-      retire_frames s a b m.cleared.node x (was s a sound tied from from_page to to_page unpinned unclean r d m) (was_named s a sound tied from from_page to to_page unpinned unclean r d m) r m.cleared.retired m.cleared.told tied unpinned unclean
+      retire_frames s a b m.cleared.node x (was s a sound tied from from_page to to_page unpinned unclean r d m) (was_named s a sound tied from from_page to to_page unpinned unclean r d m) r m.cleared.retired m.cleared.told tied unpinned (unclean_may a x unclean)
       t (before s a sound tied from from_page to to_page unpinned unclean r d m t after) sound m.cleared.sound m.cleared.forest in
       let renamed : frame_forest c t.map ≡ rename (frame_forest b t.map) y x =
       renamed_frames t.map b m.cleared.sound.kept m.origin (there s a sound tied from from_page to to_page unpinned unclean r d m) y (there_named s a sound tied from from_page to to_page unpinned unclean r d m) to to_page m.cleared.vacant c refl in

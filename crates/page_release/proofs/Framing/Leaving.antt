@@ -24,7 +24,7 @@ use Rattle.tree_merge.specs.declared.released.Released.TheVariants.{Nothing, Dro
 use Rattle.tree_merge.specs.Releasing.{IsMerged, IsPassed, IsReleased, IsRetired}
 use Rattle.tree_merge.proofs.OtherPages.{page_after, retire-by, settle_step-by}
 use Rattle.page_release.specs.Following.{followed, with_page_moved, without_page}
-use Rattle.page_release.specs.Homes.{IsUnclean}
+use Rattle.page_release.specs.Homes.{MayGo}
 use Rattle.page_release.specs.Steps.{IsStoreTied, IsUnpinned}
 use Rattle.page_release.proofs.Framing.Pages.{frame_as, frame_tells}
 use Rattle.page_release.proofs.Leaving.Dropped as dropped
@@ -101,8 +101,8 @@ module _ (s : Store) (a : Arena) (t : Store) (b : Arena) (r : Released) (rel : I
   merged_frames sound sound_b merged = settle_step-by (own_frame a s.map) a sound (frame_tells a s.map) b r merged (own_frame b t.map) sound_b.kept.named (frame_tells b t.map) steps_frame
 
 -- the node of a page was retired
-module _ (s : Store) (a b : Arena) (n : NodeId) (x : NodeName) (there : HasNode a n) (named : name_of a n ≡ x) (r : Released) (is : IsRetired a b n r) (rel : IsReleased a b r) (tied : IsStoreTied s a) (unpinned : IsUnpinned s a x) (unclean : IsUnclean a x) where
+module _ (s : Store) (a b : Arena) (n : NodeId) (x : NodeName) (there : HasNode a n) (named : name_of a n ≡ x) (r : Released) (is : IsRetired a b n r) (rel : IsReleased a b r) (tied : IsStoreTied s a) (unpinned : IsUnpinned s a x) (may : MayGo a x) where
   pub retire_frames : (t : Store) → ((told : Option Held) (size : Option ℕ) → world told size b t ≡ followed (world told size b s) r) → IsSound a → IsSound b → forest_of b ≡ retire (forest_of a) x → frame_forest b t.map ≡ retire (frame_forest a s.map) x
   retire_frames t after sound sound_b forest =
-      retired_frames s a t b r rel (retire_loose a b n r is s (retire_frame s a b n x there named r is rel tied unpinned unclean)) (retire_passed a b n r is) (retire_stay s a b n x there named r is rel tied unpinned unclean) after tied
+      retired_frames s a t b r rel (retire_loose a b n r is s (retire_frame s a b n x there named r is rel tied unpinned may)) (retire_passed a b n r is) (retire_stay s a b n x there named r is rel tied unpinned may) after tied
       sound sound_b n there is x named forest

@@ -1,5 +1,5 @@
 -- What the caches did and released was followed in the store.
-use Rattle.std.proofs.Common.{◌≡◌, ◌≢◌, ℕ, zero, suc, ◌<◌, Bool, true, false, [], length, get_or, Option, Some, None, refl, sym, ap, ◌∙◌, subst, arith, inl, inr}
+use Rattle.std.proofs.Common.{◌≡◌, ◌≢◌, ℕ, zero, suc, ◌<◌, Bool, true, false, [], length, get_or, Option, Some, None, refl, sym, ap, ◌∙◌, subst, arith, inl, inr, ◌⊎◌}
 use Rattle.std.proofs.lemmas.List.Sums.{passes_at_first}
 use Rattle.vm_ids.specs.Held.{Held}
 use Rattle.vm_ids.specs.declared.node_name.NodeName.{NodeName}
@@ -28,7 +28,7 @@ use Rattle.tree_merge.proofs.Leaving.Sizes.{sizes_retired}
 use Rattle.tree_merge.proofs.OtherPages.{page_after, retire-by}
 use Rattle.tree_merge.proofs.Releases.{working_name}
 use Rattle.page_release.specs.Following.{CanFollow, followed}
-use Rattle.page_release.specs.Homes.{IsUnclean, KeepsHomes}
+use Rattle.page_release.specs.Homes.{KeepsHomes, MayGo}
 use Rattle.page_release.specs.Steps.{ForAnyMapper, GivesBack, IsStoreTied, IsUnpinned, Releases, PinnedStayNamed}
 use Rattle.page_release.specs.Translating.{DropsFreed}
 use Rattle.page_release.proofs.Tying.Backed.{HomesStay}
@@ -115,13 +115,13 @@ module _ (a b : Arena) (n : NodeId) (r : Released) (is : IsRetired a b n r) wher
       go zero e = (is.leaf e).2 m d ∙ ap (λ x. own_after a x m) (is.leaf e).0
       go (suc k) e = let still : IsStill a b = subst (IsReleased a b) (is.parent (omega (arith, e))).0 rel in still.own m
 
-  module _ (rel : IsReleased a b r) (unclean : is_clean (own_of a n) ≡ false) where
+  module _ (rel : IsReleased a b r) (may : (is_clean (own_of a n) ≡ false) ⊎ (child_count (forest_of a) (name_of a n) ≡ 0)) where
     retired_unclean : is_clean (own_of b n) ≡ false
     retired_unclean = go (child_count (forest_of a) (name_of a n)) refl
       where
         go : (k : ℕ) → child_count (forest_of a) (name_of a n) ≡ k → is_clean (own_of b n) ≡ false
         go zero e = ap is_clean (gone_own b n (is.leaf e).1.gone)
-        go (suc k) e = let still : IsStill a b = subst (IsReleased a b) (is.parent (omega (arith, e))).0 rel in ap is_clean (still.own n) ∙ unclean
+        go (suc k) e = let still : IsStill a b = subst (IsReleased a b) (is.parent (omega (arith, e))).0 rel in elim may [ inl unclean ↦ ap is_clean (still.own n) ∙ unclean | inr none ↦ absurd (omega (arith, none, e)) ]
 
     pub retired_stay : HomesStay a b
     retired_stay = others_stay a b n retire_name (sizes_retired a b n r is) retired_home retired_unclean (λ m d k. retired_own rel m d)
@@ -130,7 +130,11 @@ module _ (a b : Arena) (n : NodeId) (r : Released) (is : IsRetired a b n r) wher
     retired_homes = others_kept a b n retire_name (sizes_retired a b n r is) retired_home (λ m d. ap is_clean (retired_own rel m d)) (grants-tables_with a b (name_of a n) None retired_tables) (locks-tables_with a b (name_of a n) None retired_tables)
 
 -- of the node of a page
-module _ (s : Store) (a b : Arena) (n : NodeId) (x : NodeName) (there : HasNode a n) (named : name_of a n ≡ x) (r : Released) (is : IsRetired a b n r) (rel : IsReleased a b r) (tied : IsStoreTied s a) (unpinned : IsUnpinned s a x) (unclean : IsUnclean a x) where
+module _ (s : Store) (a b : Arena) (n : NodeId) (x : NodeName) (there : HasNode a n) (named : name_of a n ≡ x) (r : Released) (is : IsRetired a b n r) (rel : IsReleased a b r) (tied : IsStoreTied s a) (unpinned : IsUnpinned s a x) (may : MayGo a x) where
+  may_here : MayGo a x → (is_clean (own_of a n) ≡ false) ⊎ (child_count (forest_of a) (name_of a n) ≡ 0)
+  may_here (inl unclean) = inl (unclean n named)
+  may_here (inr none) = inr (ap (child_count (forest_of a)) named ∙ none)
+
   pub retire_frame : is_pinned s.frames (frame_of s.map n.0) ≡ false
   retire_frame = loose_frame s a n tied (λ f pin at. unpinned f n pin at named)
 
@@ -138,10 +142,10 @@ module _ (s : Store) (a b : Arena) (n : NodeId) (x : NodeName) (there : HasNode 
   retire_can = can_follow s a b tied r rel (retire_loose a b n r is s retire_frame)
 
   pub retire_stay : HomesStay a b
-  retire_stay = retired_stay a b n r is rel (unclean n named)
+  retire_stay = retired_stay a b n r is rel (may_here may)
 
   pub retire_homes : KeepsHomes [] a b
-  retire_homes = retired_homes a b n r is rel (unclean n named)
+  retire_homes = retired_homes a b n r is rel (may_here may)
 
   pub retire_named : PinnedStayNamed s a b
   retire_named f m pin at = elim (id_cases m n) [

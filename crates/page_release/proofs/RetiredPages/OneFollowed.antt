@@ -11,7 +11,7 @@ use Rattle.tree_merge.specs.declared.released.Released.{Released}
 use Rattle.tree_merge.specs.Stepping.{IsRetiredAlone}
 use Rattle.tree_merge.proofs.PagesAlone.Retired.{alone_room}
 use Rattle.page_release.specs.Following.{CanFollow}
-use Rattle.page_release.specs.Homes.{IsUnclean}
+use Rattle.page_release.specs.Homes.{MayGo}
 use Rattle.page_release.specs.Steps.{IsStoreTied, IsUnpinned}
 use Rattle.page_release.specs.Translating.{DropsFreed}
 use Rattle.page_release.proofs.Framing.Leaving.{retire_frames}
@@ -20,7 +20,7 @@ use Rattle.page_release.proofs.Leaving.Retired.{retire_can, retire_forest, retir
 use Rattle.page_release.proofs.RetiredPages.Parts.{RetiresPage}
 use Rattle.page_release.proofs.Tying.Sized.{released_fewer}
 
-module _ (s : Store) (a b : Arena) (cache : CacheId) (page : PageNo) (r : Released) (is : IsRetiredAlone a b cache page r) (sound : IsSound a) (tied : IsStoreTied s a) (unpinned : IsUnpinned s a (Live cache page)) (unclean : IsUnclean a (Live cache page)) where
+module _ (s : Store) (a b : Arena) (cache : CacheId) (page : PageNo) (r : Released) (is : IsRetiredAlone a b cache page r) (sound : IsSound a) (tied : IsStoreTied s a) (unpinned : IsUnpinned s a (Live cache page)) (may : MayGo a (Live cache page)) where
   there : HasNode a is.node
   there = (sound.kept.listed.nodes cache.0 page.0 is.node is.at).0
 
@@ -28,16 +28,16 @@ module _ (s : Store) (a b : Arena) (cache : CacheId) (page : PageNo) (r : Releas
   one_named = (sound.kept.listed.nodes cache.0 page.0 is.node is.at).1
 
   pub one_can : CanFollow s b r
-  one_can = retire_can s a b is.node (Live cache page) there one_named r is.retired is.told tied unpinned unclean
+  one_can = retire_can s a b is.node (Live cache page) there one_named r is.retired is.told tied unpinned may
 
   pub one_retires : (t : Store) → IsFollowed s t b r → DropsFreed s t → RetiresPage (Live cache page) s a t b
   one_retires t after tables = record {
     rule = record {
       nodes = is.forest;
-      forest = retire_forest s a b is.node (Live cache page) there one_named r is.retired is.told tied unpinned unclean t after sound is.sound is.forest;
-      frames = retire_frames s a b is.node (Live cache page) there one_named r is.retired is.told tied unpinned unclean t after sound is.sound is.forest;
+      forest = retire_forest s a b is.node (Live cache page) there one_named r is.retired is.told tied unpinned may t after sound is.sound is.forest;
+      frames = retire_frames s a b is.node (Live cache page) there one_named r is.retired is.told tied unpinned may t after sound is.sound is.forest;
     };
-    kept = retire_kept s a b is.node (Live cache page) there one_named r is.retired is.told tied unpinned unclean t after is.sound tables;
+    kept = retire_kept s a b is.node (Live cache page) there one_named r is.retired is.told tied unpinned may t after is.sound tables;
     room = alone_room a b cache page r is;
     fewer = released_fewer a b r is.told;
   }

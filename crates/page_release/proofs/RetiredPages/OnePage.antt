@@ -25,6 +25,7 @@ use Rattle.page_release.proofs.Leaving.Elsewhere.{IsFollowed}
 use Rattle.page_release.proofs.Leaving.Passed.{gone_own}
 use Rattle.page_release.proofs.RetiredPages.OneFollowed.{one_retires}
 use Rattle.page_release.proofs.RetiredPages.Parts.{RetiresPage}
+use Rattle.page_release.proofs.Tying.Named.{unclean_may}
 use Rattle.page_release.proofs.Tying.Tied.{home}
 
 -- A page that is none or zeros ------------------------------------------------------------------------
@@ -42,23 +43,28 @@ pub nothing_freed : (w : World) (n : NodeId) (x : OwnState) → IsEmpty x → w 
 nothing_freed w n x (inl e) = sym (ap (without_page w n) e)
 nothing_freed w n x (inr e) = sym (ap (without_page w n) e)
 
-module _ (t : Store) (a : Arena) (d : NodeId) (cache : CacheId) (page : PageNo) (sound : IsSound a) (held : HasNode a d) (named : name_of a d ≡ Live cache page) (empty : IsEmpty (own_of a d)) where
+module _ (t : Store) (a : Arena) (d : NodeId) (cache : CacheId) (page : PageNo) (sound : IsSound a) (held : HasNode a d) (named : name_of a d ≡ Live cache page) where
   is_page : (n : NodeId) → HasNode a n → name_of a n ≡ Live cache page → n ≡ d
   is_page n there name = sound.kept.named.apart n d there held (name ∙ sym named)
 
-  pub page_unpinned : IsStoreTied t a → IsUnpinned t a (Live cache page)
-  page_unpinned tied f n pin at name =
+  -- one in no frame
+  pub out_unpinned : is_resident (own_of a d) ≡ false → IsStoreTied t a → IsUnpinned t a (Live cache page)
+  out_unpinned out tied f n pin at name =
       let within : f < length t.map = omega (arith, true_below t.frames.pinned f pin, tied.fitted.pinned_frames, tied.fitted.map_frames) in
       let here = home (world None None a t) f n tied within at in
       let resident : is_resident (own_of a d) ≡ true = subst (λ m. is_resident (own_of a m) ≡ true) (is_page n here.there name) here.resident in
-      false≢true (sym (empty_framed (own_of a d) empty) ∙ resident)
+      false≢true (sym out ∙ resident)
+
+module _ (t : Store) (a : Arena) (d : NodeId) (cache : CacheId) (page : PageNo) (sound : IsSound a) (held : HasNode a d) (named : name_of a d ≡ Live cache page) (empty : IsEmpty (own_of a d)) where
+  pub page_unpinned : IsStoreTied t a → IsUnpinned t a (Live cache page)
+  page_unpinned = out_unpinned t a d cache page sound held named (empty_framed (own_of a d) empty)
 
   pub page_unclean : IsUnclean a (Live cache page)
   page_unclean n name = go (find a n) refl
     where
       go : (o : Option Cell) → find a n ≡ o → is_clean (own_of a n) ≡ false
       go None none = ap is_clean (gone_own a n none)
-      go (Some k) some = ap (λ m. is_clean (own_of a m)) (is_page n (ap is_some some) name) ∙ empty_clean (own_of a d) empty
+      go (Some k) some = ap (λ m. is_clean (own_of a m)) (is_page t a d cache page sound held named n (ap is_some some) name) ∙ empty_clean (own_of a d) empty
 
 -- It has neither parent nor children, and goes --------------------------------------------------------
 
@@ -70,7 +76,7 @@ module _ (t : Store) (a : Arena) (d : NodeId) (cache : CacheId) (page : PageNo) 
   pub page_goes : IsStoreTied t a → RetiresPage (Live cache page) t a t (without a d)
   page_goes tied =
       one_retires t a (without a d) cache page (Dropped d (own_of a d)) (page_alone a d cache page can) can.sound tied
-      (page_unpinned t a d cache page can.sound can.held can.named empty tied) (page_unclean t a d cache page can.sound can.held can.named empty)
+      (page_unpinned t a d cache page can.sound can.held can.named empty tied) (unclean_may a (Live cache page) (page_unclean t a d cache page can.sound can.held can.named empty))
       t (page_followed (without a d)) (same_freed t t refl refl)
 
 -- It has children, and becomes a working node ---------------------------------------------------------
@@ -79,5 +85,5 @@ module _ (t : Store) (a : Arena) (d : NodeId) (cache : CacheId) (page : PageNo) 
   pub page_stays : IsStoreTied t a → RetiresPage (Live cache page) t a t (as_working a d)
   page_stays tied =
       one_retires t a (as_working a d) cache page Nothing (shared_alone a d cache page can) can.sound tied
-      (page_unpinned t a d cache page can.sound can.held can.named empty tied) (page_unclean t a d cache page can.sound can.held can.named empty)
+      (page_unpinned t a d cache page can.sound can.held can.named empty tied) (unclean_may a (Live cache page) (page_unclean t a d cache page can.sound can.held can.named empty))
       t (λ told size. refl) (same_freed t t refl refl)

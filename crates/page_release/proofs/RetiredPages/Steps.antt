@@ -11,7 +11,7 @@ use Rattle.tree_merge.specs.declared.step.Step.{Step}
 use Rattle.tree_merge.specs.Copying.{page_after}
 use Rattle.tree_merge.specs.Stepping.{IsRetireStep}
 use Rattle.page_release.specs.Following.{CanFollow}
-use Rattle.page_release.specs.Homes.{IsUnclean}
+use Rattle.page_release.specs.Homes.{MayGo}
 use Rattle.page_release.specs.Steps.{IsStoreTied, IsUnpinned}
 use Rattle.page_release.specs.Translating.{DropsFreed}
 use Rattle.page_release.proofs.Leaving.Elsewhere.{IsFollowed}
@@ -20,11 +20,11 @@ use Rattle.page_release.proofs.RetiredPages.Pages.{at_once_follows}
 use Rattle.page_release.proofs.RetiredPages.Parts.{RetiresPages, retires_one}
 
 module _ (s : Store) (a b : Arena) (extent : Extent) (done : ℕ) (step : Step) (is : IsRetireStep a b extent done step) (sound : IsSound a) (tied : IsStoreTied s a)
-    (unpinned : IsUnpinned s a (page_name extent.cache (extent.first.0 + done))) (unclean : IsUnclean a (page_name extent.cache (extent.first.0 + done))) where
+    (unpinned : IsUnpinned s a (page_name extent.cache (extent.first.0 + done))) (may : MayGo a (page_name extent.cache (extent.first.0 + done))) where
   step_can : CanFollow s b step.released
   step_can = elim is.how [
     | inl many ↦ subst (CanFollow s b) (sym many.0) tt
-    | inr one ↦ one_can s a b extent.cache (page_after extent.first done) step.released one.1 sound tied unpinned unclean
+    | inr one ↦ one_can s a b extent.cache (page_after extent.first done) step.released one.1 sound tied unpinned may
   ]
 
   step_retires : (t : Store) → IsFollowed s t b step.released → DropsFreed s t → (step.released ≡ Nothing → t ≡ s) → RetiresPages extent.cache (extent.first.0 + done) step.pages s a t b
@@ -32,7 +32,7 @@ module _ (s : Store) (a b : Arena) (extent : Extent) (done : ℕ) (step : Step) 
     | inl many ↦ subst (λ u. RetiresPages extent.cache (extent.first.0 + done) step.pages s a u b) (sym (same many.0)) (at_once_follows s a b extent done step.pages tied many.1)
     | inr one ↦ subst (λ k. RetiresPages extent.cache (extent.first.0 + done) k s a t b) (sym one.0)
         (retires_one extent.cache (extent.first.0 + done) s a t b
-        (one_retires s a b extent.cache (page_after extent.first done) step.released one.1 sound tied unpinned unclean t after tables))
+        (one_retires s a b extent.cache (page_after extent.first done) step.released one.1 sound tied unpinned may t after tables))
   ]
 
 -- The same where the extent is a whole cache ----------------------------------------------------------
@@ -42,19 +42,19 @@ abbrev all_pages : CacheId → ℕ → Extent
 all_pages cache pages = record { cache = cache; first = record { 0 = 0 }; pages = pages }
 
 module _ (s : Store) (a b : Arena) (cache : CacheId) (pages done : ℕ) (step : Step) (is : IsRetireStep a b (all_pages cache pages) done step) (sound : IsSound a) (tied : IsStoreTied s a)
-    (unpinned : IsUnpinned s a (page_name cache done)) (unclean : IsUnclean a (page_name cache done)) where
+    (unpinned : IsUnpinned s a (page_name cache done)) (may : MayGo a (page_name cache done)) where
   number : 0 + done ≡ done
   number = omega arith
 
   unpinned_first : IsUnpinned s a (page_name cache (0 + done))
   unpinned_first = subst (λ p. IsUnpinned s a (page_name cache p)) (sym number) unpinned
 
-  unclean_first : IsUnclean a (page_name cache (0 + done))
-  unclean_first = subst (λ p. IsUnclean a (page_name cache p)) (sym number) unclean
+  may_first : MayGo a (page_name cache (0 + done))
+  may_first = subst (λ p. MayGo a (page_name cache p)) (sym number) may
 
   pub cache_can : CanFollow s b step.released
-  cache_can = step_can s a b (all_pages cache pages) done step is sound tied unpinned_first unclean_first
+  cache_can = step_can s a b (all_pages cache pages) done step is sound tied unpinned_first may_first
 
   pub cache_retires : (t : Store) → IsFollowed s t b step.released → DropsFreed s t → (step.released ≡ Nothing → t ≡ s) → RetiresPages cache done step.pages s a t b
   cache_retires t after tables same = subst (λ p. RetiresPages cache p step.pages s a t b) number
-      (step_retires s a b (all_pages cache pages) done step is sound tied unpinned_first unclean_first t after tables same)
+      (step_retires s a b (all_pages cache pages) done step is sound tied unpinned_first may_first t after tables same)

@@ -1,5 +1,5 @@
 -- Which pages have homes: those of a cache that is named.
-use Rattle.std.proofs.Common.{◌≡◌, true, false, List, Option, Some, None, IsSome, is_some, option_map, refl, sym, ap, ◌∙◌}
+use Rattle.std.proofs.Common.{◌≡◌, true, false, List, Option, Some, None, IsSome, is_some, option_map, refl, sym, ap, ◌∙◌, inl}
 use Rattle.std.specs.Prelude.{option_and_then}
 use Rattle.std.proofs.lemmas.Bool.{false≢true}
 use Rattle.vm_ids.specs.declared.node_name.NodeName.{NodeName}
@@ -13,7 +13,7 @@ use Rattle.local_cache.specs.Whole.{SameCaches, segment_of}
 use Rattle.local_cache.specs.Home.{home_named}
 use Rattle.residency.specs.declared.store.Store.{Store}
 use Rattle.residency.specs.World.{world}
-use Rattle.page_release.specs.Homes.{AreSaved, HasHome, IsUnclean, IsWritable, is_named}
+use Rattle.page_release.specs.Homes.{AreSaved, HasHome, IsUnclean, IsWritable, MayGo, is_named}
 use Rattle.page_release.specs.Steps.{IsStoreTied}
 use Rattle.page_release.proofs.Tying.Backed.{homeless}
 
@@ -51,6 +51,10 @@ named_is a cache segment is = by_segment (table_of a cache.0) ∙ ap (λ (o : Op
 module _ (a b : Arena) (same : SameCaches a b) (cache : CacheId) where
   pub named_same : is_named b cache ≡ is_named a cache
   named_same = by_segment (table_of b cache.0) ∙ ap (λ (o : Option (Option SegId)). is_some (option_and_then (λ s. s) o)) (same.segments cache.0) ∙ sym (by_segment (table_of a cache.0))
+
+-- a node whose own page isn't one that its segment holds may be retired
+pub unclean_may : (a : Arena) (x : NodeName) → IsUnclean a x → MayGo a x
+unclean_may a x unclean = inl unclean
 
 -- What calls ask of a temporary cache ------------------------------------------------------------
 pub temporary_saved : (a : Arena) (cache : CacheId) (names : List NodeName) → is_named a cache ≡ false → AreSaved a cache names

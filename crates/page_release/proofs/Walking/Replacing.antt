@@ -1,5 +1,5 @@
 -- The pages of a range become those of their segment, one after the other.
-use Rattle.std.proofs.Common.{◌≡◌, ℕ, ◌+◌, ◌-◌, ◌<◌, true, false, List, [], ◌∷◌, map, Option, Some, None, is_some, unwrap_or, refl, sym, ap, ◌∙◌, subst, inl, inr}
+use Rattle.std.proofs.Common.{◌≡◌, ℕ, true, false, List, [], ◌∷◌, map, Option, Some, None, is_some, unwrap_or, refl, sym, ap, ◌∙◌, subst, inl, inr}
 use Rattle.std.specs.Prelude.{option_and_then}
 use Rattle.vm_ids.specs.Held.{Held}
 use Rattle.vm_ids.specs.declared.node_name.NodeName.{NodeName}
@@ -7,7 +7,7 @@ use Rattle.vm_ids.specs.declared.numbers.CacheId.{CacheId}
 use Rattle.vm_ids.specs.declared.node_name.NodeName.TheVariants.{Live, Working}
 use Rattle.vm_ids.specs.declared.numbers.NodeId.{NodeId}
 use Rattle.vm_ids.specs.declared.numbers.PageNo.{PageNo}
-use Rattle.vm_ids.specs.Forest.Commands.{firsts, page_name, page_names, replace_pages}
+use Rattle.vm_ids.specs.Forest.Commands.{firsts, page_names, replace_pages}
 use Rattle.vm_ids.specs.Forest.Changes.{put}
 use Rattle.vm_ids.specs.Forest.NameLists.{◌∈◌}
 use Rattle.vm_ids.specs.Forest.Nodes.{Forest, IsNode, childless, is_live}
@@ -38,7 +38,6 @@ use Rattle.residency.specs.declared.store.Store.{Store}
 use Rattle.residency.specs.World.{is_clean, page_at, world}
 use Rattle.page_release.specs.Homes.{HasHome, IsClean, KeepsHomes, named_page}
 use Rattle.page_release.specs.Readings.{held_pages, new_pages}
-use Rattle.page_release.proofs.Forgotten.Range.{names_step}
 use Rattle.page_release.proofs.Tying.Homes.{home_name}
 
 -- each name with a page
@@ -50,11 +49,6 @@ first_names page [] = refl
 first_names page (x ∷ xs) = ap (λ ys. x ∷ ys) (first_names page xs)
 
 module _ {P : Type 0} where
-  -- one page is replaced
-  pub replaced_by : (f g : Forest P) (page : NodeName → P) (c : CacheId) (p n i : ℕ) → i < n → g ≡ detach f (page_name c (p + i)) (Some (page (page_name c (p + i))))
-      → replace_pages (with_page page (page_names c (p + (i + 1)) (n - (i + 1)))) g ≡ replace_pages (with_page page (page_names c (p + i) (n - i))) f
-  replaced_by f g page c p n i low is = ap (replace_pages (with_page page (page_names c (p + (i + 1)) (n - (i + 1))))) is ∙ sym (ap (λ xs. replace_pages (with_page page xs) f) (names_step c p n i low))
-
   -- no node goes
   pub detach_stays : (f : Forest P) → IsConsistent f → (x : NodeName) → IsNode f x → is_live x ≡ true → (v : P) → (y : NodeName) → IsNode f y → IsNode (detach f x (Some v)) y
   unfolding detach
@@ -92,7 +86,7 @@ clean_then xs a b homes x home out was n named =
     ]
 
 -- a node with the name of a page is there
-named_held : (a : Arena) (n : NodeId) (cache : CacheId) (page : PageNo) → name_of a n ≡ Live cache page → HasNode a n
+pub named_held : (a : Arena) (n : NodeId) (cache : CacheId) (page : PageNo) → name_of a n ≡ Live cache page → HasNode a n
 unfolding cell
 named_held a n cache page named = go (find a n) refl
   where

@@ -17,7 +17,7 @@ use Rattle.residency.specs.StoreForest.{store_forest}
 use Rattle.residency.specs.World.{world}
 use Rattle.page_release.specs.Homes.{is_named}
 use Rattle.page_release.specs.Steps.{Releases, zeros_told}
-use Rattle.page_release.proofs.Forgotten.Law.{destroy_forgotten}
+use Rattle.page_release.proofs.Forgotten.Again.{destroy_named}
 use Rattle.page_release.proofs.Framing.Shape.{frame_consistent, frame_pages, frame_saved}
 use Rattle.page_release.proofs.Freeing.Commands.{destroy_replaces}
 use Rattle.page_release.proofs.Tying.Homes.{homed_gone}
@@ -27,30 +27,30 @@ use Rattle.page_release.proofs.Tying.Sized.{right_after}
 use Rattle.page_release.proofs.Walking.Forgetting.{retire_kept}
 use Rattle.page_release.proofs.destroying.destroy_pages.Goals as goal
 
-pub forget_named-requires-clause-nodes : goal.forget_named-requires-clause-nodes
-forget_named-requires-clause-nodes c = range_there c.args.caches.now c.requires.ready.retire.whole c.args.cache 0 c.args.pages c.args.pages c.requires.pages (omega arith)
+pub forget_touched-requires-clause-nodes : goal.forget_touched-requires-clause-nodes
+forget_touched-requires-clause-nodes c = range_there c.args.caches.now c.requires.ready.retire.whole c.args.cache 0 c.args.pages c.args.pages c.requires.pages (omega arith)
 
 pub retire_pages-requires-clause-pages : goal.retire_pages-requires-clause-pages
-retire_pages-requires-clause-pages c = c.forget_named.ensures.kept.sizes.sizes c.args.cache.0 ∙ c.requires.pages
+retire_pages-requires-clause-pages c = c.forget_touched.ensures.kept.sizes.sizes c.args.cache.0 ∙ c.requires.pages
 
 pub retire_pages-requires-clause-retire : goal.retire_pages-requires-clause-retire
 retire_pages-requires-clause-retire c =
-    let f = c.forget_named.ensures in
-    retire_kept c.args.caches.now c.forget_named.new.caches f.same _ (page_names c.args.cache 0 c.args.pages) c.args.store.now c.forget_named.new.store f.kept f.whole _ c.requires.ready.retire
+    let f = c.forget_touched.ensures in
+    retire_kept c.args.caches.now c.forget_touched.new.caches f.same _ (page_names c.args.cache 0 c.args.pages) c.args.store.now c.forget_touched.new.store f.kept f.whole _ c.requires.ready.retire
 
 pub settle-requires-clause-unpinned : goal.settle-requires-clause-unpinned
 settle-requires-clause-unpinned c k =
-    let f = c.forget_named.ensures in
+    let f = c.forget_touched.ensures in
     let r = c.retire_pages.ensures in
-    unpinned_kept [] c.forget_named.new.store c.forget_named.new.caches c.retire_pages.new.store c.retire_pages.new.caches f.kept.tied r.kept (Working k)
-    (unpinned_kept (page_names c.args.cache 0 c.args.pages) c.args.store.now c.args.caches.now c.forget_named.new.store c.forget_named.new.caches c.requires.ready.retire.tied f.kept (Working k) (c.requires.ready.working k))
+    unpinned_kept [] c.forget_touched.new.store c.forget_touched.new.caches c.retire_pages.new.store c.retire_pages.new.caches f.kept.tied r.kept (Working k)
+    (unpinned_kept (page_names c.args.cache 0 c.args.pages) c.args.store.now c.args.caches.now c.forget_touched.new.store c.forget_touched.new.caches c.requires.ready.retire.tied f.kept (Working k) (c.requires.ready.working k))
 
 pub returns-clause-rule : goal.returns-clause-rule
 returns-clause-rule c =
     let a = c.args.caches.now in
     let u = c.args.store.now in
     let m = u.map in
-    let f = c.forget_named.ensures in
+    let f = c.forget_touched.ensures in
     let r = c.retire_pages.ensures in
     let e = c.settle.ensures in
     let sound = c.requires.ready.retire.whole.sound in
@@ -61,24 +61,24 @@ returns-clause-rule c =
     let there = pages_once a c.requires.ready.retire.whole c.args.cache c.args.pages c.requires.pages in
     record {
       nodes =
-          e.rule.nodes ∙ ap settle (r.rule.nodes ∙ ap (retire_all names) f.rule.nodes)
-          ∙ destroy_forgotten named names (forest_of a) consistent there saved Zero;
+          e.rule.nodes ∙ ap settle (r.rule.nodes ∙ ap (retire_all names) f.rule.rule.nodes)
+          ∙ destroy_named Zero named names f.rule.some (forest_of a) consistent there saved f.rule.among;
       forest = λ told size fit.
           let w = world told size a u in
           let one = (f.kept.gives_back told size fit).tied in
           let two = (r.kept.gives_back told size one).tied in
-          e.rule.forest told size two ∙ ap settle (r.rule.forest told size one ∙ ap (retire_all names) (f.rule.forest told size fit))
-          ∙ destroy_forgotten named names (store_forest w) (store_consistent w sound consistent) (store_pages w sound names there) (λ named x i. store_saved w sound x (saved named x i)) (zeros_told w);
+          e.rule.forest told size two ∙ ap settle (r.rule.forest told size one ∙ ap (retire_all names) (f.rule.rule.forest told size fit))
+          ∙ destroy_named (zeros_told w) named names f.rule.some (store_forest w) (store_consistent w sound consistent) (store_pages w sound names there) (λ named x i. store_saved w sound x (saved named x i)) f.rule.among;
       frames =
-          e.rule.frames ∙ ap settle (r.rule.frames ∙ ap (retire_all names) f.rule.frames)
-          ∙ destroy_forgotten named names (frame_forest a m) (frame_consistent a m sound consistent) (frame_pages a m sound names there) (λ named x i. frame_saved a m sound x (saved named x i)) None;
+          e.rule.frames ∙ ap settle (r.rule.frames ∙ ap (retire_all names) f.rule.rule.frames)
+          ∙ destroy_named None named names f.rule.some (frame_forest a m) (frame_consistent a m sound consistent) (frame_pages a m sound names there) (λ named x i. frame_saved a m sound x (saved named x i)) f.rule.among;
     }
 
 emptied_now : (c : goal.After-settle) → (page : ℕ) → node_at c.settle.new.caches c.args.cache.0 page ≡ None
 emptied_now c =
     let r = c.retire_pages.ensures in
     let s = c.settle.ensures in
-    emptied c.forget_named.new.caches c.retire_pages.new.caches c.settle.new.caches c.forget_named.ensures.whole c.args.cache c.args.pages (c.forget_named.ensures.kept.sizes.sizes c.args.cache.0 ∙ c.requires.pages) r.rule.nodes r.consistent r.kept.sizes r.few s.rule.nodes s.kept.sound s.kept.sizes
+    emptied c.forget_touched.new.caches c.retire_pages.new.caches c.settle.new.caches c.forget_touched.ensures.whole c.args.cache c.args.pages (c.forget_touched.ensures.kept.sizes.sizes c.args.cache.0 ∙ c.requires.pages) r.rule.nodes r.consistent r.kept.sizes r.few s.rule.nodes s.kept.sound s.kept.sizes
 
 -- the pages are gone, and the store followed
 released : (c : goal.After-settle) → Releases [] c.args.store.now c.args.caches.now c.settle.new.store c.settle.new.caches
@@ -86,11 +86,11 @@ released c =
     let names = page_names c.args.cache 0 c.args.pages in
     let s = c.args.store.now in
     let a = c.args.caches.now in
-    let t = c.forget_named.new.store in
-    let b = c.forget_named.new.caches in
+    let t = c.forget_touched.new.store in
+    let b = c.forget_touched.new.caches in
     let u = c.settle.new.store in
     let d = c.settle.new.caches in
-    let f = c.forget_named.ensures.kept in
+    let f = c.forget_touched.ensures.kept in
     let rest = kept_both t b c.retire_pages.new.store c.retire_pages.new.caches u d f.tied c.retire_pages.ensures.kept c.settle.ensures.kept in
     kept_unlisted names s a u d (kept_then names [] names s a t b u d c.requires.ready.retire.tied (λ x i. i) (λ x i. absurd i) f rest)
     (homed_gone d c.settle.ensures.kept.sound.kept.listed c.args.cache 0 c.args.pages (emptied_now c))
@@ -103,9 +103,9 @@ returns-clause-kept c =
 pub returns-clause-empties : goal.returns-clause-empties
 returns-clause-empties c =
     let a = c.args.caches.now in
-    let b = c.forget_named.new.caches in
+    let b = c.forget_touched.new.caches in
     let d = c.settle.new.caches in
-    let f = c.forget_named.ensures in
+    let f = c.forget_touched.ensures in
     let r = c.retire_pages.ensures in
     let s = c.settle.ensures in
     let room = ap (λ (k : Arena). k.room.nodes) f.same.rest in

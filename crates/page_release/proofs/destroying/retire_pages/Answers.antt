@@ -1,15 +1,17 @@
-use Rattle.std.proofs.Common.{◌≡◌, ◌+◌, ◌≤◌, ℕ, [], Some, sym, subst, arith}
+use Rattle.std.proofs.Common.{◌≡◌, ◌+◌, ◌≤◌, ℕ, [], Some, refl, sym, ap, ◌∙◌, subst, inl, inr, arith}
 use Rattle.vm_ids.specs.declared.numbers.CacheId.{CacheId}
 use Rattle.vm_ids.specs.Forest.Commands.{page_name, page_names}
 use Rattle.vm_ids.specs.Forest.NameLists.{◌∈◌}
-use Rattle.vm_ids.specs.Forest.Nodes.{IsNode}
+use Rattle.vm_ids.specs.Forest.Nodes.{IsNode, child_count}
+use Rattle.vm_ids.proofs.Forest.Laws.Ranges.{ranges_hold_their_pages}
 use Rattle.local_cache.specs.Arena.{Arena}
 use Rattle.local_cache.specs.Reading.{forest_of}
 use Rattle.local_cache.specs.Whole.{IsWhole, size_of}
 use Rattle.local_cache.proofs.Changes.SameNodes.{forest_of-made}
 use Rattle.local_cache.proofs.Whole.Pages.{page_there, pages_once}
 use Rattle.residency.specs.declared.store.Store.{Store}
-use Rattle.page_release.proofs.Forgotten.Range.{in_range}
+use Rattle.page_release.proofs.Forgotten.Range.{in_range, same_place}
+use Rattle.page_release.proofs.PassedOver.Childless.{retired_childless}
 use Rattle.page_release.proofs.RetiredPages.Parts.{PagesLeft, RetiresPages, next_there, pages_left, retires_none, retires_then}
 use Rattle.page_release.proofs.Tying.Kept.{unclean_kept, unpinned_kept}
 use Rattle.page_release.proofs.destroying.retire_pages.Goals as goal
@@ -53,13 +55,19 @@ retire_next-done-requires-clause-unpinned c =
     let here = subst (λ p. page_name c.args.cache p ∈ page_names c.args.cache 0 c.args.pages) number (in_range c.args.cache 0 c.args.pages k (omega (arith, c.loop-done-test.true))) in
     unpinned_kept [] c.args.store.now c.args.caches.now c.loop-done.store c.loop-done.caches c.requires.retire.tied c.loop-done.invariant.retired.kept x (c.requires.retire.unpinned x here)
 
-pub retire_next-done-requires-clause-unclean : goal.retire_next-done-requires-clause-unclean
-retire_next-done-requires-clause-unclean c =
+pub retire_next-done-requires-clause-may : goal.retire_next-done-requires-clause-may
+retire_next-done-requires-clause-may c =
     let k = c.loop-done.done in
     let x = page_name c.args.cache k in
     let number : 0 + k ≡ k = omega arith in
+    let i = c.loop-done.invariant.retired in
     let here = subst (λ p. page_name c.args.cache p ∈ page_names c.args.cache 0 c.args.pages) number (in_range c.args.cache 0 c.args.pages k (omega (arith, c.loop-done-test.true))) in
-    unclean_kept [] c.args.store.now c.args.caches.now c.loop-done.store c.loop-done.caches c.requires.retire.tied c.loop-done.invariant.retired.kept x (λ i. i) (c.requires.unclean x here)
+    elim (c.requires.may x here) [
+      | inl unclean ↦ inl (unclean_kept [] c.args.store.now c.args.caches.now c.loop-done.store c.loop-done.caches c.requires.retire.tied i.kept x (λ j. j) unclean)
+      | inr none ↦ inr (ap (λ g. child_count g x) i.rule.nodes ∙ retired_childless (page_names c.args.cache 0 k) (forest_of c.args.caches.now) x refl (λ j.
+          let at = (ranges_hold_their_pages c.args.cache 0 k x).0 j in
+          let place = same_place c.args.cache 0 k at.0 (ap (page_name c.args.cache) number ∙ at.2) in omega (arith, place, at.1)) none)
+    ]
 
 pub loop-done-preserved : goal.loop-done-preserved
 loop-done-preserved c =

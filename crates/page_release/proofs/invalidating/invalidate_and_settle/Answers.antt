@@ -18,74 +18,76 @@ use Rattle.residency.specs.World.{world}
 use Rattle.residency.proofs.Worlds.Nodes.{still_like}
 use Rattle.page_release.specs.Homes.{HasHome, IsClean, named_page}
 use Rattle.page_release.specs.Readings.{held_pages, new_frames, new_pages, new_states}
-use Rattle.page_release.specs.Steps.{forgotten_where, zeros_told}
+use Rattle.page_release.specs.Steps.{zeros_told}
 use Rattle.page_release.proofs.Framing.Shape.{frame_consistent, frame_pages, frame_saved}
 use Rattle.page_release.proofs.Freeing.Commands.{replace_replaces}
 use Rattle.page_release.proofs.Tying.Kept.{kept_then, unpinned_kept}
 use Rattle.page_release.proofs.Tying.Named.{named_home, named_same}
 use Rattle.page_release.proofs.Tying.Shape.{store_consistent, store_pages, store_saved}
 use Rattle.local_cache.proofs.Whole.Like.{like_node}
-use Rattle.page_release.proofs.Walking.Replacing.{clean_then, pages_of, replace_forgotten, segment_pages_same}
+use Rattle.page_release.proofs.Forgotten.Again.{replace_some}
+use Rattle.page_release.proofs.Walking.Replacing.{clean_then, pages_of, segment_pages_same}
 use Rattle.page_release.proofs.Walking.Forgetting.{retire_kept}
 use Rattle.page_release.proofs.Walking.Settled.{pages_kept}
 use Rattle.page_release.proofs.invalidating.invalidate_and_settle.Goals as goal
 
 pub replace_each-requires-clause-named : goal.replace_each-requires-clause-named
-replace_each-requires-clause-named c = named_same c.args.caches.now c.forget_named.new.caches c.forget_named.ensures.kept.sizes c.args.cache ∙ c.requires.named
+replace_each-requires-clause-named c = named_same c.args.caches.now c.forget_touched.new.caches c.forget_touched.ensures.kept.sizes c.args.cache ∙ c.requires.named
 
 pub replace_each-requires-clause-nodes : goal.replace_each-requires-clause-nodes
 replace_each-requires-clause-nodes c i low =
-    let f = c.forget_named.ensures in
-    like_node c.args.caches.now c.forget_named.new.caches f.kept.sound (still_like c.args.caches.now c.forget_named.new.caches f.same) (page_name c.args.cache (c.args.first.0 + i)) (c.requires.nodes i low)
+    let f = c.forget_touched.ensures in
+    like_node c.args.caches.now c.forget_touched.new.caches f.kept.sound (still_like c.args.caches.now c.forget_touched.new.caches f.same) (page_name c.args.cache (c.args.first.0 + i)) (c.requires.nodes i low)
 
 pub replace_each-requires-clause-retire : goal.replace_each-requires-clause-retire
 replace_each-requires-clause-retire c =
-    let f = c.forget_named.ensures in
-    retire_kept c.args.caches.now c.forget_named.new.caches f.same _ (page_names c.args.cache c.args.first.0 c.args.pages) c.args.store.now c.forget_named.new.store f.kept f.whole _ c.requires.ready.retire
+    let f = c.forget_touched.ensures in
+    retire_kept c.args.caches.now c.forget_touched.new.caches f.same _ (page_names c.args.cache c.args.first.0 c.args.pages) c.args.store.now c.forget_touched.new.store f.kept f.whole _ c.requires.ready.retire
 
 pub replace_each-requires-clause-room : goal.replace_each-requires-clause-room
-replace_each-requires-clause-room c = let room = ap (λ (a : Arena). a.room.nodes) c.forget_named.ensures.same.rest in omega (arith, room, c.requires.room.room)
+replace_each-requires-clause-room c = let room = ap (λ (a : Arena). a.room.nodes) c.forget_touched.ensures.same.rest in omega (arith, room, c.requires.room.room)
 
 pub settle-requires-clause-unpinned : goal.settle-requires-clause-unpinned
 settle-requires-clause-unpinned c k =
     let names = page_names c.args.cache c.args.first.0 c.args.pages in
-    let f = c.forget_named.ensures in
+    let f = c.forget_touched.ensures in
     let r = c.replace_each.ensures in
-    unpinned_kept names c.forget_named.new.store c.forget_named.new.caches c.replace_each.new.store c.replace_each.new.caches f.kept.tied r.kept (Working k)
-    (unpinned_kept names c.args.store.now c.args.caches.now c.forget_named.new.store c.forget_named.new.caches c.requires.ready.retire.tied f.kept (Working k) (c.requires.ready.working k))
+    unpinned_kept names c.forget_touched.new.store c.forget_touched.new.caches c.replace_each.new.store c.replace_each.new.caches f.kept.tied r.kept (Working k)
+    (unpinned_kept names c.args.store.now c.args.caches.now c.forget_touched.new.store c.forget_touched.new.caches c.requires.ready.retire.tied f.kept (Working k) (c.requires.ready.working k))
 
 pub returns-clause-rule : goal.returns-clause-rule
 returns-clause-rule c =
     let a = c.args.caches.now in
     let u = c.args.store.now in
     let m = u.map in
-    let f = c.forget_named.ensures in
+    let f = c.forget_touched.ensures in
     let r = c.replace_each.ensures in
     let e = c.settle.ensures in
     let sound = c.requires.ready.retire.whole.sound in
     let consistent = c.requires.ready.retire.whole.consistent in
     let saved = c.requires.ready.saved in
     let names = page_names c.args.cache c.args.first.0 c.args.pages in
-    let b = c.forget_named.new in
+    let b = c.forget_touched.new in
     let named = c.requires.named in
     let there = pages_of (forest_of a) c.args.cache c.args.first.0 c.args.pages c.requires.nodes in
+    let among : (x : NodeName) → x ∈ f.rule.some → x ∈ names = λ x i. (f.rule.among x i).1 in
     record {
       nodes =
-          e.rule.nodes ∙ ap settle (r.rule.nodes ∙ ap (replace_pages (held_pages new_states names)) (f.rule.nodes ∙ ap (λ k. forgotten_where k names Zero (forest_of a)) named))
-          ∙ replace_forgotten (λ _. OnSegment) names (forest_of a) consistent there (saved named) Zero;
+          e.rule.nodes ∙ ap settle (r.rule.nodes ∙ ap (replace_pages (held_pages new_states names)) f.rule.rule.nodes)
+          ∙ replace_some Zero names f.rule.some (forest_of a) consistent there (saved named) among (λ _. OnSegment);
       forest = λ told size fit.
           let w = world told size a u in
           let one = (f.kept.gives_back told size fit).tied in
           let two = (r.kept.gives_back told size one).tied in
           e.rule.forest told size two
           ∙ ap settle (r.rule.forest told size one ∙ ap (λ ps. replace_pages ps (store_forest (world told size b.caches b.store))) (segment_pages_same told size u a b.store b.caches f.kept.sizes names)
-          ∙ ap (replace_pages (held_pages (new_pages w) names)) (f.rule.forest told size fit ∙ ap (λ k. forgotten_where k names (zeros_told w) (store_forest w)) named))
-          ∙ replace_forgotten (named_page w) names (store_forest w) (store_consistent w sound consistent) (store_pages w sound names there)
-          (λ x i. store_saved w sound x (saved named x i)) (zeros_told w);
+          ∙ ap (replace_pages (held_pages (new_pages w) names)) (f.rule.rule.forest told size fit))
+          ∙ replace_some (zeros_told w) names f.rule.some (store_forest w) (store_consistent w sound consistent) (store_pages w sound names there)
+          (λ x i. store_saved w sound x (saved named x i)) among (named_page w);
       frames =
-          e.rule.frames ∙ ap settle (r.rule.frames ∙ ap (replace_pages (held_pages new_frames names)) (f.rule.frames ∙ ap (λ k. forgotten_where k names None (frame_forest a m)) named))
-          ∙ replace_forgotten (λ _. None) names (frame_forest a m) (frame_consistent a m sound consistent) (frame_pages a m sound names there)
-          (λ x i. frame_saved a m sound x (saved named x i)) None;
+          e.rule.frames ∙ ap settle (r.rule.frames ∙ ap (replace_pages (held_pages new_frames names)) f.rule.rule.frames)
+          ∙ replace_some None names f.rule.some (frame_forest a m) (frame_consistent a m sound consistent) (frame_pages a m sound names there)
+          (λ x i. frame_saved a m sound x (saved named x i)) among (λ _. None);
     }
 
 pub returns-clause-kept : goal.returns-clause-kept
@@ -93,11 +95,11 @@ returns-clause-kept c =
     let names = page_names c.args.cache c.args.first.0 c.args.pages in
     let s = c.args.store.now in
     let a = c.args.caches.now in
-    let t = c.forget_named.new.store in
-    let b = c.forget_named.new.caches in
+    let t = c.forget_touched.new.store in
+    let b = c.forget_touched.new.caches in
     let u = c.replace_each.new.store in
     let d = c.replace_each.new.caches in
-    let f = c.forget_named.ensures.kept in
+    let f = c.forget_touched.ensures.kept in
     let both = kept_then names names names s a t b u d c.requires.ready.retire.tied (λ x i. i) (λ x i. i) f c.replace_each.ensures.kept in
     kept_then names [] names s a u d c.settle.new.store c.settle.new.caches c.requires.ready.retire.tied (λ x i. i) (λ x i. absurd i) both c.settle.ensures.kept
 
@@ -114,11 +116,11 @@ returns-clause-pages c =
     let names = page_names c.args.cache c.args.first.0 c.args.pages in
     let a = c.args.caches.now in
     let d = c.settle.new.caches in
-    let f = c.forget_named.ensures in
+    let f = c.forget_touched.ensures in
     let r = c.replace_each.ensures in
     let e = c.settle.ensures in
     let kept = returns-clause-kept c in
-    pages_kept c.args.pages names c.args.store.now a c.forget_named.new.caches c.replace_each.new.caches c.settle.new.store d kept c.requires.ready.retire.whole c.requires.room f.same
+    pages_kept c.args.pages names c.args.store.now a c.forget_touched.new.caches c.replace_each.new.caches c.settle.new.store d kept c.requires.ready.retire.whole c.requires.room f.same
     f.whole r.grows r.kept.sizes e.rule.nodes e.kept.sound e.kept.sizes e.settled e.bounded e.counters.0 e.room
     (λ n some i unclean. absurd (false≢true (sym unclean ∙ clean_now c (name_of d n) i n refl))) (ap (λ (g : Forest OwnState). g.copies) (returns-clause-rule c).nodes ∙ (settle-counters (replace_pages (held_pages new_states names) (forest_of a))).copies ∙ replace_pages-copies (held_pages new_states names) (forest_of a))
 

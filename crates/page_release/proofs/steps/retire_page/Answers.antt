@@ -10,7 +10,7 @@ follow-requires c =
     let r = c.retire-released.result in
     let e = c.retire-released.ensures in
     let alone = retired_alone a b c.args.cache c.args.page r c.requires.node e.forest e.sound e.retired e.released e.vacant in
-    one_can s a b c.args.cache c.args.page r alone c.requires.sound c.requires.tied c.requires.unpinned c.requires.unclean
+    one_can s a b c.args.cache c.args.page r alone c.requires.sound c.requires.tied c.requires.unpinned c.requires.may
 
 pub returns-clause-rule : goal.returns-clause-rule
 returns-clause-rule c =
@@ -20,7 +20,7 @@ returns-clause-rule c =
     let r = c.retire-released.result in
     let e = c.retire-released.ensures in
     let alone = retired_alone a b c.args.cache c.args.page r c.requires.node e.forest e.sound e.retired e.released e.vacant in
-    (one_retires s a b c.args.cache c.args.page r alone c.requires.sound c.requires.tied c.requires.unpinned c.requires.unclean c.follow.new.store c.follow.ensures.store c.follow.ensures.tables).rule
+    (one_retires s a b c.args.cache c.args.page r alone c.requires.sound c.requires.tied c.requires.unpinned c.requires.may c.follow.new.store c.follow.ensures.store c.follow.ensures.tables).rule
 
 pub returns-clause-kept : goal.returns-clause-kept
 returns-clause-kept c =
@@ -30,7 +30,7 @@ returns-clause-kept c =
     let r = c.retire-released.result in
     let e = c.retire-released.ensures in
     let alone = retired_alone a b c.args.cache c.args.page r c.requires.node e.forest e.sound e.retired e.released e.vacant in
-    (one_retires s a b c.args.cache c.args.page r alone c.requires.sound c.requires.tied c.requires.unpinned c.requires.unclean c.follow.new.store c.follow.ensures.store c.follow.ensures.tables).kept
+    (one_retires s a b c.args.cache c.args.page r alone c.requires.sound c.requires.tied c.requires.unpinned c.requires.may c.follow.new.store c.follow.ensures.store c.follow.ensures.tables).kept
 
 pub returns-clause-room : goal.returns-clause-room
 returns-clause-room c =
@@ -40,7 +40,7 @@ returns-clause-room c =
     let r = c.retire-released.result in
     let e = c.retire-released.ensures in
     let alone = retired_alone a b c.args.cache c.args.page r c.requires.node e.forest e.sound e.retired e.released e.vacant in
-    (one_retires s a b c.args.cache c.args.page r alone c.requires.sound c.requires.tied c.requires.unpinned c.requires.unclean c.follow.new.store c.follow.ensures.store c.follow.ensures.tables).room
+    (one_retires s a b c.args.cache c.args.page r alone c.requires.sound c.requires.tied c.requires.unpinned c.requires.may c.follow.new.store c.follow.ensures.store c.follow.ensures.tables).room
 
 pub returns-clause-fewer : goal.returns-clause-fewer
 returns-clause-fewer c =
@@ -50,4 +50,4 @@ returns-clause-fewer c =
     let r = c.retire-released.result in
     let e = c.retire-released.ensures in
     let alone = retired_alone a b c.args.cache c.args.page r c.requires.node e.forest e.sound e.retired e.released e.vacant in
-    (one_retires s a b c.args.cache c.args.page r alone c.requires.sound c.requires.tied c.requires.unpinned c.requires.unclean c.follow.new.store c.follow.ensures.store c.follow.ensures.tables).fewer
+    (one_retires s a b c.args.cache c.args.page r alone c.requires.sound c.requires.tied c.requires.unpinned c.requires.may c.follow.new.store c.follow.ensures.store c.follow.ensures.tables).fewer

@@ -1,20 +1,19 @@
-use Rattle.std.proofs.Common.{◌≡◌, ◌+◌, ◌<◌, ◌≤◌, ℕ, false, Some}
-use Rattle.vm_ids.specs.declared.numbers.NodeId.{NodeId}
-use Rattle.local_cache.specs.Arena.{node_at}
-use Rattle.local_cache.specs.Own.{is_resident, own_of}
+use Rattle.std.proofs.Common.{◌≡◌, ◌+◌, ◌-◌, ◌≤◌}
 use Rattle.residency.specs.Causes.{Later, Traffic}
 use Rattle.residency.specs.World.{Still, World, world}
 use Rattle.residency.specs.Translating.{Drops}
-use Rattle.segment_ops.specs.Synced.{AreLoose, AreSynced}
+use Rattle.segment_ops.specs.Synced.{AreLoose, AreOut, AreSynced}
 use Rattle.fault_path.specs.Translating.{Nobody}
 use Rattle.segment_ops.proofs.pushing.give_up_pages.Given as goal
 
-abbrev pub invariant-loop-number : goal.invariant-loop-number
-invariant-loop-number g l =
+abbrev pub invariant-loop-page : goal.invariant-loop-page
+invariant-loop-page g l =
     let M = g.M.Mapper in
     let old : World = world (M.held l.fn.mapper) (M.page_bytes l.fn.mapper) l.fn.caches l.fn.store in
     let now : World = world (M.held l.mapper) (M.page_bytes l.mapper) l.caches l.store in
     record {
+      first : l.range.first.0 ≤ l.page;
+      end : l.page ≤ l.range.first.0 + l.range.pages;
       still : Still old now;
       held : M.held l.mapper ≡ M.held l.fn.mapper;
       pinned : l.store.frames.pinned ≡ l.fn.store.frames.pinned;
@@ -23,5 +22,8 @@ invariant-loop-number g l =
       synced : AreSynced l.range (l.range.first.0 + l.range.pages) now;
       loose : AreLoose l.range now;
       drops : Drops Nobody l.fn.caches l.fn.store l.caches l.store;
-      out : (page : ℕ) (n : NodeId) → l.range.first.0 ≤ page → page < l.number → node_at l.caches l.range.cache.0 page ≡ Some n → is_resident (own_of l.caches n) ≡ false;
+      out : AreOut (record l.range { pages = l.page - l.range.first.0 }) l.caches;
     }
+
+abbrev pub decreases-loop-page : goal.decreases-loop-page
+decreases-loop-page g l = l.end - l.page

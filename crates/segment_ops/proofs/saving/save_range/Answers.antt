@@ -1,4 +1,4 @@
-use Rattle.std.proofs.Common.{◌≡◌, ℕ, ◌+◌, ◌<◌, ◌≤◌, Bool, List, length, true, false, Some, Ok, Err, refl, sym, ap, ◌∙◌, subst, arith}
+use Rattle.std.proofs.Common.{◌≡◌, ℕ, ◌+◌, ◌<◌, ◌≤◌, Bool, List, length, true, Some, Ok, Err, refl, sym, ap, ◌∙◌, subst, arith}
 use Rattle.std.specs.List.{count_by}
 use Rattle.vm_ids.specs.Forest.Commands.{extent_names, page_name}
 use Rattle.vm_ids.specs.Forest.NameMap.{len}
@@ -166,23 +166,27 @@ loop-page-preserved-in-Some g c =
       copies = copies_then old w v c.loop-page.done i.copies _ h e.forest (store_heir w i.stays.whole.sound (name_of w.caches c.node_of-node.result) ∙ c.in-Some.ensures.heir);
     }
 
+pub saved_pages-page-requires-clause-saved : goal.saved_pages-page-requires-clause-saved
+saved_pages-page-requires-clause-saved g c =
+    let at = named g (goal.at.saved_pages-page-requires-clause-saved g c).After-node_of-node in
+    ap (is_unsaved (forest_of c.loop-page.caches)) (sym at.1) ∙ sym c.in-None.ensures.unsaved
+
 pub loop-page-preserved : goal.loop-page-preserved
 loop-page-preserved g c =
     let M = g.M.Mapper in
     let old : World = world (M.held c.args.mapper.now) (M.page_bytes c.args.mapper.now) c.args.caches.now c.args.store.now in
     let w : World = world (M.held c.loop-page.mapper) (M.page_bytes c.loop-page.mapper) c.loop-page.caches c.loop-page.store in
     let i = c.loop-page.invariant in
-    let at = named g (goal.at.loop-page-preserved g c).After-node_of-node in
-    let is : is_unsaved (store_forest w) (page_name c.args.range.cache c.loop-page.page) ≡ false = unsaved_by w i.stays.whole.sound _ ∙ ap (is_unsaved (forest_of w.caches)) (sym at.1) ∙ sym c.in-None.ensures.unsaved in
+    let e = c.saved_pages-page.ensures in
     record {
       stays = i.stays;
       forest = i.forest;
-      saved = saved_on old w c.args.range c.loop-page.done c.loop-page.page i.forest i.first i.saved is;
+      saved = saved_on old w c.args.range c.loop-page.done c.loop-page.page i.forest i.first i.saved (c.loop-page.page + c.saved_pages-page.result) (λ p from below. unsaved_by w i.stays.whole.sound _ ∙ e.saved p from below);
       absent = i.absent;
       drops = i.drops;
       frames = i.frames;
       first = omega (arith, i.first);
-      end = omega (arith, c.loop-page-test.true);
+      end = omega (arith, e.few, c.loop-page-test.true);
       done = i.done;
       copies = i.copies;
       idle = i.idle;
@@ -192,7 +196,7 @@ pub next_page-page-requires-clause-end : goal.next_page-page-requires-clause-end
 next_page-page-requires-clause-end g c = range_fits c.args.caches.now c.requires.whole c.args.range c.requires.range
 
 pub overflow_add-page : goal.overflow_add-page
-overflow_add-page g c = omega (arith, range_fits c.args.caches.now c.requires.whole c.args.range c.requires.range, c.loop-page-test.true)
+overflow_add-page g c = omega (arith, range_fits c.args.caches.now c.requires.whole c.args.range c.requires.range, c.saved_pages-page.ensures.few, c.loop-page-test.true)
 
 pub returns-clause-saved : goal.returns-clause-saved
 returns-clause-saved g c =
