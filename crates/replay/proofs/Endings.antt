@@ -10,7 +10,7 @@ use Rattle.replay.specs.Going.{Going, Broken, AnsweredOr, front_of_line}
 use Rattle.replay.specs.OneLine.{LineDone}
 use Rattle.replay.specs.declared.status.Status.TheVariants as statuses
 use Rattle.replay.proofs.Lines.{front_same, front_trans, front_commands, no_last_line, last_line}
-use Rattle.replay.proofs.OneByte.{going_start, answered_line}
+use Rattle.replay.proofs.Pieces.{going_start, answered_line}
 
 -- bytes of a source
 

@@ -1,19 +1,20 @@
--- The front of a line, and a byte more.
-use Rattle.std.proofs.Common.{◌≡◌, ◌<◌, ℕ, List, [], ◌∷◌, ◌++◌, length, take, zero, suc, Result, Ok, Err, refl, sym, ap, ◌∙◌, arith}
-use Rattle.std.specs.Prelude.{OnOk, OnErr, IsOk}
-use Rattle.std.proofs.lemmas.List.{take_all, take-append-le, length_push}
+-- The front of a line, and more bytes.
+use Rattle.std.proofs.Common.{◌≡◌, ◌+◌, ℕ, List, [], ◌∷◌, ◌++◌, length, take, min, zero, suc, refl, sym, ap, ◌∙◌, arith}
+use Rattle.std.proofs.Math.Seq.{take-append-add}
+use Rattle.std.proofs.lemmas.List.{take_min}
 use Rattle.replay.specs.Going.{front_of_line}
 
--- what a buffer with room for the front does
-pub pushed : {T E : Type 0} (r : Result T E) (old new : List ℕ) (byte : ℕ) → (IsOk r → length old < 257) → OnOk r (new ≡ old ++ byte ∷ []) → OnErr r (new ≡ old) → OnErr r (length old ≡ 257) → new ≡ front_of_line (old ++ byte ∷ [])
-pushed (Ok x) old new byte room ok same full = ok ∙ sym (take_all 257 (old ++ byte ∷ []) (omega (arith, length_push old byte, room refl)))
-pushed (Err x) old new byte room ok same full = same ∙ sym (take-append-le 257 old (byte ∷ []) (omega (arith, full)) ∙ take_all 257 old (omega (arith, full)))
+-- as many of the bytes as a buffer for the front has room for
+pub extended : (old bytes new : List ℕ) (room : ℕ) → room + length old ≡ 257 → new ≡ old ++ take (min room (length bytes)) bytes → new ≡ front_of_line (old ++ bytes)
+extended old bytes new room all is =
+    let count : length old + room ≡ 257 = omega arith in
+    is ∙ ap (λ (l : List ℕ). old ++ l) (take_min room bytes) ∙ sym (take-append-add old bytes room) ∙ ap (λ (n : ℕ). take n (old ++ bytes)) count
 
--- a front of a front and a byte
-take_push : (n : ℕ) (line : List ℕ) (byte : ℕ) → take n (take n line ++ byte ∷ []) ≡ take n (line ++ byte ∷ [])
-take_push zero line byte = refl
-take_push (suc n) [] byte = refl
-take_push (suc n) (b ∷ bs) byte = ap (λ (l : List ℕ). b ∷ l) (take_push n bs byte)
+-- a front of a front and more bytes
+take_on : (n : ℕ) (line more : List ℕ) → take n (take n line ++ more) ≡ take n (line ++ more)
+take_on zero line more = refl
+take_on (suc n) [] more = refl
+take_on (suc n) (b ∷ bs) more = ap (λ (l : List ℕ). b ∷ l) (take_on n bs more)
 
-pub front-push : (line : List ℕ) (byte : ℕ) → front_of_line (front_of_line line ++ byte ∷ []) ≡ front_of_line (line ++ byte ∷ [])
-front-push line byte = take_push 257 line byte
+pub front_on : (line more : List ℕ) → front_of_line (front_of_line line ++ more) ≡ front_of_line (line ++ more)
+front_on line more = take_on 257 line more

@@ -1,13 +1,15 @@
--- The lines of some bytes, and of one byte more.
+-- The lines of some bytes, and of more bytes.
 pub mod Lines
--- The front of a line, and a byte more.
+-- Where a line feed stands.
+pub mod Feeds
+-- The front of a line, and more bytes.
 pub mod Fronts
 -- What a sink was given, and what is gathered for it.
 pub mod Gathering
 -- A run, and one line more.
 pub mod Running
--- How far a replay has come, and a byte more.
-pub mod OneByte
+-- How far a replay has come, and some bytes more.
+pub mod Pieces
 -- The bytes taken so far, and one more piece or the end.
 pub mod Endings
 -- What a command line asks for, as the definition has it and as clap reads it.

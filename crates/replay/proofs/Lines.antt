@@ -1,11 +1,12 @@
--- The lines of some bytes, and of one byte more.
-use Rattle.std.proofs.Common.{◌≡◌, ◌==◌, ◌<◌, ℕ, Bool, true, false, cond, List, [], ◌∷◌, ◌++◌, length, take, map, Err, refl, sym, ap, subst, ◌∙◌, append_assoc, arith, inl, inr}
+-- The lines of some bytes, and of more bytes.
+use Rattle.std.proofs.Common.{◌≡◌, ◌≢◌, ◌==◌, ◌<◌, ℕ, zero, suc, Bool, true, false, cond, List, [], ◌∷◌, ◌++◌, length, get_or, take, map, Err, refl, sym, ap, subst, ◌∙◌, append_assoc, arith, inl, inr}
 use Rattle.std.specs.List.{onto_first}
-use Rattle.std.proofs.lemmas.Bool.{cases_lt, cond_below, eqb-true}
+use Rattle.std.proofs.lemmas.Bool.{cases_lt, cond_below, eqb-true, eqb-false, ne_eqb}
+use Rattle.std.proofs.lemmas.List.Splits.{slice_split_none}
 use Rattle.std.proofs.lemmas.List.{append-nil, map-append, take_all, length-take}
 use Rattle.vm_ids.specs.declared.refusal.Refusal.TheVariants.{BadLine}
 use Rattle.actor_script.specs.Forms.{command_of, read_of}
-use Rattle.replay.specs.Script.{parts_of, all_but_last, last_part, ended_lines_of, unended_of, lines_of, unless_empty, commands_of, ended_commands_of, IsFront}
+use Rattle.replay.specs.Script.{parts_of, all_but_last, last_part, ended_lines_of, unended_of, lines_of, unless_empty, commands_of, ended_commands_of, HasNoFeed, IsFront}
 
 -- there is a part
 data Some : List (List ℕ) → Type 0 where
@@ -34,19 +35,19 @@ parts_feed : (bytes : List ℕ) → parts_of (bytes ++ 10 ∷ []) ≡ parts_of b
 parts_feed [] = refl
 parts_feed (b ∷ bs) = ap (step (b == 10) b) (parts_feed bs) ∙ step_part (b == 10) b (parts_of bs) (parts_some bs)
 
--- a byte more in the last part
-abbrev longer : ℕ → List (List ℕ) → List (List ℕ)
-longer c parts = all_but_last parts ++ (last_part parts ++ c ∷ []) ∷ []
+-- more bytes in the last part
+abbrev longer : List ℕ → List (List ℕ) → List (List ℕ)
+longer more parts = all_but_last parts ++ (last_part parts ++ more) ∷ []
 
-step_longer : (ends : Bool) (b c : ℕ) (parts : List (List ℕ)) → Some parts → step ends b (longer c parts) ≡ longer c (step ends b parts)
-step_longer ends b c [] h = elim h [ ]
-step_longer true b c (part ∷ parts) h = refl
-step_longer false b c (part ∷ []) h = refl
-step_longer false b c (part ∷ next ∷ parts) h = refl
+step_longer : (ends : Bool) (b : ℕ) (more : List ℕ) (parts : List (List ℕ)) → Some parts → step ends b (longer more parts) ≡ longer more (step ends b parts)
+step_longer ends b more [] h = elim h [ ]
+step_longer true b more (part ∷ parts) h = refl
+step_longer false b more (part ∷ []) h = refl
+step_longer false b more (part ∷ next ∷ parts) h = refl
 
-parts_other : (bytes : List ℕ) (c : ℕ) → (c == 10) ≡ false → parts_of (bytes ++ c ∷ []) ≡ longer c (parts_of bytes)
-parts_other [] c e = ap (λ (ends : Bool). step ends c ([] ∷ [])) e
-parts_other (b ∷ bs) c e = ap (step (b == 10) b) (parts_other bs c e) ∙ step_longer (b == 10) b c (parts_of bs) (parts_some bs)
+parts_other : (bytes more : List ℕ) → HasNoFeed more → parts_of (bytes ++ more) ≡ longer more (parts_of bytes)
+parts_other [] more h = slice_split_none (λ b. b == 10) more (λ k d l. ne_eqb _ 10 (h k d l))
+parts_other (b ∷ bs) more h = ap (step (b == 10) b) (parts_other bs more h) ∙ step_longer (b == 10) b more (parts_of bs) (parts_some bs)
 
 all_but_last-push : (parts : List (List ℕ)) (part : List ℕ) → all_but_last (parts ++ part ∷ []) ≡ parts
 all_but_last-push [] part = refl
@@ -72,14 +73,14 @@ pub unended_feed : (bytes : List ℕ) → unended_of (bytes ++ 10 ∷ []) ≡ []
 unfolding unended_of
 unended_feed bytes = ap last_part (parts_feed bytes) ∙ last_part-push (parts_of bytes) []
 
--- another byte goes on with it
-pub ended_other : (bytes : List ℕ) (c : ℕ) → (c == 10) ≡ false → ended_lines_of (bytes ++ c ∷ []) ≡ ended_lines_of bytes
+-- other bytes go on with it
+pub ended_other : (bytes more : List ℕ) → HasNoFeed more → ended_lines_of (bytes ++ more) ≡ ended_lines_of bytes
 unfolding ended_lines_of
-ended_other bytes c e = ap all_but_last (parts_other bytes c e) ∙ all_but_last-push (all_but_last (parts_of bytes)) (last_part (parts_of bytes) ++ c ∷ [])
+ended_other bytes more h = ap all_but_last (parts_other bytes more h) ∙ all_but_last-push (all_but_last (parts_of bytes)) (last_part (parts_of bytes) ++ more)
 
-pub unended_other : (bytes : List ℕ) (c : ℕ) → (c == 10) ≡ false → unended_of (bytes ++ c ∷ []) ≡ unended_of bytes ++ c ∷ []
+pub unended_other : (bytes more : List ℕ) → HasNoFeed more → unended_of (bytes ++ more) ≡ unended_of bytes ++ more
 unfolding unended_of
-unended_other bytes c e = ap last_part (parts_other bytes c e) ∙ last_part-push (all_but_last (parts_of bytes)) (last_part (parts_of bytes) ++ c ∷ [])
+unended_other bytes more h = ap last_part (parts_other bytes more h) ∙ last_part-push (all_but_last (parts_of bytes)) (last_part (parts_of bytes) ++ more)
 
 -- fronts
 
@@ -95,8 +96,12 @@ front_trans xs ys zs p q = record { back = p.back ++ q.back; parts = q.parts ∙
 pub front_map : {A B : Type 0} (f : A → B) (xs ys : List A) → IsFront xs ys → IsFront (map f xs) (map f ys)
 front_map f xs ys p = record { back = map f p.back; parts = ap (map f) p.parts ∙ map-append f xs p.back }
 
+one_plain : (c : ℕ) → (c == 10) ≡ false → (k d : ℕ) → k < 1 → get_or (c ∷ []) k d ≢ 10
+one_plain c e zero d h = eqb-false c 10 e
+one_plain c e (suc k) d h = absurd (omega arith)
+
 front_byte : (bytes : List ℕ) (c : ℕ) (ends : Bool) → (c == 10) ≡ ends → IsFront (ended_lines_of bytes) (ended_lines_of (bytes ++ c ∷ []))
-front_byte bytes c false e = front_same _ _ (sym (ended_other bytes c e))
+front_byte bytes c false e = front_same _ _ (sym (ended_other bytes (c ∷ []) (one_plain c e)))
 front_byte bytes c true e = subst (λ (b : ℕ). IsFront (ended_lines_of bytes) (ended_lines_of (bytes ++ b ∷ []))) (sym (eqb-true c 10 e)) (record { back = unended_of bytes ∷ []; parts = ended_feed bytes })
 
 front_ended : (bytes more : List ℕ) → IsFront (ended_lines_of bytes) (ended_lines_of (bytes ++ more))

@@ -1,5 +1,5 @@
 -- The lines of a script, and their commands.
-use Rattle.std.specs.Prelude.{◌≡◌, ◌==◌, ℕ, List, [], ◌∷◌, ◌++◌, map}
+use Rattle.std.specs.Prelude.{◌≡◌, ◌≢◌, ◌==◌, All, ℕ, List, [], ◌∷◌, ◌++◌, map}
 use Rattle.std.specs.List.{slice_split}
 use Rattle.vm_model.specs.Run.{Read}
 use Rattle.actor_script.specs.Forms.{command_of}
@@ -19,6 +19,10 @@ abbrev pub last_part : List (List ℕ) → List ℕ
 last_part [] = []
 last_part (part ∷ []) = part
 last_part (part ∷ next ∷ parts) = last_part (next ∷ parts)
+
+-- No line feed is among these bytes.
+abbrev pub HasNoFeed : List ℕ → Type 0
+HasNoFeed bytes = All (λ b. b ≢ 10) bytes
 
 -- What stands between the line feeds of some bytes.
 abbrev pub parts_of : List ℕ → List (List ℕ)

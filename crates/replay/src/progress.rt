@@ -26,12 +26,13 @@ impl Progress {
         }
     }
 
-    /// A byte more of the line.
-    pub fn push(&mut self, byte: u8)
+    /// More bytes of the line.
+    pub fn extend(&mut self, bytes: &[u8])
         ensures number { self.new.number ≡ self.old.number }
-        ensures line { self.new.line.items ≡ front_of_line (self.old.line.items ++ byte ∷ []) }
+        ensures line { self.new.line.items ≡ front_of_line (self.old.line.items ++ bytes.now) }
     {
-        let _ = self.line.try_push(byte);
+        let count = self.line.remaining_capacity().min(bytes.len());
+        let _ = self.line.try_extend_from_slice(&bytes[..count]);
     }
 
     /// Before the first byte of the next line.

@@ -18,7 +18,7 @@ use vm_port::{Chooser, Failed, Mapper, Sink, Source};
 const MOST_BYTES: usize = 1 << 26;
 
 // A script is read in pieces of at most this many bytes.
-const PIECE: usize = 4096;
+const PIECE: usize = 1 << 16;
 
 // The next piece of a script, within the limit; at the limit it is the one byte that passes it.
 fn next_piece<S: Source>(

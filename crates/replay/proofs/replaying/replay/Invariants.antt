@@ -10,7 +10,7 @@ invariant-pieces g l =
     let S = g.S.Source in
     record {
       able : CanAnswer g.G.Gmi g.M.Mapper l.progress.number l.gmi l.mapper;
-      piece : length l.piece ≡ 4096;
+      piece : length l.piece ≡ 65536;
       number : l.progress.number ≤ l.taken + 1;
       limit : l.taken ≤ 67108864;
       sources : S.faults l.fn.source ≤ S.faults l.source;

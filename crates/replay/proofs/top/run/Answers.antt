@@ -1,7 +1,6 @@
-use Rattle.std.proofs.Common.{◌≡◌, ◌∙◌, Some, ap, map, refl, rules, sym}
+use Rattle.std.proofs.Common.{◌∙◌, Some, ap, refl, rules, sym}
 use Rattle.std.proofs.lemmas.Option.{none-some}
 use Rattle.vm_ids.specs.Held.{segments_of}
-use Rattle.replay.specs.Commanding.{asked_by}
 use Rattle.replay.specs.declared.asked.Asked.TheVariants as asks
 use Rattle.replay.specs.Ending.{scene_with}
 use Rattle.replay.proofs.CommandLine.Kinds.{run_bounds, run_page, trial_bounds, trial_few, trial_page}
