@@ -369,6 +369,8 @@ impl<'a> Mapper for Filling<'a> {
     fn swap_out(&mut self, slot: SlotId, from: &[u8]) -> Result<(), Failed> {
         self.files.swap_out(slot, from)
     }
+
+    ghost sized = { λ _. tt };
 }
 
 // The page is pushed twice.
