@@ -15,16 +15,16 @@ tied a b e = unsigned_tied a b ∙ eq-eqb a b e
 untied : (a b : ℕ) → a ≢ b → eq_by_cmp nat_cmp a b ≡ false
 untied a b h = unsigned_tied a b ∙ ne_eqb a b h
 
-insert_same : (m : FinMap nat_cmp ℕ) (k v q : ℕ) → q ≡ k → map.get (map.insert m k v) q ≡ Some v
+pub insert_same : (m : FinMap nat_cmp ℕ) (k v q : ℕ) → q ≡ k → map.get (map.insert m k v) q ≡ Some v
 insert_same m k v q e = get-insert nat_cmp_total m k v q ∙ cond-true _ _ _ (tied q k e)
 
-insert_other : (m : FinMap nat_cmp ℕ) (k v q : ℕ) → q ≢ k → map.get (map.insert m k v) q ≡ map.get m q
+pub insert_other : (m : FinMap nat_cmp ℕ) (k v q : ℕ) → q ≢ k → map.get (map.insert m k v) q ≡ map.get m q
 insert_other m k v q h = get-insert nat_cmp_total m k v q ∙ cond-false _ _ _ (untied q k h)
 
-remove_same : (m : FinMap nat_cmp ℕ) (k q : ℕ) → q ≡ k → map.get (map.remove m k) q ≡ None
+pub remove_same : (m : FinMap nat_cmp ℕ) (k q : ℕ) → q ≡ k → map.get (map.remove m k) q ≡ None
 remove_same m k q e = get-remove nat_cmp_total m k q ∙ cond-true _ _ _ (tied q k e)
 
-remove_other : (m : FinMap nat_cmp ℕ) (k q : ℕ) → q ≢ k → map.get (map.remove m k) q ≡ map.get m q
+pub remove_other : (m : FinMap nat_cmp ℕ) (k q : ℕ) → q ≢ k → map.get (map.remove m k) q ≡ map.get m q
 remove_other m k q h = get-remove nat_cmp_total m k q ∙ cond-false _ _ _ (untied q k h)
 
 -- no key stands at two places

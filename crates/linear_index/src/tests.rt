@@ -1,4 +1,7 @@
-// Each call once, with memory at hand.
+// Each call once, and many calls beside a plain form, with memory at hand.
+ghost use Rattle.std.specs.Prelude.{◌≡◌, ℕ, ◌*◌, ◌<◌, Some};
+ghost use Rattle.std.specs.FinMap as map;
+
 use crate::Index;
 use std::test::Fail;
 
@@ -12,5 +15,60 @@ fn keys_are_found_at_their_places(rt: HostRuntime) -> Result<(), Fail> {
     assert_eq!(rt; index.find(23), None);
     index.leave(7, 2);
     assert_eq!(rt; index.find(7), None);
+    Ok(())
+}
+
+const PLACES: u32 = 300;
+
+// Numbers that look random, and are the same each time.
+#[derive(Drop)]
+struct Draws {
+    state: u64,
+}
+
+impl Draws {
+    fn place(&mut self) -> u32
+        ensures { result < PLACES }
+    {
+        self.state = self
+            .state
+            .wrapping_mul(6_364_136_223_846_793_005)
+            .wrapping_add(1_442_695_040_888_963_407);
+        ((self.state >> 33) as u32) % PLACES
+    }
+}
+
+// Enters the key of a place, or lets it go where it is entered. Whether it was.
+fn turn(index: &mut Index, place: u32) -> bool
+    requires place { place < index.old.room }
+    requires own { (key at : ℕ) → map.get index.old.places key ≡ Some at → key ≡ 4096 * at }
+    ensures own { (key at : ℕ) → map.get index.new.places key ≡ Some at → key ≡ 4096 * at }
+    ensures room { index.new.room ≡ index.old.room }
+{
+    let key = 4096 * place as u64;
+    match index.find(key) {
+        Some(at) => {
+            index.leave(key, at);
+            true
+        }
+        None => {
+            index.enter(key, place);
+            false
+        }
+    }
+}
+
+#[test]
+fn many_keys_come_and_go(rt: HostRuntime) -> Result<(), Fail> {
+    let mut index = Index::new(rt.alloc());
+    index.reserve(PLACES)?;
+    let mut entered = [false; PLACES as usize];
+    let mut draws = Draws { state: 1 };
+    for _ in 0..10_000 {
+        let place = draws.place();
+        let was = entered[place as usize];
+        assert_eq!(rt; turn(&mut index, place), was);
+        entered[place as usize] = !was;
+    }
     Ok(())
 }
