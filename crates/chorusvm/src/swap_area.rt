@@ -1,7 +1,6 @@
 // The file of the swap area.
 use crate::opened::open_above;
 use std::fs::{File, OpenOptions};
-use std::io::{Error, ErrorKind};
 use std::os::unix::fs::{FileExt, OpenOptionsExt};
 use std::{fs, io};
 
@@ -31,12 +30,19 @@ impl SwapArea {
         self.file.read_exact_at(into, at)
     }
 
+    // Fails where somebody cut the file short. Its last byte is read, which takes less than to ask
+    // for its length.
+    fn look_at_end(&self) -> io::Result<()> {
+        match self.end.checked_sub(1) {
+            Some(last) => self.file.read_exact_at(&mut [0], last),
+            None => Ok(()),
+        }
+    }
+
     /// Writes these bytes at this place. Fails where somebody cut the file short: what is cut off
     /// would be read as zeros once the file reached behind it again.
     pub fn write(&mut self, at: u64, from: &[u8]) -> io::Result<()> {
-        if self.file.metadata()?.len() < self.end {
-            return Err(Error::new(ErrorKind::InvalidData, "cut short"));
-        }
+        self.look_at_end()?;
         self.file.write_all_at(from, at)?;
         self.end = self.end.max(at.saturating_add(from.len() as u64));
         Ok(())
