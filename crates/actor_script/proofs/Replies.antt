@@ -8,18 +8,6 @@ use Rattle.vm_model.specs.Answering.{Answer}
 use Rattle.actor_script.specs.Text.{answer_text, item_text, text_of}
 use Rattle.actor_script.specs.Writing.{answer_front, chain_in}
 
--- an answer that is no chain
-pub short_answer : (a : Answer) → chain_in a ≡ None → answer_front a ≡ answer_text a
-short_answer (Ok replies.Done) e = refl
-short_answer (Ok (replies.Actor n)) e = refl
-short_answer (Ok (replies.Cache n)) e = refl
-short_answer (Ok (replies.Region n)) e = refl
-short_answer (Ok (replies.Bytes b)) e = refl
-short_answer (Ok (replies.Status status)) e = refl
-short_answer (Ok (replies.Chain items)) e = absurd (cc e)
-short_answer (Ok (replies.Stat counts)) e = refl
-short_answer (Err trouble) e = refl
-
 -- a chain
 pub long_answer : (a : Answer) (items : List ChainItem) → chain_in a ≡ Some items → answer_text a ≡ answer_front a ++ (flat_map item_text items ++ codes "*")
 long_answer (Ok replies.Done) items e = absurd (cc e)
@@ -31,10 +19,6 @@ long_answer (Ok (replies.Status status)) items e = absurd (cc e)
 long_answer (Ok (replies.Chain all)) items e = let same : all ≡ items = cc e in ap (λ (xs : List ChainItem). codes "chain" ++ (flat_map item_text xs ++ codes "*")) same
 long_answer (Ok (replies.Stat counts)) items e = absurd (cc e)
 long_answer (Err trouble) items e = absurd (cc e)
-
--- their lines
-pub short_line : (number : ℕ) (a : Answer) → chain_in a ≡ None → ((decimal number ++ codes " ") ++ answer_front a) ++ codes "\n" ≡ text_of number a
-short_line number a e = ap (λ (x : List ℕ). ((decimal number ++ codes " ") ++ x) ++ codes "\n") (short_answer a e)
 
 pub long_line : (number : ℕ) (a : Answer) (items : List ChainItem) → chain_in a ≡ Some items → ((decimal number ++ codes " ") ++ answer_front a) ++ (flat_map item_text items ++ codes "*\n") ≡ text_of number a
 long_line number a items e =

@@ -27,9 +27,6 @@ if_true : {A : Type 0} (b : Bool) (o p : Option A) (P : A → Type 0) → (b ≡
 if_true true o p P h k = h refl
 if_true false o p P h k = k refl
 
-IsCount : ℕ → Type 0
-IsCount n = 1 ≤ n
-
 counts : (word : List ℕ) → IfSome (count_of word) (λ n. 1 ≤ n)
 unfolding count_of
 counts word = any_then (number_of word) unless_zero (λ n. 1 ≤ n) (λ n. if_true (n == 0) None (Some n) (λ n. 1 ≤ n) (λ e. tt) (λ e. grind (arith, eqb-false n 0 e)))

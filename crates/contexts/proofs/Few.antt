@@ -1,4 +1,5 @@
--- Living actors have no more regions than were made: each has a number of its own, of those that were given.
+-- Living actors have no more regions than were made: each has a number of its own, of those that
+-- were given.
 use Rattle.std.proofs.Common.{◌≡◌, ◌==◌, ℕ, zero, suc, ◌+◌, ◌-◌, ◌≤◌, Bool, true, false, cond, List, [], ◌∷◌, length, Option, Some, None, refl, sym, ap, subst, ◌∙◌, arith, inl, inr}
 use Rattle.std.specs.Prelude.{slice_get}
 use Rattle.std.specs.List.{All}
@@ -32,11 +33,6 @@ total_both : (f g h : ℕ → ℕ) (k : ℕ) → ((n : ℕ) → h n ≡ f n + g 
 unfolding total
 total_both f g h zero both = refl
 total_both f g h (suc k) both = omega (arith, total_both f g h k both, both (suc k))
-
-total_none : (f : ℕ → ℕ) (k : ℕ) → ((n : ℕ) → f n ≡ 0) → total f k ≡ 0
-unfolding total
-total_none f zero none = refl
-total_none f (suc k) none = omega (arith, total_none f k none, none (suc k))
 
 -- a number from 1 to k is met
 total_met : (m k : ℕ) → 1 ≤ m → m ≤ k → 1 ≤ total (λ n. one_if (m == n)) k

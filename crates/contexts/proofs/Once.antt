@@ -25,7 +25,7 @@ AreOnce rs = (region : ℕ) → times_among region (Some rs) ≤ 1
 abbrev one_if : Bool → ℕ
 one_if c = cond c 1 0
 
--- How often a number stands among regions that change -----------------------------------------
+-- How often a number stands among regions that change
 
 module _ (n : ℕ) where
   abbrev has : model.Region → ℕ
@@ -85,7 +85,7 @@ module _ (n : ℕ) where
           let same : r.number ≡ n = grind (arith, nat_tests) in
           absurd (other (subst (λ (k : ℕ). owner_of owners k ≡ Some (record { 0 = actor })) same (All-head (IsFor owners actor) r rs all)))
 
--- Once among an actor's regions ---------------------------------------------------------------
+-- Once among an actor's regions
 
 pub once_none : AreOnce []
 once_none n = omega arith
@@ -121,7 +121,7 @@ once_more owners actor fresh rs ms next all more once n = go (fresh.number == n)
         let none = times_other n owners actor (λ f. absurd (let g = sym (no_owner owners n number) ∙ f in cc g)) rs all in
         omega (arith, none, more n, times-cons n fresh rs, ap one_if e)
 
--- Once among those of all ---------------------------------------------------------------------
+-- Once among those of all
 
 sum_none : {A : Type 0} (f : A → ℕ) (xs : List A) → ((j : ℕ) (x : A) → slice_get xs j ≡ Some x → f x ≡ 0) → sum_by f xs ≡ 0
 sum_none f [] none = refl

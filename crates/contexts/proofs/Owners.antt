@@ -56,7 +56,7 @@ pub all_insert : (P : model.Region → Type 0) (r : model.Region) (rs : model.Ac
 all_insert P r [] p h = All-cons P r [] p h
 all_insert P r (x ∷ xs) p h = insert_here P (nat_lt r.start x.start) r x xs (insert_region r xs) p (All-head P x xs h) (All-tail P x xs h) (all_insert P r xs p (All-tail P x xs h))
 
--- Who has a region -------------------------------------------------------------------------
+-- Who has a region
 
 same_number : (a b : ℕ) → (a == b) ≡ true → a ≡ b
 same_number a b e = grind (arith, nat_tests)
@@ -92,7 +92,7 @@ module _ (page : ℕ) (owners : List ActorId) (xs : List (Option AddressSpace)) 
       go false h = refl
       go true h = subst (λ (p : Option ActorId). MatchOption p (Unit {0}) (λ w. has_region region (numbered (regions_in xs) w.0) ≡ false) → true ≡ false) (sym (had_by actor h) ∙ e) (λ f. sym h ∙ f) none
 
--- The answer to who has a region ---------------------------------------------------------------
+-- The answer to who has a region
 
 pub among_of : {T : Type 0} (o : Option model.Region) (f : model.Region → T) → None ≡ option_map f o → is_some o ≡ false
 among_of None f e = refl

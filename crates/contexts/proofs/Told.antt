@@ -40,8 +40,8 @@ none_is (Some x) e = absurd (cc e)
 pub untold : (n : ℕ) (xs : List (Option model.Actor)) → ((a : ℕ) → has_region n (numbered xs a) ≡ false) → status_with n 1 xs ≡ None
 untold n xs none = none_is (status_with n 1 xs) (told_some n 1 xs ∙ with_none n xs (not_at n xs none))
 
--- This is told of the region of the first actor that has it, which stands at this place. It is the one that is found
--- and that becomes others.
+-- This is told of the region of the first actor that has it, which stands at this place. It is the
+-- one that is found and that becomes others.
 pub record IsTold (n first : ℕ) (xs : List (Option model.Actor)) (s : RegionStatus) : Type 0 where
   pub place : ℕ
   pub regions : model.Actor
@@ -114,7 +114,7 @@ told_has n xs (Some s) e =
     let t : IsTold n 1 xs s = is_told n 1 xs s e in
     ap (has_region n) (told_actor n xs s t) ∙ ap is_some t.there
 
--- What the fields tell ------------------------------------------------------------------------
+-- What the fields tell
 
 -- where the actor for which a region was made hasn't it, nothing is told
 pub nothing_told : (page : ℕ) (owners : List ActorId) (n : ℕ) (xs : List (Option AddressSpace)) (o : Option ActorId) → Numbered (IsKept page owners) xs
@@ -173,7 +173,7 @@ module _ (n : ℕ) (xs : List (Option AddressSpace)) (s : RegionStatus) (t : IsT
       let space = is_there (numbered xs s.actor.0) told_alive in
       subst (λ (b : ℕ). IsChanged s.actor.0 (by b) xs ys) (kept s.actor.0 space.0 space.1).page_bytes (change space.0 space.1)
 
--- How a cut is refused ------------------------------------------------------------------------
+-- How a cut is refused
 
 module _ (a : Actors) (n pages : ℕ) where
   pub no_region : status_with n 1 a.actors ≡ None → split_refusal a n pages ≡ Some NoRegion

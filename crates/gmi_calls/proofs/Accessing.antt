@@ -42,7 +42,7 @@ asked_pages m n seg first pages (Some h) named within R = λ page from below.
     let less : page < length K.pages = omega (arith, below, within, ap pages_in c.1, K.many) in
     subst IsSome (sym (ap (option_and_then (λ (ps : List (List ℕ)). slice_get ps page)) K.there ∙ slice_get-get_or K.pages page [] less)) refl
 
--- Whether a page may be written, as of the segment and as of the cache ---------------------
+-- Whether a page may be written, as of the segment and as of the cache
 
 denied_any : (m : Machine) (s : Segments) (n : ℕ) (o : Option ℕ) (range : List ℕ) → segment_of m n ≡ o → list_any (is_denied_page m s n) range ≡ list_any (λ page. option_map_or (λ seg. denies s.denied seg page) o false) range
 denied_any m s n o range e = ap (λ (x : Option ℕ). list_any (λ page. option_map_or (λ seg. denies s.denied seg page) x false) range) e
@@ -122,7 +122,7 @@ range_denied m n first pages None may f some named answer =
           ∙ denies_that seg.0 first),
     )
 
--- What a command that awaits write access answers ------------------------------------------
+-- What a command that awaits write access answers
 
 -- the page may be written
 granted_for : (told : Option Held) (m next : Machine) (c : Command) (a : Answer) (rises : MapperCounts) → AllowedOutcome m c a next → is_denied m (segments_for told) c ≡ false → OutcomeFor told m c a next rises

@@ -99,7 +99,7 @@ module _ (cs : List (Option Cache)) (s : Segments) (B : AreBacked cs s) where
     ];
   }
 
--- Pages that are replaced ------------------------------------------------------------------
+-- Pages that are replaced
 
 -- a segment backs another cache with as many pages, where those that are denied are the same
 backs_other : (s : Segments) (seg : ℕ) (c d : Cache) → length d.pages ≡ length c.pages → ((page : ℕ) → denies s.denied seg page ≡ true → slice_get d.pages page ≡ slice_get c.pages page) → Backs s seg c → Backs s seg d
@@ -159,7 +159,7 @@ named_is m s n seg c B there named = only_named m n seg c there named (λ k e.
     let d = segment_cache m k seg e in
     B.apart k n seg d.0 c d.1 there d.2 named)
 
--- Each row of the table -------------------------------------------------------------------
+-- Each row of the table
 
 module _ (m : Machine) (s : Segments) (B : AreBacked m.caches s) where
   abbrev RowBacked : Answered → Type 0

@@ -43,7 +43,7 @@ alike_same (Ok (replies.Chain items)) = refl
 alike_same (Ok (replies.Stat counts)) = refl
 alike_same (Err e) = refl
 
--- Outcomes ------------------------------------------------------------------------------
+-- Outcomes
 
 -- The outcome by the segments that are told; where none are, by some.
 abbrev pub OutcomeFor : Option Held → Machine → Command → Answer → Machine → MapperCounts → Type 0
@@ -104,7 +104,7 @@ outcome_at None None m next c a rises told w o = record {
   outcome = o.1;
 }
 
--- Answers -------------------------------------------------------------------------------
+-- Answers
 
 -- of segments that aren't told nothing is said
 unsaid : (m : Machine) (c : Command) (a : Answer) → IsSynchronised m None c a
@@ -187,7 +187,7 @@ pub call_each : (counts : MapperCounts) (told : Option Held) (m next : Machine) 
     → CallIs counts counts (eager_state told m) c a (eager_state told next)
 call_each counts told m next c a reaches ready x f s = call_still None counts (eager_state told m) (eager_state told next) c a (answer_each told m next c a reaches ready x f s)
 
--- What is ready stays so --------------------------------------------------------------------
+-- What is ready stays so
 
 pub ready_after : (told : Option Held) (m next : Machine) (c : Command) (a : Answer) (rises : MapperCounts) → IsReady m told → HasWholePages next → OutcomeFor told m c a next rises → IsReady next told
 ready_after (Some h) m next c a rises R x o = record { whole = x; backed = backed_after m next None c (segments_in h) a rises R.backed o }
@@ -196,7 +196,7 @@ ready_after None m next c a rises R x o = record { whole = x; backed = tt }
 pub ready_plain : (told : Option Held) (m next : Machine) (c : Command) (a : Answer) → PlainOutcome m c a next → HasWholePages next → IsReady m told → IsReady next told
 ready_plain told m next c a f x R = ready_after told m next c a no_counts R x (every_segments told m next c a no_counts f)
 
--- What a call says of itself ----------------------------------------------------------------
+-- What a call says of itself
 
 -- what the eager machine stands for, beside any mapper
 abbrev pub eager : Meanings Machine
@@ -230,7 +230,7 @@ eager_done m next c answer reaches whole f said = record {
   room = refl;
 }
 
--- Faults and refusals -----------------------------------------------------------------------
+-- Faults and refusals
 
 not_refused : (at : FaultAt) (a : Answer) → IsNotRefused a → NotRefusedButFor at a
 not_refused at (Ok r) h = tt
@@ -240,10 +240,6 @@ not_refused at (Err e) h = absurd h
 pub fault_for : (told : Option Held) (m : Machine) (c : Command) (at : FaultAt) (rises : MapperCounts) → 0 < rises.faults → ((s : Segments) → MayFault m None c s at rises) → ((s : Segments) → IsNotRefused (answer_of m (plain_forest m) c s).answer)
     → OutcomeFor told m c (Err (troubles.Mapper at)) m rises
 fault_for told m c at rises faults may free = every_segments told m m c (Err (troubles.Mapper at)) rises (λ s. (refl, faults, may s, not_refused at (answer_of m (plain_forest m) c s).answer (free s)))
-
--- Want of memory, where the machine refuses nothing.
-pub memory_for : (told : Option Held) (m : Machine) (c : Command) (rises : MapperCounts) → MayLackMemory c → ((s : Segments) → IsNotRefused (answer_of m (plain_forest m) c s).answer) → OutcomeFor told m c (Err troubles.Memory) m rises
-memory_for told m c rises may free = every_segments told m m c (Err troubles.Memory) rises (λ s. (refl, may, free s))
 
 -- what is answered without a call of the mapper is no fault
 pub unfaulted : (m next : Machine) (c : Command) (at : FaultAt) → PlainOutcome m c (Err (troubles.Mapper at)) next → ⊥

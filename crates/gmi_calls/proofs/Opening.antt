@@ -85,7 +85,7 @@ opened_for (Some h) (Some k) m next c a seg size pages rises same is holds pulle
     ∙ ap (slice_get S.0) (let z : 0 + i ≡ i = omega arith in z)) in
     any_rises m next c (segments_in h) a rises (f (segments_in h) (S.1 ∙ ap Some (sym whole)))
 
--- Pages that are taken again --------------------------------------------------------------
+-- Pages that are taken again
 
 -- the pages of a list from this place on
 part_of : (ps pages : List Page) (first n : ℕ) → length pages ≡ n → first + n ≤ length ps → ((i : ℕ) → i < n → slice_get pages i ≡ slice_get ps (first + i)) → held_part (Some ps) first n ≡ pages
@@ -123,7 +123,7 @@ taken_for (Some h) (Some k) m next c a n seg first pages taken rises same R name
     ∙ ap (λ (x : Held). page_of x seg (first + i)) e
     ∙ ap (option_and_then (λ (ps : List Page). slice_get ps (first + i))) K.there)))
 
--- Zero pages that are to be filled ----------------------------------------------------------
+-- Zero pages that are to be filled
 
 pub zeros_many : (vs : List (Vec ℕ Global)) (n b : ℕ) → map (λ p. p.items) vs ≡ replicate n (zero_page b) → length vs ≡ n
 zeros_many vs n b e = sym (length-map vs (λ p. p.items)) ∙ ap length e ∙ length-replicate n (zero_page b)

@@ -28,7 +28,7 @@ use Rattle.gmi_calls.proofs.Asking.{denied_is, granted_is}
 use Rattle.gmi_calls.proofs.Backing.{named_is}
 use Rattle.gmi_calls.proofs.Rising.{one_call, rise_then}
 
--- The cache that is pushed ---------------------------------------------------------------
+-- The cache that is pushed
 
 -- what is known of a page of a cache that a segment names
 pub record IsNamedPage (m : Machine) (n seg q : ℕ) : Type 0 where
@@ -67,7 +67,7 @@ segment_is m n seg q x N e =
     let f : Some seg ≡ Some x = sym N.named ∙ sym (ap (option_and_then (λ (c : Cache). c.segment)) N.there) ∙ e in
     cc f
 
--- One page is pushed ---------------------------------------------------------------------
+-- One page is pushed
 
 same_number : (n : ℕ) → (n == n) ≡ true
 same_number n = grind (arith, nat_tests)
@@ -173,7 +173,7 @@ module _ (m : Machine) (s : Segments) (n seg q : ℕ) (N : IsNamedPage m n seg q
       ∙ sym (page_is m n seg q N)
       ∙ ap (page_in m n) (sym this)
 
--- Several pages are pushed ---------------------------------------------------------------
+-- Several pages are pushed
 
 after_both : (m : Machine) (ps qs : List (ℕ × ℕ)) (s : Option Segments) → segments_after m (ps ++ qs) s ≡ segments_after m qs (segments_after m ps s)
 after_both m [] qs s = refl
@@ -204,7 +204,7 @@ rule_then m ps qs a b c P Q = record {
   pushed = Q.pushed ∙ ap (segments_after m qs) P.pushed ∙ sym (after_both m ps qs a);
 }
 
--- The same of the mapper ------------------------------------------------------------------
+-- The same of the mapper
 
 err_more : {T E : Type 0} (r : Result T E) (a b : ℕ) → OnErr r (0 < b) → OnErr r (0 < a + b)
 err_more (Ok x) a b h = tt

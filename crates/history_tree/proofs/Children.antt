@@ -52,7 +52,7 @@ module _ (a : Arena) (sound : IsSound a) (n : NodeId) (h : HasNode a n) where
   pub fits : len (forest_of a).nodes < 4294967296 → length (cell a n).tree + (cell a n).links.stubs < 4294967296
   fits few = omega (arith, children_fit (forest_of a) sound.linked (name_of a n) (IsNode-forest_of a sound.kept.named n h), count_is)
 
--- The chain ------------------------------------------------------------------------
+-- The chain
 
 module _ (a : Arena) (sound : IsSound a) (shaped : IsWellShaped (forest_of a)) (n : NodeId) (h : HasNode a n) where
   pub chain_up : (p : NodeId) → is_none (page_of (cell a n).own) ≡ true → (cell a n).links.parent ≡ Some p → chain_of (forest_of a) (name_of a n) ≡ item_for (forest_of a) (name_of a n) ∷ chain_of (forest_of a) (name_of a p)

@@ -84,7 +84,7 @@ two-step a kept p x y hp hx hy none_x none_y y_x =
           ∙ ap (λ (f : Forest OwnState). edit f (name_of a y) (with_hang (TreeOf (name_of a p)))) s1.forest);
     }
 
--- The rule -------------------------------------------------------------------------
+-- The rule
 
 again : {X : Type 0} (m : NameMap X) (w s : NodeName) (b x y : X) → insert (insert (insert m w b) s x) w y ≡ insert (insert m s x) w y
 again m w s b x y = same_map _ _ (λ q. get-insert (insert (insert m w b) s x) w y q

@@ -13,8 +13,9 @@ set_one a p x = hung (with_tree a p (x ∷ [])) x (Some p)
 abbrev pub set_two : Arena → NodeId → NodeId → NodeId → Arena
 set_two a p x y = hung (hung (with_tree a p (x ∷ y ∷ [])) y (Some p)) x (Some p)
 
--- All nodes that were there are there still under their numbers and names, each with its own page where it was, and so
--- are the tables. As many working nodes were made as there is room for fewer nodes, at most one.
+-- All nodes that were there are there still under their numbers and names, each with its own page
+-- where it was, and so are the tables. As many working nodes were made as there is room for fewer
+-- nodes, at most one.
 pub record IsGrown (a b : Arena) : Type 0 where
   pub held : (n : NodeId) → HasNode a n → HasNode b n
   pub names : (n : NodeId) → HasNode a n → name_of b n ≡ name_of a n

@@ -9,8 +9,8 @@ ghost use Rattle.local_cache.specs.Sound.{IsSound};
 use local_cache::Caches;
 use vm_ids::NodeId;
 
-/// The heir of the node of a page: its tree child, where that has no own page, or else the first of its stubs. `None`
-/// exactly where there is nobody who would lose the page by a change.
+/// The heir of the node of a page: its tree child, where that has no own page, or else the first of
+/// its stubs. `None` exactly where there is nobody who would lose the page by a change.
 pub fn heir(caches: &Caches, node: NodeId) -> Option<NodeId>
     requires sound { IsSound caches.now }
     requires node { HasNode caches.now node }

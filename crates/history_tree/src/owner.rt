@@ -9,8 +9,8 @@ ghost use Rattle.local_cache.specs.Sound.{IsSound};
 use local_cache::Caches;
 use vm_ids::NodeId;
 
-/// The owner of a node: the first node with an own page on the way up by parents, the node itself included. Its page is
-/// what the node reads.
+/// The owner of a node: the first node with an own page on the way up by parents, the node itself
+/// included. Its page is what the node reads.
 pub fn owner_of(caches: &Caches, node: NodeId) -> NodeId
     requires sound { IsSound caches.now }
     requires shaped { IsWellShaped (forest_of caches.now) }

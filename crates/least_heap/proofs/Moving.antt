@@ -169,26 +169,6 @@ closed heap stands i o k within =
       | inr other ↦ (omega (arith, (o.standing k within other).0), get_or-set_other stands (place_at heap i) (place_at heap k) i 0 (o.apart k within other) ∙ (o.standing k within other).1)
     ]
 
--- a number has risen far enough
-pub risen_all : (heap : List Numbered) (stands : List ℕ) (i : ℕ) → IsRising heap stands i → ((above : ℕ) → 2 * above < i → i ≤ 2 * above + 2 → number_at heap above ≤ number_at heap i) → IsHeap heap (set stands (place_at heap i) i)
-risen_all heap stands i r enough = record {
-  ordered = λ a k b c inside. elim (cases_eq k i) [
-    | inl is ↦ subst (λ (n : ℕ). number_at heap a ≤ number_at heap n) (sym is) (enough a (omega arith) (omega arith))
-    | inr other ↦ r.ordered a k b c inside other
-  ];
-  standing = closed heap stands i r.open_at;
-}
-
--- a number has sunk far enough
-pub sunk_all : (heap : List Numbered) (stands : List ℕ) (i : ℕ) → IsSinking heap stands i → ((k : ℕ) → 2 * i < k → k ≤ 2 * i + 2 → k < length heap → number_at heap i ≤ number_at heap k) → IsHeap heap (set stands (place_at heap i) i)
-sunk_all heap stands i r enough = record {
-  ordered = λ a k b c inside. elim (cases_eq a i) [
-    | inl is ↦ subst (λ (n : ℕ). number_at heap n ≤ number_at heap k) (sym is) (enough k (omega arith) (omega arith) inside)
-    | inr other ↦ r.ordered a k b c inside other
-  ];
-  standing = closed heap stands i r.open_at;
-}
-
 -- the first number is the least
 pub least_first : (heap : List Numbered) → IsOrdered heap → (n i : ℕ) → i ≤ n → i < length heap → number_at heap 0 ≤ number_at heap i
 least_first heap ordered zero i le within = let is : i ≡ 0 = omega arith in omega (arith, ap (number_at heap) is)
@@ -203,7 +183,8 @@ same_through a b c s t = record { on = λ p n at. t.on p n (s.on p n at); back =
 pub same_itself : (a : List Numbered) → SameNumbers a a
 same_itself a = record { on = λ p n at. at; back = λ p n at. at }
 
--- how far a number has come on its way from an index: it stands in the hole as if it were written there
+-- how far a number has come on its way from an index: it stands in the hole as if it were written
+-- there
 pub record IsOnWay (Goes : List Numbered → List ℕ → ℕ → Type 0) (start heap : List Numbered) (stands : List ℕ) (hole : ℕ) (x : Numbered) : Type 0 where
   pub goes : Goes (set heap hole x) stands hole
   pub within : hole < length heap
@@ -249,42 +230,6 @@ sink_on start heap stands hole below x other w low high in_heap less least is =
 place_in : (heap : List Numbered) (hole : ℕ) (x : Numbered) → hole < length heap → place_at (set heap hole x) hole ≡ x.place
 place_in heap hole x less = ap (λ (y : Numbered). y.place) (entry_set heap hole x less)
 
--- the end of the way up
-pub rise_end : (start heap : List Numbered) (stands : List ℕ) (hole : ℕ) (x : Numbered) → IsOnWay IsRising start heap stands hole x → ((above : ℕ) → 2 * above < hole → hole ≤ 2 * above + 2 → number_at heap above ≤ x.number) → IsHeap (set heap hole x) (set stands x.place hole)
-rise_end start heap stands hole x w enough =
-    subst (λ (p : ℕ). IsHeap (set heap hole x) (set stands p hole)) (place_in heap hole x w.within)
-    (risen_all (set heap hole x) stands hole w.goes (λ a b c. omega (arith, number_in heap hole x w.within, number_out heap hole x a (λ e. omega arith), enough a b c)))
-
--- the end of the way down
-pub sink_end : (start heap : List Numbered) (stands : List ℕ) (hole : ℕ) (x : Numbered) → IsOnWay IsSinking start heap stands hole x → ((k : ℕ) → 2 * hole < k → k ≤ 2 * hole + 2 → k < length heap → x.number ≤ number_at heap k) → IsHeap (set heap hole x) (set stands x.place hole)
-sink_end start heap stands hole x w enough =
-    subst (λ (p : ℕ). IsHeap (set heap hole x) (set stands p hole)) (place_in heap hole x w.within)
-    (sunk_all (set heap hole x) stands hole w.goes (λ k a b c. omega (arith, number_in heap hole x w.within, number_out heap hole x k (λ e. omega arith), enough k a b (omega (arith, length-set heap hole x)))))
-
 -- the place that is on its way has an index in memory
 pub place_below : (start heap : List Numbered) (stands : List ℕ) (hole : ℕ) (x : Numbered) → hole < length heap → IsOpen (set heap hole x) stands hole → x.place < length stands
 place_below start heap stands hole x less o = subst (λ (p : ℕ). p < length stands) (place_in heap hole x less) o.place
-
--- and so has every other one
-pub other_below : (heap : List Numbered) (stands : List ℕ) (hole k : ℕ) (x other : Numbered) → k < length heap → k ≢ hole → other ≡ entry_at heap k → IsOpen (set heap hole x) stands hole → other.place < length stands
-other_below heap stands hole k x other less differs is o = subst (λ (p : ℕ). p < length stands) (ap (λ (y : Numbered). y.place) (entry_other heap hole x k differs ∙ sym is)) (o.standing k (omega (arith, length-set heap hole x)) differs).0
-
--- a number that is less than the one above rises
-pub refill_rises : (heap : List Numbered) (stands : List ℕ) (i above : ℕ) (x : Numbered) → i < length heap → IsRefilling (set heap i x) stands i → 2 * above < i → i ≤ 2 * above + 2 → x.number < number_at heap above → IsRising (set heap i x) stands i
-refill_rises heap stands i above x within r low high less = record {
-  open_at = r.open_at;
-  ordered = λ a k b c inside other. elim (cases_eq a i) [
-    | inl is ↦ omega (arith, ap (number_at (set heap i x)) is, number_in heap i x within, number_out heap i x above (λ e. omega arith), r.open_at.across above k low high (omega arith) (omega arith) inside)
-    | inr differs ↦ r.ordered a k b c inside differs other
-  ];
-}
-
--- and any other one sinks
-pub refill_sinks : (heap : List Numbered) (stands : List ℕ) (i : ℕ) (x : Numbered) → i < length heap → IsRefilling (set heap i x) stands i → ((above : ℕ) → 2 * above < i → i ≤ 2 * above + 2 → number_at heap above ≤ x.number) → IsSinking (set heap i x) stands i
-refill_sinks heap stands i x within r enough = record {
-  open_at = r.open_at;
-  ordered = λ a k b c inside other. elim (cases_eq k i) [
-    | inl is ↦ omega (arith, ap (number_at (set heap i x)) is, number_in heap i x within, number_out heap i x a other, enough a (omega arith) (omega arith))
-    | inr differs ↦ r.ordered a k b c inside other differs
-  ];
-}

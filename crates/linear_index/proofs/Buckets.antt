@@ -44,15 +44,6 @@ bucket_kept old new mask n first bucket b same was =
       );
     }
 
--- no cell, no bucket
-pub none_hashed : IsHashed [] [] 0
-none_hashed = record {
-  masked = record { bits = 0; power = refl; least = omega arith; most = omega arith };
-  some = λ p key e. absurd (cc e);
-  once = λ p q key e f. absurd (cc e);
-  chains = λ bucket less. absurd (omega arith);
-}
-
 -- cells that say the same
 pub covered : (heads : List (Option ℕ)) (old new : List Cell) (mask : ℕ) → IsHashed heads old mask → ((p : ℕ) → cell_at new p ≡ cell_at old p) → IsHashed heads new mask
 covered heads old new mask h same =

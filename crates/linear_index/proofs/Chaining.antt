@@ -187,9 +187,6 @@ pub record IsSeeking (cells : List Cell) (first next : Option ℕ) (key : ℕ) :
   pub from : (p : ℕ) → IsIn cells next p → IsIn cells first p
   pub passed : (p : ℕ) → IsIn cells first p → IsIn cells next p ⊎ ((cell_at cells p).key ≢ key)
 
-pub seeking : (cells : List Cell) (first : Option ℕ) (key : ℕ) → Ends cells first → IsSeeking cells first first key
-seeking cells first key e = record { ends = e; from = λ p i. i; passed = λ p i. inl i }
-
 pub seek_on : (cells : List Cell) (first : Option ℕ) (p key : ℕ) → IsSeeking cells first (Some p) key → (cell_at cells p).key ≢ key → IsSeeking cells first (next_at cells p) key
 seek_on cells first p key s other =
     let f : IsFront cells p = front cells p s.ends in

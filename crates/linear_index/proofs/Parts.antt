@@ -147,7 +147,8 @@ led cells p x to less link =
 
 -- ---- dividing a chain
 
--- how far a chain is divided: what is left of it, and the places that the test said this and that of
+-- how far a chain is divided: what is left of it, and the places that the test said this and that
+-- of
 pub record IsDividing (old cells : List Cell) (first next one other : Option ℕ) (test : ℕ → Bool) (a b : Bool) : Type 0 where
   pub rest : Ends cells next
   pub ones : Ends cells one

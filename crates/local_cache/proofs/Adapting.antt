@@ -76,18 +76,3 @@ module _ (l : NodeLists) (kept : IsKept l) (runs : Stretches Run)
       }
 
 module _ (old mid : NodeLists) (adapted : HasAdapted old mid) (n : ℕ) where
-  pub room_through : (c x : Cell) → map.len (map.insert (node_cells old) n c) ≤ old.capacity
-      → map.len (map.insert (node_cells mid) n x) ≤ mid.capacity
-  room_through c x room =
-      let same = len-insert nat_cmp_total (node_cells old) n x ∙ sym (len-insert nat_cmp_total (node_cells old) n c) in
-      omega (arith, same, room, ap (λ (m : FinMap nat_cmp Cell). map.len (map.insert m n x)) adapted.cells, ap (λ (l : NodeLists). l.capacity) adapted.others)
-
-  pub written_through : (c x : Cell) (new : NodeLists) → x ≡ c → HasWritten mid n x new → HasWritten old n c new
-  written_through c x new is written =
-      record {
-        written = record {
-          kept = written.written.kept;
-          others = written.written.others ∙ ap (λ (l : NodeLists). record l { runs = new.runs; records = new.records }) adapted.others;
-        };
-        cells = written.cells ∙ (λ i. map.insert (adapted.cells i) n (is i));
-      }

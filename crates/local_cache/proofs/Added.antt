@@ -82,7 +82,7 @@ module _ (l : NodeLists) (kept : IsKept l) (first count : ℕ) (value : Run)
     | inr out ↦ ap is_some (added_out n out) ∙ kept.recorded n h
   ]
 
-  -- Keys --------------------------------------------------------------------------------------------
+  -- Keys
 
   module _ (key : Cell → Option ℕ) where
     -- the key of a node that was there

@@ -2,7 +2,8 @@
 
 -- What the forest of the caches has at a name, and when it is a given forest.
 pub mod Reading
--- A rule that the forest of own states followed is followed by the forest of any pages that are told by number.
+-- A rule that the forest of own states followed is followed by the forest of any pages that are
+-- told by number.
 pub mod ReadingBy
 -- A change of the caches that follows a rule of the page forest.
 pub mod Rule

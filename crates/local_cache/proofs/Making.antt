@@ -39,7 +39,7 @@ use Rattle.local_cache.proofs.NodeKeys.{len_index}
 use Rattle.local_cache.proofs.NodeRuns.{not_given}
 use Rattle.local_cache.proofs.Singles.{len_insert_new, same_maps}
 
--- A map with a stretch -------------------------------------------------------------------
+-- A map with a stretch
 
 module _ {V : Type 0} (S : Ghosts V) (m : FinMap nat_cmp V) (r : Stretch V) where
   pub with_out : (k n : ℕ) → (n < r.first) ⊎ (r.first + k ≤ n) → map.get (with_first S m r k) n ≡ map.get m n
@@ -65,7 +65,7 @@ module _ {V : Type 0} (S : Ghosts V) (m : FinMap nat_cmp V) (r : Stretch V) wher
       let new : map.get (with_first S m r k) (r.first + k) ≡ None = with_out k (r.first + k) (inr (omega arith)) ∙ vacant (r.first + k) (omega arith) (omega arith) in
       omega (arith, rest, len_insert_new (with_first S m r k) (r.first + k) (S.after r.value k) new)
 
--- Nodes one behind the other -----------------------------------------------------------------
+-- Nodes one behind the other
 
 pub pages_push : (m : FinMap nat_cmp Rising) (cache : CacheId) (page : ℕ) (ns : List NodeId) (n : NodeId)
     → pages_with m cache page (ns ++ n ∷ []) ≡ map.insert (pages_with m cache page ns) (page_number cache.0 (page + length ns)) (of_page n)
@@ -89,7 +89,7 @@ pub have_none : (l : NodeLists) (c : Counters) → IsRight l c → (count : ℕ)
     → HaveNone (nodes_of l c) (record { 0 = c.next_page }) count
 have_none l c right count numbers k less = none_given l c right count numbers (c.next_page + k) (omega arith) (omega (arith, less))
 
--- One run -------------------------------------------------------------------------------------
+-- One run
 
 module _ (l : NodeLists) (c : Counters) (right : IsRight l c) (cache : CacheId) (page : PageNo) (count : ℕ) (own : PlainState)
     (numbers : c.next_page + count ≤ 2 ^ 52) (room : map.len (node_cells l) + count ≤ l.capacity)
@@ -361,7 +361,7 @@ module _ (l : NodeLists) (c : Counters) (right : IsRight l c) (cache : CacheId) 
           (λ i. record { cells = (cells_are ∙ steps_are) i; pages = set_pages i; made = made i; room = less i })
           ∙ sym (many_new (nodes_of l c) count)
 
--- Page by page ----------------------------------------------------------------------------------
+-- Page by page
 
 -- one page more
 pub made_more : (old mid new : PageNodes) (cache : CacheId) (own : OwnState) (page : ℕ) (n : NodeId)

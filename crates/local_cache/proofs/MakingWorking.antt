@@ -41,7 +41,7 @@ use Rattle.local_cache.proofs.NodeKeys.{index_as}
 use Rattle.local_cache.proofs.NodeRuns.{not_given}
 use Rattle.local_cache.proofs.Singles.{same_maps}
 
--- One after the other ------------------------------------------------------------------------------
+-- One after the other
 
 module _ (m : PageNodes) (n : NodeId) where
   -- what is not said of cells
@@ -87,7 +87,7 @@ module _ (m : PageNodes) (n : NodeId) where
         ∙ working_in k j (omega (arith, less, other))
   ]
 
--- One run -----------------------------------------------------------------------------------------------
+-- One run
 
 -- so many working nodes from one number on, without parent, over these tree children
 abbrev pub working_run : ℕ → Option NodeId → Option NodeId → Run
@@ -156,7 +156,7 @@ module _ (l : NodeLists) (c : Counters) (right : IsRight l c) (count : ℕ) (som
     unnamed : (i : ℕ) → i < count → key_at working_number (node_cells l) (first + i) ≡ None
     unnamed i less = ap (option_and_then working_number) (all_free (first + i) (omega arith) (omega (arith, less)))
 
-    -- The lists of thin nodes -------------------------------------------------------------------------
+    -- The lists of thin nodes
 
     module _ (even : KeyRange) (keys : AreKeysIn (λ i. even_key (run_cell value i)) count even) where
       pub even_few : 2 * even.count ≤ count + 1
@@ -192,7 +192,7 @@ module _ (l : NodeLists) (c : Counters) (right : IsRight l c) (count : ℕ) (som
           index_as _ _ _ odd_key _ _ set refl
           (next_names.odd_index l c right first count after value refl beside is unnamed odd keys node begins)
 
-    -- All lists -----------------------------------------------------------------------------------------
+    -- All lists
 
     module _ (runs : Stretches Run) (evens odds : Stretches ThinNodes) (set : cells run runs.list ≡ with_stretch run R new_run)
         (counted : IsCounted run runs) (counted_even : IsCounted thin_nodes evens) (counted_odd : IsCounted thin_nodes odds)

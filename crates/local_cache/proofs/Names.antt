@@ -2,7 +2,8 @@
 
 -- A node under another name: its name is another one wherever it is named.
 pub mod Renaming
--- A node under another name: it becomes that of a page that has none, and the page that it was the node of has none then.
+-- A node under another name: it becomes that of a page that has none, and the page that it was the
+-- node of has none then.
 pub mod PageName
 -- A page whose node became a working node, and the room that is left.
 pub mod WorkingName

@@ -19,7 +19,7 @@ use Rattle.local_cache.specs.Records.{each}
 use Rattle.local_cache.specs.Runs.{first_name, run}
 use Rattle.local_cache.proofs.Singles.{get_inserted, get_removed, len_remove_old, none_of, same_maps}
 
--- One number of a map set or cleared -------------------------------------------------
+-- One number of a map set or cleared
 
 module _ {X : Type 0} where
   pub inserted_here : (m : FinMap nat_cmp X) (k : ℕ) (x : X) → map.get (map.insert m k x) k ≡ Some x
@@ -63,7 +63,7 @@ module _ {X : Type 0} where
     | inr other ↦ others q other ∙ sym (removed_other m k q other)
   ])
 
--- How many numbers a map has ----------------------------------------------------------
+-- How many numbers a map has
 
 module _ {X : Type 0} where
   -- a map that isn't empty has a number
@@ -120,7 +120,7 @@ pub len_within : {X Y : Type 0} (m : FinMap nat_cmp X) (c : FinMap nat_cmp Y)
 len_within m c within =
     len_into (λ k x. k) m c (λ k x h. within k (ap is_some h)) (λ j k x y h i same. same)
 
--- The cells ---------------------------------------------------------------------------
+-- The cells
 
 module _ {A B : Type 0} (f : ℕ → A → B) where
   find_mapped : (es : List (ℕ × A)) (q : ℕ)
@@ -187,7 +187,7 @@ cells_taken R D n =
     ∙ ap (λ (o : Option Record). option_map (λ s. cell_by s o) (map.get R q)) (removed_other D n q other)
     ∙ sym (get_cells_by R D q))
 
--- The lists -------------------------------------------------------------------------------
+-- The lists
 
 module _ (l : NodeLists) (n : ℕ) where
   pub node_run : IsSome (map.get (node_cells l) n) → IsSome (said run l.runs.list n)

@@ -39,7 +39,7 @@ use Rattle.local_cache.proofs.NodeKeys.{key_apart, len_index}
 use Rattle.local_cache.proofs.Placing.{even_number, odd_number, then_some}
 use Rattle.local_cache.proofs.Singles.{len_insert_new, len_insert_old, len_remove_old, len_some, none_of}
 
--- No nodes --------------------------------------------------------------------------------
+-- No nodes
 
 module _ {V : Type 0} (S : Ghosts V) where
   empty_len : (rs : List (Stretch V)) → rs ≡ [] → map.len (cells S rs) ≡ 0
@@ -116,7 +116,7 @@ module _ (l : NodeLists) (empty : AreEmpty l) where
         live = live ∙ sym (empty_len rising l.pages.list empty.pages);
       }
 
--- Numbers and names --------------------------------------------------------------------------
+-- Numbers and names
 
 module _ (nodes : FinMap nat_cmp Cell) (c : Counters) (old : IsNumbered nodes c) (n : ℕ) where
   -- a number that was given fits a u64 with the next ones
@@ -209,7 +209,7 @@ module _ (nodes : FinMap nat_cmp Cell) (c : Counters) (old : IsNumbered nodes c)
         made = old.made;
       }
 
--- Keys ----------------------------------------------------------------------------------------
+-- Keys
 
 -- the keys of a node of which this is said
 pub has_keys : (nodes : FinMap nat_cmp Cell) (n : ℕ) (x : Cell) (keys : Keys)
@@ -232,7 +232,7 @@ rekeyed_same m a b v e =
     ap (λ (o : Option ℕ). rekeyed m o b v) e
     ∙ ap (λ (t : Bool). cond t m (with_key (without_key m b) b v)) (same_key_same b)
 
--- The lists after a change ----------------------------------------------------------------------
+-- The lists after a change
 
 -- another thing said of a node, but for its name
 module _ (l : NodeLists) (c : Counters) (right : IsRight l c) (n : ℕ) (old x : Cell)
@@ -289,7 +289,7 @@ module _ (l : NodeLists) (c : Counters) (right : IsRight l c) (n : ℕ) (old x :
           omega (arith, placed.capacity, ap map.len placed.cells, len_kept) in same) i;
     }
 
--- How many pages have a node ---------------------------------------------------------------------
+-- How many pages have a node
 
 abbrev pub key_bit : Option ℕ → ℕ
 key_bit None = 0
@@ -368,9 +368,6 @@ module _ (l : NodeLists) (c : Counters) (right : IsRight l c) (n : ℕ) where
     pub live_fits : map.len (cells rising new.pages.list) < 2 ^ 32
     live_fits =
         omega (arith, len_index _ _ page_key (node_cells new) placed.indexed.pages, placed.kept.fits, placed.kept.places.few)
-
-    pub nodes_fit : map.len (node_cells new) < 2 ^ 32
-    nodes_fit = omega (arith, placed.kept.fits, placed.kept.places.few)
 
     module _ (now : Counters) (nodes : now.nodes ≡ map.len (node_cells new))
         (live : now.live ≡ map.len (cells rising new.pages.list))
@@ -541,7 +538,7 @@ module _ (l : NodeLists) (c : Counters) (right : IsRight l c) (n : ℕ) (old : C
           omega (arith, taken.capacity, nodes_left, right.nodes, right.kept.fits) in
           λ i. record { cells = taken.cells i; pages = pages_left i; made = made i; room = more i }
 
--- Numbers given --------------------------------------------------------------------------------------
+-- Numbers given
 
 -- a map that has all numbers from 1 on, so many, has as many
 pub len_covers : {X : Type 0} (k : ℕ) (m : FinMap nat_cmp X) → ((i : ℕ) → 1 ≤ i → i ≤ k → IsSome (map.get m i)) → k ≤ map.len m
@@ -553,30 +550,6 @@ len_covers (suc k) m covers =
     omega (arith, rest, len_remove_old m (suc k) there)
 
 module _ (l : NodeLists) (c : Counters) (right : IsRight l c) where
-  -- more numbers and names given
-  pub right_more : (now : Counters) → now.nodes ≡ c.nodes → now.live ≡ c.live → c.made ≤ now.made
-      → c.next_page ≤ now.next_page → c.next_working ≤ now.next_working → now.next_page ≤ 2 ^ 52
-      → now.next_working ≤ 2 ^ 52 + now.made → now.made ≤ 2 ^ 63 → IsRight l now
-  right_more now nodes live made page working most few less =
-      record {
-        kept = right.kept;
-        indexed = right.indexed;
-        numbered = record {
-          given = λ n h. elim (right.numbered.given n h) [
-            | inl low ↦ inl (omega (arith, low, page))
-            | inr high ↦ inr (high.0, omega (arith, high.1, working))
-          ];
-          named = λ n k h. omega (arith, right.numbered.named n k h, made);
-          apart = right.numbered.apart;
-          pages = most;
-          workings = omega (arith, working, right.numbered.workings);
-          few = few;
-          made = less;
-        };
-        nodes = nodes ∙ right.nodes;
-        live = live ∙ right.live;
-      }
-
   -- a number that wasn't given has no node
   pub not_given : (n : ℕ) → (IsGiven c n → ⊥) → map.get (node_cells l) n ≡ None
   not_given n out = go (map.get (node_cells l) n) refl
@@ -585,19 +558,7 @@ module _ (l : NodeLists) (c : Counters) (right : IsRight l c) where
       go None e = e
       go (Some x) e = absurd (out (right.numbered.given n (ap is_some e)))
 
-  pub next_page_new : c.next_page < 2 ^ 52 → map.get (node_cells l) c.next_page ≡ None
-  next_page_new less = not_given c.next_page (λ h. elim h [
-    | inl low ↦ (let bad : ⊥ = omega (arith, low) in bad)
-    | inr high ↦ (let bad : ⊥ = omega (arith, less, high.0) in bad)
-  ])
-
-  pub next_working_new : map.get (node_cells l) c.next_working ≡ None
-  next_working_new = not_given c.next_working (λ h. elim h [
-    | inl low ↦ (let bad : ⊥ = omega (arith, low, right.numbered.pages, right.numbered.workings) in bad)
-    | inr high ↦ (let bad : ⊥ = omega (arith, high.1) in bad)
-  ])
-
--- Every number from 1 on is in a stretch -----------------------------------------------------------
+-- Every number from 1 on is in a stretch
 
 module _ (rs : List (Stretch Run)) where
   -- all numbers from 1 on are in stretches, as far as this one
@@ -610,17 +571,7 @@ module _ (rs : List (Stretch Run)) where
       let all = len_covers (number - 1) (cells run rs) (λ i low high. ap is_some (get_cells run rs i) ∙ covered.said i low (omega (arith, covered.some, high, low))) in
       omega (arith, all)
 
-  pub covered_more : (number : ℕ) (r : Stretch Run) → AreCovered number → IsStretchFrom run rs number r → AreCovered (r.first + r.count)
-  covered_more number r covered from =
-      record {
-        some = omega (arith, from.begins, covered.some);
-        said = λ i low high. elim (cases_lt i number) [
-          | inl before ↦ covered.said i low before
-          | inr behind ↦ ap is_some (from.said i (within r i (omega (arith, from.begins, behind)) high))
-        ];
-      }
-
--- Names that no other node has -------------------------------------------------------------------------
+-- Names that no other node has
 
 module _ (l : NodeLists) (c : Counters) (right : IsRight l c) (n : ℕ) (x : Cell) where
   -- a page that has no node
@@ -635,19 +586,7 @@ module _ (l : NodeLists) (c : Counters) (right : IsRight l c) (n : ℕ) (x : Cel
         working = λ m j now had. absurd (none-some j (sym none ∙ now));
       }
 
--- a working name above all that were given
-pub free_working : (nodes : FinMap nat_cmp Cell) (n : ℕ) (x : Cell) (made : ℕ) → page_key x ≡ None → working_number x ≡ Some made
-    → ((m k : ℕ) → key_at working_number nodes m ≡ Some k → k < made) → HasFreeName nodes n x
-free_working nodes n x made none is unnamed =
-    record {
-      page = λ m j now had. absurd (none-some j (sym none ∙ now));
-      working = λ m j now had.
-          let key : j ≡ made = same_Some j made (sym now ∙ is) in
-          let bad : ⊥ = omega (arith, key, unnamed m j had) in
-          absurd bad;
-    }
-
--- What is read off the lists ------------------------------------------------------------------------------
+-- What is read off the lists
 
 module _ (l : NodeLists) (c : Counters) where
   pub live_le : IsRight l c → c.live ≤ c.nodes
@@ -656,58 +595,13 @@ module _ (l : NodeLists) (c : Counters) where
   pub node_of_page : (k : ℕ) → node_at (nodes_of l c) k ≡ option_map (λ (v : Rising). record { 0 = v.0 }) (said rising l.pages.list k)
   node_of_page k = ap (option_map (λ (v : Rising). record { 0 = v.0 })) (get_cells rising l.pages.list k)
 
--- More places ---------------------------------------------------------------------------------------------
+-- More places
 
 module _ (l : NodeLists) (c : Counters) (right : IsRight l c) (new : NodeLists) (grown : HasGrown l new) where
-  grown_cells : node_cells new ≡ node_cells l
-  grown_cells i = cells_by (cells run (grown.runs i)) (cells each (grown.records i))
-
   grown_count : {V : Type 0} (S : Ghosts V) (a b : Stretches V) → b.list ≡ a.list → IsCounted S a → IsCounted S b
   grown_count S a b same counted = ap number_count same ∙ counted ∙ sym (ap (λ (rs : List (Stretch _)). map.len (cells S rs)) same)
 
-  grown_index : {V : Type 0} (S : Ghosts V) (number : V → ℕ) (key : Cell → Option ℕ) (a b : Stretches V) → b.list ≡ a.list
-      → Indexes number (cells S a.list) key (node_cells l) → Indexes number (cells S b.list) key (node_cells new)
-  grown_index S number key a b same index =
-      subst (Indexes number (cells S b.list) key) (sym grown_cells)
-      (subst (λ (rs : List (Stretch _)). Indexes number (cells S rs) key (node_cells l)) (sym same) index)
-
-  pub right_grown : IsRight new c
-  right_grown =
-      record {
-        kept = record {
-          counted = record {
-            runs = grown_count run l.runs new.runs grown.runs right.kept.counted.runs;
-            records = grown_count each l.records new.records grown.records right.kept.counted.records;
-            pages = grown_count rising l.pages new.pages grown.pages right.kept.counted.pages;
-            even = grown_count thin_nodes l.even new.even grown.even right.kept.counted.even;
-            odd = grown_count thin_nodes l.odd new.odd grown.odd right.kept.counted.odd;
-          };
-          places = grown.places;
-          fits = omega (arith, ap map.len grown_cells, right.kept.fits, grown.no_fewer);
-          recorded = λ n h.
-              ap (λ (m : FinMap nat_cmp Cell). is_some (map.get m n)) grown_cells
-              ∙ right.kept.recorded n (sym (ap (λ (rs : List (Stretch Record)). is_some (map.get (cells each rs) n)) grown.records) ∙ h);
-          needed = subst (λ (rs : List (Stretch Record)). AreNeeded (cells each rs)) (sym grown.records) right.kept.needed;
-        };
-        indexed = record {
-          pages = grown_index rising (λ v. v.0) page_key l.pages new.pages grown.pages right.indexed.pages;
-          even = grown_index thin_nodes (λ v. (first_thin v).0) even_key l.even new.even grown.even right.indexed.even;
-          odd = grown_index thin_nodes (λ v. (first_thin v).0) odd_key l.odd new.odd grown.odd right.indexed.odd;
-        };
-        numbered = subst (λ (m : FinMap nat_cmp Cell). IsNumbered m c) (sym grown_cells) right.numbered;
-        nodes = right.nodes ∙ sym (ap map.len grown_cells);
-        live = right.live ∙ sym (ap (λ (rs : List (Stretch Rising)). map.len (cells rising rs)) grown.pages);
-      }
-
-  pub nodes_grown : nodes_of new c ≡ record (nodes_of l c) { room = new.capacity - map.len (node_cells l) }
-  nodes_grown i = record {
-    cells = grown_cells i;
-    pages = cells rising (grown.pages i);
-    made = c.made;
-    room = new.capacity - map.len (grown_cells i);
-  }
-
--- The least thin node -----------------------------------------------------------------------------------------
+-- The least thin node
 
 pub even_back : (h : ℕ) → even_half (2 * h) ≡ Some h
 even_back h =

@@ -8,7 +8,8 @@ pub mod Numbers
 pub mod OwnStates
 -- The numbers and the own states of nodes, told by look-ups.
 pub mod Values
--- There are as many nodes of the forest as own states: each node of the arena has its name, and no two of them one.
+-- There are as many nodes of the forest as own states: each node of the arena has its name, and no
+-- two of them one.
 pub mod Count
 -- Nodes that stay there after a change of many nodes.
 pub mod Many

@@ -25,7 +25,7 @@ use Rattle.local_cache.specs.ThinNodes.{first_thin, thin_nodes}
 use Rattle.local_cache.proofs.NodeCells.{inserted_here, inserted_other, removed_here, removed_other}
 use Rattle.local_cache.proofs.NodeKeys.{indexes_rekeyed, len_index}
 
--- Thin nodes by their working numbers --------------------------------------------------
+-- Thin nodes by their working numbers
 
 pub even_number : (k h : ℕ) → even_half k ≡ Some h → k ≡ 2 * h
 even_number k h e = elim (cases_Bool (k % 2 == 0)) [
@@ -81,7 +81,7 @@ module _ (cells : FinMap nat_cmp Cell) (node : ℕ) (c : Cell) (free : HasFreeNa
       free.working n (up k) (works c k now)
       (ap (option_and_then working_number) x.1 ∙ works x.0 k x.2)
 
--- One list ---------------------------------------------------------------------------------
+-- One list
 
 module _ {V : Type 0} (number : V → ℕ) (m : FinMap nat_cmp V) (key : Cell → Option ℕ)
     (cells : FinMap nat_cmp Cell) (index : Indexes number m key cells) (node : ℕ)
@@ -103,7 +103,7 @@ module _ {V : Type 0} (number : V → ℕ) (m : FinMap nat_cmp V) (key : Cell �
       (λ i other. ap (option_and_then key) (removed_other cells node i other)) says
       (λ i k new had. absurd (none-some k (sym is ∙ new)))
 
--- All lists --------------------------------------------------------------------------------
+-- All lists
 
 module _ (l : NodeLists) (kept : IsKept l) (indexed : IsIndexed l) (node : ℕ) (before now : Keys)
     (keys : HasKeys (node_cells l) node before) where

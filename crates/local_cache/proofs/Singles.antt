@@ -15,7 +15,7 @@ use Rattle.stretches.specs.Stretches.{SayAs, said}
 use Rattle.stretches.proofs.Cells.{get_cells}
 use Rattle.stretches.proofs.Reading.Numbers.{chosen, high, low, out_before, out_behind, passed, within}
 
--- Maps of numbers ----------------------------------------------------------------
+-- Maps of numbers
 
 pub none_of : {X : Type 0} (o : Option X) → is_some o ≡ false → o ≡ None
 none_of None h = refl
@@ -37,7 +37,7 @@ module _ {X : Type 0} where
       get-remove nat_cmp_total m k q
       ∙ ap (λ (b : Bool). cond b None (map.get m q)) (unsigned_tied q k)
 
--- One number cleared ---------------------------------------------------------------
+-- One number cleared
 
 module _ {V : Type 0} (S : Ghosts V) (laws : GoesOn S.after S.lasts) where
   -- behind the first numbers a stretch says what it said
@@ -113,7 +113,7 @@ module _ {V : Type 0} (S : Ghosts V) (laws : GoesOn S.after S.lasts) where
         ]
         ∙ sym (get_removed (cells S old) n m))
 
--- How many numbers there are -------------------------------------------------------
+-- How many numbers there are
 
 module _ {X : Type 0} where
   pub len_insert_new : (m : FinMap nat_cmp X) (k : ℕ) (x : X) → map.get m k ≡ None

@@ -1,4 +1,5 @@
--- What a contract sees of the caches: page nodes by number, and of each cache the table of its pages.
+-- What a contract sees of the caches: page nodes by number, and of each cache the table of its
+-- pages.
 use Rattle.std.specs.Prelude.{◌≡◌, ℕ, zero, suc, ◌+◌, ◌-◌, ◌≤◌, ◌<◌, List, [], ◌∷◌, ◌++◌, length, map, replicate, count_by, sum_by, Bool, true, false, Option, Some, None, unwrap_or, IsSome, option_and_then, option_map, slice_get, slice_index_or, slice_set}
 use Rattle.std.specs.Ordering.{nat_cmp}
 use Rattle.std.specs.FinMap.{FinMap}
@@ -35,7 +36,8 @@ pub record Room : Type 0 where
   pub caches : ℕ
   pub entries : ℕ
 
--- the nodes by number; each cache that was made, in order, or none where it isn't live; how many working nodes were made and how many pages were copied; the spare room
+-- the nodes by number; each cache that was made, in order, or none where it isn't live; how many
+-- working nodes were made and how many pages were copied; the spare room
 pub record Arena : Type 0 where
   pub cells : FinMap nat_cmp Cell
   pub caches : List (Option Table)
@@ -101,7 +103,8 @@ changed_at tables zero change = tables
 changed_at tables (suc k) change =
     slice_set tables k (option_map change (slice_index_or tables k None))
 
--- the tables with another node, or none, at a page of a cache, where there is a live cache with this page
+-- the tables with another node, or none, at a page of a cache, where there is a live cache with
+-- this page
 abbrev pub cache_with : List (Option Table) → ℕ → ℕ → Option NodeId → List (Option Table)
 cache_with tables cache page o = changed_at tables cache (table_with page o)
 

@@ -20,7 +20,8 @@ pub record Relinked (a b : Arena) : Type 0 where
   pub made : a.made ≡ b.made
   pub copies : a.copies ≡ b.copies
 
--- links and lists alone were changed: nodes, names, tables, own states, counters and the spare room stay
+-- links and lists alone were changed: nodes, names, tables, own states, counters and the spare room
+-- stay
 pub record Rehung (a b : Arena) : Type 0 where
   pub like : Like a b
   pub own : (n : NodeId) → own_of b n ≡ own_of a n

@@ -12,7 +12,7 @@ use Rattle.local_cache.specs.Records.{key}
 use Rattle.local_cache.specs.Runs.{HasNames, further, further_if, name_after, run}
 use Rattle.local_cache.specs.ThinNodes.{HasNodes, thin_after, thin_nodes}
 
--- Runs --------------------------------------------------------------------------
+-- Runs
 
 node_of_same : (m n : ℕ) → m ≡ n → ◌≡◌ {A = NodeId} (record { 0 = m }) (record { 0 = n })
 node_of_same m n e = λ i. record { 0 = e i }
@@ -79,7 +79,7 @@ run_goes_on =
       splits = λ r a b. names_split r.name a b;
     }
 
--- Keys of records ---------------------------------------------------------------
+-- Keys of records
 
 pub key_goes_on : GoesOn key.after key.lasts
 key_goes_on =
@@ -89,7 +89,7 @@ key_goes_on =
       splits = λ k a b. (λ h. (tt, tt), λ h. tt);
     }
 
--- Grants and locks --------------------------------------------------------------
+-- Grants and locks
 
 pub granted_goes_on : GoesOn granted_says.after granted_says.lasts
 granted_goes_on =
@@ -107,7 +107,7 @@ locks_go_on =
       splits = λ v a b. (λ h. (tt, tt), λ h. tt);
     }
 
--- Thin nodes --------------------------------------------------------------------
+-- Thin nodes
 
 thin_starts : (t : ThinNodes) → thin_after t 0 ≡ t
 thin_starts (Each n) = let e : n.0 + 0 ≡ n.0 = omega arith in ap Each (node_of_same _ _ e)

@@ -13,7 +13,8 @@ use Rattle.local_cache.specs.Runs.{first_name, name_after, run_after}
 abbrev pub run_cell : Run → ℕ → Cell
 run_cell r k = cell_of (run_after r k) (bare r.own)
 
--- the numbers of a range are the keys of so many nodes, and each node that has a key has one of them
+-- the numbers of a range are the keys of so many nodes, and each node that has a key has one of
+-- them
 pub record AreKeysIn (key : ℕ → Option ℕ) (count : ℕ) (range : KeyRange) : Type 0 where
   pub short : range.first + range.count < 2 ^ 64
   pub within : (i k : ℕ) → i < count → key i ≡ Some k

@@ -1,4 +1,5 @@
--- Many page nodes of the caches changed at once: as the calls for one change them, one after the other.
+-- Many page nodes of the caches changed at once: as the calls for one change them, one after the
+-- other.
 use Rattle.std.specs.Prelude.{◌≡◌, ℕ, zero, suc, ◌+◌, ◌<◌, [], ◌∷◌, map, None, Some}
 use Rattle.vm_ids.specs.declared.command.Span.{Span}
 use Rattle.vm_ids.specs.declared.node_name.NodeName.TheVariants.{Live, Working}
@@ -101,8 +102,8 @@ over_two_many a n older newer (suc k) =
     (next_node older k ∷ next_node newer k ∷ [])
 
 -- The node so many numbers behind another one is like it: it has the same own state and no stubs,
--- its parent by a tree link and its tree children are as many numbers further on, and it is named by
--- a page as many further on, or is a working node too.
+-- its parent by a tree link and its tree children are as many numbers further on, and it is named
+-- by a page as many further on, or is a working node too.
 pub record IsAlike (a : Arena) (n : NodeId) (k : ℕ) : Type 0 where
   pub held : HasNode a (next_node n k)
   pub own : (cell a (next_node n k)).own ≡ (cell a n).own

@@ -21,7 +21,8 @@ page_of OnSegment = Some OnSegment
 abbrev pub name_of : Arena → NodeId → NodeName
 name_of a n = (cell a n).name
 
--- up to k nodes, of which the first is the one given, and each next one stands behind the one before
+-- up to k nodes, of which the first is the one given, and each next one stands behind the one
+-- before
 abbrev pub walk : Arena → ℕ → Option NodeId → List NodeId
 walk a zero from = []
 walk a (suc k) None = []

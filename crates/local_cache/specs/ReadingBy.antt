@@ -1,4 +1,5 @@
--- The page forest that is read off the caches, where each node's own page is told by the node's number.
+-- The page forest that is read off the caches, where each node's own page is told by the node's
+-- number.
 use Rattle.std.specs.Prelude.{◌≡◌, map, Option, is_some}
 use Rattle.std.specs.FinMap as ids
 use Rattle.vm_ids.specs.Forest.NameMap as names

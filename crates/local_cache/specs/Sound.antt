@@ -24,8 +24,8 @@ pub record IsListed (a : Arena) : Type 0 where
       → name_of a n ≡ Live (record { 0 = cache }) (record { 0 = page })
       → node_at a cache page ≡ Some n
 
--- What holds between the steps of a rule: the names are apart and counted, the tables have them, parents and children
--- are nodes, and the lists of stubs are threaded.
+-- What holds between the steps of a rule: the names are apart and counted, the tables have them,
+-- parents and children are nodes, and the lists of stubs are threaded.
 pub record IsKept (a : Arena) : Type 0 where
   pub named : IsNamed a
   pub listed : IsListed a

@@ -24,8 +24,8 @@ use vm_ids::{CacheId, Counts, NoMemory, NodeId, NodeName, PageNo, SegId, Span};
 
 /// All page nodes and all caches.
 ///
-/// Its model is `Arena` of `specs`: the nodes are those of the runs, and the table of a cache has the
-/// nodes that are found under the numbers of its pages.
+/// Its model is `Arena` of `specs`: the nodes are those of the runs, and the table of a cache has
+/// the nodes that are found under the numbers of its pages.
 pub struct Caches {
     // the page nodes, of which alike ones stand as one run
     nodes: NodeRuns,
@@ -71,9 +71,9 @@ impl Caches {
         }
     }
 
-    /// Takes memory for so many more caches and so many more pages. It can fail only where there is too little room, and
-    /// it does where there would be 2^32 nodes, or pages of caches, or more in all. After an error what was there is
-    /// there still.
+    /// Takes memory for so many more caches and so many more pages. It can fail only where there is
+    /// too little room, and it does where there would be 2^32 nodes, or pages of caches, or more in
+    /// all. After an error what was there is there still.
     #[tactic(auto, using(crate::proofs::Changes::SameCells::roomier_forest))]
     pub fn reserve(&mut self, caches: u32, nodes: u32) -> Result<(), NoMemory>
         ensures nodes { OnOk result (nodes ≤ self.new.room.nodes) }
@@ -93,9 +93,10 @@ impl Caches {
         Ok(())
     }
 
-    /// Makes a temporary cache of so many pages, each a page of zeros, and answers its number, which is
-    /// one more than caches were made before. It takes no memory: there has to be room for the cache,
-    /// its nodes and its pages. The nodes are one run, so it takes no time for each page.
+    /// Makes a temporary cache of so many pages, each a page of zeros, and answers its number,
+    /// which is one more than caches were made before. It takes no memory: there has to be room for
+    /// the cache, its nodes and its pages. The nodes are one run, so it takes no time for each
+    /// page.
     pub fn make_temp(&mut self, pages: u32) -> CacheId
         requires number { length self.old.caches + 1 < 2 ^ 32 }
         requires caches { 1 ≤ self.old.room.caches }
@@ -111,10 +112,10 @@ impl Caches {
         self.make(None, PlainState::Zero, pages)
     }
 
-    /// Makes the cache of a segment of so many pages, each where the segment has it, and answers its
-    /// number, which is one more than caches were made before. It takes no memory: there has to be
-    /// room for the cache, its nodes and its pages. The nodes are one run, so it takes no time for each
-    /// page.
+    /// Makes the cache of a segment of so many pages, each where the segment has it, and answers
+    /// its number, which is one more than caches were made before. It takes no memory: there has to
+    /// be room for the cache, its nodes and its pages. The nodes are one run, so it takes no time
+    /// for each page.
     pub fn make_named(&mut self, seg: SegId, pages: u32) -> CacheId
         requires number { length self.old.caches + 1 < 2 ^ 32 }
         requires caches { 1 ≤ self.old.room.caches }
@@ -130,9 +131,9 @@ impl Caches {
         self.make(Some(seg), PlainState::OnSegment, pages)
     }
 
-    /// Gives back a cache whose pages have no nodes any more, and with it the room for its pages, their
-    /// grants and their locks. Its number isn't used again. It takes time for the stretches of its
-    /// grants and locks, not for its pages.
+    /// Gives back a cache whose pages have no nodes any more, and with it the room for its pages,
+    /// their grants and their locks. Its number isn't used again. It takes time for the stretches
+    /// of its grants and locks, not for its pages.
     pub fn remove(&mut self, cache: CacheId)
         requires live { IsSome (table_of self.old cache.0) }
         requires retired { (page : ℕ) → node_at self.old cache.0 page ≡ None }
@@ -143,8 +144,8 @@ impl Caches {
         self.list.remove(cache);
     }
 
-    /// How much is kept: the pages of live caches, the working nodes, and the pages copied so far. No two nodes may have
-    /// one name, which holds wherever the caches are sound.
+    /// How much is kept: the pages of live caches, the working nodes, and the pages copied so far.
+    /// No two nodes may have one name, which holds wherever the caches are sound.
     pub fn counts(&self) -> Counts
         requires { IsNamed self.now }
         ensures counts { result ≡ counts_of (forest_of self.now) }
@@ -178,7 +179,8 @@ impl Caches {
         Some(self.list.entry(cache)?.pages)
     }
 
-    /// The segment that names a cache, or `None` exactly where none does or no live cache has this number.
+    /// The segment that names a cache, or `None` exactly where none does or no live cache has this
+    /// number.
     pub fn segment(&self, cache: CacheId) -> Option<SegId>
         ensures { result ≡ option_and_then (λ table. table.segment) (table_of self.now cache.0) }
     {
@@ -194,8 +196,8 @@ impl Caches {
     }
 
     /// Keeps that the mapper granted a page of a live cache to be written. That is its answer to
-    /// getWriteAccess (Abrossimov, Rozier and Shapiro, SOSP 1989), which is asked once for a page: the
-    /// grant is kept until the cache goes.
+    /// getWriteAccess (Abrossimov, Rozier and Shapiro, SOSP 1989), which is asked once for a page:
+    /// the grant is kept until the cache goes.
     pub fn grant(&mut self, cache: CacheId, page: PageNo)
         requires { HasPlace self.old cache page }
         ensures changed { self.new ≡ with_grant self.old cache.0 page.0 }
@@ -215,8 +217,9 @@ impl Caches {
         self.list.granted(cache, page)
     }
 
-    /// Locks a page of a live cache once more: one more locked region holds it. A lock is on the page of the cache,
-    /// whatever its node, and stays where the page gets another one, until it is dropped or the cache goes.
+    /// Locks a page of a live cache once more: one more locked region holds it. A lock is on the
+    /// page of the cache, whatever its node, and stays where the page gets another one, until it is
+    /// dropped or the cache goes.
     pub fn add_lock(&mut self, cache: CacheId, page: PageNo)
         requires place { HasPlace self.old cache page }
         requires few { locks_of self.old cache.0 page.0 + 1 < 2 ^ 32 }
@@ -249,8 +252,8 @@ impl Caches {
         self.set_locks(cache, page, count - 1);
     }
 
-    /// How many locked regions hold a page: 0 where it was never locked, where its locks were dropped, and where no live
-    /// cache has such a page.
+    /// How many locked regions hold a page: 0 where it was never locked, where its locks were
+    /// dropped, and where no live cache has such a page.
     pub fn locks(&self, cache: CacheId, page: PageNo) -> u32
         ensures count { result ≡ locks_of self.now cache.0 page.0 }
         ensures place { 0 < result → HasPlace self.now cache page }
@@ -258,8 +261,8 @@ impl Caches {
         self.list.locks(cache, page)
     }
 
-    /// How many pages of all live caches are locked, each counted once however often it is locked. It takes constant
-    /// time.
+    /// How many pages of all live caches are locked, each counted once however often it is locked.
+    /// It takes constant time.
     pub fn locked(&self) -> u32
         ensures { result ≡ locked_count self.now }
     {
@@ -274,8 +277,8 @@ impl Caches {
         self.nodes.name(node)
     }
 
-    /// The page of a segment that a node stands for, or `None` exactly for a working node and a node
-    /// of a temporary cache.
+    /// The page of a segment that a node stands for, or `None` exactly for a working node and a
+    /// node of a temporary cache.
     pub fn home(&self, node: NodeId) -> Option<Home>
         requires { HasNode self.now node }
         ensures { result ≡ home_of self.now node }
@@ -323,7 +326,8 @@ impl Caches {
         self.nodes.set_links(node, links);
     }
 
-    /// Hangs a node on this parent by a tree link, or on none. Nothing is done to the children of its old and new parent.
+    /// Hangs a node on this parent by a tree link, or on none. Nothing is done to the children of
+    /// its old and new parent.
     pub fn hang(&mut self, node: NodeId, parent: Option<NodeId>)
         requires { HasNode self.old node }
         ensures changed { self.new ≡ hung self.old node parent }
@@ -340,8 +344,8 @@ impl Caches {
         );
     }
 
-    /// Gives a node this own state and hangs it on this parent by a tree link, or on none, in one write. Nothing is done to
-    /// the children of its old and new parent.
+    /// Gives a node this own state and hangs it on this parent by a tree link, or on none, in one
+    /// write. Nothing is done to the children of its old and new parent.
     pub fn rehang(&mut self, node: NodeId, state: OwnState, parent: Option<NodeId>)
         requires { HasNode self.old node }
         ensures changed { self.new ≡ hung (with_own self.old node state) node parent }
@@ -350,8 +354,8 @@ impl Caches {
         self.nodes.rehang(node, state, parent);
     }
 
-    /// Hangs so many nodes, from one on, each on the next parent by a tree link. Nothing is done to the children of their
-    /// old and new parents. Those that stand in one run are hung at once.
+    /// Hangs so many nodes, from one on, each on the next parent by a tree link. Nothing is done to
+    /// the children of their old and new parents. Those that stand in one run are hung at once.
     pub fn hang_many(&mut self, node: NodeId, count: u32, parent: NodeId)
         requires held { HaveNodes self.old node count }
         requires short { parent.0 + count ≤ 2 ^ 64 }
@@ -361,7 +365,8 @@ impl Caches {
         self.nodes.hang_many(node, count, parent);
     }
 
-    /// The tree child of a node at a place counted from 0, or `None` exactly where there are no more.
+    /// The tree child of a node at a place counted from 0, or `None` exactly where there are no
+    /// more.
     pub fn tree_child(&self, node: NodeId, place: u32) -> Option<NodeId>
         requires { HasNode self.now node }
         ensures { result ≡ slice_get (cell self.now node).tree place }
@@ -379,8 +384,8 @@ impl Caches {
         self.nodes.set_tree_children(node, children);
     }
 
-    /// Gives each of so many nodes, from one on, the next node as its only tree child. Nodes of pages that stand in one run
-    /// get theirs at once.
+    /// Gives each of so many nodes, from one on, the next node as its only tree child. Nodes of
+    /// pages that stand in one run get theirs at once.
     pub fn adopt_many(&mut self, node: NodeId, count: u32, child: NodeId)
         requires held { HaveNodes self.old node count }
         requires short { child.0 + count ≤ 2 ^ 64 }
@@ -394,8 +399,8 @@ impl Caches {
         self.nodes.adopt_many(node, count, children);
     }
 
-    /// Gives each of so many nodes, from one on, the next older and the next newer node as its tree children, in this
-    /// order. Nodes of pages that stand in one run get theirs at once.
+    /// Gives each of so many nodes, from one on, the next older and the next newer node as its tree
+    /// children, in this order. Nodes of pages that stand in one run get theirs at once.
     pub fn adopt_two_many(&mut self, node: NodeId, count: u32, older: NodeId, newer: NodeId)
         requires held { HaveNodes self.old node count }
         requires short_older { older.0 + count ≤ 2 ^ 64 }
@@ -410,8 +415,8 @@ impl Caches {
         self.nodes.adopt_many(node, count, children);
     }
 
-    /// Makes the node of a page that has none, with this own state and without parent and children. It takes no memory:
-    /// there has to be room for a node.
+    /// Makes the node of a page that has none, with this own state and without parent and children.
+    /// It takes no memory: there has to be room for a node.
     pub fn fresh(&mut self, cache: CacheId, page: PageNo, state: OwnState) -> NodeId
         requires room { 1 ≤ self.old.room.nodes }
         requires vacant { IsVacant self.old cache page }
@@ -423,9 +428,10 @@ impl Caches {
         self.nodes.fresh(cache, page, state)
     }
 
-    /// Makes a node for each of so many pages that have none, from one page on, all with this own state and without parent
-    /// and children, under numbers that follow one another. Where such numbers came to an end it makes none, and answers
-    /// `None`. It takes no memory: there has to be room for the nodes. They are one run, so it takes no time for each page.
+    /// Makes a node for each of so many pages that have none, from one page on, all with this own
+    /// state and without parent and children, under numbers that follow one another. Where such
+    /// numbers came to an end it makes none, and answers `None`. It takes no memory: there has to
+    /// be room for the nodes. They are one run, so it takes no time for each page.
     pub fn fresh_many(
         &mut self,
         cache: CacheId,
@@ -447,10 +453,11 @@ impl Caches {
         self.nodes.fresh_many(cache, page, count, own)
     }
 
-    /// Gives so many pages of a cache, from one page on, new nodes in place of theirs, which are those from one node on and
-    /// which nothing names: all with this own state and without parent and children, under numbers that no node had, that
-    /// follow one another, and that are below those of nodes made as working ones. Where such numbers came to an end nothing
-    /// changes, and it answers `None`. They are one run, so it takes no time for each page.
+    /// Gives so many pages of a cache, from one page on, new nodes in place of theirs, which are
+    /// those from one node on and which nothing names: all with this own state and without parent
+    /// and children, under numbers that no node had, that follow one another, and that are below
+    /// those of nodes made as working ones. Where such numbers came to an end nothing changes, and
+    /// it answers `None`. They are one run, so it takes no time for each page.
     pub fn renew_many(
         &mut self,
         node: NodeId,
@@ -471,8 +478,8 @@ impl Caches {
         self.nodes.renew_many(node, count, cache, page, own)
     }
 
-    /// Makes a working node under the next number, `Absent` and without parent and children. It takes no memory: there
-    /// has to be room for a node.
+    /// Makes a working node under the next number, `Absent` and without parent and children. It
+    /// takes no memory: there has to be room for a node.
     pub fn fresh_working(&mut self) -> NodeId
         requires room { 1 ≤ self.old.room.nodes }
         requires made { self.old.made < 2 ^ 63 }
@@ -484,8 +491,9 @@ impl Caches {
         self.nodes.fresh_working()
     }
 
-    /// Makes so many working nodes under the next numbers of working nodes, `Absent` and without parent and children, under
-    /// numbers that follow one another, above those of all nodes made for pages. It takes no memory: there has to be room for the nodes. They are one run, so it
+    /// Makes so many working nodes under the next numbers of working nodes, `Absent` and without
+    /// parent and children, under numbers that follow one another, above those of all nodes made
+    /// for pages. It takes no memory: there has to be room for the nodes. They are one run, so it
     /// takes no time for each node.
     pub fn fresh_working_many(&mut self, count: u32) -> NodeId
         requires room { count ≤ self.old.room.nodes }
@@ -500,10 +508,11 @@ impl Caches {
         self.nodes.fresh_working_many(count)
     }
 
-    /// Makes so many working nodes under the next numbers of working nodes, each over the next older and the next newer
-    /// node as its tree children, in this order: `Absent` and without parent, under numbers that follow one another, above
-    /// those of all nodes made for pages. It takes no memory: there has to be room for the nodes. They are one run and none
-    /// of them is thin, so it takes no time for each node.
+    /// Makes so many working nodes under the next numbers of working nodes, each over the next
+    /// older and the next newer node as its tree children, in this order: `Absent` and without
+    /// parent, under numbers that follow one another, above those of all nodes made for pages. It
+    /// takes no memory: there has to be room for the nodes. They are one run and none of them is
+    /// thin, so it takes no time for each node.
     pub fn fresh_working_over(&mut self, count: u32, older: NodeId, newer: NodeId) -> NodeId
         requires room { count ≤ self.old.room.nodes }
         requires made { self.old.made + count ≤ 2 ^ 63 }
@@ -520,7 +529,8 @@ impl Caches {
         self.nodes.fresh_working_over(count, older, newer)
     }
 
-    /// Names a node by the next number of a working node. The page that it was the node of has none then.
+    /// Names a node by the next number of a working node. The page that it was the node of has none
+    /// then.
     pub fn to_working(&mut self, node: NodeId)
         requires held { HasNode self.old node }
         requires made { self.old.made < 2 ^ 63 }
@@ -530,8 +540,9 @@ impl Caches {
         self.nodes.to_working(node);
     }
 
-    /// Names so many nodes, from one on, by the next numbers of working nodes. The pages that they were the nodes of have
-    /// none then. Nodes of pages that stand in one run get their names at once.
+    /// Names so many nodes, from one on, by the next numbers of working nodes. The pages that they
+    /// were the nodes of have none then. Nodes of pages that stand in one run get their names at
+    /// once.
     pub fn to_working_many(&mut self, node: NodeId, count: u32)
         requires held { HaveNodes self.old node count }
         requires made { self.old.made + count ≤ 2 ^ 63 }
@@ -551,8 +562,9 @@ impl Caches {
         self.nodes.rename(node, cache, page);
     }
 
-    /// Makes so many nodes, from one on, those of pages that have none, from one page on. The pages that they were the nodes
-    /// of have none then. Nodes of pages that stand in one run get their names at once.
+    /// Makes so many nodes, from one on, those of pages that have none, from one page on. The pages
+    /// that they were the nodes of have none then. Nodes of pages that stand in one run get their
+    /// names at once.
     pub fn rename_many(&mut self, node: NodeId, count: u32, cache: CacheId, page: PageNo)
         requires held { HaveNodes self.old node count }
         requires vacant { AreVacant self.old cache page count }
@@ -562,11 +574,13 @@ impl Caches {
         self.nodes.rename_many(node, count, cache, page);
     }
 
-    /// Gives the pages of a span's destination the nodes of its source's pages, from one node on, with all that they have, in
-    /// place of their own, which are those from another one on and which nothing names; and the source's pages new nodes of
-    /// zeros without parent and children, under numbers that no node had, that follow one another, and that are below those of
-    /// nodes made as working ones. Where such numbers came to an end nothing changes, and it answers `None`. Nodes that stand
-    /// in one run go, or get their names, at once, and the new ones are one run.
+    /// Gives the pages of a span's destination the nodes of its source's pages, from one node on,
+    /// with all that they have, in place of their own, which are those from another one on and
+    /// which nothing names; and the source's pages new nodes of zeros without parent and children,
+    /// under numbers that no node had, that follow one another, and that are below those of nodes
+    /// made as working ones. Where such numbers came to an end nothing changes, and it answers
+    /// `None`. Nodes that stand in one run go, or get their names, at once, and the new ones are
+    /// one run.
     pub fn move_many(&mut self, span: Span, gone: NodeId, node: NodeId) -> Option<NodeId>
         requires destinations { AreNamed self.old gone span.to span.to_page span.pages }
         requires sources { AreNamed self.old node span.from span.from_page span.pages }
@@ -587,8 +601,8 @@ impl Caches {
         self.nodes.free(node);
     }
 
-    /// Gives back so many nodes that nothing names, from one on. The pages that they were the nodes of have none then. Those
-    /// that stand in one run go at once.
+    /// Gives back so many nodes that nothing names, from one on. The pages that they were the nodes
+    /// of have none then. Those that stand in one run go at once.
     pub fn free_many(&mut self, node: NodeId, count: u32)
         requires { HaveNodes self.old node count }
         ensures { self.new ≡ without_many self.old node count }
@@ -606,17 +620,18 @@ impl Caches {
         self.list.count_copy();
     }
 
-    /// The working node with the least number that has fewer than two children, tree children and stubs
-    /// together, or `None` exactly where there is none. It takes the time of two look-ups: the calls that
-    /// change a node keep these nodes in order.
+    /// The working node with the least number that has fewer than two children, tree children and
+    /// stubs together, or `None` exactly where there is none. It takes the time of two look-ups:
+    /// the calls that change a node keep these nodes in order.
     pub fn thin(&self) -> Option<NodeId>
         ensures { IsLeastThin self.now result }
     {
         self.nodes.thin()
     }
 
-    /// How many nodes from this one on are alike, each a step further on than the one before. It is 0 only where something
-    /// is kept of this node that can't be said of many, as a frame, a slot or stubs.
+    /// How many nodes from this one on are alike, each a step further on than the one before. It is
+    /// 0 only where something is kept of this node that can't be said of many, as a frame, a slot
+    /// or stubs.
     pub fn stretch(&self, node: NodeId) -> u32
         requires { HasNode self.now node }
         ensures alike { AreAlike self.now node result }

@@ -10,8 +10,9 @@ use Rattle.local_cache.specs.Own.{own_of}
 use Rattle.tree_merge.specs.declared.released.Released.{Released}
 use Rattle.tree_merge.specs.Stepping.{IsRetiredAlone}
 
--- From a to b a page was moved: the destination's node was retired, the source's node took its name, and a fresh node of
--- zeros that of the source. The fresh node may have the number of the one that went; all others have their own states.
+-- From a to b a page was moved: the destination's node was retired, the source's node took its
+-- name, and a fresh node of zeros that of the source. The fresh node may have the number of the one
+-- that went; all others have their own states.
 pub record IsMoved (a b : Arena) (from : CacheId) (from_page : PageNo) (to : CacheId)
     (to_page : PageNo) (released : Released) : Type 0 where
   pub between : Arena

@@ -12,13 +12,14 @@ use local_cache::{Caches, OwnState};
 use tree_merge::{Released, retire};
 use vm_ids::{CacheId, NodeName, PageNo};
 
-/// Moves one page to the place of another, different one. The source's node becomes the destination's, with its own page,
-/// its links and its children, and the source's page gets a fresh node of zeros. It takes no memory: there has to be room
-/// for a node.
+/// Moves one page to the place of another, different one. The source's node becomes the
+/// destination's, with its own page, its links and its children, and the source's page gets a fresh
+/// node of zeros. It takes no memory: there has to be room for a node.
 ///
-/// It answers what became of the destination's old node: `Dropped`, where that is gone with its own page, or `Nothing`,
-/// where it is a working node for those that hang on it; never `Moved`. The fresh node may have the number of the one that
-/// is `Dropped`, but no frame and no swap slot: what the store has under that number is the dropped page's.
+/// It answers what became of the destination's old node: `Dropped`, where that is gone with its own
+/// page, or `Nothing`, where it is a working node for those that hang on it; never `Moved`. The
+/// fresh node may have the number of the one that is `Dropped`, but no frame and no swap slot: what
+/// the store has under that number is the dropped page's.
 pub fn move_one(
     caches: &mut Caches,
     from: CacheId,

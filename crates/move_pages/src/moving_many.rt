@@ -11,10 +11,11 @@ use local_cache::Caches;
 use tree_merge::lone_nodes;
 use vm_ids::{PageNo, Span};
 
-// Moves the pages of a span, from one of them on, all at once, as far as their old nodes are alike and have neither
-// parents nor children nor own pages that aren't zeros, and the nodes of their sources are alike, and answers how many. It
-// answers 0, and changes nothing, where the first of these pages isn't such a one, and where numbers of nodes came to an
-// end. Nothing is released: none of the pages that go was in a frame or a swap slot.
+// Moves the pages of a span, from one of them on, all at once, as far as their old nodes are alike
+// and have neither parents nor children nor own pages that aren't zeros, and the nodes of their
+// sources are alike, and answers how many. It answers 0, and changes nothing, where the first of
+// these pages isn't such a one, and where numbers of nodes came to an end. Nothing is released:
+// none of the pages that go was in a frame or a swap slot.
 pub(crate) fn move_alike(caches: &mut Caches, span: Span, done: u32) -> u32
     requires sound { IsSound caches.old }
     requires consistent { IsConsistent (forest_of caches.old) }

@@ -15,12 +15,12 @@ use local_cache::{Caches, OwnState};
 use tree_merge::{Released, Step};
 use vm_ids::{PageNo, Span};
 
-/// Moves the pages of a span that come next, behind those that are done: as many as are alike at once, or else one. It
-/// takes no memory: there has to be room for a node.
+/// Moves the pages of a span that come next, behind those that are done: as many as are alike at
+/// once, or else one. It takes no memory: there has to be room for a node.
 ///
-/// It answers how many, and what became of the last one's old node. Pages are moved at once where their old nodes have
-/// neither parents nor children nor own pages but zeros, so nothing is released then. What is released where one page is
-/// moved is what `move_one` says.
+/// It answers how many, and what became of the last one's old node. Pages are moved at once where
+/// their old nodes have neither parents nor children nor own pages but zeros, so nothing is
+/// released then. What is released where one page is moved is what `move_one` says.
 pub fn move_step(caches: &mut Caches, span: Span, done: u32) -> Step
     requires sound { IsSound caches.old }
     requires consistent { IsConsistent (forest_of caches.old) }

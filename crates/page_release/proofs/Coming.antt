@@ -8,5 +8,6 @@ pub mod Fresh
 pub mod Detached
 -- A node became that of a page that had none.
 pub mod Renamed
--- A page was moved, and what was released followed in the store: it is the rule for the forest of bytes.
+-- A page was moved, and what was released followed in the store: it is the rule for the forest of
+-- bytes.
 pub mod Moved

@@ -6,7 +6,8 @@ pub mod Counting
 pub mod Passed
 -- A node lost its own page: its frame or its slot is given back.
 pub mod Dropped
--- What the caches released was followed in the store: it is tied to them again, and each node has its page.
+-- What the caches released was followed in the store: it is tied to them again, and each node has
+-- its page.
 pub mod Followed
 -- What the caches did and released was followed in the store: a page was retired.
 pub mod Retired

@@ -67,7 +67,8 @@ fn copy_each(store: &mut Store, caches: &mut Caches, span: Span)
     }
 }
 
-// The copy, once no translation leads to a page that it replaces, and none for writing to one that it copies.
+// The copy, once no translation leads to a page that it replaces, and none for writing to one that
+// it copies.
 fn copy_and_settle(store: &mut Store, caches: &mut Caches, span: Span)
     requires transfer { CanTransfer span caches.old }
     requires ready { CanReplace (2 * span.pages) span.to (firsts (span_pairs span))
@@ -85,10 +86,11 @@ fn copy_and_settle(store: &mut Store, caches: &mut Caches, span: Span)
     settle(store, caches);
 }
 
-/// Each page of the destination, none of which is pinned, becomes a copy of its source: by stub links where they are few,
-/// and else by tree links. No page is copied, and none is brought in. Where the destination is named by a segment, each of
-/// its pages was granted, and its heirs have their saves: what it has is forgotten first. No translation leads to where a
-/// page of the destination was seen, and none for writing to where a source that was its node's alone is.
+/// Each page of the destination, none of which is pinned, becomes a copy of its source: by stub
+/// links where they are few, and else by tree links. No page is copied, and none is brought in.
+/// Where the destination is named by a segment, each of its pages was granted, and its heirs have
+/// their saves: what it has is forgotten first. No translation leads to where a page of the
+/// destination was seen, and none for writing to where a source that was its node's alone is.
 pub fn copy_pages(store: &mut Store, caches: &mut Caches, span: Span)
     requires transfer { CanTransfer span caches.old }
     requires ready { CanReplace (2 * span.pages) span.to (firsts (span_pairs span))

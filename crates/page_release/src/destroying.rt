@@ -24,7 +24,8 @@ use residency::Store;
 use tree_merge::retire_step;
 use vm_ids::{CacheId, Extent, PageNo};
 
-// Retires the pages of a live cache that come next: as many as are alike at once, or else one. How many.
+// Retires the pages of a live cache that come next: as many as are alike at once, or else one. How
+// many.
 fn retire_next(store: &mut Store, caches: &mut Caches, cache: CacheId, pages: u32, done: u32) -> u32
     requires tied { IsStoreTied store.old caches.old }
     requires sound { IsSound caches.old }
@@ -77,10 +78,10 @@ fn retire_pages(store: &mut Store, caches: &mut Caches, cache: CacheId, pages: u
     }
 }
 
-/// Retires all pages of a live cache, none of which is pinned, and settles. The cache can be removed
-/// then. Where it is named by a segment the heirs of its pages have their saves: what it has is
-/// forgotten first. The translations of the frames that fall free are dropped; a frame that stays
-/// has a page that others see there still.
+/// Retires all pages of a live cache, none of which is pinned, and settles. The cache can be
+/// removed then. Where it is named by a segment the heirs of its pages have their saves: what it
+/// has is forgotten first. The translations of the frames that fall free are dropped; a frame that
+/// stays has a page that others see there still.
 pub fn destroy_pages(store: &mut Store, caches: &mut Caches, cache: CacheId, pages: u32)
     requires pages { size_of caches.old cache.0 ≡ Some pages }
     requires ready { CanReplace pages cache (page_names cache 0 pages) store.old caches.old }

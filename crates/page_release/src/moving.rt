@@ -22,8 +22,8 @@ use move_pages::move_step;
 use residency::Store;
 use vm_ids::Span;
 
-// Moves the pages of a span that come next: as many as are alike at once, or else one, and what became of its
-// destination's old node is followed. How many.
+// Moves the pages of a span that come next: as many as are alike at once, or else one, and what
+// became of its destination's old node is followed. How many.
 fn move_next(store: &mut Store, caches: &mut Caches, span: Span, done: u32) -> u32
     requires tied { IsStoreTied store.old caches.old }
     requires sound { IsSound caches.old }
@@ -92,10 +92,11 @@ fn move_and_settle(store: &mut Store, caches: &mut Caches, span: Span)
     settle(store, caches);
 }
 
-/// Each page of the source, none of which is pinned, becomes that of the destination, none of which is pinned, with its
-/// frame or its slot and all that it has, and is a page of zeros then. No page is copied, and none is brought in. The
-/// source is temporary. Where the destination is named by a segment, each of its pages was granted, and its heirs have
-/// their saves: what it has is forgotten first. No translation leads to where a page of either was seen.
+/// Each page of the source, none of which is pinned, becomes that of the destination, none of which
+/// is pinned, with its frame or its slot and all that it has, and is a page of zeros then. No page
+/// is copied, and none is brought in. The source is temporary. Where the destination is named by a
+/// segment, each of its pages was granted, and its heirs have their saves: what it has is forgotten
+/// first. No translation leads to where a page of either was seen.
 pub fn move_pages(store: &mut Store, caches: &mut Caches, span: Span)
     requires temporary { is_named caches.old span.from ≡ false }
     requires sources { AreUnpinned store.old caches.old (seconds (span_pairs span)) }

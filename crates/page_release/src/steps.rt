@@ -46,8 +46,9 @@ pub(crate) fn retire_page(store: &mut Store, caches: &mut Caches, cache: CacheId
     follow(store, caches, released);
 }
 
-// Retires the node of a page and makes a fresh one for it, without parent and children, which has no own page, or one of
-// zeros, or the one of its segment. It takes no memory: there has to be room for a node.
+// Retires the node of a page and makes a fresh one for it, without parent and children, which has
+// no own page, or one of zeros, or the one of its segment. It takes no memory: there has to be room
+// for a node.
 pub(crate) fn detach_page(
     store: &mut Store,
     caches: &mut Caches,
@@ -85,9 +86,9 @@ pub(crate) fn detach_page(
     caches.fresh(cache, page, state);
 }
 
-// One step of settle: the working node with the least number of those that have fewer than two children gives way. Its
-// own page is that of its only child then, or falls free. It answers `false`, and changes nothing, exactly where each
-// working node has at least two children.
+// One step of settle: the working node with the least number of those that have fewer than two
+// children gives way. Its own page is that of its only child then, or falls free. It answers
+// `false`, and changes nothing, exactly where each working node has at least two children.
 pub(crate) fn settle_step(store: &mut Store, caches: &mut Caches) -> bool
     requires tied { IsStoreTied store.old caches.old }
     requires sound { IsSound caches.old }

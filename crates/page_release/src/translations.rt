@@ -72,8 +72,8 @@ fn narrow_own_page(store: &mut Store, caches: &Caches, cache: CacheId, page: Pag
     }
 }
 
-// Drops the translations that lead to the frames in which the first of so many pages are seen: as many as are alike, with
-// own pages in no frame, to which none leads, or one. It answers how many.
+// Drops the translations that lead to the frames in which the first of so many pages are seen: as
+// many as are alike, with own pages in no frame, to which none leads, or one. It answers how many.
 fn drop_seen_next(
     store: &mut Store,
     caches: &Caches,
@@ -125,8 +125,8 @@ pub(crate) fn drop_seen(
     }
 }
 
-// Leaves the translations that lead to the own pages of the first of so many nodes for reading alone: as many as are alike
-// and in no frame, to which none leads, or one. It answers how many.
+// Leaves the translations that lead to the own pages of the first of so many nodes for reading
+// alone: as many as are alike and in no frame, to which none leads, or one. It answers how many.
 fn narrow_own_next(
     store: &mut Store,
     caches: &Caches,
@@ -153,7 +153,8 @@ fn narrow_own_next(
     1
 }
 
-// The translations that lead to the own pages of the nodes of a range are for reading alone from then on.
+// The translations that lead to the own pages of the nodes of a range are for reading alone from
+// then on.
 pub(crate) fn narrow_own(
     store: &mut Store,
     caches: &Caches,

@@ -39,7 +39,8 @@ abbrev pub with_before : Arena → Option NodeId → Option NodeId → Arena
 with_before a None to = a
 with_before a (Some n) to = with_links a n (record (cell a n).links { before = to })
 
--- the end of a list, where a stub with this neighbour towards that end, and `other` on its other side, was taken out
+-- the end of a list, where a stub with this neighbour towards that end, and `other` on its other
+-- side, was taken out
 abbrev pub end_after : Option NodeId → Option NodeId → Option NodeId → Option NodeId
 end_after None other end = other
 end_after (Some n) other end = end
@@ -77,7 +78,8 @@ joined a from to =
     None
     0
 
--- the end of a list that ended by a node with no neighbour towards that end, which y replaces, or that stays
+-- the end of a list that ended by a node with no neighbour towards that end, which y replaces, or
+-- that stays
 abbrev pub end_with : Option NodeId → NodeId → Option NodeId → Option NodeId
 end_with None y end = Some y
 end_with (Some n) y end = end

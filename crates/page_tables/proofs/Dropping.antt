@@ -1,4 +1,5 @@
--- Entries are dropped, or made read-only, one after another until none is left that passes the test.
+-- Entries are dropped, or made read-only, one after another until none is left that passes the
+-- test.
 use Rattle.std.proofs.Common.{◌≡◌, ℕ, suc, ◌+◌, ◌<◌, ◌≤◌, ◌==◌, ◌&&◌, Bool, true, false, not, List, [], ◌∷◌, length, get_or, set, map, Option, Some, None, refl, sym, ap, ◌∙◌, arith, inl, inr}
 use Rattle.std.specs.Prelude.{count_by, is_some, if◌then◌else◌, nat_le, nat_lt}
 use Rattle.std.proofs.Math.Seq.{map-set_same}
@@ -29,16 +30,6 @@ pub none_left : (test : Entry → Bool) (places : List (Option Entry)) → ((pla
 none_left test [] h = refl
 none_left test (x ∷ xs) h =
     ap (λ (o : Option Entry). o ∷ map (unless test) xs) (unless-keeps test x (h 0)) ∙ ap (λ (ys : List (Option Entry)). x ∷ ys) (none_left test xs (λ i. h (suc i)))
-
-held_some : (test : Entry → Bool) (o : Option Entry) → holds test o ≡ true → is_some o ≡ true
-held_some test None h = absurd (cc)
-held_some test (Some e) h = refl
-
--- there are fewer entries
-pub fewer_entries : (test : Entry → Bool) (places : List (Option Entry)) (place : ℕ) → place < length places → holds test (entry_at places place) ≡ true → entry_count (set places place None) < entry_count places
-fewer_entries test places place below h =
-    let moved : count_by is_some (set places place None) + bit (is_some (get_or places place None)) ≡ count_by is_some places + 0 = count-set is_some places place None None below in
-    omega (arith, bit_true (is_some (get_or places place None)) (held_some test (entry_at places place) h))
 
 -- where none is counted, none is held
 pub no_more : (places : List (Option Entry)) (test : Entry → Bool) → count_by (holds test) places ≡ 0 → (place : ℕ) → holds test (entry_at places place) ≡ false
@@ -127,21 +118,3 @@ pub none_writable : (frame : ℕ) (places : List (Option Entry)) → ((place : �
 none_writable frame [] h = refl
 none_writable frame (x ∷ xs) h =
     ap (λ (o : Option Entry). o ∷ map (narrowed frame) xs) (narrowed-keeps frame x (h 0)) ∙ ap (λ (ys : List (Option Entry)). x ∷ ys) (none_writable frame xs (λ i. h (suc i)))
-
--- there are fewer writable entries of the frame
-pub fewer_writable : (frame : ℕ) (places : List (Option Entry)) (place : ℕ) → place < length places → holds (leads_to frame true) (entry_at places place) ≡ true → count_by (holds (leads_to frame true)) (set places place (read_only_at (entry_at places place))) < count_by (holds (leads_to frame true)) places
-fewer_writable frame places place below h =
-    let t : Option Entry → Bool = holds (leads_to frame true) in
-    let new : Option Entry = read_only_at (entry_at places place) in
-    let moved : count_by t (set places place new) + bit (t (get_or places place None)) ≡ count_by t places + bit (t new) = count-set t places place new None below in
-    omega (arith, bit_true (t (get_or places place None)) h, bit_false (t new) (read_only_out (entry_at places place))) where
-      read_only_out : (o : Option Entry) → holds (leads_to frame true) (read_only_at o) ≡ false
-      read_only_out None = refl
-      read_only_out (Some e) = and_false (is_in_frame frame e) where
-        and_false : (a : Bool) → (a && false) ≡ false
-        and_false true = refl
-        and_false false = refl
-
-pub in_frame_by : (frame : ℕ) (writable : Bool) (o : Option Entry) → holds (leads_to frame writable) o ≡ true → holds (is_in_frame frame) o ≡ true
-in_frame_by frame writable None h = absurd (cc)
-in_frame_by frame writable (Some e) h = (and_parts (is_in_frame frame e) (if writable then e.to.writable else not e.to.writable) h).0

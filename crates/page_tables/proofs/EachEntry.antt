@@ -52,22 +52,6 @@ each-unless P test places each place e is = left (entry_at places place) (each p
         (has e same, ap test (sym own) ∙ f))
   ]
 
--- an entry of the frame is read-only, and each other is as it was
-pub each-narrowed : (P Q : Entry → Type 0) (frame : ℕ) (places : List (Option Entry)) → ((e : Entry) → P e → is_in_frame frame e ≡ true → Q (read_only e)) → ((e : Entry) → P e → is_in_frame frame e ≡ false → Q e) → EachEntry P places → EachEntry Q (map (narrowed frame) places)
-each-narrowed P Q frame places own other each place e is = left (entry_at places place) (each place) (mapped_at (narrowed frame) places place e is) where
-  left : (o : Option Entry) → ((x : Entry) → o ≡ Some x → P x) → narrowed frame o ≡ Some e → Q e
-  left None has at = absurd (cc)
-  left (Some x) has at = elim (cases_Bool (is_in_frame frame x)) [
-    | inl t ↦ (
-        let same : Some (read_only x) ≡ Some e = sym (ap (λ (y : Entry). Some y) (cond-true (is_in_frame frame x) (read_only x) x t)) ∙ at in
-        let is_e : read_only x ≡ e = cc in
-        subst Q is_e (own x (has x (refl)) t))
-    | inr f ↦ (
-        let same : Some x ≡ Some e = sym (ap (λ (y : Entry). Some y) (cond-false (is_in_frame frame x) (read_only x) x f)) ∙ at in
-        let is_e : x ≡ e = cc in
-        subst Q is_e (other x (has x (refl)) f))
-  ]
-
 -- what is seen at a page is that of an entry for it
 pub seen_entry : (P : Entry → Type 0) (places : List (Option Entry)) (actor page : ℕ) (t : Translation) → EachEntry P places → translation places actor page ≡ Some t → (e : Entry) × (e.actor.0 ≡ actor) × (e.page ≡ page) × (e.to ≡ t) × P e
 seen_entry P places actor page t each seen = elim (cases_lt n (length places)) [
@@ -89,37 +73,3 @@ seen_entry P places actor page t each seen = elim (cases_lt n (length places)) [
       let q = for_parts x actor page h in
       let same : x.to ≡ t = cc in
       (x, q.0, q.1, same, has x (refl))
-
--- a drop leaves no more entries for a page than there were
-fewer_for : (test : Entry → Bool) (places : List (Option Entry)) (actor page : ℕ) → entries_for (map (unless test) places) actor page ≤ entries_for places actor page
-fewer_for test [] actor page = omega arith
-fewer_for test (x ∷ xs) actor page =
-    omega (arith, count_cons (holds (is_for actor page)) (unless test x) (map (unless test) xs), count_cons (holds (is_for actor page)) x xs, bit_mono (holds (is_for actor page) (unless test x)) (holds (is_for actor page) x) (held_before x), fewer_for test xs actor page) where
-      held_before : (o : Option Entry) → holds (is_for actor page) (unless test o) ≡ true → holds (is_for actor page) o ≡ true
-      held_before None h = absurd (cc)
-      held_before (Some e) h = elim (cases_Bool (test e)) [
-        | inl t ↦ (let z : false ≡ true = sym (ap (holds (is_for actor page)) (cond-true (test e) None (Some e) t)) ∙ h in absurd (cc))
-        | inr f ↦ sym (ap (holds (is_for actor page)) (cond-false (test e) None (Some e) f)) ∙ h
-      ]
-
--- what a drop does not name is seen as before
-pub stays_seen : (test : Entry → Bool) (places : List (Option Entry)) (actor page : ℕ) (t : Translation) → entries_for places actor page ≤ 1 → translation places actor page ≡ Some t → ((e : Entry) → is_for actor page e ≡ true → e.to ≡ t → test e ≡ false) → translation (map (unless test) places) actor page ≡ Some t
-stays_seen test places actor page t once seen stays = elim (cases_lt n (length places)) [
-  | inr past ↦ absurd (none_some t (ap seen_in (get_or_past places n None past)) seen)
-  | inl below ↦ (
-      let at : position own places ≡ Some n = sym (cond_below n (length places) (Some n) None below) in
-      let p = position-Some own places n None at in
-      let same : entry_at (map (unless test) places) n ≡ entry_at places n = get_or-map (unless test) places n None None below ∙ kept (entry_at places n) p.1 seen in
-      let once_now : entries_for (map (unless test) places) actor page ≤ 1 = omega (arith, fewer_for test places actor page) in
-      let within : n < length (map (unless test) places) = omega (arith, length-map places (unless test)) in
-      seen_at (map (unless test) places) actor page n once_now within (ap own same ∙ p.1) ∙ ap seen_in same ∙ seen)
-] where
-  own : Option Entry → Bool
-  own = holds (is_for actor page)
-
-  n : ℕ
-  n = position_or_len own places
-
-  kept : (o : Option Entry) → holds (is_for actor page) o ≡ true → seen_in o ≡ Some t → unless test o ≡ o
-  kept None h s = absurd (cc)
-  kept (Some e) h s = (let to : e.to ≡ t = cc in cond-false (test e) None (Some e) (stays e h to))

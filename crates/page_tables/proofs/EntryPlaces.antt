@@ -154,25 +154,6 @@ pub record IsFilled (lists : Membership) (size from : ℕ) : Type 0 where
   pub done : (place : ℕ) → place < from → list_of lists place ≡ Some 0
   pub rest : (place : ℕ) → from ≤ place → list_of lists place ≡ None
 
-pub none_filled : (size : ℕ) (lists : Membership) → lists.on ≡ replicate size None → IsFilled lists size 0
-none_filled size lists e = record {
-  same_size = ap (λ (xs : List (Option ℕ)). length xs) e ∙ length-replicate size None;
-  done = λ place h. absurd (omega arith);
-  rest = λ place h. ap (λ (xs : List (Option ℕ)). get_or xs place None) e ∙ same_all size None place;
-}
-
-pub one_filled : (lists : Membership) (size from : ℕ) → IsFilled lists size from → from < size → IsFilled (record lists { on = set lists.on from (Some 0) }) size (from + 1)
-one_filled lists size from is h = record {
-  same_size = length-set lists.on from (Some 0) ∙ is.same_size;
-  done = λ place below. elim (cases_eq place from) [
-    | inl same ↦ ap (λ (n : ℕ). get_or (set lists.on from (Some 0)) n None) same ∙ get_or-set_same lists.on from (Some 0) None (omega (arith, is.same_size))
-    | inr other ↦ get_or-set_other lists.on from place (Some 0) None other ∙ is.done place (omega arith)
-  ];
-  rest = λ place above. (
-      let other : place ≢ from = λ e. absurd (omega arith) in
-      get_or-set_other lists.on from place (Some 0) None other ∙ is.rest place (omega arith));
-}
-
 filled_by : (on : List (Option ℕ)) (size : ℕ) → length on ≡ size → ((place : ℕ) → place < size → get_or on place None ≡ Some 0) → on ≡ replicate size (Some 0)
 filled_by on size e all =
     ext_get_or None on (replicate size (Some 0)) (e ∙ sym (length-replicate size (Some 0))) (λ i h. all i (omega arith) ∙ sym (get_or-replicate size i (Some 0) None (omega arith)))

@@ -1,4 +1,5 @@
--- The rows of actors: places enter and leave them, and others are set aside while a row is gone through.
+-- The rows of actors: places enter and leave them, and others are set aside while a row is gone
+-- through.
 use Rattle.std.proofs.Common.{◌≡◌, ◌≢◌, ℕ, ◌+◌, ◌<◌, ◌==◌, true, false, List, length, get_or, set, map, replicate, Option, Some, None, sym, ap, ◌∙◌, arith, inl, inr, ◌⊎◌, length-set}
 use Rattle.std.specs.Prelude.{count_by}
 use Rattle.std.proofs.lemmas.Bool.{cases_eq, cases_lt, cases_Bool, and_parts}
@@ -30,39 +31,13 @@ row_at places rows e place = elim (cases_lt place (length places)) [
   | inr b ↦ ap (λ (xs : List (Option ℕ)). get_or xs place None) e ∙ get_or_past (map place_row places) place None (omega (arith, length-map places place_row)) ∙ sym (ap place_row (get_or_past places place None b))
 ]
 
-row_below : (o : Option Entry) (row : ℕ) → place_row o ≡ Some row → row < 1024
-row_below None row e = absurd (cc)
-row_below (Some e) row is = (let same : actor_row e.actor.0 ≡ row = cc in omega (arith, same))
-
--- where each place is while the row of an actor is gone through: in its row, or aside, and then it stays
+-- where each place is while the row of an actor is gone through: in its row, or aside, and then it
+-- stays
 pub record IsSorting (places : List (Option Entry)) (rows : Membership) (actor : ℕ) (pages : Pages) : Type 0 where
   pub room : 1024 < rows.lists
   pub same_length : length rows.on ≡ length places
   pub in_rows : (place : ℕ) → (list_of rows place ≡ place_row (entry_at places place))
       ⊎ ((list_of rows place ≡ Some 1024) × (place_row (entry_at places place) ≡ Some (actor_row actor)) × (holds (is_picked actor pages) (entry_at places place) ≡ false))
-
-pub sorting_begins : (places : List (Option Entry)) (rows : Membership) (actor : ℕ) (pages : Pages) → IsInRows places rows → IsSorting places rows actor pages
-sorting_begins places rows actor pages is = record {
-  room = is.room;
-  same_length = ap (λ (xs : List (Option ℕ)). length xs) is.in_rows ∙ length-map places place_row;
-  in_rows = λ place. inl (row_at places rows is.in_rows place);
-}
-
--- a place on a list below the last is in the row of its entry
-on_row : (places : List (Option Entry)) (rows : Membership) (actor : ℕ) (pages : Pages) → IsSorting places rows actor pages → (place row : ℕ) → row < 1024 → list_of rows place ≡ Some row → place_row (entry_at places place) ≡ Some row
-on_row places rows actor pages is place row below on = elim (is.in_rows place) [
-  | inl e ↦ sym e ∙ on
-  | inr e ↦ (let same : Some row ≡ Some 1024 = sym on ∙ e.0 in let n : row ≡ 1024 = cc in absurd (omega arith))
-]
-
-pub actor_row_below : (actor : ℕ) → actor_row actor < 1024
-actor_row_below actor = omega arith
-
-in_range_of : (rows : Membership) (place row : ℕ) → list_of rows place ≡ Some row → place < length rows.on
-in_range_of rows place row on = elim (cases_lt place (length rows.on)) [
-  | inl b ↦ b
-  | inr b ↦ (let z : Some row ≡ None = sym on ∙ get_or_past rows.on place None b in absurd (cc))
-]
 
 -- the entry at a place of the row is dropped
 pub sorting_drops : (places : List (Option Entry)) (rows : Membership) (actor : ℕ) (pages : Pages) (place : ℕ) → IsSorting places rows actor pages → place < length places → IsSorting (set places place None) (record { lists = rows.lists; on = set rows.on place None }) actor pages
@@ -82,26 +57,6 @@ sorting_drops places rows actor pages place is below = record {
   ];
 }
 
--- a place of the row whose entry stays is set aside
-pub sorting_keeps : (places : List (Option Entry)) (rows : Membership) (actor : ℕ) (pages : Pages) (place : ℕ) → IsSorting places rows actor pages → list_of rows place ≡ Some (actor_row actor) → holds (is_picked actor pages) (entry_at places place) ≡ false → IsSorting places (record { lists = rows.lists; on = set (set rows.on place None) place (Some 1024) }) actor pages
-sorting_keeps places rows actor pages place is on stays =
-    let below : place < length rows.on = in_range_of rows place (actor_row actor) on in
-    let row : place_row (entry_at places place) ≡ Some (actor_row actor) = on_row places rows actor pages is place (actor_row actor) (actor_row_below actor) on in
-    record {
-      room = is.room;
-      same_length = length-set (set rows.on place None) place (Some 1024) ∙ length-set rows.on place None ∙ is.same_length;
-      in_rows = λ n. elim (cases_eq n place) [
-        | inl same ↦ inr (
-          ap (λ (k : ℕ). get_or (set (set rows.on place None) place (Some 1024)) k None) same ∙ get_or-set_same (set rows.on place None) place (Some 1024) None (omega (arith, length-set rows.on place None)),
-          ap (λ (k : ℕ). place_row (entry_at places k)) same ∙ row,
-          ap (λ (k : ℕ). holds (is_picked actor pages) (entry_at places k)) same ∙ stays,
-        )
-        | inr other ↦ (
-            let at : get_or (set (set rows.on place None) place (Some 1024)) n None ≡ list_of rows n = get_or-set_other (set rows.on place None) place n (Some 1024) None other ∙ get_or-set_other rows.on place n None None other in
-            elim (is.in_rows n) [ inl e ↦ inl (at ∙ e) | inr e ↦ inr (at ∙ e.0, e.1, e.2) ])
-      ];
-    }
-
 picked_row : (o : Option Entry) (actor : ℕ) (pages : Pages) → holds (is_picked actor pages) o ≡ true → place_row o ≡ Some (actor_row actor)
 picked_row None actor pages h = absurd (cc)
 picked_row (Some e) actor pages h = ap (λ (n : ℕ). Some (actor_row n)) (equal_from e.actor.0 actor ((and_parts (is_within pages e.page) (is_of_actor actor e) h).1))
@@ -115,34 +70,6 @@ sorting_ends places rows actor pages is none place = elim (cases_Bool (holds (is
     | inr e ↦ e.2
   ]
 ]
-
-pub aside_from : (places : List (Option Entry)) (rows : Membership) (actor : ℕ) (pages : Pages) → IsSorting places rows actor pages → IsAside places rows actor
-aside_from places rows actor pages is = record {
-  room = is.room;
-  same_length = is.same_length;
-  in_rows = λ place. elim (is.in_rows place) [ inl e ↦ inl e | inr e ↦ inr (e.0, e.1) ];
-}
-
--- a place that was aside is back in its row
-pub back_in_row : (places : List (Option Entry)) (rows : Membership) (actor place : ℕ) → IsAside places rows actor → list_of rows place ≡ Some 1024 → IsAside places (record { lists = rows.lists; on = set (set rows.on place None) place (Some (actor_row actor)) }) actor
-back_in_row places rows actor place is on =
-    let below : place < length rows.on = in_range_of rows place 1024 on in
-    let row : place_row (entry_at places place) ≡ Some (actor_row actor) = elim (is.in_rows place) [
-      | inr e ↦ e.1
-      | inl e ↦ (let last : 1024 < 1024 = row_below (entry_at places place) 1024 (sym e ∙ on) in absurd (omega arith))
-    ] in
-    record {
-      room = is.room;
-      same_length = length-set (set rows.on place None) place (Some (actor_row actor)) ∙ length-set rows.on place None ∙ is.same_length;
-      in_rows = λ n. elim (cases_eq n place) [
-        | inl same ↦ inl (
-            ap (λ (k : ℕ). get_or (set (set rows.on place None) place (Some (actor_row actor))) k None) same ∙ get_or-set_same (set rows.on place None) place (Some (actor_row actor)) None (omega (arith, length-set rows.on place None))
-            ∙ sym (ap (λ (k : ℕ). place_row (entry_at places k)) same ∙ row))
-        | inr other ↦ (
-            let at : get_or (set (set rows.on place None) place (Some (actor_row actor))) n None ≡ list_of rows n = get_or-set_other (set rows.on place None) place n (Some (actor_row actor)) None other ∙ get_or-set_other rows.on place n None None other in
-            elim (is.in_rows n) [ inl e ↦ inl (at ∙ e) | inr e ↦ inr (at ∙ e.0, e.1) ])
-      ];
-    }
 
 -- once none is aside, each is in its row
 pub all_back : (places : List (Option Entry)) (rows : Membership) (actor : ℕ) → IsAside places rows actor → ((place : ℕ) → list_of rows place ≢ Some 1024) → IsInRows places rows

@@ -69,27 +69,10 @@ all_held [] h = refl
 all_held (None ∷ xs) h = absurd (h 0 (omega arith) refl)
 all_held (Some e ∷ xs) h = omega (arith, count_cons is_some (Some e) xs, all_held xs (λ i b. h (suc i) (omega arith)))
 
-pub none_for : (actor page : ℕ) (o : Option Entry) → o ≡ None → holds (is_for actor page) o ≡ false
-none_for actor page o e = ap (holds (is_for actor page)) e
-
 -- any place will do where none is for the page and none is empty
 pub any_place : (places : List (Option Entry)) (actor page place : ℕ) → place < length places → entries_for places actor page ≡ 0 → ((n : ℕ) → n < length places → entry_at places n ≢ None) → IsPlaceFor places actor page place
 any_place places actor page place below none full = record {
   below = below;
   own = λ some. absurd (omega arith);
   empty = λ _ few. absurd (omega (arith, few, all_held places full));
-}
-
-pub empty_place : (places : List (Option Entry)) (actor page place : ℕ) → place < length places → entries_for places actor page ≡ 0 → entry_at places place ≡ None → IsPlaceFor places actor page place
-empty_place places actor page place below none is = record {
-  below = below;
-  own = λ some. absurd (omega arith);
-  empty = λ _ few. is;
-}
-
-pub own_place : (places : List (Option Entry)) (actor page place : ℕ) → place < length places → holds (is_for actor page) (entry_at places place) ≡ true → IsPlaceFor places actor page place
-own_place places actor page place below h = record {
-  below = below;
-  own = λ some. h;
-  empty = λ none few. (let one : 1 ≤ entries_for places actor page = count_some (holds (is_for actor page)) places place None below h in absurd (omega arith));
 }

@@ -1,4 +1,5 @@
--- A gap is closed from behind: as far as the walk has come, nothing misses the bucket that is empty now.
+-- A gap is closed from behind: as far as the walk has come, nothing misses the bucket that is empty
+-- now.
 use Rattle.std.proofs.Common.{◌≡◌, ◌≢◌, ℕ, ◌+◌, ◌<◌, ◌≤◌, List, length, set, Option, Some, None, ap, ◌∙◌, arith, inl, inr, length-set, get_or-set_same, get_or-set_other}
 use Rattle.std.specs.Prelude.{is_some, count_by}
 use Rattle.std.proofs.lemmas.Bool.{cases_eq, cases_lt}

@@ -25,7 +25,8 @@ use Rattle.pvm_core.proofs.Answering.Answered.{seated}
 use Rattle.pvm_core.proofs.Answering.Kept.{seated_valid, seen}
 use Rattle.pvm_core.proofs.Answering.Listed.{machine_with}
 
--- a command that saves nothing, locks nothing, reaches no mapper, and leaves the segments and the forest
+-- a command that saves nothing, locks nothing, reaches no mapper, and leaves the segments and the
+-- forest
 pub record IsOfActors (command : Command) : Type 1 where
   pub none : (done : ℕ) (m : Machine) (f : Option PageForest) (s : Segments) → MayFault m f command s (faults.Save done) no_counts → ⊥
   pub reaches : ReachesMapper command no_counts
@@ -56,7 +57,7 @@ module _ (a : Arena) (s : Store) (t : Actors) (p : Manager) (view : seen a s t �
         subst (λ (p : Manager). AnswerIs (state_at p h) command answer [] no_counts (state_at p h)) view
         (seated (seen a s t) (seen a s t) h command answer nodes nodes (acted_valid t refl) refl of.none of.reaches (of.synchronised (machine_of (seen a s t) h) (segments_of h) answer) (of.stays (machine_of (seen a s t) h) (machine_of (seen a s t) h)) (of.passes (machine_of (seen a s t) h)) (λ f. outcome f (Some (forest_of (seen a s t) h))))
 
--- The commands ------------------------------------------------------------------------------
+-- The commands
 
 pub exited : (actor : ActorId) → IsOfActors (commands.ExitActor actor)
 exited actor = record { none = λ done m f s none. none; reaches = refl; synchronised = λ m s answer. tt; stays = λ m next f. refl; passes = λ m page. refl }

@@ -4,7 +4,8 @@
 pub mod Bound
 -- The locked pages of the machine are those that the caches count.
 pub mod Counted
--- Locks hold their pages still where the nodes and the locks stay, and where a cache is made or goes.
+-- Locks hold their pages still where the nodes and the locks stay, and where a cache is made or
+-- goes.
 pub mod Made
 -- Locks hold their pages still where pinned frames keep their nodes.
 pub mod Kept

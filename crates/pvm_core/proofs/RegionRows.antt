@@ -1,5 +1,5 @@
--- Actors that end, and regions that are cut, protected and told of: the rows of these commands, and where regions lie after
--- them.
+-- Actors that end, and regions that are cut, protected and told of: the rows of these commands, and
+-- where regions lie after them.
 use Rattle.std.proofs.Common.{◌≡◌, ℕ, ◌+◌, ◌-◌, ◌<◌, ◌≤◌, Bool, true, false, cond, List, [], ◌∷◌, Option, Some, None, refl, sym, ap, subst, ◌∙◌, arith}
 use Rattle.std.specs.Prelude.{IfSome, MatchResult, OnErr, OnOk, Result, Ok, Err, is_some, nat_le, ok_or, option_map, slice_set}
 use Rattle.std.specs.List.{All}
@@ -43,7 +43,7 @@ without_actor actor t = record t { actors = slice_set t.actors (actor - 1) None 
 abbrev pub with_allowed : ℕ → Prot → Actors → Actors
 with_allowed n prot t = record t { actors = replace_in n (with_prot prot) t.actors }
 
--- Where regions lie -------------------------------------------------------------------------
+-- Where regions lie
 
 module _ (sizes : ℕ → Option ℕ) where
   pub right_without_actor : (actor : ℕ) (t : Actors) → AreRight sizes t → AreRight sizes (without_actor actor t)
@@ -97,7 +97,7 @@ over_allowed n prot t some cache page = go (region_with n t.actors) refl some
     go None found e = absurd (cc e)
     go (Some r) found e = over_replaced cache page n (with_prot prot) r (prot_counts cache page prot r) t.actors found
 
--- A region that is cut ----------------------------------------------------------------------
+-- A region that is cut
 
 -- nothing refuses it
 pub record IsCut (t : Actors) (n pages : ℕ) : Type 0 where
@@ -184,7 +184,7 @@ module _ (t u : Actors) (region : RegionId) (pages : ℕ) where
         subst (λ (e : Trouble). Outcome (machine_with caches frames t) f (commands.Split region pages) h (Err e) (machine_with caches frames u) no_counts) (sym same)
         (split_refused t region.0 pages caches frames r is ∙ ap (λ (w : Actors). refuse (machine_with caches frames w) r) (sym err))
 
--- The other rows ----------------------------------------------------------------------------
+-- The other rows
 
 module _ (caches : List (Option model.Cache)) (frames : ℕ) (t : Actors) where
   pub exit_row : (actor : ℕ) → is_some (numbered t.actors actor) ≡ true → exit_actor_of (machine_with caches frames t) actor ≡ reply replies.Done (machine_with caches frames (without_actor actor t))

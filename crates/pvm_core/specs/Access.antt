@@ -41,7 +41,8 @@ pub record IsAtHand (p : Manager) (actor address length : ℕ) : Type 0 where
   pub has : HasPageAt p at owner
   pub at_hand : is_at_hand (own_of p.caches owner) ≡ true
 
--- where the own page of a node is: in no frame where it is zeros, or in the frame that is bound to the node
+-- where the own page of a node is: in no frame where it is zeros, or in the frame that is bound to
+-- the node
 abbrev pub IsFoundIn : Manager → NodeId → Option FrameId → Type 0
 IsFoundIn p o None = own_of p.caches o ≡ Zero
 IsFoundIn p o (Some f) =

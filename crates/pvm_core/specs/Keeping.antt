@@ -23,7 +23,8 @@ pub record CopiesNothing (old new : Manager) : Type 0 where
   pub held : (f : ℕ) → is_held new.store.frames f ≡ true → is_held old.store.frames f ≡ true
   pub bytes : new.store.frames.bytes ≡ old.store.frames.bytes
 
--- the manager is the same but for memory that was taken: room for nodes, and swap slots that are free
+-- the manager is the same but for memory that was taken: room for nodes, and swap slots that are
+-- free
 pub record HasMoreRoom (old new : Manager) : Type 0 where
   pub same : new ≡ record old {
     caches = record old.caches { room = new.caches.room };
@@ -56,9 +57,9 @@ pub record SameMeaning (old new : Manager) (told now : Option Held) : Type 0 whe
   pub machine : machine_of new now ≡ machine_of old told
   pub forest : forest_of new now ≡ forest_of old told
 
--- No page comes to a frame but those of a range, which are saved, and those that were read off them;
--- each other page that is seen in a frame, and wasn't replaced, was seen there before, and the frame
--- has its bytes.
+-- No page comes to a frame but those of a range, which are saved, and those that were read off
+-- them; each other page that is seen in a frame, and wasn't replaced, was seen there before, and
+-- the frame has its bytes.
 abbrev pub FillsOnly : Extent → (NodeName → Type 0) → Manager → Manager → Type 0
 FillsOnly range replaced old new = (x : NodeName) (frame : ℕ) → is_live x ≡ true
     → (replaced x → ⊥) → (owner_of (nodes_of old) x ∈ extent_names range → ⊥)

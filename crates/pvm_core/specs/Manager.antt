@@ -1,4 +1,5 @@
--- What a manager keeps, the page forest and the machine that it stands for, and what holds of it between two calls.
+-- What a manager keeps, the page forest and the machine that it stands for, and what holds of it
+-- between two calls.
 use Rattle.std.specs.Prelude.{◌≡◌, ℕ, zero, suc, ◌+◌, ◌*◌, ◌≤◌, List, [], ◌∷◌, length, sum_by, All, Option, Some, None, option_map, IfSome}
 use Rattle.std.specs.FinMap.{get}
 use Rattle.vm_ids.specs.Held.{Held, segments_of}
@@ -26,7 +27,8 @@ use Rattle.pvm_core.specs.Locks.{AreHeld}
 use Rattle.pvm_core.specs.Placed.{AreRight}
 use Rattle.pvm_core.specs.Translated.{AreTranslationsRight}
 
--- the caches with their page nodes, the store of frames and slots, the size of a page, and the actors with their regions
+-- the caches with their page nodes, the store of frames and slots, the size of a page, and the
+-- actors with their regions
 pub record Manager : Type 0 where
   pub caches : Arena
   pub store : Store
@@ -104,7 +106,8 @@ AreFull a page_bytes told = (cache : ℕ) (segment : SegId) → segment_of a cac
     → IfSome told (λ h. IfSome (get h.segments segment.0) (All (λ page. length page ≡ page_bytes)))
 
 -- What holds of a manager's fields, whatever the mapper holds:
---     nodes      the caches are sound, their forest is consistent, and each page of a live cache has a node
+--     nodes      the caches are sound, their forest is consistent, and each page of a live cache
+--     has a node
 --     apart      no two live caches are of one segment
 --     bounded    the working nodes are fewer than the live ones, or there are none of either
 --     slots      there are slots for the nodes of twice the live pages
@@ -132,7 +135,8 @@ pub record IsKept (a : Arena) (s : Store) (t : Actors) (live : ℕ) : Type 0 whe
 
 -- What each call needs and keeps beside, which speaks of what the mapper holds:
 --     right    the store is right
---     sized    where the mapper tells what it holds, segments are as long as the caches that they name
+--     sized    where the mapper tells what it holds, segments are as long as the caches that they
+--     name
 --     full     and each of their pages has all its bytes
 --     whole    as each page of the machine does
 pub record IsValid (p : Manager) (told : Option Held) : Type 0 where

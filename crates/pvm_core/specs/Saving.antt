@@ -1,4 +1,5 @@
--- What is kept of a manager while its pages are readied to be replaced, and what is said of them then.
+-- What is kept of a manager while its pages are readied to be replaced, and what is said of them
+-- then.
 use Rattle.std.specs.Prelude.{◌≡◌, ◌≢◌, ◌⊎◌, ℕ, ◌+◌, ◌≤◌, Bool, true, false, Option, IsSome, is_some, option_and_then, Result, Ok, Err, unwrap_or}
 use Rattle.vm_ids.specs.Counting.{MapperCounts}
 use Rattle.vm_ids.specs.Held.{Held, segments_of}
@@ -59,7 +60,8 @@ abbrev pub IsPushed : Extent → Manager → Option Held → Option Held → Typ
 IsPushed range p h g = ArePushed (machine_of p h) (segments_of g) range.cache.0 range.first.0
     (range.first.0 + range.pages)
 
--- The mapper failed at this page of a range, and before it the segment holds the pages of the range.
+-- The mapper failed at this page of a range, and before it the segment holds the pages of the
+-- range.
 pub record FailedToPush (range : Extent) (page : ℕ) (p q : Manager) (h g : Option Held) : Type 0 where
   pub named : is_named p.caches range.cache.0 ≡ true
   pub kept : KeepsForest p q h g
@@ -82,8 +84,8 @@ IsNotWrittenBack range p h q g (Mapper (Save done)) =
     FailedToSave range done p q h g × IsPushed range p h g
 IsNotWrittenBack range p h q g trouble = ⊥
 
--- The pages of a range may be replaced: they may be written, the heirs of those of a named cache have
--- their saves, and so many nodes fit.
+-- The pages of a range may be replaced: they may be written, the heirs of those of a named cache
+-- have their saves, and so many nodes fit.
 pub record IsReady (range : Extent) (nodes : ℕ) (p q : Manager) (h g : Option Held) : Type 0 where
   pub forest : forest_of q g
       ≡ saved (is_named p.caches range.cache.0) (extent_names range) (forest_of p h)
@@ -101,8 +103,8 @@ pub record HasGranted (range : Extent) (p q : Manager) : Type 0 where
   pub grants : GrantsBefore range (asked_end p.caches range) p.caches
       (record q.caches { room = p.caches.room })
 
--- Why they may not, and what is kept: one is denied, or the mapper failed when it was asked for one,
--- and the pages before it are granted; or memory is wanting, or a save failed, and all are.
+-- Why they may not, and what is kept: one is denied, or the mapper failed when it was asked for
+-- one, and the pages before it are granted; or memory is wanting, or a save failed, and all are.
 abbrev pub IsNotReady : Extent → Manager → Option Held → Manager → Option Held → Trouble → Type 0
 IsNotReady range p h q g (Refused WriteDenied) =
     KeepsForest p q h g × IsNotGranted range h p.caches q.caches (Refused WriteDenied)
@@ -139,8 +141,8 @@ all_of a cache = record {
   pages = unwrap_or (size_of a cache.0) 0;
 }
 
--- The pages that a call copied are those of the saves of a range: all of them, or those that were done
--- before one failed.
+-- The pages that a call copied are those of the saves of a range: all of them, or those that were
+-- done before one failed.
 abbrev pub CopiesSaved : Extent → Manager → Option Held → Manager → Result (Unit {0}) Trouble → Type 0
 CopiesSaved range p h q (Ok x) = q.caches.copies
     ≡ (saved (is_named p.caches range.cache.0) (extent_names range) (forest_of p h)).copies

@@ -32,11 +32,13 @@ abbrev pub KeepsFewPages : Manager → Type 0
 KeepsFewPages p = (pages_kept p < 2 * live_count (nodes_of p)) ⊎ (pages_kept p ≡ 0)
 
 -- What holds of a manager between two calls, beside what a mapper holds:
---     forest       the page forest has its shape; its live nodes are the pages of the live caches, and
+--     forest       the page forest has its shape; its live nodes are the pages of the live caches,
+--     and
 --                  their values are the pages of the machine
 --     once         each page in a frame or a slot is there once
 --     translated   each translation is right
---     locked       a page with locks is in a frame, which is pinned, and has one for each locked region
+--     locked       a page with locks is in a frame, which is pinned, and has one for each locked
+--     region
 --                  that covers it
 --     few          few pages are in frames and slots
 pub record StandsRight (p : Manager) (told : Option Held) : Type 0 where

@@ -1,4 +1,5 @@
--- What translations may say: in which page frame an actor sees a page, and whether it may write there.
+-- What translations may say: in which page frame an actor sees a page, and whether it may write
+-- there.
 use Rattle.std.specs.Int.{div_ceil}
 use Rattle.std.specs.Prelude.{◌≡◌, ℕ, ◌+◌, ◌*◌, ◌/◌, ◌%◌, nat_lt, Bool, true, false, List, length, Option, Some, None, Result, Ok, if◌then◌else◌}
 use Rattle.vm_ids.specs.declared.node_name.NodeName.{NodeName}

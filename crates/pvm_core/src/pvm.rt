@@ -86,7 +86,8 @@ impl Drop for Pvm {
 }
 
 impl Pvm {
-    /// A manager without caches and actors, of so many frames, at least three and all free, whose pages have `page` bytes.
+    /// A manager without caches and actors, of so many frames, at least three and all free, whose
+    /// pages have `page` bytes.
     pub fn new(alloc: Global, frames: u32, page: u32) -> Result<Pvm, NoMemory>
         requires few { 3 ≤ frames }
         requires frames { frames ≤ 2 ^ 16 }
@@ -110,8 +111,8 @@ impl Pvm {
         })
     }
 
-    /// How many runs of alike page nodes there are, no more than nodes. No answer depends on that; it
-    /// tells how little a large copy keeps.
+    /// How many runs of alike page nodes there are, no more than nodes. No answer depends on that;
+    /// it tells how little a large copy keeps.
     pub fn runs(&self) -> u32
         ensures few { result ≤ live_count (nodes_of self.now) + working_count (nodes_of self.now) }
     {
@@ -120,7 +121,8 @@ impl Pvm {
         (self.caches.runs() as u64).min(nodes as u64) as u32
     }
 
-    /// Makes an actor without regions. Refused as `TooMany` exactly where 256 actors are alive or 65,535 were made.
+    /// Makes an actor without regions. Refused as `TooMany` exactly where 256 actors are alive or
+    /// 65,535 were made.
     pub fn make_actor(&mut self) -> Result<ActorId, Trouble>
         ensures call { CallDone meaning self.old
             Command.MakeActor (answer_by Reply.Actor result) self.new }
@@ -129,8 +131,8 @@ impl Pvm {
         self.contexts.make()
     }
 
-    /// Makes a temporary cache of so many zero pages. Refused as `TooMany` exactly where 65,535 caches were made or
-    /// the live pages would be too many.
+    /// Makes a temporary cache of so many zero pages. Refused as `TooMany` exactly where 65,535
+    /// caches were made or the live pages would be too many.
     pub fn make_temp(&mut self, pages: u32) -> Result<CacheId, Trouble>
         ensures call { CallDone meaning self.old
             (Command.MakeTemp pages) (answer_by Reply.Cache result) self.new }
@@ -147,8 +149,9 @@ impl Pvm {
         Ok(self.caches.make_temp(pages))
     }
 
-    /// Takes a cache away, with all its pages; where a segment names it, they are pushed to the segment first. Refused as
-    /// `NoCache` or `InUse`, in this order. After a fault the cache is there still.
+    /// Takes a cache away, with all its pages; where a segment names it, they are pushed to the
+    /// segment first. Refused as `NoCache` or `InUse`, in this order. After a fault the cache is
+    /// there still.
     pub fn destroy<M: Mapper, C: Chooser>(
         &mut self,
         cache: CacheId,
@@ -160,8 +163,8 @@ impl Pvm {
         requires fits { Fits (M.page_bytes mapper.old) (machine_of self.old (M.held mapper.old)) }
         ensures call { MapperCall M.Mapper meaning mapper.old self.old
             (Command.Destroy cache) (done_by result) mapper.new self.new }
-        // A page is copied for a save alone, and of a temporary cache none is pulled or pushed either, and frames are given
-        // back alone.
+        // A page is copied for a save alone, and of a temporary cache none is pulled or pushed
+        // either, and frames are given back alone.
         ensures copies { CopiesSaved (all_of self.old.caches cache)
             self.old (M.held mapper.old) self.new result }
         ensures idle { is_named self.old.caches cache.0 ≡ false → (mapper.new ≡ mapper.old)
@@ -189,8 +192,8 @@ impl Pvm {
         Ok(())
     }
 
-    /// Copies pages from one place to another, all at once. Refused as `NoCache`, `OutOfCache`, `Overlap`, `Locked` or
-    /// `WriteDenied`, in this order.
+    /// Copies pages from one place to another, all at once. Refused as `NoCache`, `OutOfCache`,
+    /// `Overlap`, `Locked` or `WriteDenied`, in this order.
     pub fn copy_pages<M: Mapper, C: Chooser>(
         &mut self,
         span: Span,
@@ -234,8 +237,8 @@ impl Pvm {
         Ok(())
     }
 
-    /// Moves pages from one place to another; zeros are left where they were. Refused as `NoCache`, `OutOfCache`, `NotTemp`,
-    /// `Overlap`, `Locked` or `WriteDenied`, in this order.
+    /// Moves pages from one place to another; zeros are left where they were. Refused as `NoCache`,
+    /// `OutOfCache`, `NotTemp`, `Overlap`, `Locked` or `WriteDenied`, in this order.
     pub fn move_pages<M: Mapper, C: Chooser>(
         &mut self,
         span: Span,
@@ -280,8 +283,8 @@ impl Pvm {
         Ok(())
     }
 
-    /// Loads so many bytes, 1 to 64, at an address of an actor. Refused as `NoActor`, `Crosses` or `BadAddress`, in
-    /// this order.
+    /// Loads so many bytes, 1 to 64, at an address of an actor. Refused as `NoActor`, `Crosses` or
+    /// `BadAddress`, in this order.
     pub fn load<M: Mapper, C: Chooser>(
         &mut self,
         actor: ActorId,
@@ -322,8 +325,8 @@ impl Pvm {
         }
     }
 
-    /// Stores bytes at an address of an actor. Refused as `NoActor`, `Crosses`, `BadAddress`, `Protection` or
-    /// `WriteDenied`, in this order.
+    /// Stores bytes at an address of an actor. Refused as `NoActor`, `Crosses`, `BadAddress`,
+    /// `Protection` or `WriteDenied`, in this order.
     pub fn store<M: Mapper, C: Chooser>(
         &mut self,
         actor: ActorId,
@@ -414,7 +417,8 @@ impl Pvm {
         }
     }
 
-    /// The nodes from that of a page up to the one that has its bytes. Refused as `NoCache` or `OutOfCache`, in this order.
+    /// The nodes from that of a page up to the one that has its bytes. Refused as `NoCache` or
+    /// `OutOfCache`, in this order.
     pub fn chain(&self, cache: CacheId, page: PageNo) -> Result<ChainList, Trouble>
         ensures answers { AnswersWithin meaning self.now
             (Command.Chain cache page) (answer_by Reply.Chain result) self.now }

@@ -33,7 +33,8 @@ changed n b by rs k d x p e keeps o =
           (replace_keeps n b 0 by (region_seen (get_or rs k d)) (map region_seen rs) (among_found n rs k d p) (keeps (region_seen (get_or rs k d))) o);
     }
 
--- the region that was read at the place, twice, becomes one of its first pages and one of the others
+-- the region that was read at the place, twice, becomes one of its first pages and one of the
+-- others
 pub cut : (n b pages fresh : ℕ) (rs : List Region) (k : ℕ) (read again x y : Region) → IsPlaceOf n rs k → 1 ≤ pages
     → IsSomeAnd (region_among n (map region_seen rs)) (λ r. pages < r.pages) → read ≡ get_or rs k read → again ≡ get_or rs k again
     → region_seen x ≡ record (region_seen again) { pages = pages } → region_seen y ≡ back_of b pages fresh (region_seen read)

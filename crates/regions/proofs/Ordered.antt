@@ -15,7 +15,7 @@ use Rattle.regions.specs.AddressSpace.{AreInOrder, IsWellFormed, end_of}
 use Rattle.regions.specs.Seen.{region_seen, start_at, IsCountUpTo}
 use Rattle.regions.specs.declared.region.Region.{Region}
 
--- Starts rise -----------------------------------------------------------------------------
+-- Starts rise
 
 -- each region starts at or behind the address that the order begins at
 start_from : (b from : ℕ) (rs : List Region) → AreInOrder b from (map region_seen rs) → (k : ℕ) (d : Region) → k < length rs → from ≤ start_at rs k d
@@ -35,7 +35,7 @@ starts_rise b from (r ∷ rs) o (suc i) zero d le within = absurd (omega (arith,
 starts_rise b from (r ∷ rs) o (suc i) (suc j) d le within =
     starts_rise b (end_of b (region_seen r)) rs o.2 i j d (omega (arith, le)) (omega (arith, within))
 
--- Which one holds an address ---------------------------------------------------------------
+-- Which one holds an address
 
 not_yet : (b a : ℕ) (r : model.Region) → a < r.start → holds b a r ≡ false
 not_yet b a r below = grind (arith, nat_tests)
@@ -106,7 +106,7 @@ formed_at b from [] k d o within = absurd (omega (arith, within))
 formed_at b from (r ∷ rs) zero d o within = o.1
 formed_at b from (r ∷ rs) (suc k) d o within = formed_at b (end_of b (region_seen r)) rs k d o.2 (omega (arith, within))
 
--- Where a new one goes ---------------------------------------------------------------------
+-- Where a new one goes
 
 step : (b : Bool) (r x : model.Region) (xs : model.Actor) → b ≡ false → cond b (r ∷ x ∷ xs) (x ∷ insert_region r xs) ≡ x ∷ insert_region r xs
 step b r x xs e = ap (λ (c : Bool). cond c (r ∷ x ∷ xs) (x ∷ insert_region r xs)) e
@@ -176,7 +176,7 @@ pub created : (b : ℕ) (r : Region) (x : model.Region) (rs : List Region) (k : 
 created b r x rs k one is count formed fits o =
     subst (AreInOrder b 0) (sym (put_there r x rs k is count)) (insert_keeps b 0 x (map region_seen rs) one (omega arith) formed fits o)
 
--- What goes, and what becomes something else -------------------------------------------------
+-- What goes, and what becomes something else
 
 lower : (b from low : ℕ) (rs : model.Actor) → low ≤ from → AreInOrder b from rs → AreInOrder b low rs
 lower b from low [] le o = tt

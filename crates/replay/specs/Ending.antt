@@ -34,8 +34,8 @@ pub record Scene : Type 0 where
   pub counts : MapperCounts
   pub written : Option (List ℕ)
 
--- The scene of a manager and its mapper where this was written. `G` and `M` are the ghost members of
--- the two.
+-- The scene of a manager and its mapper where this was written. `G` and `M` are the ghost members
+-- of the two.
 abbrev pub scene_of : {Manager Mapper Chooser : Type 0} → GhostsOfGmi Manager Mapper Chooser
     → GhostsOfMapper Mapper → Manager → Mapper → Option (List ℕ) → Scene
 scene_of G M gmi mapper written = record {

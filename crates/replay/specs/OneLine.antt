@@ -20,8 +20,8 @@ abbrev pub line_budget : ℕ
 line_budget = 2 ^ 30
 
 -- What it takes to call a manager: it is valid beside what its mapper holds, its room isn't
--- limited, the mapper takes pages of the manager's size, and no more pages are live than may be. `G`
--- and `M` are the ghost members of the two.
+-- limited, the mapper takes pages of the manager's size, and no more pages are live than may be.
+-- `G` and `M` are the ghost members of the two.
 pub record CanCall {Manager Mapper Chooser : Type 0} (G : GhostsOfGmi Manager Mapper Chooser)
     (M : GhostsOfMapper Mapper) (gmi : Manager) (mapper : Mapper) : Type 0 where
   pub valid : G.valid gmi (M.held mapper)

@@ -2,8 +2,8 @@
 //! the reply is written as a line.
 //!
 //! Its model is in specs/. What a reader must believe: the lines of a script (`Script`), the words
-//! of a command line (`Commanding`), and how a run ends (`Ending`). The rest serves the contracts of
-//! the parts alone: what clap reads (`Reading`), one line (`OneLine`), how far a replay has come
+//! of a command line (`Commanding`), and how a run ends (`Ending`). The rest serves the contracts
+//! of the parts alone: what clap reads (`Reading`), one line (`OneLine`), how far a replay has come
 //! (`Going`), and the replies that wait (`Waiting`).
 //!
 //! It stands on the script language, which says the command of a line and the line of a reply, on

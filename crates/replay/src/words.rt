@@ -57,7 +57,8 @@ fn is_folder_name(word: &str) -> bool
     !word.is_empty() && !word.starts_with('-')
 }
 
-// What the values that clap found ask for: it knows the options, and this the forms of their values.
+// What the values that clap found ask for: it knows the options, and this the forms of their
+// values.
 fn asked_in(matches: &ArgMatches<'_>) -> Option<Size>
     ensures { result ≡ asked_of matches.now }
 {
@@ -111,9 +112,9 @@ pub fn asked_behind(alloc: Global, words: &[&str]) -> Result<Option<Size>, NoMem
     }
 }
 
-/// What the words of a command line ask for, which are `run --frames F [--page B] [--segments DIR]`,
-/// `generate N L` or `trial N L --frames F [--segments DIR]`: `None` exactly for other words.
-/// `NoMemory` where there is none to read them.
+/// What the words of a command line ask for, which are `run --frames F [--page B] [--segments
+/// DIR]`, `generate N L` or `trial N L --frames F [--segments DIR]`: `None` exactly for other
+/// words. `NoMemory` where there is none to read them.
 #[tactic(auto, unfolding(crate::specs::Commanding::asked_by))]
 pub fn read_words(alloc: Global, words: &[&str]) -> Result<Option<Asked>, NoMemory>
     ensures { IfOk result (λ asked. asked ≡ asked_by (map (λ w. w.now) words.now)) }

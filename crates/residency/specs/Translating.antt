@@ -38,7 +38,8 @@ pub record IsEmptied (frame : ℕ) (old new : Store) : Type 0 where
 --     tables    the translations that lead to these frames are dropped, every other one stays
 --     seen      a page that was seen in another frame is seen there still
 --     alone     a page that was a node's alone is so still
---     only      a frame that had a node is one of these only where it lost the node, or the node came
+--     only      a frame that had a node is one of these only where it lost the node, or the node
+--     came
 --     comes     each node in a frame was there before, or came
 pub record Drops (came : NodeId → Type 0) (a : Arena) (s : Store) (b : Arena) (t : Store) : Type 0 where
   pub frames : ℕ → Bool

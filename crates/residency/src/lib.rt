@@ -2,11 +2,12 @@
 //!
 //! A store has the page frames, the swap slots, the map from page nodes to frames, the page tables,
 //! and the marks that a policy of eviction looks at. Whatever it moves, every node's own page stays
-//! what it is: the page in the node's frame, in its swap slot or on its segment, or a page of zeros.
-//! A frame that loses its node loses its translations too, and no other translation goes. A page
-//! that has a home on a segment is pulled from there and evicted to there, with a push only where
-//! it was changed. A frame that is pinned is never evicted. A fault of the mapper is answered only
-//! where the mapper's count of faults rose, and after it every page is where it was or was evicted.
+//! what it is: the page in the node's frame, in its swap slot or on its segment, or a page of
+//! zeros. A frame that loses its node loses its translations too, and no other translation goes. A
+//! page that has a home on a segment is pulled from there and evicted to there, with a push only
+//! where it was changed. A frame that is pinned is never evicted. A fault of the mapper is answered
+//! only where the mapper's count of faults rose, and after it every page is where it was or was
+//! evicted.
 //!
 //! A store is seen as the record of its parts, each by its own model; of the marks the calls that
 //! move pages say only how many there are, so that no promise of theirs rests on the policy.

@@ -170,7 +170,7 @@ module _ (w : World) (b : Arena) (cache : CacheId) (page : ℕ) (segment : SegId
       (ap bare (granted_forest w.caches b cache.0 page is) ∙ sym (store_bare w sound))
       (λ n held. pages n ∙ sym (store_page w sound n (sym (ap (λ x. is_some (find x n)) is) ∙ held)) ∙ ap (λ x. (node (store_forest w) x).own) (sym (names n)))
 
--- What is granted then -------------------------------------------------------------------------
+-- What is granted then
 
 map_set : (ts : List (Option Table)) (k page : ℕ) → map (option_map without_grants) (set ts k (option_map (table_granting page) (get_or ts k None))) ≡ map (option_map without_grants) ts
 map_set [] k page = refl

@@ -96,7 +96,7 @@ module _ (w : World) (n : NodeId) (home : Home) (bytes : List ℕ) (right : IsSt
   pub pushed_told : value_at w n ≡ Some (option_map (λ _. bytes) w.told) → (c d : MapperCounts) → RoseBy 1 c.pushes d.pushes → TellsValues w (record w { told = option_map (put_at home bytes) w.told }) c d
   pushed_told value c d rose = tells_one w then c d n home bytes (record { home = home; is = at; allowed = right.granted.allowed n home at (right.granted.granted n (ap is_some at) unclean) }) at value refl rose
 
--- A page in a frame that its segment holds is called clean -----------------------------------------
+-- A page in a frame that its segment holds is called clean
 
 module _ (w : World) (n : NodeId) (right : IsStoreRight w) (there : HasNode w.caches n) (resident : is_resident (own_of w.caches n) ≡ true) (home : IsSome (home_of w.caches n)) (held : own_page w n ≡ Some (home_page w n)) where
   abbrev settled : World

@@ -48,7 +48,7 @@ still_reads a b still = record {
   homes = λ n. same_home a.caches b.caches still.stays.caches n;
 }
 
--- Who is clean stays clean ---------------------------------------------------------------------
+-- Who is clean stays clean
 
 on_segment_clean : (x : OwnState) → is_on_segment x ≡ true → is_clean x ≡ true
 on_segment_clean Absent e = absurd (cc e)
@@ -76,7 +76,7 @@ others_clean_but a b n right others state m clean = elim (cases_eq m.0 n.0) [
   | inr d ↦ leaves_clean (home_of a.caches m) (own_of a.caches m) (own_of b.caches m) (right.tied.backed.homes m clean) (others.states m d) clean
 ]
 
--- What is pushed -------------------------------------------------------------------------------
+-- What is pushed
 
 absent_settled : (x : OwnState) → is_absent x ≡ true → is_settled x ≡ true
 absent_settled x e = ap (λ b. b || is_clean x) e

@@ -1,4 +1,5 @@
--- Saves over a range, of page forests alone: which page is saved next, and how many saves there are.
+-- Saves over a range, of page forests alone: which page is saved next, and how many saves there
+-- are.
 use Rattle.std.proofs.Common.{◌≡◌, ◌≢◌, ℕ, suc, zero, ◌+◌, ◌-◌, ◌<◌, ◌≤◌, List, [], ◌∷◌, ◌++◌, filter, Bool, true, false, cond, ◌&&◌, ◌⊎◌, Option, Some, None, is_some, is_none, refl, sym, ap, ap₂, ◌∙◌, inl, inr, arith, subst}
 use Rattle.std.specs.Option.{IsSome}
 use Rattle.std.proofs.lemmas.Bool.{cases_lt}
@@ -96,7 +97,7 @@ module _ {P : Type 0} where
       go None e t = absurd (let u : false ≡ true = sym (ap (λ p. is_some p && is_some (heir f x)) e) ∙ t in cc u)
       go (Some v) e t = owned_stays f shaped x h v e is_heir y none
 
-  -- Which one is next ------------------------------------------------------------------
+  -- Which one is next
 
   pub none_unsaved : (f : Forest P) (xs : List NodeName) → ((x : NodeName) → x ∈ xs → is_unsaved f x ≡ false) → unsaved f xs ≡ None
   unfolding unsaved
@@ -119,7 +120,7 @@ module _ {P : Type 0} where
       ∙ first_unsaved f cache (from + 1) n at (omega arith) (ap (λ k. is_unsaved f (page_name cache k)) (sym (next at)) ∙ is) (λ i less. ap (λ k. is_unsaved f (page_name cache k)) (sym (next i)) ∙ before (suc i) (omega arith))
       ∙ ap (λ k. Some (page_name cache k)) (sym (next at))
 
-  -- How many there are -------------------------------------------------------------------
+  -- How many there are
 
   more_saves : (n k : ℕ) (xs : List NodeName) (f : Forest P) → unsaved (saves n xs f) xs ≡ None → saves (k + n) xs f ≡ saves n xs f
   more_saves n zero xs f e = let none : 0 + n ≡ n = omega arith in ap (λ m. saves m xs f) none

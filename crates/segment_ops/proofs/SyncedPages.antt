@@ -34,7 +34,7 @@ use Rattle.segment_ops.proofs.Granting.{range_home}
 use Rattle.segment_ops.proofs.PushedPage.{still_reads}
 use Rattle.segment_ops.proofs.Values.{held_home, own_is_value}
 
--- A page of the segments ------------------------------------------------------------------------
+-- A page of the segments
 
 -- segments as a mapper holds them
 abbrev held_as : Segments → Held
@@ -111,7 +111,7 @@ settled_cases (Resident d) e = inr e
 settled_cases (Slot s) e = absurd (cc e)
 settled_cases OnSegment e = inr refl
 
--- What stays synced ----------------------------------------------------------------------------
+-- What stays synced
 
 module _ (w v : World) (right : IsStoreRight w) (still : Still w v) (sound : IsSound w.caches) (shaped : IsWellShaped (forest_of w.caches)) (sound_v : IsSound v.caches) (clean : CleanStays w.caches v.caches) (c d : MapperCounts) (told : TellsValues w v c d) where
   homes : (n : NodeId) → home_of v.caches n ≡ home_of w.caches n
@@ -155,7 +155,7 @@ clean_synced w right sound shaped n held is = record {
   settled = clean_settled (own_of w.caches n) is;
 }
 
--- Over a range ----------------------------------------------------------------------------------
+-- Over a range
 
 -- the tables stay
 pub same_node : (a b : Arena) → Like a b → (cache page : ℕ) → node_at b cache page ≡ node_at a cache page
@@ -172,13 +172,6 @@ module _ (range : Extent) (at : ℕ) (w v : World) (right : IsStoreRight w) (sti
       let before = node_before page n e in
       synced_stays w v right still sound shaped (still_caches_sound w v still sound) clean c d told n _ (range_home w.caches sound range.cache page n named.0 before named.1) (synced page n from below before)
 
--- its node is synced, and so is the range as far as behind this page
-pub one_synced : (range : Extent) (v : World) (m : NodeId) → node_at v.caches range.cache.0 range.first.0 ≡ Some m → IsSynced v m → AreSynced range (range.first.0 + 1) v
-one_synced range v m here one page n from below e =
-    let place : page ≡ range.first.0 = omega (arith, from, below) in
-    let same : m ≡ n = cc (here, sym (ap (node_at v.caches range.cache.0) place) ∙ e) in
-    subst (IsSynced v) same one
-
 -- the range up to this page is synced, and its rest up to another one
 pub synced_on : (range : Extent) (at left past : ℕ) (v : World) → AreSynced range at v → AreSynced (record range { first = record { 0 = at }; pages = left }) past v → AreSynced range past v
 synced_on range at left past v before behind page n from below e = elim (cases_lt page at) [
@@ -186,7 +179,7 @@ synced_on range at left past v before behind page n from below e = elim (cases_l
   | inr high ↦ behind page n high below e
 ]
 
--- What it costs ----------------------------------------------------------------------------------
+-- What it costs
 
 unclean_less : (x y : OwnState) → (is_clean x ≡ true → is_clean y ≡ true) → unclean y ≤ unclean x
 unclean_less x y stays = go (is_clean x) (is_clean y) stays
@@ -216,7 +209,8 @@ unclean_stays a b like clean cache page = subst (λ (o : Option NodeId). option_
     go None = omega arith
     go (Some n) = unclean_less (own_of a n) (own_of b n) (clean n)
 
--- the pages up to this one were pushed, and it and so many from it on, of which no other one needed a push
+-- the pages up to this one were pushed, and it and so many from it on, of which no other one needed
+-- a push
 pub costs_then : (a : Arena) (range : Extent) (at pages here : ℕ) (b c d : MapperCounts) → range.first.0 ≤ at → 0 < pages → here ≤ unclean_at a range.cache.0 at
     → TrafficAtMost (unclean_count a range.cache.0 range.first.0 (at - range.first.0)) (2 * unclean_count a range.cache.0 range.first.0 (at - range.first.0)) b c → TrafficAtMost here (2 * here) c d → Later c d
     → TrafficAtMost (unclean_count a range.cache.0 range.first.0 (at + pages - range.first.0)) (2 * unclean_count a range.cache.0 range.first.0 (at + pages - range.first.0)) b d

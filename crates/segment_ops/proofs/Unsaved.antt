@@ -41,7 +41,7 @@ use Rattle.segment_ops.specs.Ranges.{HasRange}
 use Rattle.segment_ops.specs.Saving.{AreSaved, AreSavedNow, IsOfSaves, SavesEnd}
 use Rattle.segment_ops.proofs.Saves.{all_saved, first_unsaved, none_unsaved, saved_now, saved_stays, saves_before, saves_left}
 
--- Ranges and nodes -----------------------------------------------------------------------
+-- Ranges and nodes
 
 -- a cache has no more pages than there are nodes
 pub size_fits : (a : Arena) → IsWhole a → (cache : CacheId) (n : ℕ) → size_of a cache.0 ≡ Some n → n ≤ len (forest_of a).nodes
@@ -71,7 +71,7 @@ range_node a whole range r p low = page_there a whole.sound range.cache (record 
 pub node_named : (a : Arena) → IsSound a → (cache : CacheId) (p : ℕ) (n : NodeId) → node_at a cache.0 p ≡ Some n → HasNode a n × (name_of a n ≡ page_name cache p)
 node_named a sound cache p n at = sound.kept.listed.nodes cache.0 p n at
 
--- What a node has ------------------------------------------------------------------------
+-- What a node has
 
 some_page : (x : OwnState) → is_absent x ≡ false → is_some (page_of x) ≡ true
 some_page Absent e = absurd (cc e)
@@ -130,7 +130,7 @@ pub no_saves : {P : Type 0} (xs : List NodeName) (f : Forest P) → saves 0 xs f
 unfolding saves
 no_saves xs f = refl
 
--- One save after another -------------------------------------------------------------------
+-- One save after another
 
 -- So many saves of the range were done, and the pages before one of it are saved.
 module _ (old w : World) (range : Extent) (done at : ℕ) (forest : store_forest w ≡ saves done (extent_names range) (store_forest old)) (first : range.first.0 ≤ at)

@@ -1,4 +1,5 @@
--- What is pushed to segments is what nodes read: over two moments, where a push fails, and where own pages are pushed.
+-- What is pushed to segments is what nodes read: over two moments, where a push fails, and where
+-- own pages are pushed.
 use Rattle.std.proofs.Common.{◌≡◌, ℕ, ◌≤◌, Bool, true, false, is_some, List, [], ◌∷◌, Option, Some, None, refl, sym, ap, ◌∙◌, arith}
 use Rattle.std.specs.List.{AllByRecursion}
 use Rattle.std.specs.Option.{IsSome}

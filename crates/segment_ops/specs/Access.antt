@@ -11,8 +11,8 @@ use Rattle.segment_ops.specs.Ranges.{IsPageOf}
 abbrev pub without_grants : Table → Table
 without_grants t = record t { grants = [] }
 
--- the pages of the range before this one are granted, and else nothing changed: nothing at all where
--- it is the first
+-- the pages of the range before this one are granted, and else nothing changed: nothing at all
+-- where it is the first
 pub record GrantsBefore (range : Extent) (past : ℕ) (old new : Arena) : Type 0 where
   pub granted : (page : ℕ) → range.first.0 ≤ page → page < past
       → is_granted new range.cache.0 page ≡ true

@@ -4,7 +4,8 @@ use Rattle.stretches.specs.declared.says.Says.{Ghosts}
 use Rattle.stretches.specs.declared.stretch.Stretch.{Stretch}
 use Rattle.stretches.specs.Stretch.{Continues, IsFit, is_in, value_at}
 
--- what a contract sees: the stretches in the order of their numbers, and for how many memory is there
+-- what a contract sees: the stretches in the order of their numbers, and for how many memory is
+-- there
 pub record Stretches (V : Type 0) : Type 0 where
   pub list : List (Stretch V)
   pub places : ℕ

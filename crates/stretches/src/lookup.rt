@@ -47,8 +47,8 @@ fn found_lately<V: Says>(stretches: &Directory<Stretch<V>>, number: u64) -> Opti
     }
 }
 
-// Whether a stretch is the last one that begins at a number or before it, as far as it tells and the
-// next one in its leaf.
+// Whether a stretch is the last one that begins at a number or before it, as far as it tells and
+// the next one in its leaf.
 fn is_last_by<V: Says>(stretches: &Directory<Stretch<V>>, spot: Spot, number: u64) -> bool
     requires order { AreInOrder V.Says 0 (entries stretches.now) }
     requires held { IsHeld stretches.now spot }

@@ -6,5 +6,6 @@ pub mod Freed
 pub mod Retired
 -- The page of a retired node, and the fresh node that it gets.
 pub mod Detached
--- As many caches of the same sizes are live after the node of a page was retired, or a fresh one was made.
+-- As many caches of the same sizes are live after the node of a page was retired, or a fresh one
+-- was made.
 pub mod Sizes

@@ -6,7 +6,8 @@ mod Place
 pub mod Leaving
 -- A node gives way to its only child.
 mod Merge
--- The rules retire, detach and settle_step are followed with any pages, as they are with own states.
+-- The rules retire, detach and settle_step are followed with any pages, as they are with own
+-- states.
 pub mod OtherPages
 -- What a call says that it released is what became of the nodes and their own states.
 pub mod Releases

@@ -20,7 +20,7 @@ use Rattle.tree_merge.specs.Releasing.{IsDropped, IsMerged, IsReleased, IsRetire
 use Rattle.tree_merge.specs.Staying.{IsGone}
 use Rattle.tree_merge.proofs.ChildLists.Names.{first_child_up}
 
--- A page was retired ------------------------------------------------------------------------
+-- A page was retired
 
 working_cell : (a : Arena) (n m : NodeId) → cell (as_working a n) m ≡ cell (arena.put a n (record (cell a n) { name = Working (a.made + 1) })) m
 unfolding cell
@@ -58,7 +58,7 @@ module _ (a b : Arena) (n : NodeId) (there : HasNode a n) (r : Released) (is : I
       go zero e = let l = is.leaf e in subst (IsReleased a b) (sym l.0) (leaf_dropped l.1 (λ m d. l.2 m d ∙ ap (λ x. own_after a x m) l.0))
       go (suc k) e = let p = is.parent (omega (arith, e)) in subst (IsReleased a b) (sym p.0) (parent_still p.1)
 
--- One step of settle ------------------------------------------------------------------------
+-- One step of settle
 
 absent_is : (x : OwnState) → is_absent x ≡ true → x ≡ Absent
 absent_is Absent e = refl

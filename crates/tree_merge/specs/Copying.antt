@@ -86,8 +86,8 @@ abbrev pub copied_first : Arena → (d s new : NodeId) → CacheId → PageNo �
 copied_first a d s new to to_page count =
     linked_one (renewed a d new to to_page count) s new count
 
--- the arena with a new working node, from w on, over each two nodes, from two on, and under each one
--- from s on as its only tree child
+-- the arena with a new working node, from w on, over each two nodes, from two on, and under each
+-- one from s on as its only tree child
 abbrev pub put_between : Arena → (s w older newer : NodeId) → ℕ → Arena
 put_between a s w older newer count =
     hung_many (hung_many (linked_one

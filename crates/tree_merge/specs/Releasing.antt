@@ -62,8 +62,8 @@ OwnsAfter a b n released = (m : NodeId) → m ≢ n → own_of b m ≡ own_after
 abbrev pub first_child : Arena → NodeId → Option NodeId
 first_child a n = option_or (slice_get (cell a n).tree 0) (cell a n).links.first
 
--- What is released where n gives way to this child, or goes without one: its child takes its own page over where it has
--- none, and else that page goes.
+-- What is released where n gives way to this child, or goes without one: its child takes its own
+-- page over where it has none, and else that page goes.
 abbrev pub released_to : Arena → NodeId → Option NodeId → Released
 released_to a n None = Dropped n (own_of a n)
 released_to a n (Some y) =
@@ -84,8 +84,8 @@ pub record HasGivenWay (a b : Arena) (n y : NodeId) (released : Released) : Type
   pub gone : IsGone a b n
   pub owns : OwnsAfter a b n released
 
--- The node n is retired: it is gone where it has no children, and its own page with it, and else it is a working node
--- under the same number.
+-- The node n is retired: it is gone where it has no children, and its own page with it, and else it
+-- is a working node under the same number.
 pub record IsRetired (a b : Arena) (n : NodeId) (released : Released) : Type 0 where
   pub leaf : child_count (forest_of a) (name_of a n) ≡ 0
       → (released ≡ Dropped n (own_of a n)) × IsGone a b n × OwnsAfter a b n released

@@ -35,14 +35,15 @@ pub record AreRetired (a b : Arena) (d : NodeId) (cache : CacheId) (page : PageN
   pub sizes : SameCaches a b
   pub room : b.room.nodes ≡ a.room.nodes + count
 
--- From a to b pages are retired, at once, on which nothing hangs: their nodes, from one on, are gone.
+-- From a to b pages are retired, at once, on which nothing hangs: their nodes, from one on, are
+-- gone.
 pub record AreFreedAtOnce (a b : Arena) (cache : CacheId) (page : PageNo) (count : ℕ) : Type 0 where
   pub node : NodeId
   pub can : CanRetireMany a node cache page count
   pub is : b ≡ without_many a node count
 
--- From a to b pages are retired, at once, on which others hang: their nodes, from one on, are working
--- nodes.
+-- From a to b pages are retired, at once, on which others hang: their nodes, from one on, are
+-- working nodes.
 pub record AreSharedAtOnce (a b : Arena) (cache : CacheId) (page : PageNo) (count : ℕ)
     : Type 0 where
   pub node : NodeId

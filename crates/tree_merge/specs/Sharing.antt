@@ -1,4 +1,5 @@
--- Many pages retired at once whose nodes stay for others: what it needs, which arena it leaves, and what holds of that.
+-- Many pages retired at once whose nodes stay for others: what it needs, which arena it leaves, and
+-- what holds of that.
 use Rattle.std.specs.Prelude.{◌≡◌, ℕ, ◌+◌, ◌<◌, Some, length}
 use Rattle.vm_ids.specs.declared.node_name.NodeName.TheVariants.{Working}
 use Rattle.vm_ids.specs.declared.numbers.CacheId.{CacheId}

@@ -9,8 +9,8 @@ use Rattle.vm_ids.specs.Forest.Settling.{take_place}
 use Rattle.local_cache.specs.Arena.{Arena, find, tables_with}
 use Rattle.local_cache.specs.Reading.{name_of}
 
--- The node n is gone, from the tables too, and leaves its place. All other nodes keep their numbers and names, no number
--- is new, and the counters stay.
+-- The node n is gone, from the tables too, and leaves its place. All other nodes keep their numbers
+-- and names, no number is new, and the counters stay.
 pub record IsGone (a b : Arena) (n : NodeId) : Type 0 where
   pub gone : find b n ≡ None
   pub held : (m : NodeId) → m ≢ n → is_some (find b m) ≡ is_some (find a m)

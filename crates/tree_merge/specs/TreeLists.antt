@@ -12,7 +12,8 @@ in_place n instead m = cond (m.0 == n.0) instead (Some m)
 abbrev pub exchanged : NodeId → Option NodeId → List NodeId → List NodeId
 exchanged n instead ms = filter_map (in_place n instead) ms
 
--- the arena in which y comes in the place of n among the tree children of a parent, where there is one
+-- the arena in which y comes in the place of n among the tree children of a parent, where there is
+-- one
 abbrev pub exchanged_under : Arena → Option NodeId → NodeId → NodeId → Arena
 exchanged_under a None n y = a
 exchanged_under a (Some p) n y = with_tree a p (exchanged n (Some y) (cell a p).tree)

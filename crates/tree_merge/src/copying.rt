@@ -13,7 +13,8 @@ use crate::lone::lone_nodes;
 use local_cache::{Caches, OwnState};
 use vm_ids::{NodeId, PageNo, Span};
 
-// The numbers of new working nodes begin with this one, and those of nodes made for pages are below it.
+// The numbers of new working nodes begin with this one, and those of nodes made for pages are below
+// it.
 const FIRST_WORKING: u64 = 1 << 52;
 
 // How many numbers from a node on are below those of new working nodes, as far as so many.
@@ -33,7 +34,8 @@ fn renewable(caches: &Caches, node: NodeId, most: u32) -> u32
     numbers_below(node, lone_nodes(caches, node, most))
 }
 
-// Whether there are so many numbers from a node on, none of which is one of as many from another one on.
+// Whether there are so many numbers from a node on, none of which is one of as many from another
+// one on.
 fn are_apart(node: NodeId, other: NodeId, count: u32) -> bool
     ensures apart { IsTrue result → AreApart node other count }
     ensures short { IsTrue result → node.0 + count ≤ 2 ^ 64 }
@@ -42,8 +44,8 @@ fn are_apart(node: NodeId, other: NodeId, count: u32) -> bool
     node.0 <= u64::MAX - length && node.0.abs_diff(other.0) >= length
 }
 
-// Whether a source has no tree child, or only one, so that none of so many nodes from that one on is one of as many from
-// the source on.
+// Whether a source has no tree child, or only one, so that none of so many nodes from that one on
+// is one of as many from the source on.
 fn has_history(caches: &Caches, source: NodeId, count: u32) -> bool
     requires { HasNode caches.now source }
     ensures { IsTrue result → IsHistory (cell caches.now source).tree source count }
@@ -56,7 +58,8 @@ fn has_history(caches: &Caches, source: NodeId, count: u32) -> bool
     }
 }
 
-// How many nodes, from one on, may go at once for copies of sources, from one on, as far as so many.
+// How many nodes, from one on, may go at once for copies of sources, from one on, as far as so
+// many.
 fn copyable(caches: &Caches, node: NodeId, source: NodeId, most: u32) -> u32
     requires node { HasNode caches.now node }
     requires source { HasNode caches.now source }
@@ -84,8 +87,8 @@ fn link_one(caches: &mut Caches, node: NodeId, child: NodeId, count: u32)
     caches.hang_many(child, count, node);
 }
 
-// So many pages of a span, whose nodes and sources are ready for it, are copied at once: all of them, or none where
-// numbers for fresh nodes came to an end. How many.
+// So many pages of a span, whose nodes and sources are ready for it, are copied at once: all of
+// them, or none where numbers for fresh nodes came to an end. How many.
 fn copy_ready(
     caches: &mut Caches,
     span: Span,
@@ -122,11 +125,12 @@ fn copy_ready(
     }
 }
 
-// Copies the pages of a span, from one of them on, by tree links, all at once, as far as their nodes and those of their
-// sources are alike, and answers how many. It answers 0, and changes nothing, where the first of these pages can't be
-// copied so: where its node has a parent, a child, or an own page that isn't zeros; where its source has stubs, two tree
-// children, or one that is among the sources; where something is kept of one of them that can't be said of many; and
-// where numbers of nodes came to an end. It takes no time for each page.
+// Copies the pages of a span, from one of them on, by tree links, all at once, as far as their
+// nodes and those of their sources are alike, and answers how many. It answers 0, and changes
+// nothing, where the first of these pages can't be copied so: where its node has a parent, a child,
+// or an own page that isn't zeros; where its source has stubs, two tree children, or one that is
+// among the sources; where something is kept of one of them that can't be said of many; and where
+// numbers of nodes came to an end. It takes no time for each page.
 pub(crate) fn copy_many(caches: &mut Caches, span: Span, done: u32) -> u32
     requires sound { IsSound caches.old }
     requires can { CanCopy (forest_of caches.old) (pairs_left span done) }

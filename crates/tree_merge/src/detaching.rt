@@ -13,9 +13,10 @@ use crate::retiring::retire_node;
 use local_cache::{Caches, OwnState};
 use vm_ids::{CacheId, NodeName, PageNo};
 
-/// Retires the node of a page, which has none then. Where it has no children it is cut off from its parent and freed,
-/// and `Dropped` tells its number and its own state, `Absent` too. Where other nodes hang on it, it becomes a working
-/// node under the same number, with its own page, and the answer is `Nothing`.
+/// Retires the node of a page, which has none then. Where it has no children it is cut off from its
+/// parent and freed, and `Dropped` tells its number and its own state, `Absent` too. Where other
+/// nodes hang on it, it becomes a working node under the same number, with its own page, and the
+/// answer is `Nothing`.
 pub fn retire(caches: &mut Caches, cache: CacheId, page: PageNo) -> Released
     requires sound { IsSound caches.old }
     requires node { IsSome (node_at caches.old cache.0 page.0) }
@@ -32,9 +33,9 @@ pub fn retire(caches: &mut Caches, cache: CacheId, page: PageNo) -> Released
     retire_node(caches, node)
 }
 
-/// Retires the node of a page and makes a fresh one for it, with this own state and without parent and children. It
-/// answers what retiring does, and takes no memory: there has to be room for a node. The fresh node may have the number
-/// of the node that is `Dropped`.
+/// Retires the node of a page and makes a fresh one for it, with this own state and without parent
+/// and children. It answers what retiring does, and takes no memory: there has to be room for a
+/// node. The fresh node may have the number of the node that is `Dropped`.
 pub fn detach(caches: &mut Caches, cache: CacheId, page: PageNo, state: OwnState) -> Released
     requires sound { IsSound caches.old }
     requires node { IsSome (node_at caches.old cache.0 page.0) }

@@ -28,8 +28,9 @@ fn is_lone(caches: &Caches, node: NodeId) -> bool
         && caches.tree_child(node, 0).is_none()
 }
 
-/// How many nodes, from one on, are alike and have neither parents nor children nor own pages but zeros, as far as so
-/// many. It is 0 only where `most` is 0, or the first one is linked to another or has a page that isn't zeros.
+/// How many nodes, from one on, are alike and have neither parents nor children nor own pages but
+/// zeros, as far as so many. It is 0 only where `most` is 0, or the first one is linked to another
+/// or has a page that isn't zeros.
 pub fn lone_nodes(caches: &Caches, node: NodeId, most: u32) -> u32
     requires { HasNode caches.now node }
     ensures most { result ≤ most }

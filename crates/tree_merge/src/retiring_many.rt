@@ -9,10 +9,11 @@ use crate::shared::shared_nodes;
 use local_cache::Caches;
 use vm_ids::{Extent, PageNo};
 
-// Retires the pages of an extent, from one of them on, all at once, as far as their nodes are alike, and answers how many.
-// Either they have neither parents nor children, and go, or all have tree children, and become working nodes; and they have
-// no own pages but zeros. It answers 0, and changes nothing, where the first of these pages isn't such a one. Nothing is
-// released: none of these pages was in a frame or a swap slot.
+// Retires the pages of an extent, from one of them on, all at once, as far as their nodes are
+// alike, and answers how many. Either they have neither parents nor children, and go, or all have
+// tree children, and become working nodes; and they have no own pages but zeros. It answers 0, and
+// changes nothing, where the first of these pages isn't such a one. Nothing is released: none of
+// these pages was in a frame or a swap slot.
 pub(crate) fn retire_many(caches: &mut Caches, extent: Extent, done: u32) -> u32
     requires sound { IsSound caches.old }
     requires within { extent.first.0 + done < 2 ^ 32 }

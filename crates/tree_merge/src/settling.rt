@@ -40,7 +40,8 @@ struct Passed {
     state: OwnState,
 }
 
-// What becomes of their own pages where the node gives way to this child: it gets that of the node where it has none.
+// What becomes of their own pages where the node gives way to this child: it gets that of the node
+// where it has none.
 fn passed_to(caches: &Caches, node: NodeId, child: NodeId) -> Passed
     requires held { HasNode caches.now node }
     requires child { HasNode caches.now child }
@@ -83,8 +84,8 @@ fn pass_page(caches: &mut Caches, node: NodeId, child: NodeId) -> Released
     released
 }
 
-// The child, which has no parent, comes in the place of the node, where that hangs on a parent. Where it would be a stub
-// with an own page it stays without a parent, and the node is cut off.
+// The child, which has no parent, comes in the place of the node, where that hangs on a parent.
+// Where it would be a stub with an own page it stays without a parent, and the node is cut off.
 fn put_instead(caches: &mut Caches, node: NodeId, child: NodeId)
     requires sound { IsSound caches.old }
     requires held { HasNode caches.old node }
@@ -125,7 +126,8 @@ fn give_way(caches: &mut Caches, node: NodeId, child: NodeId)
     caches.free(node);
 }
 
-// The only child takes the page and the place of the node, which goes, whichever links they hang by.
+// The only child takes the page and the place of the node, which goes, whichever links they hang
+// by.
 fn give_in_steps(caches: &mut Caches, node: NodeId, child: NodeId) -> Released
     requires sound { IsSound caches.old }
     requires held { HasNode caches.old node }
@@ -141,8 +143,9 @@ fn give_in_steps(caches: &mut Caches, node: NodeId, child: NodeId) -> Released
     released
 }
 
-// The same where neither hangs by a stub link. The parent, where there is one, and the child are written once each: so
-// where nodes of one run give way one after the other, bounds of runs move, and no run is split for each.
+// The same where neither hangs by a stub link. The parent, where there is one, and the child are
+// written once each: so where nodes of one run give way one after the other, bounds of runs move,
+// and no run is split for each.
 fn give_at_once(
     caches: &mut Caches,
     node: NodeId,
@@ -192,7 +195,8 @@ fn give_to(caches: &mut Caches, node: NodeId, child: NodeId) -> Released
     }
 }
 
-// A node with fewer than two children goes. Its only child, where it has one, takes its page and its place.
+// A node with fewer than two children goes. Its only child, where it has one, takes its page and
+// its place.
 pub(crate) fn merge(caches: &mut Caches, node: NodeId) -> Released
     requires sound { IsSound caches.old }
     requires held { HasNode caches.old node }
@@ -210,9 +214,10 @@ pub(crate) fn merge(caches: &mut Caches, node: NodeId) -> Released
     }
 }
 
-/// One step of settle. The working node with the least number of those that have fewer than two children goes: its only
-/// child, where it has one, takes its place, and takes its own page over where it has none itself. It answers `None`, and
-/// changes nothing, exactly where each working node has at least two children.
+/// One step of settle. The working node with the least number of those that have fewer than two
+/// children goes: its only child, where it has one, takes its place, and takes its own page over
+/// where it has none itself. It answers `None`, and changes nothing, exactly where each working
+/// node has at least two children.
 pub fn settle_step(caches: &mut Caches) -> Option<Released>
     requires { IsSound caches.old }
     ensures sound { IsSound caches.new }

@@ -18,7 +18,8 @@ fn is_shared(caches: &Caches, node: NodeId) -> bool
     is_empty(caches.own_state(node)) && caches.tree_child(node, 0).is_some()
 }
 
-// How many nodes, from one on, are alike and have tree children, and no own pages but zeros, as far as so many.
+// How many nodes, from one on, are alike and have tree children, and no own pages but zeros, as far
+// as so many.
 pub(crate) fn shared_nodes(caches: &Caches, node: NodeId, most: u32) -> u32
     requires { HasNode caches.now node }
     ensures most { result ≤ most }

@@ -26,7 +26,8 @@ fn is_small(span: Span) -> bool
     span.pages <= SMALL_COPY
 }
 
-// One page becomes a copy of another: its node is detached, and the fresh one is hung on its source's.
+// One page becomes a copy of another: its node is detached, and the fresh one is hung on its
+// source's.
 fn copy_alone(
     caches: &mut Caches,
     is_small: bool,
@@ -54,7 +55,8 @@ fn copy_alone(
     released
 }
 
-// As many pages of a large copy as have alike nodes are copied at once, and none of a small one. How many.
+// As many pages of a large copy as have alike nodes are copied at once, and none of a small one.
+// How many.
 fn copy_alike(caches: &mut Caches, is_small: bool, span: Span, done: u32) -> u32
     requires sound { IsSound caches.old }
     requires can { CanCopy (forest_of caches.old) (pairs_left span done) }
@@ -75,10 +77,11 @@ fn copy_alike(caches: &mut Caches, is_small: bool, span: Span, done: u32) -> u32
     }
 }
 
-/// Copies the pages of a span, from one of them on: at least one of them. Those of a large copy whose nodes are alike are
-/// copied at once, by tree links, and nothing is released then; else it is one page, by a stub where the copy is small,
-/// and the answer tells what became of the node that it had. It takes no memory: there has to be room for two nodes a
-/// page that is left. Nothing is saved before, and working nodes that are left with fewer than two children stay.
+/// Copies the pages of a span, from one of them on: at least one of them. Those of a large copy
+/// whose nodes are alike are copied at once, by tree links, and nothing is released then; else it
+/// is one page, by a stub where the copy is small, and the answer tells what became of the node
+/// that it had. It takes no memory: there has to be room for two nodes a page that is left. Nothing
+/// is saved before, and working nodes that are left with fewer than two children stay.
 pub fn copy_step(caches: &mut Caches, span: Span, done: u32) -> Step
     requires sound { IsSound caches.old }
     requires consistent { IsConsistent (forest_of caches.old) }
@@ -107,10 +110,10 @@ pub fn copy_step(caches: &mut Caches, span: Span, done: u32) -> Step
     }
 }
 
-/// Retires the pages of an extent, from one of them on: at least one of them. Those whose nodes are alike, and have no own
-/// pages but zeros, are retired at once, where nothing hangs on any of them, nor they on anything, or where all have tree
-/// children; nothing is released then. Else it is one page, and the answer tells what became of its node. It takes no
-/// memory and no room.
+/// Retires the pages of an extent, from one of them on: at least one of them. Those whose nodes are
+/// alike, and have no own pages but zeros, are retired at once, where nothing hangs on any of them,
+/// nor they on anything, or where all have tree children; nothing is released then. Else it is one
+/// page, and the answer tells what became of its node. It takes no memory and no room.
 pub fn retire_step(caches: &mut Caches, extent: Extent, done: u32) -> Step
     requires sound { IsSound caches.old }
     requires within { extent.first.0 + done < 2 ^ 32 }

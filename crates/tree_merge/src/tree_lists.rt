@@ -60,7 +60,8 @@ fn exchange(caches: &mut Caches, parent: NodeId, node: NodeId, instead: Option<N
     set_children(caches, parent, first, second);
 }
 
-// Among the tree children of the parent, where there is one, comes another one in the place of a node.
+// Among the tree children of the parent, where there is one, comes another one in the place of a
+// node.
 pub(crate) fn exchange_under(
     caches: &mut Caches,
     parent: Option<NodeId>,

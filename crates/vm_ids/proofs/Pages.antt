@@ -30,26 +30,7 @@ pages_of : (o : Option (List (List ℕ))) (page : ℕ) (old : List ℕ) → opti
 pages_of None page old e = absurd (cc)
 pages_of (Some pages) page old e = slice_get_within pages page old e
 
--- the page pushed
-pub pushed_page : (h : Held) (seg page : ℕ) (bytes old : List ℕ) → page_of h seg page ≡ Some old → page_of (with_page seg page bytes h) seg page ≡ Some bytes
-pushed_page h seg page bytes old e =
-    let pages : List (List ℕ) = unwrap_or (get h.segments seg) [] in
-    ap (option_and_then (λ pages. slice_get pages page)) (get-insert nat_cmp_total h.segments seg (set pages page bytes) seg ∙ ap (λ (b : Bool). cond b (Some (set pages page bytes)) (get h.segments seg)) (unsigned_tied seg seg ∙ same_number seg))
-    ∙ get_set_same pages page bytes (pages_of (get h.segments seg) page old e)
-
 -- another page of the same segment; where the segment isn't there, there are none
 other_page : (o : Option (List (List ℕ))) (page q : ℕ) (bytes : List ℕ) → q ≢ page → (page < length (unwrap_or o [])) → slice_get (set (unwrap_or o []) page bytes) q ≡ option_and_then (λ pages. slice_get pages q) o
 other_page None page q bytes d h = absurd (omega arith)
 other_page (Some pages) page q bytes d h = get_set_other pages page q bytes d
-
--- every other page
-pub unpushed_page : (h : Held) (seg page : ℕ) (bytes old : List ℕ) (t q : ℕ) → page_of h seg page ≡ Some old → (t ≡ seg → q ≢ page) → page_of (with_page seg page bytes h) t q ≡ page_of h t q
-unpushed_page h seg page bytes old t q e apart =
-    let pages : List (List ℕ) = unwrap_or (get h.segments seg) [] in
-    let got = get-insert nat_cmp_total h.segments seg (set pages page bytes) t in
-    elim (cases_eq t seg) [
-      | inl s ↦ ap (option_and_then (λ pages. slice_get pages q)) (got ∙ ap (λ (b : Bool). cond b (Some (set pages page bytes)) (get h.segments t)) (unsigned_tied t seg ∙ ap (λ (k : ℕ). k == seg) s ∙ same_number seg))
-          ∙ other_page (get h.segments seg) page q bytes (apart s) (pages_of (get h.segments seg) page old e)
-          ∙ ap (λ (k : ℕ). page_of h k q) (sym s)
-      | inr d ↦ ap (option_and_then (λ pages. slice_get pages q)) (got ∙ ap (λ (b : Bool). cond b (Some (set pages page bytes)) (get h.segments t)) (unsigned_tied t seg ∙ other_number t seg d))
-    ]

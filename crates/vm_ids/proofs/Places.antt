@@ -33,10 +33,6 @@ pub bit_from : (t : Bool) → 1 ≤ bit t → t ≡ true
 bit_from true h = refl
 bit_from false h = absurd (omega arith)
 
-pub bit_none : (t : Bool) → bit t ≡ 0 → t ≡ false
-bit_none true h = absurd (omega arith)
-bit_none false h = refl
-
 pub bit_mono : (a b : Bool) → (a ≡ true → b ≡ true) → bit a ≤ bit b
 bit_mono true b h = omega (arith, bit_true b (h refl))
 bit_mono false b h = omega arith

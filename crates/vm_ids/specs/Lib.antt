@@ -1,5 +1,7 @@
+pub mod Accessing
 pub mod Counting
 pub mod Forest
 pub mod Denying
+pub mod Dispatching
 pub mod Held
 pub mod Refusing

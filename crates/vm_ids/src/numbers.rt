@@ -25,7 +25,7 @@ pub struct RegionId(pub u32);
 #[derive(Clone, Copy, Debug, PartialEq, Eq)]
 pub struct SegId(pub u32);
 
-/// The number of a page node. A number may come again once its node is gone.
+/// The number of a page node. No number comes again once its node is gone.
 #[derive(Clone, Copy, Debug, PartialEq, Eq)]
 pub struct NodeId(pub u64);
 

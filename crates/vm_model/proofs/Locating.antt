@@ -47,7 +47,7 @@ living_behind : (x y : Option model.Actor) (xs ys : List (Option model.Actor)) �
 living_behind x y xs ys e rest =
     sum_by-cons (λ o. cond (is_some o) 1 0) x xs ∙ ap (λ (b : Bool). cond b 1 0 + count_by is_some xs) e ∙ ap (λ (k : ℕ). cond (is_some y) 1 0 + k) rest ∙ sym (sum_by-cons (λ o. cond (is_some o) 1 0) y ys)
 
--- What no region in front has as its number ------------------------------------------------
+-- What no region in front has as its number
 
 module _ (n : ℕ) where
   among_behind : (front back : model.Actor) → region_among n front ≡ None → region_among n (front ++ back) ≡ region_among n back
@@ -131,7 +131,7 @@ module _ (n : ℕ) where
         first = ap (λ (i : ℕ). region_with n (actors_seen (take i xs))) index ∙ none;
       }
 
-  -- What the region becomes ---------------------------------------------------------------
+  -- What the region becomes
 
   module _ (rs : List Region) (k : ℕ) (r : Region) (place : IsPlaceOf n rs k r) where
     found_here : (r.number.0 == n) ≡ true
@@ -250,7 +250,7 @@ module _ (n : ℕ) where
   pub nothing_changes : (m : model.Machine) (by : model.Region → List model.Region) → region_with n m.actors ≡ None → change_region m n by ≡ m
   nothing_changes m by none = ap (λ xs. record m { actors = xs }) (ap (replace_in n by) (sym (append-nil m.actors)) ∙ in_behind by m.actors [] none ∙ append-nil m.actors)
 
-  -- The tables after a region became others -------------------------------------------------
+  -- The tables after a region became others
 
   as_many : (by : model.Region → List model.Region) (xs : List (Option model.Actor)) → length (replace_in n by xs) ≡ length xs
   as_many by [] = refl

@@ -2,3 +2,5 @@
 pub mod Lists
 pub mod ListParts
 pub mod Naming
+pub mod Pairs
+pub mod Distinct

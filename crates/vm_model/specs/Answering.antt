@@ -1,4 +1,5 @@
--- The machine's answer to a command, row by row: the first refusal that holds, or else the reply and the change.
+-- The machine's answer to a command, row by row: the first refusal that holds, or else the reply
+-- and the change.
 use Rattle.std.specs.Prelude.{◌==◌, ℕ, ◌+◌, ◌-◌, ◌*◌, ◌%◌, ◌^◌, ◌&&◌, ◌||◌, not, Bool, false, true, is_some, nat_lt, nat_le, List, [], ◌∷◌, ◌++◌, map, filter, length, take, drop, replicate, Option, Some, None, option_map, option_and_then, slice_get, slice_set, Result, Ok, Err, if◌then◌else◌, unwrap_or}
 use Rattle.std.specs.List.{list_any, range_with_len}
 use Rattle.std.specs.FinMap.{get}

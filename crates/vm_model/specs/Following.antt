@@ -16,7 +16,8 @@ use Rattle.vm_model.specs.Regions.{region_with}
 use Rattle.vm_model.specs.PageForest.{PageForest, told, nodes_of, nodes_in, page_in}
 use Rattle.vm_model.specs.Answering.{Answer, is_named, overwrite}
 
--- The pages of which a command does the saves, where they are of a named cache: those that it replaces or takes away.
+-- The pages of which a command does the saves, where they are of a named cache: those that it
+-- replaces or takes away.
 abbrev pub pages_saved : Machine → Command → List NodeName
 pages_saved m (commands.Copy span) = page_names span.to span.to_page.0 span.pages
 pages_saved m (commands.Move span) = page_names span.to span.to_page.0 span.pages
@@ -47,8 +48,8 @@ written_at f (Ok at) bytes =
     (option_map (overwrite at.byte bytes))
 written_at f (Err r) bytes = f
 
--- The rule of each command that was carried out, which led from machine m to next. New pages, and the zeros that a move
--- leaves, are those that next has.
+-- The rule of each command that was carried out, which led from machine m to next. New pages, and
+-- the zeros that a move leaves, are those that next has.
 abbrev pub followed : PageForest → Machine → Command → Machine → PageForest
 followed f m (commands.MakeTemp pages) next =
     make (nodes_of (length next.caches) (cache_of next (length next.caches))) f

@@ -1,5 +1,5 @@
--- The laws of the machine and the page forest that follows it. The contracts of the functions in src/laws.rt name them,
--- and so each is proved.
+-- The laws of the machine and the page forest that follows it. The contracts of the functions in
+-- src/laws.rt name them, and so each is proved.
 use Rattle.std.specs.Prelude.{◌≡◌, ℕ, ◌+◌, ◌≤◌, List, length, Option, Some, None, IfOk, IsSome, IsSomeAnd, All}
 use Rattle.std.specs.List.{AllByRecursion}
 use Rattle.vm_ids.specs.Counting.{MapperCounts}
@@ -16,7 +16,10 @@ use Rattle.vm_model.specs.Answering.{Answer}
 use Rattle.vm_model.specs.Asking.{IsWellFormed}
 use Rattle.vm_model.specs.Following.{forest_after}
 use Rattle.vm_model.specs.Outcome.{BlankOutcome, HasWholePages, Outcome}
-use Rattle.vm_model.specs.Run.{Chain, State, Step}
+use Rattle.vm_model.specs.Run.{Read, State, command_semantics}
+use Rattle.vm_model.specs.Steps.{Chain, Step}
+use Rattle.vm_model.specs.Events.{Event, RunOf, Stand, steps_of}
+use Rattle.vm_model.specs.InOrder.{IsInOrder, answer_order}
 
 -- The forest has its shape, and agrees with the machine.
 pub record IsFollowed (m : Machine) (f : PageForest) : Type 0 where
@@ -55,7 +58,8 @@ MachinesStayLaid =
     (rises : MapperCounts)
     → IsLaid m → Outcome m (Some f) command h answer next rises → IsLaid next
 
--- Where the mapper tells nothing, the forest without bytes agrees with the machine without bytes, and goes on so.
+-- Where the mapper tells nothing, the forest without bytes agrees with the machine without bytes,
+-- and goes on so.
 abbrev pub UntoldAnswersAreFollowed : Type 0
 UntoldAnswersAreFollowed =
     (m next : Machine) (f : PageForest) (command : Command) (answer : Answer) (rises : MapperCounts)
@@ -72,10 +76,25 @@ started frames bytes told =
 -- machine, whether the mapper tells what it holds or not.
 abbrev pub RunsAreFollowed : Type 0
 RunsAreFollowed =
-    (frames bytes : ℕ) (told : Option Segments) (steps : List Step) (after : State) → 1 ≤ bytes
-    → AllByRecursion (λ (step : Step). IfOk step.read IsWellFormed) steps
-    → Chain (started frames bytes told) steps after
+    (frames bytes : ℕ) (told : Option Segments) (steps : List (Step Read)) (after : State)
+    → 1 ≤ bytes
+    → AllByRecursion (λ (step : Step Read). IfOk step.read IsWellFormed) steps
+    → Chain command_semantics (started frames bytes told) steps after
     → IsSomeAnd after.forest (IsFollowed after.machine)
+
+-- However a run goes, its answers lead from one state to the next.
+abbrev pub RunsAreChains : Type 0
+RunsAreChains =
+    (before : State) (reads : List Read) (events : List (Event Read))
+    (after : Stand command_semantics) → RunOf command_semantics before reads events after
+    → Chain command_semantics before (steps_of events) after.state
+
+-- and wherever it ends, the lines are answered in order
+abbrev pub RunsAreInOrder : Type 0
+RunsAreInOrder =
+    (before : State) (reads : List Read) (events : List (Event Read))
+    (after : Stand command_semantics) → RunOf command_semantics before reads events after
+    → IsInOrder command_semantics reads (answer_order command_semantics reads events after)
 
 abbrev pub PlainForestFollows : Type 0
 PlainForestFollows = (m : Machine) → IsFollowed m (plain_forest m)

@@ -29,8 +29,9 @@ pub record Region : Type 0 where
 abbrev pub Actor : Type 0
 Actor = List Region
 
--- Caches and actors are numbered from 1 in the order of making, so the number made is the length; a dead one is None.
--- frames is what the limit on locked pages is counted by, and page_bytes the length of a page.
+-- Caches and actors are numbered from 1 in the order of making, so the number made is the length; a
+-- dead one is None. frames is what the limit on locked pages is counted by, and page_bytes the
+-- length of a page.
 pub record Machine : Type 0 where
   pub page_bytes : ℕ
   pub frames : ℕ

@@ -1,4 +1,5 @@
--- What a manager may answer to a command: the machine's answer, a mapper fault with its cause, or want of memory.
+-- What a manager may answer to a command: the machine's answer, a mapper fault with its cause, or
+-- want of memory.
 use Rattle.std.specs.Prelude.{◌≡◌, ℕ, ◌+◌, ◌<◌, ◌≤◌, false, List, [], map, length, Option, Some, None, option_map, Ok, Err, All, IsSome, IsSomeAnd, IsOkAnd}
 use Rattle.vm_ids.specs.Counting.{MapperCounts, no_counts}
 use Rattle.vm_ids.specs.Held.{Segments}
@@ -51,9 +52,9 @@ IsFirstAsked m h s p =
     (s.to_page.0 ≤ p) × (p < s.to_page.0 + s.pages)
     × ((q : ℕ) → s.to_page.0 ≤ q → q < p → is_denied_page m h s.to.0 q ≡ false)
 
--- So many saves of these pages can be done from the forest, one after the other, and after them a page with an own page
--- and an heir is left: at each of them, and behind the last, there is a page to save. The plain forest has no heirs, so
--- where the forest isn't told no save was done.
+-- So many saves of these pages can be done from the forest, one after the other, and after them a
+-- page with an own page and an heir is left: at each of them, and behind the last, there is a page
+-- to save. The plain forest has no heirs, so where the forest isn't told no save was done.
 abbrev pub CanFailAtSave : Option PageForest → List NodeName → ℕ → Type 0
 CanFailAtSave None pages done = done ≡ 0
 CanFailAtSave (Some f) pages done = (n : ℕ) → n ≤ done → IsSome (unsaved (saves n pages f) pages)
@@ -122,9 +123,9 @@ abbrev pub IsNotRefused : Answer → Type 0
 IsNotRefused (Ok r) = Unit {0}
 IsNotRefused (Err e) = ⊥
 
--- The answer and the next machine are the machine's, with chain and stat told by the forest; or it is a fault that has a
--- cause, or want of memory, and the machine stays. rises says by how much the mapper's counts rose in the course of this
--- answer.
+-- The answer and the next machine are the machine's, with chain and stat told by the forest; or it
+-- is a fault that has a cause, or want of memory, and the machine stays. rises says by how much the
+-- mapper's counts rose in the course of this answer.
 abbrev pub Outcome : Machine → Option PageForest → Command → Segments → Answer → Machine
     → MapperCounts → Type 0
 Outcome m f command h (Err (troubles.Mapper at)) next rises =
@@ -139,12 +140,14 @@ Outcome m f command h (Err (troubles.Refused r)) next rises =
 Outcome m f command h (Ok r) next rises =
     answer_of m (forest_shown f m) command h ≡ record { answer = Ok r; next = next }
 
--- The outcome of a call of a machine that tells no forest and reaches no mapper, whatever the segments hold.
+-- The outcome of a call of a machine that tells no forest and reaches no mapper, whatever the
+-- segments hold.
 abbrev pub PlainOutcome : Machine → Command → Answer → Machine → Type 0
 PlainOutcome m command answer next =
     (h : Segments) → Outcome m None command h answer next no_counts
 
--- Where the mapper doesn't tell what it holds, a machine has no bytes: as many pages, and each empty.
+-- Where the mapper doesn't tell what it holds, a machine has no bytes: as many pages, and each
+-- empty.
 abbrev pub blank_cache : Cache → Cache
 blank_cache c = record c { pages = map (λ _. []) c.pages }
 
@@ -164,8 +167,8 @@ IsWhole page_bytes (Some c) = All (λ p. length p ≡ page_bytes) c.pages
 abbrev pub HasWholePages : Machine → Type 0
 HasWholePages m = All (IsWhole m.page_bytes) m.caches
 
--- Some machine with bytes, which is this one but for them, and some segments have the outcome. Of the forest an outcome
--- reads no bytes.
+-- Some machine with bytes, which is this one but for them, and some segments have the outcome. Of
+-- the forest an outcome reads no bytes.
 pub record BlankOutcome (m : Machine) (f : Option PageForest) (command : Command) (answer : Answer)
     (next : Machine) (rises : MapperCounts) : Type 0 where
   pub whole : Machine

@@ -1,4 +1,5 @@
--- The page forest that a manager keeps for a machine, and the plain one that stands in where a manager tells none.
+-- The page forest that a manager keeps for a machine, and the plain one that stands in where a
+-- manager tells none.
 use Rattle.std.specs.Prelude.{◌≡◌, ◌↔◌, ℕ, ◌+◌, List, [], ◌∷◌, ◌++◌, map, take, drop, Option, Some, None, option_map, option_and_then, slice_get, IsSome}
 use Rattle.vm_ids.specs.declared.command.Extent.{Extent}
 use Rattle.vm_ids.specs.declared.node_name.NodeName.{NodeName}
@@ -12,7 +13,8 @@ use Rattle.vm_model.specs.Machine.{Machine, Page, Cache, cache_of}
 abbrev pub PageForest : Type 0
 PageForest = Forest (Option Page)
 
--- The page of a machine, as a forest has it: a machine without bytes has empty pages, whose bytes aren't told.
+-- The page of a machine, as a forest has it: a machine without bytes has empty pages, whose bytes
+-- aren't told.
 abbrev pub told : Page → Option Page
 told [] = None
 told (b ∷ bs) = Some (b ∷ bs)
@@ -33,8 +35,8 @@ abbrev pub nodes_from : ℕ → List (Option Cache) → List (NodeName × Option
 nodes_from number [] = []
 nodes_from number (c ∷ cs) = nodes_of number c ++ nodes_from (number + 1) cs
 
--- The plain forest of a machine: each page of a live cache owns itself; there is no link and no working node, and
--- nothing was copied.
+-- The plain forest of a machine: each page of a live cache owns itself; there is no link and no
+-- working node, and nothing was copied.
 unfoldable pub plain_forest : Machine → PageForest
 plain_forest m = make (nodes_from 1 m.caches) no_forest
 

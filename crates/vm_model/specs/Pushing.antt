@@ -21,8 +21,8 @@ segments_after m (p ∷ ps) s =
     segments_after m ps
     (option_map (put_segment_page p.0 p.1 (unwrap_or (page_named m p.0 p.1) [])) s)
 
--- Each push is of a page of a named cache, as the machine holds it before the answer, and nothing else changes a
--- segment. A push is its segment and its page.
+-- Each push is of a page of a named cache, as the machine holds it before the answer, and nothing
+-- else changes a segment. A push is its segment and its page.
 pub record PushRule (m : Machine) (before : Option Segments) (pushes : List (ℕ × ℕ))
     (after : Option Segments) : Type 0 where
   pub may : AllByRecursion (MayPush m before) pushes

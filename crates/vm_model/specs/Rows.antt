@@ -1,5 +1,6 @@
--- Worked scripts, as runs of the machine and of the page forest that follows it: what each command answers, and whether
--- the last forest has the last machine's pages. A page has two bytes here. The definitions compute each of them.
+-- Worked scripts, as runs of the machine and of the page forest that follows it: what each command
+-- answers, and whether the last forest has the last machine's pages. A page has two bytes here. The
+-- definitions compute each of them.
 use Rattle.std.specs.Prelude.{◌≡◌, ℕ, Bool, true, false, List, [], ◌∷◌, map, Some, Ok, Err}
 use Rattle.std.specs.FinMap.{empty, insert}
 use Rattle.vm_ids.specs.Held.{Segments}
@@ -40,7 +41,8 @@ played_first a p = record p { answers = a ∷ p.answers }
 abbrev pub one_segment : List Page → Segments
 one_segment pages = record { pages = insert empty 1 pages; denied = [] }
 
--- a command was answered so; the forest follows the machines as they are seen, and the rest goes on from there
+-- a command was answered so; the forest follows the machines as they are seen, and the rest goes on
+-- from there
 abbrev pub played_on : (Machine → Machine) → Machine → PageForest → Command
     → (Machine → PageForest → Played) → Answered → Played
 played_on seen m f command rest a =
@@ -74,7 +76,7 @@ pub record AnswersOver (h : Segments) (cs : List Command) (answers : List Answer
 abbrev pub Answers : List Command → List Answer → Type 0
 Answers = AnswersOver no_segments
 
--- Commands and answers in short -----------------------------------------------------
+-- Commands and answers in short
 
 abbrev pub temp : ℕ → Command
 temp pages = commands.MakeTemp pages
@@ -195,7 +197,7 @@ item x n = record { name = x; children = n }
 abbrev pub page : ℕ → ℕ → NodeName
 page c p = page_name (record { 0 = c }) p
 
--- The scripts -----------------------------------------------------------------------
+-- The scripts
 
 abbrev pub TreeCopyOfNinePages : Type 0
 TreeCopyOfNinePages = Answers
@@ -288,8 +290,8 @@ SplitProtectedAndExited = Answers
     ∷ no refusals.NoRegion ∷ no refusals.NoRegion ∷ no refusals.NoRegion ∷ no refusals.NoActor
     ∷ no refusals.NoActor ∷ ok ∷ [])
 
--- Five pages of a copy are locked, and with 8 frames a sixth can't be: until they are unlocked, they
--- are neither unmapped nor copied to. A locked page is a copy of its own, and is stored into.
+-- Five pages of a copy are locked, and with 8 frames a sixth can't be: until they are unlocked,
+-- they are neither unmapped nor copied to. A locked page is a copy of its own, and is stored into.
 abbrev pub LockedAndUnlocked : Type 0
 LockedAndUnlocked = Answers
     (commands.MakeActor ∷ temp 6 ∷ temp 6 ∷ map_ 1 6 65536 ∷ store 65536 1 ∷ copy 1 0 2 0 6

@@ -1,9 +1,11 @@
--- A whole run: one answer after another.
-use Rattle.std.specs.Prelude.{◌≡◌, ℕ, ◌+◌, ◌≤◌, List, [], ◌∷◌, map, length, Option, option_map, IfSome, Result, Ok, Err}
-use Rattle.vm_ids.specs.Counting.{MapperCounts, Rise, no_counts, counts_sum}
+-- One answer after another of a manager: what there is between them, and what a script means to it.
+use Rattle.std.specs.Prelude.{◌≡◌, ℕ, ◌≤◌, List, [], length, Option, Some, None, option_map, IfSome, Result, Ok, Err}
+use Rattle.vm_ids.specs.Counting.{MapperCounts, Rise, no_counts}
 use Rattle.vm_ids.specs.Held.{Held, Segments, segments_of}
 use Rattle.vm_ids.specs.declared.command.Command.{Command}
+use Rattle.vm_ids.specs.declared.command.Command.TheVariants as commands
 use Rattle.vm_ids.specs.declared.refusal.Refusal.{Refusal}
+use Rattle.vm_ids.specs.declared.reply.Reply.{Reply}
 use Rattle.vm_ids.specs.declared.reply.Trouble.TheVariants.{Refused}
 use Rattle.vm_model.specs.Machine.{Machine}
 use Rattle.vm_model.specs.PageForest.{PageForest}
@@ -13,9 +15,10 @@ use Rattle.vm_model.specs.Asking.{ReachesMapper}
 use Rattle.vm_model.specs.Outcome.{HasWholePages, OutcomeAt}
 use Rattle.vm_model.specs.Pushing.{PushRule}
 use Rattle.vm_model.specs.Synchronised.{IsSynchronised}
+use Rattle.vm_model.specs.Steps.{Semantics}
 
--- What there is between two answers: the machine, the page forest where the manager tells it, and the mapper's
--- segments where they are told.
+-- What there is between two answers: the machine, the page forest where the manager tells it, and
+-- the mapper's segments where they are told.
 pub record State : Type 0 where
   pub machine : Machine
   pub forest : Option PageForest
@@ -34,7 +37,8 @@ pub record AnswerIs (before : State) (command : Command) (answer : Answer) (push
   pub synchronised : IsSynchronised before.machine after.segments command answer
   pub whole : IfSome after.segments (λ h. HasWholePages after.machine)
 
--- One call of a manager, which leads from one state to the next while the mapper's counts go from c to d.
+-- One call of a manager, which leads from one state to the next while the mapper's counts go from c
+-- to d.
 pub record CallIs (c d : MapperCounts) (before : State) (command : Command) (answer : Answer)
     (after : State) : Type 0 where
   pub pushes : List (ℕ × ℕ)
@@ -52,14 +56,6 @@ state_of machine forest gmi told =
 abbrev pub Read : Type 0
 Read = Result Command Refusal
 
--- The answer to one line. Lines are numbered from 1.
-pub record Step : Type 0 where
-  pub number : ℕ
-  pub read : Read
-  pub answer : Answer
-  pub pushes : List (ℕ × ℕ)
-  pub rises : MapperCounts
-
 -- a line that is no command is refused and changes nothing
 pub record NothingRead (before : State) (r : Refusal) (answer : Answer) (pushes : List (ℕ × ℕ))
     (rises : MapperCounts) (after : State) : Type 0 where
@@ -73,35 +69,34 @@ StepIs before (Err r) answer pushes rises after = NothingRead before r answer pu
 StepIs before (Ok command) answer pushes rises after =
     AnswerIs before command answer pushes rises after
 
--- one answer after another, whichever lines they are of
-abbrev pub Chain : State → List Step → State → Type 0
-Chain before [] after = after ≡ before
-Chain before (step ∷ steps) after =
-    (between : State) × StepIs before step.read step.answer step.pushes step.rises between
-    × Chain between steps after
+-- The line is answered so. What is pushed meanwhile is free: it is what an eviction chooses.
+abbrev pub IsAnswered : State → Read → Answer → MapperCounts → State → Type 0
+IsAnswered before read answer rises after =
+    (pushes : List (ℕ × ℕ)) × StepIs before read answer pushes rises after
 
--- the lines that the steps are of
-abbrev pub lines_answered : List Step → List (ℕ × Read)
-lines_answered steps = map (λ (step : Step). (step.number, step.read)) steps
+-- the actor of a load or a store; none of any other line
+abbrev pub actor_of_line : Read → Option ℕ
+actor_of_line (Ok (commands.Load actor address length)) = Some actor.0
+actor_of_line (Ok (commands.Store actor address piece)) = Some actor.0
+actor_of_line read = None
 
-abbrev pub numbered_from : ℕ → List Read → List (ℕ × Read)
-numbered_from first [] = []
-numbered_from first (c ∷ cs) = (first, c) ∷ numbered_from (first + 1) cs
+-- Nothing refuses the command: this machine, or one with bytes for which it stands, would carry it
+-- out.
+pub record IsUnrefused (s : State) (command : Command) : Type 0 where
+  pub reply : Reply
+  pub next : Machine
+  pub outcome : OutcomeAt s.segments s.machine s.forest command (Ok reply) next no_counts
 
--- each line is answered once, in order
-abbrev pub IsInOrder : ℕ → List Read → List Step → Type 0
-IsInOrder first reads steps = lines_answered steps ≡ numbered_from first reads
+abbrev pub Admits : State → Read → Type 0
+Admits s (Ok command) = IsUnrefused s command
+Admits s (Err r) = ⊥
 
--- A run over these lines, the first of which has this number.
-pub record RunFrom (first : ℕ) (before : State) (reads : List Read) (steps : List Step)
-    (after : State) : Type 0 where
-  pub chain : Chain before steps after
-  pub order : IsInOrder first reads steps
-
-abbrev pub RunOf : State → List Read → List Step → State → Type 0
-RunOf before reads steps after = RunFrom 1 before reads steps after
-
--- by how much the counts rise in all steps together
-abbrev pub rises_of : List Step → MapperCounts
-rises_of [] = no_counts
-rises_of (step ∷ steps) = counts_sum step.rises (rises_of steps)
+-- what the commands of a script mean
+abbrev pub command_semantics : Semantics
+command_semantics = record {
+  State = State;
+  Read = Read;
+  actor_of = actor_of_line;
+  StepIs = IsAnswered;
+  Admits = Admits;
+}

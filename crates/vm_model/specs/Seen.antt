@@ -79,7 +79,8 @@ abbrev pub ArePlaced : ℕ → List (Option Cache) → Option Actor → Type 0
 ArePlaced page_bytes caches None = Unit {0}
 ArePlaced page_bytes caches (Some a) = All (IsPlaced page_bytes caches) a.regions.items
 
--- The region that was located, and nothing else, became these; they are placed where the others are.
+-- The region that was located, and nothing else, became these; they are placed where the others
+-- are.
 pub record IsReplaced (l : Located) (parts : List Region) (before after : List (Option Actor))
     : Type 0 where
   pub seen : (by : model.Region → List model.Region)

@@ -22,9 +22,9 @@ use vm_ids::{
     RegionId, RegionStatus, Reply, SegId, Span, Trouble,
 };
 
-/// The machine itself, run plainly: each cache is a vector of pages, and a copy copies at once. It is the yardstick of
-/// the managers. It is seen as the machine that it is; each call meets its row of the table of answers, and is refused,
-/// or answers want of memory, before anything changes.
+/// The machine itself, run plainly: each cache is a vector of pages, and a copy copies at once. It
+/// is the yardstick of the managers. It is seen as the machine that it is; each call meets its row
+/// of the table of answers, and is refused, or answers want of memory, before anything changes.
 ///
 /// It reaches no mapper. Who has one asks it between two calls: `check_..` tells what the machine
 /// alone refuses and what the mapper has to be asked for, and the call of the command's own name
@@ -43,8 +43,8 @@ impl Model for EagerMachine {
 }
 
 impl EagerMachine {
-    /// A machine without caches and actors. It keeps the number of page frames, which limits locks alone, and its
-    /// pages have `page` bytes, 1 to 65,536.
+    /// A machine without caches and actors. It keeps the number of page frames, which limits locks
+    /// alone, and its pages have `page` bytes, 1 to 65,536.
     pub fn new(alloc: Global, frames: u32, page: u32) -> EagerMachine
         requires some { 1 ≤ page }
         requires most { page ≤ 2 ^ 16 }
@@ -65,7 +65,8 @@ impl EagerMachine {
         }
     }
 
-    /// Makes an actor without regions. Refused as `TooMany` exactly where 256 actors are alive or 65,535 were made.
+    /// Makes an actor without regions. Refused as `TooMany` exactly where 256 actors are alive or
+    /// 65,535 were made.
     #[tactic(auto, using(crate::proofs::Machines::Sound::whole))]
     pub fn make_actor(&mut self) -> Result<ActorId, Trouble>
         ensures outcome { PlainOutcome self.old Command.MakeActor
@@ -86,8 +87,9 @@ impl EagerMachine {
         actors::exit_actor(&mut self.tables, actor)
     }
 
-    /// Makes a temporary cache of so many zero pages, at least one. Refused as `TooMany` exactly where 65,535 caches
-    /// were made or the live pages would be more than 4,194,304. `Memory` where there is none for the pages.
+    /// Makes a temporary cache of so many zero pages, at least one. Refused as `TooMany` exactly
+    /// where 65,535 caches were made or the live pages would be more than 4,194,304. `Memory` where
+    /// there is none for the pages.
     #[tactic(auto, using(crate::proofs::Machines::Sound::whole))]
     pub fn make_temp(&mut self, pages: u32) -> Result<CacheId, Trouble>
         requires { 1 ≤ pages }
@@ -205,8 +207,9 @@ impl EagerMachine {
         copies::copy_pages(&mut self.tables, span)
     }
 
-    /// Maps pages of a cache into an actor. Refused as `NoActor`, `NoCache`, `Unaligned`, `BadAddress`, `OutOfCache`,
-    /// `Overlap` or `TooMany`, in this order. `Memory` where there is none for the region.
+    /// Maps pages of a cache into an actor. Refused as `NoActor`, `NoCache`, `Unaligned`,
+    /// `BadAddress`, `OutOfCache`, `Overlap` or `TooMany`, in this order. `Memory` where there is
+    /// none for the region.
     #[tactic(auto, using(crate::proofs::Machines::Sound::whole))]
     pub fn map(&mut self, actor: ActorId, mapping: &Mapping) -> Result<RegionId, Trouble>
         requires { 1 ≤ mapping.now.extent.pages }
@@ -242,8 +245,8 @@ impl EagerMachine {
         located::protect(&mut self.tables, region, prot)
     }
 
-    /// Loads so many bytes, 1 to 64, at an address of an actor. Refused as `NoActor`, `Crosses` or `BadAddress`, in
-    /// this order. It takes no memory.
+    /// Loads so many bytes, 1 to 64, at an address of an actor. Refused as `NoActor`, `Crosses` or
+    /// `BadAddress`, in this order. It takes no memory.
     pub fn load(&self, actor: ActorId, address: u64, bytes: u8) -> Result<Piece, Trouble>
         requires some { 1 ≤ bytes }
         requires few { bytes ≤ 64 }
@@ -337,9 +340,9 @@ impl EagerMachine {
         copies::move_pages(&mut self.tables, span)
     }
 
-    /// Locks a region. Refused as `NoRegion`, as `Locked` where it is locked, or as `LockLimit` where
-    /// fewer than three page frames would be left that no locked page takes, in this order. It takes
-    /// no memory.
+    /// Locks a region. Refused as `NoRegion`, as `Locked` where it is locked, or as `LockLimit`
+    /// where fewer than three page frames would be left that no locked page takes, in this order.
+    /// It takes no memory.
     #[tactic(auto, using(crate::proofs::Machines::Sound::whole))]
     pub fn lock(&mut self, region: RegionId) -> Result<(), Trouble>
         ensures outcome { PlainOutcome self.old (Command.Lock region)
@@ -360,8 +363,8 @@ impl EagerMachine {
         locks::unlock(&mut self.tables, region)
     }
 
-    /// Takes a region away. Refused as `NoRegion`, or as `Locked` where it is locked, in this order.
-    /// It takes no memory.
+    /// Takes a region away. Refused as `NoRegion`, or as `Locked` where it is locked, in this
+    /// order. It takes no memory.
     #[tactic(auto, using(crate::proofs::Machines::Sound::whole))]
     pub fn unmap(&mut self, region: RegionId) -> Result<(), Trouble>
         ensures outcome { PlainOutcome self.old (Command.Unmap region)

@@ -2,7 +2,8 @@
 ghost use Rattle.std.specs.Prelude.{◌≡◌, option_map};
 ghost use Rattle.vm_model.specs.Machine.{numbered};
 
-/// The one with this number, where it is alive: numbers count from 1, and there is none of number 0.
+/// The one with this number, where it is alive: numbers count from 1, and there is none of number
+/// 0.
 pub fn numbered<T>(list: &[Option<T>], number: u32) -> Option<&T>
     ensures { option_map (λ one. one.now) result ≡ numbered list.now number }
 {

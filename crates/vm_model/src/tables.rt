@@ -27,7 +27,8 @@ pub(crate) struct Actor {
     pub regions: Vec<Region>,
 }
 
-// Caches and actors stand at their number less 1. `living` and `live` count living actors and live pages.
+// Caches and actors stand at their number less 1. `living` and `live` count living actors and live
+// pages.
 #[derive(Drop)]
 pub(crate) struct Tables {
     pub alloc: Global,

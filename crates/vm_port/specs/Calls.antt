@@ -2,7 +2,8 @@
 use Rattle.std.specs.Prelude.{ℕ, ◌+◌, ◌-◌, ◌^◌, ◌==◌, Bool, List, min}
 use Rattle.std.specs.List.{list_any}
 
--- The number of the next call, counted from 1. It stays at the end of its type, far behind each number of a list.
+-- The number of the next call, counted from 1. It stays at the end of its type, far behind each
+-- number of a list.
 abbrev pub next_call : ℕ → ℕ
 next_call calls = min (calls + 1) (2 ^ 64 - 1)
 

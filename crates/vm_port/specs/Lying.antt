@@ -2,8 +2,8 @@
 use Rattle.std.specs.Prelude.{ℕ, ◌+◌, ◌-◌, ◌%◌, ◌^◌, List, min, replicate}
 use Rattle.vm_ids.specs.Counting.{MapperCounts}
 
--- The number whose low byte fills the next page that is pulled, the page that the last pull gave, and
--- its counts of faults, pulls and pushes.
+-- The number whose low byte fills the next page that is pulled, the page that the last pull gave,
+-- and its counts of faults, pulls and pushes.
 pub record LyingInMemory : Type 0 where
   pub next : ℕ
   pub given : List ℕ

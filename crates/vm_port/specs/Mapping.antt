@@ -23,8 +23,9 @@ slot_seen s = if s.is_held then Some s.bytes.items else None
 abbrev pub denied_seen : List (SegId × PageNo) → List (ℕ × ℕ)
 denied_seen denied = map (λ d. (d.0.0, d.1.0)) denied
 
--- The pages of its segments, the page in each slot that has one, the pages denied for writing, the length of a page,
--- which calls fail, how many were made, and its counts of faults, pulls and pushes.
+-- The pages of its segments, the page in each slot that has one, the pages denied for writing, the
+-- length of a page, which calls fail, how many were made, and its counts of faults, pulls and
+-- pushes.
 pub record MapperInMemory : Type 0 where
   pub segments : List (List (List ℕ))
   pub slots : List (Option (List ℕ))

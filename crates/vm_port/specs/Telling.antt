@@ -1,4 +1,5 @@
--- Why the pages that a mapper in memory tells have one size. The law of the trait `Mapper` cites it.
+-- Why the pages that a mapper in memory tells have one size. The law of the trait `Mapper` cites
+-- it.
 use Rattle.std.specs.Prelude.{◌≡◌, ℕ, zero, suc, ◌+◌, Bool, true, false, if◌then◌else◌, List, [], ◌∷◌, length, map, slice_get, Option, Some, None, option_and_then, option_map, IfSome, refl}
 use Rattle.std.specs.FinMap.{get, get-empty, get-insert}
 use Rattle.std.specs.List.{AllByRecursion}

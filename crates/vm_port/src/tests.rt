@@ -1,7 +1,7 @@
 // Each object in memory once on its happy path, and its faults where it was told to have them.
 use crate::{
-    CallKind, CallNo, Chooser, Clock, Failed, Fifo, Listed, Mapper, MemoryMapper, MemorySink,
-    MemorySource, Sink, Source, WrongMapper,
+    CallKind, CallNo, Chooser, Clock, Dispatcher, Failed, Fifo, Listed, ListedTurns, Mapper,
+    MemoryMapper, MemorySink, MemorySource, Rotor, Sink, Source, WrongMapper,
 };
 use std::test::Fail;
 use vm_ids::{PageNo, SegId, SlotId};
@@ -38,6 +38,21 @@ fn choosers_by_their_rules(rt: HostRuntime) {
     for (by_age, by_list) in [(0, 2), (2, 0), (3, 0), (0, 0)] {
         assert_eq!(rt; fifo.pick(&may, &mut marks), by_age);
         assert_eq!(rt; listed.pick(&may, &mut marks), by_list);
+    }
+}
+
+#[test]
+fn dispatchers_by_their_rules(rt: HostRuntime) {
+    let mut rotor = Rotor::new();
+    let mut listed = ListedTurns::new(&[None, Some(4), Some(1)]);
+    for (alternating, by_list) in [
+        (None, None),
+        (Some(2), Some(1)),
+        (None, Some(1)),
+        (Some(2), None),
+    ] {
+        assert_eq!(rt; rotor.turn(3), alternating);
+        assert_eq!(rt; listed.turn(3), by_list);
     }
 }
 

@@ -111,14 +111,6 @@ by_most false = (omega arith, omega arith)
 pub copy_most : (own : OwnState) → (pulls_to_copy own ≤ 1) × (frames_to_copy own ≤ 2)
 copy_most own = by_most (is_pulled own)
 
--- what is in a frame, in a slot or on a segment is brought in and copied
-pub bring_copies : (own : OwnState) → is_absent own ≡ false → (own ≡ Zero → ⊥) → frames_to_bring own + 1 ≡ frames_to_copy own
-bring_copies Absent some zero = absurd (cc some)
-bring_copies Zero some zero = absurd (zero refl)
-bring_copies (Resident d) some zero = refl
-bring_copies (Slot s) some zero = refl
-bring_copies OnSegment some zero = refl
-
 -- a resident page is copied to one frame
 pub resident_copies : (own : OwnState) → is_resident own ≡ true → (pulls_to_copy own ≡ 0) × (frames_to_copy own ≡ 1)
 resident_copies Absent e = absurd (cc e)

@@ -26,7 +26,8 @@ use Rattle.fault_path.specs.Giving.{IsGiven, IsHanded, IsOwned}
 use Rattle.fault_path.proofs.Frames.SettledFrame.{IsResidentIn, homed, homed_here, homed_other, homed_pinned, homed_right}
 use Rattle.fault_path.proofs.Pages.OwnPage.{given_copies, given_like, given_made, kept}
 
--- Frame f, which its taker had, is node n's, whose caches were changed for that, and one copy was counted.
+-- Frame f, which its taker had, is node n's, whose caches were changed for that, and one copy was
+-- counted.
 pub record GivesFrame (w v : World) (f : ℕ) (n : NodeId) : Type 0 where
   pub right : IsStoreRight v
   pub sound : IsSound v.caches
@@ -78,7 +79,8 @@ module _ (w : World) (f : ℕ) (n : NodeId) (right : IsStoreRight w) (taken : Is
       page_bytes = refl;
     }
 
-  -- The caches after the node's state was set and its stub link cut, with the pages that are told at the end.
+  -- The caches after the node's state was set and its stub link cut, with the pages that are told
+  -- at the end.
   module _ (given : Arena) (is : IsGiven w.caches given n) (now : NodeId → Option (Option (List ℕ))) (some : is_some (now n) ≡ true) (others : (m : NodeId) → m ≢ n → now m ≡ own_page w m) (told : Tells now (with_own w.caches n (Resident true))) where
     gets_by : forest_by now given ≡ gets (store_forest w) (name_of w.caches n) (now n)
     unfolding gets store_forest

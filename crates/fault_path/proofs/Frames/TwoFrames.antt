@@ -101,10 +101,6 @@ module _ {P : Type 0} where
       own_stubs (TreeOf p) e = refl
       own_stubs (StubOf p) e = ap (λ b. cond b (without x (node f x).stubs) (node f x).stubs) (same_apart p x (not_own_parent p e))
 
--- the length goes by the names
-pub store_len : (w : World) → IsSound w.caches → len (store_forest w).nodes ≡ len (forest_of w.caches).nodes
-store_len w sound = sym (len-map no_page (store_forest w)) ∙ ap (λ f. len f.nodes) (store_bare w sound) ∙ len-map no_page (forest_of w.caches)
-
 -- A frame that was taken is given back, where no second one was gathered.
 module _ (old w v : World) (f : ℕ) (gathered : IsGathered f old w) (none : NoneGathered w v) where
   stays : PinnedStays w v f
@@ -185,11 +181,6 @@ module _ {old w v : World} {f g : ℕ} {n o : NodeId} {b : Arena} (right : IsFor
 
   linked : IsLinked (store_forest old)
   linked = let k = store_shaped old sound shaped in k.linked
-
-  pub step_len : len (forest_of b).nodes ≤ len (forest_of old.caches).nodes
-  step_len =
-      let most = more_names (store_forest old) (own (store_forest old) (name_of old.caches n)) [] (λ z i. inr (sym (own-names (store_forest old) linked (name_of old.caches n) (store_node old sound n there) z) ∙ i)) in
-      omega (arith, most, ap (λ k. len k.nodes) step_forest, store_len (homed v f n b) step_gives.sound, store_len old sound)
 
   pub step_heir : (h : NodeId) → heir (forest_of old.caches) (name_of old.caches n) ≡ Some (name_of old.caches h) → heir (forest_of b) (name_of b n) ≡ Some (name_of b h)
   step_heir h e = sym (store_heir (homed v f n b) step_gives.sound (name_of b n)) ∙ ap (λ k. heir k (name_of b n)) step_forest ∙ ap (heir (own (store_forest old) (name_of old.caches n))) (step_name n)

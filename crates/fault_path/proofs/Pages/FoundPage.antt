@@ -54,13 +54,6 @@ resident_is (Resident d) a z = refl
 resident_is (Slot s) a z = absurd (cc a)
 resident_is OnSegment a z = absurd (cc a)
 
-pub not_at_hand : (x : OwnState) → is_resident x ≡ false → is_zero x ≡ false → is_at_hand x ≡ false
-not_at_hand Absent a z = refl
-not_at_hand Zero a z = absurd (cc z)
-not_at_hand (Resident d) a z = absurd (cc a)
-not_at_hand (Slot s) a z = refl
-not_at_hand OnSegment a z = refl
-
 has_page : (x : OwnState) → IsSome (page_of x) → is_absent x ≡ false
 has_page Absent e = absurd (cc e)
 has_page Zero e = refl

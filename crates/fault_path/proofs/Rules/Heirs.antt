@@ -66,6 +66,3 @@ module _ (old new : World) (still : Still old new) (sound : IsSound old.caches) 
         held = like.held h ∙ is.held;
         name = ap (heir (forest_of new.caches)) (like.name n) ∙ same_heir (name_of old.caches n) ∙ is.name ∙ ap Some (sym (like.name h));
       }
-
-  pub still_len : len (forest_of new.caches).nodes ≡ len (forest_of old.caches).nodes
-  still_len = sym (len-map no_page (forest_of new.caches)) ∙ ap (λ f. len f.nodes) (sym bare_is) ∙ len-map no_page (forest_of old.caches)

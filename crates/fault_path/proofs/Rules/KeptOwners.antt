@@ -1,4 +1,5 @@
--- Where a rule of the forest gives a page to another node, other pages keep their owners, and who has a page alone keeps it.
+-- Where a rule of the forest gives a page to another node, other pages keep their owners, and who
+-- has a page alone keeps it.
 use Rattle.std.proofs.Common.{◌≡◌, ◌≢◌, ◌⊎◌, true, Option, Some, None, is_some, IsSome, option_map, refl, sym, ap, ◌∙◌, subst, inl, inr}
 use Rattle.std.proofs.lemmas.Bool.{false≢true}
 use Rattle.vm_ids.specs.declared.node_name.NodeName.{NodeName}
@@ -155,7 +156,8 @@ alone_of a linked y p = record { owned = p.owned; nobody = ReadsNot-no_heir (for
 pub alone_is : (a : Arena) → IsLinked (forest_of a) → (y : NodeName) → HasAlone (forest_of a) y → IsAlone a y
 alone_is a linked y p = record { owned = p.owned; last = no_heir (forest_of a) linked y p.nobody }
 
--- A page keeps its owner where it keeps its value in a forest of owners, of which each own page is one from before or that of node o, whose pages are left out.
+-- A page keeps its owner where it keeps its value in a forest of owners, of which each own page is
+-- one from before or that of node o, whose pages are left out.
 module _ (a b : Arena) (like : Like a b) (was : IsNamed a) (named : IsNamed b) (linked : IsLinked (forest_of b)) (o : NodeId) (g : Forest NodeId) (same : bare g ≡ bare (forest_of b))
     (values : (y : NodeName) → value_of g y ≡ value_of (owners a) y) (pages : (y : NodeName) (w : NodeId) → (node g y).own ≡ Some w → ((node (owners a) y).own ≡ Some w) ⊎ (w ≡ o)) where
   same_owners : bare g ≡ bare (owners b)
@@ -183,7 +185,8 @@ module _ (a b : Arena) (like : Like a b) (was : IsNamed a) (named : IsNamed b) (
   pub owner_stays : (y : NodeName) (w : NodeId) → value_of (owners a) y ≡ Some w → w ≢ o → value_of (owners b) y ≡ Some w
   owner_stays y w e apart = value-IsValue (owners b) (bare-linked (forest_of b) (owners b) (sym (owners_bare b named)) linked) (value_stays (IsValue-value g y w (values y ∙ e)) apart)
 
--- From a to b pages that another node than o owns keep their owners, and who had a page alone has it alone.
+-- From a to b pages that another node than o owns keep their owners, and who had a page alone has
+-- it alone.
 pub record Passes (a b : Arena) (o : NodeId) : Type 0 where
   pub keeps : (y : NodeName) (w : NodeId) → value_of (owners a) y ≡ Some w → w ≢ o → value_of (owners b) y ≡ Some w
   pub alone : (y : NodeName) → IsAlone a y → IsAlone b y

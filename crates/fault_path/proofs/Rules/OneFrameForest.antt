@@ -76,9 +76,6 @@ module _ (old w : World) (f : ℕ) (still : Still old w) (taken : IsTaken w f) (
     pub own_kept : IsGathered f old w → Kept old (homed w f n b)
     own_kept gathered = given_kept old w (homed w f n b) f n gathered own_gives own_shaped
 
-    pub own_resident : own_of b n ≡ Resident true
-    own_resident = own_gives.resident
-
     pub own_copies : b.copies ≡ old.caches.copies + 1
     own_copies = own_gives.copies ∙ ap (λ k. k + 1) (still_copies old.caches w.caches still.stays.caches)
 

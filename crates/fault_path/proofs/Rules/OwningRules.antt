@@ -88,10 +88,6 @@ module _ {P : Type 0} where
       go None e = refl
       go (Some h) e = absurd (cc e)
 
--- giving a page counts nothing
-pub copies_given : (a b : Arena) (n : NodeId) (s : OwnState) → forest_of b ≡ gets (forest_of a) (name_of a n) (page_of s) → b.copies ≡ a.copies
-copies_given a b n s forest = sym (forest_of-copies b) ∙ ap (λ (f : Forest OwnState). f.copies) forest ∙ (gets-counters (forest_of a) (name_of a n) (page_of s)).copies ∙ forest_of-copies a
-
 -- a page that is got and counted is owned
 pub owned : {P : Type 0} (f : Forest P) (x : NodeName) (v : Option P) → v ≡ value_of f x → count_copy (gets f x v) ≡ own f x
 unfolding own
@@ -125,9 +121,6 @@ like_counted : (a : Arena) → Like a (record a { copies = a.copies + 1 })
 unfolding cell
 like_counted a = record { held = λ n. refl; name = λ n. refl; caches = refl }
 
-pub counted_like : (a b c : Arena) → Like a b → c ≡ record b { copies = b.copies + 1 } → Like a c
-counted_like a b c like is = like_then a b c like (subst (Like b) (sym is) (like_counted b))
-
 -- an own page is its own state
 pub page_told : (s : OwnState) → IsSome (page_of s) → page_of s ≡ Some s
 page_told Absent h = absurd (false≢true h)
@@ -135,8 +128,3 @@ page_told Zero h = refl
 page_told (Resident d) h = refl
 page_told (Slot k) h = refl
 page_told OnSegment h = refl
-
--- what a page of a cache holds
-pub page_loaded : (a : Arena) → IsSound a → IsWellShaped (forest_of a) → (n o : NodeId) → HasNode a n → HasNode a o → name_of a o ≡ owner_of (forest_of a) (name_of a n) → IsSome (page_of (cell a o).own) → (s : OwnState) → s ≡ (cell a o).own
-    → (x : NodeName) → name_of a n ≡ x → Some s ≡ value_of (forest_of a) x
-page_loaded a sound shaped n o hn ho owner own s is x name = sym (page_told s (subst (λ k. IsSome (page_of k)) (sym is) own)) ∙ owner_page a sound shaped n o hn ho owner s is ∙ ap (value_of (forest_of a)) name

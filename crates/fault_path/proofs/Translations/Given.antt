@@ -21,7 +21,8 @@ use Rattle.fault_path.proofs.Rules.KeptOwners.{Passes}
 or_left : (b c : Bool) → b ≡ true → (b || c) ≡ true
 or_left b c h = ap (λ (x : Bool). x || c) h
 
--- Nodes come to frames, pages that another node than o owns keep their owners, and then the translations that lead to the pages of o and n are dropped.
+-- Nodes come to frames, pages that another node than o owns keep their owners, and then the
+-- translations that lead to the pages of o and n are dropped.
 module _ (came : NodeId → Type 0) (a b : Arena) (s t : Store) (o n : NodeId) (was : ArePlaced a s.frames s.slots s.map) (is : ArePlaced b t.frames t.slots t.map) (passes : Passes a b o)
     (stays : (f : ℕ) (p : NodeId) → node_of s.map f ≡ Some p → node_of t.map f ≡ Some p) (comes : (f : ℕ) (p : NodeId) → node_of t.map f ≡ Some p → (node_of s.map f ≡ Some p) ⊎ came p) (first : came o) (second : came n) where
   not_owner : (f : ℕ) (p : NodeId) → is_home_of o n t.map f ≡ false → node_of s.map f ≡ Some p → p ≢ o

@@ -1,4 +1,5 @@
--- Which translations a call drops that gathers frames, follows a rule of the page forest, and forgets where two pages were.
+-- Which translations a call drops that gathers frames, follows a rule of the page forest, and
+-- forgets where two pages were.
 use Rattle.std.proofs.Common.{◌≡◌, ◌⊎◌, ℕ, true, false, Option, Some, is_some, option_map, refl, sym, ap, ◌∙◌, inl, inr}
 use Rattle.std.proofs.lemmas.Bool.{false≢true}
 use Rattle.vm_ids.specs.declared.numbers.NodeId.{NodeId}

@@ -18,7 +18,7 @@ use Rattle.local_cache.specs.NodeCells.{tree_of}
 use Rattle.local_cache.specs.PageNodes.{PageNodes}
 use Rattle.local_cache.specs.Runs.{first_name, further, further_if, name_after}
 
--- What a run names ----------------------------------------------------------------------------------
+-- What a run names
 
 -- a node of a run so many numbers further on
 further_node : (p : NodeId) (count k : ℕ) → p.0 + count ≤ 2 ^ 64 → k < count → further p k ≡ next_node (further p 0) k
@@ -56,7 +56,7 @@ working_same (Pages from first) k number is = absurd (cc is)
 working_same (Working w) k number is = (w + k, refl)
 working_same (EverySecond w) k number is = (w + 2 * k, refl)
 
--- The nodes -----------------------------------------------------------------------------------------
+-- The nodes
 
 module _ (m : PageNodes) (c : CacheRows) (n : NodeId) (count : ℕ) (alike : many.AreAlike m n count) where
   abbrev a : Arena

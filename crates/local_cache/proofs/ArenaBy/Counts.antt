@@ -31,7 +31,7 @@ use Rattle.local_cache.proofs.NodeCells.{removed_here, removed_other, some_numbe
 use Rattle.local_cache.proofs.NodeKeys.{key_apart}
 use Rattle.local_cache.proofs.Singles.{len_remove_old}
 
--- Names and numbers -----------------------------------------------------------------------------
+-- Names and numbers
 
 -- what is still there wasn't the one that went
 still_some : {V : Type 0} (m : FinMap nat_cmp V) (k q : ℕ) → IsSome (ids.get (ids.remove m k) q)
@@ -77,7 +77,7 @@ module _ {V : Type 0} (R : NodeName → ℕ → Type 0)
       )) in
       omega (arith, rest, len_remove_old m at.0 at.2)
 
--- The forest ----------------------------------------------------------------------------------------
+-- The forest
 
 live_by_page : (x : NodeName) (k : ℕ) → page_of_name x ≡ Some k → is_live x ≡ true
 live_by_page (Live cache page) k is = refl

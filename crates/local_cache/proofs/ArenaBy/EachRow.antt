@@ -56,7 +56,7 @@ module _ (P : CacheRow → Type 0) where
     | inr same ↦ subst P same new
   ]
 
--- Grants and locks for all pages -----------------------------------------------------------------
+-- Grants and locks for all pages
 
 pub full_new : (segment : Option SegId) (pages : ℕ) → IsFull (new_row segment pages)
 full_new segment pages =

@@ -36,7 +36,7 @@ use Rattle.local_cache.proofs.ManyNodes.Renamed.{held_named, vacant_named}
 use Rattle.local_cache.proofs.ManyNodes.Renewed.{have_none_left, named_held, pages_gone}
 use Rattle.local_cache.proofs.NodeCells.{inserted_other}
 
--- What stays ----------------------------------------------------------------------------------------
+-- What stays
 
 -- the pages behind those that got nodes
 pages_beside : (m : PageNodes) (n : NodeId) (cache : CacheId) (page : PageNo) (own : OwnState) (k q : ℕ) → page.0 + k ≤ q
@@ -48,7 +48,7 @@ pages_beside m n cache page own (suc k) q behind =
     (λ e. let bad : ⊥ = omega (arith, behind, e) in bad)
     ∙ pages_beside m n cache page own k q (omega (arith, behind))
 
--- One after the other -------------------------------------------------------------------------------
+-- One after the other
 
 -- one change more of what stands for an arena
 one_more : (m now : PageNodes) (c : CacheRows) (a : Arena) (f : Arena → Arena) → StandFor m c a
@@ -172,7 +172,7 @@ module _ (m : PageNodes) (c : CacheRows) (right : ArePlaced m c.rows) (n : NodeI
   many_renamed cache page k held vacant =
       many_named cache page k held (λ j less. may_get_node m c right cache (record { 0 = page.0 + j }) (vacant j less))
 
--- New working nodes over others ---------------------------------------------------------------------
+-- New working nodes over others
 
 pub many_working_over : (m : PageNodes) (c : CacheRows) → ArePlaced m c.rows → (n older newer : NodeId) (k : ℕ) → HaveNone m n k
     → StandFor (many.over_many (many.with_working_many m n k) n older (Some newer) k) c
@@ -183,7 +183,7 @@ many_working_over m c right n older newer k none =
     let over = many_over_two now c made.right n older newer k (λ j less. ap is_some (working_in m n k j less)) in
     record { is = over.is ∙ ap (λ (b : Arena). over_two_many b n older newer k) made.is; right = over.right }
 
--- Pages whose nodes went get new ones ---------------------------------------------------------------
+-- Pages whose nodes went get new ones
 
 module _ (m : PageNodes) (c : CacheRows) (right : ArePlaced m c.rows) (d : NodeId) (cache : CacheId) (page : PageNo) (count : ℕ)
     (named : AreNamed m d cache page count) where
@@ -209,7 +209,7 @@ module _ (m : PageNodes) (c : CacheRows) (right : ArePlaced m c.rows) (d : NodeI
       let come = many_come (many.without_many m d count) c gone.right n cache page own count (have_none_left m d count n count none) may_come in
       record { is = come.is ∙ ap (λ (b : Arena). with_new_many b n cache page own count) gone.is; right = come.right }
 
--- Pages get the nodes of others -----------------------------------------------------------------------
+-- Pages get the nodes of others
 
 module _ (m : PageNodes) (c : CacheRows) (right : ArePlaced m c.rows) (span : Span) (d s : NodeId)
     (destinations : AreNamed m d span.to span.to_page span.pages) (sources : AreNamed m s span.from span.from_page span.pages)

@@ -18,7 +18,7 @@ use Rattle.local_cache.specs.PageNodes.{MakesAllPages, PageNodes, of_page, pages
 use Rattle.local_cache.proofs.ArenaBy.Tables.{tables_same}
 use Rattle.local_cache.proofs.NodeCells.{inserted_here, inserted_other}
 
--- The pages -------------------------------------------------------------------------------------
+-- The pages
 
 -- a page that is none of the new ones has the node that it had
 pub pages_out : (ns : List NodeId) (m : FinMap nat_cmp Rising) (cache : CacheId) (from k : ℕ)
@@ -43,7 +43,7 @@ new_entries (n ∷ ns) m cache from =
     let rest = new_entries ns (ids.insert m k (of_page n)) cache (from + 1) in
     λ i. record { node = option_map (λ v. record { 0 = v.0 }) (one i) } ∷ rest i
 
--- The tables --------------------------------------------------------------------------------------
+-- The tables
 
 pub length_tables : (m : FinMap nat_cmp Rising) (from : ℕ) (rows : List (Option CacheRow))
     → length (tables_by m from rows) ≡ length rows
@@ -68,7 +68,7 @@ row_within [] k r is = absurd (none-some r is)
 row_within (o ∷ rows) zero r is = omega arith
 row_within (o ∷ rows) (suc k) r is = let rest = row_within rows k r is in omega (arith, rest)
 
--- The arena -----------------------------------------------------------------------------------------
+-- The arena
 
 module _ (old new : PageNodes) (c : CacheRows) (cache : CacheId) (segment : Option SegId)
     (own : OwnState) (pages : ℕ) (few : AreShort c.rows) (short : pages < 2 ^ 32)

@@ -23,7 +23,7 @@ use Rattle.local_cache.proofs.ArenaBy.Tables.{tables_set}
 use Rattle.local_cache.proofs.NodeCells.{inserted_here, inserted_other, removed_here, removed_other}
 use Rattle.local_cache.proofs.Singles.{same_maps}
 
--- What stands under a key ----------------------------------------------------------------------
+-- What stands under a key
 
 module _ {V : Type 0} (m : FinMap nat_cmp V) (v : V) where
   -- what is taken away and put there again
@@ -68,7 +68,7 @@ pub paged_at : (m : PageNodes) → ArePaged m → (n : NodeId) (k : ℕ) → Has
     → page_of_name (nodes.cell m n).name ≡ Some k → ids.get m.pages k ≡ Some (of_page n)
 paged_at m paged n k held is = of_number (ids.get m.pages k) n ((paged k n.0).1 (held_key m n held ∙ is))
 
--- The tables --------------------------------------------------------------------------------------
+-- The tables
 
 module _ (rows : List (Option CacheRow)) (few : AreShort rows) where
   -- the page of a name has this node
@@ -103,7 +103,7 @@ module _ (rows : List (Option CacheRow)) (few : AreShort rows) where
       ∙ tables_keyed (without_key m (page_of_name x)) y n short_y
       ∙ ap (λ (ts : List (Option Table)). tables_with ts y (Some n)) (tables_unkeyed m x short_x)
 
--- The calls -----------------------------------------------------------------------------------------
+-- The calls
 
 module _ (m : PageNodes) (c : CacheRows) (n : NodeId) where
   pub cell_by : nodes.cell m n ≡ arena.cell (arena_by m c) n

@@ -24,7 +24,7 @@ use Rattle.local_cache.proofs.NewCache.Pages.{some_of}
 use Rattle.local_cache.proofs.NodeCells.{inserted_here, inserted_other, removed_here, removed_other, still_there}
 use Rattle.local_cache.proofs.NodeKeys.{indexes_rekeyed}
 
--- What follows --------------------------------------------------------------------------------------
+-- What follows
 
 -- a row stands at the number of a cache that was made
 record IsWithin (rows : List (Option CacheRow)) (cache page : ℕ) : Type 0 where
@@ -87,7 +87,7 @@ module _ (m : PageNodes) (rows : List (Option CacheRow)) (right : ArePlaced m ro
           let bad : ⊥ = omega (arith, at.2, above, short, in_rows.made, in_rows.short) in
           absurd bad
 
--- No node ---------------------------------------------------------------------------------------------
+-- No node
 
 pub none_placed : (m : PageNodes) → ((n : NodeId) → find m n ≡ None)
     → ((k : ℕ) → ids.get m.pages k ≡ None) → ArePlaced m []
@@ -101,7 +101,7 @@ none_placed m no_cell no_page =
       short = λ k r is. absurd (none-some r is);
     }
 
--- One node ------------------------------------------------------------------------------------------
+-- One node
 
 -- the same cells and pages, whatever the counter and the room
 pub kept_same : (m new : PageNodes) (rows : List (Option CacheRow)) → new.cells ≡ m.cells

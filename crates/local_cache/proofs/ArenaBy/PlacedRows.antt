@@ -31,7 +31,7 @@ carry : (rows after : List (Option CacheRow))
 carry rows after still (Working k) at = tt
 carry rows after still (Live cache page) at = still cache.0 page.0 at
 
--- One row changed ------------------------------------------------------------------------------------
+-- One row changed
 
 module _ (change : CacheRow → CacheRow) (same : (r : CacheRow) → (change r).pages ≡ r.pages)
     (rows : List (Option CacheRow)) where
@@ -67,7 +67,7 @@ module _ (change : CacheRow → CacheRow) (same : (r : CacheRow) → (change r).
         short = each_changed (λ r. r.pages < 2 ^ 32) change (λ r few. omega (arith, few, same r)) rows (suc k) right.short;
       }
 
--- A row less -----------------------------------------------------------------------------------------
+-- A row less
 
 module _ (m : PageNodes) (rows : List (Option CacheRow)) (right : ArePlaced m rows) (k : ℕ)
     (gone : (page : ℕ) → HasRow rows (suc k) page → ids.get m.pages (page_number (suc k) page) ≡ None) where
@@ -120,7 +120,7 @@ pub kept_removed : (m : PageNodes) (rows : List (Option CacheRow)) (cache : ℕ)
 kept_removed m rows zero right gone = right
 kept_removed m rows (suc k) right gone = left m rows right k gone
 
--- A row more -----------------------------------------------------------------------------------------
+-- A row more
 
 module _ (r : CacheRow) where
   get_more : (rows : List (Option CacheRow)) (k : ℕ) (s : CacheRow) → get_or rows k None ≡ Some s

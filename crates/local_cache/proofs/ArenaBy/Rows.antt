@@ -22,7 +22,7 @@ use Rattle.local_cache.specs.PageNodes as nodes
 use Rattle.local_cache.proofs.NewCache.Pages.{some_of}
 use Rattle.local_cache.proofs.Tables.Listing.{read_set}
 
--- One table, and one entry ----------------------------------------------------------------------
+-- One table, and one entry
 
 module _ (m : FinMap nat_cmp Rising) where
   pub length_entries : (cache from k : ℕ) → length (entries_by m cache from k) ≡ k
@@ -57,7 +57,7 @@ module _ (m : FinMap nat_cmp Rising) where
       let at : 1 + k ≡ suc k = omega arith in
       table_get 1 rows k ∙ ap (λ (c : ℕ). option_map (table_by m c) (get_or rows k None)) at
 
--- What is told -------------------------------------------------------------------------------------
+-- What is told
 
 abbrev as_node : Option Rising → Option NodeId
 as_node o = option_map (λ v. record { 0 = v.0 }) o
@@ -195,7 +195,7 @@ locked_rows m from (r ∷ rows) =
 pub locked_by : (m : PageNodes) (c : CacheRows) → locked_count (arena_by m c) ≡ sum_by row_locked c.rows
 locked_by m c = locked_rows m.pages 1 c.rows
 
--- One row changed -------------------------------------------------------------------------------------
+-- One row changed
 
 module _ (m : FinMap nat_cmp Rising) where
   module _ (change : CacheRow → CacheRow) (after : Table → Table)
@@ -235,7 +235,7 @@ module _ (m : FinMap nat_cmp Rising) where
   count_is cache None = refl
   count_is cache (Some r) = length_entries m cache 0 r.pages
 
--- The calls ---------------------------------------------------------------------------------------------
+-- The calls
 
 module _ (m : PageNodes) (c : CacheRows) where
   pub grant_by : (cache page : ℕ)
@@ -262,7 +262,7 @@ module _ (m : PageNodes) (c : CacheRows) where
         room = record { nodes = m.room; caches = c.places; entries = c.entries + count i };
       }
 
--- What is told then -----------------------------------------------------------------------------------
+-- What is told then
 
 row_here : (rows : List (Option CacheRow)) (cache : ℕ) (change : CacheRow → CacheRow)
     → row_at (rows_changed rows cache change) cache ≡ option_map change (row_at rows cache)

@@ -1,5 +1,5 @@
--- The caches as they are seen, an arena: what it tells of the page nodes and the rows that stand for
--- it, and how it is seen after each call.
+-- The caches as they are seen, an arena: what it tells of the page nodes and the rows that stand
+-- for it, and how it is seen after each call.
 use Rattle.std.proofs.Common.{◌≡◌, ℕ, zero, suc, ◌+◌, ◌<◌, ◌^◌, true, List, [], length, sum_by, Option, Some, None, IsSome, is_some, refl, ap, sym, subst, ◌∙◌}
 use Rattle.std.specs.Prelude.{option_and_then, option_map}
 use Rattle.std.proofs.lemmas.Option.{none-some}
@@ -61,7 +61,7 @@ some_entry None some = some
 some_entry (Some e) some = refl
 
 module _ (m : PageNodes) (c : CacheRows) (a : Arena) (is : arena_by m c ≡ a) where
-  -- What is asked ------------------------------------------------------------------------------------
+  -- What is asked
 
   pub cell_seen : (n : NodeId) → nodes.cell m n ≡ arena.cell a n
   cell_seen n = cell_by m c n ∙ ap (λ (b : Arena). arena.cell b n) is
@@ -140,7 +140,7 @@ module _ (m : PageNodes) (c : CacheRows) (a : Arena) (is : arena_by m c ≡ a) w
   placed_seen cache page has =
       subst (λ (b : Arena). HasPlace b cache page) is (ap is_some (entry_is m c cache.0 page.0 has))
 
-  -- What is left -------------------------------------------------------------------------------------
+  -- What is left
 
   module _ (right : AreRight m c) where
     -- after a change of page nodes

@@ -32,7 +32,8 @@ module _ (m : PageNodes) (c : CacheRows) (a : Arena) (is : arena_by m c ≡ a) (
     ap (λ (d : Cell). d.name) (cell_by m c (next_node n k) ∙ ap (λ (b : Arena). cell b (next_node n k)) is) ∙ (named k less).1,
   )
 
--- Nodes were made, and the caches are seen as `made_by` says of the first one; or nothing is changed.
+-- Nodes were made, and the caches are seen as `made_by` says of the first one; or nothing is
+-- changed.
 pub record MadeOrNone (new : PageNodes) (c : CacheRows) (a : Arena) (made_by : NodeId → Arena) (count : ℕ) (o : Option NodeId) : Type 0 where
   pub right : AreRight new c
   pub is : MatchOption o (arena_by new c ≡ a) (λ n. arena_by new c ≡ made_by n)
@@ -139,7 +140,7 @@ module _ (m : PageNodes) (c : CacheRows) (a : Arena) (is : arena_by m c ≡ a) (
         (many_moved m c right.placed span d s (all_named m c a is d span.pages span.to span.to_page destinations)
         (all_named m c a is s span.pages span.from span.from_page sources) apart n none)
 
-  -- What is seen where nodes were made, or none ----------------------------------------------------
+  -- What is seen where nodes were made, or none
 
   -- the nodes are made as `Makes` says of the first one, or nothing is changed
   module _ (new : PageNodes) (count : ℕ) (made_by : NodeId → Arena) (Makes : NodeId → Type 0)

@@ -10,7 +10,7 @@ use Rattle.local_cache.specs.ArenaBy.{CacheRow, entries_by, entry_under, table_b
 use Rattle.local_cache.specs.Placed.{AreShort}
 use Rattle.local_cache.specs.NodeKeys.{page_number}
 
--- Two maps of nodes that agree on the pages of some caches --------------------------------------
+-- Two maps of nodes that agree on the pages of some caches
 
 module _ (old new : FinMap nat_cmp Rising) where
   abbrev pub Agree : ℕ → ℕ → Type 0
@@ -56,7 +56,7 @@ module _ (old new : FinMap nat_cmp Rising) where
       subst (λ (c : ℕ). Agree c page) at (same (suc k) r page is below)) in
       λ i. Some (one i) ∷ rest i
 
--- One page whose node is another one --------------------------------------------------------------
+-- One page whose node is another one
 
 module _ (old new : FinMap nat_cmp Rising) (cache page : ℕ) (o : Option NodeId)
     (short : page < 2 ^ 32)

@@ -26,7 +26,7 @@ use Rattle.local_cache.proofs.CacheList.Reading.{few_pages}
 use Rattle.local_cache.proofs.CacheList.Rows.{new_row_is, row_there, rows_append, rows_left}
 use Rattle.local_cache.proofs.ManyNodes.Cleared.{range_cases, range_in, range_out}
 
--- A cache comes ----------------------------------------------------------------------------------
+-- A cache comes
 
 module _ (es : List (Option CacheEntry)) (grants : Stretches Granted) (locks : Stretches LockCount)
     (pages capacity locked : ℕ) (right : IsRight es grants locks pages capacity locked)
@@ -91,7 +91,7 @@ pub record Goes (es : List (Option CacheEntry)) (old : Stretches Granted) (befor
   pub grants : cells granted_says new.list ≡ without_range (cells granted_says old.list) (page_number (suc k) 0) e.pages
   pub locks : cells locks_say after.list ≡ without_range (cells locks_say before.list) (page_number (suc k) 0) e.pages
 
--- A cache goes -----------------------------------------------------------------------------------
+-- A cache goes
 
 module _ (es : List (Option CacheEntry)) (grants : Stretches Granted) (locks : Stretches LockCount)
     (pages capacity locked : ℕ) (right : IsRight es grants locks pages capacity locked)
@@ -105,10 +105,6 @@ module _ (es : List (Option CacheEntry)) (grants : Stretches Granted) (locks : S
 
   pub enough_pages : e.pages ≤ pages
   enough_pages = omega (arith, right.sum, pages_within es k e is)
-
-  -- the numbers of its pages fit a list
-  pub gone_short : page_number (suc k) 0 + e.pages < 2 ^ 64
-  gone_short = omega (arith, row_within es k e is, right.caches, enough_pages, right.fits, right.few)
 
   -- the pages of another cache are beside its pages
   beside : (j : ℕ) (f : CacheEntry) (n : ℕ) → 1 + j ≢ suc k → get_or es j None ≡ Some f

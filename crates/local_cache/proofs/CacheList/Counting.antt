@@ -23,7 +23,7 @@ use Rattle.local_cache.proofs.ManyNodes.Cleared.{len_range, range_out, range_ski
 use Rattle.local_cache.proofs.Singles.{len_remove_old, remove_absent}
 use Rattle.local_cache.proofs.Tables.Locked.{bit}
 
--- The first stretch of a range ---------------------------------------------------------------------
+-- The first stretch of a range
 
 module _ {V : Type 0} (S : Ghosts V) (list : List (Stretch V)) (m : FinMap nat_cmp V) (next until : ℕ)
     (same : (n : ℕ) → next ≤ n → n < until → map.get m n ≡ map.get (cells S list) n) where
@@ -44,7 +44,7 @@ module _ {V : Type 0} (S : Ghosts V) (list : List (Stretch V)) (m : FinMap nat_c
       same q low (omega (arith, high, less)) ∙ none q low (omega (arith, high, less))) in
       omega (arith, ap map.len vacant)
 
--- Locks ------------------------------------------------------------------------------------------------
+-- Locks
 
 bit_some : (n : ℕ) → 0 < n → bit n ≡ 1
 bit_some zero some = let bad : ⊥ = omega (arith, some) in absurd bad

@@ -17,7 +17,7 @@ use Rattle.local_cache.proofs.NodeCells.{inserted_other, removed_here, removed_o
 use Rattle.local_cache.proofs.Singles.{len_remove_old, none_of, remove_absent}
 use Rattle.local_cache.proofs.Tables.Listing.{read_other}
 
--- Numbers ----------------------------------------------------------------------------------------
+-- Numbers
 
 pub entry_index : (es : List (Option CacheEntry)) (cache : ℕ) (e : CacheEntry) → entry_at es cache ≡ Some e
     → (k : ℕ) × (cache ≡ suc k) × (get_or es k None ≡ Some e)
@@ -90,7 +90,7 @@ split from o es k of = go of.at of.is of.same
       same = omega (arith, same);
     })
 
--- Maps that have such numbers alone ----------------------------------------------------------------
+-- Maps that have such numbers alone
 
 module _ {V : Type 0} where
   abbrev pub HasPages : ℕ → List (Option CacheEntry) → FinMap nat_cmp V → Type 0
@@ -170,7 +170,7 @@ module _ {V : Type 0} where
         }
   ]
 
-  -- How many numbers there are ----------------------------------------------------------------------
+  -- How many numbers there are
 
   len_left : (m : FinMap nat_cmp V) (first k : ℕ) → map.len m ≤ map.len (without_range m first k) + k
   len_left m first zero = omega arith

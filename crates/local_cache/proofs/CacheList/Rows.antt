@@ -14,7 +14,7 @@ use Rattle.local_cache.specs.RowChanges.{entry_of_row, is_granting, new_row, row
 use Rattle.local_cache.proofs.CacheList.Values.{value_at, value_past, values_all, values_same, values_set}
 use Rattle.local_cache.proofs.Tables.Listing.{read_other, read_set}
 
--- Rows that are read ----------------------------------------------------------------------------
+-- Rows that are read
 
 module _ (granted : ℕ → Bool) (locks : ℕ → ℕ) where
   pub length_rows : (from : ℕ) (es : List (Option CacheEntry))
@@ -131,7 +131,7 @@ new_row_is granted locks cache segment pages no_grants no_locks =
     let counts = values_all locks 0 (page_number cache 0) pages no_locks in
     λ i. record { segment = segment; pages = pages; grants = grants i; locks = counts i }
 
--- One row that changes ------------------------------------------------------------------------------
+-- One row that changes
 
 -- rows that are the same ones, one by one
 same_rows : (xs ys : List (Option CacheRow)) → length xs ≡ length ys
@@ -226,7 +226,7 @@ rows_left granted granted_now locks locks_now es k stay =
           ∙ sym (read_other (rows_by granted locks 1 es) k j None apart)
     ])
 
--- What one call does to a row ---------------------------------------------------------------------------
+-- What one call does to a row
 
 module _ (granted : ℕ → Bool) (locks : ℕ → ℕ) (cache page : ℕ) (e : CacheEntry) where
   at_page : page_number cache page ≡ page_number cache 0 + page

@@ -58,7 +58,7 @@ module _ (es : List (Option CacheEntry)) (grants : Stretches Granted) (locks : S
       let fewer = few_pages es grants locks pages capacity locked right in
       other (let here : 1 + k ≡ cache = omega (arith, same, low, high, most, fewer, few) in here)
 
-  -- Grants --------------------------------------------------------------------------------------
+  -- Grants
 
   -- the list of grants has a place for the page's grant
   pub grant_fits : (v : Granted)
@@ -109,7 +109,7 @@ module _ (es : List (Option CacheEntry)) (grants : Stretches Granted) (locks : S
         (λ f. row_grants (granted_in grants) (locks_in locks) cache page f
         (granted_in after) granted_here granted_other)
 
-  -- Locks ---------------------------------------------------------------------------------------
+  -- Locks
 
   pub lock_fits : (v : LockCount)
       → map.len (map.insert (cells locks_say locks.list) (page_number cache page) v) ≤ locks.places

@@ -21,10 +21,6 @@ module _ (a b : Arena) (granted place : ℕ) (e : b ≡ with_grant a granted pla
   pub granted_cell : (n : NodeId) → cell b n ≡ cell a n
   granted_cell = changed_cell (table_granting place) (λ t. refl) a b granted e
 
-  -- the pages stay
-  pub granted_place : (cache : CacheId) (page : PageNo) → HasPlace a cache page → HasPlace b cache page
-  granted_place = changed_place (table_granting place) (λ t. refl) a b granted e
-
   -- the grants of other pages stay
   pub granted_other : (cache page : ℕ) → (cache ≡ granted → page ≡ place → ⊥) → is_granted b cache page ≡ is_granted a cache page
   granted_other cache page apart = ap (λ x. is_granted x cache page) e ∙ part-others (λ (t : Table). t.grants) false (table_granting place) place true (λ t. refl) a.caches granted cache page apart
@@ -33,7 +29,7 @@ module _ (a b : Arena) (granted place : ℕ) (e : b ≡ with_grant a granted pla
   pub granted_locks : (cache page : ℕ) → locks_of b cache page ≡ locks_of a cache page
   granted_locks cache page = ap (λ x. locks_of x cache page) e ∙ part-changed (λ (t : Table). t.locks) 0 (table_granting place) (λ t. refl) a.caches granted cache page
 
--- What leaves the grants -----------------------------------------------------------------------
+-- What leaves the grants
 
 -- where the tables stay
 pub grants-same : (a b : Arena) → b.caches ≡ a.caches → (cache page : ℕ) → is_granted b cache page ≡ is_granted a cache page

@@ -27,10 +27,6 @@ module _ (a b : Arena) (locked place count : ℕ) (e : b ≡ with_locks a locked
   pub locked_cell : (n : NodeId) → cell b n ≡ cell a n
   locked_cell = changed_cell (table_locking place count) (λ t. refl) a b locked e
 
-  -- the pages stay
-  pub locked_place : (cache : CacheId) (page : PageNo) → HasPlace a cache page → HasPlace b cache page
-  locked_place = changed_place (table_locking place count) (λ t. refl) a b locked e
-
   -- the locks of other pages stay
   pub locked_other : (cache page : ℕ) → (cache ≡ locked → page ≡ place → ⊥) → locks_of b cache page ≡ locks_of a cache page
   locked_other cache page apart = ap (λ x. locks_of x cache page) e ∙ part-others (λ (t : Table). t.locks) 0 (table_locking place count) place count (λ t. refl) a.caches locked cache page apart
@@ -39,7 +35,7 @@ module _ (a b : Arena) (locked place count : ℕ) (e : b ≡ with_locks a locked
   pub locked_grants : (cache page : ℕ) → is_granted b cache page ≡ is_granted a cache page
   locked_grants cache page = ap (λ x. is_granted x cache page) e ∙ part-changed (λ (t : Table). t.grants) false (table_locking place count) (λ t. refl) a.caches locked cache page
 
--- What leaves the locks ------------------------------------------------------------------------
+-- What leaves the locks
 
 -- where the tables stay
 pub locks-same : (a b : Arena) → b.caches ≡ a.caches → (cache page : ℕ) → locks_of b cache page ≡ locks_of a cache page
@@ -70,7 +66,7 @@ locks-without_cache a b gone e cache page apart = ap (λ x. locks_of x cache pag
     go (suc k) zero ne = refl
     go (suc k) (suc j) ne = ap (λ (o : Option Table). unwrap_or (option_and_then (λ (t : Table). slice_get t.locks page) o) 0) (read_other a.caches k j None (λ q. ne (ap suc q)))
 
--- How many pages are locked --------------------------------------------------------------------
+-- How many pages are locked
 
 abbrev locks_in : ℕ → Option Table → ℕ
 locks_in page o = unwrap_or (option_and_then (λ (t : Table). slice_get t.locks page) o) 0

@@ -127,7 +127,7 @@ module _ (a : Arena) (kept : IsKept a) (n : NodeId) (c : Cell) (fits : Fits a n 
     threaded = λ x h. let ha : HasNode a x = sym (like.held x) ∙ h in subst (IsThreaded (put a n c) x) (sym (stubs_are x ha)) (lists x ha);
   }
 
--- Steps ----------------------------------------------------------------------------
+-- Steps
 
 module _ (a : Arena) (kept : IsKept a) (n : NodeId) (h : HasNode a n) where
   as_node : (own : Option OwnState) (hang : Hang) (tree : List NodeName) → own ≡ (node_of a n).own → hang ≡ (node_of a n).hang → tree ≡ (node_of a n).tree
@@ -190,7 +190,7 @@ pub hang-edited : (a : Arena) → IsKept a → (n : NodeId) → HasNode a n → 
     → Edited a (hung a n up) (edit (forest_of a) (name_of a n) (with_hang (hang_by a up false)))
 hang-edited a kept n hn none up all = record { rehung = rehung-links a n _ hn; kept = hang-kept a kept n hn none up all; forest = hang-forest a kept n hn none up all }
 
--- Nodes that stand in no list of stubs ------------------------------------------------
+-- Nodes that stand in no list of stubs
 
 pub no_stub-tree : (a : Arena) (p : NodeId) (ts : List NodeId) (n : NodeId) → IsNoStub a n → IsNoStub (with_tree a p ts) n
 no_stub-tree a p ts n none q e = let l = links-with_tree a p ts n in ap (λ k. k.by_stub) l ∙ none q (sym (ap (λ k. k.parent) l) ∙ e)

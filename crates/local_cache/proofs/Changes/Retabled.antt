@@ -62,7 +62,7 @@ module _ (change : Table → Table) (same : (t : Table) → (change t).pages ≡
     pub changed_place : (cache : CacheId) (page : PageNo) → HasPlace a cache page → HasPlace b cache page
     changed_place cache page has = ap is_some (changed_entry cache.0 page.0) ∙ has
 
--- Which pages there are ----------------------------------------------------------------------
+-- Which pages there are
 
 -- a page that has a node is there
 pub node_place : (a : Arena) (cache : CacheId) (page : PageNo) (n : NodeId) → node_at a cache.0 page.0 ≡ Some n → HasPlace a cache page
@@ -71,6 +71,3 @@ node_place a cache page n is = go (entry_at a.caches cache.0 page.0) (sym (node_
     go : (o : Option PageEntry) → option_and_then (λ (e : PageEntry). e.node) o ≡ Some n → IsSome o
     go None e = absurd (cc e)
     go (Some entry) e = refl
-
-pub page_place : (a : Arena) (cache : CacheId) (page : ℕ) (own : OwnState) → HasPage a cache page own → HasPlace a cache (record { 0 = page })
-page_place a cache page own p = node_place a cache (record { 0 = page }) p.node p.at

@@ -55,7 +55,8 @@ pub map-like : (a b : Arena) → Like a b → (ns : List NodeId) → map (name_o
 map-like a b like [] = refl
 map-like a b like (n ∷ ns) = λ i. like.name n i ∷ map-like a b like ns i
 
--- the forest of b is g, where b has the nodes of a, g those of the forest of a, and each is as b has it
+-- the forest of b is g, where b has the nodes of a, g those of the forest of a, and each is as b
+-- has it
 pub reads_like : (a b : Arena) → IsNamed a → Like a b → a.made ≡ b.made → (g : Forest OwnState) → b.made ≡ g.made → b.copies ≡ g.copies
     → ((x : NodeName) → contains_key g.nodes x ≡ contains_key (forest_of a).nodes x)
     → ((n : NodeId) → HasNode a n → node g (name_of a n) ≡ node_of b n)
@@ -115,7 +116,7 @@ relinked_then a b c f g = record {
 pub relinked_itself : (a : Arena) → Relinked a a
 relinked_itself a = record { like = record { held = λ n. refl; name = λ n. refl; caches = refl }; own = λ n. refl; tree = λ n. refl; made = refl; copies = refl }
 
--- Readings of one link ----------------------------------------------------------
+-- Readings of one link
 
 pub hang_root : (a : Arena) (p : Option NodeId) (b : Bool) → hang_by a p b ≡ Root → p ≡ None
 hang_root a None b e = refl
@@ -148,19 +149,9 @@ with_tree-keeps col same a n l m = elim (id_cases m n) [
   | inr ne ↦ ap col (cell-put_other a n m _ ne)
 ]
 
-pub tree-with_tree : (a : Arena) (n : NodeId) (l : List NodeId) → (cell (with_tree a n l) n).tree ≡ l
-tree-with_tree a n l = ap (λ c. c.tree) (cell-put a n _)
-
-pub tree-with_tree_other : (a : Arena) (n m : NodeId) (l : List NodeId) → m ≢ n → (cell (with_tree a n l) m).tree ≡ (cell a m).tree
-tree-with_tree_other a n m l ne = ap (λ c. c.tree) (cell-put_other a n m _ ne)
-
 -- the links of all nodes stay
 pub links-with_tree : (a : Arena) (n : NodeId) (l : List NodeId) (m : NodeId) → (cell (with_tree a n l) m).links ≡ (cell a m).links
 links-with_tree = with_tree-keeps (λ c. c.links) (λ c l. refl)
-
--- the tree children of all nodes stay
-pub tree-with_links : (a : Arena) (n : NodeId) (l : Links) (m : NodeId) → (cell (with_links a n l) m).tree ≡ (cell a m).tree
-tree-with_links = with_links-keeps (λ c. c.tree) (λ c l. refl)
 
 -- where links and lists alone were changed
 pub rehung-links : (a : Arena) (n : NodeId) (l : Links) → HasNode a n → Rehung a (with_links a n l)

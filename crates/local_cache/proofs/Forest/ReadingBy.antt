@@ -1,4 +1,5 @@
--- A rule that the forest of own states followed is followed by the forest of any pages that are told by number.
+-- A rule that the forest of own states followed is followed by the forest of any pages that are
+-- told by number.
 use Rattle.std.proofs.Common.{◌≡◌, ◌≢◌, ℕ, ◌+◌, ◌⊎◌, Bool, true, false, Option, Some, None, is_some, option_map, unwrap_or, refl, sym, ap, ◌∙◌, subst, inl, inr}
 use Rattle.std.proofs.lemmas.Bool.{false≢true}
 use Rattle.vm_ids.specs.declared.node_name.NodeName.{NodeName}
@@ -65,8 +66,8 @@ module _ {P : Type 0} (page : NodeId → Option P) where
   pub page-at : (a : Arena) → IsNamed a → (n : NodeId) → HasNode a n → (node (forest_by page a) (name_of a n)).own ≡ page n
   page-at a named n h = ap (λ k. k.own) (node-forest_by a page named n h)
 
-  -- The forest that is read with these pages is g, where the forest of own states is like g but for its pages, and g
-  -- has each node's page.
+  -- The forest that is read with these pages is g, where the forest of own states is like g but for
+  -- its pages, and g has each node's page.
   pub lifted : (a : Arena) → IsNamed a → Tells page a → (g : Forest P) → bare (forest_of a) ≡ bare g → ((n : NodeId) → HasNode a n → page n ≡ (node g (name_of a n)).own) → forest_by page a ≡ g
   lifted a named tells g alike pages = equal_by_pages (forest_by page a) g (bare-of a named tells ∙ alike) (λ x. at x (held_or_not a x))
     where
@@ -81,7 +82,8 @@ module _ {P : Type 0} (page : NodeId → Option P) where
       → ((f : Forest OwnState) → bare (r f) ≡ u (bare f)) → ((f : Forest P) → bare (s f) ≡ u (bare f)) → bare (r (forest_of a)) ≡ bare (s (forest_by page a))
   bare-rule a named tells r u s rs ss = rs (forest_of a) ∙ ap u (sym (bare-of a named tells)) ∙ sym (ss (forest_by page a))
 
--- From a to b all nodes stay under their names, and each has its page still. Nodes may have been made.
+-- From a to b all nodes stay under their names, and each has its page still. Nodes may have been
+-- made.
 pub record PagesStay {P : Type 0} (page now : NodeId → Option P) (a b : Arena) : Type 0 where
   pub held : (n : NodeId) → HasNode a n → HasNode b n
   pub name : (n : NodeId) → HasNode a n → name_of b n ≡ name_of a n

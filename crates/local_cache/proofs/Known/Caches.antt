@@ -26,7 +26,7 @@ use Rattle.local_cache.proofs.NewCache.Pages.{filled_page, last_table, made_stay
 use Rattle.local_cache.proofs.Nodes.Numbers.{apart}
 use Rattle.local_cache.proofs.Tables.Listing.{node_in, page_name, read_other, without-node}
 
--- Places --------------------------------------------------------------------------------------------
+-- Places
 
 abbrev entries_of : Option Table → Option (List PageEntry)
 entries_of o = option_map (λ (t : Table). t.pages) o
@@ -57,7 +57,7 @@ none_past a cache count is page high = go (table_of a cache.0) is
     go None e = refl
     go (Some t) e = let same : count ≡ length t.pages = cc e in past t.pages page (omega arith)
 
--- A cache less ----------------------------------------------------------------------------------------
+-- A cache less
 
 other_table : (ts : List (Option Table)) (gone other : ℕ) → other ≢ gone → table_at (tables_without ts gone) other ≡ table_at ts other
 other_table ts zero other ne = refl
@@ -80,7 +80,7 @@ known-without_cache a b ns vs gone known none e = subst (λ (x : Arena). IsKnown
     differs : (c d : ℕ) → c ≡ d → not (c == d) ≡ true → ⊥
     differs c d q t = grind arith
 
--- A cache more ----------------------------------------------------------------------------------------
+-- A cache more
 
 -- what is read of a table is read still after others were appended
 appended : {X : Type 0} (of : Option Table → Option X) → of None ≡ None → (ts us : List (Option Table)) (k : ℕ) (x : X) → of (get_or ts k None) ≡ Some x → of (get_or (ts ++ us) k None) ≡ Some x

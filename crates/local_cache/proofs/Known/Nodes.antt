@@ -26,7 +26,7 @@ use Rattle.local_cache.proofs.Nodes.Cells.{find-put, find-put_other}
 use Rattle.local_cache.proofs.Nodes.Numbers.{apart, tied}
 use Rattle.local_cache.proofs.Tables.Listing.{entry-cache_with, node_in, other-entry, other-node, page_name, set-node}
 
--- The tables -----------------------------------------------------------------------------------
+-- The tables
 
 abbrev vacated : Option PageEntry
 vacated = Some (record { node = None })
@@ -55,7 +55,7 @@ is_left : (a : Arena) (x : NodeName) → ((cache : CacheId) (page : PageNo) → 
 is_left a (Live cache page) vacant = vacant cache page refl
 is_left a (Working k) vacant = tt
 
--- A node under a name that no other has -----------------------------------------------------------
+-- A node under a name that no other has
 
 module _ (a b : Arena) (told : IsTold a) (n : NodeId) (x : NodeName) (ts : List (Option Table))
     (was : (m : NodeId) → HasNode b m → m ≢ n → HasNode a m)
@@ -100,7 +100,7 @@ module _ (a b : Arena) (told : IsTold a) (n : NodeId) (x : NodeName) (ts : List 
     ];
   }
 
--- A node more --------------------------------------------------------------------------------------
+-- A node more
 
 -- the pages but for one
 abbrev but_page : CacheId → PageNo → CacheId × PageNo → Bool
@@ -155,7 +155,7 @@ module _ (a b : Arena) (ns : List NodeId) (vs : List (CacheId × PageNo)) (known
         vacant = All-weaker (λ (p : CacheId × PageNo). IsVacant a p.0 p.1) (λ (p : CacheId × PageNo). IsVacant c p.0 p.1) (λ p v. ap (λ ts. entry_at ts p.0.0 p.1.0) (tables_new x Absent (a.made + 1)) ∙ v) vs known.vacant;
       })
 
--- Another name -------------------------------------------------------------------------------------
+-- Another name
 
 module _ (a c : Arena) (told : IsTold a) (n : NodeId) (h : HasNode a n) (x : NodeName)
     (cells : (m : NodeId) → find c m ≡ find (put a n (record (cell a n) { name = x })) m)
@@ -232,7 +232,7 @@ module _ (a b : Arena) (ns : List NodeId) (vs : List (CacheId × PageNo)) (known
     left-with_name = subst (λ (y : Arena). IsLeft y (name_of a n)) (sym e)
         (left-renamed a (with_name a n (Live cache page)) known.told n h (Live cache page) (λ m. refl) refl (unnamed a known.told cache page vacant) no_count no_less (vacant-there a cache page vacant))
 
-  -- A node less ------------------------------------------------------------------------------------
+  -- A node less
 
   module _ (e : b ≡ without a n) where
     find-gone : find (without a n) n ≡ None

@@ -20,21 +20,7 @@ use Rattle.local_cache.proofs.Tables.Listing.{node_by_entry, node_of_entry}
 pub kept : {X : Type 0} (P Q : X → Type 0) (test : X → Bool) (xs : List X) → ((x : X) → P x → test x ≡ true → Q x) → All P xs → All Q (filter test xs)
 kept P Q test xs then all = λ k d h. then _ (All-filter test P xs all k d h) (filter_passes test xs k d h)
 
--- What is read of what is known ----------------------------------------------------------------
-
-pub none_known : (a : Arena) → IsSound a → IsKnown a [] []
-none_known a sound = record {
-  told = record { named = sound.kept.named; pages = sound.kept.listed.pages };
-  nodes = All-nil (HasNode a);
-  vacant = All-nil (λ (p : CacheId × PageNo). IsVacant a p.0 p.1);
-}
-
-pub known_vacant : (a : Arena) (ns : List NodeId) (vs : List (CacheId × PageNo)) (cache : CacheId) (page : PageNo) → IsKnown a ns vs → IsVacant a cache page → IsKnown a ns (vs ++ (cache, page) ∷ [])
-known_vacant a ns vs cache page known vacant = record {
-  told = known.told;
-  nodes = known.nodes;
-  vacant = All-push (λ (p : CacheId × PageNo). IsVacant a p.0 p.1) vs (cache, page) known.vacant vacant;
-}
+-- What is read of what is known
 
 pub known_node : (a : Arena) (ns : List NodeId) (vs : List (CacheId × PageNo)) (n : NodeId) → IsKnown a ns vs → HasNode a n → IsKnown a (ns ++ n ∷ []) vs
 known_node a ns vs n known held = record {
@@ -53,7 +39,7 @@ unnamed a told cache page vacant m h e =
     let clash : Some m ≡ None = sym (told.pages cache.0 page.0 m h e) ∙ no_node a cache page vacant in
     cc clash
 
--- What stays known -------------------------------------------------------------------------------
+-- What stays known
 
 pub told-same : (a b : Arena) → ((m : NodeId) → is_some (find b m) ≡ is_some (find a m)) → ((m : NodeId) → name_of b m ≡ name_of a m) → b.made ≡ a.made → ((cache page : ℕ) → node_at b cache page ≡ node_at a cache page) → IsTold a → IsTold b
 told-same a b held name made at told = record {

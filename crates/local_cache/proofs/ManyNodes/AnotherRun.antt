@@ -82,7 +82,7 @@ module _ (l : NodeLists) (r : Stretch Run) (says : SayAs run l.runs.list r)
   pub places_enough : IsKept l → number_count l.runs.list ≤ l.runs.places
   places_enough kept = omega (arith, kept.counted.runs, len_cells R D, kept.fits, kept.places.runs)
 
-  -- One after the other -----------------------------------------------------------------------
+  -- One after the other
 
   cell_by_cell : Ghosts Cell
   cell_by_cell = record { after = λ x k. cell_is k; lasts = λ x k. Unit {0} }

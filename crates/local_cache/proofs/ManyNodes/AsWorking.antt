@@ -38,7 +38,7 @@ use Rattle.local_cache.proofs.ManyNodes.NextNames as next_names
 use Rattle.local_cache.proofs.NodeCells.{inserted_here, inserted_other}
 use Rattle.local_cache.proofs.NodeKeys.{index_as, len_index}
 
--- Some of many -------------------------------------------------------------------------------------
+-- Some of many
 
 module _ (m : PageNodes) (n : NodeId) where
   -- nodes stay there under working names
@@ -74,7 +74,7 @@ module _ (m : PageNodes) (n : NodeId) where
       let at : n.0 ≡ n.0 + 0 = omega arith in
       λ i. as_working m (record { 0 = at i })
 
--- Nodes of pages of which one run says all -----------------------------------------------------------
+-- Nodes of pages of which one run says all
 
 -- the key of a node that has none then
 rekeyed_none : {V : Type 0} (m : FinMap nat_cmp V) (before : Option ℕ) (v : V) → rekeyed m before None v ≡ without_key m before
@@ -140,7 +140,7 @@ module _ (l : NodeLists) (c : Counters) (right : IsRight l c) (r : Stretch Run) 
         | inr high ↦ omega (arith, high.1, right.numbered.few)
       ]
 
-  -- The lists by which they are found ----------------------------------------------------------------
+  -- The lists by which they are found
 
   module _ (even : KeyRange) (keys : AreKeysIn (λ i. even_key (run_cell value i)) r.count even) where
     pub even_few : 2 * even.count ≤ r.count + 1
@@ -262,7 +262,7 @@ module _ (l : NodeLists) (c : Counters) (right : IsRight l c) (r : Stretch Run) 
             live = omega (arith, right.live, ap map.len set_pages, len_pages);
           }
 
-      -- One after the other ---------------------------------------------------------------------
+      -- One after the other
 
       abbrev old : PageNodes
       old = nodes_of l c

@@ -97,7 +97,7 @@ len_range_most m first k = len_within (without_range m first k) m (λ q some. el
   | inr out ↦ sym (ap is_some (range_out m first k q out)) ∙ some
 ])
 
--- A part of one stretch -------------------------------------------------------------------------
+-- A part of one stretch
 
 module _ {V : Type 0} (S : Ghosts V) (laws : GoesOn S.after S.lasts) (old gone begun new : List (Stretch V)) (r : Stretch V)
     (first until : ℕ) (is : IsStretchWith S old first r) (less : SayNoMore S old r gone)

@@ -29,7 +29,7 @@ module _ {V : Type 0} (number : V → ℕ) (m : FinMap nat_cmp V) (key : Cell �
     | inr out ↦ inr out
   ]
 
-  -- Nodes that get keys ----------------------------------------------------------------------------
+  -- Nodes that get keys
 
   module _ (S : Ghosts V) (new : Stretch V) (keys : AreKeysIn keyed count (record { first = new.first; count = new.count }))
       (none : (i : ℕ) → i < count → key_at key cells (first + i) ≡ None)
@@ -71,7 +71,7 @@ module _ {V : Type 0} (number : V → ℕ) (m : FinMap nat_cmp V) (key : Cell �
     pub index_more : Indexes number (with_stretch S m new) key after
     index_more k n = (finds_more k n, found_more k n)
 
-  -- Nodes that lose their keys ---------------------------------------------------------------------
+  -- Nodes that lose their keys
 
   module _ (range : KeyRange) (keys : AreKeysIn keyed count range)
       (was : (i : ℕ) → i < count → key_at key cells (first + i) ≡ keyed i)

@@ -38,7 +38,7 @@ use Rattle.local_cache.proofs.NodeCells.{get_cells_by}
 use Rattle.local_cache.proofs.Needed.{needed_left}
 use Rattle.local_cache.proofs.NodeKeys.{index_as, len_index}
 
--- One after the other --------------------------------------------------------------------------
+-- One after the other
 
 -- the pages without those of so many nodes of this name
 abbrev pub pages_without : RunName → FinMap nat_cmp Rising → ℕ → FinMap nat_cmp Rising
@@ -129,7 +129,7 @@ pub nothing_recorded : (l : NodeLists) (r : Stretch Run)
 nothing_recorded l r plain = range_vacant _ r.first r.count (λ q low high.
     get_cells each l.records.list q ∙ plain q low high)
 
--- All lists -----------------------------------------------------------------------------------------
+-- All lists
 
 module _ (l : NodeLists) (c : Counters) (right : IsRight l c) (r : Stretch Run)
     (alike : AreSaidBy (nodes_of l c) (record { 0 = r.first }) r.value r.count) where

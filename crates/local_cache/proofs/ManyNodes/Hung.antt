@@ -76,7 +76,7 @@ module _ (l : NodeLists) (c : Counters) (right : IsRight l c) (r : Stretch Run) 
         nodes_relinked l c right r says plain value cell_is is_hung runs set count places
         ∙ sym (all_hung r.count (omega arith))
 
--- Some of many -------------------------------------------------------------------------------------
+-- Some of many
 
 module _ (m : PageNodes) (n parent : NodeId) where
   -- nodes stay there on other parents

@@ -39,7 +39,7 @@ none_in key count none =
       reached = λ k low high. (let bad : ⊥ = omega (arith, high) in absurd bad);
     }
 
--- Pages ---------------------------------------------------------------------------------------
+-- Pages
 
 pub page_keys : (r : Run) (count : ℕ) (cache : CacheId) (page : PageNo) → r.name ≡ Pages cache page
     → page_number cache.0 page.0 + count < 2 ^ 64
@@ -63,15 +63,7 @@ pub no_page : (r : Run) (name : RunName) → r.name ≡ name → page_key (run_c
     → (i : ℕ) → page_key (run_cell r i) ≡ None
 no_page r name named first none i = ap (λ (x : RunName). page_key (run_cell (record r { name = x }) i)) named ∙ none i
 
--- Working numbers -------------------------------------------------------------------------------
-
-even_not : (k : ℕ) → k % 2 ≡ 1 → even_half k ≡ None
-even_not k odd =
-    let rest : k % 2 ≢ 0 = omega (arith, odd) in
-    ap (λ (b : Bool). cond b (Some (k / 2)) None) (ne_eqb (k % 2) 0 rest)
-
-odd_not : (k : ℕ) → k % 2 ≡ 0 → odd_half k ≡ None
-odd_not k even = ap (λ (b : Bool). cond b None (Some (k / 2))) (eq-eqb (k % 2) 0 even)
+-- Working numbers
 
 even_at : (k h : ℕ) → k ≡ 2 * h → even_half k ≡ Some h
 even_at k h e = ap even_half e ∙ even_back h
@@ -143,13 +135,7 @@ odd_second w count short odd =
       );
     }
 
-pub even_none : (w count : ℕ) → w % 2 ≡ 1 → AreKeysIn (λ i. option_and_then even_half (working_at (EverySecond w) i)) count no_keys
-even_none w count odd = none_in _ count (λ i. even_not (w + 2 * i) (let e : (w + 2 * i) % 2 ≡ 1 = omega (arith, odd) in e))
-
-pub odd_none : (w count : ℕ) → w % 2 ≡ 0 → AreKeysIn (λ i. option_and_then odd_half (working_at (EverySecond w) i)) count no_keys
-odd_none w count even = none_in _ count (λ i. odd_not (w + 2 * i) (let e : (w + 2 * i) % 2 ≡ 0 = omega (arith, even) in e))
-
--- Thin nodes --------------------------------------------------------------------------------------
+-- Thin nodes
 
 -- each node of a run has as many children
 few_same : (r : Run) (i : ℕ) → has_few (run_cell r i) ≡ has_few (run_cell r 0)

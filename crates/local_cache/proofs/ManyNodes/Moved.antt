@@ -22,7 +22,7 @@ cell_by : (x y : PageNodes) (n : NodeId) → find y n ≡ find x n → cell y n 
 unfolding cell
 cell_by x y n e = ap (λ (o : Option Cell). unwrap_or o blank) e
 
--- Under other names ---------------------------------------------------------------------------------
+-- Under other names
 
 module _ (m : PageNodes) (s : NodeId) (cache : CacheId) (page : PageNo) where
   -- what is said of another number stays
@@ -70,7 +70,7 @@ module _ (m : PageNodes) (s : NodeId) (cache : CacheId) (page : PageNo) where
               ∙ pages_left k (omega (arith, le)) j (omega (arith, less, other))
         ]
 
--- The pages of a span -------------------------------------------------------------------------------
+-- The pages of a span
 
 module _ (m : PageNodes) (span : Span) (d s : NodeId) (destinations : AreNamed m d span.to span.to_page span.pages)
     (sources : AreNamed m s span.from span.from_page span.pages) (apart : IsApart span) where

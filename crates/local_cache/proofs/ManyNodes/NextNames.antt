@@ -1,4 +1,5 @@
--- Nodes in a row that get the next working names: no other node has these, and those that are thin are found by them.
+-- Nodes in a row that get the next working names: no other node has these, and those that are thin
+-- are found by them.
 use Rattle.std.proofs.Common.{◌≡◌, ℕ, ◌+◌, ◌-◌, ◌*◌, ◌<◌, ◌≤◌, Bool, true, false, Option, Some, None, refl, ap, sym, ◌∙◌, inl, inr, arith}
 use Rattle.std.specs.Prelude.{◌⊎◌, ◌/◌, ◌%◌, option_and_then, option_map}
 use Rattle.std.proofs.lemmas.Bool.{cases_Bool, cases_lt}
@@ -33,7 +34,7 @@ use Rattle.local_cache.proofs.NodeKeys.{len_index}
 use Rattle.local_cache.proofs.NodeRuns.{even_back, odd_back}
 use Rattle.local_cache.proofs.Placing.{even_number, odd_number, then_some}
 
--- Halves of numbers --------------------------------------------------------------------------------
+-- Halves of numbers
 
 -- the even numbers, or the odd ones, as halves
 pub record AreHalves (half : ℕ → Option ℕ) (odd : ℕ) : Type 0 where
@@ -90,7 +91,7 @@ module _ (half : ℕ → Option ℕ) (odd : ℕ) (halves : AreHalves half odd) (
       let at : w + i ≡ 2 * k + odd = halves.whole (w + i) k is in
       omega (arith, begins, at, lies.0, first_half (omega (arith, lies.0, lies.1)))
 
--- The names of nodes -------------------------------------------------------------------------------
+-- The names of nodes
 
 -- the number of a thin node is that of a working node
 number_named : (name : NodeName) (few : Bool) (k : ℕ) → number_if name few ≡ Some k → number_of_name name ≡ Some k
@@ -107,8 +108,8 @@ not_thin : (half : ℕ → Option ℕ) (o : Option Cell) → option_and_then wor
 not_thin half None none = refl
 not_thin half (Some x) none = ap (option_and_then half) (no_number_if x.name (has_few x) none)
 
--- The nodes before and after: those from one number on had no working names, and have the next ones. A run says all of
--- them, and of the other nodes what was said is said still.
+-- The nodes before and after: those from one number on had no working names, and have the next
+-- ones. A run says all of them, and of the other nodes what was said is said still.
 module _ (l : NodeLists) (c : Counters) (right : IsRight l c) (first count : ℕ) (after : FinMap nat_cmp Cell) (value : Run)
     (named : value.name ≡ Working (c.made + 1))
     (beside : (q : ℕ) → (q < first) ⊎ (first + count ≤ q) → map.get after q ≡ map.get (node_cells l) q)
@@ -157,7 +158,7 @@ module _ (l : NodeLists) (c : Counters) (right : IsRight l c) (first count : ℕ
     ]
   ]
 
-  -- Thin nodes ----------------------------------------------------------------------------------------
+  -- Thin nodes
 
   module _ (half : ℕ → Option ℕ) (odd : ℕ) (halves : AreHalves half odd) (m : FinMap nat_cmp ThinNodes)
       (index : Indexes (λ (v : ThinNodes). (first_thin v).0) m (λ x. option_and_then half (thin_number x)) (node_cells l))

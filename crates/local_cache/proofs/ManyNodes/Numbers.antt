@@ -17,7 +17,7 @@ many_short l c right n zero fits held = omega (arith, fits)
 many_short l c right n (suc k) fits held =
     omega (arith, given_short (node_cells l) c right.numbered (n + k) (held k (omega arith)))
 
--- There are so many numbers behind a node, if there is one --------------------------------------------
+-- There are so many numbers behind a node, if there is one
 
 -- and fewer
 pub fewer_numbers : (o : Option NodeId) (a b : ℕ) → a ≤ b → IfSome o (λ p. p.0 + b ≤ 2 ^ 64)

@@ -96,7 +96,7 @@ module _ (l : NodeLists) (c : Counters) (right : IsRight l c) (r : Stretch Run) 
         nodes_relinked l c right r says plain value cell_is is_over runs set count places
         ∙ sym (all_over r.count (omega arith))
 
--- Some of many -------------------------------------------------------------------------------------
+-- Some of many
 
 next_next : (o : Option NodeId) (a b : ℕ) → next_if (next_if o a) b ≡ next_if o (a + b)
 next_next None a b = refl

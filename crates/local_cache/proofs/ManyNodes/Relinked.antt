@@ -77,7 +77,7 @@ module _ (l : NodeLists) (c : Counters) (right : IsRight l c) (r : Stretch Run) 
   pub places_relinked : number_count l.runs.list ≤ l.runs.places
   places_relinked = another.places_enough l r says plain value cell_is is_said.cell right.kept
 
-  -- One after the other -----------------------------------------------------------------------
+  -- One after the other
 
   -- so many nodes are changed, and no others
   pub relinked : ℕ → PageNodes

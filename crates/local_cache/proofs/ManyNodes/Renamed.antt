@@ -347,7 +347,7 @@ module _ (l : NodeLists) (c : Counters) (right : IsRight l c) (r : Stretch Run) 
           live = omega (arith, right.live, ap map.len set_pages, len_pages);
         }
 
-    -- One after the other ---------------------------------------------------------------------
+    -- One after the other
 
     cell_by_cell : Ghosts Cell
     cell_by_cell = record { after = λ x k. cell_is k; lasts = λ x k. Unit {0} }
@@ -420,7 +420,7 @@ module _ (l : NodeLists) (c : Counters) (right : IsRight l c) (r : Stretch Run) 
         (λ i. record { cells = (cells_are ∙ cells_fold) i; pages = set_pages i; made = c.made; room = same i })
         ∙ sym (all_names r.count (omega arith))
 
--- Some of many -------------------------------------------------------------------------------------
+-- Some of many
 
 module _ (m : PageNodes) (n : NodeId) (cache : CacheId) (page : PageNo) where
   -- nodes stay there under other names

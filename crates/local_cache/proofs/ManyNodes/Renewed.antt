@@ -49,7 +49,7 @@ module _ (m : PageNodes) (n : NodeId) where
   pub have_none_left : (k : ℕ) (new : NodeId) (count : ℕ) → HaveNone m new count → HaveNone (without_many m n k) new count
   have_none_left k new count none j less = none_left k (new.0 + j) (none j less)
 
-  -- The pages have no nodes then -------------------------------------------------------------------
+  -- The pages have no nodes then
 
   module _ (cache : CacheId) (page : PageNo) (count : ℕ) (named : AreNamed m n cache page count) where
     none_or : (b : Bool) (o : Option Rising) → o ≡ None → cond b None o ≡ None

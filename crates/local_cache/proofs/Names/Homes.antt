@@ -28,7 +28,7 @@ use Rattle.local_cache.proofs.Nodes.Numbers.{apart, tied}
 use Rattle.local_cache.proofs.Tables.Listing.{node_in, read_other}
 use Rattle.local_cache.proofs.Tables.Sizes.{each_table, sizes_granted, sizes_locked}
 
--- What a home depends on -----------------------------------------------------------------------
+-- What a home depends on
 
 -- the page of a cache with this segment, or that isn't live
 abbrev page_in : PageNo → Option (Option SegId) → Option Home
@@ -60,14 +60,7 @@ home_page a cache page own s p is =
     ap (λ (o : Option Cell). home_named a.caches (unwrap_or o blank).name) p.is
     ∙ by_segment (record { 0 = page }) (table_at a.caches cache.0) ∙ ap (page_in (record { 0 = page })) is
 
--- a page of a temporary cache has none
-pub home_temp : (a : Arena) (cache : CacheId) (page : ℕ) (own : OwnState) (p : HasPage a cache page own) → segment_of a cache.0 ≡ Some None → home_of a p.node ≡ None
-unfolding cell
-home_temp a cache page own p is =
-    ap (λ (o : Option Cell). home_named a.caches (unwrap_or o blank).name) p.is
-    ∙ by_segment (record { 0 = page }) (table_at a.caches cache.0) ∙ ap (page_in (record { 0 = page })) is
-
--- What leaves the homes -------------------------------------------------------------------------
+-- What leaves the homes
 
 -- the same nodes under the same names, and the same tables
 pub home-like : (a b : Arena) → Like a b → (n : NodeId) → home_of b n ≡ home_of a n
@@ -83,12 +76,6 @@ home-put a n c same m =
 
 pub home-with_own : (a : Arena) (n : NodeId) (s : OwnState) (m : NodeId) → home_of (with_own a n s) m ≡ home_of a m
 home-with_own a n s = home-put a n (record (cell a n) { own = s }) refl
-
-pub home-with_links : (a : Arena) (n : NodeId) (l : Links) (m : NodeId) → home_of (with_links a n l) m ≡ home_of a m
-home-with_links a n l = home-put a n (record (cell a n) { links = l }) refl
-
-pub home-with_tree : (a : Arena) (n : NodeId) (ts : List NodeId) (m : NodeId) → home_of (with_tree a n ts) m ≡ home_of a m
-home-with_tree a n ts = home-put a n (record (cell a n) { tree = ts }) refl
 
 pub home-with_grant : (a : Arena) (cache page : ℕ) (m : NodeId) → home_of (with_grant a cache page) m ≡ home_of a m
 home-with_grant a cache page m = home_kept a (with_grant a cache page) (sizes_granted a (with_grant a cache page) cache page refl) m (ap (λ (c : Cell). c.name) (granted_cell a (with_grant a cache page) cache page refl m))
@@ -134,26 +121,9 @@ counted_home : (a : Arena) (made : ℕ) (m : NodeId) → home_of (record a { mad
 unfolding cell
 counted_home a made m = refl
 
-pub home-with_working : (a : Arena) (n : NodeId) → home_of (with_working a n) n ≡ None
-home-with_working a n = counted_home (with_new a n (Working (a.made + 1)) Absent) (a.made + 1) n ∙ home-with_new a n (Working (a.made + 1)) Absent
-
-pub home-with_working_other : (a : Arena) (n m : NodeId) → m ≢ n → home_of (with_working a n) m ≡ home_of a m
-home-with_working_other a n m ne = counted_home (with_new a n (Working (a.made + 1)) Absent) (a.made + 1) m ∙ home-with_new_other a n (Working (a.made + 1)) Absent m ne
-
--- a node less
-caches-without : (a : Arena) (n : NodeId) → (without a n).caches ≡ tables_with a.caches (cell a n).name None
-unfolding without
-caches-without a n = refl
-
 find-without : (a : Arena) (n m : NodeId) → m ≢ n → find (without a n) m ≡ find a m
 unfolding without
 find-without a n m ne = get-remove nat_cmp_total a.cells n.0 m.0 ∙ rw (apart m.0 n.0 (λ e. ne (λ i. record { 0 = e i })))
-
-pub home-without_other : (a : Arena) (n m : NodeId) → m ≢ n → home_of (without a n) m ≡ home_of a m
-home-without_other a n m ne =
-    ap (λ (ts : List (Option Table)). home_named ts (name_of (without a n) m)) (caches-without a n)
-    ∙ named-tables_with a.caches (cell a n).name None (name_of (without a n) m)
-    ∙ ap (λ (c : Cell). home_named a.caches c.name) (cell_of (without a n) m ∙ ap (λ (o : Option Cell). unwrap_or o blank) (find-without a n m ne) ∙ sym (cell_of a m))
 
 -- where there is no node there is no home
 pub home_none : (a : Arena) (n : NodeId) → find a n ≡ None → home_of a n ≡ None
@@ -184,9 +154,6 @@ module _ (a : Arena) (n : NodeId) (x : NodeName) where
 
 pub home-as_working : (a : Arena) (n : NodeId) → home_of (as_working a n) n ≡ None
 home-as_working a n = counted_home (with_name a n (Working (a.made + 1))) (a.made + 1) n ∙ home-with_name a n (Working (a.made + 1))
-
-pub home-as_working_other : (a : Arena) (n m : NodeId) → m ≢ n → home_of (as_working a n) m ≡ home_of a m
-home-as_working_other a n m ne = counted_home (with_name a n (Working (a.made + 1))) (a.made + 1) m ∙ home-with_name_other a n (Working (a.made + 1)) m ne
 
 -- a cache less, whose page the node isn't
 other_table : (ts : List (Option Table)) (gone other : ℕ) → other ≢ gone → table_at (tables_without ts gone) other ≡ table_at ts other

@@ -1,4 +1,5 @@
--- A node under another name: it becomes that of a page that has none, and the page that it was the node of has none then.
+-- A node under another name: it becomes that of a page that has none, and the page that it was the
+-- node of has none then.
 use Rattle.std.proofs.Common.{◌≡◌, ◌≢◌, Option, Some, None, is_some, refl, sym, ap, ◌∙◌, subst, inl, inr}
 use Rattle.vm_ids.specs.declared.node_name.NodeName.{NodeName}
 use Rattle.vm_ids.specs.declared.node_name.NodeName.TheVariants.{Live}

@@ -28,7 +28,7 @@ use Rattle.local_cache.proofs.Changes.SameCells.{alike_sound, retabled_forest, r
 use Rattle.local_cache.proofs.NewNode.FreshNode.{page-forest, page-sound}
 use Rattle.local_cache.proofs.Tables.Listing.{node_in}
 
--- Puts at two names may change places. ---------------------------------------------
+-- Puts at two names may change places.
 
 module _ {P : Type 0} where
   puts_apart : (f : Forest P) (x y : NodeName) (m n : Node P) → x ≢ y → put (put f x m) y n ≡ put (put f y n) x m
@@ -52,7 +52,7 @@ module _ {P : Type 0} where
       ap (λ g. put g y (childless (Some v) Root)) (make-later xs v f x n (λ i. out (inr i)))
       ∙ puts_apart (make (map (λ z. (z, v)) xs) f) x y n (childless (Some v) Root) (λ e. out (inl e))
 
--- The new cache's table ------------------------------------------------------------
+-- The new cache's table
 
 -- an entry without a node
 abbrev blank_entry : NodeId → PageEntry
@@ -116,7 +116,7 @@ module _ (ts : List (Option Table)) (table : Table) where
       go (t ∷ ts) zero = refl
       go (t ∷ ts) (suc k) = go ts k
 
--- The nodes of the new cache come one by one. ----------------------------------------
+-- The nodes of the new cache come one by one.
 
 module _ (ts : List (Option Table)) (table : Table) (cache : CacheId) (number : cache.0 ≡ suc (length ts)) (s : OwnState) (page : page_of s ≡ Some s) where
   -- with the node of the next page

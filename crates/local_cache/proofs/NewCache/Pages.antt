@@ -75,25 +75,6 @@ pub made_ungranted : (old new : Arena) (cache : CacheId) (segment : Option SegId
 made_ungranted old new cache segment own ns page m =
     ap (λ (o : Option Table). unwrap_or (option_and_then (λ (t : Table). slice_get t.grants page) o) false) (last_table old new cache segment own ns m) ∙ alike false (length ns) page
 
--- and none is locked
-pub made_unlocked : (old new : Arena) (cache : CacheId) (segment : Option SegId) (own : OwnState) (ns : List NodeId) (page : ℕ) → IsMade old new cache segment own ns → locks_of new cache.0 page ≡ 0
-made_unlocked old new cache segment own ns page m =
-    ap (λ (o : Option Table). unwrap_or (option_and_then (λ (t : Table). slice_get t.locks page) o) 0) (last_table old new cache segment own ns m) ∙ alike 0 (length ns) page
-
--- the locks of all pages stay
-pub made_locks : (old new : Arena) (cache : CacheId) (segment : Option SegId) (own : OwnState) (ns : List NodeId) → IsMade old new cache segment own ns → (other page : ℕ) → locks_of new other page ≡ locks_of old other page
-made_locks old new cache segment own ns m zero page = refl
-made_locks old new cache segment own ns m (suc k) page = ap (λ (ts : List (Option Table)). locks_in (get_or ts k None)) m.caches ∙ go old.caches k
-  where
-    locks_in : Option Table → ℕ
-    locks_in o = unwrap_or (option_and_then (λ (t : Table). slice_get t.locks page) o) 0
-
-    go : (ts : List (Option Table)) (k : ℕ) → locks_in (get_or (ts ++ Some (new_table segment ns) ∷ []) k None) ≡ locks_in (get_or ts k None)
-    go [] zero = alike 0 (length ns) page
-    go [] (suc k) = refl
-    go (t ∷ ts) zero = refl
-    go (t ∷ ts) (suc k) = go ts k
-
 -- its segment
 pub made_segment : (old new : Arena) (cache : CacheId) (segment : Option SegId) (own : OwnState) (ns : List NodeId) → IsMade old new cache segment own ns → segment_of new cache.0 ≡ Some segment
 made_segment old new cache segment own ns m = ap (option_map (λ (t : Table). t.segment)) (last_table old new cache segment own ns m)

@@ -27,7 +27,7 @@ use Rattle.local_cache.proofs.Whole.Pages.{no_caches, no_nodes, node_page}
 abbrev pub pages_with : OwnState → CacheId → ℕ → List (NodeName × OwnState)
 pages_with own cache pages = map (λ x. (x, own)) (page_names cache 0 pages)
 
--- The forest --------------------------------------------------------------------------------
+-- The forest
 
 module _ {P : Type 0} (f : Forest P) where
   make_stays : (pages : List (NodeName × P)) (x : NodeName) → IsNode f x → IsNode (make pages f) x
@@ -51,7 +51,7 @@ names_length : (c : CacheId) (p n : ℕ) → length (page_names c p n) ≡ n
 names_length c p zero = refl
 names_length c p (suc n) = ap suc (names_length c (p + 1) n)
 
--- The tables --------------------------------------------------------------------------------
+-- The tables
 
 -- what stands in a list with one more at its end
 at_place : (ts : List (Option Table)) (t : Table) (k : ℕ) → (get_or (ts ++ Some t ∷ []) k None ≡ get_or ts k None) ⊎ ((k ≡ length ts) × (get_or (ts ++ Some t ∷ []) k None ≡ Some t))
@@ -116,7 +116,7 @@ module _ (a b : Arena) (whole : IsWhole a) (cache : CacheId) (n : ℕ) (segment 
         omega (arith, most, count, few, ap (λ (g : Forest OwnState). len g.nodes) forest_is));
   }
 
--- No cache yet ------------------------------------------------------------------------------
+-- No cache yet
 
 pub none_whole : (a : Arena) → a.caches ≡ [] → forest_of a ≡ no_forest → IsSound a → IsWhole a
 none_whole a none forest sound = record {

@@ -1,4 +1,5 @@
--- There are as many nodes of the forest as own states: each node of the arena has its name, and no two of them one.
+-- There are as many nodes of the forest as own states: each node of the arena has its name, and no
+-- two of them one.
 use Rattle.std.proofs.Common.{◌≡◌, ℕ, ◌+◌, ◌≤◌, Bool, true, false, cond, ◌&&◌, List, [], ◌∷◌, length, map, Some, None, is_some, refl, sym, ap, ◌∙◌, subst, inl, inr, arith}
 use Rattle.std.specs.Prelude.{T}
 use Rattle.std.proofs.lemmas.Bool.{false≢true}
@@ -24,7 +25,7 @@ use Rattle.local_cache.specs.Reading.{IsNamed, at_key, forest_of, name_of, node_
 use Rattle.local_cache.proofs.Forest.Reading.{IsNode-forest_of}
 use Rattle.local_cache.proofs.Nodes.Numbers.{tied}
 
--- There are no more nodes of the forest than own states ---------------------------------
+-- There are no more nodes of the forest than own states
 
 one_more : (b : Bool) (n k : ℕ) → n ≤ k → cond b n (n + 1) ≤ k + 1
 one_more true n k e = omega (arith, e)
@@ -46,7 +47,7 @@ forest_len a =
     let many = length-map {B = NodeName × Node OwnState} (ids.keys a.cells) (λ k. (name_of a (at_key k), node_of a (at_key k))) in
     omega (arith, most, many, keys_states a)
 
--- And no fewer -------------------------------------------------------------------------
+-- And no fewer
 
 and_left : (a b : Bool) → T (a && b) → T a
 and_left true b h = tt

@@ -196,12 +196,6 @@ own_not_all p a n held fails =
     let at : IsAt a n = standing a n held in
     count_not_all p (own_states a) at.place Absent at.within (ap p at.is ∙ fails)
 
-pub own_none : (p : OwnState → Bool) (a : Arena) (n : NodeId) → p Absent ≡ false → count_by p (own_states a) ≡ 0 → p (own_of a n) ≡ false
-own_none p a n out none = elim (held_or_absent a n) [
-  | inl held ↦ (let at : IsAt a n = standing a n held in ap p (sym at.is) ∙ none_passes p (own_states a) at.place Absent at.within none)
-  | inr absent ↦ ap p absent ∙ out
-]
-
 -- what passes a test that Absent doesn't is a node
 pub own_held : (p : OwnState → Bool) (a : Arena) (n : NodeId) → p Absent ≡ false → p (own_of a n) ≡ true → HasNode a n
 own_held p a n out passes = elim (held_or_absent a n) [

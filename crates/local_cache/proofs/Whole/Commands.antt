@@ -30,7 +30,7 @@ use Rattle.vm_ids.proofs.Forest.Lengths.{settle_len, settle_stays}
 use Rattle.local_cache.proofs.Tables.Sizes.{sizes_then}
 use Rattle.local_cache.proofs.Whole.Pages.{node_page, pages_once, whole_after}
 
--- A cache that goes ----------------------------------------------------------------------
+-- A cache that goes
 
 module _ (a b : Arena) (whole : IsWhole a) (cache : CacheId) (n : ℕ) (size : size_of a cache.0 ≡ Some n) (forest_is : forest_of b ≡ destroy false (page_names cache 0 n) (forest_of a)) (sound : IsSound b) (consistent : IsConsistent (forest_of b)) (sizes : SameCaches a b) where
   value_is : (y : NodeName) → is_live y ≡ true → value_of (forest_of b) y ≡ cond (is_in y (page_names cache 0 n)) None (value_of (forest_of a) y)
@@ -71,7 +71,7 @@ module _ (a b : Arena) (whole : IsWhole a) (cache : CacheId) (n : ℕ) (size : s
           let at = (ranges_hold_their_pages cache 0 n (page_name other page)).0 (in_from_any (page_names cache 0 n) (page_name other page) e) in
           absurd (apart (another at.0 at.2))
 
--- The caches after whole commands ---------------------------------------------------------
+-- The caches after whole commands
 
 -- the pages of a copy were linked, and then the working nodes settled
 pub whole_copied : (a b c : Arena) → IsWhole a → (more : ℕ) → len (forest_of a).nodes + more < 2 ^ 32 → IsConsistent (forest_of b) → ((x : NodeName) → IsNode (forest_of a) x → IsNode (forest_of b) x) → len (forest_of b).nodes ≤ len (forest_of a).nodes + more → SameCaches a b

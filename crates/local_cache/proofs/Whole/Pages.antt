@@ -22,7 +22,7 @@ use Rattle.local_cache.specs.Sound.{IsSound}
 use Rattle.local_cache.specs.Whole.{IsWhole, SameCaches, size_of}
 use Rattle.local_cache.proofs.Forest.Reading.{forest_of-IsNode}
 
--- Pages and nodes ---------------------------------------------------------------------
+-- Pages and nodes
 
 -- a page of the forest has a node
 pub page_there : (a : Arena) → IsSound a → (cache : CacheId) (page : PageNo) → IsNode (forest_of a) (Live cache page) → IsSome (node_at a cache.0 page.0)
@@ -63,7 +63,7 @@ pages_once a whole cache n size = record {
       (subst (IsNode (forest_of a)) (sym is) (whole.pages cache at.0 n size at.1), ap is_live is);
 }
 
--- What keeps the caches whole ----------------------------------------------------------
+-- What keeps the caches whole
 
 pub whole_after : (a b : Arena) → IsWhole a → IsSound b → IsConsistent (forest_of b) → SameCaches a b → ((x : NodeName) → is_live x ≡ true → IsNode (forest_of a) x → IsNode (forest_of b) x) → len (forest_of b).nodes < 2 ^ 32 → IsWhole b
 whole_after a b whole sound consistent sizes stays few = record {
@@ -77,7 +77,7 @@ whole_after a b whole sound consistent sizes stays few = record {
 pub whole_same : (a b : Arena) → IsWhole a → IsSound b → forest_of b ≡ forest_of a → SameCaches a b → IsWhole b
 whole_same a b whole sound is sizes = whole_after a b whole sound (subst IsConsistent (sym is) whole.consistent) sizes (λ x live there. subst (λ g. IsNode g x) (sym is) there) (subst (λ g. len g.nodes < 2 ^ 32) (sym is) whole.few)
 
--- No cache yet ---------------------------------------------------------------------------
+-- No cache yet
 
 pub no_caches : (a : Arena) → a.caches ≡ [] → (cache n : ℕ) → size_of a cache ≡ Some n → ⊥
 no_caches a none zero n size = cc size

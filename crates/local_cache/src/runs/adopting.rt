@@ -48,8 +48,8 @@ fn next_if(node: Option<NodeId>, by: u32) -> Option<NodeId>
     Some(NodeId(node?.0 + by as u64))
 }
 
-// Gives so many nodes, from one on, the next ones of these children: at once those of pages of which
-// one run says all.
+// Gives so many nodes, from one on, the next ones of these children: at once those of pages of
+// which one run says all.
 pub(crate) fn adopt_from(
     lists: &mut NodeLists,
     counters: &Counters,
@@ -73,8 +73,8 @@ pub(crate) fn adopt_from(
     }
 }
 
-// Gives the first of so many nodes the next ones of these children: as many as one run of pages says
-// all of, or one. It answers how many.
+// Gives the first of so many nodes the next ones of these children: as many as one run of pages
+// says all of, or one. It answers how many.
 fn adopt_some(
     lists: &mut NodeLists,
     counters: &Counters,

@@ -31,7 +31,8 @@ pub(crate) fn remove_from(lists: &mut NodeLists, counters: &mut Counters, first:
     }
 }
 
-// Takes out the first of so many nodes: as many as one run says all of, or one. It answers how many.
+// Takes out the first of so many nodes: as many as one run says all of, or one. It answers how
+// many.
 fn remove_some(lists: &mut NodeLists, counters: &mut Counters, node: u64, most: u32) -> u32
     requires right { IsRight lists.old counters.old }
     requires some { 0 < most }

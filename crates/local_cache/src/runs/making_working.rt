@@ -94,8 +94,8 @@ pub(crate) fn make_working_over(
     counters.next_working += count as u64;
 }
 
-// Says of numbers, of which nothing was said, that the first one is that of this thin node, and each
-// next one that of the node behind the next.
+// Says of numbers, of which nothing was said, that the first one is that of this thin node, and
+// each next one that of the node behind the next.
 pub(crate) fn fill_thin(list: &mut StretchList<ThinNodes>, range: KeyRange, node: u64)
     requires ends { range.first + range.count < 2 ^ 64 }
     requires short { node + 2 * range.count < 2 ^ 64 }

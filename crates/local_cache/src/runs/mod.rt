@@ -4,8 +4,8 @@
 //! parent by a tree link and their tree children; each node is a step further on than the one
 //! before. A record lies over a run and splits nothing: it says of one node what the run can't, its
 //! frame or slot and its links by stubs, and hides what the run says of these. Records stand in a
-//! slab, and a list in order has their keys. Three more lists find nodes: the node of each page, and
-//! the thin nodes by their working numbers, odd and even ones apart.
+//! slab, and a list in order has their keys. Three more lists find nodes: the node of each page,
+//! and the thin nodes by their working numbers, odd and even ones apart.
 //!
 //! Nodes of pages and nodes made as working ones have two series of numbers. Each rises, so that
 //! nodes made one behind the other can stand in one run.

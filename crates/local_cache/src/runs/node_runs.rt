@@ -176,8 +176,9 @@ impl NodeRuns {
         self.change(node, before, before.over(children));
     }
 
-    /// Gives so many nodes, from one on, the next ones of these tree children, as `set_tree_children`
-    /// gives each its own. Nodes of pages of which one run says all get theirs at once.
+    /// Gives so many nodes, from one on, the next ones of these tree children, as
+    /// `set_tree_children` gives each its own. Nodes of pages of which one run says all get theirs
+    /// at once.
     pub(crate) fn adopt_many(&mut self, node: NodeId, count: u32, children: Children)
         requires held { HaveNodes self.old node count }
         requires older { children.older.0 + count ≤ 2 ^ 64 }
@@ -212,9 +213,9 @@ impl NodeRuns {
         NodeId(node)
     }
 
-    /// Makes a node for each page of a cache, none of which has one, each of one own state. They are
-    /// one run, unless the numbers came to an end. It takes no memory: there has to be room for the
-    /// nodes.
+    /// Makes a node for each page of a cache, none of which has one, each of one own state. They
+    /// are one run, unless the numbers came to an end. It takes no memory: there has to be room for
+    /// the nodes.
     pub(crate) fn make_pages(&mut self, cache: CacheId, pages: u32, own: PlainState)
         requires room { pages ≤ self.old.room }
         requires vacant { (page : ℕ) → page < pages
@@ -279,10 +280,10 @@ impl NodeRuns {
         Some(NodeId(first))
     }
 
-    /// Gives so many pages of a cache, from one page on, new nodes in place of theirs, which are those
-    /// from one node on and which nothing names, each of one own state. They are one run, under
-    /// numbers that no node had. Where the numbers came to an end nothing changes, and it answers
-    /// `None`.
+    /// Gives so many pages of a cache, from one page on, new nodes in place of theirs, which are
+    /// those from one node on and which nothing names, each of one own state. They are one run,
+    /// under numbers that no node had. Where the numbers came to an end nothing changes, and it
+    /// answers `None`.
     pub(crate) fn renew_many(
         &mut self,
         node: NodeId,
@@ -325,8 +326,8 @@ impl NodeRuns {
         NodeId(node)
     }
 
-    /// Makes so many working nodes under the next names, as `fresh_working` makes each. They are one
-    /// run. It takes no memory: there has to be room for the nodes.
+    /// Makes so many working nodes under the next names, as `fresh_working` makes each. They are
+    /// one run. It takes no memory: there has to be room for the nodes.
     pub(crate) fn fresh_working_many(&mut self, count: u32) -> NodeId
         requires room { count ≤ self.old.room }
         requires made { self.old.made + count ≤ 2 ^ 63 }
@@ -342,9 +343,10 @@ impl NodeRuns {
         NodeId(first)
     }
 
-    /// Makes so many working nodes under the next names, each over the next older and the next newer
-    /// node as its tree children, in this order: as `fresh_working_many` makes them and `adopt_many`
-    /// gives them these. They are one run. It takes no memory: there has to be room for the nodes.
+    /// Makes so many working nodes under the next names, each over the next older and the next
+    /// newer node as its tree children, in this order: as `fresh_working_many` makes them and
+    /// `adopt_many` gives them these. They are one run. It takes no memory: there has to be room
+    /// for the nodes.
     pub(crate) fn fresh_working_over(&mut self, count: u32, older: NodeId, newer: NodeId) -> NodeId
         requires room { count ≤ self.old.room }
         requires made { self.old.made + count ≤ 2 ^ 63 }
@@ -407,10 +409,10 @@ impl NodeRuns {
         rename_from(&mut self.lists, &mut self.counters, node.0, count, name);
     }
 
-    /// Gives the pages of a span's destination the nodes of its source's pages, from one node on, in
-    /// place of their own, which are those from another one on and which nothing names, and the
-    /// source's pages new nodes of zeros. They are one run, under numbers that no node had. Where the
-    /// numbers came to an end nothing changes, and it answers `None`.
+    /// Gives the pages of a span's destination the nodes of its source's pages, from one node on,
+    /// in place of their own, which are those from another one on and which nothing names, and the
+    /// source's pages new nodes of zeros. They are one run, under numbers that no node had. Where
+    /// the numbers came to an end nothing changes, and it answers `None`.
     pub(crate) fn move_many(&mut self, span: Span, gone: NodeId, node: NodeId) -> Option<NodeId>
         requires destinations { AreNamed self.old gone span.to span.to_page span.pages }
         requires sources { AreNamed self.old node span.from span.from_page span.pages }
@@ -455,8 +457,8 @@ impl NodeRuns {
         remove(&mut self.lists, &mut self.counters, node.0, before);
     }
 
-    /// Gives back so many nodes that nothing names, from one on, as `free` gives back each. Those of
-    /// which one run says all go at once.
+    /// Gives back so many nodes that nothing names, from one on, as `free` gives back each. Those
+    /// of which one run says all go at once.
     pub(crate) fn free_many(&mut self, node: NodeId, count: u32)
         requires { HaveNodes self.old node count }
         ensures { self.new ≡ without_many self.old node count }

@@ -19,7 +19,7 @@ use Rattle.tree_merge.specs.Copying.{AreApart}
 use Rattle.tree_merge.proofs.CopiedPages.Changes.{cell_by, differ, inserts, pages_pass, removes}
 use Rattle.tree_merge.proofs.CopiedPages.Stretches.{Passes, both, each, parted}
 
--- In the tables -----------------------------------------------------------------------------------
+-- In the tables
 
 -- two caches
 caches_pass : (ts : List (Option Table)) (a b : ℕ) (f g : Table → Table) → a ≢ b → changed_at (changed_at ts a f) b g ≡ changed_at (changed_at ts b g) a f
@@ -47,7 +47,7 @@ tables_pass ts (Live c p) (Live d q) o r ne = elim (cases_eq c.0 d.0) [
   | inr other ↦ caches_pass ts c.0 d.0 (table_with p.0 o) (table_with q.0 r) other
 ]
 
--- In the caches -----------------------------------------------------------------------------------
+-- In the caches
 
 module _ (d s n : NodeId) (span : Span) where
   abbrev pub to_name : ℕ → NodeName

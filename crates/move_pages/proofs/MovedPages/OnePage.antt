@@ -43,7 +43,8 @@ pub record CanMovePage (a : Arena) (d s n : NodeId) (to : CacheId) (to_page : Pa
 abbrev pub with_moved : Arena → (d s n : NodeId) → CacheId → PageNo → CacheId → PageNo → Arena
 with_moved a d s n to to_page from from_page = with_new (with_name (without a d) s (Live to to_page)) n (Live from from_page) Zero
 
--- What it does: it is the rule, and what `move_one` says; there is as much room, and nothing is changed at other nodes.
+-- What it does: it is the rule, and what `move_one` says; there is as much room, and nothing is
+-- changed at other nodes.
 pub record PageMoved (a b : Arena) (d s n : NodeId) (to : CacheId) (to_page : PageNo) (from : CacheId) (from_page : PageNo) : Type 0 where
   pub moved : IsMoved a b from from_page to to_page (Dropped d (own_of a d))
   pub forest : forest_of b ≡ move_page (forest_of a) (Live to to_page) (Live from from_page) Zero
@@ -54,7 +55,7 @@ pub record PageMoved (a b : Arena) (d s n : NodeId) (to : CacheId) (to_page : Pa
   pub room : b.room.nodes ≡ a.room.nodes
 
 module _ (a : Arena) (d s n : NodeId) (to : CacheId) (to_page : PageNo) (from : CacheId) (from_page : PageNo) (can : CanMovePage a d s n to to_page from from_page) where
-  -- The old node goes --------------------------------------------------------------------------------
+  -- The old node goes
 
   abbrev m : Arena
   m = without a d
@@ -65,7 +66,7 @@ module _ (a : Arena) (d s n : NodeId) (to : CacheId) (to_page : PageNo) (from : 
   cleared : IsRetiredAlone a (without a d) to to_page (Dropped d (own_of a d))
   cleared = page_alone a d to to_page (record { sound = can.sound; held = can.held_d; lone = can.lone; named = can.named_d })
 
-  -- The source's node is the one of the destination then ----------------------------------------------
+  -- The source's node is the one of the destination then
 
   s_d : s ≢ d
   s_d e = can.apart (sym can.named_s ∙ ap (name_of a) e ∙ can.named_d)
@@ -88,7 +89,7 @@ module _ (a : Arena) (d s n : NodeId) (to : CacheId) (to_page : PageNo) (from : 
   free : find (with_name (without a d) s (Live to to_page)) n ≡ None
   free = find_named n (λ e. not_free a d n can.held_d can.free (sym e)) (λ e. not_free a s n can.held_s can.free (sym e)) ∙ can.free
 
-  -- And a new node is that of the source ---------------------------------------------------------------
+  -- And a new node is that of the source
 
   is_page : (q : NodeId) (x : NodeName) → HasNode a q → name_of a q ≡ x → IsNode (forest_of a) x
   is_page q x held named = subst (IsNode (forest_of a)) named (IsNode-forest_of a can.sound.kept.named q held)

@@ -52,7 +52,7 @@ module _ (a : Arena) (d s n : NodeId) (span : Span) (can : CanMoveMany a d s n s
   abbrev from_name : ℕ → NodeName
   from_name k = page_name span.from (span.from_page.0 + k)
 
-  -- No node is of two of the rows --------------------------------------------------------------------
+  -- No node is of two of the rows
 
   d_s : AreApart d s span.pages
   d_s i low j high e = can.apart j i high low (sym (can.sources j high).1 ∙ ap (name_of a) (sym e) ∙ (can.destinations i low).1)
@@ -66,7 +66,7 @@ module _ (a : Arena) (d s n : NodeId) (span : Span) (can : CanMoveMany a d s n s
   pass : (m : NodeId) (i j : ℕ) → j < i → next_node m i ≢ next_node m j
   pass m i j less e = let same : m.0 + i ≡ m.0 + j = ap (λ (k : NodeId). k.0) e in omega arith
 
-  -- Page by page ---------------------------------------------------------------------------------------
+  -- Page by page
 
   -- so many pages are moved, and nothing is changed at the nodes of others
   record SoFar (b : Arena) (k : ℕ) : Type 0 where
@@ -148,7 +148,7 @@ module _ (a : Arena) (d s n : NodeId) (span : Span) (can : CanMoveMany a d s n s
       (one_more b (with_page b k) k so_far
       (page_moved b (next_node d k) (next_node s k) (next_node n k) span.to (record { 0 = span.to_page.0 + k }) span.from (record { 0 = span.from_page.0 + k }) next.can))
 
-  -- All at once ----------------------------------------------------------------------------------------
+  -- All at once
 
   find_gone : (k : ℕ) (m : NodeId) → IsBeside m d k → find (each (gone d s n span) a k) m ≡ find a m
   find_gone zero m beside = refl
@@ -235,7 +235,7 @@ module _ (a : Arena) (d s n : NodeId) (span : Span) (can : CanMoveMany a d s n s
       ∙ (λ i. record (each (came d s n span) y count) { room = sym room i })
       ∙ sym (all_moved d s n span can.apart d_s d_n s_n a)
 
-  -- What each page hands on holds of all --------------------------------------------------------------
+  -- What each page hands on holds of all
 
   module _ (Q : Arena → ℕ → Type 0) (start : Q a 0)
       (step : (b : Arena) (k : ℕ) → k < span.pages → NextPage b (next_node d k) (next_node s k) (next_node n k) span k → Q b k

@@ -1,4 +1,5 @@
--- A page that is its node's alone stays so through whole commands that neither replace it nor give it an heir.
+-- A page that is its node's alone stays so through whole commands that neither replace it nor give
+-- it an heir.
 use Rattle.std.proofs.Common.{◌≡◌, ◌≢◌, List, [], ◌∷◌, length, Bool, true, false, leb, refl, sym, ap, subst, ◌∙◌}
 use Rattle.vm_ids.specs.declared.node_name.NodeName.{NodeName}
 use Rattle.vm_ids.specs.Forest.NameLists.{◌∈◌}

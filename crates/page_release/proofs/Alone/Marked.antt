@@ -35,7 +35,7 @@ module _ {P : Type 0} where
   some_is None s = absurd (cc s)
   some_is (Some v) s = (v, refl)
 
-  -- The page is marked --------------------------------------------------------------------------
+  -- The page is marked
   module _ (f : Forest P) (c : IsConsistent f) (x : NodeName) (live : is_live x ≡ true) (alone : HasAlone f x) (p q : P) (apart : p ≢ q) where
     pub told : Forest (P × Bool)
     told = marked (x ∷ []) (map_pages not_lost f)
@@ -95,7 +95,7 @@ module _ {P : Type 0} where
             let two : u ≡ q = let k = either q in cc k in
             apart (sym one ∙ two))
 
-    -- And found again -----------------------------------------------------------------------------
+    -- And found again
     module _ (g : Forest (P × Bool)) (linked : IsLinked g) (unread : IsUnseen g (λ y. y ≡ x)) (value : value_of g x ≡ value_of told x) where
       -- the owner has the page
       owner : (u : P × Bool) {y : NodeName} → IsValue g y u → (z : NodeName) × ((node g z).own ≡ Some u)

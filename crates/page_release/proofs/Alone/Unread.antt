@@ -1,5 +1,5 @@
--- A page that nobody reads through, marked, and what the rules leave of it: no page but that of x is marked, and nobody
--- reads through x.
+-- A page that nobody reads through, marked, and what the rules leave of it: no page but that of x
+-- is marked, and nobody reads through x.
 use Rattle.std.proofs.Common.{◌≡◌, ◌≢◌, ℕ, suc, zero, ◌+◌, List, [], ◌∷◌, Bool, true, false, Option, Some, None, refl, sym, ap, ◌∙◌, inl, inr}
 use Rattle.vm_ids.specs.declared.node_name.NodeName.{NodeName}
 use Rattle.vm_ids.specs.declared.node_name.NodeName.TheVariants.{Working}
@@ -30,7 +30,7 @@ module _ {P : Type 0} (x : NodeName) (live : is_live x ≡ true) where
   other_kept : (f : Forest (P × Bool)) → IsUnseen f (λ y. y ≡ x) → (y : NodeName) → y ≢ x → IsLost f y → ⊥
   other_kept f u y apart l = apart (u.place y l)
 
-  -- The rules for one page of another name --------------------------------------------------------
+  -- The rules for one page of another name
 
   retire-unread : (f : Forest (P × Bool)) (y : NodeName) → y ≢ x → IsUnseen f (λ z. z ≡ x) → IsUnseen (retire f y) (λ z. z ≡ x)
   unfolding retire
@@ -71,7 +71,7 @@ module _ {P : Type 0} (x : NodeName) (live : is_live x ≡ true) where
       covered (rename (retire f d) s d) _ (fresh-covers (rename (retire f d) s d) s (Some (not_lost zeros)) refl)
       (rename-unseen (retire f d) s d (retire-unread f d apart u) (λ z l going. swapped_only x s d z other apart going))
 
-  -- The rules for many pages ----------------------------------------------------------------------
+  -- The rules for many pages
 
   pub retire_all-unread : (xs : List NodeName) (f : Forest (P × Bool)) → (x ∈ xs → ⊥) → IsUnseen f (λ z. z ≡ x) → IsUnseen (retire_all xs f) (λ z. z ≡ x)
   retire_all-unread [] f out u = u
@@ -92,7 +92,7 @@ module _ {P : Type 0} (x : NodeName) (live : is_live x ≡ true) where
   replace_pages-unread (e ∷ es) f out u =
       replace_pages-unread es (detach f e.0 (Some (not_lost e.1))) (λ i. out (inr i)) (detach-unread f e.0 (Some (not_lost e.1)) refl (λ q. out (inl (sym q))) u)
 
-  -- Settle ----------------------------------------------------------------------------------------
+  -- Settle
 
   within-unread : (n : ℕ) (f : Forest (P × Bool)) → IsConsistent f → IsUnseen f (λ z. z ≡ x) → IsUnseen (settle_within n f) (λ z. z ≡ x)
   unfolding settle_within

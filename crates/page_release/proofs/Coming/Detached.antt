@@ -42,7 +42,7 @@ use Rattle.page_release.proofs.Tying.Homes.{home_name}
 use Rattle.page_release.proofs.Tying.Kept.{gives_then, named_then}
 use Rattle.page_release.proofs.Tying.Tied.{home}
 
--- A fresh node --------------------------------------------------------------------------------
+-- A fresh node
 module _ (s : Store) (a : Arena) (d : NodeId) (free : find a d ≡ None) (cache : CacheId) (no : PageNo) (state : OwnState) (fresh : is_fresh a (Live cache no) state ≡ true) (c : Arena) (is : c ≡ with_new a d (Live cache no) state) where
   pub fresh_back : (told : Option Held) (size : Option ℕ) → IsTied (world told size a s) → IsFreeHome (world told size a s) (Live cache no) → GivesBack (world told size a s) (world told size c s)
   fresh_back told size fit room = subst (λ k. GivesBack (world told size a s) (world told size k s)) (sym is) (fresh_gives (world told size a s) d free (Live cache no) state fresh room fit)
@@ -85,7 +85,7 @@ module _ (s : Store) (a : Arena) (d : NodeId) (free : find a d ≡ None) (cache 
     ap (λ k. home_of k m) is ∙ home-with_new_other a d (Live cache no) state m d',
   )
 
--- Retired, and then fresh ---------------------------------------------------------------------
+-- Retired, and then fresh
 
 clean_or_listed : (t : Bool) (x : NodeName) → (t ≡ false) ⊎ (x ∈ (if t then x ∷ [] else []))
 clean_or_listed true x = inr (inl refl)

@@ -1,4 +1,5 @@
--- A page was moved, and what was released followed in the store: it is the rule for the forest of bytes.
+-- A page was moved, and what was released followed in the store: it is the rule for the forest of
+-- bytes.
 use Rattle.std.proofs.Common.{◌≡◌, ℕ, [], Option, Some, None, IsSome, refl, sym, ap, ◌∙◌, subst, inl, inr}
 use Rattle.std.specs.Prelude.{option_map, replicate}
 use Rattle.vm_ids.specs.Held.{Held}

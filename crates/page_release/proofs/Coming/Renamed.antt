@@ -1,4 +1,5 @@
--- A node became that of a page that had none: the store is as it was, and the forest is the renamed one.
+-- A node became that of a page that had none: the store is as it was, and the forest is the renamed
+-- one.
 use Rattle.std.proofs.Common.{◌≡◌, ◌≢◌, ℕ, true, false, Option, Some, None, IsSome, ap, sym, ◌∙◌, is_some, inl, inr}
 use Rattle.std.proofs.lemmas.Bool.{false≢true}
 use Rattle.std.specs.List.{count_by}

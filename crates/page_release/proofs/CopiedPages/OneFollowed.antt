@@ -34,7 +34,8 @@ use Rattle.page_release.proofs.RetiredPages.Parts.{RetiresPage}
 use Rattle.page_release.proofs.Tying.Kept.{kept_both}
 use Rattle.page_release.proofs.Tying.Named.{unclean_may}
 
--- A node was hung on another one: the store is as it was, and the rule holds of pages and of frames too.
+-- A node was hung on another one: the store is as it was, and the rule holds of pages and of frames
+-- too.
 record HangsPage (is_small : Bool) (x y : NodeName) (t : Store) (a b : Arena) : Type 0 where
   pub forest : ForAnyMapper t a t b (λ old new. store_forest new ≡ cond is_small (stub (store_forest old) x y) (link (store_forest old) x y))
   pub frames : frame_forest b t.map ≡ cond is_small (stub (frame_forest a t.map) x y) (link (frame_forest a t.map) x y)

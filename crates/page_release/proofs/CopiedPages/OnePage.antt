@@ -1,4 +1,5 @@
--- One page is copied to a node that is new, in place of one without frame and slot: the store is as it was.
+-- One page is copied to a node that is new, in place of one without frame and slot: the store is as
+-- it was.
 use Rattle.std.proofs.Common.{◌≡◌, ◌≢◌, ◌≤◌, false, [], ◌∷◌, None, refl, sym, ◌∙◌, subst}
 use Rattle.vm_ids.specs.declared.node_name.NodeName.{NodeName}
 use Rattle.vm_ids.specs.declared.node_name.NodeName.TheVariants.{Live}

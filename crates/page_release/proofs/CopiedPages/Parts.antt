@@ -29,7 +29,8 @@ use Rattle.page_release.specs.Readings.{GoesBy}
 use Rattle.page_release.specs.Steps.{AreUnpinned, IsStoreTied, Releases}
 use Rattle.page_release.proofs.Tying.Kept.{kept_both, kept_none, unclean_kept, unpinned_kept}
 
--- One page was copied, from one name to another: no frame and no slot was taken, and there are at most two nodes more.
+-- One page was copied, from one name to another: no frame and no slot was taken, and there are at
+-- most two nodes more.
 pub record CopiesPage (is_small : Bool) (to from : NodeName) (s : Store) (a : Arena) (t : Store) (b : Arena) : Type 0 where
   pub rule : GoesBy (λ P put f. copy_page is_small f to from) s a t b
   pub kept : Releases [] s a t b
@@ -41,7 +42,7 @@ pub record CopiesPages (is_small : Bool) (from : CacheId) (from_page : ℕ) (to 
   pub kept : Releases [] s a t b
   pub grows : Grows (2 * count) a b
 
--- How many nodes there are ---------------------------------------------------------------------------
+-- How many nodes there are
 
 pub grown_none : (a : Arena) → IsConsistent (forest_of a) → Grows 0 a a
 grown_none a consistent = record { consistent = consistent; stays = λ x is. is; made = omega arith; room = omega arith; few = omega arith }
@@ -66,7 +67,7 @@ grown_page is_small a b d s consistent pages is room =
       few = omega (arith, copy_page_len f consistent d s pages is_small, ap (λ (g : Forest OwnState). len g.nodes) is);
     }
 
--- Parts of a copy ------------------------------------------------------------------------------------
+-- Parts of a copy
 
 -- the pages from one on, behind those before it
 pages_joined : {P : Type 0} (is_small : Bool) (c : CacheId) (p : ℕ) (d : CacheId) (q m n : ℕ) (f : Forest P)
@@ -120,7 +121,7 @@ pub copies_more : (is_small : Bool) (c : CacheId) (p : ℕ) (d : CacheId) (q k :
     → IsStoreTied s a → CopiesPages is_small c p d q k s a t b → CopiesPage is_small (page_name d (q + k)) (page_name c (p + k)) t b u e → CopiesPages is_small c p d q (k + 1) s a u e
 copies_more is_small c p d q k s a t b u e tied so_far one = copies_then is_small c p d q k 1 s a t b u e tied so_far (copies_one is_small c (p + k) d (q + k) t b u e one)
 
--- What is left of a copy -------------------------------------------------------------------------------
+-- What is left of a copy
 
 pub pairs_left_can : {P : Type 0} (f : Forest P) (c : CacheId) (p : ℕ) (d : CacheId) (q n k : ℕ) → k ≤ n → CanCopy f (page_pairs c p d q n) → CanCopy f (page_pairs c (p + k) d (q + k) (n - k))
 pairs_left_can f c p d q n zero le can = subst (CanCopy f) (pairs_start c p d q n) can

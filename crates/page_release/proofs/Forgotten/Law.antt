@@ -22,12 +22,12 @@ use Rattle.residency.proofs.Worlds.Nodes.{still_like}
 use Rattle.page_release.specs.Steps.{forgotten_where}
 use Rattle.local_cache.proofs.Whole.Like.{like_whole}
 
--- The caches are whole ---------------------------------------------------------------------------
+-- The caches are whole
 pub forgotten_whole : (a b : Arena) (names : List NodeName) → IsWhole a → SameNodes a b → IsSound b → forest_of b ≡ forgotten names Zero (forest_of a) → IsWhole b
 forgotten_whole a b names whole same sound is = like_whole a b whole (still_like a b same) sound
     (bare-shaped (forest_of a) (forest_of b) (sym (ap bare is ∙ forgotten-bare names Zero (forest_of a))) whole.consistent.shaped)
 
--- A command that goes on isn't told --------------------------------------------------------------
+-- A command that goes on isn't told
 module _ {P : Type 0} where
   pub copy_forgotten : (named : Bool) (pairs : List (NodeName × NodeName)) (f : Forest P) → IsConsistent f → CanCopy f pairs → (named ≡ true → (x : NodeName) → x ∈ firsts pairs → is_unsaved f x ≡ false) → (p : P)
       → copy false pairs (forgotten_where named (firsts pairs) p f) ≡ copy false pairs f

@@ -1,4 +1,5 @@
--- The page of one node is forgotten: a page of zeros is in its place, and its frame or its slot falls free.
+-- The page of one node is forgotten: a page of zeros is in its place, and its frame or its slot
+-- falls free.
 use Rattle.std.proofs.Common.{◌≡◌, ◌≢◌, ℕ, Bool, true, false, [], ◌∷◌, Option, Some, None, is_some, refl, sym, ap, ◌∙◌, subst, inl, inr}
 use Rattle.std.specs.Prelude.{option_and_then, option_map, replicate}
 use Rattle.std.proofs.lemmas.Bool.{false≢true}
@@ -47,7 +48,7 @@ use Rattle.page_release.proofs.Leaving.Retired.{loose_frame}
 use Rattle.page_release.proofs.Tying.Backed.{HomesStay}
 use Rattle.page_release.proofs.Tying.Homes.{named_kept}
 
--- The rule where there is a page, and where there is none ----------------------------------------
+-- The rule where there is a page, and where there is none
 pub forget_there : {P : Type 0} (f : Forest P) (x : NodeName) (p v : P) → (node f x).own ≡ Some v → forget f x p ≡ edit f x (with_page (Some p))
 unfolding forget
 forget_there f x p v e = ap (λ o. elim o [ None ↦ f | Some v ↦ edit f x (with_page (Some p)) ]) e
@@ -90,7 +91,7 @@ module _ (s : Store) (a : Arena) (sound : IsSound a) (tied : IsStoreTied s a) (n
   unfolding frame_forest
   frame_there = ap (λ y. (node (forest_by (own_frame a s.map) a) y).own) (sym named) ∙ page-at (own_frame a s.map) a sound.kept.named n there
 
-  -- No page is there ----------------------------------------------------------------------------
+  -- No page is there
   module _ (none : is_absent (own_of a n) ≡ true) where
     pub absent_nodes : forest_of a ≡ forget (forest_of a) x Zero
     absent_nodes = sym (forget_none (forest_of a) x Zero (own_at ∙ no_page (own_of a n) none))
@@ -121,7 +122,7 @@ module _ (s : Store) (a : Arena) (sound : IsSound a) (tied : IsStoreTied s a) (n
       go false e = e
       go true e = absurd (false≢true (sym out ∙ ap (λ i. is_clean (own_of b i)) (after.kept.named.apart n m held (own_held is_clean b m refl e) (same ∙ sym at)) ∙ e))
 
-  -- A page of zeros is in its place -------------------------------------------------------------
+  -- A page of zeros is in its place
   module _ (unpinned : IsUnpinned s a x) (some : is_absent (own_of a n) ≡ false) where
     loose : is_pinned s.frames (frame_of s.map n.0) ≡ false
     loose = loose_frame s a n tied (λ f pin at. unpinned f n pin at named)

@@ -47,7 +47,7 @@ same_place c p i j e = let k = ap number e in omega (arith, k)
     number (Live d q) = q.0
     number (Working k) = 0
 
--- The nodes stay -------------------------------------------------------------------------------
+-- The nodes stay
 module _ (a b : Arena) (same : SameNodes a b) where
   pub node_stays : (cache page : ℕ) → node_at b cache page ≡ node_at a cache page
   node_stays cache page = ap (λ (k : Arena). node_at k cache page) same.rest

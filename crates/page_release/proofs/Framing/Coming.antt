@@ -1,4 +1,5 @@
--- A node takes the name of a page that has none, and every other page is in the frame that it was in.
+-- A node takes the name of a page that has none, and every other page is in the frame that it was
+-- in.
 use Rattle.std.proofs.Common.{◌≡◌, ◌≢◌, ℕ, true, false, List, Option, Some, None, is_some, refl, sym, ap, ◌∙◌, subst}
 use Rattle.vm_ids.specs.Held.{Held}
 use Rattle.vm_ids.specs.declared.node_name.NodeName.{NodeName}
@@ -35,7 +36,7 @@ use Rattle.page_release.proofs.Framing.Leaving.{retire_frames}
 use Rattle.page_release.proofs.Framing.Pages.{frame_as, frame_tells, no_frame}
 use Rattle.page_release.proofs.Tying.Named.{unclean_may}
 
--- A fresh node -----------------------------------------------------------------------------------
+-- A fresh node
 module _ (map : List (Option NodeId)) (a : Arena) (kept : IsKept a) (d : NodeId) (free : find a d ≡ None) (cache : CacheId) (no : PageNo) (vacant : IsVacant a cache no) (state : OwnState) (fresh : is_fresh a (Live cache no) state ≡ true) (c : Arena) (is : c ≡ with_new a d (Live cache no) state) (named : IsNamed c) where
   abbrev x : NodeName
   x = Live cache no
@@ -65,7 +66,7 @@ module _ (map : List (Option NodeId)) (a : Arena) (kept : IsKept a) (d : NodeId)
   unfolding detach
   detach_frames old o retired = fresh_frames ∙ ap (λ f. put f x (childless (fresh_frame state) Root)) retired
 
--- Another name -----------------------------------------------------------------------------------
+-- Another name
 module _ (map : List (Option NodeId)) (b : Arena) (kept : IsKept b) (n : NodeId) (h : HasNode b n) (y : NodeName) (named : name_of b n ≡ y) (cache : CacheId) (page : PageNo) (vacant : IsVacant b cache page) (c : Arena) (is : c ≡ with_name b n (Live cache page)) where
   pub renamed_frames : frame_forest c map ≡ rename (frame_forest b map) y (Live cache page)
   unfolding frame_forest
@@ -73,7 +74,7 @@ module _ (map : List (Option NodeId)) (b : Arena) (kept : IsKept b) (n : NodeId)
       let same : (m : NodeId) → own_frame c map m ≡ own_frame b map m = λ m. frame_as b c map map m m (renamed_own b kept n h y named cache page vacant c is m) (λ r. refl) in
       (λ i. forest_by (λ m. same m i) c) ∙ renamed-by b kept n h y named cache page vacant c is (own_frame b map) (frame_tells b map) (λ m. ap is_some (sym (same m)) ∙ frame_tells c map m)
 
--- A page was moved -------------------------------------------------------------------------------
+-- A page was moved
 module _ (s : Store) (a : Arena) (sound : IsSound a) (tied : IsStoreTied s a) (from : CacheId) (from_page : PageNo) (to : CacheId) (to_page : PageNo) (unpinned : IsUnpinned s a (Live to to_page)) (unclean : IsUnclean a (Live to to_page)) (r : Released) (d : Arena) (m : IsMoved a d from from_page to to_page r)
     (t : Store) (after : (told : Option Held) (size : Option ℕ) → world told size d t ≡ followed (world told size d s) r) where
   pub move_frames : IsSound d → frame_forest d t.map ≡ move_page (frame_forest a s.map) (Live to to_page) (Live from from_page) None

@@ -35,7 +35,7 @@ use Rattle.page_release.proofs.Leaving.Retired.{retire_frame, retire_loose, reti
 use Rattle.page_release.proofs.Tying.Backed.{HomesStay}
 
 module _ (w : World) (b : Arena) (tied : IsTied w) (stay : HomesStay w.caches b) where
-  -- A page went ----------------------------------------------------------------------------------
+  -- A page went
   module _ (n : NodeId) (lost : HasLost w.caches b n) (loose : is_pinned w.frames (frame_of w.map n.0) ≡ false) where
     unmoved : (m : NodeId) → m ≢ n → own_frame b w.map m ≡ own_frame w.caches w.map m
     unmoved m d = frame_as w.caches b w.map w.map m m (lost.others m d) (λ r. refl)
@@ -47,7 +47,7 @@ module _ (w : World) (b : Arena) (tied : IsTied w) (stay : HomesStay w.caches b)
     dropped_frame (Slot s) e m d = unmoved m d
     dropped_frame OnSegment e m d = unmoved m d
 
-  -- A page went to another node ------------------------------------------------------------------
+  -- A page went to another node
   module _ (from to : NodeId) (pass : IsPassed w.caches b from to) (unclean : is_clean (own_of w.caches from) ≡ false) where
     -- the frame of the one is that of the other, and any other page stays
     abbrev PassedFrames : List (Option NodeId) → Type 0
@@ -74,7 +74,7 @@ module _ (w : World) (b : Arena) (tied : IsTied w) (stay : HomesStay w.caches b)
     passed_frame (Slot s) e = away_frames (ap is_resident e)
     passed_frame OnSegment e = away_frames (ap is_resident e)
 
-  -- All of them ----------------------------------------------------------------------------------
+  -- All of them
   pub follow_frame : (r : Released) → IsReleased w.caches b r → IsLoose w.frames w.map r → IsPassedUnclean w.caches r → (m : NodeId) → HasNode b m → own_frame b (followed (record w { caches = b }) r).map m ≡ page_after (own_frame w.caches w.map) r m
   follow_frame Nothing still loose unclean m h = frame_as w.caches b w.map w.map m m (still.own m) (λ r. refl)
   follow_frame (Dropped n state) drop loose unclean m h = subst (λ x. own_frame b (without_page (record w { caches = b }) n x).map m ≡ own_frame w.caches w.map m) (sym drop.state_is)
@@ -82,7 +82,7 @@ module _ (w : World) (b : Arena) (tied : IsTied w) (stay : HomesStay w.caches b)
   follow_frame (Moved from to) pass loose unclean m h = subst (λ x. own_frame b (with_page_moved (record w { caches = b }) from to x).map m ≡ cond (m.0 == to.0) (own_frame w.caches w.map from) (own_frame w.caches w.map m)) (sym pass.passed)
       (passed_frame from to pass unclean (own_of w.caches from) refl m (not_gone w b tied stay pass.went m h))
 
--- Followed in the store --------------------------------------------------------------------------
+-- Followed in the store
 module _ (s : Store) (a : Arena) (t : Store) (b : Arena) (r : Released) (rel : IsReleased a b r) (loose : IsLoose s.frames s.map r) (unclean : IsPassedUnclean a r) (stay : HomesStay a b) (is : (told : Option Held) (size : Option ℕ) → world told size b t ≡ followed (world told size b s) r) (tied : IsStoreTied s a) where
   pub steps_frame : (m : NodeId) → HasNode b m → own_frame b t.map m ≡ page_after (own_frame a s.map) r m
   steps_frame m h = ap (λ v. own_frame b v.map m) (is None None) ∙ follow_frame (world None None a s) b tied stay r rel loose unclean m h

@@ -18,7 +18,7 @@ use Rattle.page_release.specs.Steps.{GivesBack}
 use Rattle.page_release.specs.Translating.{DropsFreed, freed}
 use Rattle.page_release.proofs.Leaving.Passed.{node_is}
 
--- Nothing fell free ---------------------------------------------------------------------------
+-- Nothing fell free
 
 freed_same : (x : Option NodeId) → (is_some x && is_none x) ≡ false
 freed_same None = refl
@@ -31,7 +31,7 @@ none_freed s t none tables = tables ∙ sym (without_none s.tables) ∙ without_
 pub same_freed : (s t : Store) → t.map ≡ s.map → t.tables ≡ s.tables → DropsFreed s t
 same_freed s t map tables = none_freed s t (λ f. ap (λ (m : List (Option NodeId)). freed s.map m f) map ∙ freed_same (node_of s.map f)) tables
 
--- One frame lost its node ---------------------------------------------------------------------
+-- One frame lost its node
 
 -- a node that is bound stands at its frame
 pub stands : (m : List (Option NodeId)) (n : NodeId) → bound_times m n.0 ≡ 1 → (frame_of m n.0 < length m) × (node_of m (frame_of m n.0) ≡ Some n)
@@ -70,7 +70,7 @@ rekeyed_freed s t n to once now tables =
     let at = stands s.map n once in
     none_freed s t (λ g. ap (λ (m : List (Option NodeId)). freed s.map m g) now ∙ rekeyed_at s.map (frame_of s.map n.0) n to at.0 at.1 g) tables
 
--- One after the other -------------------------------------------------------------------------
+-- One after the other
 
 -- each frame that has a node had one
 pub bound_was : (old new : World) → IsTied old → GivesBack old new → (f : ℕ) → is_bound new f ≡ true → is_bound old f ≡ true

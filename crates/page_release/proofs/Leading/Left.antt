@@ -20,7 +20,7 @@ use Rattle.page_release.specs.Translating.{Leaves, Replaces, WasEntered, freed, 
 use Rattle.page_release.proofs.Leading.Ranges.{OnlyTables, same_map, tables_mapped, tables_then}
 use Rattle.page_release.proofs.Leading.Seen.{alone_own}
 
--- One place ----------------------------------------------------------------------------------------
+-- One place
 some_same : (v w : Entry) → Some v ≡ Some w → v ≡ w
 some_same v w e = cc e
 
@@ -66,7 +66,7 @@ same_frame frames tables place e n = elim n.is [
   | inr narrow ↦ ap (λ (k : Entry). k.to.frame.0) narrow
 ]
 
--- The frames of some pages -------------------------------------------------------------------------
+-- The frames of some pages
 none_of : (b c : Bool) → (b || c) ≡ false → (b ≡ false) × (c ≡ false)
 none_of true c e = absurd (cc e)
 none_of false c e = (refl, e)
@@ -81,9 +81,10 @@ not_at at (y ∷ ys) f none x i e =
       | inr more ↦ not_at at ys f both.1 x more e
     ]
 
--- Before the pages are changed ---------------------------------------------------------------------
+-- Before the pages are changed
 
--- What is left of the translations of some pages that are to be replaced, and of others that are to get heirs.
+-- What is left of the translations of some pages that are to be replaced, and of others that are to
+-- get heirs.
 pub record AreReady (replaced shared : NodeName → Type 0) (a : Arena) (s t : Store) : Type 0 where
   pub only : OnlyTables s t
   pub was : (place : ℕ) (e : Entry) → entry_at t.tables place ≡ Some e → WasEntered s place e
@@ -155,7 +156,7 @@ module _ (a : Arena) (names : List NodeName) where
           ];
         }
 
--- After that ---------------------------------------------------------------------------------------
+-- After that
 pub leaves : (replaced shared : NodeName → Type 0) (a : Arena) (s t : Store) (b : Arena) (u : Store) → AreReady replaced shared a s t → Replaces replaced shared a t b u → Leaves replaced shared a s b u
 leaves replaced shared a s t b u ready rest =
     let left = is_left (freed t.map u.map) t.tables u.tables rest.tables in

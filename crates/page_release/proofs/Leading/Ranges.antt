@@ -34,7 +34,7 @@ or_false : (b : Bool) → (b || false) ≡ b
 or_false true = refl
 or_false false = refl
 
--- Some frames' translations, for reading alone -------------------------------------------------------
+-- Some frames' translations, for reading alone
 narrowed_as : (p q : ℕ → Bool) (tables : List (Option Entry)) → ((f : ℕ) → p f ≡ q f) → with_narrowed p tables ≡ with_narrowed q tables
 narrowed_as p q tables same = λ i. with_narrowed (λ f. same f i) tables
 
@@ -70,7 +70,7 @@ narrowed_twice : (p q : ℕ → Bool) (tables : List (Option Entry)) → with_na
 narrowed_twice p q [] = refl
 narrowed_twice p q (x ∷ xs) = λ i. narrowed_twice_at p q x i ∷ narrowed_twice p q xs i
 
--- The frames of some pages, where `at` tells the frame of each --------------------------------------
+-- The frames of some pages, where `at` tells the frame of each
 module _ (at : NodeName → Option ℕ) where
   abbrev any_at : List NodeName → ℕ → Bool
   any_at names frame = list_any (λ x. is_frame (at x) frame) names
@@ -146,13 +146,7 @@ module _ (at : NodeName → Option ℕ) where
       pub narrow_end : n ≤ i → tables ≡ with_narrowed (any_at left) tables
       narrow_end over = sym (narrowed_none tables) ∙ ap (λ (xs : List NodeName). with_narrowed (any_at xs) tables) (sym (names_end c (p + i) n i over))
 
-    pub drop_start : (c : CacheId) (p n : ℕ) → without (any_at (page_names c (p + 0) (n - 0))) tables ≡ without (any_at (page_names c p n)) tables
-    drop_start c p n = ap (λ (xs : List NodeName). without (any_at xs) tables) (sym (names_start c p n))
-
-    pub narrow_start : (c : CacheId) (p n : ℕ) → with_narrowed (any_at (page_names c (p + 0) (n - 0))) tables ≡ with_narrowed (any_at (page_names c p n)) tables
-    narrow_start c p n = ap (λ (xs : List NodeName). with_narrowed (any_at xs) tables) (sym (names_start c p n))
-
--- A store of which the translations alone changed -----------------------------------------------------
+-- A store of which the translations alone changed
 abbrev pub with_tables : Store → List (Option Entry) → Store
 with_tables s tables = record s { tables = tables }
 

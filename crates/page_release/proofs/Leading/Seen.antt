@@ -40,7 +40,7 @@ has_page z f s g (Resident d) = refl
 has_page z f s g (Slot k) = refl
 has_page z f s g OnSegment = refl
 
--- Without its pages the forest of frames is that of the own states -----------------------------------
+-- Without its pages the forest of frames is that of the own states
 module _ (a : Arena) (map : List (Option NodeId)) (sound : IsSound a) where
   frames_bare : bare (forest_of a) ≡ bare (frame_forest a map)
   unfolding frame_forest

@@ -26,7 +26,8 @@ use Rattle.page_release.proofs.Tying.Backed.{HomesStay, own_page_as, stay_backed
 use Rattle.page_release.proofs.Leaving.Counting.{went_count}
 use Rattle.page_release.proofs.Leaving.Passed.{gone_own, resident_home}
 
--- From a to b the node n lost its own page: it is gone, or is a page of zeros. All others have theirs.
+-- From a to b the node n lost its own page: it is gone, or is a page of zeros. All others have
+-- theirs.
 pub record HasLost (a b : Arena) (n : NodeId) : Type 0 where
   pub was : HasNode a n
   pub stored : is_resident (own_of b n) ≡ false

@@ -1,4 +1,5 @@
--- What is done in the store for a node that went doesn't look at the caches: it is the same before other changes of them.
+-- What is done in the store for a node that went doesn't look at the caches: it is the same before
+-- other changes of them.
 use Rattle.std.proofs.Common.{◌≡◌, ℕ, zero, suc, Option, refl, sym, ap, ◌∙◌, subst, arith}
 use Rattle.vm_ids.specs.Held.{Held}
 use Rattle.vm_ids.specs.declared.numbers.NodeId.{NodeId}

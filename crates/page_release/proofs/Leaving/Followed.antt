@@ -1,4 +1,5 @@
--- What the caches released was followed in the store: it is tied to them again, and each node has its page.
+-- What the caches released was followed in the store: it is tied to them again, and each node has
+-- its page.
 use Rattle.std.proofs.Common.{arith, ◌≡◌, ◌≢◌, ℕ, zero, suc, ◌==◌, ◌||◌, Bool, true, false, cond, List, [], ◌∷◌, get_or, set, Option, Some, None, is_some, refl, sym, ap, ◌∙◌, subst, inl, inr, length-set}
 use Rattle.std.specs.List.{count_by}
 use Rattle.vm_ids.specs.declared.numbers.SlotId.{SlotId}
@@ -42,7 +43,7 @@ IsPassedUnclean a (Dropped n state) = Unit {0}
 IsPassedUnclean a (Moved from to) = is_clean (own_of a from) ≡ false
 
 module _ (w : World) (b : Arena) (tied : IsTied w) (stay : HomesStay w.caches b) where
-  -- Nothing --------------------------------------------------------------------------------
+  -- Nothing
   module _ (still : IsStill w.caches b) where
     still_tied : IsTied (record w { caches = b })
     still_tied = record {
@@ -62,7 +63,7 @@ module _ (w : World) (b : Arena) (tied : IsTied w) (stay : HomesStay w.caches b)
     still_page : (m : NodeId) → own_page (record w { caches = b }) m ≡ own_page w m
     still_page m = own_page_as w b w.frames.held w.slots w.map m m (still.own m) (λ r. refl) (λ k. stay.clean m (ap is_clean (still.own m) ∙ k))
 
-  -- A page went ----------------------------------------------------------------------------
+  -- A page went
   pub not_gone : {n : NodeId} → Went w.caches b n → (m : NodeId) → HasNode b m → m ≢ n
   not_gone went m h e = false≢true (sym (ap is_some went.gone) ∙ subst (HasNode b) e h)
 
@@ -118,7 +119,7 @@ module _ (w : World) (b : Arena) (tied : IsTied w) (stay : HomesStay w.caches b)
     dropped_page (Slot s) e m d = plain_page w b n tied lost stay m d
     dropped_page OnSegment e m d = plain_page w b n tied lost stay m d
 
-  -- A page went to another node ------------------------------------------------------------
+  -- A page went to another node
   module _ (from to : NodeId) (pass : IsPassed w.caches b from to) (loose : is_pinned w.frames (frame_of w.map from.0) ≡ false) (unclean : is_clean (own_of w.caches from) ≡ false) where
     rekeyed_gives : is_resident (own_of w.caches from) ≡ true → GivesBack w (record w { caches = b; map = set w.map (frame_of w.map from.0) (Some to) })
     rekeyed_gives resident = record {
@@ -167,7 +168,7 @@ module _ (w : World) (b : Arena) (tied : IsTied w) (stay : HomesStay w.caches b)
     passed_page (Slot s) e = away_pages (ap is_resident e)
     passed_page OnSegment e = away_pages (ap is_resident e)
 
-  -- All of them ----------------------------------------------------------------------------
+  -- All of them
   pub follow_gives : (r : Released) → IsReleased w.caches b r → IsLoose w.frames w.map r → IsPassedUnclean w.caches r → GivesBack w (followed (record w { caches = b }) r)
   follow_gives Nothing still loose unclean = caches_give w b (still_tied still)
   follow_gives (Dropped n state) drop loose unclean = subst (λ x. GivesBack w (without_page (record w { caches = b }) n x)) (sym drop.state_is) (dropped_gives n (went_lost w.caches b n drop.went drop.others) loose (own_of w.caches n) refl)
@@ -178,7 +179,7 @@ module _ (w : World) (b : Arena) (tied : IsTied w) (stay : HomesStay w.caches b)
   follow_page (Dropped n state) drop loose unclean m h = subst (λ x. own_page (without_page (record w { caches = b }) n x) m ≡ own_page w m) (sym drop.state_is) (dropped_page n (went_lost w.caches b n drop.went drop.others) loose (own_of w.caches n) refl m (not_gone drop.went m h))
   follow_page (Moved from to) pass loose unclean m h = subst (λ x. own_page (with_page_moved (record w { caches = b }) from to x) m ≡ cond (m.0 == to.0) (own_page w from) (own_page w m)) (sym pass.passed) (passed_page from to pass loose unclean (own_of w.caches from) refl m (not_gone pass.went m h))
 
--- The store has what was released --------------------------------------------------------
+-- The store has what was released
 module _ (s : Store) (a b : Arena) (tied : IsTied (world None None a s)) where
   abbrev w : World
   w = world None None a s

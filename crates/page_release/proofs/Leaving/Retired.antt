@@ -51,7 +51,7 @@ loose_frame s a n tied none = go (is_pinned s.frames (frame_of s.map n.0)) refl
         let here : is_node n.0 (get_or s.map (frame_of s.map n.0) None) ≡ true = passes_at_first (is_node n.0) s.map None within in
         absurd (none (frame_of s.map n.0) e (node_is n (get_or s.map (frame_of s.map n.0) None) here))
 
--- Followed in the store --------------------------------------------------------------------
+-- Followed in the store
 module _ (s : Store) (a : Arena) (t : Store) (b : Arena) (r : Released) (rel : IsReleased a b r) (loose : IsLoose s.frames s.map r) (unclean : IsPassedUnclean a r) (stay : HomesStay a b) (is : (told : Option Held) (size : Option ℕ) → world told size b t ≡ followed (world told size b s) r) where
   pub steps_back : ForAnyMapper s a t b GivesBack
   steps_back told size tied = subst (λ v. GivesBack (world told size a s) v) (sym (is told size)) (follow_gives (world told size a s) b tied stay r rel loose unclean)
@@ -59,7 +59,7 @@ module _ (s : Store) (a : Arena) (t : Store) (b : Arena) (r : Released) (rel : I
   pub steps_page : (told : Option Held) (size : Option ℕ) → IsTied (world told size a s) → (m : NodeId) → HasNode b m → own_page (world told size b t) m ≡ page_after (own_page (world told size a s)) r m
   steps_page told size tied m h = ap (λ v. own_page v m) (is told size) ∙ follow_page (world told size a s) b tied stay r rel loose unclean m h
 
--- A page was retired ------------------------------------------------------------------------
+-- A page was retired
 module _ (a b : Arena) (n : NodeId) (r : Released) (is : IsRetired a b n r) where
   pub retire_loose : (s : Store) → is_pinned s.frames (frame_of s.map n.0) ≡ false → IsLoose s.frames s.map r
   retire_loose s out = go (child_count (forest_of a) (name_of a n)) refl

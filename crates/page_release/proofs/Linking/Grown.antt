@@ -44,7 +44,7 @@ use Rattle.page_release.proofs.Leaving.Passed.{gone_own}
 use Rattle.page_release.proofs.Freeing.Freed.{same_freed}
 use Rattle.page_release.proofs.Tying.Tied.{home}
 
--- A page that hangs by a stub link --------------------------------------------------------
+-- A page that hangs by a stub link
 module _ (a b : Arena) (links : Relinked a b) where
   relinked_states : SameStates a b
   relinked_states = record {
@@ -78,7 +78,7 @@ module _ (a b : Arena) (links : Relinked a b) where
       let w = world told size a s in
       (λ i. forest_by (λ m. states_stay s a b relinked_states relinked_stay told size m i) b) ∙ stub-by (own_page w) a b sound.kept.named (tells w) links d o forest
 
--- A page that hangs by a tree link --------------------------------------------------------
+-- A page that hangs by a tree link
 module _ (a b : Arena) (sound : IsSound a) (after : IsSound b) (grown : IsGrown a b) (d o : NodeName) (forest : forest_of b ≡ link (forest_of a) d o) (few : (y : NodeName) → IsNode (link (forest_of a) d o) y → IsNode (forest_of a) y ⊎ (y ≡ Working (a.made + 1))) where
   both : (s t : Bool) → (s ≡ true → t ≡ true) → (t ≡ true → s ≡ true) → s ≡ t
   both true t f g = sym (f refl)

@@ -1,4 +1,5 @@
--- All pages of a move are moved at once: the store is as it was, as it is where they are moved one after the other.
+-- All pages of a move are moved at once: the store is as it was, as it is where they are moved one
+-- after the other.
 use Rattle.std.proofs.Common.{◌≡◌, ℕ, suc, ◌+◌, ◌<◌, [], false, ◌∙◌, sym, subst, arith}
 use Rattle.vm_ids.specs.declared.command.Span.{Span}
 use Rattle.vm_ids.specs.declared.numbers.NodeId.{NodeId}

@@ -32,7 +32,8 @@ use Rattle.page_release.specs.Translating.{DropsFreed}
 use Rattle.page_release.proofs.CopiedPages.Parts.{grown_none, grown_then, pairs_left_can}
 use Rattle.page_release.proofs.Tying.Kept.{gives_none, kept_both, kept_none}
 
--- One page was moved, from one name to another: no frame and no slot was taken, and there is at most one node more.
+-- One page was moved, from one name to another: no frame and no slot was taken, and there is at
+-- most one node more.
 pub record MovesPage (to from : NodeName) (s : Store) (a : Arena) (t : Store) (b : Arena) : Type 0 where
   pub rule : GoesBy (λ P put f. move_page f to from put.zeros) s a t b
   pub kept : Releases [] s a t b
@@ -44,7 +45,7 @@ pub record MovesPages (from : CacheId) (from_page : ℕ) (to : CacheId) (to_page
   pub kept : Releases [] s a t b
   pub grows : Grows count a b
 
--- How many nodes there are ---------------------------------------------------------------------------
+-- How many nodes there are
 
 pub grown_page : (a b : Arena) (d s : NodeName) → IsConsistent (forest_of a) → ArePages (forest_of a) d s → forest_of b ≡ move_page (forest_of a) d s Zero → a.room.nodes ≤ b.room.nodes + 1 → Grows 1 a b
 grown_page a b d s consistent pages is room =
@@ -57,7 +58,7 @@ grown_page a b d s consistent pages is room =
       few = omega (arith, move_page_len f consistent d s pages Zero, ap (λ (g : Forest OwnState). len g.nodes) is);
     }
 
--- Parts of a move ------------------------------------------------------------------------------------
+-- Parts of a move
 
 -- the pages from one on, behind those before it
 pages_joined : {P : Type 0} (zeros : P) (c : CacheId) (p : ℕ) (d : CacheId) (q m n : ℕ) (f : Forest P)
@@ -135,7 +136,7 @@ moves_still c p d q n s a b t tied moves same tables =
       grows = moves.grows;
     }
 
--- What is left of a move -------------------------------------------------------------------------------
+-- What is left of a move
 
 pub left_can : (c : CacheId) (p : ℕ) (d : CacheId) (q k n : ℕ) (s : Store) (a : Arena) (t : Store) (b : Arena) → MovesPages c p d q k s a t b → k ≤ n
     → CanCopy (forest_of a) (page_pairs c p d q n) → CanCopy (forest_of b) (page_pairs c (p + k) d (q + k) (n - k))

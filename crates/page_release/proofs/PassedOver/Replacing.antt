@@ -115,7 +115,7 @@ module _ (c : CacheId) (p m n : ℕ) (s : Store) (a : Arena) (t : Store) (b : Ar
     };
   }
 
--- Untouched pages are what their segment holds ----------------------------------------------------
+-- Untouched pages are what their segment holds
 
 -- a lone node, with this own page
 lone_with : {P : Type 0} (a : Arena) (n : NodeId) → IsLone (cell a n) → (o : Option P) → node_with a n o ≡ childless o Root

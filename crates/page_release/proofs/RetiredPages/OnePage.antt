@@ -1,4 +1,5 @@
--- One page is retired that is none or zeros, and hangs on nothing or has children: the store is as it was.
+-- One page is retired that is none or zeros, and hangs on nothing or has children: the store is as
+-- it was.
 use Rattle.std.proofs.Common.{◌≡◌, ◌<◌, true, false, length, Option, Some, None, is_some, refl, sym, ap, ◌∙◌, subst, inl, inr, arith}
 use Rattle.std.proofs.lemmas.Bool.{false≢true}
 use Rattle.vm_ids.specs.declared.node_name.NodeName.TheVariants.{Live}
@@ -28,7 +29,7 @@ use Rattle.page_release.proofs.RetiredPages.Parts.{RetiresPage}
 use Rattle.page_release.proofs.Tying.Named.{unclean_may}
 use Rattle.page_release.proofs.Tying.Tied.{home}
 
--- A page that is none or zeros ------------------------------------------------------------------------
+-- A page that is none or zeros
 
 empty_framed : (x : OwnState) → IsEmpty x → is_resident x ≡ false
 empty_framed x (inl e) = ap is_resident e
@@ -66,7 +67,7 @@ module _ (t : Store) (a : Arena) (d : NodeId) (cache : CacheId) (page : PageNo) 
       go None none = ap is_clean (gone_own a n none)
       go (Some k) some = ap (λ m. is_clean (own_of a m)) (is_page t a d cache page sound held named n (ap is_some some) name) ∙ empty_clean (own_of a d) empty
 
--- It has neither parent nor children, and goes --------------------------------------------------------
+-- It has neither parent nor children, and goes
 
 module _ (t : Store) (a : Arena) (d : NodeId) (cache : CacheId) (page : PageNo) (can : CanRetirePage a d cache page) (empty : IsEmpty (own_of a d)) where
   -- over any caches
@@ -79,7 +80,7 @@ module _ (t : Store) (a : Arena) (d : NodeId) (cache : CacheId) (page : PageNo) 
       (page_unpinned t a d cache page can.sound can.held can.named empty tied) (unclean_may a (Live cache page) (page_unclean t a d cache page can.sound can.held can.named empty))
       t (page_followed (without a d)) (same_freed t t refl refl)
 
--- It has children, and becomes a working node ---------------------------------------------------------
+-- It has children, and becomes a working node
 
 module _ (t : Store) (a : Arena) (d : NodeId) (cache : CacheId) (page : PageNo) (can : CanSharePage a d cache page) (empty : IsEmpty (own_of a d)) where
   pub page_stays : IsStoreTied t a → RetiresPage (Live cache page) t a t (as_working a d)

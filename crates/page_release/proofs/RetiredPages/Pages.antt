@@ -1,4 +1,5 @@
--- All pages are retired at once: the store is as it was, as it is where they are retired one after the other.
+-- All pages are retired at once: the store is as it was, as it is where they are retired one after
+-- the other.
 use Rattle.std.proofs.Common.{◌≡◌, ◌⊎◌, ℕ, suc, ◌+◌, sym, subst, inl, inr, arith}
 use Rattle.vm_ids.specs.declared.command.Extent.{Extent}
 use Rattle.vm_ids.specs.declared.numbers.CacheId.{CacheId}

@@ -40,7 +40,7 @@ pub record RetiresPages (cache : CacheId) (page count : ℕ) (s : Store) (a : Ar
   pub room : a.room.nodes ≤ b.room.nodes
   pub fewer : length (own_states b) ≤ length (own_states a)
 
--- Parts of a range ------------------------------------------------------------------------------------
+-- Parts of a range
 
 -- the pages from one on, behind those before it
 pages_joined : {P : Type 0} (c : CacheId) (p m n : ℕ) (f : Forest P) → retire_all (page_names c (p + m) n) (retire_all (page_names c p m) f) ≡ retire_all (page_names c p (m + n)) f
@@ -92,7 +92,7 @@ pub retires_more : (c : CacheId) (p k : ℕ) (s : Store) (a : Arena) (t : Store)
     → IsStoreTied s a → RetiresPages c p k s a t b → RetiresPage (page_name c (p + k)) t b u e → RetiresPages c p (k + 1) s a u e
 retires_more c p k s a t b u e tied so_far one = retires_then c p k 1 s a t b u e tied so_far (retires_one c (p + k) t b u e one)
 
--- What is left of a range -------------------------------------------------------------------------------
+-- What is left of a range
 
 -- From f to g so many pages of a range are retired: the others are there still.
 pub record PagesLeft {P : Type 0} (f g : Forest P) (c : CacheId) (p n k : ℕ) : Type 0 where

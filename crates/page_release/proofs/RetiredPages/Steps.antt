@@ -35,7 +35,7 @@ module _ (s : Store) (a b : Arena) (extent : Extent) (done : ℕ) (step : Step) 
         (one_retires s a b extent.cache (page_after extent.first done) step.released one.1 sound tied unpinned may t after tables))
   ]
 
--- The same where the extent is a whole cache ----------------------------------------------------------
+-- The same where the extent is a whole cache
 
 -- all pages of a cache, so many
 abbrev all_pages : CacheId → ℕ → Extent

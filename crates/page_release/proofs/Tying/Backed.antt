@@ -11,7 +11,8 @@ use Rattle.local_cache.specs.Home.{home_of}
 use Rattle.local_cache.specs.Own.{is_resident, own_of}
 use Rattle.residency.specs.World.{IsBacked, World, frame_page, home_page, is_clean, is_slot_held, own_page, page_at, page_by, zero_page}
 
--- From a to b no node came to a home, and each node whose page its segment holds was such a one, and has its home still.
+-- From a to b no node came to a home, and each node whose page its segment holds was such a one,
+-- and has its home still.
 pub record HomesStay (a b : Arena) : Type 0 where
   pub homes : (n : NodeId) (h : Home) → home_of b n ≡ Some h → home_of a n ≡ Some h
   pub own : (n : NodeId) → is_clean (own_of b n) ≡ true → own_of b n ≡ own_of a n
@@ -29,7 +30,7 @@ homeless w n backed none = go (is_clean (own_of w.caches n)) refl
     go false e = e
     go true e = absurd (let has : IsSome (home_of w.caches n) = backed.homes n e in cc)
 
--- One page --------------------------------------------------------------------------------------
+-- One page
 
 -- the frame is looked at for a page in a frame alone, and the home for one that its segment holds
 pub page_as : {P : Type 0} (z f g : P) (s : ℕ → P) (k l : P) (x : OwnState) → (is_resident x ≡ true → f ≡ g) → (is_clean x ≡ true → k ≡ l) → page_by z f s k x ≡ page_by z g s l x
@@ -58,7 +59,7 @@ module _ (w : World) (b : Arena) (held slots : List Bool) (map : List (Option No
       ∙ page_as (option_map (λ _. zero_page w) w.told) (option_map (λ _. frame_page v n) w.told) (option_map (λ _. frame_page w m) w.told) (λ slot. option_and_then (λ h. slot_of h slot) w.told) (home_page v n) (home_page w m) (own_of w.caches m)
       (λ k. ap (λ (bytes : List ℕ). option_map (λ _. bytes) w.told) (frame k)) (λ k. home_page_as n m (home k))
 
-  -- What is kept -------------------------------------------------------------------------------
+  -- What is kept
   module _ (stay : HomesStay w.caches b) (frames : (n : NodeId) → is_clean (own_of b n) ≡ true → is_resident (own_of b n) ≡ true → frame_page (stepped w b held slots map) n ≡ frame_page w n) where
     pub stay_backed : ((s : ℕ) → is_slot_held (stepped w b held slots map) s ≡ true → is_slot_held w s ≡ true) → IsBacked w → IsBacked (stepped w b held slots map)
     stay_backed held_still backed = record {

@@ -43,7 +43,7 @@ homed_gone a listed cache first pages empty n some i =
     let clash : None ≡ Some n = sym (empty (first + at.0)) ∙ there in
     cc clash
 
--- One node lost its home ------------------------------------------------------------------------
+-- One node lost its home
 
 module _ (a b : Arena) (n : NodeId) (names : (m : NodeId) → m ≢ n → name_of b m ≡ name_of a m) (same : SameCaches a b) (none : home_of b n ≡ None) where
   other_home : (m : NodeId) → m ≢ n → home_of b m ≡ home_of a m
@@ -76,7 +76,7 @@ module _ (a b : Arena) (n : NodeId) (names : (m : NodeId) → m ≢ n → name_o
     locks = locks;
   }
 
--- Every node has its name -----------------------------------------------------------------------
+-- Every node has its name
 
 -- where no node came to its segment, or left it, but for those of the list
 pub named_kept : (xs : List NodeName) (a b : Arena) → ((m : NodeId) → IsSome (home_of b m) → name_of b m ≡ name_of a m) → ((m : NodeId) → IsSome (home_of b m) → (is_clean (own_of b m) ≡ is_clean (own_of a m)) ⊎ (name_of b m ∈ xs))
@@ -95,7 +95,7 @@ unlisted xs a b homes none = record {
   locks = homes.locks;
 }
 
--- One after the other ---------------------------------------------------------------------------
+-- One after the other
 
 module _ (xs ys zs : List NodeName) (a b c : Arena) (f : KeepsHomes xs a b) (g : KeepsHomes ys b c) (same : SameCaches b c) (first : (x : NodeName) → x ∈ xs → x ∈ zs) (second : (x : NodeName) → x ∈ ys → x ∈ zs) where
   in_first : (x y : NodeName) → x ≡ y → x ∈ xs → y ∈ zs
@@ -125,7 +125,7 @@ module _ (xs ys zs : List NodeName) (a b c : Arena) (f : KeepsHomes xs a b) (g :
     locks = λ cache page. g.locks cache page ∙ f.locks cache page;
   }
 
--- What the relation says ------------------------------------------------------------------------
+-- What the relation says
 
 -- a page of a segment is one that it holds, and was
 pub unclean_then : (xs : List NodeName) (w : World) (a : Arena) → IsTied w → KeepsHomes xs a w.caches → (x : NodeName) → (x ∈ xs → ⊥) → IsUnclean a x → IsUnclean w.caches x
@@ -144,7 +144,8 @@ granted_name : (a b : Arena) → ((cache page : ℕ) → is_granted b cache page
 granted_name a b grants (Live cache page) = grants cache.0 page.0
 granted_name a b grants (Working k) = refl
 
--- Pages were granted before they were changed, and are so then: of those of the list none is changed that wasn't granted.
+-- Pages were granted before they were changed, and are so then: of those of the list none is
+-- changed that wasn't granted.
 pub granted_then : (told : Option Held) (size : Option ℕ) (a : Arena) (s : Store) (b : Arena) (t : Store) (xs : List NodeName) → KeepsHomes xs a b → SameCaches a b
     → ((n : NodeId) → IsSome (home_of b n) → name_of b n ∈ xs → is_clean (own_of b n) ≡ false → is_name_granted a (name_of b n) ≡ true)
     → AreGranted (world told size a s) → AreGranted (world told size b t)

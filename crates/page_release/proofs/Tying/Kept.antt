@@ -17,7 +17,7 @@ use Rattle.page_release.specs.Steps.{ForAnyMapper, GivesBack, IsStoreTied, IsUnp
 use Rattle.page_release.proofs.Tying.Homes.{homes_then, named_kept, unclean_then, unlisted}
 use Rattle.page_release.proofs.Freeing.Freed.{bound_was, drops_then, same_freed}
 
--- Nothing happened ---------------------------------------------------------------------------
+-- Nothing happened
 pub gives_none : (w : World) → IsTied w → GivesBack w w
 gives_none w fit = record {
   tied = fit;
@@ -42,7 +42,7 @@ kept_none xs s a sound tied = record {
   homes = named_kept xs a a (λ m some. refl) (λ m some. inl refl) (λ cache page. refl) (λ cache page. refl);
 }
 
--- One after the other -------------------------------------------------------------------------
+-- One after the other
 pub gives_then : (u v w : World) → GivesBack u v → GivesBack v w → GivesBack u w
 gives_then u v w f g = record {
   tied = g.tied;
@@ -87,7 +87,7 @@ kept_both s a t b u c tied f g = kept_then [] [] [] s a t b u c tied (λ x i. i)
 pub kept_unlisted : (xs : List NodeName) (s : Store) (a : Arena) (t : Store) (b : Arena) → Releases xs s a t b → ((n : NodeId) → IsSome (home_of b n) → name_of b n ∈ xs → ⊥) → Releases [] s a t b
 kept_unlisted xs s a t b kept none = record { gives_back = kept.gives_back; tables = kept.tables; sound = kept.sound; tied = kept.tied; pinned = kept.pinned; sizes = kept.sizes; homes = unlisted xs a b kept.homes none }
 
--- What is kept --------------------------------------------------------------------------------
+-- What is kept
 
 -- a frame that is pinned was, and its node has its name
 pub unpinned_by : (s : Store) (a : Arena) (t : Store) (b : Arena) (x : NodeName) → IsStoreTied s a → ForAnyMapper s a t b GivesBack → PinnedStayNamed s a b → IsUnpinned s a x → IsUnpinned t b x

@@ -56,9 +56,6 @@ module _ (a b : Arena) (same : SameCaches a b) (cache : CacheId) where
 pub unclean_may : (a : Arena) (x : NodeName) → IsUnclean a x → MayGo a x
 unclean_may a x unclean = inl unclean
 
--- What calls ask of a temporary cache ------------------------------------------------------------
+-- What calls ask of a temporary cache
 pub temporary_saved : (a : Arena) (cache : CacheId) (names : List NodeName) → is_named a cache ≡ false → AreSaved a cache names
 temporary_saved a cache names out named = absurd (false≢true (sym out ∙ named))
-
-pub temporary_writable : (a : Arena) (cache : CacheId) → is_named a cache ≡ false → (page : PageNo) → IsWritable a (Live cache page)
-temporary_writable a cache out page some = absurd (let none : home_named a.caches (Live cache page) ≡ None = temporary_home a cache out page in cc)

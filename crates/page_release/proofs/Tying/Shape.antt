@@ -1,5 +1,5 @@
--- Without its pages the forest of a store is that of the own states: the same nodes are thin, and the same pages can be
--- copied.
+-- Without its pages the forest of a store is that of the own states: the same nodes are thin, and
+-- the same pages can be copied.
 use Rattle.std.proofs.Common.{◌≡◌, false, List, sym, ap, ◌∙◌}
 use Rattle.vm_ids.specs.declared.node_name.NodeName.{NodeName}
 use Rattle.vm_ids.specs.Forest.Nodes.{Forest, IsNode}
@@ -18,7 +18,7 @@ use Rattle.residency.specs.StoreForest.{store_forest}
 use Rattle.residency.specs.World.{World, own_page}
 use Rattle.residency.proofs.Worlds.Telling.{tells}
 
--- Two forests with the same bare form -----------------------------------------------------------
+-- Two forests with the same bare form
 module _ {P Q : Type 0} (f : Forest P) (g : Forest Q) (same : bare f ≡ bare g) where
   pub like_IsNode : (x : NodeName) → IsNode f x → IsNode g x
   like_IsNode x is = sym (bare-IsNode f g same x) ∙ is
@@ -38,7 +38,7 @@ module _ {P Q : Type 0} (f : Forest P) (g : Forest Q) (same : bare f ≡ bare g)
   pub like_saved : (x : NodeName) → is_unsaved f x ≡ false → is_unsaved g x ≡ false
   like_saved x saved = sym (is_unsaved-map no_page g x) ∙ sym (ap (λ k. is_unsaved k x) same) ∙ is_unsaved-map no_page f x ∙ saved
 
--- The forest of a store -------------------------------------------------------------------------
+-- The forest of a store
 
 -- without its pages it is that of the own states
 pub store_bare : (w : World) → IsSound w.caches → bare (forest_of w.caches) ≡ bare (store_forest w)

@@ -42,7 +42,8 @@ module _ (a : Arena) (named : IsNamed a) where
         | inr none ↦ omega (arith, states_most a named, all, list, none.0, none.1)
       ]
 
--- The store is right again where there are slots enough, and of the pages of segments that were changed each was granted.
+-- The store is right again where there are slots enough, and of the pages of segments that were
+-- changed each was granted.
 pub right_after : (xs : List NodeName) (s : Store) (a : Arena) (t : Store) (b : Arena) → Releases xs s a t b → ((n : NodeId) → IsSome (home_of b n) → name_of b n ∈ xs → is_clean (own_of b n) ≡ false → is_name_granted a (name_of b n) ≡ true)
     → (length (own_states a) ≤ length s.slots → length (own_states b) ≤ length s.slots) → StaysRight s a t b
 right_after xs s a t b kept listed enough told size right =
@@ -63,7 +64,7 @@ released_fewer a b Nothing still = let same = ap (λ (xs : List OwnState). lengt
 released_fewer a b (Dropped n state) drop = omega (arith, went_length a b n drop.went drop.others)
 released_fewer a b (Moved from to) pass = passed_fewer a b from to pass.went pass.apart pass.there pass.absent pass.passed pass.others
 
--- Caches of the same sizes have as many live pages ------------------------------------------
+-- Caches of the same sizes have as many live pages
 live_there : (a b : Arena) → IsWhole a → IsWhole b → SameCaches a b → (x : NodeName) → is_live x ≡ true → IsNode (forest_of a) x → IsNode (forest_of b) x
 live_there a b wa wb same (Live cache page) live is = let n = node_page a wa.sound cache page.0 is in wb.pages cache page.0 n.0 (same.sizes cache.0 ∙ n.1) n.2
 live_there a b wa wb same (Working k) live is = absurd (false≢true live)

@@ -31,7 +31,3 @@ source_names s = pairs_read_sources s.from s.to s.from_page.0 s.to_page.0 s.page
 
 pub source_nodes : {P : Type 0} (f : Forest P) (s : Span) → CanCopy f (span_pairs s) → AreNodes f s.from s.from_page.0 s.pages
 source_nodes f s can i low = (can.sources (page_name s.from (s.from_page.0 + i)) (is_source s i low)).0
-
--- no pair is left at the end
-pub pairs_end : (c : CacheId) (p : ℕ) (d : CacheId) (q n i : ℕ) → n ≤ i → page_pairs c p d q (n - i) ≡ []
-pairs_end c p d q n i over = let none : n - i ≡ 0 = omega arith in ap (page_pairs c p d q) none

@@ -21,7 +21,8 @@ use Rattle.page_release.specs.Steps.{Releases}
 use Rattle.page_release.proofs.Tying.Sized.{bounded_capacity, right_after, same_live}
 use Rattle.page_release.proofs.Walking.Forgetting.{room_kept}
 
--- From a to b its pages were forgotten, from b to e nodes were made for them, and from e to d all settled.
+-- From a to b its pages were forgotten, from b to e nodes were made for them, and from e to d all
+-- settled.
 module _ (nodes : ℕ) (xs : List NodeName) (s : Store) (a b e : Arena) (t : Store) (d : Arena)
     (kept : Releases xs s a t d) (whole : IsWhole a) (room : HasRoom nodes a) (same : SameNodes a b) where
   pub pages_kept : IsWhole b → Grows nodes b e → SameCaches b e → forest_of d ≡ settle (forest_of e) → IsSound d → SameCaches e d → IsSettled (forest_of d) → IsBounded (forest_of d) → d.made ≡ e.made → e.room.nodes ≤ d.room.nodes

@@ -18,7 +18,7 @@ use Rattle.page_release.specs.Steps.{ForAnyMapper, IsSettleStep}
 use Rattle.page_release.proofs.Framing.Shape.{frame_consistent, frame_thin}
 use Rattle.page_release.proofs.Tying.Shape.{store_consistent, store_thin}
 
--- A step of settle -------------------------------------------------------------------------
+-- A step of settle
 module _ (s : Store) (a : Arena) (t : Store) (b : Arena) (sound : IsSound a) (consistent : IsConsistent (forest_of a)) (is : IsSettleStep s a t b) where
   abbrev w : NodeName
   w = name_of a is.merged.node
@@ -46,7 +46,7 @@ module _ (s : Store) (a : Arena) (t : Store) (b : Arena) (sound : IsSound a) (co
       let f = frame_forest a s.map in
       ap settle is.frames ∙ sym (settle_by_steps f w (frame_consistent a s.map sound consistent) (sym (frame_thin a s.map sound) ∙ is.merged.least))
 
--- Nothing is thin ----------------------------------------------------------------------------
+-- Nothing is thin
 module _ (s : Store) (a : Arena) (sound : IsSound a) (settled : IsSettled (forest_of a)) where
   pub end_nodes : settle (forest_of a) ≡ forest_of a
   end_nodes = settle_ends (forest_of a) (settled_has_nothing_thin (forest_of a) settled)

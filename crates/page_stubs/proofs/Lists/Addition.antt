@@ -130,7 +130,7 @@ stub-copies_is : {P : Type 0} (f : Forest P) (d s : NodeName) → (stub f d s).c
 unfolding stub forest.put
 stub-copies_is f d s = refl
 
--- The whole rule ------------------------------------------------------------------
+-- The whole rule
 
 module _ (a : Arena) (sound : IsSound a) (d s : NodeId) (hd : HasNode a d) (hs : HasNode a s) (bare : node (forest_of a) (name_of a d) ≡ childless None Root) (d_s : d ≢ s) where
   bare_node : node_of a d ≡ childless None Root

@@ -59,7 +59,7 @@ cut-Cut a n p before behind hn hp hb hh far =
     before_is : Option NodeId → Links → Links
     before_is o l = record l { before = o }
 
--- Lists without repeats -------------------------------------------------------------
+-- Lists without repeats
 
 pub in_left : (us vs : List NodeId) (y : NodeId) → y ∈ us → y ∈ (us ++ vs)
 in_left [] vs y i = absurd i
@@ -95,7 +95,7 @@ last_is : (us vs : List NodeId) (n : NodeId) → end_after (head_or vs None) (la
 last_is us [] n = ap (λ zs. last_or zs None) (sym (append-nil us))
 last_is us (v ∷ vs) n = last_or-append us (n ∷ v ∷ vs) None ∙ sym (last_or-append us (v ∷ vs) None)
 
--- The list ----------------------------------------------------------------------------
+-- The list
 
 module _ (a b : Arena) (n p : NodeId) (us vs : List NodeId) (t : IsThreaded a p (us ++ n ∷ vs)) (once : Once (us ++ n ∷ vs)) (no_loop : (cell a p).links.parent ≡ Some p → ⊥)
     (cut : Cut a b n p (last_or us None) (head_or vs None)) where

@@ -14,7 +14,7 @@ use Rattle.page_stubs.proofs.Lists.Cut.{once-apart, once-front, once-rear, in_le
 use Rattle.page_stubs.proofs.Lists.Joining.{Moved, row-moved, head_in, last_some}
 use Rattle.page_stubs.proofs.Lists.Links.{held_if, behind_relinked, before_relinked, links-col, behind-col, before-col, behind_at, behind_other, before_at, before_other}
 
--- The steps of the code -------------------------------------------------------------
+-- The steps of the code
 
 -- what they leave, where l and r were the neighbours of w
 pub record Exchanged (a c : Arena) (w y p : NodeId) (l r : Option NodeId) : Type 0 where
@@ -108,7 +108,7 @@ module _ (a : Arena) (w y p : NodeId) (apart : y ≢ w) (hw : HasNode a w) (hy :
     other_count = λ m np. ends_other (λ l. l.stubs) m np (λ l u t f g. refl) (λ l o. refl) (λ l o. refl);
   }
 
--- The list ----------------------------------------------------------------------------
+-- The list
 
 first_with : (us vs : List NodeId) (w y : NodeId) → end_with (last_or us None) y (head_or (us ++ w ∷ vs) None) ≡ head_or (us ++ y ∷ vs) None
 first_with [] vs w y = refl

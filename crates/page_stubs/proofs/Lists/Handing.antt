@@ -25,10 +25,6 @@ all_parts [] (suc i) = refl
 all_parts (y ∷ ys) zero = refl
 all_parts (y ∷ ys) (suc i) = ap (λ zs. y ∷ zs) (all_parts ys i)
 
-pub take_whole : (ys : List NodeId) → take (length ys) ys ≡ ys
-take_whole [] = refl
-take_whole (y ∷ ys) = ap (λ zs. y ∷ zs) (take_whole ys)
-
 in_end : (us : List NodeId) (y m : NodeId) → m ∈ (us ++ y ∷ []) → (m ∈ us) ⊎ (m ≡ y)
 in_end [] y m (inl e) = inr e
 in_end [] y m (inr i) = absurd i

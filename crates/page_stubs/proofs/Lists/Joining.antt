@@ -15,7 +15,7 @@ use Rattle.page_stubs.specs.Threading.{IsHeldIf, with_behind, with_before, with_
 use Rattle.page_stubs.proofs.Lists.Cut.{once-apart, in_left}
 use Rattle.page_stubs.proofs.Lists.Links.{held_if, behind_relinked, before_relinked, links-col, behind-col, before-col, behind_at, behind_other, before_at, before_other}
 
--- Lists -----------------------------------------------------------------------------
+-- Lists
 
 pub in_ids : (ys : List NodeId) (m : NodeId) → (m ∈ ys) ⊎ (m ∈ ys → ⊥)
 in_ids [] m = inr (λ i. i)
@@ -60,7 +60,7 @@ row-moved a b x w o (y ∷ ys) e all row =
       row-moved a b x w (Some y) ys e (λ z i. all z (inr i)) row.1,
     )
 
--- The steps of the code -------------------------------------------------------------
+-- The steps of the code
 
 abbrev word : Arena → NodeId → NodeId → Option NodeId → Option NodeId → Option NodeId → Option NodeId → ℕ → Arena
 word b from to l f first last k = with_ends (with_ends (with_before (with_behind b l f) f l) to first last k) from None None 0
@@ -119,7 +119,7 @@ module _ (b : Arena) (from to : NodeId) (apart : to ≢ from) (l f first last : 
       let r3 = relinked_then b b2 b3 r2 (relinked b2 to _ (r2.like.held to ∙ ht)) in
       relinked_then b b3 w r3 (relinked b3 from _ (r3.like.held from ∙ hr))
 
--- Against the caches before the stubs were given another parent ----------------------
+-- Against the caches before the stubs were given another parent
 
 pub record Joined (a c : Arena) (from to : NodeId) (ys zs : List NodeId) : Type 0 where
   pub links : Relinked a c
@@ -207,7 +207,7 @@ module _ (a b : Arena) (from to : NodeId) (apart : to ≢ from) (hf : HasNode a 
   pub joins : Joined a (joined b from to) from to ys zs
   joins = subst (λ c. Joined a c from to ys zs) (sym joined_is) word_joined
 
--- The lists ---------------------------------------------------------------------------
+-- The lists
 
 module _ (a c : Arena) (from to : NodeId) (apart : to ≢ from) (ys zs : List NodeId) (t_from : IsThreaded a from ys) (t_to : IsThreaded a to zs) (once_ys : Once ys) (once_zs : Once zs) (join : Joined a c from to ys zs) where
   held : (n : NodeId) → HasNode a n → HasNode c n

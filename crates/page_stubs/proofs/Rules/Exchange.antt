@@ -36,7 +36,7 @@ use Rattle.page_stubs.proofs.Rules.Handing.{once_stubs}
 use Rattle.page_stubs.proofs.Lists.Joining.{head_in, if_held}
 use Rattle.page_stubs.proofs.Rules.Ranks.{raised, raised-ranked, raised-above}
 
--- The forest ------------------------------------------------------------------------
+-- The forest
 
 place-names : {P : Type 0} (f : Forest P) → IsLinked f → (w y : NodeName) → IsNode f w → IsNode f y → SameNames (take_place f w y) f
 unfolding take_place
@@ -55,7 +55,7 @@ place-linked f linked w y root bare clear =
     (raised-above f linked.order.0 linked.order.1 Mark decide w y (λ m. clear (subst (IsUnder f w) m.1 m.2)) refl)
     (λ p e. bare)
 
--- Names -----------------------------------------------------------------------------
+-- Names
 
 module _ (a : Arena) (kept : IsKept a) (w y : NodeId) (hw : HasNode a w) where
   renamed-map : (ys : List NodeId) → ((m : NodeId) → m ∈ ys → HasNode a m) → (w ∈ ys → ⊥) → map (renamed (name_of a w) (name_of a y)) (map (name_of a) ys) ≡ map (name_of a) ys
@@ -74,7 +74,7 @@ module _ (a : Arena) (kept : IsKept a) (w y : NodeId) (hw : HasNode a w) where
       ap (λ b. cond b (name_of a y) (name_of a u) ∷ map (renamed (name_of a w) (name_of a y)) (map (name_of a) (us ++ w ∷ vs))) (same_apart (name_of a w) (name_of a u) apart)
       ∙ ap (λ zs. name_of a u ∷ zs) (renamed-split us vs (λ m j. all m (inr j)) once.1)
 
--- The caches ------------------------------------------------------------------------
+-- The caches
 
 pub record HasPlace (a c : Arena) (w y : NodeId) : Type 0 where
   pub forest : forest_of c ≡ take_place (forest_of a) (name_of a w) (name_of a y)

@@ -27,7 +27,7 @@ use Rattle.page_stubs.proofs.Rules.Cut.{once-map, in_map, map-in}
 use Rattle.page_stubs.proofs.Lists.Joining.{Joined, in_ids, threaded_to, threaded_from, threaded_other}
 use Rattle.page_stubs.proofs.Rules.Ranks.{raised, raised-ranked, raised-above}
 
--- The shape -------------------------------------------------------------------------
+-- The shape
 
 module _ {P : Type 0} (f : Forest P) (linked : IsLinked f) (x h : NodeName) (apart : h ≢ x) (clear : (y : NodeName) → names.◌∈◌ y (node f x).stubs → IsUnder f h y → ⊥) where
   rank : NodeName → ℕ
@@ -45,7 +45,7 @@ module _ {P : Type 0} (f : Forest P) (linked : IsLinked f) (x h : NodeName) (apa
   pub cleared-linked : IsLinked (hand_stubs f x h)
   cleared-linked = hand_stubs-by_rank f linked x h apart rank ranked
 
--- The caches ------------------------------------------------------------------------
+-- The caches
 
 -- the names of a node's stubs stand once
 pub once_stubs : (a : Arena) → IsKept a → IsLinked (forest_of a) → (n : NodeId) → HasNode a n → Once (stubs_of a n)

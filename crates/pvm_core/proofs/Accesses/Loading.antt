@@ -48,7 +48,7 @@ use Rattle.pvm_core.proofs.Answering.Answered.{no_segments}
 use Rattle.pvm_core.proofs.Answering.Rising.{grown_some, rises_between}
 use Rattle.pvm_core.proofs.Meaning.Values.{blank_of, page_shown, value_there, zeroed, zeroed_whole, zeros_by}
 
--- Rows ------------------------------------------------------------------------------------------
+-- Rows
 
 module _ (m : Machine) (actor address n : ℕ) where
   pub load_refused : (r : Refusal) → Err r ≡ place m actor address n → load_of m actor address n ≡ refuse m r
@@ -137,7 +137,7 @@ module _ (p q : Manager) (h g : Option Held) (i : Option ℕ) (b : Arena) (s : S
       }
       go None (Some j) e e2 segs = absurd (cc segs)
 
--- Owners ------------------------------------------------------------------------------------------
+-- Owners
 
 own_node : {P : Type 0} (f : Forest P) (y : NodeName) → IsSome (node f y).own → IsNode f y
 unfolding node

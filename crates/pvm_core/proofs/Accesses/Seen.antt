@@ -117,7 +117,7 @@ led_right actor address to a s t u l all new place e is =
     let i = l.entered in
     moved s t l.only a u e (each-entered (IsRight a s u) s.tables i.0 entry i.2.0.below all new place e (ap (λ (ts : List (Option Entry)). entry_at ts place) (sym i.2.1) ∙ is))
 
--- Calls that bring pages in ---------------------------------------------------------------------
+-- Calls that bring pages in
 
 -- a page may be written still where the tables of the caches are the same
 pub same_grants : (a b : Arena) → b.caches ≡ a.caches → (x : NodeName) → IsWritable a x → IsWritable b x
@@ -170,7 +170,7 @@ pub found_led : (b : ℕ) (actor : ActorId) (address n : ℕ) (found : Option Fr
 found_led b actor address n None s t l short = tt
 found_led b actor address n (Some f) s t l short = rw short (ap (option_map (λ (to : Translation). to.frame)) l.found)
 
--- A page that is a node's alone -----------------------------------------------------------------
+-- A page that is a node's alone
 
 pub alone_owner : (a : Arena) → IsWellShaped (forest_of a) → (x : NodeName) → IsAlone a x → owner_of (forest_of a) x ≡ x
 alone_owner a shaped x alone = go (node (forest_of a) x).own refl alone.owned

@@ -78,7 +78,7 @@ bytes_sound b s u t live f bytes e i = subst (λ (u : Store). IsSound b u t live
   page = i.page;
 })
 
--- What is denied -------------------------------------------------------------------------------
+-- What is denied
 
 -- a page of a segment is denied or not by the list of those that are
 pub denied_by : (p : Manager) (f : PageForest) (s : Segments) (n page : ℕ) → is_denied_page (machine_by p f) s n page ≡ option_map_or (λ (z : SegId). denies s.denied z.0 page) (option_and_then (λ (t : Table). t.segment) (table_of p.caches n)) false

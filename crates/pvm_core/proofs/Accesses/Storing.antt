@@ -41,7 +41,7 @@ use Rattle.vm_model.specs.Outcome.{blank, blank_cache}
 use Rattle.vm_model.proofs.Forests.Following.{stored_followed}
 use Rattle.pvm_core.proofs.Meaning.Shown.{get-caches, get-pages, id_of, length-pages, numbered-caches, shown_made}
 
--- Rows ------------------------------------------------------------------------------------------
+-- Rows
 
 module _ (m : Machine) (actor address : ℕ) (bytes : List ℕ) (h : Segments) where
   pub store_refused : (r : Refusal) → Err r ≡ place m actor address (length bytes) → store_of m actor address bytes h ≡ refuse m r
@@ -60,7 +60,7 @@ module _ (m : Machine) (actor address : ℕ) (bytes : List ℕ) (h : Segments) w
   unfolding store_of with_ok unless
   store_denied at e may_write denied = let back = sym e in rw (back, may_write, denied) refl
 
--- The forest --------------------------------------------------------------------------------------
+-- The forest
 
 -- the bytes of a node that is ready are changed: that is the rule write
 written_by : {P : Type 0} (f : Forest P) (x : NodeName) (u v : P) (change : P → P) → (node (readied f x) x).own ≡ Some u → change u ≡ v → edit (readied f x) x (with_own (Some v)) ≡ write f x change
@@ -83,7 +83,7 @@ stored_forest w v f n x byte bytes k ready name frame bound =
     ∙ (λ i. edit (ready i) (name i) (with_own (Some (option_map (λ _. new) v.told))))
     ∙ written_by (store_forest w) x (option_map (λ _. bytes_of v.frames f) v.told) (option_map (λ _. new) v.told) (option_map (overwrite byte bytes)) own (over v.told byte bytes (bytes_of v.frames f))
 
--- The machine -------------------------------------------------------------------------------------
+-- The machine
 
 module _ (p q : Manager) (f : PageForest) (at : Place) (bytes : List ℕ) (tables : q.caches.caches ≡ p.caches.caches) (same : (q.page_bytes ≡ p.page_bytes) × (length q.store.frames.held ≡ length p.store.frames.held) × (q.actors ≡ p.actors) × (q.regions_made ≡ p.regions_made))
     (t : Table) (there : table_of p.caches at.region.cache ≡ Some t) (less : at.page < length t.pages) (fits : at.byte + length bytes ≤ length (shown (value_of f (page_name (id_of at.region.cache) at.page)))) where

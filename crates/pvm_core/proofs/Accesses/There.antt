@@ -123,7 +123,7 @@ module _ (a : Arena) (s : Store) (t : Actors) (live : ℕ) (sound : IsSound a s 
       let here = home w to.frame.0 k.owner right k.below k.bound in
       ap (value_of (store_forest w)) (sym k.name) ∙ value_at w sound.nodes.sound sound.nodes.consistent.shaped k.node k.owner k.there k.owns ∙ page_here w to.frame.0 k.owner (own_of a k.owner) here.resident here.place
 
--- A load whose page a translation leads to -------------------------------------------------------
+-- A load whose page a translation leads to
 
 not_pulled : (x : OwnState) → is_resident x ≡ true → is_pulled x ≡ false
 not_pulled Absent e = absurd (cc e)

@@ -1,4 +1,5 @@
--- A store to a page which a translation for writing leads to: nothing is owned, and nothing handed over.
+-- A store to a page which a translation for writing leads to: nothing is owned, and nothing handed
+-- over.
 use Rattle.std.proofs.Common.{◌≡◌, ℕ, ◌%◌, ◌<◌, Bool, true, false, cond, List, length, Option, Some, None, refl, sym, ap, subst, ◌∙◌, arith, inl}
 use Rattle.std.specs.Prelude.{Ok, option_map, slice_set}
 use Rattle.vm_ids.specs.Counting.{MapperCounts}

@@ -43,8 +43,8 @@ alike_itself (Ok (replies.Status x)) = refl
 alike_itself (Ok (replies.Stat x)) = refl
 alike_itself (Err e) = refl
 
--- Where the answer is that of a machine with the pages of any forest, it is the manager's, told or not.
--- Where it isn't told, that is so for these segments.
+-- Where the answer is that of a machine with the pages of any forest, it is the manager's, told or
+-- not. Where it isn't told, that is so for these segments.
 pub outcome_at : (p q : Manager) (h g : Option Held) (command : Command) (answer : Answer) (rises : MapperCounts) (untold : Segments) → IsWhole p.caches → IsWhole q.caches → is_some (segments_of g) ≡ is_some (segments_of h)
     → (h ≡ None → (f : PageForest) → Outcome (machine_by p f) (Some (forest_of p h)) command untold answer (machine_by q f) rises)
     → ((s : Segments) → segments_of g ≡ Some s → Outcome (machine_of p h) (Some (forest_of p h)) command s answer (machine_of q g) rises)

@@ -1,4 +1,5 @@
--- A command that leaves the caches' sizes: the manager after it, and the machine that its forest shows.
+-- A command that leaves the caches' sizes: the manager after it, and the machine that its forest
+-- shows.
 use Rattle.std.proofs.Common.{◌≡◌, ℕ, zero, suc, ◌+◌, ◌*◌, ◌≤◌, Bool, List, [], ◌∷◌, get_or, set, length, map, Option, Some, None, option_map, refl, sym, ap, ◌∙◌, subst, arith}
 use Rattle.std.specs.Prelude.{count_by}
 use Rattle.vm_ids.specs.Held.{Held}

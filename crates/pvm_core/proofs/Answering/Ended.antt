@@ -1,4 +1,5 @@
--- How a call with a mapper ends: the manager is sound and valid, the call is answered, and the counters rise no further than they may.
+-- How a call with a mapper ends: the manager is sound and valid, the call is answered, and the
+-- counters rise no further than they may.
 use Rattle.std.proofs.Common.{ℕ, Option}
 use Rattle.vm_ids.specs.Counting.{MapperCounts}
 use Rattle.vm_ids.specs.Held.{Held}

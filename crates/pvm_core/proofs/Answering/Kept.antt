@@ -67,7 +67,7 @@ seated_valid p q h caches store page v = valid caches store page
         moved : IsValid p h → IsValid (record { caches = p.caches; store = p.store; page_bytes = p.page_bytes; actors = q.actors; regions_made = q.regions_made }) h
         moved v = record { right = v.right; sized = v.sized; full = v.full; whole = v.whole }
 
--- The number of nodes -----------------------------------------------------------------------
+-- The number of nodes
 
 one_more : (b : Bool) (n k : ℕ) → n ≤ k → cond b n (n + 1) ≤ k + 1
 one_more true n k e = omega (arith, e)
@@ -94,7 +94,7 @@ like_count a b like = keys_states b ∙ ap (λ (ks : List ℕ). length ks) (same
     both None (Some d) e = absurd (cc e)
     both (Some c) None e = absurd (cc e)
 
--- Pages that are moved about ----------------------------------------------------------------
+-- Pages that are moved about
 
 -- nothing of the forest depends on the size of the mapper's pages
 pub sizeless : (h : Option Held) (i : Option ℕ) (a : Arena) (s : Store) → store_forest (world h i a s) ≡ store_forest (world h None a s)

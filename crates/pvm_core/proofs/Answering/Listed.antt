@@ -1,4 +1,5 @@
--- Actors and their regions: the rows of their commands, where regions lie after them, and the place of an access.
+-- Actors and their regions: the rows of their commands, where regions lie after them, and the place
+-- of an access.
 use Rattle.std.proofs.Common.{◌≡◌, ◌==◌, ℕ, ◌+◌, ◌-◌, ◌*◌, ◌/◌, ◌%◌, ◌^◌, ◌<◌, ◌≤◌, Bool, true, false, cond, not, List, [], ◌∷◌, ◌++◌, length, map, Option, Some, None, refl, sym, ap, subst, ◌∙◌, arith, rules, div-lt_iff_lt-mul, mul_comm}
 use Rattle.std.specs.Prelude.{option_map, is_some, MatchResult, OnErr, OnOk, Result, Ok, Err, nat_le, nat_lt, ◌&&◌}
 use Rattle.std.specs.List.{All, list_any}
@@ -48,7 +49,7 @@ size_in o = option_map (λ (c : model.Cache). length c.pages) o
 abbrev pub machine_with : List (Option model.Cache) → ℕ → Actors → model.Machine
 machine_with caches frames t = record { page_bytes = t.page_bytes; frames = frames; caches = caches; actors = t.actors; regions_made = t.regions_made }
 
--- A mapping ---------------------------------------------------------------------------------
+-- A mapping
 
 -- nothing refuses it
 pub record IsMappable (t : Actors) (o : Option model.Actor) (q : Option ℕ) (p : Mapping) : Type 0 where
@@ -140,7 +141,7 @@ module _ (t : Actors) (p : Mapping) where
     (let e = k.aligned in grind (arith, nat_tests)),
   )
 
--- Where regions lie -------------------------------------------------------------------------
+-- Where regions lie
 
 module _ (P : model.Region → Type 0) where
   -- those of an actor
@@ -195,7 +196,7 @@ module _ (sizes : ℕ → Option ℕ) where
     aligned = each_without (IsAligned t.page_bytes) n t.actors k.aligned;
   }
 
--- A region that goes --------------------------------------------------------------------------
+-- A region that goes
 
 -- what is told of a region that is there
 pub locked_told : (n first : ℕ) (xs : List (Option model.Actor)) (s : RegionStatus) → status_with n first xs ≡ Some s → (r : model.Region) × (region_with n xs ≡ Some r) × (r.locked ≡ s.locked)
@@ -226,7 +227,7 @@ module _ (caches : List (Option model.Cache)) (frames : ℕ) (t : Actors) (n : �
   pub unmap_none : is_some (region_with n t.actors) ≡ false → unmap_of (machine_with caches frames t) n ≡ refuse (machine_with caches frames t) refusals.NoRegion
   unmap_none none = no_region (region_with n t.actors) refl none
 
--- A new actor -------------------------------------------------------------------------------
+-- A new actor
 
 module _ (caches : List (Option model.Cache)) (frames : ℕ) (t u : Actors) (f : Option PageForest) (h : Segments) where
   actor_row : is_full t ≡ false → make_actor_of (machine_with caches frames t) ≡ reply (replies.Actor (record { 0 = length t.actors + 1 })) (machine_with caches frames (record t { actors = t.actors ++ Some [] ∷ [] }))
@@ -259,7 +260,7 @@ pub after_either : {T E : Type 0} (P : Actors → Type 0) (t u v : Actors) (resu
 after_either P t u v (Ok x) ok err new old = subst P (sym ok) new
 after_either P t u v (Err e) ok err new old = subst P (sym err) old
 
--- The place of an access --------------------------------------------------------------------
+-- The place of an access
 
 -- the plain machine's place, of which this much is told
 abbrev pub found_at : model.Region → regions.Place → Place

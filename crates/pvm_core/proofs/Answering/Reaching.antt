@@ -24,7 +24,7 @@ reach_quiet m h g c d same later = record { later = later; pushes = []; few = λ
 pub reach_none : (m : Machine) (h : Option Held) (c : MapperCounts) → Reach m h h c c
 reach_none m h c = reach_quiet m h h c c refl (no_later c)
 
--- One after the other ---------------------------------------------------------------------------
+-- One after the other
 
 pub after_append : (m : Machine) (ps qs : List (ℕ × ℕ)) (s : Option Segments) → segments_after m (ps ++ qs) s ≡ segments_after m qs (segments_after m ps s)
 after_append m [] qs s = refl

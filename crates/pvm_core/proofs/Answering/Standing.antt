@@ -1,4 +1,5 @@
--- What a manager stands for stays, while the mapper may be reached: its page forest, and with it its machine.
+-- What a manager stands for stays, while the mapper may be reached: its page forest, and with it
+-- its machine.
 use Rattle.std.proofs.Common.{◌≡◌, ℕ, Option}
 use Rattle.vm_ids.specs.Counting.{MapperCounts}
 use Rattle.vm_ids.specs.Held.{Held}

@@ -36,7 +36,7 @@ extent_named a e range named = of_table (table_of a e.cache.0) refl range.size n
     of_table None there size named = absurd (cc named)
     of_table (Some t) there size named = of_segment t there (cc size) t.segment refl named
 
--- Where no segment names the cache ---------------------------------------------------------
+-- Where no segment names the cache
 
 no_segment : (f : PageForest) (n : ℕ) (o : Option Table) → is_some (option_and_then (λ (t : Table). t.segment) o) ≡ false → option_and_then (λ (c : Cache). c.segment) (option_map (cache_shown f n) o) ≡ None
 no_segment f n None none = refl
@@ -58,7 +58,7 @@ unnamed_written p h e none = record {
   saved_now = λ named x i. absurd (let both : true ≡ false = sym named ∙ none in cc both);
 }
 
--- Where one does ---------------------------------------------------------------------------
+-- Where one does
 
 module _ (p : Manager) (h : Option Held) (e : Extent) (x : IsExtent p.caches e) (apart : AreApart p.caches) where
   -- what is pushed to the segment is a page of the cache

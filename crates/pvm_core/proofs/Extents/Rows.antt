@@ -65,7 +65,7 @@ module _ (p : Manager) (f : PageForest) (e : Extent) where
   cache_is : cache_of (machine_by p f) e.cache.0 ≡ option_map (cache_shown f e.cache.0) (table_of p.caches e.cache.0)
   cache_is = numbered-caches f p.caches.caches e.cache.0
 
-  -- Refused ----------------------------------------------------------------------------------
+  -- Refused
 
   module _ (held : Option (List Page)) (r : Refusal) where
     sync_none : cache_of (machine_by p f) e.cache.0 ≡ None → Some refusals.NoCache ≡ Some r → (sync_of m e ≡ refuse m r) × (flush_of m e ≡ refuse m r) × (invalidate_of m e held ≡ refuse m r)
@@ -128,7 +128,7 @@ module _ (p : Manager) (f : PageForest) (e : Extent) where
     pub invalidate_refused : (held : Option (List Page)) → invalidate_of (machine_by p f) e held ≡ refuse (machine_by p f) r
     invalidate_refused held = ((extent_refused held r (any_locked p.caches e) is).1 (any_same p f counted e)).1
 
-  -- Not refused ------------------------------------------------------------------------------
+  -- Not refused
 
   module _ (x : IsExtent p.caches e) where
     abbrev c : Cache

@@ -69,7 +69,8 @@ table_place : (ts : List (Option Table)) (n : ℕ) (t : Table) → Rattle.local_
 table_place ts Rattle.std.proofs.Common.zero t e = absurd (cc e)
 table_place ts (Rattle.std.proofs.Common.suc k) t e = ap (λ (i : ℕ). get_or ts i None) (let z : Rattle.std.proofs.Common.suc k - 1 ≡ k = omega arith in z) ∙ e
 
--- What led to where pages can be taken from their segment: memory was taken, and the saves are done.
+-- What led to where pages can be taken from their segment: memory was taken, and the saves are
+-- done.
 pub record IsTaking (p : Manager) (h g : Option Held) (b : Arena) (s : Store) (t : Actors) (e : Extent) (c d : MapperCounts) : Type 0 where
   pub extent : IsExtent b e
   pub valid : IsValid (seen b s t) g
@@ -109,8 +110,8 @@ module _ (p : Manager) (h g : Option Held) (b : Arena) (s : Store) (t : Actors) 
   pub taking_copied : IsExtent p.caches e → b.copies ≡ (saved (is_named p.caches e.cache.0) (extent_names e) (forest_of p h)).copies
   taking_copied x = sym (forest_copies (seen b s t) g) ∙ ap (λ f. f.copies) ready.forest ∙ (λ j. (saved (sym (named_true p.caches e x) j) (extent_names e) (forest_of p h)).copies)
 
--- From p, over what the mapper held then, pages were saved, which led to the caches b and the store s and to what the mapper
--- holds now; and then those of the range were taken from their segment.
+-- From p, over what the mapper held then, pages were saved, which led to the caches b and the store
+-- s and to what the mapper holds now; and then those of the range were taken from their segment.
 module _ (p : Manager) (h g : Option Held) (b d : Arena) (s u : Store) (t : Actors) (live : ℕ) (k : IsSound b s t live) (v : IsValid (seen b s t) g) (e : Extent) (x : IsExtent b e) (unlocked : any_locked b e ≡ false)
     (machine : machine_of (seen b s t) g ≡ machine_of p h) (by : (f : PageForest) → machine_by (seen b s t) f ≡ machine_by p f) (nodes : IsWhole p.caches) (old : IsValid p h) (saves_done : forest_of (seen b s t) g ≡ saved true (extent_names e) (forest_of p h))
     (same : SameCaches b d) (back : ForAnyMapper s b u d GivesBack) (tied : IsStoreTied s b) (whole : IsWhole d) (right : StaysRight s b u d)

@@ -1,4 +1,5 @@
--- How many locked regions of all actors cover a page, after regions were mapped, cut, protected and taken away.
+-- How many locked regions of all actors cover a page, after regions were mapped, cut, protected and
+-- taken away.
 use Rattle.std.proofs.Common.{◌≡◌, ◌==◌, ℕ, ◌+◌, ◌-◌, ◌<◌, ◌≤◌, Bool, true, false, cond, List, [], ◌∷◌, ◌++◌, get_or, set, length, map, Option, Some, None, refl, sym, ap, ◌∙◌, arith}
 use Rattle.std.specs.Prelude.{◌&&◌, count_by, is_some, nat_le, nat_lt, option_map}
 use Rattle.std.specs.List.{list_any}
@@ -85,7 +86,7 @@ module _ (cache page : ℕ) where
           both (one_goes (locks cache page) n r rs (omega (arith, times, once)) found (unlocked cache page r free)) (over_left n xs (omega (arith, times, once, some)))
       go rest None here e = both (none_goes (locks cache page) n rs (times_none n rs here)) (rest (omega (arith, times, once)) e)
 
--- A cache that no region maps -----------------------------------------------------------------
+-- A cache that no region maps
 
 module _ (cache page : ℕ) where
   other_cache : (r : Region) → (r.cache == cache) ≡ false → locks cache page r ≡ false

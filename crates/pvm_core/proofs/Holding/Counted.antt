@@ -58,7 +58,7 @@ pub same_locked : (p q : Manager) → ((cache page : ℕ) → locks_of p.caches 
 same_locked p q before after by e =
     sym (any_same q no_forest after e) ∙ ap (λ (m : Machine). is_any_locked m e.cache e.first.0 e.pages) (by no_forest) ∙ any_same p no_forest before e
 
--- A page that is locked ---------------------------------------------------------------------
+-- A page that is locked
 
 -- a cache has this page
 abbrev pub HasSize : (ℕ → Option ℕ) → ℕ → ℕ → Type 0

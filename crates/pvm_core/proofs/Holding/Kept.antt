@@ -61,7 +61,7 @@ module _ (a : Arena) (map : List (Option NodeId)) (f : ℕ) where
   pub has_name : (n : NodeId) → node_of map f ≡ Some n → has_locked a map f ≡ is_locked_name a (name_of a n)
   has_name n here = ap (λ (o : Option NodeId). option_map_or (λ n. is_locked_name a (name_of a n)) o false) here
 
--- A locked page ------------------------------------------------------------------------------
+-- A locked page
 
 module _ (a : Arena) (s : Store) (t : Actors) (whole : IsWhole a) (right : AreRight (size_of a) t) (bound : AreBound a s.map) (held : AreHeld a s t.actors) where
   -- its node is in a frame, which is pinned
@@ -86,7 +86,7 @@ module _ (a : Arena) (s : Store) (t : Actors) (whole : IsWhole a) (right : AreRi
         pinned = held.pinned (frame_of s.map there.0.0) ∙ has_name a s.map (frame_of s.map there.0.0) there.0 here ∙ ap (is_locked_name a) there.2 ∙ locked;
       }
 
--- What is kept ------------------------------------------------------------------------------
+-- What is kept
 
 module _ (a b : Arena) (s u : Store) (t : Actors) (whole : IsWhole a) (sound : IsSound b) (right : AreRight (size_of a) t) (was : AreBound a s.map) (now : AreBound b u.map) (k : KeepsPins a b s u) (held : AreHeld a s t.actors) where
   -- a node that has the name of a locked page is in the frame that it was in

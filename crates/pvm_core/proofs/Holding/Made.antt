@@ -1,4 +1,5 @@
--- Locks hold their pages still where the nodes and the locks stay, and where a cache is made or goes.
+-- Locks hold their pages still where the nodes and the locks stay, and where a cache is made or
+-- goes.
 use Rattle.std.proofs.Common.{◌≡◌, ℕ, zero, suc, Bool, true, false, List, [], ◌∷◌, ◌++◌, get_or, length, replicate, Option, Some, None, is_some, unwrap_or, refl, sym, ap, ◌∙◌, subst, arith, inl, inr}
 use Rattle.std.specs.Prelude.{count_by, option_and_then, slice_get}
 use Rattle.std.specs.List.{list_any, slice_index_or}
@@ -58,7 +59,8 @@ held_by_store a s u actors pins map frames held = record {
   few = omega (arith, held.few, frames);
 }
 
--- What is said of locks goes from caches a to caches b, whose locks are the same, and in which the same nodes are locked.
+-- What is said of locks goes from caches a to caches b, whose locks are the same, and in which the
+-- same nodes are locked.
 module _ (a b : Arena) (s : Store) (actors : List (Option Actor)) (locks : (cache page : ℕ) → locks_of b cache page ≡ locks_of a cache page)
     (back : (cache page : ℕ) (n : NodeId) → node_at b cache page ≡ Some n → is_locked (locks_of b cache page) ≡ true → (node_at a cache page ≡ Some n) × (own_of b n ≡ own_of a n))
     (named : (n : NodeId) → is_locked_name b (name_of b n) ≡ is_locked_name a (name_of a n)) (held : AreHeld a s actors) where
@@ -75,7 +77,7 @@ same_name : (a b : Arena) → ((cache page : ℕ) → locks_of b cache page ≡ 
 same_name a b same (Live cache page) = ap is_locked (same cache.0 page.0)
 same_name a b same (Working k) = refl
 
--- The nodes stay ----------------------------------------------------------------------------
+-- The nodes stay
 
 module _ (a b : Arena) (s : Store) (actors : List (Option Actor)) (cells : b.cells ≡ a.cells) (locks : (cache page : ℕ) → locks_of b cache page ≡ locks_of a cache page) (before : IsListed a) (after : IsListed b) (held : AreHeld a s actors) where
   cell_same : (n : NodeId) → cell b n ≡ cell a n
@@ -90,7 +92,7 @@ module _ (a b : Arena) (s : Store) (actors : List (Option Actor)) (cells : b.cel
       (λ cache page n at locked. (let l = after.nodes cache page n at in (before.pages cache page n (there_same n l.0) (ap (λ c. c.name) (sym (cell_same n)) ∙ l.1), ap (λ c. c.own) (cell_same n))))
       (λ n. ap (λ c. is_locked_name b c.name) (cell_same n) ∙ same_name a b locks (name_of a n)) held
 
--- A cache goes ------------------------------------------------------------------------------
+-- A cache goes
 
 module _ (b d : Arena) (u : Store) (actors : List (Option Actor)) (cache : CacheId) (is : d ≡ without_cache b cache) (free : list_any (maps_in cache.0) actors ≡ false) (before : IsListed b) (after : IsListed d) (held : AreHeld b u actors) where
   locks_left : (c page : ℕ) → locks_of d c page ≡ locks_of b c page
@@ -105,7 +107,7 @@ module _ (b d : Arena) (u : Store) (actors : List (Option Actor)) (cache : Cache
   pub held_gone : AreHeld d u actors
   held_gone = held_by_cells b d u actors (ap (λ (k : Arena). k.cells) is) locks_left before after held
 
--- A cache is made ---------------------------------------------------------------------------
+-- A cache is made
 
 abbrev locks_at : ℕ → List ℕ → ℕ
 locks_at page locks = unwrap_or (slice_get locks page) 0

@@ -18,7 +18,7 @@ pub neither : (a b : Bool) → (a || b) ≡ false → (a ≡ false) × (b ≡ fa
 neither true b e = absurd (cc e)
 neither false b e = (refl, e)
 
--- Regions that are counted ------------------------------------------------------------------
+-- Regions that are counted
 
 module _ (q : Region → Bool) where
   counted_more : (r : Region) (rs : Actor) → q r ≡ false → count_by q (r ∷ rs) ≡ count_by q rs
@@ -33,7 +33,7 @@ module _ (q : Region → Bool) where
   counted_insert r [] e = counted_more r [] e
   counted_insert r (x ∷ xs) e = insert_at (nat_lt r.start x.start) r x xs (insert_region r xs) e (counted_insert r xs e)
 
-  -- A region that becomes others, which count as it did --------------------------------------
+  -- A region that becomes others, which count as it did
 
   module _ (n : ℕ) (by : Region → List Region) (r : Region) (same : count_by q (by r) ≡ bit (q r)) where
     pub replaced : (rs : Actor) → region_among n rs ≡ Some r → count_by q (replace_region n by rs) ≡ count_by q rs
@@ -47,7 +47,7 @@ module _ (q : Region → Bool) where
             omega (arith, sum_by-append (λ (y : Region). bit (q y)) (by x) rs, front, count_cons q x rs)
         go rest false t e = omega (arith, count_cons q x (replace_region n by rs), count_cons q x rs, rest e)
 
-  -- A region that goes, which doesn't count -------------------------------------------------
+  -- A region that goes, which doesn't count
 
   pub none_goes : (n : ℕ) (rs : Actor) → count_by (λ (r : Region). r.number == n) rs ≡ 0 → count_by q (without_region n rs) ≡ count_by q rs
   none_goes n [] e = refl
@@ -95,7 +95,7 @@ times_none n (x ∷ rs) e = go (times_none n rs) (x.number == n) refl e
     go rest true t e = absurd (cc e)
     go rest false t e = omega (arith, count_cons (λ (r : Region). r.number == n) x rs, ap bit t, rest e)
 
--- Regions that are cut and protected ----------------------------------------------------------
+-- Regions that are cut and protected
 
 cut_at : (l c lo hi hf lb hb : Bool) → bit (lo && hi) ≡ bit (lo && hf) + bit (lb && hb) → bit (l && c && lo && hi) ≡ bit (l && c && lo && hf) + bit (l && c && lb && hb)
 cut_at true true lo hi hf lb hb e = e

@@ -73,7 +73,7 @@ has_home a n home is = by_name (name_of a n) refl is
     by_name (Working k) name e = absurd (cc e)
     by_name (Live cache page) name e = by_table cache page name (table_at a.caches cache.0) refl e
 
--- Pushes of nodes' pages -------------------------------------------------------------------------
+-- Pushes of nodes' pages
 
 -- the segment and the page of a home
 abbrev pub place_of : Option Home → ℕ × ℕ
@@ -161,7 +161,7 @@ shown_told None = refl
 shown_told (Some None) = refl
 shown_told (Some (Some b)) = refl
 
--- Own pages ------------------------------------------------------------------------------------------
+-- Own pages
 
 module _ (p : Manager) (h : Option Held) (nodes : IsWhole p.caches) (apart : AreApart p.caches) where
   valued : (n : NodeId) → homes.MayPush (world_of p h) n → IsValue p h nodes apart (own_page (world_of p h)) n

@@ -14,12 +14,7 @@ use Rattle.vm_model.specs.Pushing.{page_named}
 use Rattle.pvm_core.specs.Manager.{AreApart, Manager, cache_shown, caches_shown, machine_by, shown}
 use Rattle.pvm_core.proofs.Meaning.Shown.{get-pages, id_of, numbered-caches}
 
--- Tables of one segment ------------------------------------------------------------------------
-
--- the table of a cache of which it is told whether a segment names it
-pub segment_table : (o : Option Table) (s : Option SegId) → option_map (λ (t : Table). t.segment) o ≡ Some s → (t : Table) × (o ≡ Some t) × (t.segment ≡ s)
-segment_table None s e = absurd (cc e)
-segment_table (Some t) s e = (t, refl, (let q : t.segment ≡ s = cc e in q))
+-- Tables of one segment
 
 same_id : (s z : SegId) → (z.0 == s.0) ≡ true → z ≡ s
 same_id s z e = (let q : z.0 ≡ s.0 = grind (arith, nat_tests) in λ i. record { 0 = q i })
@@ -84,7 +79,7 @@ pub named_back : (f : PageForest) (first : ℕ) (ts : List (Option Table)) (seg 
 named_back f first [] seg c e = absurd (cc e)
 named_back f first (o ∷ ts) seg c e = back_by f first o ts seg c (is_named_by seg (option_map (cache_shown f first) o)) refl e (named_back f (first + 1) ts seg c)
 
--- In a manager ---------------------------------------------------------------------------------
+-- In a manager
 
 only_one : (a : Arena) → AreApart a → (k : ℕ) (t : Table) (s : SegId) → get_or a.caches k None ≡ Some t → t.segment ≡ Some s → (j : ℕ) (u : Table) → get_or a.caches j None ≡ Some u → u.segment ≡ Some s → j ≡ k
 only_one a apart k t s e of j u there is =

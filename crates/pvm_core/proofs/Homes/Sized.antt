@@ -68,7 +68,7 @@ after_length m (p ∷ ps) s all x =
     let same : (x : ℕ) → length_of t x ≡ length_of s x = put_length s p.0 p.1 bytes all.0 in
     after_length m ps t (there_still s t same ps all.1) x ∙ ap Some (same x)
 
--- In a manager ---------------------------------------------------------------------------------
+-- In a manager
 
 named_there : (p : Manager) (h : Held) → AreSized p.caches (Some h) → (seg page : ℕ) → IsSome (page_named (machine_of p (Some h)) seg page) → IsSome (get h.segments seg)
 named_there p h sized seg page some = by_cache (cache_named (machine_of p (Some h)).caches seg) refl some

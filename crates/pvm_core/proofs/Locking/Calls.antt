@@ -48,7 +48,7 @@ use Rattle.pvm_core.proofs.Locking.Limit.{limit_is, over_locked, pages_of, right
 use Rattle.pvm_core.proofs.Locking.Pages.{owned_few}
 use Rattle.pvm_core.proofs.Locking.Rows.{lock_row}
 
--- How many locks a page has ---------------------------------------------------------------------
+-- How many locks a page has
 
 by_few : (cache page : ℕ) (o : Option model.Actor) → locks_by cache page o ≤ regions_among o
 by_few cache page None = omega arith
@@ -59,7 +59,7 @@ pub over_few : (cache page : ℕ) (xs : List (Option model.Actor)) → locks_ove
 over_few cache page [] = omega arith
 over_few cache page (x ∷ xs) = omega (arith, sum_by-cons (locks_by cache page) x xs, sum_by-cons regions_among x xs, by_few cache page x, over_few cache page xs)
 
--- Where a region is locked ------------------------------------------------------------------------
+-- Where a region is locked
 
 module _ (a b : Arena) (s u : Store) (h g : Option Held) (i j : Option ℕ) (c d : MapperCounts) (alike : ReadsAlike (world h i a s) (world g j b u) c d) (t : Actors) (live : ℕ) (sound : IsSound a s t live) (region : RegionId) (r : Region) (found : region_with region.0 t.actors ≡ Some r) (free : r.locked ≡ false)
     (low : nat_lt (length s.frames.held - UNLOCKED_FRAMES) (locked_count a + unlocked_in a (pages_of r)) ≡ false) where

@@ -1,4 +1,5 @@
--- A page has other locks, or a frame that has a node is pinned or not: the store is right still, and each page reads as it did.
+-- A page has other locks, or a frame that has a node is pinned or not: the store is right still,
+-- and each page reads as it did.
 use Rattle.std.proofs.Common.{◌≡◌, ℕ, Bool, false, ◌||◌, List, length, count_by, Option, Some, None, is_some, refl, sym, ap, ◌∙◌, subst, arith}
 use Rattle.std.specs.Prelude.{option_map, option_and_then}
 use Rattle.std.specs.List.{slice_index_or}
@@ -34,7 +35,7 @@ use Rattle.pvm_core.proofs.Locking.Alike.{alike_still}
 use Rattle.pvm_core.proofs.Translating.Cells.{cells_right}
 use Rattle.pvm_core.proofs.Translating.Writable.{granted_writable}
 
--- A page has other locks ----------------------------------------------------------------------
+-- A page has other locks
 
 module _ (w : World) (b : Arena) (cache page count : ℕ) (is : b ≡ with_locks w.caches cache page count) where
   pub relocked_owns : (n : NodeId) → own_of b n ≡ own_of w.caches n
@@ -101,7 +102,7 @@ module _ (w : World) (b : Arena) (cache page count : ℕ) (is : b ≡ with_locks
       (ap bare (locked_forest w.caches b cache page count is) ∙ sym (store_bare w sound))
       (λ n held. pages n ∙ sym (store_page w sound n (sym (ap (λ x. is_some (find x n)) is) ∙ held)) ∙ ap (λ x. (node (store_forest w) x).own) (sym (relocked_names n)))
 
--- Frames are pinned or not --------------------------------------------------------------------
+-- Frames are pinned or not
 
 -- pins alone changed, of frames that have nodes
 pub record Repins (s t : Store) : Type 0 where
@@ -145,7 +146,7 @@ module _ (w : World) (pins : List Bool) (long : length pins ≡ length w.frames.
       held f None at = ap (λ b. is_some (node_of w.map f) || b) (sym (others f at))
       held f (Some n) at = (λ i. is_some (at i) || is_pinned w.frames f) ∙ sym (λ i. is_some (at i) || slice_index_or pins f false)
 
--- Both ------------------------------------------------------------------------------------------
+-- Both
 
 module _ (a b : Arena) (s t : Store) (cache page count : ℕ) (is : b ≡ with_locks a cache page count) (re : Repins s t) (whole : IsWhole a) where
   abbrev before : Option Held → Option ℕ → World

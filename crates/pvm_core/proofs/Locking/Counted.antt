@@ -53,7 +53,8 @@ range_summed g f (x ∷ xs) k same =
     let next : (i : ℕ) → k + 1 + i ≡ k + suc i = λ i. omega arith in
     omega (arith, sum_by-cons g k (range_with_len (k + 1) (length xs)), sum_by-cons f x xs, ap g here, same 0, range_summed g f xs (k + 1) (λ i. ap g (next i) ∙ same (suc i)))
 
--- The tables count the locked regions that cover each page, and the machine's caches have these sizes.
+-- The tables count the locked regions that cover each page, and the machine's caches have these
+-- sizes.
 module _ (a : Arena) (m : Machine) (counted : (cache page : ℕ) → locks_of a cache page ≡ locks_over m.actors cache page) (placed : All (ArePlaced (size_of a)) m.actors)
     (sizes : (cache : ℕ) → pages_in (cache_of m cache) ≡ unwrap_or (size_of a cache) 0) (made : length m.caches ≡ length a.caches) where
   unwrapped : (o : Option ℕ) (n count : ℕ) → n ≡ unwrap_or o 0 → o ≡ Some count → count ≡ n

@@ -1,4 +1,5 @@
--- How many locked regions cover a page: after a region is locked or unlocked, and after its actor ends.
+-- How many locked regions cover a page: after a region is locked or unlocked, and after its actor
+-- ends.
 use Rattle.std.proofs.Common.{◌≡◌, ℕ, zero, suc, ◌+◌, ◌<◌, ◌≤◌, ◌||◌, ◌&&◌, ◌==◌, Bool, true, false, cond, List, [], ◌∷◌, get_or, length, set, count_by, Option, Some, None, is_some, refl, sym, ap, ◌∙◌, arith, subst}
 use Rattle.std.specs.Prelude.{nat_le, nat_lt}
 use Rattle.std.specs.List.{All, list_any}
@@ -13,7 +14,7 @@ use Rattle.vm_model.specs.Regions.{region_among, region_with, replace_in, replac
 use Rattle.pvm_core.specs.Locks.{locks_by, locks_over}
 use Rattle.pvm_core.specs.Placed.{ArePlaced, IsPlaced}
 
--- Whether a page is locked ------------------------------------------------------------------
+-- Whether a page is locked
 
 pub locked_sum : (m n : ℕ) → is_locked (m + n) ≡ (is_locked m || is_locked n)
 locked_sum zero n = ap is_locked (omega arith)
@@ -43,7 +44,7 @@ actors_counted cache page (x ∷ xs) =
 pub page_locked : (m : Machine) (cache page : ℕ) → is_locked_page m cache page ≡ is_locked (locks_over m.actors cache page)
 page_locked m cache page = actors_counted cache page m.actors
 
--- A region is locked or unlocked ------------------------------------------------------------
+-- A region is locked or unlocked
 
 abbrev pub as_locked : Bool → Region → Region
 as_locked b r = record r { locked = b }
@@ -73,12 +74,12 @@ module _ (cache page n : ℕ) (b : Bool) (r : Region) where
           let one = replaced_among rs (among ∙ ap (λ (y : Region). Some y) same) in
           omega (arith, sum_by-cons (locks_by cache page) (Some (replace_region n (with_lock b) rs)) xs, sum_by-cons (locks_by cache page) (Some rs) xs, one)
 
--- An actor ends -------------------------------------------------------------------------------
+-- An actor ends
 
 pub gone_over : (cache page i : ℕ) (rs : Actor) (xs : List (Option Actor)) → i < length xs → get_or xs i None ≡ Some rs → locks_over (set xs i None) cache page + count_by (locks cache page) rs ≡ locks_over xs cache page
 gone_over cache page i rs xs less here = omega (arith, sum_by-set (locks_by cache page) xs i None None less, ap (locks_by cache page) here)
 
--- Regions lie in caches -----------------------------------------------------------------------
+-- Regions lie in caches
 
 and_left : (a b : Bool) → (a && b) ≡ true → a ≡ true
 and_left true b e = refl

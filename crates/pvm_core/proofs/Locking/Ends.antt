@@ -37,7 +37,7 @@ use Rattle.pvm_core.proofs.Meaning.Shown.{id_of}
 use Rattle.pvm_core.proofs.NewCaches.Begun.{right_with}
 use Rattle.pvm_core.proofs.Readiness.Granted.{shown_same}
 
--- Forests that read alike show the same caches ------------------------------------------------
+-- Forests that read alike show the same caches
 
 module _ (f g : PageForest) (values : (x : NodeName) → value_of g x ≡ value_of f x) where
   pages_alike : (cache page n : ℕ) → pages_shown g cache page n ≡ pages_shown f cache page n
@@ -59,10 +59,7 @@ module _ (f g : PageForest) (values : (x : NodeName) → value_of g x ≡ value_
 pub held_of : (a : Arena) (s : Store) (actors : List (Option model.Actor)) → ((cache page : ℕ) → locks_of a cache page ≡ locks_over actors cache page) → HoldsLocked a s → locked_count a + 3 ≤ length s.frames.held → AreHeld a s actors
 held_of a s actors counted holds few = record { counted = counted; resident = holds.resident; pinned = holds.pinned; pins = holds.pins; few = few }
 
-pub holds_of : (a : Arena) (s : Store) (actors : List (Option model.Actor)) → AreHeld a s actors → HoldsLocked a s
-holds_of a s actors held = record { resident = held.resident; pinned = held.pinned; pins = held.pins }
-
--- The manager at the end ----------------------------------------------------------------------
+-- The manager at the end
 
 module _ (a b : Arena) (s u : Store) (h g : Option Held) (i j : Option ℕ) (c d : MapperCounts) (alike : ReadsAlike (world h i a s) (world g j b u) c d) (t : Actors) (live : ℕ) (sound : IsSound a s t live) where
   -- the machine with the pages of any forest

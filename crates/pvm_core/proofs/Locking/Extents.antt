@@ -8,7 +8,7 @@ use Rattle.vm_ids.proofs.Places.{bit}
 use Rattle.local_cache.specs.Arena.{Arena}
 use Rattle.pvm_core.specs.Holding.{LocksMore, SameLocks, covers, one_page}
 
--- Which pages are covered -------------------------------------------------------------------
+-- Which pages are covered
 
 pub record IsIn (e : Extent) (cache page : ℕ) : Type 0 where
   pub same : e.cache.0 ≡ cache
@@ -72,12 +72,7 @@ covers_next cache first n c p = go (covers (extent cache first (n + 1)) c p) ref
         let none = covers_no (one_page cache (first + n)) c p (λ j. out (record { same = j.same; from = omega (arith, j.from); past = omega (arith, j.past) })) in
         omega (arith, ap bit is, ap bit no, ap bit none)
 
--- Locks, one page after the other -------------------------------------------------------------
-
-pub more_none : (e : Extent) (a b : Arena) → e.pages ≡ 0 → SameLocks a b → LocksMore e a b
-more_none e a b none same cache page =
-    let no = covers_no e cache page (λ k. absurd (omega (arith, k.past, k.from, none))) in
-    omega (arith, same cache page, ap bit no)
+-- Locks, one page after the other
 
 pub more_then : (cache : CacheId) (first n : ℕ) (a b d : Arena) → LocksMore (extent cache first n) a b → LocksMore (one_page cache (first + n)) b d → LocksMore (extent cache first (n + 1)) a d
 more_then cache first n a b d one two c p = omega (arith, one c p, two c p, covers_next cache first n c p)
@@ -98,7 +93,3 @@ less_upto cache first page low a b d one two =
     let next : page - first + 1 ≡ page + 1 - first = omega (arith, low) in
     let here : page ≡ first + (page - first) = omega (arith, low) in
     subst (λ n. LocksMore (extent cache first n) d a) next (less_then cache first (page - first) a b d one (subst (λ p. LocksMore (one_page cache p) d b) here two))
-
--- locks that were added are dropped again
-pub more_undone : (e : Extent) (a b d : Arena) → LocksMore e a b → LocksMore e d b → SameLocks a d
-more_undone e a b d one two c p = omega (arith, one c p, two c p)

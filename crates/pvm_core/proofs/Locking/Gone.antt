@@ -74,7 +74,8 @@ actor_locks a t actor rs here counted cache page =
 pub actor_placed : (sizes : ℕ → Option ℕ) (t : Actors) (actor : ℕ) (rs : model.Actor) → model.numbered t.actors actor ≡ Some rs → AreRight sizes t → All (IsPlaced sizes) rs
 actor_placed sizes t actor rs here right = all_at (ArePlaced sizes) t.actors (actor - 1) (Some rs) right.placed (at_number t.actors actor rs here)
 
--- Locks were let go, of a region or of an actor: the pages stay, and these are the locks of the actors x.
+-- Locks were let go, of a region or of an actor: the pages stay, and these are the locks of the
+-- actors x.
 pub record IsGone (a b : Arena) (s u : Store) (t x : Actors) (live : ℕ) : Type 0 where
   pub pages : KeepsPages a b s u
   pub holds : HoldsLocked b u

@@ -25,7 +25,7 @@ use Rattle.pvm_core.proofs.Holding.Kept.{has_name, locked_in}
 use Rattle.pvm_core.proofs.Holding.Made.{both_ways}
 use Rattle.pvm_core.proofs.Locking.Changed.{Repins}
 
--- A locked page's frame -----------------------------------------------------------------------
+-- A locked page's frame
 
 module _ (a : Arena) (s : Store) (sound : IsSound a) (bound : AreBound a s.map) (holds : HoldsLocked a s) where
   -- where the node of a locked page is, which is pinned
@@ -35,7 +35,7 @@ module _ (a : Arena) (s : Store) (sound : IsSound a) (bound : AreBound a s.map) 
       let name = (sound.kept.listed.nodes cache page n at).1 in
       (frame_of s.map n.0, here, holds.pinned (frame_of s.map n.0) ∙ has_name a s.map (frame_of s.map n.0) n here ∙ ap (is_locked_name a) name ∙ locked)
 
--- A fault ---------------------------------------------------------------------------------------
+-- A fault
 
 module _ (a b : Arena) (s t : Store) (h g : Option Held) (i j : Option ℕ) (right : IsStoreRight (world h i a s)) (sound : IsSound a) (k : Kept (world h i a s) (world g j b t)) (holds : HoldsLocked a s) where
   was : AreBound a s.map
@@ -80,7 +80,7 @@ module _ (a b : Arena) (s t : Store) (h g : Option Held) (i j : Option ℕ) (rig
     pins = ap (λ (ps : List Bool). count_by (λ p. p) ps) k.pins ∙ holds.pins ∙ sym (locked_count_stays a b locks);
   }
 
--- One page has other locks ------------------------------------------------------------------
+-- One page has other locks
 
 module _ (a b : Arena) (s t : Store) (sound : IsSound a) (bound : AreBound a s.map) (holds : HoldsLocked a s) (cache page count f : ℕ) (n : NodeId) (at : node_at a cache page ≡ Some n) (here : node_of s.map f ≡ Some n)
     (is : b ≡ with_locks a cache page count) (now : locks_of b cache page ≡ count) (re : Repins s t) (pin : slice_index_or re.pins f false ≡ is_locked count) (apart : (g : ℕ) → g ≢ f → slice_index_or re.pins g false ≡ is_pinned s.frames g)

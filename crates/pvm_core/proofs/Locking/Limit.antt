@@ -26,7 +26,7 @@ use Rattle.pvm_core.proofs.Locking.Totals.{locked_more}
 use Rattle.pvm_core.proofs.RegionRows.{replaced_right}
 use Rattle.pvm_core.proofs.Meaning.Shown.{shown_made, shown_size}
 
--- Tables with other locks ---------------------------------------------------------------------
+-- Tables with other locks
 
 abbrev table_with_locks : (ℕ → ℕ) → Table → Table
 table_with_locks g t = record t { locks = map g (range_with_len 0 (length t.pages)) }
@@ -87,7 +87,7 @@ module _ (f : ℕ → ℕ → ℕ) (a : Arena) (out : (cache page : ℕ) → ((c
   locks_then zero page = sym (out zero page (λ count e. absurd (cc e)))
   locks_then (suc k) page = ap (locks_in page) (table_then f a k) ∙ by_table (suc k) page (table_of a (suc k)) refl
 
--- The machine's caches have the sizes of their tables -----------------------------------------
+-- The machine's caches have the sizes of their tables
 
 unwrapped : (o : Option model.Cache) → pages_in o ≡ unwrap_or (option_map (λ (c : model.Cache). length c.pages) o) 0
 unwrapped None = refl
@@ -96,7 +96,7 @@ unwrapped (Some c) = refl
 pub sizes_shown : (f : PageForest) (frames : ℕ) (a : Arena) (t : Actors) (cache : ℕ) → pages_in (cache_of (machine_with (caches_shown f 1 a.caches) frames t) cache) ≡ unwrap_or (size_of a cache) 0
 sizes_shown f frames a t cache = unwrapped (model.numbered (caches_shown f 1 a.caches) cache) ∙ ap (λ (o : Option ℕ). unwrap_or o 0) (shown_size f a.caches cache)
 
--- A region more is locked -----------------------------------------------------------------------
+-- A region more is locked
 
 -- the actors, of whom a region is locked or unlocked
 abbrev pub with_locked : ℕ → Bool → Actors → Actors

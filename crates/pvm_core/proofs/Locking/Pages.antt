@@ -44,7 +44,7 @@ use Rattle.pvm_core.proofs.Locking.Changed.{Repins, changed_pages, relocked_name
 use Rattle.pvm_core.proofs.Locking.Extents.{covers_no, covers_yes}
 use Rattle.pvm_core.proofs.Locking.Holds.{holds_changed}
 
--- A page is owned -------------------------------------------------------------------------------
+-- A page is owned
 
 pub on_ok : {T E P Q : Type 0} (r : Result T E) → (P → Q) → OnOk r P → OnOk r Q
 on_ok (Ok x) f p = f p
@@ -107,7 +107,7 @@ store_copies w = forest_by-copies (own_page w) w.caches
 pub owned_few : (old now : World) (cache : CacheId) (first n : ℕ) → store_forest now ≡ lock (page_names cache first n) (store_forest old) → now.caches.copies ≤ old.caches.copies + n
 owned_few old now cache first n e = omega (arith, store_copies old, store_copies now, ap (λ f. f.copies) e, lock_copies cache first n (store_forest old))
 
--- A frame that has a node -----------------------------------------------------------------------
+-- A frame that has a node
 
 pub found_some : {A : Type 0} (o : Option A) (times : ℕ) (Q : A → Type 0) → MatchOption o (times ≡ 0) Q → 1 ≤ times → IsSome o
 found_some None times Q m some = absurd (omega (arith, m, some))
@@ -117,7 +117,7 @@ pub found_at : {A : Type 0} (o : Option A) (P : Type 0) (Q : A → Type 0) (x : 
 found_at None P Q x m e = absurd (cc e)
 found_at (Some y) P Q x m e = let same : y ≡ x = cc e in subst Q same m
 
--- One page has other locks ----------------------------------------------------------------------
+-- One page has other locks
 
 module _ (a b : Arena) (cache : CacheId) (page count : ℕ) (is : b ≡ with_locks a cache.0 page count) where
   pub one_more : locks_of b cache.0 page ≡ locks_of a cache.0 page + 1 → LocksMore (one_page cache page) a b
@@ -189,7 +189,7 @@ module _ (a b : Arena) (s t : Store) (right : IsRight a s) (whole : IsWhole a) (
   pub paged_kept : KeepsPages a b s t
   paged_kept = changed_pages a b s t cache.0 page.0 count is re whole
 
--- One after the other -----------------------------------------------------------------------------
+-- One after the other
 
 pub keeps_then : (a b d : Arena) (s t u : Store) → KeepsPages a b s t → KeepsPages b d t u → KeepsPages a d s u
 keeps_then a b d s t u one two = record {

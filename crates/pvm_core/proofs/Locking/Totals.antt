@@ -13,7 +13,7 @@ use Rattle.pvm_core.specs.Holding.{LocksMore, covers, unlocked_in}
 use Rattle.pvm_core.proofs.Locking.Counted.{count_at}
 use Rattle.pvm_core.proofs.Locking.Extents.{covers_no, extent}
 
--- How many pages are locked then --------------------------------------------------------------
+-- How many pages are locked then
 
 abbrev unlocked_at : List ℕ → ℕ → ℕ → ℕ
 unlocked_at xs first n = count_by (λ q. not (is_locked (count_at xs q))) (range_with_len first n)
@@ -115,7 +115,7 @@ counts_more (x ∷ xs) [] first n same =
     omega (arith, as_one, sum_by-cons (λ k. bit (is_locked k)) 0 [])
 counts_more (x ∷ xs) (y ∷ ys) first n same = grown first n x y xs ys same (λ f k s. counts_more xs ys f k s)
 
--- Ranges ----------------------------------------------------------------------------------------
+-- Ranges
 
 -- one number more
 pub range_next : (g : ℕ → Bool) (a n : ℕ) → count_by g (range_with_len a (n + 1)) ≡ count_by g (range_with_len a n) + bit (g (a + n))
@@ -139,10 +139,7 @@ unlocked_upto a cache first page low =
     let here : first + (page - first) ≡ page = omega (arith, low) in
     ap (λ n. count_by g (range_with_len first n)) (sym next) ∙ range_next g first (page - first) ∙ ap (λ k. count_by g (range_with_len first (page - first)) + bit (g k)) here
 
-pub unlocked_few : (a : Arena) (cache : CacheId) (first n : ℕ) → unlocked_in a (extent cache first n) ≤ n
-unlocked_few a cache first n = omega (arith, count_by-le-length (λ q. not (is_locked (locks_of a cache.0 q))) (range_with_len first n), length-range_with_len first n)
-
--- Of tables -------------------------------------------------------------------------------------
+-- Of tables
 
 abbrev locks_in : ℕ → Option Table → ℕ
 locks_in q o = unwrap_or (option_and_then (λ (t : Table). slice_get t.locks q) o) 0
@@ -223,7 +220,7 @@ locked_more a b e more = go e.cache.0 refl
         }) in
         omega (arith, here, ap (λ k. count_by (λ q. not (is_locked (locks_of a k q))) (range_with_len e.first.0 e.pages)) is)
 
--- No page has more locks ------------------------------------------------------------------------
+-- No page has more locks
 
 bit_fewer : (x y : ℕ) → y ≤ x → bit (is_locked y) ≤ bit (is_locked x)
 bit_fewer zero zero low = omega arith

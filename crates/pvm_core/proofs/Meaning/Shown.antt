@@ -64,7 +64,7 @@ pub shown_made : (f : PageForest) (first : ℕ) (ts : List (Option Table)) → l
 shown_made f first [] = refl
 shown_made f first (t ∷ ts) = ap suc (shown_made f (first + 1) ts)
 
--- Without bytes -----------------------------------------------------------------------------
+-- Without bytes
 
 module _ (f g : PageForest) (none : (cache : CacheId) (page : ℕ) → shown (value_of g (page_name cache page)) ≡ []) where
   blank_pages : (cache page n : ℕ) → map (λ (p : Page). []) (pages_shown f cache page n) ≡ pages_shown g cache page n
@@ -80,7 +80,7 @@ module _ (f g : PageForest) (none : (cache : CacheId) (page : ℕ) → shown (va
   blank_shown first [] = refl
   blank_shown first (t ∷ ts) = λ i. blank_one first t i ∷ blank_shown (first + 1) ts i
 
--- Whole pages -------------------------------------------------------------------------------
+-- Whole pages
 
 module _ (f : PageForest) (b : ℕ) where
   whole_pages : (cache page n : ℕ) → ((i : ℕ) → i < n → length (shown (value_of f (page_name (id_of cache) (page + i)))) ≡ b) → All (λ (p : Page). length p ≡ b) (pages_shown f cache page n)
@@ -99,7 +99,7 @@ module _ (f : PageForest) (b : ℕ) where
       (whole_one first t (λ u e i less. subst (λ (k : ℕ). length (shown (value_of f (page_name (id_of k) i))) ≡ b) (let e : first + 0 ≡ first = omega arith in e) (each 0 u e i less)))
       (whole_caches (first + 1) ts (λ k u e i less. subst (λ (n : ℕ). length (shown (value_of f (page_name (id_of n) i))) ≡ b) (let e : first + suc k ≡ first + 1 + k = omega arith in e) (each (suc k) u e i less)))
 
--- The caches are those that the forest shows -------------------------------------------------
+-- The caches are those that the forest shows
 
 -- a cache is the one that the forest shows for this table
 abbrev pub Matches : PageForest → ℕ → Option Cache → Option Table → Type 0

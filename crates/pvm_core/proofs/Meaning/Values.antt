@@ -47,7 +47,7 @@ use Rattle.std.proofs.lemmas.List.Elements.{All-get_or}
 use Rattle.pvm_core.specs.Manager.{Manager, cache_shown, forest_of, machine_by, machine_of, pages_shown, shown, world_of}
 use Rattle.pvm_core.proofs.Meaning.Shown.{blank_shown, get-pages, id_of, length-pages, numbered-caches, whole_caches}
 
--- Values are own pages ----------------------------------------------------------------------
+-- Values are own pages
 
 node_at_none : {P : Type 0} (f : Forest P) (x : NodeName) → get f.nodes x ≡ None → node f x ≡ childless None Root
 unfolding node
@@ -84,7 +84,7 @@ untold_page w none n = subst (λ (t : Option Held). shown (page_by (option_map (
     go (Slot s) = refl
     go OnSegment = refl
 
--- The forest of a manager -------------------------------------------------------------------
+-- The forest of a manager
 
 module _ (p : Manager) (h : Option Held) (nodes : IsWhole p.caches) where
   shaped_of : IsWellShaped (forest_of p h)
@@ -140,11 +140,12 @@ module _ (p : Manager) (h : Option Held) (nodes : IsWhole p.caches) where
 pub untold : (p : Manager) → IsWhole p.caches → (cache : CacheId) (page : ℕ) → shown (value_of (forest_of p None) (page_name cache page)) ≡ []
 untold p nodes cache page = each_value (world_of p None) nodes.sound (λ o. shown o ≡ []) (untold_page (world_of p None) refl) refl nodes.consistent.shaped (page_name cache page)
 
--- The machine of a manager over a mapper that tells nothing is the blank one of that over any mapper.
+-- The machine of a manager over a mapper that tells nothing is the blank one of that over any
+-- mapper.
 pub blank_of : (p : Manager) (f : PageForest) → IsWhole p.caches → machine_of p None ≡ blank (machine_by p f)
 blank_of p f nodes = λ i. record (machine_of p None) { caches = sym (blank_shown f (forest_of p None) (untold p nodes) 1 p.caches.caches) i }
 
--- Zeros in place of pages whose bytes aren't told --------------------------------------------
+-- Zeros in place of pages whose bytes aren't told
 
 abbrev pub zeros_by : ℕ → Option Page → Option Page
 zeros_by b o = Some (replicate b 0)
@@ -163,16 +164,11 @@ zeroed_whole p h nodes = whole_caches (zeroed p h) p.page_bytes 1 p.caches.cache
     zeros None e some = absurd (cc some)
     zeros (Some v) e some = ap (λ y. length (shown y)) e ∙ length-replicate p.page_bytes 0
 
--- Values are the machine's pages --------------------------------------------------------------
+-- Values are the machine's pages
 
 -- the bytes of a value, where they are told, aren't none
 abbrev pub IsFull : Option (Option Page) → Type 0
 IsFull v = option_map (λ _. told (shown v)) v ≡ v
-
-full_none : (v : Option (Option Page)) → shown v ≡ [] → ((b : Page) → v ≡ Some (Some b) → ⊥) → IsFull v
-full_none None e out = refl
-full_none (Some None) e out = refl
-full_none (Some (Some b)) e out = absurd (out b refl)
 
 full_some : (v : Option (Option Page)) → 1 ≤ length (shown v) → IsFull v
 full_some None some = refl

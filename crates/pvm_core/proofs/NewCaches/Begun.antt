@@ -39,7 +39,7 @@ use Rattle.pvm_core.proofs.Meaning.Live.{nodes_most}
 use Rattle.pvm_core.proofs.NewCaches.Making.{roomier_store}
 use Rattle.pvm_core.proofs.NewCaches.NewCache.{fresh_zeros}
 
--- More room -----------------------------------------------------------------------------------
+-- More room
 
 room_right : (w : World) (r : Room) → IsStoreRight w → IsStoreRight (record w { caches = record w.caches { room = r } })
 unfolding cell
@@ -119,7 +119,7 @@ module _ (a b : Arena) (s u : Store) (t : Actors) (live : ℕ) (room : b ≡ rec
     whole = subst (λ (m : Machine). IfSome h (λ _. HasWholePages m)) (sym (roomy_machine h)) v.whole;
   }
 
--- Regions stay placed where a cache is added ----------------------------------------------------
+-- Regions stay placed where a cache is added
 
 placed_more : (f g : ℕ → Option ℕ) → ((n k : ℕ) → f n ≡ Some k → g n ≡ Some k) → (r : Region) → IsPlaced f r → IsPlaced g r
 placed_more f g up r p = record { count = p.count; there = up r.cache p.count p.there; within = p.within }
@@ -161,7 +161,7 @@ some_size : (o : Option Table) (s : SegId) → segment o ≡ Some (Some s) → (
 some_size None s e = absurd (cc e)
 some_size (Some t) s e = (length t.pages, refl)
 
--- A cache more -----------------------------------------------------------------------------------
+-- A cache more
 
 module _ (b d : Arena) (u : Store) (t : Actors) (live n : ℕ) (cache : CacheId) (nodes : List NodeId) (size : length nodes ≡ n) (made : IsMade b d cache None Zero nodes) (forest : arena.forest_of d ≡ make (pages_with Zero cache n) (arena.forest_of b)) (sound : arena_sound.IsSound d) (stays : CellsStay b d)
     (i : IsSound b u t live) (few : live + n ≤ Rattle.vm_model.specs.declared.limits.TheConstants.LIVE_PAGES) (room : 2 * (live + n) ≤ b.room.nodes) (slots : 2 * (live + n) ≤ length u.slots) where

@@ -30,7 +30,7 @@ use Rattle.residency.specs.World.{frame_page, own_page, page_by, world, home_pag
 use Rattle.residency.proofs.Worlds.Telling.{tells}
 use Rattle.fault_path.proofs.Calls.Kept.{store_bare, store_page}
 
--- The rule goes with every change of pages ----------------------------------------------------
+-- The rule goes with every change of pages
 
 make-map : {P Q : Type 0} (h : P → Q) (es : List (NodeName × P)) (f : Forest P) → map_pages h (make es f) ≡ make (map (λ e. (e.0, h e.1)) es) (map_pages h f)
 make-map h [] f = refl
@@ -67,7 +67,7 @@ module _ {P : Type 0} (v : P) (f : Forest P) where
     | inr is ↦ elim (make_cases ys x is) [ inl i ↦ inl (inr i) | inr is ↦ inr is ]
   ]
 
--- More room -----------------------------------------------------------------------------------
+-- More room
 
 module _ (h : Option Held) (a : Arena) (s : Store) (r : Room) (slots : List Bool) (sound : IsSound a) (then : IsSound (record a { room = r })) (same : arena.forest_of (record a { room = r }) ≡ arena.forest_of a) where
   -- room and slots are no part of the forest
@@ -76,7 +76,7 @@ module _ (h : Option Held) (a : Arena) (s : Store) (r : Room) (slots : List Bool
   roomier_store = lifted (own_page (world h None (record a { room = r }) (record s { slots = slots }))) (record a { room = r }) then.kept.named (tells (world h None (record a { room = r }) (record s { slots = slots }))) (store_forest (world h None a s))
       (ap bare same ∙ sym (store_bare (world h None a s) sound)) (λ n held. sym (store_page (world h None a s) sound n held))
 
--- The nodes of a new cache ----------------------------------------------------------------------
+-- The nodes of a new cache
 
 module _ (h : Option Held) (a b : Arena) (s : Store) (cache : CacheId) (n : ℕ) (has : (page : ℕ) → page < n → HasPage b cache page Zero) (stays : (m : NodeId) → HasNode a m → find b m ≡ find a m) (homes : (m : NodeId) → HasNode a m → home_of b m ≡ home_of a m)
     (forest : arena.forest_of b ≡ make (all_with Zero (page_names cache 0 n)) (arena.forest_of a)) (sound : IsSound a) (then : IsSound b) (fresh : (x : NodeName) → x ∈ page_names cache 0 n → IsNode (arena.forest_of a) x → ⊥) where

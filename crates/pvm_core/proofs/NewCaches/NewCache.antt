@@ -81,7 +81,7 @@ module _ (p : Manager) (f : PageForest) (n : ℕ) where
       let b = not_less LIVE_PAGES (live_pages (machine_by p f) + n) (omega (arith, low, is, total)) in
       rw (a, b) refl
 
--- The new cache as the machine has it -----------------------------------------------------------
+-- The new cache as the machine has it
 
 -- a page of zeros, or none where bytes aren't told
 abbrev pub zeros_for : Option Held → ℕ → Page
@@ -159,7 +159,8 @@ module _ (p q : Manager) (h : Option Held) (cache : CacheId) (n : ℕ) (nodes : 
           (All-cons (IsWhole p.page_bytes) (Some (cache_for h p.page_bytes n)) []
           (All-replicate (λ (x : Page). length x ≡ p.page_bytes) n (zeros_for h p.page_bytes) (ap (λ k. length (zeros_for k p.page_bytes)) e ∙ length-replicate p.page_bytes 0)) (All-nil (IsWhole p.page_bytes)))
 
-  -- a mapper that tells nothing: the machine is the blank one of a machine with a cache of zeros more
+  -- a mapper that tells nothing: the machine is the blank one of a machine with a cache of zeros
+  -- more
   blank_more : (w : Machine) → machine_of p h ≡ blank w → h ≡ None → machine_of q h ≡ blank (record w { caches = w.caches ++ Some (temporary p.page_bytes n) ∷ [] })
   blank_more w is none = machine_more
       ∙ ap (λ (k : Machine). record k { caches = k.caches ++ Some (cache_for h p.page_bytes n) ∷ [] }) is

@@ -38,7 +38,7 @@ use Rattle.pvm_core.proofs.Answering.Reaching.{as_segments, no_push}
 use Rattle.pvm_core.proofs.Meaning.Shown.{shown_made}
 use Rattle.pvm_core.proofs.Meaning.Values.{blank_of, zeroed, zeroed_whole}
 
--- The pages of a segment ----------------------------------------------------------------------
+-- The pages of a segment
 
 -- so many pages of a segment, or as many empty ones where they aren't told
 abbrev pub pages_for : Option Held → SegId → ℕ → List Page
@@ -110,7 +110,7 @@ pub zeros_there : (seg : SegId) (b n : ℕ) → get (zeros_in seg b n).pages seg
 zeros_there seg b n = get-insert nat_cmp_total empty seg.0 (replicate n (zero_page b)) seg.0
     ∙ ap (λ (t : Bool). cond t (Some (replicate n (zero_page b))) (get (empty {K = ℕ} {X = List Page} {R = nat_cmp}) seg.0)) (tied seg.0 seg.0 refl)
 
--- The answer ------------------------------------------------------------------------------------
+-- The answer
 
 module _ (p q : Manager) (h : Option Held) (cache : CacheId) (seg : SegId) (n : ℕ) (nodes : List NodeId) (size : length nodes ≡ n) (made : IsMade p.caches q.caches cache (Some seg) OnSegment nodes) (some : 1 ≤ p.page_bytes) (has : HasSegment h seg p.page_bytes n)
     (followed : IsFollowed (machine_of p h) (forest_of p h)) (forest : forest_of q h ≡ make (with_pages (named_page h seg) (page_names cache 0 n)) (forest_of p h))

@@ -28,7 +28,7 @@ use Rattle.fault_path.proofs.Calls.Kept.{store_bare, store_page}
 use Rattle.vm_model.specs.Machine.{Page}
 use Rattle.vm_model.specs.PageForest.{told}
 
--- The rule goes with every change of pages ----------------------------------------------------
+-- The rule goes with every change of pages
 
 make-map : {P Q : Type 0} (h : P → Q) (es : List (NodeName × P)) (f : Forest P) → map_pages h (make es f) ≡ make (map (λ e. (e.0, h e.1)) es) (map_pages h f)
 make-map h [] f = refl
@@ -66,7 +66,7 @@ module _ {P : Type 0} (v : NodeName → P) (f : Forest P) where
     | inr is ↦ elim (make_cases ys x is) [ inl i ↦ inl (inr i) | inr is ↦ inr is ]
   ]
 
--- The nodes of a new cache ----------------------------------------------------------------------
+-- The nodes of a new cache
 
 module _ (h : Option Held) (a b : Arena) (s : Store) (cache : CacheId) (n : ℕ) (own : OwnState) (v : NodeName → Option (List ℕ)) (has : (page : ℕ) → page < n → HasPage b cache page own) (stays : (m : NodeId) → HasNode a m → find b m ≡ find a m)
     (new_page : (m : NodeId) (page : ℕ) → page < n → find b m ≡ Some (new_cell (page_name cache page) own) → own_page (world h None b s) m ≡ Some (v (page_name cache page)))

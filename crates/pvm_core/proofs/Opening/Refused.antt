@@ -30,7 +30,8 @@ use Rattle.pvm_core.proofs.Opening.Rows.{many_live, none_held, open_row}
 use Rattle.pvm_core.proofs.Answering.Reaching.{as_segments, no_push}
 use Rattle.pvm_core.proofs.Meaning.Values.{blank_of, zeroed, zeroed_whole}
 
--- Where the manager stands for the same, and the answer is that over these segments where none are told.
+-- Where the manager stands for the same, and the answer is that over these segments where none are
+-- told.
 pub outcome_over : (p q : Manager) (h : Option Held) (z : Segments) (command : Command) (answer : Answer) (rises : MapperCounts) → whole.IsWhole p.caches → whole.IsWhole q.caches
     → ((f : PageForest) → Outcome (machine_by p f) (Some (forest_of p h)) command z answer (machine_by q f) rises)
     → ((k : Held) → h ≡ Some k → Outcome (machine_of p h) (Some (forest_of p h)) command (segments_in k) answer (machine_of q h) rises)

@@ -28,7 +28,7 @@ use Rattle.local_cache.specs.Whole.{IsWhole}
 use Rattle.pvm_core.specs.Manager.{Manager, forest_of, world_of}
 use Rattle.pvm_core.proofs.Meaning.Values.{consistent_of}
 
--- Fewer names pass a test than another -------------------------------------------------------
+-- Fewer names pass a test than another
 
 some_more : (b c : Bool) (x : NodeName) (xs ys : List NodeName) → (b ≡ true → c ≡ true) → length xs ≤ length ys → length (cond b (x ∷ xs) xs) ≤ length (cond c (x ∷ ys) ys)
 some_more true true x xs ys e low = omega (arith, low)
@@ -74,7 +74,7 @@ right_or : (a b : Bool) → b ≡ true → (a || b) ≡ true
 right_or true b e = refl
 right_or false b e = e
 
--- The saves of a range -------------------------------------------------------------------------
+-- The saves of a range
 
 module _ {P : Type 0} where
   -- a page that may be saved now or later: it has an own page and an heir, or no own page
@@ -142,7 +142,7 @@ module _ {P : Type 0} where
   saved_most true xs f shaped live = saves_most (len f.nodes) xs f shaped live
   saved_most false xs f shaped live = omega arith
 
--- In a manager --------------------------------------------------------------------------------
+-- In a manager
 
 names_count : (cache : CacheId) (p n : ℕ) → length (page_names cache p n) ≡ n
 names_count cache p zero = refl
@@ -162,7 +162,8 @@ pub forest_copies : (p : Manager) (h : Option Held) → (forest_of p h).copies �
 forest_copies p h = copies_in (world_of p h)
 
 module _ (p q : Manager) (h g : Option Held) (e : Extent) (nodes : IsWhole p.caches) where
-  -- behind the saves of a range the manager copied a page for each, and no more than those of the range
+  -- behind the saves of a range the manager copied a page for each, and no more than those of the
+  -- range
   pub range_copied : (named : Bool) → forest_of q g ≡ saved named (extent_names e) (forest_of p h) → (q.caches.copies ≡ (saved named (extent_names e) (forest_of p h)).copies) × (q.caches.copies ≤ p.caches.copies + e.pages)
   range_copied named forest =
       let is : q.caches.copies ≡ (saved named (extent_names e) (forest_of p h)).copies = sym (forest_copies q g) ∙ ap (λ f. f.copies) forest in

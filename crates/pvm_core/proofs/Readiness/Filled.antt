@@ -1,4 +1,5 @@
--- Pages of a range were saved: a page that is seen in a frame then, and that wasn't read off a page of the range, was seen there.
+-- Pages of a range were saved: a page that is seen in a frame then, and that wasn't read off a page
+-- of the range, was seen there.
 use Rattle.std.proofs.Common.{◌≡◌, ◌≢◌, ◌⊎◌, ℕ, zero, suc, true, List, [], Option, Some, None, is_some, option_map, refl, sym, ap, ◌∙◌, subst, inl, inr}
 use Rattle.vm_ids.specs.declared.node_name.NodeName.{NodeName}
 use Rattle.vm_ids.specs.declared.numbers.NodeId.{NodeId}
@@ -144,7 +145,8 @@ module _ (w v : World) (sound : IsSound w.caches) (shaped : IsWellShaped (forest
       ]
 
   module _ {T : Type 0} (r : Result T ℕ) (placed : ArePlaced w.caches w.frames w.slots w.map) (placed' : ArePlaced v.caches v.frames v.slots v.map) (fills : OnlySavedCome r xs w v) where
-    -- a page that is seen in a frame, and wasn't read off a page of the range, was seen there, and the frame has its bytes
+    -- a page that is seen in a frame, and wasn't read off a page of the range, was seen there, and
+    -- the frame has its bytes
     pub seen_before : (x : NodeName) (frame : ℕ) → (owner_of (forest_of w.caches) x ∈ xs → ⊥) → seen_in v.caches v.map x ≡ Some frame → (seen_in w.caches w.map x ≡ Some frame) × (bytes_of v.frames frame ≡ bytes_of w.frames frame)
     seen_before x frame apart seen =
         let o = seen_owner v.caches v.frames v.slots v.map placed' x frame seen in
@@ -156,7 +158,7 @@ module _ (w v : World) (sound : IsSound w.caches) (shaped : IsWellShaped (forest
           ]
         ]
 
--- From one manager to the next ------------------------------------------------------------------------
+-- From one manager to the next
 
 pub fills_itself : (range : Extent) (replaced : NodeName → Type 0) (p : Manager) → FillsOnly range replaced p p
 fills_itself range replaced p x frame live out apart shown = (shown, refl)

@@ -55,7 +55,7 @@ unnamed_of (Some t) n size e = go t.segment refl e
     go None is e = ap (λ (o : Option SegId). Some o) is
     go (Some s) is e = absurd (cc e)
 
--- Tables that differ in their grants alone -------------------------------------------------------
+-- Tables that differ in their grants alone
 
 abbrev bare : List (Option Table) → List (Option Table)
 bare ts = map (option_map without_grants) ts
@@ -88,7 +88,7 @@ granted_same a b e = record {
   segments = same_at (option_map (λ (t : Table). t.segment)) one_segment a.caches b.caches e;
 }
 
--- The same caches are shown ---------------------------------------------------------------------
+-- The same caches are shown
 
 one_shown : (f : PageForest) (n : ℕ) (o p : Option Table) → option_map (λ (t : Table). length t.pages) p ≡ option_map (λ (t : Table). length t.pages) o → option_map (λ (t : Table). t.segment) p ≡ option_map (λ (t : Table). t.segment) o
     → option_map (cache_shown f n) p ≡ option_map (cache_shown f n) o
@@ -107,7 +107,7 @@ shown_same f first (t ∷ ts) (u ∷ us) count sizes segments = λ i. one_shown 
 shown_same f first [] (u ∷ us) count sizes segments = absurd (omega (arith, count))
 shown_same f first (t ∷ ts) [] count sizes segments = absurd (omega (arith, count))
 
--- The manager -----------------------------------------------------------------------------------
+-- The manager
 
 module _ (a b : Arena) (s : Store) (t : Actors) (live : ℕ) (stays : KeepsNodes a b) (i : IsSound a s t live) where
   pub granted_sound : IsSound b s t live
@@ -221,9 +221,6 @@ stays_granted range past a b g nodes whole = record {
   copies = ap (λ (k : Arena). k.copies) g.rest;
   room = ap (λ (k : Arena). k.room) g.rest;
 }
-
-pub stays_itself : (a : Arena) → IsWhole a → KeepsNodes a a
-stays_itself a whole = record { same = record { count = refl; sizes = λ n. refl; segments = λ n. refl }; cells = refl; grants = λ cache page e. e; locks = λ cache page. refl; nodes = refl; whole = whole; made = refl; copies = refl; room = refl }
 
 -- the node of a page that may be written
 pub writable_node : (a : Arena) (n : NodeId) (cache : CacheId) (page : ℕ) → name_of a n ≡ page_name cache page → IsWritable a (page_name cache page) → MayWrite a n

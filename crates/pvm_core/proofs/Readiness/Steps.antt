@@ -1,5 +1,5 @@
--- Steps after which a manager stands for the machine and the page forest for which it stood: pages were granted, room
--- was reserved, a range was pushed.
+-- Steps after which a manager stands for the machine and the page forest for which it stood: pages
+-- were granted, room was reserved, a range was pushed.
 use Rattle.std.proofs.Common.{◌≡◌, ◌≤◌, ℕ, Option, sym, ap, subst, ◌∙◌}
 use Rattle.vm_ids.specs.Counting.{MapperCounts}
 use Rattle.vm_ids.specs.Held.{Held, segments_of}
@@ -25,7 +25,8 @@ use Rattle.pvm_core.proofs.Readiness.Granted.{granted_by, granted_forest, grante
 use Rattle.pvm_core.proofs.Readiness.Readying.{keeps_then}
 use Rattle.pvm_core.proofs.Spanning.Reserved.{reserved}
 
--- the manager with these caches, this store and these actors is sound and valid, and keeps what p stands for
+-- the manager with these caches, this store and these actors is sound and valid, and keeps what p
+-- stands for
 pub record Keeps (p : Manager) (b : Arena) (u : Store) (t : Actors) (live : ℕ) (h g : Option Held) (c d : MapperCounts) : Type 0 where
   pub sound : IsSound b u t live
   pub valid : IsValid (seen b u t) g

@@ -1,4 +1,5 @@
--- A span whose destination was made ready: the manager that stands for the same may carry out the copy or the move.
+-- A span whose destination was made ready: the manager that stands for the same may carry out the
+-- copy or the move.
 use Rattle.std.proofs.Common.{◌≡◌, ℕ, ◌+◌, ◌*◌, ◌≤◌, ◌^◌, List, Option, Some, None, length, false, refl, sym, subst, ◌∙◌, arith}
 use Rattle.vm_ids.specs.Counting.{MapperCounts}
 use Rattle.std.specs.Prelude.{Ok}
@@ -52,7 +53,8 @@ pub record IsReadied (p : Manager) (h g : Option Held) (c d : MapperCounts) (a :
   pub out : IsOpen (size_of a span.from.0) (size_of a span.to.0) (any_locked a (replaced span)) span
 
 module _ (p : Manager) (h g : Option Held) (c d : MapperCounts) (a : Arena) (s : Store) (t : Actors) (live : ℕ) (sound : IsSound a s t live) (span : Span) (nodes : ℕ) where
-  -- from p, which the call that readied the range of these pages knows as old, and by q, as it left the manager
+  -- from p, which the call that readied the range of these pages knows as old, and by q, as it left
+  -- the manager
   pub readied : (old q : Manager) → p ≡ old → seen a s t ≡ q → (range : Extent) → range ≡ replaced span → ((cache page : ℕ) → locks_of p.caches cache page ≡ locks_over p.actors cache page)
       → IsOpen (size_of p.caches span.from.0) (size_of p.caches span.to.0) (any_locked p.caches (replaced span)) span → IsValid q g → KeepsMachine old q h g c d → IsReady range nodes old q h g → IsReadied p h g c d a s t span nodes
   readied old q view back range is counted out now kept fit =

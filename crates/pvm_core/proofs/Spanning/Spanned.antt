@@ -15,7 +15,3 @@ apart_of s apart e = go (nat_lt s.from_page.0 (s.to_page.0 + s.pages)) (nat_lt s
     go true true p q e = absurd (cc e)
     go true false p q e = inl (grind (arith, nat_tests))
     go false b p q e = inr (grind (arith, nat_tests))
-
-pub none_of_option : {A : Type 0} (o : Option A) → ((x : A) → o ≡ Some x → ⊥) → o ≡ None
-none_of_option None h = refl
-none_of_option (Some x) h = absurd (h x refl)

@@ -1,5 +1,5 @@
--- A copy or a move that isn't carried out, though nothing refuses it but the mapper: a write that is denied, a fault, or want
--- of memory.
+-- A copy or a move that isn't carried out, though nothing refuses it but the mapper: a write that
+-- is denied, a fault, or want of memory.
 use Rattle.std.proofs.Common.{◌≡◌, ◌≢◌, ◌⊎◌, ℕ, ◌+◌, ◌-◌, ◌<◌, ◌≤◌, Bool, true, false, length, Option, Some, None, refl, sym, ap, ◌∙◌, subst, arith, inl, inr}
 use Rattle.std.specs.Prelude.{Err, IfErr, Result, option_map}
 use Rattle.std.specs.List.{list_any, range_with_len}
@@ -55,7 +55,8 @@ use Rattle.pvm_core.proofs.Answering.Reaching.{reach_denied, reach_told}
 use Rattle.pvm_core.proofs.Answering.Rising.{grown_some, rises_between}
 use Rattle.pvm_core.proofs.Accesses.Stored.{denied_by, named_in, undenied, undenied_blank}
 
--- the command of a copy or a move of the span, which nothing refuses for this manager but the mapper
+-- the command of a copy or a move of the span, which nothing refuses for this manager but the
+-- mapper
 pub record IsTransfer (p : Manager) (span : Span) (command : Command) : Type 0 where
   pub next : PageForest → Machine
   pub row : (f g : PageForest) (s : Segments) → is_any_denied (machine_by p f) s span ≡ false → answer_of (machine_by p f) g command s ≡ reply replies.Done (next f)
@@ -68,7 +69,7 @@ pub record IsTransfer (p : Manager) (span : Span) (command : Command) : Type 0 w
   pub touched : (m : Machine) → span.pages ≤ pages_touched m command
   pub quiet : (m : Machine) (h : Option Segments) (answer : Answer) → IsSynchronised m h command answer
 
--- Which pages are denied -----------------------------------------------------------------------
+-- Which pages are denied
 
 pub one_of : (test : ℕ → Bool) (first pages q : ℕ) → first ≤ q → q < first + pages → test q ≡ true → list_any test (range_with_len first pages) ≡ true
 one_of test first pages q from below is =
@@ -91,7 +92,7 @@ undenied_range p h nodes right span count size within writable f g s denied is =
 pub undenied_any : (p : Manager) (f : PageForest) (span : Span) → is_any_denied (machine_by p f) no_segments span ≡ false
 undenied_any p f span = none_of (is_denied_page (machine_by p f) no_segments span.to.0) span.to_page.0 span.pages (λ q from below. undenied_blank p f span.to.0 q)
 
--- What can go wrong ----------------------------------------------------------------------------
+-- What can go wrong
 
 -- why the pages weren't ready
 pub record WentWrong (range : Extent) (p q : Manager) (h g : Option Held) (trouble : Trouble) : Type 0 where
@@ -130,7 +131,7 @@ module _ (range : Extent) (p q : Manager) (h g : Option Held) where
   not_ready_cases (troubles.Refused refusals.NotLocked) d = absurd d
   not_ready_cases (troubles.Refused refusals.Full) d = absurd d
 
--- The answers ----------------------------------------------------------------------------------
+-- The answers
 
 module _ (p q : Manager) (h g : Option Held) (c d : MapperCounts) (span : Span) (command : Command) (T : IsTransfer p span command) (keeps : KeepsMachine p q h g c d) (nodes : IsWhole p.caches) (then : IsWhole q.caches) (valid : IsValid p h) (now : IsValid q g)
     (count : ℕ) (size : size_of p.caches span.to.0 ≡ Some count) (within : span.to_page.0 + span.pages ≤ count) where
@@ -214,7 +215,7 @@ module _ (p q : Manager) (h g : Option Held) (c d : MapperCounts) (span : Span) 
     ]
   ]
 
--- What was numbered and copied ------------------------------------------------------------------
+-- What was numbered and copied
 
 module _ (p q : Manager) (h g : Option Held) (c d : MapperCounts) (span : Span) (command : Command) (T : IsTransfer p span command) (keeps : KeepsMachine p q h g c d) (nodes : IsWhole p.caches) where
   failed_made : (trouble : Trouble) → IsNotReady (replaced span) p h q g trouble → RaisesMade (machine_of p h) command (Err trouble) (machine_of q g) (numbered p) (numbered q)

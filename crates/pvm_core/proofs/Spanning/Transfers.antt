@@ -200,7 +200,7 @@ module _ (b : Arena) (s : Store) (t : Actors) (live : ℕ) (k : IsSound b s t li
           outcome = copied_row (zeroed (seen b s t) h) no_segments (undenied_any (seen b s t) (zeroed (seen b s t) h) span);
         }
 
-  -- A move ------------------------------------------------------------------------------------
+  -- A move
 
   pub copied_there : (f : PageForest) → (c : Cache) × (cache_of (record (machine_by (seen b s t) f) { caches = next f }) span.from.0 ≡ Some c) × (length c.pages ≡ out.from)
   copied_there f = elim (numbered-set (caches_shown f 1 b.caches) span.to.0 span.from.0 (cache_shown f span.to.0 to) (put f) (cache_shown f span.from.0 from) (destination_there f) (source_there f)) [

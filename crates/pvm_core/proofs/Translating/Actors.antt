@@ -29,14 +29,6 @@ module _ (t : Actors) (e : Entry) (rs : Actor) (here : numbered t.actors e.actor
     stays = stays_same t.page_bytes first e.to.writable rs;
   }
 
-  -- nothing was changed
-  pub stays_so : (u : Actors) → u.actors ≡ t.actors → StaysFor t u e rs
-  stays_so u same = record {
-    regions = rs;
-    here = ap (λ (xs : List (Option Actor)). numbered xs e.actor.0) same ∙ here;
-    stays = stays_same t.page_bytes first e.to.writable rs;
-  }
-
   -- one actor has other regions, which show what its regions showed
   pub stays_put : (u : Actors) (actor : ℕ) (old new : Actor) → numbered t.actors actor ≡ Some old → u.actors ≡ set t.actors (actor - 1) (Some new)
       → (e.actor.0 ≡ actor → StaysAt t.page_bytes first e.to.writable old new) → StaysFor t u e rs

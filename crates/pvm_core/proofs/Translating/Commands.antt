@@ -38,7 +38,7 @@ use Rattle.pvm_core.proofs.Translating.Regions.{found_holds}
 use Rattle.pvm_core.proofs.Translating.Tables.{with_tables}
 
 module _ (a : Arena) (s : Store) (t : Actors) (right : AreTranslationsRight a s t) where
-  -- An actor that is made, and a region that is mapped or cut ---------------------------------
+  -- An actor that is made, and a region that is mapped or cut
 
   pub made_right : AreTranslationsRight a s (record t { actors = t.actors ++ Some [] ∷ [] })
   made_right = places_right a s t _ refl (λ place e is rs here. stays_made t e rs here (record t { actors = t.actors ++ Some [] ∷ [] }) refl) right
@@ -63,13 +63,6 @@ module _ (a : Arena) (s : Store) (t : Actors) (right : AreTranslationsRight a s 
       (λ place e is rs here. stays_replaced t e rs here (with_split t n pages) n (split_at t.page_bytes pages (t.regions_made + 1)) told.0 told.1 refl
       (λ own. split_becomes t.page_bytes (e.page * t.page_bytes) e.to.writable told.1.region pages (t.regions_made + 1) some less)) right
 
-  pub locked_right : (n : ℕ) (locked : Bool) (r : Region) → region_with n t.actors ≡ Some r → AreTranslationsRight a s (record t { actors = replace_in n (with_lock locked) t.actors })
-  locked_right n locked r found =
-      let told = told_of n r found in
-      places_right a s t _ refl
-      (λ place e is rs here. stays_replaced t e rs here (record t { actors = replace_in n (with_lock locked) t.actors }) n (with_lock locked) told.0 told.1 refl
-      (λ own. lock_becomes t.page_bytes (e.page * t.page_bytes) e.to.writable told.1.region locked)) right
-
   -- a region allows writing
   pub allowed_right : (n : ℕ) (prot : Prot) (r : Region) → region_with n t.actors ≡ Some r → prot.write ≡ true → AreTranslationsRight a s (record t { actors = replace_in n (with_prot prot) t.actors })
   allowed_right n prot r found may =
@@ -78,7 +71,7 @@ module _ (a : Arena) (s : Store) (t : Actors) (right : AreTranslationsRight a s 
       (λ place e is rs here. stays_replaced t e rs here (record t { actors = replace_in n (with_prot prot) t.actors }) n (with_prot prot) told.0 told.1 refl
       (λ own. prot_becomes t.page_bytes (e.page * t.page_bytes) e.to.writable told.1.region prot (λ held w. may))) right
 
-  -- Translations that are dropped -------------------------------------------------------------
+  -- Translations that are dropped
 
   abbrev left : (Entry → Bool) → Store
   left test = with_tables s (map (unless test) s.tables)

@@ -31,7 +31,8 @@ module _ (b address : ℕ) (q : Region) where
     | inr away ↦ away
   ]
 
--- a page that begins in a region is one of as many as the region has, from the first that begins there on
+-- a page that begins in a region is one of as many as the region has, from the first that begins
+-- there on
 pub page_between : (b page : ℕ) (q : Region) → 1 ≤ b → holds b (page * b) q ≡ true → is_between (div_ceil q.start b) q.pages page ≡ true
 page_between b page q some e =
     let held = held_parts b (page * b) q e in

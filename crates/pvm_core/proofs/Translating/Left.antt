@@ -21,7 +21,8 @@ was_right : (a : Arena) (s : Store) (u : Actors) (e entry : Entry) → (e ≡ en
 was_right a s u e entry (inl same) r = subst (IsRight a s u) (sym same) r
 was_right a s u e entry (inr same) r = subst (IsRight a s u) (sym same) (narrowed_right a s u entry r)
 
--- one that is left is for a page that isn't replaced, and for writing only where the page isn't shared
+-- one that is left is for a page that isn't replaced, and for writing only where the page isn't
+-- shared
 pub left_right : (replaced shared : NodeName → Type 0) (a b : Arena) (s t : Store) (u : Actors) → Leaves replaced shared a s b t
     → ((x : NodeName) → IsWritable a x → IsWritable b x)
     → AreTranslationsRight a s u → AreTranslationsRight b t u

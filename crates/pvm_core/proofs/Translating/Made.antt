@@ -47,14 +47,14 @@ use Rattle.pvm_core.proofs.Translating.Alike.{still_right}
 use Rattle.pvm_core.proofs.Translating.Cells.{cells_right}
 use Rattle.pvm_core.proofs.Translating.Writable.{tables_writable}
 
--- Room that is taken --------------------------------------------------------------------------
+-- Room that is taken
 
 pub roomy_right : (a b : Arena) (s t : Store) → b ≡ record a { room = b.room } → t ≡ record s { slots = t.slots } → KeepsTranslations a b s t
 roomy_right a b s t room slots =
     cells_right a b (ap (λ (k : Arena). k.cells) room) (ap (λ (k : Arena). k.made) room) (ap (λ (k : Arena). k.copies) room) s t (ap (λ (k : Store). k.tables) slots) (ap (λ (k : Store). k.map) slots)
     (tables_writable a b (ap (λ (k : Arena). k.caches) room))
 
--- The forest of frames ------------------------------------------------------------------------
+-- The forest of frames
 
 framed : (f : Option ℕ) (s : OwnState) → is_some (page_by None f (λ slot. None) None s) ≡ is_some (page_of s)
 framed f Absent = refl
@@ -82,7 +82,7 @@ module _ (a : Arena) (frames : List (Option NodeId)) (sound : IsSound a) where
     | inr none ↦ absurd (false≢true (sym (ap is_some (get-forest_by_none a (own_frame a frames) x none)) ∙ is))
   ]
 
--- A cache that is made ------------------------------------------------------------------------
+-- A cache that is made
 
 given_outside : {P : Type 0} (es : List (NodeName × P)) (y : NodeName) → (y ∈ firsts es → ⊥) → given es y ≡ None
 given_outside [] y out = refl

@@ -31,7 +31,7 @@ module _ (b address : ℕ) (writable : Bool) where
       go rest true k f = let same : x ≡ r = cc f in subst (λ (y : Region). held y ≡ true) same k
       go rest false k f = rest f
 
-  -- A region that is added --------------------------------------------------------------------
+  -- A region that is added
 
   -- one that doesn't hold the address
   pub inserted : (new : Region) (rs : Actor) → held new ≡ false → at (insert_region new rs) ≡ at rs
@@ -71,7 +71,7 @@ module _ (b address : ℕ) (writable : Bool) where
   inserted_stays new rs none r found =
       (r, inserted new rs (apart new r (fits_each new r rs none found) (found_holds rs r found)) ∙ found, shows_same b address writable r)
 
-  -- A region that becomes others --------------------------------------------------------------
+  -- A region that becomes others
 
   -- what it shows one of them shows; where it doesn't hold the address none does
   pub record Becomes (r : Region) (new : List Region) : Type 0 where
@@ -112,7 +112,7 @@ module _ (b address : ℕ) (writable : Bool) where
       go false f true k g rest = (y, met x (replace_region n by xs) k ∙ g, shows_same b address writable y)
       go false f false k g rest = (let h = rest f g in (h.0, passed x (replace_region n by xs) k ∙ h.1, h.2))
 
-  -- A region that goes ------------------------------------------------------------------------
+  -- A region that goes
 
   -- the regions with this number go, none of which is the one that holds the address
   pub gone_stays : (n : ℕ) (rs : Actor) → ((r : Region) → at rs ≡ Some r → (r.number == n) ≡ false) → StaysAt b address writable rs (without_region n rs)

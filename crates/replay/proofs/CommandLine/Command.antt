@@ -45,9 +45,6 @@ pub is_free_run : is_simple_and_free run_app ≡ true
 unfolding clap_on_literals
 is_free_run = refl
 
-built_run : (built run_app).top ≡ shape_with run_rules
-built_run = refl
-
 -- where a walk over the words ends
 abbrev end_of : List Text → Held
 end_of words = (fold (walked run_rules []) (standing [] None) words).held

@@ -25,9 +25,6 @@ module _ (rest : List ℕ) (alone : option_in (45 ∷ rest) ≡ None) where
       by true t = let no : false ≡ true = sym (ap is_folder_name (same_text word name t)) ∙ plain in absurd (cc)
       by false t = refl
 
-  value_if : (word : List ℕ) (b : Bool) → Option (List ℕ)
-  value_if word b = cond b (Some (after_first is_equals word)) None
-
   plain_gives_none : (word : List ℕ) → is_folder_name word ≡ true → value_in name word ≡ None
   plain_gives_none word plain = by (list_any is_equals word)
     where

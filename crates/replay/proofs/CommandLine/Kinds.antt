@@ -104,9 +104,6 @@ kind_of_words (command ∷ words) asked e = by_run (bytes_eq command (codes "run
 pub is_run : (words : List (List ℕ)) (size : Size) → asked_by words ≡ Some (asks.Run size) → IsRun words size
 is_run words size e = kind_of_words words (asks.Run size) e
 
-pub is_generate : (words : List (List ℕ)) (script : Generated) → asked_by words ≡ Some (asks.Generate script) → IsGenerate words script
-is_generate words script e = kind_of_words words (asks.Generate script) e
-
 pub is_trial : (words : List (List ℕ)) (script : Generated) (frames : ℕ) → asked_by words ≡ Some (asks.Trial script frames) → IsTrial words script frames
 is_trial words script frames e = kind_of_words words (asks.Trial script frames) e
 
@@ -173,9 +170,6 @@ script_few (number ∷ lines ∷ []) script e =
     let counted = made_by_then if_lines (number_of lines) l.value l.is in
     subst (λ (s : Generated). HasFewLines s.lines) l.holds (few_if counted.value l.value counted.holds)
 script_few (number ∷ lines ∷ word ∷ words) script e = absurd (cc)
-
-pub generate_few : (words : List (List ℕ)) (script : Generated) → asked_by words ≡ Some (asks.Generate script) → script.lines ≤ 1000000
-generate_few words script e = let generate = is_generate words script e in (script_few generate.rest script generate.script_is).1
 
 pub trial_few : (words : List (List ℕ)) (script : Generated) (frames : ℕ) → asked_by words ≡ Some (asks.Trial script frames) → script.lines ≤ 1000000
 trial_few words script frames e = let trial = is_trial words script frames e in (script_few (others_among false trial.rest) script trial.script_is).1

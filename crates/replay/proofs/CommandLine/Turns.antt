@@ -118,9 +118,6 @@ same_bytes xs = (bytes_eq-Decides xs xs).1 refl
 
 -- a word of the walk, by what kind of word it is
 
-abbrev by_flag : List Rule → Waiting → Text → Held → Held × Outcome → Held × Step
-by_flag c waiting word h met = after_flag c waiting word h met.1
-
 module _ (c : List Rule) (ready : IsOptions c) where
   -- no command below: a word is no subcommand
   no_subcommand : (waiting : Waiting) (word : Text) → subcommand_met [] waiting word ≡ None

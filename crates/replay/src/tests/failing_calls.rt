@@ -153,7 +153,8 @@ fn wanted_of(
     Ok(wanted)
 }
 
-// The replies that tell a fault. Each other one says what is wanted of it, after the replies before.
+// The replies that tell a fault. Each other one says what is wanted of it, after the replies
+// before.
 fn compared(
     rt: &impl Abort,
     alloc: Global,

@@ -1,5 +1,5 @@
-// Scripts with their whole output, worked out by hand from the rules of the commands and of the page
-// forest.
+// Scripts with their whole output, worked out by hand from the rules of the commands and of the
+// page forest.
 
 // The least script that does something.
 pub const LEAST_SUCCESS: &str = "actor
@@ -936,8 +936,8 @@ pub const COPY_MOVES_NO_BYTES_REPLIES: &str = "1 ok a1
 206 ok 63
 ";
 
-// Four pages are copied, one of them is written before and after, and all leave their frames. It lies
-// in examples/ too.
+// Four pages are copied, one of them is written before and after, and all leave their frames. It
+// lies in examples/ too.
 pub const COPY_EXAMPLE: &str = "actor
 temp 4
 temp 4

@@ -1,5 +1,5 @@
-// Scripts over segments with their whole output, worked out by hand from the rules of the commands and
-// of the page forest.
+// Scripts over segments with their whole output, worked out by hand from the rules of the commands
+// and of the page forest.
 
 // A copy of a segment outlives its cache, and keeps what the segment was.
 pub const SEGMENT_REOPENED: &str = "actor

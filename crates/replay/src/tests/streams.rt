@@ -87,9 +87,9 @@ fn a_failed_read_ends_the_run_behind_the_lines_that_ended(rt: HostRuntime) -> Re
     each_read_fails(&rt, rt.alloc(), unended, 7)
 }
 
-// The first write fails, then the second, and so on until none fails. A read of 7 bytes ends one line
-// at most. One of the whole script ends all of them, but a last line without a line feed, which is
-// answered behind the last read.
+// The first write fails, then the second, and so on until none fails. A read of 7 bytes ends one
+// line at most. One of the whole script ends all of them, but a last line without a line feed,
+// which is answered behind the last read.
 #[test]
 fn a_failed_write_ends_the_run(rt: HostRuntime) -> Result<(), NoMemory> {
     let whole = LEAST_SUCCESS.as_bytes();

@@ -1,4 +1,5 @@
--- Where own states alone change and each page is still, so is the page forest, and the caches are sound still.
+-- Where own states alone change and each page is still, so is the page forest, and the caches are
+-- sound still.
 use Rattle.std.proofs.Common.{◌≡◌, ℕ, zero, suc, ◌∷◌, map, Option, Some, None, is_some, refl, sym, ap, ◌∙◌, subst}
 use Rattle.vm_ids.specs.Forest.NameMap as names
 use Rattle.vm_ids.specs.Forest.PageMap.{bare}

@@ -24,9 +24,6 @@ neither None false e = (refl, refl)
 neither None true e = absurd (cc)
 neither (Some n) p e = absurd (cc)
 
-free_frame : (w : World) (f : ℕ) → IsStoreRight w → is_held w.frames f ≡ false → (node_of w.map f ≡ None) × (is_pinned w.frames f ≡ false)
-free_frame w f right free = neither (node_of w.map f) (is_pinned w.frames f) (sym free ∙ right.tied.placed.held f)
-
 true_or : (b : Bool) → true ≡ (b || true)
 true_or true = refl
 true_or false = refl
@@ -47,59 +44,6 @@ pinned_after w f loose g pinned = record {
   pinned = get_or-set_other w.frames.pinned f g true false (λ e. absurd (let t : is_pinned w.frames g ≡ false = ap (is_pinned w.frames) e ∙ loose in cc)) ∙ pinned;
   bytes = refl;
   node = refl;
-}
-
-pub claimed_still : (w : World) (f : ℕ) → IsStoreRight w → f < length w.frames.held → is_held w.frames f ≡ false → Still w (claimed w f)
-claimed_still w f right within free = record {
-  stays = record {
-    right = record {
-      tied = record {
-        placed = record {
-          bound = right.tied.placed.bound;
-          held = held_after w f right within;
-          slots = right.tied.placed.slots;
-          in_slots = right.tied.placed.in_slots;
-        };
-        backed = record {
-          there = right.tied.backed.there;
-          homes = right.tied.backed.homes;
-          apart = right.tied.backed.apart;
-          lies = right.tied.backed.lies;
-          clean = right.tied.backed.clean;
-        };
-        fitted = record {
-          map_frames = right.tied.fitted.map_frames ∙ sym (length-set w.frames.held f true);
-          bytes_frames = right.tied.fitted.bytes_frames ∙ sym (length-set w.frames.held f true);
-          pinned_frames = length-set w.frames.pinned f true ∙ right.tied.fitted.pinned_frames ∙ sym (length-set w.frames.held f true);
-          marks_frames = right.tied.fitted.marks_frames ∙ sym (length-set w.frames.held f true);
-          places_frames = right.tied.fitted.places_frames ∙ ap (λ (k : ℕ). 4 * k) (sym (length-set w.frames.held f true));
-          few = omega (arith, length-set w.frames.held f true, right.tied.fitted.few);
-          page = right.tied.fitted.page;
-        };
-      };
-      granted = record { granted = right.granted.granted; allowed = right.granted.allowed };
-      capacity = right.capacity;
-    };
-    pages = λ n. refl;
-    caches = same w.caches;
-    page_bytes = refl;
-    frames = length-set w.frames.held f true;
-    page = refl;
-    slots = refl;
-  };
-  pinned = pinned_after w f (free_frame w f right free).1;
-}
-
-pub claimed_others : (w : World) (f : ℕ) → OthersStay w (claimed w f)
-claimed_others w f = record { frames = λ g _. record { bytes = refl; node = refl }; states = λ m. record { away = λ _. refl; here = λ _. refl } }
-
-pub claimed_free : (w : World) (f : ℕ) → IsStoreRight w → f < length w.frames.held → is_held w.frames f ≡ false → IsMadeFree f w (claimed w f)
-claimed_free w f right within free = record {
-  within = within;
-  loose = (free_frame w f right free).1;
-  pinned = refl;
-  held = get_or-set_same w.frames.held f true false within;
-  unbound = (free_frame w f right free).0;
 }
 
 -- after an eviction

@@ -65,8 +65,8 @@ none_then : {X : Type 0} (told : Option Held) → option_and_then {T = Held} {U 
 none_then None = refl
 none_then (Some h) = refl
 
--- Frame f of node n falls free, and the node's page is in state x then, while the mapper holds what it tells then, and
--- these slots are held.
+-- Frame f of node n falls free, and the node's page is in state x then, while the mapper holds what
+-- it tells then, and these slots are held.
 module _ (w : World) (f : ℕ) (n : NodeId) (x : OwnState) (told : Option Held) (marks : List Bool) where
   abbrev pub then : World
   then = record (left w f n x) { told = told; slots = marks }

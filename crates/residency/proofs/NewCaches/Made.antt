@@ -20,7 +20,8 @@ use Rattle.local_cache.specs.Reading.{name_of}
 use Rattle.local_cache.proofs.Nodes.OwnStates.{filled_cell, filled_count, filled_length, filled_own}
 use Rattle.residency.specs.World.{World, IsStoreRight, frame_page, home_page, is_clean, is_name_granted, own_page, page_at, page_by, zero_page}
 
--- what is read of a table is what was read before, where it is read alike of none and of the new one
+-- what is read of a table is what was read before, where it is read alike of none and of the new
+-- one
 read_tables : {X : Type 0} (ts : List (Option Table)) (table : Table) (read : Option Table → X) → read (Some table) ≡ read None → (cache : ℕ) → read (table_at (ts ++ Some table ∷ []) cache) ≡ read (table_at ts cache)
 read_tables ts table read alike zero = refl
 read_tables ts table read alike (suc k) = elim (cases_lt k (length ts)) [

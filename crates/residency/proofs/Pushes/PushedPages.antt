@@ -23,7 +23,7 @@ pub all_both : {X : Type 0} (P : X → Type 0) (xs ys : List X) → AllByRecursi
 all_both P [] ys p q = q
 all_both P (x ∷ xs) ys p q = (p.0, all_both P xs ys p.1 q)
 
--- What the mapper denies stays -----------------------------------------------------------------
+-- What the mapper denies stays
 
 abbrev DenyAlike : Option Segments → Option Segments → Type 0
 DenyAlike s t = option_map (λ (s : Segments). s.denied) t ≡ option_map (λ (s : Segments). s.denied) s
@@ -52,7 +52,7 @@ allowed_before (Some h) (Some g) seg page e t =
     let same : h.denied ≡ g.denied = cc in
     ap (λ (d : List (ℕ × ℕ)). denies d seg page) same ∙ t
 
--- None, and one --------------------------------------------------------------------------------
+-- None, and one
 
 module _ {May : NodeId → Type 0} {pages : Pages} (a b : World) (c d : MapperCounts) where
   pub tells_none : segments_of b.told ≡ segments_of a.told → c.pushes ≤ d.pushes → TellsBy May pages a b c d
@@ -72,7 +72,7 @@ module _ {May : NodeId → Type 0} {pages : Pages} (a b : World) (c d : MapperCo
 pub tells_as : {May : NodeId → Type 0} {pages : Pages} (a b v : World) (c d : MapperCounts) → v.told ≡ b.told → TellsBy May pages a b c d → TellsBy May pages a v c d
 tells_as a b v c d same t = record { pushed = t.pushed; may = t.may; segments = ap segments_of same ∙ t.segments; counted = t.counted }
 
--- Over two moments -----------------------------------------------------------------------------
+-- Over two moments
 
 -- From one world to the next each node keeps its home and such a page.
 module _ (a b : World) (homes : (n : NodeId) → home_of b.caches n ≡ home_of a.caches n) (before after : Pages) (same : (n : NodeId) → after n ≡ before n) where

@@ -27,7 +27,8 @@ use Rattle.residency.proofs.Translations.Owners.{by-map, number_page, owner_seen
 use Rattle.residency.proofs.Worlds.Nodes.{same}
 use Rattle.residency.proofs.Worlds.Telling.{tells}
 
--- a page that is seen in a frame is seen there still, where its owner owns it still, and is there still
+-- a page that is seen in a frame is seen there still, where its owner owns it still, and is there
+-- still
 pub seen_still : (a b : Arena) (s t : Store) → ArePlaced a s.frames s.slots s.map → ArePlaced b t.frames t.slots t.map → (x : NodeName) (f : ℕ)
     → ((n : NodeId) → value_of (owners a) x ≡ Some n → node_of s.map f ≡ Some n → (value_of (owners b) x ≡ Some n) × (node_of t.map f ≡ Some n))
     → seen_in a s.map x ≡ Some f → seen_in b t.map x ≡ Some f

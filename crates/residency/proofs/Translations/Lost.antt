@@ -1,4 +1,5 @@
--- Frames that lost their nodes from one moment to a later one, and the translations dropped by then.
+-- Frames that lost their nodes from one moment to a later one, and the translations dropped by
+-- then.
 use Rattle.std.proofs.Common.{◌≡◌, ℕ, ◌<◌, ◌||◌, ◌==◌, Bool, true, false, not, List, [], ◌∷◌, length, zero, suc, set, Option, Some, None, is_some, refl, sym, ap, ◌∙◌, inl, inr, arith}
 use Rattle.std.specs.Prelude.{Result, Ok, Err, OnErr, OnOk}
 use Rattle.std.proofs.lemmas.Bool.{cases_eq}

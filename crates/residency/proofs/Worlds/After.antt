@@ -1,4 +1,5 @@
--- What layers above use of a right store: which small changes keep it right, and what stays where every page is still.
+-- What layers above use of a right store: which small changes keep it right, and what stays where
+-- every page is still.
 use Rattle.std.proofs.Common.{◌≡◌, ◌≢◌, ℕ, ◌+◌, ◌-◌, ◌≤◌, ◌==◌, ◌||◌, Bool, true, false, not, List, ◌++◌, length, get_or, set, replicate, Option, Some, None, is_some, option_map, refl, sym, ap, ◌∙◌, arith, inl, inr, length-set, length-append}
 use Rattle.std.specs.Prelude.{option_and_then}
 use Rattle.std.proofs.lemmas.Bool.{cases_lt, cases_eq}

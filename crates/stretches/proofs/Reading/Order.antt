@@ -55,7 +55,8 @@ module _ {V : Type 0} (S : Ghosts V) where
     behind = λ j d le less. omega (arith, apart 0 rs order k j d (omega arith) less, high (get_or rs k d) n (has.has d));
   }
 
-  -- where one begins at the number or before it, and the next one behind it, the others are behind it
+  -- where one begins at the number or before it, and the next one behind it, the others are behind
+  -- it
   pub behind_between : (rs : List (Stretch V)) → AreInOrder S 0 rs → (n k : ℕ) (r q : Stretch V) → k + 1 < length rs
       → get_or rs k r ≡ r → get_or rs (k + 1) q ≡ q → r.first ≤ n → n < q.first → IsFirstBehind rs n (k + 1)
   behind_between rs order n k r q within is next low_end high_end = record {

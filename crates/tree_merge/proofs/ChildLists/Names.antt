@@ -31,7 +31,7 @@ in_names a [] m i = i
 in_names a (k ∷ ms) m (inl e) = inl (ap (name_of a) e)
 in_names a (k ∷ ms) m (inr i) = inr (in_names a ms m i)
 
--- In a forest ------------------------------------------------------------------------
+-- In a forest
 
 module _ {P : Type 0} (f : Forest P) (linked : IsLinked f) where
   pub child_in : (z x : NodeName) → parent f z ≡ Some x → names.◌∈◌ z ((node f x).tree ++ (node f x).stubs)
@@ -67,7 +67,7 @@ module _ {P : Type 0} (f : Forest P) (linked : IsLinked f) where
     | inr apart ↦ none z (sym (ap parent_of (cut-hang_other f y z apart)) ∙ up)
   ]
 
--- Of the caches ----------------------------------------------------------------------
+-- Of the caches
 
 module _ (a : Arena) (sound : IsSound a) (n : NodeId) (hn : HasNode a n) where
   tree_is : (node (forest_of a) (name_of a n)).tree ≡ map (name_of a) (cell a n).tree

@@ -1,4 +1,5 @@
--- A parent's tree children after one of them went or gave its place to another, by numbers and by names.
+-- A parent's tree children after one of them went or gave its place to another, by numbers and by
+-- names.
 use Rattle.std.proofs.Common.{◌≡◌, ◌≢◌, ◌⊎◌, ℕ, ◌≤◌, ◌==◌, true, false, cond, not, List, [], ◌∷◌, map, length, Option, Some, None, slice_get, refl, sym, ap, ◌∙◌, inl, inr, arith}
 use Rattle.std.specs.Prelude.{option_and_then}
 use Rattle.std.specs.List.{cons_option}

@@ -23,7 +23,7 @@ use Rattle.tree_merge.proofs.CopiedPages.OnePage.{not_free}
 use Rattle.tree_merge.proofs.CopiedPages.Pages.{first_copied, history_held, more_copied, rows_apart}
 use Rattle.tree_merge.proofs.CopiedPages.Stretches.{held_renewed, made_renewed, room_renewed}
 
--- Tree children -------------------------------------------------------------------------------------
+-- Tree children
 
 -- a tree child that is the only one, apart from the sources
 pub only_history : (ms : List NodeId) (h s : NodeId) (count : ℕ) → slice_get ms 0 ≡ Some h → slice_get ms 1 ≡ None → AreApart h s count → h.0 + count ≤ 2 ^ 64 → IsHistory ms s count
@@ -45,7 +45,7 @@ one_history (m ∷ []) h s count is first =
     record { tree = ap (λ n. n ∷ []) same; apart = subst (λ n. AreApart n s count) same is.0; short = subst (λ n. n.0 + count ≤ 2 ^ 64) same is.1 }
 one_history (m ∷ k ∷ ms) h s count is first = absurd is
 
--- The pages of a copy -------------------------------------------------------------------------------
+-- The pages of a copy
 
 module _ (a : Arena) (sound : IsSound a) (to from : CacheId) (q p most : ℕ) (can : CanCopy (forest_of a) (page_pairs from p to q most)) where
   pub filled : (k : ℕ) → k < most → names.◌∈◌ (page_name to (q + k)) (firsts (page_pairs from p to q most))

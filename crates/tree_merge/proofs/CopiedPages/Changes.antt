@@ -20,7 +20,7 @@ use Rattle.local_cache.proofs.Nodes.Cells.{cell-put, cell-put_other}
 pub differ : (n m : NodeId) → n ≢ m → n.0 ≢ m.0
 differ n m ne e = ne (λ i. record { 0 = e i })
 
--- In a map ---------------------------------------------------------------------------------------
+-- In a map
 
 not_both : (p q r : ℕ) → p ≢ q → eqb r q ≡ true → eqb r p ≡ true → ⊥
 not_both p q r ne at_q at_p = ne (sym (eqb-true r p at_p) ∙ eqb-true r q at_q)
@@ -53,7 +53,7 @@ module _ {X : Type 0} where
       ∙ by_tests (eqb r q) (eqb r p) (not_both p q r ne) None (Some x) (map.get m r)
       ∙ sym (get_inserted (map.remove m q) p x r ∙ ap (cond (eqb r p) (Some x)) (get_removed m q r)))
 
--- In the tables -----------------------------------------------------------------------------------
+-- In the tables
 
 -- two pages of one cache
 two_pages : (p q : ℕ) (o r : Option NodeId) → p ≢ q → (t : Table) → table_with q r (table_with p o t) ≡ table_with p o (table_with q r t)
@@ -75,7 +75,7 @@ pages_pass ts (suc k) p q o r ne =
     ∙ ap (set ts k) (two_pages_of p q o r ne (get_or ts k None))
     ∙ sym (changed_twice ts k (table_with q r) (table_with p o))
 
--- In the caches -----------------------------------------------------------------------------------
+-- In the caches
 
 cell_of : (x : Arena) (n : NodeId) → cell x n ≡ unwrap_or (map.get x.cells n.0) blank
 unfolding cell

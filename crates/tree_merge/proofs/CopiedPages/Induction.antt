@@ -32,7 +32,7 @@ pub record NextMore (b : Arena) (d s h new w : NodeId) (to : CacheId) (to_page :
   pub apart : w ≢ new
   pub room : 1 ≤ b.room.nodes
 
--- Sources without tree children ------------------------------------------------------------------------
+-- Sources without tree children
 
 module _ (a : Arena) (d s new : NodeId) (to : CacheId) (to_page : PageNo) (from : CacheId) (from_page : PageNo) (count : ℕ) (first : CanCopyFirst a d s new to to_page from from_page count) where
   abbrev firsts_done : ℕ → Arena
@@ -71,7 +71,7 @@ module _ (a : Arena) (d s new : NodeId) (to : CacheId) (to_page : PageNo) (from 
         (each_first d new to to_page count s a (pages.named a d s new to to_page from from_page count first.can) (first_fresh a d s new to to_page from from_page count first) first.can.apart (first_new_s a d s new to to_page from from_page count first))
         (firsts_by count (omega arith))
 
--- Sources with one tree child --------------------------------------------------------------------------
+-- Sources with one tree child
 
 module _ (a : Arena) (d s h new w : NodeId) (to : CacheId) (to_page : PageNo) (from : CacheId) (from_page : PageNo) (count : ℕ) (more : CanCopyMore a d s h new w to to_page from from_page count) where
   abbrev mores_done : ℕ → Arena

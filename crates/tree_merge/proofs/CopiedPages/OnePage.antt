@@ -29,8 +29,8 @@ use Rattle.tree_merge.proofs.CopiedPages.Changes.{cell_by, find-new_other, find-
 use Rattle.tree_merge.proofs.Leaving.Detached.{detached-forest, detached-sound}
 use Rattle.tree_merge.proofs.RetiredPages.OnePage.{CanRetirePage, PageGone, page_gone}
 
--- What a copy of one page needs: the node d of the page has neither parent nor children, new is a free number, and s is
--- the node of another page.
+-- What a copy of one page needs: the node d of the page has neither parent nor children, new is a
+-- free number, and s is the node of another page.
 pub record CanCopyPage (a : Arena) (d s new : NodeId) (cache : CacheId) (page : PageNo) : Type 0 where
   pub sound : IsSound a
   pub held_d : HasNode a d
@@ -41,9 +41,9 @@ pub record CanCopyPage (a : Arena) (d s new : NodeId) (cache : CacheId) (page : 
   pub live : is_live (name_of a s) ≡ true
   pub apart : s ≢ d
 
--- What a copy of one page does: it is the rule, the old node d is gone, the fresh node new and the working node w have
--- no own pages, and other nodes stay, as do the sizes of the caches. Nothing is changed at those that are none of these, nor the source s or its tree
--- child h.
+-- What a copy of one page does: it is the rule, the old node d is gone, the fresh node new and the
+-- working node w have no own pages, and other nodes stay, as do the sizes of the caches. Nothing is
+-- changed at those that are none of these, nor the source s or its tree child h.
 pub record PageCopied (a b : Arena) (d s h new w : NodeId) (to from : NodeName) : Type 0 where
   pub forest : forest_of b ≡ copy_page false (forest_of a) to from
   pub sound : IsSound b
@@ -82,7 +82,7 @@ room_working : (x : Arena) (n : NodeId) → (with_working x n).room.nodes ≡ x.
 unfolding with_new
 room_working x n = refl
 
--- Tree links -----------------------------------------------------------------------------------------
+-- Tree links
 
 rehung_one : (a : Arena) (p x : NodeId) → HasNode a p → HasNode a x → Rehung a (set_one a p x)
 rehung_one a p x hp hx =
@@ -107,7 +107,7 @@ find_two a p x y n n_p n_x n_y =
     ∙ find-put_other (with_tree a p (x ∷ y ∷ [])) y n _ n_y
     ∙ find-put_other a p n _ n_p
 
--- The old node goes ----------------------------------------------------------------------------------
+-- The old node goes
 
 module _ (a : Arena) (d s new : NodeId) (cache : CacheId) (page : PageNo) (can : CanCopyPage a d s new cache page) where
   pub goes : CanRetirePage a d cache page
@@ -116,7 +116,7 @@ module _ (a : Arena) (d s new : NodeId) (cache : CacheId) (page : PageNo) (can :
   went : PageGone a (without a d) d cache page
   went = page_gone a d cache page goes
 
-  -- A fresh one comes -------------------------------------------------------------------------------
+  -- A fresh one comes
 
   abbrev b : Arena
   b = with_new (without a d) new (Live cache page) Absent
@@ -160,7 +160,7 @@ module _ (a : Arena) (d s new : NodeId) (cache : CacheId) (page : PageNo) (can :
       went.sizes
       (sizes_by (without a d) b (Live cache page) (Some new) (tables_new (without a d) new (Live cache page) Absent))
 
-  -- It is linked to the source ----------------------------------------------------------------------
+  -- It is linked to the source
 
   s_new : s ≢ new
   s_new = not_free a s new can.held_s can.free_new

@@ -23,7 +23,7 @@ use Rattle.tree_merge.proofs.CopiedPages.Changes.{cell_by}
 use Rattle.tree_merge.proofs.CopiedPages.OnePage.{CanCopyPage, PageCopied, left_by_find, left_then, not_free, page_first, page_more}
 use Rattle.tree_merge.proofs.CopiedPages.Stretches.{RowsApart, apart_from_new, copy_first, copy_more, each, each_first, each_more, free_before, free_then}
 
--- Pairs of pages -------------------------------------------------------------------------------------
+-- Pairs of pages
 
 -- one more pair, behind the others
 pairs_more : {P : Type 0} (c : CacheId) (p : ℕ) (d : CacheId) (q k : ℕ) (f : Forest P)
@@ -39,7 +39,7 @@ pairs_more c p d q (suc k) f =
     pairs_more c (p + 1) d (q + 1) k g
     ∙ (λ i. copy_page false (copy_pages false (page_pairs c (p + 1) d (q + 1) k) g) (page_name d (to i)) (page_name c (from i)))
 
--- Rows of nodes --------------------------------------------------------------------------------------
+-- Rows of nodes
 
 -- nodes of different pages are different
 abbrev pub Pass : NodeId → NodeId → ℕ → Type 0
@@ -74,7 +74,7 @@ all_pass (k ∷ ns) count all n m (inl e) (inr has) = subst (λ x. Pass x m coun
 all_pass (k ∷ ns) count all n m (inr is) (inl g) = subst (λ x. Pass n x count) (sym g) (pass_back k n count (pass_of k ns count all.0 n is))
 all_pass (k ∷ ns) count all n m (inr is) (inr has) = all_pass ns count all.1 n m is has
 
--- One page after the other ---------------------------------------------------------------------------
+-- One page after the other
 
 module _ (a : Arena) (d s h new w : NodeId) (to from : CacheId) (to_page from_page : PageNo) (count : ℕ) (pass : AllPass (d ∷ new ∷ w ∷ s ∷ h ∷ []) count) where
   abbrev rows : List NodeId
@@ -197,7 +197,7 @@ pub record NextPage (a b : Arena) (d s new : NodeId) (to : CacheId) (to_page : P
   pub named_s : name_of b s ≡ from
   pub tree_s : (cell b s).tree ≡ (cell a s).tree
 
--- What a page needs of its nodes, wherever they are as they were ----------------------------------------
+-- What a page needs of its nodes, wherever they are as they were
 
 module _ (a : Arena) (d s new : NodeId) (to : CacheId) (to_page : PageNo) (from : CacheId) (from_page : PageNo) (count : ℕ) (can : CanCopyMany a d s new to to_page from from_page count) where
   pub named : (k : ℕ) → k < count → (cell a (next_node d k)).name ≡ Live to (record { 0 = to_page.0 + k })
@@ -234,7 +234,7 @@ module _ (a : Arena) (d s new : NodeId) (to : CacheId) (to_page : PageNo) (from 
     pub next_page : NextPage a b (next_node d k) (next_node s k) (next_node new k) to (record { 0 = to_page.0 + k }) (Live from (record { 0 = from_page.0 + k }))
     next_page = record { can = can_copy; named_s = named_s; tree_s = ap (λ (c : Cell). c.tree) cell_s }
 
--- Sources without tree children ------------------------------------------------------------------------
+-- Sources without tree children
 
 module _ (a : Arena) (d s new : NodeId) (to : CacheId) (to_page : PageNo) (from : CacheId) (from_page : PageNo) (count : ℕ) (first : CanCopyFirst a d s new to to_page from from_page count) where
   pub first_fresh : AreApart d new count
@@ -268,7 +268,7 @@ module _ (a : Arena) (d s new : NodeId) (to : CacheId) (to_page : PageNo) (from 
       (each_first d new to to_page count s a (named a d s new to to_page from from_page count first.can) first_fresh first.can.apart first_new_s)
       (all_pages a d s s new new to from to_page from_page count first_pass first.can.sound (copy_first d new to to_page s) first_step count (omega arith)).copied
 
--- Sources with one tree child --------------------------------------------------------------------------
+-- Sources with one tree child
 
 module _ (a : Arena) (d s h new w : NodeId) (to : CacheId) (to_page : PageNo) (from : CacheId) (from_page : PageNo) (count : ℕ) (more : CanCopyMore a d s h new w to to_page from from_page count) where
   pub history_held : (k : ℕ) → k < count → HasNode a (next_node h k)

@@ -15,7 +15,7 @@ use Rattle.history_tree.specs.Hanging.{set_one, set_two}
 use Rattle.tree_merge.specs.Copying.{AreApart, IsBeside, copied_first, copied_more, renewed}
 use Rattle.tree_merge.proofs.CopiedPages.Changes.{cell_by, change_both, change_change, change_new, change_without, change_working, find-new, find-new_other, find-without_other, new_without, working_renewed}
 
--- Steps -------------------------------------------------------------------------------------------
+-- Steps
 
 -- so many steps, one after the other
 abbrev pub each : (Arena → ℕ → Arena) → Arena → ℕ → Arena
@@ -71,7 +71,7 @@ module _ (count : ℕ) (n m : NodeId) (change : ℕ → Cell → Cell) (far : Ar
   without_passed : Passes (λ x j. without x (next_node m j)) (alter n change) count
   without_passed x i j less below = change_without x (next_node n i) (next_node m j) (far i j less below) (change i)
 
--- The kinds ---------------------------------------------------------------------------------------
+-- The kinds
 
 -- a tree link to the next parent, and one or two tree children
 abbrev hanging : NodeId → ℕ → Cell → Cell
@@ -100,7 +100,7 @@ each_working : (a : Arena) (w : NodeId) (k : ℕ) → each (λ x i. with_working
 each_working a w zero = refl
 each_working a w (suc k) = ap (λ (y : Arena). with_working y (next_node w k)) (each_working a w k)
 
--- Nodes go, and new ones come in their place --------------------------------------------------------
+-- Nodes go, and new ones come in their place
 
 module _ (d new : NodeId) (to : CacheId) (to_page : PageNo) where
   abbrev page_after : ℕ → PageNo
@@ -215,7 +215,7 @@ module _ (d new : NodeId) (to : CacheId) (to_page : PageNo) where
         (ap (λ (c : Cell). c.name) (cell_by a (without_many a d k) (next_node d k) (find_gone a k (next_node d k) (λ j less e. let same : d.0 + k ≡ d.0 + j = ap (λ (n : NodeId). n.0) e in omega arith))) ∙ named k (omega arith))
         k (omega arith) (omega (arith, room_gone a k)))
 
-  -- Sources without tree children -------------------------------------------------------------------
+  -- Sources without tree children
 
   -- the copy of one page, which becomes the only tree child of its source
   abbrev pub copy_first : NodeId → Arena → ℕ → Arena
@@ -241,7 +241,7 @@ module _ (d new : NodeId) (to : CacheId) (to_page : PageNo) where
         ∙ each_over (each renew a count) s new count
         ∙ ap (λ (y : Arena). over_many y s new count) (each_renewed count d_new a named count (omega arith)))
 
-  -- Sources with one tree child -----------------------------------------------------------------------
+  -- Sources with one tree child
 
   -- a new working node between a source and its tree child, and the copy of the page below it
   abbrev pub copy_more : (s h w : NodeId) → Arena → ℕ → Arena
@@ -279,8 +279,8 @@ module _ (d new : NodeId) (to : CacheId) (to_page : PageNo) where
     abbrev link_h : Arena → ℕ → Arena
     link_h = alter h (hanging w)
 
-    -- The steps up to each kind, in the order in which they are made of all pages: a working node is over its two
-    -- children before anything hangs on it.
+    -- The steps up to each kind, in the order in which they are made of all pages: a working node
+    -- is over its two children before anything hangs on it.
     abbrev to_work : Arena → ℕ → Arena
     to_work x i = work (renew x i) i
 

@@ -1,4 +1,5 @@
--- As many caches of the same sizes are live after the node of a page was retired, or a fresh one was made.
+-- As many caches of the same sizes are live after the node of a page was retired, or a fresh one
+-- was made.
 use Rattle.std.proofs.Common.{◌≡◌, ℕ, zero, suc, Some, None, refl, ap, ◌∙◌, arith}
 use Rattle.vm_ids.specs.declared.node_name.NodeName.{NodeName}
 use Rattle.vm_ids.specs.declared.numbers.NodeId.{NodeId}

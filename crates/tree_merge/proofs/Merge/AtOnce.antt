@@ -1,4 +1,5 @@
--- The only child takes the page and the place of a node where neither hangs by a stub link: it and the parent are written once each.
+-- The only child takes the page and the place of a node where neither hangs by a stub link: it and
+-- the parent are written once each.
 use Rattle.std.proofs.Common.{◌≡◌, ◌≢◌, ◌<◌, ◌≤◌, false, length, Option, Some, None, refl, sym, ap, ap₂, ◌∙◌, subst, arith}
 use Rattle.std.specs.Prelude.{IfSome}
 use Rattle.vm_ids.specs.Forest.Changes.{cut}
@@ -27,7 +28,7 @@ use Rattle.tree_merge.proofs.Place.Step.{Step}
 use Rattle.tree_merge.proofs.Place.TreeCut.{cut_tree-Step, few_tree}
 use Rattle.tree_merge.proofs.Place.TreeExchange.{take_tree_place-Step}
 
--- What is written ------------------------------------------------------------------------
+-- What is written
 
 module _ (a : Arena) (w y : NodeId) (y_w : y ≢ w) (s : OwnState) where
   -- what is done to a cell
@@ -102,7 +103,7 @@ module _ (a : Arena) (w y : NodeId) (y_w : y ≢ w) (s : OwnState) where
         ∙ altered_gone (alter (alter loose_first p (over w (Some y))) y (on (Some p))) w (over y None) refl
         ∙ ap (λ (x : Arena). without x w) (ap (λ (x : Arena). alter x y (on (Some p))) tree_first ∙ hung_last (alter a p (over w (Some y))) (Some p))
 
--- What is needed ---------------------------------------------------------------------------
+-- What is needed
 
 module _ (a : Arena) (sound : IsSound a) (w : NodeId) (hw : HasNode a w) where
   pub parent_held : (up : Option NodeId) → up ≡ (cell a w).links.parent → IfSome up (λ p. HasNode a p)
@@ -114,7 +115,7 @@ module _ (a : Arena) (sound : IsSound a) (w : NodeId) (hw : HasNode a w) where
   parent_few None is = tt
   parent_few (Some p) is = few_tree a sound p (sound.kept.parents w p hw (sym is))
 
--- What it is ------------------------------------------------------------------------------
+-- What it is
 
 module _ (a : Arena) (sound : IsSound a) (w y : NodeId) (hw : HasNode a w) (hy : HasNode a y) (up : parent (forest_of a) (name_of a y) ≡ Some (name_of a w))
     (few : child_count (forest_of a) (name_of a w) < 2) (w_tree : (cell a w).links.by_stub ≡ false) (y_tree : (cell a y).links.by_stub ≡ false)

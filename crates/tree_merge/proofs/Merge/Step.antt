@@ -27,7 +27,7 @@ use Rattle.tree_merge.specs.Staying.{HasNoChild, IsBelow, IsGone}
 use Rattle.tree_merge.proofs.ChildLists.Names.{only_child}
 use Rattle.tree_merge.proofs.Leaving.Freed.{gone-like}
 
--- In a forest ------------------------------------------------------------------------
+-- In a forest
 
 module _ {P : Type 0} (f : Forest P) (linked : IsLinked f) (w y : NodeName) (up : parent f y ≡ Some w) where
   pub below-cut : IsBelow (cut f y) w y
@@ -58,7 +58,7 @@ module _ {P : Type 0} (f : Forest P) (w y : NodeName) where
   unfolding settle_step
   settle_some e = ap (λ o. elim o [ None ↦ free (cut f w) w | Some z ↦ give_way (pass_page (cut f z) w z) w z ]) e
 
--- Of the caches ----------------------------------------------------------------------
+-- Of the caches
 
 own_after-like : (a b : Arena) (released : Released) → ((m : NodeId) → own_of b m ≡ own_of a m) → (m : NodeId) → own_after b released m ≡ own_after a released m
 own_after-like a b Nothing same m = same m
@@ -105,7 +105,7 @@ given_released a b w y released r e = e ∙ released-like a b w y r.own
 pub given_owns : (a b c d : Arena) (w : NodeId) (released : Released) → Rehung a b → ((m : NodeId) → own_of c m ≡ own_after b released m) → ((m : NodeId) → m ≢ w → own_of d m ≡ own_of c m) → OwnsAfter a d w released
 given_owns a b c d w released r passed went m ne = went m ne ∙ passed m ∙ own_after-like a b released r.own m
 
--- At the thin node -------------------------------------------------------------------
+-- At the thin node
 
 pub few_children : (a : Arena) → IsSound a → (w : NodeId) → IsLeastThin a (Some w) → child_count (forest_of a) (name_of a w) < 2
 few_children a sound w least =

@@ -27,7 +27,7 @@ use Rattle.local_cache.proofs.Whole.Pages.{page_there}
 apart_by_name : (a : Arena) (n m : NodeId) (x y : NodeName) → name_of a n ≡ x → name_of a m ≡ y → x ≢ y → n ≢ m
 apart_by_name a n m x y is_x is_y ne e = ne (sym is_x ∙ ap (name_of a) e ∙ is_y)
 
--- A page was detached ----------------------------------------------------------------
+-- A page was detached
 
 module _ (a b : Arena) (consistent : IsConsistent (forest_of a)) (to from : CacheId) (to_page from_page : PageNo) (pages : ArePages (forest_of a) (Live to to_page) (Live from from_page))
     (forest_is : forest_of b ≡ detach (forest_of a) (Live to to_page) None) (sound : IsSound b) where
@@ -49,9 +49,6 @@ module _ (a b : Arena) (consistent : IsConsistent (forest_of a)) (to from : Cach
 
   -- the nodes of the two pages
   module _ (d s : NodeId) (at_d : node_at b to.0 to_page.0 ≡ Some d) (at_s : node_at b from.0 from_page.0 ≡ Some s) where
-    pub fresh_held : HasNode b d
-    fresh_held = (sound.kept.listed.nodes to.0 to_page.0 d at_d).0
-
     pub fresh_name : name_of b d ≡ Live to to_page
     fresh_name = (sound.kept.listed.nodes to.0 to_page.0 d at_d).1
 
@@ -67,7 +64,7 @@ module _ (a b : Arena) (consistent : IsConsistent (forest_of a)) (to from : Cach
     pub fresh_apart : d ≢ s
     fresh_apart = apart_by_name b d s (Live to to_page) (Live from from_page) fresh_name origin_name pages.apart
 
--- The nodes that a tree link makes ----------------------------------------------------
+-- The nodes that a tree link makes
 
 -- the nodes of a forest after `link`: those that it had, and maybe the next working node
 module _ {P : Type 0} (f : Forest P) (c : IsConsistent f) (d s : NodeName) (pages : ArePages f d s) where

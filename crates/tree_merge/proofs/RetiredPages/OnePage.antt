@@ -34,7 +34,8 @@ pub record CanRetirePage (a : Arena) (d : NodeId) (cache : CacheId) (page : Page
   pub lone : IsLone (cell a d)
   pub named : name_of a d ≡ Live cache page
 
--- What it does: it is the rule, d is gone with its own page, and other nodes stay, as do the sizes of the caches.
+-- What it does: it is the rule, d is gone with its own page, and other nodes stay, as do the sizes
+-- of the caches.
 pub record PageGone (a b : Arena) (d : NodeId) (cache : CacheId) (page : PageNo) : Type 0 where
   pub forest : forest_of b ≡ retire (forest_of a) (Live cache page)
   pub sound : IsSound b

@@ -1,4 +1,5 @@
--- Where each working node has two children, the working nodes are fewer than the live ones, or there are none of either.
+-- Where each working node has two children, the working nodes are fewer than the live ones, or
+-- there are none of either.
 use Rattle.std.proofs.Common.{◌≡◌, ℕ, suc, zero, ◌+◌, ◌*◌, ◌<◌, ◌≤◌, List, [], ◌∷◌, ◌++◌, map, length, ◌≢◌, Bool, true, false, cond, not, T, ◌&&◌, ◌||◌, ◌⊎◌, Option, Some, None, refl, sym, ap, subst, ◌∙◌, inl, inr, arith, filter, ltb, ltb-true, ltb-false}
 use Rattle.std.specs.List.{list_any}
 use Rattle.std.specs.FinMap.Entries.{is_sorted, below_all}

@@ -23,10 +23,6 @@ left_stubs x (TreeOf p) y xs = xs
 left_stubs x (StubOf p) y xs = cond (same p y) (without x xs) xs
 
 module _ {P : Type 0} where
-  -- cut_stub, for a node that hangs by h
-  by_hang : Forest P → NodeName → Hang → Forest P
-  by_hang f x h = cond (is_stub h) (cut f x) f
-
   pub cut_stub-keeps : {A : Type 0} (col : Node P → A) → ((n : Node P) (h : Hang) → col (with_hang h n) ≡ col n) → ((n : Node P) (xs : List NodeName) → col (with_tree xs n) ≡ col n) → ((n : Node P) (xs : List NodeName) → col (with_stubs xs n) ≡ col n)
       → (f : Forest P) (x y : NodeName) → col (node (cut_stub f x) y) ≡ col (node f y)
   unfolding cut_stub cut

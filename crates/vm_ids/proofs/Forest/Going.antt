@@ -1,4 +1,5 @@
--- Nodes that go, one after the other, and settle then: their lost pages stay unseen, and at the end there is none.
+-- Nodes that go, one after the other, and settle then: their lost pages stay unseen, and at the end
+-- there is none.
 use Rattle.std.proofs.Common.{◌≡◌, ◌≢◌, ℕ, suc, zero, ◌+◌, ◌⊎◌, List, [], ◌∷◌, length, Bool, true, false, cond, Option, Some, None, is_some, refl, ap, subst, ◌∙◌, inl, inr, arith}
 use Rattle.std.specs.Option.{IsSome}
 use Rattle.vm_ids.specs.declared.node_name.NodeName.{NodeName}
@@ -173,7 +174,7 @@ module _ {P : Type 0} where
       let stays : (y : NodeName) → y ∈ firsts es → IsNode f y → IsNode g y = λ y i is. detach_stays f c e.0 at.0 at.1 new y (λ q. are.once.0 (subst (λ z. z ∈ firsts es) q i)) is in
       replace_pages-unseen es g (detach-consistent f c e.0 at.0 at.1 (not_lost e.1)) (still_pages f g (firsts es) stays (later_pages f e.0 (firsts es) are)) (detach-unseen f c e.0 at.0 at.1 (firsts es) u new refl)
 
-  -- Settle ---------------------------------------------------------------------------
+  -- Settle
 
   within-unseen : {May : NodeName → Type 0} (n : ℕ) (f : Forest (P × Bool)) → IsConsistent f → IsUnseen f May → IsUnseen (settle_within n f) May
   unfolding settle_within
@@ -188,7 +189,8 @@ module _ {P : Type 0} where
   unfolding settle
   settle-unseen f c u = within-unseen (len f.nodes) f c u
 
-  -- A working node that settle leaves has two children, and so either a stub, which has no own page, or two tree children.
+  -- A working node that settle leaves has two children, and so either a stub, which has no own
+  -- page, or two tree children.
   pub all_seen : (f : Forest (P × Bool)) → IsConsistent f × IsUnseen f (IsGoing []) → (x : NodeName) → IsLost (settle f) x → ⊥
   all_seen f k x l = elim (u.place x l) [ inl i ↦ i | inr working ↦ two x l working ]
     where

@@ -1,5 +1,5 @@
--- Forgotten pages, and pages told with whether they are lost: where no node has a lost one, it doesn't matter what stands
--- for it.
+-- Forgotten pages, and pages told with whether they are lost: where no node has a lost one, it
+-- doesn't matter what stands for it.
 use Rattle.std.proofs.Common.{◌≡◌, ◌≢◌, ◌⊎◌, List, [], ◌∷◌, Bool, true, false, cond, Option, Some, None, is_some, option_map, unwrap_or, refl, sym, ap, ◌∙◌, inl, inr}
 use Rattle.std.specs.Option.{IsSome}
 use Rattle.vm_ids.specs.declared.node_name.NodeName.{NodeName}

@@ -1,4 +1,5 @@
--- The rules go with a change of pages: a rule of the forest with other pages is the rule, with other pages then.
+-- The rules go with a change of pages: a rule of the forest with other pages is the rule, with
+-- other pages then.
 use Rattle.std.proofs.Common.{◌≡◌, ℕ, suc, zero, ◌+◌, List, [], ◌∷◌, ◌++◌, length, map, Bool, true, false, cond, ◌&&◌, Option, Some, None, is_none, is_some, option_map, unwrap_or, refl, sym, ap, ◌∙◌, filter, ltb}
 use Rattle.std.specs.Option.{option_or}
 use Rattle.std.specs.Ordering.{eq_by_cmp}
@@ -165,7 +166,7 @@ module _ {P Q : Type 0} (h : P → Q) where
   unfolding set_tree
   set_tree-map f p xs = hang_all-map _ xs (TreeOf p) ∙ ap (λ g. hang_all g xs (TreeOf p)) (edit-map f p _ (with_tree xs) (λ n. refl))
 
-  -- What is read of a forest ---------------------------------------------------------
+  -- What is read of a forest
 
   pub value_within-map : (n : ℕ) (f : Forest P) (x : NodeName) → value_within n (map_pages h f) x ≡ option_map h (value_within n f x)
   unfolding value_within
@@ -209,7 +210,7 @@ module _ {P Q : Type 0} (h : P → Q) where
   unfolding heir
   heir-map f x = ap (λ k. first (filter (λ t. is_none (node (map_pages h f) t).own) k.tree ++ k.stubs)) (node-map f x) ∙ ap (λ ts. first (ts ++ (node f x).stubs)) (filter-none f (node f x).tree)
 
-  -- The rules ------------------------------------------------------------------------
+  -- The rules
 
   pub gets-map : (f : Forest P) (x : NodeName) (v : Option P) → map_pages h (gets f x v) ≡ gets (map_pages h f) x (option_map h v)
   unfolding gets
@@ -263,19 +264,7 @@ module _ {P Q : Type 0} (h : P → Q) where
   unfolding stub
   stub-map f d s = edit-map _ d _ (with_hang (StubOf s)) (λ n. refl) ∙ ap (λ g. edit g d (with_hang (StubOf s))) (edit-map f s _ (λ n. with_stubs (n.stubs ++ d ∷ []) n) (λ n. refl))
 
-  pub forget-map : (f : Forest P) (x : NodeName) (p : P) → map_pages h (forget f x p) ≡ forget (map_pages h f) x (h p)
-  unfolding forget
-  forget-map f x p = go (node f x).own ∙ ap (λ o. elim o [ None ↦ map_pages h f | Some v ↦ edit (map_pages h f) x (with_own (Some (h p))) ]) (sym (own-map f x))
-    where
-      go : (o : Option P) → map_pages h (elim o [ None ↦ f | Some v ↦ edit f x (with_own (Some p)) ]) ≡ elim (option_map h o) [ None ↦ map_pages h f | Some v ↦ edit (map_pages h f) x (with_own (Some (h p))) ]
-      go None = refl
-      go (Some v) = put-map f x _ ∙ ap (λ n. put (map_pages h f) x (with_own (Some (h p)) n)) (sym (node-map f x))
-
-  pub forgotten-map : (xs : List NodeName) (p : P) (f : Forest P) → map_pages h (forgotten xs p f) ≡ forgotten xs (h p) (map_pages h f)
-  forgotten-map [] p f = refl
-  forgotten-map (x ∷ xs) p f = forgotten-map xs p (forget f x p) ∙ ap (forgotten xs (h p)) (forget-map f x p)
-
-  -- A step of settle -----------------------------------------------------------------
+  -- A step of settle
 
   option_or-map : (o p : Option P) → option_map h (option_or o p) ≡ option_or (option_map h o) (option_map h p)
   option_or-map None p = refl
@@ -310,14 +299,15 @@ module _ {P Q : Type 0} (h : P → Q) where
       go None = free-map _ w ∙ ap (λ g. free g w) (cut-map f w)
       go (Some y) = give_way-map _ w y ∙ ap (λ g. give_way g w y) (pass_page-map _ w y ∙ ap (λ g. pass_page g w y) (cut-map f y))
 
--- What is said of two forests by their bare forms ------------------------------------
+-- What is said of two forests by their bare forms
 
 pub node_at : {P : Type 0} (k : Forest P) (x : NodeName) (n : Node P) → get k.nodes x ≡ Some n → node k x ≡ n
 unfolding node
 node_at k x n e = ap (λ o. unwrap_or o (childless None Root)) e
 
 module _ {P : Type 0} where
-  -- Forests that are the same without their pages are equal, where each name has the same own page in both.
+  -- Forests that are the same without their pages are equal, where each name has the same own page
+  -- in both.
   pub equal_by_pages : (f g : Forest P) → bare f ≡ bare g → ((x : NodeName) → (node f x).own ≡ (node g x).own) → f ≡ g
   equal_by_pages f g alike pages = same_forest f g (λ x. go x (get f.nodes x) (get g.nodes x) refl refl)
       (sym (made-map no_page f) ∙ ap (λ k. k.made) alike ∙ made-map no_page g) (sym (copies-map no_page f) ∙ ap (λ k. k.copies) alike ∙ copies-map no_page g)
@@ -335,7 +325,7 @@ module _ {P : Type 0} where
           let owns : m.own ≡ n.own = ap (λ j. j.own) (sym (node_at f x m e)) ∙ pages x ∙ ap (λ j. j.own) (node_at g x n k) in
           e ∙ (λ i. Some (record { own = owns i; hang = (nodes i).hang; tree = (nodes i).tree; stubs = (nodes i).stubs })) ∙ sym k
 
--- Which working nodes are thin ---------------------------------------------------------
+-- Which working nodes are thin
 
 module _ {P Q : Type 0} (h : P → Q) where
   keys_mapped : (es : List (NodeName × Node P)) → map (λ e. e.0) (map_entries (map_node h) es) ≡ map (λ e. e.0) es

@@ -319,10 +319,6 @@ module _ {P : Type 0} where
     unfolding bare
     bare_d = gone f c d pages.destination pages.live_destination
 
-    has_s : IsNode bare s
-    unfolding bare
-    has_s = (retired f c d pages.destination pages.live_destination).stays s pages.source (λ e. pages.apart (sym e))
-
     moved : Forest P
     moved = rename bare s d
 

@@ -33,7 +33,7 @@ pairs_length : (c : CacheId) (p : ℕ) (d : CacheId) (q n : ℕ) → length (pag
 pairs_length c p d q zero = refl
 pairs_length c p d q (suc n) = ap suc (pairs_length c (p + 1) d (q + 1) n)
 
--- A copy -----------------------------------------------------------------------------
+-- A copy
 
 module _ {P : Type 0} (f : Forest P) (consistent : IsConsistent f) (is_small : Bool) (c : CacheId) (p : ℕ) (d : CacheId) (q n i : ℕ) (low : i < n) (can : CanCopy f (page_pairs c (p + i) d (q + i) (n - i))) where
   abbrev to : NodeName
@@ -51,26 +51,15 @@ module _ {P : Type 0} (f : Forest P) (consistent : IsConsistent f) (is_small : B
   pub pages_now : ArePages f (page_name d (q + i)) (page_name c (p + i))
   pages_now = first_pages f (to, from) rest can_now
 
-  can_then : CanCopy (copy_page is_small f (page_name d (q + i)) (page_name c (p + i))) (page_pairs c (p + (i + 1)) d (q + (i + 1)) (n - (i + 1)))
-  can_then = still_can f (copy_page is_small f to from) rest (λ x live is. copy_page_stays f consistent to from pages_now is_small x is) (later_can f (to, from) rest can_now)
-
-  copied_then : copy_pages is_small (page_pairs c (p + (i + 1)) d (q + (i + 1)) (n - (i + 1))) (copy_page is_small f (page_name d (q + i)) (page_name c (p + i))) ≡ copy_pages is_small (page_pairs c (p + i) d (q + i) (n - i)) f
-  copied_then = sym (ap (λ es. copy_pages is_small es f) (pairs_step c p d q n i low))
-
   -- the same of what the call leaves
   module _ (g : Forest P) (is : g ≡ copy_page is_small f (page_name d (q + i)) (page_name c (p + i))) where
-    pub can_by : CanCopy g (page_pairs c (p + (i + 1)) d (q + (i + 1)) (n - (i + 1)))
-    can_by = subst (λ h. CanCopy h rest) (sym is) can_then
-
-    pub copied_by : copy_pages is_small (page_pairs c (p + (i + 1)) d (q + (i + 1)) (n - (i + 1))) g ≡ copy_pages is_small (page_pairs c (p + i) d (q + i) (n - i)) f
-    copied_by = ap (copy_pages is_small rest) is ∙ copied_then
 
 module _ {P : Type 0} where
   -- all pages of a copy, and then settle
   pub copied : (f g h : Forest P) (s : Span) → g ≡ copy_pages (leb s.pages small_copy) (span_pairs s) f → h ≡ settle g → h ≡ copy false (span_pairs s) f
   copied f g h s pages settled = settled ∙ ap settle pages ∙ ap (λ n. settle (copy_pages (leb n small_copy) (span_pairs s) f)) (sym (pairs_length s.from s.from_page.0 s.to s.to_page.0 s.pages))
 
--- A move -----------------------------------------------------------------------------
+-- A move
 
 module _ {P : Type 0} (zeros : P) (f : Forest P) (c : CacheId) (p : ℕ) (d : CacheId) (q n i : ℕ) (low : i < n) where
   -- what the call leaves to be moved
@@ -87,7 +76,3 @@ module _ {P : Type 0} (zeros : P) (f : Forest P) (c : CacheId) (p : ℕ) (d : Ca
 
     pub move_now : ArePages f (page_name d (q + i)) (page_name c (p + i))
     move_now = first_pages f (page_name d (q + i), page_name c (p + i)) pairs_left can_move_now
-
-    pub can_move_by : (g : Forest P) → g ≡ move_page f (page_name d (q + i)) (page_name c (p + i)) zeros → CanCopy g (page_pairs c (p + (i + 1)) d (q + (i + 1)) (n - (i + 1)))
-    can_move_by g is = subst (λ h. CanCopy h pairs_left) (sym is)
-        (still_can f (move_page f (page_name d (q + i)) (page_name c (p + i)) zeros) pairs_left (λ x live is. move_page_stays f consistent (page_name d (q + i)) (page_name c (p + i)) move_now zeros x is) (later_can f (page_name d (q + i), page_name c (p + i)) pairs_left can_move_now))

@@ -46,7 +46,8 @@ module _ {P : Type 0} where
     unfolding path_of path_within
     path-step {x} r = steady (len f.nodes) [] {x = x} tt (λ y i. absurd i) (omega arith) r
 
-  -- a name has a value exactly where it is a node, so that one equation for each name is what agrees with a machine
+  -- a name has a value exactly where it is a node, so that one equation for each name is what
+  -- agrees with a machine
   pub IsNode-value : (f : Forest P) → IsWellShaped f → (x : NodeName) → IsNode f x ↔ IsSome (value_of f x)
   IsNode-value f shaped x = (
     λ is. ap is_some (value-IsValue f shaped.linked (has_value f shaped x is).1),

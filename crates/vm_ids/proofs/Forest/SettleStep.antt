@@ -132,7 +132,8 @@ module _ {P : Type 0} where
       unfolding f1
       f2-ranked z p up = cut-ranked f y linked.order.0 linked.order.1 z p (ap parent_of (sym (f2-hang z)) ∙ up)
 
-      -- what a forest says in which w goes: the pages are those of f2, y hangs where w hung, or has a page and no parent
+      -- what a forest says in which w goes: the pages are those of f2, y hangs where w hung, or has
+      -- a page and no parent
       record Instead (g : Forest P) : Type 0 where
         shape : IsLinked g
         own_is : (z : NodeName) → z ≢ w → (node g z).own ≡ (node f2 z).own

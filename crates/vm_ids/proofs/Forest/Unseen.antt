@@ -1,4 +1,5 @@
--- A page of which the node is about to go, and of which each child has an own page, is seen by nobody until it has gone.
+-- A page of which the node is about to go, and of which each child has an own page, is seen by
+-- nobody until it has gone.
 use Rattle.std.proofs.Common.{◌≡◌, ◌≤◌, ◌≢◌, ◌⊎◌, List, [], ◌∷◌, length, Bool, true, false, cond, ◌&&◌, ◌++◌, Option, Some, None, is_some, option_map, refl, sym, ap, subst, ◌∙◌, inl, inr, arith, le_trans}
 use Rattle.std.specs.Option.{IsSome, option_or}
 use Rattle.std.proofs.lemmas.List.{length-map}
@@ -20,15 +21,15 @@ use Rattle.vm_ids.proofs.Forest.Bound.{child_up}
 use Rattle.vm_ids.proofs.Forest.LostPages.{is_lost, IsLost}
 
 module _ {P : Type 0} where
-  -- Nobody sees a lost page. Its node is one of those that may have it, and has at most one tree child; and each of its
-  -- children has an own page.
+  -- Nobody sees a lost page. Its node is one of those that may have it, and has at most one tree
+  -- child; and each of its children has an own page.
   pub record IsUnseen (f : Forest (P × Bool)) (May : NodeName → Type 0) : Type 0 where
     pub place : (x : NodeName) → IsLost f x → May x
     pub few : (x : NodeName) → IsLost f x → length (node f x).tree ≤ 1
     pub owned : (x c : NodeName) → IsLost f x → parent f c ≡ Some x → IsSome (node f c).own
 
-  -- A change that loses no page, and under a lost page leaves no more tree children, and as children only such as have an
-  -- own page where a child had one.
+  -- A change that loses no page, and under a lost page leaves no more tree children, and as
+  -- children only such as have an own page where a child had one.
   pub record Covers (f g : Forest (P × Bool)) : Type 0 where
     pub lost : (x : NodeName) → IsLost g x → IsLost f x
     pub few : (x : NodeName) → IsLost g x → length (node g x).tree ≤ length (node f x).tree

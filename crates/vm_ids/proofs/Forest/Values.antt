@@ -37,7 +37,8 @@ module _ {P : Type 0} where
       go zero y is low = absurd (omega arith)
       go (suc n) y is low = step y (λ q lower r. go n q r (omega arith)) (local y v is)
 
-  -- Values are kept where each node that has one has it in g for another reason, or has the own page and parent that it had.
+  -- Values are kept where each node that has one has it in g for another reason, or has the own
+  -- page and parent that it had.
   pub values_kept : (f g : Forest P) → ((y : NodeName) (w : P) → IsValue f y w → IsValue g y w ⊎ (((node g y).own ≡ (node f y).own) × (parent g y ≡ parent f y))) → {y : NodeName} {w : P} → IsValue f y w → IsValue g y w
   values_kept f g each {y} {w} (itself e) = elim (each y w (itself e)) [ inl r ↦ r | inr k ↦ itself (k.0 ∙ e) ]
   values_kept f g each {y} {w} (above none up r) = elim (each y w (above none up r)) [ inl s ↦ s | inr k ↦ above (k.0 ∙ none) (k.1 ∙ up) (values_kept f g each r) ]

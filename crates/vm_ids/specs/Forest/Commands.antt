@@ -1,4 +1,5 @@
--- The rules of whole commands. `named` says whether the cache whose pages are replaced is named by a segment.
+-- The rules of whole commands. `named` says whether the cache whose pages are replaced is named by
+-- a segment.
 use Rattle.std.specs.Prelude.{ℕ, suc, zero, ◌+◌, List, [], ◌∷◌, map, length, Bool, true, Some, leb}
 use Rattle.vm_ids.specs.declared.numbers.CacheId.{CacheId}
 use Rattle.vm_ids.specs.declared.command.Span.{Span}
@@ -30,7 +31,8 @@ abbrev pub pages_at : {P : Type 0} → CacheId → ℕ → List P → List (Node
 pages_at c p [] = []
 pages_at c p (v ∷ vs) = (page_name c p, v) ∷ pages_at c (p + 1) vs
 
--- n pairs of a page of cache d, from page q on, and the page of cache c that is copied or moved to it
+-- n pairs of a page of cache d, from page q on, and the page of cache c that is copied or moved to
+-- it
 abbrev pub page_pairs : CacheId → ℕ → CacheId → ℕ → ℕ → List (NodeName × NodeName)
 page_pairs c p d q zero = []
 page_pairs c p d q (suc n) = (page_name d q, page_name c p) ∷ page_pairs c (p + 1) d (q + 1) n

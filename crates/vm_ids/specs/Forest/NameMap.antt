@@ -1,4 +1,5 @@
--- A finite map from names: std's `FinMap` over `name_cmp`, whose functions unfold here, so that examples compute.
+-- A finite map from names: std's `FinMap` over `name_cmp`, whose functions unfold here, so that
+-- examples compute.
 use Rattle.std.specs.Prelude.{◌≡◌, ℕ, Bool, not, T, List, [], ◌∷◌, map, length, is_some, Option}
 use mathlib.Core.HLevel.{Σ_prop_path}
 use lib.Dec.{T_prop}

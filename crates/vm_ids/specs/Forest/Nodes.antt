@@ -1,4 +1,5 @@
--- Page nodes and forests of them. P is the type of pages: bytes, or `Unit` for a forest without bytes.
+-- Page nodes and forests of them. P is the type of pages: bytes, or `Unit` for a forest without
+-- bytes.
 use Rattle.std.specs.Prelude.{ℕ, ◌+◌, List, [], length, Bool, true, false, Option, Some, None, unwrap_or}
 use Rattle.std.specs.Bool.{IsTrue}
 use Rattle.vm_ids.specs.declared.node_name.NodeName.{NodeName}
@@ -40,7 +41,8 @@ abbrev pub is_live : NodeName → Bool
 is_live (Live c p) = true
 is_live (Working k) = false
 
--- The tree child of a live node is its history. A working node stands between its own parent and two tree children.
+-- The tree child of a live node is its history. A working node stands between its own parent and
+-- two tree children.
 abbrev pub most_tree_children : NodeName → ℕ
 most_tree_children (Live c p) = 1
 most_tree_children (Working k) = 2

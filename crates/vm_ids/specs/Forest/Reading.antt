@@ -19,8 +19,8 @@ module _ {P : Type 0} where
   value_within zero f x = None
   value_within (suc n) f x = page_or (node f x).own (parent f x) (value_within n f)
 
-  -- The value of x: its own page, or else the value of its parent. A path by parents has no more nodes than the
-  -- forest, so that many steps are enough.
+  -- The value of x: its own page, or else the value of its parent. A path by parents has no more
+  -- nodes than the forest, so that many steps are enough.
   unfoldable pub value_of : Forest P → NodeName → Option P
   value_of f = value_within (len f.nodes) f
 

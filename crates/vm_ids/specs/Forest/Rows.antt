@@ -1,5 +1,6 @@
--- Worked scripts: what they leave in the forest, the chains and counts that they tell, and the pages that they load. A
--- page is shown by the number that its first bytes spell. The definitions compute each of them.
+-- Worked scripts: what they leave in the forest, the chains and counts that they tell, and the
+-- pages that they load. A page is shown by the number that its first bytes spell. The definitions
+-- compute each of them.
 use Rattle.std.specs.Prelude.{◌≡◌, ℕ, List, [], ◌∷◌, map, true, false, Some}
 use Rattle.vm_ids.specs.declared.node_name.NodeName.{NodeName}
 use Rattle.vm_ids.specs.declared.chain.ChainItem.{ChainItem}
@@ -14,7 +15,7 @@ use Rattle.vm_ids.specs.Forest.Saving.{saves, save_range}
 use Rattle.vm_ids.specs.Forest.Forgetting.{forgotten}
 use Rattle.vm_ids.specs.Forest.Commands.{page_name, page_names, pages_at, page_pairs, make, copy_pages, copy, move_, invalidate, destroy, lock}
 
--- Commands, as changes of the forest ---------------------------------------------
+-- Commands, as changes of the forest
 
 -- a command, as what it does to the forest
 abbrev pub Step : Type 0
@@ -71,7 +72,7 @@ lock_pages c p n = lock (page_names (record { 0 = c }) p n)
 abbrev pub invalidate_pages : ℕ → ℕ → List ℕ → Step
 invalidate_pages c p vs = invalidate (pages_at (record { 0 = c }) p vs)
 
--- What is told ---------------------------------------------------------------------
+-- What is told
 
 -- an item of a chain, and the line of counts
 abbrev pub item : NodeName → ℕ → ChainItem
@@ -313,7 +314,8 @@ moved_inside = script (temp 1 2 ∷ store 1 0 7 ∷ move_from 1 0 1 1 1 ∷ [])
 abbrev pub MoveInsideOneCache : Type 0
 MoveInsideOneCache = Loads moved_inside 1 0 0 × Loads moved_inside 1 1 7
 
--- A working node that hangs by a stub link goes, and its only child has a page of its own: the child hangs nowhere then.
+-- A working node that hangs by a stub link goes, and its only child has a page of its own: the
+-- child hangs nowhere then.
 abbrev pub under_a_stub : Forest ℕ
 under_a_stub =
     script (temp 1 1 ∷ temp 2 9 ∷ temp 3 9 ∷ store 1 0 1 ∷ copy_from 1 0 2 0 1
@@ -333,8 +335,8 @@ MergeUnderAStub =
     × Loads merged_under_a_stub 3 1 0
     × (counts_of merged_under_a_stub ≡ counts 10 0 1)
 
--- A copy that goes leaves its working node in its place among the stubs of the source, before the other copy: so it is
--- the heir.
+-- A copy that goes leaves its working node in its place among the stubs of the source, before the
+-- other copy: so it is the heir.
 abbrev pub middle_gone : Forest ℕ
 middle_gone = script (temp 1 1 ∷ temp 2 1 ∷ temp 3 1 ∷ temp 4 1 ∷ temp 5 1 ∷ store 1 0 1 ∷
     copy_from 1 0 2 0 1 ∷ copy_from 1 0 3 0 1 ∷ copy_from 2 0 4 0 1 ∷ copy_from 2 0 5 0 1 ∷

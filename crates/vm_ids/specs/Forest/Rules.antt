@@ -21,8 +21,8 @@ module _ {P : Type 0} where
   abbrev pub owned : Forest P → NodeName → Forest P
   owned f x = cond (is_none (node f x).own) (own f x) f
 
-  -- The heir of x keeps the page that x is about to lose: its tree child, where that has no own page, or else the
-  -- first of its stubs.
+  -- The heir of x keeps the page that x is about to lose: its tree child, where that has no own
+  -- page, or else the first of its stubs.
   unfoldable pub heir : Forest P → NodeName → Option NodeName
   heir f x = first (filter (λ t. is_none (node f t).own) (node f x).tree ++ (node f x).stubs)
 
@@ -42,19 +42,21 @@ module _ {P : Type 0} where
   unfoldable pub write : Forest P → NodeName → (P → P) → Forest P
   write f x change = edit (heir_gets (owned f x) x) x (λ n. with_own (option_map change n.own) n)
 
-  -- x stands for a page of a cache no more: it is freed, or it becomes the next working node where it has children.
+  -- x stands for a page of a cache no more: it is freed, or it becomes the next working node where
+  -- it has children.
   unfoldable pub retire : Forest P → NodeName → Forest P
   retire f x = elim (child_count f x) [
     | zero ↦ free (cut f x) x
     | suc n ↦ count_working (rename f x (Working (f.made + 1)))
   ]
 
-  -- x is retired, and a fresh node without parent and children takes its name, with this own page or with none.
+  -- x is retired, and a fresh node without parent and children takes its name, with this own page
+  -- or with none.
   unfoldable pub detach : Forest P → NodeName → Option P → Forest P
   detach f x page = put (retire f x) x (childless page Root)
 
-  -- The fresh node d, a page of a large copy, is linked to its source s: it becomes the tree child of s, or a new
-  -- working node comes between s and its tree child and takes d as its second child.
+  -- The fresh node d, a page of a large copy, is linked to its source s: it becomes the tree child
+  -- of s, or a new working node comes between s and its tree child and takes d as its second child.
   unfoldable pub link : Forest P → NodeName → NodeName → Forest P
   link f d s = elim (node f s).tree [
     | [] ↦ set_tree f s (d ∷ [])
@@ -70,6 +72,7 @@ module _ {P : Type 0} where
   abbrev pub copy_page : Bool → Forest P → NodeName → NodeName → Forest P
   copy_page is_small f d s = cond is_small (stub (detach f d None) d s) (link (detach f d None) d s)
 
-  -- One page of a move, from s to d: the node s becomes d with all that it has, and s is a fresh zero page.
+  -- One page of a move, from s to d: the node s becomes d with all that it has, and s is a fresh
+  -- zero page.
   abbrev pub move_page : Forest P → NodeName → NodeName → P → Forest P
   move_page f d s zeros = put (rename (retire f d) s d) s (childless (Some zeros) Root)

@@ -20,8 +20,8 @@ module _ {P : Type 0} where
   saves zero xs f = f
   saves (suc n) xs f = elim (unsaved f xs) [ None ↦ f | Some x ↦ saves n xs (heir_gets f x) ]
 
-  -- All saves of the range xs. Each gives an own page to a node that had none, so that as many as there are nodes
-  -- are enough.
+  -- All saves of the range xs. Each gives an own page to a node that had none, so that as many as
+  -- there are nodes are enough.
   unfoldable pub save_range : List NodeName → Forest P → Forest P
   save_range xs f = saves (len f.nodes) xs f
 

@@ -27,14 +27,14 @@ module _ {P : Type 0} where
   unfoldable pub pass_page : Forest P → NodeName → NodeName → Forest P
   pass_page f w y = edit f y (λ n. with_own (option_or n.own (node f w).own) n)
 
-  -- w goes, whose only child y was cut off: y takes its place, but has no parent where it would hang by a stub link
-  -- with an own page
+  -- w goes, whose only child y was cut off: y takes its place, but has no parent where it would
+  -- hang by a stub link with an own page
   unfoldable pub give_way : Forest P → NodeName → NodeName → Forest P
   give_way f w y =
       free (cond (is_stub (node f w).hang && is_some (node f y).own) (cut f w) (take_place f w y)) w
 
-  -- One step of settle, at the thin node w: it is freed, and its only child, where it has one, takes its page and
-  -- its place.
+  -- One step of settle, at the thin node w: it is freed, and its only child, where it has one,
+  -- takes its page and its place.
   unfoldable pub settle_step : Forest P → NodeName → Forest P
   settle_step f w = elim (first ((node f w).tree ++ (node f w).stubs)) [
     | None ↦ free (cut f w) w
@@ -46,6 +46,7 @@ module _ {P : Type 0} where
   settle_within zero f = f
   settle_within (suc n) f = elim (thin f) [ None ↦ f | Some w ↦ settle_within n (settle_step f w) ]
 
-  -- Steps of settle while a node is thin. Each takes a node away, so that as many as there are nodes are enough.
+  -- Steps of settle while a node is thin. Each takes a node away, so that as many as there are
+  -- nodes are enough.
   unfoldable pub settle : Forest P → Forest P
   settle f = settle_within (len f.nodes) f

@@ -17,7 +17,8 @@ module _ {P : Type 0} where
   --     order      no node is above itself, which a rank shows
   --     few      a live node has at most one tree child, a working node at most two
   --     stub_bare      a node that hangs by a stub link has no own page
-  --     tree_links, stub_links, once      a node stands in the list of its link at its parent, once, and in no other
+  --     tree_links, stub_links, once      a node stands in the list of its link at its parent,
+  --     once, and in no other
   pub record IsLinked (f : Forest P) : Type 0 where
     pub order : (rank : NodeName → ℕ) × IsRanked f rank
     pub few : (x : NodeName) → length (node f x).tree ≤ most_tree_children x
@@ -39,7 +40,8 @@ module _ {P : Type 0} where
   abbrev pub IsCounted : Forest P → Type 0
   IsCounted f = (k : ℕ) → IsNode f (Working k) → k ≤ f.made
 
-  -- What holds of a forest before and after every rule: the shape, and that the next working node's number is free.
+  -- What holds of a forest before and after every rule: the shape, and that the next working node's
+  -- number is free.
   pub record IsConsistent (f : Forest P) : Type 0 where
     pub shaped : IsWellShaped f
     pub counted : IsCounted f

@@ -301,7 +301,7 @@ module _ (m : Machine) (f : PageForest) (F : IsFollowed m f) where
 pub answers_are_followed : AnswersAreFollowed
 answers_are_followed m next f c h a rises laid whole w F o = followed_by m f F laid whole next c h a rises w o
 
--- Saves ------------------------------------------------------------------------------------
+-- Saves
 
 none_later : (f : PageForest) (xs : List NodeName) (n k : ℕ) → unsaved (saves n xs f) xs ≡ None → saves (n + k) xs f ≡ saves n xs f
 none_later f xs n zero e = ap (λ (j : ℕ). saves j xs f) (let s : n + 0 ≡ n = omega arith in s)

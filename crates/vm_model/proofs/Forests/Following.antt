@@ -37,7 +37,7 @@ use Rattle.vm_model.proofs.Parts.Lists.{get_set_same, get_set_other, length-over
 use Rattle.vm_model.proofs.Parts.ListParts.{get_take, get_drop, get_replicate, overwrite_before, overwrite_in, overwrite_behind, numbered_push, numbered_pushed, numbered_past, numbered_set, numbered_set_other}
 use Rattle.vm_model.proofs.Forests.Plain.{id_of, of_cache, one_cache, once_cache, names_of}
 
--- By values alone -------------------------------------------------------------------------
+-- By values alone
 
 some_told : (o : Option Page) → IsSome o → IsSome (option_map told o)
 some_told None h = absurd (cc)
@@ -90,7 +90,7 @@ there_within m n c page there less =
     let got = slice_get-get_or c.pages page [] less in
     (_, page_of_cache m n c page there ∙ got)
 
--- A new cache -----------------------------------------------------------------------------
+-- A new cache
 
 pub given_none : {A : Type 0} (es : List (NodeName × A)) (y : NodeName) → (y ∈ firsts es → ⊥) → given es y ≡ None
 given_none [] y out = refl
@@ -150,7 +150,7 @@ made_followed m f n c new F =
           ∙ sym (ap (λ (o : Option Cache). option_map told (option_and_then (λ (c : Cache). slice_get c.pages page) o)) (numbered_push m.caches (Some c) cache.0 (λ e. other (e ∙ sym new))))
     ])
 
--- A cache that goes -----------------------------------------------------------------------
+-- A cache that goes
 
 not_in : (xs : List NodeName) (y : NodeName) → (y ∈ xs → ⊥) → is_in y xs ≡ false
 not_in xs y out = go (is_in y xs) refl
@@ -208,7 +208,7 @@ destroyed_followed m f named cache c there F =
     gone false o (inl e) = absurd (cc e)
     gone false o (inr e) = e
 
--- Bytes that are written --------------------------------------------------------------------
+-- Bytes that are written
 
 told_written : (at : ℕ) (bytes : List ℕ) (b : ℕ) (page : Page) → told (overwrite at bytes (b ∷ page)) ≡ Some (overwrite at bytes (b ∷ page))
 told_written zero [] b page = refl
@@ -252,15 +252,11 @@ stored_followed m f at bytes c page there has some F =
           ∙ sym (ap (λ (o : Option Cache). option_map told (option_and_then (λ (c : Cache). slice_get c.pages p) o)) (numbered_set_other m.caches n cache.0 (Some (put_page at.page new c)) (numbered_place m.caches n c there).0 d))
     ])
 
--- Pages that are copied or moved --------------------------------------------------------------
+-- Pages that are copied or moved
 
 source_itself : (es : List (NodeName × NodeName)) (y : NodeName) → (y ∈ firsts es → ⊥) → source_of es y ≡ y
 source_itself [] y out = refl
 source_itself (e ∷ es) y out = ap (λ (b : Bool). cond b e.1 (source_of es y)) (same_apart y e.0 (λ q. out (inl q))) ∙ source_itself es y (λ i. out (inr i))
-
-decided : (b : Bool) → (b ≡ true) ⊎ (b ≡ false)
-decided true = inl refl
-decided false = inr refl
 
 -- a copy or move that isn't refused
 pub record IsAllowed (m : Machine) (s : Span) (source destination : Cache) : Type 0 where
@@ -418,7 +414,7 @@ module _ (m : Machine) (f : PageForest) (s : Span) (source destination : Cache) 
         by_values moved_machine (move_ named blanks (span_pairs s) f) (move_keeps_consistency named blanks (span_pairs s) f F.consistent can once)
         (λ cache page. move_moves named blanks (span_pairs s) f F.consistent can once (page_name cache page) refl ∙ moved_value blanks is cache page)
 
--- Pages that become those of the segment --------------------------------------------------------
+-- Pages that become those of the segment
 
 module _ (m : Machine) (f : PageForest) (F : IsFollowed m f) (e : Extent) (c : Cache) (part : List Page)
     (there : cache_of m e.cache.0 ≡ Some c) (ends : e.first.0 + e.pages ≤ length c.pages) (many : length part ≡ e.pages) where

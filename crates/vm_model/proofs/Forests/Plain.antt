@@ -31,7 +31,7 @@ use Rattle.vm_model.specs.PageForest.{PageForest, told, nodes_of, nodes_from, pl
 abbrev pub id_of : ℕ → CacheId
 id_of n = record { 0 = n }
 
--- The names of the pages of caches ----------------------------------------------------
+-- The names of the pages of caches
 
 pub names_of : (n : ℕ) (c : Cache) → firsts (nodes_of n (Some c)) ≡ page_names (id_of n) 0 (length c.pages)
 names_of n c = pages_have_their_names (id_of n) 0 (map told c.pages) ∙ ap (page_names (id_of n) 0) (length-map c.pages told)
@@ -97,7 +97,7 @@ page_there n (suc i) (o ∷ cs) c p e less =
     subst (λ xs. page_name (id_of (n + suc i)) p ∈ xs) (sym (firsts_append (nodes_of n o) (nodes_from (n + 1) cs)))
     (append_in (firsts (nodes_of n o)) _ _ (inr (subst (λ (k : ℕ). page_name (id_of k) p ∈ firsts (nodes_from (n + 1) cs)) (omega arith) (page_there (n + 1) i cs c p e less))))
 
--- What making nodes leaves ------------------------------------------------------------
+-- What making nodes leaves
 
 abbrev Pages : Type 0
 Pages = List (NodeName × Option Page)
@@ -148,7 +148,7 @@ none_left : (xs : List NodeName) → ((x : NodeName) → x ∈ xs → is_live x 
 none_left [] live = refl
 none_left (x ∷ xs) live = ap (λ b. length (cond (not b) (x ∷ filter (λ x. not (is_live x)) xs) (filter (λ x. not (is_live x)) xs))) (live x (inl refl)) ∙ none_left xs (λ y i. live y (inr i))
 
--- The plain forest ----------------------------------------------------------------------
+-- The plain forest
 
 nodes_length : (n : ℕ) (cs : List (Option Cache)) → length (nodes_from n cs) ≡ sum_by pages_in cs
 nodes_length n [] = refl

@@ -371,7 +371,7 @@ module _ (w : Machine) (f : PageForest) (F : IsFollowed (blank w) f) where
     followed_by next c h (Err (troubles.Mapper at)) rises some o = subst (λ (n : Machine). IsFollowed (blank n) (forest_after f (blank w) c (Err (troubles.Mapper at)) (blank n))) (sym o.0) (faulted c h at rises o.2)
     followed_by next c h (Err troubles.Memory) rises some o = subst (λ (n : Machine). IsFollowed (blank n) f) (sym o.0) F
 
--- Any answer ---------------------------------------------------------------------------------
+-- Any answer
 
 alike_after : (f : PageForest) (m : Machine) (c : Command) (n : Machine) (a b : Answer) → IsAlike a b → forest_after f m c a n ≡ forest_after f m c b n
 alike_after f m c n (Ok (replies.Bytes x)) (Ok (replies.Bytes y)) e = refl

@@ -152,7 +152,7 @@ extent_there m e seg = go (cache_of m e.cache.0) refl
     go None there named within = absurd (cc named)
     go (Some c) there named within = (c, there, named, inside_end e.first.0 e.pages c within)
 
--- In the tables --------------------------------------------------------------------------------
+-- In the tables
 
 -- a cache of the tables is that of the machine
 pub seen_there : (t : Tables) (n : ℕ) (c : tables.Cache) → numbered t.caches.items n ≡ Some c → cache_of (machine_seen t) n ≡ Some (cache_seen c)

@@ -15,7 +15,7 @@ use Rattle.vm_model.specs.Machine.{Machine, Cache, Region, Actor, cache_of, live
 use Rattle.vm_model.specs.Regions.{region_among, region_with, replace_in, replace_region, with_lock}
 use Rattle.vm_model.proofs.Parts.ListParts.{at_some}
 
--- Numbers in a row, one more --------------------------------------------------------------
+-- Numbers in a row, one more
 
 pub row_more : (first n : ℕ) → range_with_len first (n + 1) ≡ range_with_len first n ++ (first + n) ∷ []
 row_more first n = ap (range_with_len first) (let e : n + 1 ≡ suc n = omega arith in e) ∙ go first n
@@ -39,7 +39,7 @@ count_more p n here e =
     let at : 0 + n ≡ n = omega arith in
     sum_more (λ k. cond (p k) 1 0) 0 n ∙ ap (λ (b : Bool). count_by p (range_with_len 0 n) + cond b 1 0) (ap p at ∙ sym e)
 
--- No more pages are locked than there are ---------------------------------------------------
+-- No more pages are locked than there are
 
 few_locked : (m : Machine) (cache : ℕ) → locked_in m cache ≤ pages_in (cache_of m cache)
 few_locked m cache = omega (arith, count_by-le-length (is_locked_page m cache) (range_with_len 0 (pages_in (cache_of m cache))), length-range_with_len 0 (pages_in (cache_of m cache)))
@@ -71,7 +71,7 @@ locked_front m (suc k) h =
 pub locked_within : (m : Machine) (k : ℕ) → k ≤ length m.caches → sum_by (locked_in m) (range_with_len 1 k) ≤ live_pages m
 locked_within m k h = omega (arith, locked_front m k h, sum_by-take-le pages_in m.caches k)
 
--- A lock that is taken back ----------------------------------------------------------------
+-- A lock that is taken back
 
 module _ (n : ℕ) where
   abbrev locked_by : Bool → Region → Region

@@ -24,10 +24,6 @@ use Rattle.vm_model.specs.declared.tables.Tables.{Tables}
 use Rattle.vm_model.specs.Seen.{actor_seen, cache_seen, pages_seen, region_seen, machine_seen, IsPlaced, ArePlaced, HasPages, IsSound}
 use Rattle.vm_model.proofs.Parts.Lists.{at_number, is_there, length-overwrite, numbered-map, numbered-set, sum_by_same}
 
--- one actor more
-pub living-push : (xs : List (Option Actor)) (a : Actor) → count_by is_some (map (option_map actor_seen) (xs ++ Some a ∷ [])) ≡ count_by is_some (map (option_map actor_seen) xs) + 1
-living-push xs a = ap (count_by is_some) (map_push (option_map actor_seen) xs (Some a)) ∙ sum_by_push (λ o. cond (is_some o) 1 0) (map (option_map actor_seen) xs) (Some (actor_seen a))
-
 get-push : {A : Type 0} (xs : List A) (x : A) (n : ℕ) (y : A) → slice_get xs n ≡ Some y → slice_get (xs ++ x ∷ []) n ≡ Some y
 get-push [] x n y e = absurd (search rules)
 get-push (a ∷ xs) x zero y e = e

@@ -25,7 +25,7 @@ use Rattle.vm_model.specs.Seen.{actor_seen, cache_seen, pages_seen, region_seen,
 use Rattle.vm_model.proofs.Parts.Lists.{length-overwrite, at_number, numbered-map, numbered-set, numbered_place, sum_by_swap, numbered-other}
 use Rattle.vm_model.proofs.Forests.Plain.{plain_chain}
 
--- A cache that goes ----------------------------------------------------------------------
+-- A cache that goes
 
 neither : (a b : Bool) → (a || b) ≡ false → (a ≡ false) × (b ≡ false)
 neither true b e = absurd (search rules)
@@ -93,7 +93,7 @@ destroy_row t n c there free =
 pub seen_taken : (t : Tables) (n live : ℕ) (caches : Vec (Option Cache) Global) → caches.items ≡ set t.caches.items (n - 1) None → machine_seen (record t { caches = caches; live = live }) ≡ record (machine_seen t) { caches = set (machine_seen t).caches (n - 1) None }
 seen_taken t n live caches items = ap (λ cs. record (machine_seen t) { caches = cs }) (ap (map (option_map cache_seen)) items ∙ map-set (option_map cache_seen) t.caches.items (n - 1) None)
 
--- An actor that ends ----------------------------------------------------------------------
+-- An actor that ends
 
 -- it counts among the living ones
 left_living : (t : Tables) (n : ℕ) (a : Actor) → numbered t.actors.items n ≡ Some a → IsSound t → count_by is_some (set (machine_seen t).actors (n - 1) None) + 1 ≡ t.living
@@ -123,7 +123,7 @@ exit_row t n a actors living there items =
     let there' : model.actor_of (machine_seen t) n ≡ Some (actor_seen a) = numbered-map actor_seen t.actors.items n ∙ ap (option_map actor_seen) there in
     rw there' (ap (λ (xs : List (Option model.Actor)). reply replies.Done (record (machine_seen t) { actors = xs })) (sym (ap (map (option_map actor_seen)) items ∙ map-set (option_map actor_seen) t.actors.items (n - 1) None)))
 
--- A region that goes ----------------------------------------------------------------------
+-- A region that goes
 
 abbrev without_row : Tables → ℕ → model.Machine
 without_row t n = record (machine_seen t) { actors = map (option_map (without_region n)) (machine_seen t).actors }
@@ -181,7 +181,7 @@ living_still f (x ∷ xs) =
 pub living_without : (n : ℕ) (before after : List (Option Actor)) → map (option_map actor_seen) after ≡ map (option_map (without_region n)) (map (option_map actor_seen) before) → count_by is_some (map (option_map actor_seen) after) ≡ count_by is_some (map (option_map actor_seen) before)
 living_without n before after e = ap (count_by is_some) e ∙ living_still (without_region n) (map (option_map actor_seen) before)
 
--- Pages that move ---------------------------------------------------------------------------
+-- Pages that move
 
 pub from_some : {A B : Type 0} (f : A → B) (o : Option A) (z : B) → option_map f o ≡ Some z → (x : A) × (o ≡ Some x) × (f x ≡ z)
 from_some f None z e = absurd (search rules)
@@ -221,7 +221,7 @@ put_same from_page to_page pages source destination a b =
 pub some_with : {A : Type 0} (o : Option A) (x : A) (P : A → Type 0) → o ≡ Some x → P x → IsSomeAnd o P
 some_with {A} o x P e p = subst (λ (z : Option A). IsSomeAnd z P) (sym e) p
 
--- The chain of a page -----------------------------------------------------------------------
+-- The chain of a page
 
 pub chain_row : (t : Tables) (cache : CacheId) (page : PageNo) (c : Cache) → numbered t.caches.items cache.0 ≡ Some c → passes_end (cache_seen c) page.0 1 ≡ false
     → chain_answer (machine_seen t) (plain_forest (machine_seen t)) cache page.0 ≡ reply (replies.Chain (record { name = page_name cache page.0; children = 0 } ∷ [])) (machine_seen t)

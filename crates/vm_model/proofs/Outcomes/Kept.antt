@@ -1,4 +1,5 @@
--- What an outcome leaves of the page size, and how many pages it leaves and touches, with a record and without one.
+-- What an outcome leaves of the page size, and how many pages it leaves and touches, with a record
+-- and without one.
 use Rattle.std.proofs.Common.{◌≡◌, ◌⊎◌, inl, inr, ℕ, ◌*◌, ◌≤◌, List, [], ◌∷◌, map, Option, Some, None, refl, sym, ap, subst, ◌∙◌, arith}
 use Rattle.std.specs.Prelude.{Ok, Err, min, option_map, sum_by}
 use Rattle.std.specs.Option.{option_map_or}
@@ -27,7 +28,8 @@ abbrev pub IsNoRefusal : Answer → Type 0
 IsNoRefusal (Err (troubles.Refused r)) = ⊥
 IsNoRefusal a = Unit {0}
 
--- The page size stays; live pages stay within their limit; and what isn't refused touches few pages.
+-- The page size stays; live pages stay within their limit; and what isn't refused touches few
+-- pages.
 pub record IsKept (m : Machine) (c : Command) (a : Answer) (next : Machine) : Type 0 where
   pub page : next.page_bytes ≡ m.page_bytes
   pub live : live_pages m ≤ LIVE_PAGES → live_pages next ≤ LIVE_PAGES

@@ -342,7 +342,7 @@ module _ (m : Machine) (P : IsLaid m) where
   unfolding chain_answer
   chain_row f cache page = each_some RowLaid _ _ m _ P (λ c there. each_unless RowLaid _ _ m _ P (λ within. P))
 
--- The place of an access --------------------------------------------------------------------
+-- The place of an access
 
 quotient_less : (b n x : ℕ) → 1 ≤ b → x < b * n → x / b < n
 quotient_less b n x some less = grind (arith, common_steps)

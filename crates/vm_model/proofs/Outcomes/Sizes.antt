@@ -34,7 +34,8 @@ use Rattle.vm_model.specs.Outcome.{NotRefusedButFor}
 use Rattle.vm_model.proofs.Parts.Lists.{length-overwrite, at_number, numbered-set, sum_by_same, sum_by_part, sum_by_less}
 use Rattle.vm_model.proofs.Outcomes.Rows.{each_unless, each_some, each_ok}
 
--- The page size stays; live pages stay within their limit; and what isn't refused touches few pages.
+-- The page size stays; live pages stay within their limit; and what isn't refused touches few
+-- pages.
 pub record HasSizes (m : Machine) (c : Command) (a : Answered) : Type 0 where
   pub page : a.next.page_bytes ≡ m.page_bytes
   pub live : live_pages m ≤ LIVE_PAGES → live_pages a.next ≤ LIVE_PAGES

@@ -77,7 +77,7 @@ pub zero_or : (n : ℕ) → (n ≡ 0) ⊎ (1 ≤ n)
 zero_or zero = inl refl
 zero_or (suc n) = inr (omega arith)
 
--- What has a number, after a change -----------------------------------------------------
+-- What has a number, after a change
 
 module _ {A : Type 0} where
   pub at_zero : (xs : List (Option A)) (n : ℕ) → n ≡ 0 → numbered xs n ≡ None

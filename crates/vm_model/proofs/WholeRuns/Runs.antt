@@ -14,7 +14,8 @@ use Rattle.vm_model.specs.Asking.{IsWellFormed}
 use Rattle.vm_model.specs.Following.{forest_after}
 use Rattle.vm_model.specs.Outcome.{HasWholePages, IsWhole, Outcome, OutcomeAt}
 use Rattle.vm_model.specs.Pushing.{segments_after}
-use Rattle.vm_model.specs.Run.{AnswerIs, Chain, Read, State, Step, StepIs}
+use Rattle.vm_model.specs.Run.{AnswerIs, Read, State, StepIs, command_semantics}
+use Rattle.vm_model.specs.Steps.{Chain, Step}
 use Rattle.vm_model.specs.Laws.{IsFollowed, IsLaid, LieIn, RunsAreFollowed}
 use Rattle.vm_model.proofs.Forests.Followed.{answers_are_followed}
 use Rattle.vm_model.proofs.Forests.PlainFollows.{plain_forest_follows}
@@ -73,9 +74,9 @@ step_holds : (s t : State) (read : Read) (answer : Answer) (pushes : List (ℕ �
 step_holds s t (Err r) answer pushes rises w H is = subst Holds (sym is.same) H
 step_holds s t (Ok command) answer pushes rises w H is = answer_holds s t command answer pushes rises w H is
 
-chain_holds : (steps : List Step) (s t : State) → AllByRecursion (λ (step : Step). IfOk step.read IsWellFormed) steps → Holds s → Chain s steps t → Holds t
+chain_holds : (steps : List (Step Read)) (s t : State) → AllByRecursion (λ (step : Step Read). IfOk step.read IsWellFormed) steps → Holds s → Chain command_semantics s steps t → Holds t
 chain_holds [] s t w H c = subst Holds (sym c) H
-chain_holds (step ∷ steps) s t w H c = chain_holds steps c.0 t w.1 (step_holds s c.0 step.read step.answer step.pushes step.rises w.0 H c.1) c.2
+chain_holds (step ∷ steps) s t w H c = chain_holds steps c.0 t w.1 (step_holds s c.0 step.read step.answer c.1.0 step.rises w.0 H c.1.1) c.2
 
 start_follows : (frames bytes : ℕ) → IsFollowed (start frames bytes) no_forest
 unfolding plain_forest

@@ -17,7 +17,8 @@ use std::alloc::Global;
 use std::marker::Model;
 use vm_ids::{NoMemory, PageNo, SegId, SlotId};
 
-/// A mapper over pages in memory, which tells what it holds. It fails at the calls that it was told to.
+/// A mapper over pages in memory, which tells what it holds. It fails at the calls that it was told
+/// to.
 #[derive(Drop)]
 pub struct MemoryMapper {
     segments: Vec<Segment>,
@@ -48,10 +49,11 @@ impl Model for MemoryMapper {
 }
 
 impl MemoryMapper {
-    /// Over segments and swap slots in memory, with pages of `page` bytes, 1 to 65,536. Segment k is the kth vector
-    /// counted from 1, rounded up to whole pages with zeros. The pages in `denied` are denied for writing. There are
-    /// `slots` swap slots, and a push to any other fails. A call in `fails` fails; beside these nothing fails, and no
-    /// call takes memory. `NoMemory` where there is none for the segments and the slots.
+    /// Over segments and swap slots in memory, with pages of `page` bytes, 1 to 65,536. Segment k
+    /// is the kth vector counted from 1, rounded up to whole pages with zeros. The pages in
+    /// `denied` are denied for writing. There are `slots` swap slots, and a push to any other
+    /// fails. A call in `fails` fails; beside these nothing fails, and no call takes memory.
+    /// `NoMemory` where there is none for the segments and the slots.
     pub fn new(
         alloc: Global,
         segments: &[Vec<u8>],
@@ -120,7 +122,8 @@ impl MemoryMapper {
         }
     }
 
-    // Counts a call of this kind, with so many pulls and pushes. It fails where it was told to, or can't be answered.
+    // Counts a call of this kind, with so many pulls and pushes. It fails where it was told to, or
+    // can't be answered.
     fn may_fail(
         &mut self,
         kind: CallKind,

@@ -11,8 +11,8 @@ use std::alloc::Global;
 use std::marker::Model;
 use vm_ids::NoMemory;
 
-/// A sink into memory, which tells what was written. It fails at the calls that it was told to, and where no room is
-/// left.
+/// A sink into memory, which tells what was written. It fails at the calls that it was told to, and
+/// where no room is left.
 #[derive(Drop)]
 pub struct MemorySink {
     bytes: Vec<u8>,
@@ -37,8 +37,8 @@ impl Model for MemorySink {
 }
 
 impl MemorySink {
-    /// With room for so many bytes. It fails at the calls whose numbers, counted from 1, stand in `fails`. Its writes
-    /// take no memory. `NoMemory` where there is none for the room.
+    /// With room for so many bytes. It fails at the calls whose numbers, counted from 1, stand in
+    /// `fails`. Its writes take no memory. `NoMemory` where there is none for the room.
     pub fn new(alloc: Global, room: usize, fails: &[u32]) -> Result<MemorySink, NoMemory>
         ensures { IfOk result (λ s.
             s ≡ record { written = []; room = room; fails = fails.now; calls = 0; faults = 0 }) }

@@ -8,7 +8,8 @@ use super::calls::is_failing;
 use crate::{Failed, Source};
 use std::marker::Model;
 
-/// A source over bytes in memory, which tells what it has left. It fails at the calls that it was told to.
+/// A source over bytes in memory, which tells what it has left. It fails at the calls that it was
+/// told to.
 pub struct MemorySource<'a> {
     rest: &'a [u8],
     fails: &'a [u32],
@@ -44,7 +45,8 @@ impl<'a> Drop for MemorySource<'a> {
 }
 
 impl<'a> MemorySource<'a> {
-    /// Over these bytes. It fails at the calls whose numbers, counted from 1, stand in `fails`, and at no other.
+    /// Over these bytes. It fails at the calls whose numbers, counted from 1, stand in `fails`, and
+    /// at no other.
     pub fn new(bytes: &'a [u8], fails: &'a [u32]) -> MemorySource<'a>
         ensures { result ≡ record {
           left = bytes.now;

@@ -7,9 +7,10 @@ use crate::{Failed, Mapper};
 use std::marker::Model;
 use vm_ids::{PageNo, SegId, SlotId};
 
-/// A mapper that never fails and gives wrong pages: each byte of a page that it is asked for is the low
-/// byte of a number that rises by 1 with each pull, and what is pushed to it is lost. Every segment has
-/// 2 pages, and none is denied. It tells which page it gave last, and not what it holds.
+/// A mapper that never fails and gives wrong pages: each byte of a page that it is asked for is the
+/// low byte of a number that rises by 1 with each pull, and what is pushed to it is lost. Every
+/// segment has 2 pages, and none is denied. It tells which page it gave last, and not what it
+/// holds.
 #[derive(Drop)]
 pub struct WrongMapper {
     next: u32,

@@ -6,9 +6,10 @@ use super::fifo::next_true;
 use crate::Chooser;
 use std::marker::Model;
 
-/// A chooser by the clock, or second chance: from its hand upwards and once round it picks the first frame that may be
-/// evicted and isn't marked as referenced, and clears each mark that it passes. Where every such frame is marked, it
-/// picks the first from the hand that may be evicted. The hand then stands behind the pick.
+/// A chooser by the clock, or second chance: from its hand upwards and once round it picks the
+/// first frame that may be evicted and isn't marked as referenced, and clears each mark that it
+/// passes. Where every such frame is marked, it picks the first from the hand that may be evicted.
+/// The hand then stands behind the pick.
 #[derive(Drop)]
 pub struct Clock {
     hand: usize,
@@ -29,7 +30,8 @@ impl Clock {
     }
 }
 
-// The first place from `from` on and below `to` that may be picked and isn't marked. The marks before it are cleared.
+// The first place from `from` on and below `to` that may be picked and isn't marked. The marks
+// before it are cleared.
 fn sweep(may: &[bool], referenced: &mut [bool], from: usize, to: usize) -> Option<usize>
     requires lengths { length referenced.old ≡ length may.now }
     requires order { from ≤ to }
@@ -84,7 +86,8 @@ impl Chooser for Clock {
         ensures marks { (k : ℕ) → slice_get referenced.new k ≡ Some true
             → slice_get referenced.old k ≡ Some true }
         ensures hand { self.new ≡ result + 1 }
-        // Where some frame isn't marked, it picks the first such from the hand, and clears just the marks before it.
+        // Where some frame isn't marked, it picks the first such from the hand, and clears just the
+        // marks before it.
         ensures unmarked { (k : ℕ) → IsUnmarked may.now referenced.old k
             → IsUnmarked may.now referenced.old result }
         ensures first { (k : ℕ) → IsUnmarked may.now referenced.old k

@@ -5,8 +5,8 @@ ghost use Rattle.vm_port.specs.Choosing.{next_true};
 use crate::Chooser;
 use std::marker::Model;
 
-/// A chooser that goes round, first in, first out: it picks the first frame at or after its hand that may be evicted,
-/// and moves its hand behind it. Marks don't matter to it.
+/// A chooser that goes round, first in, first out: it picks the first frame at or after its hand
+/// that may be evicted, and moves its hand behind it. Marks don't matter to it.
 #[derive(Drop)]
 pub struct Fifo {
     hand: usize,

@@ -5,8 +5,9 @@ ghost use Rattle.vm_port.specs.Choosing.{chosen, next_choice, nth_true, true_pla
 use crate::Chooser;
 use std::marker::Model;
 
-/// A chooser that does as a list says: each pick takes the next number of the list, 0 once it is used up, and picks
-/// the place of that number among the frames that may be evicted, counted from 0 and round. Marks don't matter to it.
+/// A chooser that does as a list says: each pick takes the next number of the list, 0 once it is
+/// used up, and picks the place of that number among the frames that may be evicted, counted from 0
+/// and round. Marks don't matter to it.
 pub struct Listed<'a> {
     choices: &'a [u32],
 }

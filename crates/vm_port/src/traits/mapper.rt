@@ -9,14 +9,14 @@ ghost use Rattle.vm_port.specs.Sizes.{HasPagesOf};
 use crate::Failed;
 use vm_ids::{PageNo, SegId, SlotId};
 
-/// The keeper of segments and of the swap area, which answers the manager's upcalls (pullIn, pushOut and
-/// getWriteAccess of Abrossimov, Rozier and Shapiro, SOSP 1989).
+/// The keeper of segments and of the swap area, which answers the manager's upcalls (pullIn,
+/// pushOut and getWriteAccess of Abrossimov, Rozier and Shapiro, SOSP 1989).
 ///
-/// A pull is a call of `pull_in` or `swap_in`, a push one of `push_out` or `swap_out`; both count where they fail too.
-/// Only a push that didn't fail changes what the mapper holds.
+/// A pull is a call of `pull_in` or `swap_in`, a push one of `push_out` or `swap_out`; both count
+/// where they fail too. Only a push that didn't fail changes what the mapper holds.
 pub trait Mapper {
-    /// What it holds, where that is told: the pages of each segment, the page in each slot, and the pages that it
-    /// denies for writing.
+    /// What it holds, where that is told: the pages of each segment, the page in each slot, and the
+    /// pages that it denies for writing.
     ghost held: { Self → Option Held };
 
     /// The page that the last pull gave, where that is told.
@@ -25,7 +25,8 @@ pub trait Mapper {
     /// Its counts of faults, pulls and pushes.
     ghost counts: { Self → MapperCounts };
 
-    /// How many bytes its pages have, where that is told. Where it isn't, it takes slices of any length.
+    /// How many bytes its pages have, where that is told. Where it isn't, it takes slices of any
+    /// length.
     ghost page_bytes: { Self → Option ℕ };
 
     /// The number of pages of a segment, or `None` exactly where there is no such segment.

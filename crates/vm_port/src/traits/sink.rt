@@ -12,8 +12,8 @@ pub trait Sink {
     /// How many writes have failed.
     ghost faults: { Self → ℕ };
 
-    /// Takes bytes of the front of `from`, and answers how many, at least one. `Failed` where the sink has a fault;
-    /// then what was written is as it was.
+    /// Takes bytes of the front of `from`, and answers how many, at least one. `Failed` where the
+    /// sink has a fault; then what was written is as it was.
     fn write(&mut self, from: &[u8]) -> Result<usize, Failed>
         requires { 0 < length from.now }
         ensures least { IfOk result (λ n. 0 < n) }

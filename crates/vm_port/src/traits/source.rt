@@ -12,8 +12,8 @@ pub trait Source {
     /// How many reads have failed.
     ghost faults: { Self → ℕ };
 
-    /// Puts bytes in front of `into`, the front of what is left, and answers how many: none exactly at the end.
-    /// `Failed` where the source has a fault; then what is left is as it was.
+    /// Puts bytes in front of `into`, the front of what is left, and answers how many: none exactly
+    /// at the end. `Failed` where the source has a fault; then what is left is as it was.
     fn read(&mut self, into: &mut [u8]) -> Result<usize, Failed>
         requires { 0 < length into.old }
         ensures most { IfOk result (λ n. n ≤ length into.new) }

@@ -1,6 +1,6 @@
--- `part_mut` lends the slice that `run_mut` lends once more, under a new name. A slice that is lent keeps its length, so
--- that the vector's last value is said of a list of that length alone. The borrow checker doesn't know this of a
--- `follows`, and the proof walks the code by hand.
+-- `part_mut` lends the slice that `run_mut` lends once more, under a new name. A slice that is lent
+-- keeps its length, so that the vector's last value is said of a list of that length alone. The
+-- borrow checker doesn't know this of a `follows`, and the proof walks the code by hand.
 use Rattle.std.proofs.Common.{◌≡◌, ℕ, List, [], ◌∷◌, length, drop as drop_list, refl, sym, ap, ◌∙◌, w64, MutBor, Vec, Global, slice_range}
 use Rattle.std.proofs.raw_atomic.Walks.{proved}
 use Rattle.std.proofs.lemmas.List.{take_at}

@@ -91,7 +91,7 @@ module _ {P Q : Type 0} where
   unfolding settle
   settle_goes_with_pages h f = settle_within-map h (len f.nodes) f ∙ ap (λ n. settle_within n (map_pages h f)) (sym (len-map h f))
 
-  -- Saves ----------------------------------------------------------------------------
+  -- Saves
 
   pub is_unsaved-map : (h : P → Q) (f : Forest P) (x : NodeName) → is_unsaved (map_pages h f) x ≡ is_unsaved f x
   is_unsaved-map h f x = ap (λ o. is_some o && is_some (heir (map_pages h f) x)) (own-map h f x) ∙ ap (λ b. b && is_some (heir (map_pages h f) x)) (is_some-map h (node f x).own) ∙ ap (λ o. is_some (node f x).own && is_some o) (heir-map h f x)
@@ -115,7 +115,7 @@ module _ {P Q : Type 0} where
   saved-map h true xs f = saves_go_with_pages h (len f.nodes) xs f ∙ ap (λ n. saves n xs (map_pages h f)) (sym (len-map h f))
   saved-map h false xs f = refl
 
-  -- Whole commands -------------------------------------------------------------------
+  -- Whole commands
 
   pub make_goes_with_pages : MakeGoesWithPages P Q
   make_goes_with_pages h [] f = refl

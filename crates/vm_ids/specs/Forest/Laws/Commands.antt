@@ -101,7 +101,8 @@ module _ (P : Type 0) where
       → IsConsistent f
       → CanCopy f pairs → Once (seconds pairs) → IsConsistent (move_ named zeros pairs f)
 
-  -- Each destination has what its source had, each source is zero, and every other page has what it had.
+  -- Each destination has what its source had, each source is zero, and every other page has what it
+  -- had.
   abbrev pub MoveMoves : Type 0
   MoveMoves =
       (named : Bool) (zeros : P) (pairs : List (NodeName × NodeName)) (f : Forest P)

@@ -1,6 +1,6 @@
 -- What the pages of a range hold isn't seen when they go behind the saves of the range: a command
--- that forgets them there, whatever page p takes their places, and goes on without saves, leaves the
--- forest that it leaves anyway.
+-- that forgets them there, whatever page p takes their places, and goes on without saves, leaves
+-- the forest that it leaves anyway.
 use Rattle.std.specs.Prelude.{◌≡◌, List, true, false}
 use Rattle.vm_ids.specs.declared.node_name.NodeName.{NodeName}
 use Rattle.vm_ids.specs.Forest.Nodes.{Forest}

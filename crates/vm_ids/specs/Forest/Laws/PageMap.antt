@@ -1,4 +1,5 @@
--- What is read of a forest, and what the rules do, goes with a change of its pages: no rule looks at what a page holds.
+-- What is read of a forest, and what the rules do, goes with a change of its pages: no rule looks
+-- at what a page holds.
 use Rattle.std.specs.Prelude.{◌≡◌, ℕ, List, Bool, Option, option_map}
 use Rattle.vm_ids.specs.declared.node_name.NodeName.{NodeName}
 use Rattle.vm_ids.specs.Forest.Nodes.{Forest}

@@ -242,7 +242,7 @@ returns-clause-writable g c =
     let e = c.copy_pages.ensures in
     λ page of. homes_writable _ c.self-2.inside.caches c.copy_pages.new.caches e.kept.sizes e.kept.homes (page_name (replaced c.args.span).cache page) ((ready_span g (goal.at.returns-clause-writable g c).After-self-2).ready.writable page of)
 
--- Which pages come to frames ------------------------------------------------------------------------
+-- Which pages come to frames
 
 -- none but those of the saves before the pages are replaced
 filled : (g : Over) (c : After-make_ready g) → FillsOnly (replaced c.args.span) (λ x. ⊥) c.args.self.now c.make_ready.new.self

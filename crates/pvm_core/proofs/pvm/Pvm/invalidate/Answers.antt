@@ -287,7 +287,7 @@ returns-clause-call g c = record {
 pub returns-clause-taken : goal.returns-clause-taken
 returns-clause-taken g c = (taken g c).1
 
--- Copies and grants ---------------------------------------------------------------------------------
+-- Copies and grants
 
 pub returns-in-Some-clause-memory : goal.returns-in-Some-clause-memory
 returns-in-Some-clause-memory g c = λ memory. absurd (let k : troubles.Refused c.in-Some.refusal ≡ troubles.Memory = cc memory in cc k)

@@ -203,7 +203,7 @@ returns-clause-idle g c = λ nothing.
       subst (λ (p : Manager). HasMoreRoom p c.save.new.self) c.self.view_is (subst (HasMoreRoom p) (sym idle.0) (more_room i.caches c.grant_range.new.caches b i.store i.contexts still.1 c.reserve.ensures.kept)),
     )
 
--- Write access is asked first ---------------------------------------------------------------------
+-- Write access is asked first
 
 asked : (g : Over) (c : After-grant_range g) → OnlyAsked g.M.Mapper c.args.mapper.now c.grant_range.new.mapper
 asked g c = (let e = c.grant_range.ensures in record { traffic = e.traffic; held = e.held; given = e.given })
@@ -251,7 +251,7 @@ returns-clause-still g c = λ none.
       subst (CopiesNothing c.args.self.now) (sym s.0) (same_store g at.After-grant_range c.reserve.new.self (ap (λ (k : Arena). k.copies) c.reserve.ensures.kept)),
     )
 
--- Which pages come to frames ------------------------------------------------------------------------
+-- Which pages come to frames
 
 -- none while writes are granted and room is taken
 unfilled : (g : Over) (c : After-grant_range g) (b : Arena) (q : Manager) → b.cells ≡ c.grant_range.new.caches.cells → b.made ≡ c.grant_range.new.caches.made → b.copies ≡ c.grant_range.new.caches.copies → arena.forest_of b ≡ arena.forest_of c.grant_range.new.caches → FillsOnly c.args.range (λ x. ⊥) (seen b c.self.inside.store c.self.inside.contexts) q → FillsOnly c.args.range (λ x. ⊥) c.args.self.now q

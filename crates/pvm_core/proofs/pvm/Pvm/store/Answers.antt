@@ -581,7 +581,7 @@ returns-in-Err-clause-copies g c =
     let n = c.write_fault.new in
     subst (λ (p : Manager). n.caches.copies ≤ p.caches.copies + 2) c.self.view_is (omega (arith, kept_copies (g.M.Mapper.held c.grant_range.new.mapper) (g.M.Mapper.held c.write_fault.new.mapper) (g.M.Mapper.page_bytes c.grant_range.new.mapper) (g.M.Mapper.page_bytes n.mapper) c.grant_range.new.caches n.caches c.self.inside.store n.store c.in-Err.ensures.missed.forest, c.grant_range.ensures.nodes.copies))
 
--- What stays granted ------------------------------------------------------------------------
+-- What stays granted
 
 pub returns-in-Some-clause-grants : goal.returns-in-Some-clause-grants
 unfolding put
@@ -605,7 +605,7 @@ returns-in-Ok-clause-grants g c = kept_grants g (goal.at.returns-in-Ok-clause-gr
 pub returns-in-Err-clause-grants : goal.returns-in-Err-clause-grants
 returns-in-Err-clause-grants g c = kept_grants g (goal.at.returns-in-Err-clause-grants g c).After-write_fault
 
--- What was asked in vain --------------------------------------------------------------------
+-- What was asked in vain
 
 pub returns-in_err-place-clause-asked : goal.returns-in_err-place-clause-asked
 returns-in_err-place-clause-asked g c =
