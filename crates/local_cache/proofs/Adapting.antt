@@ -74,5 +74,3 @@ module _ (l : NodeLists) (kept : IsKept l) (runs : Stretches Run)
         others = refl;
         cells = are;
       }
-
-module _ (old mid : NodeLists) (adapted : HasAdapted old mid) (n : ℕ) where

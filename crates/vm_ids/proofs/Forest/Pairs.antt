@@ -51,9 +51,6 @@ module _ {P : Type 0} (f : Forest P) (consistent : IsConsistent f) (is_small : B
   pub pages_now : ArePages f (page_name d (q + i)) (page_name c (p + i))
   pages_now = first_pages f (to, from) rest can_now
 
-  -- the same of what the call leaves
-  module _ (g : Forest P) (is : g ≡ copy_page is_small f (page_name d (q + i)) (page_name c (p + i))) where
-
 module _ {P : Type 0} where
   -- all pages of a copy, and then settle
   pub copied : (f g h : Forest P) (s : Span) → g ≡ copy_pages (leb s.pages small_copy) (span_pairs s) f → h ≡ settle g → h ≡ copy false (span_pairs s) f
