@@ -10,12 +10,13 @@ use Rattle.vm_model.specs.Asking.{IsWellFormed}
 use Rattle.vm_model.specs.Laws.{IsFollowed}
 use Rattle.vm_model.specs.Machine.{Machine, live_pages, start}
 use Rattle.vm_model.specs.PageForest.{PageForest}
-use Rattle.vm_model.specs.Run.{Chain, Read, Step, State, RunOf, lines_answered, numbered_from}
+use Rattle.vm_model.specs.Run.{Read, State, command_semantics}
+use Rattle.vm_model.specs.Steps.{Chain, Step, lines_answered, numbered_from}
 use Rattle.vm_model.specs.declared.limits.TheConstants.{LIVE_PAGES}
 use Rattle.vm_model.proofs.WholeRuns.Runs.{runs_are_followed}
 use Rattle.actor_script.specs.Forms.{command_of}
 use Rattle.replay.specs.Script.{most_bytes, lines_of}
-use Rattle.replay.specs.Ending.{Scene, Took, Ends, RunEnds}
+use Rattle.replay.specs.Ending.{AnswersInTurn, Scene, Took, Ends, RunEnds}
 use Rattle.gmi_calls.specs.Calling.{Fits}
 use Rattle.replay.specs.declared.status.Status.{Status}
 use Rattle.replay.specs.declared.asked.Asked.{Asked}
@@ -36,7 +37,7 @@ front_formed : (front back : List Read) → AreWellFormed (front ++ back) → Ar
 front_formed [] back h = tt
 front_formed (r ∷ front) back h = (h.0, front_formed front back h.1)
 
-steps_formed : (first : ℕ) (reads : List Read) (steps : List Step) → lines_answered steps ≡ numbered_from first reads → AreWellFormed reads → AllByRecursion (λ (step : Step). IfOk step.read IsWellFormed) steps
+steps_formed : (first : ℕ) (reads : List Read) (steps : List (Step Read)) → lines_answered steps ≡ numbered_from first reads → AreWellFormed reads → AllByRecursion (λ (step : Step Read). IfOk step.read IsWellFormed) steps
 steps_formed first reads [] e h = tt
 steps_formed first [] (step ∷ steps) e h = absurd (cc)
 steps_formed first (r ∷ reads) (step ∷ steps) e h =
@@ -46,9 +47,9 @@ steps_formed first (r ∷ reads) (step ∷ steps) e h =
     (subst (λ (read : Read). IfOk read IsWellFormed) (sym same) h.0, steps_formed (first + 1) reads steps rest h.1)
 
 module _ (a : Scene) (frames page : ℕ) (some : 1 ≤ page) (told : Option Segments) (begins : a.state ≡ record { machine = start frames page; forest = Some no_forest; segments = told }) where
-  pub run_followed : (reads : List Read) (steps : List Step) (after : State) → AreWellFormed reads → RunOf a.state reads steps after → IsSomeAnd after.forest (IsFollowed after.machine)
+  pub run_followed : (reads : List Read) (steps : List (Step Read)) (after : State) → AreWellFormed reads → AnswersInTurn a.state reads steps after → IsSomeAnd after.forest (IsFollowed after.machine)
   run_followed reads steps after h run =
-      runs_are_followed frames page told steps after some (steps_formed 1 reads steps run.order h) (subst (λ (s : State). Chain s steps after) begins run.chain)
+      runs_are_followed frames page told steps after some (steps_formed 1 reads steps run.order h) (subst (λ (s : State). Chain command_semantics s steps after) begins run.chain)
 
   pub ends_followed : (status : Status) (b : Scene) (l k : Option (List ℕ)) → Ends status a b l k → IsSomeAnd b.state.forest (IsFollowed b.state.machine)
   ends_followed statuses.Done b l k h = run_followed _ h.answered.steps b.state (lines_formed (lines_of h.script)) h.answered.runs

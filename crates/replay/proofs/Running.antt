@@ -9,19 +9,20 @@ use Rattle.vm_ids.specs.declared.refusal.Refusal.{Refusal}
 use Rattle.vm_ids.specs.declared.reply.Trouble.TheVariants.{Refused}
 use Rattle.vm_model.specs.Answering.{Answer}
 use Rattle.gmi_calls.specs.Room.{CallWithin, StaysLimited}
-use Rattle.vm_model.specs.Run.{CallIs, Read, Step, State, StepIs, Chain, RunOf, numbered_from, rises_of}
+use Rattle.vm_model.specs.Run.{CallIs, IsAnswered, Read, State, StepIs, command_semantics}
+use Rattle.vm_model.specs.Steps.{Chain, Step, numbered_from, rises_of}
 use Rattle.actor_script.specs.Forms.{command_of}
 use Rattle.actor_script.specs.Text.{text_of}
 use Rattle.actor_script.specs.Writing.{Writes, WritesFront}
-use Rattle.replay.specs.Ending.{Scene, Answered, texts_of}
+use Rattle.replay.specs.Ending.{AnswersInTurn, Scene, Answered, texts_of}
 use Rattle.replay.specs.Going.{AnsweredOr}
 use Rattle.replay.specs.OneLine.{LineDone, LineIs}
 use Rattle.actor_script.proofs.Written.{writes_none, writes_then, front_then}
 
 -- runs
 
-chain_then : (s : State) (xs : List Step) (t : State) (ys : List Step) (u : State) → Chain s xs t → Chain t ys u → Chain s (xs ++ ys) u
-chain_then s [] t ys u p q = subst (λ (r : State). Chain r ys u) p q
+chain_then : (s : State) (xs : List (Step Read)) (t : State) (ys : List (Step Read)) (u : State) → Chain command_semantics s xs t → Chain command_semantics t ys u → Chain command_semantics s (xs ++ ys) u
+chain_then s [] t ys u p q = subst (λ (r : State). Chain command_semantics r ys u) p q
 chain_then s (x ∷ xs) t ys u p q = (p.0, p.1, chain_then p.0 xs t ys u p.2 q)
 
 numbered-push : (first : ℕ) (reads : List Read) (read : Read) → numbered_from first reads ++ (first + length reads, read) ∷ [] ≡ numbered_from first (reads ++ read ∷ [])
@@ -31,10 +32,10 @@ numbered-push first (r ∷ reads) read =
     ap (λ (k : ℕ). (first, r) ∷ (numbered_from (first + 1) reads ++ (k, read) ∷ [])) same
     ∙ ap (λ (l : List (ℕ × Read)). (first, r) ∷ l) (numbered-push (first + 1) reads read)
 
-pub run_push : (s : State) (reads : List Read) (steps : List Step) (t : State) (step : Step) (u : State) → RunOf s reads steps t → step.number ≡ 1 + length reads → StepIs t step.read step.answer step.pushes step.rises u → RunOf s (reads ++ step.read ∷ []) (steps ++ step ∷ []) u
+pub run_push : (s : State) (reads : List Read) (steps : List (Step Read)) (t : State) (step : Step Read) (u : State) → AnswersInTurn s reads steps t → step.number ≡ 1 + length reads → IsAnswered t step.read step.answer step.rises u → AnswersInTurn s (reads ++ step.read ∷ []) (steps ++ step ∷ []) u
 run_push s reads steps t step u run at is = record {
   chain = chain_then s steps t (step ∷ []) u run.chain (u, is, refl);
-  order = map-append (λ (x : Step). (x.number, x.read)) steps (step ∷ [])
+  order = map-append (λ (x : Step Read). (x.number, x.read)) steps (step ∷ [])
       ∙ ap (λ (l : List (ℕ × Read)). l ++ (step.number, step.read) ∷ []) run.order
       ∙ ap (λ (k : ℕ). numbered_from 1 reads ++ (k, step.read) ∷ []) at
       ∙ numbered-push 1 reads step.read;
@@ -51,7 +52,7 @@ none_sum x = λ i. record { faults = sym (zero-add x.faults) i; pulls = sym (zer
 sum_assoc : (x y z : MapperCounts) → counts_sum (counts_sum x y) z ≡ counts_sum x (counts_sum y z)
 sum_assoc x y z = λ i. record { faults = add_assoc x.faults y.faults z.faults i; pulls = add_assoc x.pulls y.pulls z.pulls i; pushes = add_assoc x.pushes y.pushes z.pushes i }
 
-pub rises-push : (steps : List Step) (step : Step) → counts_sum (rises_of steps) step.rises ≡ rises_of (steps ++ step ∷ [])
+pub rises-push : (steps : List (Step Read)) (step : Step Read) → counts_sum (rises_of steps) step.rises ≡ rises_of (steps ++ step ∷ [])
 rises-push [] step = sym (none_sum step.rises) ∙ sym (sum_none step.rises)
 rises-push (x ∷ steps) step = sum_assoc x.rises (rises_of steps) step.rises ∙ ap (counts_sum x.rises) (rises-push steps step)
 
@@ -75,9 +76,9 @@ rise_none a = record {
   pushes = λ h. omega arith;
 }
 
-texts-push : (steps : List Step) (step : Step) → texts_of steps ++ text_of step.number step.answer ≡ texts_of (steps ++ step ∷ [])
+texts-push : (steps : List (Step Read)) (step : Step Read) → texts_of steps ++ text_of step.number step.answer ≡ texts_of (steps ++ step ∷ [])
 texts-push steps step =
-    let text = λ (x : Step). text_of x.number x.answer in
+    let text = λ (x : Step Read). text_of x.number x.answer in
     ap (λ (l : List ℕ). texts_of steps ++ l) (sym (append-nil (text step))) ∙ sym (flat_map-append text steps (step ∷ []))
 
 -- nothing is answered yet
@@ -89,26 +90,26 @@ answered_none s = record {
   writes = writes_none s.written;
 }
 
-abbrev pub step_of_line : ℕ → Read → Answer → List (ℕ × ℕ) → MapperCounts → Step
-step_of_line number read answer pushes rises = record { number = number; read = read; answer = answer; pushes = pushes; rises = rises }
+abbrev pub step_of_line : ℕ → Read → Answer → MapperCounts → Step Read
+step_of_line number read answer rises = record { number = number; read = read; answer = answer; rises = rises }
 
 -- a line more
 pub answered_more : {T E : Type 0} (r : Result T E) (a b c : Scene) (reads : List Read) (number : ℕ) (read : Read) → Answered a b reads → number ≡ 1 + length reads → LineDone r number read b c → AnsweredOr r a c (reads ++ read ∷ [])
 answered_more (Ok x) a b c reads number read h at done =
     let line = done.line in
-    let step = step_of_line number read done.answer line.pushes line.rises in
+    let step = step_of_line number read done.answer line.rises in
     record {
       steps = h.steps ++ step ∷ [];
-      runs = run_push a.state reads h.steps b.state step c.state h.runs at line.is;
+      runs = run_push a.state reads h.steps b.state step c.state h.runs at (line.pushes, line.is);
       rose = subst (Rise a.counts c.counts) (rises-push h.steps step) (rise_then a.counts b.counts c.counts (rises_of h.steps) step.rises h.rose line.rose);
       writes = subst (Writes a.written c.written) (texts-push h.steps step) (writes_then a.written b.written c.written (texts_of h.steps) (text_of number done.answer) h.writes done.wrote);
     }
 answered_more (Err x) a b c reads number read h at done =
     let line = done.line in
-    let step = step_of_line number read done.answer line.pushes line.rises in
+    let step = step_of_line number read done.answer line.rises in
     record {
       steps = h.steps ++ step ∷ [];
-      runs = run_push a.state reads h.steps b.state step c.state h.runs at line.is;
+      runs = run_push a.state reads h.steps b.state step c.state h.runs at (line.pushes, line.is);
       rose = subst (Rise a.counts c.counts) (rises-push h.steps step) (rise_then a.counts b.counts c.counts (rises_of h.steps) step.rises h.rose line.rose);
       writes = subst (WritesFront a.written c.written) (texts-push h.steps step) (front_then a.written b.written c.written (texts_of h.steps) (text_of number done.answer) h.writes done.wrote);
     }

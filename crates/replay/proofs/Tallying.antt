@@ -7,13 +7,14 @@ use Rattle.vm_ids.specs.declared.command.Command.TheVariants.{Stat}
 use Rattle.vm_ids.specs.declared.reply.Counts.{Counts}
 use Rattle.vm_ids.specs.declared.reply.Reply.TheVariants as replies
 use Rattle.vm_model.specs.Answering.{Answer}
-use Rattle.vm_model.specs.Run.{Read, RunOf, State, Step, rises_of}
+use Rattle.vm_model.specs.Run.{Read, State}
+use Rattle.vm_model.specs.Steps.{Step, rises_of}
 use Rattle.actor_script.specs.Forms.{command_of}
 use Rattle.actor_script.specs.Generator.{Position, lines_from}
 use Rattle.actor_script.specs.Summary.{is_ok, summary_of, Tallies, tally_of}
 use Rattle.actor_script.specs.declared.tally.Tally.{Tally}
 use Rattle.gmi_calls.specs.Room.{AnswerWithin}
-use Rattle.replay.specs.Ending.{Summed, tally_in, WritesAs}
+use Rattle.replay.specs.Ending.{AnswersInTurn, Summed, tally_in, WritesAs}
 use Rattle.replay.specs.OneLine.{LineIs, TellsCounts}
 use Rattle.replay.specs.declared.status.Status.{Status}
 use Rattle.replay.proofs.Made.{Gave, gave_all, gave_more, gave_none}
@@ -25,9 +26,9 @@ pub record Tried (beginning here : Position) (count : ℕ) (c d : MapperCounts) 
   pub given : List (List ℕ)
   pub size : length given ≡ count
   pub gave : Gave beginning here given
-  pub steps : List Step
+  pub steps : List (Step Read)
   pub many : length steps ≡ count
-  pub runs : RunOf before (map command_of given) steps after
+  pub runs : AnswersInTurn before (map command_of given) steps after
   pub rose : Rise c d (rises_of steps)
   pub tally_is : tally ≡ tally_in steps
 
@@ -46,15 +47,15 @@ tried_none at here c before tally begun none = record {
 module _ (beginning here : Position) (count : ℕ) (c d : MapperCounts) (before between : State) (tally : Tally) (h : Tried beginning here count c d before between tally) where
   -- the tally is of so many lines
   pub tally_lines : tally.lines ≡ count
-  tally_lines = ap (λ (t : Tally). t.lines) h.tally_is ∙ length-map h.steps (λ (step : Step). step.answer) ∙ h.many
+  tally_lines = ap (λ (t : Tally). t.lines) h.tally_is ∙ length-map h.steps (λ (step : Step Read). step.answer) ∙ h.many
 
   pub tally_ok : tally.ok ≤ tally.lines
-  tally_ok = subst (λ (t : Tally). t.ok ≤ t.lines) (sym h.tally_is) (count_by-le-length is_ok (map (λ (step : Step). step.answer) h.steps))
+  tally_ok = subst (λ (t : Tally). t.ok ≤ t.lines) (sym h.tally_is) (count_by-le-length is_ok (map (λ (step : Step Read). step.answer) h.steps))
 
   pub tried_more : (next : Position) (line : List ℕ) (answer : Answer) (e : MapperCounts) (after : State) (now : Tally) → ((n : ℕ) → lines_from here (n + 1) ≡ line ∷ lines_from next n)
       → LineIs d e between (command_of line) answer after → Tallies tally answer now → Tried beginning next (count + 1) c e before after now
   tried_more next line answer e after now one is tallies =
-      let step = step_of_line (count + 1) (command_of line) answer is.pushes is.rises in
+      let step = step_of_line (count + 1) (command_of line) answer is.rises in
       let number : count + 1 ≡ 1 + length (map command_of h.given) = omega (arith, h.size, length-map h.given command_of) in
       record {
         given = h.given ++ line ∷ [];
@@ -62,14 +63,14 @@ module _ (beginning here : Position) (count : ℕ) (c d : MapperCounts) (before 
         gave = gave_more beginning here h.given h.gave next line one;
         steps = h.steps ++ step ∷ [];
         many = omega (arith, h.many, length-append h.steps (step ∷ []));
-        runs = subst (λ (reads : List Read). RunOf before reads (h.steps ++ step ∷ []) after) (sym (map-append command_of h.given (line ∷ []))) (run_push before (map command_of h.given) h.steps between step after h.runs number is.is);
+        runs = subst (λ (reads : List Read). AnswersInTurn before reads (h.steps ++ step ∷ []) after) (sym (map-append command_of h.given (line ∷ []))) (run_push before (map command_of h.given) h.steps between step after h.runs number (is.pushes, is.is));
         rose = subst (Rise c e) (rises-push h.steps step) (rise_then c d e (rises_of h.steps) step.rises h.rose is.rose);
-        tally_is = tallies (map (λ (s : Step). s.answer) h.steps) h.tally_is ∙ ap tally_of (sym (map-append (λ (s : Step). s.answer) h.steps (step ∷ [])));
+        tally_is = tallies (map (λ (s : Step Read). s.answer) h.steps) h.tally_is ∙ ap tally_of (sym (map-append (λ (s : Step Read). s.answer) h.steps (step ∷ [])));
       }
 
   -- the lines of the script are answered
-  pub tried_all : (total : ℕ) → count ≡ total → RunOf before (map command_of (lines_from beginning total)) h.steps between
-  tried_all total all = subst (λ (lines : List (List ℕ)). RunOf before (map command_of lines) h.steps between) (sym (gave_all beginning here h.given h.gave total (h.size ∙ all))) h.runs
+  pub tried_all : (total : ℕ) → count ≡ total → AnswersInTurn before (map command_of (lines_from beginning total)) h.steps between
+  tried_all total all = subst (λ (lines : List (List ℕ)). AnswersInTurn before (map command_of lines) h.steps between) (sym (gave_all beginning here h.given h.gave total (h.size ∙ all))) h.runs
 
   -- the summary is written
   pub summed : (status : Status) (total : ℕ) (counts : Counts) (old new : Option (List ℕ)) → count ≡ total → WritesAs status old new (summary_of tally counts)

@@ -10,7 +10,8 @@ use Rattle.vm_ids.specs.declared.reply.Counts.{Counts}
 use Rattle.vm_model.specs.Laws.{IsFollowed}
 use Rattle.vm_model.specs.Machine.{Machine, start}
 use Rattle.vm_model.specs.PageForest.{PageForest}
-use Rattle.vm_model.specs.Run.{Read, Step, State, RunOf, rises_of, state_of}
+use Rattle.vm_model.specs.Run.{Read, State, command_semantics, state_of}
+use Rattle.vm_model.specs.Steps.{Chain, Step, lines_answered, numbered_from, rises_of}
 use Rattle.replay.specs.Script.{commands_of, ended_commands_of, most_bytes, IsFront}
 use Rattle.actor_script.specs.Forms.{command_of}
 use Rattle.actor_script.specs.Generator.{generated}
@@ -58,22 +59,28 @@ scene_with M mapper written machine forest = record {
 }
 
 -- the lines of the replies, in the order of the steps
-abbrev pub texts_of : List Step → List ℕ
-texts_of steps = flat_map (λ (step : Step). text_of step.number step.answer) steps
+abbrev pub texts_of : List (Step Read) → List ℕ
+texts_of steps = flat_map (λ (step : Step Read). text_of step.number step.answer) steps
+
+-- These steps answer these lines, each once and in order, and lead from one state to the other.
+pub record AnswersInTurn (before : State) (reads : List Read) (steps : List (Step Read))
+    (after : State) : Type 0 where
+  pub chain : Chain command_semantics before steps after
+  pub order : lines_answered steps ≡ numbered_from 1 reads
 
 -- These lines were answered, each once and in order, and the texts of the answers were written. The
 -- mapper's counts rose by what the answers say: its faults by at least that, its pulls and pushes
 -- by exactly that.
 pub record Answered (before after : Scene) (reads : List Read) : Type 0 where
-  pub steps : List Step
-  pub runs : RunOf before.state reads steps after.state
+  pub steps : List (Step Read)
+  pub runs : AnswersInTurn before.state reads steps after.state
   pub rose : Rise before.counts after.counts (rises_of steps)
   pub writes : Writes before.written after.written (texts_of steps)
 
 -- The same, but of the texts only a front was written.
 pub record CutOff (before after : Scene) (reads : List Read) : Type 0 where
-  pub steps : List Step
-  pub runs : RunOf before.state reads steps after.state
+  pub steps : List (Step Read)
+  pub runs : AnswersInTurn before.state reads steps after.state
   pub rose : Rise before.counts after.counts (rises_of steps)
   pub writes : WritesFront before.written after.written (texts_of steps)
 
@@ -149,16 +156,16 @@ pub record GenerateEnds (status : Status) (script : Generated) (before now : Sce
   pub counts : now.counts ≡ before.counts
 
 -- what all answers together come to
-abbrev pub tally_in : List Step → Tally
-tally_in steps = tally_of (map (λ (step : Step). step.answer) steps)
+abbrev pub tally_in : List (Step Read) → Tally
+tally_in steps = tally_of (map (λ (step : Step Read). step.answer) steps)
 
 -- These lines were answered, each once and in order. In place of the answers their summary was
 -- written, with these counts of pages, or a front of it. The mapper's counts rose by what the
 -- answers say.
 pub record Summed (status : Status) (before after : Scene) (reads : List Read)
     (counts : Counts) : Type 0 where
-  pub steps : List Step
-  pub runs : RunOf before.state reads steps after.state
+  pub steps : List (Step Read)
+  pub runs : AnswersInTurn before.state reads steps after.state
   pub rose : Rise before.counts after.counts (rises_of steps)
   pub writes : WritesAs status before.written after.written (summary_of (tally_in steps) counts)
 
