@@ -18,8 +18,6 @@ use Rattle.vm_model.specs.Following.{forest_after}
 use Rattle.vm_model.specs.Outcome.{BlankOutcome, HasWholePages, Outcome}
 use Rattle.vm_model.specs.Run.{Read, State, command_semantics}
 use Rattle.vm_model.specs.Steps.{Chain, Step}
-use Rattle.vm_model.specs.Events.{Event, RunOf, Stand, steps_of}
-use Rattle.vm_model.specs.InOrder.{IsInOrder, answer_order}
 
 -- The forest has its shape, and agrees with the machine.
 pub record IsFollowed (m : Machine) (f : PageForest) : Type 0 where
@@ -81,20 +79,6 @@ RunsAreFollowed =
     → AllByRecursion (λ (step : Step Read). IfOk step.read IsWellFormed) steps
     → Chain command_semantics (started frames bytes told) steps after
     → IsSomeAnd after.forest (IsFollowed after.machine)
-
--- However a run goes, its answers lead from one state to the next.
-abbrev pub RunsAreChains : Type 0
-RunsAreChains =
-    (before : State) (reads : List Read) (events : List (Event Read))
-    (after : Stand command_semantics) → RunOf command_semantics before reads events after
-    → Chain command_semantics before (steps_of events) after.state
-
--- and wherever it ends, the lines are answered in order
-abbrev pub RunsAreInOrder : Type 0
-RunsAreInOrder =
-    (before : State) (reads : List Read) (events : List (Event Read))
-    (after : Stand command_semantics) → RunOf command_semantics before reads events after
-    → IsInOrder command_semantics reads (answer_order command_semantics reads events after)
 
 abbrev pub PlainForestFollows : Type 0
 PlainForestFollows = (m : Machine) → IsFollowed m (plain_forest m)

@@ -2,7 +2,7 @@
 use Rattle.std.proofs.Common.{◌≡◌, List, [], ◌∷◌, ◌++◌, ap, subst}
 use Rattle.vm_model.specs.Events.{Event, Leads, Stand, steps_of}
 use Rattle.vm_model.specs.Events.Event.{line, park, pause, delivery}
-use Rattle.vm_model.specs.Laws.{RunsAreChains}
+use Rattle.vm_model.specs.RunLaws.{RunsAreChains}
 use Rattle.vm_model.specs.Run.{command_semantics}
 use Rattle.vm_model.specs.Steps.{Chain, Semantics, Step}
 

@@ -8,7 +8,7 @@ use Rattle.std.proofs.lemmas.List.Sorted.{IsPermutation-append_left, IsPermutati
 use Rattle.vm_model.specs.Events.{Event, IsDelivery, Leads, RunOf, Stand, coming_line, has_to_wait, is_asked, opening, steps_of, waits_for}
 use Rattle.vm_model.specs.Events.Event.{line, park, pause, delivery}
 use Rattle.vm_model.specs.InOrder.{AreApart, IsInOrder, MayComeFirst, answer_order}
-use Rattle.vm_model.specs.Laws.{RunsAreInOrder}
+use Rattle.vm_model.specs.RunLaws.{RunsAreInOrder}
 use Rattle.vm_model.specs.Run.{command_semantics}
 use Rattle.vm_model.specs.Steps.{Semantics, Step, line_answered, lines_answered, numbered_from}
 use Rattle.vm_model.proofs.Parts.Pairs.{Pairs, each_append, each_back, each_both, each_by, each_permuted, pairs_across, pairs_all, pairs_append, pairs_back, pairs_between, pairs_by, pairs_front, pairs_sooner, parted_pairs, parted_permutation, taken_first, taken_permutation}
