@@ -1,3 +1,3 @@
 pub mod Evictable
-pub mod Pages
+pub mod WrittenPages
 pub mod Views

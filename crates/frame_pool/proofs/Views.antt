@@ -8,7 +8,7 @@ use Rattle.std.specs.Vec.{with_items_from}
 use Rattle.frame_pool.specs.Lending.{refill}
 use Rattle.frame_pool.specs.Pool.{Frames, IsSized, frames_seen, bytes_of, with_bytes}
 use Rattle.frame_pool.specs.declared.pool.FramePool.TheInside.{Inside}
-use Rattle.frame_pool.proofs.Pages.{page_at, page_written, zero_pages}
+use Rattle.frame_pool.proofs.WrittenPages.{page_at, page_written, zero_pages}
 
 -- the part of the region that frame k has
 abbrev pub part : Inside → ℕ → List ℕ

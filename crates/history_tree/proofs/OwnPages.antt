@@ -10,7 +10,7 @@ use Rattle.vm_ids.proofs.Forest.NodesAfter.{hang_all-keeps, keeps}
 use Rattle.vm_ids.specs.declared.numbers.NodeId.{NodeId}
 use Rattle.local_cache.specs.Arena.{Arena, HasNode}
 use Rattle.local_cache.specs.Own.{own_of}
-use Rattle.local_cache.specs.Reading.{IsNamed, forest_of, name_of}
+use Rattle.local_cache.specs.Reading.{AreNamesApart, forest_of, name_of}
 use Rattle.local_cache.proofs.Forest.Reading.{node-forest_of}
 use Rattle.local_cache.proofs.Forest.ReadingBy.{same_own}
 
@@ -32,7 +32,7 @@ module _ {P : Type 0} where
       go (h ∷ hs) = ap (λ n. n.own) (node-count_working _ y) ∙ set_tree-own _ _ _ y ∙ set_tree-own f s _ y
 
 -- so each node has its own state still
-pub states-link : (a b : Arena) → IsNamed a → IsNamed b → (d s : NodeName) → forest_of b ≡ link (forest_of a) d s
+pub states-link : (a b : Arena) → AreNamesApart a → AreNamesApart b → (d s : NodeName) → forest_of b ≡ link (forest_of a) d s
     → (n : NodeId) → HasNode a n → HasNode b n → name_of b n ≡ name_of a n → own_of b n ≡ own_of a n
 states-link a b was is d s forest n h after name = same_own (own_of b n) (own_of a n) (
     sym (ap (λ k. k.own) (node-forest_of b is n after)) ∙ ap (λ f. (node f (name_of b n)).own) forest ∙ link-own (forest_of a) d s (name_of b n)

@@ -12,7 +12,7 @@ use Rattle.local_cache.specs.declared.runs.record.Record.{Record}
 use Rattle.local_cache.specs.declared.runs.run.Run.{Run}
 use Rattle.local_cache.specs.Arena.{Cell}
 use Rattle.local_cache.specs.NodeCells.{bare, cell_by, cell_of, cells_by, either, node_cells, tree_of}
-use Rattle.local_cache.specs.NodeLists.{HasAdapted, HasWritten, IsKept}
+use Rattle.local_cache.specs.NodeLists.{HasAdapted, HasWritten, AreListsKept}
 use Rattle.local_cache.specs.Records.{each}
 use Rattle.local_cache.specs.Runs.{SaysAlike, run}
 use Rattle.local_cache.specs.Singles.{IsCounted}
@@ -44,7 +44,7 @@ said_otherwise R R' k before other is alike own set D =
     ∙ sym (insert_again (cells_by R D) k (cell_by before (map.get D k))
     (get_cells_by R D k ∙ ap (option_map (λ r. cell_by r (map.get D k))) is))
 
-module _ (l : NodeLists) (kept : IsKept l) (runs : Stretches Run)
+module _ (l : NodeLists) (kept : AreListsKept l) (runs : Stretches Run)
     (same : (D : FinMap nat_cmp Record) → cells_by (cells run runs.list) D ≡ cells_by (cells run l.runs.list) D)
     (counted : IsCounted run runs) (places : runs.places ≡ l.runs.places) where
   pub has_adapted : HasAdapted l (record l { runs = runs })

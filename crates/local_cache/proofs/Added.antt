@@ -15,14 +15,14 @@ use Rattle.local_cache.specs.Arena.{Cell}
 use Rattle.local_cache.specs.KeyRanges.{run_cell}
 use Rattle.local_cache.specs.NodeCells.{cell_by, cells_by, node_cells}
 use Rattle.local_cache.specs.NodeKeys.{Indexes, key_at}
-use Rattle.local_cache.specs.NodeLists.{IsKept}
+use Rattle.local_cache.specs.NodeLists.{AreListsKept}
 use Rattle.local_cache.specs.Records.{each}
 use Rattle.local_cache.specs.Runs.{run}
 use Rattle.local_cache.proofs.Making.{len_with, with_in, with_out}
 use Rattle.local_cache.proofs.ManyNodes.Cleared.{range_cases}
 use Rattle.local_cache.proofs.NodeCells.{get_cells_by, len_cells}
 
-module _ (l : NodeLists) (kept : IsKept l) (first count : ℕ) (value : Run)
+module _ (l : NodeLists) (kept : AreListsKept l) (first count : ℕ) (value : Run)
     (free : (n : ℕ) → first ≤ n → n < first + count → map.get (node_cells l) n ≡ None) where
   abbrev R : FinMap nat_cmp Run
   R = cells run l.runs.list

@@ -27,7 +27,7 @@ use Rattle.local_cache.specs.Arena.{Cell, blank, new_cell}
 use Rattle.local_cache.specs.ManyNodes.{HaveNone, next_node, with_new_many}
 use Rattle.local_cache.specs.NodeCells.{cell_by, cells_by, node_cells, own_of_plain}
 use Rattle.local_cache.specs.NodeKeys.{Indexes, even_key, key_at, odd_key, page_key, page_number, working_number}
-use Rattle.local_cache.specs.NodeRuns.{IsGiven, IsNumbered, IsRight, nodes_of}
+use Rattle.local_cache.specs.NodeRuns.{IsGiven, IsNumbered, AreNodesRight, nodes_of}
 use Rattle.local_cache.specs.PageNodes.{MakesAllPages, PageNodes, find, of_page, pages_with, with_new}
 use Rattle.local_cache.specs.Records.{each}
 use Rattle.local_cache.specs.Runs.{run}
@@ -78,20 +78,20 @@ pages_push m cache page (x ∷ ns) n =
     ∙ ap (λ (p : ℕ). map.insert (pages_with m cache page (x ∷ ns)) (page_number cache.0 p) (of_page n)) at
 
 -- the next numbers were given to no node
-pub none_given : (l : NodeLists) (c : Counters) → IsRight l c → (count : ℕ) → c.next_page + count ≤ 2 ^ 52
+pub none_given : (l : NodeLists) (c : Counters) → AreNodesRight l c → (count : ℕ) → c.next_page + count ≤ 2 ^ 52
     → (n : ℕ) → c.next_page ≤ n → n < c.next_page + count → map.get (node_cells l) n ≡ None
 none_given l c right count numbers n low high = not_given l c right n (λ h. elim h [
   | inl below ↦ (let bad : ⊥ = omega (arith, low, below) in bad)
   | inr above ↦ (let bad : ⊥ = omega (arith, high, numbers, above.0) in bad)
 ])
 
-pub have_none : (l : NodeLists) (c : Counters) → IsRight l c → (count : ℕ) → c.next_page + count ≤ 2 ^ 52
+pub have_none : (l : NodeLists) (c : Counters) → AreNodesRight l c → (count : ℕ) → c.next_page + count ≤ 2 ^ 52
     → HaveNone (nodes_of l c) (record { 0 = c.next_page }) count
 have_none l c right count numbers k less = none_given l c right count numbers (c.next_page + k) (omega arith) (omega (arith, less))
 
 -- One run
 
-module _ (l : NodeLists) (c : Counters) (right : IsRight l c) (cache : CacheId) (page : PageNo) (count : ℕ) (own : PlainState)
+module _ (l : NodeLists) (c : Counters) (right : AreNodesRight l c) (cache : CacheId) (page : PageNo) (count : ℕ) (own : PlainState)
     (numbers : c.next_page + count ≤ 2 ^ 52) (room : map.len (node_cells l) + count ≤ l.capacity)
     (vacant : (k : ℕ) → k < count → map.get (cells rising l.pages.list) (page_number cache.0 (page.0 + k)) ≡ None)
     (k0 : ℕ) (at : k0 ≡ page_number cache.0 page.0) where
@@ -316,7 +316,7 @@ module _ (l : NodeLists) (c : Counters) (right : IsRight l c) (cache : CacheId) 
             made = omega (arith, made, right.numbered.made);
           }
 
-      pub right_made : IsRight new now
+      pub right_made : AreNodesRight new now
       right_made =
           record {
             kept = record {

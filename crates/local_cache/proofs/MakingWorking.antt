@@ -26,7 +26,7 @@ use Rattle.local_cache.specs.ManyNodes.{HaveNone, over_many, with_working_many}
 use Rattle.local_cache.specs.NodeCells.{cells_by, node_cells, tree_of}
 use Rattle.local_cache.specs.NodeKeys.{Indexes, even_key, key_at, odd_key, page_key, working_number}
 use Rattle.local_cache.specs.NodeLists.{thinned}
-use Rattle.local_cache.specs.NodeRuns.{IsGiven, IsNumbered, IsRight, nodes_of}
+use Rattle.local_cache.specs.NodeRuns.{IsGiven, IsNumbered, AreNodesRight, nodes_of}
 use Rattle.local_cache.specs.PageNodes.{PageNodes, with_new}
 use Rattle.local_cache.specs.Records.{each}
 use Rattle.local_cache.specs.Runs.{run}
@@ -100,17 +100,17 @@ working_run w older newer = record {
 }
 
 -- the next numbers were given to no node
-free : (l : NodeLists) (c : Counters) → IsRight l c → (n : ℕ) → c.next_working ≤ n → map.get (node_cells l) n ≡ None
+free : (l : NodeLists) (c : Counters) → AreNodesRight l c → (n : ℕ) → c.next_working ≤ n → map.get (node_cells l) n ≡ None
 free l c right n low = not_given l c right n (λ h. elim h [
   | inl below ↦ (let bad : ⊥ = omega (arith, low, below, right.numbered.pages, right.numbered.workings) in bad)
   | inr above ↦ (let bad : ⊥ = omega (arith, low, above.1) in bad)
 ])
 
-pub none_working : (l : NodeLists) (c : Counters) → IsRight l c → (count : ℕ)
+pub none_working : (l : NodeLists) (c : Counters) → AreNodesRight l c → (count : ℕ)
     → HaveNone (nodes_of l c) (record { 0 = c.next_working }) count
 none_working l c right count k less = free l c right (c.next_working + k) (omega arith)
 
-module _ (l : NodeLists) (c : Counters) (right : IsRight l c) (count : ℕ) (some : 0 < count)
+module _ (l : NodeLists) (c : Counters) (right : AreNodesRight l c) (count : ℕ) (some : 0 < count)
     (room : map.len (node_cells l) + count ≤ l.capacity) (short : c.made + count ≤ 2 ^ 63) where
   abbrev first : ℕ
   first = c.next_working
@@ -229,7 +229,7 @@ module _ (l : NodeLists) (c : Counters) (right : IsRight l c) (count : ℕ) (som
             made = short;
           }
 
-      pub right_made : IsRight new now
+      pub right_made : AreNodesRight new now
       right_made =
           record {
             kept = record {

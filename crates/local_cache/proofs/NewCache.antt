@@ -3,7 +3,7 @@
 -- The nodes of a cache that is made.
 pub mod Cells
 -- What is found after a cache was made.
-pub mod Pages
+pub mod FoundPages
 -- A cache that is made: the caches stay sound, and the forest has its pages more.
 pub mod Forest
 -- A cache that is made leaves the caches whole.

@@ -27,7 +27,7 @@ use Rattle.local_cache.specs.Arena.{Cell}
 use Rattle.local_cache.specs.NodeCells.{cells_by, node_cells}
 use Rattle.local_cache.specs.NodeKeys.{AreKeysOf, HasFreeName, HasKeys, Indexes, even_half, even_key, key_at, number_of_name, odd_half, odd_key, page_key, page_of_name, rekeyed, same_key, with_key, without_key, working_number}
 use Rattle.local_cache.specs.NodeLists.{AreEmpty, AreNeeded, HasGrown, HasPlaced, HasTaken, paged}
-use Rattle.local_cache.specs.NodeRuns.{IsGiven, IsNumbered, IsRight, live_of, nodes_of}
+use Rattle.local_cache.specs.NodeRuns.{IsGiven, IsNumbered, AreNodesRight, live_of, nodes_of}
 use Rattle.local_cache.specs.PageNodes.{IsLeastThin, node_at}
 use Rattle.local_cache.specs.Thin.{thin_number}
 use Rattle.local_cache.specs.Records.{each}
@@ -75,7 +75,7 @@ module _ (l : NodeLists) (empty : AreEmpty l) where
   no_some o none some = false≢true (sym (ap is_some none) ∙ some)
 
   pub empty_right : (c : Counters) → c.nodes ≡ 0 → c.live ≡ 0 → c.next_page ≤ 2 ^ 52
-      → c.next_working ≡ 2 ^ 52 → c.made ≡ 0 → IsRight l c
+      → c.next_working ≡ 2 ^ 52 → c.made ≡ 0 → AreNodesRight l c
   empty_right c nodes live page working made =
       record {
         kept = record {
@@ -235,7 +235,7 @@ rekeyed_same m a b v e =
 -- The lists after a change
 
 -- another thing said of a node, but for its name
-module _ (l : NodeLists) (c : Counters) (right : IsRight l c) (n : ℕ) (old x : Cell)
+module _ (l : NodeLists) (c : Counters) (right : AreNodesRight l c) (n : ℕ) (old x : Cell)
     (is : map.get (node_cells l) n ≡ Some old) (name : x.name ≡ old.name) where
   number_kept : working_number x ≡ working_number old
   number_kept = ap number_of_name name
@@ -266,7 +266,7 @@ module _ (l : NodeLists) (c : Counters) (right : IsRight l c) (n : ℕ) (old x :
         placed.pages
         ∙ rekeyed_same _ _ _ (paged n) (ap (option_and_then page_key) is ∙ sym page_kept)
 
-    pub right_changed : IsRight new c
+    pub right_changed : AreNodesRight new c
     right_changed =
         record {
           kept = placed.kept;
@@ -334,7 +334,7 @@ bit_of_name (Pages cache page) = refl
 bit_of_name (Working k) = refl
 bit_of_name (EverySecond k) = refl
 
-module _ (l : NodeLists) (c : Counters) (right : IsRight l c) (n : ℕ) where
+module _ (l : NodeLists) (c : Counters) (right : AreNodesRight l c) (n : ℕ) where
   abbrev P : FinMap nat_cmp Rising
   P = cells rising l.pages.list
 
@@ -374,7 +374,7 @@ module _ (l : NodeLists) (c : Counters) (right : IsRight l c) (n : ℕ) where
         (page : now.next_page ≡ c.next_page) (working : now.next_working ≡ c.next_working)
         (made : now.made ≡ c.made) (given : IsGiven c n)
         (named : (k : ℕ) → working_number x ≡ Some k → k ≤ c.made) where
-      pub right_placed : IsRight new now
+      pub right_placed : AreNodesRight new now
       right_placed =
           record {
             kept = placed.kept;
@@ -396,7 +396,7 @@ module _ (l : NodeLists) (c : Counters) (right : IsRight l c) (n : ℕ) where
           ]
 
 -- A node that comes
-module _ (l : NodeLists) (c : Counters) (right : IsRight l c) (n : ℕ) (x : Cell)
+module _ (l : NodeLists) (c : Counters) (right : AreNodesRight l c) (n : ℕ) (x : Cell)
     (none : map.get (node_cells l) n ≡ None) (room : map.len (node_cells l) + 1 ≤ l.capacity) where
   pub len_new : map.len (map.insert (node_cells l) n x) ≡ map.len (node_cells l) + 1
   len_new = len_insert_new (node_cells l) n x none
@@ -437,7 +437,7 @@ module _ (l : NodeLists) (c : Counters) (right : IsRight l c) (n : ℕ) (x : Cel
         λ i. record { cells = placed.cells i; pages = pages i; made = made i; room = less i }
 
 -- The node of a page is counted
-module _ (l : NodeLists) (c : Counters) (right : IsRight l c) (n : ℕ) (old : Cell)
+module _ (l : NodeLists) (c : Counters) (right : AreNodesRight l c) (n : ℕ) (old : Cell)
     (is : map.get (node_cells l) n ≡ Some old) where
   pub live_some : key_bit (page_key old) ≤ c.live
   live_some = go (page_key old) refl
@@ -449,7 +449,7 @@ module _ (l : NodeLists) (c : Counters) (right : IsRight l c) (n : ℕ) (old : C
           omega (arith, right.live, len_some (cells rising l.pages.list) k had)
 
 -- A node that gets another name
-module _ (l : NodeLists) (c : Counters) (right : IsRight l c) (n : ℕ) (old x : Cell)
+module _ (l : NodeLists) (c : Counters) (right : AreNodesRight l c) (n : ℕ) (old x : Cell)
     (is : map.get (node_cells l) n ≡ Some old) where
   pub room_same : map.len (map.insert (node_cells l) n x) ≤ l.capacity
   room_same = omega (arith, len_insert_old (node_cells l) n x (ap is_some is), right.kept.fits)
@@ -477,7 +477,7 @@ module _ (l : NodeLists) (c : Counters) (right : IsRight l c) (n : ℕ) (old x :
         λ i. record { cells = placed.cells i; pages = pages i; made = made i; room = same i }
 
 -- A node that goes
-module _ (l : NodeLists) (c : Counters) (right : IsRight l c) (n : ℕ) (old : Cell)
+module _ (l : NodeLists) (c : Counters) (right : AreNodesRight l c) (n : ℕ) (old : Cell)
     (is : map.get (node_cells l) n ≡ Some old) where
   pub nodes_some : 1 ≤ c.nodes
   nodes_some = omega (arith, right.nodes, len_some (node_cells l) n (ap is_some is))
@@ -506,7 +506,7 @@ module _ (l : NodeLists) (c : Counters) (right : IsRight l c) (n : ℕ) (old : C
         (live : now.live + key_bit (page_key old) ≡ c.live)
         (page : now.next_page ≡ c.next_page) (working : now.next_working ≡ c.next_working)
         (made : now.made ≡ c.made) where
-      pub right_taken : IsRight new now
+      pub right_taken : AreNodesRight new now
       right_taken =
           let left = numbered_taken (node_cells l) c right.numbered n in
           record {
@@ -549,7 +549,7 @@ len_covers (suc k) m covers =
     ap is_some (removed_other m (suc k) i (λ e. let bad : ⊥ = omega arith in bad)) ∙ covers i low (omega arith)) in
     omega (arith, rest, len_remove_old m (suc k) there)
 
-module _ (l : NodeLists) (c : Counters) (right : IsRight l c) where
+module _ (l : NodeLists) (c : Counters) (right : AreNodesRight l c) where
   -- a number that wasn't given has no node
   pub not_given : (n : ℕ) → (IsGiven c n → ⊥) → map.get (node_cells l) n ≡ None
   not_given n out = go (map.get (node_cells l) n) refl
@@ -573,7 +573,7 @@ module _ (rs : List (Stretch Run)) where
 
 -- Names that no other node has
 
-module _ (l : NodeLists) (c : Counters) (right : IsRight l c) (n : ℕ) (x : Cell) where
+module _ (l : NodeLists) (c : Counters) (right : AreNodesRight l c) (n : ℕ) (x : Cell) where
   -- a page that has no node
   pub free_page : (k : ℕ) → page_key x ≡ Some k → working_number x ≡ None
       → map.get (cells rising l.pages.list) k ≡ None → HasFreeName (node_cells l) n x
@@ -589,7 +589,7 @@ module _ (l : NodeLists) (c : Counters) (right : IsRight l c) (n : ℕ) (x : Cel
 -- What is read off the lists
 
 module _ (l : NodeLists) (c : Counters) where
-  pub live_le : IsRight l c → c.live ≤ c.nodes
+  pub live_le : AreNodesRight l c → c.live ≤ c.nodes
   live_le right = omega (arith, right.live, right.nodes, len_index _ _ page_key (node_cells l) right.indexed.pages)
 
   pub node_of_page : (k : ℕ) → node_at (nodes_of l c) k ≡ option_map (λ (v : Rising). record { 0 = v.0 }) (said rising l.pages.list k)
@@ -597,7 +597,7 @@ module _ (l : NodeLists) (c : Counters) where
 
 -- More places
 
-module _ (l : NodeLists) (c : Counters) (right : IsRight l c) (new : NodeLists) (grown : HasGrown l new) where
+module _ (l : NodeLists) (c : Counters) (right : AreNodesRight l c) (new : NodeLists) (grown : HasGrown l new) where
   grown_count : {V : Type 0} (S : Ghosts V) (a b : Stretches V) → b.list ≡ a.list → IsCounted S a → IsCounted S b
   grown_count S a b same counted = ap number_count same ∙ counted ∙ sym (ap (λ (rs : List (Stretch _)). map.len (cells S rs)) same)
 
@@ -641,7 +641,7 @@ module _ (m : FinMap nat_cmp Cell) (n : ℕ) where
 halves : (j : ℕ) → (h : ℕ) × ((j ≡ 2 * h) ⊎ (j ≡ 2 * h + 1))
 halves j = (j / 2, elim (cases_eq (j % 2) 0) [ inl even ↦ inl (omega arith) | inr odd ↦ inr (omega arith) ])
 
-module _ (l : NodeLists) (c : Counters) (right : IsRight l c) where
+module _ (l : NodeLists) (c : Counters) (right : AreNodesRight l c) where
   abbrev number : ThinNodes → ℕ
   number v = (first_thin v).0
 

@@ -18,7 +18,7 @@ use Rattle.local_cache.specs.declared.runs.thin_nodes.ThinNodes.{ThinNodes}
 use Rattle.local_cache.specs.Arena.{Cell}
 use Rattle.local_cache.specs.NodeCells.{node_cells}
 use Rattle.local_cache.specs.NodeKeys.{AreKeysOf, HasFreeName, HasKeys, Indexes, even_half, even_key, key_at, odd_half, odd_key, page_key, rekeyed, working_number}
-use Rattle.local_cache.specs.NodeLists.{CanMove, HasErased, HasMoved, HasPlaced, HasTaken, HasWritten, IsIndexed, IsKept, paged, thinned}
+use Rattle.local_cache.specs.NodeLists.{CanMove, HasErased, HasMoved, HasPlaced, HasTaken, HasWritten, IsIndexed, AreListsKept, paged, thinned}
 use Rattle.local_cache.specs.Thin.{number_if, thin_number}
 use Rattle.local_cache.specs.Thin.{has_few}
 use Rattle.local_cache.specs.ThinNodes.{first_thin, thin_nodes}
@@ -105,7 +105,7 @@ module _ {V : Type 0} (number : V → ℕ) (m : FinMap nat_cmp V) (key : Cell �
 
 -- All lists
 
-module _ (l : NodeLists) (kept : IsKept l) (indexed : IsIndexed l) (node : ℕ) (before now : Keys)
+module _ (l : NodeLists) (kept : AreListsKept l) (indexed : IsIndexed l) (node : ℕ) (before now : Keys)
     (keys : HasKeys (node_cells l) node before) where
   -- the lists of keys, where the node is placed
   module _ (c : Cell) (are : AreKeysOf c now) (free : HasFreeName (node_cells l) node c) where

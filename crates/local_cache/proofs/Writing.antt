@@ -12,7 +12,7 @@ use Rattle.local_cache.specs.declared.runs.record.Record.{Record}
 use Rattle.local_cache.specs.declared.runs.run.Run.{Run}
 use Rattle.local_cache.specs.Arena.{Cell}
 use Rattle.local_cache.specs.NodeCells.{cell_by, cells_by, node_cells}
-use Rattle.local_cache.specs.NodeLists.{AreNeeded, HasErased, HasWritten, IsKept, IsNeeded}
+use Rattle.local_cache.specs.NodeLists.{AreNeeded, HasErased, HasWritten, AreListsKept, IsNeeded}
 use Rattle.local_cache.specs.Records.{each}
 use Rattle.local_cache.specs.Runs.{run}
 use Rattle.local_cache.specs.Singles.{IsCounted}
@@ -23,7 +23,7 @@ len_insert_any : {X : Type 0} (m : FinMap nat_cmp X) (k : ℕ) (x y : X)
     → map.len (map.insert m k x) ≡ map.len (map.insert m k y)
 len_insert_any m k x y = len-insert nat_cmp_total m k x ∙ sym (len-insert nat_cmp_total m k y)
 
-module _ (l : NodeLists) (kept : IsKept l) where
+module _ (l : NodeLists) (kept : AreListsKept l) where
   abbrev R : FinMap nat_cmp Run
   R = cells run l.runs.list
 

@@ -82,7 +82,7 @@ pub record IsPageOf (from : ℕ) (es : List (Option CacheEntry)) (number : ℕ) 
   pub same : number ≡ page_number (from + at) page
 
 -- the list says something of pages of live caches alone, and has places for so many
-pub record IsPlaced {V : Type 0} (S : Ghosts V) (es : List (Option CacheEntry)) (l : Stretches V)
+pub record SaysOfPages {V : Type 0} (S : Ghosts V) (es : List (Option CacheEntry)) (l : Stretches V)
     (capacity : ℕ) : Type 0 where
   pub counted : IsCounted S l
   pub places : capacity ≤ l.places
@@ -90,10 +90,10 @@ pub record IsPlaced {V : Type 0} (S : Ghosts V) (es : List (Option CacheEntry)) 
 
 -- The pages and the locked pages are counted, there are places for all pages, and the lists say
 -- something of pages alone, that of locks no 0.
-pub record IsRight (es : List (Option CacheEntry)) (grants : Stretches Granted)
+pub record AreListsRight (es : List (Option CacheEntry)) (grants : Stretches Granted)
     (locks : Stretches LockCount) (pages capacity locked : ℕ) : Type 0 where
-  pub granted : IsPlaced granted_says es grants capacity
-  pub locking : IsPlaced locks_say es locks capacity
+  pub granted : SaysOfPages granted_says es grants capacity
+  pub locking : SaysOfPages locks_say es locks capacity
   pub above : (k : ℕ) (c : LockCount) → map.get (cells locks_say locks.list) k ≡ Some c → 0 < c.0
   pub caches : length es < 2 ^ 32
   pub sum : pages ≡ page_sum es

@@ -7,11 +7,11 @@ use Rattle.vm_ids.specs.declared.numbers.CacheId.{CacheId}
 use Rattle.vm_ids.specs.declared.numbers.NodeId.{NodeId}
 use Rattle.vm_ids.specs.declared.numbers.PageNo.{PageNo}
 use Rattle.local_cache.specs.Arena.{Arena, HasNode, IsVacant, node_at}
-use Rattle.local_cache.specs.Reading.{IsNamed, name_of}
+use Rattle.local_cache.specs.Reading.{AreNamesApart, name_of}
 
 -- the names are apart and counted, and a node that is named by a page is that of the page
 pub record IsTold (a : Arena) : Type 0 where
-  pub named : IsNamed a
+  pub named : AreNamesApart a
   pub pages : (cache page : ℕ) (n : NodeId) → HasNode a n
       → name_of a n ≡ Live (record { 0 = cache }) (record { 0 = page })
       → node_at a cache page ≡ Some n

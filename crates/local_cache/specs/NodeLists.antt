@@ -67,7 +67,7 @@ AreNeeded records = (n : ℕ) (c : Record) → map.get records n ≡ Some c → 
 
 -- there are no more nodes than there may be, only nodes of which a run can't say all have records,
 -- and the lists are in order
-pub record IsKept (l : NodeLists) : Type 0 where
+pub record AreListsKept (l : NodeLists) : Type 0 where
   pub counted : AreCounted l
   pub places : HavePlaces l
   pub fits : map.len (node_cells l) ≤ l.capacity
@@ -83,13 +83,13 @@ pub record IsIndexed (l : NodeLists) : Type 0 where
 
 -- the runs say the same in other words
 pub record HasAdapted (old new : NodeLists) : Type 0 where
-  pub kept : IsKept new
+  pub kept : AreListsKept new
   pub others : new ≡ record old { runs = new.runs }
   pub cells : node_cells new ≡ node_cells old
 
 -- the lists with other runs and records
 pub record IsWritten (old new : NodeLists) : Type 0 where
-  pub kept : IsKept new
+  pub kept : AreListsKept new
   pub others : new ≡ record old { runs = new.runs; records = new.records }
 
 -- this was written of a node, of which something else was said or nothing
@@ -126,7 +126,7 @@ pub record CanMove (l : NodeLists) (node : ℕ) (before now : Keys) : Type 0 whe
 
 -- a node stands under other keys than before
 pub record HasMoved (old : NodeLists) (node : ℕ) (before now : Keys) (new : NodeLists) : Type 0 where
-  pub kept : IsKept new
+  pub kept : AreListsKept new
   pub others : new ≡ record old { pages = new.pages; even = new.even; odd = new.odd }
   pub pages : cells rising new.pages.list
       ≡ rekeyed (cells rising old.pages.list) before.page now.page (paged node)
@@ -137,7 +137,7 @@ pub record HasMoved (old : NodeLists) (node : ℕ) (before now : Keys) (new : No
 
 -- a node was placed: this is said of it, and it is found by its keys
 pub record HasPlaced (old : NodeLists) (node : ℕ) (c : Cell) (new : NodeLists) : Type 0 where
-  pub kept : IsKept new
+  pub kept : AreListsKept new
   pub indexed : IsIndexed new
   pub capacity : new.capacity ≡ old.capacity
   pub pages : cells rising new.pages.list
@@ -147,7 +147,7 @@ pub record HasPlaced (old : NodeLists) (node : ℕ) (c : Cell) (new : NodeLists)
 
 -- a node was taken out, and is not found any more
 pub record HasTaken (old : NodeLists) (node : ℕ) (new : NodeLists) : Type 0 where
-  pub kept : IsKept new
+  pub kept : AreListsKept new
   pub indexed : IsIndexed new
   pub capacity : new.capacity ≡ old.capacity
   pub pages : cells rising new.pages.list

@@ -12,7 +12,7 @@ use Rattle.local_cache.specs.declared.runs.run.RunName.TheVariants.{Pages, Worki
 use Rattle.local_cache.specs.Arena.{Cell}
 use Rattle.local_cache.specs.NodeCells.{node_cells}
 use Rattle.local_cache.specs.NodeKeys.{key_at, working_number}
-use Rattle.local_cache.specs.NodeLists.{IsIndexed, IsKept}
+use Rattle.local_cache.specs.NodeLists.{IsIndexed, AreListsKept}
 use Rattle.local_cache.specs.PageNodes.{PageNodes}
 
 abbrev pub nodes_of : NodeLists → Counters → PageNodes
@@ -45,8 +45,8 @@ pub record IsNumbered (nodes : FinMap nat_cmp Cell) (c : Counters) : Type 0 wher
   pub made : c.made ≤ 2 ^ 63
 
 -- what holds of the lists and the counters
-pub record IsRight (l : NodeLists) (c : Counters) : Type 0 where
-  pub kept : IsKept l
+pub record AreNodesRight (l : NodeLists) (c : Counters) : Type 0 where
+  pub kept : AreListsKept l
   pub indexed : IsIndexed l
   pub numbered : IsNumbered (node_cells l) c
   pub nodes : c.nodes ≡ map.len (node_cells l)

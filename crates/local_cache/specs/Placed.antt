@@ -33,15 +33,15 @@ IsShort (Live cache page) = page.0 < 2 ^ 32
 IsShort (Working k) = Unit {0}
 
 -- a name of a page is that of a page of a live cache
-abbrev pub IsPlaced : List (Option CacheRow) → NodeName → Type 0
-IsPlaced rows (Live cache page) = HasRow rows cache.0 page.0
-IsPlaced rows (Working k) = Unit {0}
+abbrev pub IsNameOfPage : List (Option CacheRow) → NodeName → Type 0
+IsNameOfPage rows (Live cache page) = HasRow rows cache.0 page.0
+IsNameOfPage rows (Working k) = Unit {0}
 
 -- The node of a page is found under the page's number, and the page is one of a live cache, so no
 -- number at or above those of the next cache has a node. The numbers of two caches are apart.
 pub record ArePlaced (m : PageNodes) (rows : List (Option CacheRow)) : Type 0 where
   pub paged : ArePaged m
-  pub placed : (n : NodeId) (d : Cell) → find m n ≡ Some d → IsPlaced rows d.name
+  pub placed : (n : NodeId) (d : Cell) → find m n ≡ Some d → IsNameOfPage rows d.name
   pub short : AreShort rows
 
 -- what holds of the caches: nodes are placed, and each row is full

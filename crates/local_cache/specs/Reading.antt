@@ -57,6 +57,6 @@ forest_of a = record {
 }
 
 -- Each name is that of one node, and the number of each working node was counted.
-pub record IsNamed (a : Arena) : Type 0 where
+pub record AreNamesApart (a : Arena) : Type 0 where
   pub apart : (n m : NodeId) → HasNode a n → HasNode a m → name_of a n ≡ name_of a m → n ≡ m
   pub counted : (n : NodeId) (k : ℕ) → HasNode a n → name_of a n ≡ Working k → k ≤ a.made

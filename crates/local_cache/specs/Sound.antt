@@ -7,7 +7,7 @@ use Rattle.vm_ids.specs.declared.node_name.NodeName.TheVariants.{Live}
 use Rattle.vm_ids.specs.declared.numbers.NodeId.{NodeId}
 use Rattle.local_cache.specs.declared.own_state.OwnState.{OwnState}
 use Rattle.local_cache.specs.Arena.{Arena, cell, HasNode, node_at}
-use Rattle.local_cache.specs.Reading.{name_of, forest_of, IsNamed}
+use Rattle.local_cache.specs.Reading.{name_of, forest_of, AreNamesApart}
 use Rattle.local_cache.specs.Threads.{AreThreaded}
 
 infix 50 ◌∈◌
@@ -27,7 +27,7 @@ pub record IsListed (a : Arena) : Type 0 where
 -- What holds between the steps of a rule: the names are apart and counted, the tables have them,
 -- parents and children are nodes, and the lists of stubs are threaded.
 pub record IsKept (a : Arena) : Type 0 where
-  pub named : IsNamed a
+  pub named : AreNamesApart a
   pub listed : IsListed a
   pub parents : (n p : NodeId) → HasNode a n → (cell a n).links.parent ≡ Some p → HasNode a p
   pub children : (n m : NodeId) → HasNode a n → m ∈ (cell a n).tree → HasNode a m

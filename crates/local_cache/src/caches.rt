@@ -11,7 +11,7 @@ ghost use Rattle.local_cache.specs.Home.{home_of};
 ghost use Rattle.local_cache.specs.Many.{AreAlike, AreNamed, AreVacant, CanBeAlike, HaveNodes, HaveNone, IsPlain, as_working_many, hung_many, moved_many, over_many, over_two_many, renamed_many, with_new_many, with_working_many, without_many};
 ghost use Rattle.local_cache.specs.ManyNodes.{IsApart};
 ghost use Rattle.local_cache.specs.NodeCells.{own_of_plain};
-ghost use Rattle.local_cache.specs.Reading.{IsNamed, forest_of};
+ghost use Rattle.local_cache.specs.Reading.{AreNamesApart, forest_of};
 ghost use Rattle.local_cache.specs.Sound.{IsSound, MakesPages};
 ghost use Rattle.local_cache.specs.Thin.{IsLeastThin};
 
@@ -83,7 +83,7 @@ impl Caches {
         ensures no_less { HasNoLess self.old.room self.new.room }
         ensures enough { caches ≤ self.old.room.caches → nodes ≤ self.old.room.nodes
             → nodes ≤ self.old.room.entries → IsOk result }
-        ensures few { IsNamed self.old
+        ensures few { AreNamesApart self.old
             → OnOk result (len (forest_of self.old).nodes + nodes < 2 ^ 32) }
         ensures forest { forest_of self.new ≡ forest_of self.old }
         ensures sound { IsSound self.old → IsSound self.new }
@@ -147,7 +147,7 @@ impl Caches {
     /// How much is kept: the pages of live caches, the working nodes, and the pages copied so far.
     /// No two nodes may have one name, which holds wherever the caches are sound.
     pub fn counts(&self) -> Counts
-        requires { IsNamed self.now }
+        requires { AreNamesApart self.now }
         ensures counts { result ≡ counts_of (forest_of self.now) }
         ensures few { len (forest_of self.now).nodes < 2 ^ 32 }
     {

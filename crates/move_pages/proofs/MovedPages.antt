@@ -5,6 +5,6 @@ pub mod OnePage
 -- The parts of a move of different pages may be done in either order.
 pub mod Changes
 -- One page is moved after the other.
-pub mod Pages
+pub mod OneByOne
 -- Pages whose nodes are alike can be moved at once.
 pub mod AtOnce

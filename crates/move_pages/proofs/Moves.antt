@@ -11,7 +11,7 @@ use Rattle.vm_ids.specs.Forest.Nodes.Hang.{Root}
 use Rattle.vm_ids.specs.Forest.Rules.{move_page, retire}
 use Rattle.vm_ids.specs.Forest.Shape.{IsConsistent}
 use Rattle.vm_ids.specs.Forest.Laws.Linking.{ArePages}
-use Rattle.vm_ids.proofs.Forest.Pages.{move_page-consistent}
+use Rattle.vm_ids.proofs.Forest.OnePage.{move_page-consistent}
 use Rattle.local_cache.specs.declared.own_state.OwnState.TheVariants.{Zero}
 use Rattle.local_cache.specs.Arena.{Arena, HasNode, IsVacant, find, node_at, tables_with, with_name, with_new}
 use Rattle.local_cache.specs.Own.{own_of}

@@ -7,6 +7,6 @@ pub mod OneFollowed
 -- One page is copied to a node that is new.
 pub mod OnePage
 -- All pages are copied at once.
-pub mod Pages
+pub mod AllAtOnce
 -- A step of a copy.
 pub mod Steps

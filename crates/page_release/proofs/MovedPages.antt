@@ -5,4 +5,4 @@ pub mod Parts
 -- One page is moved.
 pub mod OnePage
 -- All pages are moved at once.
-pub mod Pages
+pub mod AllAtOnce

@@ -7,6 +7,6 @@ pub mod OneFollowed
 -- One page is retired that is in no frame and in no slot.
 pub mod OnePage
 -- All pages are retired at once.
-pub mod Pages
+pub mod AllAtOnce
 -- A step of a retirement.
 pub mod Steps

@@ -8,7 +8,7 @@ use Rattle.frame_pool.specs.Pool.{is_pinned}
 use Rattle.local_cache.specs.Arena.{Arena, Table, node_at, table_at, table_of, tables_without, without_cache}
 use Rattle.residency.specs.declared.store.Store.{Store}
 use Rattle.local_cache.specs.Whole.{IsWhole, size_of}
-use Rattle.local_cache.proofs.Whole.Pages.{page_there}
+use Rattle.local_cache.proofs.Whole.LivePages.{page_there}
 use Rattle.page_release.specs.Steps.{ForAnyMapper, GivesBack, IsStoreTied}
 
 pub first_page : (a : Arena) → IsWhole a → (cache : CacheId) → size_of a cache.0 ≡ Some 1 → IsSome (node_at a cache.0 0)

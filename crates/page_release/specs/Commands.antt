@@ -17,7 +17,7 @@ use Rattle.local_cache.specs.Reading.{forest_of}
 use Rattle.local_cache.specs.Sound.{IsSound}
 use Rattle.local_cache.specs.Whole.{IsWhole}
 use Rattle.residency.specs.declared.store.Store.{Store}
-use Rattle.page_release.specs.Homes.{AreSaved, IsWritable}
+use Rattle.page_release.specs.Homes.{AreAllSaved, IsWritable}
 use Rattle.page_release.specs.Steps.{AreUnpinned, IsStoreTied, IsWorkingUnpinned, StaysRight}
 
 -- The nodes of these names may be retired, one after the other.
@@ -35,7 +35,7 @@ pub record CanRetire (nodes : ℕ) (names : List NodeName) (s : Store) (a : Aren
 pub record CanReplace (nodes : ℕ) (cache : CacheId) (names : List NodeName) (s : Store) (a : Arena)
     : Type 0 where
   pub retire : CanRetire nodes names s a
-  pub saved : AreSaved a cache names
+  pub saved : AreAllSaved a cache names
   pub working : IsWorkingUnpinned s a
 
 -- There is room for so many nodes, and they can be counted beside those that there are.

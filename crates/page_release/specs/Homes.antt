@@ -58,8 +58,8 @@ abbrev pub IsWritable : Arena → NodeName → Type 0
 IsWritable a x = HasHome a x → is_name_granted a x ≡ true
 
 -- Where the cache is named, none of these pages has an own page that an heir still reads.
-abbrev pub AreSaved : Arena → CacheId → List NodeName → Type 0
-AreSaved a cache names = is_named a cache ≡ true → (x : NodeName) → x ∈ names
+abbrev pub AreAllSaved : Arena → CacheId → List NodeName → Type 0
+AreAllSaved a cache names = is_named a cache ≡ true → (x : NodeName) → x ∈ names
     → is_unsaved (forest_of a) x ≡ false
 
 -- Before, there was a node of the name that n has; its own page was one that its segment holds just

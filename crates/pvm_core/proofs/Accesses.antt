@@ -4,7 +4,7 @@ pub mod Loading
 pub mod Zeros
 pub mod Storing
 pub mod Stored
-pub mod Pages
+pub mod AccessedPages
 pub mod Seen
 pub mod There
 pub mod Written

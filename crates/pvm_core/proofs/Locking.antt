@@ -15,7 +15,7 @@ pub mod Changed
 -- Locked pages stay in pinned frames.
 pub mod Holds
 -- One page, and one after the other.
-pub mod Pages
+pub mod LockedPages
 -- How many pages the machine has locked with one more region.
 pub mod Limit
 -- The regions of an actor, one after the other.

@@ -30,7 +30,7 @@ use Rattle.regions.specs.AddressSpace.{id_of}
 use Rattle.contexts.specs.Actors.{Actors, cut_refusal, holder_of, split_refusal, with_split}
 use Rattle.contexts.proofs.Replaced.{all_replaced, all_replaced_in}
 use Rattle.pvm_core.specs.Locks.{locks_over}
-use Rattle.pvm_core.specs.Placed.{ArePlaced, AreRight, EachRegion, IsAligned, IsPlaced}
+use Rattle.pvm_core.specs.Placed.{ArePlaced, AreRight, EachRegion, IsAligned, HasItsPages}
 use Rattle.pvm_core.proofs.Holding.Actors.{over_replaced}
 use Rattle.pvm_core.proofs.Holding.Regions.{cut_counts, prot_counts}
 use Rattle.pvm_core.proofs.Answering.Listed.{machine_with}
@@ -54,12 +54,12 @@ module _ (sizes : ℕ → Option ℕ) where
   }
 
   -- a region became others, which lie where it lay
-  pub replaced_right : (n : ℕ) (by : model.Region → List model.Region) (r : model.Region) (t : Actors) → region_with n t.actors ≡ Some r → (IsPlaced sizes r → All (IsPlaced sizes) (by r))
+  pub replaced_right : (n : ℕ) (by : model.Region → List model.Region) (r : model.Region) (t : Actors) → region_with n t.actors ≡ Some r → (HasItsPages sizes r → All (HasItsPages sizes) (by r))
       → (IsAligned t.page_bytes r → All (IsAligned t.page_bytes) (by r)) → AreRight sizes t
       → AreRight sizes (record t { actors = replace_in n by t.actors })
   replaced_right n by r t found placed aligned k = record {
     some = k.some;
-    placed = each (IsPlaced sizes) placed k.placed;
+    placed = each (HasItsPages sizes) placed k.placed;
     aligned = each (IsAligned t.page_bytes) aligned k.aligned;
   }
     where
@@ -72,16 +72,16 @@ module _ (sizes : ℕ → Option ℕ) where
       go : (o : Option model.Region) → region_with n t.actors ≡ o → is_some o ≡ true → AreRight sizes (with_allowed n prot t)
       go None found e = absurd (cc e)
       go (Some r) found e = replaced_right n (with_prot prot) r t found
-          (λ p. All-cons (IsPlaced sizes) (record r { may_write = prot.write }) [] (record { count = p.count; there = p.there; within = p.within }) (All-nil (IsPlaced sizes)))
+          (λ p. All-cons (HasItsPages sizes) (record r { may_write = prot.write }) [] (record { count = p.count; there = p.there; within = p.within }) (All-nil (HasItsPages sizes)))
           (λ p. All-cons (IsAligned t.page_bytes) (record r { may_write = prot.write }) [] p (All-nil (IsAligned t.page_bytes))) k
 
-  both_placed : (page_bytes pages number : ℕ) (r : model.Region) → pages < r.pages → IsPlaced sizes r → All (IsPlaced sizes) (split_at page_bytes pages number r)
+  both_placed : (page_bytes pages number : ℕ) (r : model.Region) → pages < r.pages → HasItsPages sizes r → All (HasItsPages sizes) (split_at page_bytes pages number r)
   both_placed page_bytes pages number r fewer p =
       let within = p.within in
       let front : r.offset + pages ≤ p.count = omega (arith, within, fewer) in
       let back : r.offset + pages + (r.pages - pages) ≤ p.count = omega (arith, within, fewer) in
-      All-cons (IsPlaced sizes) (record r { pages = pages }) (back_of page_bytes pages number r ∷ []) (record { count = p.count; there = p.there; within = front })
-      (All-cons (IsPlaced sizes) (back_of page_bytes pages number r) [] (record { count = p.count; there = p.there; within = back }) (All-nil (IsPlaced sizes)))
+      All-cons (HasItsPages sizes) (record r { pages = pages }) (back_of page_bytes pages number r ∷ []) (record { count = p.count; there = p.there; within = front })
+      (All-cons (HasItsPages sizes) (back_of page_bytes pages number r) [] (record { count = p.count; there = p.there; within = back }) (All-nil (HasItsPages sizes)))
 
 -- both parts of a region that is cut behind so many pages are of whole pages
 both_aligned : (page_bytes pages number : ℕ) (r : model.Region) → IsAligned page_bytes r → All (IsAligned page_bytes) (split_at page_bytes pages number r)

@@ -73,8 +73,8 @@ pub record ReadsAlike (old new : World) (before now : MapperCounts) : Type 0 whe
   pub told : TellsValues old new before now
 
 -- the store is right beside a mapper
-abbrev pub IsRight : Arena → Store → Type 0
-IsRight a s = (told : Option Held) × (size : Option ℕ) × IsStoreRight (world told size a s)
+abbrev pub HasRightStore : Arena → Store → Type 0
+HasRightStore a s = (told : Option Held) × (size : Option ℕ) × IsStoreRight (world told size a s)
 
 -- Locks and pins alone changed: whatever a mapper holds, each page reads as it did, and the page
 -- forest stays. So do the nodes, their frames and the translations, which are right still.

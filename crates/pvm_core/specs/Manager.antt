@@ -116,7 +116,7 @@ AreFull a page_bytes told = (cache : ℕ) (segment : SegId) → segment_of a cac
 --     locked     locks hold their pages in frames
 --     actors     each region is of pages that a live cache has
 --     page       the actors and the frames have one page size
-pub record IsSound (a : Arena) (s : Store) (t : Actors) (live : ℕ) : Type 0 where
+pub record IsManagerSound (a : Arena) (s : Store) (t : Actors) (live : ℕ) : Type 0 where
   pub nodes : IsWhole a
   pub apart : AreApart a
   pub bounded : IsBounded (arena.forest_of a)
@@ -129,8 +129,8 @@ pub record IsSound (a : Arena) (s : Store) (t : Actors) (live : ℕ) : Type 0 wh
   pub page : t.page_bytes ≡ s.frames.page
 
 -- the same, and each translation is right
-pub record IsKept (a : Arena) (s : Store) (t : Actors) (live : ℕ) : Type 0 where
-  pub sound : IsSound a s t live
+pub record IsManagerRight (a : Arena) (s : Store) (t : Actors) (live : ℕ) : Type 0 where
+  pub sound : IsManagerSound a s t live
   pub translated : AreTranslationsRight a s t
 
 -- What each call needs and keeps beside, which speaks of what the mapper holds:

@@ -4,7 +4,7 @@ use Rattle.vm_model.specs.Machine.{Actor, Region}
 use Rattle.contexts.specs.Actors.{Actors}
 
 -- a region's pages are those of a live cache, of which `sizes` tells how many pages it has
-pub record IsPlaced (sizes : ℕ → Option ℕ) (r : Region) : Type 0 where
+pub record HasItsPages (sizes : ℕ → Option ℕ) (r : Region) : Type 0 where
   pub count : ℕ
   pub there : sizes r.cache ≡ Some count
   pub within : r.offset + r.pages ≤ count
@@ -19,7 +19,7 @@ EachRegion is None = Unit {0}
 EachRegion is (Some regions) = All is regions
 
 abbrev pub ArePlaced : (ℕ → Option ℕ) → Option Actor → Type 0
-ArePlaced sizes actor = EachRegion (IsPlaced sizes) actor
+ArePlaced sizes actor = EachRegion (HasItsPages sizes) actor
 
 -- a page has a byte, and each region of a living actor is placed, and is of whole pages
 pub record AreRight (sizes : ℕ → Option ℕ) (t : Actors) : Type 0 where

@@ -14,7 +14,7 @@ use Rattle.vm_ids.specs.Forest.Commands.{extent_names}
 use Rattle.vm_ids.specs.Forest.Saving.{saved, saves, unsaved}
 use Rattle.local_cache.specs.Arena.{Arena, table_of}
 use Rattle.local_cache.specs.Whole.{SameCaches, size_of}
-use Rattle.page_release.specs.Homes.{AreSaved}
+use Rattle.page_release.specs.Homes.{AreAllSaved}
 use Rattle.segment_ops.specs.Access.{GrantsBefore, IsGranted}
 use Rattle.segment_ops.specs.Saving.{AreSavedNow}
 use Rattle.segment_ops.specs.Ranges.{IsPageOf}
@@ -74,7 +74,7 @@ pub record IsWrittenBack (range : Extent) (p q : Manager) (h g : Option Held) : 
   pub forest : forest_of q g
       ≡ saved (is_named p.caches range.cache.0) (extent_names range) (forest_of p h)
   pub pushed : IsPushed range p h g
-  pub saved_now : AreSaved q.caches range.cache (extent_names range)
+  pub saved_now : AreAllSaved q.caches range.cache (extent_names range)
 
 -- Why they may not: the mapper failed at a page, or a save failed, when all pages were pushed.
 abbrev pub IsNotWrittenBack : Extent → Manager → Option Held → Manager → Option Held → Trouble
@@ -90,7 +90,7 @@ pub record IsReady (range : Extent) (nodes : ℕ) (p q : Manager) (h g : Option 
   pub forest : forest_of q g
       ≡ saved (is_named p.caches range.cache.0) (extent_names range) (forest_of p h)
   pub writable : AreWritable range q.caches
-  pub saved_now : AreSaved q.caches range.cache (extent_names range)
+  pub saved_now : AreAllSaved q.caches range.cache (extent_names range)
   pub room : nodes ≤ q.caches.room.nodes
 
 -- of the manager the caches alone may have changed

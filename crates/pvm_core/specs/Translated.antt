@@ -38,7 +38,7 @@ pub record MayBeWritten (a : Arena) (at : Place) : Type 0 where
 
 -- A translation is right: it is for a page of a region of a living actor, leads to the frame in
 -- which the page is seen, and is for writing only where the page may be written as it is.
-pub record IsRight (a : Arena) (s : Store) (t : Actors) (e : Entry) : Type 0 where
+pub record IsTranslationRight (a : Arena) (s : Store) (t : Actors) (e : Entry) : Type 0 where
   pub at : Place
   pub place : place_of_page t e.actor.0 e.page ≡ Ok at
   pub seen : seen_in a s.map (name_at at) ≡ Some e.to.frame.0
@@ -47,7 +47,7 @@ pub record IsRight (a : Arena) (s : Store) (t : Actors) (e : Entry) : Type 0 whe
 -- each translation of a manager is right
 abbrev pub AreTranslationsRight : Arena → Store → Actors → Type 0
 AreTranslationsRight a s t =
-    (place : ℕ) (e : Entry) → entry_at s.tables place ≡ Some e → IsRight a s t e
+    (place : ℕ) (e : Entry) → entry_at s.tables place ≡ Some e → IsTranslationRight a s t e
 
 -- translations that were right are right still, whatever actors there are
 abbrev pub KeepsTranslations : Arena → Arena → Store → Store → Type 0

@@ -54,7 +54,7 @@ pub struct Pvm {
 }
 
 impl Model for Pvm {
-    ghost use Rattle.pvm_core.specs.Manager.{IsKept, Manager};
+    ghost use Rattle.pvm_core.specs.Manager.{IsManagerRight, Manager};
     ghost use Rattle.pvm_core.specs.Codes.{manager_code};
 
     ghost Value = { Manager };
@@ -69,7 +69,7 @@ impl Model for Pvm {
       regions_made = p.contexts.regions_made;
     } };
 
-    ghost invariant = { λ p. IsKept p.caches p.store p.contexts p.live };
+    ghost invariant = { λ p. IsManagerRight p.caches p.store p.contexts p.live };
 }
 
 impl Drop for Pvm {

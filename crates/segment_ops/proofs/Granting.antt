@@ -30,7 +30,7 @@ use Rattle.local_cache.proofs.Changes.Retabled.{node_place}
 use Rattle.local_cache.proofs.Forest.ReadingBy.{lifted}
 use Rattle.local_cache.proofs.Names.Homes.{home-with_grant}
 use Rattle.local_cache.proofs.Tables.Sizes.{sizes_granted}
-use Rattle.local_cache.proofs.Whole.Pages.{whole_same}
+use Rattle.local_cache.proofs.Whole.LivePages.{whole_same}
 use Rattle.residency.specs.Causes.{Later, Traffic}
 use Rattle.residency.specs.World.{AreGranted, IsAllowed, IsStoreRight, World, frame_page, home_page, is_clean, is_name_granted, own_page, page_at, page_by, zero_page}
 use Rattle.residency.specs.StoreForest.{store_forest}

@@ -33,7 +33,7 @@ use Rattle.residency.proofs.Forests.StillForest.{still_forest, still_like}
 use Rattle.fault_path.specs.Answers.{IsForestRight}
 use Rattle.fault_path.specs.Faults.{IsOwner}
 use Rattle.fault_path.proofs.Calls.Answered.{cause_then}
-use Rattle.fault_path.proofs.Pages.FoundPage.{found_frame}
+use Rattle.fault_path.proofs.OnePage.FoundPage.{found_frame}
 use Rattle.fault_path.proofs.Calls.Kept.{absent_is}
 use Rattle.segment_ops.specs.Pushing.{TellsValues, value_at}
 use Rattle.segment_ops.specs.Saving.{HasFailed}

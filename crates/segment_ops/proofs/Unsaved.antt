@@ -32,7 +32,7 @@ use Rattle.local_cache.specs.Whole.{IsWhole, SameCaches, size_of}
 use Rattle.local_cache.proofs.Forest.Reading.{node-forest_of}
 use Rattle.local_cache.proofs.Forest.ReadingBy.{forest_by-copies}
 use Rattle.local_cache.proofs.Tables.Sizes.{sizes_same}
-use Rattle.local_cache.proofs.Whole.Pages.{page_there, pages_once}
+use Rattle.local_cache.proofs.Whole.LivePages.{page_there, pages_once}
 use Rattle.residency.specs.StoreForest.{store_forest}
 use Rattle.residency.specs.World.{HasOwnPage, World, own_page}
 use Rattle.fault_path.specs.Coming.{IsOfSave}

@@ -7,7 +7,7 @@ pub mod Stretches
 -- One page is copied to a node that is new.
 pub mod OnePage
 -- One page is copied after the other.
-pub mod Pages
+pub mod OneByOne
 -- What the copy of each page hands on holds of all pages copied at once.
 pub mod Induction
 -- Pages whose nodes are alike can be copied at once.

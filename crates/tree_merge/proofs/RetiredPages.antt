@@ -3,7 +3,7 @@
 -- One page is retired, and its node goes.
 pub mod OnePage
 -- One page is retired after the other.
-pub mod Pages
+pub mod OneByOne
 -- One page is retired whose node stays for others.
 pub mod SharedPage
 -- One such page is retired after the other.

@@ -27,7 +27,7 @@ pub mod Paths
 pub mod Counters
 pub mod Agreeing
 pub mod Laws
-pub mod Pages
+pub mod OnePage
 pub mod Made
 pub mod Lengths
 pub mod Moving

@@ -1,3 +1,3 @@
 pub mod Forest
-pub mod Pages
+pub mod PushedPages
 pub mod Places

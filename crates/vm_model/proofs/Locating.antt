@@ -18,7 +18,7 @@ use Rattle.vm_model.specs.declared.tables.Actor.{Actor}
 use Rattle.vm_model.specs.declared.tables.Cache.{Cache}
 use Rattle.vm_model.specs.declared.tables.Region.{Region}
 use Rattle.vm_model.specs.declared.tables.Tables.{Tables}
-use Rattle.vm_model.specs.Seen.{actor_seen, actors_seen, region_seen, machine_seen, ArePlaced, IsLocated, IsPlaced, IsPlaceOf, IsReplaced, IsSound}
+use Rattle.vm_model.specs.Seen.{actor_seen, actors_seen, region_seen, machine_seen, ArePlaced, IsLocated, IsPlaced, IsPlaceOf, IsReplaced, AreTablesSound}
 use Rattle.vm_model.proofs.Parts.Lists.{found_is, numbered_place}
 use Rattle.vm_model.proofs.Parts.ListParts.{at_some}
 use Rattle.vm_model.proofs.Machines.Sound.{numbered-all, placed-set, sound-actors}
@@ -270,7 +270,7 @@ module _ (n : ℕ) where
       go true rest = living_behind (Some (replace_region n by rs)) (Some rs) xs xs refl refl
       go false rest = living_behind (Some rs) (Some rs) (replace_in n by xs) xs refl rest
 
-  module _ (t : Tables) (l : Located) (here : IsLocated n t.actors.items l) (s : IsSound t) where
+  module _ (t : Tables) (l : Located) (here : IsLocated n t.actors.items l) (s : AreTablesSound t) where
     -- the region lies in a cache
     pub located_placed : IsPlaced t.page_bytes t.caches.items l.region
     located_placed =
@@ -283,7 +283,7 @@ module _ (n : ℕ) where
       seen_actors : (by : model.Region → List model.Region) → by (region_seen l.region) ≡ map region_seen parts → actors_seen actors.items ≡ replace_in n by (actors_seen t.actors.items)
       seen_actors by becomes = replaced.seen by becomes ∙ ap (λ (k : ℕ). replace_in k by (actors_seen t.actors.items)) here.place.is
 
-      pub sound_replaced : All (IsPlaced t.page_bytes t.caches.items) parts → IsSound (record t { actors = actors; regions_made = made })
+      pub sound_replaced : All (IsPlaced t.page_bytes t.caches.items) parts → AreTablesSound (record t { actors = actors; regions_made = made })
       sound_replaced new =
           let by : model.Region → List model.Region = λ _. map region_seen parts in
           let seen = seen_actors by refl in
@@ -296,7 +296,7 @@ module _ (n : ℕ) where
       seen_replaced by becomes = ap (λ (xs : List (Option model.Actor)). record (machine_seen t) { actors = xs; regions_made = made }) (seen_actors by becomes)
 
 -- the tables where no region changed
-pub sound_kept : (t : Tables) (actors : Vec (Option Actor) Global) → actors_seen actors.items ≡ actors_seen t.actors.items → All (ArePlaced t.page_bytes t.caches.items) actors.items → IsSound t → IsSound (record t { actors = actors })
+pub sound_kept : (t : Tables) (actors : Vec (Option Actor) Global) → actors_seen actors.items ≡ actors_seen t.actors.items → All (ArePlaced t.page_bytes t.caches.items) actors.items → AreTablesSound t → AreTablesSound (record t { actors = actors })
 sound_kept t actors seen placed s =
     sound-actors t actors t.regions_made
     (sym (length-map actors.items (option_map actor_seen)) ∙ ap length seen ∙ length-map t.actors.items (option_map actor_seen))

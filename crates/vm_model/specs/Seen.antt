@@ -104,7 +104,7 @@ abbrev pub HasPages : ℕ → Option Cache → Type 0
 HasPages page_bytes None = Unit {0}
 HasPages page_bytes (Some c) = All (λ p. length p.items ≡ page_bytes) c.pages.items
 
-pub record IsSound (t : Tables) : Type 0 where
+pub record AreTablesSound (t : Tables) : Type 0 where
   pub some : 1 ≤ t.page_bytes
   pub most : t.page_bytes ≤ 2 ^ 16
   pub few_actors : length t.actors.items ≤ MOST_MADE

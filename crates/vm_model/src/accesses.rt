@@ -5,7 +5,7 @@ ghost use Rattle.vm_model.specs.Allowed.{AllowedOutcome, AwaitsAccess, numbers_o
 ghost use Rattle.vm_model.specs.Machine.{cache_of, numbered, pages_in};
 ghost use Rattle.vm_model.specs.Place.{place};
 ghost use Rattle.vm_model.specs.Outcome.{PlainOutcome};
-ghost use Rattle.vm_model.specs.Seen.{IsPlaced, IsSound, machine_seen, pages_seen, place_seen};
+ghost use Rattle.vm_model.specs.Seen.{IsPlaced, AreTablesSound, machine_seen, pages_seen, place_seen};
 
 use crate::place::{Found, cache_at, place_of, segment_of};
 use crate::tables::{Cache, Tables};
@@ -23,7 +23,7 @@ pub(crate) fn page_in(caches: &[Option<Cache>], cache: u32, page: u64) -> Option
 
 // The page of a place.
 fn page_of(tables: &Tables, found: Found) -> &[u8]
-    requires sound { IsSound tables.now }
+    requires sound { AreTablesSound tables.now }
     requires placed { IsPlaced tables.now.page_bytes tables.now.caches.items found.region }
     requires within { found.page < found.region.offset + found.region.pages }
     ensures page { result.now ≡ page_at (machine_seen tables.now) (place_seen found) }
@@ -37,7 +37,7 @@ fn page_of(tables: &Tables, found: Found) -> &[u8]
 
 // The bytes at a place.
 fn bytes_at(tables: &Tables, found: Found, bytes: u8) -> Piece
-    requires sound { IsSound tables.now }
+    requires sound { AreTablesSound tables.now }
     requires placed { IsPlaced tables.now.page_bytes tables.now.caches.items found.region }
     requires within { found.page < found.region.offset + found.region.pages }
     requires byte { found.byte + bytes ≤ tables.now.page_bytes }
@@ -61,7 +61,7 @@ pub(crate) fn load(
     address: u64,
     bytes: u8,
 ) -> Result<Piece, Trouble>
-    requires sound { IsSound tables.now }
+    requires sound { AreTablesSound tables.now }
     requires some { 1 ≤ bytes }
     requires few { bytes ≤ 64 }
     ensures outcome { PlainOutcome (machine_seen tables.now) (Command.Load actor address bytes)
@@ -96,11 +96,11 @@ fn write_cache(cache: &mut Cache, page: usize, at: usize, bytes: &[u8])
 
 // The same in the page of a place.
 fn write_place(tables: &mut Tables, found: Found, bytes: &[u8])
-    requires sound { IsSound tables.old }
+    requires sound { AreTablesSound tables.old }
     requires placed { IsPlaced tables.old.page_bytes tables.old.caches.items found.region }
     requires within { found.page < found.region.offset + found.region.pages }
     requires byte { found.byte + length bytes.now ≤ tables.old.page_bytes }
-    ensures sound { IsSound tables.new }
+    ensures sound { AreTablesSound tables.new }
     ensures machine { machine_seen tables.new
         ≡ write_at (machine_seen tables.old) (place_seen found) bytes.now }
 {
@@ -118,7 +118,7 @@ fn place_to_store(
     address: u64,
     piece: &Piece,
 ) -> Result<Found, Trouble>
-    requires { IsSound tables.now }
+    requires { AreTablesSound tables.now }
     ensures refused { OnErr result (PlainOutcome (machine_seen tables.now)
         (Command.Store actor address piece.now) (answer_by (λ _. Reply.Done) result)
         (machine_seen tables.now)) }
@@ -147,7 +147,7 @@ pub(crate) fn check_store(
     address: u64,
     piece: &Piece,
 ) -> Result<Option<(SegId, PageNo)>, Trouble>
-    requires { IsSound tables.now }
+    requires { AreTablesSound tables.now }
     ensures refused { OnErr result (PlainOutcome (machine_seen tables.now)
         (Command.Store actor address piece.now) (answer_by (λ _. Reply.Done) result)
         (machine_seen tables.now)) }
@@ -179,8 +179,8 @@ pub(crate) fn store(
     address: u64,
     piece: &Piece,
 ) -> Result<(), Trouble>
-    requires { IsSound tables.old }
-    ensures sound { IsSound tables.new }
+    requires { AreTablesSound tables.old }
+    ensures sound { AreTablesSound tables.new }
     ensures outcome { AllowedOutcome (machine_seen tables.old)
         (Command.Store actor address piece.now) (answer_by (λ _. Reply.Done) result)
         (machine_seen tables.new) }

@@ -2,7 +2,7 @@
 ghost use Rattle.std.specs.Prelude.{None, ◌≡◌, ℕ, ◌+◌, ◌≤◌, ◌<◌, ◌∷◌, ◌++◌, [], length};
 ghost use Rattle.vm_model.specs.Answering.{answer_by};
 ghost use Rattle.vm_model.specs.Outcome.{PlainOutcome};
-ghost use Rattle.vm_model.specs.Seen.{machine_seen, IsSound};
+ghost use Rattle.vm_model.specs.Seen.{machine_seen, AreTablesSound};
 
 use crate::place::actor_at;
 use crate::tables::{Actor, Tables};
@@ -11,8 +11,8 @@ use vm_ids::{ActorId, Command, Refusal, Reply, Trouble};
 
 #[tactic(auto, unfolding(crate::specs::Answering::make_actor_of, crate::specs::Answering::unless))]
 pub(crate) fn make_actor(tables: &mut Tables) -> Result<ActorId, Trouble>
-    requires { IsSound tables.old }
-    ensures sound { IsSound tables.new }
+    requires { AreTablesSound tables.old }
+    ensures sound { AreTablesSound tables.new }
     ensures outcome { PlainOutcome (machine_seen tables.old) Command.MakeActor
         (answer_by Reply.Actor result) (machine_seen tables.new) }
 {
@@ -29,8 +29,8 @@ pub(crate) fn make_actor(tables: &mut Tables) -> Result<ActorId, Trouble>
 
 #[tactic(auto, unfolding(crate::specs::Answering::exit_actor_of, crate::specs::Answering::with_some))]
 pub(crate) fn exit_actor(tables: &mut Tables, actor: ActorId) -> Result<(), Trouble>
-    requires { IsSound tables.old }
-    ensures sound { IsSound tables.new }
+    requires { AreTablesSound tables.old }
+    ensures sound { AreTablesSound tables.new }
     ensures outcome { PlainOutcome (machine_seen tables.old) (Command.ExitActor actor)
         (answer_by (λ _. Reply.Done) result) (machine_seen tables.new) }
 {

@@ -8,7 +8,7 @@ ghost use Rattle.vm_ids.specs.Held.{Segments};
 ghost use Rattle.vm_model.specs.Allowed.{AwaitsAccess, CanOpen, MayFailToOpen};
 ghost use Rattle.vm_model.specs.Machine.{cache_named, live_pages, numbered, zero_page};
 ghost use Rattle.vm_model.specs.Outcome.{Outcome, PlainOutcome};
-ghost use Rattle.vm_model.specs.Seen.{IsSound, actors_seen, cache_seen, machine_seen, region_seen};
+ghost use Rattle.vm_model.specs.Seen.{AreTablesSound, actors_seen, cache_seen, machine_seen, region_seen};
 
 use crate::place::{cache_at, page_count};
 use crate::tables::{Actor, Cache, Region, Tables};
@@ -34,11 +34,11 @@ pub(crate) fn zero_pages(
 
 // One cache more, with the next number.
 fn add_cache(tables: &mut Tables, cache: Cache) -> Result<CacheId, AllocError>
-    requires sound { IsSound tables.old }
+    requires sound { AreTablesSound tables.old }
     requires room { live_pages (machine_seen tables.old) + length cache.pages.items ≤ LIVE_PAGES }
     requires few { length tables.old.caches.items < MOST_MADE }
     requires whole { All (λ p. length p.items ≡ tables.old.page_bytes) cache.pages.items }
-    ensures sound { IsSound tables.new }
+    ensures sound { AreTablesSound tables.new }
     ensures number { IfOk result (λ number. number.0 ≡ length tables.old.caches.items + 1) }
     ensures added { OnOk result (machine_seen tables.new ≡ record (machine_seen tables.old) {
       caches = (machine_seen tables.old).caches ++ Some (cache_seen cache) ∷ [];
@@ -53,8 +53,8 @@ fn add_cache(tables: &mut Tables, cache: Cache) -> Result<CacheId, AllocError>
 
 #[tactic(auto, unfolding(crate::specs::Answering::make_temp_of, crate::specs::Answering::unless))]
 pub(crate) fn make_temp(tables: &mut Tables, pages: u32) -> Result<CacheId, Trouble>
-    requires { IsSound tables.old }
-    ensures sound { IsSound tables.new }
+    requires { AreTablesSound tables.old }
+    ensures sound { AreTablesSound tables.new }
     ensures outcome { PlainOutcome (machine_seen tables.old) (Command.MakeTemp pages)
         (answer_by Reply.Cache result) (machine_seen tables.new) }
 {
@@ -91,7 +91,7 @@ fn is_named(caches: &[Option<Cache>], seg: SegId) -> bool
 // Whether the segment may be opened, as far as the machine alone can tell.
 #[tactic(auto, unfolding(crate::specs::Answering::open_of, crate::specs::Answering::unless))]
 pub(crate) fn check_open(tables: &Tables, seg: SegId) -> Result<(), Trouble>
-    requires { IsSound tables.now }
+    requires { AreTablesSound tables.now }
     ensures refused { OnErr result (PlainOutcome (machine_seen tables.now) (Command.OpenSegment seg)
         (answer_by (λ _. Reply.Done) result) (machine_seen tables.now)) }
     ensures open { OnOk result (CanOpen (machine_seen tables.now) seg) }
@@ -113,7 +113,7 @@ pub(crate) fn room_for(
     seg: SegId,
     size: Option<u32>,
 ) -> Result<Vec<Vec<u8>>, Trouble>
-    requires sound { IsSound tables.now }
+    requires sound { AreTablesSound tables.now }
     requires open { CanOpen (machine_seen tables.now) seg }
     ensures refused { OnErr result ((h : Segments)
         → option_map length (get h.pages seg.0) ≡ size
@@ -143,11 +143,11 @@ pub(crate) fn open_segment(
     seg: SegId,
     pages: Vec<Vec<u8>>,
 ) -> Result<CacheId, Trouble>
-    requires sound { IsSound tables.old }
+    requires sound { AreTablesSound tables.old }
     requires open { CanOpen (machine_seen tables.old) seg }
     requires room { live_pages (machine_seen tables.old) + length pages.items ≤ LIVE_PAGES }
     requires whole { All (λ p. length p.items ≡ tables.old.page_bytes) pages.items }
-    ensures sound { IsSound tables.new }
+    ensures sound { AreTablesSound tables.new }
     ensures outcome { (h : Segments)
         → get h.pages seg.0 ≡ Some (map (λ p. p.items) pages.items)
         → Outcome (machine_seen tables.old) None (Command.OpenSegment seg) h
@@ -193,7 +193,7 @@ fn is_mapped(actors: &[Option<Actor>], cache: CacheId) -> bool
 // Whether the cache may go, as far as the machine alone can tell.
 #[tactic(auto, unfolding(crate::specs::Answering::destroy_of, crate::specs::Answering::with_some, crate::specs::Answering::unless))]
 pub(crate) fn check_destroy(tables: &Tables, cache: CacheId) -> Result<(), Trouble>
-    requires { IsSound tables.now }
+    requires { AreTablesSound tables.now }
     ensures refused { OnErr result (PlainOutcome (machine_seen tables.now) (Command.Destroy cache)
         (answer_by (λ _. Reply.Done) result) (machine_seen tables.now)) }
     ensures awaits { OnOk result (AwaitsAccess (machine_seen tables.now)
@@ -212,8 +212,8 @@ pub(crate) fn check_destroy(tables: &Tables, cache: CacheId) -> Result<(), Troub
 }
 
 pub(crate) fn destroy(tables: &mut Tables, cache: CacheId) -> Result<(), Trouble>
-    requires { IsSound tables.old }
-    ensures sound { IsSound tables.new }
+    requires { AreTablesSound tables.old }
+    ensures sound { AreTablesSound tables.new }
     ensures outcome { PlainOutcome (machine_seen tables.old) (Command.Destroy cache)
         (answer_by (λ _. Reply.Done) result) (machine_seen tables.new) }
 {

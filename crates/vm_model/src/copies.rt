@@ -5,7 +5,7 @@ ghost use Rattle.vm_model.specs.Allowed.{AllowedOutcome, AwaitsAccess};
 ghost use Rattle.vm_model.specs.Answering.{answer_by, is_any_locked, overlaps_itself, overwrite, put_pages, shares};
 ghost use Rattle.vm_model.specs.Machine.{cache_of, numbered, pages_in, segment_of};
 ghost use Rattle.vm_model.specs.Outcome.{PlainOutcome};
-ghost use Rattle.vm_model.specs.Seen.{machine_seen, cache_seen, pages_seen, IsSound, IsSpanned};
+ghost use Rattle.vm_model.specs.Seen.{machine_seen, cache_seen, pages_seen, AreTablesSound, IsSpanned};
 
 use crate::caches::zero_pages;
 use crate::locks::is_any_locked;
@@ -51,11 +51,11 @@ fn overlaps(span: &Span) -> bool
 
 // These pages stand in the cache with this number, from this page on.
 pub(crate) fn put_in_cache(tables: &mut Tables, number: u32, first: usize, pages: Vec<Vec<u8>>)
-    requires sound { IsSound tables.old }
+    requires sound { AreTablesSound tables.old }
     requires there { IsSomeAnd (numbered tables.old.caches.items number)
         (λ c. first + length pages.items ≤ length c.pages.items) }
     requires whole { All (λ p. length p.items ≡ tables.old.page_bytes) pages.items }
-    ensures sound { IsSound tables.new }
+    ensures sound { AreTablesSound tables.new }
     ensures machine { machine_seen tables.new ≡ record (machine_seen tables.old) {
       caches = slice_set (machine_seen tables.old).caches (number - 1)
           (option_map (λ c. put_pages first (map (λ p. p.items) pages.items) (cache_seen c)) (numbered tables.old.caches.items number));
@@ -70,7 +70,7 @@ pub(crate) fn put_in_cache(tables: &mut Tables, number: u32, first: usize, pages
 // Whether the pages of a copy or a move are there. Refused as `NoCache` or `OutOfCache`.
 #[tactic(auto, unfolding(crate::specs::Answering::copy_of, crate::specs::Answering::move_of, crate::specs::Answering::with_some, crate::specs::Answering::unless))]
 fn check_span(tables: &Tables, span: &Span) -> Result<(), Trouble>
-    requires { IsSound tables.now }
+    requires { AreTablesSound tables.now }
     ensures refused_copy { OnErr result (PlainOutcome (machine_seen tables.now)
         (Command.Copy span.now) (answer_by (λ _. Reply.Done) result) (machine_seen tables.now)) }
     ensures refused_move { OnErr result (PlainOutcome (machine_seen tables.now)
@@ -95,7 +95,7 @@ fn check_span(tables: &Tables, span: &Span) -> Result<(), Trouble>
 
 // The segment whose pages a copy would change, or none where no segment names the destination.
 pub(crate) fn check_copy(tables: &Tables, span: &Span) -> Result<Option<SegId>, Trouble>
-    requires { IsSound tables.now }
+    requires { AreTablesSound tables.now }
     ensures refused { OnErr result (PlainOutcome (machine_seen tables.now) (Command.Copy span.now)
         (answer_by (λ _. Reply.Done) result) (machine_seen tables.now)) }
     ensures awaits { OnOk result (AwaitsAccess (machine_seen tables.now)
@@ -124,7 +124,7 @@ pub(crate) fn check_copy(tables: &Tables, span: &Span) -> Result<Option<SegId>, 
 
 // The same of a move, whose source is temporary.
 pub(crate) fn check_move(tables: &Tables, span: &Span) -> Result<Option<SegId>, Trouble>
-    requires { IsSound tables.now }
+    requires { AreTablesSound tables.now }
     ensures refused { OnErr result (PlainOutcome (machine_seen tables.now) (Command.Move span.now)
         (answer_by (λ _. Reply.Done) result) (machine_seen tables.now)) }
     ensures awaits { OnOk result (AwaitsAccess (machine_seen tables.now)
@@ -162,7 +162,7 @@ pub(crate) fn check_move(tables: &Tables, span: &Span) -> Result<Option<SegId>, 
 
 // Copies of the pages of the source.
 fn source_pages(tables: &Tables, span: &Span) -> Result<Vec<Vec<u8>>, AllocError>
-    requires sound { IsSound tables.now }
+    requires sound { AreTablesSound tables.now }
     requires spanned { IsSpanned tables.now span.now }
     ensures pages { IfOk result (λ v. map (λ p. p.items) v.items
         ≡ take span.now.pages (drop span.now.from_page.0
@@ -179,8 +179,8 @@ fn source_pages(tables: &Tables, span: &Span) -> Result<Vec<Vec<u8>>, AllocError
 }
 
 pub(crate) fn copy_pages(tables: &mut Tables, span: &Span) -> Result<(), Trouble>
-    requires { IsSound tables.old }
-    ensures sound { IsSound tables.new }
+    requires { AreTablesSound tables.old }
+    ensures sound { AreTablesSound tables.new }
     ensures outcome { AllowedOutcome (machine_seen tables.old) (Command.Copy span.now)
         (answer_by (λ _. Reply.Done) result) (machine_seen tables.new) }
 {
@@ -195,8 +195,8 @@ pub(crate) fn copy_pages(tables: &mut Tables, span: &Span) -> Result<(), Trouble
 }
 
 pub(crate) fn move_pages(tables: &mut Tables, span: &Span) -> Result<(), Trouble>
-    requires { IsSound tables.old }
-    ensures sound { IsSound tables.new }
+    requires { AreTablesSound tables.old }
+    ensures sound { AreTablesSound tables.new }
     ensures outcome { AllowedOutcome (machine_seen tables.old) (Command.Move span.now)
         (answer_by (λ _. Reply.Done) result) (machine_seen tables.new) }
 {

@@ -9,7 +9,7 @@ ghost use Rattle.vm_model.specs.Machine.{Machine, cache_of, live_pages, pages_in
 ghost use Rattle.vm_model.specs.Outcome.{HasWholePages, Outcome, PlainOutcome};
 ghost use Rattle.vm_model.specs.PageForest.{page_in};
 ghost use Rattle.vm_model.specs.Place.{place};
-ghost use Rattle.vm_model.specs.Seen.{machine_seen, IsSound};
+ghost use Rattle.vm_model.specs.Seen.{machine_seen, AreTablesSound};
 
 use crate::tables::Tables;
 use crate::{
@@ -39,7 +39,7 @@ impl Model for EagerMachine {
 
     ghost view = { λ e. machine_seen e.tables };
 
-    ghost invariant = { λ e. IsSound e.tables };
+    ghost invariant = { λ e. AreTablesSound e.tables };
 }
 
 impl EagerMachine {

@@ -6,7 +6,7 @@ ghost use Rattle.vm_model.specs.Allowed.{AwaitsAccess};
 ghost use Rattle.vm_model.specs.Answering.{answer_by, held_for, held_part, is_any_locked};
 ghost use Rattle.vm_model.specs.Machine.{cache_of, pages_in, segment_of};
 ghost use Rattle.vm_model.specs.Outcome.{Outcome, PlainOutcome};
-ghost use Rattle.vm_model.specs.Seen.{IsSound, machine_seen};
+ghost use Rattle.vm_model.specs.Seen.{AreTablesSound, machine_seen};
 
 use crate::copies::put_in_cache;
 use crate::locks::is_any_locked;
@@ -17,7 +17,7 @@ use vm_ids::{Command, Extent, Refusal, Reply, SegId, Trouble};
 // The segment that names the cache of these pages. A sync changes nothing of the machine.
 #[tactic(auto, unfolding(crate::specs::Answering::sync_of, crate::specs::Answering::flush_of, crate::specs::Answering::invalidate_of, crate::specs::Answering::with_some, crate::specs::Answering::unless))]
 pub(crate) fn check_extent(tables: &Tables, extent: &Extent) -> Result<SegId, Trouble>
-    requires { IsSound tables.now }
+    requires { AreTablesSound tables.now }
     ensures sync { PlainOutcome (machine_seen tables.now) (Command.Sync extent.now)
         (answer_by (λ _. Reply.Done) result) (machine_seen tables.now) }
     ensures refused_flush { OnErr result (PlainOutcome (machine_seen tables.now)
@@ -48,7 +48,7 @@ pub(crate) fn check_extent(tables: &Tables, extent: &Extent) -> Result<SegId, Tr
 // The same of a flush or an invalidate, for which no page may be locked. A flush changes nothing of
 // the machine.
 pub(crate) fn check_flush(tables: &Tables, extent: &Extent) -> Result<SegId, Trouble>
-    requires { IsSound tables.now }
+    requires { AreTablesSound tables.now }
     ensures flush { PlainOutcome (machine_seen tables.now) (Command.Flush extent.now)
         (answer_by (λ _. Reply.Done) result) (machine_seen tables.now) }
     ensures refused { OnErr result (PlainOutcome (machine_seen tables.now)
@@ -76,7 +76,7 @@ pub(crate) fn check_flush(tables: &Tables, extent: &Extent) -> Result<SegId, Tro
 
 // These pages of the segment stand in the cache that it names.
 pub(crate) fn invalidate(tables: &mut Tables, extent: &Extent, pages: Vec<Vec<u8>>)
-    requires sound { IsSound tables.old }
+    requires sound { AreTablesSound tables.old }
     requires named { IsSome (segment_of (machine_seen tables.old) extent.now.cache.0) }
     requires within { extent.now.first.0 + extent.now.pages
         ≤ pages_in (cache_of (machine_seen tables.old) extent.now.cache.0) }
@@ -84,7 +84,7 @@ pub(crate) fn invalidate(tables: &mut Tables, extent: &Extent, pages: Vec<Vec<u8
         extent.now.first.0 extent.now.pages ≡ false }
     requires many { length pages.items ≡ extent.now.pages }
     requires whole { All (λ p. length p.items ≡ tables.old.page_bytes) pages.items }
-    ensures sound { IsSound tables.new }
+    ensures sound { AreTablesSound tables.new }
     ensures outcome { (h : Segments)
         → held_part (held_for (machine_seen tables.old) h extent.now.cache.0)
         extent.now.first.0 extent.now.pages

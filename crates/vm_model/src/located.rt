@@ -3,7 +3,7 @@ ghost use Rattle.std.specs.Prelude.{None, ◌≡◌, ℕ, ◌+◌, ◌≤◌, �
 ghost use Rattle.vm_model.specs.Answering.{answer_by};
 ghost use Rattle.vm_model.specs.Outcome.{PlainOutcome};
 ghost use Rattle.vm_model.specs.Regions.{region_among, region_with, split_at};
-ghost use Rattle.vm_model.specs.Seen.{ArePlaced, IsLocated, IsPlaceOf, IsPlaced, IsReplaced, IsSound, actors_seen, machine_seen, region_seen};
+ghost use Rattle.vm_model.specs.Seen.{ArePlaced, IsLocated, IsPlaceOf, IsPlaced, IsReplaced, AreTablesSound, actors_seen, machine_seen, region_seen};
 
 use crate::MOST_MADE;
 use crate::tables::{Actor, Cache, Region, Tables};
@@ -33,7 +33,7 @@ fn locate_among(regions: &[Region], number: RegionId) -> Option<(usize, Region)>
 
 // The region with the number, of a living actor.
 pub(crate) fn locate(tables: &Tables, number: RegionId) -> Option<Located>
-    requires { IsSound tables.now }
+    requires { AreTablesSound tables.now }
     ensures { MatchOption result (region_with number.0 (actors_seen tables.now.actors.items) ≡ None)
         (IsLocated number.0 tables.now.actors.items) }
 {
@@ -101,7 +101,7 @@ fn divide(
 
 // The first pages of a region, and the others under another number.
 fn parts_of(tables: &Tables, region: Region, pages: u32, number: RegionId) -> (Region, Region)
-    requires sound { IsSound tables.now }
+    requires sound { AreTablesSound tables.now }
     requires placed { IsPlaced tables.now.page_bytes tables.now.caches.items region }
     requires fewer { pages < region.pages }
     ensures parts { region_seen result.0 ∷ region_seen result.1 ∷ []
@@ -122,8 +122,8 @@ fn parts_of(tables: &Tables, region: Region, pages: u32, number: RegionId) -> (R
 
 #[tactic(auto, unfolding(crate::specs::Answering::split_of, crate::specs::Answering::with_some, crate::specs::Answering::unless))]
 pub(crate) fn split(tables: &mut Tables, region: RegionId, pages: u32) -> Result<RegionId, Trouble>
-    requires { IsSound tables.old }
-    ensures sound { IsSound tables.new }
+    requires { AreTablesSound tables.old }
+    ensures sound { AreTablesSound tables.new }
     ensures outcome { PlainOutcome (machine_seen tables.old) (Command.Split region pages)
         (answer_by Reply.Region result) (machine_seen tables.new) }
 {
@@ -149,8 +149,8 @@ pub(crate) fn split(tables: &mut Tables, region: RegionId, pages: u32) -> Result
 
 #[tactic(auto, unfolding(crate::specs::Answering::protect_of, crate::specs::Answering::with_some))]
 pub(crate) fn protect(tables: &mut Tables, region: RegionId, prot: Prot) -> Result<(), Trouble>
-    requires { IsSound tables.old }
-    ensures sound { IsSound tables.new }
+    requires { AreTablesSound tables.old }
+    ensures sound { AreTablesSound tables.new }
     ensures outcome { PlainOutcome (machine_seen tables.old) (Command.Protect region prot)
         (answer_by (λ _. Reply.Done) result) (machine_seen tables.new) }
 {

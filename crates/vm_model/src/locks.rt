@@ -5,7 +5,7 @@ ghost use Rattle.vm_model.specs.Answering.{answer_by, change_region, is_any_lock
 ghost use Rattle.vm_model.specs.Machine.{is_locked_page, locked_in, locked_pages, locks, locks_any};
 ghost use Rattle.vm_model.specs.Outcome.{PlainOutcome};
 ghost use Rattle.vm_model.specs.Regions.{with_lock};
-ghost use Rattle.vm_model.specs.Seen.{IsSound, actors_seen, machine_seen, region_seen};
+ghost use Rattle.vm_model.specs.Seen.{AreTablesSound, actors_seen, machine_seen, region_seen};
 
 use crate::UNLOCKED_FRAMES;
 use crate::located::{locate, replace};
@@ -63,7 +63,7 @@ pub(crate) fn is_any_locked(tables: &Tables, cache: CacheId, first: PageNo, page
 
 // How many pages of the cache are locked.
 fn locked_in(tables: &Tables, cache: CacheId) -> u32
-    requires { IsSound tables.now }
+    requires { AreTablesSound tables.now }
     ensures { result ≡ locked_in (machine_seen tables.now) cache.0 }
 {
     let mut locked = 0;
@@ -77,7 +77,7 @@ fn locked_in(tables: &Tables, cache: CacheId) -> u32
 
 // How many pages are locked, each counted once.
 fn locked_pages(tables: &Tables) -> u32
-    requires { IsSound tables.now }
+    requires { AreTablesSound tables.now }
     ensures { result ≡ locked_pages (machine_seen tables.now) }
 {
     let mut locked = 0;
@@ -91,7 +91,7 @@ fn locked_pages(tables: &Tables) -> u32
 
 // Whether so many pages are locked that an access could lack a frame.
 fn passes_lock_limit(tables: &Tables) -> bool
-    requires { IsSound tables.now }
+    requires { AreTablesSound tables.now }
     ensures { result ≡ passes_lock_limit (machine_seen tables.now) }
 {
     locked_pages(tables) > tables.frames.saturating_sub(UNLOCKED_FRAMES)
@@ -99,8 +99,8 @@ fn passes_lock_limit(tables: &Tables) -> bool
 
 // The region with this number, where there is one, becomes locked or unlocked.
 fn set_lock(tables: &mut Tables, region: RegionId, locked: bool)
-    requires { IsSound tables.old }
-    ensures sound { IsSound tables.new }
+    requires { AreTablesSound tables.old }
+    ensures sound { AreTablesSound tables.new }
     ensures machine { machine_seen tables.new
         ≡ change_region (machine_seen tables.old) region.0 (with_lock locked) }
 {
@@ -115,8 +115,8 @@ fn set_lock(tables: &mut Tables, region: RegionId, locked: bool)
 
 #[tactic(auto, unfolding(crate::specs::Answering::lock_of, crate::specs::Answering::with_some, crate::specs::Answering::unless))]
 pub(crate) fn lock(tables: &mut Tables, region: RegionId) -> Result<(), Trouble>
-    requires { IsSound tables.old }
-    ensures sound { IsSound tables.new }
+    requires { AreTablesSound tables.old }
+    ensures sound { AreTablesSound tables.new }
     ensures outcome { PlainOutcome (machine_seen tables.old) (Command.Lock region)
         (answer_by (λ _. Reply.Done) result) (machine_seen tables.new) }
 {
@@ -136,8 +136,8 @@ pub(crate) fn lock(tables: &mut Tables, region: RegionId) -> Result<(), Trouble>
 
 #[tactic(auto, unfolding(crate::specs::Answering::unlock_of, crate::specs::Answering::with_some, crate::specs::Answering::unless))]
 pub(crate) fn unlock(tables: &mut Tables, region: RegionId) -> Result<(), Trouble>
-    requires { IsSound tables.old }
-    ensures sound { IsSound tables.new }
+    requires { AreTablesSound tables.old }
+    ensures sound { AreTablesSound tables.new }
     ensures outcome { PlainOutcome (machine_seen tables.old) (Command.Unlock region)
         (answer_by (λ _. Reply.Done) result) (machine_seen tables.new) }
 {

@@ -4,7 +4,7 @@ ghost use Rattle.std.specs.List.{list_any};
 ghost use Rattle.vm_model.specs.Answering.{answer_by, insert_region, overlaps, region_of, without_region};
 ghost use Rattle.vm_model.specs.Machine.{numbered};
 ghost use Rattle.vm_model.specs.Outcome.{PlainOutcome};
-ghost use Rattle.vm_model.specs.Seen.{ArePlaced, IsPlaced, IsSound, actor_seen, actors_seen, machine_seen, region_seen};
+ghost use Rattle.vm_model.specs.Seen.{ArePlaced, IsPlaced, AreTablesSound, actor_seen, actors_seen, machine_seen, region_seen};
 
 use crate::MOST_MADE;
 use crate::located::locate;
@@ -99,11 +99,11 @@ fn place_region(actors: &mut Vec<Option<Actor>>, actor: u32, region: Region) -> 
 
 // The region is made.
 fn put_region(tables: &mut Tables, actor: u32, region: Region) -> Result<(), NoMemory>
-    requires sound { IsSound tables.old }
+    requires sound { AreTablesSound tables.old }
     requires there { IsSome (numbered tables.old.actors.items actor) }
     requires placed { IsPlaced tables.old.page_bytes tables.old.caches.items region }
     requires few { tables.old.regions_made < MOST_MADE }
-    ensures sound { IsSound tables.new }
+    ensures sound { AreTablesSound tables.new }
     ensures ok { OnOk result (machine_seen tables.new ≡ record (machine_seen tables.old) {
       regions_made = tables.old.regions_made + 1;
       actors = slice_set (machine_seen tables.old).actors (actor - 1)
@@ -122,8 +122,8 @@ pub(crate) fn map(
     actor: ActorId,
     mapping: &Mapping,
 ) -> Result<RegionId, Trouble>
-    requires { IsSound tables.old }
-    ensures sound { IsSound tables.new }
+    requires { AreTablesSound tables.old }
+    ensures sound { AreTablesSound tables.new }
     ensures outcome { PlainOutcome (machine_seen tables.old) (Command.Map actor mapping.now)
         (answer_by Reply.Region result) (machine_seen tables.new) }
 {
@@ -192,8 +192,8 @@ fn drop_region(actors: &mut [Option<Actor>], number: RegionId)
 
 #[tactic(auto, unfolding(crate::specs::Answering::unmap_of, crate::specs::Answering::with_some, crate::specs::Answering::unless))]
 pub(crate) fn unmap(tables: &mut Tables, region: RegionId) -> Result<(), Trouble>
-    requires { IsSound tables.old }
-    ensures sound { IsSound tables.new }
+    requires { AreTablesSound tables.old }
+    ensures sound { AreTablesSound tables.new }
     ensures outcome { PlainOutcome (machine_seen tables.old) (Command.Unmap region)
         (answer_by (λ _. Reply.Done) result) (machine_seen tables.new) }
 {

@@ -4,7 +4,7 @@ ghost use Rattle.std.specs.List.{All, Contains};
 ghost use Rattle.vm_model.specs.Answering.{passes_end};
 ghost use Rattle.vm_model.specs.Machine.{cache_of, numbered, pages_in, segment_of};
 ghost use Rattle.vm_model.specs.Place.{place, place_among, region_at};
-ghost use Rattle.vm_model.specs.Seen.{cache_seen, region_seen, found_seen, machine_seen, IsPlaced, IsSound};
+ghost use Rattle.vm_model.specs.Seen.{cache_seen, region_seen, found_seen, machine_seen, IsPlaced, AreTablesSound};
 
 use crate::numbering::numbered;
 use crate::tables::{Actor, Cache, Region, Tables};
@@ -41,7 +41,7 @@ pub(crate) fn segment_of(tables: &Tables, cache: CacheId) -> Option<SegId>
 
 // How many pages a cache has; none where it isn't alive.
 pub(crate) fn page_count(tables: &Tables, cache: CacheId) -> u32
-    requires { IsSound tables.now }
+    requires { AreTablesSound tables.now }
     ensures { result ≡ pages_in (cache_of (machine_seen tables.now) cache.0) }
 {
     match cache_at(&tables.caches, cache.0) {
@@ -113,7 +113,7 @@ pub(crate) fn place_of(
     address: u64,
     bytes: u8,
 ) -> Result<Found, Refusal>
-    requires sound { IsSound tables.now }
+    requires sound { AreTablesSound tables.now }
     requires few { bytes ≤ 64 }
     ensures place { found_seen result ≡ place (machine_seen tables.now) actor.0 address bytes }
     ensures page { IfOk result

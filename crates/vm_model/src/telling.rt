@@ -3,7 +3,7 @@ ghost use Rattle.std.specs.Prelude.{◌≡◌, [], ◌∷◌, None, Ok, IfOk};
 ghost use Rattle.vm_model.specs.Answering.{answer_by};
 ghost use Rattle.vm_model.specs.Outcome.{PlainOutcome};
 ghost use Rattle.vm_model.specs.Regions.{status_in};
-ghost use Rattle.vm_model.specs.Seen.{machine_seen, region_seen, IsSound};
+ghost use Rattle.vm_model.specs.Seen.{machine_seen, region_seen, AreTablesSound};
 
 use crate::located::{Located, locate};
 use crate::place::{actor_at, cache_at, passes_end, region_holding};
@@ -39,7 +39,7 @@ fn status_at(located: &Located) -> RegionStatus
 
 #[tactic(auto, unfolding(crate::specs::Answering::status_of, crate::specs::Answering::with_some))]
 pub(crate) fn status(tables: &Tables, region: RegionId) -> Result<RegionStatus, Trouble>
-    requires { IsSound tables.now }
+    requires { AreTablesSound tables.now }
     ensures { PlainOutcome (machine_seen tables.now) (Command.Status region)
         (answer_by Reply.Status result) (machine_seen tables.now) }
 {
@@ -51,7 +51,7 @@ pub(crate) fn status(tables: &Tables, region: RegionId) -> Result<RegionStatus, 
 
 #[tactic(auto, unfolding(crate::specs::Answering::find_of, crate::specs::Answering::with_some))]
 pub(crate) fn find(tables: &Tables, actor: ActorId, address: u64) -> Result<RegionId, Trouble>
-    requires { IsSound tables.now }
+    requires { AreTablesSound tables.now }
     ensures { PlainOutcome (machine_seen tables.now) (Command.Find actor address)
         (answer_by Reply.Region result) (machine_seen tables.now) }
 {
@@ -79,7 +79,7 @@ fn own_chain(alloc: Global, cache: CacheId, page: PageNo) -> Result<ChainList, A
 
 #[tactic(auto, unfolding(crate::specs::Answering::chain_answer, crate::specs::Answering::with_some, crate::specs::Answering::unless))]
 pub(crate) fn chain(tables: &Tables, cache: CacheId, page: PageNo) -> Result<ChainList, Trouble>
-    requires { IsSound tables.now }
+    requires { AreTablesSound tables.now }
     ensures { PlainOutcome (machine_seen tables.now) (Command.Chain cache page)
         (answer_by Reply.Chain result) (machine_seen tables.now) }
 {
@@ -96,7 +96,7 @@ pub(crate) fn chain(tables: &Tables, cache: CacheId, page: PageNo) -> Result<Cha
 }
 
 pub(crate) fn stat(tables: &Tables) -> Counts
-    requires { IsSound tables.now }
+    requires { AreTablesSound tables.now }
     ensures { PlainOutcome (machine_seen tables.now) Command.Stat (Ok (Reply.Stat result))
         (machine_seen tables.now) }
 {

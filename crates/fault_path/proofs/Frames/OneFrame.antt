@@ -12,7 +12,7 @@ use Rattle.local_cache.specs.declared.own_state.OwnState.TheVariants.{Absent, Re
 use Rattle.local_cache.specs.Arena.{Arena, HasNode, find, with_own}
 use Rattle.local_cache.specs.Changes.{Like, Relinked}
 use Rattle.local_cache.specs.Own.{own_of}
-use Rattle.local_cache.specs.Reading.{IsNamed, name_of, page_of}
+use Rattle.local_cache.specs.Reading.{AreNamesApart, name_of, page_of}
 use Rattle.local_cache.specs.ReadingBy.{Tells, forest_by}
 use Rattle.local_cache.specs.Sound.{IsSound}
 use Rattle.local_cache.proofs.Changes.SameNodes.{like_then, named-like}
@@ -24,7 +24,7 @@ use Rattle.residency.specs.World.{IsStoreRight, IsTaken, PinnedStays, World, own
 use Rattle.residency.proofs.Worlds.Telling.{tells}
 use Rattle.fault_path.specs.Giving.{IsGiven, IsHanded, IsOwned}
 use Rattle.fault_path.proofs.Frames.SettledFrame.{IsResidentIn, homed, homed_here, homed_other, homed_pinned, homed_right}
-use Rattle.fault_path.proofs.Pages.OwnPage.{given_copies, given_like, given_made, kept}
+use Rattle.fault_path.proofs.OnePage.OwnPage.{given_copies, given_like, given_made, kept}
 
 -- Frame f, which its taker had, is node n's, whose caches were changed for that, and one copy was
 -- counted.
@@ -50,7 +50,7 @@ pub record GivesFrame (w v : World) (f : ℕ) (n : NodeId) : Type 0 where
   pub slots : v.slots ≡ w.slots
   pub page_bytes : v.page_bytes ≡ w.page_bytes
 
-handed_named : (a b : Arena) → IsNamed a → Relinked a b → IsNamed b
+handed_named : (a b : Arena) → AreNamesApart a → Relinked a b → AreNamesApart b
 handed_named a b named links = named-like a b named links.like links.made
 
 module _ (w : World) (f : ℕ) (n : NodeId) (right : IsStoreRight w) (taken : IsTaken w f) (sound : IsSound w.caches) (there : HasNode w.caches n) (absent : own_of w.caches n ≡ Absent) where
@@ -148,7 +148,7 @@ module _ (w : World) (f : ℕ) (n : NodeId) (right : IsStoreRight w) (taken : Is
         let first = told_given is.given is.is_given now (ap is_some handed_gives.here) handed_gives.elsewhere told in
         let second : Tells now is.handed = λ m. first m ∙ ap (λ (s : OwnState). is_some (page_of s)) (sym (is.links.own m)) in
         let like : Like w.caches is.given = given_like w.caches sound n there is.given is.is_given in
-        let named : IsNamed is.handed = handed_named is.given is.handed is.is_given.sound.kept.named is.links in
+        let named : AreNamesApart is.handed = handed_named is.given is.handed is.is_given.sound.kept.named is.links in
         counted-by now is.handed b named second is.is
         ∙ ap count_copy (hand_stubs-by now is.given is.handed is.is_given.sound.kept.named first is.links (name_of is.given from) (name_of is.given n) is.forest
         ∙ ap (λ x. hand_stubs (forest_by now is.given) x (name_of is.given n)) (like.name from) ∙ ap (hand_stubs (forest_by now is.given) (name_of w.caches from)) (like.name n)

@@ -37,7 +37,7 @@ use Rattle.fault_path.specs.Answers.{IsForestRight}
 use Rattle.fault_path.specs.Faults.{IsOwner, Kept, readied}
 use Rattle.fault_path.specs.Gathering.{HasPageOf, IsCopiedOut, IsDoubled, IsGathered, NoneGathered}
 use Rattle.fault_path.specs.Giving.{IsHanded, IsOwned}
-use Rattle.fault_path.proofs.Pages.DirtyPage.{page_moves}
+use Rattle.fault_path.proofs.OnePage.DirtyPage.{page_moves}
 use Rattle.fault_path.proofs.Frames.GatheredFrames.{set_comm}
 use Rattle.fault_path.proofs.Rules.ForestSize.{more_names}
 use Rattle.fault_path.proofs.Rules.Heirs.{heir_absent}

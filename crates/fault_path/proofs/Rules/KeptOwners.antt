@@ -22,7 +22,7 @@ use Rattle.vm_ids.proofs.Forest.Values.{handed, handed_hang, heir_hangs, heir_ow
 use Rattle.vm_ids.proofs.Forest.Writing.{ReadsNot, ReadsNot-no_heir}
 use Rattle.local_cache.specs.Arena.{Arena, HasNode}
 use Rattle.local_cache.specs.Changes.{Like}
-use Rattle.local_cache.specs.Reading.{IsNamed, forest_of, name_of}
+use Rattle.local_cache.specs.Reading.{AreNamesApart, forest_of, name_of}
 use Rattle.local_cache.specs.ReadingBy.{state_page}
 use Rattle.residency.specs.Seeing.{IsAlone}
 use Rattle.local_cache.specs.Sound.{IsSound}
@@ -158,7 +158,7 @@ alone_is a linked y p = record { owned = p.owned; last = no_heir (forest_of a) l
 
 -- A page keeps its owner where it keeps its value in a forest of owners, of which each own page is
 -- one from before or that of node o, whose pages are left out.
-module _ (a b : Arena) (like : Like a b) (was : IsNamed a) (named : IsNamed b) (linked : IsLinked (forest_of b)) (o : NodeId) (g : Forest NodeId) (same : bare g ≡ bare (forest_of b))
+module _ (a b : Arena) (like : Like a b) (was : AreNamesApart a) (named : AreNamesApart b) (linked : IsLinked (forest_of b)) (o : NodeId) (g : Forest NodeId) (same : bare g ≡ bare (forest_of b))
     (values : (y : NodeName) → value_of g y ≡ value_of (owners a) y) (pages : (y : NodeName) (w : NodeId) → (node g y).own ≡ Some w → ((node (owners a) y).own ≡ Some w) ⊎ (w ≡ o)) where
   same_owners : bare g ≡ bare (owners b)
   same_owners = same ∙ sym (owners_bare b named)

@@ -29,7 +29,7 @@ use Rattle.fault_path.specs.Answers.{IsForestRight}
 use Rattle.fault_path.specs.Faults.{Follows, IsOwner, Kept}
 use Rattle.fault_path.specs.Translating.{MayCome, without_homes}
 use Rattle.fault_path.proofs.Calls.Kept.{still_owner, still_shaped}
-use Rattle.fault_path.proofs.Pages.DirtyPage.{dirtied}
+use Rattle.fault_path.proofs.OnePage.DirtyPage.{dirtied}
 use Rattle.fault_path.proofs.Rules.KeptOwners.{Passes, passes_both, passes_heir, passes_own}
 use Rattle.fault_path.proofs.Translations.Given.{given_drops}
 

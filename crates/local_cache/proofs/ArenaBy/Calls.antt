@@ -12,7 +12,7 @@ use Rattle.local_cache.specs.declared.own_state.OwnState.{OwnState}
 use Rattle.local_cache.specs.Arena.{Arena, IsVacant, MakesCache, node_at, with_grant, with_locks, without_cache}
 use Rattle.local_cache.specs.Arena as arena
 use Rattle.local_cache.specs.ArenaBy.{CacheRows, arena_by}
-use Rattle.local_cache.specs.Placed.{ArePlaced, IsPlaced}
+use Rattle.local_cache.specs.Placed.{ArePlaced, IsNameOfPage}
 use Rattle.local_cache.specs.RowChanges.{row_granting, row_locking, with_changed, with_row, without_row}
 use Rattle.local_cache.specs.NodeKeys.{page_number}
 use Rattle.local_cache.specs.PageNodes.{HasNode, MakesAllPages, PageNodes, find}
@@ -33,7 +33,7 @@ pub record StandFor (m : PageNodes) (c : CacheRows) (a : Arena) : Type 0 where
 pub record MayGetNode (m : PageNodes) (c : CacheRows) (cache : CacheId) (page : PageNo) : Type 0 where
   pub vacant : ids.get m.pages (page_number cache.0 page.0) ≡ None
   pub short : page.0 + 1 < 2 ^ 32
-  pub placed : IsPlaced c.rows (Live cache page)
+  pub placed : IsNameOfPage c.rows (Live cache page)
 
 module _ (m : PageNodes) (c : CacheRows) (right : ArePlaced m c.rows) where
   abbrev a : Arena

@@ -22,11 +22,11 @@ use Rattle.local_cache.specs.Arena.{Arena, Cell, HasNode}
 use Rattle.local_cache.specs.ArenaBy.{CacheRows, arena_by}
 use Rattle.local_cache.specs.NodeKeys.{key_at, page_key, page_number, page_of_name}
 use Rattle.local_cache.specs.PageNodes.{ArePaged, PageNodes}
-use Rattle.local_cache.specs.Reading.{IsNamed, at_key, forest_of, name_of}
+use Rattle.local_cache.specs.Reading.{AreNamesApart, at_key, forest_of, name_of}
 use Rattle.local_cache.proofs.ArenaBy.Nodes.{cell_by, held_key, paged_at}
 use Rattle.local_cache.proofs.Changes.SameNodes.{forest_of-copies}
 use Rattle.local_cache.proofs.Forest.Reading.{IsNode-forest_of, forest_of-IsNode}
-use Rattle.local_cache.proofs.NewCache.Pages.{some_of}
+use Rattle.local_cache.proofs.NewCache.FoundPages.{some_of}
 use Rattle.local_cache.proofs.NodeCells.{removed_here, removed_other, some_number}
 use Rattle.local_cache.proofs.NodeKeys.{key_apart}
 use Rattle.local_cache.proofs.Singles.{len_remove_old}
@@ -87,7 +87,7 @@ page_by_live : (x : NodeName) → is_live x ≡ true → (k : ℕ) × (page_of_n
 page_by_live (Live cache page) is = (page_number cache.0 page.0, refl)
 page_by_live (Working j) is = absurd (false≢true is)
 
-module _ (m : PageNodes) (c : CacheRows) (named : IsNamed (arena_by m c)) where
+module _ (m : PageNodes) (c : CacheRows) (named : AreNamesApart (arena_by m c)) where
   abbrev a : Arena
   a = arena_by m c
 

@@ -20,7 +20,7 @@ use Rattle.local_cache.specs.ManyNodes as many
 use Rattle.local_cache.specs.NodeKeys.{page_number}
 use Rattle.local_cache.specs.PageNodes.{PageNodes}
 use Rattle.local_cache.specs.PageNodes as nodes
-use Rattle.local_cache.specs.Placed.{ArePlaced, IsPlaced}
+use Rattle.local_cache.specs.Placed.{ArePlaced, IsNameOfPage}
 use Rattle.local_cache.proofs.ArenaBy.Calls.{MayGetNode, StandFor, freed, links_set, made_working, may_get_node, named_by, tree_set, working_made}
 use Rattle.local_cache.proofs.ArenaBy.Nodes.{new_by}
 use Rattle.local_cache.proofs.ArenaBy.Placed.{kept_new, placed_name, short_name}
@@ -188,8 +188,8 @@ many_working_over m c right n older newer k none =
 module _ (m : PageNodes) (c : CacheRows) (right : ArePlaced m c.rows) (d : NodeId) (cache : CacheId) (page : PageNo) (count : ℕ)
     (named : AreNamed m d cache page count) where
   -- each of the pages is one of a live cache
-  named_placed : (k : ℕ) → k < count → IsPlaced c.rows (Live cache (record { 0 = page.0 + k }))
-  named_placed k less = subst (λ (x : NodeName). IsPlaced c.rows x) (named k less).1 (placed_name m c.rows right (next_node d k) (named k less).0)
+  named_placed : (k : ℕ) → k < count → IsNameOfPage c.rows (Live cache (record { 0 = page.0 + k }))
+  named_placed k less = subst (λ (x : NodeName). IsNameOfPage c.rows x) (named k less).1 (placed_name m c.rows right (next_node d k) (named k less).0)
 
   pub named_short : (k : ℕ) → k < count → page.0 + k + 1 < 2 ^ 32
   named_short k less = page_short m c cache.0 (page.0 + k) right.short (named_placed k less)

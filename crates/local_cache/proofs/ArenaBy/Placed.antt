@@ -15,12 +15,12 @@ use Rattle.local_cache.specs.declared.own_state.OwnState.{OwnState}
 use Rattle.local_cache.specs.declared.own_state.OwnState.TheVariants.{Absent}
 use Rattle.local_cache.specs.Arena.{Cell, blank, new_cell}
 use Rattle.local_cache.specs.ArenaBy.{CacheRow}
-use Rattle.local_cache.specs.Placed.{ArePlaced, HasRow, IsPlaced, IsShort}
+use Rattle.local_cache.specs.Placed.{ArePlaced, HasRow, IsNameOfPage, IsShort}
 use Rattle.local_cache.specs.NodeKeys.{Indexes, key_at, page_key, page_number, page_of_name, rekeyed, with_key, without_key}
 use Rattle.local_cache.specs.PageNodes.{HasNode, PageNodes, as_working, cell, find, of_page, put, with_links, with_name, with_new, with_own, with_tree, with_working, without}
 use Rattle.local_cache.proofs.ArenaBy.NewCache.{row_within}
 use Rattle.local_cache.proofs.ArenaBy.Nodes.{held_key, of_number, rekeyed_is}
-use Rattle.local_cache.proofs.NewCache.Pages.{some_of}
+use Rattle.local_cache.proofs.NewCache.FoundPages.{some_of}
 use Rattle.local_cache.proofs.NodeCells.{inserted_here, inserted_other, removed_here, removed_other, still_there}
 use Rattle.local_cache.proofs.NodeKeys.{indexes_rekeyed}
 
@@ -40,16 +40,16 @@ module _ (m : PageNodes) (rows : List (Option CacheRow)) (right : ArePlaced m ro
   }
 
   -- a name that is placed is short
-  pub short_name : (x : NodeName) → IsPlaced rows x → IsShort x
+  pub short_name : (x : NodeName) → IsNameOfPage rows x → IsShort x
   short_name (Working k) at = tt
   short_name (Live cache page) at = (within cache.0 page.0 at).short
 
   -- the name of a node is placed
-  pub placed_name : (n : NodeId) → HasNode m n → IsPlaced rows (cell m n).name
+  pub placed_name : (n : NodeId) → HasNode m n → IsNameOfPage rows (cell m n).name
   unfolding cell
   placed_name n held =
       let d = some_of (find m n) held in
-      subst (λ (o : Option Cell). IsPlaced rows (unwrap_or o blank).name) (sym d.1) (right.placed n d.0 d.1)
+      subst (λ (o : Option Cell). IsNameOfPage rows (unwrap_or o blank).name) (sym d.1) (right.placed n d.0 d.1)
 
   -- and short
   pub named_short : (n : NodeId) → HasNode m n → IsShort (cell m n).name
@@ -62,7 +62,7 @@ module _ (m : PageNodes) (rows : List (Option CacheRow)) (right : ArePlaced m ro
       let v = some_of (ids.get m.pages k) some in
       by_cell v.0.0 (ids.get m.cells v.0.0) refl ((right.paged k v.0.0).0 (ap (option_map (λ (r : Rising). r.0)) v.1))
     where
-      by_name : (x : NodeName) → IsPlaced rows x → page_of_name x ≡ Some k
+      by_name : (x : NodeName) → IsNameOfPage rows x → page_of_name x ≡ Some k
           → (cache : ℕ) × (page : ℕ) × (k ≡ page_number cache page) × HasRow rows cache page
       by_name (Working j) at is = absurd (none-some k is)
       by_name (Live cache page) at is =
@@ -115,13 +115,13 @@ kept_same m new rows cells pages right =
     }
 
 module _ (m : PageNodes) (rows : List (Option CacheRow)) (right : ArePlaced m rows) (n : NodeId) where
-  placed_with : (d : Cell) → IsPlaced rows d.name → (i : NodeId) (e : Cell)
-      → ids.get (ids.insert m.cells n.0 d) i.0 ≡ Some e → IsPlaced rows e.name
+  placed_with : (d : Cell) → IsNameOfPage rows d.name → (i : NodeId) (e : Cell)
+      → ids.get (ids.insert m.cells n.0 d) i.0 ≡ Some e → IsNameOfPage rows e.name
   placed_with d at i e is = elim (cases_eq i.0 n.0) [
     | inl same ↦
         let is_d : d ≡ e = same_Some d e
         (sym (ap (ids.get (ids.insert m.cells n.0 d)) same ∙ inserted_here m.cells n.0 d) ∙ is) in
-        subst (λ (x : Cell). IsPlaced rows x.name) is_d at
+        subst (λ (x : Cell). IsNameOfPage rows x.name) is_d at
     | inr other ↦ right.placed i e (sym (inserted_other m.cells n.0 d i.0 other) ∙ is)
   ]
 
@@ -174,7 +174,7 @@ module _ (m : PageNodes) (rows : List (Option CacheRow)) (right : ArePlaced m ro
           λ h. (right.paged k i).1 (sym (key i) ∙ h),
         );
         placed = placed_with d
-            (subst (IsPlaced rows) (sym name) (placed_name m rows right n held));
+            (subst (IsNameOfPage rows) (sym name) (placed_name m rows right n held));
         short = right.short;
       }
 
@@ -188,7 +188,7 @@ module _ (m : PageNodes) (rows : List (Option CacheRow)) (right : ArePlaced m ro
   kept_tree ts held = kept_put (record (cell m n) { tree = ts }) held refl
 
   -- another name, of a page that has no node or none
-  pub kept_name : (x : NodeName) → HasNode m n → IsPlaced rows x → IsFree (page_of_name x)
+  pub kept_name : (x : NodeName) → HasNode m n → IsNameOfPage rows x → IsFree (page_of_name x)
       → ArePlaced (with_name m n x) rows
   unfolding put
   kept_name x held at free =
@@ -206,7 +206,7 @@ module _ (m : PageNodes) (rows : List (Option CacheRow)) (right : ArePlaced m ro
       (kept_name (Working (m.made + 1)) held tt no_key)
 
   -- a new node
-  pub kept_new : (x : NodeName) (s : OwnState) → find m n ≡ None → IsPlaced rows x
+  pub kept_new : (x : NodeName) (s : OwnState) → find m n ≡ None → IsNameOfPage rows x
       → IsFree (page_of_name x) → ArePlaced (with_new m n x s) rows
   unfolding with_new
   kept_new x s none at free =

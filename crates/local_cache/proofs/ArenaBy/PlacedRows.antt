@@ -15,7 +15,7 @@ use Rattle.vm_ids.specs.declared.numbers.SegId.{SegId}
 use Rattle.local_cache.specs.declared.own_state.OwnState.{OwnState}
 use Rattle.local_cache.specs.Arena.{Cell, IsFilled}
 use Rattle.local_cache.specs.ArenaBy.{CacheRow, CacheRows}
-use Rattle.local_cache.specs.Placed.{ArePlaced, HasRow, IsPlaced}
+use Rattle.local_cache.specs.Placed.{ArePlaced, HasRow, IsNameOfPage}
 use Rattle.local_cache.specs.RowChanges.{new_row, row_at, rows_changed, rows_without, with_row}
 use Rattle.local_cache.specs.NodeKeys.{key_at, page_key, page_number, page_of_name}
 use Rattle.local_cache.specs.PageNodes.{MakesAllPages, PageNodes, find, of_page, pages_with, with_new}
@@ -27,7 +27,7 @@ use Rattle.local_cache.proofs.Tables.Listing.{read_other, read_set}
 -- names placed among some rows are placed among others that have the same pages
 carry : (rows after : List (Option CacheRow))
     → ((cache page : ℕ) → HasRow rows cache page → HasRow after cache page)
-    → (x : NodeName) → IsPlaced rows x → IsPlaced after x
+    → (x : NodeName) → IsNameOfPage rows x → IsNameOfPage after x
 carry rows after still (Working k) at = tt
 carry rows after still (Live cache page) at = still cache.0 page.0 at
 
@@ -95,7 +95,7 @@ module _ (m : PageNodes) (rows : List (Option CacheRow)) (right : ArePlaced m ro
   some_index (Some v) n e = refl
 
   still_placed : (n : NodeId) (d : Cell) → find m n ≡ Some d → (x : NodeName) → d.name ≡ x
-      → IsPlaced rows x → IsPlaced (set rows k None) x
+      → IsNameOfPage rows x → IsNameOfPage (set rows k None) x
   still_placed n d is (Working j) name at = tt
   still_placed n d is (Live cache page) name at =
       let key : key_at page_key m.cells n.0 ≡ Some (page_number cache.0 page.0) =

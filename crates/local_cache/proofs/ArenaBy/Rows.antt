@@ -19,7 +19,7 @@ use Rattle.local_cache.specs.RowChanges.{row_at, row_granting, row_locked, row_l
 use Rattle.local_cache.specs.NodeKeys.{page_number}
 use Rattle.local_cache.specs.PageNodes.{PageNodes}
 use Rattle.local_cache.specs.PageNodes as nodes
-use Rattle.local_cache.proofs.NewCache.Pages.{some_of}
+use Rattle.local_cache.proofs.NewCache.FoundPages.{some_of}
 use Rattle.local_cache.proofs.Tables.Listing.{read_set}
 
 -- One table, and one entry

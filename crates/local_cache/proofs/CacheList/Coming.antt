@@ -13,7 +13,7 @@ use Rattle.local_cache.specs.declared.cache_list.CacheEntry.{CacheEntry}
 use Rattle.local_cache.specs.declared.page_marks.Granted.{Granted}
 use Rattle.local_cache.specs.declared.page_marks.LockCount.{LockCount}
 use Rattle.local_cache.specs.ArenaBy.{CacheRow}
-use Rattle.local_cache.specs.CacheList.{IsRight, entry_pages, granted_in, locks_in, row_by, rows_of}
+use Rattle.local_cache.specs.CacheList.{AreListsRight, entry_pages, granted_in, locks_in, row_by, rows_of}
 use Rattle.local_cache.specs.NodeKeys.{page_number}
 use Rattle.local_cache.specs.PageMarks.{granted_says, locks_at, locks_say}
 use Rattle.local_cache.specs.RowChanges.{new_row, row_at, row_locked, row_pages, rows_without}
@@ -21,7 +21,7 @@ use Rattle.local_cache.specs.Singles.{IsCounted, without_range}
 use Rattle.local_cache.proofs.ArenaBy.Locked.{made_counts, removed_counts}
 use Rattle.local_cache.proofs.ArenaBy.NewCache.{row_within}
 use Rattle.local_cache.proofs.CacheList.Counting.{count_range}
-use Rattle.local_cache.proofs.CacheList.Pages.{HasPages, nothing_at, pages_left, pages_more, pages_within}
+use Rattle.local_cache.proofs.CacheList.PageNumbers.{HasPages, nothing_at, pages_left, pages_more, pages_within}
 use Rattle.local_cache.proofs.CacheList.Reading.{few_pages}
 use Rattle.local_cache.proofs.CacheList.Rows.{new_row_is, row_there, rows_append, rows_left}
 use Rattle.local_cache.proofs.ManyNodes.Cleared.{range_cases, range_in, range_out}
@@ -29,7 +29,7 @@ use Rattle.local_cache.proofs.ManyNodes.Cleared.{range_cases, range_in, range_ou
 -- A cache comes
 
 module _ (es : List (Option CacheEntry)) (grants : Stretches Granted) (locks : Stretches LockCount)
-    (pages capacity locked : ℕ) (right : IsRight es grants locks pages capacity locked)
+    (pages capacity locked : ℕ) (right : AreListsRight es grants locks pages capacity locked)
     (segment : Option SegId) (more : ℕ) (fits : pages + more ≤ capacity) where
   abbrev new : CacheEntry
   new = record { segment = segment; pages = more }
@@ -62,7 +62,7 @@ module _ (es : List (Option CacheEntry)) (grants : Stretches Granted) (locks : S
       ∙ ap (λ (r : CacheRow). rows_of es grants locks ++ Some r ∷ []) new_is
 
   pub right_pushed : length es + 1 < 2 ^ 32
-      → IsRight (es ++ Some (record { segment = segment; pages = more }) ∷ []) grants locks (pages + more) capacity locked
+      → AreListsRight (es ++ Some (record { segment = segment; pages = more }) ∷ []) grants locks (pages + more) capacity locked
   right_pushed room =
       record {
         granted = record {
@@ -94,7 +94,7 @@ pub record Goes (es : List (Option CacheEntry)) (old : Stretches Granted) (befor
 -- A cache goes
 
 module _ (es : List (Option CacheEntry)) (grants : Stretches Granted) (locks : Stretches LockCount)
-    (pages capacity locked : ℕ) (right : IsRight es grants locks pages capacity locked)
+    (pages capacity locked : ℕ) (right : AreListsRight es grants locks pages capacity locked)
     (k : ℕ) (e : CacheEntry) (is : get_or es k None ≡ Some e) where
   here : row_at (rows_of es grants locks) (suc k)
       ≡ Some (row_by (granted_in grants) (locks_in locks) (suc k) e)
@@ -167,7 +167,7 @@ module _ (es : List (Option CacheEntry)) (grants : Stretches Granted) (locks : S
 
       pub right_gone : IsCounted granted_says grants_now → grants_now.places ≡ grants.places
           → IsCounted locks_say locks_now → locks_now.places ≡ locks.places
-          → IsRight (set es k None) grants_now locks_now (pages - e.pages) capacity (locked - gone)
+          → AreListsRight (set es k None) grants_now locks_now (pages - e.pages) capacity (locked - gone)
       right_gone grants_counted grants_places locks_counted locks_places =
           record {
             granted = record {

@@ -9,7 +9,7 @@ use Rattle.local_cache.specs.declared.cache_list.CacheEntry.{CacheEntry}
 use Rattle.local_cache.specs.declared.page_marks.LockCount.{LockCount}
 use Rattle.local_cache.specs.CacheList.{IsPageOf}
 use Rattle.local_cache.specs.PageMarks.{locks_at, with_count}
-use Rattle.local_cache.proofs.CacheList.Pages.{HasPages, pages_cleared, pages_set}
+use Rattle.local_cache.proofs.CacheList.PageNumbers.{HasPages, pages_cleared, pages_set}
 use Rattle.local_cache.proofs.NodeCells.{inserted_here, inserted_other, removed_here, removed_other, still_there}
 
 module _ (m : FinMap nat_cmp LockCount) (number : ℕ) where

@@ -8,13 +8,13 @@ use Rattle.stretches.proofs.Cells.{get_cells}
 use Rattle.local_cache.specs.declared.cache_list.CacheEntry.{CacheEntry}
 use Rattle.local_cache.specs.declared.page_marks.Granted.{Granted}
 use Rattle.local_cache.specs.declared.page_marks.LockCount.{LockCount}
-use Rattle.local_cache.specs.CacheList.{IsRight, entry_at, granted_in, locks_in, page_sum, row_by, rows_of}
+use Rattle.local_cache.specs.CacheList.{AreListsRight, entry_at, granted_in, locks_in, page_sum, row_by, rows_of}
 use Rattle.local_cache.specs.NodeKeys.{page_number}
 use Rattle.local_cache.specs.PageMarks.{granted_says, locks_say}
 use Rattle.local_cache.specs.Placed.{HasRow}
 use Rattle.local_cache.specs.RowChanges.{entry_of_row, is_granting, row_at, row_locked, row_locks}
 use Rattle.local_cache.proofs.ArenaBy.NewCache.{row_within}
-use Rattle.local_cache.proofs.CacheList.Pages.{entry_index, len_pages, nothing_at, page_cases, pages_within}
+use Rattle.local_cache.proofs.CacheList.PageNumbers.{entry_index, len_pages, nothing_at, page_cases, pages_within}
 use Rattle.local_cache.proofs.CacheList.Rows.{entry_is, granting_is, has_entry, has_row, length_rows, locks_are, locks_none, row_is}
 use Rattle.local_cache.proofs.NodeRuns.{empty_counted, empty_get}
 
@@ -51,7 +51,7 @@ module _ (es : List (Option CacheEntry)) (grants : Stretches Granted) (locks : S
       granting_is (granted_in grants) (locks_in locks) es cache page here.0 here.1 here.2
 
 module _ (es : List (Option CacheEntry)) (grants : Stretches Granted) (locks : Stretches LockCount)
-    (pages capacity locked : ℕ) (right : IsRight es grants locks pages capacity locked) where
+    (pages capacity locked : ℕ) (right : AreListsRight es grants locks pages capacity locked) where
   pub few_pages : page_sum es < 2 ^ 32
   few_pages = omega (arith, right.sum, right.fits, right.few)
 
@@ -124,7 +124,7 @@ module _ (es : List (Option CacheEntry)) (grants : Stretches Granted) (locks : S
 
 -- no caches
 pub empty_list : (es : List (Option CacheEntry)) (grants : Stretches Granted) (locks : Stretches LockCount)
-    → es ≡ [] → grants.list ≡ [] → locks.list ≡ [] → IsRight es grants locks 0 0 0
+    → es ≡ [] → grants.list ≡ [] → locks.list ≡ [] → AreListsRight es grants locks 0 0 0
 empty_list es grants locks none no_grants no_locks =
     record {
       granted = record {

@@ -12,7 +12,7 @@ use Rattle.local_cache.specs.declared.cache_list.CacheEntry.{CacheEntry}
 use Rattle.local_cache.specs.declared.page_marks.Granted.{Granted}
 use Rattle.local_cache.specs.declared.page_marks.LockCount.{LockCount}
 use Rattle.local_cache.specs.ArenaBy.{CacheRow}
-use Rattle.local_cache.specs.CacheList.{IsRight, entry_at, granted_in, locks_in, row_by, rows_by, rows_of, values}
+use Rattle.local_cache.specs.CacheList.{AreListsRight, entry_at, granted_in, locks_in, row_by, rows_by, rows_of, values}
 use Rattle.local_cache.specs.NodeKeys.{page_number}
 use Rattle.local_cache.specs.PageMarks.{granted_says, locks_at, locks_say, with_count}
 use Rattle.local_cache.specs.RowChanges.{row_at, row_granting, row_locked, row_locking, row_locks, rows_changed}
@@ -20,7 +20,7 @@ use Rattle.local_cache.specs.Singles.{IsCounted}
 use Rattle.local_cache.proofs.ArenaBy.Locked.{locking_counts}
 use Rattle.local_cache.proofs.CacheList.Counting.{locked_within}
 use Rattle.local_cache.proofs.CacheList.Counts.{count_above, counted_here, counted_other, counted_pages}
-use Rattle.local_cache.proofs.CacheList.Pages.{len_pages, page_of, pages_set, pages_within}
+use Rattle.local_cache.proofs.CacheList.PageNumbers.{len_pages, page_of, pages_set, pages_within}
 use Rattle.local_cache.proofs.CacheList.Reading.{few_pages, page_short}
 use Rattle.local_cache.proofs.CacheList.Rows.{row_counts, row_grants, row_there, rows_one}
 use Rattle.local_cache.proofs.CacheList.Values.{length_values}
@@ -47,7 +47,7 @@ locked_alike granted granted_now locks from (Some e ∷ es) =
     )
 
 module _ (es : List (Option CacheEntry)) (grants : Stretches Granted) (locks : Stretches LockCount)
-    (pages capacity locked : ℕ) (right : IsRight es grants locks pages capacity locked)
+    (pages capacity locked : ℕ) (right : AreListsRight es grants locks pages capacity locked)
     (cache page : ℕ) (e : CacheEntry) (is : entry_at es cache ≡ Some e) (below : page < e.pages) where
   -- a page of another cache has another number
   apart : (k : ℕ) (f : CacheEntry) (n : ℕ) → 1 + k ≢ cache → get_or es k None ≡ Some f
@@ -71,7 +71,7 @@ module _ (es : List (Option CacheEntry)) (grants : Stretches Granted) (locks : S
   module _ (after : Stretches Granted) (v : Granted)
       (set : cells granted_says after.list ≡ map.insert (cells granted_says grants.list) (page_number cache page) v)
       (counted : IsCounted granted_says after) (places : after.places ≡ grants.places) where
-    pub right_granted : IsRight es after locks pages capacity locked
+    pub right_granted : AreListsRight es after locks pages capacity locked
     right_granted =
         record {
           granted = record {
@@ -187,7 +187,7 @@ module _ (es : List (Option CacheEntry)) (grants : Stretches Granted) (locks : S
 
     pub right_locked : (now : ℕ)
         → now ≡ locked - bit (row_locks (rows_of es grants locks) cache page) + bit count
-        → IsRight es grants after pages capacity now
+        → AreListsRight es grants after pages capacity now
     right_locked now is_now =
         record {
           granted = right.granted;

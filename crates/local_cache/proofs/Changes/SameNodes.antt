@@ -9,7 +9,7 @@ use Rattle.vm_ids.specs.declared.numbers.NodeId.{NodeId}
 use Rattle.local_cache.specs.declared.own_state.OwnState.{OwnState}
 use Rattle.local_cache.specs.declared.links.Links.{Links}
 use Rattle.local_cache.specs.Arena.{Arena, Cell, cell, find, HasNode, put, with_links, with_tree}
-use Rattle.local_cache.specs.Reading.{name_of, node_of, forest_of, hang_by, IsNamed}
+use Rattle.local_cache.specs.Reading.{name_of, node_of, forest_of, hang_by, AreNamesApart}
 pub use Rattle.local_cache.specs.Changes.{Like, Relinked, Rehung}
 pub use Rattle.local_cache.proofs.Nodes.OwnStates.{id_cases}
 use Rattle.local_cache.specs.Sound.{IsListed}
@@ -37,7 +37,7 @@ like-put a n c h e = record {
   caches = caches-put a n c;
 }
 
-pub named-like : (a b : Arena) → IsNamed a → Like a b → a.made ≡ b.made → IsNamed b
+pub named-like : (a b : Arena) → AreNamesApart a → Like a b → a.made ≡ b.made → AreNamesApart b
 named-like a b named like made = record {
   apart = λ n m h k e. named.apart n m (sym (like.held n) ∙ h) (sym (like.held m) ∙ k) (sym (like.name n) ∙ e ∙ like.name m);
   counted = λ n k h e. subst (λ j. k ≤ j) made (named.counted n k (sym (like.held n) ∙ h) (sym (like.name n) ∙ e));
@@ -57,7 +57,7 @@ map-like a b like (n ∷ ns) = λ i. like.name n i ∷ map-like a b like ns i
 
 -- the forest of b is g, where b has the nodes of a, g those of the forest of a, and each is as b
 -- has it
-pub reads_like : (a b : Arena) → IsNamed a → Like a b → a.made ≡ b.made → (g : Forest OwnState) → b.made ≡ g.made → b.copies ≡ g.copies
+pub reads_like : (a b : Arena) → AreNamesApart a → Like a b → a.made ≡ b.made → (g : Forest OwnState) → b.made ≡ g.made → b.copies ≡ g.copies
     → ((x : NodeName) → contains_key g.nodes x ≡ contains_key (forest_of a).nodes x)
     → ((n : NodeId) → HasNode a n → node g (name_of a n) ≡ node_of b n)
     → forest_of b ≡ g
@@ -132,12 +132,12 @@ hang-like a b like None t = refl
 hang-like a b like (Some p) true = ap StubOf (like.name p)
 hang-like a b like (Some p) false = ap TreeOf (like.name p)
 
-pub parent-read : (a : Arena) → IsNamed a → (n p : NodeId) → HasNode a n → (cell a n).links.parent ≡ Some p → parent (forest_of a) (name_of a n) ≡ Some (name_of a p)
+pub parent-read : (a : Arena) → AreNamesApart a → (n p : NodeId) → HasNode a n → (cell a n).links.parent ≡ Some p → parent (forest_of a) (name_of a n) ≡ Some (name_of a p)
 parent-read a named n p h e =
     ap (λ m. parent_of m.hang) (node-forest_of a named n h) ∙ ap (λ o. parent_of (hang_by a o (cell a n).links.by_stub)) e ∙ parent_by a p (cell a n).links.by_stub
 
 -- no node is its own parent
-pub irreflexive : (a : Arena) → IsNamed a → IsLinked (forest_of a) → (n : NodeId) → HasNode a n → (cell a n).links.parent ≡ Some n → ⊥
+pub irreflexive : (a : Arena) → AreNamesApart a → IsLinked (forest_of a) → (n : NodeId) → HasNode a n → (cell a n).links.parent ≡ Some n → ⊥
 irreflexive a named linked n h e = let less = linked.order.1 (name_of a n) (name_of a n) (parent-read a named n n h e) in omega arith
 
 pub same_node : {P : Type 0} (m n : Node P) → m.own ≡ n.own → m.hang ≡ n.hang → m.tree ≡ n.tree → m.stubs ≡ n.stubs → m ≡ n

@@ -17,7 +17,7 @@ use Rattle.vm_ids.specs.Forest.Nodes.Hang.{Root}
 use Rattle.vm_ids.specs.declared.numbers.NodeId.{NodeId}
 use Rattle.local_cache.specs.declared.own_state.OwnState.{OwnState}
 use Rattle.local_cache.specs.Arena.{Arena, HasNode}
-use Rattle.local_cache.specs.Reading.{name_of, node_of, at_key, forest_of, IsNamed}
+use Rattle.local_cache.specs.Reading.{name_of, node_of, at_key, forest_of, AreNamesApart}
 use Rattle.local_cache.specs.ReadingBy.{forest_by, node_with, state_page}
 use Rattle.local_cache.proofs.Nodes.Numbers.{tied, apart}
 
@@ -87,7 +87,7 @@ module _ (a : Arena) where
   held k h = contains_key-keys a.cells k ∙ h
 
   module _ {P : Type 0} (page : NodeId → Option P) where
-    pub get-forest_by : IsNamed a → (n : NodeId) → HasNode a n → names.get (forest_by page a).nodes (name_of a n) ≡ Some (node_with a n (page n))
+    pub get-forest_by : AreNamesApart a → (n : NodeId) → HasNode a n → names.get (forest_by page a).nodes (name_of a n) ≡ Some (node_with a n (page n))
     unfolding forest_by
     get-forest_by named n h = get-from_entries _ (name_of a n) ∙ found (λ m. node_with a m (page m)) (ids.keys a.cells) n.0 (key_of n h) (λ m g e. ap (λ n. n.0) (named.apart (at_key m) n (held m g) h e))
 
@@ -95,11 +95,11 @@ module _ (a : Arena) where
     unfolding forest_by
     get-forest_by_none x none = get-from_entries _ x ∙ not_found (λ m. node_with a m (page m)) (ids.keys a.cells) x (λ m g. none (at_key m) (held m g))
 
-    pub node-forest_by : IsNamed a → (n : NodeId) → HasNode a n → node (forest_by page a) (name_of a n) ≡ node_with a n (page n)
+    pub node-forest_by : AreNamesApart a → (n : NodeId) → HasNode a n → node (forest_by page a) (name_of a n) ≡ node_with a n (page n)
     unfolding node
     node-forest_by named n h = ap (λ o. unwrap_or o (childless None Root)) (get-forest_by named n h)
 
-    pub IsNode-forest_by : IsNamed a → (n : NodeId) → HasNode a n → IsNode (forest_by page a) (name_of a n)
+    pub IsNode-forest_by : AreNamesApart a → (n : NodeId) → HasNode a n → IsNode (forest_by page a) (name_of a n)
     IsNode-forest_by named n h = ap is_some (get-forest_by named n h)
 
   -- the forest of own states is one such forest
@@ -107,7 +107,7 @@ module _ (a : Arena) where
   unfolding forest_of forest_by
   forest_of-by = refl
 
-  pub get-forest_of : IsNamed a → (n : NodeId) → HasNode a n → names.get (forest_of a).nodes (name_of a n) ≡ Some (node_of a n)
+  pub get-forest_of : AreNamesApart a → (n : NodeId) → HasNode a n → names.get (forest_of a).nodes (name_of a n) ≡ Some (node_of a n)
   get-forest_of named n h = ap (λ f. names.get f.nodes (name_of a n)) forest_of-by ∙ get-forest_by (state_page a) named n h
 
   pub get-forest_of_none : (x : NodeName) → ((n : NodeId) → HasNode a n → name_of a n ≢ x) → names.get (forest_of a).nodes x ≡ None
@@ -120,18 +120,18 @@ module _ (a : Arena) where
     | inr none ↦ inr (λ n h. none n.0 (key_of n h))
   ]
 
-  pub node-forest_of : IsNamed a → (n : NodeId) → HasNode a n → node (forest_of a) (name_of a n) ≡ node_of a n
+  pub node-forest_of : AreNamesApart a → (n : NodeId) → HasNode a n → node (forest_of a) (name_of a n) ≡ node_of a n
   unfolding node
   node-forest_of named n h = ap (λ o. unwrap_or o (childless None Root)) (get-forest_of named n h)
 
-  pub IsNode-forest_of : IsNamed a → (n : NodeId) → HasNode a n → IsNode (forest_of a) (name_of a n)
+  pub IsNode-forest_of : AreNamesApart a → (n : NodeId) → HasNode a n → IsNode (forest_of a) (name_of a n)
   IsNode-forest_of named n h = ap is_some (get-forest_of named n h)
 
   pub forest_of-IsNode : (x : NodeName) → IsNode (forest_of a) x → (n : NodeId) × HasNode a n × (name_of a n ≡ x)
   forest_of-IsNode x is = elim (held_or_not x) [ inl f ↦ f | inr none ↦ absurd (false≢true (sym (ap is_some (get-forest_of_none x none)) ∙ is)) ]
 
   -- the forest that is read is g, where g has the held nodes and no other
-  pub reads_as : IsNamed a → (g : Forest OwnState) → a.made ≡ g.made → a.copies ≡ g.copies
+  pub reads_as : AreNamesApart a → (g : Forest OwnState) → a.made ≡ g.made → a.copies ≡ g.copies
       → ((n : NodeId) → HasNode a n → IsNode g (name_of a n) × (node g (name_of a n) ≡ node_of a n))
       → ((x : NodeName) → IsNode g x → (n : NodeId) × HasNode a n × (name_of a n ≡ x))
       → forest_of a ≡ g

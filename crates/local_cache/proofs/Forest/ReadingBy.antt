@@ -16,7 +16,7 @@ use Rattle.local_cache.specs.declared.own_state.OwnState.{OwnState}
 use Rattle.local_cache.specs.declared.own_state.OwnState.TheVariants.{Absent, Zero, Resident, Slot, OnSegment}
 use Rattle.local_cache.specs.Arena.{Arena, HasNode, cell, find, with_own}
 use Rattle.local_cache.specs.Changes.{Like, Relinked}
-use Rattle.local_cache.specs.Reading.{IsNamed, forest_of, name_of, page_of}
+use Rattle.local_cache.specs.Reading.{AreNamesApart, forest_of, name_of, page_of}
 use Rattle.local_cache.specs.ReadingBy.{Tells, forest_by, node_with, state_page}
 use Rattle.local_cache.specs.Sound.{IsKept}
 use Rattle.local_cache.proofs.Changes.SameCells.{copied_forest}
@@ -46,7 +46,7 @@ node_none : {P : Type 0} (f : Forest P) (x : NodeName) → names.get f.nodes x �
 unfolding node
 node_none f x e = ap (λ o. unwrap_or o (childless None Root)) e
 
-module _ {P Q : Type 0} (page : NodeId → Option P) (other : NodeId → Option Q) (a : Arena) (named : IsNamed a) (alike : (n : NodeId) → is_some (page n) ≡ is_some (other n)) where
+module _ {P Q : Type 0} (page : NodeId → Option P) (other : NodeId → Option Q) (a : Arena) (named : AreNamesApart a) (alike : (n : NodeId) → is_some (page n) ≡ is_some (other n)) where
   -- without its pages the forest is the same, whatever tells them
   pub bare-by : bare (forest_by page a) ≡ bare (forest_by other a)
   bare-by = same_forest _ _ (λ x. get-map no_page (forest_by page a) x ∙ at x (held_or_not a x) ∙ sym (get-map no_page (forest_by other a) x))
@@ -60,15 +60,15 @@ module _ {P Q : Type 0} (page : NodeId → Option P) (other : NodeId → Option 
       at x (inr none) = ap (option_map (map_node no_page)) (get-forest_by_none a page x none) ∙ sym (ap (option_map (map_node no_page)) (get-forest_by_none a other x none))
 
 module _ {P : Type 0} (page : NodeId → Option P) where
-  pub bare-of : (a : Arena) → IsNamed a → Tells page a → bare (forest_by page a) ≡ bare (forest_of a)
+  pub bare-of : (a : Arena) → AreNamesApart a → Tells page a → bare (forest_by page a) ≡ bare (forest_of a)
   bare-of a named tells = bare-by page (state_page a) a named tells ∙ sym (ap bare (forest_of-by a))
 
-  pub page-at : (a : Arena) → IsNamed a → (n : NodeId) → HasNode a n → (node (forest_by page a) (name_of a n)).own ≡ page n
+  pub page-at : (a : Arena) → AreNamesApart a → (n : NodeId) → HasNode a n → (node (forest_by page a) (name_of a n)).own ≡ page n
   page-at a named n h = ap (λ k. k.own) (node-forest_by a page named n h)
 
   -- The forest that is read with these pages is g, where the forest of own states is like g but for
   -- its pages, and g has each node's page.
-  pub lifted : (a : Arena) → IsNamed a → Tells page a → (g : Forest P) → bare (forest_of a) ≡ bare g → ((n : NodeId) → HasNode a n → page n ≡ (node g (name_of a n)).own) → forest_by page a ≡ g
+  pub lifted : (a : Arena) → AreNamesApart a → Tells page a → (g : Forest P) → bare (forest_of a) ≡ bare g → ((n : NodeId) → HasNode a n → page n ≡ (node g (name_of a n)).own) → forest_by page a ≡ g
   lifted a named tells g alike pages = equal_by_pages (forest_by page a) g (bare-of a named tells ∙ alike) (λ x. at x (held_or_not a x))
     where
       at : (x : NodeName) → ((n : NodeId) × HasNode a n × (name_of a n ≡ x)) ⊎ ((n : NodeId) → HasNode a n → name_of a n ≢ x) → (node (forest_by page a) x).own ≡ (node g x).own
@@ -78,7 +78,7 @@ module _ {P : Type 0} (page : NodeId → Option P) where
           gone ∙ sym (bare_None (node g x).own (sym (own-map no_page g x) ∙ ap (λ k. (node k x).own) (sym (bare-of a named tells ∙ alike)) ∙ own-map no_page (forest_by page a) x ∙ ap (option_map no_page) gone))
 
   -- A rule that goes with a change of pages makes forests that are the same without their pages.
-  pub bare-rule : (a : Arena) → IsNamed a → Tells page a → (r : Forest OwnState → Forest OwnState) (u : Forest (Unit {0}) → Forest (Unit {0})) (s : Forest P → Forest P)
+  pub bare-rule : (a : Arena) → AreNamesApart a → Tells page a → (r : Forest OwnState → Forest OwnState) (u : Forest (Unit {0}) → Forest (Unit {0})) (s : Forest P → Forest P)
       → ((f : Forest OwnState) → bare (r f) ≡ u (bare f)) → ((f : Forest P) → bare (s f) ≡ u (bare f)) → bare (r (forest_of a)) ≡ bare (s (forest_by page a))
   bare-rule a named tells r u s rs ss = rs (forest_of a) ∙ ap u (sym (bare-of a named tells)) ∙ sym (ss (forest_by page a))
 
@@ -89,7 +89,7 @@ pub record PagesStay {P : Type 0} (page now : NodeId → Option P) (a b : Arena)
   pub name : (n : NodeId) → HasNode a n → name_of b n ≡ name_of a n
   pub same : (n : NodeId) → HasNode a n → now n ≡ page n
 
-module _ {P : Type 0} (page now : NodeId → Option P) (a b : Arena) (was : IsNamed a) (is : IsNamed b) (stay : PagesStay page now a b) (told : Tells now b) where
+module _ {P : Type 0} (page now : NodeId → Option P) (a b : Arena) (was : AreNamesApart a) (is : AreNamesApart b) (stay : PagesStay page now a b) (told : Tells now b) where
   -- Where a rule keeps each own page, it is followed with any pages.
   pub lifted-kept : (g : Forest P) → bare (forest_of b) ≡ bare g → ((x : NodeName) → (node g x).own ≡ (node (forest_by page a) x).own) → forest_by now b ≡ g
   lifted-kept g alike kept = lifted now b is told g alike (λ n h. old_or_new n h (is_some (find a n)) refl)
@@ -106,8 +106,8 @@ module _ {P : Type 0} (page now : NodeId → Option P) (a b : Arena) (was : IsNa
           ∙ sym (own-map no_page (forest_of b) (name_of b n)) ∙ ap (λ k. (node k (name_of b n)).own) alike ∙ own-map no_page g (name_of b n) ∙ ap (option_map no_page) gone) ∙ sym gone
 
 -- where links alone were changed
-module _ {P : Type 0} (page : NodeId → Option P) (a b : Arena) (named : IsNamed a) (tells : Tells page a) (links : Relinked a b) where
-  relinked-named : IsNamed b
+module _ {P : Type 0} (page : NodeId → Option P) (a b : Arena) (named : AreNamesApart a) (tells : Tells page a) (links : Relinked a b) where
+  relinked-named : AreNamesApart b
   relinked-named = named-like a b named links.like links.made
 
   pub lifted-relinked : (r : Forest OwnState → Forest OwnState) (u : Forest (Unit {0}) → Forest (Unit {0})) (s : Forest P → Forest P)
@@ -145,7 +145,7 @@ module _ {P : Type 0} (page now : NodeId → Option P) (a : Arena) (kept : IsKep
       like : Like a (with_own a n s)
       like = like-put a n _ h refl
 
-      named : IsNamed (with_own a n s)
+      named : AreNamesApart (with_own a n s)
       named = named-like a (with_own a n s) kept.named (like-put a n _ h refl) (sym (made-put a n _))
 
 -- a copy that is counted changes no node
@@ -153,7 +153,7 @@ pub counted-cell : (a : Arena) (n : ℕ) (m : NodeId) → cell (record a { copie
 unfolding cell
 counted-cell a n m = refl
 
-module _ {P : Type 0} (page : NodeId → Option P) (a b : Arena) (named : IsNamed a) (tells : Tells page a) (is : b ≡ record a { copies = a.copies + 1 }) where
+module _ {P : Type 0} (page : NodeId → Option P) (a b : Arena) (named : AreNamesApart a) (tells : Tells page a) (is : b ≡ record a { copies = a.copies + 1 }) where
   pub like_counted : Like a b
   unfolding cell
   like_counted = subst (Like a) (sym is) (record { held = λ m. refl; name = λ m. refl; caches = refl })

@@ -7,7 +7,7 @@ use Rattle.vm_ids.specs.Forest.Shape.{IsLinked}
 use Rattle.vm_ids.specs.declared.numbers.NodeId.{NodeId}
 use Rattle.local_cache.specs.declared.own_state.OwnState.{OwnState}
 use Rattle.local_cache.specs.Arena.{Arena, cell, HasNode}
-use Rattle.local_cache.specs.Reading.{name_of, node_of, page_of, forest_of, hang_by, stubs_of, IsNamed}
+use Rattle.local_cache.specs.Reading.{name_of, node_of, page_of, forest_of, hang_by, stubs_of, AreNamesApart}
 use Rattle.local_cache.specs.Threads.{IsThreaded}
 use Rattle.local_cache.specs.Sound.{IsListed, IsSound, ◌∈◌}
 use Rattle.local_cache.proofs.Forest.StubRows.{threaded_is}
@@ -29,7 +29,7 @@ pub record Follows (a b : Arena) (g : Forest OwnState) (ys : NodeId → List Nod
   pub children : (n m : NodeId) → HasNode a n → m ∈ (cell b n).tree → HasNode a m
   pub linked : IsLinked g
 
-module _ (a b : Arena) (named : IsNamed a) (g : Forest OwnState) (ys : NodeId → List NodeId) (rule : Follows a b g ys) where
+module _ (a b : Arena) (named : AreNamesApart a) (g : Forest OwnState) (ys : NodeId → List NodeId) (rule : Follows a b g ys) where
   stubs_are : (n : NodeId) → HasNode a n → stubs_of b n ≡ ys n
   stubs_are n h = threaded_is b n (ys n) (rule.threaded n h)
 

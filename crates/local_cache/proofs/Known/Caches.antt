@@ -22,7 +22,7 @@ use Rattle.local_cache.specs.Arena.{Arena, Cell, HasNode, HasPlace, IsFilled, Is
 use Rattle.local_cache.specs.Known.{IsKnown, IsTold}
 use Rattle.local_cache.specs.Reading.{name_of}
 use Rattle.local_cache.proofs.Known.Same.{kept, told-same}
-use Rattle.local_cache.proofs.NewCache.Pages.{filled_page, last_table, made_stays}
+use Rattle.local_cache.proofs.NewCache.FoundPages.{filled_page, last_table, made_stays}
 use Rattle.local_cache.proofs.Nodes.Numbers.{apart}
 use Rattle.local_cache.proofs.Tables.Listing.{node_in, page_name, read_other, without-node}
 

@@ -12,10 +12,10 @@ use Rattle.local_cache.specs.declared.runs.run.Run.{Run}
 use Rattle.local_cache.specs.Arena.{Cell, blank}
 use Rattle.local_cache.specs.Many.{CanBeAlike}
 use Rattle.local_cache.specs.NodeCells.{bare, cell_of, node_cells}
-use Rattle.local_cache.specs.NodeLists.{IsKept}
+use Rattle.local_cache.specs.NodeLists.{AreListsKept}
 use Rattle.local_cache.specs.Records.{each}
 use Rattle.local_cache.specs.Runs.{run, run_after}
-use Rattle.local_cache.proofs.NewCache.Pages.{some_of}
+use Rattle.local_cache.proofs.NewCache.FoundPages.{some_of}
 use Rattle.local_cache.proofs.NodeCells.{node_cell, node_run}
 
 -- what is said of a node of a run, where it has no record
@@ -29,7 +29,7 @@ alike_said l r n begins says plain k less =
     node_cell l (n + k) (run_after r.value k) None is (plain (n + k) (omega arith) (omega (arith, less)))
 
 -- a node of which a run can say all has no record
-pub unrecorded : (l : NodeLists) → IsKept l → (n : ℕ) → IsSome (map.get (node_cells l) n)
+pub unrecorded : (l : NodeLists) → AreListsKept l → (n : ℕ) → IsSome (map.get (node_cells l) n)
     → CanBeAlike (unwrap_or (map.get (node_cells l) n) blank) → said each l.records.list n ≡ None
 unrecorded l kept n held can = go (said each l.records.list n) refl
   where

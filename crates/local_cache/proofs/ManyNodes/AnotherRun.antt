@@ -15,7 +15,7 @@ use Rattle.local_cache.specs.declared.runs.run.Run.{Run}
 use Rattle.local_cache.specs.Arena.{Cell, blank}
 use Rattle.local_cache.specs.KeyRanges.{run_cell}
 use Rattle.local_cache.specs.NodeCells.{cell_by, cells_by, node_cells}
-use Rattle.local_cache.specs.NodeLists.{IsKept}
+use Rattle.local_cache.specs.NodeLists.{AreListsKept}
 use Rattle.local_cache.specs.Records.{each}
 use Rattle.local_cache.specs.Runs.{run}
 use Rattle.local_cache.proofs.Making.{with_in, with_out}
@@ -79,7 +79,7 @@ module _ (l : NodeLists) (r : Stretch Run) (says : SayAs run l.runs.list r)
   pub len_runs : map.len (with_stretch run R new_run) ≡ map.len R
   len_runs = sym (len_cells (with_stretch run R new_run) D) ∙ len_after ∙ len_cells R D
 
-  pub places_enough : IsKept l → number_count l.runs.list ≤ l.runs.places
+  pub places_enough : AreListsKept l → number_count l.runs.list ≤ l.runs.places
   places_enough kept = omega (arith, kept.counted.runs, len_cells R D, kept.fits, kept.places.runs)
 
   -- One after the other

@@ -25,7 +25,7 @@ use Rattle.local_cache.specs.ManyNodes.{as_working_many, next_node}
 use Rattle.local_cache.specs.NodeCells.{cells_by, node_cells}
 use Rattle.local_cache.specs.NodeKeys.{Indexes, even_key, key_at, odd_key, page_key, page_of_name, rekeyed, without_key, working_number}
 use Rattle.local_cache.specs.NodeLists.{thinned}
-use Rattle.local_cache.specs.NodeRuns.{IsNumbered, IsRight, live_of, nodes_of}
+use Rattle.local_cache.specs.NodeRuns.{IsNumbered, AreNodesRight, live_of, nodes_of}
 use Rattle.local_cache.specs.PageNodes.{HasNode, PageNodes, as_working, cell, of_page, put}
 use Rattle.local_cache.specs.Records.{each}
 use Rattle.local_cache.specs.Runs.{run}
@@ -87,7 +87,7 @@ not_working (Pages cache page) one k = refl
 not_working (Working w) one k = let bad : ⊥ = omega (arith, one) in absurd bad
 not_working (EverySecond w) one k = let bad : ⊥ = omega (arith, one) in absurd bad
 
-module _ (l : NodeLists) (c : Counters) (right : IsRight l c) (r : Stretch Run) (says : SayAs run l.runs.list r)
+module _ (l : NodeLists) (c : Counters) (right : AreNodesRight l c) (r : Stretch Run) (says : SayAs run l.runs.list r)
     (plain : (q : ℕ) → r.first ≤ q → q < r.first + r.count → said each l.records.list q ≡ None)
     (of_pages : 0 < live_of r.value.name) where
   abbrev w : ℕ
@@ -227,7 +227,7 @@ module _ (l : NodeLists) (c : Counters) (right : IsRight l c) (r : Stretch Run) 
             made = short;
           }
 
-      pub right_as_working : IsRight new now
+      pub right_as_working : AreNodesRight new now
       right_as_working =
           record {
             kept = record {

@@ -26,7 +26,7 @@ use Rattle.local_cache.specs.ManyNodes.{AreSaidBy, next_node, without_many}
 use Rattle.local_cache.specs.NodeCells.{cell_by, cells_by, node_cells}
 use Rattle.local_cache.specs.NodeKeys.{Indexes, even_key, key_at, odd_key, page_key, page_number, page_of_name, without_key, working_number}
 use Rattle.local_cache.specs.NodeLists.{AreNeeded}
-use Rattle.local_cache.specs.NodeRuns.{IsNumbered, IsRight, nodes_of}
+use Rattle.local_cache.specs.NodeRuns.{IsNumbered, AreNodesRight, nodes_of}
 use Rattle.local_cache.specs.PageNodes.{HasNode, PageNodes, cell, find, without}
 use Rattle.local_cache.specs.Records.{each}
 use Rattle.local_cache.specs.Runs.{first_name, name_after, run}
@@ -131,7 +131,7 @@ nothing_recorded l r plain = range_vacant _ r.first r.count (λ q low high.
 
 -- All lists
 
-module _ (l : NodeLists) (c : Counters) (right : IsRight l c) (r : Stretch Run)
+module _ (l : NodeLists) (c : Counters) (right : AreNodesRight l c) (r : Stretch Run)
     (alike : AreSaidBy (nodes_of l c) (record { 0 = r.first }) r.value r.count) where
   abbrev R : FinMap nat_cmp Run
   R = cells run l.runs.list
@@ -251,7 +251,7 @@ module _ (l : NodeLists) (c : Counters) (right : IsRight l c) (r : Stretch Run)
             ∙ right.kept.recorded q (sym (ap (λ (m : FinMap nat_cmp Record). is_some (map.get m q)) records ∙ ap is_some (range_out D r.first r.count q out)) ∙ h)
       ]
 
-      pub right_left : IsRight new now
+      pub right_left : AreNodesRight new now
       right_left =
           record {
             kept = record {

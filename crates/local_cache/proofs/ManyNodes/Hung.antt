@@ -13,7 +13,7 @@ use Rattle.local_cache.specs.declared.runs.run.Run.{Run}
 use Rattle.local_cache.specs.Arena.{Cell, blank}
 use Rattle.local_cache.specs.KeyRanges.{run_cell}
 use Rattle.local_cache.specs.ManyNodes.{hung_many, next_node}
-use Rattle.local_cache.specs.NodeRuns.{IsRight, nodes_of}
+use Rattle.local_cache.specs.NodeRuns.{AreNodesRight, nodes_of}
 use Rattle.local_cache.specs.PageNodes.{HasNode, PageNodes, cell, find, hung, put}
 use Rattle.local_cache.specs.Records.{each}
 use Rattle.local_cache.specs.Runs.{further, run}
@@ -24,7 +24,7 @@ use Rattle.local_cache.proofs.NodeCells.{inserted_here, inserted_other}
 abbrev hanging : Cell → NodeId → Cell
 hanging x parent = record x { links = record x.links { parent = Some parent; by_stub = false } }
 
-module _ (l : NodeLists) (c : Counters) (right : IsRight l c) (r : Stretch Run) (says : SayAs run l.runs.list r)
+module _ (l : NodeLists) (c : Counters) (right : AreNodesRight l c) (r : Stretch Run) (says : SayAs run l.runs.list r)
     (plain : (q : ℕ) → r.first ≤ q → q < r.first + r.count → said each l.records.list q ≡ None)
     (parent : NodeId) (short : parent.0 + r.count ≤ 2 ^ 64) where
   abbrev value : Run
@@ -68,7 +68,7 @@ module _ (l : NodeLists) (c : Counters) (right : IsRight l c) (r : Stretch Run) 
 
   module _ (runs : Stretches Run) (set : cells run runs.list ≡ with_stretch run (cells run l.runs.list) (record r { value = value }))
       (count : number_count runs.list ≡ number_count l.runs.list) (places : runs.places ≡ l.runs.places) where
-    pub right_hung : IsRight (record l { runs = runs }) c
+    pub right_hung : AreNodesRight (record l { runs = runs }) c
     right_hung = right_relinked l c right r says plain value cell_is is_hung runs set count places
 
     pub nodes_hung : nodes_of (record l { runs = runs }) c ≡ hung_many (nodes_of l c) first parent r.count

@@ -23,7 +23,7 @@ use Rattle.local_cache.specs.KeyRanges.{AreKeysIn, run_cell, working_at}
 use Rattle.local_cache.specs.NodeCells.{node_cells}
 use Rattle.local_cache.specs.NodeKeys.{Indexes, even_half, even_key, key_at, number_of_name, odd_half, odd_key, working_number}
 use Rattle.local_cache.specs.NodeLists.{thinned}
-use Rattle.local_cache.specs.NodeRuns.{IsRight}
+use Rattle.local_cache.specs.NodeRuns.{AreNodesRight}
 use Rattle.local_cache.specs.Thin.{has_few, number_if, thin_number}
 use Rattle.local_cache.specs.ThinNodes.{first_thin, thin_nodes}
 use Rattle.local_cache.proofs.Making.{len_with}
@@ -110,7 +110,7 @@ not_thin half (Some x) none = ap (option_and_then half) (no_number_if x.name (ha
 
 -- The nodes before and after: those from one number on had no working names, and have the next
 -- ones. A run says all of them, and of the other nodes what was said is said still.
-module _ (l : NodeLists) (c : Counters) (right : IsRight l c) (first count : ℕ) (after : FinMap nat_cmp Cell) (value : Run)
+module _ (l : NodeLists) (c : Counters) (right : AreNodesRight l c) (first count : ℕ) (after : FinMap nat_cmp Cell) (value : Run)
     (named : value.name ≡ Working (c.made + 1))
     (beside : (q : ℕ) → (q < first) ⊎ (first + count ≤ q) → map.get after q ≡ map.get (node_cells l) q)
     (is : (i : ℕ) → i < count → map.get after (first + i) ≡ Some (run_cell value i))

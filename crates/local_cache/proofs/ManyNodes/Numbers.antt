@@ -7,11 +7,11 @@ use Rattle.local_cache.specs.declared.runs.counters.Counters.{Counters}
 use Rattle.local_cache.specs.declared.runs.node_lists.NodeLists.{NodeLists}
 use Rattle.local_cache.specs.ManyNodes.{next_if}
 use Rattle.local_cache.specs.NodeCells.{node_cells}
-use Rattle.local_cache.specs.NodeRuns.{IsRight}
+use Rattle.local_cache.specs.NodeRuns.{AreNodesRight}
 use Rattle.local_cache.proofs.NodeRuns.{given_short}
 
 -- nodes that are there have numbers that fit a u64
-pub many_short : (l : NodeLists) (c : Counters) → IsRight l c → (n count : ℕ) → n < 2 ^ 64
+pub many_short : (l : NodeLists) (c : Counters) → AreNodesRight l c → (n count : ℕ) → n < 2 ^ 64
     → ((k : ℕ) → k < count → IsSome (map.get (node_cells l) (n + k))) → n + count ≤ 2 ^ 64
 many_short l c right n zero fits held = omega (arith, fits)
 many_short l c right n (suc k) fits held =

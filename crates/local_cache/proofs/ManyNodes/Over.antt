@@ -17,7 +17,7 @@ use Rattle.local_cache.specs.KeyRanges.{run_cell}
 use Rattle.local_cache.specs.ManyNodes.{next_if, next_node, over_many}
 use Rattle.local_cache.specs.NodeCells.{tree_of}
 use Rattle.local_cache.specs.NodeKeys.{even_half, odd_half}
-use Rattle.local_cache.specs.NodeRuns.{IsRight, live_of, nodes_of}
+use Rattle.local_cache.specs.NodeRuns.{AreNodesRight, live_of, nodes_of}
 use Rattle.local_cache.specs.PageNodes.{HasNode, PageNodes, cell, find, put, with_tree}
 use Rattle.local_cache.specs.Records.{each}
 use Rattle.local_cache.specs.Runs.{first_name, further, further_if, name_after, run}
@@ -42,7 +42,7 @@ further_if_is : (o : Option NodeId) (count k : ℕ) → IfSome o (λ p. p.0 + co
 further_if_is None count k short less = refl
 further_if_is (Some p) count k short less = ap Some (further_is p count k short less)
 
-module _ (l : NodeLists) (c : Counters) (right : IsRight l c) (r : Stretch Run) (says : SayAs run l.runs.list r)
+module _ (l : NodeLists) (c : Counters) (right : AreNodesRight l c) (r : Stretch Run) (says : SayAs run l.runs.list r)
     (plain : (q : ℕ) → r.first ≤ q → q < r.first + r.count → said each l.records.list q ≡ None)
     (of_pages : 0 < live_of r.value.name) (older : NodeId) (newer : Option NodeId)
     (short : older.0 + r.count ≤ 2 ^ 64) (short_newer : IfSome newer (λ p. p.0 + r.count ≤ 2 ^ 64)) where
@@ -88,7 +88,7 @@ module _ (l : NodeLists) (c : Counters) (right : IsRight l c) (r : Stretch Run) 
 
   module _ (runs : Stretches Run) (set : cells run runs.list ≡ with_stretch run (cells run l.runs.list) (record r { value = value }))
       (count : number_count runs.list ≡ number_count l.runs.list) (places : runs.places ≡ l.runs.places) where
-    pub right_over : IsRight (record l { runs = runs }) c
+    pub right_over : AreNodesRight (record l { runs = runs }) c
     right_over = right_relinked l c right r says plain value cell_is is_over runs set count places
 
     pub nodes_over : nodes_of (record l { runs = runs }) c ≡ over_many (nodes_of l c) first older newer r.count

@@ -18,7 +18,7 @@ use Rattle.local_cache.specs.KeyRanges.{run_cell}
 use Rattle.local_cache.specs.ManyNodes.{next_node}
 use Rattle.local_cache.specs.NodeCells.{cells_by, node_cells}
 use Rattle.local_cache.specs.NodeKeys.{Indexes, even_key, key_at, odd_key, page_key, working_number}
-use Rattle.local_cache.specs.NodeRuns.{IsNumbered, IsRight, nodes_of}
+use Rattle.local_cache.specs.NodeRuns.{IsNumbered, AreNodesRight, nodes_of}
 use Rattle.local_cache.specs.PageNodes.{PageNodes, cell}
 use Rattle.local_cache.specs.Records.{each}
 use Rattle.local_cache.specs.Runs.{run}
@@ -34,7 +34,7 @@ pub record IsSaid (before now : Run) (count : ℕ) (cell_is : ℕ → Cell) : Ty
   pub even : (k : ℕ) → even_key (cell_is k) ≡ even_key (run_cell before k)
   pub odd : (k : ℕ) → odd_key (cell_is k) ≡ odd_key (run_cell before k)
 
-module _ (l : NodeLists) (c : Counters) (right : IsRight l c) (r : Stretch Run) (says : SayAs run l.runs.list r)
+module _ (l : NodeLists) (c : Counters) (right : AreNodesRight l c) (r : Stretch Run) (says : SayAs run l.runs.list r)
     (plain : (q : ℕ) → r.first ≤ q → q < r.first + r.count → said each l.records.list q ≡ None)
     (value : Run) (cell_is : ℕ → Cell) (is_said : IsSaid r.value value r.count cell_is) where
   abbrev R : FinMap nat_cmp Run
@@ -103,7 +103,7 @@ module _ (l : NodeLists) (c : Counters) (right : IsRight l c) (r : Stretch Run) 
     cells_are : node_cells new ≡ after
     cells_are = ap (λ (m : FinMap nat_cmp Run). cells_by m D) set
 
-    pub right_relinked : IsRight new c
+    pub right_relinked : AreNodesRight new c
     right_relinked =
         record {
           kept = record {

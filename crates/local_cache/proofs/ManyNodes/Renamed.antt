@@ -29,7 +29,7 @@ use Rattle.local_cache.specs.Arena.{Cell, blank}
 use Rattle.local_cache.specs.ManyNodes.{next_node, with_names}
 use Rattle.local_cache.specs.NodeCells.{cell_by, cells_by, node_cells}
 use Rattle.local_cache.specs.NodeKeys.{Indexes, even_key, key_at, odd_key, page_key, page_number, page_of_name, rekeyed, working_number}
-use Rattle.local_cache.specs.NodeRuns.{IsNumbered, IsRight, nodes_of}
+use Rattle.local_cache.specs.NodeRuns.{IsNumbered, AreNodesRight, nodes_of}
 use Rattle.local_cache.specs.PageNodes.{HasNode, PageNodes, cell, find, of_page, put, with_name}
 use Rattle.local_cache.specs.Records.{each}
 use Rattle.local_cache.specs.Runs.{run, run_after}
@@ -72,7 +72,7 @@ vacant_rekeyed m (Some a) b q v none other = elim (cases_eq a b) [
       ]
 ]
 
-module _ (l : NodeLists) (c : Counters) (right : IsRight l c) (r : Stretch Run) (says : SayAs run l.runs.list r)
+module _ (l : NodeLists) (c : Counters) (right : AreNodesRight l c) (r : Stretch Run) (says : SayAs run l.runs.list r)
     (was_cache : CacheId) (was_page : PageNo) (named : r.value.name ≡ Pages was_cache was_page) (cache : CacheId) (page : PageNo)
     (vacant : (k : ℕ) → k < r.count → map.get (cells rising l.pages.list) (page_number cache.0 (page.0 + k)) ≡ None)
     (from : ℕ) (from_is : from ≡ page_number was_cache.0 was_page.0) (to : ℕ) (to_is : to ≡ page_number cache.0 page.0) where
@@ -311,7 +311,7 @@ module _ (l : NodeLists) (c : Counters) (right : IsRight l c) (r : Stretch Run) 
     cells_are : node_cells new ≡ after
     cells_are = ap (λ (m : FinMap nat_cmp Run). cells_by m D) set
 
-    pub right_renamed : IsRight new c
+    pub right_renamed : AreNodesRight new c
     right_renamed =
         record {
           kept = record {

@@ -22,7 +22,7 @@ use Rattle.local_cache.specs.Whole.{SameCaches, segment_of}
 use Rattle.local_cache.proofs.Changes.SameNodes.{caches-put, id_cases}
 use Rattle.local_cache.proofs.Changes.Granted.{granted_cell}
 use Rattle.local_cache.proofs.Changes.Locked.{locked_cell}
-use Rattle.local_cache.proofs.NewCache.Pages.{made_stays, made_tables}
+use Rattle.local_cache.proofs.NewCache.FoundPages.{made_stays, made_tables}
 use Rattle.local_cache.proofs.Nodes.Cells.{cell-put, cell-put_other, find-with_new}
 use Rattle.local_cache.proofs.Nodes.Numbers.{apart, tied}
 use Rattle.local_cache.proofs.Tables.Listing.{node_in, read_other}

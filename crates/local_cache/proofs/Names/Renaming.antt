@@ -15,7 +15,7 @@ use Rattle.vm_ids.proofs.Forest.Renaming.{back, node-rename, find_across}
 use Rattle.vm_ids.specs.declared.numbers.NodeId.{NodeId}
 use Rattle.local_cache.specs.declared.own_state.OwnState.{OwnState}
 use Rattle.local_cache.specs.Arena.{Arena, cell, find, HasNode, as_working, Table, IsVacant, entry_at, node_at, tables_with, with_name}
-use Rattle.local_cache.specs.Reading.{name_of, node_of, page_of, forest_of, hang_by, stubs_of, IsNamed}
+use Rattle.local_cache.specs.Reading.{name_of, node_of, page_of, forest_of, hang_by, stubs_of, AreNamesApart}
 use Rattle.local_cache.specs.Threads.{IsThreaded}
 use Rattle.local_cache.specs.Sound.{IsKept, IsListed, ◌∈◌}
 use Rattle.local_cache.proofs.Nodes.Cells.{cell-put, cell-put_other, find-put, find-put_other}
@@ -82,7 +82,7 @@ module _ (a : Arena) (kept : IsKept a) (n : NodeId) (h : HasNode a n) (x : NodeN
   was : (m : NodeId) → HasNode b m → HasNode a m
   was m hm = sym (held_is m) ∙ hm
 
-  pub named-renamed : IsNamed b
+  pub named-renamed : AreNamesApart b
   named-renamed = record {
     apart = λ m k hm hk e. kept.named.apart m k (was m hm) (was k hk)
         (sym (back (name_of a n) x (name_of a m)) ∙ ap (swapped (name_of a n) x) (sym (name_is m (was m hm)) ∙ e ∙ name_is k (was k hk)) ∙ back (name_of a n) x (name_of a k));

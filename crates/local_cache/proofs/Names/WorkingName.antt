@@ -10,7 +10,7 @@ use Rattle.local_cache.specs.declared.own_state.OwnState.{OwnState}
 use Rattle.local_cache.specs.declared.page_entry.PageEntry.{PageEntry}
 use Rattle.local_cache.specs.Arena.{Arena, Cell, HasPage, IsVacant, as_working, blank, cell, entry_at, node_at, put, tables_with, with_new}
 use Rattle.local_cache.proofs.Tables.Listing.{entry-cache_with, node_by_entry}
-use Rattle.local_cache.proofs.NewCache.Pages.{page_node}
+use Rattle.local_cache.proofs.NewCache.FoundPages.{page_node}
 
 pub room-with_new : (a : Arena) (n : NodeId) (x : NodeName) (s : OwnState) → (with_new a n x s).room.nodes ≡ a.room.nodes - 1
 unfolding with_new

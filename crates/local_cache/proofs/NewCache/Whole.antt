@@ -21,7 +21,7 @@ use Rattle.local_cache.specs.Reading.{forest_of}
 use Rattle.local_cache.specs.Sound.{IsSound}
 use Rattle.local_cache.specs.Whole.{IsWhole, size_of}
 use Rattle.vm_ids.proofs.Forest.Lengths.{put_len}
-use Rattle.local_cache.proofs.Whole.Pages.{no_caches, no_nodes, node_page}
+use Rattle.local_cache.proofs.Whole.LivePages.{no_caches, no_nodes, node_page}
 
 -- the pages of a new cache, each of one own state
 abbrev pub pages_with : OwnState → CacheId → ℕ → List (NodeName × OwnState)

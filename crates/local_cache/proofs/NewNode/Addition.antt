@@ -12,7 +12,7 @@ use Rattle.vm_ids.proofs.Forest.Names.{name_cases}
 use Rattle.vm_ids.proofs.Forest.NodesAfter.{node-put, node-put_other, IsNode-put, put-IsNode, IsNode-put_cases}
 use Rattle.local_cache.specs.declared.own_state.OwnState.{OwnState}
 use Rattle.local_cache.specs.Arena.{Arena, blank, cell, entry_at, find, HasNode, new_cell, node_at, tables_with, with_new}
-use Rattle.local_cache.specs.Reading.{name_of, node_of, page_of, forest_of, hang_by, stubs_of, IsNamed}
+use Rattle.local_cache.specs.Reading.{name_of, node_of, page_of, forest_of, hang_by, stubs_of, AreNamesApart}
 use Rattle.local_cache.specs.Threads.{IsThreaded, AreThreaded}
 use Rattle.local_cache.specs.Sound.{IsKept, IsListed, ◌∈◌}
 use Rattle.local_cache.proofs.Nodes.Numbers.{tied, apart}
@@ -85,7 +85,7 @@ module _ (a : Arena) (w : NodeId) (free : find a w ≡ None) (x : NodeName) (s :
     abbrev b : Arena
     b = with_counted a w x s made
 
-    named : IsNamed b
+    named : AreNamesApart b
     named = record {
       apart = λ n m hn hm e. elim (id_cases n w) [
         | inl n_w ↦ elim (id_cases m w) [

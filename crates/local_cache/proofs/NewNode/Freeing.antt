@@ -8,7 +8,7 @@ use Rattle.vm_ids.specs.Forest.Nodes.{node, IsNode}
 use Rattle.vm_ids.proofs.Forest.NodesAfter.{node-free_other, IsNode-free, free-IsNode}
 use Rattle.vm_ids.specs.declared.numbers.NodeId.{NodeId}
 use Rattle.local_cache.specs.Arena.{Arena, cell, find, HasNode, without, blank, node_at, tables_with}
-use Rattle.local_cache.specs.Reading.{name_of, node_of, page_of, forest_of, hang_by, stubs_of, IsNamed}
+use Rattle.local_cache.specs.Reading.{name_of, node_of, page_of, forest_of, hang_by, stubs_of, AreNamesApart}
 use Rattle.local_cache.specs.Threads.{IsThreaded}
 use Rattle.local_cache.specs.Sound.{IsKept, IsListed, ◌∈◌}
 use Rattle.local_cache.proofs.Nodes.Numbers.{tied, apart}
@@ -54,7 +54,7 @@ module _ (a : Arena) (kept : IsKept a) (n : NodeId) (h : HasNode a n) (loose : I
   name_left : (m : NodeId) → m ≢ n → name_of (without a n) m ≡ name_of a m
   name_left m ne = ap (λ c. c.name) (left m ne)
 
-  named : IsNamed (without a n)
+  named : AreNamesApart (without a n)
   named = record {
     apart = λ m k hm hk e. kept.named.apart m k (was m hm) (was k hk) (sym (name_left m (not_n m hm)) ∙ e ∙ name_left k (not_n k hk));
     counted = λ m k hm e. subst (λ j. k ≤ j) (sym counts.0) (kept.named.counted m k (was m hm) (sym (name_left m (not_n m hm)) ∙ e));

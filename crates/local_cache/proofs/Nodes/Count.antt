@@ -21,7 +21,7 @@ use Rattle.vm_ids.proofs.Forest.NameMap.{len-insert}
 use Rattle.local_cache.specs.declared.own_state.OwnState.{OwnState}
 use Rattle.local_cache.specs.Arena.{Arena, Cell, HasNode}
 use Rattle.local_cache.specs.Own.{own_states}
-use Rattle.local_cache.specs.Reading.{IsNamed, at_key, forest_of, name_of, node_of}
+use Rattle.local_cache.specs.Reading.{AreNamesApart, at_key, forest_of, name_of, node_of}
 use Rattle.local_cache.proofs.Forest.Reading.{IsNode-forest_of}
 use Rattle.local_cache.proofs.Nodes.Numbers.{tied}
 
@@ -67,7 +67,7 @@ not_below : (k : ℕ) (es : List (ℕ × Cell)) → T (below_all nat_cmp k es) �
 not_below k [] h = refl
 not_below k (e ∷ es) h = ap (λ b. cond b (Some e.1) (look_up nat_cmp k es)) (lower_apart (nat_cmp k e.0) (and_left _ _ h)) ∙ not_below k es (and_right _ _ h)
 
-module _ (a : Arena) (named : IsNamed a) where
+module _ (a : Arena) (named : AreNamesApart a) where
   abbrev names : List (ℕ × Cell) → List NodeName
   names es = map (λ (e : ℕ × Cell). name_of a (at_key e.0)) es
 

@@ -28,7 +28,7 @@ use Rattle.local_cache.proofs.Forest.Reading.{IsNode-forest_of}
 use Rattle.local_cache.specs.Whole.{IsWhole, SameCaches, size_of}
 use Rattle.vm_ids.proofs.Forest.Lengths.{settle_len, settle_stays}
 use Rattle.local_cache.proofs.Tables.Sizes.{sizes_then}
-use Rattle.local_cache.proofs.Whole.Pages.{node_page, pages_once, whole_after}
+use Rattle.local_cache.proofs.Whole.LivePages.{node_page, pages_once, whole_after}
 
 -- A cache that goes
 

@@ -9,7 +9,7 @@ use Rattle.vm_ids.specs.Forest.Shape.{IsLinked}
 use Rattle.vm_ids.proofs.Forest.NameMap.{get-empty}
 use Rattle.vm_ids.specs.declared.numbers.NodeId.{NodeId}
 use Rattle.local_cache.specs.Arena.{Arena, HasNode, find, node_at}
-use Rattle.local_cache.specs.Reading.{IsNamed, forest_of}
+use Rattle.local_cache.specs.Reading.{AreNamesApart, forest_of}
 use Rattle.local_cache.specs.Sound.{IsSound}
 use Rattle.local_cache.proofs.Tables.Listing.{node_in}
 use Rattle.local_cache.proofs.Forest.Reading.{get-forest_of_none, reads_as}
@@ -22,7 +22,7 @@ module _ (a : Arena) (none : (n : NodeId) → find a n ≡ None) where
   unfolding node
   no_node x = ap (λ o. unwrap_or o (childless None Root)) (get-forest_of_none a x (λ n h. absurd (no_held n h)))
 
-  empty_named : IsNamed a
+  empty_named : AreNamesApart a
   empty_named = record { apart = λ n m h k e. absurd (no_held n h); counted = λ n k h e. absurd (no_held n h) }
 
   empty_linked : IsLinked (forest_of a)

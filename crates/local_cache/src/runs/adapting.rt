@@ -8,7 +8,7 @@ ghost use Rattle.stretches.specs.Cells.{cells};
 ghost use Rattle.stretches.specs.Stretch.{IsFit, single};
 ghost use Rattle.local_cache.specs.declared.runs.record.Record.{Record as RecordOf};
 ghost use Rattle.local_cache.specs.NodeCells.{cells_by};
-ghost use Rattle.local_cache.specs.NodeLists.{HasAdapted, IsKept};
+ghost use Rattle.local_cache.specs.NodeLists.{HasAdapted, AreListsKept};
 ghost use Rattle.local_cache.specs.Runs.{HasNames, SaysAlike, first_name, run as run_says};
 ghost use Rattle.local_cache.specs.Singles.{IsCounted};
 
@@ -120,7 +120,7 @@ fn adapt_runs(runs: &mut StretchList<Run>, node: u64, run: Run, free: bool) -> R
 
 // The same in the lists of all nodes.
 pub(crate) fn adapt(lists: &mut NodeLists, node: u64, run: Run, free: bool) -> Run
-    requires kept { IsKept lists.old }
+    requires kept { AreListsKept lists.old }
     requires fit { IsFit run_says (single node run) }
     ensures alike { SaysAlike run result }
     ensures own { free ≡ false → result.own ≡ run.own }

@@ -4,7 +4,7 @@ ghost use Rattle.stretches.specs.Stretch.{IsFit};
 ghost use Rattle.stretches.specs.Stretches.{AreTogether, SayAs, said};
 ghost use Rattle.local_cache.specs.ManyNodes.{HaveNodes, next_if, next_node, over_many};
 ghost use Rattle.local_cache.specs.NodeCells.{cell_of, tree_of};
-ghost use Rattle.local_cache.specs.NodeRuns.{IsRight, live_of, nodes_of};
+ghost use Rattle.local_cache.specs.NodeRuns.{AreNodesRight, live_of, nodes_of};
 ghost use Rattle.local_cache.specs.PageNodes.{HasNode};
 ghost use Rattle.local_cache.specs.Records.{each};
 ghost use Rattle.local_cache.specs.Runs.{run as run_says};
@@ -57,11 +57,11 @@ pub(crate) fn adopt_from(
     count: u32,
     children: Children,
 )
-    requires right { IsRight lists.old counters.now }
+    requires right { AreNodesRight lists.old counters.now }
     requires held { HaveNodes (nodes_of lists.old counters.now) (record { 0 = first }) count }
     requires older { children.older.0 + count ≤ 2 ^ 64 }
     requires newer { IfSome children.newer (λ n. n.0 + count ≤ 2 ^ 64) }
-    ensures right { IsRight lists.new counters.now }
+    ensures right { AreNodesRight lists.new counters.now }
     ensures nodes { nodes_of lists.new counters.now
         ≡ over_many (nodes_of lists.old counters.now) (record { 0 = first }) children.older
         children.newer count }
@@ -82,14 +82,14 @@ fn adopt_some(
     most: u32,
     children: Children,
 ) -> u32
-    requires right { IsRight lists.old counters.now }
+    requires right { AreNodesRight lists.old counters.now }
     requires some { 0 < most }
     requires held { HasNode (nodes_of lists.old counters.now) (record { 0 = node }) }
     requires older { children.older.0 + most ≤ 2 ^ 64 }
     requires newer { IfSome children.newer (λ n. n.0 + most ≤ 2 ^ 64) }
     ensures some { 0 < result }
     ensures most { result ≤ most }
-    ensures right { IsRight lists.new counters.now }
+    ensures right { AreNodesRight lists.new counters.now }
     ensures nodes { nodes_of lists.new counters.now
         ≡ over_many (nodes_of lists.old counters.now) (record { 0 = node }) children.older
         children.newer result }
@@ -105,9 +105,9 @@ fn adopt_some(
 
 // Gives a node these tree children.
 fn adopt_one(lists: &mut NodeLists, counters: &Counters, node: u64, children: Children)
-    requires right { IsRight lists.old counters.now }
+    requires right { AreNodesRight lists.old counters.now }
     requires held { HasNode (nodes_of lists.old counters.now) (record { 0 = node }) }
-    ensures right { IsRight lists.new counters.now }
+    ensures right { AreNodesRight lists.new counters.now }
     ensures nodes { nodes_of lists.new counters.now
         ≡ over_many (nodes_of lists.old counters.now) (record { 0 = node }) children.older
         children.newer 1 }
@@ -137,7 +137,7 @@ fn adopting(before: Parts, children: Children) -> Parts
 // Gives nodes of pages of which one run says all the next ones of these children. They stand in no
 // list of thin nodes, so they are found as before.
 fn adopt_run(lists: &mut NodeLists, counters: &Counters, nodes: Stretch<Run>, children: Children)
-    requires right { IsRight lists.old counters.now }
+    requires right { AreNodesRight lists.old counters.now }
     requires fit { IsFit run_says nodes }
     requires says { SayAs run_says lists.old.runs.list nodes }
     requires plain { (n : ℕ) → nodes.first ≤ n → n < nodes.first + nodes.count
@@ -146,7 +146,7 @@ fn adopt_run(lists: &mut NodeLists, counters: &Counters, nodes: Stretch<Run>, ch
     requires of_pages { 0 < live_of nodes.value.name }
     requires older { children.older.0 + nodes.count ≤ 2 ^ 64 }
     requires newer { IfSome children.newer (λ n. n.0 + nodes.count ≤ 2 ^ 64) }
-    ensures right { IsRight lists.new counters.now }
+    ensures right { AreNodesRight lists.new counters.now }
     ensures nodes { nodes_of lists.new counters.now
         ≡ over_many (nodes_of lists.old counters.now) (record { 0 = nodes.first }) children.older
         children.newer nodes.count }

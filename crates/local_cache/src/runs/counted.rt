@@ -5,7 +5,7 @@ ghost use Rattle.stretches.specs.Stretch.{IsFit, single};
 ghost use Rattle.local_cache.specs.NodeCells.{cell_of, node_cells};
 ghost use Rattle.local_cache.specs.NodeKeys.{HasFreeName, rekeyed, page_key, with_key, without_key, working_number};
 ghost use Rattle.local_cache.specs.NodeLists.{paged};
-ghost use Rattle.local_cache.specs.NodeRuns.{IsGiven, IsRight, live_of, nodes_of};
+ghost use Rattle.local_cache.specs.NodeRuns.{IsGiven, AreNodesRight, live_of, nodes_of};
 ghost use Rattle.local_cache.specs.Runs.{run as run_says};
 
 use crate::runs::keys::keys_of;
@@ -25,7 +25,7 @@ pub(crate) fn live_of(name: RunName) -> u32
 
 // Adds a node of which this is said, under a number that was given.
 pub(crate) fn add(lists: &mut NodeLists, counters: &mut Counters, node: u64, parts: Parts)
-    requires right { IsRight lists.old counters.old }
+    requires right { AreNodesRight lists.old counters.old }
     requires given { IsGiven counters.old node }
     requires new { map.get (node_cells lists.old) node ≡ None }
     requires room { map.len (node_cells lists.old) + 1 ≤ lists.old.capacity }
@@ -33,7 +33,7 @@ pub(crate) fn add(lists: &mut NodeLists, counters: &mut Counters, node: u64, par
     requires named { (k : ℕ) → working_number (cell_of parts.run parts.record) ≡ Some k
         → k ≤ counters.old.made }
     requires free { HasFreeName (node_cells lists.old) node (cell_of parts.run parts.record) }
-    ensures right { IsRight lists.new counters.new }
+    ensures right { AreNodesRight lists.new counters.new }
     ensures nodes { nodes_of lists.new counters.new ≡ record (nodes_of lists.old counters.old) {
       cells = map.insert (nodes_of lists.old counters.old).cells node
           (cell_of parts.run parts.record);
@@ -55,7 +55,7 @@ pub(crate) fn replace(
     before: Parts,
     now: Parts,
 )
-    requires right { IsRight lists.old counters.old }
+    requires right { AreNodesRight lists.old counters.old }
     requires find { map.get (node_cells lists.old) node
         ≡ Some (cell_of before.run before.record) }
     requires fit_before { IsFit run_says (single node before.run) }
@@ -63,7 +63,7 @@ pub(crate) fn replace(
     requires named { (k : ℕ) → working_number (cell_of now.run now.record) ≡ Some k
         → k ≤ counters.old.made }
     requires free { HasFreeName (node_cells lists.old) node (cell_of now.run now.record) }
-    ensures right { IsRight lists.new counters.new }
+    ensures right { AreNodesRight lists.new counters.new }
     ensures nodes { nodes_of lists.new counters.new ≡ record (nodes_of lists.old counters.old) {
       cells = map.insert (nodes_of lists.old counters.old).cells node
           (cell_of now.run now.record);
@@ -79,11 +79,11 @@ pub(crate) fn replace(
 
 // Takes a node out.
 pub(crate) fn remove(lists: &mut NodeLists, counters: &mut Counters, node: u64, before: Parts)
-    requires right { IsRight lists.old counters.old }
+    requires right { AreNodesRight lists.old counters.old }
     requires find { map.get (node_cells lists.old) node
         ≡ Some (cell_of before.run before.record) }
     requires fit_before { IsFit run_says (single node before.run) }
-    ensures right { IsRight lists.new counters.new }
+    ensures right { AreNodesRight lists.new counters.new }
     ensures nodes { nodes_of lists.new counters.new ≡ record (nodes_of lists.old counters.old) {
       cells = map.remove (nodes_of lists.old counters.old).cells node;
       pages = without_key (nodes_of lists.old counters.old).pages

@@ -3,7 +3,7 @@ ghost use Rattle.std.specs.Prelude.{◌≡◌, ℕ, ◌+◌, ◌<◌, ◌≤◌,
 ghost use Rattle.stretches.specs.Stretch.{IsFit};
 ghost use Rattle.stretches.specs.Stretches.{said};
 ghost use Rattle.local_cache.specs.ManyNodes.{AreSaidBy, HaveNodes, without_many};
-ghost use Rattle.local_cache.specs.NodeRuns.{IsRight, nodes_of};
+ghost use Rattle.local_cache.specs.NodeRuns.{AreNodesRight, nodes_of};
 ghost use Rattle.local_cache.specs.PageNodes.{HasNode};
 ghost use Rattle.local_cache.specs.Records.{each};
 ghost use Rattle.local_cache.specs.Runs.{run as run_says};
@@ -18,9 +18,9 @@ use stretches::Stretch;
 
 // Takes out so many nodes, from one on: at once those of which one run says all.
 pub(crate) fn remove_from(lists: &mut NodeLists, counters: &mut Counters, first: u64, count: u32)
-    requires right { IsRight lists.old counters.old }
+    requires right { AreNodesRight lists.old counters.old }
     requires held { HaveNodes (nodes_of lists.old counters.old) (record { 0 = first }) count }
-    ensures right { IsRight lists.new counters.new }
+    ensures right { AreNodesRight lists.new counters.new }
     ensures nodes { nodes_of lists.new counters.new
         ≡ without_many (nodes_of lists.old counters.old) (record { 0 = first }) count }
     ensures given { counters.new.next_page ≡ counters.old.next_page }
@@ -34,12 +34,12 @@ pub(crate) fn remove_from(lists: &mut NodeLists, counters: &mut Counters, first:
 // Takes out the first of so many nodes: as many as one run says all of, or one. It answers how
 // many.
 fn remove_some(lists: &mut NodeLists, counters: &mut Counters, node: u64, most: u32) -> u32
-    requires right { IsRight lists.old counters.old }
+    requires right { AreNodesRight lists.old counters.old }
     requires some { 0 < most }
     requires held { HasNode (nodes_of lists.old counters.old) (record { 0 = node }) }
     ensures some { 0 < result }
     ensures most { result ≤ most }
-    ensures right { IsRight lists.new counters.new }
+    ensures right { AreNodesRight lists.new counters.new }
     ensures nodes { nodes_of lists.new counters.new
         ≡ without_many (nodes_of lists.old counters.old) (record { 0 = node }) result }
     ensures given { counters.new.next_page ≡ counters.old.next_page }
@@ -56,13 +56,13 @@ fn remove_some(lists: &mut NodeLists, counters: &mut Counters, node: u64, most: 
 
 // Takes out nodes of which one run says all, and that have no records.
 fn remove_many(lists: &mut NodeLists, counters: &mut Counters, nodes: Stretch<Run>)
-    requires right { IsRight lists.old counters.old }
+    requires right { AreNodesRight lists.old counters.old }
     requires fit { IsFit run_says nodes }
     requires alike { AreSaidBy (nodes_of lists.old counters.old) (record { 0 = nodes.first })
         nodes.value nodes.count }
     requires plain { (n : ℕ) → nodes.first ≤ n → n < nodes.first + nodes.count
         → said each lists.old.records.list n ≡ None }
-    ensures right { IsRight lists.new counters.new }
+    ensures right { AreNodesRight lists.new counters.new }
     ensures nodes { nodes_of lists.new counters.new
         ≡ without_many (nodes_of lists.old counters.old) (record { 0 = nodes.first })
         nodes.count }

@@ -3,7 +3,7 @@ ghost use Rattle.std.specs.Prelude.{◌≡◌, ◌+◌, ◌<◌, ◌≤◌, ◌^
 ghost use Rattle.stretches.specs.Stretch.{IsFit};
 ghost use Rattle.stretches.specs.Stretches.{AreTogether, SayAs, said};
 ghost use Rattle.local_cache.specs.ManyNodes.{HaveNodes, hung_many};
-ghost use Rattle.local_cache.specs.NodeRuns.{IsRight, nodes_of};
+ghost use Rattle.local_cache.specs.NodeRuns.{AreNodesRight, nodes_of};
 ghost use Rattle.local_cache.specs.PageNodes.{HasNode};
 ghost use Rattle.local_cache.specs.Records.{each};
 ghost use Rattle.local_cache.specs.Runs.{run as run_says};
@@ -25,10 +25,10 @@ pub(crate) fn hang_from(
     count: u32,
     parent: NodeId,
 )
-    requires right { IsRight lists.old counters.now }
+    requires right { AreNodesRight lists.old counters.now }
     requires held { HaveNodes (nodes_of lists.old counters.now) (record { 0 = first }) count }
     requires short { parent.0 + count ≤ 2 ^ 64 }
-    ensures right { IsRight lists.new counters.now }
+    ensures right { AreNodesRight lists.new counters.now }
     ensures nodes { nodes_of lists.new counters.now
         ≡ hung_many (nodes_of lists.old counters.now) (record { 0 = first }) parent count }
 {
@@ -48,13 +48,13 @@ fn hang_some(
     most: u32,
     parent: NodeId,
 ) -> u32
-    requires right { IsRight lists.old counters.now }
+    requires right { AreNodesRight lists.old counters.now }
     requires some { 0 < most }
     requires held { HasNode (nodes_of lists.old counters.now) (record { 0 = node }) }
     requires short { parent.0 + most ≤ 2 ^ 64 }
     ensures some { 0 < result }
     ensures most { result ≤ most }
-    ensures right { IsRight lists.new counters.now }
+    ensures right { AreNodesRight lists.new counters.now }
     ensures nodes { nodes_of lists.new counters.now
         ≡ hung_many (nodes_of lists.old counters.now) (record { 0 = node }) parent result }
 {
@@ -69,9 +69,9 @@ fn hang_some(
 
 // Hangs a node on another.
 fn hang_one(lists: &mut NodeLists, counters: &Counters, node: u64, parent: NodeId)
-    requires right { IsRight lists.old counters.now }
+    requires right { AreNodesRight lists.old counters.now }
     requires held { HasNode (nodes_of lists.old counters.now) (record { 0 = node }) }
-    ensures right { IsRight lists.new counters.now }
+    ensures right { AreNodesRight lists.new counters.now }
     ensures nodes { nodes_of lists.new counters.now
         ≡ hung_many (nodes_of lists.old counters.now) (record { 0 = node }) parent 1 }
 {
@@ -86,14 +86,14 @@ fn hang_one(lists: &mut NodeLists, counters: &Counters, node: u64, parent: NodeI
 
 // Hangs nodes of which one run says all on others, the first of them on this one.
 fn hang_run(lists: &mut NodeLists, counters: &Counters, nodes: Stretch<Run>, parent: NodeId)
-    requires right { IsRight lists.old counters.now }
+    requires right { AreNodesRight lists.old counters.now }
     requires fit { IsFit run_says nodes }
     requires says { SayAs run_says lists.old.runs.list nodes }
     requires plain { (n : ℕ) → nodes.first ≤ n → n < nodes.first + nodes.count
         → said each lists.old.records.list n ≡ None }
     requires together { AreTogether lists.old.runs.list nodes.first nodes.count }
     requires short { parent.0 + nodes.count ≤ 2 ^ 64 }
-    ensures right { IsRight lists.new counters.now }
+    ensures right { AreNodesRight lists.new counters.now }
     ensures nodes { nodes_of lists.new counters.now
         ≡ hung_many (nodes_of lists.old counters.now) (record { 0 = nodes.first }) parent
         nodes.count }

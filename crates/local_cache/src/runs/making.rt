@@ -4,7 +4,7 @@ ghost use Rattle.std.specs.FinMap as map;
 ghost use Rattle.local_cache.specs.ManyNodes.{with_new_many};
 ghost use Rattle.local_cache.specs.NodeCells.{node_cells, own_of_plain};
 ghost use Rattle.local_cache.specs.NodeKeys.{page_number};
-ghost use Rattle.local_cache.specs.NodeRuns.{IsRight, nodes_of};
+ghost use Rattle.local_cache.specs.NodeRuns.{AreNodesRight, nodes_of};
 
 use crate::runs::keys::page_number;
 use crate::runs::{Counters, NodeLists, PlainState, Run, RunName};
@@ -21,14 +21,14 @@ pub(crate) fn make_run(
     count: u32,
     own: PlainState,
 )
-    requires right { IsRight lists.old counters.old }
+    requires right { AreNodesRight lists.old counters.old }
     requires some { 0 < count }
     requires short { page.0 + count < 2 ^ 32 }
     requires numbers { counters.old.next_page + count ≤ 2 ^ 52 }
     requires room { map.len (node_cells lists.old) + count ≤ lists.old.capacity }
     requires vacant { (k : ℕ) → k < count → map.get (nodes_of lists.old counters.old).pages
         (page_number cache.0 (page.0 + k)) ≡ None }
-    ensures right { IsRight lists.new counters.new }
+    ensures right { AreNodesRight lists.new counters.new }
     ensures nodes { nodes_of lists.new counters.new
         ≡ with_new_many (nodes_of lists.old counters.old)
         (record { 0 = counters.old.next_page }) cache page (own_of_plain own) count }

@@ -5,7 +5,7 @@ ghost use Rattle.stretches.specs.Cells.{cells, with_stretch};
 ghost use Rattle.local_cache.specs.ManyNodes.{over_many, with_working_many};
 ghost use Rattle.local_cache.specs.NodeCells.{node_cells};
 ghost use Rattle.local_cache.specs.NodeLists.{thinned};
-ghost use Rattle.local_cache.specs.NodeRuns.{IsRight, nodes_of};
+ghost use Rattle.local_cache.specs.NodeRuns.{AreNodesRight, nodes_of};
 ghost use Rattle.local_cache.specs.Singles.{IsCounted};
 ghost use Rattle.local_cache.specs.ThinNodes.{thin_nodes};
 
@@ -18,11 +18,11 @@ use vm_ids::NodeId;
 // Makes so many working nodes under the next names and numbers, `Absent` and without parent and
 // children, all as one run.
 pub(crate) fn make_working(lists: &mut NodeLists, counters: &mut Counters, count: u32)
-    requires right { IsRight lists.old counters.old }
+    requires right { AreNodesRight lists.old counters.old }
     requires some { 0 < count }
     requires made { counters.old.made + count ≤ 2 ^ 63 }
     requires room { map.len (node_cells lists.old) + count ≤ lists.old.capacity }
-    ensures right { IsRight lists.new counters.new }
+    ensures right { AreNodesRight lists.new counters.new }
     ensures nodes { nodes_of lists.new counters.new
         ≡ with_working_many (nodes_of lists.old counters.old)
         (record { 0 = counters.old.next_working }) count }
@@ -63,13 +63,13 @@ pub(crate) fn make_working_over(
     older: NodeId,
     newer: NodeId,
 )
-    requires right { IsRight lists.old counters.old }
+    requires right { AreNodesRight lists.old counters.old }
     requires some { 0 < count }
     requires made { counters.old.made + count ≤ 2 ^ 63 }
     requires room { map.len (node_cells lists.old) + count ≤ lists.old.capacity }
     requires short_older { older.0 + count ≤ 2 ^ 64 }
     requires short_newer { newer.0 + count ≤ 2 ^ 64 }
-    ensures right { IsRight lists.new counters.new }
+    ensures right { AreNodesRight lists.new counters.new }
     ensures nodes { nodes_of lists.new counters.new
         ≡ over_many (with_working_many (nodes_of lists.old counters.old)
         (record { 0 = counters.old.next_working }) count)

@@ -3,7 +3,7 @@ ghost use Rattle.std.specs.Prelude.{◌≡◌, ◌+◌, ◌<◌, ◌≤◌, ◌^
 ghost use Rattle.stretches.specs.Stretch.{IsFit};
 ghost use Rattle.stretches.specs.Stretches.{AreTogether, SayAs, said};
 ghost use Rattle.local_cache.specs.ManyNodes.{HaveNodes, as_working_many};
-ghost use Rattle.local_cache.specs.NodeRuns.{IsRight, live_of, nodes_of};
+ghost use Rattle.local_cache.specs.NodeRuns.{AreNodesRight, live_of, nodes_of};
 ghost use Rattle.local_cache.specs.PageNodes.{HasNode, as_working};
 ghost use Rattle.local_cache.specs.Records.{each};
 ghost use Rattle.local_cache.specs.Runs.{run as run_says};
@@ -26,10 +26,10 @@ pub(crate) fn name_working_from(
     first: u64,
     count: u32,
 )
-    requires right { IsRight lists.old counters.old }
+    requires right { AreNodesRight lists.old counters.old }
     requires held { HaveNodes (nodes_of lists.old counters.old) (record { 0 = first }) count }
     requires made { counters.old.made + count ≤ 2 ^ 63 }
-    ensures right { IsRight lists.new counters.new }
+    ensures right { AreNodesRight lists.new counters.new }
     ensures nodes { nodes_of lists.new counters.new
         ≡ as_working_many (nodes_of lists.old counters.old) (record { 0 = first }) count }
 {
@@ -42,13 +42,13 @@ pub(crate) fn name_working_from(
 // Names the first of so many nodes by the next working names: as many as one run of pages says all
 // of, or one. It answers how many.
 fn name_working_some(lists: &mut NodeLists, counters: &mut Counters, node: u64, most: u32) -> u32
-    requires right { IsRight lists.old counters.old }
+    requires right { AreNodesRight lists.old counters.old }
     requires some { 0 < most }
     requires held { HasNode (nodes_of lists.old counters.old) (record { 0 = node }) }
     requires made { counters.old.made + most ≤ 2 ^ 63 }
     ensures some { 0 < result }
     ensures most { result ≤ most }
-    ensures right { IsRight lists.new counters.new }
+    ensures right { AreNodesRight lists.new counters.new }
     ensures nodes { nodes_of lists.new counters.new
         ≡ as_working_many (nodes_of lists.old counters.old) (record { 0 = node }) result }
 {
@@ -63,10 +63,10 @@ fn name_working_some(lists: &mut NodeLists, counters: &mut Counters, node: u64, 
 
 // Names a node by the next working name. The page that it was the node of has none then.
 pub(crate) fn name_working(lists: &mut NodeLists, counters: &mut Counters, node: u64)
-    requires right { IsRight lists.old counters.old }
+    requires right { AreNodesRight lists.old counters.old }
     requires held { HasNode (nodes_of lists.old counters.old) (record { 0 = node }) }
     requires made { counters.old.made < 2 ^ 63 }
-    ensures right { IsRight lists.new counters.new }
+    ensures right { AreNodesRight lists.new counters.new }
     ensures nodes { nodes_of lists.new counters.new
         ≡ as_working (nodes_of lists.old counters.old) (record { 0 = node }) }
 {
@@ -79,7 +79,7 @@ pub(crate) fn name_working(lists: &mut NodeLists, counters: &mut Counters, node:
 // Names nodes of pages of which one run says all by the next working names. Those with fewer than
 // two children are thin then.
 fn name_working_run(lists: &mut NodeLists, counters: &mut Counters, nodes: Stretch<Run>)
-    requires right { IsRight lists.old counters.old }
+    requires right { AreNodesRight lists.old counters.old }
     requires fit { IsFit run_says nodes }
     requires says { SayAs run_says lists.old.runs.list nodes }
     requires plain { (n : ℕ) → nodes.first ≤ n → n < nodes.first + nodes.count
@@ -87,7 +87,7 @@ fn name_working_run(lists: &mut NodeLists, counters: &mut Counters, nodes: Stret
     requires together { AreTogether lists.old.runs.list nodes.first nodes.count }
     requires of_pages { 0 < live_of nodes.value.name }
     requires made { counters.old.made + nodes.count ≤ 2 ^ 63 }
-    ensures right { IsRight lists.new counters.new }
+    ensures right { AreNodesRight lists.new counters.new }
     ensures nodes { nodes_of lists.new counters.new
         ≡ as_working_many (nodes_of lists.old counters.old) (record { 0 = nodes.first })
         nodes.count }

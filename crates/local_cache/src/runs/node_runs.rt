@@ -50,11 +50,11 @@ impl Model for NodeRuns {
 
     ghost coded = { page_nodes_code };
 
-    ghost use Rattle.local_cache.specs.NodeRuns.{IsRight, nodes_of};
+    ghost use Rattle.local_cache.specs.NodeRuns.{AreNodesRight, nodes_of};
 
     ghost view = { λ a. nodes_of a.lists a.counters };
 
-    ghost invariant = { λ a. IsRight a.lists a.counters };
+    ghost invariant = { λ a. AreNodesRight a.lists a.counters };
 }
 
 impl NodeRuns {

@@ -5,7 +5,7 @@ ghost use Rattle.stretches.specs.Cells.{cells};
 ghost use Rattle.stretches.specs.Stretches.{said};
 ghost use Rattle.local_cache.specs.NodeCells.{node_cells};
 ghost use Rattle.local_cache.specs.NodeKeys.{key_at, working_number};
-ghost use Rattle.local_cache.specs.NodeRuns.{IsGiven, IsRight};
+ghost use Rattle.local_cache.specs.NodeRuns.{IsGiven, AreNodesRight};
 ghost use Rattle.local_cache.specs.Runs.{run as run_says};
 
 use crate::runs::{Counters, NodeLists, Run};
@@ -30,8 +30,8 @@ fn free_number(runs: &StretchList<Run>) -> u64
 // Gives the next number of a node of a page. Where all of them were given, which would take as many
 // calls as there are such numbers, it is one that no node has any more.
 pub(crate) fn give_page_number(lists: &NodeLists, counters: &mut Counters) -> u64
-    requires { IsRight lists.now counters.old }
-    ensures right { IsRight lists.now counters.new }
+    requires { AreNodesRight lists.now counters.old }
+    ensures right { AreNodesRight lists.now counters.new }
     ensures given { IsGiven counters.new result }
     ensures new { map.get (node_cells lists.now) result ≡ None }
     ensures made { counters.new.made ≡ counters.old.made }
@@ -46,9 +46,9 @@ pub(crate) fn give_page_number(lists: &NodeLists, counters: &mut Counters) -> u6
 
 // Gives the next number of a node made as a working one, and the next working name.
 pub(crate) fn give_working_number(lists: &NodeLists, counters: &mut Counters) -> u64
-    requires right { IsRight lists.now counters.old }
+    requires right { AreNodesRight lists.now counters.old }
     requires made { counters.old.made < 2 ^ 63 }
-    ensures right { IsRight lists.now counters.new }
+    ensures right { AreNodesRight lists.now counters.new }
     ensures given { IsGiven counters.new result }
     ensures new { map.get (node_cells lists.now) result ≡ None }
     ensures made { counters.new.made ≡ counters.old.made + 1 }
@@ -62,9 +62,9 @@ pub(crate) fn give_working_number(lists: &NodeLists, counters: &mut Counters) ->
 
 // Gives the next working name.
 pub(crate) fn give_name(lists: &NodeLists, counters: &mut Counters)
-    requires right { IsRight lists.now counters.old }
+    requires right { AreNodesRight lists.now counters.old }
     requires made { counters.old.made < 2 ^ 63 }
-    ensures right { IsRight lists.now counters.new }
+    ensures right { AreNodesRight lists.now counters.new }
     ensures made { counters.new ≡ record counters.old { made = counters.old.made + 1 } }
     ensures unnamed { (n k : ℕ) → key_at working_number (node_cells lists.now) n ≡ Some k
         → k < counters.new.made }

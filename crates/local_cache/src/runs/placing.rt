@@ -4,7 +4,7 @@ ghost use Rattle.std.specs.FinMap as map;
 ghost use Rattle.stretches.specs.Stretch.{IsFit, single};
 ghost use Rattle.local_cache.specs.NodeCells.{cell_of, node_cells};
 ghost use Rattle.local_cache.specs.NodeKeys.{HasFreeName, HasKeys};
-ghost use Rattle.local_cache.specs.NodeLists.{HasPlaced, HasTaken, IsIndexed, IsKept};
+ghost use Rattle.local_cache.specs.NodeLists.{HasPlaced, HasTaken, IsIndexed, AreListsKept};
 ghost use Rattle.local_cache.specs.Runs.{run as run_says};
 
 use crate::runs::indexing::reindex;
@@ -14,7 +14,7 @@ use crate::runs::{Keys, NodeLists, Parts};
 
 // Says this of a node that has these keys so far, and puts it under its new keys.
 pub(crate) fn place(lists: &mut NodeLists, node: u64, before: Keys, parts: Parts)
-    requires kept { IsKept lists.old }
+    requires kept { AreListsKept lists.old }
     requires indexed { IsIndexed lists.old }
     requires number { node + 2 < 2 ^ 64 }
     requires keys { HasKeys (node_cells lists.old) node before }
@@ -31,7 +31,7 @@ pub(crate) fn place(lists: &mut NodeLists, node: u64, before: Keys, parts: Parts
 
 // Says nothing of a node any more, which has these keys so far.
 pub(crate) fn take(lists: &mut NodeLists, node: u64, before: Keys)
-    requires kept { IsKept lists.old }
+    requires kept { AreListsKept lists.old }
     requires indexed { IsIndexed lists.old }
     requires number { node + 2 < 2 ^ 64 }
     requires keys { HasKeys (node_cells lists.old) node before }

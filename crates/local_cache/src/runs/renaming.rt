@@ -6,7 +6,7 @@ ghost use Rattle.stretches.specs.Stretches.{AreTogether, SayAs};
 ghost use Rattle.local_cache.specs.declared.runs.run.RunName.TheVariants.{Pages};
 ghost use Rattle.local_cache.specs.ManyNodes.{HaveNodes, with_names};
 ghost use Rattle.local_cache.specs.NodeKeys.{page_number};
-ghost use Rattle.local_cache.specs.NodeRuns.{IsRight, nodes_of};
+ghost use Rattle.local_cache.specs.NodeRuns.{AreNodesRight, nodes_of};
 ghost use Rattle.local_cache.specs.PageNodes.{HasNode};
 ghost use Rattle.local_cache.specs.Runs.{run as run_says};
 
@@ -35,12 +35,12 @@ pub(crate) fn rename_from(
     count: u32,
     now: PageName,
 )
-    requires right { IsRight lists.old counters.old }
+    requires right { AreNodesRight lists.old counters.old }
     requires held { HaveNodes (nodes_of lists.old counters.old) (record { 0 = first }) count }
     requires short { now.page.0 + count < 2 ^ 32 }
     requires vacant { (k : ℕ) → k < count → map.get (nodes_of lists.old counters.old).pages
         (page_number now.cache.0 (now.page.0 + k)) ≡ None }
-    ensures right { IsRight lists.new counters.new }
+    ensures right { AreNodesRight lists.new counters.new }
     ensures nodes { nodes_of lists.new counters.new
         ≡ with_names (nodes_of lists.old counters.old) (record { 0 = first }) now.cache now.page
         count }
@@ -65,7 +65,7 @@ fn rename_some(
     most: u32,
     now: PageName,
 ) -> u32
-    requires right { IsRight lists.old counters.old }
+    requires right { AreNodesRight lists.old counters.old }
     requires some { 0 < most }
     requires held { HasNode (nodes_of lists.old counters.old) (record { 0 = node }) }
     requires short { now.page.0 + most < 2 ^ 32 }
@@ -73,7 +73,7 @@ fn rename_some(
         (page_number now.cache.0 (now.page.0 + k)) ≡ None }
     ensures some { 0 < result }
     ensures most { result ≤ most }
-    ensures right { IsRight lists.new counters.new }
+    ensures right { AreNodesRight lists.new counters.new }
     ensures nodes { nodes_of lists.new counters.new
         ≡ with_names (nodes_of lists.old counters.old) (record { 0 = node }) now.cache now.page
         result }
@@ -95,12 +95,12 @@ fn rename_some(
 
 // Names a node by a page that has none.
 fn rename_one(lists: &mut NodeLists, counters: &mut Counters, node: u64, now: PageName)
-    requires right { IsRight lists.old counters.old }
+    requires right { AreNodesRight lists.old counters.old }
     requires held { HasNode (nodes_of lists.old counters.old) (record { 0 = node }) }
     requires short { now.page.0 + 1 < 2 ^ 32 }
     requires vacant { map.get (nodes_of lists.old counters.old).pages
         (page_number now.cache.0 now.page.0) ≡ None }
-    ensures right { IsRight lists.new counters.new }
+    ensures right { AreNodesRight lists.new counters.new }
     ensures nodes { nodes_of lists.new counters.new
         ≡ with_names (nodes_of lists.old counters.old) (record { 0 = node }) now.cache now.page 1 }
     ensures given { counters.new.next_page ≡ counters.old.next_page }
@@ -119,7 +119,7 @@ fn rename_run(
     before: PageName,
     now: PageName,
 )
-    requires right { IsRight lists.old counters.now }
+    requires right { AreNodesRight lists.old counters.now }
     requires fit { IsFit run_says nodes }
     requires says { SayAs run_says lists.old.runs.list nodes }
     requires together { AreTogether lists.old.runs.list nodes.first nodes.count }
@@ -127,7 +127,7 @@ fn rename_run(
     requires short { now.page.0 + nodes.count < 2 ^ 32 }
     requires vacant { (k : ℕ) → k < nodes.count → map.get (nodes_of lists.old counters.now).pages
         (page_number now.cache.0 (now.page.0 + k)) ≡ None }
-    ensures right { IsRight lists.new counters.now }
+    ensures right { AreNodesRight lists.new counters.now }
     ensures nodes { nodes_of lists.new counters.now
         ≡ with_names (nodes_of lists.old counters.now) (record { 0 = nodes.first }) now.cache
         now.page nodes.count }

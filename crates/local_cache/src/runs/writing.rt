@@ -4,7 +4,7 @@ ghost use Rattle.std.specs.FinMap as map;
 ghost use Rattle.stretches.specs.Stretch.{IsFit, single};
 ghost use Rattle.stretches.specs.Stretches.{said};
 ghost use Rattle.local_cache.specs.NodeCells.{bare, cell_of, node_cells};
-ghost use Rattle.local_cache.specs.NodeLists.{HasErased, HasWritten, IsKept, IsNeeded};
+ghost use Rattle.local_cache.specs.NodeLists.{HasErased, HasWritten, AreListsKept, IsNeeded};
 ghost use Rattle.local_cache.specs.Runs.{SaysAlike, run as run_says};
 
 use crate::runs::adapting::adapt;
@@ -15,7 +15,7 @@ use stretches::{Says, StretchList};
 
 // Says this of a node, of which something else was said or nothing.
 pub(crate) fn write(lists: &mut NodeLists, node: u64, parts: Parts)
-    requires kept { IsKept lists.old }
+    requires kept { AreListsKept lists.old }
     requires fit { IsFit run_says (single node parts.run) }
     requires room { map.len (map.insert (node_cells lists.old) node
         (cell_of parts.run parts.record)) ≤ lists.old.capacity }
@@ -29,7 +29,7 @@ pub(crate) fn write(lists: &mut NodeLists, node: u64, parts: Parts)
 
 // Says of a node what a run can say, in the words that stand there where they say it already.
 fn write_plain(lists: &mut NodeLists, node: u64, run: Run)
-    requires kept { IsKept lists.old }
+    requires kept { AreListsKept lists.old }
     requires fit { IsFit run_says (single node run) }
     requires room { map.len (map.insert (node_cells lists.old) node (cell_of run (bare run.own)))
         ≤ lists.old.capacity }
@@ -46,7 +46,7 @@ fn write_plain(lists: &mut NodeLists, node: u64, run: Run)
 
 // The same where a record has to say something beside the run.
 fn write_beside(lists: &mut NodeLists, node: u64, parts: Parts)
-    requires kept { IsKept lists.old }
+    requires kept { AreListsKept lists.old }
     requires fit { IsFit run_says (single node parts.run) }
     requires room { map.len (map.insert (node_cells lists.old) node
         (cell_of parts.run parts.record)) ≤ lists.old.capacity }
@@ -80,7 +80,7 @@ fn said_already(runs: &StretchList<Run>, node: u64, run: Run, free: bool) -> Opt
 
 // Says of a node what its run says, and no more.
 fn keep_run(lists: &mut NodeLists, node: u64, run: Run)
-    requires kept { IsKept lists.old }
+    requires kept { AreListsKept lists.old }
     requires said { said run_says lists.old.runs.list node ≡ Some run }
     requires room { map.len (map.insert (node_cells lists.old) node (cell_of run (bare run.own)))
         ≤ lists.old.capacity }
@@ -91,7 +91,7 @@ fn keep_run(lists: &mut NodeLists, node: u64, run: Run)
 
 // Says of a node what its run says and a record beside it.
 fn keep_both(lists: &mut NodeLists, node: u64, run: Run, beside: Record)
-    requires kept { IsKept lists.old }
+    requires kept { AreListsKept lists.old }
     requires said { said run_says lists.old.runs.list node ≡ Some run }
     requires fit { IsFit run_says (single node run) }
     requires room { map.len (map.insert (node_cells lists.old) node (cell_of run beside))
@@ -104,7 +104,7 @@ fn keep_both(lists: &mut NodeLists, node: u64, run: Run, beside: Record)
 
 // Says of a node what a run can say, and no more.
 fn write_run(lists: &mut NodeLists, node: u64, run: Run)
-    requires kept { IsKept lists.old }
+    requires kept { AreListsKept lists.old }
     requires fit { IsFit run_says (single node run) }
     requires room { map.len (map.insert (node_cells lists.old) node (cell_of run (bare run.own)))
         ≤ lists.old.capacity }
@@ -116,7 +116,7 @@ fn write_run(lists: &mut NodeLists, node: u64, run: Run)
 
 // Says of a node what its run and a record beside it say.
 fn write_both(lists: &mut NodeLists, node: u64, run: Run, beside: Record)
-    requires kept { IsKept lists.old }
+    requires kept { AreListsKept lists.old }
     requires fit { IsFit run_says (single node run) }
     requires room { map.len (map.insert (node_cells lists.old) node (cell_of run beside))
         ≤ lists.old.capacity }
@@ -129,7 +129,7 @@ fn write_both(lists: &mut NodeLists, node: u64, run: Run, beside: Record)
 
 // Says nothing of a node any more.
 pub(crate) fn erase(lists: &mut NodeLists, node: u64)
-    requires { IsKept lists.old }
+    requires { AreListsKept lists.old }
     ensures { HasErased lists.old node lists.new }
 {
     clear_one(&mut lists.runs, node);

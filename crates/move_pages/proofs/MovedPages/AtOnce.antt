@@ -16,7 +16,7 @@ use Rattle.tree_merge.specs.Copying.{page_after, pairs_left}
 use Rattle.tree_merge.proofs.AlikeNodes.{alike_named}
 use Rattle.tree_merge.proofs.CopiedPages.AtOnce.{filled, read}
 use Rattle.move_pages.specs.Moving.{CanMoveMany, IsMovedAtOnce, part_of}
-use Rattle.move_pages.proofs.MovedPages.Pages.{AreMoved, pages_moved}
+use Rattle.move_pages.proofs.MovedPages.OneByOne.{AreMoved, pages_moved}
 
 module _ (a : Arena) (sound : IsSound a) (span : Span) (done : ℕ) (can : CanCopy (forest_of a) (pairs_left span done)) where
   abbrev most : ℕ

@@ -14,8 +14,8 @@ use Rattle.vm_ids.proofs.Forest.Names.{same_apart}
 use Rattle.vm_ids.proofs.Forest.Laws.Commands.{copy_copies, destroy_destroys, first_pages, later_can, later_pages, still_can, still_pages}
 use Rattle.vm_ids.proofs.Forest.Laws.Settling.{settle_keeps_live_values}
 use Rattle.vm_ids.proofs.Forest.Moving.{move_page_stays}
-use Rattle.vm_ids.proofs.Forest.Pages.{detach-consistent, detach-value, move_page-consistent, move_page-value}
-use Rattle.page_release.proofs.Walking.Replacing.{detach_stays}
+use Rattle.vm_ids.proofs.Forest.OnePage.{detach-consistent, detach-value, move_page-consistent, move_page-value}
+use Rattle.page_release.proofs.CommandSteps.Replacing.{detach_stays}
 
 source_out : (pairs : List (NodeName × NodeName)) (x : NodeName) → (x ∈ firsts pairs → ⊥) → source_of pairs x ≡ x
 source_out [] x out = refl

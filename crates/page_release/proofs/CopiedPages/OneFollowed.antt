@@ -23,16 +23,16 @@ use Rattle.page_release.specs.Following.{CanFollow}
 use Rattle.page_release.specs.Homes.{IsUnclean}
 use Rattle.page_release.specs.Steps.{ForAnyMapper, IsStoreTied, IsUnpinned, Releases}
 use Rattle.page_release.specs.Translating.{DropsFreed}
-use Rattle.page_release.proofs.Coming.Detached.{detach_forest, detach_kept}
+use Rattle.page_release.proofs.NamedNodes.Detached.{detach_forest, detach_kept}
 use Rattle.page_release.proofs.CopiedPages.Parts.{CopiesPage, grown_page}
-use Rattle.page_release.proofs.Framing.Coming.{detach_frames}
-use Rattle.page_release.proofs.Framing.Linking.{linked_frames, stubbed_frames}
-use Rattle.page_release.proofs.Leaving.Elsewhere.{IsFollowed, StaysPut, can_with, followed_with, retired_put}
-use Rattle.page_release.proofs.Linking.Grown.{grown_kept, linked_forest, relinked_kept, stubbed_forest}
+use Rattle.page_release.proofs.SeenFrames.Coming.{detach_frames}
+use Rattle.page_release.proofs.SeenFrames.Linking.{linked_frames, stubbed_frames}
+use Rattle.page_release.proofs.NodesGone.Elsewhere.{IsFollowed, StaysPut, can_with, followed_with, retired_put}
+use Rattle.page_release.proofs.LinkedNodes.Grown.{grown_kept, linked_forest, relinked_kept, stubbed_forest}
 use Rattle.page_release.proofs.RetiredPages.OneFollowed.{one_can, one_named, one_retires}
 use Rattle.page_release.proofs.RetiredPages.Parts.{RetiresPage}
-use Rattle.page_release.proofs.Tying.Kept.{kept_both}
-use Rattle.page_release.proofs.Tying.Named.{unclean_may}
+use Rattle.page_release.proofs.TiedStores.Kept.{kept_both}
+use Rattle.page_release.proofs.TiedStores.Named.{unclean_may}
 
 -- A node was hung on another one: the store is as it was, and the rule holds of pages and of frames
 -- too.

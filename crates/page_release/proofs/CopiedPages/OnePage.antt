@@ -27,7 +27,7 @@ use Rattle.tree_merge.proofs.RetiredPages.OnePage.{CanRetirePage, page_alone}
 use Rattle.page_release.specs.Steps.{IsStoreTied}
 use Rattle.page_release.proofs.CopiedPages.OneFollowed.{one_copies}
 use Rattle.page_release.proofs.CopiedPages.Parts.{CopiesPage}
-use Rattle.page_release.proofs.Freeing.Freed.{same_freed}
+use Rattle.page_release.proofs.FreedFrames.Freed.{same_freed}
 use Rattle.page_release.proofs.RetiredPages.OnePage.{page_followed, page_unclean, page_unpinned}
 
 module _ (t : Store) (a : Arena) (d s new : NodeId) (to : CacheId) (page : PageNo) (can : CanCopyPage a d s new to page) (empty : IsEmpty (own_of a d)) (tied : IsStoreTied t a) where

@@ -12,7 +12,7 @@ use Rattle.vm_ids.specs.Forest.Shape.{IsConsistent}
 use Rattle.vm_ids.proofs.Forest.Laws.Commands.{later_can, still_can}
 use Rattle.vm_ids.proofs.Forest.Lengths.{copy_page_len, copy_page_stays}
 use Rattle.vm_ids.proofs.Forest.Made.{copy_page-made}
-use Rattle.vm_ids.proofs.Forest.Pages.{copy_page-consistent}
+use Rattle.vm_ids.proofs.Forest.OnePage.{copy_page-consistent}
 use Rattle.vm_ids.proofs.Forest.Pairs.{pairs_start}
 use Rattle.local_cache.specs.declared.own_state.OwnState.{OwnState}
 use Rattle.local_cache.specs.Arena.{Arena}
@@ -27,7 +27,7 @@ use Rattle.page_release.specs.Commands.{Grows}
 use Rattle.page_release.specs.Homes.{AreUnclean}
 use Rattle.page_release.specs.Readings.{GoesBy}
 use Rattle.page_release.specs.Steps.{AreUnpinned, IsStoreTied, Releases}
-use Rattle.page_release.proofs.Tying.Kept.{kept_both, kept_none, unclean_kept, unpinned_kept}
+use Rattle.page_release.proofs.TiedStores.Kept.{kept_both, kept_none, unclean_kept, unpinned_kept}
 
 -- One page was copied, from one name to another: no frame and no slot was taken, and there are at
 -- most two nodes more.

@@ -17,9 +17,9 @@ use Rattle.page_release.specs.Homes.{IsUnclean}
 use Rattle.page_release.specs.Steps.{IsStoreTied, IsUnpinned}
 use Rattle.page_release.specs.Translating.{DropsFreed}
 use Rattle.page_release.proofs.CopiedPages.OneFollowed.{copied_can, one_copies}
-use Rattle.page_release.proofs.CopiedPages.Pages.{at_once_follows}
+use Rattle.page_release.proofs.CopiedPages.AllAtOnce.{at_once_follows}
 use Rattle.page_release.proofs.CopiedPages.Parts.{CopiesPages, copies_one}
-use Rattle.page_release.proofs.Leaving.Elsewhere.{IsFollowed}
+use Rattle.page_release.proofs.NodesGone.Elsewhere.{IsFollowed}
 
 module _ (s : Store) (a b : Arena) (span : Span) (done : ℕ) (step : Step) (is : IsCopyStep a b span done step) (sound : IsSound a) (tied : IsStoreTied s a)
     (unpinned : IsUnpinned s a (page_name span.to (span.to_page.0 + done))) (unclean : IsUnclean a (page_name span.to (span.to_page.0 + done))) where

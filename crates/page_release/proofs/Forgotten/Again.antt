@@ -19,8 +19,8 @@ use Rattle.vm_ids.proofs.Forest.LostPages.{forget-bare, forgotten-bare}
 use Rattle.vm_ids.proofs.Forest.Names.{name_cases, same_apart, same_itself}
 use Rattle.vm_ids.proofs.Forest.NodesAfter.{node-put, node-put_other}
 use Rattle.vm_ids.proofs.Forest.PageMap.{equal_by_pages}
-use Rattle.page_release.proofs.Tying.Shape.{like_pages, like_saved}
-use Rattle.page_release.proofs.Walking.Replacing.{replace_forgotten, with_page}
+use Rattle.page_release.proofs.TiedStores.Shape.{like_pages, like_saved}
+use Rattle.page_release.proofs.CommandSteps.Replacing.{replace_forgotten, with_page}
 
 module _ {P : Type 0} (p : P) where
   -- p in place of a page

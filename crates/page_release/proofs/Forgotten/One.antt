@@ -40,13 +40,13 @@ use Rattle.page_release.specs.Following.{CanLeave, without_page}
 use Rattle.page_release.specs.Homes.{IsUnclean}
 use Rattle.page_release.specs.Steps.{ForAnyMapper, GivesBack, IsStoreTied, IsUnpinned, Releases, zeros_told}
 use Rattle.page_release.specs.Translating.{DropsFreed}
-use Rattle.page_release.proofs.Framing.Leaving.{dropped_frame}
-use Rattle.page_release.proofs.Framing.Pages.{frame_tells}
-use Rattle.page_release.proofs.Leaving.Dropped.{HasLost, zero_lost}
-use Rattle.page_release.proofs.Leaving.Followed.{can_leave, dropped_gives, dropped_page}
-use Rattle.page_release.proofs.Leaving.Retired.{loose_frame}
-use Rattle.page_release.proofs.Tying.Backed.{HomesStay}
-use Rattle.page_release.proofs.Tying.Homes.{named_kept}
+use Rattle.page_release.proofs.SeenFrames.Leaving.{dropped_frame}
+use Rattle.page_release.proofs.SeenFrames.OwnFrames.{frame_tells}
+use Rattle.page_release.proofs.NodesGone.Dropped.{HasLost, zero_lost}
+use Rattle.page_release.proofs.NodesGone.Followed.{can_leave, dropped_gives, dropped_page}
+use Rattle.page_release.proofs.NodesGone.Retired.{loose_frame}
+use Rattle.page_release.proofs.TiedStores.Backed.{HomesStay}
+use Rattle.page_release.proofs.TiedStores.Homes.{named_kept}
 
 -- The rule where there is a page, and where there is none
 pub forget_there : {P : Type 0} (f : Forest P) (x : NodeName) (p v : P) → (node f x).own ≡ Some v → forget f x p ≡ edit f x (with_page (Some p))

@@ -12,7 +12,7 @@ use Rattle.vm_ids.proofs.Forest.Laws.Ranges.{ranges_hold_their_pages}
 use Rattle.local_cache.specs.Arena.{Arena, node_at}
 use Rattle.local_cache.specs.Reading.{forest_of}
 use Rattle.local_cache.specs.Sound.{IsSound}
-use Rattle.local_cache.proofs.Whole.Pages.{page_there}
+use Rattle.local_cache.proofs.Whole.LivePages.{page_there}
 use Rattle.residency.specs.World.{SameNodes}
 
 -- the names from one place on, and the first of them

@@ -24,12 +24,12 @@ use Rattle.page_release.specs.Following.{followed}
 use Rattle.page_release.specs.Homes.{IsUnclean, is_named}
 use Rattle.page_release.specs.Steps.{IsStoreTied, IsUnpinned}
 use Rattle.page_release.specs.Translating.{DropsFreed}
-use Rattle.page_release.proofs.Coming.Moved.{move_forest, move_kept}
-use Rattle.page_release.proofs.Framing.Coming.{move_frames}
-use Rattle.page_release.proofs.Freeing.Freed.{same_freed}
+use Rattle.page_release.proofs.NamedNodes.Moved.{move_forest, move_kept}
+use Rattle.page_release.proofs.SeenFrames.Coming.{move_frames}
+use Rattle.page_release.proofs.FreedFrames.Freed.{same_freed}
 use Rattle.page_release.proofs.MovedPages.Parts.{MovesPage, grown_page}
 use Rattle.page_release.proofs.RetiredPages.OnePage.{nothing_freed, page_unclean, page_unpinned}
-use Rattle.page_release.proofs.Tying.Named.{temporary_home}
+use Rattle.page_release.proofs.TiedStores.Named.{temporary_home}
 
 -- A page that was moved, and what was released is followed in the store.
 module _ (s : Store) (a : Arena) (sound : IsSound a) (tied : IsStoreTied s a) (from : CacheId) (from_page : PageNo) (to : CacheId) (to_page : PageNo)

@@ -14,7 +14,7 @@ use Rattle.vm_ids.specs.Forest.Shape.{IsConsistent}
 use Rattle.vm_ids.proofs.Forest.Laws.Commands.{still_can}
 use Rattle.vm_ids.proofs.Forest.Made.{move_page-made}
 use Rattle.vm_ids.proofs.Forest.Moving.{move_page_len, move_page_stays}
-use Rattle.vm_ids.proofs.Forest.Pages.{move_page-consistent}
+use Rattle.vm_ids.proofs.Forest.OnePage.{move_page-consistent}
 use Rattle.local_cache.specs.declared.own_state.OwnState.{OwnState}
 use Rattle.local_cache.specs.declared.own_state.OwnState.TheVariants.{Zero}
 use Rattle.local_cache.specs.Arena.{Arena}
@@ -30,7 +30,7 @@ use Rattle.page_release.specs.Readings.{GoesBy}
 use Rattle.page_release.specs.Steps.{GivesBack, IsStoreTied, Releases, zeros_told}
 use Rattle.page_release.specs.Translating.{DropsFreed}
 use Rattle.page_release.proofs.CopiedPages.Parts.{grown_none, grown_then, pairs_left_can}
-use Rattle.page_release.proofs.Tying.Kept.{gives_none, kept_both, kept_none}
+use Rattle.page_release.proofs.TiedStores.Kept.{gives_none, kept_both, kept_none}
 
 -- One page was moved, from one name to another: no frame and no slot was taken, and there is at
 -- most one node more.

@@ -23,8 +23,8 @@ use Rattle.page_release.specs.Homes.{MayGo, is_named}
 use Rattle.page_release.specs.Readings.{GoesBy}
 use Rattle.page_release.specs.Steps.{IsStoreTied, Releases}
 use Rattle.page_release.specs.Untouched.{ForgetsSome}
-use Rattle.page_release.proofs.Tying.Kept.{unclean_kept}
-use Rattle.page_release.proofs.Tying.Named.{named_same}
+use Rattle.page_release.proofs.TiedStores.Kept.{unclean_kept}
+use Rattle.page_release.proofs.TiedStores.Named.{named_same}
 
 forgotten-append : {P : Type 0} (xs ys : List NodeName) (p : P) (f : Forest P) → forgotten (xs ++ ys) p f ≡ forgotten ys p (forgotten xs p f)
 forgotten-append [] ys p f = refl

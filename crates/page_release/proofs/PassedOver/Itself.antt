@@ -13,7 +13,7 @@ use Rattle.vm_ids.proofs.Forest.Counters.{free-counters, put-counters}
 use Rattle.vm_ids.proofs.Forest.Names.{name_cases, same_apart, same_itself}
 use Rattle.vm_ids.proofs.Forest.PageMap.{get-free, get-put, same_forest}
 use Rattle.tree_merge.proofs.Leaving.Retired.{retire_none}
-use Rattle.page_release.proofs.Walking.Replacing.{with_page}
+use Rattle.page_release.proofs.CommandSteps.Replacing.{with_page}
 
 module _ {P : Type 0} where
   module _ (f : Forest P) (x : NodeName) (v : P) (is : node f x ≡ childless (Some v) Root) where

@@ -37,9 +37,9 @@ use Rattle.page_release.proofs.Forgotten.Range.{same_place}
 use Rattle.page_release.proofs.PassedOver.Forgetting.{part_of}
 use Rattle.page_release.proofs.PassedOver.Itself.{replaced_itself}
 use Rattle.page_release.proofs.PassedOver.Nodes.{untouched_name}
-use Rattle.page_release.proofs.Tying.Kept.{kept_none, kept_then}
-use Rattle.page_release.proofs.Tying.Named.{named_home, named_same}
-use Rattle.page_release.proofs.Walking.Replacing.{clean_then, named_held, segment_pages_same, with_page}
+use Rattle.page_release.proofs.TiedStores.Kept.{kept_none, kept_then}
+use Rattle.page_release.proofs.TiedStores.Named.{named_home, named_same}
+use Rattle.page_release.proofs.CommandSteps.Replacing.{clean_then, named_held, segment_pages_same, with_page}
 
 -- So many pages of a cache, from one on, became what their segment holds, one after the other.
 pub record ReplacesPages (c : CacheId) (p n : ℕ) (s : Store) (a : Arena) (t : Store) (b : Arena) : Type 0 where

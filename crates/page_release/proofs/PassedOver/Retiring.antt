@@ -21,7 +21,7 @@ use Rattle.tree_merge.proofs.RetiredPages.OnePage.{CanRetirePage, page_alone}
 use Rattle.page_release.specs.Following.{without_page}
 use Rattle.page_release.specs.Steps.{IsStoreTied}
 use Rattle.page_release.specs.Untouched.{AreUntouched}
-use Rattle.page_release.proofs.Freeing.Freed.{same_freed}
+use Rattle.page_release.proofs.FreedFrames.Freed.{same_freed}
 use Rattle.page_release.proofs.PassedOver.Nodes.{lone_leaf, untouched_name}
 use Rattle.page_release.proofs.RetiredPages.OneFollowed.{one_retires}
 use Rattle.page_release.proofs.RetiredPages.OnePage.{out_unpinned}

@@ -14,11 +14,11 @@ use Rattle.page_release.specs.Following.{CanFollow}
 use Rattle.page_release.specs.Homes.{MayGo}
 use Rattle.page_release.specs.Steps.{IsStoreTied, IsUnpinned}
 use Rattle.page_release.specs.Translating.{DropsFreed}
-use Rattle.page_release.proofs.Framing.Leaving.{retire_frames}
-use Rattle.page_release.proofs.Leaving.Elsewhere.{IsFollowed}
-use Rattle.page_release.proofs.Leaving.Retired.{retire_can, retire_forest, retire_kept}
+use Rattle.page_release.proofs.SeenFrames.Leaving.{retire_frames}
+use Rattle.page_release.proofs.NodesGone.Elsewhere.{IsFollowed}
+use Rattle.page_release.proofs.NodesGone.Retired.{retire_can, retire_forest, retire_kept}
 use Rattle.page_release.proofs.RetiredPages.Parts.{RetiresPage}
-use Rattle.page_release.proofs.Tying.Sized.{released_fewer}
+use Rattle.page_release.proofs.TiedStores.Sized.{released_fewer}
 
 module _ (s : Store) (a b : Arena) (cache : CacheId) (page : PageNo) (r : Released) (is : IsRetiredAlone a b cache page r) (sound : IsSound a) (tied : IsStoreTied s a) (unpinned : IsUnpinned s a (Live cache page)) (may : MayGo a (Live cache page)) where
   there : HasNode a is.node

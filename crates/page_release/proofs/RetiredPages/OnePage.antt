@@ -21,13 +21,13 @@ use Rattle.tree_merge.proofs.RetiredPages.SharedPage.{CanSharePage, shared_alone
 use Rattle.page_release.specs.Following.{without_page}
 use Rattle.page_release.specs.Homes.{IsUnclean}
 use Rattle.page_release.specs.Steps.{IsStoreTied, IsUnpinned}
-use Rattle.page_release.proofs.Freeing.Freed.{same_freed}
-use Rattle.page_release.proofs.Leaving.Elsewhere.{IsFollowed}
-use Rattle.page_release.proofs.Leaving.Passed.{gone_own}
+use Rattle.page_release.proofs.FreedFrames.Freed.{same_freed}
+use Rattle.page_release.proofs.NodesGone.Elsewhere.{IsFollowed}
+use Rattle.page_release.proofs.NodesGone.Passed.{gone_own}
 use Rattle.page_release.proofs.RetiredPages.OneFollowed.{one_retires}
 use Rattle.page_release.proofs.RetiredPages.Parts.{RetiresPage}
-use Rattle.page_release.proofs.Tying.Named.{unclean_may}
-use Rattle.page_release.proofs.Tying.Tied.{home}
+use Rattle.page_release.proofs.TiedStores.Named.{unclean_may}
+use Rattle.page_release.proofs.TiedStores.Tied.{home}
 
 -- A page that is none or zeros
 

@@ -12,7 +12,7 @@ use Rattle.vm_ids.specs.Forest.Shape.{IsConsistent}
 use Rattle.vm_ids.proofs.Forest.Laws.Commands.{later_pages, still_pages}
 use Rattle.vm_ids.proofs.Forest.Lengths.{retire_len}
 use Rattle.vm_ids.proofs.Forest.Made.{retire-made}
-use Rattle.vm_ids.proofs.Forest.Pages.{retire-consistent, retired}
+use Rattle.vm_ids.proofs.Forest.OnePage.{retire-consistent, retired}
 use Rattle.local_cache.specs.Arena.{Arena}
 use Rattle.local_cache.specs.Own.{own_states}
 use Rattle.local_cache.specs.Reading.{forest_of}
@@ -24,7 +24,7 @@ use Rattle.residency.specs.World.{world}
 use Rattle.page_release.specs.Readings.{GoesBy}
 use Rattle.page_release.specs.Steps.{IsStoreTied, Releases}
 use Rattle.page_release.proofs.Forgotten.Range.{in_range, names_start}
-use Rattle.page_release.proofs.Tying.Kept.{kept_both, kept_none}
+use Rattle.page_release.proofs.TiedStores.Kept.{kept_both, kept_none}
 
 -- One page was retired: no room was taken, and there are no more own pages.
 pub record RetiresPage (x : NodeName) (s : Store) (a : Arena) (t : Store) (b : Arena) : Type 0 where

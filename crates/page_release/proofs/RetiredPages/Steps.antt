@@ -14,9 +14,9 @@ use Rattle.page_release.specs.Following.{CanFollow}
 use Rattle.page_release.specs.Homes.{MayGo}
 use Rattle.page_release.specs.Steps.{IsStoreTied, IsUnpinned}
 use Rattle.page_release.specs.Translating.{DropsFreed}
-use Rattle.page_release.proofs.Leaving.Elsewhere.{IsFollowed}
+use Rattle.page_release.proofs.NodesGone.Elsewhere.{IsFollowed}
 use Rattle.page_release.proofs.RetiredPages.OneFollowed.{one_can, one_retires}
-use Rattle.page_release.proofs.RetiredPages.Pages.{at_once_follows}
+use Rattle.page_release.proofs.RetiredPages.AllAtOnce.{at_once_follows}
 use Rattle.page_release.proofs.RetiredPages.Parts.{RetiresPages, retires_one}
 
 module _ (s : Store) (a b : Arena) (extent : Extent) (done : ℕ) (step : Step) (is : IsRetireStep a b extent done step) (sound : IsSound a) (tied : IsStoreTied s a)

@@ -11,11 +11,11 @@ use Rattle.vm_ids.proofs.Forest.PageMap.{cut_stub-map, hand_stubs-map, stub-map}
 use Rattle.vm_ids.specs.declared.numbers.NodeId.{NodeId}
 use Rattle.local_cache.specs.Arena.{Arena}
 use Rattle.local_cache.specs.Changes.{Relinked}
-use Rattle.local_cache.specs.Reading.{IsNamed, forest_of}
+use Rattle.local_cache.specs.Reading.{AreNamesApart, forest_of}
 use Rattle.local_cache.specs.ReadingBy.{Tells, forest_by}
 use Rattle.local_cache.proofs.Forest.ReadingBy.{lifted-relinked}
 
-module _ {P : Type 0} (page : NodeId → Option P) (a b : Arena) (named : IsNamed a) (tells : Tells page a) (links : Relinked a b) where
+module _ {P : Type 0} (page : NodeId → Option P) (a b : Arena) (named : AreNamesApart a) (tells : Tells page a) (links : Relinked a b) where
   pub cut_stub-by : (x : NodeName) → forest_of b ≡ forest.cut_stub (forest_of a) x → forest_by page b ≡ forest.cut_stub (forest_by page a) x
   cut_stub-by x = lifted-relinked page a b named tells links _ (λ f. forest.cut_stub f x) (λ f. forest.cut_stub f x) (λ f. cut_stub-map no_page f x) (λ f. cut_stub-map no_page f x)
       (λ f y. cut_stub-keeps (λ n. n.own) (λ n h. refl) (λ n xs. refl) (λ n xs. refl) f x y)

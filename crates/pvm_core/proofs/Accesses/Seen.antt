@@ -37,10 +37,10 @@ use Rattle.vm_model.specs.Outcome.{HasWholePages}
 use Rattle.vm_model.specs.PageForest.{PageForest}
 use Rattle.vm_model.specs.Place.{Place, place_of_actor}
 use Rattle.pvm_core.specs.Manager as manager
-use Rattle.pvm_core.specs.Manager.{IsSound, IsValid, machine_by, machine_of, state_at}
+use Rattle.pvm_core.specs.Manager.{IsManagerSound, IsValid, machine_by, machine_of, state_at}
 use Rattle.pvm_core.specs.Placed.{AreRight, IsAligned}
-use Rattle.pvm_core.specs.Translated.{AreTranslationsRight, IsRight, Leads, LeadsFound, MayBeWritten, OnlySeen, found_for, frame_to_write, name_at}
-use Rattle.pvm_core.proofs.Accesses.Pages.{page_of_access}
+use Rattle.pvm_core.specs.Translated.{AreTranslationsRight, IsTranslationRight, Leads, LeadsFound, MayBeWritten, OnlySeen, found_for, frame_to_write, name_at}
+use Rattle.pvm_core.proofs.Accesses.AccessedPages.{page_of_access}
 use Rattle.pvm_core.proofs.Answering.Listed.{each_at}
 use Rattle.pvm_core.proofs.Answering.Kept.{seen}
 use Rattle.pvm_core.proofs.Translating.Alike.{still_right}
@@ -64,8 +64,8 @@ module _ (s t : Store) (only : OnlySeen s t) where
   pub seen_world : (h : Option Held) (size : Option ℕ) (a : Arena) → world h size a t ≡ world h size a s
   seen_world h size a = (λ i. world h size a (only.same i)) ∙ (λ i. record (world h size a s) { marks = only.marks i; places = only.places i })
 
-  pub seen_sound : (a : Arena) (u : Actors) (live : ℕ) → IsSound a s u live → IsSound a t u live
-  seen_sound a u live k = subst (λ (x : Store). IsSound a x u live) (sym only.same) (record {
+  pub seen_sound : (a : Arena) (u : Actors) (live : ℕ) → IsManagerSound a s u live → IsManagerSound a t u live
+  seen_sound a u live k = subst (λ (x : Store). IsManagerSound a x u live) (sym only.same) (record {
     nodes = k.nodes;
     apart = k.apart;
     bounded = k.bounded;
@@ -102,7 +102,7 @@ module _ (s t : Store) (only : OnlySeen s t) where
   same_map : t.map ≡ s.map
   same_map = ap (λ (x : Store). x.map) only.same
 
-  moved : (a : Arena) (u : Actors) (e : Entry) → IsRight a s u e → IsRight a t u e
+  moved : (a : Arena) (u : Actors) (e : Entry) → IsTranslationRight a s u e → IsTranslationRight a t u e
   moved a u e r = still_right a a s t u e r (λ there. ap (λ (m : List (Option NodeId)). seen_in a m (name_at r.at)) same_map ∙ there) (λ w alone. alone) (λ granted. granted)
 
   -- where no translation came
@@ -111,11 +111,11 @@ module _ (s t : Store) (only : OnlySeen s t) where
 
 -- a translation that is right was entered
 pub led_right : (actor : ActorId) (address : ℕ) (to : Translation) (a : Arena) (s t : Store) (u : Actors) → Leads u.page_bytes actor address to s t → AreTranslationsRight a s u
-    → IsRight a s u (record { actor = actor; page = address / u.page_bytes; to = to }) → AreTranslationsRight a t u
+    → IsTranslationRight a s u (record { actor = actor; page = address / u.page_bytes; to = to }) → AreTranslationsRight a t u
 led_right actor address to a s t u l all new place e is =
     let entry : Entry = record { actor = actor; page = address / u.page_bytes; to = to } in
     let i = l.entered in
-    moved s t l.only a u e (each-entered (IsRight a s u) s.tables i.0 entry i.2.0.below all new place e (ap (λ (ts : List (Option Entry)). entry_at ts place) (sym i.2.1) ∙ is))
+    moved s t l.only a u e (each-entered (IsTranslationRight a s u) s.tables i.0 entry i.2.0.below all new place e (ap (λ (ts : List (Option Entry)). entry_at ts place) (sym i.2.1) ∙ is))
 
 -- Calls that bring pages in
 
@@ -130,7 +130,7 @@ fits_frames (Some size) m n e f = f ∙ e
 
 -- A translation for the page of an access is right that leads to where the page is seen.
 pub led_page : (sizes : ℕ → Option ℕ) (a : Arena) (s : Store) (u : Actors) (actor : ActorId) (address n : ℕ) (to : Translation) (at : Place) → AreRight sizes u → place_of_actor u.page_bytes (numbered u.actors actor.0) address n ≡ Ok at
-    → seen_in a s.map (name_at at) ≡ Some to.frame.0 → (to.writable ≡ true → MayBeWritten a at) → IsRight a s u (record { actor = actor; page = address / u.page_bytes; to = to })
+    → seen_in a s.map (name_at at) ≡ Some to.frame.0 → (to.writable ≡ true → MayBeWritten a at) → IsTranslationRight a s u (record { actor = actor; page = address / u.page_bytes; to = to })
 led_page sizes a s u actor address n to at right is seen written = record {
   at = record at { byte = 0 };
   place = page_of_access u.page_bytes address right.some n (numbered u.actors actor.0) at (each_at (IsAligned u.page_bytes) u.actors actor.0 right.aligned) is;
@@ -153,14 +153,14 @@ module _ (told now : Option Held) (size then : Option ℕ) (a b : Arena) (s t : 
   -- so a translation may lead there
   pub found_seen : (u : Actors) (actor : ActorId) (address bytes : ℕ) (at : Place) → AreRight (size_of b) u → place_of_actor u.page_bytes (numbered u.actors actor.0) address bytes ≡ Ok at → name_of a n ≡ name_at at
       → (found : Option FrameId) → IsFound (world now then b t) o (own_of a o) found
-      → IfSome found (λ f. IsRight b t u (record { actor = actor; page = address / u.page_bytes; to = record { frame = f; writable = false } }))
+      → IfSome found (λ f. IsTranslationRight b t u (record { actor = actor; page = address / u.page_bytes; to = record { frame = f; writable = false } }))
   found_seen u actor address bytes at right is name None f = tt
   found_seen u actor address bytes at right is name (Some x) f =
       led_page (size_of b) b t u actor address bytes (record { frame = x; writable = false }) at right is (ap (seen_in b t.map) (sym name) ∙ seen_there x.0 f.bound.1) (λ w. absurd (cc w))
 
 -- those that a load leaves
 pub found_right : (actor : ActorId) (address : ℕ) (found : Option FrameId) (a : Arena) (s t : Store) (u : Actors) → LeadsFound u.page_bytes actor address found s t → AreTranslationsRight a s u
-    → IfSome found (λ f. IsRight a s u (record { actor = actor; page = address / u.page_bytes; to = record { frame = f; writable = false } })) → AreTranslationsRight a t u
+    → IfSome found (λ f. IsTranslationRight a s u (record { actor = actor; page = address / u.page_bytes; to = record { frame = f; writable = false } })) → AreTranslationsRight a t u
 found_right actor address None a s t u l all new = subst (λ (x : Store). AreTranslationsRight a x u) (sym l) all
 found_right actor address (Some f) a s t u l all new = led_right actor address (record { frame = f; writable = false }) a s t u l all new
 

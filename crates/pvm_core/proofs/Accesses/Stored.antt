@@ -53,7 +53,7 @@ use Rattle.vm_model.specs.Outcome.{HasWholePages, IsNamed, NotRefusedButFor, Out
 use Rattle.vm_model.specs.PageForest.{PageForest}
 use Rattle.vm_model.specs.Place.{Place, place}
 use Rattle.contexts.specs.Actors.{Actors}
-use Rattle.pvm_core.specs.Manager.{IsSound, Manager, cache_shown, forest_of, machine_by, machine_of, shown, world_of}
+use Rattle.pvm_core.specs.Manager.{IsManagerSound, Manager, cache_shown, forest_of, machine_by, machine_of, shown, world_of}
 use Rattle.pvm_core.specs.Pieces.{fault_at}
 use Rattle.pvm_core.proofs.Answering.Answered.{no_segments}
 use Rattle.pvm_core.proofs.Accesses.Loading.{zeros_long}
@@ -64,8 +64,8 @@ use Rattle.pvm_core.proofs.Accesses.Storing.{blank_written, cache_is, machine_wr
 use Rattle.pvm_core.proofs.Meaning.Values.{blank_of, page_shown, whole_page, zeroed, zeroed_whole}
 
 -- other bytes in a frame
-pub bytes_sound : (b : Arena) (s u : Store) (t : Actors) (live f : ℕ) (bytes : List ℕ) → u ≡ record s { frames = with_bytes s.frames f bytes } → IsSound b s t live → IsSound b u t live
-bytes_sound b s u t live f bytes e i = subst (λ (u : Store). IsSound b u t live) (sym e) (record {
+pub bytes_sound : (b : Arena) (s u : Store) (t : Actors) (live f : ℕ) (bytes : List ℕ) → u ≡ record s { frames = with_bytes s.frames f bytes } → IsManagerSound b s t live → IsManagerSound b u t live
+bytes_sound b s u t live f bytes e i = subst (λ (u : Store). IsManagerSound b u t live) (sym e) (record {
   nodes = i.nodes;
   apart = i.apart;
   bounded = i.bounded;

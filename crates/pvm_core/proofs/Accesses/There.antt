@@ -38,12 +38,12 @@ use Rattle.regions.specs.AddressSpace.{access_to, place_told}
 use Rattle.contexts.specs.Actors.{Actors}
 use Rattle.pvm_core.specs.Access.{IsLoaded}
 use Rattle.pvm_core.specs.Manager as manager
-use Rattle.pvm_core.specs.Manager.{IsSound, IsValid, Manager, machine_of, nodes_of, state_at}
+use Rattle.pvm_core.specs.Manager.{IsManagerSound, IsValid, Manager, machine_of, nodes_of, state_at}
 use Rattle.pvm_core.specs.Placed.{IsAligned}
-use Rattle.pvm_core.specs.Translated.{AreTranslationsRight, IsRight, MayBeWritten, OnlySeen, found_for, name_at, place_of_page}
+use Rattle.pvm_core.specs.Translated.{AreTranslationsRight, IsTranslationRight, MayBeWritten, OnlySeen, found_for, name_at, place_of_page}
 use Rattle.pvm_core.proofs.Accesses.Found.{no_rise}
 use Rattle.pvm_core.proofs.Accesses.Loading.{loaded, owner_there}
-use Rattle.pvm_core.proofs.Accesses.Pages.{access_of_page}
+use Rattle.pvm_core.proofs.Accesses.AccessedPages.{access_of_page}
 use Rattle.pvm_core.proofs.Accesses.Seen.{seen_by, seen_forest, seen_machine, seen_valid, seen_world}
 use Rattle.pvm_core.proofs.Answering.Answered.{call_is}
 use Rattle.pvm_core.proofs.Answering.Kept.{seen}
@@ -74,8 +74,8 @@ below_map m f n at = elim (cases_lt f (length m)) [
   | inr h ↦ absurd (let none : None ≡ Some n = sym (get_or_past m f None h) ∙ at in cc none)
 ]
 
-module _ (a : Arena) (s : Store) (t : Actors) (live : ℕ) (sound : IsSound a s t live) (placed : ArePlaced a s.frames s.slots s.map) (actor address n : ℕ) (to : Translation) where
-  by_entry : (e : Entry) → IsRight a s t e → e.actor.0 ≡ actor → e.page ≡ address / t.page_bytes → e.to ≡ to → nat_lt t.page_bytes (address % t.page_bytes + n) ≡ false → IsThere a s t actor address n to
+module _ (a : Arena) (s : Store) (t : Actors) (live : ℕ) (sound : IsManagerSound a s t live) (placed : ArePlaced a s.frames s.slots s.map) (actor address n : ℕ) (to : Translation) where
+  by_entry : (e : Entry) → IsTranslationRight a s t e → e.actor.0 ≡ actor → e.page ≡ address / t.page_bytes → e.to ≡ to → nat_lt t.page_bytes (address % t.page_bytes + n) ≡ false → IsThere a s t actor address n to
   by_entry e r of on leads short =
       let at : Place = record r.at { byte = address % t.page_bytes } in
       let first : place_of_page t actor (address / t.page_bytes) ≡ Ok r.at = (λ i. place_of_page t (sym of i) (sym on i)) ∙ r.place in
@@ -112,10 +112,10 @@ module _ (a : Arena) (s : Store) (t : Actors) (live : ℕ) (sound : IsSound a s 
       go : (c : Bool) → nat_lt t.page_bytes (address % t.page_bytes + n) ≡ c → cond c None (translation s.tables actor (address / t.page_bytes)) ≡ Some to → IsThere a s t actor address n to
       go true e f = absurd (cc f)
       go false e f =
-          let x = seen_entry (IsRight a s t) s.tables actor (address / t.page_bytes) to all f in
+          let x = seen_entry (IsTranslationRight a s t) s.tables actor (address / t.page_bytes) to all f in
           by_entry x.0 x.4 x.1 x.2 x.3 e
 
-module _ (a : Arena) (s : Store) (t : Actors) (live : ℕ) (sound : IsSound a s t live) (actor address n : ℕ) (to : Translation) (k : IsThere a s t actor address n to) (h : Option Held) (right : IsStoreRight (world h None a s)) where
+module _ (a : Arena) (s : Store) (t : Actors) (live : ℕ) (sound : IsManagerSound a s t live) (actor address n : ℕ) (to : Translation) (k : IsThere a s t actor address n to) (h : Option Held) (right : IsStoreRight (world h None a s)) where
   -- what the access reads is what the frame holds
   pub there_value : value_of (store_forest (world h None a s)) (name_at k.at) ≡ Some (found_page (world h None a s) (Some to.frame))
   there_value =
@@ -132,7 +132,7 @@ not_pulled (Resident dirty) e = refl
 not_pulled (Slot k) e = absurd (cc e)
 not_pulled OnSegment e = absurd (cc e)
 
-module _ (a : Arena) (s u : Store) (t : Actors) (live : ℕ) (sound : IsSound a s t live) (all : AreTranslationsRight a s t) (h : Option Held) (valid : IsValid (seen a s t) h) (actor : ActorId) (address n : ℕ) (to : Translation)
+module _ (a : Arena) (s u : Store) (t : Actors) (live : ℕ) (sound : IsManagerSound a s t live) (all : AreTranslationsRight a s t) (h : Option Held) (valid : IsValid (seen a s t) h) (actor : ActorId) (address n : ℕ) (to : Translation)
     (found : found_for t.page_bytes s.tables actor.0 address n ≡ Some to) (only : OnlySeen s u) (piece : List ℕ) (is : piece ≡ take n (drop (address % t.page_bytes) (bytes_of u.frames to.frame.0))) (counts : MapperCounts) where
   k : IsThere a s t actor.0 address n to
   k = there_is a s t live sound valid.right.tied.placed actor.0 address n to all found

@@ -30,7 +30,7 @@ use Rattle.residency.proofs.Translations.Lost.{tables_same}
 use Rattle.residency.proofs.Worlds.Homes.{IsHome, home}
 use Rattle.fault_path.specs.Faults.{Kept, readied}
 use Rattle.fault_path.proofs.Calls.Kept.{still_kept}
-use Rattle.fault_path.proofs.Pages.DirtyPage.{dirtied, dirty_still}
+use Rattle.fault_path.proofs.OnePage.DirtyPage.{dirtied, dirty_still}
 use Rattle.fault_path.proofs.Rules.ReadyForest.{kept_ready}
 use Rattle.vm_model.specs.Answering.{overwrite}
 use Rattle.vm_model.specs.Following.{written_at}
@@ -39,7 +39,7 @@ use Rattle.vm_model.specs.PageForest.{PageForest}
 use Rattle.vm_model.specs.Place.{place}
 use Rattle.vm_model.specs.Run.{CallIs, State}
 use Rattle.contexts.specs.Actors.{Actors}
-use Rattle.pvm_core.specs.Manager.{IsSound, IsValid, Manager, forest_of, machine_by, machine_of, state_at}
+use Rattle.pvm_core.specs.Manager.{IsManagerSound, IsValid, Manager, forest_of, machine_by, machine_of, state_at}
 use Rattle.pvm_core.specs.Reaching.{Reach}
 use Rattle.pvm_core.specs.Translated.{AreTranslationsRight, MayBeWritten, OnlySeen, frame_to_write, name_at}
 use Rattle.pvm_core.proofs.Accesses.Loading.{sized_table}
@@ -78,7 +78,7 @@ here_own (Resident d) e = refl
 here_own (Slot s) e = refl
 here_own OnSegment e = refl
 
-module _ (a : Arena) (s : Store) (t : Actors) (live : ℕ) (sound : IsSound a s t live) (all : AreTranslationsRight a s t) (h : Option Held) (valid : IsValid (seen a s t) h) (actor : ActorId) (address : ℕ) (bytes : List ℕ) (to : Translation)
+module _ (a : Arena) (s : Store) (t : Actors) (live : ℕ) (sound : IsManagerSound a s t live) (all : AreTranslationsRight a s t) (h : Option Held) (valid : IsValid (seen a s t) h) (actor : ActorId) (address : ℕ) (bytes : List ℕ) (to : Translation)
     (k : IsThere a s t actor.0 address (length bytes) to) (writable : to.writable ≡ true) where
   -- the page is dirty
   abbrev pub dirty : Arena
@@ -127,7 +127,7 @@ module _ (a : Arena) (s : Store) (t : Actors) (live : ℕ) (sound : IsSound a s 
       ∙ kept_ready w sound.nodes.sound sound.nodes.consistent.shaped k.owner k.owns.held (record { node = k.owns.held; own_page = here_own (own_of a k.owner) here.resident }) last
       ∙ ap (readied (store_forest w)) name
 
-  sound_put : IsSound dirty put t live
+  sound_put : IsManagerSound dirty put t live
   sound_put = bytes_sound dirty s put t live to.frame.0 new refl (kept_sound a dirty s s h h None None kept t live sound valid.right.tied.placed.bound)
 
   by : (f : PageForest) → machine_by q f ≡ machine_by p f
@@ -169,7 +169,7 @@ module _ (a : Arena) (s : Store) (t : Actors) (live : ℕ) (sound : IsSound a s 
     only : OnlySeen put u
     only = marked put u to.frame.0 written
 
-    pub written_sound : IsSound dirty u t live
+    pub written_sound : IsManagerSound dirty u t live
     written_sound = seen_sound put u only dirty t live sound_put
 
     pub written_translated : AreTranslationsRight dirty u t

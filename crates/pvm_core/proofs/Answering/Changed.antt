@@ -17,7 +17,7 @@ use Rattle.vm_model.specs.PageForest.{PageForest}
 use Rattle.vm_model.specs.Laws.{IsFollowed}
 use Rattle.contexts.specs.Actors.{Actors}
 use Rattle.pvm_core.specs.Locks.{AreHeld}
-use Rattle.pvm_core.specs.Manager.{IsSound, caches_shown, forest_of, machine_by, machine_of}
+use Rattle.pvm_core.specs.Manager.{IsManagerSound, caches_shown, forest_of, machine_by, machine_of}
 use Rattle.pvm_core.proofs.NewCaches.Begun.{right_with}
 use Rattle.pvm_core.proofs.Meaning.Determined.{IsShaped, followed_is}
 use Rattle.pvm_core.proofs.Answering.Kept.{seen}
@@ -67,11 +67,11 @@ put_shaped (c ∷ cs) (t ∷ ts) each zero x s (suc k) = each (suc k)
 put_shaped (c ∷ cs) (t ∷ ts) each (suc i) x s zero = each 0
 put_shaped (c ∷ cs) (t ∷ ts) each (suc i) x s (suc k) = put_shaped cs ts (λ k. each (suc k)) i x s k
 
-module _ (b d : Arena) (s u : Store) (t : Actors) (live : ℕ) (i : IsSound b s t live) (same : SameCaches b d) (back : ForAnyMapper s b u d GivesBack) (tied : IsStoreTied s b) (whole : IsWhole d) where
+module _ (b d : Arena) (s u : Store) (t : Actors) (live : ℕ) (i : IsManagerSound b s t live) (same : SameCaches b d) (back : ForAnyMapper s b u d GivesBack) (tied : IsStoreTied s b) (whole : IsWhole d) where
   gives : GivesBack (world None None b s) (world None None d u)
   gives = back None None tied
 
-  pub changed_sound : IsBounded (arena.forest_of d) → AreHeld d u t.actors → IsSound d u t live
+  pub changed_sound : IsBounded (arena.forest_of d) → AreHeld d u t.actors → IsManagerSound d u t live
   changed_sound bounded held = record {
     nodes = whole;
     apart = apart_same b d same.segments i.apart;

@@ -10,11 +10,11 @@ use Rattle.vm_model.specs.Answering.{Answer}
 use Rattle.vm_model.specs.Run.{CallIs}
 use Rattle.gmi_calls.specs.Calling.{RaisesMade}
 use Rattle.contexts.specs.Actors.{Actors}
-use Rattle.pvm_core.specs.Manager.{IsSound, IsValid, Manager, machine_of, numbered, state_at}
+use Rattle.pvm_core.specs.Manager.{IsManagerSound, IsValid, Manager, machine_of, numbered, state_at}
 use Rattle.pvm_core.proofs.Answering.Kept.{seen}
 
 pub record Ended (p : Manager) (b : Arena) (u : Store) (t : Actors) (live : ℕ) (h g : Option Held) (c d : MapperCounts) (command : Command) (answer : Answer) : Type 0 where
-  pub sound : IsSound b u t live
+  pub sound : IsManagerSound b u t live
   pub valid : IsValid (seen b u t) g
   pub answers : CallIs c d (state_at p h) command answer (state_at (seen b u t) g)
   pub made : RaisesMade (machine_of p h) command answer (machine_of (seen b u t) g) (numbered p) (numbered (seen b u t))

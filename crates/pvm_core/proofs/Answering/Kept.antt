@@ -41,9 +41,9 @@ use Rattle.pvm_core.specs.Reaching.{Reach}
 use Rattle.pvm_core.proofs.Answering.Reaching.{as_told, reach_told}
 use Rattle.pvm_core.proofs.Homes.Full.{full_after}
 use Rattle.pvm_core.proofs.Homes.Sized.{sized_after}
-use Rattle.pvm_core.specs.Manager.{IsSound, IsValid, Manager, caches_shown, forest_of, machine_by, machine_of}
+use Rattle.pvm_core.specs.Manager.{IsManagerSound, IsValid, Manager, caches_shown, forest_of, machine_by, machine_of}
 
-pub seated_sound : (a : Arena) (s : Store) (t u : Actors) (live : ℕ) → u.page_bytes ≡ t.page_bytes → AreRight (size_of a) u → ((cache page : ℕ) → locks_over u.actors cache page ≡ locks_over t.actors cache page) → IsSound a s t live → IsSound a s u live
+pub seated_sound : (a : Arena) (s : Store) (t u : Actors) (live : ℕ) → u.page_bytes ≡ t.page_bytes → AreRight (size_of a) u → ((cache page : ℕ) → locks_over u.actors cache page ≡ locks_over t.actors cache page) → IsManagerSound a s t live → IsManagerSound a s u live
 seated_sound a s t u live page right over i = record {
   nodes = i.nodes;
   apart = i.apart;
@@ -151,7 +151,7 @@ sized_right h i a s fits r = record {
   capacity = r.capacity;
 }
 
-module _ (a b : Arena) (s t : Store) (h g : Option Held) (i j : Option ℕ) (k : Kept (world h i a s) (world g j b t)) (actors : Actors) (live : ℕ) (sound : IsSound a s actors live) where
+module _ (a b : Arena) (s t : Store) (h g : Option Held) (i j : Option ℕ) (k : Kept (world h i a s) (world g j b t)) (actors : Actors) (live : ℕ) (sound : IsManagerSound a s actors live) where
   kept_node : (x : NodeName) → IsNode (arena.forest_of a) x → IsNode (arena.forest_of b) x
   kept_node x is =
       let f = forest_of-IsNode a x is in
@@ -171,7 +171,7 @@ module _ (a b : Arena) (s t : Store) (h g : Option Held) (i j : Option ℕ) (k :
   segment_at cache segment = subst (λ (ts : List (Option Table)). option_map (λ (t : Table). t.segment) (table_at ts cache) ≡ Some (Some segment)) k.nodes.caches
 
   -- each call that keeps nodes and tables keeps what holds of a manager's fields
-  pub kept_sound : AreBound a s.map → IsSound b t actors live
+  pub kept_sound : AreBound a s.map → IsManagerSound b t actors live
   kept_sound was = record {
     nodes = record {
       sound = k.sound;

@@ -31,7 +31,7 @@ use Rattle.regions.specs.declared.region.Place as regions
 use Rattle.contexts.specs.Actors.{Actors, is_full, next_region, with_region}
 use Rattle.contexts.proofs.Owners.{all_insert}
 use Rattle.pvm_core.specs.Maps.{map_refusal}
-use Rattle.pvm_core.specs.Placed.{ArePlaced, AreRight, EachRegion, IsAligned, IsPlaced}
+use Rattle.pvm_core.specs.Placed.{ArePlaced, AreRight, EachRegion, IsAligned, HasItsPages}
 
 -- a cache with so many pages
 pub sized : (o : Option model.Cache) (n : ℕ) → option_map (λ (c : model.Cache). length c.pages) o ≡ Some n → (c : model.Cache) × (o ≡ Some c) × (length c.pages ≡ n)
@@ -131,7 +131,7 @@ module _ (t : Actors) (p : Mapping) where
         row c rs here there aligned low inside apart few = rw (here, there, aligned, low, inside, apart, few) refl
 
   -- its region lies in the cache, and is of whole pages
-  pub next_placed : (sizes : ℕ → Option ℕ) (o : Option model.Actor) (q : Option ℕ) → sizes p.extent.cache.0 ≡ q → IsMappable t o q p → IsPlaced sizes (next_region t p) × IsAligned t.page_bytes (next_region t p)
+  pub next_placed : (sizes : ℕ → Option ℕ) (o : Option model.Actor) (q : Option ℕ) → sizes p.extent.cache.0 ≡ q → IsMappable t o q p → HasItsPages sizes (next_region t p) × IsAligned t.page_bytes (next_region t p)
   next_placed sizes o q size k = (
     record {
       count = k.count;
@@ -170,12 +170,12 @@ module _ (P : model.Region → Type 0) where
 
 module _ (sizes : ℕ → Option ℕ) where
   pub placed_at : (xs : List (Option model.Actor)) (n : ℕ) → All (ArePlaced sizes) xs → ArePlaced sizes (numbered xs n)
-  placed_at = each_at (IsPlaced sizes)
+  placed_at = each_at (HasItsPages sizes)
 
-  pub right_mapped : (t : Actors) (actor : ℕ) (p : Mapping) → IsPlaced sizes (next_region t p) × IsAligned t.page_bytes (next_region t p) → AreRight sizes t → AreRight sizes (with_region t actor p)
+  pub right_mapped : (t : Actors) (actor : ℕ) (p : Mapping) → HasItsPages sizes (next_region t p) × IsAligned t.page_bytes (next_region t p) → AreRight sizes t → AreRight sizes (with_region t actor p)
   right_mapped t actor p r k = record {
     some = k.some;
-    placed = put (IsPlaced sizes) r.0 k.placed;
+    placed = put (HasItsPages sizes) r.0 k.placed;
     aligned = put (IsAligned t.page_bytes) r.1 k.aligned;
   }
     where
@@ -185,14 +185,14 @@ module _ (sizes : ℕ → Option ℕ) where
   pub right_made : (t : Actors) → AreRight sizes t → AreRight sizes (record t { actors = t.actors ++ Some [] ∷ [] })
   right_made t k = record {
     some = k.some;
-    placed = each_more (IsPlaced sizes) t.actors k.placed;
+    placed = each_more (HasItsPages sizes) t.actors k.placed;
     aligned = each_more (IsAligned t.page_bytes) t.actors k.aligned;
   }
 
   pub right_without : (n : ℕ) (t : Actors) → AreRight sizes t → AreRight sizes (record t { actors = map (option_map (without_region n)) t.actors })
   right_without n t k = record {
     some = k.some;
-    placed = each_without (IsPlaced sizes) n t.actors k.placed;
+    placed = each_without (HasItsPages sizes) n t.actors k.placed;
     aligned = each_without (IsAligned t.page_bytes) n t.actors k.aligned;
   }
 
@@ -288,12 +288,12 @@ held_in b address r e = go (nat_le r.start address) (nat_lt address (r.start + b
     go false d p q k = absurd (cc k)
 
 module _ (sizes : ℕ → Option ℕ) (b address : ℕ) where
-  region_there : (rs : model.Actor) (r : model.Region) → All (IsPlaced sizes) rs → region_at b address rs ≡ Some r → (holds b address r ≡ true) × IsPlaced sizes r
+  region_there : (rs : model.Actor) (r : model.Region) → All (HasItsPages sizes) rs → region_at b address rs ≡ Some r → (holds b address r ≡ true) × HasItsPages sizes r
   region_there [] r h e = absurd (cc e)
-  region_there (x ∷ rs) r h e = go (region_there rs r (All-tail (IsPlaced sizes) x rs h)) (holds b address x) refl e
+  region_there (x ∷ rs) r h e = go (region_there rs r (All-tail (HasItsPages sizes) x rs h)) (holds b address x) refl e
     where
-      go : (region_at b address rs ≡ Some r → (holds b address r ≡ true) × IsPlaced sizes r) → (c : Bool) → holds b address x ≡ c → cond c (Some x) (region_at b address rs) ≡ Some r → (holds b address r ≡ true) × IsPlaced sizes r
-      go rest true k f = let same : x ≡ r = cc f in (subst (λ (y : model.Region). holds b address y ≡ true) same k, subst (IsPlaced sizes) same (All-head (IsPlaced sizes) x rs h))
+      go : (region_at b address rs ≡ Some r → (holds b address r ≡ true) × HasItsPages sizes r) → (c : Bool) → holds b address x ≡ c → cond c (Some x) (region_at b address rs) ≡ Some r → (holds b address r ≡ true) × HasItsPages sizes r
+      go rest true k f = let same : x ≡ r = cc f in (subst (λ (y : model.Region). holds b address y ≡ true) same k, subst (HasItsPages sizes) same (All-head (HasItsPages sizes) x rs h))
       go rest false k f = rest f
 
   ahead : (r : model.Region) → 1 ≤ b → r.start ≤ address → address < r.start + b * r.pages → (address - r.start) / b < r.pages

@@ -6,7 +6,7 @@ use Rattle.std.proofs.lemmas.Bool.Decides.{nat_tests}
 use Rattle.std.proofs.lemmas.List.Elements.{All-nil, All-cons, All-head, All-tail}
 use Rattle.vm_model.specs.Answering.{maps_in}
 use Rattle.vm_model.specs.Machine as model
-use Rattle.pvm_core.specs.Placed.{ArePlaced, IsPlaced}
+use Rattle.pvm_core.specs.Placed.{ArePlaced, HasItsPages}
 
 pub neither : (a b : Bool) → (a || b) ≡ false → (a ≡ false) × (b ≡ false)
 neither true b e = absurd (search rules)
@@ -16,14 +16,14 @@ pub other_number : (n k : ℕ) → (k == n) ≡ false → k ≢ n
 other_number n k e same = grind (arith, nat_tests)
 
 module _ (n : ℕ) (f g : ℕ → Option ℕ) (others : (k : ℕ) → k ≢ n → g k ≡ f k) where
-  placed_region : (r : model.Region) → (r.cache == n) ≡ false → IsPlaced f r → IsPlaced g r
+  placed_region : (r : model.Region) → (r.cache == n) ≡ false → HasItsPages f r → HasItsPages g r
   placed_region r apart p = record { count = p.count; there = others r.cache (other_number n r.cache apart) ∙ p.there; within = p.within }
 
-  placed_regions : (rs : model.Actor) → list_any (λ (r : model.Region). r.cache == n) rs ≡ false → All (IsPlaced f) rs → All (IsPlaced g) rs
-  placed_regions [] none p = All-nil (IsPlaced g)
+  placed_regions : (rs : model.Actor) → list_any (λ (r : model.Region). r.cache == n) rs ≡ false → All (HasItsPages f) rs → All (HasItsPages g) rs
+  placed_regions [] none p = All-nil (HasItsPages g)
   placed_regions (r ∷ rs) none p =
       let each = neither (r.cache == n) (list_any (λ (r : model.Region). r.cache == n) rs) none in
-      All-cons (IsPlaced g) r rs (placed_region r each.0 (All-head (IsPlaced f) r rs p)) (placed_regions rs each.1 (All-tail (IsPlaced f) r rs p))
+      All-cons (HasItsPages g) r rs (placed_region r each.0 (All-head (HasItsPages f) r rs p)) (placed_regions rs each.1 (All-tail (HasItsPages f) r rs p))
 
   placed_actor : (a : Option model.Actor) → maps_in n a ≡ false → ArePlaced f a → ArePlaced g a
   placed_actor None none p = tt

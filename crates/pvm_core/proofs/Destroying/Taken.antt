@@ -22,7 +22,7 @@ use Rattle.residency.specs.StoreForest.{store_forest}
 use Rattle.residency.specs.World.{IsStoreRight, world}
 use Rattle.local_cache.specs.Whole.{IsWhole, SameCaches, segment_of, size_of}
 use Rattle.page_release.specs.Steps.{ForAnyMapper, GivesBack, IsStoreTied, StaysRight}
-use Rattle.page_release.proofs.Tying.Tied.{tied_of}
+use Rattle.page_release.proofs.TiedStores.Tied.{tied_of}
 use Rattle.vm_model.specs.Answering.{maps_in, reply}
 use Rattle.vm_model.specs.Machine.{Machine, Page, cache_of, pages_in}
 use Rattle.vm_model.specs.Outcome.{HasWholePages, OutcomeAt, blank, blank_cache}
@@ -32,7 +32,7 @@ use Rattle.vm_model.specs.Laws.{IsFollowed}
 use Rattle.vm_model.proofs.Forests.Following.{destroyed_followed}
 use Rattle.contexts.specs.Actors.{Actors}
 use Rattle.pvm_core.specs.Locks.{AreHeld}
-use Rattle.pvm_core.specs.Manager.{IsSound, IsValid, Manager, cache_shown, caches_shown, forest_of, live_in, machine_by, machine_of}
+use Rattle.pvm_core.specs.Manager.{IsManagerSound, IsValid, Manager, cache_shown, caches_shown, forest_of, live_in, machine_by, machine_of}
 use Rattle.pvm_core.proofs.Answering.Answered.{no_segments}
 use Rattle.pvm_core.proofs.Meaning.Determined.{followed_is}
 use Rattle.pvm_core.proofs.Answering.Kept.{seen}
@@ -47,7 +47,7 @@ use Rattle.pvm_core.proofs.Destroying.Rows.{destroy_row}
 use Rattle.pvm_core.proofs.Destroying.Tables.{gone, left, other_table, without_at}
 use Rattle.pvm_core.proofs.Meaning.Values.{blank_of, followed_of, zeroed, zeroed_whole}
 
-module _ (a b d : Arena) (s u : Store) (t : Actors) (live : ℕ) (cache : CacheId) (n : ℕ) (i : IsSound a s t live) (size : size_of a cache.0 ≡ Some n) (free : list_any (maps_in cache.0) t.actors ≡ false)
+module _ (a b d : Arena) (s u : Store) (t : Actors) (live : ℕ) (cache : CacheId) (n : ℕ) (i : IsManagerSound a s t live) (size : size_of a cache.0 ≡ Some n) (free : list_any (maps_in cache.0) t.actors ≡ false)
     (same : SameCaches a b) (back : ForAnyMapper s a u b GivesBack) (tied : IsStoreTied s a) (is : d ≡ without_cache b cache) (whole : IsWhole d) (bounded : IsBounded (arena.forest_of d)) where
   gives : GivesBack (world None None a s) (world None None b u)
   gives = back None None tied
@@ -77,7 +77,7 @@ module _ (a b d : Arena) (s u : Store) (t : Actors) (live : ℕ) (cache : CacheI
     | inr other ↦ (other, sym (segment_now k other) ∙ e)
   ]
 
-  pub taken_sound : IsListed b → AreHeld b u t.actors → IsSound d u t (live - n)
+  pub taken_sound : IsListed b → AreHeld b u t.actors → IsManagerSound d u t (live - n)
   taken_sound listed held = record {
     nodes = whole;
     apart = λ k j seg e f. i.apart k j seg (left_segment k seg e).1 (left_segment j seg f).1;

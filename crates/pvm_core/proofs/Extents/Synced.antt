@@ -11,8 +11,8 @@ use Rattle.local_cache.specs.Arena.{Arena, Table, node_at, table_of}
 use Rattle.local_cache.specs.Home.{home_named, home_of}
 use Rattle.local_cache.specs.Reading.{name_of}
 use Rattle.local_cache.specs.Whole.{IsWhole, size_of}
-use Rattle.local_cache.proofs.NewCache.Pages.{some_of}
-use Rattle.local_cache.proofs.Whole.Pages.{page_there}
+use Rattle.local_cache.proofs.NewCache.FoundPages.{some_of}
+use Rattle.local_cache.proofs.Whole.LivePages.{page_there}
 use Rattle.residency.specs.declared.store.Store.{Store}
 use Rattle.residency.specs.StoreForest.{store_forest}
 use Rattle.residency.specs.World as worlds

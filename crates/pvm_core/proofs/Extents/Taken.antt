@@ -35,7 +35,7 @@ use Rattle.vm_model.proofs.Parts.Lists.{length-overwrite}
 use Rattle.vm_model.specs.Synchronised.{ArePushed}
 use Rattle.vm_model.proofs.Machines.Sound.{numbered-all}
 use Rattle.contexts.specs.Actors.{Actors}
-use Rattle.pvm_core.specs.Manager.{IsSound, IsValid, Manager, cache_shown, caches_shown, forest_of, machine_by, machine_of, state_at}
+use Rattle.pvm_core.specs.Manager.{IsManagerSound, IsValid, Manager, cache_shown, caches_shown, forest_of, machine_by, machine_of, state_at}
 use Rattle.pvm_core.specs.Reaching.{Reach}
 use Rattle.pvm_core.specs.Saving.{KeepsMachine, is_named}
 use Rattle.pvm_core.proofs.Answering.Answered.{call_is, no_segments}
@@ -60,7 +60,7 @@ use Rattle.local_cache.specs.Reading as arena
 use Rattle.segment_ops.proofs.Unsaved.{unsaved_by}
 use Rattle.pvm_core.proofs.Readiness.Copies.{extent_count, extent_live, forest_copies, saved_most}
 use Rattle.pvm_core.proofs.Meaning.Values.{consistent_of, blank_of, followed_of, zeroed, zeroed_whole}
-use Rattle.page_release.proofs.Tying.Tied.{tied_of}
+use Rattle.page_release.proofs.TiedStores.Tied.{tied_of}
 
 all_overwrite : {A : Type 0} (P : A → Type 0) (at : ℕ) (part whole : List A) → All P part → All P whole → All P (overwrite at part whole)
 all_overwrite P at part whole new old = All-append P _ (drop (at + length part) whole) (All-append P (take at whole) part (All-take P at whole old) new) (All-drop P (at + length part) whole old)
@@ -112,7 +112,7 @@ module _ (p : Manager) (h g : Option Held) (b : Arena) (s : Store) (t : Actors) 
 
 -- From p, over what the mapper held then, pages were saved, which led to the caches b and the store
 -- s and to what the mapper holds now; and then those of the range were taken from their segment.
-module _ (p : Manager) (h g : Option Held) (b d : Arena) (s u : Store) (t : Actors) (live : ℕ) (k : IsSound b s t live) (v : IsValid (seen b s t) g) (e : Extent) (x : IsExtent b e) (unlocked : any_locked b e ≡ false)
+module _ (p : Manager) (h g : Option Held) (b d : Arena) (s u : Store) (t : Actors) (live : ℕ) (k : IsManagerSound b s t live) (v : IsValid (seen b s t) g) (e : Extent) (x : IsExtent b e) (unlocked : any_locked b e ≡ false)
     (machine : machine_of (seen b s t) g ≡ machine_of p h) (by : (f : PageForest) → machine_by (seen b s t) f ≡ machine_by p f) (nodes : IsWhole p.caches) (old : IsValid p h) (saves_done : forest_of (seen b s t) g ≡ saved true (extent_names e) (forest_of p h))
     (same : SameCaches b d) (back : ForAnyMapper s b u d GivesBack) (tied : IsStoreTied s b) (whole : IsWhole d) (right : StaysRight s b u d)
     (rule : ForAnyMapper s b u d (λ old new. store_forest new ≡ settle (replace_pages (held_pages (new_pages old) (extent_names e)) (store_forest old)))) where

@@ -14,7 +14,7 @@ use Rattle.vm_model.specs.Machine.{Actor, Machine, Region, is_locked_page, locks
 use Rattle.vm_model.specs.PageForest.{PageForest}
 use Rattle.pvm_core.specs.Locks.{any_locked, locks_by, locks_over}
 use Rattle.pvm_core.specs.Manager.{Manager, machine_by}
-use Rattle.pvm_core.specs.Placed.{ArePlaced, IsPlaced}
+use Rattle.pvm_core.specs.Placed.{ArePlaced, HasItsPages}
 
 pub some_locked : (n : ℕ) → 1 ≤ n → is_locked n ≡ true
 some_locked zero some = absurd (omega (arith, some))
@@ -76,7 +76,7 @@ or_cases T true b one two e = one refl
 or_cases T false b one two e = two e
 
 module _ (sizes : ℕ → Option ℕ) (cache page : ℕ) where
-  in_region : (r : Region) → IsPlaced sizes r → locks cache page r ≡ true → HasSize sizes cache page
+  in_region : (r : Region) → HasItsPages sizes r → locks cache page r ≡ true → HasSize sizes cache page
   in_region r placed e =
       let both = all_three r.locked (r.cache == cache) (nat_le r.offset page) (nat_lt page (r.offset + r.pages)) e in
       let same_test : (r.cache == cache) ≡ true = both.0 in
@@ -86,9 +86,9 @@ module _ (sizes : ℕ → Option ℕ) (cache page : ℕ) where
       let within = placed.within in
       (placed.count, ap sizes (sym same) ∙ placed.there, omega (arith, low, within))
 
-  in_regions : (rs : Actor) → All (IsPlaced sizes) rs → list_any (locks cache page) rs ≡ true → HasSize sizes cache page
+  in_regions : (rs : Actor) → All (HasItsPages sizes) rs → list_any (locks cache page) rs ≡ true → HasSize sizes cache page
   in_regions [] h e = absurd (cc e)
-  in_regions (r ∷ rs) h e = or_cases (HasSize sizes cache page) (locks cache page r) (list_any (locks cache page) rs) (in_region r (All-head (IsPlaced sizes) r rs h)) (in_regions rs (All-tail (IsPlaced sizes) r rs h)) e
+  in_regions (r ∷ rs) h e = or_cases (HasSize sizes cache page) (locks cache page r) (list_any (locks cache page) rs) (in_region r (All-head (HasItsPages sizes) r rs h)) (in_regions rs (All-tail (HasItsPages sizes) r rs h)) e
 
   in_actor : (o : Option Actor) → ArePlaced sizes o → locks_any cache page o ≡ true → HasSize sizes cache page
   in_actor None h e = absurd (cc e)

@@ -22,7 +22,7 @@ use Rattle.local_cache.specs.Reading.{name_of}
 use Rattle.local_cache.specs.Whole.{IsWhole}
 use Rattle.local_cache.proofs.Forest.Reading.{IsNode-forest_of}
 use Rattle.local_cache.proofs.Names.Homes.{home_none}
-use Rattle.local_cache.proofs.Whole.Pages.{node_page}
+use Rattle.local_cache.proofs.Whole.LivePages.{node_page}
 use Rattle.residency.specs.Pushing as homes
 use Rattle.residency.specs.Pushing.{HasOpenHome, Pages, RoseAtLeast, TellsBy, TellsOn, put_home, put_homes, told_bytes}
 use Rattle.residency.proofs.Pushes.PushedPages.{all_then}

@@ -34,7 +34,7 @@ use Rattle.vm_model.specs.declared.limits.TheConstants.{MOST_MADE, UNLOCKED_FRAM
 use Rattle.contexts.specs.Actors.{Actors, region_count, regions_among}
 use Rattle.pvm_core.specs.Holding.{AreOwned, FailedToHold, HoldsLocked, LocksMore, ReadsAlike, covers, unlocked_in}
 use Rattle.pvm_core.specs.Locks.{AreHeld, locks_by, locks_over}
-use Rattle.pvm_core.specs.Manager.{IsSound, IsValid, Manager, caches_shown, forest_of, machine_by, machine_of, numbered, state_at}
+use Rattle.pvm_core.specs.Manager.{IsManagerSound, IsValid, Manager, caches_shown, forest_of, machine_by, machine_of, numbered, state_at}
 use Rattle.pvm_core.proofs.Answering.Answered.{call_is, no_segments, outcome_at}
 use Rattle.pvm_core.proofs.Answering.Ended.{Ended}
 use Rattle.pvm_core.proofs.Answering.Kept.{seen, sizeless}
@@ -45,7 +45,7 @@ use Rattle.pvm_core.proofs.Locking.Covered.{placed_with}
 use Rattle.pvm_core.proofs.Locking.Ends.{ends_by, ends_machine, ends_reach, ends_sound, ends_valid, held_of}
 use Rattle.pvm_core.proofs.Locking.Totals.{locked_more}
 use Rattle.pvm_core.proofs.Locking.Limit.{limit_is, over_locked, pages_of, right_with_locked, sizes_shown, with_locked}
-use Rattle.pvm_core.proofs.Locking.Pages.{owned_few}
+use Rattle.pvm_core.proofs.Locking.LockedPages.{owned_few}
 use Rattle.pvm_core.proofs.Locking.Rows.{lock_row}
 
 -- How many locks a page has
@@ -61,7 +61,7 @@ over_few cache page (x ∷ xs) = omega (arith, sum_by-cons (locks_by cache page)
 
 -- Where a region is locked
 
-module _ (a b : Arena) (s u : Store) (h g : Option Held) (i j : Option ℕ) (c d : MapperCounts) (alike : ReadsAlike (world h i a s) (world g j b u) c d) (t : Actors) (live : ℕ) (sound : IsSound a s t live) (region : RegionId) (r : Region) (found : region_with region.0 t.actors ≡ Some r) (free : r.locked ≡ false)
+module _ (a b : Arena) (s u : Store) (h g : Option Held) (i j : Option ℕ) (c d : MapperCounts) (alike : ReadsAlike (world h i a s) (world g j b u) c d) (t : Actors) (live : ℕ) (sound : IsManagerSound a s t live) (region : RegionId) (r : Region) (found : region_with region.0 t.actors ≡ Some r) (free : r.locked ≡ false)
     (low : nat_lt (length s.frames.held - UNLOCKED_FRAMES) (locked_count a + unlocked_in a (pages_of r)) ≡ false) where
   abbrev n : ℕ
   n = region.0
@@ -93,7 +93,7 @@ module _ (a b : Arena) (s u : Store) (h g : Option Held) (i j : Option ℕ) (c d
         holds
         (omega (arith, locked_more a b (pages_of r) more, ltb-false (length s.frames.held - UNLOCKED_FRAMES) (locked_count a + unlocked_in a (pages_of r)) low, sound.locked.few, alike.frames))
 
-    lock_sound : IsSound b u (with_locked region.0 true t) live
+    lock_sound : IsManagerSound b u (with_locked region.0 true t) live
     lock_sound = ends_sound a b s u h g i j c d alike t live sound (with_locked region.0 true t) refl (right_with_locked (size_of a) region.0 true r t found sound.actors) held_then
 
     lock_valid : IsValid (seen a s t) h → IsValid (seen b u (with_locked region.0 true t)) g
@@ -126,7 +126,7 @@ module _ (a b : Arena) (s u : Store) (h g : Option Held) (i j : Option ℕ) (c d
     held_still = held_of b u t.actors (λ cache k. failed.locks cache k ∙ sound.locked.counted cache k) holds
         (omega (arith, locked_count_stays a b failed.locks, sound.locked.few, alike.frames))
 
-    fault_sound : IsSound b u t live
+    fault_sound : IsManagerSound b u t live
     fault_sound = ends_sound a b s u h g i j c d alike t live sound t refl sound.actors held_still
 
     fault_valid : IsValid (seen a s t) h → IsValid (seen b u t) g

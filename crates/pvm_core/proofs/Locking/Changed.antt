@@ -24,7 +24,7 @@ use Rattle.local_cache.proofs.Changes.Locked.{locked_cell, locked_forest, locked
 use Rattle.local_cache.proofs.Forest.ReadingBy.{lifted}
 use Rattle.local_cache.proofs.Names.Homes.{home-with_locks}
 use Rattle.local_cache.proofs.Tables.Sizes.{sizes_locked}
-use Rattle.local_cache.proofs.Whole.Pages.{whole_same}
+use Rattle.local_cache.proofs.Whole.LivePages.{whole_same}
 use Rattle.residency.specs.declared.store.Store.{Store}
 use Rattle.residency.specs.StoreForest.{store_forest}
 use Rattle.residency.specs.World.{IsStoreRight, World, frame_page, home_page, is_clean, is_name_granted, own_page, page_at, page_by, world, zero_page}

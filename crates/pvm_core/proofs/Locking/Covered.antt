@@ -12,7 +12,7 @@ use Rattle.local_cache.specs.Arena.{is_locked}
 use Rattle.vm_model.specs.Machine.{Actor, Machine, Region, is_locked_page, locks, locks_any}
 use Rattle.vm_model.specs.Regions.{region_among, region_with, replace_in, replace_region, with_lock}
 use Rattle.pvm_core.specs.Locks.{locks_by, locks_over}
-use Rattle.pvm_core.specs.Placed.{ArePlaced, IsPlaced}
+use Rattle.pvm_core.specs.Placed.{ArePlaced, HasItsPages}
 
 -- Whether a page is locked
 
@@ -112,16 +112,16 @@ covered cache page r e =
 
 -- a page that no cache has is covered by none
 module _ (sizes : ℕ → Option ℕ) (cache page : ℕ) (out : (count : ℕ) → sizes cache ≡ Some count → count ≤ page) where
-  one_out : (r : Region) → IsPlaced sizes r → (b : Bool) → locks cache page r ≡ b → locks cache page r ≡ false
+  one_out : (r : Region) → HasItsPages sizes r → (b : Bool) → locks cache page r ≡ b → locks cache page r ≡ false
   one_out r p false e = e
   one_out r p true e =
       let k = covered cache page r e in
       let there : sizes cache ≡ Some p.count = ap sizes (sym k.same) ∙ p.there in
       absurd (omega (arith, out p.count there, k.past, p.within))
 
-  among_out : (rs : List Region) → All (IsPlaced sizes) rs → count_by (locks cache page) rs ≡ 0
+  among_out : (rs : List Region) → All (HasItsPages sizes) rs → count_by (locks cache page) rs ≡ 0
   among_out [] h = refl
-  among_out (r ∷ rs) h = omega (arith, sum_by-cons (λ y. bit (locks cache page y)) r rs, ap bit (one_out r (All-head (IsPlaced sizes) r rs h) (locks cache page r) refl), among_out rs (All-tail (IsPlaced sizes) r rs h))
+  among_out (r ∷ rs) h = omega (arith, sum_by-cons (λ y. bit (locks cache page y)) r rs, ap bit (one_out r (All-head (HasItsPages sizes) r rs h) (locks cache page r) refl), among_out rs (All-tail (HasItsPages sizes) r rs h))
 
   actor_out : (o : Option Actor) → ArePlaced sizes o → locks_by cache page o ≡ 0
   actor_out None h = refl
@@ -133,19 +133,19 @@ module _ (sizes : ℕ → Option ℕ) (cache page : ℕ) (out : (count : ℕ) �
 
 -- the region with a number lies where it is placed
 module _ (sizes : ℕ → Option ℕ) (n : ℕ) (r : Region) where
-  placed_among : (rs : List Region) → All (IsPlaced sizes) rs → region_among n rs ≡ Some r → IsPlaced sizes r
+  placed_among : (rs : List Region) → All (HasItsPages sizes) rs → region_among n rs ≡ Some r → HasItsPages sizes r
   placed_among [] h e = absurd (cc e)
-  placed_among (x ∷ xs) h e = go (x.number == n) e (λ f. placed_among xs (All-tail (IsPlaced sizes) x xs h) f)
+  placed_among (x ∷ xs) h e = go (x.number == n) e (λ f. placed_among xs (All-tail (HasItsPages sizes) x xs h) f)
     where
-      go : (t : Bool) → cond t (Some x) (region_among n xs) ≡ Some r → (region_among n xs ≡ Some r → IsPlaced sizes r) → IsPlaced sizes r
-      go true e rest = let same : x ≡ r = cc e in subst (IsPlaced sizes) same (All-head (IsPlaced sizes) x xs h)
+      go : (t : Bool) → cond t (Some x) (region_among n xs) ≡ Some r → (region_among n xs ≡ Some r → HasItsPages sizes r) → HasItsPages sizes r
+      go true e rest = let same : x ≡ r = cc e in subst (HasItsPages sizes) same (All-head (HasItsPages sizes) x xs h)
       go false e rest = rest e
 
-  pub placed_with : (xs : List (Option Actor)) → All (ArePlaced sizes) xs → region_with n xs ≡ Some r → IsPlaced sizes r
+  pub placed_with : (xs : List (Option Actor)) → All (ArePlaced sizes) xs → region_with n xs ≡ Some r → HasItsPages sizes r
   placed_with [] h e = absurd (cc e)
   placed_with (None ∷ xs) h e = placed_with xs (All-tail (ArePlaced sizes) None xs h) e
   placed_with (Some rs ∷ xs) h e = go (region_among n rs) refl e (λ f. placed_with xs (All-tail (ArePlaced sizes) (Some rs) xs h) f)
     where
-      go : (o : Option Region) → region_among n rs ≡ o → option_or o (region_with n xs) ≡ Some r → (region_with n xs ≡ Some r → IsPlaced sizes r) → IsPlaced sizes r
+      go : (o : Option Region) → region_among n rs ≡ o → option_or o (region_with n xs) ≡ Some r → (region_with n xs ≡ Some r → HasItsPages sizes r) → HasItsPages sizes r
       go None among e rest = rest e
       go (Some x) among e rest = placed_among rs (All-head (ArePlaced sizes) (Some rs) xs h) (among ∙ e)

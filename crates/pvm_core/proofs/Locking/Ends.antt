@@ -21,7 +21,7 @@ use Rattle.vm_model.specs.PageForest.{PageForest}
 use Rattle.contexts.specs.Actors.{Actors}
 use Rattle.pvm_core.specs.Holding.{HoldsLocked, ReadsAlike}
 use Rattle.pvm_core.specs.Locks.{AreHeld, locks_over}
-use Rattle.pvm_core.specs.Manager.{AreFull, IsSound, IsValid, cache_shown, caches_shown, forest_of, machine_by, machine_of, pages_shown, shown}
+use Rattle.pvm_core.specs.Manager.{AreFull, IsManagerSound, IsValid, cache_shown, caches_shown, forest_of, machine_by, machine_of, pages_shown, shown}
 use Rattle.pvm_core.specs.Placed.{AreRight}
 use Rattle.pvm_core.specs.Reaching.{Reach}
 use Rattle.local_cache.specs.Arena.{locked_count, locks_of}
@@ -61,7 +61,7 @@ held_of a s actors counted holds few = record { counted = counted; resident = ho
 
 -- The manager at the end
 
-module _ (a b : Arena) (s u : Store) (h g : Option Held) (i j : Option ℕ) (c d : MapperCounts) (alike : ReadsAlike (world h i a s) (world g j b u) c d) (t : Actors) (live : ℕ) (sound : IsSound a s t live) where
+module _ (a b : Arena) (s u : Store) (h g : Option Held) (i j : Option ℕ) (c d : MapperCounts) (alike : ReadsAlike (world h i a s) (world g j b u) c d) (t : Actors) (live : ℕ) (sound : IsManagerSound a s t live) where
   -- the machine with the pages of any forest
   pub ends_by : (x : Actors) (f : PageForest) → machine_by (seen b u x) f ≡ machine_with (caches_shown f 1 a.caches) (length s.frames.held) x
   ends_by x f = λ n. record {
@@ -91,7 +91,7 @@ module _ (a b : Arena) (s u : Store) (h g : Option Held) (i j : Option ℕ) (c d
       let f = forest_of-IsNode a x is in
       subst (IsNode (arena.forest_of b)) (alike.names f.0 ∙ f.2) (IsNode-forest_of b alike.whole.sound.kept.named f.0 (alike.held f.0 ∙ f.1))
 
-  pub ends_sound : (x : Actors) → x.page_bytes ≡ t.page_bytes → AreRight (size_of a) x → AreHeld b u x.actors → IsSound b u x live
+  pub ends_sound : (x : Actors) → x.page_bytes ≡ t.page_bytes → AreRight (size_of a) x → AreHeld b u x.actors → IsManagerSound b u x live
   ends_sound x page right held = record {
     nodes = alike.whole;
     apart = apart_same a b alike.same.segments sound.apart;

@@ -27,8 +27,8 @@ use Rattle.vm_model.proofs.Parts.Lists.{at_number}
 use Rattle.contexts.specs.Actors.{Actors}
 use Rattle.pvm_core.specs.Holding.{HoldsLocked, KeepsPages, LocksMore, ReadsAlike}
 use Rattle.pvm_core.specs.Locks.{AreHeld, locks_over}
-use Rattle.pvm_core.specs.Manager.{IsSound, IsValid, caches_shown, forest_of, machine_of, numbered, state_at}
-use Rattle.pvm_core.specs.Placed.{ArePlaced, AreRight, IsPlaced}
+use Rattle.pvm_core.specs.Manager.{IsManagerSound, IsValid, caches_shown, forest_of, machine_of, numbered, state_at}
+use Rattle.pvm_core.specs.Placed.{ArePlaced, AreRight, HasItsPages}
 use Rattle.pvm_core.proofs.Answering.Answered.{answered}
 use Rattle.pvm_core.proofs.Answering.Kept.{seen}
 use Rattle.pvm_core.proofs.Answering.Listed.{machine_with}
@@ -40,7 +40,7 @@ use Rattle.pvm_core.proofs.Locking.Extents.{covers_yes}
 use Rattle.pvm_core.proofs.Locking.Totals.{locked_fewer}
 use Rattle.pvm_core.proofs.Locking.Regions.{all_at}
 use Rattle.pvm_core.proofs.Locking.Limit.{over_unlocked, pages_of, with_locked}
-use Rattle.pvm_core.proofs.Locking.Pages.{store_copies}
+use Rattle.pvm_core.proofs.Locking.LockedPages.{store_copies}
 
 -- The locks of a region that is unlocked
 pub unlocked_counts : (a b : Arena) (t : Actors) (n : ℕ) (r : Region) → region_with n t.actors ≡ Some r → r.locked ≡ true → ((cache page : ℕ) → locks_of a cache page ≡ locks_over t.actors cache page) → LocksMore (pages_of r) b a
@@ -71,7 +71,7 @@ actor_locks a t actor rs here counted cache page =
     omega (arith, one, counted cache page)
 
 -- the regions of an actor lie in their caches
-pub actor_placed : (sizes : ℕ → Option ℕ) (t : Actors) (actor : ℕ) (rs : model.Actor) → model.numbered t.actors actor ≡ Some rs → AreRight sizes t → All (IsPlaced sizes) rs
+pub actor_placed : (sizes : ℕ → Option ℕ) (t : Actors) (actor : ℕ) (rs : model.Actor) → model.numbered t.actors actor ≡ Some rs → AreRight sizes t → All (HasItsPages sizes) rs
 actor_placed sizes t actor rs here right = all_at (ArePlaced sizes) t.actors (actor - 1) (Some rs) right.placed (at_number t.actors actor rs here)
 
 -- Locks were let go, of a region or of an actor: the pages stay, and these are the locks of the
@@ -79,7 +79,7 @@ actor_placed sizes t actor rs here right = all_at (ArePlaced sizes) t.actors (ac
 pub record IsGone (a b : Arena) (s u : Store) (t x : Actors) (live : ℕ) : Type 0 where
   pub pages : KeepsPages a b s u
   pub holds : HoldsLocked b u
-  pub sound : IsSound a s t live
+  pub sound : IsManagerSound a s t live
   pub page : x.page_bytes ≡ t.page_bytes
   pub right : AreRight (size_of a) x
   pub counted : (cache page : ℕ) → locks_of b cache page ≡ locks_over x.actors cache page
@@ -92,7 +92,7 @@ module _ {a b : Arena} {s u : Store} {t x : Actors} {live : ℕ} (gone : IsGone 
   held : AreHeld b u x.actors
   held = held_of b u x.actors gone.counted gone.holds (omega (arith, locked_fewer a b gone.low, gone.sound.locked.few, alike.frames))
 
-  pub gone_sound : IsSound b u x live
+  pub gone_sound : IsManagerSound b u x live
   gone_sound = ends_sound a b s u h h None None no_counts no_counts alike t live gone.sound x gone.page gone.right held
 
   pub gone_valid : IsValid (seen b u x) h

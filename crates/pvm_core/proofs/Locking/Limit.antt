@@ -18,7 +18,7 @@ use Rattle.contexts.specs.Actors.{Actors}
 use Rattle.pvm_core.specs.Holding.{LocksMore, covers, unlocked_in}
 use Rattle.pvm_core.specs.Locks.{locks_over}
 use Rattle.pvm_core.specs.Manager.{caches_shown}
-use Rattle.pvm_core.specs.Placed.{ArePlaced, AreRight, IsAligned, IsPlaced}
+use Rattle.pvm_core.specs.Placed.{ArePlaced, AreRight, IsAligned, HasItsPages}
 use Rattle.pvm_core.proofs.Answering.Listed.{machine_with}
 use Rattle.pvm_core.proofs.Locking.Counted.{count_at, pages_counted}
 use Rattle.pvm_core.proofs.Locking.Covered.{as_locked, over_out, replaced_over}
@@ -105,7 +105,7 @@ with_locked n b t = record t { actors = replace_in n (with_lock b) t.actors }
 pub right_with_locked : (sizes : ℕ → Option ℕ) (n : ℕ) (b : Bool) (r : Region) (t : Actors) → region_with n t.actors ≡ Some r → AreRight sizes t → AreRight sizes (with_locked n b t)
 right_with_locked sizes n b r t found k =
     replaced_right sizes n (with_lock b) r t found
-    (λ p. All-cons (IsPlaced sizes) (as_locked b r) [] (record { count = p.count; there = p.there; within = p.within }) (All-nil (IsPlaced sizes)))
+    (λ p. All-cons (HasItsPages sizes) (as_locked b r) [] (record { count = p.count; there = p.there; within = p.within }) (All-nil (HasItsPages sizes)))
     (λ p. All-cons (IsAligned t.page_bytes) (as_locked b r) [] p (All-nil (IsAligned t.page_bytes))) k
 
 -- what a region covers

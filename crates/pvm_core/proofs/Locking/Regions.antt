@@ -12,7 +12,7 @@ use Rattle.local_cache.specs.Arena.{Arena, locks_of}
 use Rattle.local_cache.specs.Whole.{SameCaches, size_of}
 use Rattle.segment_ops.specs.Ranges.{HasRange, IsPageOf}
 use Rattle.pvm_core.specs.Holding.{LocksMore, covers}
-use Rattle.pvm_core.specs.Placed.{IsPlaced}
+use Rattle.pvm_core.specs.Placed.{HasItsPages}
 use Rattle.pvm_core.proofs.Locking.Extents.{covers_yes}
 use Rattle.pvm_core.proofs.Locking.Limit.{pages_of}
 
@@ -62,7 +62,7 @@ pub unlocked_covers : (cache page : ℕ) (r : Region) → r.locked ≡ false →
 unlocked_covers cache page r e = ap (λ b. b && r.cache == cache && nat_le r.offset page && nat_lt page (r.offset + r.pages)) e
 
 -- it lies in its cache
-pub placed_range : (a b : Arena) (r : Region) → SameCaches a b → IsPlaced (size_of a) r → HasRange b (pages_of r)
+pub placed_range : (a b : Arena) (r : Region) → SameCaches a b → HasItsPages (size_of a) r → HasRange b (pages_of r)
 placed_range a b r same p = record { pages = p.count; size = same.sizes r.cache ∙ p.there; within = p.within }
 
 module _ (a b d : Arena) (rs : Actor) (i : ℕ) (r : Region) (here : slice_get rs i ≡ Some r) (before : (cache page : ℕ) → locks_of a cache page ≡ locks_of b cache page + count_by (locks cache page) (take i rs)) where

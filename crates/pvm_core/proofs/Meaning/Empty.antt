@@ -24,7 +24,7 @@ use Rattle.residency.specs.declared.store.Store.{Store}
 use Rattle.residency.specs.StoreForest.{store_forest}
 use Rattle.residency.specs.World.{HasNoNodes, own_page, world}
 use Rattle.local_cache.specs.Whole.{size_of}
-use Rattle.local_cache.proofs.Whole.Pages.{no_caches, no_nodes}
+use Rattle.local_cache.proofs.Whole.LivePages.{no_caches, no_nodes}
 use Rattle.vm_model.specs.Outcome.{IsWhole}
 use Rattle.contexts.specs.Actors.{Actors}
 use Rattle.pvm_core.specs.Locks.{has_locked, locks_over}

@@ -14,7 +14,7 @@ use Rattle.local_cache.specs.declared.own_state.OwnState.{OwnState}
 use Rattle.local_cache.specs.declared.own_state.OwnState.TheVariants.{Absent, Zero, Resident, Slot, OnSegment}
 use Rattle.local_cache.specs.Arena.{Arena, HasNode, with_own}
 use Rattle.local_cache.specs.Own.{is_in_slot, is_resident, own_of, own_states}
-use Rattle.local_cache.specs.Reading.{IsNamed, forest_of as nodes}
+use Rattle.local_cache.specs.Reading.{AreNamesApart, forest_of as nodes}
 use Rattle.local_cache.specs.ReadingBy.{forest_by}
 use Rattle.local_cache.proofs.Nodes.Count.{states_most}
 use Rattle.local_cache.proofs.Nodes.OwnStates.{id_apart, id_cases, own_count, own_held, own_other, own_same}
@@ -82,7 +82,7 @@ places_most [] = omega arith
 places_most (x ∷ xs) = omega (arith, count_cons is_resident x xs, count_cons is_in_slot x xs, one_place x, places_most xs)
 
 -- where the working nodes are bounded, few pages are in frames and slots
-pub few_kept : (p : Manager) → HoldsEachOnce p → length p.store.map ≡ length p.store.frames.held → count_by (λ h. h) p.store.slots ≡ count_by is_in_slot (own_states p.caches) → IsNamed p.caches → IsBounded (nodes p.caches) → KeepsFewPages p
+pub few_kept : (p : Manager) → HoldsEachOnce p → length p.store.map ≡ length p.store.frames.held → count_by (λ h. h) p.store.slots ≡ count_by is_in_slot (own_states p.caches) → AreNamesApart p.caches → IsBounded (nodes p.caches) → KeepsFewPages p
 few_kept p once same slots named bounded =
     let frames = held_most p.store.frames.held p.store.map same (λ f held. sym (once.held f) ∙ held) in
     let kept : pages_kept p ≤ length (own_states p.caches) = omega (arith, frames, bound_most p.store.map p.caches once.bound, slots, places_most (own_states p.caches)) in

@@ -21,11 +21,11 @@ use Rattle.local_cache.specs.Arena.{Arena, Table, page_count}
 use Rattle.local_cache.specs.Own.{own_states}
 use Rattle.local_cache.specs.Reading.{forest_of}
 use Rattle.local_cache.specs.Whole.{IsWhole, size_of}
-use Rattle.local_cache.proofs.Whole.Pages.{node_page}
-use Rattle.page_release.proofs.Tying.Sized.{states_bound}
+use Rattle.local_cache.proofs.Whole.LivePages.{node_page}
+use Rattle.page_release.proofs.TiedStores.Sized.{states_bound}
 use Rattle.residency.specs.declared.store.Store.{Store}
 use Rattle.contexts.specs.Actors.{Actors}
-use Rattle.pvm_core.specs.Manager.{IsSound, live_in}
+use Rattle.pvm_core.specs.Manager.{IsManagerSound, live_in}
 use Rattle.pvm_core.proofs.Meaning.Shown.{id_of}
 
 abbrev names_in : ℕ → List (Option Table) → List NodeName
@@ -80,5 +80,5 @@ live_most a w =
 pub states_live : (a : Arena) → IsWhole a → IsBounded (forest_of a) → length (own_states a) ≤ 2 * live_in a
 states_live a w b = omega (arith, states_bound a w.sound.kept.named b, live_most a w)
 
-pub nodes_most : {a : Arena} {s : Store} {t : Actors} {live : ℕ} → IsSound a s t live → length (own_states a) ≤ 2 * live
+pub nodes_most : {a : Arena} {s : Store} {t : Actors} {live : ℕ} → IsManagerSound a s t live → length (own_states a) ≤ 2 * live
 nodes_most {a} i = omega (arith, states_live a i.nodes i.bounded, i.counted)

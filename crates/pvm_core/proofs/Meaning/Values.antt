@@ -36,7 +36,7 @@ use Rattle.residency.specs.World.{World, frame_page, own_page, page_at, page_by,
 use Rattle.residency.proofs.Forests.WrittenForest.{store_made}
 use Rattle.fault_path.proofs.Calls.Kept.{store_bare, store_page, store_shaped}
 use Rattle.local_cache.specs.Whole.{IsWhole, size_of}
-use Rattle.local_cache.proofs.Whole.Pages.{no_node}
+use Rattle.local_cache.proofs.Whole.LivePages.{no_node}
 use Rattle.vm_model.specs.Machine.{Cache, Machine, Page, cache_of}
 use Rattle.vm_model.specs.Outcome as outcome
 use Rattle.vm_model.specs.Outcome.{HasWholePages, blank}

@@ -20,7 +20,7 @@ use Rattle.residency.proofs.NewCaches.Made.{made_right}
 use Rattle.local_cache.specs.Whole.{SameCaches, segment_of, size_of}
 use Rattle.local_cache.proofs.NewCache.Whole.{pages_with, whole_begun}
 use Rattle.local_cache.proofs.Tables.Sizes.{sizes_same}
-use Rattle.local_cache.proofs.Whole.Pages.{whole_same}
+use Rattle.local_cache.proofs.Whole.LivePages.{whole_same}
 use Rattle.vm_ids.specs.Forest.Commands.{make}
 use Rattle.vm_ids.specs.Forest.Shape.{IsBounded}
 use Rattle.vm_ids.proofs.Forest.Laws.Commands.{make_keeps_bound}
@@ -30,8 +30,8 @@ use Rattle.vm_model.specs.PageForest.{PageForest}
 use Rattle.contexts.specs.Actors.{Actors}
 use Rattle.pvm_core.proofs.Homes.Full.{full_same}
 use Rattle.pvm_core.proofs.Homes.Sized.{apart_same, sized_same}
-use Rattle.pvm_core.specs.Placed.{ArePlaced, AreRight, IsPlaced}
-use Rattle.pvm_core.specs.Manager.{AreFull, AreSized, IsSound, IsValid, caches_shown, forest_of, live_in, machine_by, machine_of}
+use Rattle.pvm_core.specs.Placed.{ArePlaced, AreRight, HasItsPages}
+use Rattle.pvm_core.specs.Manager.{AreFull, AreSized, IsManagerSound, IsValid, caches_shown, forest_of, live_in, machine_by, machine_of}
 use Rattle.local_cache.proofs.Nodes.Count.{forest_len}
 use Rattle.pvm_core.proofs.Answering.Kept.{seen}
 use Rattle.pvm_core.proofs.Holding.Made.{held_by_cells, held_by_store, held_made}
@@ -65,7 +65,7 @@ room_right w r right = record {
 }
 
 module _ (a b : Arena) (s u : Store) (t : Actors) (live : ℕ) (room : b ≡ record a { room = b.room }) (slots : u ≡ record s { slots = u.slots }) (more : (k : ℕ) × (u.slots ≡ s.slots ++ replicate k false)) (no_less : a.room.nodes ≤ b.room.nodes)
-    (forest : arena.forest_of b ≡ arena.forest_of a) (sound : arena_sound.IsSound b) (i : IsSound a s t live) where
+    (forest : arena.forest_of b ≡ arena.forest_of a) (sound : arena_sound.IsSound b) (i : IsManagerSound a s t live) where
   tables : b.caches ≡ a.caches
   tables = ap (λ k. k.caches) room
 
@@ -73,7 +73,7 @@ module _ (a b : Arena) (s u : Store) (t : Actors) (live : ℕ) (room : b ≡ rec
   same = sizes_same a b tables
 
   -- the manager with more room
-  pub roomy_sound : IsSound b u t live
+  pub roomy_sound : IsManagerSound b u t live
   roomy_sound = record {
     nodes = whole_same a b i.nodes sound forest same;
     apart = apart_same a b same.segments i.apart;
@@ -121,12 +121,12 @@ module _ (a b : Arena) (s u : Store) (t : Actors) (live : ℕ) (room : b ≡ rec
 
 -- Regions stay placed where a cache is added
 
-placed_more : (f g : ℕ → Option ℕ) → ((n k : ℕ) → f n ≡ Some k → g n ≡ Some k) → (r : Region) → IsPlaced f r → IsPlaced g r
+placed_more : (f g : ℕ → Option ℕ) → ((n k : ℕ) → f n ≡ Some k → g n ≡ Some k) → (r : Region) → HasItsPages f r → HasItsPages g r
 placed_more f g up r p = record { count = p.count; there = up r.cache p.count p.there; within = p.within }
 
 actor_more : (f g : ℕ → Option ℕ) → ((n k : ℕ) → f n ≡ Some k → g n ≡ Some k) → (a : Option Actor) → ArePlaced f a → ArePlaced g a
 actor_more f g up None p = tt
-actor_more f g up (Some rs) p = All-weaker (IsPlaced f) (IsPlaced g) (placed_more f g up) rs p
+actor_more f g up (Some rs) p = All-weaker (HasItsPages f) (HasItsPages g) (placed_more f g up) rs p
 
 pub right_with : (f g : ℕ → Option ℕ) → ((n k : ℕ) → f n ≡ Some k → g n ≡ Some k) → (t : Actors) → AreRight f t → AreRight g t
 right_with f g up t r = record { some = r.some; placed = All-weaker (ArePlaced f) (ArePlaced g) (actor_more f g up) t.actors r.placed; aligned = r.aligned }
@@ -164,7 +164,7 @@ some_size (Some t) s e = (length t.pages, refl)
 -- A cache more
 
 module _ (b d : Arena) (u : Store) (t : Actors) (live n : ℕ) (cache : CacheId) (nodes : List NodeId) (size : length nodes ≡ n) (made : IsMade b d cache None Zero nodes) (forest : arena.forest_of d ≡ make (pages_with Zero cache n) (arena.forest_of b)) (sound : arena_sound.IsSound d) (stays : CellsStay b d)
-    (i : IsSound b u t live) (few : live + n ≤ Rattle.vm_model.specs.declared.limits.TheConstants.LIVE_PAGES) (room : 2 * (live + n) ≤ b.room.nodes) (slots : 2 * (live + n) ≤ length u.slots) where
+    (i : IsManagerSound b u t live) (few : live + n ≤ Rattle.vm_model.specs.declared.limits.TheConstants.LIVE_PAGES) (room : 2 * (live + n) ≤ b.room.nodes) (slots : 2 * (live + n) ≤ length u.slots) where
   abbrev table : Table
   table = new_table None nodes
 
@@ -182,7 +182,7 @@ module _ (b d : Arena) (u : Store) (t : Actors) (live n : ℕ) (cache : CacheId)
   begun_full None full c s e = tt
   begun_full (Some h) full c s e = full c s (named_there c s e)
 
-  pub begun_sound : IsSound d u t (live + n)
+  pub begun_sound : IsManagerSound d u t (live + n)
   begun_sound = record {
     nodes = whole_begun b d i.nodes cache n None Zero nodes size made forest sound (omega (arith, forest_len b, nodes_most i, few));
     apart = λ one two s e q. i.apart one two s (named_there one s e) (named_there two s q);

@@ -32,7 +32,7 @@ use Rattle.pvm_core.proofs.Meaning.Shown.{shown_live, shown_made}
 use Rattle.pvm_core.proofs.Meaning.Values.{blank_of, zeroed, zeroed_whole}
 use Rattle.local_cache.proofs.NewCache.Whole.{pages_with}
 use Rattle.local_cache.specs.Whole as whole
-use Rattle.local_cache.proofs.Whole.Pages.{node_page}
+use Rattle.local_cache.proofs.Whole.LivePages.{node_page}
 use Rattle.local_cache.specs.Reading as arena
 use Rattle.vm_ids.specs.declared.node_name.NodeName.{NodeName}
 use Rattle.vm_ids.specs.Forest.NameLists.{◌∈◌, Once}

@@ -26,7 +26,7 @@ use Rattle.residency.proofs.NewCaches.MadeNamed.{opened_right, own_new, own_old}
 use Rattle.vm_model.specs.declared.limits.TheConstants.{LIVE_PAGES, MOST_MADE}
 use Rattle.vm_model.specs.Run.{AnswerIs}
 use Rattle.contexts.specs.Actors.{Actors}
-use Rattle.pvm_core.specs.Manager.{IsSound, IsValid, forest_of, state_at}
+use Rattle.pvm_core.specs.Manager.{IsManagerSound, IsValid, forest_of, state_at}
 use Rattle.pvm_core.specs.Opening.{ArePagesOf, HasSegment, IsOpened}
 use Rattle.pvm_core.proofs.Answering.Kept.{seen}
 use Rattle.pvm_core.proofs.Meaning.Live.{nodes_most}
@@ -36,8 +36,8 @@ use Rattle.pvm_core.proofs.Opening.Sound.{opened_full, opened_sized, opened_soun
 use Rattle.pvm_core.proofs.Meaning.Values.{followed_of}
 
 module _ (b d : Arena) (u : Store) (t : Actors) (live n : ℕ) (cache : CacheId) (seg : SegId) (nodes : List NodeId) (size : length nodes ≡ n) (made : IsMade b d cache (Some seg) OnSegment nodes) (pages : HasPages d cache n OnSegment) (stays : CellsStay b d)
-    (forest : arena.forest_of d ≡ make (pages_with OnSegment cache n) (arena.forest_of b)) (sound : arena_sound.IsSound d) (i : IsSound b u t live) (free : IsOpened b seg → ⊥) (few : live + n ≤ LIVE_PAGES) (slots : 2 * (live + n) ≤ length u.slots) where
-  pub named_sound : IsSound d u t (live + n)
+    (forest : arena.forest_of d ≡ make (pages_with OnSegment cache n) (arena.forest_of b)) (sound : arena_sound.IsSound d) (i : IsManagerSound b u t live) (free : IsOpened b seg → ⊥) (few : live + n ≤ LIVE_PAGES) (slots : 2 * (live + n) ≤ length u.slots) where
+  pub named_sound : IsManagerSound d u t (live + n)
   named_sound = opened_sound b d u t live n cache seg nodes size made forest sound stays i free few slots
 
   fresh_page : (x : NodeName) → x ∈ page_names cache 0 n → IsNode (arena.forest_of b) x → ⊥

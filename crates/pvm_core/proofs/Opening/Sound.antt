@@ -22,7 +22,7 @@ use Rattle.local_cache.proofs.Nodes.Count.{forest_len}
 use Rattle.residency.specs.declared.store.Store.{Store}
 use Rattle.vm_model.specs.declared.limits.TheConstants.{LIVE_PAGES}
 use Rattle.contexts.specs.Actors.{Actors}
-use Rattle.pvm_core.specs.Manager.{AreFull, AreSized, IsSound, live_in}
+use Rattle.pvm_core.specs.Manager.{AreFull, AreSized, IsManagerSound, live_in}
 use Rattle.pvm_core.specs.Opening.{ArePagesOf, HasSegment, IsOpened}
 use Rattle.pvm_core.specs.Placed.{AreRight}
 use Rattle.pvm_core.proofs.NewCaches.Begun.{right_with, size_more}
@@ -52,7 +52,7 @@ some_size None s e = absurd (cc e)
 some_size (Some t) s e = (length t.pages, refl)
 
 module _ (b d : Arena) (u : Store) (t : Actors) (live n : ℕ) (cache : CacheId) (seg : SegId) (nodes : List NodeId) (size : length nodes ≡ n) (made : IsMade b d cache (Some seg) OnSegment nodes) (forest : arena.forest_of d ≡ make (pages_with OnSegment cache n) (arena.forest_of b)) (sound : arena_sound.IsSound d) (stays : CellsStay b d)
-    (i : IsSound b u t live) (free : IsOpened b seg → ⊥) (few : live + n ≤ LIVE_PAGES) (slots : 2 * (live + n) ≤ length u.slots) where
+    (i : IsManagerSound b u t live) (free : IsOpened b seg → ⊥) (few : live + n ≤ LIVE_PAGES) (slots : 2 * (live + n) ≤ length u.slots) where
   abbrev table : Table
   table = new_table (Some seg) nodes
 
@@ -78,7 +78,7 @@ module _ (b d : Arena) (u : Store) (t : Actors) (live n : ℕ) (cache : CacheId)
       size_now cache.0 ∙ ap (λ (c : ℕ). option_map (λ (t : Table). length t.pages) (table_at (b.caches ++ Some (new_table (Some seg) nodes) ∷ []) c)) number
       ∙ ap (option_map (λ (t : Table). length t.pages)) (at_end b.caches (new_table (Some seg) nodes)) ∙ ap Some (length-map nodes entry_for ∙ size)
 
-  pub opened_sound : IsSound d u t (live + n)
+  pub opened_sound : IsManagerSound d u t (live + n)
   opened_sound =
       let count : _ = omega (arith, forest_len b, nodes_most i, few) in
       record {

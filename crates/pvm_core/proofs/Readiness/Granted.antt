@@ -26,7 +26,7 @@ use Rattle.vm_model.specs.Machine.{Machine}
 use Rattle.vm_model.specs.Outcome.{HasWholePages}
 use Rattle.vm_model.specs.PageForest.{PageForest}
 use Rattle.contexts.specs.Actors.{Actors}
-use Rattle.pvm_core.specs.Manager.{AreFull, AreSized, IsSound, IsValid, cache_shown, caches_shown, forest_of, machine_by, machine_of, pages_shown, state_at}
+use Rattle.pvm_core.specs.Manager.{AreFull, AreSized, IsManagerSound, IsValid, cache_shown, caches_shown, forest_of, machine_by, machine_of, pages_shown, state_at}
 use Rattle.pvm_core.specs.Writes.{GrantsWithin, KeepsNodes, OnlyAsked, SameGrants, asked_end}
 use Rattle.vm_port.specs.declared.traits.mapper.Mapper.{Ghosts}
 use Rattle.segment_ops.proofs.Granting.{granted_locks}
@@ -109,8 +109,8 @@ shown_same f first (t ∷ ts) [] count sizes segments = absurd (omega (arith, co
 
 -- The manager
 
-module _ (a b : Arena) (s : Store) (t : Actors) (live : ℕ) (stays : KeepsNodes a b) (i : IsSound a s t live) where
-  pub granted_sound : IsSound b s t live
+module _ (a b : Arena) (s : Store) (t : Actors) (live : ℕ) (stays : KeepsNodes a b) (i : IsManagerSound a s t live) where
+  pub granted_sound : IsManagerSound b s t live
   granted_sound = record {
     nodes = stays.whole;
     apart = apart_same a b stays.same.segments i.apart;

@@ -16,7 +16,7 @@ use Rattle.local_cache.specs.Arena.{Arena, Table, table_at, table_of}
 use Rattle.local_cache.specs.Home.{home_named}
 use Rattle.local_cache.specs.Whole.{IsWhole, SameCaches}
 use Rattle.local_cache.proofs.Tables.Sizes.{sizes_then}
-use Rattle.page_release.specs.Homes.{AreSaved}
+use Rattle.page_release.specs.Homes.{AreAllSaved}
 use Rattle.segment_ops.specs.Access.{GrantsBefore}
 use Rattle.segment_ops.proofs.Unsaved.{unsaved_by}
 use Rattle.vm_model.specs.Machine.{Machine}
@@ -54,7 +54,7 @@ pub writable_same : (a b : Arena) (range : Extent) → b.caches ≡ a.caches →
 writable_same a b range e w page of = subst (λ (ts : List (Option Table)). IsSome (home_named ts (page_name range.cache page)) → unwrap_or (option_and_then (λ (t : Table). slice_get t.grants page) (table_at ts range.cache.0)) false ≡ true) (sym e) (w page of)
 
 -- behind the saves no page of the range has an own page and an heir
-pub saved_all : (q : Manager) (g : Option Held) (range : Extent) (f : PageForest) → IsWhole q.caches → IsConsistent f → (named : Bool) → is_named q.caches range.cache.0 ≡ named → forest_of q g ≡ saved named (extent_names range) f → AreSaved q.caches range.cache (extent_names range)
+pub saved_all : (q : Manager) (g : Option Held) (range : Extent) (f : PageForest) → IsWhole q.caches → IsConsistent f → (named : Bool) → is_named q.caches range.cache.0 ≡ named → forest_of q g ≡ saved named (extent_names range) f → AreAllSaved q.caches range.cache (extent_names range)
 saved_all q g range f whole shaped true e forest named x i =
     sym (unsaved_by (world_of q g) whole.sound x) ∙ ap (λ k. is_unsaved k x) forest ∙ save_range_ends (extent_names range) f shaped.shaped x i
 saved_all q g range f whole shaped false e forest named x i = absurd (let k : true ≡ false = sym named ∙ e in cc k)

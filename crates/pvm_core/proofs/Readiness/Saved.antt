@@ -20,7 +20,7 @@ use Rattle.vm_model.specs.Machine.{Machine}
 use Rattle.vm_model.specs.Outcome.{HasWholePages}
 use Rattle.vm_model.proofs.Forests.Following.{saves_followed}
 use Rattle.contexts.specs.Actors.{Actors}
-use Rattle.pvm_core.specs.Manager.{IsSound, IsValid, caches_shown, forest_of, machine_of}
+use Rattle.pvm_core.specs.Manager.{IsManagerSound, IsValid, caches_shown, forest_of, machine_of}
 use Rattle.pvm_core.specs.Reaching.{Reach}
 use Rattle.pvm_core.specs.Saving.{KeepsMachine}
 use Rattle.pvm_core.proofs.Meaning.Determined.{IsShaped, followed_is}
@@ -48,7 +48,7 @@ pub saves_done : (w v : World) (xs : List NodeName) (r : Result (Unit {0}) ℕ) 
 saves_done w v xs (Ok x) all some = (len (store_forest w).nodes, all ∙ range_saves xs (store_forest w))
 saves_done w v xs (Err done) all some = (done, some.forest)
 
-module _ (a b : Arena) (s u : Store) (h g : Option Held) (i j : Option ℕ) (k : Kept (world h i a s) (world g j b u)) (t : Actors) (live : ℕ) (sound : IsSound a s t live) (v : IsValid (seen a s t) h) (n : ℕ) (xs : List NodeName)
+module _ (a b : Arena) (s u : Store) (h g : Option Held) (i j : Option ℕ) (k : Kept (world h i a s) (world g j b u)) (t : Actors) (live : ℕ) (sound : IsManagerSound a s t live) (v : IsValid (seen a s t) h) (n : ℕ) (xs : List NodeName)
     (forest : store_forest (world g j b u) ≡ saves n xs (store_forest (world h i a s))) where
   pub saved_forest : forest_of (seen b u t) g ≡ saves n xs (forest_of (seen a s t) h)
   saved_forest = sym (sizeless g j b u) ∙ forest ∙ ap (saves n xs) (sizeless h i a s)

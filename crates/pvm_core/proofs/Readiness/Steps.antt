@@ -15,7 +15,7 @@ use Rattle.residency.proofs.Forests.WrittenForest.{store_copies}
 use Rattle.contexts.specs.Actors.{Actors}
 use Rattle.pvm_core.specs.Writes.{KeepsNodes}
 use Rattle.segment_ops.specs.Keeping.{StaysWhole}
-use Rattle.pvm_core.specs.Manager.{IsSound, IsValid, Manager, machine_of, world_of}
+use Rattle.pvm_core.specs.Manager.{IsManagerSound, IsValid, Manager, machine_of, world_of}
 use Rattle.pvm_core.specs.Saving.{KeepsForest, KeepsMachine}
 use Rattle.pvm_core.proofs.Answering.Kept.{seen}
 use Rattle.pvm_core.proofs.Answering.Reaching.{reach_none, reach_quiet}
@@ -28,13 +28,13 @@ use Rattle.pvm_core.proofs.Spanning.Reserved.{reserved}
 -- the manager with these caches, this store and these actors is sound and valid, and keeps what p
 -- stands for
 pub record Keeps (p : Manager) (b : Arena) (u : Store) (t : Actors) (live : ℕ) (h g : Option Held) (c d : MapperCounts) : Type 0 where
-  pub sound : IsSound b u t live
+  pub sound : IsManagerSound b u t live
   pub valid : IsValid (seen b u t) g
   pub machine : KeepsMachine p (seen b u t) h g c d
   pub forest : KeepsForest p (seen b u t) h g
 
 -- some pages were granted, and the mapper may have been asked
-pub keeps_granted : (a b : Arena) (s : Store) (t : Actors) (live : ℕ) (h g : Option Held) (i j : Option ℕ) (c d : MapperCounts) → IsSound a s t live → KeepsNodes a b → g ≡ h → store_forest (world g j b s) ≡ store_forest (world h i a s) → IsStoreRight (world g j b s) → Later c d
+pub keeps_granted : (a b : Arena) (s : Store) (t : Actors) (live : ℕ) (h g : Option Held) (i j : Option ℕ) (c d : MapperCounts) → IsManagerSound a s t live → KeepsNodes a b → g ≡ h → store_forest (world g j b s) ≡ store_forest (world h i a s) → IsStoreRight (world g j b s) → Later c d
     → IsValid (seen a s t) h → Keeps (seen a s t) b s t live h g c d
 keeps_granted a b s t live h g i j c d sound nodes held forest right later valid = record {
   sound = granted_sound a b s t live nodes sound;
@@ -68,7 +68,7 @@ keeps_reserved p a b s t live h g c d k kept no_less forest sound =
     }
 
 -- pages of a range were pushed
-module _ (a b : Arena) (s u : Store) (h g : Option Held) (i j : Option ℕ) (t : Actors) (live : ℕ) (sound : IsSound a s t live) (c d : MapperCounts) (stays : StaysWhole (world h i a s) (world g j b u) c d) (forest : store_forest (world g j b u) ≡ store_forest (world h i a s)) (valid : IsValid (seen a s t) h) where
+module _ (a b : Arena) (s u : Store) (h g : Option Held) (i j : Option ℕ) (t : Actors) (live : ℕ) (sound : IsManagerSound a s t live) (c d : MapperCounts) (stays : StaysWhole (world h i a s) (world g j b u) c d) (forest : store_forest (world g j b u) ≡ store_forest (world h i a s)) (valid : IsValid (seen a s t) h) where
   pub stands_pushed : Stands (seen a s t) b u t live h g c d
   stands_pushed = stands a b s u h g i j stays.kept t live sound c d forest (values_reached (seen a s t) h sound.nodes sound.apart i j b u g c d stays.later stays.told) valid
 

@@ -16,17 +16,17 @@ use Rattle.local_cache.specs.Whole.{IsWhole, size_of}
 use Rattle.local_cache.proofs.Nodes.Count.{forest_len}
 use Rattle.residency.specs.declared.store.Store.{Store}
 use Rattle.page_release.specs.Commands.{CanReplace, CanTransfer, HasRoom, KeepsPages}
-use Rattle.page_release.specs.Homes.{AreSaved}
+use Rattle.page_release.specs.Homes.{AreAllSaved}
 use Rattle.page_release.specs.Steps.{IsStoreTied, Kept, StaysRight}
-use Rattle.page_release.proofs.Tying.Tied.{tied_right}
-use Rattle.page_release.proofs.Walking.Ranges.{destination_names}
+use Rattle.page_release.proofs.TiedStores.Tied.{tied_right}
+use Rattle.page_release.proofs.CommandSteps.Ranges.{destination_names}
 use Rattle.vm_model.specs.Answering.{is_any_denied}
 use Rattle.vm_model.specs.Following.{forest_after}
 use Rattle.vm_model.specs.Machine.{Machine}
 use Rattle.vm_model.specs.Outcome.{OutcomeAt}
 use Rattle.contexts.specs.Actors.{Actors}
 use Rattle.pvm_core.specs.Locks.{any_locked, locks_over}
-use Rattle.pvm_core.specs.Manager.{IsSound, IsValid, Manager, forest_of, machine_of, numbered}
+use Rattle.pvm_core.specs.Manager.{IsManagerSound, IsValid, Manager, forest_of, machine_of, numbered}
 use Rattle.pvm_core.specs.Saving.{CopiesSaved, IsReady, KeepsMachine, is_named}
 use Rattle.pvm_core.specs.Spans.{replaced}
 use Rattle.pvm_core.proofs.Accesses.Loading.{size_le}
@@ -52,7 +52,7 @@ pub record IsReadied (p : Manager) (h g : Option Held) (c d : MapperCounts) (a :
   pub ready : IsReady (replaced span) nodes p (seen a s t) h g
   pub out : IsOpen (size_of a span.from.0) (size_of a span.to.0) (any_locked a (replaced span)) span
 
-module _ (p : Manager) (h g : Option Held) (c d : MapperCounts) (a : Arena) (s : Store) (t : Actors) (live : ℕ) (sound : IsSound a s t live) (span : Span) (nodes : ℕ) where
+module _ (p : Manager) (h g : Option Held) (c d : MapperCounts) (a : Arena) (s : Store) (t : Actors) (live : ℕ) (sound : IsManagerSound a s t live) (span : Span) (nodes : ℕ) where
   -- from p, which the call that readied the range of these pages knows as old, and by q, as it left
   -- the manager
   pub readied : (old q : Manager) → p ≡ old → seen a s t ≡ q → (range : Extent) → range ≡ replaced span → ((cache page : ℕ) → locks_of p.caches cache page ≡ locks_over p.actors cache page)
@@ -100,7 +100,7 @@ module _ (p : Manager) (h g : Option Held) (c d : MapperCounts) (a : Arena) (s :
         unpinned = λ x is. unpinned_names a s t.actors sound.locked (replaced span) r.out.unlocked x (subst (λ (xs : List NodeName). x ∈ xs) (destination_names span) is);
         made = omega (arith, r.keeps.made, made, sound.few, many, within);
       };
-      saved = subst (AreSaved a span.to) (sym (destination_names span)) r.ready.saved_now;
+      saved = subst (AreAllSaved a span.to) (sym (destination_names span)) r.ready.saved_now;
       working = working_unpinned a s t.actors sound.locked;
     }
 

@@ -9,16 +9,16 @@ use Rattle.local_cache.specs.Arena.{Arena}
 use Rattle.local_cache.specs.Reading as arena
 use Rattle.local_cache.specs.Sound as arena_sound
 use Rattle.local_cache.specs.Whole.{IsWhole, size_of}
-use Rattle.local_cache.proofs.Whole.Pages.{range_there}
+use Rattle.local_cache.proofs.Whole.LivePages.{range_there}
 use Rattle.residency.specs.declared.store.Store.{Store}
 use Rattle.contexts.specs.Actors.{Actors}
-use Rattle.pvm_core.specs.Manager.{IsSound}
+use Rattle.pvm_core.specs.Manager.{IsManagerSound}
 use Rattle.pvm_core.proofs.NewCaches.Roomy.{IsRoomy, roomy}
 use Rattle.pvm_core.proofs.Spanning.SpanRows.{IsOpen}
 use Rattle.pvm_core.proofs.Spanning.Spanned.{apart_of}
 
 pub reserved : (a b : Arena) (s : Store) (t : Actors) (live : ℕ) → b ≡ record a { room = b.room } → a.room.nodes ≤ b.room.nodes → arena.forest_of b ≡ arena.forest_of a
-    → arena_sound.IsSound b → IsSound a s t live → IsRoomy a b s s t live
+    → arena_sound.IsSound b → IsManagerSound a s t live → IsRoomy a b s s t live
 reserved a b s t live kept = roomy a b s s t live kept refl (0, sym (append-nil s.slots))
 
 pub can_copy : (a : Arena) → IsWhole a → (s : Span) {l : Bool} → IsOpen (size_of a s.from.0) (size_of a s.to.0) l s → CanCopy (arena.forest_of a) (span_pairs s)

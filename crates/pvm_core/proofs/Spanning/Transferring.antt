@@ -39,7 +39,7 @@ use Rattle.pvm_core.specs.Saving.{CopiesSaved, FailedToSave, IfNotReady, IsNotRe
 use Rattle.local_cache.specs.Arena.{Arena, table_of}
 use Rattle.pvm_core.proofs.Answering.Kept.{seen}
 use Rattle.page_release.specs.Homes.{IsWritable}
-use Rattle.page_release.proofs.Walking.Ranges.{destination_names}
+use Rattle.page_release.proofs.CommandSteps.Ranges.{destination_names}
 use Rattle.vm_ids.proofs.Forest.Laws.Ranges.{ranges_hold_their_pages}
 use Rattle.pvm_core.specs.Keeping.{CopiesNothing}
 use Rattle.pvm_core.proofs.Readiness.Copies.{saves_copied}

@@ -18,7 +18,7 @@ use Rattle.residency.specs.StoreForest.{store_forest}
 use Rattle.residency.specs.World.{world}
 use Rattle.local_cache.specs.Whole.{IsWhole, SameCaches, size_of}
 use Rattle.page_release.specs.Steps.{ForAnyMapper, GivesBack, IsStoreTied, StaysRight, zeros_told}
-use Rattle.page_release.proofs.Tying.Tied.{tied_of}
+use Rattle.page_release.proofs.TiedStores.Tied.{tied_of}
 use Rattle.vm_model.specs.Answering.{copy_of, is_any_denied, is_any_locked, overwrite, put_pages, reply, move_of, put_cache}
 use Rattle.vm_model.specs.Answering.{is_named as model_named}
 use Rattle.vm_model.specs.Machine.{Cache, Machine, Page, cache_of}
@@ -29,7 +29,7 @@ use Rattle.vm_model.proofs.Forests.Following.{IsAllowed, copied_followed, moved_
 use Rattle.vm_model.proofs.Parts.Lists.{length-overwrite, at_number, numbered-set}
 use Rattle.vm_model.proofs.Machines.Sound.{numbered-all}
 use Rattle.contexts.specs.Actors.{Actors}
-use Rattle.pvm_core.specs.Manager.{IsSound, IsValid, Manager, cache_shown, caches_shown, forest_of, machine_by, machine_of}
+use Rattle.pvm_core.specs.Manager.{IsManagerSound, IsValid, Manager, cache_shown, caches_shown, forest_of, machine_by, machine_of}
 use Rattle.pvm_core.proofs.Answering.Answered.{no_segments}
 use Rattle.pvm_core.proofs.Answering.Changed.{blank_is, machine_is, put_shaped}
 use Rattle.pvm_core.proofs.Meaning.Determined.{IsShaped}
@@ -44,7 +44,7 @@ use Rattle.pvm_core.proofs.Holding.Counted.{any_same}
 use Rattle.pvm_core.proofs.Homes.Full.{full_same}
 use Rattle.pvm_core.proofs.Homes.Sized.{sized_same}
 use Rattle.pvm_core.specs.Saving.{is_named}
-use Rattle.page_release.proofs.Walking.Ranges.{destination_names}
+use Rattle.page_release.proofs.CommandSteps.Ranges.{destination_names}
 use Rattle.pvm_core.proofs.Meaning.Values.{blank_of, followed_of, zeroed, zeroed_whole}
 use Rattle.std.proofs.lemmas.Option.{get_or_from_slice_get}
 use Rattle.pvm_core.proofs.NewCaches.NewCache.{told_zeros, zeros_for}
@@ -81,7 +81,7 @@ named_machine p f n = ap (λ (o : Option Cache). option_map_or (λ (c : Cache). 
 pub named_there : (p : Manager) (f : PageForest) (n : ℕ) (c : Cache) → cache_of (machine_by p f) n ≡ Some c → is_some c.segment ≡ is_named p.caches n
 named_there p f n c e = ap (λ (o : Option Cache). option_map_or (λ (c : Cache). is_some c.segment) o false) (sym e) ∙ named_machine p f n
 
-module _ (b : Arena) (s : Store) (t : Actors) (live : ℕ) (k : IsSound b s t live) (span : Span) (out : IsOpen (size_of b span.from.0) (size_of b span.to.0) (any_locked b (replaced span)) span) (from to : Table) (from_is : table_of b span.from.0 ≡ Some from) (to_is : table_of b span.to.0 ≡ Some to) (from_long : length from.pages ≡ out.from) (to_long : length to.pages ≡ out.to) where
+module _ (b : Arena) (s : Store) (t : Actors) (live : ℕ) (k : IsManagerSound b s t live) (span : Span) (out : IsOpen (size_of b span.from.0) (size_of b span.to.0) (any_locked b (replaced span)) span) (from to : Table) (from_is : table_of b span.from.0 ≡ Some from) (to_is : table_of b span.to.0 ≡ Some to) (from_long : length from.pages ≡ out.from) (to_long : length to.pages ≡ out.to) where
   abbrev source : PageForest → Cache
   source f = cache_shown f span.from.0 from
 

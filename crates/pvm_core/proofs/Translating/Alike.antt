@@ -9,14 +9,14 @@ use Rattle.residency.specs.declared.store.Store.{Store}
 use Rattle.page_release.specs.Homes.{IsWritable}
 use Rattle.vm_ids.specs.Forest.Nodes.{is_live}
 use Rattle.contexts.specs.Actors.{Actors}
-use Rattle.pvm_core.specs.Translated.{AreTranslationsRight, IsRight, name_at}
+use Rattle.pvm_core.specs.Translated.{AreTranslationsRight, IsTranslationRight, name_at}
 
 -- a translation is right still, where what it says of its page is so still
-pub still_right : (a b : Arena) (s t : Store) (u : Actors) (e : Entry) (r : IsRight a s u e)
+pub still_right : (a b : Arena) (s t : Store) (u : Actors) (e : Entry) (r : IsTranslationRight a s u e)
     → (seen_in a s.map (name_at r.at) ≡ Some e.to.frame.0 → seen_in b t.map (name_at r.at) ≡ Some e.to.frame.0)
     → (e.to.writable ≡ true → IsAlone a (name_at r.at) → IsAlone b (name_at r.at))
     → (IsWritable a (name_at r.at) → IsWritable b (name_at r.at))
-    → IsRight b t u e
+    → IsTranslationRight b t u e
 still_right a b s t u e r seen alone grants = record {
   at = r.at;
   place = r.place;

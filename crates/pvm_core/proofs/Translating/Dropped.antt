@@ -13,19 +13,19 @@ use Rattle.residency.specs.Translating.{Drops}
 use Rattle.residency.specs.declared.store.Store.{Store}
 use Rattle.page_release.specs.Homes.{IsWritable}
 use Rattle.contexts.specs.Actors.{Actors}
-use Rattle.pvm_core.specs.Translated.{AreTranslationsRight, IsRight, name_at}
+use Rattle.pvm_core.specs.Translated.{AreTranslationsRight, IsTranslationRight, name_at}
 use Rattle.pvm_core.proofs.Translating.Alike.{still_right}
 
 -- there are none
 pub none_right : (a : Arena) (s : Store) (u : Actors) (count : ℕ) → s.tables ≡ replicate count None → AreTranslationsRight a s u
-none_right a s u count none place e is = each-empty (IsRight a s u) count place e (subst (λ (ts : List (Option Entry)). entry_at ts place ≡ Some e) none is)
+none_right a s u count none place e is = each-empty (IsTranslationRight a s u) count place e (subst (λ (ts : List (Option Entry)). entry_at ts place ≡ Some e) none is)
 
 -- some are dropped, and the pages that the others are for are seen where they were
 pub dropped_right : (came : NodeId → Type 0) (a b : Arena) (s t : Store) (u : Actors) → Drops came a s b t
     → ((x : NodeName) → IsWritable a x → IsWritable b x)
     → AreTranslationsRight a s u → AreTranslationsRight b t u
 dropped_right came a b s t u d grants right place e is =
-    let was = each-unless (IsRight a s u) (λ e. d.frames e.to.frame.0) s.tables right place e (subst (λ (ts : List (Option Entry)). entry_at ts place ≡ Some e) d.tables is) in
+    let was = each-unless (IsTranslationRight a s u) (λ e. d.frames e.to.frame.0) s.tables right place e (subst (λ (ts : List (Option Entry)). entry_at ts place ≡ Some e) d.tables is) in
     let r = was.0 in
     let x : NodeName = name_at r.at in
     still_right a b s t u e r (d.seen x e.to.frame.0 was.1) (λ w. d.alone x) (grants x)

@@ -10,16 +10,16 @@ use Rattle.residency.specs.declared.store.Store.{Store}
 use Rattle.page_release.specs.Homes.{IsWritable}
 use Rattle.page_release.specs.Translating.{Leaves}
 use Rattle.contexts.specs.Actors.{Actors}
-use Rattle.pvm_core.specs.Translated.{AreTranslationsRight, IsRight, name_at}
+use Rattle.pvm_core.specs.Translated.{AreTranslationsRight, IsTranslationRight, name_at}
 use Rattle.pvm_core.proofs.Translating.Alike.{still_right}
 
 -- the same but for reading alone
-narrowed_right : (a : Arena) (s : Store) (u : Actors) (e : Entry) → IsRight a s u e → IsRight a s u (read_only e)
+narrowed_right : (a : Arena) (s : Store) (u : Actors) (e : Entry) → IsTranslationRight a s u e → IsTranslationRight a s u (read_only e)
 narrowed_right a s u e r = record { at = r.at; place = r.place; seen = r.seen; written = λ w. absurd (false≢true w) }
 
-was_right : (a : Arena) (s : Store) (u : Actors) (e entry : Entry) → (e ≡ entry) ⊎ (e ≡ read_only entry) → IsRight a s u entry → IsRight a s u e
-was_right a s u e entry (inl same) r = subst (IsRight a s u) (sym same) r
-was_right a s u e entry (inr same) r = subst (IsRight a s u) (sym same) (narrowed_right a s u entry r)
+was_right : (a : Arena) (s : Store) (u : Actors) (e entry : Entry) → (e ≡ entry) ⊎ (e ≡ read_only entry) → IsTranslationRight a s u entry → IsTranslationRight a s u e
+was_right a s u e entry (inl same) r = subst (IsTranslationRight a s u) (sym same) r
+was_right a s u e entry (inr same) r = subst (IsTranslationRight a s u) (sym same) (narrowed_right a s u entry r)
 
 -- one that is left is for a page that isn't replaced, and for writing only where the page isn't
 -- shared

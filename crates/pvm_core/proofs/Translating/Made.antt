@@ -36,7 +36,7 @@ use Rattle.local_cache.specs.Sound.{IsSound}
 use Rattle.local_cache.specs.Whole.{IsWhole, size_of}
 use Rattle.local_cache.proofs.Forest.Reading.{IsNode-forest_of, forest_of-IsNode, get-forest_by_none, held_or_not}
 use Rattle.local_cache.proofs.Forest.ReadingBy.{bare-of, lifted, page-at}
-use Rattle.local_cache.proofs.Whole.Pages.{node_page}
+use Rattle.local_cache.proofs.Whole.LivePages.{node_page}
 use Rattle.residency.specs.Seeing.{IsAlone, frame_forest, own_frame, seen_in}
 use Rattle.residency.specs.World.{page_by}
 use Rattle.residency.specs.declared.store.Store.{Store}

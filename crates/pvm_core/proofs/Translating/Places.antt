@@ -13,7 +13,7 @@ use Rattle.residency.specs.Seeing.{IsAlone, seen_in}
 use Rattle.residency.specs.declared.store.Store.{Store}
 use Rattle.page_release.specs.Homes.{IsWritable}
 use Rattle.contexts.specs.Actors.{Actors}
-use Rattle.pvm_core.specs.Translated.{AreTranslationsRight, IsRight, name_at, place_of_page}
+use Rattle.pvm_core.specs.Translated.{AreTranslationsRight, IsTranslationRight, name_at, place_of_page}
 
 -- where a page of an actor lies: in the region of the actor that holds its first byte
 pub record LiesIn (t : Actors) (actor page : ℕ) (at : Place) : Type 0 where
@@ -78,7 +78,7 @@ pub record StaysFor (t u : Actors) (e : Entry) (rs : Actor) : Type 0 where
   pub stays : StaysAt t.page_bytes (e.page * t.page_bytes) e.to.writable rs regions
 
 module _ (a : Arena) (s : Store) (t u : Actors) (page : u.page_bytes ≡ t.page_bytes) where
-  moved_right : (e : Entry) (r : IsRight a s t e) → (l : LiesIn t e.actor.0 e.page r.at) → StaysFor t u e l.regions → IsRight a s u e
+  moved_right : (e : Entry) (r : IsTranslationRight a s t e) → (l : LiesIn t e.actor.0 e.page r.at) → StaysFor t u e l.regions → IsTranslationRight a s u e
   moved_right e r l k =
       let b = t.page_bytes in
       let address = e.page * b in

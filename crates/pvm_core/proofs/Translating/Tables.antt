@@ -10,7 +10,7 @@ use Rattle.residency.specs.declared.store.Store.{Store}
 use Rattle.vm_model.specs.Machine.{Machine}
 use Rattle.vm_model.specs.Outcome.{HasWholePages}
 use Rattle.contexts.specs.Actors.{Actors}
-use Rattle.pvm_core.specs.Manager.{IsSound, IsValid, Manager, forest_of, machine_by, machine_of, state_at}
+use Rattle.pvm_core.specs.Manager.{IsManagerSound, IsValid, Manager, forest_of, machine_by, machine_of, state_at}
 
 -- the store with other translations
 abbrev pub with_tables : Store → List (Option Entry) → Store
@@ -21,7 +21,7 @@ module _ (h : Option Held) (size : Option ℕ) (a : Arena) (s : Store) (ts : Lis
   tables_world i = record (world h size a s) { places = many i }
 
 -- what holds of a manager's fields says nothing of translations
-pub tables_sound : (a : Arena) (s : Store) (ts : List (Option Entry)) (u : Actors) (live : ℕ) → IsSound a s u live → IsSound a (with_tables s ts) u live
+pub tables_sound : (a : Arena) (s : Store) (ts : List (Option Entry)) (u : Actors) (live : ℕ) → IsManagerSound a s u live → IsManagerSound a (with_tables s ts) u live
 tables_sound a s ts u live k = record {
   nodes = k.nodes;
   apart = k.apart;

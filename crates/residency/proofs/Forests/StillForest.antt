@@ -6,7 +6,7 @@ use Rattle.vm_ids.specs.Forest.PageMap.{bare}
 use Rattle.vm_ids.specs.declared.numbers.NodeId.{NodeId}
 use Rattle.vm_ids.proofs.Forest.BareShape.{bare-linked}
 use Rattle.local_cache.specs.Arena.{Arena, cell}
-use Rattle.local_cache.specs.Reading.{IsNamed, at_key, forest_of, hang_by, name_of, stubs_of, walk}
+use Rattle.local_cache.specs.Reading.{AreNamesApart, at_key, forest_of, hang_by, name_of, stubs_of, walk}
 use Rattle.local_cache.specs.ReadingBy.{Tells, forest_by, node_with, state_page}
 use Rattle.local_cache.specs.Sound.{IsSound, ◌∈◌}
 use Rattle.local_cache.specs.Threads.{IsThreaded}
@@ -60,11 +60,11 @@ module _ (a b : Arena) (same : SameNodes a b) where
       copies = still_copies i;
     }
 
-  pub still_named : IsNamed a → IsNamed b
+  pub still_named : AreNamesApart a → AreNamesApart b
   still_named named = named-like a b named (still_like a b same) (sym still_made)
 
   -- without its pages the forest is the same, where the same nodes have own pages
-  pub still_bare : IsNamed a → Tells (state_page a) b → bare (forest_of a) ≡ bare (forest_of b)
+  pub still_bare : AreNamesApart a → Tells (state_page a) b → bare (forest_of a) ≡ bare (forest_of b)
   still_bare named alike = ap bare (forest_of-by a ∙ sym (same_forest_by (state_page a) (state_page a) (λ n. refl)))
       ∙ bare-by (state_page a) (state_page b) b (still_named named) alike ∙ ap bare (sym (forest_of-by b))
 

@@ -18,7 +18,7 @@ use Rattle.local_cache.specs.Reading.{name_of}
 use Rattle.local_cache.specs.Sound.{IsSound}
 use Rattle.local_cache.specs.Whole.{segment_of}
 use Rattle.local_cache.proofs.Names.Homes.{home-made_other, home_none, home_page}
-use Rattle.local_cache.proofs.NewCache.Pages.{made_cases, made_pages, made_segment, made_tables}
+use Rattle.local_cache.proofs.NewCache.FoundPages.{made_cases, made_pages, made_segment, made_tables}
 use Rattle.local_cache.proofs.Nodes.OwnStates.{filled_count, filled_length, filled_own}
 use Rattle.residency.specs.World as worlds
 use Rattle.residency.specs.World.{IsStoreRight, World, frame_page, is_clean, is_name_granted, own_page, page_at, page_by, zero_page}
@@ -201,4 +201,4 @@ module _ (w : World) (b : Arena) (cache : CacheId) (seg : SegId) (ns : List Node
   }
     where
       ungranted : (n : NodeId) → IsNew n → is_name_granted b (name_of b n) ≡ false
-      ungranted n x = ap (λ (c : Cell). is_name_granted b c.name) (cell_new n x) ∙ Rattle.local_cache.proofs.NewCache.Pages.made_ungranted a b cache (Some seg) OnSegment ns x.page m
+      ungranted n x = ap (λ (c : Cell). is_name_granted b c.name) (cell_new n x) ∙ Rattle.local_cache.proofs.NewCache.FoundPages.made_ungranted a b cache (Some seg) OnSegment ns x.page m

@@ -30,7 +30,7 @@ use Rattle.local_cache.specs.declared.own_state.OwnState.{OwnState}
 use Rattle.local_cache.specs.declared.own_state.OwnState.TheVariants.{Absent, Zero, Resident, Slot, OnSegment}
 use Rattle.local_cache.specs.Arena.{Arena, HasNode}
 use Rattle.local_cache.specs.Own.{is_resident, own_of}
-use Rattle.local_cache.specs.Reading.{IsNamed, at_key, forest_of, name_of, page_of}
+use Rattle.local_cache.specs.Reading.{AreNamesApart, at_key, forest_of, name_of, page_of}
 use Rattle.local_cache.specs.ReadingBy.{forest_by, node_with, state_page}
 use Rattle.local_cache.proofs.Forest.Reading.{IsNode-forest_by, get-forest_by_none, held_or_not}
 use Rattle.local_cache.proofs.Forest.ReadingBy.{bare-of, page-at}
@@ -166,7 +166,7 @@ number_is : {X : Type 0} (n p : NodeId) (o : Option X) → option_map (λ _. n) 
 number_is n p None e = absurd (cc e)
 number_is n p (Some v) e = (cc e, refl)
 
-module _ (a : Arena) (named : IsNamed a) where
+module _ (a : Arena) (named : AreNamesApart a) where
   -- without its pages that forest is the one of the own states
   pub owners_bare : bare (owners a) ≡ bare (forest_of a)
   unfolding owners

@@ -11,7 +11,7 @@ use Rattle.vm_ids.specs.Forest.NameLists.{renamed}
 use Rattle.vm_ids.specs.Forest.NameLists as names
 use Rattle.vm_ids.specs.declared.numbers.NodeId.{NodeId}
 use Rattle.local_cache.specs.Arena.{Arena, HasNode}
-use Rattle.local_cache.specs.Reading.{name_of, IsNamed}
+use Rattle.local_cache.specs.Reading.{name_of, AreNamesApart}
 use Rattle.local_cache.specs.Sound.{◌∈◌}
 use Rattle.local_cache.proofs.Changes.SameNodes.{id_cases}
 use Rattle.tree_merge.specs.TreeLists.{exchanged, in_place}
@@ -52,7 +52,7 @@ exchanged-in n o (k ∷ ms) m i = elim (in_cons (in_place n o k) (exchanged n o 
   ]
 ]
 
-module _ (a : Arena) (named : IsNamed a) (n : NodeId) (hn : HasNode a n) where
+module _ (a : Arena) (named : AreNamesApart a) (n : NodeId) (hn : HasNode a n) where
   name_apart : (m : NodeId) → HasNode a m → m ≢ n → same (name_of a n) (name_of a m) ≡ false
   name_apart m hm ne = same_apart (name_of a n) (name_of a m) (λ e. ne (named.apart m n hm hn (sym e)))
 

@@ -15,12 +15,12 @@ use Rattle.local_cache.specs.Many.{AreNamed, HaveNodes, HaveNone}
 use Rattle.local_cache.specs.ManyNodes.{next_node}
 use Rattle.local_cache.specs.Reading.{forest_of, name_of}
 use Rattle.local_cache.specs.Sound.{IsSound}
-use Rattle.local_cache.proofs.Whole.Pages.{page_there}
+use Rattle.local_cache.proofs.Whole.LivePages.{page_there}
 use Rattle.tree_merge.specs.Copyable.{AreReady, IsHistory}
 use Rattle.tree_merge.specs.Copying.{AreApart, CanCopyFirst, CanCopyMany, CanCopyMore, IsCopiedAtOnce, copied_first, copied_more, page_after, renewed}
 use Rattle.tree_merge.proofs.AlikeNodes.{alike_named, alike_trees, no_children}
 use Rattle.tree_merge.proofs.CopiedPages.OnePage.{not_free}
-use Rattle.tree_merge.proofs.CopiedPages.Pages.{first_copied, history_held, more_copied, rows_apart}
+use Rattle.tree_merge.proofs.CopiedPages.OneByOne.{first_copied, history_held, more_copied, rows_apart}
 use Rattle.tree_merge.proofs.CopiedPages.Stretches.{held_renewed, made_renewed, room_renewed}
 
 -- Tree children

@@ -11,8 +11,8 @@ use Rattle.local_cache.specs.Own.{own_of}
 use Rattle.local_cache.specs.Reading.{name_of}
 use Rattle.tree_merge.specs.Copying.{CanCopyFirst, CanCopyMore, IsEmpty, copied_first, copied_more}
 use Rattle.tree_merge.proofs.CopiedPages.OnePage.{CanCopyPage}
-use Rattle.tree_merge.proofs.CopiedPages.Pages as pages
-use Rattle.tree_merge.proofs.CopiedPages.Pages.{NextPage, SoFar, all_pages, cell_d, first_fresh, first_new_s, first_pass, first_step, free_w, more_pass, more_step, next_page, row_same, rows_apart}
+use Rattle.tree_merge.proofs.CopiedPages.OneByOne as pages
+use Rattle.tree_merge.proofs.CopiedPages.OneByOne.{NextPage, SoFar, all_pages, cell_d, first_fresh, first_new_s, first_pass, first_step, free_w, more_pass, more_step, next_page, row_same, rows_apart}
 use Rattle.tree_merge.proofs.CopiedPages.Stretches.{copy_first, copy_more, each, each_first, each_more}
 
 -- The next page to be copied: its own page is none or zeros, and its source has no tree child.

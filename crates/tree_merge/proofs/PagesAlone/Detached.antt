@@ -15,13 +15,13 @@ use Rattle.vm_ids.proofs.Forest.Lengths.{detached_pages}
 use Rattle.vm_ids.proofs.Forest.Linking.{link-Links}
 use Rattle.vm_ids.proofs.Forest.Made.{detach-made}
 use Rattle.vm_ids.proofs.Forest.NodesAfter.{node-put}
-use Rattle.vm_ids.proofs.Forest.Pages.{detach-shaped_but, next_free}
+use Rattle.vm_ids.proofs.Forest.OnePage.{detach-shaped_but, next_free}
 use Rattle.local_cache.specs.declared.own_state.OwnState.{OwnState}
 use Rattle.local_cache.specs.Arena.{Arena, HasNode, node_at}
 use Rattle.local_cache.specs.Reading.{forest_of, name_of}
 use Rattle.local_cache.specs.Sound.{IsSound}
 use Rattle.local_cache.proofs.Changes.SameNodes.{forest_of-made}
-use Rattle.local_cache.proofs.Whole.Pages.{page_there}
+use Rattle.local_cache.proofs.Whole.LivePages.{page_there}
 
 -- two nodes whose names differ
 apart_by_name : (a : Arena) (n m : NodeId) (x y : NodeName) → name_of a n ≡ x → name_of a m ≡ y → x ≢ y → n ≢ m

@@ -9,7 +9,7 @@ use Rattle.local_cache.specs.Arena.{Arena, IsVacant, node_at}
 use Rattle.local_cache.specs.Reading.{forest_of}
 use Rattle.local_cache.specs.Sound.{IsSound}
 use Rattle.local_cache.specs.Whole.{SameCaches}
-use Rattle.local_cache.proofs.NewCache.Pages.{some_of}
+use Rattle.local_cache.proofs.NewCache.FoundPages.{some_of}
 use Rattle.tree_merge.specs.declared.released.Released.{Released}
 use Rattle.tree_merge.specs.Releasing.{IsReleased, IsRetired}
 use Rattle.tree_merge.specs.Stepping.{IsRetiredAlone}

@@ -10,7 +10,7 @@ use Rattle.tree_merge.specs.Copying.{page_after}
 use Rattle.tree_merge.specs.Retiring.{CanRetireMany, IsRetiredAtOnce}
 use Rattle.tree_merge.specs.Sharing.{AreShared, CanShareMany}
 use Rattle.tree_merge.proofs.AlikeNodes.{alike_named}
-use Rattle.tree_merge.proofs.RetiredPages.Pages.{pages_retired}
+use Rattle.tree_merge.proofs.RetiredPages.OneByOne.{pages_retired}
 use Rattle.tree_merge.proofs.RetiredPages.SharedPages.{pages_shared}
 
 module _ (a : Arena) (sound : IsSound a) (extent : Extent) (done : ℕ) (d : NodeId) (at : node_at a extent.cache.0 (extent.first.0 + done) ≡ Some d) (count : ℕ) where

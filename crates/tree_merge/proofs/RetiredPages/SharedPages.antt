@@ -20,7 +20,7 @@ use Rattle.tree_merge.specs.Copying.{IsBeside, IsEmpty}
 use Rattle.tree_merge.specs.Sharing.{AreMadeWorking, CanShareMany, HasTreeChild}
 use Rattle.tree_merge.proofs.CopiedPages.Changes.{cell_by}
 use Rattle.tree_merge.proofs.Leaving.Sizes.{sizes_retired}
-use Rattle.tree_merge.proofs.RetiredPages.Pages.{names_more}
+use Rattle.tree_merge.proofs.RetiredPages.OneByOne.{names_more}
 use Rattle.tree_merge.proofs.RetiredPages.SharedPage.{CanSharePage, page_shared}
 
 made_more : (x : Arena) (n : NodeId) → (as_working x n).made ≡ x.made + 1

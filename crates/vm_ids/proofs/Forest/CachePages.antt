@@ -9,7 +9,7 @@ use Rattle.vm_ids.specs.Forest.Shape.{IsConsistent}
 use Rattle.vm_ids.specs.Forest.Commands.{page_name, page_names, retire_all}
 use Rattle.vm_ids.specs.Forest.Laws.Commands.{ArePagesOnce}
 use Rattle.vm_ids.proofs.Forest.Laws.Commands.{later_pages, still_pages}
-use Rattle.vm_ids.proofs.Forest.Pages.{retired}
+use Rattle.vm_ids.proofs.Forest.OnePage.{retired}
 
 -- the names from one page on, and the first of them
 names_step : (c : CacheId) (n i : ℕ) → i < n → page_names c i (n - i) ≡ page_name c i ∷ page_names c (i + 1) (n - (i + 1))

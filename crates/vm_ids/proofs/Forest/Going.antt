@@ -20,7 +20,7 @@ use Rattle.vm_ids.proofs.Forest.NodesAfter.{put-IsNode}
 use Rattle.vm_ids.proofs.Forest.Fitting.{IsNode-own}
 use Rattle.vm_ids.proofs.Forest.Linking.{node-none}
 use Rattle.vm_ids.proofs.Forest.Detaching.{swapped_a, swapped_b, swapped_other}
-use Rattle.vm_ids.proofs.Forest.Pages.{next_free, gone, retired, retire-consistent, detach-shaped_but, detach-consistent, copy_page-consistent, copy_page-value, move_page-consistent}
+use Rattle.vm_ids.proofs.Forest.OnePage.{next_free, gone, retired, retire-consistent, detach-shaped_but, detach-consistent, copy_page-consistent, copy_page-value, move_page-consistent}
 use Rattle.vm_ids.proofs.Forest.SettleStep.{none_in}
 use Rattle.vm_ids.proofs.Forest.Laws.Settling.{step_keeps_consistency, settle_keeps_consistency, settle_settles}
 use Rattle.vm_ids.proofs.Forest.Laws.Commands.{first_pages, later_can, later_pages, still_can, still_pages}

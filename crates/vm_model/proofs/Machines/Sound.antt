@@ -21,7 +21,7 @@ use Rattle.vm_model.specs.declared.tables.Actor.{Actor}
 use Rattle.vm_model.specs.declared.tables.Cache.{Cache}
 use Rattle.vm_model.specs.declared.tables.Region.{Region}
 use Rattle.vm_model.specs.declared.tables.Tables.{Tables}
-use Rattle.vm_model.specs.Seen.{actor_seen, cache_seen, pages_seen, region_seen, machine_seen, IsPlaced, ArePlaced, HasPages, IsSound}
+use Rattle.vm_model.specs.Seen.{actor_seen, cache_seen, pages_seen, region_seen, machine_seen, IsPlaced, ArePlaced, HasPages, AreTablesSound}
 use Rattle.vm_model.proofs.Parts.Lists.{at_number, is_there, length-overwrite, numbered-map, numbered-set, sum_by_same}
 
 get-push : {A : Type 0} (xs : List A) (x : A) (n : ℕ) (y : A) → slice_get xs n ≡ Some y → slice_get (xs ++ x ∷ []) n ≡ Some y
@@ -92,7 +92,7 @@ whole_cache b None h = tt
 whole_cache b (Some c) h = All-map (λ (y : List ℕ). length y ≡ b) (λ v. v.items) c.pages.items h
 
 -- the machine's pages have all their bytes
-pub whole : (t : Tables) → IsSound t → HasWholePages (machine_seen t)
+pub whole : (t : Tables) → AreTablesSound t → HasWholePages (machine_seen t)
 whole t s = All-map (IsWhole t.page_bytes) (option_map cache_seen) t.caches.items (All-weaker (HasPages t.page_bytes) (λ c. IsWhole t.page_bytes (option_map cache_seen c)) (whole_cache t.page_bytes) t.caches.items s.whole)
 
 placed_still : (b : ℕ) (cs : List (Option Cache)) (n : ℕ) (c d : Cache) → numbered cs n ≡ Some c → length d.pages.items ≡ length c.pages.items → (r : Region) → IsPlaced b cs r → IsPlaced b (set cs (n - 1) (Some d)) r
@@ -113,7 +113,7 @@ live_still cs n c d there same =
     (omega (arith, same, length-map d.pages.items (λ p. p.items), length-map c.pages.items (λ p. p.items)))
 
 -- the tables stay sound where a cache is replaced by one with as many pages, each whole
-pub sound-put : (t : Tables) (n : ℕ) (c d : Cache) (caches : Vec (Option Cache) Global) → caches.items ≡ set t.caches.items (n - 1) (Some d) → numbered t.caches.items n ≡ Some c → length d.pages.items ≡ length c.pages.items → HasPages t.page_bytes (Some d) → IsSound t → IsSound (record t { caches = caches })
+pub sound-put : (t : Tables) (n : ℕ) (c d : Cache) (caches : Vec (Option Cache) Global) → caches.items ≡ set t.caches.items (n - 1) (Some d) → numbered t.caches.items n ≡ Some c → length d.pages.items ≡ length c.pages.items → HasPages t.page_bytes (Some d) → AreTablesSound t → AreTablesSound (record t { caches = caches })
 sound-put t n c d caches items there same pages s = record {
   some = s.some;
   most = s.most;
@@ -206,7 +206,7 @@ placed-added b cs r before after (Ok x) ok err p h = All-same (IsPlaced b cs) af
 placed-added b cs r before after (Err e) ok err p h = All-same (IsPlaced b cs) after before err h
 
 -- the tables stay sound where the actors change, if as many live and all their regions are placed
-pub sound-actors : (t : Tables) (actors : Vec (Option Actor) Global) (made : ℕ) → length actors.items ≡ length t.actors.items → count_by is_some (map (option_map actor_seen) actors.items) ≡ count_by is_some (map (option_map actor_seen) t.actors.items) → All (ArePlaced t.page_bytes t.caches.items) actors.items → IsSound t → IsSound (record t { actors = actors; regions_made = made })
+pub sound-actors : (t : Tables) (actors : Vec (Option Actor) Global) (made : ℕ) → length actors.items ≡ length t.actors.items → count_by is_some (map (option_map actor_seen) actors.items) ≡ count_by is_some (map (option_map actor_seen) t.actors.items) → All (ArePlaced t.page_bytes t.caches.items) actors.items → AreTablesSound t → AreTablesSound (record t { actors = actors; regions_made = made })
 sound-actors t actors made many living placed s = record {
   some = s.some;
   most = s.most;

@@ -21,7 +21,7 @@ use Rattle.vm_model.specs.declared.tables.Actor.{Actor}
 use Rattle.vm_model.specs.declared.tables.Cache.{Cache}
 use Rattle.vm_model.specs.declared.tables.Region.{Region}
 use Rattle.vm_model.specs.declared.tables.Tables.{Tables}
-use Rattle.vm_model.specs.Seen.{actor_seen, cache_seen, pages_seen, region_seen, machine_seen, IsPlaced, ArePlaced, HasPages, IsSound}
+use Rattle.vm_model.specs.Seen.{actor_seen, cache_seen, pages_seen, region_seen, machine_seen, IsPlaced, ArePlaced, HasPages, AreTablesSound}
 use Rattle.vm_model.proofs.Parts.Lists.{length-overwrite, at_number, numbered-map, numbered-set, numbered_place, sum_by_swap, numbered-other}
 use Rattle.vm_model.proofs.Forests.Plain.{plain_chain}
 
@@ -58,7 +58,7 @@ module _ (b n : ℕ) (cs : List (Option Cache)) (some : 1 ≤ n) where
       All-cons (ArePlaced b without_cache) x xs (placed_actor x each.0 (All-head (ArePlaced b cs) x xs p)) (placed_actors xs each.1 (All-tail (ArePlaced b cs) x xs p))
 
 -- the pages of a cache are among the live ones
-pub pages_live : (t : Tables) (n : ℕ) (c : Cache) → numbered t.caches.items n ≡ Some c → IsSound t → length c.pages.items ≤ t.live
+pub pages_live : (t : Tables) (n : ℕ) (c : Cache) → numbered t.caches.items n ≡ Some c → AreTablesSound t → length c.pages.items ≤ t.live
 pages_live t n c there s = omega (arith, s.live, sum_by_swap pages_in (machine_seen t).caches (n - 1) (Some (cache_seen c)) None (slice_get-map (option_map cache_seen) t.caches.items (n - 1) ∙ ap (option_map (option_map cache_seen)) (at_number t.caches.items n c there)), length-map c.pages.items (λ p. p.items))
 
 -- how many pages the machine has in it
@@ -67,7 +67,7 @@ counted t n c there = ap pages_in (numbered-map cache_seen t.caches.items n ∙ 
 
 -- the tables stay sound where a cache goes that no region maps
 pub sound-taken : (t : Tables) (n : ℕ) (c : Cache) (caches : Vec (Option Cache) Global) (live : ℕ) → caches.items ≡ set t.caches.items (n - 1) None → numbered t.caches.items n ≡ Some c
-    → list_any (maps_in n) (map (option_map actor_seen) t.actors.items) ≡ false → live + length c.pages.items ≡ t.live → IsSound t → IsSound (record t { caches = caches; live = live })
+    → list_any (maps_in n) (map (option_map actor_seen) t.actors.items) ≡ false → live + length c.pages.items ≡ t.live → AreTablesSound t → AreTablesSound (record t { caches = caches; live = live })
 sound-taken t n c caches live items there free left s =
     let swap = sum_by_swap pages_in (machine_seen t).caches (n - 1) (Some (cache_seen c)) None (slice_get-map (option_map cache_seen) t.caches.items (n - 1) ∙ ap (option_map (option_map cache_seen)) (at_number t.caches.items n c there)) in
     record {
@@ -96,15 +96,15 @@ seen_taken t n live caches items = ap (λ cs. record (machine_seen t) { caches =
 -- An actor that ends
 
 -- it counts among the living ones
-left_living : (t : Tables) (n : ℕ) (a : Actor) → numbered t.actors.items n ≡ Some a → IsSound t → count_by is_some (set (machine_seen t).actors (n - 1) None) + 1 ≡ t.living
+left_living : (t : Tables) (n : ℕ) (a : Actor) → numbered t.actors.items n ≡ Some a → AreTablesSound t → count_by is_some (set (machine_seen t).actors (n - 1) None) + 1 ≡ t.living
 left_living t n a there s =
     omega (arith, s.living, sum_by_swap (λ o. cond (is_some o) 1 0) (machine_seen t).actors (n - 1) (Some (actor_seen a)) None (slice_get-map (option_map actor_seen) t.actors.items (n - 1) ∙ ap (option_map (option_map actor_seen)) (at_number t.actors.items n a there)))
 
-pub some_living : (t : Tables) (n : ℕ) (a : Actor) → numbered t.actors.items n ≡ Some a → IsSound t → 1 ≤ t.living
+pub some_living : (t : Tables) (n : ℕ) (a : Actor) → numbered t.actors.items n ≡ Some a → AreTablesSound t → 1 ≤ t.living
 some_living t n a there s = omega (arith, left_living t n a there s)
 
 -- the tables stay sound without it
-pub sound_ended : (t : Tables) (n : ℕ) (a : Actor) (actors : Vec (Option Actor) Global) (living : ℕ) → actors.items ≡ set t.actors.items (n - 1) None → numbered t.actors.items n ≡ Some a → living + 1 ≡ t.living → IsSound t → IsSound (record t { actors = actors; living = living })
+pub sound_ended : (t : Tables) (n : ℕ) (a : Actor) (actors : Vec (Option Actor) Global) (living : ℕ) → actors.items ≡ set t.actors.items (n - 1) None → numbered t.actors.items n ≡ Some a → living + 1 ≡ t.living → AreTablesSound t → AreTablesSound (record t { actors = actors; living = living })
 sound_ended t n a actors living items there left s = record {
   some = s.some;
   most = s.most;

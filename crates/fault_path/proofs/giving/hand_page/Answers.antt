@@ -1,6 +1,6 @@
 use Rattle.std.proofs.Common.{◌∙◌, arith}
 use Rattle.local_cache.specs.declared.own_state.OwnState.TheVariants.{Resident}
-use Rattle.fault_path.proofs.Pages.OwnPage.{given_copies, given_gets, given_like}
+use Rattle.fault_path.proofs.OnePage.OwnPage.{given_copies, given_gets, given_like}
 use Rattle.fault_path.proofs.Rules.OwningRules.{apart, clear}
 use Rattle.fault_path.proofs.giving.hand_page.Goals as goal
 

@@ -9,7 +9,7 @@ use Rattle.residency.specs.World.{HoldsPage, World, world}
 use Rattle.residency.proofs.Forests.StillForest.{still_forest}
 use Rattle.fault_path.specs.Faults.{IsOwner, is_at_hand, is_zero}
 use Rattle.fault_path.proofs.Calls.Answered.{still_answered}
-use Rattle.fault_path.proofs.Pages.FoundPage.{found_frame, found_zero, owner_same, resident_is, zero_is}
+use Rattle.fault_path.proofs.OnePage.FoundPage.{found_frame, found_zero, owner_same, resident_is, zero_is}
 use Rattle.residency.specs.Translating.{Drops}
 use Rattle.residency.proofs.Translations.Kept.{same_drops, still_drops_but}
 use Rattle.fault_path.proofs.reading.read_fault.Given.{Over}

@@ -8,7 +8,7 @@ use Rattle.residency.specs.World.{Still, World, world}
 use Rattle.residency.proofs.Worlds.Composed.{still_then}
 use Rattle.residency.proofs.Forests.StillForest.{still_forest, still_like}
 use Rattle.fault_path.specs.Faults.{Kept}
-use Rattle.fault_path.proofs.Pages.DirtyPage.{bound_dirty, dirtied}
+use Rattle.fault_path.proofs.OnePage.DirtyPage.{bound_dirty, dirtied}
 use Rattle.fault_path.proofs.Calls.Kept.{still_kept}
 use Rattle.fault_path.proofs.Rules.ReadyForest.{kept_ready}
 use Rattle.local_cache.proofs.Changes.SameNodes.{copies-put}

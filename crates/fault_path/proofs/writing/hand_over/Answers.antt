@@ -16,7 +16,7 @@ use Rattle.vm_ids.specs.declared.numbers.NodeId.{NodeId}
 use Rattle.residency.proofs.Translations.Kept.{drops_more}
 use Rattle.fault_path.specs.Answers.{IsAnswered}
 use Rattle.fault_path.specs.Translating.{MayCome}
-use Rattle.fault_path.proofs.Pages.FoundPage.{itself_owner}
+use Rattle.fault_path.proofs.OnePage.FoundPage.{itself_owner}
 use Rattle.fault_path.proofs.Translations.Given.{failed_leaves, may_come, settled_comes, settled_stays}
 use Rattle.fault_path.proofs.Translations.Whole.{heir_drops}
 use Rattle.local_cache.specs.Reading.{name_of}

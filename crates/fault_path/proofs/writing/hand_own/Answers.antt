@@ -11,7 +11,7 @@ use Rattle.vm_ids.specs.Forest.Rules.{heir_gets}
 use Rattle.global_map.specs.Pairs.{node_of}
 use Rattle.local_cache.specs.Reading.{name_of}
 use Rattle.fault_path.specs.Faults.{Kept}
-use Rattle.fault_path.proofs.Pages.DirtyPage.{bound_dirty, dirtied}
+use Rattle.fault_path.proofs.OnePage.DirtyPage.{bound_dirty, dirtied}
 use Rattle.fault_path.proofs.Calls.Kept.{still_kept, still_shaped}
 use Rattle.fault_path.proofs.Rules.ReadyForest.{handed_ready}
 use Rattle.fault_path.proofs.Frames.GatheredFrames.{bound_below, brought_home}

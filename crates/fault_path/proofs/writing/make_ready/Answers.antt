@@ -12,7 +12,7 @@ use Rattle.residency.specs.World.{HasOwnPage}
 use Rattle.fault_path.specs.Translating.{LeavesHomes}
 use Rattle.fault_path.specs.Costs.{TakesAtMost, pulls_to_copy}
 use Rattle.fault_path.proofs.Calls.Costs.{most_more}
-use Rattle.fault_path.proofs.Pages.FoundPage.{each_owner, itself_owner, owner_same}
+use Rattle.fault_path.proofs.OnePage.FoundPage.{each_owner, itself_owner, owner_same}
 use Rattle.fault_path.proofs.writing.make_ready.Goals as goal
 
 pub returns-in-None-clause-ready : goal.returns-in-None-clause-ready

@@ -4,7 +4,7 @@ use Rattle.residency.specs.World.{World, world}
 use Rattle.residency.specs.declared.store.Store.{Store}
 use Rattle.vm_ids.specs.declared.numbers.NodeId.{NodeId}
 use Rattle.fault_path.specs.Faults.{IsOwner}
-use Rattle.fault_path.proofs.Pages.FoundPage.{each_owner, owner_same}
+use Rattle.fault_path.proofs.OnePage.FoundPage.{each_owner, owner_same}
 use Rattle.local_cache.specs.Own.{own_of}
 use Rattle.fault_path.proofs.Calls.Costs.{at_hand_pulls, copy_most, most_more}
 use Rattle.fault_path.proofs.Translations.Homes.{drops_homes}

@@ -19,7 +19,7 @@ use Rattle.residency.proofs.Pushes.Told.{tells_then}
 use Rattle.vm_ids.specs.declared.numbers.NodeId.{NodeId}
 use Rattle.local_cache.specs.Own.{own_of}
 use Rattle.fault_path.specs.Costs.{Pulls, TakesAtMost, frames_to_copy, free_count, pulls_to_copy}
-use Rattle.fault_path.proofs.Pages.FoundPage.{each_owner, owner_same}
+use Rattle.fault_path.proofs.OnePage.FoundPage.{each_owner, owner_same}
 use Rattle.local_cache.specs.declared.own_state.OwnState.{OwnState}
 use Rattle.fault_path.proofs.Calls.Costs.{copy_most, most_more, most_then, pulls_more, pulls_most, pushes_then}
 use Rattle.std.proofs.lemmas.List.{get_or-set_other}

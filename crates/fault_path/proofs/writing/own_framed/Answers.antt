@@ -13,7 +13,7 @@ use Rattle.global_map.specs.Pairs.{node_of}
 use Rattle.local_cache.specs.Own.{is_absent, own_of}
 use Rattle.fault_path.specs.Costs.{Pulls, TakesAtMost, frames_to_copy, free_count, pulls_to_copy}
 use Rattle.fault_path.proofs.Calls.Costs.{copy_most, most_more}
-use Rattle.fault_path.proofs.Pages.FoundPage.{each_owner, owner_same}
+use Rattle.fault_path.proofs.OnePage.FoundPage.{each_owner, owner_same}
 use Rattle.residency.specs.Translating.{Drops}
 use Rattle.residency.proofs.Translations.Kept.{drops_more}
 use Rattle.fault_path.specs.Answers.{IsAnswered, IsFramed}

@@ -5,8 +5,8 @@ use Rattle.vm_ids.proofs.Forest.Moving.{source_stays}
 use Rattle.local_cache.specs.declared.own_state.OwnState.TheVariants.{Zero}
 use Rattle.local_cache.specs.Arena.{find, node_at, with_new}
 use Rattle.local_cache.specs.Reading.{forest_of}
-use Rattle.local_cache.proofs.NewCache.Pages.{some_of}
-use Rattle.local_cache.proofs.Whole.Pages.{page_there}
+use Rattle.local_cache.proofs.NewCache.FoundPages.{some_of}
+use Rattle.local_cache.proofs.Whole.LivePages.{page_there}
 use Rattle.tree_merge.proofs.Leaving.Detached.{retired_room}
 use Rattle.tree_merge.proofs.Leaving.Sizes.{sizes_retired}
 use Rattle.move_pages.proofs.Moves.{move_consistent, move_nodes, move_others, move_room, move_sizes, move_sound, move_zero, moved_room, moved_vacant}

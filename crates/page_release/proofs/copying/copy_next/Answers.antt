@@ -3,7 +3,7 @@ use Rattle.vm_ids.specs.Forest.Commands.{page_name, small_copy}
 use Rattle.vm_ids.proofs.Forest.Pairs.{pages_now}
 use Rattle.local_cache.specs.Reading.{forest_of}
 use Rattle.page_release.proofs.CopiedPages.Steps.{step_can, step_copies}
-use Rattle.page_release.proofs.Walking.Ranges.{is_destination}
+use Rattle.page_release.proofs.CommandSteps.Ranges.{is_destination}
 use Rattle.page_release.proofs.copying.copy_next.Goals as goal
 
 pub follow-requires : goal.follow-requires

@@ -3,10 +3,10 @@ use Rattle.vm_ids.specs.declared.node_name.NodeName.{NodeName}
 use Rattle.vm_ids.specs.Forest.Commands.{firsts, page_names, seconds, span_pairs}
 use Rattle.vm_ids.specs.Forest.NameLists.{◌∈◌}
 use Rattle.local_cache.specs.Reading.{forest_of}
-use Rattle.page_release.proofs.Leading.Behind.{goes_behind, kept_behind, pages_behind, ready_behind}
-use Rattle.page_release.proofs.Leading.Left.{AreReady, leaves, ready_first, ready_shared}
-use Rattle.page_release.proofs.Leading.Ranges.{tables_twice}
-use Rattle.page_release.proofs.Walking.Ranges.{destination_names, destination_nodes, source_names, source_nodes}
+use Rattle.page_release.proofs.StaleTranslations.Behind.{goes_behind, kept_behind, pages_behind, ready_behind}
+use Rattle.page_release.proofs.StaleTranslations.Left.{AreReady, leaves, ready_first, ready_shared}
+use Rattle.page_release.proofs.StaleTranslations.Ranges.{tables_twice}
+use Rattle.page_release.proofs.CommandSteps.Ranges.{destination_names, destination_nodes, source_names, source_nodes}
 use Rattle.page_release.proofs.copying.copy_pages.Goals as goal
 
 pub drop_seen-requires-clause-nodes : goal.drop_seen-requires-clause-nodes

@@ -11,20 +11,20 @@ use Rattle.local_cache.specs.Own.{own_states}
 use Rattle.local_cache.specs.Reading.{forest_of}
 use Rattle.local_cache.proofs.Changes.SameNodes.{forest_of-copies}
 use Rattle.local_cache.proofs.Whole.Commands.{emptied, whole_emptied}
-use Rattle.local_cache.proofs.Whole.Pages.{pages_once, range_there}
+use Rattle.local_cache.proofs.Whole.LivePages.{pages_once, range_there}
 use Rattle.residency.specs.Seeing.{frame_forest}
 use Rattle.residency.specs.StoreForest.{store_forest}
 use Rattle.residency.specs.World.{world}
 use Rattle.page_release.specs.Homes.{is_named}
 use Rattle.page_release.specs.Steps.{Releases, zeros_told}
 use Rattle.page_release.proofs.Forgotten.Again.{destroy_named}
-use Rattle.page_release.proofs.Framing.Shape.{frame_consistent, frame_pages, frame_saved}
-use Rattle.page_release.proofs.Freeing.Commands.{destroy_replaces}
-use Rattle.page_release.proofs.Tying.Homes.{homed_gone}
-use Rattle.page_release.proofs.Tying.Kept.{kept_both, kept_then, kept_unlisted, unpinned_kept}
-use Rattle.page_release.proofs.Tying.Shape.{store_consistent, store_pages, store_saved}
-use Rattle.page_release.proofs.Tying.Sized.{right_after}
-use Rattle.page_release.proofs.Walking.Forgetting.{retire_kept}
+use Rattle.page_release.proofs.SeenFrames.Shape.{frame_consistent, frame_pages, frame_saved}
+use Rattle.page_release.proofs.FreedFrames.Commands.{destroy_replaces}
+use Rattle.page_release.proofs.TiedStores.Homes.{homed_gone}
+use Rattle.page_release.proofs.TiedStores.Kept.{kept_both, kept_then, kept_unlisted, unpinned_kept}
+use Rattle.page_release.proofs.TiedStores.Shape.{store_consistent, store_pages, store_saved}
+use Rattle.page_release.proofs.TiedStores.Sized.{right_after}
+use Rattle.page_release.proofs.CommandSteps.Forgetting.{retire_kept}
 use Rattle.page_release.proofs.destroying.destroy_pages.Goals as goal
 
 pub forget_touched-requires-clause-nodes : goal.forget_touched-requires-clause-nodes

@@ -8,12 +8,12 @@ use Rattle.local_cache.specs.Arena.{Arena}
 use Rattle.local_cache.specs.Reading.{forest_of}
 use Rattle.local_cache.specs.Whole.{IsWhole, size_of}
 use Rattle.local_cache.proofs.Changes.SameNodes.{forest_of-made}
-use Rattle.local_cache.proofs.Whole.Pages.{page_there, pages_once}
+use Rattle.local_cache.proofs.Whole.LivePages.{page_there, pages_once}
 use Rattle.residency.specs.declared.store.Store.{Store}
 use Rattle.page_release.proofs.Forgotten.Range.{in_range, same_place}
 use Rattle.page_release.proofs.PassedOver.Childless.{retired_childless}
 use Rattle.page_release.proofs.RetiredPages.Parts.{PagesLeft, RetiresPages, next_there, pages_left, retires_none, retires_then}
-use Rattle.page_release.proofs.Tying.Kept.{unclean_kept, unpinned_kept}
+use Rattle.page_release.proofs.TiedStores.Kept.{unclean_kept, unpinned_kept}
 use Rattle.page_release.proofs.destroying.retire_pages.Goals as goal
 
 -- the pages that are left when so many are retired

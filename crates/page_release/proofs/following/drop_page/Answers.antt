@@ -6,7 +6,7 @@ use Rattle.local_cache.specs.declared.own_state.OwnState.TheVariants.{Absent, Ze
 use Rattle.residency.specs.World.{World, world}
 use Rattle.residency.specs.declared.store.Store.{Store}
 use Rattle.page_release.specs.Following.{CanLeave, without_page}
-use Rattle.page_release.proofs.Freeing.Freed.{emptied_freed, same_freed}
+use Rattle.page_release.proofs.FreedFrames.Freed.{emptied_freed, same_freed}
 use Rattle.page_release.proofs.following.drop_page.Goals as goal
 
 pub returns-in-Resident-clause-tables : goal.returns-in-Resident-clause-tables

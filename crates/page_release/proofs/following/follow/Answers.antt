@@ -1,5 +1,5 @@
 use Rattle.std.proofs.Common.{refl}
-use Rattle.page_release.proofs.Freeing.Freed.{same_freed}
+use Rattle.page_release.proofs.FreedFrames.Freed.{same_freed}
 use Rattle.page_release.proofs.following.follow.Goals as goal
 
 pub returns-in-Nothing-clause-tables : goal.returns-in-Nothing-clause-tables

@@ -5,7 +5,7 @@ use Rattle.local_cache.specs.declared.own_state.OwnState.TheVariants.{Absent, Ze
 use Rattle.residency.specs.World.{World, world}
 use Rattle.residency.specs.declared.store.Store.{Store}
 use Rattle.page_release.specs.Following.{CanMove, with_page_moved}
-use Rattle.page_release.proofs.Freeing.Freed.{rekeyed_freed, same_freed}
+use Rattle.page_release.proofs.FreedFrames.Freed.{rekeyed_freed, same_freed}
 use Rattle.page_release.proofs.following.move_page.Goals as goal
 
 pub returns-in-Resident-clause-tables : goal.returns-in-Resident-clause-tables

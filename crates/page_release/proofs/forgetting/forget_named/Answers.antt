@@ -12,8 +12,8 @@ use Rattle.residency.specs.World.{world}
 use Rattle.page_release.specs.Homes.{IsUnclean, is_named}
 use Rattle.page_release.specs.Steps.{forgotten_where, zeros_told}
 use Rattle.page_release.proofs.Forgotten.Law.{forgotten_whole}
-use Rattle.page_release.proofs.Tying.Kept.{kept_none}
-use Rattle.page_release.proofs.Tying.Named.{temporary_unclean}
+use Rattle.page_release.proofs.TiedStores.Kept.{kept_none}
+use Rattle.page_release.proofs.TiedStores.Named.{temporary_unclean}
 use Rattle.page_release.proofs.forgetting.forget_named.Goals as goal
 
 pub returns-then-is_some-clause-whole : goal.returns-then-is_some-clause-whole

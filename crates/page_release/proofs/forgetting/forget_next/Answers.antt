@@ -5,7 +5,7 @@ use Rattle.residency.proofs.Worlds.Nodes.{same}
 use Rattle.page_release.specs.Homes.{MayGo}
 use Rattle.page_release.proofs.PassedOver.Forgetting.{forgets_none, forgets_one}
 use Rattle.page_release.proofs.PassedOver.Nodes.{untouched_may}
-use Rattle.page_release.proofs.Tying.Kept.{kept_none}
+use Rattle.page_release.proofs.TiedStores.Kept.{kept_none}
 use Rattle.page_release.proofs.forgetting.forget_next.Goals as goal
 
 pub untouched_nodes-untouched-requires : goal.untouched_nodes-untouched-requires

@@ -8,7 +8,7 @@ use Rattle.residency.specs.World.{SameNodes, world}
 use Rattle.residency.proofs.Worlds.Nodes.{with_own_same, same}
 use Rattle.page_release.specs.Following.{CanLeave, without_page}
 use Rattle.page_release.proofs.Forgotten.One.{absent_forest, absent_frames, absent_nodes, absent_unclean, forget_can, forget_forest, forget_frames, forget_kept, forget_nodes, forget_unclean, unclean_named}
-use Rattle.page_release.proofs.Tying.Kept.{kept_none}
+use Rattle.page_release.proofs.TiedStores.Kept.{kept_none}
 use Rattle.page_release.proofs.forgetting.forget_page.Goals as goal
 
 pub drop_page-requires : goal.drop_page-requires

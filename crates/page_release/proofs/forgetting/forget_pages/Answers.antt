@@ -14,7 +14,7 @@ use Rattle.residency.proofs.Worlds.Nodes.{same, same_then}
 use Rattle.page_release.specs.Homes.{IsUnclean}
 use Rattle.page_release.specs.Steps.{zeros_told}
 use Rattle.page_release.proofs.Forgotten.Range.{forgotten_by, in_range, names_end, names_start, range_stays, same_place}
-use Rattle.page_release.proofs.Tying.Kept.{kept_none, kept_then, unclean_kept, unpinned_kept}
+use Rattle.page_release.proofs.TiedStores.Kept.{kept_none, kept_then, unclean_kept, unpinned_kept}
 use Rattle.page_release.proofs.forgetting.forget_pages.Goals as goal
 
 pub loop-page-init : goal.loop-page-init

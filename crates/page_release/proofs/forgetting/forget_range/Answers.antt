@@ -6,8 +6,8 @@ use Rattle.residency.proofs.Worlds.Nodes.{same, same_then}
 use Rattle.page_release.specs.Homes.{MayGo}
 use Rattle.page_release.proofs.Forgotten.Range.{in_range, range_stays, same_place}
 use Rattle.page_release.proofs.PassedOver.Forgetting.{forgets_none, forgets_then, may_kept, part_of}
-use Rattle.page_release.proofs.Tying.Kept.{kept_none, kept_then, unpinned_kept}
-use Rattle.page_release.proofs.Tying.Named.{named_same}
+use Rattle.page_release.proofs.TiedStores.Kept.{kept_none, kept_then, unpinned_kept}
+use Rattle.page_release.proofs.TiedStores.Named.{named_same}
 use Rattle.page_release.proofs.forgetting.forget_range.Goals as goal
 
 pub loop-done-init : goal.loop-done-init

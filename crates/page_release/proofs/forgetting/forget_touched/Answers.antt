@@ -4,8 +4,8 @@ use Rattle.vm_ids.proofs.Forest.Laws.Ranges.{ranges_hold_their_pages}
 use Rattle.page_release.specs.Homes.{MayGo}
 use Rattle.page_release.proofs.Forgotten.Law.{forgotten_whole}
 use Rattle.page_release.proofs.PassedOver.Forgetting.{forgets_none}
-use Rattle.page_release.proofs.Tying.Kept.{kept_none}
-use Rattle.page_release.proofs.Tying.Named.{temporary_unclean}
+use Rattle.page_release.proofs.TiedStores.Kept.{kept_none}
+use Rattle.page_release.proofs.TiedStores.Named.{temporary_unclean}
 use Rattle.page_release.proofs.forgetting.forget_touched.Goals as goal
 
 pub forget_range-requires-clause-named : goal.forget_range-requires-clause-named

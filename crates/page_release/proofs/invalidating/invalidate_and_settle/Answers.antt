@@ -19,16 +19,16 @@ use Rattle.residency.proofs.Worlds.Nodes.{still_like}
 use Rattle.page_release.specs.Homes.{HasHome, IsClean, named_page}
 use Rattle.page_release.specs.Readings.{held_pages, new_frames, new_pages, new_states}
 use Rattle.page_release.specs.Steps.{zeros_told}
-use Rattle.page_release.proofs.Framing.Shape.{frame_consistent, frame_pages, frame_saved}
-use Rattle.page_release.proofs.Freeing.Commands.{replace_replaces}
-use Rattle.page_release.proofs.Tying.Kept.{kept_then, unpinned_kept}
-use Rattle.page_release.proofs.Tying.Named.{named_home, named_same}
-use Rattle.page_release.proofs.Tying.Shape.{store_consistent, store_pages, store_saved}
+use Rattle.page_release.proofs.SeenFrames.Shape.{frame_consistent, frame_pages, frame_saved}
+use Rattle.page_release.proofs.FreedFrames.Commands.{replace_replaces}
+use Rattle.page_release.proofs.TiedStores.Kept.{kept_then, unpinned_kept}
+use Rattle.page_release.proofs.TiedStores.Named.{named_home, named_same}
+use Rattle.page_release.proofs.TiedStores.Shape.{store_consistent, store_pages, store_saved}
 use Rattle.local_cache.proofs.Whole.Like.{like_node}
 use Rattle.page_release.proofs.Forgotten.Again.{replace_some}
-use Rattle.page_release.proofs.Walking.Replacing.{clean_then, pages_of, segment_pages_same}
-use Rattle.page_release.proofs.Walking.Forgetting.{retire_kept}
-use Rattle.page_release.proofs.Walking.Settled.{pages_kept}
+use Rattle.page_release.proofs.CommandSteps.Replacing.{clean_then, pages_of, segment_pages_same}
+use Rattle.page_release.proofs.CommandSteps.Forgetting.{retire_kept}
+use Rattle.page_release.proofs.CommandSteps.Settled.{pages_kept}
 use Rattle.page_release.proofs.invalidating.invalidate_and_settle.Goals as goal
 
 pub replace_each-requires-clause-named : goal.replace_each-requires-clause-named

@@ -1,8 +1,8 @@
 use Rattle.vm_ids.specs.Forest.Commands.{page_names}
 use Rattle.vm_ids.specs.Forest.NameLists.{◌∈◌}
-use Rattle.page_release.proofs.Leading.Behind.{goes_behind, kept_behind, pages_behind, ready_behind}
-use Rattle.page_release.proofs.Leading.Left.{leaves, ready_first}
-use Rattle.page_release.proofs.Leading.Ranges.{tables_mapped}
+use Rattle.page_release.proofs.StaleTranslations.Behind.{goes_behind, kept_behind, pages_behind, ready_behind}
+use Rattle.page_release.proofs.StaleTranslations.Left.{leaves, ready_first}
+use Rattle.page_release.proofs.StaleTranslations.Ranges.{tables_mapped}
 use Rattle.page_release.proofs.invalidating.invalidate_pages.Goals as goal
 
 pub invalidate_and_settle-requires-clause-ready : goal.invalidate_and_settle-requires-clause-ready

@@ -5,14 +5,14 @@ use Rattle.vm_ids.specs.Forest.Nodes.{child_count}
 use Rattle.vm_ids.proofs.Forest.Laws.Ranges.{ranges_hold_their_pages}
 use Rattle.local_cache.specs.declared.own_state.OwnState.TheVariants.{OnSegment}
 use Rattle.local_cache.specs.Reading.{forest_of}
-use Rattle.local_cache.proofs.Whole.Pages.{page_there}
+use Rattle.local_cache.proofs.Whole.LivePages.{page_there}
 use Rattle.page_release.specs.Readings.{held_pages, new_states}
 use Rattle.page_release.proofs.Forgotten.Range.{in_range, same_place}
 use Rattle.page_release.proofs.PassedOver.Childless.{replaced_childless}
 use Rattle.page_release.proofs.PassedOver.Replacing.{ReplacesPages, replaces_none, replaces_then}
-use Rattle.page_release.proofs.Tying.Kept.{unclean_kept, unpinned_kept}
-use Rattle.page_release.proofs.Tying.Named.{named_same}
-use Rattle.page_release.proofs.Walking.Replacing.{first_names}
+use Rattle.page_release.proofs.TiedStores.Kept.{unclean_kept, unpinned_kept}
+use Rattle.page_release.proofs.TiedStores.Named.{named_same}
+use Rattle.page_release.proofs.CommandSteps.Replacing.{first_names}
 use Rattle.page_release.proofs.invalidating.replace_each.Goals as goal
 
 pub loop-done-init : goal.loop-done-init

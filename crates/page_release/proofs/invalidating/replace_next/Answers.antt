@@ -5,7 +5,7 @@ use Rattle.vm_ids.specs.Forest.Nodes.{Forest, IsNode}
 use Rattle.vm_ids.specs.Forest.Shape.{IsConsistent}
 use Rattle.vm_ids.proofs.Forest.Lengths.{detach_len}
 use Rattle.vm_ids.proofs.Forest.Made.{detach-made}
-use Rattle.vm_ids.proofs.Forest.Pages.{detach-consistent}
+use Rattle.vm_ids.proofs.Forest.OnePage.{detach-consistent}
 use Rattle.local_cache.specs.declared.own_state.OwnState.{OwnState}
 use Rattle.local_cache.specs.declared.own_state.OwnState.TheVariants.{OnSegment}
 use Rattle.local_cache.specs.Reading.{forest_of}
@@ -13,8 +13,8 @@ use Rattle.local_cache.proofs.Changes.SameNodes.{forest_of-made}
 use Rattle.local_cache.proofs.Forest.Reading.{IsNode-forest_of}
 use Rattle.page_release.specs.Homes.{IsClean}
 use Rattle.page_release.proofs.PassedOver.Replacing.{ReplacesPages, untouched_replaces}
-use Rattle.page_release.proofs.Tying.Named.{named_home}
-use Rattle.page_release.proofs.Walking.Replacing.{detach_stays, detached_clean}
+use Rattle.page_release.proofs.TiedStores.Named.{named_home}
+use Rattle.page_release.proofs.CommandSteps.Replacing.{detach_stays, detached_clean}
 use Rattle.page_release.proofs.invalidating.replace_next.Goals.{After-untouched_nodes-untouched}
 use Rattle.page_release.proofs.invalidating.replace_next.Goals as goal
 

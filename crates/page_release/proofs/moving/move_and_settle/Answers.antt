@@ -17,16 +17,16 @@ use Rattle.residency.proofs.Worlds.Nodes.{still_like}
 use Rattle.page_release.specs.Homes.{is_named}
 use Rattle.page_release.specs.Steps.{forgotten_where, zeros_told}
 use Rattle.page_release.proofs.Forgotten.Law.{move_forgotten}
-use Rattle.page_release.proofs.Framing.Shape.{frame_can, frame_consistent, frame_saved}
-use Rattle.page_release.proofs.Freeing.Commands.{move_replaces}
-use Rattle.page_release.proofs.Tying.Homes.{writable_after}
-use Rattle.page_release.proofs.Tying.Kept.{kept_both, kept_then, unpinned_kept}
-use Rattle.page_release.proofs.Tying.Named.{named_same}
-use Rattle.page_release.proofs.Tying.Shape.{store_can, store_consistent, store_saved}
+use Rattle.page_release.proofs.SeenFrames.Shape.{frame_can, frame_consistent, frame_saved}
+use Rattle.page_release.proofs.FreedFrames.Commands.{move_replaces}
+use Rattle.page_release.proofs.TiedStores.Homes.{writable_after}
+use Rattle.page_release.proofs.TiedStores.Kept.{kept_both, kept_then, unpinned_kept}
+use Rattle.page_release.proofs.TiedStores.Named.{named_same}
+use Rattle.page_release.proofs.TiedStores.Shape.{store_can, store_consistent, store_saved}
 use Rattle.local_cache.proofs.Whole.Like.{like_node}
-use Rattle.page_release.proofs.Walking.Ranges.{destination_names, destination_nodes}
-use Rattle.page_release.proofs.Walking.Forgetting.{retire_kept}
-use Rattle.page_release.proofs.Walking.Settled.{pages_kept}
+use Rattle.page_release.proofs.CommandSteps.Ranges.{destination_names, destination_nodes}
+use Rattle.page_release.proofs.CommandSteps.Forgetting.{retire_kept}
+use Rattle.page_release.proofs.CommandSteps.Settled.{pages_kept}
 use Rattle.page_release.proofs.moving.move_and_settle.Goals as goal
 
 pub forget_named-requires-clause-nodes : goal.forget_named-requires-clause-nodes

@@ -1,8 +1,8 @@
 use Rattle.std.proofs.Common.{◌≡◌, [], ◌∙◌, subst, arith}
 use Rattle.page_release.specs.Commands.{Grows}
 use Rattle.page_release.proofs.MovedPages.Parts.{MovesPages, left_can, moves_none, moves_then}
-use Rattle.page_release.proofs.Tying.Kept.{unclean_kept, unpinned_kept}
-use Rattle.page_release.proofs.Tying.Named.{named_same}
+use Rattle.page_release.proofs.TiedStores.Kept.{unclean_kept, unpinned_kept}
+use Rattle.page_release.proofs.TiedStores.Named.{named_same}
 use Rattle.page_release.proofs.moving.move_each.Goals as goal
 
 pub loop-done-init : goal.loop-done-init

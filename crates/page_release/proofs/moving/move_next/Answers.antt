@@ -8,11 +8,11 @@ use Rattle.residency.specs.World.{world}
 use Rattle.tree_merge.specs.declared.released.Released.{Released}
 use Rattle.page_release.specs.Following.{CanFollow, followed}
 use Rattle.page_release.specs.Steps.{IsUnpinned}
-use Rattle.page_release.proofs.Coming.Moved.{move_can}
+use Rattle.page_release.proofs.NamedNodes.Moved.{move_can}
 use Rattle.page_release.proofs.MovedPages.OnePage.{page_moves}
-use Rattle.page_release.proofs.MovedPages.Pages.{at_once_follows}
+use Rattle.page_release.proofs.MovedPages.AllAtOnce.{at_once_follows}
 use Rattle.page_release.proofs.MovedPages.Parts.{MovesPages, moves_one, moves_still}
-use Rattle.page_release.proofs.Walking.Ranges.{is_destination, is_source}
+use Rattle.page_release.proofs.CommandSteps.Ranges.{is_destination, is_source}
 use Rattle.page_release.proofs.moving.move_next.Goals as goal
 
 pub follow-requires : goal.follow-requires

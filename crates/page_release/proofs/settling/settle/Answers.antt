@@ -7,8 +7,8 @@ use Rattle.residency.specs.Seeing.{frame_forest}
 use Rattle.residency.specs.StoreForest.{store_forest}
 use Rattle.residency.specs.World.{world}
 use Rattle.residency.specs.declared.store.Store.{Store}
-use Rattle.page_release.proofs.Tying.Kept.{kept_both, kept_none, unpinned_kept}
-use Rattle.page_release.proofs.Walking.Steps.{end_forest, end_frames, end_nodes, step_consistent, step_fewer, step_forest, step_frames, step_nodes, step_room}
+use Rattle.page_release.proofs.TiedStores.Kept.{kept_both, kept_none, unpinned_kept}
+use Rattle.page_release.proofs.CommandSteps.Steps.{end_forest, end_frames, end_nodes, step_consistent, step_fewer, step_forest, step_frames, step_nodes, step_room}
 use Rattle.page_release.proofs.settling.settle.Goals as goal
 
 pub loop-init : goal.loop-init

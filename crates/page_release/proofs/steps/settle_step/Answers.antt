@@ -1,8 +1,8 @@
 use Rattle.std.proofs.Common.{[], subst, sym}
 use Rattle.page_release.specs.Steps.{Releases}
-use Rattle.page_release.proofs.Tying.Kept.{kept_none}
-use Rattle.page_release.proofs.Leaving.Merged.{merged_can, merged_kept, merged_step}
-use Rattle.page_release.proofs.Tying.Sized.{released_fewer}
+use Rattle.page_release.proofs.TiedStores.Kept.{kept_none}
+use Rattle.page_release.proofs.NodesGone.Merged.{merged_can, merged_kept, merged_step}
+use Rattle.page_release.proofs.TiedStores.Sized.{released_fewer}
 use Rattle.page_release.proofs.steps.settle_step.Goals as goal
 
 pub follow-requires : goal.follow-requires

@@ -9,8 +9,8 @@ use Rattle.vm_ids.specs.Forest.Nodes.Hang.{Root}
 use Rattle.local_cache.specs.declared.own_state.OwnState.{OwnState}
 use Rattle.local_cache.specs.declared.own_state.OwnState.TheVariants.{Zero}
 use Rattle.local_cache.specs.Arena.{Arena, Table, find, new_table}
-use Rattle.local_cache.proofs.NewCache.Pages.{made_segment}
-use Rattle.page_release.proofs.Tying.Named.{named_is}
+use Rattle.local_cache.proofs.NewCache.FoundPages.{made_segment}
+use Rattle.page_release.proofs.TiedStores.Named.{named_is}
 use Rattle.local_cache.specs.Own.{own_states}
 use Rattle.local_cache.specs.Reading.{forest_of}
 use Rattle.residency.specs.World.{HasNoNodes, IsStoreRight, world}
@@ -21,7 +21,7 @@ use Rattle.residency.proofs.NewCaches.New.{no_states}
 use Rattle.local_cache.proofs.NewCache.Whole.{none_len, none_whole, pages_with, whole_begun}
 use Rattle.local_cache.proofs.Nodes.Count.{states_most}
 use Rattle.vm_ids.proofs.Forest.Lengths.{put_len}
-use Rattle.page_release.proofs.Tying.Tied.{tied_right}
+use Rattle.page_release.proofs.TiedStores.Tied.{tied_right}
 use Rattle.page_release.proofs.tests.two_caches.Goals as goal
 
 -- one page more

@@ -1,13 +1,13 @@
 use Rattle.std.proofs.Common.{◌+◌, ◌-◌, ◌≤◌, List, Option, ap, ◌∙◌, arith}
 use Rattle.vm_ids.specs.declared.numbers.NodeId.{NodeId}
 use Rattle.vm_ids.specs.Forest.Commands.{page_names}
-use Rattle.local_cache.proofs.Whole.Pages.{page_there}
+use Rattle.local_cache.proofs.Whole.LivePages.{page_there}
 use Rattle.page_tables.specs.declared.entry.Entry.{Entry}
 use Rattle.residency.specs.declared.store.Store.{Store}
 use Rattle.residency.specs.Seeing.{seen_in}
 use Rattle.residency.specs.Translating.{without}
 use Rattle.page_release.specs.Translating.{is_seen}
-use Rattle.page_release.proofs.Leading.Ranges.{drop_end, drop_step, same_map, tables_mapped, tables_then, with_tables}
+use Rattle.page_release.proofs.StaleTranslations.Ranges.{drop_end, drop_step, same_map, tables_mapped, tables_then, with_tables}
 use Rattle.page_release.proofs.translations.drop_seen.Goals as goal
 
 pub drop_seen_next-done-requires-clause-node : goal.drop_seen_next-done-requires-clause-node

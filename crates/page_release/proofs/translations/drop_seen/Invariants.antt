@@ -2,7 +2,7 @@ use Rattle.std.proofs.Common.{◌≡◌, ◌+◌, ◌-◌, ◌≤◌}
 use Rattle.vm_ids.specs.Forest.Commands.{page_names}
 use Rattle.residency.specs.Translating.{without}
 use Rattle.page_release.specs.Translating.{is_seen}
-use Rattle.page_release.proofs.Leading.Ranges.{OnlyTables}
+use Rattle.page_release.proofs.StaleTranslations.Ranges.{OnlyTables}
 use Rattle.page_release.proofs.translations.drop_seen.Given as goal
 
 abbrev pub invariant-loop-done : goal.invariant-loop-done

@@ -1,8 +1,8 @@
 use Rattle.std.proofs.Common.{sym, ap, ◌∙◌}
 use Rattle.local_cache.specs.Own.{is_absent}
 use Rattle.residency.specs.Seeing.{seen_in}
-use Rattle.page_release.proofs.Leading.Alike.{none_seen}
-use Rattle.page_release.proofs.Leading.Ranges.{drop_frameless, with_tables}
+use Rattle.page_release.proofs.StaleTranslations.Alike.{none_seen}
+use Rattle.page_release.proofs.StaleTranslations.Ranges.{drop_frameless, with_tables}
 use Rattle.page_release.proofs.translations.drop_seen_next.Goals as goal
 
 pub returns-then-not-is_absent-clause-dropped : goal.returns-then-not-is_absent-clause-dropped

@@ -4,8 +4,8 @@ use Rattle.vm_ids.specs.declared.numbers.NodeId.{NodeId}
 use Rattle.page_tables.specs.Entries.{is_in_frame}
 use Rattle.page_tables.specs.Translations.{unless}
 use Rattle.residency.specs.Seeing.{seen_in}
-use Rattle.page_release.proofs.Leading.Ranges.{drop_frame, drop_nothing, with_tables}
-use Rattle.page_release.proofs.Leading.Seen.{IsFound, seen_is}
+use Rattle.page_release.proofs.StaleTranslations.Ranges.{drop_frame, drop_nothing, with_tables}
+use Rattle.page_release.proofs.StaleTranslations.Seen.{IsFound, seen_is}
 use Rattle.page_release.proofs.translations.drop_seen_page.Goals as goal
 
 pub returns-in-Some : goal.returns-in-Some

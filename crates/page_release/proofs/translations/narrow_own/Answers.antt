@@ -1,11 +1,11 @@
 use Rattle.std.proofs.Common.{◌+◌, ◌-◌, ◌≤◌, List, Option, ap, ◌∙◌, arith}
 use Rattle.vm_ids.specs.declared.numbers.NodeId.{NodeId}
 use Rattle.vm_ids.specs.Forest.Commands.{page_names}
-use Rattle.local_cache.proofs.Whole.Pages.{page_there}
+use Rattle.local_cache.proofs.Whole.LivePages.{page_there}
 use Rattle.page_tables.specs.declared.entry.Entry.{Entry}
 use Rattle.residency.specs.declared.store.Store.{Store}
 use Rattle.page_release.specs.Translating.{is_owned, own_in, with_narrowed}
-use Rattle.page_release.proofs.Leading.Ranges.{narrow_end, narrow_step, same_map, tables_mapped, tables_then, with_tables}
+use Rattle.page_release.proofs.StaleTranslations.Ranges.{narrow_end, narrow_step, same_map, tables_mapped, tables_then, with_tables}
 use Rattle.page_release.proofs.translations.narrow_own.Goals as goal
 
 pub narrow_own_next-done-requires-clause-node : goal.narrow_own_next-done-requires-clause-node

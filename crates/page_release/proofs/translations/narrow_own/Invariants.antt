@@ -1,7 +1,7 @@
 use Rattle.std.proofs.Common.{◌≡◌, ◌+◌, ◌-◌, ◌≤◌}
 use Rattle.vm_ids.specs.Forest.Commands.{page_names}
 use Rattle.page_release.specs.Translating.{is_owned, with_narrowed}
-use Rattle.page_release.proofs.Leading.Ranges.{OnlyTables}
+use Rattle.page_release.proofs.StaleTranslations.Ranges.{OnlyTables}
 use Rattle.page_release.proofs.translations.narrow_own.Given as goal
 
 abbrev pub invariant-loop-done : goal.invariant-loop-done

@@ -1,7 +1,7 @@
 use Rattle.std.proofs.Common.{ap}
 use Rattle.page_release.specs.Translating.{own_in}
-use Rattle.page_release.proofs.Leading.Alike.{none_owned}
-use Rattle.page_release.proofs.Leading.Ranges.{narrow_frameless, with_tables}
+use Rattle.page_release.proofs.StaleTranslations.Alike.{none_owned}
+use Rattle.page_release.proofs.StaleTranslations.Ranges.{narrow_frameless, with_tables}
 use Rattle.page_release.proofs.translations.narrow_own_next.Goals as goal
 
 pub returns-then-alike-gt0-clause-narrowed : goal.returns-then-alike-gt0-clause-narrowed

@@ -3,8 +3,8 @@ use Rattle.vm_ids.specs.declared.node_name.NodeName.TheVariants.{Live}
 use Rattle.vm_ids.specs.declared.numbers.NodeId.{NodeId}
 use Rattle.page_tables.specs.Translations.{narrowed}
 use Rattle.page_release.specs.Translating.{own_in}
-use Rattle.page_release.proofs.Leading.Ranges.{narrow_frame, narrow_nothing, with_tables}
-use Rattle.page_release.proofs.Leading.Seen.{IsFound, own_is}
+use Rattle.page_release.proofs.StaleTranslations.Ranges.{narrow_frame, narrow_nothing, with_tables}
+use Rattle.page_release.proofs.StaleTranslations.Seen.{IsFound, own_is}
 use Rattle.page_release.proofs.translations.narrow_own_page.Goals as goal
 
 pub returns-in-Some : goal.returns-in-Some

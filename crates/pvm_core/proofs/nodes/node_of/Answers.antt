@@ -1,4 +1,4 @@
-use Rattle.local_cache.proofs.Whole.Pages.{page_there}
+use Rattle.local_cache.proofs.Whole.LivePages.{page_there}
 use Rattle.pvm_core.proofs.nodes.node_of.Goals as goal
 
 pub node_of-requires : goal.node_of-requires

@@ -6,7 +6,7 @@ use Rattle.residency.proofs.Forests.StillForest.{still_forest}
 use Rattle.fault_path.proofs.Calls.Answered.{still_answered, still_missed_by}
 use Rattle.fault_path.proofs.Calls.Kept.{absent_is}
 use Rattle.pvm_core.proofs.Accesses.Loading.{owner_held}
-use Rattle.pvm_core.proofs.Locking.Pages.{on_ok, owned_bare, owned_has}
+use Rattle.pvm_core.proofs.Locking.LockedPages.{on_ok, owned_bare, owned_has}
 use Rattle.pvm_core.proofs.Translating.Brought.{brought_right}
 use Rattle.pvm_core.proofs.Translating.Dropped.{dropped_right}
 use Rattle.pvm_core.proofs.Translating.Writable.{tables_writable}

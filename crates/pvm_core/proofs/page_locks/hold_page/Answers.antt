@@ -5,7 +5,7 @@ use Rattle.local_cache.proofs.Whole.Like.{like_whole}
 use Rattle.residency.specs.World.{World, world}
 use Rattle.pvm_core.proofs.Locking.Alike.{alike_answered, alike_then}
 use Rattle.pvm_core.proofs.Locking.Holds.{holds_kept}
-use Rattle.pvm_core.proofs.Locking.Pages.{owned_values}
+use Rattle.pvm_core.proofs.Locking.LockedPages.{owned_values}
 use Rattle.pvm_core.proofs.page_locks.hold_page.Goals as goal
 
 pub returns-in_err-bring_own-clause-alike : goal.returns-in_err-bring_own-clause-alike

@@ -7,7 +7,7 @@ use Rattle.segment_ops.proofs.Unsaved.{range_fits}
 use Rattle.pvm_core.proofs.Locking.Alike.{alike_then}
 use Rattle.pvm_core.proofs.Locking.Extents.{extent, more_upto}
 use Rattle.pvm_core.proofs.Locking.Totals.{locked_more, range_fewer}
-use Rattle.pvm_core.proofs.Locking.Pages.{lock_upto, owned_few}
+use Rattle.pvm_core.proofs.Locking.LockedPages.{lock_upto, owned_few}
 use Rattle.pvm_core.proofs.page_locks.hold_pages.Goals as goal
 
 pub overflow_add-number-end : goal.overflow_add-number-end

@@ -7,8 +7,8 @@ use Rattle.local_cache.specs.Whole.{size_of}
 use Rattle.residency.specs.declared.store.Store.{Store}
 use Rattle.segment_ops.specs.Ranges.{HasRange, IsPageOf}
 use Rattle.pvm_core.specs.Holding.{HoldsLocked, KeepsPages, LocksMore}
-use Rattle.pvm_core.specs.Placed.{IsPlaced}
-use Rattle.pvm_core.proofs.Locking.Pages.{keeps_then}
+use Rattle.pvm_core.specs.Placed.{HasItsPages}
+use Rattle.pvm_core.proofs.Locking.LockedPages.{keeps_then}
 use Rattle.pvm_core.proofs.Locking.Regions.{all_at, next_locked, next_unlocked, pages_locked, placed_range, viewed}
 use Rattle.pvm_core.proofs.page_locks.let_all_go.Goals as goal
 use Rattle.pvm_core.proofs.page_locks.let_all_go.Goals.{then-view, else-view}
@@ -26,7 +26,7 @@ let_go-requires-clause-range c =
     let r = c.requires.right in
     let same = (c.loop-place.invariant.pages.alike r.0 r.1 no_counts r.2).same in
     let v = viewed c.args.regions.now.regions c.loop-place.place c.unwrap-view.result (sym c.nth.ensures ∙ c.unwrap-view.ensures) in
-    let placed = all_at (IsPlaced (size_of c.args.caches.now)) c.args.regions.now.regions c.loop-place.place v.region c.requires.placed v.here in
+    let placed = all_at (HasItsPages (size_of c.args.caches.now)) c.args.regions.now.regions c.loop-place.place v.region c.requires.placed v.here in
     subst (λ (view : RegionView). HasRange c.loop-place.caches view.mapping.extent) v.is (placed_range c.args.caches.now c.loop-place.caches v.region same placed)
 
 pub let_go-requires-clause-locked : goal.let_go-requires-clause-locked

@@ -2,7 +2,7 @@ use Rattle.std.proofs.Common.{◌∙◌, arith}
 use Rattle.vm_ids.specs.Counting.{no_counts}
 use Rattle.segment_ops.proofs.Unsaved.{range_fits}
 use Rattle.pvm_core.proofs.Locking.Extents.{less_upto}
-use Rattle.pvm_core.proofs.Locking.Pages.{keeps_then}
+use Rattle.pvm_core.proofs.Locking.LockedPages.{keeps_then}
 use Rattle.pvm_core.proofs.page_locks.let_go.Goals as goal
 
 pub overflow_add-page-end : goal.overflow_add-page-end

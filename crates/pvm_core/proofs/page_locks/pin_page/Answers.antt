@@ -5,9 +5,9 @@ use Rattle.vm_ids.proofs.Places.{bit_true}
 use Rattle.global_map.specs.Pairs.{bound_times, node_of}
 use Rattle.local_cache.specs.Arena.{locks_of}
 use Rattle.local_cache.specs.Own.{is_resident, own_of}
-use Rattle.local_cache.proofs.Whole.Pages.{page_there}
+use Rattle.local_cache.proofs.Whole.LivePages.{page_there}
 use Rattle.pvm_core.proofs.Locking.Totals.{locked_now}
-use Rattle.pvm_core.proofs.Locking.Pages.{found_at, found_some, one_more, paged_held, paged_kept}
+use Rattle.pvm_core.proofs.Locking.LockedPages.{found_at, found_some, one_more, paged_held, paged_kept}
 use Rattle.pvm_core.proofs.page_locks.pin_page.Goals as goal
 
 pub node_of-node-requires : goal.node_of-node-requires

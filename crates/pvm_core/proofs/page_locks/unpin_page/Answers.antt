@@ -6,11 +6,11 @@ use Rattle.frame_pool.specs.Pool.{is_pinned}
 use Rattle.global_map.specs.Pairs.{bound_times, node_of}
 use Rattle.local_cache.specs.Arena.{is_locked, locks_of}
 use Rattle.local_cache.specs.Own.{is_resident, own_of}
-use Rattle.local_cache.proofs.Whole.Pages.{page_there}
+use Rattle.local_cache.proofs.Whole.LivePages.{page_there}
 use Rattle.pvm_core.proofs.Holding.Bound.{frame_within}
 use Rattle.pvm_core.proofs.Locking.Totals.{locked_above}
 use Rattle.pvm_core.proofs.Locking.Holds.{locked_frame}
-use Rattle.pvm_core.proofs.Locking.Pages.{found_at, found_some, one_less, paged_held, paged_kept, pinned_again}
+use Rattle.pvm_core.proofs.Locking.LockedPages.{found_at, found_some, one_less, paged_held, paged_kept, pinned_again}
 use Rattle.pvm_core.proofs.page_locks.unpin_page.Goals.{After-drop_lock, After-unwrap-frame}
 use Rattle.pvm_core.proofs.page_locks.unpin_page.Goals as goal
 

@@ -4,7 +4,7 @@ use Rattle.std.proofs.lemmas.List.Elements.{All-append, All-cons}
 use Rattle.vm_ids.specs.declared.numbers.NodeId.{NodeId}
 use Rattle.local_cache.specs.declared.own_state.OwnState.TheVariants.{Zero}
 use Rattle.local_cache.specs.Own.{is_absent}
-use Rattle.local_cache.proofs.NewCache.Pages.{page_held, page_own}
+use Rattle.local_cache.proofs.NewCache.FoundPages.{page_held, page_own}
 use Rattle.residency.specs.World.{HasOwnPage}
 use Rattle.residency.proofs.tests.nodes_of.Goals as goal
 

@@ -9,7 +9,7 @@ use Rattle.local_cache.specs.declared.own_state.OwnState.TheVariants.{OnSegment}
 use Rattle.local_cache.specs.Arena.{Arena, find}
 use Rattle.local_cache.specs.Own.{own_states}
 use Rattle.local_cache.specs.Reading.{forest_of}
-use Rattle.local_cache.proofs.NewCache.Pages.{made_segment}
+use Rattle.local_cache.proofs.NewCache.FoundPages.{made_segment}
 use Rattle.local_cache.proofs.NewCache.Whole.{none_len, none_whole, whole_begun}
 use Rattle.residency.specs.World.{HasNoNodes, IsStoreRight, world}
 use Rattle.residency.specs.declared.store.Store.{Store}

@@ -1,4 +1,4 @@
-use Rattle.tree_merge.proofs.CopiedPages.Pages.{first_copied}
+use Rattle.tree_merge.proofs.CopiedPages.OneByOne.{first_copied}
 use Rattle.tree_merge.proofs.laws.copying_first.Goals as goal
 
 pub returns : goal.returns

@@ -1,4 +1,4 @@
-use Rattle.tree_merge.proofs.RetiredPages.Pages.{pages_retired}
+use Rattle.tree_merge.proofs.RetiredPages.OneByOne.{pages_retired}
 use Rattle.tree_merge.proofs.laws.retiring_at_once.Goals as goal
 
 pub returns : goal.returns

@@ -2,7 +2,7 @@ use Rattle.std.proofs.Common.{sym, ◌∙◌, subst, arith}
 use Rattle.vm_ids.specs.declared.node_name.NodeName.TheVariants.{Live}
 use Rattle.vm_ids.specs.Forest.Rules.{link, stub}
 use Rattle.local_cache.specs.Reading.{forest_of}
-use Rattle.local_cache.proofs.Whole.Pages.{page_there}
+use Rattle.local_cache.proofs.Whole.LivePages.{page_there}
 use Rattle.tree_merge.specs.Stepping.{IsHung}
 use Rattle.tree_merge.proofs.PagesAlone.Copied.{detached_room}
 use Rattle.tree_merge.proofs.PagesAlone.Detached.{destination_there, fresh_apart, fresh_bare, fresh_name, made_after, origin_name, source_there}

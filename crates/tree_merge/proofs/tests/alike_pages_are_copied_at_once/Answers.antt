@@ -10,13 +10,13 @@ use Rattle.vm_ids.specs.Forest.Shape.{IsConsistent}
 use Rattle.vm_ids.proofs.Forest.Laws.Ranges.{spans_can_be_copied}
 use Rattle.local_cache.specs.declared.own_state.OwnState.TheVariants.{Zero}
 use Rattle.local_cache.specs.Arena.{Arena, Cell, HasPage, HasPages, IsMade, Room, blank, cell}
-use Rattle.local_cache.specs.Reading.{IsNamed, forest_of}
+use Rattle.local_cache.specs.Reading.{AreNamesApart, forest_of}
 use Rattle.local_cache.specs.Sound.{IsSound}
 use Rattle.local_cache.proofs.Forest.Reading.{IsNode-forest_of}
 use Rattle.local_cache.proofs.NewCache.Whole.{none_len, none_whole, pages_with, whole_begun}
 use Rattle.tree_merge.proofs.tests.alike_pages_are_copied_at_once.Goals as goal
 
-page_is_node : (a : Arena) → IsNamed a → (cache : CacheId) (page : ℕ) → HasPage a cache page Zero → IsNode (forest_of a) (page_name cache page)
+page_is_node : (a : Arena) → AreNamesApart a → (cache : CacheId) (page : ℕ) → HasPage a cache page Zero → IsNode (forest_of a) (page_name cache page)
 unfolding cell
 page_is_node a named cache page p = subst (IsNode (forest_of a)) (ap (λ (o : Option Cell). (unwrap_or o blank).name) p.is) (IsNode-forest_of a named p.node (ap is_some p.is))
 

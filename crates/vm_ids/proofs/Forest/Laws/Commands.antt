@@ -22,7 +22,7 @@ use Rattle.vm_ids.proofs.Forest.Owning.{own-shaped}
 use Rattle.vm_ids.proofs.Forest.Writing.{owned-Owned}
 use Rattle.vm_ids.proofs.Forest.Counters.{own-copies, settle-counters, copy_pages-copies, move_pages-copies, replace_pages-copies, retire_all-copies}
 use Rattle.vm_ids.proofs.Forest.Agreeing.{value_none, IsNode-equal, bounded_from, live_count-le, working_count-le}
-use Rattle.vm_ids.proofs.Forest.Pages.{fresh-consistent, fresh-value, retired, retire-consistent, retire-value, detach-consistent, detach-value, copy_page-consistent, copy_page-value, move_page-consistent, move_page-value}
+use Rattle.vm_ids.proofs.Forest.OnePage.{fresh-consistent, fresh-value, retired, retire-consistent, retire-value, detach-consistent, detach-value, copy_page-consistent, copy_page-value, move_page-consistent, move_page-value}
 use Rattle.vm_ids.proofs.Forest.Saving.{saved-consistent, saved-values}
 use Rattle.vm_ids.proofs.Forest.Laws.Owning.{own_keeps_consistency, own_keeps_bound, own_keeps_values}
 use Rattle.vm_ids.proofs.Forest.Laws.Settling.{settle_keeps_consistency, settle_keeps_live_values, settle_settles, settled_is_bounded}

@@ -1,7 +1,7 @@
 use Rattle.std.proofs.Common.{◌≡◌, ◌+◌, ◌-◌, List, length, Option, ap, sym, subst, ◌∙◌, arith}
 use Rattle.local_cache.specs.declared.cache_list.CacheEntry.{CacheEntry}
 use Rattle.local_cache.specs.ArenaBy.{CacheRows}
-use Rattle.local_cache.specs.CacheList.{IsRight, rows_of}
+use Rattle.local_cache.specs.CacheList.{AreListsRight, rows_of}
 use Rattle.local_cache.specs.RowChanges.{with_row}
 use Rattle.local_cache.proofs.CacheList.Coming.{right_pushed, rows_pushed}
 use Rattle.local_cache.proofs.CacheList.Reading.{made_is}
@@ -35,7 +35,7 @@ returns-clause-number c =
 pub invariant_of-self : goal.invariant_of-self
 invariant_of-self c =
     let i = c.self.inside in
-    subst (λ (es : List (Option CacheEntry)). IsRight es i.grants i.locks (i.pages + c.args.pages) i.capacity i.locked) (sym c.push_reserved.ensures.items)
+    subst (λ (es : List (Option CacheEntry)). AreListsRight es i.grants i.locks (i.pages + c.args.pages) i.capacity i.locked) (sym c.push_reserved.ensures.items)
     (right_pushed i.entries.items i.grants i.locks i.pages i.capacity i.locked c.self.invariant c.args.segment c.args.pages
     (omega (arith, c.requires.entries, ap (λ (r : CacheRows). r.entries) c.self.view_is, c.self.invariant.fits))
     (omega (

@@ -3,13 +3,13 @@ use Rattle.std.specs.FinMap as map
 use Rattle.stretches.specs.Cells.{cells}
 use Rattle.local_cache.specs.declared.cache_list.CacheEntry.{CacheEntry}
 use Rattle.local_cache.specs.ArenaBy.{CacheRows}
-use Rattle.local_cache.specs.CacheList.{IsRight, entry_at, rows_of}
+use Rattle.local_cache.specs.CacheList.{AreListsRight, entry_at, rows_of}
 use Rattle.local_cache.specs.NodeKeys.{page_number}
 use Rattle.local_cache.specs.PageMarks.{granted_says, locks_say}
 use Rattle.local_cache.specs.RowChanges.{row_at, row_pages, rows_without, without_row}
 use Rattle.local_cache.specs.Singles.{without_range}
 use Rattle.local_cache.proofs.CacheList.Coming.{Goes, enough_locked, enough_pages, gone_pages, right_gone, rows_gone}
-use Rattle.local_cache.proofs.CacheList.Pages.{entry_index}
+use Rattle.local_cache.proofs.CacheList.PageNumbers.{entry_index}
 use Rattle.local_cache.proofs.CacheList.Reading.{grants_fit, is_live, locks_fit}
 use Rattle.local_cache.proofs.cache_list.CacheList.remove.Goals as goal
 
@@ -71,7 +71,7 @@ invariant_of-self c =
     let at = place c in
     let e = c.unwrap-entry.result in
     let index : c.args.cache.0 - 1 ≡ at.0 = omega (arith, at.1) in
-    subst (λ (n : ℕ). IsRight (set i.entries.items n None) c.clear_many.new.list c.clear_many-2.new.list (i.pages - e.pages) i.capacity (i.locked - c.count_said.result)) (sym index)
+    subst (λ (n : ℕ). AreListsRight (set i.entries.items n None) c.clear_many.new.list c.clear_many-2.new.list (i.pages - e.pages) i.capacity (i.locked - c.count_said.result)) (sym index)
     (right_gone i.entries.items i.grants i.locks i.pages i.capacity i.locked c.self.invariant at.0 e at.2 c.count_said.result (left c).counts
     c.clear_many.new.list c.clear_many-2.new.list (left c).grants (left c).locks
     c.clear_many.ensures.counted c.clear_many.ensures.places c.clear_many-2.ensures.counted c.clear_many-2.ensures.places)

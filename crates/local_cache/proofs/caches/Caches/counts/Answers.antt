@@ -3,12 +3,12 @@ use Rattle.vm_ids.specs.Forest.NameMap.{len}
 use Rattle.vm_ids.specs.Forest.Reading.{counts_of}
 use Rattle.local_cache.specs.Arena.{Arena}
 use Rattle.local_cache.specs.ArenaBy.{arena_by}
-use Rattle.local_cache.specs.Reading.{IsNamed, forest_of}
+use Rattle.local_cache.specs.Reading.{AreNamesApart, forest_of}
 use Rattle.local_cache.proofs.ArenaBy.Counts.{counts_by, forest_len_by}
 use Rattle.local_cache.proofs.caches.Caches.counts.Goals as goal
 
-named : (c : goal.After-copies) → IsNamed (arena_by c.self.inside.nodes c.self.inside.list)
-named c = subst IsNamed (sym c.self.view_is) c.requires
+named : (c : goal.After-copies) → AreNamesApart (arena_by c.self.inside.nodes c.self.inside.list)
+named c = subst AreNamesApart (sym c.self.view_is) c.requires
 
 pub returns-clause-counts : goal.returns-clause-counts
 returns-clause-counts c =

@@ -2,7 +2,7 @@ use Rattle.std.proofs.Common.{◌+◌, ap, arith}
 use Rattle.vm_ids.specs.declared.numbers.CacheId.{CacheId}
 use Rattle.local_cache.specs.NodeCells.{own_of_plain}
 use Rattle.local_cache.proofs.ArenaBy.Seen.{make_call, make_right, made_seen, next_seen}
-use Rattle.local_cache.proofs.NewCache.Pages.{made_pages, made_stays, made_tables}
+use Rattle.local_cache.proofs.NewCache.FoundPages.{made_pages, made_stays, made_tables}
 use Rattle.local_cache.proofs.caches.Caches.make.Goals as goal
 
 pub overflow_add-cache : goal.overflow_add-cache

@@ -1,7 +1,7 @@
 use Rattle.std.proofs.Common.{ap, arith, refl, subst, sym}
 use Rattle.vm_ids.specs.Forest.NameMap.{len}
 use Rattle.local_cache.specs.Arena.{Arena}
-use Rattle.local_cache.specs.Reading.{IsNamed, forest_of}
+use Rattle.local_cache.specs.Reading.{AreNamesApart, forest_of}
 use Rattle.local_cache.proofs.ArenaBy.Counts.{forest_len_by}
 use Rattle.local_cache.proofs.ArenaBy.Seen.{room_call, room_right}
 use Rattle.local_cache.proofs.Changes.SameCells.{roomier_sound}
@@ -28,7 +28,7 @@ returns-clause-few c named =
     omega (
       arith,
       c.in_ok-reserve.ensures.few,
-      forest_len_by c.self.inside.nodes c.self.inside.list (subst IsNamed (sym c.self.view_is) named),
+      forest_len_by c.self.inside.nodes c.self.inside.list (subst AreNamesApart (sym c.self.view_is) named),
       ap (λ (a : Arena). len (forest_of a).nodes) c.self.view_is,
     )
 

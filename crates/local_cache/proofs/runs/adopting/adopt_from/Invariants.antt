@@ -1,12 +1,12 @@
 use Rattle.std.proofs.Common.{◌≡◌, ◌-◌, ◌≤◌}
 use Rattle.local_cache.specs.ManyNodes.{over_many}
-use Rattle.local_cache.specs.NodeRuns.{IsRight, nodes_of}
+use Rattle.local_cache.specs.NodeRuns.{AreNodesRight, nodes_of}
 use Rattle.local_cache.proofs.runs.adopting.adopt_from.Given as goal
 
 abbrev pub invariant-loop-done : goal.invariant-loop-done
 invariant-loop-done l = record {
   most : l.done ≤ l.count;
-  right : IsRight l.lists l.counters;
+  right : AreNodesRight l.lists l.counters;
   nodes : nodes_of l.lists l.counters
       ≡ over_many (nodes_of l.initial.lists l.counters) (record { 0 = l.first }) l.children.older l.children.newer l.done;
 }

@@ -3,7 +3,7 @@ use Rattle.std.specs.Prelude.{option_map}
 use Rattle.stretches.specs.Stretches.{said}
 use Rattle.local_cache.specs.Arena.{Cell}
 use Rattle.local_cache.specs.Runs.{run as run_says}
-use Rattle.local_cache.proofs.NewCache.Pages.{some_of}
+use Rattle.local_cache.proofs.NewCache.FoundPages.{some_of}
 use Rattle.local_cache.proofs.NodeCells.{node_cell, node_run}
 use Rattle.local_cache.proofs.runs.parts.own_of.Goals as goal
 

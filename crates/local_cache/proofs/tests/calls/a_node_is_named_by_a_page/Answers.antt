@@ -2,7 +2,7 @@ use Rattle.std.proofs.Common.{ap, lit<, subst, sym}
 use Rattle.std.specs.Prelude.{is_some}
 use Rattle.local_cache.specs.declared.own_state.OwnState.TheVariants.{Zero}
 use Rattle.local_cache.specs.Arena.{IsVacant}
-use Rattle.local_cache.proofs.NewCache.Pages.{page_held}
+use Rattle.local_cache.proofs.NewCache.FoundPages.{page_held}
 use Rattle.local_cache.proofs.Names.WorkingName.{page_named, vacated}
 use Rattle.local_cache.proofs.tests.calls.a_node_is_named_by_a_page.Goals as goal
 

@@ -1,7 +1,7 @@
 use Rattle.std.proofs.Common.{ap, lit<}
 use Rattle.std.specs.Prelude.{is_some}
 use Rattle.local_cache.specs.declared.own_state.OwnState.TheVariants.{Zero}
-use Rattle.local_cache.proofs.NewCache.Pages.{page_held}
+use Rattle.local_cache.proofs.NewCache.FoundPages.{page_held}
 use Rattle.local_cache.proofs.tests.calls.caches_have_a_node_for_each_page.Goals as goal
 
 pub node_of-node-requires : goal.node_of-node-requires

@@ -1,7 +1,7 @@
 use Rattle.std.proofs.Common.{ap, lit<}
 use Rattle.std.specs.Prelude.{is_some}
 use Rattle.local_cache.specs.declared.own_state.OwnState.TheVariants.{OnSegment}
-use Rattle.local_cache.proofs.NewCache.Pages.{page_held}
+use Rattle.local_cache.proofs.NewCache.FoundPages.{page_held}
 use Rattle.local_cache.proofs.tests.calls.nodes_hang_on_one_another.Goals as goal
 
 pub node_of-source-requires : goal.node_of-source-requires

@@ -33,7 +33,7 @@ use Rattle.pvm_core.proofs.Meaning.Shown.{shown_size}
 use Rattle.pvm_core.proofs.Spanning.SpanRows.{IsOpen, copy_refused, is_open}
 use Rattle.pvm_core.proofs.Spanning.Transferring.{IsTransfer, IsUnready, copies_itself, nothing_given_back, unready}
 use Rattle.pvm_core.proofs.Spanning.Transfers.{copied_outcome, copied_transfer, copied_valid, copy_follows, named_machine}
-use Rattle.page_release.proofs.Walking.Ranges.{destination_names}
+use Rattle.page_release.proofs.CommandSteps.Ranges.{destination_names}
 use Rattle.pvm_core.proofs.Readiness.Filled.{fills_but, fills_itself, fills_then}
 use Rattle.pvm_core.proofs.Readiness.Granted.{asked_itself, within_itself, within_then}
 use Rattle.pvm_core.proofs.Translating.Left.{left_right}

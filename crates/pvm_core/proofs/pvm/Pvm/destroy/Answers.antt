@@ -19,7 +19,7 @@ use Rattle.contexts.specs.Actors.{Actors}
 use Rattle.residency.specs.declared.store.Store.{Store}
 use Rattle.vm_ids.specs.declared.numbers.CacheId.{CacheId}
 use Rattle.page_release.specs.Steps.{IsStoreTied, IsUnpinned}
-use Rattle.page_release.proofs.Tying.Tied.{tied_right}
+use Rattle.page_release.proofs.TiedStores.Tied.{tied_right}
 use Rattle.segment_ops.specs.Ranges.{HasRange}
 use Rattle.vm_model.specs.Answering.{Answer, is_mapped, maps_in}
 use Rattle.vm_model.specs.Following.{forest_after}

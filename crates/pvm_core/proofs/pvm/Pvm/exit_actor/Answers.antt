@@ -13,7 +13,7 @@ use Rattle.page_tables.specs.Entries.{is_of_actor}
 use Rattle.page_tables.specs.Translations.{unless}
 use Rattle.page_tables.specs.declared.entry.Entry.{Entry}
 use Rattle.contexts.specs.Actors.{Actors}
-use Rattle.pvm_core.specs.Manager.{IsKept, IsValid, Manager, caches_shown, numbered, state_at}
+use Rattle.pvm_core.specs.Manager.{IsManagerRight, IsValid, Manager, caches_shown, numbered, state_at}
 use Rattle.pvm_core.proofs.Acting.{exited, told}
 use Rattle.pvm_core.proofs.Answering.Kept.{seen}
 use Rattle.pvm_core.proofs.Locking.Gone.{IsGone, actor_locks, actor_placed, ended_counts, gone_answer, gone_numbered, gone_sound, gone_valid, mapped_is, mapped_none}
@@ -67,8 +67,8 @@ invariant_of-self c =
     let n = c.let_all_go.new in
     let v = subst (λ (p : Manager). IsValid p c.requires.0) (sym c.self.view_is) c.requires.1 in
     let ts : List (Option Entry) = map (unless (is_of_actor c.args.actor.0)) n.store.tables in
-    subst (λ (xs : List (Option Entry)). IsKept n.caches (with_tables n.store xs) c.exit.new.self i.live) (sym (dropped (goal.at.invariant_of-self c).After-drop_actor))
-    (subst (λ (x : Actors). IsKept n.caches (with_tables n.store ts) x i.live) (sym c.exit.ensures) (record {
+    subst (λ (xs : List (Option Entry)). IsManagerRight n.caches (with_tables n.store xs) c.exit.new.self i.live) (sym (dropped (goal.at.invariant_of-self c).After-drop_actor))
+    (subst (λ (x : Actors). IsManagerRight n.caches (with_tables n.store ts) x i.live) (sym c.exit.ensures) (record {
       sound = tables_sound n.caches n.store ts (without_actor c.args.actor.0 i.contexts) i.live (gone_sound (gone (goal.at.invariant_of-self c).After-let_all_go) c.requires.0 v);
       translated = ended_right n.caches n.store i.contexts (c.let_all_go.ensures.pages.translated i.contexts c.self.invariant.translated) c.args.actor.0 c.in-Some.regions.now.regions (here (goal.at.invariant_of-self c).In-Some);
     }))

@@ -38,7 +38,7 @@ use Rattle.pvm_core.proofs.Answering.Kept.{seen, sizeless}
 use Rattle.pvm_core.proofs.Answering.Standing.{Stands, stands}
 use Rattle.pvm_core.proofs.Answering.Listed.{IsFoundAt, found_at, refused_at, spot}
 use Rattle.pvm_core.proofs.Accesses.Loading.{found_place, found_within, load_fault, load_refused, loaded, owner_there}
-use Rattle.pvm_core.proofs.Accesses.Pages.{ends_within}
+use Rattle.pvm_core.proofs.Accesses.AccessedPages.{ends_within}
 use Rattle.pvm_core.proofs.Accesses.Seen.{found_led, found_right, found_seen, led_found, marked, same_grants, seen_by, seen_forest, seen_machine, seen_right, seen_sound, seen_valid, seen_world}
 use Rattle.pvm_core.proofs.Accesses.There.{IsThere, load_there, loaded_there, there_is}
 use Rattle.pvm_core.proofs.Translating.Dropped.{dropped_right}

@@ -37,7 +37,7 @@ use Rattle.pvm_core.proofs.Meaning.Shown.{shown_size}
 use Rattle.pvm_core.proofs.Spanning.SpanRows.{IsOpen, is_movable, is_open, move_refused}
 use Rattle.pvm_core.proofs.Spanning.Transferring.{IsTransfer, IsUnready, copies_itself, nothing_given_back, unready}
 use Rattle.pvm_core.proofs.Spanning.Transfers.{move_follows, moved_outcome, moved_transfer, moved_valid, named_machine, named_there}
-use Rattle.page_release.proofs.Walking.Ranges.{destination_names}
+use Rattle.page_release.proofs.CommandSteps.Ranges.{destination_names}
 use Rattle.pvm_core.proofs.Readiness.Filled.{fills_but, fills_itself, fills_then}
 use Rattle.pvm_core.proofs.Readiness.Granted.{asked_itself, within_itself, within_then}
 use Rattle.pvm_core.proofs.Translating.Left.{left_right}

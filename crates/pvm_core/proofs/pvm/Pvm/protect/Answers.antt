@@ -14,7 +14,7 @@ use Rattle.page_tables.specs.declared.entry.Entry.{Entry}
 use Rattle.residency.specs.declared.store.Store.{Store}
 use Rattle.contexts.specs.Actors.{Actors}
 use Rattle.contexts.proofs.Told.{told_some}
-use Rattle.pvm_core.specs.Manager.{IsKept, IsValid, caches_shown, numbered, state_at}
+use Rattle.pvm_core.specs.Manager.{IsManagerRight, IsValid, caches_shown, numbered, state_at}
 use Rattle.pvm_core.specs.Locks.{locks_over}
 use Rattle.pvm_core.specs.Placed.{AreRight}
 use Rattle.pvm_core.specs.Translated.{AreTranslationsRight}
@@ -71,7 +71,7 @@ invariant_of-self c =
     let at = (goal.at.invariant_of-self c).After-protect in
     let new = allowed at in
     let some = there (goal.at.invariant_of-self c).In-Some in
-    subst (λ (x : Inside). IsKept x.caches x.store u x.live) (sym (inside at)) (record {
+    subst (λ (x : Inside). IsManagerRight x.caches x.store u x.live) (sym (inside at)) (record {
       sound = tables_sound i.caches i.store ts u i.live
           (seated_sound i.caches i.store t u i.live (ap (λ (w : Actors). w.page_bytes) new)
           (subst (AreRight (size_of i.caches)) (sym new) (right_with_allowed (size_of i.caches) c.args.region.0 c.args.prot t some c.self.invariant.sound.actors))

@@ -39,7 +39,7 @@ use Rattle.vm_model.specs.Place.{Place, place, place_of_actor}
 use Rattle.vm_model.specs.Run.{CallIs, State}
 use Rattle.regions.specs.AddressSpace.{place_told}
 use Rattle.pvm_core.specs.Access.{AskedInVain}
-use Rattle.pvm_core.specs.Manager.{IsSound, IsValid, Manager, forest_of, machine_by, machine_of, numbered, state_at}
+use Rattle.pvm_core.specs.Manager.{IsManagerSound, IsValid, Manager, forest_of, machine_by, machine_of, numbered, state_at}
 use Rattle.pvm_core.specs.Pieces.{fault_at}
 use Rattle.pvm_core.specs.Translated.{AreTranslationsRight, MayBeWritten, found_for, frame_to_write, name_at}
 use Rattle.segment_ops.specs.Access.{GrantsStay}
@@ -56,7 +56,7 @@ use Rattle.pvm_core.proofs.Answering.Standing.{Stands, stands}
 use Rattle.pvm_core.proofs.Answering.Listed.{IsFoundAt, found_at, refused_at, spot}
 use Rattle.pvm_core.proofs.Accesses.Asked.{missed_by, on_no_access, same_tables, unplaced_by}
 use Rattle.pvm_core.proofs.Accesses.Loading.{owner_there, sized_table}
-use Rattle.pvm_core.proofs.Accesses.Pages.{ends_within}
+use Rattle.pvm_core.proofs.Accesses.AccessedPages.{ends_within}
 use Rattle.pvm_core.proofs.Accesses.Seen.{alone_seen, led_page, led_right, led_writes, same_grants, seen_sound, seen_state, seen_valid}
 use Rattle.pvm_core.proofs.Accesses.There.{IsThere, there_is}
 use Rattle.pvm_core.proofs.Accesses.Written.{IsWritten, is_written, written_answer, written_copies, written_made, written_sound, written_translated, written_valid}
@@ -258,7 +258,7 @@ grant_range-requires-clause-range g c =
     record { pages = r.count; size = r.there; within = omega (arith, r.less) }
 
 -- the write was asked for: the manager stands for the same
-asked : (g : Over) (c : After-grant_range g) → IsSound c.grant_range.new.caches c.self.inside.store c.self.inside.contexts c.self.inside.live × IsValid (seen c.grant_range.new.caches c.self.inside.store c.self.inside.contexts) (g.M.Mapper.held c.grant_range.new.mapper)
+asked : (g : Over) (c : After-grant_range g) → IsManagerSound c.grant_range.new.caches c.self.inside.store c.self.inside.contexts c.self.inside.live × IsValid (seen c.grant_range.new.caches c.self.inside.store c.self.inside.contexts) (g.M.Mapper.held c.grant_range.new.mapper)
 asked g c =
     let i = c.self.inside in
     let e = c.grant_range.ensures in
@@ -377,7 +377,7 @@ reach_then g c =
     let k = asked g (goal.at.After-write_fault g c).After-grant_range in
     reached (seen c.grant_range.new.caches c.self.inside.store c.self.inside.contexts) (g.M.Mapper.held c.grant_range.new.mapper) k.0.nodes k.0.apart (g.M.Mapper.page_bytes c.grant_range.new.mapper) (g.M.Mapper.page_bytes n.mapper) n.caches n.store (g.M.Mapper.held c.write_fault.new.mapper) (g.M.Mapper.counts c.grant_range.new.mapper) (g.M.Mapper.counts c.write_fault.new.mapper) c.write_fault.ensures.answered.later c.write_fault.ensures.answered.told
 
-sound_then : (g : Over) (c : After-write_fault g) → IsSound c.write_fault.new.caches c.write_fault.new.store c.self.inside.contexts c.self.inside.live
+sound_then : (g : Over) (c : After-write_fault g) → IsManagerSound c.write_fault.new.caches c.write_fault.new.store c.self.inside.contexts c.self.inside.live
 sound_then g c =
     let i = c.self.inside in
     let n = c.write_fault.new in

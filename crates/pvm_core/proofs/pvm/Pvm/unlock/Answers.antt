@@ -14,7 +14,7 @@ use Rattle.local_cache.proofs.Tables.Sizes.{sizes_same}
 use Rattle.segment_ops.specs.Ranges.{HasRange, IsPageOf}
 use Rattle.contexts.specs.Actors.{Actors}
 use Rattle.pvm_core.specs.Holding.{LocksMore}
-use Rattle.pvm_core.specs.Manager.{IsSound, IsValid, Manager, caches_shown, numbered, state_at}
+use Rattle.pvm_core.specs.Manager.{IsManagerSound, IsValid, Manager, caches_shown, numbered, state_at}
 use Rattle.pvm_core.proofs.Acting.{told}
 use Rattle.pvm_core.proofs.Answering.Kept.{seen}
 use Rattle.pvm_core.proofs.Locking.Covered.{placed_with}
@@ -88,7 +88,7 @@ invariant_of-self c = record {
   sound = (
       let n = c.let_go.new in
       let v = subst (λ (p : Manager). IsValid p c.requires.0) (sym c.self.view_is) c.requires.1 in
-      subst (λ (x : Actors). IsSound n.caches n.store x c.self.inside.live) (sym (unlocked (goal.at.invariant_of-self c).After-set_locked)) (gone_sound (gone (goal.at.invariant_of-self c).After-let_go) c.requires.0 v)
+      subst (λ (x : Actors). IsManagerSound n.caches n.store x c.self.inside.live) (sym (unlocked (goal.at.invariant_of-self c).After-set_locked)) (gone_sound (gone (goal.at.invariant_of-self c).After-let_go) c.requires.0 v)
       );
   translated = (
       let i = c.self.inside in

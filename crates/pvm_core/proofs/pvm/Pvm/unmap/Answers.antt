@@ -14,7 +14,7 @@ use Rattle.residency.specs.declared.store.Store.{Store}
 use Rattle.local_cache.specs.Whole.{size_of}
 use Rattle.contexts.specs.Actors.{Actors}
 use Rattle.contexts.proofs.Told.{told_some}
-use Rattle.pvm_core.specs.Manager.{IsKept, IsValid, caches_shown, numbered, state_at}
+use Rattle.pvm_core.specs.Manager.{IsManagerRight, IsValid, caches_shown, numbered, state_at}
 use Rattle.pvm_core.specs.Translated.{AreTranslationsRight, is_in_region}
 use Rattle.pvm_core.specs.Locks.{locks_over}
 use Rattle.pvm_core.specs.Placed.{AreRight}
@@ -56,7 +56,7 @@ invariant_of-self c =
     let r = locked_told n 1 t.actors c.in-Some.status status in
     let there : is_some (region_with n t.actors) ≡ true = ap is_some r.1 in
     let gone = c.unmap.ensures.gone (c.unmap.ensures.found ∙ there) in
-    subst (λ (s : Store). IsKept i.caches s u i.live) (sym c.forget_region.ensures) (record {
+    subst (λ (s : Store). IsManagerRight i.caches s u i.live) (sym c.forget_region.ensures) (record {
       sound = tables_sound i.caches i.store (map (unless (is_in_region t.page_bytes c.in-Some.status)) i.store.tables) u i.live
           (seated_sound i.caches i.store t u i.live (ap (λ (t : Actors). t.page_bytes) gone)
           (subst (AreRight (size_of i.caches)) (sym gone) (right_without (size_of i.caches) n t c.self.invariant.sound.actors))

@@ -2,7 +2,7 @@ use Rattle.std.proofs.Common.{◌≡◌, [], ◌∷◌, ◌++◌, ap, rules, sub
 use Rattle.std.specs.Prelude.{is_some}
 use Rattle.local_cache.specs.Known.{IsKnown}
 use Rattle.local_cache.proofs.Known.Same.{known_node}
-use Rattle.local_cache.proofs.NewCache.Pages.{page_held}
+use Rattle.local_cache.proofs.NewCache.FoundPages.{page_held}
 use Rattle.local_cache.proofs.tests.histories.Both.take_pages.Goals as goal
 
 pub node_of-node-requires : goal.node_of-node-requires
