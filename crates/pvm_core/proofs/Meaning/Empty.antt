@@ -63,7 +63,7 @@ none_sized a h tables cache segment is = absurd (none_named a.caches tables cach
 
 pub none_sound : (frames page : ℕ) (a : Arena) (s : Store) (t : Actors) → 3 ≤ frames → 1 ≤ page → page ≤ 2 ^ 16 → HasNoNodes a → a.caches ≡ [] → forest_of a ≡ no_forest → IsSound a
     → s ≡ record { frames = record { page = page; held = replicate frames false; pinned = replicate frames false; bytes = replicate frames (replicate page 0) }; slots = []; map = replicate frames None; marks = replicate frames false; tables = replicate (4 * frames) None }
-    → t.page_bytes ≡ page → t.actors ≡ [] → manager.IsSound a s t 0
+    → t.page_bytes ≡ page → t.actors ≡ [] → manager.IsManagerSound a s t 0
 none_sound frames page a s t three some most none tables forest sound is size items = record {
   nodes = record {
     sound = sound;
