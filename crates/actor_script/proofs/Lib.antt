@@ -7,6 +7,10 @@ pub mod Replies
 pub mod Splitting
 pub mod Tallied
 pub mod Verbs
+-- Lines that are accesses.
+pub mod Accesses
 pub mod WellFormed
 pub mod Worked
 pub mod Written
+-- The front of a line is read as the line.
+pub mod Fronts

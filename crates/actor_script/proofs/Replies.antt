@@ -1,5 +1,5 @@
 -- The text of an answer, in the parts in which it is written.
-use Rattle.std.proofs.Common.{◌≡◌, ◌++◌, ℕ, List, Some, None, refl, sym, ap, ◌∙◌, append_assoc}
+use Rattle.std.proofs.Common.{◌≡◌, ◌++◌, ℕ, List, Some, sym, ap, ◌∙◌, append_assoc}
 use Rattle.std.specs.Prelude.{codes, decimal, Ok, Err}
 use Rattle.std.specs.List.{flat_map}
 use Rattle.vm_ids.specs.declared.chain.ChainItem.{ChainItem}

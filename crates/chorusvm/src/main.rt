@@ -29,7 +29,7 @@ use std::env;
 use std::io::ErrorKind;
 use std::os::fd::AsFd;
 use std::process::ExitCode;
-use vm_port::Clock;
+use vm_port::{Clock, Rotor};
 
 // The words behind the program's name. Words that can't be had as text ask for nothing.
 fn words_given(rt: &HostRuntime) -> Result<Vec<String>, Status> {
@@ -78,6 +78,7 @@ fn run_words(rt: &HostRuntime, words: &[String]) -> Status {
         &mut sink,
         &mut mapper,
         &mut chooser,
+        &mut Rotor::new(),
     )
 }
 

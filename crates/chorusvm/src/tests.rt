@@ -10,7 +10,7 @@ use std::io::{ErrorKind, Read, Write};
 use std::os::unix::fs::symlink;
 use std::{env, fs, io, process};
 use vm_ids::{PAGE, PageNo, SegId, SlotId};
-use vm_port::{Clock, Failed, Mapper, MemorySink, MemorySource, Sink, Source};
+use vm_port::{Clock, Failed, Mapper, MemorySink, MemorySource, Rotor, Sink, Source};
 
 // A reader that fails.
 #[derive(Drop)]
@@ -265,6 +265,7 @@ fn a_run_swaps_to_a_file(rt: HostRuntime) -> io::Result<()> {
         &mut sink,
         &mut mapper,
         &mut chooser,
+        &mut Rotor::new(),
     );
     assert_eq!(&rt; status, Status::Done);
     assert_eq!(&rt; sink.written(), SWAPS_REPLIES.as_bytes());
@@ -311,6 +312,7 @@ fn a_run_writes_a_mapped_file(rt: HostRuntime) -> io::Result<()> {
         &mut sink,
         &mut mapper,
         &mut chooser,
+        &mut Rotor::new(),
     );
     assert_eq!(&rt; status, Status::Done);
     assert_eq!(&rt; sink.written(), MAPS_REPLIES.as_bytes());
@@ -421,6 +423,7 @@ fn a_later_push_mends_a_torn_page(rt: HostRuntime) -> io::Result<()> {
         &mut sink,
         &mut mapper,
         &mut chooser,
+        &mut Rotor::new(),
     );
     assert_eq!(&rt; status, Status::Done);
     assert_eq!(&rt; sink.written(), FILLS_REPLIES.as_bytes());

@@ -14,6 +14,7 @@ use Rattle.local_cache.specs.Reading.{forest_of, name_of}
 use Rattle.local_cache.specs.Sound.{IsSound}
 use Rattle.residency.specs.Causes.{HasMissCause, Later}
 use Rattle.residency.specs.declared.miss.Miss.{Miss}
+use Rattle.residency.specs.declared.miss.Miss.TheVariants.{Victim}
 use Rattle.residency.specs.declared.store.Store.{Store}
 use Rattle.residency.specs.Pushing.{TellsOn}
 use Rattle.residency.specs.World.{IsFrameOf, IsStoreRight, Still, World, world}
@@ -44,6 +45,10 @@ pub record IsMissed (miss : Miss) (old new : World) (before now : MapperCounts) 
   pub still : Still old new
   pub forest : SameForest old new
   pub cause : HasMissCause before now miss
+
+-- where a call missed, a push failed, and no pull
+abbrev pub OnlyVictim : {T : Type 0} → Result T Miss → Type 0
+OnlyVictim result = IfErr result (λ miss. miss ≡ Victim)
 
 -- A call did what it was to do, by its result and the worlds before it and after it; or it missed.
 pub record IsDoneOrMissed {T : Type 0} (result : Result T Miss) (does : T → World → World → Type 0)

@@ -23,14 +23,15 @@ use Rattle.vm_model.specs.Outcome.{Outcome, OutcomeAt, PlainOutcome, IsAlike, Is
 use Rattle.vm_model.specs.Pushing.{MayPush, PushRule, page_named, segments_after}
 use Rattle.vm_model.specs.Run.{AnswerIs, CallIs}
 use Rattle.vm_model.specs.Synchronised.{ArePushed, IsCachePushed, IsExtentPushed, IsSynchronised}
-use Rattle.gmi_calls.specs.Backing.{IsReady, eager_state}
+use Rattle.gmi_calls.specs.Backing.{IsReady, eager, eager_state}
 use Rattle.vm_port.specs.declared.traits.mapper.Mapper.{Ghosts as GhostsOfMapper}
-use Rattle.gmi_calls.specs.Calling.{AsksFirst, CallDone, MapperCall, Meanings, meanings}
+use Rattle.gmi_calls.specs.Calling.{AsksFirst, CallDone, MapperCall}
+use Rattle.gmi_calls.specs.Parking.{AccessCall, NoPull}
 use Rattle.gmi_calls.specs.Reaching.{Pushed, Reached}
 use Rattle.gmi_calls.proofs.Backing.{backed_after}
 use Rattle.gmi_calls.proofs.Pushing.{pushed_none}
-use Rattle.gmi_calls.proofs.Rising.{quiet_none}
-use Rattle.gmi_calls.proofs.Still.{asks_quiet, call_still, made_still}
+use Rattle.gmi_calls.proofs.Rising.{quiet_none, rise_none}
+use Rattle.gmi_calls.proofs.Still.{asks_quiet, made_still}
 
 alike_same : (a : Answer) → IsAlike a a
 alike_same (Ok replies.Done) = refl
@@ -139,27 +140,26 @@ whole_at (Some h) m w = w
 whole_at None m w = tt
 
 -- A call after which this was pushed.
-pub call_is : {T E : Type 0} (before after : Option Held) (counts now : MapperCounts) (m next : Machine) (c : Command) (a : Answer) (r : Result T E) (P : Pushed m before after counts now r) → HasWholePages m → HasWholePages next
-    → ReachesMapper c P.rises → OutcomeFor after m c a next P.rises → IsSynchronised m (segments_of after) c a → CallIs counts now (eager_state before m) c a (eager_state after next)
-call_is before after counts now m next c a r P w x reaches o s =
+pub answer_is : {T E : Type 0} (before after : Option Held) (counts now : MapperCounts) (m next : Machine) (c : Command) (a : Answer) (r : Result T E) (P : Pushed m before after counts now r) → HasWholePages m → HasWholePages next
+    → ReachesMapper c P.rises → OutcomeFor after m c a next P.rises → IsSynchronised m (segments_of after) c a → AnswerIs (eager_state before m) c a P.pushes P.rises (eager_state after next)
+answer_is before after counts now m next c a r P w x reaches o s =
     let told = told_alike m before after P.pushes P.rule in
     record {
-      pushes = P.pushes;
-      rises = P.rises;
-      rose = P.rose;
-      is = record {
-        outcome = outcome_at before after m next c a P.rises told w o;
-        forest = refl;
-        reaches = reaches;
-        few = P.few;
-        pushed = ruled before after m P.pushes P.rule;
-        synchronised = said before after m c a told s;
-        whole = whole_at after next x;
-      };
+      outcome = outcome_at before after m next c a P.rises told w o;
+      forest = refl;
+      reaches = reaches;
+      few = P.few;
+      pushed = ruled before after m P.pushes P.rule;
+      synchronised = said before after m c a told s;
+      whole = whole_at after next x;
     }
 
+abbrev pub call_is : {T E : Type 0} (before after : Option Held) (counts now : MapperCounts) (m next : Machine) (c : Command) (a : Answer) (r : Result T E) (P : Pushed m before after counts now r) → HasWholePages m → HasWholePages next
+    → ReachesMapper c P.rises → OutcomeFor after m c a next P.rises → IsSynchronised m (segments_of after) c a → CallIs counts now (eager_state before m) c a (eager_state after next)
+call_is before after counts now m next c a r P w x reaches o s = record { pushes = P.pushes; rises = P.rises; rose = P.rose; is = answer_is before after counts now m next c a r P w x reaches o s }
+
 -- A call after which the mapper holds what it held.
-pub call_reached : {T E : Type 0} (before after : Option Held) (counts now : MapperCounts) (m next : Machine) (c : Command) (a : Answer) (r : Result T E) → after ≡ before → (R : Reached counts now r) → HasWholePages m → HasWholePages next
+abbrev pub call_reached : {T E : Type 0} (before after : Option Held) (counts now : MapperCounts) (m next : Machine) (c : Command) (a : Answer) (r : Result T E) → after ≡ before → (R : Reached counts now r) → HasWholePages m → HasWholePages next
     → ReachesMapper c R.rises → OutcomeFor before m c a next R.rises → IsSynchronised m (segments_of after) c a → CallIs counts now (eager_state before m) c a (eager_state after next)
 call_reached before after counts now m next c a r same R w x reaches o s =
     call_is before after counts now m next c a r (pushed_none m before after counts now R.rises r same R.rose R.failed) w x reaches
@@ -182,11 +182,6 @@ answer_each told m next c a reaches ready x f s = record {
     same (Some h) = tt
     same None = tt
 
--- the same for a call that is handed the mapper and leaves it
-pub call_each : (counts : MapperCounts) (told : Option Held) (m next : Machine) (c : Command) (a : Answer) → ReachesMapper c no_counts → IsReady m told → HasWholePages next → PlainOutcome m c a next → IsSynchronised m (segments_of told) c a
-    → CallIs counts counts (eager_state told m) c a (eager_state told next)
-call_each counts told m next c a reaches ready x f s = call_still None counts (eager_state told m) (eager_state told next) c a (answer_each told m next c a reaches ready x f s)
-
 -- What is ready stays so
 
 pub ready_after : (told : Option Held) (m next : Machine) (c : Command) (a : Answer) (rises : MapperCounts) → IsReady m told → HasWholePages next → OutcomeFor told m c a next rises → IsReady next told
@@ -198,12 +193,8 @@ ready_plain told m next c a f x R = ready_after told m next c a no_counts R x (e
 
 -- What a call says of itself
 
--- what the eager machine stands for, beside any mapper
-abbrev pub eager : Meanings Machine
-eager = meanings (λ m told. seen_at told m) (λ m told. None) (λ m told. IsReady m told) (λ m. 0) (λ m. None)
-
 module _ {X : Type 0} (M : GhostsOfMapper X) where
-  pub eager_call : (a b : X) (m next : Machine) (c : Command) (answer : Answer) → IsReady next (M.held b)
+  abbrev pub eager_call : (a b : X) (m next : Machine) (c : Command) (answer : Answer) → IsReady next (M.held b)
       → CallIs (M.counts a) (M.counts b) (eager_state (M.held a) m) c answer (eager_state (M.held b) next) → AsksFirst c answer (M.counts a) (M.counts b)
       → M.page_bytes b ≡ M.page_bytes a → MapperCall M eager a m c answer b next
   eager_call a b m next c answer ready is asks page = record {
@@ -216,10 +207,15 @@ module _ {X : Type 0} (M : GhostsOfMapper X) where
   }
 
   -- a call that is handed the mapper and leaves it
+  pub eager_quiet : (a : X) (m next : Machine) (c : Command) (answer : Answer) → ReachesMapper c no_counts → IsReady m (M.held a) → HasWholePages next → PlainOutcome m c answer next → IsSynchronised m (segments_of (M.held a)) c answer
+      → AccessCall M eager NoPull a m c answer a next
+  eager_quiet a m next c answer reaches ready whole f said =
+      let is : CallIs (M.counts a) (M.counts a) (eager_state (M.held a) m) c answer (eager_state (M.held a) next) = record { pushes = []; rises = no_counts; rose = rise_none (M.counts a); is = answer_each (M.held a) m next c answer reaches ready whole f said } in
+      record { call = eager_call a a m next c answer (ready_plain (M.held a) m next c answer f whole ready) is (asks_quiet c answer _ _ (quiet_none (M.counts a))) refl; so = refl }
+
   pub eager_left : (a : X) (m next : Machine) (c : Command) (answer : Answer) → ReachesMapper c no_counts → IsReady m (M.held a) → HasWholePages next → PlainOutcome m c answer next → IsSynchronised m (segments_of (M.held a)) c answer
       → MapperCall M eager a m c answer a next
-  eager_left a m next c answer reaches ready whole f said =
-      eager_call a a m next c answer (ready_plain (M.held a) m next c answer f whole ready) (call_each (M.counts a) (M.held a) m next c answer reaches ready whole f said) (asks_quiet c answer _ _ (quiet_none (M.counts a))) refl
+  eager_left a m next c answer reaches ready whole f said = (eager_quiet a m next c answer reaches ready whole f said).call
 
 -- a call that takes none
 pub eager_done : (m next : Machine) (c : Command) (answer : Answer) → ReachesMapper c no_counts → HasWholePages next → PlainOutcome m c answer next → ((h : Option Segments) → IsSynchronised m h c answer) → CallDone eager m c answer next

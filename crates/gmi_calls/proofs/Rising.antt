@@ -49,18 +49,25 @@ counted pulls pushes before now (Err e) c = record {
   pushes = c.pushed;
 }
 
+one_pulls : {T E : Type 0} (pulls pushes : ℕ) (r : Result T E) → (one_call pulls pushes r).pulls ≡ pulls
+one_pulls pulls pushes (Ok x) = refl
+one_pulls pulls pushes (Err e) = refl
+
 pub one_failed : {T E : Type 0} (pulls pushes : ℕ) (r : Result T E) → OnErr r (0 < (one_call pulls pushes r).faults)
 one_failed pulls pushes (Ok x) = tt
 one_failed pulls pushes (Err e) = omega arith
 
 -- nothing was reached yet, and all went well
-pub reached_none : {T E : Type 0} (a : MapperCounts) (x : T) → Reached a a (let r : Result T E = Ok x in r)
+abbrev pub reached_none : {T E : Type 0} (a : MapperCounts) (x : T) → Reached a a (let r : Result T E = Ok x in r)
 reached_none a x = record { rises = no_counts; rose = rise_none a; failed = tt }
 
+pub failed_more : {T E : Type 0} (x y : ℕ) (r : Result T E) → OnErr r (0 < y) → OnErr r (0 < x + y)
+failed_more x y (Ok u) h = tt
+failed_more x y (Err e) h = omega (arith, h)
+
 -- one call more, after which all is said
-pub reached_then : {T U E F : Type 0} (a b c : MapperCounts) (r : Result T E) (s : Result U F) → Reached a b r → (y : MapperCounts) → Rise b c y → OnErr s (0 < y.faults) → Reached a c s
-reached_then a b c r (Ok x) R y rose failed = record { rises = counts_sum R.rises y; rose = rise_then a b c R.rises y R.rose rose; failed = tt }
-reached_then a b c r (Err e) R y rose failed = record { rises = counts_sum R.rises y; rose = rise_then a b c R.rises y R.rose rose; failed = omega (arith, failed) }
+abbrev pub reached_then : {T U E F : Type 0} (a b c : MapperCounts) (r : Result T E) (s : Result U F) → Reached a b r → (y : MapperCounts) → Rise b c y → OnErr s (0 < y.faults) → Reached a c s
+reached_then a b c r s R y rose failed = record { rises = counts_sum R.rises y; rose = rise_then a b c R.rises y R.rose rose; failed = failed_more R.rises.faults y.faults s failed }
 
 -- a call that failed
 pub fault_counted : {T E : Type 0} (pulls pushes : ℕ) (r : Result T E) (e : E) → r ≡ Err e → 0 < (one_call pulls pushes r).faults
@@ -88,7 +95,7 @@ quiet_then a b c r q k = record {
 module _ {X : Type 0} (M : GhostsOfMapper X) where
   -- the mapper wasn't asked yet
   pub asked_none : {T E : Type 0} (a : X) (x : T) → Asked M a a (let r : Result T E = Ok x in r)
-  asked_none a x = record { held = refl; reached = reached_none (M.counts a) x; quiet = quiet_none (M.counts a); page = refl }
+  asked_none a x = record { held = refl; reached = reached_none (M.counts a) x; no_pull = refl; quiet = quiet_none (M.counts a); page = refl }
 
   -- it was asked once more, after which all is said
   pub asked_then : {T U V E F : Type 0} (a b c : X) (r : Result T F) (s : Result U V) → Asked M a b (let o : Result (Unit {0}) E = Ok tt in o) → M.held c ≡ M.held b → Counted 0 0 (M.counts b) (M.counts c) r → M.page_bytes c ≡ M.page_bytes b
@@ -96,10 +103,11 @@ module _ {X : Type 0} (M : GhostsOfMapper X) where
   asked_then a b c r s A held k page failed = record {
     held = held ∙ A.held;
     reached = reached_then (M.counts a) (M.counts b) (M.counts c) _ s A.reached (one_call 0 0 r) (counted 0 0 (M.counts b) (M.counts c) r k) failed;
+    no_pull = omega (arith, A.no_pull, one_pulls 0 0 r);
     quiet = quiet_then (M.counts a) (M.counts b) (M.counts c) r A.quiet k;
     page = page ∙ A.page;
   }
 
   -- whatever it tells then
   pub asked_alike : {T U E : Type 0} {r : Result T E} (a b : X) (x : U) → Asked M a b r → Asked M a b (let o : Result U E = Ok x in o)
-  asked_alike a b x A = record { held = A.held; reached = record { rises = A.reached.rises; rose = A.reached.rose; failed = tt }; quiet = A.quiet; page = A.page }
+  asked_alike a b x A = record { held = A.held; reached = record { rises = A.reached.rises; rose = A.reached.rose; failed = tt }; no_pull = A.no_pull; quiet = A.quiet; page = A.page }

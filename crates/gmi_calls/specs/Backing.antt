@@ -6,6 +6,7 @@ use Rattle.vm_ids.specs.Held.{Held, Segments, segments_in, segments_of}
 use Rattle.vm_model.specs.Machine.{Machine, Cache, Page, numbered}
 use Rattle.vm_model.specs.Outcome.{HasWholePages, seen_at}
 use Rattle.vm_model.specs.Run.{State}
+use Rattle.gmi_calls.specs.Calling.{Meanings, meanings}
 
 -- The segment has as many pages as the cache, and those that the mapper denies for writing are the
 -- cache's.
@@ -32,3 +33,9 @@ pub record IsReady (m : Machine) (told : Option Held) : Type 0 where
 abbrev pub eager_state : Option Held → Machine → State
 eager_state told m =
     record { machine = seen_at told m; forest = None; segments = segments_of told }
+
+-- what the eager machine stands for as a manager, beside any mapper
+abbrev pub eager : Meanings Machine
+eager =
+    meanings (λ m told. seen_at told m) (λ m told. None) (λ m told. IsReady m told) (λ m. 0)
+    (λ m. None)

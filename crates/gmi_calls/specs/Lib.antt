@@ -1,5 +1,6 @@
 pub mod Backing
 pub mod Calling
 pub mod Managing
+pub mod Parking
 pub mod Reaching
 pub mod Room

@@ -21,6 +21,7 @@ pub record Asked {Mapper T E : Type 0} (M : GhostsOfMapper Mapper) (before after
     (result : Result T E) : Type 0 where
   pub held : M.held after ≡ M.held before
   pub reached : Reached (M.counts before) (M.counts after) result
+  pub no_pull : reached.rises.pulls ≡ 0
   pub quiet : NoTraffic (M.counts before) (M.counts after)
   pub page : M.page_bytes after ≡ M.page_bytes before
 

@@ -60,6 +60,13 @@ CallWithin None c d before command answer after = CallIs c d before command answ
 CallWithin (Some room) c d before command answer after =
     LimitedCall room c d before command answer after
 
+-- by how much the mapper's counts rose in such a call
+abbrev pub rises_in : (room : Option ℕ) (c d : MapperCounts) (before : State) (command : Command)
+    (answer : Answer) (after : State) → CallWithin room c d before command answer after
+    → MapperCounts
+rises_in None c d before command answer after call = call.rises
+rises_in (Some room) c d before command answer after call = call.rises
+
 -- where room was limited it is limited still, and where it wasn't it isn't
 abbrev pub StaysLimited : Option ℕ → Option ℕ → Type 0
 StaysLimited before now = is_some now ≡ is_some before

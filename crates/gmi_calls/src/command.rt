@@ -1,7 +1,7 @@
 // The call that a command names.
 ghost use Rattle.std.specs.Prelude.{◌≡◌, ℕ, ◌≤◌, ◌+◌, ◌*◌, ◌^◌};
-ghost use Rattle.vm_model.specs.declared.limits.TheConstants.{LIVE_PAGES};
-ghost use Rattle.vm_model.specs.Machine.{live_pages};
+ghost use Rattle.vm_model.specs.declared.limits.TheConstants.{LIVE_PAGES, LIVING_ACTORS};
+ghost use Rattle.vm_model.specs.Machine.{live_pages, living_actors};
 ghost use Rattle.vm_model.specs.Asking.{IsWellFormed};
 ghost use Rattle.gmi_calls.specs.Calling.{Fits, IsNoAccess, MapperCall};
 ghost use Rattle.gmi_calls.specs.Managing.{meanings_of};
@@ -23,11 +23,13 @@ pub fn answer<G: Gmi<M, C>, M: Mapper, C: Chooser>(
     requires fits { Fits (M.page_bytes mapper.old) (G.machine gmi.old (M.held mapper.old)) }
     ensures call { MapperCall M.Mapper (meanings_of G.Gmi) mapper.old gmi.old command.now result
         mapper.new gmi.new }
-    // What the next command needs: pages of one size, live pages within their limit, and counters
-    // that don't wrap.
+    // What the next command needs: pages of one size, live pages and living actors within their
+    // limits, and counters that don't wrap.
     ensures fits { Fits (M.page_bytes mapper.new) (G.machine gmi.new (M.held mapper.new)) }
     ensures live { live_pages (G.machine gmi.old (M.held mapper.old)) ≤ LIVE_PAGES
         → live_pages (G.machine gmi.new (M.held mapper.new)) ≤ LIVE_PAGES }
+    ensures living { living_actors (G.machine gmi.old (M.held mapper.old)) ≤ LIVING_ACTORS
+        → living_actors (G.machine gmi.new (M.held mapper.new)) ≤ LIVING_ACTORS }
     ensures made_little { live_pages (G.machine gmi.old (M.held mapper.old)) ≤ LIVE_PAGES
         → G.made gmi.new ≤ G.made gmi.old + 32 * LIVE_PAGES + 8 }
 {

@@ -9,3 +9,8 @@ pub mod Seen
 pub mod There
 pub mod Written
 pub mod Asked
+pub mod Parts
+pub mod AtHand
+pub mod Ready
+pub mod Parked
+pub mod Behind

@@ -23,16 +23,11 @@ ghost use Rattle.segment_ops.specs.Access.{GrantsStay};
 ghost use Rattle.pvm_core.specs.Manager.{IsValid, forest_of, machine_of, meaning, nodes_of, numbered};
 
 use crate::nodes::{node_of, reserve};
-use crate::pieces::{fault_of, part_of, write_found, write_frame};
 use crate::spans::{copy_refusal, destination, move_refusal};
-use crate::translations::{byte_at, remember, remember_found, translated, translated_for_writing};
-use crate::writes::grant_range;
 use contexts::Contexts;
-use fault_path::{read_fault, write_fault};
 use history_tree::chain;
 use local_cache::Caches;
 use page_release::{copy_pages, destroy_pages, move_pages};
-use page_tables::Translation;
 use residency::Store;
 use std::alloc::Global;
 use std::marker::Model;
@@ -309,19 +304,12 @@ impl Pvm {
         ensures loaded { IfOk result (IsLoaded (M.counts mapper.old) (M.counts mapper.new)
             (M.given mapper.new) self.old self.new actor.0 address bytes) }
     {
-        if let Some(seen) = translated(&self.store, &self.contexts, actor, address, bytes) {
-            let byte = byte_at(&self.contexts, address);
-            self.store.touch(seen.frame);
-            return Ok(part_of(&self.store, Some(seen.frame), byte, bytes));
-        }
-        let place = self.contexts.locate(actor, address, bytes)?;
-        let node = node_of(&self.caches, place.cache, place.page);
-        match read_fault(&mut self.store, &mut self.caches, node, mapper, chooser) {
-            Ok(found) => {
-                remember_found(&mut self.store, &self.contexts, actor, address, found);
-                Ok(part_of(&self.store, found, place.at, bytes))
+        match self.load_seen(actor, address, bytes) {
+            Some(piece) => Ok(piece),
+            None => {
+                let place = self.locate(actor, address, bytes)?;
+                self.load_at(place, actor, address, bytes, mapper, chooser)
             }
-            Err(miss) => Err(Trouble::Mapper(fault_of(miss, place.page))),
         }
     }
 
@@ -350,42 +338,11 @@ impl Pvm {
         ensures translated { OnOk result (IsSome (frame_to_write (found_for self.new.page_bytes
             self.new.store.tables actor.0 address (length piece.now)))) }
     {
-        let bytes = piece.as_slice();
-        let length = bytes.len() as u8;
-        if let Some(frame) = translated_for_writing(
-            &self.store,
-            &self.contexts,
-            actor,
-            address,
-            length,
-        ) {
-            let byte = byte_at(&self.contexts, address);
-            write_found(&mut self.store, &mut self.caches, frame, byte, bytes);
+        if self.store_seen(actor, address, piece) {
             return Ok(());
         }
-        let place = self.contexts.locate(actor, address, length)?;
-        if !place.prot.write {
-            return Err(Trouble::Refused(Refusal::Protection));
-        }
-        let range = Extent {
-            cache: place.cache,
-            first: place.page,
-            pages: 1,
-        };
-        grant_range(&self.store, &mut self.caches, range, mapper)?;
-        let node = node_of(&self.caches, place.cache, place.page);
-        match write_fault(&mut self.store, &mut self.caches, node, mapper, chooser) {
-            Ok(frame) => {
-                write_frame(&mut self.store, frame, place.at, bytes);
-                let to = Translation {
-                    frame,
-                    writable: true,
-                };
-                remember(&mut self.store, &self.contexts, actor, address, to);
-                Ok(())
-            }
-            Err(miss) => Err(Trouble::Mapper(fault_of(miss, place.page))),
-        }
+        let place = self.place_to_write(actor, address, piece, mapper)?;
+        self.store_at(place, actor, address, piece, mapper, chooser)
     }
 
     /// Evicts so many page frames, or as many as can be: those that no locked page is in.

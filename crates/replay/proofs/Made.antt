@@ -9,33 +9,14 @@ use Rattle.actor_script.specs.Writing.{Writes, WritesFront}
 use Rattle.actor_script.proofs.Generated.{lines_none}
 use Rattle.actor_script.proofs.Written.{front_more, front_then, writes_none, writes_then}
 use Rattle.replay.specs.Ending.{with_feeds}
-use Rattle.replay.specs.Waiting.{Grew}
-use Rattle.replay.proofs.Gathering.{short_of}
+use Rattle.line_service.specs.Gathering.{Grew}
+use Rattle.line_service.proofs.Gathering.{short_of}
+use Rattle.line_service.proofs.Given.{Gave, gave_all, gave_more, gave_none}
 
--- From the beginning to here, these lines were given.
-pub record Gave (beginning here : Position) (given : List (List ℕ)) : Type 0 where
-  pub goes_on : (n : ℕ) → lines_from beginning (length given + n) ≡ given ++ lines_from here n
-
-pub gave_none : (at here : Position) → here ≡ at → Gave at here []
-gave_none at here same = record { goes_on = λ n. ap (lines_from at) (zero-add n) ∙ ap (λ (p : Position). lines_from p n) (sym same) }
-
-module _ (beginning here : Position) (given : List (List ℕ)) (h : Gave beginning here given) where
-  pub gave_more : (next : Position) (line : List ℕ) → ((n : ℕ) → lines_from here (n + 1) ≡ line ∷ lines_from next n) → Gave beginning next (given ++ line ∷ [])
-  gave_more next line one = record {
-    goes_on = λ n.
-        let many : length (given ++ line ∷ []) + n ≡ length given + (n + 1) = omega (arith, length-append given (line ∷ [])) in
-        ap (lines_from beginning) many ∙ h.goes_on (n + 1) ∙ ap (λ (lines : List (List ℕ)). given ++ lines) (one n) ∙ sym (append_assoc given (line ∷ []) (lines_from next n));
-  }
-
-  pub gave_all : (count : ℕ) → length given ≡ count → lines_from beginning count ≡ given
-  gave_all count size =
-      let many : count ≡ length given + 0 = omega (arith, size) in
-      ap (lines_from beginning) many ∙ h.goes_on 0 ∙ ap (λ (lines : List (List ℕ)). given ++ lines) (lines_none here) ∙ append-nil given
-
-  gave_rest : (count : ℕ) → length given ≤ count → lines_from beginning count ≡ given ++ lines_from here (count - length given)
-  gave_rest count few =
-      let many : count ≡ length given + (count - length given) = omega arith in
-      ap (lines_from beginning) many ∙ h.goes_on (count - length given)
+gave_rest : (beginning here : Position) (given : List (List ℕ)) → Gave beginning here given → (count : ℕ) → length given ≤ count → lines_from beginning count ≡ given ++ lines_from here (count - length given)
+gave_rest beginning here given h count few =
+    let many : count ≡ length given + (count - length given) = omega arith in
+    ap (lines_from beginning) many ∙ h.goes_on (count - length given)
 
 -- the lines that are given are written
 

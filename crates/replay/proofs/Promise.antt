@@ -1,28 +1,40 @@
 -- What a run promises, from how its replay ends.
-use Rattle.std.proofs.Common.{◌≡◌, ◌≤◌, ◌<◌, ◌+◌, ℕ, List, [], ◌∷◌, ◌++◌, length, Option, Some, None, refl, sym, ap, subst, ◌∙◌, arith, inl, inr}
-use Rattle.std.specs.Prelude.{◌⊎◌, ◌↔◌, map, IfOk, IfSome, IsSomeAnd}
+use Rattle.std.proofs.Common.{◌≡◌, ◌≤◌, ◌<◌, ◌+◌, ℕ, zero, suc, List, [], ◌∷◌, ◌++◌, length, Option, Some, None, refl, sym, ap, subst, ◌∙◌, append-nil, arith, inl, inr}
+use Rattle.std.specs.Prelude.{◌⊎◌, ◌↔◌, All, map, IfOk, IfSome, IsSomeAnd}
 use Rattle.std.specs.List.{AllByRecursion}
 use Rattle.std.proofs.lemmas.List.{length-append}
+use Rattle.std.proofs.lemmas.List.Sorted.{All-permutation}
 use Rattle.vm_ids.specs.Counting.{Rose, last_count}
 use Rattle.vm_ids.specs.Held.{Segments}
 use Rattle.vm_ids.specs.Forest.Nodes.{no_forest}
 use Rattle.vm_model.specs.Asking.{IsWellFormed}
+use Rattle.vm_model.specs.Events.{Stand, steps_of}
 use Rattle.vm_model.specs.Laws.{IsFollowed}
-use Rattle.vm_model.specs.Machine.{Machine, live_pages, start}
+use Rattle.vm_model.specs.Machine.{Machine, live_pages, living_actors, start}
 use Rattle.vm_model.specs.PageForest.{PageForest}
 use Rattle.vm_model.specs.Run.{Read, State, command_semantics}
 use Rattle.vm_model.specs.Steps.{Chain, Step, lines_answered, numbered_from}
-use Rattle.vm_model.specs.declared.limits.TheConstants.{LIVE_PAGES}
+use Rattle.vm_model.specs.declared.limits.TheConstants.{LIVE_PAGES, LIVING_ACTORS}
+use Rattle.vm_model.proofs.WholeRuns.Chains.{runs_are_chains}
 use Rattle.vm_model.proofs.WholeRuns.Runs.{runs_are_followed}
 use Rattle.actor_script.specs.Forms.{command_of}
-use Rattle.replay.specs.Script.{most_bytes, lines_of}
-use Rattle.replay.specs.Ending.{AnswersInTurn, Scene, Took, Ends, RunEnds}
+use Rattle.actor_script.proofs.WellFormed.{well_formed}
 use Rattle.gmi_calls.specs.Calling.{Fits}
+use Rattle.vm_ids.specs.declared.access.Parked.{Parked}
+use Rattle.vm_port.specs.declared.traits.mapper.Mapper.{Ghosts as GhostsOfMapper}
+use Rattle.line_service.specs.Ending.{Ends, Ran, Took}
+use Rattle.line_service.specs.Serving.{answer_budget}
+use Rattle.line_service.specs.Underway.{CanAnswer}
+use Rattle.line_service.specs.declared.service.Service.{Ghosts as GhostsOfService}
+use Rattle.line_service.specs.Going.{IsScript, Known, Scene, Writing}
+use Rattle.line_service.specs.Script.{IsFront, lines_of, most_bytes}
+use Rattle.line_service.specs.declared.ended.Ended.{Ended}
+use Rattle.line_service.specs.declared.ended.Ended.TheVariants as ended
+use Rattle.replay.specs.Ending.{CommandScene, EndsAs, RunEnds, status_of}
 use Rattle.replay.specs.declared.status.Status.{Status}
 use Rattle.replay.specs.declared.asked.Asked.{Asked}
 use Rattle.replay.specs.declared.asked.Size.{Size}
 use Rattle.replay.specs.declared.status.Status.TheVariants as statuses
-use Rattle.actor_script.proofs.WellFormed.{well_formed}
 
 -- the page forest at the end
 
@@ -33,43 +45,64 @@ pub lines_formed : (lines : List (List ℕ)) → AreWellFormed (map command_of l
 lines_formed [] = tt
 lines_formed (line ∷ lines) = (well_formed line, lines_formed lines)
 
-front_formed : (front back : List Read) → AreWellFormed (front ++ back) → AreWellFormed front
-front_formed [] back h = tt
-front_formed (r ∷ front) back h = (h.0, front_formed front back h.1)
+-- a list begins with itself
+front_all : {X : Type 0} (xs : List X) → IsFront xs xs
+front_all xs = record { back = []; parts = sym (append-nil xs) }
 
-steps_formed : (first : ℕ) (reads : List Read) (steps : List (Step Read)) → lines_answered steps ≡ numbered_from first reads → AreWellFormed reads → AllByRecursion (λ (step : Step Read). IfOk step.read IsWellFormed) steps
-steps_formed first reads [] e h = tt
-steps_formed first [] (step ∷ steps) e h = absurd (cc)
-steps_formed first (r ∷ reads) (step ∷ steps) e h =
-    let both : (step.number, step.read) ≡ (first, r) = cc in
-    let same : step.read ≡ r = ap (λ (p : ℕ × Read). p.1) both in
-    let rest : lines_answered steps ≡ numbered_from (first + 1) reads = cc in
-    (subst (λ (read : Read). IfOk read IsWellFormed) (sym same) h.0, steps_formed (first + 1) reads steps rest h.1)
+-- a numbered line that is well formed
+abbrev IsFormed : ℕ × Read → Type 0
+IsFormed l = IfOk l.1 IsWellFormed
 
-module _ (a : Scene) (frames page : ℕ) (some : 1 ≤ page) (told : Option Segments) (begins : a.state ≡ record { machine = start frames page; forest = Some no_forest; segments = told }) where
-  pub run_followed : (reads : List Read) (steps : List (Step Read)) (after : State) → AreWellFormed reads → AnswersInTurn a.state reads steps after → IsSomeAnd after.forest (IsFollowed after.machine)
-  run_followed reads steps after h run =
-      runs_are_followed frames page told steps after some (steps_formed 1 reads steps run.order h) (subst (λ (s : State). Chain command_semantics s steps after) begins run.chain)
+numbered_formed : (first : ℕ) (reads : List Read) → AreWellFormed reads → AllByRecursion IsFormed (numbered_from first reads)
+numbered_formed first [] h = tt
+numbered_formed first (r ∷ reads) h = (h.0, numbered_formed (first + 1) reads h.1)
 
-  pub ends_followed : (status : Status) (b : Scene) (l k : Option (List ℕ)) → Ends status a b l k → IsSomeAnd b.state.forest (IsFollowed b.state.machine)
-  ends_followed statuses.Done b l k h = run_followed _ h.answered.steps b.state (lines_formed (lines_of h.script)) h.answered.runs
-  ends_followed statuses.SourceFault b l k h = run_followed _ h.2.answered.steps b.state (lines_formed _) h.2.answered.runs
-  ends_followed statuses.SinkFault b l k h =
-      run_followed h.reads h.cut.steps b.state (front_formed h.reads h.of_taken.back (subst AreWellFormed h.of_taken.parts (lines_formed (lines_of h.script)))) h.cut.runs
-  ends_followed statuses.TooLong b l k h = run_followed _ h.2.answered.steps b.state (lines_formed _) h.2.answered.runs
+by_place : {X : Type 0} (P : X → Type 0) (xs : List X) → AllByRecursion P xs → All P xs
+by_place P [] h k d within = absurd (omega (arith, within))
+by_place P (x ∷ xs) h zero d within = h.0
+by_place P (x ∷ xs) h (suc k) d within = by_place P xs h.1 k d (omega (arith, within))
+
+by_recursion : {X : Type 0} (P : X → Type 0) (xs : List X) → All P xs → AllByRecursion P xs
+by_recursion P [] h = tt
+by_recursion P (x ∷ xs) h = (h zero x (omega arith), by_recursion P xs (λ k d within. h (suc k) d (omega (arith, within))))
+
+answered_formed : (steps : List (Step Read)) (rest : List (ℕ × Read)) → AllByRecursion IsFormed (lines_answered steps ++ rest) → AllByRecursion (λ (step : Step Read). IfOk step.read IsWellFormed) steps
+answered_formed [] rest h = tt
+answered_formed (step ∷ steps) rest h = (h.0, answered_formed steps rest h.1)
+
+module _ (a : CommandScene) (frames page : ℕ) (some : 1 ≤ page) (told : Option Segments) (begins : a.state ≡ record { machine = start frames page; forest = Some no_forest; segments = told }) where
+  -- a run over a script whose lines are well formed
+  pub ran_followed : {W : Type 0} (Put : Writing W Read) (known : Known Read) (old now : W) (b : CommandScene) (last : Stand command_semantics) (script : List Read) → IsScript known script → AreWellFormed script
+      → Ran command_semantics Put known (record { state = a.state; counts = a.counts; turns = a.turns; written = old }) (record { state = b.state; counts = b.counts; turns = b.turns; written = now }) last
+      → IsSomeAnd b.state.forest (IsFollowed b.state.machine)
+  ran_followed Put known old now b last script is h ran =
+      let steps = steps_of ran.goes.events in
+      let chain : Chain command_semantics a.state steps last.state = runs_are_chains a.state script ran.goes.events last (ran.goes.leads script is) in
+      let order = ran.in_order script is in
+      let all = by_recursion IsFormed _ (All-permutation IsFormed _ _ order.once (by_place IsFormed _ (numbered_formed 1 script h))) in
+      let formed = answered_formed steps _ all in
+      let followed : IsSomeAnd last.state.forest (IsFollowed last.state.machine) =
+      runs_are_followed frames page told steps last.state some formed (subst (λ (s : State). Chain command_semantics s steps last.state) begins chain) in
+      subst (λ (s : State). IsSomeAnd s.forest (IsFollowed s.machine)) ran.state_is followed
+
+  pub ends_followed : (status : Status) (b : CommandScene) (l k : Option (List ℕ)) → EndsAs status a b l k → IsSomeAnd b.state.forest (IsFollowed b.state.machine)
+  ends_followed statuses.Done b l k h = ran_followed _ _ a.written b.written b _ _ refl (lines_formed (lines_of h.script)) h.answered.ran
+  ends_followed statuses.SourceFault b l k h = ran_followed _ _ a.written b.written b _ _ (front_all _) (lines_formed _) h.2.answered.ran
+  ends_followed statuses.SinkFault b l k h = ran_followed _ _ a.written b.written b _ _ h.of_taken (lines_formed (lines_of h.script)) h.ran
+  ends_followed statuses.TooLong b l k h = ran_followed _ _ a.written b.written b _ _ (front_all _) (lines_formed _) h.2.answered.ran
   ends_followed statuses.Usage b l k h = absurd h
   ends_followed statuses.NoMemory b l k h = absurd h
 
 -- the promise, from a replay that began with some machine and some forest, which were those of the
 -- start
-pub run_ends : (status : Status) (size : Size) (old now : Machine → PageForest → Scene) (l k : Option (List ℕ)) (told : Option Segments) (m last : Machine) (f forest : PageForest)
+pub run_ends : (status : Status) (size : Size) (old now : Machine → PageForest → CommandScene) (l k : Option (List ℕ)) (told : Option Segments) (m last : Machine) (f forest : PageForest)
     → ((m : Machine) (f : PageForest) → (old m f).state ≡ record { machine = m; forest = Some f; segments = told })
     → ((m : Machine) (f : PageForest) → ((now m f).state.machine ≡ m) × ((now m f).state.forest ≡ Some f))
-    → 1 ≤ size.page_bytes → m ≡ start size.frames size.page_bytes → f ≡ no_forest → Ends status (old m f) (now last forest) l k → RunEnds status size old now l k
+    → 1 ≤ size.page_bytes → m ≡ start size.frames size.page_bytes → f ≡ no_forest → EndsAs status (old m f) (now last forest) l k → RunEnds status size old now l k
 run_ends status size old now l k told m last f forest old_is now_is some machine_is forest_is ends =
     let begun = start size.frames size.page_bytes in
-    let from : Ends status (old begun no_forest) (now last forest) l k =
-    subst (λ (x : Machine). Ends status (old x no_forest) (now last forest) l k) machine_is (subst (λ (x : PageForest). Ends status (old m x) (now last forest) l k) forest_is ends) in
+    let from : EndsAs status (old begun no_forest) (now last forest) l k =
+    subst (λ (x : Machine). EndsAs status (old x no_forest) (now last forest) l k) machine_is (subst (λ (x : PageForest). EndsAs status (old m x) (now last forest) l k) forest_is ends) in
     let followed : IsSomeAnd (now last forest).state.forest (IsFollowed (now last forest).state.machine) = ends_followed (old begun no_forest) size.frames size.page_bytes some told (old_is _ _) status (now last forest) l k from in
     let by_forest : IsSomeAnd (Some forest) (IsFollowed (now last forest).state.machine) = subst (λ (o : Option PageForest). IsSomeAnd o (IsFollowed (now last forest).state.machine)) (now_is last forest).1 followed in
     record {
@@ -109,7 +142,7 @@ limited_yes (Some all) (Some rest) P script surely size t =
     let n = taken (Some all) (Some rest) script t in
     (λ p. omega (arith, n, size), λ e. surely)
 
-pub limited : (status : Status) (a b : Scene) (l k : Option (List ℕ)) → Ends status a b l k → Limited l k (status ≡ statuses.TooLong)
+pub limited : (status : Status) (a b : CommandScene) (l k : Option (List ℕ)) → EndsAs status a b l k → Limited l k (status ≡ statuses.TooLong)
 limited statuses.Done a b l k h = limited_no l k _ h.script (λ e. cc) h.within h.took
 limited statuses.SourceFault a b l k h = limited_no l k _ h.0 (λ e. cc) h.1 h.2.took
 limited statuses.SinkFault a b l k h = limited_no l k _ h.script (λ e. cc) h.within h.took
@@ -128,7 +161,7 @@ too_many (Some all) None script size t h = absurd (cc)
 too_many (Some all) (Some rest) script size t h = let n = taken (Some all) (Some rest) script t in absurd (omega (arith, n, size, h))
 
 -- where nothing fails the run is done
-pub complete : (status : Status) (a b : Scene) (l k : Option (List ℕ)) (reads reads_now writes writes_now : ℕ) → Ends status a b l k → (status ≡ statuses.SourceFault → Rose reads reads_now) → (status ≡ statuses.SinkFault → Rose writes writes_now)
+pub complete : (status : Status) (a b : CommandScene) (l k : Option (List ℕ)) (reads reads_now writes writes_now : ℕ) → EndsAs status a b l k → (status ≡ statuses.SourceFault → Rose reads reads_now) → (status ≡ statuses.SinkFault → Rose writes writes_now)
     → IsSomeAnd l (λ all. length all ≤ most_bytes) → reads_now ≡ reads → reads_now < last_count → writes_now ≡ writes → writes_now < last_count → (status ≡ statuses.Done) ⊎ (status ≡ statuses.NoMemory)
 complete statuses.Done a b l k reads reads_now writes writes_now h sr kr few r rl w wl = inl refl
 complete statuses.SourceFault a b l k reads reads_now writes writes_now h sr kr few r rl w wl = absurd (omega (arith, sr refl rl))
@@ -138,7 +171,7 @@ complete statuses.Usage a b l k reads reads_now writes writes_now h sr kr few r 
 complete statuses.NoMemory a b l k reads reads_now writes writes_now h sr kr few r rl w wl = absurd h
 
 -- a replay that began ends as neither of these
-pub began : (status : Status) (a b : Scene) (l k : Option (List ℕ)) → Ends status a b l k → (status ≡ statuses.Usage) ⊎ (status ≡ statuses.NoMemory) → ⊥
+pub began : (status : Status) (a b : CommandScene) (l k : Option (List ℕ)) → EndsAs status a b l k → (status ≡ statuses.Usage) ⊎ (status ≡ statuses.NoMemory) → ⊥
 began statuses.Done a b l k h (inl e) = cc
 began statuses.Done a b l k h (inr e) = cc
 began statuses.SourceFault a b l k h (inl e) = cc
@@ -161,3 +194,33 @@ fits_start told frames bytes named m h same e = subst (Fits told) (sym e) (by to
 
 pub live_start : (frames bytes : ℕ) (m : Machine) → m ≡ start frames bytes → live_pages m ≤ LIVE_PAGES
 live_start frames bytes m e = subst (λ (x : Machine). live_pages x ≤ LIVE_PAGES) (sym e) (omega arith)
+
+pub living_start : (frames bytes : ℕ) (m : Machine) → m ≡ start frames bytes → living_actors m ≤ LIVING_ACTORS
+living_start frames bytes m e = subst (λ (x : Machine). living_actors x ≤ LIVING_ACTORS) (sym e) (omega arith)
+
+-- by the exit status, as the replay ends
+pub ends_as : (e : Ended) (a b : CommandScene) (l k : Option (List ℕ)) → Ends e command_semantics command_of a b l k → EndsAs (status_of e) a b l k
+ends_as ended.Done a b l k h = h
+ends_as ended.SourceFault a b l k h = h
+ends_as ended.SinkFault a b l k h = h
+ends_as ended.TooLong a b l k h = h
+
+pub of_source_fault : (e : Ended) → status_of e ≡ statuses.SourceFault → e ≡ ended.SourceFault
+of_source_fault ended.Done h = absurd (cc h)
+of_source_fault ended.SourceFault h = refl
+of_source_fault ended.SinkFault h = absurd (cc h)
+of_source_fault ended.TooLong h = absurd (cc h)
+
+pub of_sink_fault : (e : Ended) → status_of e ≡ statuses.SinkFault → e ≡ ended.SinkFault
+of_sink_fault ended.Done h = absurd (cc h)
+of_sink_fault ended.SourceFault h = absurd (cc h)
+of_sink_fault ended.SinkFault h = refl
+of_sink_fault ended.TooLong h = absurd (cc h)
+
+pub ends_at : (status : Status) (e : Ended) (a b : CommandScene) (l k : Option (List ℕ)) → status ≡ status_of e → Ends e command_semantics command_of a b l k → EndsAs status a b l k
+ends_at status e a b l k is h = subst (λ (s : Status). EndsAs s a b l k) (sym is) (ends_as e a b l k h)
+
+-- what it takes to answer the first line, where nothing is parked
+pub can_start : {Service Mapper Chooser : Type 0} (V : GhostsOfService Service Mapper Chooser) (M : GhostsOfMapper Mapper) (service : Service) (mapper : Mapper) (waits : List Parked) → waits ≡ [] → V.able service (M.held mapper) (M.page_bytes mapper) → V.made service ≤ answer_budget → CanAnswer V M 1 service mapper waits
+can_start V M service mapper waits none able made =
+    subst (λ (w : List Parked). CanAnswer V M 1 service mapper w) (sym none) (record { serve = record { able = able; let_in = tt; apart = tt }; away = tt; made = omega (arith, made); first = omega arith })

@@ -1,5 +1,5 @@
 -- What a trial promises, from how its lines are answered.
-use Rattle.std.proofs.Common.{◌≡◌, ℕ, map, Option, Some, None, sym, ap, subst, ◌∙◌, arith}
+use Rattle.std.proofs.Common.{◌≡◌, ℕ, map, refl, Option, Some, None, sym, ap, subst, ◌∙◌, arith}
 use Rattle.std.specs.Prelude.{IsSomeAnd, Ok, Err}
 use Rattle.vm_ids.specs.Counting.{no_counts}
 use Rattle.vm_ids.specs.Held.{Segments}
@@ -16,11 +16,11 @@ use Rattle.vm_model.specs.Outcome.{IsAlike, Outcome, OutcomeAt}
 use Rattle.vm_model.specs.PageForest.{PageForest}
 use Rattle.vm_model.specs.Run.{State}
 use Rattle.actor_script.specs.Forms.{command_of}
-use Rattle.replay.specs.Ending.{Scene, Summed, TrialEnds, lines_made}
-use Rattle.replay.specs.OneLine.{TellsCounts}
+use Rattle.line_service.specs.Going.Known.{whole}
+use Rattle.replay.specs.Ending.{CommandScene, Summary, Summed, TellsCounts, TrialEnds, lines_made}
 use Rattle.replay.specs.declared.asked.Generated.{Generated}
 use Rattle.replay.specs.declared.status.Status.{Status}
-use Rattle.replay.proofs.Promise.{lines_formed, run_followed}
+use Rattle.replay.proofs.Promise.{lines_formed, ran_followed}
 
 -- the counts that a manager tells are those of its forest
 
@@ -52,7 +52,7 @@ pub counts_told : (s : State) (f : PageForest) (counts : Counts) → s.forest �
 counts_told s f counts shown tells = counts_at s.segments s.machine f counts (subst (λ (o : Option PageForest). OutcomeAt s.segments s.machine o Stat (Ok (replies.Stat counts)) s.machine no_counts) shown tells.outcome)
 
 -- from a trial that began with some machine and some forest, which were those of the start
-pub trial_ends : (status : Status) (script : Generated) (frames : ℕ) (old now : Machine → PageForest → Scene) (told : Option Segments) (m last : Machine) (f forest : PageForest) (counts : Counts)
+pub trial_ends : (status : Status) (script : Generated) (frames : ℕ) (old now : Machine → PageForest → CommandScene) (told : Option Segments) (m last : Machine) (f forest : PageForest) (counts : Counts)
     → ((m : Machine) (f : PageForest) → (old m f).state ≡ record { machine = m; forest = Some f; segments = told })
     → ((m : Machine) (f : PageForest) → ((now m f).state.machine ≡ m) × ((now m f).state.forest ≡ Some f))
     → m ≡ start frames PAGE → f ≡ no_forest → TellsCounts (now last forest).state counts → Summed status (old m f) (now last forest) (map command_of (lines_made script)) counts → TrialEnds status script frames old now
@@ -62,7 +62,7 @@ trial_ends status script frames old now told m last f forest counts old_is now_i
     let from : Summed status (old begun no_forest) (now last forest) reads counts =
     subst (λ (x : Machine). Summed status (old x no_forest) (now last forest) reads counts) machine_is (subst (λ (x : PageForest). Summed status (old m x) (now last forest) reads counts) forest_is summed) in
     let followed : IsSomeAnd (now last forest).state.forest (IsFollowed (now last forest).state.machine) =
-    run_followed (old begun no_forest) frames PAGE (omega arith) told (old_is _ _) reads from.steps (now last forest).state (lines_formed (lines_made script)) from.runs in
+    ran_followed (old begun no_forest) frames PAGE (omega arith) told (old_is _ _) (Summary status counts) (whole reads) (old begun no_forest).written (now last forest).written (now last forest) _ reads refl (lines_formed (lines_made script)) from.ran in
     let by_forest : IsSomeAnd (Some forest) (IsFollowed (now last forest).state.machine) = subst (λ (o : Option PageForest). IsSomeAnd o (IsFollowed (now last forest).state.machine)) (now_is last forest).1 followed in
     record {
       last = last;

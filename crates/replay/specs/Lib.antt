@@ -1,7 +1,5 @@
 pub mod Commanding
 pub mod Ending
-pub mod Going
-pub mod OneLine
+pub mod Few
+pub mod Managing
 pub mod Reading
-pub mod Script
-pub mod Waiting

@@ -6,8 +6,8 @@ ghost use Rattle.replay.specs.Ending.{lines_made, with_feeds, WritesAs};
 
 use crate::Status;
 use crate::asked::Generated;
-use crate::gathered::Gathered;
 use actor_script::Gen;
+use line_service::Gathered;
 use vm_port::{Failed, Sink};
 
 // Writes the lines of the script.

@@ -1,26 +1,20 @@
 //! A script from bytes to bytes: each line is read as a command, a memory manager answers it, and
 //! the reply is written as a line.
 //!
-//! Its model is in specs/. What a reader must believe: the lines of a script (`Script`), the words
-//! of a command line (`Commanding`), and how a run ends (`Ending`). The rest serves the contracts
-//! of the parts alone: what clap reads (`Reading`), one line (`OneLine`), how far a replay has come
-//! (`Going`), and the replies that wait (`Waiting`).
+//! Its model is in specs/. What a reader must believe: the words of a command line (`Commanding`),
+//! and how a run ends (`Ending`), which says of the commands of a script what `line_service` says of
+//! lines. The rest serves the contracts of the parts alone: what clap reads (`Reading`), and what it
+//! takes to call a manager (`Managing`, `Few`).
 //!
-//! It stands on the script language, which says the command of a line and the line of a reply, on
-//! the interface of a manager and on the traits of the outside; only [`run`] names the manager,
-//! which is the demand-paged one. The program stands on it. The way of a byte: `replaying` reads
-//! pieces, `feeding` finds lines, `answering` answers one line, `gathered` keeps its reply. The
-//! replies to one piece go out together, and before the next piece is read. The lines that a number
-//! makes are written by `generating`, and answered by `trying`, which writes their summary.
+//! It stands on the loop over lines (`line_service`), for which a manager of the interface answers
+//! the commands of a script (`commands`); only [`run`] names the manager, which is the demand-paged
+//! one. The program stands on it. The lines that a number makes are written by `generating`, and
+//! answered by `trying`, which writes their summary.
 #![tactic(auto)]
 
-mod answering;
 mod asked;
-mod feeding;
-mod gathered;
+mod commands;
 mod generating;
-mod progress;
-mod replaying;
 mod status;
 #[cfg(test)]
 mod tests;

@@ -1,6 +1,9 @@
 // How a run ends.
 ghost use Rattle.std.specs.Prelude.{◌≡◌};
 ghost use Rattle.replay.specs.Commanding.{status_code};
+ghost use Rattle.replay.specs.Ending.{status_of};
+
+use line_service::Ended;
 
 /// How a run ends.
 #[derive(Clone, Copy, Debug, PartialEq, Eq)]
@@ -20,6 +23,18 @@ pub enum Status {
 }
 
 impl Status {
+    /// The status of a run, by how its replay ends.
+    pub fn of(ended: Ended) -> Status
+        ensures { result ≡ status_of ended }
+    {
+        match ended {
+            Ended::Done => Status::Done,
+            Ended::SourceFault => Status::SourceFault,
+            Ended::SinkFault => Status::SinkFault,
+            Ended::TooLong => Status::TooLong,
+        }
+    }
+
     /// The exit status of the program, 0 to 5.
     pub fn code(self) -> u8
         ensures { result ≡ status_code self }

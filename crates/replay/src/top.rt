@@ -3,18 +3,20 @@ ghost use Rattle.std.specs.Prelude.{◌≡◌, ◌≢◌, ◌↔◌, ◌⊎◌, 
 ghost use Rattle.vm_ids.specs.Counting.{Rose, last_count};
 ghost use Rattle.replay.specs.Commanding.{asked_by, page_size_of};
 ghost use Rattle.replay.specs.Ending.{AskedEnds, IsWithinLimit, reads_source, scene_with};
-ghost use Rattle.replay.specs.Script.{most_bytes};
+ghost use Rattle.line_service.specs.Script.{most_bytes};
 
 use crate::Status;
 use crate::asked::Asked;
+use crate::commands::Commands;
 use crate::generating::generate;
-use crate::replaying::replay;
 use crate::trying::trial;
 use crate::words::read_words;
+use line_service::replay;
+use pull_wait::PullWait;
 use pvm_core::Pvm;
 use std::alloc::Global;
 use vm_ids::PAGE;
-use vm_port::{Chooser, Mapper, Sink, Source};
+use vm_port::{Chooser, Dispatcher, Mapper, Sink, Source};
 
 /// Runs the program for the words of a command line, which ask for one of three things:
 ///
@@ -47,13 +49,14 @@ use vm_port::{Chooser, Mapper, Sink, Source};
 ///   written.
 /// - `TooLong`, of a run alone, exactly where byte 67,108,865 of the script was taken; each line
 ///   that ended before is answered.
-pub fn run<S: Source, K: Sink, M: Mapper, C: Chooser>(
+pub fn run<S: Source, K: Sink, M: Mapper, C: Chooser, D: Dispatcher>(
     alloc: Global,
     words: &[&str],
     source: &mut S,
     sink: &mut K,
     mapper: &mut M,
     chooser: &mut C,
+    dispatcher: &mut D,
 ) -> Status
     requires { IfSome (M.page_bytes mapper.old)
         (λ bytes. bytes ≡ page_size_of (map (λ w. w.now) words.now)) }
@@ -62,8 +65,8 @@ pub fn run<S: Source, K: Sink, M: Mapper, C: Chooser>(
     // or their summary are written; or the lines that were asked for are written.
     ensures ends { result ≢ Status.NoMemory →
         IfSome (asked_by (map (λ w. w.now) words.now)) (λ asked. AskedEnds result asked
-        (scene_with M.Mapper mapper.old (K.written sink.old))
-        (scene_with M.Mapper mapper.new (K.written sink.new))
+        (scene_with M.Mapper mapper.old (D.turns dispatcher.old) (K.written sink.old))
+        (scene_with M.Mapper mapper.new (D.turns dispatcher.new) (K.written sink.new))
         (S.left source.old) (S.left source.new)) }
     // Usage: exactly for other words, but for want of memory.
     ensures usage { result ≢ Status.NoMemory →
@@ -80,7 +83,8 @@ pub fn run<S: Source, K: Sink, M: Mapper, C: Chooser>(
     // Usage and NoMemory: nothing was touched.
     ensures untouched { (result ≡ Status.Usage) ⊎ (result ≡ Status.NoMemory) →
         (source.new ≡ source.old) × (sink.new ≡ sink.old)
-        × (mapper.new ≡ mapper.old) × (chooser.new ≡ chooser.old) }
+        × (mapper.new ≡ mapper.old) × (chooser.new ≡ chooser.old)
+        × (dispatcher.new ≡ dispatcher.old) }
     // Only a run reads.
     ensures unread { IsSomeAnd (asked_by (map (λ w. w.now) words.now))
         (λ asked. reads_source asked ≡ false) → source.new ≡ source.old }
@@ -99,19 +103,45 @@ pub fn run<S: Source, K: Sink, M: Mapper, C: Chooser>(
     };
     match asked {
         Asked::Run(size) => {
-            let mut manager = match Pvm::new(alloc, size.frames, size.page_bytes) {
+            let manager = match Pvm::new(alloc, size.frames, size.page_bytes) {
                 Ok(manager) => manager,
                 Err(_) => return Status::NoMemory,
             };
-            replay(&mut manager, mapper, chooser, source, sink)
+            let mut waits = match PullWait::new(alloc) {
+                Ok(waits) => waits,
+                Err(_) => return Status::NoMemory,
+            };
+            let mut commands = Commands { gmi: manager };
+            Status::of(replay(
+                &mut commands,
+                mapper,
+                chooser,
+                &mut waits,
+                dispatcher,
+                source,
+                sink,
+            ))
         }
         Asked::Generate(script) => generate(script, sink),
         Asked::Trial(script, frames) => {
-            let mut manager = match Pvm::new(alloc, frames, PAGE as u32) {
+            let manager = match Pvm::new(alloc, frames, PAGE as u32) {
                 Ok(manager) => manager,
                 Err(_) => return Status::NoMemory,
             };
-            trial(&mut manager, mapper, chooser, sink, script)
+            let mut waits = match PullWait::new(alloc) {
+                Ok(waits) => waits,
+                Err(_) => return Status::NoMemory,
+            };
+            let mut commands = Commands { gmi: manager };
+            trial(
+                &mut commands,
+                mapper,
+                chooser,
+                &mut waits,
+                dispatcher,
+                sink,
+                script,
+            )
         }
     }
 }

@@ -20,7 +20,7 @@ ghost use Rattle.residency.specs.Freeing.{MakesFree};
 ghost use Rattle.residency.specs.Lending.{LendsFrame, LendsTables};
 ghost use Rattle.residency.specs.Pushing.{TellsOn};
 ghost use Rattle.residency.specs.Translating.{IsEmptied, TablesAfter};
-ghost use Rattle.residency.specs.World.{HasNoNodes, HasOwnPage, HoldsPage, HasUnpinned, IsAway, IsFrameOf, IsStoreRight, IsTaken, OthersStay, OthersStayBut, Still, brought_in, is_clean, world};
+ghost use Rattle.residency.specs.World.{HasNoNodes, HasOwnPage, HoldsPage, HasUnpinned, IsAway, IsFrameOf, IsStoreRight, IsTaken, OthersStay, OthersStayBut, Still, brought_in, is_clean, is_pulled, world};
 
 use crate::Miss;
 use crate::marks::Marks;
@@ -472,6 +472,8 @@ impl Store {
         ensures few { dirty_count caches.old + dirtied result (own_of caches.old node)
             - dirty_count caches.new + failed_victims result
             ≤ pushes_to_bring (own_of caches.old node) self.old.frames.held }
+        ensures victim { is_pulled (own_of caches.old node) ≡ false →
+            IfErr result (λ miss. miss ≡ Miss.Victim) }
         ensures cause { IfErr result (HasMissCause (M.counts mapper.old) (M.counts mapper.new)) }
     {
         match self.map.get(node) {
@@ -499,6 +501,7 @@ impl Store {
         ensures fills { Across (Fills result node frame.0 (M.given mapper.new))
             M.held M.page_bytes M.counts
             mapper.old caches.old self.old mapper.new caches.new self.new }
+        ensures filled { is_pulled (own_of caches.old node) ≡ false → IsOk result }
         ensures tables { self.new.tables ≡ self.old.tables }
     {
         match caches.own_state(node) {

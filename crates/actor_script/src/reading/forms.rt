@@ -4,15 +4,16 @@ ghost use Rattle.vm_model.specs.Asking.{IsWellFormed};
 ghost use Rattle.actor_script.specs.Forms.{command_of, form_of, verb_form, actor_form, exit_form, temp_form, open_form, destroy_form, span_of, copy_form, move_form, map_form, split_form, protect_form, lock_form, unlock_form, unmap_form, status_form, find_form, load_form, store_form, extent_of, sync_form, flush_form, invalidate_form, pageout_form, chain_form, stat_form};
 ghost use Rattle.actor_script.specs.Operands.{mode_of};
 
-use super::hexadecimal::{read_address, read_bytes};
-use super::numbers::{read_count, read_length, read_lettered, read_number};
-use super::words::split_words;
+use super::accesses::{command_for, load_in, store_in};
+use super::hexadecimal::read_address;
+use super::numbers::{read_count, read_lettered, read_number};
+use super::words::{is, split_words};
 use vm_ids::{
     ActorId, CacheId, Command, Extent, Mapping, PageNo, Prot, Refusal, RegionId, SegId, Span,
 };
 
 // A longer line is no command.
-const LONGEST_LINE: usize = 256;
+pub(super) const LONGEST_LINE: usize = 256;
 
 // `actor`
 #[tactic(auto, unfolding(crate::specs::Forms::actor_form))]
@@ -244,35 +245,19 @@ fn read_find(operands: &[&[u8]]) -> Option<Command>
 }
 
 // `load A ADDR LEN`
-#[tactic(auto, unfolding(crate::specs::Forms::load_form))]
 fn read_load(operands: &[&[u8]]) -> Option<Command>
     ensures { result ≡ load_form (map (λ w. w.now) operands.now) }
 {
-    match operands {
-        [actor, address, length] => {
-            let actor = ActorId(read_lettered(b'a', actor)?);
-            let address = read_address(address)?;
-            let length = read_length(length)?;
-            Some(Command::Load(actor, address, length))
-        }
-        _ => None,
-    }
+    let (actor, access) = load_in(operands)?;
+    Some(command_for(actor, access))
 }
 
 // `store A ADDR BYTES`
-#[tactic(auto, unfolding(crate::specs::Forms::store_form))]
 fn read_store(operands: &[&[u8]]) -> Option<Command>
     ensures { result ≡ store_form (map (λ w. w.now) operands.now) }
 {
-    match operands {
-        [actor, address, bytes] => {
-            let actor = ActorId(read_lettered(b'a', actor)?);
-            let address = read_address(address)?;
-            let piece = read_bytes(bytes)?;
-            Some(Command::Store(actor, address, piece))
-        }
-        _ => None,
-    }
+    let (actor, access) = store_in(operands)?;
+    Some(command_for(actor, access))
 }
 
 // `C O N`
@@ -354,14 +339,6 @@ fn read_stat(operands: &[&[u8]]) -> Option<Command>
         [] => Some(Command::Stat),
         _ => None,
     }
-}
-
-// Whether a verb is this word. Most others are told from it by their length.
-#[inline(always)]
-fn is(verb: &[u8], word: &[u8]) -> bool
-    ensures { result ≡ bytes_eq verb.now word.now }
-{
-    verb.len() == word.len() && verb == word
 }
 
 // The form of any verb.

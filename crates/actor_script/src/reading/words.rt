@@ -1,11 +1,11 @@
 // The words of a line.
-ghost use Rattle.std.specs.Prelude.{◌≡◌, ◌<◌, ◌==◌, ◌∷◌, length, map, option_map, position, IfSome, MatchOption};
+ghost use Rattle.std.specs.Prelude.{◌≡◌, ◌<◌, ◌==◌, ◌∷◌, bytes_eq, length, map, option_map, position, IfSome, MatchOption};
 ghost use Rattle.actor_script.specs.Words.{words_of, words_left};
 
 use arrayvec::ArrayVec;
 
 // No form has more words.
-const MOST_WORDS: usize = 7;
+pub(super) const MOST_WORDS: usize = 7;
 
 fn first_space(text: &[u8]) -> Option<usize>
     ensures { result ≡ position (λ b. b == 32) text.now }
@@ -14,7 +14,7 @@ fn first_space(text: &[u8]) -> Option<usize>
 }
 
 // The first word, and what stands behind the space that ends it.
-fn first_word(text: &[u8]) -> (&[u8], Option<&[u8]>)
+pub(super) fn first_word(text: &[u8]) -> (&[u8], Option<&[u8]>)
     ensures words { words_of text.now
         ≡ result.0.now ∷ words_left (option_map (λ r. r.now) result.1) }
     ensures shorter { IfSome result.1 (λ rest. length rest.now < length text.now) }
@@ -41,4 +41,12 @@ pub fn split_words(line: &[u8]) -> Option<ArrayVec<&[u8], MOST_WORDS>>
         }
     }
     Some(words)
+}
+
+// Whether a verb is this word. Most others are told from it by their length.
+#[inline(always)]
+pub(super) fn is(verb: &[u8], word: &[u8]) -> bool
+    ensures { result ≡ bytes_eq verb.now word.now }
+{
+    verb.len() == word.len() && verb == word
 }

@@ -1,5 +1,5 @@
 -- What a call answers where every page is still, and where another call went before it.
-use Rattle.std.proofs.Common.{◌≡◌, arith, Result, Ok, Err}
+use Rattle.std.proofs.Common.{◌≡◌, ◌∙◌, arith, Result, Ok, Err}
 use Rattle.std.specs.Prelude.{IfErr, IsErrAnd}
 use Rattle.vm_ids.specs.Counting.{MapperCounts}
 use Rattle.vm_ids.specs.Forest.Shape.{IsWellShaped}
@@ -11,7 +11,7 @@ use Rattle.residency.specs.declared.miss.Miss.TheVariants.{Pull, Victim}
 use Rattle.residency.specs.Pushing.{TellsOn}
 use Rattle.residency.specs.World.{Still, World}
 use Rattle.residency.proofs.Forests.StillForest.{still_forest}
-use Rattle.fault_path.specs.Answers.{IsAnswered, IsDoneOrMissed, IsMissed}
+use Rattle.fault_path.specs.Answers.{IsAnswered, IsDoneOrMissed, IsMissed, OnlyVictim}
 use Rattle.fault_path.proofs.Calls.Kept.{still_kept}
 
 pub later_then : (a b c : MapperCounts) → Later a b → Later b c → Later a c
@@ -45,3 +45,8 @@ module _ (old new : World) (still : Still old new) (before now : MapperCounts) w
     pub miss_by : (P : Miss → Type 0) (r : Result T Miss) → IsErrAnd r P → IfErr r (HasMissCause before now) → IsDoneOrMissed r does old new before now
     miss_by P (Ok x) is cause = absurd is
     miss_by P (Err miss) is cause = miss_with miss cause
+
+-- a miss that is handed on
+pub victim_from : {T : Type 0} (r : Result T Miss) (miss : Miss) → IsErrAnd r (λ m. m ≡ miss) → miss ≡ Victim → OnlyVictim r
+victim_from (Ok x) miss is victim = tt
+victim_from (Err m) miss is victim = is ∙ victim

@@ -207,7 +207,7 @@ module _ {old w v : World} {f g : ℕ} {n o : NodeId} {b : Arena} (right : IsFor
     some_n : is_some (own_page (homed v f n b) n) ≡ true
     some_n = ap is_some step_gives.here
 
-    hands : GivesFrame (homed v f n b) (homed (homed v f n b) g h d) g h
+    pub hands : GivesFrame (homed v f n b) (homed (homed v f n b) g h d) g h
     hands = hand_gives u u g still_u taken_g step_gives.sound step_shaped n h (step_there n there) some_n (step_there h held) (step_heir h heir_is) absent_h page_g d handed
 
     pub two_forest : store_forest (homed (homed v f n b) g h d) ≡ readied (store_forest old) (name_of old.caches n)

@@ -31,7 +31,7 @@ lt_from x y e = grind (arith, nat_tests)
 lt_test : (x y : ℕ) → x < y → nat_lt x y ≡ true
 lt_test x y e = grind (arith, nat_tests)
 
-lt_none : (x y : ℕ) → y ≤ x → nat_lt x y ≡ false
+pub lt_none : (x y : ℕ) → y ≤ x → nat_lt x y ≡ false
 lt_none x y e = grind (arith, nat_tests)
 
 -- a region that was found holds the address

@@ -47,3 +47,9 @@ missed_by P fault miss page is = subst (λ (f : FaultAt). OnNoAccess (Err (troub
 -- the grants are those of the tables
 pub same_tables : (a b : Arena) → b.caches ≡ a.caches → GrantsStay a b
 same_tables a b same = subst (λ ts. GrantsStay a (record a { caches = ts })) (sym same) (λ cache page e. e)
+
+-- nothing was asked in vain
+pub none_asked : (r : Result (Unit {0}) Trouble) (P : Type 0) → OnNoAccess r ⊥ → OnNoAccess r P
+none_asked (Err (troubles.Refused refusals.WriteDenied)) P none = absurd none
+none_asked (Err (troubles.Mapper (faults.Access page))) P none = absurd none
+none_asked r P none = tt

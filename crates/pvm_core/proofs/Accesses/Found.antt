@@ -1,6 +1,10 @@
 -- Where a load finds a page.
-use Rattle.std.proofs.Common.{◌≡◌, ℕ, true, false, List, Option, Some, None, refl, sym, ap, subst, ◌∙◌, arith}
-use Rattle.std.specs.Prelude.{IfSome, Ok, if◌then◌else◌}
+use Rattle.local_cache.specs.Reading.{page_of}
+use Rattle.std.specs.Option.{IsSome}
+use Rattle.residency.specs.declared.miss.Miss.{Miss}
+use Rattle.residency.specs.declared.miss.Miss.TheVariants.{Victim}
+use Rattle.std.proofs.Common.{◌≡◌, ℕ, true, false, List, Option, Some, None, refl, sym, ap, subst, ◌∙◌, arith, Result, Err}
+use Rattle.std.specs.Prelude.{IfSome, Ok, if◌then◌else◌, IsOk}
 use Rattle.vm_ids.specs.Counting.{MapperCounts, RoseBy}
 use Rattle.vm_ids.specs.Held.{Held}
 use Rattle.vm_ids.specs.declared.numbers.FrameId.{FrameId}
@@ -49,3 +53,19 @@ pulled_for Absent c d found made idle = (made refl).1.pulled
 pulled_for (Resident dirty) c d found made idle = (made refl).1.pulled
 pulled_for (Slot s) c d found made idle = (made refl).1.pulled
 pulled_for OnSegment c d found made idle = (made refl).1.pulled
+
+-- nothing was pulled where a push failed
+pub missed_pulls : (x : OwnState) (r : Result (Option FrameId) Miss) (c d : MapperCounts) → r ≡ Err Victim → (is_zero x ≡ false → (pushes : ℕ) × Traffic (pulls_for r x) pushes c d) → (is_at_hand x ≡ true → IsOk r) → RoseBy 0 c.pulls d.pulls
+missed_pulls Zero r c d e made idle = absurd (let no : false ≡ true = subst IsOk e (idle refl) in cc no)
+missed_pulls Absent r c d e made idle = subst (λ (q : Result (Option FrameId) Miss). RoseBy (pulls_for q Absent) c.pulls d.pulls) e (made refl).1.pulled
+missed_pulls (Resident dirty) r c d e made idle = subst (λ (q : Result (Option FrameId) Miss). RoseBy (pulls_for q (Resident dirty)) c.pulls d.pulls) e (made refl).1.pulled
+missed_pulls (Slot s) r c d e made idle = subst (λ (q : Result (Option FrameId) Miss). RoseBy (pulls_for q (Slot s)) c.pulls d.pulls) e (made refl).1.pulled
+missed_pulls OnSegment r c d e made idle = subst (λ (q : Result (Option FrameId) Miss). RoseBy (pulls_for q OnSegment) c.pulls d.pulls) e (made refl).1.pulled
+
+-- a page that isn't at hand is pulled
+pub pulled_one : (x : OwnState) (r : Result (Option FrameId) Miss) (found : Option FrameId) (c d : MapperCounts) → r ≡ Ok found → IsSome (page_of x) → is_at_hand x ≡ false → (is_zero x ≡ false → (pushes : ℕ) × Traffic (pulls_for r x) pushes c d) → RoseBy 1 c.pulls d.pulls
+pulled_one Zero r found c d e some away made = absurd (cc away)
+pulled_one Absent r found c d e some away made = absurd (cc some)
+pulled_one (Resident dirty) r found c d e some away made = absurd (cc away)
+pulled_one (Slot s) r found c d e some away made = subst (λ (q : Result (Option FrameId) Miss). RoseBy (pulls_for q (Slot s)) c.pulls d.pulls) e (made refl).1.pulled
+pulled_one OnSegment r found c d e some away made = subst (λ (q : Result (Option FrameId) Miss). RoseBy (pulls_for q OnSegment) c.pulls d.pulls) e (made refl).1.pulled

@@ -42,11 +42,12 @@ use Rattle.vm_model.specs.Machine.{Cache, Machine, Page, cache_of}
 use Rattle.vm_model.specs.Outcome.{Outcome, OutcomeAt}
 use Rattle.vm_model.specs.PageForest.{PageForest, page_in}
 use Rattle.vm_model.specs.Place.{Place, place}
-use Rattle.pvm_core.specs.Manager.{Manager, forest_of, machine_by, machine_of, shown}
+use Rattle.pvm_core.specs.Manager.{Manager, forest_of, machine_by, machine_of, shown, state_at}
 use Rattle.pvm_core.specs.Pieces.{bytes_found, fault_at}
 use Rattle.pvm_core.proofs.Answering.Answered.{no_segments}
 use Rattle.pvm_core.proofs.Answering.Rising.{grown_some, rises_between}
 use Rattle.pvm_core.proofs.Meaning.Values.{blank_of, page_shown, value_there, zeroed, zeroed_whole, zeros_by}
+use Rattle.vm_model.specs.Run.{IsUnrefused}
 
 -- Rows
 
@@ -139,7 +140,7 @@ module _ (p q : Manager) (h g : Option Held) (i : Option ℕ) (b : Arena) (s : S
 
 -- Owners
 
-own_node : {P : Type 0} (f : Forest P) (y : NodeName) → IsSome (node f y).own → IsNode f y
+pub own_node : {P : Type 0} (f : Forest P) (y : NodeName) → IsSome (node f y).own → IsNode f y
 unfolding node
 own_node f y some = go (get f.nodes y) refl some
   where
@@ -181,3 +182,26 @@ found_within (Some f) P m n e h = omega (arith, h.0, e)
 pub found_place : (found : Option FrameId) (P : FrameId → Type 0) (m n places : ℕ) → m ≡ n → places ≡ 4 * n → IfSome found (λ f. (f.0 < m) × P f) → IfSome found (λ f. 4 * f.0 + 4 ≤ places)
 found_place None P m n places e many h = tt
 found_place (Some f) P m n places e many h = omega (arith, h.0, e, many)
+
+-- A load that has a place is refused by nothing.
+pub load_unrefused : (p : Manager) (h : Option Held) → IsWhole p.caches → (actor : ActorId) (address n : ℕ) (at : Place) → ((f : PageForest) → Ok at ≡ place (machine_by p f) actor.0 address n) → IsUnrefused (state_at p h) (commands.Load actor address n)
+load_unrefused p None nodes actor address n at is = record {
+  reply = replies.Bytes (bytes_at (machine_by p (zeroed p None)) at n);
+  next = machine_of p None;
+  outcome = record {
+    whole = machine_by p (zeroed p None);
+    whole_next = machine_by p (zeroed p None);
+    segments = no_segments;
+    whole_answer = Ok (replies.Bytes (bytes_at (machine_by p (zeroed p None)) at n));
+    is = blank_of p (zeroed p None) nodes;
+    is_next = blank_of p (zeroed p None) nodes;
+    pages = zeroed_whole p None nodes;
+    alike = refl;
+    outcome = load_row (machine_by p (zeroed p None)) actor.0 address n at (is (zeroed p None));
+  };
+}
+load_unrefused p (Some k) nodes actor address n at is = record {
+  reply = replies.Bytes (bytes_at (machine_of p (Some k)) at n);
+  next = machine_of p (Some k);
+  outcome = load_row (machine_of p (Some k)) actor.0 address n at (is (forest_of p (Some k)));
+}

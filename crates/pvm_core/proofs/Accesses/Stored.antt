@@ -1,4 +1,5 @@
 -- What a store answers.
+use Rattle.vm_model.specs.Run.{IsUnrefused}
 use Rattle.std.proofs.Common.{◌≡◌, ℕ, ◌+◌, ◌-◌, ◌<◌, ◌≤◌, Bool, true, false, List, [], length, Option, Some, None, refl, sym, ap, ◌∙◌, subst, arith}
 use Rattle.std.specs.Prelude.{Result, Ok, Err, IfSome, IsOkAnd, is_some, option_map, option_and_then}
 use Rattle.std.specs.Option.{option_map_or}
@@ -53,7 +54,7 @@ use Rattle.vm_model.specs.Outcome.{HasWholePages, IsNamed, NotRefusedButFor, Out
 use Rattle.vm_model.specs.PageForest.{PageForest}
 use Rattle.vm_model.specs.Place.{Place, place}
 use Rattle.contexts.specs.Actors.{Actors}
-use Rattle.pvm_core.specs.Manager.{IsManagerSound, Manager, cache_shown, forest_of, machine_by, machine_of, shown, world_of}
+use Rattle.pvm_core.specs.Manager.{IsManagerSound, Manager, cache_shown, forest_of, machine_by, machine_of, shown, world_of, state_at}
 use Rattle.pvm_core.specs.Pieces.{fault_at}
 use Rattle.pvm_core.proofs.Answering.Answered.{no_segments}
 use Rattle.pvm_core.proofs.Accesses.Loading.{zeros_long}
@@ -241,3 +242,27 @@ dirty_here b s f n at dirty m there =
 -- where the forest stays, no page was copied
 pub kept_copies : (h k : Option Held) (i j : Option ℕ) (a b : Arena) (s u : Store) → store_forest (world k j b u) ≡ store_forest (world h i a s) → b.copies ≡ a.copies
 kept_copies h k i j a b s u e = sym (store_copies (world k j b u)) ∙ ap (λ f. f.copies) e ∙ store_copies (world h i a s)
+
+-- A store that has a place, which may be written, is refused by nothing.
+pub store_unrefused : (p : Manager) (h : Option Held) → IsWhole p.caches → (actor : ActorId) (address : ℕ) (bytes : List ℕ) (at : Place) → ((f : PageForest) → Ok at ≡ place (machine_by p f) actor.0 address (length bytes)) → at.region.may_write ≡ true
+    → ((f : PageForest) (s : Segments) → segments_of h ≡ Some s → is_denied_page (machine_by p f) s at.region.cache at.page ≡ false) → IsUnrefused (state_at p h) (commands.Store actor address bytes)
+store_unrefused p None nodes actor address bytes at is may allowed = record {
+  reply = replies.Done;
+  next = blank (write_at (machine_by p (zeroed p None)) at bytes);
+  outcome = record {
+    whole = machine_by p (zeroed p None);
+    whole_next = write_at (machine_by p (zeroed p None)) at bytes;
+    segments = no_segments;
+    whole_answer = Ok replies.Done;
+    is = blank_of p (zeroed p None) nodes;
+    is_next = refl;
+    pages = zeroed_whole p None nodes;
+    alike = refl;
+    outcome = store_row (machine_by p (zeroed p None)) actor.0 address bytes no_segments at (is (zeroed p None)) may (undenied_blank p (zeroed p None) at.region.cache at.page);
+  };
+}
+store_unrefused p (Some k) nodes actor address bytes at is may allowed = record {
+  reply = replies.Done;
+  next = write_at (machine_of p (Some k)) at bytes;
+  outcome = store_row (machine_of p (Some k)) actor.0 address bytes (segments_in k) at (is (forest_of p (Some k))) may (allowed (forest_of p (Some k)) (segments_in k) refl);
+}

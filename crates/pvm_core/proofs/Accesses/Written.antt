@@ -1,5 +1,9 @@
 -- A store to a page which a translation for writing leads to: nothing is owned, and nothing handed
 -- over.
+use Rattle.pvm_core.proofs.Accesses.Ready.{here_hand}
+use Rattle.pvm_core.proofs.Accesses.AtHand.{dirtied_hand}
+use Rattle.pvm_core.specs.Access.{is_page_at_hand}
+use Rattle.vm_ids.specs.declared.node_name.NodeName.{NodeName}
 use Rattle.std.proofs.Common.{◌≡◌, ℕ, ◌%◌, ◌<◌, Bool, true, false, cond, List, length, Option, Some, None, refl, sym, ap, subst, ◌∙◌, arith, inl}
 use Rattle.std.specs.Prelude.{Ok, option_map, slice_set}
 use Rattle.vm_ids.specs.Counting.{MapperCounts}
@@ -17,7 +21,7 @@ use Rattle.local_cache.specs.Arena.{Arena, Table, table_at, table_of, with_own}
 use Rattle.local_cache.specs.Own.{is_absent, is_resident, own_of}
 use Rattle.local_cache.specs.Reading as arena
 use Rattle.local_cache.specs.Reading.{name_of}
-use Rattle.local_cache.proofs.Nodes.OwnStates.{own_same}
+use Rattle.local_cache.proofs.Nodes.OwnStates.{own_same, own_other}
 use Rattle.page_tables.specs.Translations.{entry_at}
 use Rattle.page_tables.specs.declared.entry.Translation.{Translation}
 use Rattle.residency.specs.Seeing.{IsAlone}
@@ -189,3 +193,10 @@ module _ (a : Arena) (s : Store) (t : Actors) (live : ℕ) (sound : IsManagerSou
 
   pub written_made : dirty.made ≡ a.made
   written_made = kept.made
+
+  -- no more pages are at hand
+  pub written_hands : (x : NodeName) → is_page_at_hand (with_own a k.owner (Resident true)) x ≡ true → is_page_at_hand a x ≡ true
+  written_hands = dirtied_hand (world h None a s) (dirtied (world h None a s) k.owner) still sound.nodes.sound sound.nodes.consistent.shaped k.owner (here_hand (own_of a k.owner) here.resident) (λ m d. own_other a k.owner m (Resident true) d)
+
+  pub written_tables : dirty.caches ≡ a.caches
+  written_tables = kept.nodes.caches

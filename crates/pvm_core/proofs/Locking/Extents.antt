@@ -6,7 +6,7 @@ use Rattle.vm_ids.specs.declared.command.Extent.{Extent}
 use Rattle.vm_ids.specs.declared.numbers.CacheId.{CacheId}
 use Rattle.vm_ids.proofs.Places.{bit}
 use Rattle.local_cache.specs.Arena.{Arena}
-use Rattle.pvm_core.specs.Holding.{LocksMore, SameLocks, covers, one_page}
+use Rattle.pvm_core.specs.Holding.{LocksMore, covers, one_page}
 
 -- Which pages are covered
 

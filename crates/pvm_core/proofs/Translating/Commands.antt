@@ -18,7 +18,7 @@ use Rattle.vm_ids.proofs.Places.{same_number}
 use Rattle.vm_model.specs.Answering.{overlaps, without_region}
 use Rattle.vm_model.specs.Machine.{Actor, Region, numbered}
 use Rattle.vm_model.specs.Place.{holds, region_at}
-use Rattle.vm_model.specs.Regions.{region_with, replace_in, split_at, status_in, status_with, with_lock, with_prot}
+use Rattle.vm_model.specs.Regions.{region_with, replace_in, split_at, status_in, status_with, with_prot}
 use Rattle.vm_model.proofs.Parts.Lists.{is_there, numbered_place}
 use Rattle.contexts.specs.Actors.{Actors, times_made, with_region, with_split, split_refusal}
 use Rattle.contexts.proofs.Told.{IsTold, is_told, told_some}
@@ -29,7 +29,7 @@ use Rattle.page_tables.specs.declared.entry.Entry.{Entry}
 use Rattle.residency.specs.declared.store.Store.{Store}
 use Rattle.pvm_core.specs.Translated.{AreTranslationsRight, is_in_region}
 use Rattle.pvm_core.proofs.Translating.Actors.{stays_ended, stays_made, stays_mapped, stays_replaced, stays_unmapped}
-use Rattle.pvm_core.proofs.Translating.Cut.{lock_becomes, prot_becomes, split_becomes}
+use Rattle.pvm_core.proofs.Translating.Cut.{prot_becomes, split_becomes}
 use Rattle.pvm_core.proofs.Translating.Dropped.{fewer_right, left_unless}
 use Rattle.pvm_core.proofs.Translating.Held.{held_from, held_parts, page_between}
 use Rattle.pvm_core.proofs.Translating.Once.{once_told}

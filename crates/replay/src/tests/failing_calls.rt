@@ -12,13 +12,15 @@ use super::segment_rows::{
     TEXT_SHARED_AND_DATA_FORKED_REPLIES,
 };
 use super::segments::two_pages;
-use crate::replaying::replay;
+use crate::commands::Commands;
 use crate::{Status, run};
+use line_service::{Ended, replay};
+use pull_wait::PullWait;
 use std::alloc::Global;
 use std::process::Abort;
 use vm_ids::{NoMemory, PAGE, PageNo, SegId};
 use vm_model::EagerMachine;
-use vm_port::{CallKind, CallNo, Clock, MemoryMapper, MemorySink, MemorySource};
+use vm_port::{CallKind, CallNo, Clock, ListedTurns, MemoryMapper, MemorySink, MemorySource};
 
 // Slots enough for each script here.
 const SLOTS: u32 = 40;
@@ -50,6 +52,7 @@ fn written(
         &mut sink,
         mapper,
         &mut Clock::new(),
+        &mut ListedTurns::new(&[]),
     );
     assert_eq!(rt; status, Status::Done);
     Ok(sink)
@@ -82,17 +85,21 @@ fn written_at_once(
 ) -> Result<MemorySink, NoMemory>
     requires { mapper.old.page_bytes ≡ PAGE }
 {
-    let mut machine = EagerMachine::new(alloc, frames, PAGE as u32);
+    let mut commands = Commands {
+        gmi: EagerMachine::new(alloc, frames, PAGE as u32),
+    };
     let mut source = MemorySource::new(script.as_bytes(), &[]);
     let mut sink = MemorySink::new(alloc, 4096, &[])?;
-    let status = replay(
-        &mut machine,
+    let ended = replay(
+        &mut commands,
         mapper,
         &mut Clock::new(),
+        &mut PullWait::new(alloc)?,
+        &mut ListedTurns::new(&[]),
         &mut source,
         &mut sink,
     );
-    assert_eq!(rt; status, Status::Done);
+    assert_eq!(rt; ended, Ended::Done);
     Ok(sink)
 }
 

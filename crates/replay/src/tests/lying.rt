@@ -5,7 +5,7 @@ use crate::{Status, run};
 use std::alloc::Global;
 use std::process::Abort;
 use vm_ids::NoMemory;
-use vm_port::{Clock, MemorySink, MemorySource, WrongMapper};
+use vm_port::{Clock, ListedTurns, MemorySink, MemorySource, WrongMapper};
 
 // What is written at four frames over a mapper whose pages are filled with 07, 08, and so on.
 fn written(rt: &impl Abort, alloc: Global, script: &str) -> Result<MemorySink, NoMemory> {
@@ -19,6 +19,7 @@ fn written(rt: &impl Abort, alloc: Global, script: &str) -> Result<MemorySink, N
         &mut sink,
         &mut WrongMapper::new(7),
         &mut Clock::new(),
+        &mut ListedTurns::new(&[]),
     );
     assert_eq!(rt; status, Status::Done);
     Ok(sink)

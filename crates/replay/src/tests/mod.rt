@@ -19,7 +19,8 @@ use std::cell::Cell;
 use std::process::Abort;
 use vm_ids::{NoMemory, PAGE};
 use vm_port::{
-    CallKind, CallNo, Clock, Failed, MemoryMapper, MemorySink, MemorySource, Sink, Source,
+    CallKind, CallNo, Clock, Failed, ListedTurns, MemoryMapper, MemorySink, MemorySource, Sink,
+    Source,
 };
 
 // Slots enough for each script here.
@@ -43,7 +44,15 @@ fn replay_source<S: Source, K: Sink>(
 ) -> Result<Status, NoMemory> {
     let mut mapper = swap_area(alloc, page_size(words), &[])?;
     let mut chooser = Clock::new();
-    Ok(run(alloc, words, source, sink, &mut mapper, &mut chooser))
+    Ok(run(
+        alloc,
+        words,
+        source,
+        sink,
+        &mut mapper,
+        &mut chooser,
+        &mut ListedTurns::new(&[]),
+    ))
 }
 
 // Runs a script at so many frames, where each read gives at most so many bytes.
@@ -181,6 +190,7 @@ fn a_victim_whose_push_fails_stays(rt: HostRuntime) -> Result<(), NoMemory> {
         &mut sink,
         &mut mapper,
         &mut chooser,
+        &mut ListedTurns::new(&[]),
     );
     assert_eq!(&rt; status, Status::Done);
     assert_eq!(&rt; sink.written(), rows::VICTIMS_PUSH_FAILS_REPLIES.as_bytes());
@@ -206,6 +216,7 @@ fn a_copy_moves_no_bytes(rt: HostRuntime) -> Result<(), NoMemory> {
             &mut sink,
             &mut mapper,
             &mut chooser,
+            &mut ListedTurns::new(&[]),
         );
         assert_eq!(&rt; status, Status::Done);
         assert_eq!(&rt; (mapper.pulls(), mapper.pushes()), (0, 96));

@@ -6,7 +6,7 @@ use crate::{Status, run};
 use std::alloc::Global;
 use std::process::Abort;
 use vm_ids::{NoMemory, PAGE, PageNo, SegId};
-use vm_port::{CallKind, CallNo, Clock, MemoryMapper, MemorySink, MemorySource};
+use vm_port::{CallKind, CallNo, Clock, ListedTurns, MemoryMapper, MemorySink, MemorySource};
 
 // A script over these segments at six frames, where these pages are denied for writing and these
 // calls fail. It gives the mapper as it is then.
@@ -34,6 +34,7 @@ fn play(
         &mut sink,
         &mut mapper,
         &mut chooser,
+        &mut ListedTurns::new(&[]),
     );
     assert_eq!(rt; status, Status::Done, "{script}");
     assert_eq!(rt; sink.written(), replies.as_bytes(), "{script}");

@@ -8,7 +8,7 @@ use crate::{Status, run};
 use std::alloc::Global;
 use std::process::Abort;
 use vm_ids::{NoMemory, PAGE};
-use vm_port::{Clock, MemoryMapper, MemorySink, MemorySource};
+use vm_port::{Clock, ListedTurns, MemoryMapper, MemorySink, MemorySource};
 
 // The replies to the first lines of the least script, so many of them.
 fn first_replies(lines: u32) -> &'static [u8] {
@@ -43,7 +43,15 @@ fn replay_in_memory(
 ) -> Result<Status, NoMemory> {
     let mut mapper = MemoryMapper::new(alloc, &[], &[], 0, &[], PAGE as u32)?;
     let words = ["run", "--frames", "3"];
-    Ok(run(alloc, &words, source, sink, &mut mapper, &mut Clock::new()))
+    Ok(run(
+        alloc,
+        &words,
+        source,
+        sink,
+        &mut mapper,
+        &mut Clock::new(),
+        &mut ListedTurns::new(&[]),
+    ))
 }
 
 // The first read of so many bytes at most fails, then the second, and so on until none fails. The

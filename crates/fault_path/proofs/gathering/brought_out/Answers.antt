@@ -7,7 +7,7 @@ use Rattle.residency.proofs.Pushes.Told.{tells_then}
 use Rattle.residency.proofs.Worlds.Composed.{still_then}
 use Rattle.fault_path.proofs.Calls.Answered.{later_then}
 use Rattle.fault_path.proofs.Calls.Gathered.{done_gathers, failed_gathers}
-use Rattle.fault_path.proofs.Frames.ComingFrames.{come_then, more_come, one_comes}
+use Rattle.fault_path.proofs.Frames.ComingFrames.{brought_comes, come_then, more_come}
 use Rattle.fault_path.proofs.Frames.GatheredFrames.{bound_below, doubled_page, same_home, then_gathered}
 use Rattle.local_cache.specs.declared.own_state.OwnState.{OwnState}
 use Rattle.local_cache.specs.Own.{own_of}
@@ -15,6 +15,10 @@ use Rattle.residency.specs.Causes.{frames_to_bring}
 use Rattle.fault_path.proofs.Calls.Costs.{brought_more, brought_most, brought_taken, failed_most, most_more, taken_then}
 use Rattle.residency.proofs.Translations.Kept.{drops_trans, still_drops_but}
 use Rattle.fault_path.specs.Translating.{Nobody}
+use Rattle.fault_path.specs.Coming.{IsBroughtIn, OnlyCome}
+use Rattle.residency.proofs.Forests.StillForest.{still_like}
+use Rattle.fault_path.proofs.gathering.brought_out.Given.{Over}
+use Rattle.fault_path.proofs.gathering.brought_out.Goals.{After-bring_in}
 use Rattle.fault_path.proofs.gathering.brought_out.Goals as goal
 
 pub returns-clause-copied : goal.returns-clause-copied
@@ -78,11 +82,24 @@ returns-in_default-clause-drops g c =
 pub returns-in_err-home-clause-drops : goal.returns-in_err-home-clause-drops
 returns-in_err-home-clause-drops g c = still_drops_but _ _ _ _ c.args.caches.now c.bring_in.new.caches c.args.store.now c.bring_in.new.self c.requires.right.tied c.bring_in.ensures.still.stays c.bring_in.ensures.tables c.args.node c.bring_in.ensures.others
 
+-- the page is brought in
+brought : (g : Over) (c : After-bring_in g) → OnlyCome (IsBroughtIn c.args.caches.now c.args.node) (world (g.M.Mapper.held c.args.mapper.now) (g.M.Mapper.page_bytes c.args.mapper.now) c.args.caches.now c.args.store.now) (world (g.M.Mapper.held c.bring_in.new.mapper) (g.M.Mapper.page_bytes c.bring_in.new.mapper) c.bring_in.new.caches c.bring_in.new.self)
+brought g c =
+    let old : World = world (g.M.Mapper.held c.args.mapper.now) (g.M.Mapper.page_bytes c.args.mapper.now) c.args.caches.now c.args.store.now in
+    let w : World = world (g.M.Mapper.held c.bring_in.new.mapper) (g.M.Mapper.page_bytes c.bring_in.new.mapper) c.bring_in.new.caches c.bring_in.new.self in
+    let b = c.bring_in.ensures in
+    brought_comes c.args.node old w c.requires.some b.others (λ here. (ap (λ (s : Store). s.map) (b.idle here).1, ap (λ (s : Store). s.frames.bytes) (b.idle here).1, (b.idle here).2))
+
+-- and a second frame is taken, or isn't
 pub returns-clause-frames : goal.returns-clause-frames
-returns-clause-frames g c = come_then (λ n. n ≡ c.args.node) _ _ _ (one_comes c.args.node _ _ c.bring_in.ensures.others) (more_come Nobody (λ n. n ≡ c.args.node) _ _ (λ n e. absurd e) c.double.ensures.frames)
+returns-clause-frames g c =
+    come_then (IsBroughtIn c.args.caches.now c.args.node) _ _ _ (still_like c.args.caches.now c.bring_in.new.caches c.bring_in.ensures.still.stays.caches) (brought g (goal.at.returns-clause-frames g c).After-bring_in)
+    (more_come Nobody (IsBroughtIn c.args.caches.now c.args.node) _ _ (λ n e. absurd e) c.double.ensures.frames)
 
 pub returns-in_default-clause-frames : goal.returns-in_default-clause-frames
-returns-in_default-clause-frames g c = come_then (λ n. n ≡ c.args.node) _ _ _ (one_comes c.args.node _ _ c.bring_in.ensures.others) (more_come Nobody (λ n. n ≡ c.args.node) _ _ (λ n e. absurd e) c.double.ensures.frames)
+returns-in_default-clause-frames g c =
+    come_then (IsBroughtIn c.args.caches.now c.args.node) _ _ _ (still_like c.args.caches.now c.bring_in.new.caches c.bring_in.ensures.still.stays.caches) (brought g (goal.at.returns-in_default-clause-frames g c).After-bring_in)
+    (more_come Nobody (IsBroughtIn c.args.caches.now c.args.node) _ _ (λ n e. absurd e) c.double.ensures.frames)
 
 pub returns-in_err-home-clause-frames : goal.returns-in_err-home-clause-frames
-returns-in_err-home-clause-frames g c = one_comes c.args.node _ _ c.bring_in.ensures.others
+returns-in_err-home-clause-frames g c = brought g (goal.at.returns-in_err-home-clause-frames g c).After-bring_in

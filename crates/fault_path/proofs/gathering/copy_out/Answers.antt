@@ -9,6 +9,7 @@ use Rattle.fault_path.specs.Gathering.{Gathers, IsCopiedOut}
 use Rattle.residency.proofs.Translations.Kept.{drops_more}
 use Rattle.fault_path.specs.Translating.{Nobody}
 use Rattle.fault_path.proofs.Frames.ComingFrames.{more_come}
+use Rattle.fault_path.specs.Coming.{IsBroughtIn}
 use Rattle.fault_path.proofs.gathering.copy_out.Goals as goal
 
 pub returns-in-Zero-clause-copied : goal.returns-in-Zero-clause-copied
@@ -22,4 +23,4 @@ pub returns-in-Zero-clause-drops : goal.returns-in-Zero-clause-drops
 returns-in-Zero-clause-drops g c = drops_more Nobody (λ n. n ≡ c.args.node) c.args.caches.now c.zeroed.new.caches c.args.store.now c.zeroed.new.store (λ n e. absurd e) c.zeroed.ensures.drops
 
 pub returns-in-Zero-clause-frames : goal.returns-in-Zero-clause-frames
-returns-in-Zero-clause-frames g c = more_come Nobody (λ n. n ≡ c.args.node) _ _ (λ n e. absurd e) c.zeroed.ensures.frames
+returns-in-Zero-clause-frames g c = more_come Nobody (IsBroughtIn c.args.caches.now c.args.node) _ _ (λ n e. absurd e) c.zeroed.ensures.frames

@@ -1,4 +1,4 @@
-use Rattle.std.proofs.Common.{is_some, inl, sym, ap, subst, ◌∙◌, ◌≡◌, ◌+◌, true, false}
+use Rattle.std.proofs.Common.{is_some, inl, refl, sym, ap, subst, ◌∙◌, ◌≡◌, ◌+◌, true, false}
 use Rattle.std.specs.Prelude.{OnOk}
 use Rattle.vm_ids.specs.declared.numbers.FrameId.{FrameId}
 use Rattle.frame_pool.specs.Pool.{held_count, is_pinned}
@@ -83,5 +83,5 @@ returns-clause-frames g c =
     let size = g.M.Mapper.page_bytes c.make_free-fresh.new.mapper in
     let w : World = world told size c.make_free-fresh.new.caches c.make_free-fresh.new.self in
     let v : World = world told size c.make_free-fresh.new.caches c.unpin.new.self in
-    come_by Nobody first w old v (ap (λ (s : Store). s.map) (sym c.pin.ensures)) (ap (λ (s : Store). s.frames.bytes) (sym c.pin.ensures)) (ap (λ (s : Store). s.map) c.unpin.ensures) (ap (λ (s : Store). s.frames.bytes) c.unpin.ensures)
+    come_by Nobody first w old v (ap (λ (s : Store). s.map) (sym c.pin.ensures)) (ap (λ (s : Store). s.frames.bytes) (sym c.pin.ensures)) refl (ap (λ (s : Store). s.map) c.unpin.ensures) (ap (λ (s : Store). s.frames.bytes) c.unpin.ensures) refl
     (none_come first w c.make_free-fresh.ensures.free.others)

@@ -9,11 +9,14 @@ use Rattle.residency.specs.World.{HoldsPage, World, world}
 use Rattle.residency.proofs.Forests.StillForest.{still_forest}
 use Rattle.fault_path.specs.Faults.{IsOwner, is_at_hand, is_zero}
 use Rattle.fault_path.proofs.Calls.Answered.{still_answered}
-use Rattle.fault_path.proofs.OnePage.FoundPage.{found_frame, found_zero, owner_same, resident_is, zero_is}
+use Rattle.fault_path.proofs.OnePage.FoundPage.{each_owner, found_frame, found_zero, owner_same, resident_is, zero_is}
 use Rattle.residency.specs.Translating.{Drops}
 use Rattle.residency.proofs.Translations.Kept.{same_drops, still_drops_but}
 use Rattle.fault_path.proofs.reading.read_fault.Given.{Over}
-use Rattle.fault_path.proofs.reading.read_fault.Goals.{After-owner_of-owner}
+use Rattle.fault_path.proofs.reading.read_fault.Goals.{After-bring_in, After-owner_of-owner}
+use Rattle.residency.specs.declared.store.Store.{Store}
+use Rattle.fault_path.specs.Coming.{IsBroughtIn, OnlyCome}
+use Rattle.fault_path.proofs.Frames.ComingFrames.{brought_comes, same_come}
 use Rattle.fault_path.proofs.reading.read_fault.Goals as goal
 
 -- the owner that is found
@@ -143,3 +146,23 @@ returns-in-Err-clause-drops g c =
 
 pub returns-then-is_zero-clause-drops : goal.returns-then-is_zero-clause-drops
 returns-then-is_zero-clause-drops g c = λ o is. same_drops (λ n. n ≡ o) c.args.caches.now c.args.store.now c.requires.right.store.tied.placed
+
+-- the owner is brought in, where it isn't at hand
+owner_comes : (g : Over) (c : After-bring_in g) (o : NodeId) → IsOwner c.args.caches.now c.args.node o → OnlyCome (IsBroughtIn c.args.caches.now o) (world (g.M.Mapper.held c.args.mapper.now) (g.M.Mapper.page_bytes c.args.mapper.now) c.args.caches.now c.args.store.now) (world (g.M.Mapper.held c.bring_in.new.mapper) (g.M.Mapper.page_bytes c.bring_in.new.mapper) c.bring_in.new.caches c.bring_in.new.self)
+owner_comes g c =
+    let it : NodeId = c.owner_of-owner.result in
+    let zero : is_zero (own_of c.args.caches.now it) ≡ false = sym c.is_zero.ensures ∙ c.if-is_zero.false in
+    let old : World = world (g.M.Mapper.held c.args.mapper.now) (g.M.Mapper.page_bytes c.args.mapper.now) c.args.caches.now c.args.store.now in
+    let w : World = world (g.M.Mapper.held c.bring_in.new.mapper) (g.M.Mapper.page_bytes c.bring_in.new.mapper) c.bring_in.new.caches c.bring_in.new.self in
+    let b = c.bring_in.ensures in
+    each_owner (λ (m : NodeId). OnlyCome (IsBroughtIn c.args.caches.now m) old w) c.args.caches.now c.requires.right.sound c.args.node it (owns g (goal.at.After-bring_in g c).After-owner_of-owner)
+    (brought_comes it old w zero b.others (λ here. (ap (λ (s : Store). s.map) (b.idle here).1, ap (λ (s : Store). s.frames.bytes) (b.idle here).1, (b.idle here).2)))
+
+pub returns-then-is_zero-clause-frames : goal.returns-then-is_zero-clause-frames
+returns-then-is_zero-clause-frames g c = λ o is. same_come (IsBroughtIn c.args.caches.now o) _
+
+pub returns-in-Ok-clause-frames : goal.returns-in-Ok-clause-frames
+returns-in-Ok-clause-frames g c = owner_comes g (goal.at.returns-in-Ok-clause-frames g c).After-bring_in
+
+pub returns-in-Err-clause-frames : goal.returns-in-Err-clause-frames
+returns-in-Err-clause-frames g c = owner_comes g (goal.at.returns-in-Err-clause-frames g c).After-bring_in

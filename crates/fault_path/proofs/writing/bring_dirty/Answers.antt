@@ -1,7 +1,7 @@
-use Rattle.std.proofs.Common.{◌≡◌, inl, sym, ap, subst, ◌∙◌, refl, arith, rules}
-use Rattle.local_cache.specs.Arena.{Arena}
+use Rattle.std.proofs.Common.{true, ◌≡◌, inl, sym, ap, subst, ◌∙◌, refl, arith, rules}
+use Rattle.local_cache.specs.Arena.{with_own, Arena}
 use Rattle.local_cache.specs.Own.{own_of}
-use Rattle.local_cache.proofs.Nodes.OwnStates.{own_same}
+use Rattle.local_cache.proofs.Nodes.OwnStates.{own_other, own_same}
 use Rattle.local_cache.specs.declared.own_state.OwnState.TheVariants.{Resident}
 use Rattle.residency.specs.StoreForest.{store_forest}
 use Rattle.residency.specs.World.{Still, World, world}
@@ -24,6 +24,10 @@ use Rattle.residency.specs.Translating.{Drops}
 use Rattle.fault_path.specs.Translating.{MayCome, without_homes}
 use Rattle.fault_path.proofs.Translations.Given.{failed_leaves, forgot_drops}
 use Rattle.fault_path.proofs.Translations.Whole.{dirtied_drops}
+use Rattle.fault_path.specs.Coming.{IsOfWrite, OnlyCome}
+use Rattle.fault_path.proofs.Frames.ComingFrames.{come_owned, more_come, one_comes}
+use Rattle.fault_path.proofs.writing.bring_dirty.Given.{Over}
+use Rattle.fault_path.proofs.writing.bring_dirty.Goals.{After-bring_in}
 use Rattle.fault_path.proofs.writing.bring_dirty.Goals as goal
 
 pub returns-in_err-frame-clause-ready : goal.returns-in_err-frame-clause-ready
@@ -100,3 +104,20 @@ returns-clause-drops g c =
     (forgot_drops may c.bring_in.new.caches c.bring_in.new.self c.args.node c.args.node first.stays.right.tied.placed (inl refl) (inl refl))
     (dirtied_drops may told size c.bring_in.new.caches c.bring_in.new.self c.args.node c.args.node c.args.node first.stays.right dirty))) in
     record { left = left; home = λ f at. inl (brought_home old w c.args.node c.requires.right.store (λ here. ap (λ (s : Store). s.map) (b.idle here).1) f at); failed = tt }
+
+-- the page is brought in
+brought : (g : Over) (c : After-bring_in g) → OnlyCome (IsOfWrite c.args.caches.now c.args.node c.args.node) (world (g.M.Mapper.held c.args.mapper.now) (g.M.Mapper.page_bytes c.args.mapper.now) c.args.caches.now c.args.store.now) (world (g.M.Mapper.held c.bring_in.new.mapper) (g.M.Mapper.page_bytes c.bring_in.new.mapper) c.bring_in.new.caches c.bring_in.new.self)
+brought g c = more_come (λ m. m ≡ c.args.node) (IsOfWrite c.args.caches.now c.args.node c.args.node) _ _ (λ m e. inl e) (one_comes c.args.node _ _ c.bring_in.ensures.others)
+
+pub returns-in_err-frame-clause-frames : goal.returns-in_err-frame-clause-frames
+returns-in_err-frame-clause-frames g c = brought g (goal.at.returns-in_err-frame-clause-frames g c).After-bring_in
+
+pub returns-clause-frames : goal.returns-clause-frames
+returns-clause-frames g c =
+    let told = g.M.Mapper.held c.bring_in.new.mapper in
+    let size = g.M.Mapper.page_bytes c.bring_in.new.mapper in
+    let old : World = world (g.M.Mapper.held c.args.mapper.now) (g.M.Mapper.page_bytes c.args.mapper.now) c.args.caches.now c.args.store.now in
+    let w : World = world told size c.bring_in.new.caches c.bring_in.new.self in
+    let may = IsOfWrite c.args.caches.now c.args.node c.args.node in
+    subst (λ (a : Arena). OnlyCome may old (world told size a c.bring_in.new.self)) (sym c.set_state.ensures.changed)
+    (come_owned may old w (with_own w.caches c.args.node (Resident true)) c.args.node (inl refl) (λ m d. own_other w.caches c.args.node m (Resident true) d) (brought g (goal.at.returns-clause-frames g c).After-bring_in))

@@ -7,7 +7,7 @@ use Rattle.fault_path.specs.Faults.{Kept}
 use Rattle.fault_path.proofs.Calls.Kept.{still_absent}
 use Rattle.fault_path.proofs.Rules.Heirs.{has_own, heir_absent, still_heir, unbound}
 use Rattle.fault_path.proofs.Rules.OneFrameForest.{hand_forest, hand_kept}
-use Rattle.fault_path.proofs.Rules.OneFrameForest.{hand_copies}
+use Rattle.fault_path.proofs.Rules.OneFrameForest.{hand_copies, hand_gives}
 use Rattle.fault_path.proofs.Calls.Answered.{miss_by}
 use Rattle.residency.proofs.Pushes.PushedPages.{tells_as}
 use Rattle.global_map.specs.Pairs.{node_of}
@@ -20,7 +20,7 @@ use Rattle.fault_path.proofs.OnePage.FoundPage.{itself_owner}
 use Rattle.fault_path.proofs.Translations.Given.{failed_leaves, may_come, settled_comes, settled_stays}
 use Rattle.fault_path.proofs.Translations.Whole.{heir_drops}
 use Rattle.local_cache.specs.Reading.{name_of}
-use Rattle.fault_path.specs.Coming.{IsOfSave}
+use Rattle.fault_path.specs.Coming.{IsBroughtIn, IsOfSave}
 use Rattle.fault_path.proofs.Frames.ComingFrames.{come_settled, more_come}
 use Rattle.fault_path.proofs.writing.hand_over.Goals as goal
 
@@ -107,7 +107,7 @@ returns-clause-drops g c =
 
 pub returns-in_err-frame-clause-frames : goal.returns-in_err-frame-clause-frames
 returns-in_err-frame-clause-frames g c =
-    more_come (λ m. m ≡ c.args.node) (IsOfSave c.args.caches.now c.args.node) _ _ (λ m e. record { heir_name = name_of c.args.caches.now c.args.next; is_heir = c.requires.next.name; one = inl e }) c.copy_out.ensures.frames
+    more_come (IsBroughtIn c.args.caches.now c.args.node) (IsOfSave c.args.caches.now c.args.node) _ _ (λ m e. record { heir_name = name_of c.args.caches.now c.args.next; is_heir = c.requires.next.name; one = inl e.0 }) c.copy_out.ensures.frames
 
 pub returns-clause-frames : goal.returns-clause-frames
 returns-clause-frames g c =
@@ -120,5 +120,7 @@ returns-clause-frames g c =
     let k = c.in_ok-frame.ensures.copied.done.gathered in
     let within : c.in_ok-frame.frame.0 < length c.copy_out.new.store.map = omega (arith, k.taken.within, k.still.stays.right.tied.fitted.map_frames) in
     let heir = name_of c.args.caches.now c.args.next in
-    come_settled may old w v c.in_ok-frame.frame.0 c.args.next within (record { heir_name = heir; is_heir = c.requires.next.name; one = inr refl }) (ap (λ (s : Store). s.map) c.settle_in.ensures) (ap (λ (s : Store). s.frames.bytes) c.settle_in.ensures)
-    (more_come (λ m. m ≡ c.args.node) may old w (λ m e. record { heir_name = heir; is_heir = c.requires.next.name; one = inl e }) c.copy_out.ensures.frames)
+    let gives = hand_gives old w c.in_ok-frame.frame.0 k.still k.taken c.requires.right.sound c.requires.right.shaped c.args.node c.args.next c.requires.own.node (has_own old c.args.node c.requires.own.own_page) c.requires.next.held c.requires.next.name
+    (heir_absent c.args.caches.now c.requires.right.sound _ c.args.next c.requires.next.held c.requires.next.name) c.in_ok-frame.ensures.copied.done.page c.hand_page.new.caches c.hand_page.ensures in
+    come_settled may old w v c.in_ok-frame.frame.0 c.args.next within (record { heir_name = heir; is_heir = c.requires.next.name; one = inr refl }) (ap (λ (s : Store). s.map) c.settle_in.ensures) (ap (λ (s : Store). s.frames.bytes) c.settle_in.ensures) gives.others
+    (more_come (IsBroughtIn c.args.caches.now c.args.node) may old w (λ m e. record { heir_name = heir; is_heir = c.requires.next.name; one = inl e.0 }) c.copy_out.ensures.frames)

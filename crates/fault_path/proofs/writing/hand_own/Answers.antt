@@ -1,22 +1,22 @@
-use Rattle.std.proofs.Common.{sym, ap, subst, ◌∙◌, ◌≡◌, ◌+◌, arith, Some, inl, refl, rules}
-use Rattle.local_cache.specs.Arena.{Arena}
+use Rattle.std.proofs.Common.{true, inr, sym, ap, subst, ◌∙◌, ◌≡◌, ◌+◌, arith, Some, inl, refl, rules}
+use Rattle.local_cache.specs.Arena.{with_own, Arena}
 use Rattle.local_cache.specs.Own.{own_of}
-use Rattle.local_cache.proofs.Nodes.OwnStates.{own_same}
+use Rattle.local_cache.proofs.Nodes.OwnStates.{own_other, own_same}
 use Rattle.local_cache.specs.declared.own_state.OwnState.TheVariants.{Resident}
 use Rattle.residency.specs.StoreForest.{store_forest}
 use Rattle.residency.specs.World.{Still, World, world}
 use Rattle.residency.proofs.Worlds.Homes.{home}
 use Rattle.residency.proofs.Forests.StillForest.{still_caches_sound, still_forest, still_like}
-use Rattle.vm_ids.specs.Forest.Rules.{heir_gets}
+use Rattle.vm_ids.specs.Forest.Rules.{heir, heir_gets}
 use Rattle.global_map.specs.Pairs.{node_of}
-use Rattle.local_cache.specs.Reading.{name_of}
+use Rattle.local_cache.specs.Reading.{forest_of, name_of}
 use Rattle.fault_path.specs.Faults.{Kept}
 use Rattle.fault_path.proofs.OnePage.DirtyPage.{bound_dirty, dirtied}
 use Rattle.fault_path.proofs.Calls.Kept.{still_kept, still_shaped}
 use Rattle.fault_path.proofs.Rules.ReadyForest.{handed_ready}
 use Rattle.fault_path.proofs.Frames.GatheredFrames.{bound_below, brought_home}
 use Rattle.residency.specs.declared.store.Store.{Store}
-use Rattle.fault_path.proofs.Rules.Heirs.{still_heir}
+use Rattle.fault_path.proofs.Rules.Heirs.{same_heir, still_heir}
 use Rattle.fault_path.proofs.Frames.TwoFrames.{kept_then}
 use Rattle.local_cache.proofs.Changes.SameNodes.{copies-put, like_then}
 use Rattle.residency.proofs.Forests.StillForest.{still_copies}
@@ -32,6 +32,10 @@ use Rattle.residency.proofs.Translations.Kept.{drops_more, drops_trans, still_dr
 use Rattle.fault_path.specs.Translating.{MayCome, without_homes}
 use Rattle.fault_path.proofs.Translations.Given.{failed_leaves}
 use Rattle.fault_path.proofs.Translations.Whole.{dirtied_drops, may_before}
+use Rattle.fault_path.specs.Coming.{IsOfSave, IsOfWrite, OnlyCome}
+use Rattle.fault_path.proofs.Frames.ComingFrames.{come_owned, come_then, more_come, one_comes}
+use Rattle.fault_path.proofs.writing.hand_own.Given.{Over}
+use Rattle.fault_path.proofs.writing.hand_own.Goals.{After-bring_in, After-hand_over}
 use Rattle.fault_path.proofs.writing.hand_own.Goals as goal
 
 pub returns-in_err-frame-clause-ready : goal.returns-in_err-frame-clause-ready
@@ -199,3 +203,38 @@ returns-clause-drops g c =
     h.drops.left
     (dirtied_drops may told2 size2 c.hand_over.new.caches c.hand_over.new.store c.args.node c.args.node c.args.node k.right dirty))) in
     record { left = left; home = λ f at. h.drops.home f (brought_home old w c.args.node c.requires.right.store (λ here. ap (λ (s : Store). s.map) (b.idle here).1) f at); failed = tt }
+
+-- the page is brought in
+brought : (g : Over) (c : After-bring_in g) → OnlyCome (IsOfWrite c.args.caches.now c.args.node c.args.node) (world (g.M.Mapper.held c.args.mapper.now) (g.M.Mapper.page_bytes c.args.mapper.now) c.args.caches.now c.args.store.now) (world (g.M.Mapper.held c.bring_in.new.mapper) (g.M.Mapper.page_bytes c.bring_in.new.mapper) c.bring_in.new.caches c.bring_in.new.self)
+brought g c = more_come (λ m. m ≡ c.args.node) (IsOfWrite c.args.caches.now c.args.node c.args.node) _ _ (λ m e. inl e) (one_comes c.args.node _ _ c.bring_in.ensures.others)
+
+-- and handed to the heir, or isn't
+then_handed : (g : Over) (c : After-hand_over g) → OnlyCome (IsOfWrite c.args.caches.now c.args.node c.args.node) (world (g.M.Mapper.held c.args.mapper.now) (g.M.Mapper.page_bytes c.args.mapper.now) c.args.caches.now c.args.store.now) (world (g.M.Mapper.held c.hand_over.new.mapper) (g.M.Mapper.page_bytes c.hand_over.new.mapper) c.hand_over.new.caches c.hand_over.new.store)
+then_handed g c =
+    let old : World = world (g.M.Mapper.held c.args.mapper.now) (g.M.Mapper.page_bytes c.args.mapper.now) c.args.caches.now c.args.store.now in
+    let w : World = world (g.M.Mapper.held c.bring_in.new.mapper) (g.M.Mapper.page_bytes c.bring_in.new.mapper) c.bring_in.new.caches c.bring_in.new.self in
+    let v : World = world (g.M.Mapper.held c.hand_over.new.mapper) (g.M.Mapper.page_bytes c.hand_over.new.mapper) c.hand_over.new.caches c.hand_over.new.store in
+    let may = IsOfWrite c.args.caches.now c.args.node c.args.node in
+    let first = c.bring_in.ensures.still in
+    let like = still_like old.caches w.caches first.stays.caches in
+    come_then may old w v like (brought g (goal.at.After-hand_over g c).After-bring_in)
+    (more_come (IsOfSave w.caches c.args.node) may w v (λ m s. elim s.one [
+      | inl e ↦ inl e
+      | inr named ↦ inr (inl (sym (same_heir old w first c.requires.right.sound (name_of old.caches c.args.node)) ∙ ap (heir (forest_of w.caches)) (sym (like.name c.args.node)) ∙ s.is_heir ∙ ap Some (sym named ∙ like.name m)))
+    ]) c.hand_over.ensures.frames)
+
+pub returns-in_err-frame-clause-frames : goal.returns-in_err-frame-clause-frames
+returns-in_err-frame-clause-frames g c = brought g (goal.at.returns-in_err-frame-clause-frames g c).After-bring_in
+
+pub returns-in_err-hand_over-clause-frames : goal.returns-in_err-hand_over-clause-frames
+returns-in_err-hand_over-clause-frames g c = then_handed g (goal.at.returns-in_err-hand_over-clause-frames g c).After-hand_over
+
+pub returns-clause-frames : goal.returns-clause-frames
+returns-clause-frames g c =
+    let told = g.M.Mapper.held c.hand_over.new.mapper in
+    let size = g.M.Mapper.page_bytes c.hand_over.new.mapper in
+    let old : World = world (g.M.Mapper.held c.args.mapper.now) (g.M.Mapper.page_bytes c.args.mapper.now) c.args.caches.now c.args.store.now in
+    let v : World = world told size c.hand_over.new.caches c.hand_over.new.store in
+    let may = IsOfWrite c.args.caches.now c.args.node c.args.node in
+    subst (λ (a : Arena). OnlyCome may old (world told size a c.hand_over.new.store)) (sym c.set_state.ensures.changed)
+    (come_owned may old v (with_own v.caches c.args.node (Resident true)) c.args.node (inl refl) (λ m d. own_other v.caches c.args.node m (Resident true) d) (then_handed g (goal.at.returns-clause-frames g c).After-hand_over))

@@ -13,6 +13,9 @@ use Rattle.fault_path.specs.Translating.{LeavesHomes}
 use Rattle.fault_path.specs.Costs.{TakesAtMost, pulls_to_copy}
 use Rattle.fault_path.proofs.Calls.Costs.{most_more}
 use Rattle.fault_path.proofs.OnePage.FoundPage.{each_owner, itself_owner, owner_same}
+use Rattle.fault_path.specs.Coming.{IsOfWrite, OnlyCome}
+use Rattle.fault_path.specs.Answers.{OnlyVictim}
+use Rattle.fault_path.specs.Faults.{is_at_hand}
 use Rattle.fault_path.proofs.writing.make_ready.Goals as goal
 
 pub returns-in-None-clause-ready : goal.returns-in-None-clause-ready
@@ -55,3 +58,31 @@ returns-in-None-heir-clause-most g c =
     let own : HasOwnPage c.args.caches.now c.args.node = record { node = c.requires.node; own_page = sym (c.is_absent.ensures.absent ∙ ap is_absent c.own_state.ensures) ∙ c.if-is_absent.false } in
     each_owner (λ (m : NodeId). TakesAtMost (pulls_to_copy (own_of c.args.caches.now m)) 3 c.args.store.now.frames (g.M.Mapper.counts c.args.mapper.now) (g.M.Mapper.counts c.bring_dirty.new.mapper)) c.args.caches.now c.requires.right.sound c.args.node c.args.node
     (itself_owner c.args.caches.now c.requires.right.sound c.requires.right.shaped c.args.node own) (most_more _ _ _ _ _ _ c.bring_dirty.ensures.most (omega arith) (omega arith))
+
+pub returns-in-Some-heir-clause-frames : goal.returns-in-Some-heir-clause-frames
+returns-in-Some-heir-clause-frames g c =
+    let own : HasOwnPage c.args.caches.now c.args.node = record { node = c.requires.node; own_page = sym (c.is_absent.ensures.absent ∙ ap is_absent c.own_state.ensures) ∙ c.if-is_absent.false } in
+    let old : World = world (g.M.Mapper.held c.args.mapper.now) (g.M.Mapper.page_bytes c.args.mapper.now) c.args.caches.now c.args.store.now in
+    let w : World = world (g.M.Mapper.held c.hand_own.new.mapper) (g.M.Mapper.page_bytes c.hand_own.new.mapper) c.hand_own.new.caches c.hand_own.new.store in
+    each_owner (λ (m : NodeId). OnlyCome (IsOfWrite c.args.caches.now c.args.node m) old w) c.args.caches.now c.requires.right.sound c.args.node c.args.node
+    (itself_owner c.args.caches.now c.requires.right.sound c.requires.right.shaped c.args.node own) c.hand_own.ensures.frames
+
+pub returns-in-None-heir-clause-frames : goal.returns-in-None-heir-clause-frames
+returns-in-None-heir-clause-frames g c =
+    let own : HasOwnPage c.args.caches.now c.args.node = record { node = c.requires.node; own_page = sym (c.is_absent.ensures.absent ∙ ap is_absent c.own_state.ensures) ∙ c.if-is_absent.false } in
+    let old : World = world (g.M.Mapper.held c.args.mapper.now) (g.M.Mapper.page_bytes c.args.mapper.now) c.args.caches.now c.args.store.now in
+    let w : World = world (g.M.Mapper.held c.bring_dirty.new.mapper) (g.M.Mapper.page_bytes c.bring_dirty.new.mapper) c.bring_dirty.new.caches c.bring_dirty.new.store in
+    each_owner (λ (m : NodeId). OnlyCome (IsOfWrite c.args.caches.now c.args.node m) old w) c.args.caches.now c.requires.right.sound c.args.node c.args.node
+    (itself_owner c.args.caches.now c.requires.right.sound c.requires.right.shaped c.args.node own) c.bring_dirty.ensures.frames
+
+pub returns-in-Some-heir-clause-victim : goal.returns-in-Some-heir-clause-victim
+returns-in-Some-heir-clause-victim g c =
+    let own : HasOwnPage c.args.caches.now c.args.node = record { node = c.requires.node; own_page = sym (c.is_absent.ensures.absent ∙ ap is_absent c.own_state.ensures) ∙ c.if-is_absent.false } in
+    each_owner (λ (m : NodeId). is_at_hand (own_of c.args.caches.now m) ≡ true → OnlyVictim c.hand_own.result) c.args.caches.now c.requires.right.sound c.args.node c.args.node
+    (itself_owner c.args.caches.now c.requires.right.sound c.requires.right.shaped c.args.node own) c.hand_own.ensures.victim
+
+pub returns-in-None-heir-clause-victim : goal.returns-in-None-heir-clause-victim
+returns-in-None-heir-clause-victim g c =
+    let own : HasOwnPage c.args.caches.now c.args.node = record { node = c.requires.node; own_page = sym (c.is_absent.ensures.absent ∙ ap is_absent c.own_state.ensures) ∙ c.if-is_absent.false } in
+    each_owner (λ (m : NodeId). is_at_hand (own_of c.args.caches.now m) ≡ true → OnlyVictim c.bring_dirty.result) c.args.caches.now c.requires.right.sound c.args.node c.args.node
+    (itself_owner c.args.caches.now c.requires.right.sound c.requires.right.shaped c.args.node own) c.bring_dirty.ensures.victim

@@ -5,12 +5,12 @@ use Rattle.global_map.specs.Pairs.{bound_times, node_of}
 use Rattle.local_cache.specs.Reading.{forest_of, name_of}
 use Rattle.residency.specs.declared.store.Store.{Store}
 use Rattle.residency.specs.StoreForest.{store_forest}
-use Rattle.residency.specs.World.{World, world}
+use Rattle.residency.specs.World.{Still, World, world}
 use Rattle.residency.proofs.Worlds.Composed.{still_then}
-use Rattle.residency.proofs.Forests.StillForest.{still_caches_sound}
+use Rattle.residency.proofs.Forests.StillForest.{still_caches_sound, still_like}
 use Rattle.fault_path.specs.Faults.{IsOwner, Kept}
 use Rattle.fault_path.proofs.Rules.Heirs.{heir_absent, unbound}
-use Rattle.fault_path.proofs.Frames.TwoFrames.{released_pins, released_still, step_copies, step_gives, step_heir, step_there, two_bound, two_copies, two_forest, two_kept, two_resident}
+use Rattle.fault_path.proofs.Frames.TwoFrames.{hands, released_pins, released_still, step_copies, step_gives, step_heir, step_there, two_bound, two_copies, two_forest, two_kept, two_resident}
 use Rattle.fault_path.specs.Answers.{IsAnswered, IsDoneOrMissed}
 use Rattle.residency.specs.declared.miss.Miss.TheVariants.{Victim}
 use Rattle.fault_path.proofs.Calls.Answered.{cause_then, later_then, miss_by, miss_with}
@@ -34,6 +34,12 @@ use Rattle.fault_path.proofs.Frames.TwoFrames.{absent_none, readied_bare}
 use Rattle.fault_path.proofs.Translations.Given.{failed_leaves, may_come, settled_comes, settled_stays}
 use Rattle.fault_path.proofs.Translations.Homes.{stays_or_unseen}
 use Rattle.fault_path.proofs.Translations.Whole.{both_drops}
+use Rattle.fault_path.specs.Coming.{IsBroughtIn, IsOfWrite, OnlyCome}
+use Rattle.fault_path.proofs.Frames.ComingFrames.{come_by, come_settled, come_then, more_come}
+use Rattle.fault_path.proofs.writing.own_and_hand.Given.{Over}
+use Rattle.fault_path.proofs.writing.own_and_hand.Goals.{After-double}
+use Rattle.fault_path.proofs.Calls.Answered.{victim_from}
+use Rattle.fault_path.specs.Faults.{is_at_hand}
 use Rattle.fault_path.proofs.writing.own_and_hand.Goals as goal
 
 pub returns-in_err-frame-clause-ready : goal.returns-in_err-frame-clause-ready
@@ -233,3 +239,67 @@ returns-clause-drops g c =
           ]) o is;
       failed = tt;
     }
+
+-- the page of the owner was copied out, and doubled or not
+both_come : (g : Over) (c : After-double g) (still : Still (world (g.M.Mapper.held c.args.mapper.now) (g.M.Mapper.page_bytes c.args.mapper.now) c.args.caches.now c.args.store.now) (world (g.M.Mapper.held c.copy_out.new.mapper) (g.M.Mapper.page_bytes c.copy_out.new.mapper) c.copy_out.new.caches c.copy_out.new.store))
+    → OnlyCome (IsOfWrite c.args.caches.now c.args.node c.owner_of-owner.result) (world (g.M.Mapper.held c.args.mapper.now) (g.M.Mapper.page_bytes c.args.mapper.now) c.args.caches.now c.args.store.now) (world (g.M.Mapper.held c.double.new.mapper) (g.M.Mapper.page_bytes c.double.new.mapper) c.double.new.caches c.double.new.store)
+both_come g c still =
+    let may = IsOfWrite c.args.caches.now c.args.node c.owner_of-owner.result in
+    come_then may _ _ _ (still_like c.args.caches.now c.copy_out.new.caches still.stays.caches) (more_come (IsBroughtIn c.args.caches.now c.owner_of-owner.result) may _ _ (λ m e. inr (inr e)) c.copy_out.ensures.frames)
+    (more_come Nobody may _ _ (λ m e. absurd e) c.double.ensures.frames)
+
+pub returns-in_err-frame-clause-frames : goal.returns-in_err-frame-clause-frames
+returns-in_err-frame-clause-frames g c =
+    let it : NodeId = c.owner_of-owner.result in
+    let owner : IsOwner c.args.caches.now c.args.node it = record { held = c.owner_of-owner.ensures.held; name = c.owner_of-owner.ensures.owner } in
+    let old : World = world (g.M.Mapper.held c.args.mapper.now) (g.M.Mapper.page_bytes c.args.mapper.now) c.args.caches.now c.args.store.now in
+    let w : World = world (g.M.Mapper.held c.copy_out.new.mapper) (g.M.Mapper.page_bytes c.copy_out.new.mapper) c.copy_out.new.caches c.copy_out.new.store in
+    each_owner (λ (m : NodeId). OnlyCome (IsOfWrite c.args.caches.now c.args.node m) old w) c.args.caches.now c.requires.right.sound c.args.node it owner
+    (more_come (IsBroughtIn c.args.caches.now it) (IsOfWrite c.args.caches.now c.args.node it) old w (λ m e. inr (inr e)) c.copy_out.ensures.frames)
+
+pub returns-in_default-clause-frames : goal.returns-in_default-clause-frames
+returns-in_default-clause-frames g c =
+    let it : NodeId = c.owner_of-owner.result in
+    let owner : IsOwner c.args.caches.now c.args.node it = record { held = c.owner_of-owner.ensures.held; name = c.owner_of-owner.ensures.owner } in
+    let told = g.M.Mapper.held c.double.new.mapper in
+    let size = g.M.Mapper.page_bytes c.double.new.mapper in
+    let old : World = world (g.M.Mapper.held c.args.mapper.now) (g.M.Mapper.page_bytes c.args.mapper.now) c.args.caches.now c.args.store.now in
+    let v : World = world told size c.double.new.caches c.double.new.store in
+    let u : World = world told size c.double.new.caches c.release.new.store in
+    let one = c.in_ok-frame.ensures.copied.done.gathered in
+    each_owner (λ (m : NodeId). OnlyCome (IsOfWrite c.args.caches.now c.args.node m) old u) c.args.caches.now c.requires.right.sound c.args.node it owner
+    (come_by (IsOfWrite c.args.caches.now c.args.node it) old v old u refl refl refl (ap (λ (s : Store). s.map) c.release.ensures) (ap (λ (s : Store). s.frames.bytes) c.release.ensures) refl
+    (both_come g (goal.at.returns-in_default-clause-frames g c).After-double one.still))
+
+pub returns-clause-frames : goal.returns-clause-frames
+returns-clause-frames g c =
+    let it : NodeId = c.owner_of-owner.result in
+    let owner : IsOwner c.args.caches.now c.args.node it = record { held = c.owner_of-owner.ensures.held; name = c.owner_of-owner.ensures.owner } in
+    let told = g.M.Mapper.held c.double.new.mapper in
+    let size = g.M.Mapper.page_bytes c.double.new.mapper in
+    let old : World = world (g.M.Mapper.held c.args.mapper.now) (g.M.Mapper.page_bytes c.args.mapper.now) c.args.caches.now c.args.store.now in
+    let v : World = world told size c.double.new.caches c.double.new.store in
+    let u : World = world told size c.own_page.new.caches c.settle_in.new.store in
+    let x : World = world told size c.hand_page.new.caches c.settle_in-2.new.store in
+    let one = c.in_ok-frame.ensures.copied.done.gathered in
+    let two = c.in-Ok.ensures.doubled.done in
+    let gathered = two.gathered in
+    let f1 : ℕ = c.in_ok-frame.frame.0 in
+    let f2 : ℕ = c.in-Ok.second.0 in
+    let within1 : f1 < length c.double.new.store.map = omega (arith, one.taken.within, gathered.still.stays.frames, gathered.still.stays.right.tied.fitted.map_frames) in
+    let map1 : c.settle_in.new.store.map ≡ set c.double.new.store.map f1 (Some c.args.node) = ap (λ (s : Store). s.map) c.settle_in.ensures in
+    let within2 : f2 < length c.settle_in.new.store.map = omega (arith, gathered.taken.within, gathered.still.stays.right.tied.fitted.map_frames, ap (λ (m : List (Option NodeId)). length m) map1, length-set c.double.new.store.map f1 (Some c.args.node)) in
+    let may = IsOfWrite c.args.caches.now c.args.node it in
+    let gives = step_gives c.requires.right c.in_ok-frame.ensures.copied.done c.in-Ok.ensures.doubled.done c.requires.node c.requires.bare owner c.own_page.ensures in
+    let handed = hands c.requires.right c.in_ok-frame.ensures.copied.done c.in-Ok.ensures.doubled.done c.requires.node c.requires.bare owner c.own_page.ensures c.requires.next.held c.requires.next.name c.hand_page.ensures in
+    each_owner (λ (m : NodeId). OnlyCome (IsOfWrite c.args.caches.now c.args.node m) old x) c.args.caches.now c.requires.right.sound c.args.node it owner
+    (come_settled may old u x f2 c.args.next within2 (inr (inl c.requires.next.name)) (ap (λ (s : Store). s.map) c.settle_in-2.ensures) (ap (λ (s : Store). s.frames.bytes) c.settle_in-2.ensures) handed.others
+    (come_settled may old v u f1 c.args.node within1 (inl refl) map1 (ap (λ (s : Store). s.frames.bytes) c.settle_in.ensures) gives.others
+    (both_come g (goal.at.returns-clause-frames g c).After-double one.still)))
+
+pub returns-in_err-frame-clause-victim : goal.returns-in_err-frame-clause-victim
+returns-in_err-frame-clause-victim g c = λ o is hand.
+    let it : NodeId = c.owner_of-owner.result in
+    let owner : IsOwner c.args.caches.now c.args.node it = record { held = c.owner_of-owner.ensures.held; name = c.owner_of-owner.ensures.owner } in
+    let same : o ≡ it = owner_same c.args.caches.now c.requires.right.sound c.args.node o it is owner in
+    victim_from c.from_residual.result c.in_err-frame.field-0.0 c.from_residual.ensures.1 (c.in_err-frame.ensures.victim (ap (λ (m : NodeId). is_at_hand (own_of c.args.caches.now m)) (sym same) ∙ hand))

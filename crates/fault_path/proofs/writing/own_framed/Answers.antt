@@ -20,6 +20,10 @@ use Rattle.fault_path.specs.Answers.{IsAnswered, IsFramed}
 use Rattle.fault_path.specs.Translating.{MayCome, StaysOrUnseen, without_homes}
 use Rattle.fault_path.proofs.Translations.Given.{failed_leaves, may_come, settled_comes, settled_stays}
 use Rattle.fault_path.proofs.Translations.Whole.{own_drops}
+use Rattle.fault_path.specs.Coming.{IsBroughtIn, IsOfWrite, OnlyCome}
+use Rattle.fault_path.proofs.Frames.ComingFrames.{come_settled, more_come}
+use Rattle.fault_path.proofs.Calls.Answered.{victim_from}
+use Rattle.fault_path.specs.Faults.{is_at_hand}
 use Rattle.fault_path.proofs.writing.own_framed.Goals as goal
 
 pub returns-in_err-frame-clause-owned : goal.returns-in_err-frame-clause-owned
@@ -116,3 +120,36 @@ returns-in_err-frame-clause-most g c =
     let owner : IsOwner c.args.caches.now c.args.node it = record { held = c.owner_of-owner.ensures.held; name = c.owner_of-owner.ensures.owner } in
     each_owner (λ (m : NodeId). TakesAtMost (pulls_to_copy (own_of c.args.caches.now m)) 2 c.args.store.now.frames (g.M.Mapper.counts c.args.mapper.now) (g.M.Mapper.counts c.copy_out.new.mapper)) c.args.caches.now c.requires.right.sound c.args.node it owner
     (let bounds = copy_most (own_of c.args.caches.now it) in most_more _ _ _ _ _ _ c.copy_out.ensures.copied.most (omega arith) (omega (arith, bounds.1)))
+
+pub returns-in_err-frame-clause-frames : goal.returns-in_err-frame-clause-frames
+returns-in_err-frame-clause-frames g c =
+    let it : NodeId = c.owner_of-owner.result in
+    let owner : IsOwner c.args.caches.now c.args.node it = record { held = c.owner_of-owner.ensures.held; name = c.owner_of-owner.ensures.owner } in
+    let old : World = world (g.M.Mapper.held c.args.mapper.now) (g.M.Mapper.page_bytes c.args.mapper.now) c.args.caches.now c.args.store.now in
+    let w : World = world (g.M.Mapper.held c.copy_out.new.mapper) (g.M.Mapper.page_bytes c.copy_out.new.mapper) c.copy_out.new.caches c.copy_out.new.store in
+    each_owner (λ (m : NodeId). OnlyCome (IsOfWrite c.args.caches.now c.args.node m) old w) c.args.caches.now c.requires.right.sound c.args.node it owner
+    (more_come (IsBroughtIn c.args.caches.now it) (IsOfWrite c.args.caches.now c.args.node it) old w (λ m e. inr (inr e)) c.copy_out.ensures.frames)
+
+pub returns-clause-frames : goal.returns-clause-frames
+returns-clause-frames g c =
+    let it : NodeId = c.owner_of-owner.result in
+    let owner : IsOwner c.args.caches.now c.args.node it = record { held = c.owner_of-owner.ensures.held; name = c.owner_of-owner.ensures.owner } in
+    let told = g.M.Mapper.held c.copy_out.new.mapper in
+    let size = g.M.Mapper.page_bytes c.copy_out.new.mapper in
+    let old : World = world (g.M.Mapper.held c.args.mapper.now) (g.M.Mapper.page_bytes c.args.mapper.now) c.args.caches.now c.args.store.now in
+    let w : World = world told size c.copy_out.new.caches c.copy_out.new.store in
+    let v : World = world told size c.own_page.new.caches c.settle_in.new.store in
+    let k = c.in_ok-frame.ensures.copied.done.gathered in
+    let within : c.in_ok-frame.frame.0 < length c.copy_out.new.store.map = omega (arith, k.taken.within, k.still.stays.right.tied.fitted.map_frames) in
+    let may = IsOfWrite c.args.caches.now c.args.node it in
+    let gives = own_gives old w c.in_ok-frame.frame.0 k.still k.taken c.requires.right.sound c.requires.right.shaped c.args.node it c.requires.node c.requires.bare owner c.in_ok-frame.ensures.copied.done.page c.own_page.new.caches c.own_page.ensures in
+    each_owner (λ (m : NodeId). OnlyCome (IsOfWrite c.args.caches.now c.args.node m) old v) c.args.caches.now c.requires.right.sound c.args.node it owner
+    (come_settled may old w v c.in_ok-frame.frame.0 c.args.node within (inl refl) (ap (λ (s : Store). s.map) c.settle_in.ensures) (ap (λ (s : Store). s.frames.bytes) c.settle_in.ensures) gives.others
+    (more_come (IsBroughtIn c.args.caches.now it) may old w (λ m e. inr (inr e)) c.copy_out.ensures.frames))
+
+pub returns-in_err-frame-clause-victim : goal.returns-in_err-frame-clause-victim
+returns-in_err-frame-clause-victim g c = λ o is hand.
+    let it : NodeId = c.owner_of-owner.result in
+    let owner : IsOwner c.args.caches.now c.args.node it = record { held = c.owner_of-owner.ensures.held; name = c.owner_of-owner.ensures.owner } in
+    let same : o ≡ it = owner_same c.args.caches.now c.requires.right.sound c.args.node o it is owner in
+    victim_from c.from_residual.result c.in_err-frame.field-0.0 c.from_residual.ensures.1 (c.in_err-frame.ensures.victim (ap (λ (m : NodeId). is_at_hand (own_of c.args.caches.now m)) (sym same) ∙ hand))

@@ -14,6 +14,7 @@ use Rattle.residency.specs.Translating.{Drops}
 use Rattle.fault_path.specs.Translating.{DropsHomes, MayCome, without_homes}
 use Rattle.fault_path.proofs.Rules.ReadyForest.{ready_alone}
 use Rattle.fault_path.proofs.Translations.Given.{forgot_world}
+use Rattle.fault_path.specs.Coming.{IsOfWrite, OnlyCome}
 use Rattle.fault_path.proofs.writing.write_fault.Goals as goal
 
 pub drop_translations-requires : goal.drop_translations-requires
@@ -76,3 +77,9 @@ returns-clause-no_pull g c = λ o is. at_hand_pulls (own_of c.args.caches.now o)
 
 pub returns-in_err-frame-clause-no_pull : goal.returns-in_err-frame-clause-no_pull
 returns-in_err-frame-clause-no_pull g c = λ o is. at_hand_pulls (own_of c.args.caches.now o) _ _ _ (c.make_ready.ensures.most o is) c.make_ready.ensures.ready.answered.later
+
+pub returns-clause-frames : goal.returns-clause-frames
+returns-clause-frames g c =
+    let old : World = world (g.M.Mapper.held c.args.mapper.now) (g.M.Mapper.page_bytes c.args.mapper.now) c.args.caches.now c.args.store.now in
+    let same = forgot_world (g.M.Mapper.held c.make_ready.new.mapper) (g.M.Mapper.page_bytes c.make_ready.new.mapper) c.make_ready.new.caches c.make_ready.new.store c.drop_translations.new.store c.owner_of-owner.result c.args.node c.drop_translations.ensures in
+    λ o is. subst (OnlyCome (IsOfWrite c.args.caches.now c.args.node o) old) (sym same) (c.make_ready.ensures.frames o is)

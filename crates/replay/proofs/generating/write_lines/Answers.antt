@@ -1,7 +1,7 @@
 use Rattle.std.proofs.Common.{arith, rules, ap, sym, ◌∙◌}
 use Rattle.std.proofs.lemmas.Result.{err_from_is_err_and}
-use Rattle.replay.specs.Waiting.{with_gathered}
-use Rattle.replay.proofs.Gathering.{grew_none, grew_then, with_none, wrote_out}
+use Rattle.line_service.specs.Gathering.{with_gathered}
+use Rattle.line_service.proofs.Gathering.{grew_none, grew_then, with_none, wrote_out}
 use Rattle.replay.proofs.Made.{written_all, written_more, written_none, written_short}
 use Rattle.replay.proofs.generating.write_lines.Goals as goal
 

@@ -1,6 +1,6 @@
 use Rattle.std.proofs.Common.{◌≤◌}
 use Rattle.actor_script.specs.Generator.{beginning}
-use Rattle.replay.specs.Waiting.{Grew, with_gathered}
+use Rattle.line_service.specs.Gathering.{Grew, with_gathered}
 use Rattle.replay.proofs.Made.{Written}
 use Rattle.replay.proofs.generating.write_lines.Given as goal
 

@@ -1,11 +1,9 @@
 use Rattle.std.proofs.Common.{◌∙◌, Some, ap, refl, rules, sym}
-use Rattle.std.proofs.lemmas.Option.{none-some}
 use Rattle.vm_ids.specs.Held.{segments_of}
 use Rattle.replay.specs.declared.asked.Asked.TheVariants as asks
 use Rattle.replay.specs.Ending.{scene_with}
 use Rattle.replay.proofs.CommandLine.Kinds.{run_bounds, run_page, trial_bounds, trial_few, trial_page}
-use Rattle.replay.proofs.Promise.{as_asked, asked_holds, began, complete, fits_start, limited, limited_same, live_start, run_ends}
-use Rattle.replay.proofs.Statuses.{all_written, not_source_fault, not_too_long, not_untouched, not_usage}
+use Rattle.replay.proofs.Promise.{as_asked, asked_holds, can_start, complete, ends_at, fits_start, limited, live_start, living_start, of_sink_fault, of_source_fault, run_ends}
 use Rattle.replay.proofs.Trials.{trial_ends}
 use Rattle.replay.proofs.top.run.Goals as goal
 
@@ -21,21 +19,20 @@ new-requires-clause-some g c = (run_bounds _ c.in-Run.size (sym c.in-Ok-Some.ens
 pub new-requires-clause-page : goal.new-requires-clause-page
 new-requires-clause-page g c = (run_bounds _ c.in-Run.size (sym c.in-Ok-Some.ensures ∙ c.in-Ok-Some.field-0-is ∙ ap Some c.in-Run.is)).page
 
-pub replay-requires : goal.replay-requires
-replay-requires g c =
+pub replay-requires-clause-able : goal.replay-requires-clause-able
+replay-requires-clause-able g c =
     let M = g.M.Mapper in
     let told = M.held c.args.mapper.now in
     let size = c.in-Run.size in
     let starts = c.in-Ok.ensures.machine told in
-    record {
-      call = record {
-        valid = c.in-Ok.ensures.valid told;
-        unlimited = refl;
-        fits = fits_start (M.page_bytes c.args.mapper.now) size.frames size.page_bytes _ _ c.requires (run_page _ size (sym c.in-Ok-Some.ensures ∙ c.in-Ok-Some.field-0-is ∙ ap Some c.in-Run.is)) starts;
-        live = live_start size.frames size.page_bytes _ starts;
-      };
-      made = search rules;
-    }
+    can_start _ M _ c.args.mapper.now _ c.in-Ok-new.ensures
+    (record {
+      valid = c.in-Ok.ensures.valid told;
+      unlimited = refl;
+      fits = fits_start (M.page_bytes c.args.mapper.now) size.frames size.page_bytes _ _ c.requires (run_page _ size (sym c.in-Ok-Some.ensures ∙ c.in-Ok-Some.field-0-is ∙ ap Some c.in-Run.is)) starts;
+      live = live_start size.frames size.page_bytes _ starts;
+      living = living_start size.frames size.page_bytes _ starts;
+    }) (search rules)
 
 pub new-requires-in-Trial-clause-few : goal.new-requires-in-Trial-clause-few
 new-requires-in-Trial-clause-few g c = (trial_bounds _ c.in-Trial.script c.in-Trial.frames (sym c.in-Ok-Some.ensures ∙ c.in-Ok-Some.field-0-is ∙ ap Some c.in-Trial.is)).few
@@ -48,64 +45,47 @@ trial-requires-clause-able g c =
     let M = g.M.Mapper in
     let told = M.held c.args.mapper.now in
     let frames = c.in-Trial.frames in
-    let starts = c.in-Ok-new.ensures.machine told in
+    let starts = c.in-Ok-new-2.ensures.machine told in
     record {
-      call = record {
-        valid = c.in-Ok-new.ensures.valid told;
-        unlimited = refl;
-        fits = fits_start (M.page_bytes c.args.mapper.now) frames 4096 _ _ c.requires (trial_page _ c.in-Trial.script frames (sym c.in-Ok-Some.ensures ∙ c.in-Ok-Some.field-0-is ∙ ap Some c.in-Trial.is)) starts;
-        live = live_start frames 4096 _ starts;
-      };
-      made = search rules;
+      valid = c.in-Ok-new-2.ensures.valid told;
+      unlimited = refl;
+      fits = fits_start (M.page_bytes c.args.mapper.now) frames 4096 _ _ c.requires (trial_page _ c.in-Trial.script frames (sym c.in-Ok-Some.ensures ∙ c.in-Ok-Some.field-0-is ∙ ap Some c.in-Trial.is)) starts;
+      live = live_start frames 4096 _ starts;
+      living = living_start frames 4096 _ starts;
     }
 
 pub trial-requires-clause-few : goal.trial-requires-clause-few
 trial-requires-clause-few g c = trial_few _ c.in-Trial.script c.in-Trial.frames (sym c.in-Ok-Some.ensures ∙ c.in-Ok-Some.field-0-is ∙ ap Some c.in-Trial.is)
 
-pub returns-in-Ok-clause-ends : goal.returns-in-Ok-clause-ends
-returns-in-Ok-clause-ends g c = λ some.
-    let M = g.M.Mapper in
-    let K = g.K.Sink in
-    let told = M.held c.args.mapper.now in
-    let size = c.in-Run.size in
-    as_asked (asks.Run size) _ _ (sym (ap Some c.in-Run.is) ∙ sym c.in-Ok-Some.field-0-is ∙ c.in-Ok-Some.ensures)
-    (run_ends c.replay.result size (scene_with M c.args.mapper.now (K.written c.args.sink.now)) (scene_with M c.replay.new.mapper (K.written c.replay.new.sink)) _ _
-    (segments_of told) _ _ _ _ (λ m f. refl) (λ m f. (refl, refl)) (run_bounds _ size (sym c.in-Ok-Some.ensures ∙ c.in-Ok-Some.field-0-is ∙ ap Some c.in-Run.is)).some (c.in-Ok.ensures.machine told) (c.in-Ok.ensures.forest told) c.replay.ensures.ends)
-
-pub returns-in-Ok-clause-too_long_exactly : goal.returns-in-Ok-clause-too_long_exactly
-returns-in-Ok-clause-too_long_exactly g c = limited c.replay.result _ _ _ _ c.replay.ensures.ends
-
-pub returns-in-Ok-clause-untouched : goal.returns-in-Ok-clause-untouched
-returns-in-Ok-clause-untouched g c = λ why. absurd (began c.replay.result _ _ _ _ c.replay.ensures.ends why)
-
-pub returns-in-Ok-clause-complete : goal.returns-in-Ok-clause-complete
-returns-in-Ok-clause-complete g c = λ short reads readable writes writable.
-    let few = asked_holds (asks.Run c.in-Run.size) _ _ (sym (ap Some c.in-Run.is) ∙ sym c.in-Ok-Some.field-0-is ∙ c.in-Ok-Some.ensures) short in
-    complete c.replay.result _ _ _ _ _ _ _ _ c.replay.ensures.ends c.replay.ensures.source_fault c.replay.ensures.sink_fault few reads readable writes writable
-
 pub returns-in-Ok-new-clause-ends : goal.returns-in-Ok-new-clause-ends
 returns-in-Ok-new-clause-ends g c = λ some.
     let M = g.M.Mapper in
     let K = g.K.Sink in
+    let D = g.D.Dispatcher in
+    let told = M.held c.args.mapper.now in
+    let size = c.in-Run.size in
+    as_asked (asks.Run size) _ _ (sym (ap Some c.in-Run.is) ∙ sym c.in-Ok-Some.field-0-is ∙ c.in-Ok-Some.ensures)
+    (run_ends c.of.result size (scene_with M c.args.mapper.now (D.turns c.args.dispatcher.now) (K.written c.args.sink.now)) (scene_with M c.replay.new.mapper (D.turns c.replay.new.dispatcher) (K.written c.replay.new.sink)) _ _
+    (segments_of told) _ _ _ _ (λ m f. refl) (λ m f. (refl, refl)) (run_bounds _ size (sym c.in-Ok-Some.ensures ∙ c.in-Ok-Some.field-0-is ∙ ap Some c.in-Run.is)).some (c.in-Ok.ensures.machine told) (c.in-Ok.ensures.forest told)
+    (ends_at c.of.result c.replay.result _ _ _ _ c.of.ensures c.replay.ensures.ends))
+
+pub returns-in-Ok-new-clause-too_long_exactly : goal.returns-in-Ok-new-clause-too_long_exactly
+returns-in-Ok-new-clause-too_long_exactly g c = limited c.of.result _ _ _ _ (ends_at c.of.result c.replay.result _ _ _ _ c.of.ensures c.replay.ensures.ends)
+
+pub returns-in-Ok-new-clause-complete : goal.returns-in-Ok-new-clause-complete
+returns-in-Ok-new-clause-complete g c = λ short reads readable writes writable.
+    let few = asked_holds (asks.Run c.in-Run.size) _ _ (sym (ap Some c.in-Run.is) ∙ sym c.in-Ok-Some.field-0-is ∙ c.in-Ok-Some.ensures) short in
+    complete c.of.result _ _ _ _ _ _ _ _ (ends_at c.of.result c.replay.result _ _ _ _ c.of.ensures c.replay.ensures.ends)
+    (λ f. c.replay.ensures.source_fault (of_source_fault c.replay.result (sym c.of.ensures ∙ f)))
+    (λ f. c.replay.ensures.sink_fault (of_sink_fault c.replay.result (sym c.of.ensures ∙ f))) few reads readable writes writable
+
+pub returns-in-Ok-new-3-clause-ends : goal.returns-in-Ok-new-3-clause-ends
+returns-in-Ok-new-3-clause-ends g c = λ some.
+    let M = g.M.Mapper in
+    let K = g.K.Sink in
+    let D = g.D.Dispatcher in
     let told = M.held c.args.mapper.now in
     let ends = c.trial.ensures.ends in
     as_asked (asks.Trial c.in-Trial.script c.in-Trial.frames) _ _ (sym (ap Some c.in-Trial.is) ∙ sym c.in-Ok-Some.field-0-is ∙ c.in-Ok-Some.ensures)
-    (trial_ends c.trial.result c.in-Trial.script c.in-Trial.frames (scene_with M c.args.mapper.now (K.written c.args.sink.now)) (scene_with M c.trial.new.mapper (K.written c.trial.new.sink))
-    (segments_of told) _ _ _ _ ends.0 (λ m f. refl) (λ m f. (refl, refl)) (c.in-Ok-new.ensures.machine told) (c.in-Ok-new.ensures.forest told) ends.1 ends.2)
-
-pub returns-in-Ok-new-clause-usage : goal.returns-in-Ok-new-clause-usage
-returns-in-Ok-new-clause-usage g c = λ begun.
-    let is = sym c.in-Ok-Some.ensures ∙ c.in-Ok-Some.field-0-is ∙ ap Some c.in-Trial.is in
-    (λ usage. absurd (not_usage _ _ _ c.trial.result c.trial.ensures.ends.2.writes usage), λ none. absurd (none-some _ (sym none ∙ is)))
-
-pub returns-in-Ok-new-clause-source_fault : goal.returns-in-Ok-new-clause-source_fault
-returns-in-Ok-new-clause-source_fault g c = λ fault. absurd (not_source_fault _ _ _ c.trial.result c.trial.ensures.ends.2.writes fault)
-
-pub returns-in-Ok-new-clause-too_long_exactly : goal.returns-in-Ok-new-clause-too_long_exactly
-returns-in-Ok-new-clause-too_long_exactly g c = limited_same _ _ (not_too_long _ _ _ c.trial.result c.trial.ensures.ends.2.writes)
-
-pub returns-in-Ok-new-clause-untouched : goal.returns-in-Ok-new-clause-untouched
-returns-in-Ok-new-clause-untouched g c = λ why. absurd (not_untouched _ _ _ c.trial.result c.trial.ensures.ends.2.writes why)
-
-pub returns-in-Ok-new-clause-complete : goal.returns-in-Ok-new-clause-complete
-returns-in-Ok-new-clause-complete g c = λ asked reads readable writes writable. all_written _ _ _ c.trial.result _ _ c.trial.ensures.ends.2.writes c.trial.ensures.sink_fault writes writable
+    (trial_ends c.trial.result c.in-Trial.script c.in-Trial.frames (scene_with M c.args.mapper.now (D.turns c.args.dispatcher.now) (K.written c.args.sink.now)) (scene_with M c.trial.new.mapper (D.turns c.trial.new.dispatcher) (K.written c.trial.new.sink))
+    (segments_of told) _ _ _ _ ends.0 (λ m f. refl) (λ m f. (refl, refl)) (c.in-Ok-new-2.ensures.machine told) (c.in-Ok-new-2.ensures.forest told) ends.1 ends.2)

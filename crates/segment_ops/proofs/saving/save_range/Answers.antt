@@ -153,7 +153,7 @@ loop-page-preserved-in-Some g c =
       absent = λ n bare. i.absent n (absent_before w v i.stays.whole.sound k.sound (store_shaped w i.stays.whole.sound i.stays.whole.consistent.shaped) k.nodes (page_name c.args.range.cache c.loop-page.page) h is is_heir after n bare);
       frames = (
           let more = IsOfSaves {T = ℕ} (Err (c.loop-page.done + 1)) (extent_names c.args.range) old in
-          come_then more old w v
+          come_then more old w v i.stays.kept.nodes
           (more_come _ more old w (λ m k. in_more_saves (Err (c.loop-page.done + 1)) c.loop-page.done (extent_names c.args.range) old m (omega arith) k) i.frames)
           (more_come _ more w v (λ m k. in_more_saves (Err (c.loop-page.done + 1)) c.loop-page.done (extent_names c.args.range) old m (omega arith)
           (next_save_is old w c.args.range c.loop-page.done c.loop-page.page i.forest i.first i.saved c.node_of-node.result m i.stays.whole.sound i.stays.kept.nodes c.loop-page-test.true is at.1 k)) e.frames));
@@ -227,7 +227,7 @@ returns-in_default-clause-frames g c =
     let i = c.loop-page.invariant in
     let at = named g (goal.at.returns-in_default-clause-frames g c).After-node_of-node in
     let is = unsaved g (goal.at.returns-in_default-clause-frames g c).In-Some in
-    come_then _ old w v (more_come _ _ old w (λ m k. in_more_saves (Err c.loop-page.done) c.loop-page.done (extent_names c.args.range) old m (omega arith) k) i.frames)
+    come_then _ old w v i.stays.kept.nodes (more_come _ _ old w (λ m k. in_more_saves (Err c.loop-page.done) c.loop-page.done (extent_names c.args.range) old m (omega arith) k) i.frames)
     (more_come _ _ w v (λ m k. in_more_saves (Err c.loop-page.done) c.loop-page.done (extent_names c.args.range) old m (omega arith)
     (next_save_is old w c.args.range c.loop-page.done c.loop-page.page i.forest i.first i.saved c.node_of-node.result m i.stays.whole.sound i.stays.kept.nodes c.loop-page-test.true is at.1 k)) c.save.ensures.frames)
 

@@ -15,16 +15,16 @@ returns-in-Ok-true g c =
     let m = c.args.self.now in
     let s = c.args.span in
     let E = c.in-Ok-true.ensures in
-    granted_call g.M.Mapper _ _ m (commands.Copy s) _ E.asked c.requires.valid tt c.copy_pages.new.self (done_by c.copy_pages.result) c.copy_pages.ensures.whole c.copy_pages.ensures.outcome
-    (range_allowed m s.to.0 s.to_page.0 s.pages _ c.in-Ok-true.field-0 c.in-Ok-true.field-0-test E.answer) tt
+    (granted_call g.M.Mapper _ _ m (commands.Copy s) _ E.asked c.requires.valid tt c.copy_pages.new.self (done_by c.copy_pages.result) c.copy_pages.ensures.whole c.copy_pages.ensures.outcome
+    (range_allowed m s.to.0 s.to_page.0 s.pages _ c.in-Ok-true.field-0 c.in-Ok-true.field-0-test E.answer) tt).call
 
 pub returns-in-Ok-false : goal.returns-in-Ok-false
 returns-in-Ok-false g c =
     let m = c.args.self.now in
     let s = c.args.span in
     let E = c.in-Ok-false.ensures in
-    denied_call g.M.Mapper _ _ m (commands.Copy s) _ E.asked c.requires.valid tt c.in_default.ensures.awaits
-    (range_denied m s.to.0 s.to_page.0 s.pages _ c.in-Ok-false.field-0 c.in-Ok-false.field-0-test c.requires.some E.named E.answer) tt
+    (denied_call g.M.Mapper _ _ m (commands.Copy s) _ E.asked c.requires.valid tt c.in_default.ensures.awaits
+    (range_denied m s.to.0 s.to_page.0 s.pages _ c.in-Ok-false.field-0 c.in-Ok-false.field-0-test c.requires.some E.named E.answer) tt).call
 
 pub returns-in-Err-may_change : goal.returns-in-Err-may_change
 returns-in-Err-may_change g c =
@@ -32,5 +32,5 @@ returns-in-Err-may_change g c =
     let s = c.args.span in
     let p = c.in-Err-may_change.page in
     let E = c.in-Err-may_change.ensures in
-    failed_call g.M.Mapper _ _ m (commands.Copy s) _ E.asked c.requires.valid tt c.in_default.ensures.awaits p E.asked.reached.failed
-    (E.fault.0, (E.fault.1, E.fault.2, none_before m s.to.0 s.to_page.0 p.0 _ E.before)) tt
+    (failed_call g.M.Mapper _ _ m (commands.Copy s) _ E.asked c.requires.valid tt c.in_default.ensures.awaits p E.asked.reached.failed
+    (E.fault.0, (E.fault.1, E.fault.2, none_before m s.to.0 s.to_page.0 p.0 _ E.before)) tt).call

@@ -1,388 +1,81 @@
-use Rattle.std.proofs.Common.{rules, true, false, ◌≡◌, Option, Some, length, refl, sym, ap, subst, ◌∙◌, arith}
-use Rattle.std.specs.Prelude.{◌+◌, ◌-◌, ◌%◌, Result, Ok, Err, IfSome, IsOk, take, drop}
+use Rattle.std.proofs.Common.{◌≡◌, refl, sym, ap, subst, ◌∙◌}
+use Rattle.std.specs.Prelude.{Result, Ok, Err, IsOk}
 use Rattle.std.proofs.lemmas.Result.{err_from_is_err_and}
 use Rattle.vm_ids.specs.declared.command.Command.TheVariants as commands
-use Rattle.vm_ids.specs.declared.numbers.PageNo.{PageNo}
 use Rattle.vm_ids.specs.declared.reply.Reply.TheVariants as replies
 use Rattle.vm_ids.specs.declared.reply.Trouble.TheVariants as troubles
-use Rattle.vm_ids.specs.declared.reply.FaultAt.{FaultAt}
-use Rattle.vm_ids.specs.declared.numbers.FrameId.{FrameId}
-use Rattle.vm_ids.specs.declared.numbers.NodeId.{NodeId}
-use Rattle.vm_ids.specs.Forest.Commands.{page_name}
 use Rattle.vm_ids.specs.Forest.Nodes.{no_forest}
-use Rattle.vm_ids.specs.Forest.Reading.{owner_of, value_of}
-use Rattle.frame_pool.specs.Pool.{bytes_of}
-use Rattle.local_cache.specs.Own.{own_of}
-use Rattle.residency.specs.declared.miss.Miss.{Miss}
-use Rattle.residency.specs.declared.store.Store.{Store}
-use Rattle.residency.specs.Causes.{Traffic, dirtied, dirty_count, failed_victims, pulls_for}
-use Rattle.residency.specs.World.{HoldsPage, IsStoreRight, World, world}
-use Rattle.fault_path.specs.Faults.{IsFound, IsOwner, found_page}
 use Rattle.pvm_core.specs.Access.{IsAtHand, IsLoaded}
 use Rattle.pvm_core.specs.Keeping.{SameButSeen}
-use Rattle.pvm_core.specs.Translated.{AreTranslationsRight, OnlySeen, found_for}
-use Rattle.pvm_core.proofs.Accesses.Found.{found_in, given_in, pulled_for}
-use Rattle.vm_model.specs.Answering.{Answer, answer_by}
-use Rattle.vm_model.specs.PageForest.{PageForest}
-use Rattle.vm_model.specs.Machine.{numbered}
-use Rattle.vm_model.specs.Place.{Place, place}
-use Rattle.vm_model.specs.Run.{CallIs}
-use Rattle.local_cache.specs.Whole.{size_of}
-use Rattle.pvm_core.specs.Manager as managers
-use Rattle.pvm_core.specs.Manager.{IsValid, Manager, forest_of, machine_by, machine_of, nodes_of, state_at}
-use Rattle.pvm_core.specs.Pieces.{fault_at}
-use Rattle.pvm_core.proofs.Answering.Answered.{call_is, called, made_stays}
-use Rattle.pvm_core.proofs.Homes.Homed.{reached}
-use Rattle.pvm_core.proofs.Answering.Reaching.{reach_none, reach_told}
-use Rattle.pvm_core.proofs.Answering.Kept.{seen, sizeless}
-use Rattle.pvm_core.proofs.Answering.Standing.{Stands, stands}
-use Rattle.pvm_core.proofs.Answering.Listed.{IsFoundAt, found_at, refused_at, spot}
-use Rattle.pvm_core.proofs.Accesses.Loading.{found_place, found_within, load_fault, load_refused, loaded, owner_there}
-use Rattle.pvm_core.proofs.Accesses.AccessedPages.{ends_within}
-use Rattle.pvm_core.proofs.Accesses.Seen.{found_led, found_right, found_seen, led_found, marked, same_grants, seen_by, seen_forest, seen_machine, seen_right, seen_sound, seen_valid, seen_world}
-use Rattle.pvm_core.proofs.Accesses.There.{IsThere, load_there, loaded_there, there_is}
-use Rattle.pvm_core.proofs.Translating.Dropped.{dropped_right}
-use Rattle.pvm_core.proofs.Answering.Recorded.{asks_missed, asks_quiet, no_traffic}
-use Rattle.gmi_calls.specs.Calling.{AsksFirst}
+use Rattle.vm_model.specs.Answering.{answer_by}
+use Rattle.vm_model.specs.Place.{place}
+use Rattle.pvm_core.specs.Manager.{IsValid, Manager, machine_by, machine_of}
+use Rattle.pvm_core.proofs.Answering.Listed.{refused_at}
+use Rattle.gmi_calls.specs.Calling.{Fits, MapperCall}
+use Rattle.std.specs.Prelude.{IfOk}
+use Rattle.pvm_core.specs.Manager.{meaning}
+use Rattle.pvm_core.proofs.Accesses.Parts.{mapper_call}
 use Rattle.pvm_core.proofs.pvm.Pvm.load.Given.{Over}
-use Rattle.pvm_core.proofs.pvm.Pvm.load.Goals.{After-node_of-node, After-part_of, After-read_fault, After-remember_found, After-self, In-Some, In_ok-place}
+use Rattle.pvm_core.proofs.pvm.Pvm.load.Goals.{After-from_residual, In-None}
 use Rattle.pvm_core.proofs.pvm.Pvm.load.Goals as goal
 
-pub returns-in_err-place-clause-call : goal.returns-in_err-place-clause-call
-returns-in_err-place-clause-call g c = record {
-  valid = search rules;
-  answers = (
-      let i = c.self.inside in
-      let h = g.M.Mapper.held c.args.mapper.now in
-      let counts = g.M.Mapper.counts c.args.mapper.now in
-      let p : Manager = seen i.caches i.store i.contexts in
-      let answer : Answer = Err (troubles.Refused c.in_err-place.field-0.0) in
-      let gave = err_from_is_err_and c.from_residual.result c.from_residual.ensures.1 in
-      let is : c.from_residual.result ≡ Err (troubles.Refused c.in_err-place.field-0.0) = gave.1 ∙ ap (λ t. Err t) gave.2 in
-      subst (λ (p : Manager). CallIs counts counts (state_at p h) (commands.Load c.args.actor c.args.address c.args.bytes) (answer_by replies.Bytes c.from_residual.result) (state_at p h)) c.self.view_is
-      (subst (λ (r : Result _ _). CallIs counts counts (state_at p h) (commands.Load c.args.actor c.args.address c.args.bytes) (answer_by replies.Bytes r) (state_at p h)) (sym is)
-      (called counts counts p p h h (commands.Load c.args.actor c.args.address c.args.bytes) answer (reach_none (machine_of p h) h counts) c.self.invariant.sound.nodes c.self.invariant.sound.nodes (subst (λ (p : Manager). IsValid p h) (sym c.self.view_is) c.requires.valid) refl (λ done m f s none. none) tt tt (λ f. refl) (λ page. refl)
-      (λ f s. load_refused (machine_by p f) c.args.actor.0 c.args.address c.args.bytes c.in_err-place.field-0.0 (refused_at (place (machine_by p f) c.args.actor.0 c.args.address c.args.bytes) c.in_err-place.field-0.0 (sym c.in_err-place.was ∙ c.locate.ensures)))))
-      );
-  asks_first = asks_quiet (commands.Load c.args.actor c.args.address c.args.bytes) (answer_by replies.Bytes c.from_residual.result) (g.M.Mapper.counts c.args.mapper.now) (g.M.Mapper.counts c.args.mapper.now) (no_traffic (g.M.Mapper.counts c.args.mapper.now));
-  made = made_stays (machine_of c.args.self.now (g.M.Mapper.held c.args.mapper.now)) (commands.Load c.args.actor c.args.address c.args.bytes) (answer_by replies.Bytes c.from_residual.result) (machine_of c.args.self.now (g.M.Mapper.held c.args.mapper.now)) (managers.numbered c.args.self.now) (managers.numbered c.args.self.now) (refl);
-  room = refl;
-  page = search rules;
-}
+-- the manager is as before where no translation leads to the page
+unseen : (g : Over) (c : In-None g) → c.load_seen.new.self ≡ c.args.self.now
+unseen g c = c.in-None.ensures.unseen
 
--- the access is in a region
-found : (g : Over) (c : In_ok-place g) → IsFoundAt (size_of c.self.inside.caches) c.self.inside.contexts.page_bytes (numbered c.self.inside.contexts.actors c.args.actor.0) c.args.address c.args.bytes c.in_ok-place.place
-found g c = spot (size_of c.self.inside.caches) c.self.inside.contexts c.args.actor.0 c.args.address c.args.bytes c.in_ok-place.place c.self.invariant.sound.actors (sym c.in_ok-place.was ∙ c.locate.ensures)
-
-pub node_of-node-requires-clause-page : goal.node_of-node-requires-clause-page
-node_of-node-requires-clause-page g c =
-    let r = found g (goal.at.node_of-node-requires-clause-page g c).In_ok-place in
-    (r.count, r.there, r.less)
-
-pub returns-in_err-place-clause-idle : goal.returns-in_err-place-clause-idle
-returns-in_err-place-clause-idle g c = λ hand.
-    let i = c.self.inside in
-    let p : Manager = seen i.caches i.store i.contexts in
-    let at_hand : IsAtHand p c.args.actor.0 c.args.address c.args.bytes = subst (λ (p : Manager). IsAtHand p c.args.actor.0 c.args.address c.args.bytes) (sym c.self.view_is) hand in
-    absurd (let e : Err c.in_err-place.field-0.0 ≡ Ok at_hand.at = refused_at (place (machine_by p no_forest) c.args.actor.0 c.args.address c.args.bytes) c.in_err-place.field-0.0 (sym c.in_err-place.was ∙ c.locate.ensures) ∙ at_hand.place in cc e)
-
-valid_before : (g : Over) (c : After-self g) → IsValid (seen c.self.inside.caches c.self.inside.store c.self.inside.contexts) (g.M.Mapper.held c.args.mapper.now)
-valid_before g c = subst (λ (p : Manager). IsValid p (g.M.Mapper.held c.args.mapper.now)) (sym c.self.view_is) c.requires.valid
-
--- the frame that the translation leads to
-there : (g : Over) (c : In-Some g) → IsThere c.self.inside.caches c.self.inside.store c.self.inside.contexts c.args.actor.0 c.args.address c.args.bytes c.in-Some.seen
-there g c =
-    let i = c.self.inside in
-    there_is i.caches i.store i.contexts i.live c.self.invariant.sound (valid_before g (goal.at.In-Some g c).After-self).right.tied.placed c.args.actor.0 c.args.address c.args.bytes c.in-Some.seen c.self.invariant.translated (sym c.translated.ensures ∙ c.in-Some.is)
-
-pub touch-requires : goal.touch-requires
-touch-requires g c =
-    let at = goal.at.touch-requires g c in
-    let k = there g at.In-Some in
-    let valid = valid_before g at.After-self in
-    omega (arith, k.below, valid.right.tied.fitted.map_frames, valid.right.tied.fitted.marks_frames)
-
-pub part_of-requires-clause-frame : goal.part_of-requires-clause-frame
-part_of-requires-clause-frame g c =
-    let at = goal.at.part_of-requires-clause-frame g c in
-    let k = there g at.In-Some in
-    let valid = valid_before g at.After-self in
-    omega (arith, k.below, valid.right.tied.fitted.map_frames, ap (λ (s : Store). length s.frames.held) c.touch.ensures)
-
-pub part_of-requires-clause-within : goal.part_of-requires-clause-within
-part_of-requires-clause-within g c =
-    let k = there g (goal.at.part_of-requires-clause-within g c).In-Some in
-    omega (arith, k.fits, k.byte, c.byte_at-byte.ensures, c.self.invariant.sound.page, ap (λ (s : Store). s.frames.page) c.touch.ensures)
-
-pub invariant_of-self : goal.invariant_of-self
-invariant_of-self g c =
-    let i = c.self.inside in
-    let only = marked i.store c.touch.new.self c.in-Some.seen.frame.0 c.touch.ensures in
-    record {
-      sound = seen_sound i.store c.touch.new.self only i.caches i.contexts i.live c.self.invariant.sound;
-      translated = seen_right i.store c.touch.new.self only i.caches i.contexts (ap (λ (s : Store). s.tables) c.touch.ensures) c.self.invariant.translated;
-    }
-
--- the bytes are those in the frame
-read_there : (g : Over) (c : After-part_of g)
-    → CallIs (g.M.Mapper.counts c.args.mapper.now) (g.M.Mapper.counts c.args.mapper.now) (state_at c.args.self.now (g.M.Mapper.held c.args.mapper.now)) (commands.Load c.args.actor c.args.address c.args.bytes) (Ok (replies.Bytes c.part_of.result)) (state_at (seen c.self.inside.caches c.touch.new.self c.self.inside.contexts) (g.M.Mapper.held c.args.mapper.now))
-    × IsLoaded (g.M.Mapper.counts c.args.mapper.now) (g.M.Mapper.counts c.args.mapper.now) (g.M.Mapper.given c.args.mapper.now) c.args.self.now (seen c.self.inside.caches c.touch.new.self c.self.inside.contexts) c.args.actor.0 c.args.address c.args.bytes c.part_of.result
-read_there g c =
-    let i = c.self.inside in
-    let h = g.M.Mapper.held c.args.mapper.now in
-    let valid = valid_before g (goal.at.After-part_of g c).After-self in
-    let only = marked i.store c.touch.new.self c.in-Some.seen.frame.0 c.touch.ensures in
-    let piece = c.part_of.result in
-    let counts = g.M.Mapper.counts c.args.mapper.now in
-    let given = g.M.Mapper.given c.args.mapper.now in
-    let q : Manager = seen i.caches c.touch.new.self i.contexts in
-    let led : found_for i.contexts.page_bytes i.store.tables c.args.actor.0 c.args.address c.args.bytes ≡ Some c.in-Some.seen = sym c.translated.ensures ∙ c.in-Some.is in
-    let is : piece ≡ take c.args.bytes (drop (c.args.address % i.contexts.page_bytes) (bytes_of c.touch.new.self.frames c.in-Some.seen.frame.0))
-    = c.part_of.ensures.piece ∙ ap (λ byte. take c.args.bytes (drop byte (bytes_of c.touch.new.self.frames c.in-Some.seen.frame.0))) c.byte_at-byte.ensures in (
-      subst (λ (p : Manager). CallIs counts counts (state_at p h) (commands.Load c.args.actor c.args.address c.args.bytes) (Ok (replies.Bytes piece)) (state_at q h)) c.self.view_is
-          (load_there i.caches i.store c.touch.new.self i.contexts i.live c.self.invariant.sound c.self.invariant.translated h valid c.args.actor c.args.address c.args.bytes c.in-Some.seen led only piece is counts c.part_of.ensures.length),
-      subst (λ (p : Manager). IsLoaded counts counts given p q c.args.actor.0 c.args.address c.args.bytes piece) c.self.view_is
-          (loaded_there i.caches i.store c.touch.new.self i.contexts i.live c.self.invariant.sound c.self.invariant.translated h valid c.args.actor c.args.address c.args.bytes c.in-Some.seen led only piece is counts given (ap (λ (s : Store). s.tables) c.touch.ensures)),
-    )
+pub load_seen-requires-clause-valid : goal.load_seen-requires-clause-valid
+load_seen-requires-clause-valid g c = (g.M.Mapper.held c.args.mapper.now, c.requires.valid)
 
 pub returns-in-Some-clause-call : goal.returns-in-Some-clause-call
-returns-in-Some-clause-call g c = record {
-  valid = (
-      let i = c.self.inside in
-      seen_valid i.store c.touch.new.self (marked i.store c.touch.new.self c.in-Some.seen.frame.0 c.touch.ensures) i.caches i.contexts (g.M.Mapper.held c.args.mapper.now) (valid_before g (goal.at.returns-in-Some-clause-call g c).After-self)
-      );
-  answers = (read_there g (goal.at.returns-in-Some-clause-call g c).After-part_of).0;
-  asks_first = tt;
-  made = search rules;
-  room = refl;
-  page = search rules;
-}
+returns-in-Some-clause-call g c = mapper_call c.in-Some.ensures.call c.requires.valid
 
-pub returns-in-Some-clause-loaded : goal.returns-in-Some-clause-loaded
-returns-in-Some-clause-loaded g c = (read_there g (goal.at.returns-in-Some-clause-loaded g c).After-part_of).1
+pub returns-in-Some-clause-copies : goal.returns-in-Some-clause-copies
+returns-in-Some-clause-copies g c = ap (λ (p : Manager). p.caches.copies) c.load_seen.ensures.same.same
 
 pub returns-in-Some-clause-idle : goal.returns-in-Some-clause-idle
-returns-in-Some-clause-idle g c = λ hand.
-    let i = c.self.inside in
-    let q : Manager = seen i.caches c.touch.new.self i.contexts in (
-      refl,
-      subst (λ (p : Manager). SameButSeen p q) c.self.view_is (record { same = refl; only = marked i.store c.touch.new.self c.in-Some.seen.frame.0 c.touch.ensures }),
-      refl,
-    )
+returns-in-Some-clause-idle g c = λ hand. (refl, c.load_seen.ensures.same, refl)
 
--- the page is looked for: what the manager stands for stays
-looked : (g : Over) (c : After-read_fault g) → Stands (seen c.self.inside.caches c.self.inside.store c.self.inside.contexts) c.read_fault.new.caches c.read_fault.new.store c.self.inside.contexts c.self.inside.live (g.M.Mapper.held c.args.mapper.now) (g.M.Mapper.held c.read_fault.new.mapper) (g.M.Mapper.counts c.args.mapper.now) (g.M.Mapper.counts c.read_fault.new.mapper)
-looked g c =
-    let i = c.self.inside in
-    let n = c.read_fault.new in
-    let e = c.read_fault.ensures in
-    let size = g.M.Mapper.page_bytes c.args.mapper.now in
-    let now = g.M.Mapper.page_bytes n.mapper in
-    stands i.caches n.caches i.store n.store (g.M.Mapper.held c.args.mapper.now) (g.M.Mapper.held c.read_fault.new.mapper) size now e.answered.kept i.contexts i.live c.self.invariant.sound (g.M.Mapper.counts c.args.mapper.now) (g.M.Mapper.counts c.read_fault.new.mapper) e.forest
-    (reached (seen c.self.inside.caches c.self.inside.store c.self.inside.contexts) (g.M.Mapper.held c.args.mapper.now) c.self.invariant.sound.nodes c.self.invariant.sound.apart size now n.caches n.store (g.M.Mapper.held c.read_fault.new.mapper) (g.M.Mapper.counts c.args.mapper.now) (g.M.Mapper.counts c.read_fault.new.mapper) e.answered.later e.answered.told)
-    (valid_before g (goal.at.After-read_fault g c).After-self)
+pub returns-in-Some-clause-loaded : goal.returns-in-Some-clause-loaded
+returns-in-Some-clause-loaded g c = c.in-Some.ensures.loaded (g.M.Mapper.counts c.args.mapper.now) (g.M.Mapper.given c.args.mapper.now)
 
--- and the node whose page is read
-owner : (g : Over) (c : After-node_of-node g) → (o : NodeId) × IsOwner c.self.inside.caches c.node_of-node.result o
-owner g c = owner_there c.self.inside.caches c.self.invariant.sound.nodes c.node_of-node.result c.node_of-node.ensures.held
+-- the refusal
+refusal : (g : Over) (c : After-from_residual g) → c.from_residual.result ≡ Err (troubles.Refused c.in_err-place-in-None.field-0.0)
+refusal g c = let gave = err_from_is_err_and c.from_residual.result c.from_residual.ensures.1 in gave.1 ∙ ap (λ t. Err t) gave.2
 
-still_right : (g : Over) (c : After-read_fault g) → AreTranslationsRight c.read_fault.new.caches c.read_fault.new.store c.self.inside.contexts
-still_right g c =
-    let i = c.self.inside in
-    let n = c.read_fault.new in
-    let e = c.read_fault.ensures in
-    let o = owner g (goal.at.After-read_fault g c).After-node_of-node in
-    dropped_right (λ m. m ≡ o.0) i.caches n.caches i.store n.store i.contexts (e.drops o.0 o.1) (same_grants i.caches n.caches e.answered.kept.nodes.caches) c.self.invariant.translated
+pub returns-in_err-place-in-None-clause-call : goal.returns-in_err-place-in-None-clause-call
+returns-in_err-place-in-None-clause-call g c =
+    let at = goal.at.returns-in_err-place-in-None-clause-call g c in
+    let q = c.load_seen.new.self in
+    let command = commands.Load c.args.actor c.args.address c.args.bytes in
+    let same = unseen g at.In-None in
+    subst (λ (p : Manager). MapperCall g.M.Mapper meaning c.args.mapper.now p command (answer_by replies.Bytes c.from_residual.result) c.args.mapper.now q) same
+    (subst (λ (r : Result _ _). MapperCall g.M.Mapper meaning c.args.mapper.now q command (answer_by replies.Bytes r) c.args.mapper.now q) (sym (refusal g at.After-from_residual))
+    (mapper_call c.in_err-place-in-None.ensures.load (subst (λ (p : Manager). IsValid p (g.M.Mapper.held c.args.mapper.now)) (sym same) c.requires.valid)))
 
-pub remember_found-requires-clause-frame : goal.remember_found-requires-clause-frame
-remember_found-requires-clause-frame g c =
-    let n = c.read_fault.new in
-    let fitted = c.read_fault.ensures.answered.kept.right.tied.fitted in
-    let o = owner g (goal.at.remember_found-requires-clause-frame g c).After-node_of-node in
-    found_place c.in-Ok.found _ (length n.store.map) (length n.store.frames.held) (length n.store.tables) fitted.map_frames fitted.places_frames (c.in-Ok.ensures.frame o.0 o.1).bound
+pub returns-in_err-place-in-None-clause-idle : goal.returns-in_err-place-in-None-clause-idle
+returns-in_err-place-in-None-clause-idle g c = λ hand.
+    let at = goal.at.returns-in_err-place-in-None-clause-idle g c in
+    let q = c.load_seen.new.self in
+    let at_hand : IsAtHand q c.args.actor.0 c.args.address c.args.bytes = subst (λ (p : Manager). IsAtHand p c.args.actor.0 c.args.address c.args.bytes) (sym (unseen g at.In-None)) hand in
+    absurd (let e : Err c.in_err-place-in-None.field-0.0 ≡ Ok at_hand.at = refused_at (place (machine_by q no_forest) c.args.actor.0 c.args.address c.args.bytes) c.in_err-place-in-None.field-0.0 (sym c.in_err-place-in-None.was ∙ c.locate.ensures.place) ∙ at_hand.place in cc e)
 
-pub remember_found-requires-clause-mark : goal.remember_found-requires-clause-mark
-remember_found-requires-clause-mark g c =
-    let n = c.read_fault.new in
-    let fitted = c.read_fault.ensures.answered.kept.right.tied.fitted in
-    let o = owner g (goal.at.remember_found-requires-clause-mark g c).After-node_of-node in
-    found_within c.in-Ok.found _ (length n.store.map) (length n.store.marks) (fitted.map_frames ∙ sym fitted.marks_frames) (c.in-Ok.ensures.frame o.0 o.1).bound
+pub load_at-requires-clause-place : goal.load_at-requires-clause-place
+load_at-requires-clause-place g c = sym c.in_ok-place-in-None.was ∙ c.locate.ensures.place
 
--- a translation of the page is remembered
-only : (g : Over) (c : After-remember_found g) → OnlySeen c.read_fault.new.store c.remember_found.new.store
-only g c = led_found c.self.inside.contexts.page_bytes c.args.actor c.args.address c.in-Ok.found c.read_fault.new.store c.remember_found.new.store c.remember_found.ensures
+pub load_at-requires-clause-valid : goal.load_at-requires-clause-valid
+load_at-requires-clause-valid g c = subst (λ (p : Manager). IsValid p (g.M.Mapper.held c.args.mapper.now)) (sym c.in-None.ensures.unseen) c.requires.valid
 
-pub part_of-requires-in-Ok-clause-frame : goal.part_of-requires-in-Ok-clause-frame
-part_of-requires-in-Ok-clause-frame g c =
-    let at = goal.at.part_of-requires-in-Ok-clause-frame g c in
-    let n = c.read_fault.new in
-    let o = owner g at.After-node_of-node in
-    found_within c.in-Ok.found _ (length n.store.map) (length c.remember_found.new.store.frames.held) (c.read_fault.ensures.answered.kept.right.tied.fitted.map_frames ∙ sym (ap (λ (s : Store). length s.frames.held) (only g at.After-remember_found).same)) (c.in-Ok.ensures.frame o.0 o.1).bound
+pub load_at-requires-clause-fits : goal.load_at-requires-clause-fits
+load_at-requires-clause-fits g c = subst (λ (p : Manager). Fits (g.M.Mapper.page_bytes c.args.mapper.now) (machine_of p (g.M.Mapper.held c.args.mapper.now))) (sym c.in-None.ensures.unseen) c.requires.fits
 
-pub part_of-requires-in-Ok-clause-within : goal.part_of-requires-in-Ok-clause-within
-part_of-requires-in-Ok-clause-within g c =
-    let at = goal.at.part_of-requires-in-Ok-clause-within g c in
-    let r = found g at.In_ok-place in
-    omega (arith, r.fits, c.self.invariant.sound.page, c.read_fault.ensures.answered.kept.page, ap (λ (s : Store). s.frames.page) (only g at.After-remember_found).same)
+pub returns-in_ok-place-in-None-clause-call : goal.returns-in_ok-place-in-None-clause-call
+returns-in_ok-place-in-None-clause-call g c = subst (λ (p : Manager). MapperCall g.M.Mapper meaning c.args.mapper.now p (commands.Load c.args.actor c.args.address c.args.bytes) (answer_by replies.Bytes c.load_at.result) c.load_at.new.mapper c.load_at.new.self) c.in-None.ensures.unseen c.load_at.ensures.call
 
-pub invariant_of-self-in-Ok : goal.invariant_of-self-in-Ok
-invariant_of-self-in-Ok g c =
-    let at = goal.at.invariant_of-self-in-Ok g c in
-    let i = c.self.inside in
-    let n = c.read_fault.new in
-    let e = c.read_fault.ensures in
-    let k = looked g at.After-read_fault in
-    let o = owner g at.After-node_of-node in
-    let r = found g at.In_ok-place in
-    record {
-      sound = seen_sound n.store c.remember_found.new.store (only g at.After-remember_found) n.caches i.contexts i.live k.sound;
-      translated = found_right c.args.actor c.args.address c.in-Ok.found n.caches n.store c.remember_found.new.store i.contexts c.remember_found.ensures (still_right g at.After-read_fault)
-          (found_seen (g.M.Mapper.held c.args.mapper.now) (g.M.Mapper.held c.read_fault.new.mapper) (g.M.Mapper.page_bytes c.args.mapper.now) (g.M.Mapper.page_bytes n.mapper) i.caches n.caches i.store n.store e.still c.self.invariant.sound.nodes.sound c.self.invariant.sound.nodes.consistent.shaped c.node_of-node.result o.0 c.node_of-node.ensures.held o.1
-          i.contexts c.args.actor c.args.address c.args.bytes (found_at r.region c.in_ok-place.place) k.sound.actors (sym r.is) c.node_of-node.ensures.name c.in-Ok.found (c.in-Ok.ensures.frame o.0 o.1));
-    }
+pub returns-in_ok-place-in-None-clause-copies : goal.returns-in_ok-place-in-None-clause-copies
+returns-in_ok-place-in-None-clause-copies g c = subst (λ (p : Manager). c.load_at.new.self.caches.copies ≡ p.caches.copies) c.in-None.ensures.unseen c.load_at.ensures.copies
 
-pub invariant_of-self-in-Err : goal.invariant_of-self-in-Err
-invariant_of-self-in-Err g c =
-    let at = (goal.at.invariant_of-self-in-Err g c).After-read_fault in
-    record { sound = (looked g at).sound; translated = still_right g at }
+pub returns-in_ok-place-in-None-clause-idle : goal.returns-in_ok-place-in-None-clause-idle
+returns-in_ok-place-in-None-clause-idle g c = subst (λ (p : Manager). IsAtHand p c.args.actor.0 c.args.address c.args.bytes → IsOk c.load_at.result × SameButSeen p c.load_at.new.self × (c.load_at.new.mapper ≡ c.args.mapper.now)) c.in-None.ensures.unseen c.load_at.ensures.idle
 
-pub returns-in-Ok-clause-call : goal.returns-in-Ok-clause-call
-returns-in-Ok-clause-call g c = record {
-  valid = (
-      let at = goal.at.returns-in-Ok-clause-call g c in
-      seen_valid c.read_fault.new.store c.remember_found.new.store (only g at.After-remember_found) c.read_fault.new.caches c.self.inside.contexts (g.M.Mapper.held c.read_fault.new.mapper) (looked g at.After-read_fault).valid
-      );
-  answers = (
-      let places = goal.at.returns-in-Ok-clause-call g c in
-      let i = c.self.inside in
-      let n = c.read_fault.new in
-      let e = c.read_fault.ensures in
-      let h = g.M.Mapper.held c.args.mapper.now in
-      let k = g.M.Mapper.held c.read_fault.new.mapper in
-      let size = g.M.Mapper.page_bytes c.args.mapper.now in
-      let then_size = g.M.Mapper.page_bytes n.mapper in
-      let before = g.M.Mapper.counts c.args.mapper.now in
-      let after = g.M.Mapper.counts c.read_fault.new.mapper in
-      let p : Manager = seen i.caches i.store i.contexts in
-      let u = c.remember_found.new.store in
-      let q : Manager = seen n.caches u i.contexts in
-      let l = looked g places.After-read_fault in
-      let led = only g places.After-remember_found in
-      let pl = c.in_ok-place.place in
-      let r = found g places.In_ok-place in
-      let at : Place = found_at r.region pl in
-      let command = commands.Load c.args.actor c.args.address c.args.bytes in
-      let is : (f : PageForest) → Ok at ≡ place (machine_by p f) c.args.actor.0 c.args.address c.args.bytes = λ f. r.is in
-      let both = reach_told (machine_of p h) h k before after l.reach in
-      let piece = c.part_of-in-Ok.result in
-      let value = (λ j. value_of (sym (e.forest ∙ sizeless h size i.caches i.store) j) (sym c.node_of-node.ensures.name j)) ∙ c.in-Ok.ensures.value
-      ∙ ap (λ (w : World). Some (found_page w c.in-Ok.found)) (sym (seen_world n.store u led k then_size n.caches)) in
-      subst (λ (p : Manager). CallIs before after (state_at p h) command (Ok (replies.Bytes piece)) (state_at q k)) c.self.view_is
-      (call_is before after p q h k command (Ok (replies.Bytes piece)) l.reach (seen_valid n.store u led n.caches i.contexts k l.valid) tt tt (seen_forest n.store u led n.caches i.contexts k ∙ l.forest)
-      (loaded p q h k then_size n.caches u c.args.actor c.args.address c.args.bytes at pl.cache pl.page.0 r.count c.in-Ok.found piece _ c.self.invariant.sound.nodes is refl refl r.there r.less r.fits
-      c.part_of-in-Ok.ensures.piece c.part_of-in-Ok.ensures.length value both (λ f. seen_by n.store u led n.caches i.contexts k f ∙ l.by f) (seen_machine n.store u led n.caches i.contexts k ∙ l.machine)))
-      );
-  asks_first = tt;
-  made = search rules;
-  room = refl;
-  page = search rules;
-}
-
-pub returns-in-Err-clause-call : goal.returns-in-Err-clause-call
-returns-in-Err-clause-call g c = record {
-  valid = (looked g (goal.at.returns-in-Err-clause-call g c).After-read_fault).valid;
-  answers = (
-      let places = goal.at.returns-in-Err-clause-call g c in
-      let i = c.self.inside in
-      let n = c.read_fault.new in
-      let h = g.M.Mapper.held c.args.mapper.now in
-      let k = g.M.Mapper.held c.read_fault.new.mapper in
-      let before = g.M.Mapper.counts c.args.mapper.now in
-      let after = g.M.Mapper.counts c.read_fault.new.mapper in
-      let p : Manager = seen i.caches i.store i.contexts in
-      let q : Manager = seen n.caches n.store i.contexts in
-      let l = looked g places.After-read_fault in
-      let r = found g places.In_ok-place in
-      let page : PageNo = c.in_ok-place.place.page in
-      let at : Place = found_at r.region c.in_ok-place.place in
-      let command = commands.Load c.args.actor c.args.address c.args.bytes in
-      let is : (f : PageForest) → Ok at ≡ place (machine_by p f) c.args.actor.0 c.args.address c.args.bytes = λ f. r.is in
-      subst (λ (p : Manager). CallIs before after (state_at p h) command (Err (troubles.Mapper c.fault_of.result)) (state_at q k)) c.self.view_is
-      (subst (λ (f : FaultAt). CallIs before after (state_at p h) command (Err (troubles.Mapper f)) (state_at q k)) (sym c.fault_of.ensures)
-      (called before after p q h k command (Err (troubles.Mapper (fault_at c.in-Err.miss page))) l.reach c.self.invariant.sound.nodes l.sound.nodes l.valid l.forest (λ done m f s none. none) tt tt (λ f. refl) (λ page. refl)
-      (λ f s. load_fault (length l.reach.pushes) (machine_by p f) (machine_by q f) (forest_of p h) c.args.actor c.args.address c.args.bytes s before after c.in-Err.miss page at (l.by f) (is f) refl c.in-Err.ensures.cause)))
-      );
-  asks_first = subst (λ (f : FaultAt). AsksFirst (commands.Load c.args.actor c.args.address c.args.bytes) (Err (troubles.Mapper f)) (g.M.Mapper.counts c.args.mapper.now) (g.M.Mapper.counts c.read_fault.new.mapper)) (sym c.fault_of.ensures) (asks_missed (commands.Load c.args.actor c.args.address c.args.bytes) c.in-Err.miss c.in_ok-place.place.page (g.M.Mapper.counts c.args.mapper.now) (g.M.Mapper.counts c.read_fault.new.mapper));
-  made = search rules;
-  room = refl;
-  page = search rules;
-}
-
--- where the page is at hand, nothing but that it was seen changes
-read_at_hand : (g : Over) (c : After-read_fault g) → IsAtHand c.args.self.now c.args.actor.0 c.args.address c.args.bytes
-    → IsOk c.read_fault.result × (c.read_fault.new.store ≡ c.self.inside.store) × (c.read_fault.new.caches ≡ c.self.inside.caches) × (c.read_fault.new.mapper ≡ c.args.mapper.now)
-read_at_hand g c hand =
-    let i = c.self.inside in
-    let p : Manager = seen i.caches i.store i.contexts in
-    let r = found g (goal.at.After-read_fault g c).In_ok-place in
-    let at : Place = found_at r.region c.in_ok-place.place in
-    let at_hand : IsAtHand p c.args.actor.0 c.args.address c.args.bytes = subst (λ (p : Manager). IsAtHand p c.args.actor.0 c.args.address c.args.bytes) (sym c.self.view_is) hand in
-    let same_place : Ok at ≡ Ok at_hand.at = r.is ∙ at_hand.place in
-    let same : at ≡ at_hand.at = cc same_place in
-    let owner : IsOwner i.caches c.node_of-node.result at_hand.owner = record {
-      held = at_hand.has.held;
-      name = at_hand.has.owner ∙ (λ j. owner_of (nodes_of p) (page_name (record { 0 = (sym same j).region.cache }) (sym same j).page)) ∙ ap (owner_of (nodes_of p)) (sym c.node_of-node.ensures.name);
-    } in
-    c.read_fault.ensures.idle at_hand.owner owner at_hand.at_hand
-
-pub returns-in-Ok-clause-idle : goal.returns-in-Ok-clause-idle
-returns-in-Ok-clause-idle g c = λ hand.
-    let at = goal.at.returns-in-Ok-clause-idle g c in
-    let i = c.self.inside in
-    let u = c.remember_found.new.store in
-    let idle = read_at_hand g at.After-read_fault hand in
-    let q : Manager = seen c.read_fault.new.caches u i.contexts in (
-      refl,
-      subst (λ (p : Manager). SameButSeen p q) c.self.view_is (record { same = (λ j. seen (idle.2 j) u i.contexts); only = subst (λ (s : Store). OnlySeen s u) idle.1 (only g at.After-remember_found) }),
-      idle.3,
-    )
-
-pub returns-in-Err-clause-idle : goal.returns-in-Err-clause-idle
-returns-in-Err-clause-idle g c = λ hand. absurd (let no : false ≡ true = subst IsOk c.in-Err.is (read_at_hand g (goal.at.returns-in-Err-clause-idle g c).After-read_fault hand).0 in cc no)
-
-pub returns-in-Ok-clause-loaded : goal.returns-in-Ok-clause-loaded
-returns-in-Ok-clause-loaded g c =
-    let places = goal.at.returns-in-Ok-clause-loaded g c in
-    let i = c.self.inside in
-    let n = c.read_fault.new in
-    let e = c.read_fault.ensures in
-    let k = g.M.Mapper.held c.read_fault.new.mapper in
-    let then_size = g.M.Mapper.page_bytes n.mapper in
-    let o = owner g places.After-node_of-node in
-    let u = c.remember_found.new.store in
-    let led = only g places.After-remember_found in
-    let r = found g places.In_ok-place in
-    let at : Place = found_at r.region c.in_ok-place.place in
-    let before = g.M.Mapper.counts c.args.mapper.now in
-    let after = g.M.Mapper.counts c.read_fault.new.mapper in
-    let given = g.M.Mapper.given n.mapper in
-    let p : Manager = seen i.caches i.store i.contexts in
-    let q : Manager = seen n.caches u i.contexts in
-    let there = seen_world n.store u led k then_size n.caches in
-    let right = subst IsStoreRight (sym there) e.answered.kept.right in
-    let frame : IsFound (world k then_size n.caches u) o.0 (own_of i.caches o.0) c.in-Ok.found = subst (λ (w : World). IsFound w o.0 (own_of i.caches o.0) c.in-Ok.found) (sym there) (c.in-Ok.ensures.frame o.0 o.1) in
-    let holds = subst (λ (s : Store). IfSome c.in-Ok.found (λ f. HoldsPage (own_of i.caches o.0) given s.frames f.0)) (sym led.same) (c.in-Ok.ensures.given o.0 o.1) in
-    subst (λ (p : Manager). IsLoaded before after given p q c.args.actor.0 c.args.address c.args.bytes c.part_of-in-Ok.result) c.self.view_is (record {
-      at = at;
-      place = sym r.is;
-      owner = o.0;
-      has = record { held = o.1.held; owner = o.1.name ∙ ap (owner_of (nodes_of p)) c.node_of-node.ensures.name };
-      frame = c.in-Ok.found;
-      found = found_in k then_size i.caches n.caches u i.contexts right o.0 c.in-Ok.found frame (λ hand. (e.idle o.0 o.1 hand).2);
-      bytes = c.part_of-in-Ok.ensures.piece;
-      pulled = pulled_for (own_of i.caches o.0) before after c.in-Ok.found
-          (λ zero. (_, subst (λ (r : Result (Option FrameId) Miss). Traffic (pulls_for r (own_of i.caches o.0)) (dirty_count i.caches + dirtied c.read_fault.result (own_of i.caches o.0) - dirty_count n.caches + failed_victims c.read_fault.result) before after) c.in-Ok.is (e.traffic o.0 o.1 zero)))
-          (λ hand. ap (λ m. g.M.Mapper.counts m) (e.idle o.0 o.1 hand).3);
-      given = given_in k then_size i.caches n.caches u i.contexts right o.0 given c.in-Ok.found frame holds;
-      translated = found_led i.contexts.page_bytes c.args.actor c.args.address c.args.bytes c.in-Ok.found n.store u c.remember_found.ensures (ends_within i.contexts.page_bytes c.args.address c.args.bytes _ at (sym r.is));
-    })
+pub returns-in_ok-place-in-None-clause-loaded : goal.returns-in_ok-place-in-None-clause-loaded
+returns-in_ok-place-in-None-clause-loaded g c = subst (λ (p : Manager). IfOk c.load_at.result (IsLoaded (g.M.Mapper.counts c.args.mapper.now) (g.M.Mapper.counts c.load_at.new.mapper) (g.M.Mapper.given c.load_at.new.mapper) p c.load_at.new.self c.args.actor.0 c.args.address c.args.bytes)) c.in-None.ensures.unseen c.load_at.ensures.loaded

@@ -1,0 +1,11 @@
+pub mod Serving
+pub mod Putting
+pub mod Script
+pub mod Going
+pub mod Parking
+pub mod Gathering
+pub mod Ending
+pub mod Underway
+pub mod Tallying
+pub mod Postponed
+pub mod Alone

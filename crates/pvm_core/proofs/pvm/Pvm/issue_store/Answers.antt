@@ -1,0 +1,51 @@
+use Rattle.std.proofs.Common.{◌≡◌, true, Err, sym, ap, subst, ◌∙◌, arith}
+use Rattle.vm_ids.specs.Counting.{RoseBy}
+use Rattle.vm_ids.specs.declared.command.Command.TheVariants as commands
+use Rattle.gmi_calls.specs.Calling.{MapperCall, done_by}
+use Rattle.gmi_calls.specs.Parking.{NoPull}
+use Rattle.pvm_core.specs.Access.{is_ready}
+use Rattle.pvm_core.specs.Manager.{Manager, meaning, numbered, state_at}
+use Rattle.pvm_core.proofs.Accesses.Found.{no_rise}
+use Rattle.pvm_core.proofs.Accesses.Parked.{access_call, trouble_no_page, victim_no_page}
+use Rattle.pvm_core.proofs.Accesses.Parts.{mapper_call, quiet_then}
+use Rattle.pvm_core.proofs.pvm.Pvm.issue_store.Given.{Over}
+use Rattle.pvm_core.proofs.pvm.Pvm.issue_store.Goals.{Else-store_seen, Then-is_ready}
+use Rattle.pvm_core.proofs.pvm.Pvm.issue_store.Goals as goal
+
+pub returns-then-store_seen-clause-answered : goal.returns-then-store_seen-clause-answered
+returns-then-store_seen-clause-answered g c = access_call NoPull 0 (mapper_call (c.store_seen.ensures.call c.if-store_seen.true) c.requires.valid) tt tt (no_rise _) (λ r e. e)
+
+-- where the page is looked for, the manager is as before
+unseen : (g : Over) (c : Else-store_seen g) → c.store_seen.new.self ≡ c.args.self.now
+unseen g c = c.store_seen.ensures.unseen c.if-store_seen.false
+
+pub returns-in-Err-clause-answered : goal.returns-in-Err-clause-answered
+returns-in-Err-clause-answered g c =
+    let at = goal.at.returns-in-Err-clause-answered g c in
+    let call = subst (λ (p : Manager). MapperCall g.M.Mapper meaning c.args.mapper.now p (commands.Store c.args.actor c.args.address c.args.piece.now) (Err c.in-Err.trouble) c.place_to_write.new.mapper c.place_to_write.new.self) (unseen g at.Else-store_seen) c.in-Err.ensures.call in
+    access_call NoPull 0 call tt (trouble_no_page c.in-Err.trouble c.in-Err.ensures.no_page) c.place_to_write.ensures.no_pull (λ r e. e)
+
+-- the access is ready
+ready : (g : Over) (c : Then-is_ready g) → is_ready c.place_to_write.new.self c.args.actor.0 c.args.address ≡ true
+ready g c = sym c.is_ready.ensures ∙ c.if-is_ready.true
+
+pub returns-then-is_ready-clause-answered : goal.returns-then-is_ready-clause-answered
+returns-then-is_ready-clause-answered g c =
+    let at = goal.at.returns-then-is_ready-clause-answered g c in
+    let w = c.in-Ok.ensures.ready in
+    let m = c.args.mapper.now in
+    let state = w.state ∙ ap (λ (p : Manager). state_at p (g.M.Mapper.held m)) (unseen g at.Else-store_seen) in
+    let made : numbered c.place_to_write.new.self ≡ numbered c.args.self.now = omega (arith, w.nodes.made, w.nodes.copies, ap numbered (unseen g at.Else-store_seen)) in
+    let call : MapperCall g.M.Mapper meaning m c.args.self.now (commands.Store c.args.actor c.args.address c.args.piece.now) (done_by c.store_at.result) c.store_at.new.mapper c.store_at.new.self
+    = quiet_then w.later w.asked.traffic state made w.page c.store_at.ensures.call in
+    let none : RoseBy 0 (g.M.Mapper.counts m).pulls (g.M.Mapper.counts c.store_at.new.mapper).pulls = λ low. (
+    let later = c.store_at.ensures.call.answers.rose.pulls_later in
+    let y = c.store_at.ensures.no_pull (ready g at.Then-is_ready) low in
+    let x = c.place_to_write.ensures.no_pull (omega (arith, later, low)) in
+    omega (arith, x, y)) in
+    access_call NoPull 0 call tt (victim_no_page c.store_at.result (c.store_at.ensures.victim (ready g at.Then-is_ready))) none (λ r e. e)
+
+pub returns-then-is_ready-clause-no_more_ready : goal.returns-then-is_ready-clause-no_more_ready
+returns-then-is_ready-clause-no_more_ready g c = λ a x e.
+    let at = goal.at.returns-then-is_ready-clause-no_more_ready g c in
+    sym (ap (λ (p : Manager). is_ready p a x) (unseen g at.Else-store_seen)) ∙ sym (c.place_to_write.ensures.hands a x) ∙ c.store_at.ensures.no_more (ready g at.Then-is_ready) a x e
