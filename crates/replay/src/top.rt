@@ -28,11 +28,13 @@ use vm_port::{Chooser, Dispatcher, Mapper, Sink, Source};
 ///   4,096 bytes. In place of the replies it writes their summary: how many there are, how many of
 ///   them begin with `ok`, the sum of all bytes loaded modulo 2^64, and the counts of pages.
 ///
-/// Whatever the source, the sink, the mapper and the chooser: the lines written are the replies of
-/// a machine that keeps each cache as plain bytes and copies at once, a line once and in order, and
-/// each page pushed to a segment is what that machine holds for it. Chains and counts are those of
-/// the page forest, which follows each answer by its command's rule and agrees with that machine at
-/// the end. However reads cut the script, it is the same script.
+/// Whatever the source, the sink, the mapper, the chooser and the dispatcher: the lines written
+/// are, in the order written, the replies of a machine that keeps each cache as plain bytes and
+/// copies at once, and each page pushed to a segment is what that machine holds for it. Each line is
+/// answered once, and a later one before an earlier one only where both are loads or stores, of
+/// different actors. Chains and counts are those of the page forest, which follows each answer by
+/// its command's rule and agrees with that machine at the end. However reads cut the script, it is
+/// the same script.
 ///
 /// - `Done`: of a run the source has nothing left, and each line is answered; of the others all is
 ///   written.
@@ -43,12 +45,12 @@ use vm_port::{Chooser, Dispatcher, Mapper, Sink, Source};
 ///   with no leading zero, and F times B is 268,435,456 at most; DIR isn't empty, and no hyphen
 ///   begins it. Nothing was read or written.
 /// - `SourceFault`, of a run alone, only where the source's count of faults rose; each line that
-///   ended before is answered.
+///   ended before is answered, or is a load or a store that waits for its page.
 /// - `SinkFault` only where the sink's count of faults rose; a front of the text was written.
 /// - `NoMemory` where there is none to read the words, or for the frames. Nothing was read or
 ///   written.
 /// - `TooLong`, of a run alone, exactly where byte 67,108,865 of the script was taken; each line
-///   that ended before is answered.
+///   that ended before is answered, or waits, as after `SourceFault`.
 pub fn run<S: Source, K: Sink, M: Mapper, C: Chooser, D: Dispatcher>(
     alloc: Global,
     words: &[&str],
@@ -61,8 +63,8 @@ pub fn run<S: Source, K: Sink, M: Mapper, C: Chooser, D: Dispatcher>(
     requires { IfSome (M.page_bytes mapper.old)
         (λ bytes. bytes ≡ page_size_of (map (λ w. w.now) words.now)) }
     // However it ends, but for want of memory at the start: from the empty machine and the empty
-    // page forest on, each line that the status says is answered once and in order, and the replies
-    // or their summary are written; or the lines that were asked for are written.
+    // page forest on, a run of events answers or parks each line that the status says, and the
+    // replies or their summary are written; or the lines that were asked for are written.
     ensures ends { result ≢ Status.NoMemory →
         IfSome (asked_by (map (λ w. w.now) words.now)) (λ asked. AskedEnds result asked
         (scene_with M.Mapper mapper.old (D.turns dispatcher.old) (K.written sink.old))

@@ -1,62 +1,20 @@
 // Scripts over mappers of which one call fails, or two: the lines that tell no fault are answered
 // as if those that tell one weren't there, and chains and counts are those of the page forest that
 // follows the replies.
-ghost use Rattle.std.specs.Prelude.{◌≡◌, map, IfOk};
-ghost use Rattle.replay.specs.Commanding.{page_size_of};
+ghost use Rattle.std.specs.Prelude.{◌≡◌};
 
 use super::following::Follower;
+use super::playing::{failing, said, text, written, written_at_once};
 use super::rows;
 use super::segment_rows::{
     A_SAVE_FAILS, A_SAVE_FAILS_REPLIES, FAILING_DISK_EXAMPLE, FAILING_DISK_EXAMPLE_REPLIES,
     HOSTILE, HOSTILE_REPLIES, SAVES, SAVES_REPLIES, TEXT_SHARED_AND_DATA_FORKED,
     TEXT_SHARED_AND_DATA_FORKED_REPLIES,
 };
-use super::segments::two_pages;
-use crate::commands::Commands;
-use crate::{Status, run};
-use line_service::{Ended, replay};
-use pull_wait::PullWait;
 use std::alloc::Global;
 use std::process::Abort;
 use vm_ids::{NoMemory, PAGE, PageNo, SegId};
-use vm_model::EagerMachine;
-use vm_port::{CallKind, CallNo, Clock, ListedTurns, MemoryMapper, MemorySink, MemorySource};
-
-// Slots enough for each script here.
-const SLOTS: u32 = 40;
-
-// A mapper over a segment of two pages, which fails at these calls.
-fn failing(alloc: Global, fails: &[CallNo]) -> Result<MemoryMapper, NoMemory>
-    ensures { IfOk result (λ m. m.page_bytes ≡ PAGE) }
-{
-    let segments = [two_pages(alloc, 0x41, 0x42)?];
-    MemoryMapper::new(alloc, &segments, &[], SLOTS, fails, PAGE as u32)
-}
-
-// What these words write for a script over a mapper.
-fn written(
-    rt: &impl Abort,
-    alloc: Global,
-    words: &[&str],
-    script: &str,
-    mapper: &mut MemoryMapper,
-) -> Result<MemorySink, NoMemory>
-    requires { mapper.old.page_bytes ≡ page_size_of (map (λ w. w.now) words.now) }
-{
-    let mut source = MemorySource::new(script.as_bytes(), &[]);
-    let mut sink = MemorySink::new(alloc, 4096, &[])?;
-    let status = run(
-        alloc,
-        words,
-        &mut source,
-        &mut sink,
-        mapper,
-        &mut Clock::new(),
-        &mut ListedTurns::new(&[]),
-    );
-    assert_eq!(rt; status, Status::Done);
-    Ok(sink)
-}
+use vm_port::{CallKind, CallNo, MemoryMapper, MemorySink};
 
 // What a run writes for a script at three, four or five page frames.
 fn written_at(
@@ -72,49 +30,6 @@ fn written_at(
         3 => written(rt, alloc, &["run", "--frames", "3"], script, mapper),
         4 => written(rt, alloc, &["run", "--frames", "4"], script, mapper),
         _ => written(rt, alloc, &["run", "--frames", "5"], script, mapper),
-    }
-}
-
-// What the machine that copies at once writes, which locks pages as so many frames allow.
-fn written_at_once(
-    rt: &impl Abort,
-    alloc: Global,
-    frames: u32,
-    script: &str,
-    mapper: &mut MemoryMapper,
-) -> Result<MemorySink, NoMemory>
-    requires { mapper.old.page_bytes ≡ PAGE }
-{
-    let mut commands = Commands {
-        gmi: EagerMachine::new(alloc, frames, PAGE as u32),
-    };
-    let mut source = MemorySource::new(script.as_bytes(), &[]);
-    let mut sink = MemorySink::new(alloc, 4096, &[])?;
-    let ended = replay(
-        &mut commands,
-        mapper,
-        &mut Clock::new(),
-        &mut PullWait::new(alloc)?,
-        &mut ListedTurns::new(&[]),
-        &mut source,
-        &mut sink,
-    );
-    assert_eq!(rt; ended, Ended::Done);
-    Ok(sink)
-}
-
-fn text<'a>(rt: &impl Abort, sink: &'a MemorySink) -> &'a str {
-    match str::from_utf8(sink.written()) {
-        Ok(text) => text,
-        Err(_) => panic!(rt; "no text"),
-    }
-}
-
-// A reply without the number of its line.
-fn said(reply: &str) -> &str {
-    match reply.split_once(" ") {
-        Some((_, rest)) => rest,
-        None => reply,
     }
 }
 

@@ -1026,8 +1026,8 @@ pub const FORK_EXAMPLE_REPLIES: &str = "1 ok a1
 20 ok 70
 21 ok
 22 ok
-23 ok 71
 24 ok 72
+23 ok 71
 25 ok 73
 26 ok 00
 27 stat live 27 working 9 copies 3

@@ -5,7 +5,7 @@ use Rattle.vm_ids.specs.Held.{Segments}
 use Rattle.vm_model.specs.Machine.{Cache, Machine, numbered, start}
 use Rattle.gmi_calls.specs.Backing.{AreBacked}
 use Rattle.replay.proofs.Promise.{live_start}
-use Rattle.replay.proofs.tests.failing_calls.written_at_once.Goals as goal
+use Rattle.replay.proofs.tests.playing.written_at_once.Goals as goal
 
 none_chosen : (b : Bool) (c : Cache) → (if b then None else None) ≡ Some c → ⊥
 none_chosen true c e = none-some c e
