@@ -1,5 +1,7 @@
 // Drawn scripts of three actors, and drawn turns: the replies are those of the machine that copies
 // at once to the lines in the order in which they were answered.
+ghost use Rattle.std.specs.Prelude.{◌<◌};
+
 use super::playing::{said, text, written_at_once, written_by};
 use super::swap_area;
 use actor_script::read_number;
@@ -20,13 +22,15 @@ struct Draws {
 }
 
 impl Draws {
-    // The next number, below 2^16 at most.
-    fn below(&mut self, most: u32) -> u32 {
+    fn below(&mut self, bound: u32) -> u32
+        requires { 0 < bound }
+        ensures { result < bound }
+    {
         self.state = self
             .state
             .wrapping_mul(6364136223846793005)
             .wrapping_add(1442695040888963407);
-        (self.state >> 48) as u32 % most.max(1)
+        (self.state >> 33) as u32 % bound
     }
 }
 

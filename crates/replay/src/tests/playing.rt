@@ -88,16 +88,16 @@ pub(super) fn written_at_once(
 ) -> Result<MemorySink, NoMemory>
     requires { mapper.old.page_bytes ≡ PAGE }
 {
-    let mut commands = Commands {
-        gmi: EagerMachine::new(alloc, frames, PAGE as u32),
-    };
+    let machine = EagerMachine::new(alloc, frames, PAGE as u32);
+    let mut waits = PullWait::new(alloc)?;
+    let mut commands = Commands { gmi: machine };
     let mut source = MemorySource::new(script.as_bytes(), &[]);
     let mut sink = MemorySink::new(alloc, ROOM, &[])?;
     let ended = replay(
         &mut commands,
         mapper,
         &mut Clock::new(),
-        &mut PullWait::new(alloc)?,
+        &mut waits,
         &mut ListedTurns::new(&[]),
         &mut source,
         &mut sink,

@@ -4,7 +4,7 @@ use Rattle.std.proofs.lemmas.Option.{none-some}
 use Rattle.vm_ids.specs.Held.{Segments}
 use Rattle.vm_model.specs.Machine.{Cache, Machine, numbered, start}
 use Rattle.gmi_calls.specs.Backing.{AreBacked}
-use Rattle.replay.proofs.Promise.{live_start}
+use Rattle.replay.proofs.Promise.{can_start, live_start, living_start}
 use Rattle.replay.proofs.tests.playing.written_at_once.Goals as goal
 
 none_chosen : (b : Bool) (c : Cache) → (if b then None else None) ≡ Some c → ⊥
@@ -24,15 +24,17 @@ none_backed frames page m s e =
       backed = λ n seg c there. absurd (none_numbered n c there);
     }
 
-pub replay-status-requires : goal.replay-status-requires
-replay-status-requires g c =
+pub replay-ended-requires-clause-able : goal.replay-ended-requires-clause-able
+replay-ended-requires-clause-able g c =
     let starts = c.new-machine.ensures.machine in
-    record {
-      call = record {
-        valid = record { whole = c.new-machine.ensures.whole; backed = none_backed c.args.frames 4096 _ _ starts };
-        unlimited = refl;
-        fits = c.requires ∙ sym (ap (λ (m : Machine). m.page_bytes) starts);
-        live = live_start c.args.frames 4096 _ starts;
-      };
-      made = search rules;
-    }
+    can_start _ _ _ _ _ c.in_ok-waits.ensures
+    (record {
+      valid = record { whole = c.new-machine.ensures.whole; backed = none_backed c.args.frames 4096 _ _ starts };
+      unlimited = refl;
+      fits = c.requires ∙ sym (ap (λ (m : Machine). m.page_bytes) starts);
+      live = live_start c.args.frames 4096 _ starts;
+      living = living_start c.args.frames 4096 _ starts;
+    }) (search rules)
+
+pub replay-ended-requires-clause-none : goal.replay-ended-requires-clause-none
+replay-ended-requires-clause-none g c = c.in_ok-waits.ensures
