@@ -8,7 +8,7 @@ ghost use Rattle.gmi_calls.specs.Parking.{address_of};
 ghost use Rattle.replay.specs.Few.{few_living, fronts};
 ghost use Rattle.replay.specs.Managing.{CanCall};
 
-use actor_script::{read_access, read_line};
+use actor_script::{read_access, read_other};
 use gmi_calls::{Delivered, Gmi, answer};
 use line_service::Service;
 use vm_ids::{Access, ActorId, Answer, Trouble};
@@ -48,7 +48,7 @@ impl<G: Gmi<M, C>, M: Mapper, C: Chooser> Service<M, C> for Commands<G> {
     }
 
     fn answer(&mut self, line: &[u8], mapper: &mut M, chooser: &mut C) -> Answer {
-        match read_line(line) {
+        match read_other(line) {
             Ok(command) => answer(&mut self.gmi, &command, mapper, chooser),
             Err(refusal) => Err(Trouble::Refused(refusal)),
         }

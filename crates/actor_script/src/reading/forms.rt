@@ -4,16 +4,13 @@ ghost use Rattle.vm_model.specs.Asking.{IsWellFormed};
 ghost use Rattle.actor_script.specs.Forms.{command_of, form_of, verb_form, actor_form, exit_form, temp_form, open_form, destroy_form, span_of, copy_form, move_form, map_form, split_form, protect_form, lock_form, unlock_form, unmap_form, status_form, find_form, load_form, store_form, extent_of, sync_form, flush_form, invalidate_form, pageout_form, chain_form, stat_form};
 ghost use Rattle.actor_script.specs.Operands.{mode_of};
 
-use super::accesses::{command_for, load_in, store_in};
+use super::accesses::{command_for, read_access};
 use super::hexadecimal::read_address;
 use super::numbers::{read_count, read_lettered, read_number};
-use super::words::{is, split_words};
+use super::words::{LONGEST_LINE, split_words};
 use vm_ids::{
     ActorId, CacheId, Command, Extent, Mapping, PageNo, Prot, Refusal, RegionId, SegId, Span,
 };
-
-// A longer line is no command.
-pub(super) const LONGEST_LINE: usize = 256;
 
 // `actor`
 #[tactic(auto, unfolding(crate::specs::Forms::actor_form))]
@@ -244,22 +241,6 @@ fn read_find(operands: &[&[u8]]) -> Option<Command>
     }
 }
 
-// `load A ADDR LEN`
-fn read_load(operands: &[&[u8]]) -> Option<Command>
-    ensures { result ≡ load_form (map (λ w. w.now) operands.now) }
-{
-    let (actor, access) = load_in(operands)?;
-    Some(command_for(actor, access))
-}
-
-// `store A ADDR BYTES`
-fn read_store(operands: &[&[u8]]) -> Option<Command>
-    ensures { result ≡ store_form (map (λ w. w.now) operands.now) }
-{
-    let (actor, access) = store_in(operands)?;
-    Some(command_for(actor, access))
-}
-
 // `C O N`
 #[tactic(auto, unfolding(crate::specs::Forms::extent_of))]
 fn read_extent(operands: &[&[u8]]) -> Option<Extent>
@@ -341,98 +322,40 @@ fn read_stat(operands: &[&[u8]]) -> Option<Command>
     }
 }
 
-// The form of any verb.
+// The form of a verb, but for loads and stores.
 #[tactic(auto, unfolding(crate::specs::Forms::verb_form))]
-fn read_any(verb: &[u8], operands: &[&[u8]]) -> Option<Command>
-    ensures { result ≡ verb_form verb.now (map (λ w. w.now) operands.now) }
-{
-    if is(verb, b"actor") {
-        return read_actor(operands);
-    }
-    if is(verb, b"exit") {
-        return read_exit(operands);
-    }
-    if is(verb, b"temp") {
-        return read_temp(operands);
-    }
-    if is(verb, b"open") {
-        return read_open(operands);
-    }
-    if is(verb, b"destroy") {
-        return read_destroy(operands);
-    }
-    if is(verb, b"copy") {
-        return read_copy(operands);
-    }
-    if is(verb, b"move") {
-        return read_move(operands);
-    }
-    if is(verb, b"map") {
-        return read_map(operands);
-    }
-    if is(verb, b"split") {
-        return read_split(operands);
-    }
-    if is(verb, b"protect") {
-        return read_protect(operands);
-    }
-    if is(verb, b"lock") {
-        return read_lock(operands);
-    }
-    if is(verb, b"unlock") {
-        return read_unlock(operands);
-    }
-    if is(verb, b"unmap") {
-        return read_unmap(operands);
-    }
-    if is(verb, b"status") {
-        return read_status(operands);
-    }
-    if is(verb, b"find") {
-        return read_find(operands);
-    }
-    if is(verb, b"load") {
-        return read_load(operands);
-    }
-    if is(verb, b"store") {
-        return read_store(operands);
-    }
-    if is(verb, b"sync") {
-        return read_sync(operands);
-    }
-    if is(verb, b"flush") {
-        return read_flush(operands);
-    }
-    if is(verb, b"invalidate") {
-        return read_invalidate(operands);
-    }
-    if is(verb, b"pageout") {
-        return read_pageout(operands);
-    }
-    if is(verb, b"chain") {
-        return read_chain(operands);
-    }
-    if is(verb, b"stat") {
-        return read_stat(operands);
-    }
-    None
-}
-
-// The form of a verb: accesses are looked for first, since most lines are these.
-#[tactic(auto, using(crate::proofs::Verbs::is_load, crate::proofs::Verbs::is_store))]
 fn read_verb(verb: &[u8], operands: &[&[u8]]) -> Option<Command>
+    requires { AsksNoAccess (verb_form verb.now (map (λ w. w.now) operands.now)) }
     ensures { result ≡ verb_form verb.now (map (λ w. w.now) operands.now) }
 {
-    if is(verb, b"load") {
-        return read_load(operands);
+    match verb {
+        b"actor" => read_actor(operands),
+        b"exit" => read_exit(operands),
+        b"temp" => read_temp(operands),
+        b"open" => read_open(operands),
+        b"destroy" => read_destroy(operands),
+        b"copy" => read_copy(operands),
+        b"move" => read_move(operands),
+        b"map" => read_map(operands),
+        b"split" => read_split(operands),
+        b"protect" => read_protect(operands),
+        b"lock" => read_lock(operands),
+        b"unlock" => read_unlock(operands),
+        b"unmap" => read_unmap(operands),
+        b"status" => read_status(operands),
+        b"find" => read_find(operands),
+        b"sync" => read_sync(operands),
+        b"flush" => read_flush(operands),
+        b"invalidate" => read_invalidate(operands),
+        b"pageout" => read_pageout(operands),
+        b"chain" => read_chain(operands),
+        b"stat" => read_stat(operands),
+        _ => None,
     }
-    if is(verb, b"store") {
-        return read_store(operands);
-    }
-    read_any(verb, operands)
 }
 
 fn read_form(words: &[&[u8]]) -> Option<Command>
+    requires { AsksNoAccess (form_of (map (λ w. w.now) words.now)) }
     ensures { result ≡ form_of (map (λ w. w.now) words.now) }
 {
     match words {
@@ -441,12 +364,13 @@ fn read_form(words: &[&[u8]]) -> Option<Command>
     }
 }
 
-/// Reads a line, which has no line feed, as a command.
+/// Reads a line, which has no line feed and asks no load and no store, as a command.
 ///
-/// `BadLine` exactly where the line has more than 256 bytes or none of the forms of the script
-/// language.
+/// `BadLine` exactly where the line has more than 256 bytes or none of the other forms of the
+/// script language.
 #[tactic(auto, unfolding(crate::specs::Forms::command_of))]
-pub fn read_line(line: &[u8]) -> Result<Command, Refusal>
+pub fn read_other(line: &[u8]) -> Result<Command, Refusal>
+    requires { actor_of_line (command_of line.now) ≡ None }
     ensures command { result ≡ command_of line.now }
     ensures well_formed { IfOk result IsWellFormed }
 {
@@ -456,5 +380,19 @@ pub fn read_line(line: &[u8]) -> Result<Command, Refusal>
     match split_words(line) {
         Some(words) => read_form(words.as_slice()).ok_or(Refusal::BadLine),
         None => Err(Refusal::BadLine),
+    }
+}
+
+/// Reads a line, which has no line feed, as a command.
+///
+/// `BadLine` exactly where the line has more than 256 bytes or none of the forms of the script
+/// language.
+pub fn read_line(line: &[u8]) -> Result<Command, Refusal>
+    ensures command { result ≡ command_of line.now }
+    ensures well_formed { IfOk result IsWellFormed }
+{
+    match read_access(line) {
+        Some((actor, access)) => Ok(command_for(actor, access)),
+        None => read_other(line),
     }
 }

@@ -2,7 +2,7 @@
 ghost use Rattle.std.specs.Prelude.{◌≡◌};
 ghost use Rattle.actor_script.specs.Operands.{number_of, count_of, length_of, lettered};
 
-use super::digits::read_digits;
+use super::digits::read_decimal;
 
 // A number below 2^32 has no more digits.
 const MOST_DIGITS: usize = 10;
@@ -23,7 +23,7 @@ pub fn read_number(word: &[u8]) -> Option<u32>
     if word.len() > 1 && word[0] == b'0' {
         return None;
     }
-    let number = read_digits(10, word)?;
+    let number = read_decimal(word)?;
     if number < TOO_LARGE {
         Some(number as u32)
     } else {

@@ -1,11 +1,14 @@
 // The words of a line.
-ghost use Rattle.std.specs.Prelude.{◌≡◌, ◌<◌, ◌==◌, ◌∷◌, bytes_eq, length, map, option_map, position, IfSome, MatchOption};
-ghost use Rattle.actor_script.specs.Words.{words_of, words_left};
+ghost use Rattle.std.specs.Prelude.{◌≡◌, ◌<◌, ◌==◌, [], ◌∷◌, length, map, position, IfSome, MatchOption};
+ghost use Rattle.actor_script.specs.Words.{words_of};
 
 use arrayvec::ArrayVec;
 
+/// A longer line is no command.
+pub const LONGEST_LINE: usize = 256;
+
 // No form has more words.
-pub(super) const MOST_WORDS: usize = 7;
+const MOST_WORDS: usize = 7;
 
 fn first_space(text: &[u8]) -> Option<usize>
     ensures { result ≡ position (λ b. b == 32) text.now }
@@ -13,16 +16,15 @@ fn first_space(text: &[u8]) -> Option<usize>
     text.iter().position(|byte| *byte == b' ')
 }
 
-// The first word, and what stands behind the space that ends it.
-pub(super) fn first_word(text: &[u8]) -> (&[u8], Option<&[u8]>)
-    ensures words { words_of text.now
-        ≡ result.0.now ∷ words_left (option_map (λ r. r.now) result.1) }
-    ensures shorter { IfSome result.1 (λ rest. length rest.now < length text.now) }
+/// The first word of a text, and what stands behind the space that ends it. `None` exactly where no
+/// space does.
+pub fn next_word(text: &[u8]) -> Option<(&[u8], &[u8])>
+    ensures words { MatchOption result (words_of text.now ≡ text.now ∷ []) (λ parts.
+        words_of text.now ≡ parts.0.now ∷ words_of parts.1.now) }
+    ensures shorter { IfSome result (λ parts. length parts.1.now < length text.now) }
 {
-    match first_space(text) {
-        Some(end) => (&text[..end], Some(&text[end + 1..])),
-        None => (text, None),
-    }
+    let end = first_space(text)?;
+    Some((&text[..end], &text[end + 1..]))
 }
 
 /// The words of a line, which stand between its spaces. `None` exactly where there are more than
@@ -32,21 +34,15 @@ pub fn split_words(line: &[u8]) -> Option<ArrayVec<&[u8], MOST_WORDS>>
         map (λ w. w.now) words.items ≡ words_of line.now) }
 {
     let mut words = ArrayVec::new();
-    let mut left = Some(line);
-    while let Some(text) = left {
-        let (word, rest) = first_word(text);
+    let mut left = line;
+    while let Some((word, rest)) = next_word(left) {
         match words.try_push(word) {
             Ok(()) => left = rest,
             Err(_) => return None,
         }
     }
-    Some(words)
-}
-
-// Whether a verb is this word. Most others are told from it by their length.
-#[inline(always)]
-pub(super) fn is(verb: &[u8], word: &[u8]) -> bool
-    ensures { result ≡ bytes_eq verb.now word.now }
-{
-    verb.len() == word.len() && verb == word
+    match words.try_push(left) {
+        Ok(()) => Some(words),
+        Err(_) => None,
+    }
 }

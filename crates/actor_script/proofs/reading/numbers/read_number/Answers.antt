@@ -13,18 +13,18 @@ pub returns-then-word-eq48 : goal.returns-then-word-eq48
 returns-then-word-eq48 c = sym (no_number c.args.word.now (λ s. grind (arith, s.lead)))
 
 pub returns-in_err-number : goal.returns-in_err-number
-returns-in_err-number c = cc (c.from_residual.ensures, not_digits c.args.word.now c.read_digits.result c.read_digits.ensures c.in_err-number.was)
+returns-in_err-number c = cc (c.from_residual.ensures, not_digits c.args.word.now c.read_decimal.result c.read_decimal.ensures c.in_err-number.was)
 
 pub returns-then-number-lt-TOO_LARGE : goal.returns-then-number-lt-TOO_LARGE
 returns-then-number-lt-TOO_LARGE c =
     let word = c.args.word.now in
-    let parts = are_digits word c.read_digits.result c.in_ok-number.number c.read_digits.ensures c.in_ok-number.was in
+    let parts = are_digits word c.read_decimal.result c.in_ok-number.number c.read_decimal.ensures c.in_ok-number.was in
     let spelled : IsSpelled word = record { some = grind (arith, common_steps); few = omega arith; lead = λ e. grind (arith, common_steps); digits = parts.0 } in
     sym (number_small word c.in_ok-number.number spelled parts.1 (omega arith))
 
 pub returns-else-number-lt-TOO_LARGE : goal.returns-else-number-lt-TOO_LARGE
 returns-else-number-lt-TOO_LARGE c =
     let word = c.args.word.now in
-    let parts = are_digits word c.read_digits.result c.in_ok-number.number c.read_digits.ensures c.in_ok-number.was in
+    let parts = are_digits word c.read_decimal.result c.in_ok-number.number c.read_decimal.ensures c.in_ok-number.was in
     let spelled : IsSpelled word = record { some = grind (arith, common_steps); few = omega arith; lead = λ e. grind (arith, common_steps); digits = parts.0 } in
     sym (number_large word c.in_ok-number.number spelled parts.1 (omega arith))

@@ -1,0 +1,5 @@
+use Rattle.actor_script.proofs.Digits.{AreRead}
+use Rattle.actor_script.proofs.reading.digits.read_hexadecimal.Given as goal
+
+abbrev pub invariant-loop-byte : goal.invariant-loop-byte
+invariant-loop-byte l = AreRead 16 l.word l.byte-index l.number
