@@ -3,6 +3,8 @@ pub mod Forms
 pub mod Generated
 pub mod Hexadecimal
 pub mod Numbers
+pub mod Operands
+pub mod Pieces
 pub mod Replies
 pub mod Splitting
 pub mod Tallied

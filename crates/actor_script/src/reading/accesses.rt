@@ -7,7 +7,7 @@ ghost use Rattle.actor_script.specs.Words.{words_of};
 
 use super::hexadecimal::{read_address, read_bytes};
 use super::numbers::{read_length, read_lettered};
-use super::words::{LONGEST_LINE, next_word};
+use super::words::{LONGEST_LINE, two_words};
 use vm_ids::{Access, ActorId, Command};
 
 // The command that an access of an actor is.
@@ -21,12 +21,12 @@ pub(super) fn command_for(actor: ActorId, access: Access) -> Command
 }
 
 // `A ADDR LEN`
+#[tactic(auto, using(crate::proofs::Operands::load_whole, crate::proofs::Operands::load_short), unfolding(crate::specs::Forms::load_form))]
 fn read_load(operands: &[u8]) -> Option<(ActorId, Access)>
     ensures { MatchOption result (load_form (words_of operands.now) ≡ None) (λ found.
         load_form (words_of operands.now) ≡ Some (command_for found.0 found.1)) }
 {
-    let (actor, behind) = next_word(operands)?;
-    let (address, length) = next_word(behind)?;
+    let (actor, address, length) = two_words(operands)?;
     let actor = ActorId(read_lettered(b'a', actor)?);
     let address = read_address(address)?;
     let length = read_length(length)?;
@@ -34,12 +34,12 @@ fn read_load(operands: &[u8]) -> Option<(ActorId, Access)>
 }
 
 // `A ADDR BYTES`
+#[tactic(auto, using(crate::proofs::Operands::store_whole, crate::proofs::Operands::store_short), unfolding(crate::specs::Forms::store_form))]
 fn read_store(operands: &[u8]) -> Option<(ActorId, Access)>
     ensures { MatchOption result (store_form (words_of operands.now) ≡ None) (λ found.
         store_form (words_of operands.now) ≡ Some (command_for found.0 found.1)) }
 {
-    let (actor, behind) = next_word(operands)?;
-    let (address, bytes) = next_word(behind)?;
+    let (actor, address, bytes) = two_words(operands)?;
     let actor = ActorId(read_lettered(b'a', actor)?);
     let address = read_address(address)?;
     let piece = read_bytes(bytes)?;

@@ -1,5 +1,5 @@
 // The words of a line.
-ghost use Rattle.std.specs.Prelude.{◌≡◌, ◌<◌, ◌==◌, [], ◌∷◌, length, map, position, IfSome, MatchOption};
+ghost use Rattle.std.specs.Prelude.{◌≡◌, ◌≤◌, ◌<◌, ◌==◌, [], ◌∷◌, length, map, position, IfSome, MatchOption};
 ghost use Rattle.actor_script.specs.Words.{words_of};
 
 use arrayvec::ArrayVec;
@@ -25,6 +25,17 @@ pub fn next_word(text: &[u8]) -> Option<(&[u8], &[u8])>
 {
     let end = first_space(text)?;
     Some((&text[..end], &text[end + 1..]))
+}
+
+/// The first two words of a text, and what stands behind them. `None` exactly where it has no more
+/// than two.
+pub fn two_words(text: &[u8]) -> Option<(&[u8], &[u8], &[u8])>
+    ensures { MatchOption result (length (words_of text.now) ≤ 2) (λ parts.
+        words_of text.now ≡ parts.0.now ∷ parts.1.now ∷ words_of parts.2.now) }
+{
+    let (first, behind) = next_word(text)?;
+    let (second, rest) = next_word(behind)?;
+    Some((first, second, rest))
 }
 
 /// The words of a line, which stand between its spaces. `None` exactly where there are more than
