@@ -1,5 +1,5 @@
 // Loads and stores, which most lines are.
-ghost use Rattle.std.specs.Prelude.{◌≡◌, None, Some, Ok, map, MatchOption};
+ghost use Rattle.std.specs.Prelude.{◌≡◌, None, Some, Ok, bytes_eq, codes, if◌then◌else◌, MatchOption};
 ghost use Rattle.vm_ids.specs.Accessing.{command_for};
 ghost use Rattle.vm_model.specs.Run.{actor_of_line};
 ghost use Rattle.actor_script.specs.Forms.{command_of, load_form, store_form};
@@ -7,7 +7,7 @@ ghost use Rattle.actor_script.specs.Words.{words_of};
 
 use super::hexadecimal::{read_address, read_bytes};
 use super::numbers::{read_length, read_lettered};
-use super::words::{LONGEST_LINE, two_words};
+use super::words::{LONGEST_LINE, next_word, two_words};
 use vm_ids::{Access, ActorId, Command};
 
 // The command that an access of an actor is.
@@ -46,6 +46,23 @@ fn read_store(operands: &[u8]) -> Option<(ActorId, Access)>
     Some((actor, Access::Store { address, piece }))
 }
 
+// The load or store of a verb and the text of its operands.
+fn read_verb(verb: &[u8], operands: &[u8]) -> Option<(ActorId, Access)>
+    ensures {
+        let words = words_of operands.now in
+        let form = (if bytes_eq verb.now (codes "load") then load_form words
+            else if bytes_eq verb.now (codes "store") then store_form words
+            else None) in
+        MatchOption result (form ≡ None) (λ found. form ≡ Some (command_for found.0 found.1))
+    }
+{
+    match verb {
+        b"load" => read_load(operands),
+        b"store" => read_store(operands),
+        _ => None,
+    }
+}
+
 /// The load or store that a line asks, and whose it is. `None` exactly where the line asks something
 /// else, or is no command.
 pub fn read_access(line: &[u8]) -> Option<(ActorId, Access)>
@@ -55,9 +72,6 @@ pub fn read_access(line: &[u8]) -> Option<(ActorId, Access)>
     if line.len() > LONGEST_LINE {
         return None;
     }
-    match line {
-        [b'l', b'o', b'a', b'd', b' ', operands @ ..] => read_load(operands),
-        [b's', b't', b'o', b'r', b'e', b' ', operands @ ..] => read_store(operands),
-        _ => None,
-    }
+    let (verb, operands) = next_word(line)?;
+    read_verb(verb, operands)
 }
