@@ -1,6 +1,6 @@
 -- Lines that are accesses.
-use Rattle.std.proofs.Common.{◌≡◌, ◌<◌, ◌≤◌, ◌∙◌, ℕ, Bool, true, false, List, [], ◌∷◌, length, Option, Some, None, Ok, Err, nat_lt, refl, ap, arith, inl, inr}
-use Rattle.std.specs.Prelude.{MatchOption, bytes_eq, codes, if◌then◌else◌}
+use Rattle.std.proofs.Common.{◌≡◌, ◌<◌, ◌≤◌, ◌∙◌, ℕ, Bool, true, false, List, [], ◌∷◌, length, Option, Some, None, Ok, Err, nat_lt, refl, sym, ap, arith, inl, inr}
+use Rattle.std.specs.Prelude.{◌||◌, MatchOption, IfSome, bytes_eq, codes, if◌then◌else◌}
 use Rattle.std.specs.Option.{ok_or}
 use Rattle.std.proofs.lemmas.Bool.{cases_Bool}
 use Rattle.vm_ids.specs.Accessing.{command_for}
@@ -13,7 +13,7 @@ use Rattle.actor_script.specs.Forms.{command_of, form_of, verb_form, load_form, 
 use Rattle.actor_script.specs.Words.{words_of}
 use Rattle.actor_script.proofs.Verbs.{is_load, is_store}
 use Rattle.actor_script.proofs.Operands.{load_short, store_short}
-use Rattle.actor_script.proofs.WellFormed.{no_access}
+use Rattle.actor_script.proofs.WellFormed.{IsAccess, load_is, store_is, no_access}
 
 -- no access is read
 abbrev NoAccess : List ℕ → Type 0
@@ -64,5 +64,25 @@ one_word line one few = elim (cases_Bool (bytes_eq line (codes "load"))) [
   | inr l ↦ elim (cases_Bool (bytes_eq line (codes "store"))) [
     | inl s ↦ of_form line line [] one few (store_form []) None (is_store line [] s) (store_short [] (omega arith))
     | inr s ↦ no_access line line [] one l s
+  ]
+]
+
+-- Where no access is asked, the form of any verb but `load` and `store` is that of the verb.
+
+none_asked : (o : Option Command) → IfSome o IsAccess → actor_of_line (ok_or o BadLine) ≡ None → o ≡ None
+none_asked None is none = refl
+none_asked (Some c) is none = absurd (cc (is.1.1, none))
+
+pub other_form : (verb : List ℕ) (operands : List (List ℕ)) → actor_of_line (ok_or (verb_form verb operands) BadLine) ≡ None
+    → (if bytes_eq verb (codes "load") || bytes_eq verb (codes "store") then None else verb_form verb operands) ≡ verb_form verb operands
+other_form verb operands none = elim (cases_Bool (bytes_eq verb (codes "load"))) [
+  | inl l ↦
+      let is = is_load verb operands l in
+      rw l (sym (is ∙ none_asked (load_form operands) (load_is operands) (rw is at none)))
+  | inr l ↦ elim (cases_Bool (bytes_eq verb (codes "store"))) [
+    | inl s ↦
+        let is = is_store verb operands s in
+        rw (l, s) (sym (is ∙ none_asked (store_form operands) (store_is operands) (rw is at none)))
+    | inr s ↦ rw (l, s) refl
   ]
 ]

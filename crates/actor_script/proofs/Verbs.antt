@@ -1,4 +1,4 @@
--- The forms of the two verbs that are looked for first.
+-- The forms of the two verbs that accesses have.
 use Rattle.std.proofs.Common.{◌≡◌, ℕ, List, true, refl}
 use Rattle.std.specs.Prelude.{bytes_eq, codes}
 use Rattle.std.proofs.lemmas.Slice.Eq.{bytes_eq-Decides}

@@ -162,26 +162,30 @@ find_is (a ∷ []) = tt
 find_is (a ∷ b ∷ []) = any_then (lettered 97 a) _ IsPlain (λ n. any_then (address_of b) _ IsPlain (λ n. (tt, refl)))
 find_is (a ∷ b ∷ c ∷ xs) = tt
 
-load_is : (xs : List (List ℕ)) → IfSome (load_form xs) IsWellFormed
+-- The command is well formed, and an access.
+abbrev pub IsAccess : Command → Type 0
+IsAccess c = IsWellFormed c × ((a : ℕ) × (actor_of_line (Ok c) ≡ Some a))
+
+pub load_is : (xs : List (List ℕ)) → IfSome (load_form xs) IsAccess
 unfolding load_form
 load_is [] = tt
 load_is (a ∷ []) = tt
 load_is (a ∷ b ∷ []) = tt
 load_is (a ∷ b ∷ c ∷ []) =
-    any_then (lettered 97 a) _ IsWellFormed (λ n.
-    any_then (address_of b) _ IsWellFormed (λ n.
-    such_then (length_of c) _ (λ n. (1 ≤ n) × (n ≤ 64)) IsWellFormed (lengths c) (λ n few. few)))
+    any_then (lettered 97 a) _ IsAccess (λ actor.
+    any_then (address_of b) _ IsAccess (λ n.
+    such_then (length_of c) _ (λ n. (1 ≤ n) × (n ≤ 64)) IsAccess (lengths c) (λ n few. (few, (actor, refl)))))
 load_is (a ∷ b ∷ c ∷ d ∷ xs) = tt
 
-store_is : (xs : List (List ℕ)) → IfSome (store_form xs) IsWellFormed
+pub store_is : (xs : List (List ℕ)) → IfSome (store_form xs) IsAccess
 unfolding store_form
 store_is [] = tt
 store_is (a ∷ []) = tt
 store_is (a ∷ b ∷ []) = tt
 store_is (a ∷ b ∷ c ∷ []) =
-    any_then (lettered 97 a) _ IsWellFormed (λ n.
-    any_then (address_of b) _ IsWellFormed (λ n.
-    any_then (bytes_of c) _ IsWellFormed (λ n. tt)))
+    any_then (lettered 97 a) _ IsAccess (λ actor.
+    any_then (address_of b) _ IsAccess (λ n.
+    any_then (bytes_of c) _ IsAccess (λ n. (tt, (actor, refl)))))
 store_is (a ∷ b ∷ c ∷ d ∷ xs) = tt
 
 extent_is : (xs : List (List ℕ)) → IfSome (extent_of xs) (λ e. 1 ≤ e.pages)
@@ -236,9 +240,9 @@ plain : (verb : List ℕ) (o : Option Command) → IfSome o IsPlain → IfSome o
 plain verb None h = tt
 plain verb (Some c) h = record { formed = h.0; other = λ e f. h.1 }
 
-access : (verb : List ℕ) (o : Option Command) → (bytes_eq verb (codes "load") ≡ true) ⊎ (bytes_eq verb (codes "store") ≡ true) → IfSome o IsWellFormed → IfSome o (IsOfVerb verb)
+access : (verb : List ℕ) (o : Option Command) → (bytes_eq verb (codes "load") ≡ true) ⊎ (bytes_eq verb (codes "store") ≡ true) → IfSome o IsAccess → IfSome o (IsOfVerb verb)
 access verb None is h = tt
-access verb (Some c) is h = record { formed = h; other = λ e f. elim is [ inl l ↦ absurd (cc) | inr s ↦ absurd (cc) ] }
+access verb (Some c) is h = record { formed = h.0; other = λ e f. elim is [ inl l ↦ absurd (cc) | inr s ↦ absurd (cc) ] }
 
 verb_is : (verb : List ℕ) (xs : List (List ℕ)) → IfSome (verb_form verb xs) (IsOfVerb verb)
 unfolding verb_form

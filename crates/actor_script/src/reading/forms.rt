@@ -1,13 +1,15 @@
 // The forms of lines.
-ghost use Rattle.std.specs.Prelude.{◌≡◌, bytes_eq, map, IfOk};
+ghost use Rattle.std.specs.Prelude.{◌≡◌, ◌||◌, None, bytes_eq, codes, map, ok_or, if◌then◌else◌, IfOk};
+ghost use Rattle.vm_ids.specs.declared.refusal.Refusal.TheVariants.{BadLine};
 ghost use Rattle.vm_model.specs.Asking.{IsWellFormed};
-ghost use Rattle.actor_script.specs.Forms.{command_of, form_of, verb_form, actor_form, exit_form, temp_form, open_form, destroy_form, span_of, copy_form, move_form, map_form, split_form, protect_form, lock_form, unlock_form, unmap_form, status_form, find_form, load_form, store_form, extent_of, sync_form, flush_form, invalidate_form, pageout_form, chain_form, stat_form};
+ghost use Rattle.vm_model.specs.Run.{actor_of_line};
+ghost use Rattle.actor_script.specs.Forms.{command_of, form_of, verb_form, actor_form, exit_form, temp_form, open_form, destroy_form, span_of, copy_form, move_form, map_form, split_form, protect_form, lock_form, unlock_form, unmap_form, status_form, find_form, extent_of, sync_form, flush_form, invalidate_form, pageout_form, chain_form, stat_form};
 ghost use Rattle.actor_script.specs.Operands.{mode_of};
 
 use super::accesses::{command_for, read_access};
 use super::hexadecimal::read_address;
 use super::numbers::{read_count, read_lettered, read_number};
-use super::words::{LONGEST_LINE, split_words};
+use super::words::{LONGEST_LINE, is, split_words};
 use vm_ids::{
     ActorId, CacheId, Command, Extent, Mapping, PageNo, Prot, Refusal, RegionId, SegId, Span,
 };
@@ -322,40 +324,93 @@ fn read_stat(operands: &[&[u8]]) -> Option<Command>
     }
 }
 
-// The form of a verb, but for loads and stores.
+// The form of a verb that is neither `load` nor `store`.
 #[tactic(auto, unfolding(crate::specs::Forms::verb_form))]
+fn read_any(verb: &[u8], operands: &[&[u8]]) -> Option<Command>
+    ensures { result ≡
+        (if bytes_eq verb.now (codes "load") || bytes_eq verb.now (codes "store") then None
+        else verb_form verb.now (map (λ w. w.now) operands.now)) }
+{
+    if is(verb, b"load") || is(verb, b"store") {
+        return None;
+    }
+    if is(verb, b"actor") {
+        return read_actor(operands);
+    }
+    if is(verb, b"exit") {
+        return read_exit(operands);
+    }
+    if is(verb, b"temp") {
+        return read_temp(operands);
+    }
+    if is(verb, b"open") {
+        return read_open(operands);
+    }
+    if is(verb, b"destroy") {
+        return read_destroy(operands);
+    }
+    if is(verb, b"copy") {
+        return read_copy(operands);
+    }
+    if is(verb, b"move") {
+        return read_move(operands);
+    }
+    if is(verb, b"map") {
+        return read_map(operands);
+    }
+    if is(verb, b"split") {
+        return read_split(operands);
+    }
+    if is(verb, b"protect") {
+        return read_protect(operands);
+    }
+    if is(verb, b"lock") {
+        return read_lock(operands);
+    }
+    if is(verb, b"unlock") {
+        return read_unlock(operands);
+    }
+    if is(verb, b"unmap") {
+        return read_unmap(operands);
+    }
+    if is(verb, b"status") {
+        return read_status(operands);
+    }
+    if is(verb, b"find") {
+        return read_find(operands);
+    }
+    if is(verb, b"sync") {
+        return read_sync(operands);
+    }
+    if is(verb, b"flush") {
+        return read_flush(operands);
+    }
+    if is(verb, b"invalidate") {
+        return read_invalidate(operands);
+    }
+    if is(verb, b"pageout") {
+        return read_pageout(operands);
+    }
+    if is(verb, b"chain") {
+        return read_chain(operands);
+    }
+    if is(verb, b"stat") {
+        return read_stat(operands);
+    }
+    None
+}
+
+// The form of a verb that asks no load and no store.
+#[tactic(auto, using(crate::proofs::Accesses::other_form))]
 fn read_verb(verb: &[u8], operands: &[&[u8]]) -> Option<Command>
-    requires { AsksNoAccess (verb_form verb.now (map (λ w. w.now) operands.now)) }
+    requires { actor_of_line (ok_or (verb_form verb.now (map (λ w. w.now) operands.now)) BadLine) ≡ None }
     ensures { result ≡ verb_form verb.now (map (λ w. w.now) operands.now) }
 {
-    match verb {
-        b"actor" => read_actor(operands),
-        b"exit" => read_exit(operands),
-        b"temp" => read_temp(operands),
-        b"open" => read_open(operands),
-        b"destroy" => read_destroy(operands),
-        b"copy" => read_copy(operands),
-        b"move" => read_move(operands),
-        b"map" => read_map(operands),
-        b"split" => read_split(operands),
-        b"protect" => read_protect(operands),
-        b"lock" => read_lock(operands),
-        b"unlock" => read_unlock(operands),
-        b"unmap" => read_unmap(operands),
-        b"status" => read_status(operands),
-        b"find" => read_find(operands),
-        b"sync" => read_sync(operands),
-        b"flush" => read_flush(operands),
-        b"invalidate" => read_invalidate(operands),
-        b"pageout" => read_pageout(operands),
-        b"chain" => read_chain(operands),
-        b"stat" => read_stat(operands),
-        _ => None,
-    }
+    read_any(verb, operands)
 }
 
 fn read_form(words: &[&[u8]]) -> Option<Command>
-    requires { AsksNoAccess (form_of (map (λ w. w.now) words.now)) }
+    requires { actor_of_line (ok_or (form_of (map (λ w. w.now) words.now)) BadLine) ≡ None }
     ensures { result ≡ form_of (map (λ w. w.now) words.now) }
 {
     match words {

@@ -1,5 +1,5 @@
 // The words of a line.
-ghost use Rattle.std.specs.Prelude.{◌≡◌, ◌≤◌, ◌<◌, ◌==◌, [], ◌∷◌, length, map, position, IfSome, MatchOption};
+ghost use Rattle.std.specs.Prelude.{◌≡◌, ◌≤◌, ◌<◌, ◌==◌, [], ◌∷◌, bytes_eq, length, map, position, IfSome, MatchOption};
 ghost use Rattle.actor_script.specs.Words.{words_of};
 
 use arrayvec::ArrayVec;
@@ -56,4 +56,19 @@ pub fn split_words(line: &[u8]) -> Option<ArrayVec<&[u8], MOST_WORDS>>
         Ok(()) => Some(words),
         Err(_) => None,
     }
+}
+
+/// Whether a verb is this word. Most others are told from it by their length.
+pub fn is<const N: usize>(verb: &[u8], word: &[u8; N]) -> bool
+    ensures { result ≡ bytes_eq verb.now word.now }
+{
+    if verb.len() != N {
+        return false;
+    }
+    for at in 0..N {
+        if verb[at] != word[at] {
+            return false;
+        }
+    }
+    true
 }
