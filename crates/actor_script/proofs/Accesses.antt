@@ -47,7 +47,7 @@ module _ (line verb : List ℕ) (operands : List (List ℕ)) (words : words_of l
   -- what the verb's form reads is what the line does
   pub of_verb : (r : Option (ActorId × Access))
       → (let form = (if bytes_eq verb (codes "load") then load_form operands else if bytes_eq verb (codes "store") then store_form operands else None) in
-         MatchOption r (form ≡ None) (λ found. form ≡ Some (command_for found.0 found.1)))
+      MatchOption r (form ≡ None) (λ found. form ≡ Some (command_for found.0 found.1)))
       → MatchOption r (NoAccess line) (IsRead line)
   of_verb r h = elim (cases_Bool (bytes_eq verb (codes "load"))) [
     | inl l ↦ of_form (load_form operands) r (is_load verb operands l) (rw l at h)

@@ -3,7 +3,9 @@ pub mod Forms
 pub mod Generated
 pub mod Hexadecimal
 pub mod Numbers
+-- Operands that have a space in them.
 pub mod Operands
+-- Bytes, read from two digits each.
 pub mod Pieces
 pub mod Replies
 pub mod Splitting

@@ -128,3 +128,7 @@ store_short [] few = refl
 store_short (a ∷ []) few = refl
 store_short (a ∷ b ∷ []) few = refl
 store_short (a ∷ b ∷ c ∷ ws) few = absurd (omega arith)
+
+pub ruleset of_load = (load_whole, load_short)
+
+pub ruleset of_store = (store_whole, store_short)

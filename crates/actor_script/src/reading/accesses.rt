@@ -21,7 +21,7 @@ pub(super) fn command_for(actor: ActorId, access: Access) -> Command
 }
 
 // `A ADDR LEN`
-#[tactic(auto, using(crate::proofs::Operands::load_whole, crate::proofs::Operands::load_short), unfolding(crate::specs::Forms::load_form))]
+#[tactic(auto, using(crate::proofs::Operands::of_load), unfolding(crate::specs::Forms::load_form))]
 fn read_load(operands: &[u8]) -> Option<(ActorId, Access)>
     ensures { MatchOption result (load_form (words_of operands.now) ≡ None) (λ found.
         load_form (words_of operands.now) ≡ Some (command_for found.0 found.1)) }
@@ -34,7 +34,7 @@ fn read_load(operands: &[u8]) -> Option<(ActorId, Access)>
 }
 
 // `A ADDR BYTES`
-#[tactic(auto, using(crate::proofs::Operands::store_whole, crate::proofs::Operands::store_short), unfolding(crate::specs::Forms::store_form))]
+#[tactic(auto, using(crate::proofs::Operands::of_store), unfolding(crate::specs::Forms::store_form))]
 fn read_store(operands: &[u8]) -> Option<(ActorId, Access)>
     ensures { MatchOption result (store_form (words_of operands.now) ≡ None) (λ found.
         store_form (words_of operands.now) ≡ Some (command_for found.0 found.1)) }
@@ -48,13 +48,11 @@ fn read_store(operands: &[u8]) -> Option<(ActorId, Access)>
 
 // The load or store of a verb and the text of its operands.
 fn read_verb(verb: &[u8], operands: &[u8]) -> Option<(ActorId, Access)>
-    ensures {
-        let words = words_of operands.now in
+    ensures { let words = words_of operands.now in
         let form = (if bytes_eq verb.now (codes "load") then load_form words
-            else if bytes_eq verb.now (codes "store") then store_form words
-            else None) in
-        MatchOption result (form ≡ None) (λ found. form ≡ Some (command_for found.0 found.1))
-    }
+        else if bytes_eq verb.now (codes "store") then store_form words
+        else None) in
+        MatchOption result (form ≡ None) (λ found. form ≡ Some (command_for found.0 found.1)) }
 {
     match verb {
         b"load" => read_load(operands),
@@ -63,8 +61,8 @@ fn read_verb(verb: &[u8], operands: &[u8]) -> Option<(ActorId, Access)>
     }
 }
 
-/// The load or store that a line asks, and whose it is. `None` exactly where the line asks something
-/// else, or is no command.
+/// The load or store that a line asks, and whose it is. `None` exactly where the line asks
+/// something else, or is no command.
 pub fn read_access(line: &[u8]) -> Option<(ActorId, Access)>
     ensures { MatchOption result (actor_of_line (command_of line.now) ≡ None) (λ found.
         command_of line.now ≡ Ok (command_for found.0 found.1)) }

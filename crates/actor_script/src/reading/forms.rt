@@ -1,22 +1,15 @@
-// The forms of lines.
-ghost use Rattle.std.specs.Prelude.{◌≡◌, ◌||◌, None, bytes_eq, codes, map, ok_or, if◌then◌else◌, IfOk};
-ghost use Rattle.vm_ids.specs.declared.refusal.Refusal.TheVariants.{BadLine};
-ghost use Rattle.vm_model.specs.Asking.{IsWellFormed};
-ghost use Rattle.vm_model.specs.Run.{actor_of_line};
-ghost use Rattle.actor_script.specs.Forms.{command_of, form_of, verb_form, actor_form, exit_form, temp_form, open_form, destroy_form, span_of, copy_form, move_form, map_form, split_form, protect_form, lock_form, unlock_form, unmap_form, status_form, find_form, extent_of, sync_form, flush_form, invalidate_form, pageout_form, chain_form, stat_form};
+// The forms of verbs, but for loads and stores.
+ghost use Rattle.std.specs.Prelude.{◌≡◌, map};
+ghost use Rattle.actor_script.specs.Forms.{actor_form, exit_form, temp_form, open_form, destroy_form, span_of, copy_form, move_form, map_form, split_form, protect_form, lock_form, unlock_form, unmap_form, status_form, find_form, extent_of, sync_form, flush_form, invalidate_form, pageout_form, chain_form, stat_form};
 ghost use Rattle.actor_script.specs.Operands.{mode_of};
 
-use super::accesses::{command_for, read_access};
 use super::hexadecimal::read_address;
 use super::numbers::{read_count, read_lettered, read_number};
-use super::words::{LONGEST_LINE, is, split_words};
-use vm_ids::{
-    ActorId, CacheId, Command, Extent, Mapping, PageNo, Prot, Refusal, RegionId, SegId, Span,
-};
+use vm_ids::{ActorId, CacheId, Command, Extent, Mapping, PageNo, Prot, RegionId, SegId, Span};
 
 // `actor`
 #[tactic(auto, unfolding(crate::specs::Forms::actor_form))]
-fn read_actor(operands: &[&[u8]]) -> Option<Command>
+pub(super) fn read_actor(operands: &[&[u8]]) -> Option<Command>
     ensures { result ≡ actor_form (map (λ w. w.now) operands.now) }
 {
     match operands {
@@ -27,7 +20,7 @@ fn read_actor(operands: &[&[u8]]) -> Option<Command>
 
 // `exit A`
 #[tactic(auto, unfolding(crate::specs::Forms::exit_form))]
-fn read_exit(operands: &[&[u8]]) -> Option<Command>
+pub(super) fn read_exit(operands: &[&[u8]]) -> Option<Command>
     ensures { result ≡ exit_form (map (λ w. w.now) operands.now) }
 {
     match operands {
@@ -38,7 +31,7 @@ fn read_exit(operands: &[&[u8]]) -> Option<Command>
 
 // `temp N`
 #[tactic(auto, unfolding(crate::specs::Forms::temp_form))]
-fn read_temp(operands: &[&[u8]]) -> Option<Command>
+pub(super) fn read_temp(operands: &[&[u8]]) -> Option<Command>
     ensures { result ≡ temp_form (map (λ w. w.now) operands.now) }
 {
     match operands {
@@ -49,7 +42,7 @@ fn read_temp(operands: &[&[u8]]) -> Option<Command>
 
 // `open S`
 #[tactic(auto, unfolding(crate::specs::Forms::open_form))]
-fn read_open(operands: &[&[u8]]) -> Option<Command>
+pub(super) fn read_open(operands: &[&[u8]]) -> Option<Command>
     ensures { result ≡ open_form (map (λ w. w.now) operands.now) }
 {
     match operands {
@@ -60,7 +53,7 @@ fn read_open(operands: &[&[u8]]) -> Option<Command>
 
 // `destroy C`
 #[tactic(auto, unfolding(crate::specs::Forms::destroy_form))]
-fn read_destroy(operands: &[&[u8]]) -> Option<Command>
+pub(super) fn read_destroy(operands: &[&[u8]]) -> Option<Command>
     ensures { result ≡ destroy_form (map (λ w. w.now) operands.now) }
 {
     match operands {
@@ -95,7 +88,7 @@ fn read_span(operands: &[&[u8]]) -> Option<Span>
 
 // `copy C O D Q N`
 #[tactic(auto, unfolding(crate::specs::Forms::copy_form))]
-fn read_copy(operands: &[&[u8]]) -> Option<Command>
+pub(super) fn read_copy(operands: &[&[u8]]) -> Option<Command>
     ensures { result ≡ copy_form (map (λ w. w.now) operands.now) }
 {
     Some(Command::Copy(read_span(operands)?))
@@ -103,7 +96,7 @@ fn read_copy(operands: &[&[u8]]) -> Option<Command>
 
 // `move C O D Q N`
 #[tactic(auto, unfolding(crate::specs::Forms::move_form))]
-fn read_move(operands: &[&[u8]]) -> Option<Command>
+pub(super) fn read_move(operands: &[&[u8]]) -> Option<Command>
     ensures { result ≡ move_form (map (λ w. w.now) operands.now) }
 {
     Some(Command::Move(read_span(operands)?))
@@ -125,7 +118,7 @@ fn read_mode(word: &[u8]) -> Option<Prot>
 
 // `map A C O N ADDR MODE`
 #[tactic(auto, unfolding(crate::specs::Forms::map_form))]
-fn read_map(operands: &[&[u8]]) -> Option<Command>
+pub(super) fn read_map(operands: &[&[u8]]) -> Option<Command>
     ensures { result ≡ map_form (map (λ w. w.now) operands.now) }
 {
     match operands {
@@ -156,7 +149,7 @@ fn read_map(operands: &[&[u8]]) -> Option<Command>
 
 // `split R N`
 #[tactic(auto, unfolding(crate::specs::Forms::split_form))]
-fn read_split(operands: &[&[u8]]) -> Option<Command>
+pub(super) fn read_split(operands: &[&[u8]]) -> Option<Command>
     ensures { result ≡ split_form (map (λ w. w.now) operands.now) }
 {
     match operands {
@@ -171,7 +164,7 @@ fn read_split(operands: &[&[u8]]) -> Option<Command>
 
 // `protect R MODE`
 #[tactic(auto, unfolding(crate::specs::Forms::protect_form))]
-fn read_protect(operands: &[&[u8]]) -> Option<Command>
+pub(super) fn read_protect(operands: &[&[u8]]) -> Option<Command>
     ensures { result ≡ protect_form (map (λ w. w.now) operands.now) }
 {
     match operands {
@@ -186,7 +179,7 @@ fn read_protect(operands: &[&[u8]]) -> Option<Command>
 
 // `lock R`
 #[tactic(auto, unfolding(crate::specs::Forms::lock_form))]
-fn read_lock(operands: &[&[u8]]) -> Option<Command>
+pub(super) fn read_lock(operands: &[&[u8]]) -> Option<Command>
     ensures { result ≡ lock_form (map (λ w. w.now) operands.now) }
 {
     match operands {
@@ -197,7 +190,7 @@ fn read_lock(operands: &[&[u8]]) -> Option<Command>
 
 // `unlock R`
 #[tactic(auto, unfolding(crate::specs::Forms::unlock_form))]
-fn read_unlock(operands: &[&[u8]]) -> Option<Command>
+pub(super) fn read_unlock(operands: &[&[u8]]) -> Option<Command>
     ensures { result ≡ unlock_form (map (λ w. w.now) operands.now) }
 {
     match operands {
@@ -208,7 +201,7 @@ fn read_unlock(operands: &[&[u8]]) -> Option<Command>
 
 // `unmap R`
 #[tactic(auto, unfolding(crate::specs::Forms::unmap_form))]
-fn read_unmap(operands: &[&[u8]]) -> Option<Command>
+pub(super) fn read_unmap(operands: &[&[u8]]) -> Option<Command>
     ensures { result ≡ unmap_form (map (λ w. w.now) operands.now) }
 {
     match operands {
@@ -219,7 +212,7 @@ fn read_unmap(operands: &[&[u8]]) -> Option<Command>
 
 // `status R`
 #[tactic(auto, unfolding(crate::specs::Forms::status_form))]
-fn read_status(operands: &[&[u8]]) -> Option<Command>
+pub(super) fn read_status(operands: &[&[u8]]) -> Option<Command>
     ensures { result ≡ status_form (map (λ w. w.now) operands.now) }
 {
     match operands {
@@ -230,7 +223,7 @@ fn read_status(operands: &[&[u8]]) -> Option<Command>
 
 // `find A ADDR`
 #[tactic(auto, unfolding(crate::specs::Forms::find_form))]
-fn read_find(operands: &[&[u8]]) -> Option<Command>
+pub(super) fn read_find(operands: &[&[u8]]) -> Option<Command>
     ensures { result ≡ find_form (map (λ w. w.now) operands.now) }
 {
     match operands {
@@ -265,7 +258,7 @@ fn read_extent(operands: &[&[u8]]) -> Option<Extent>
 
 // `sync C O N`
 #[tactic(auto, unfolding(crate::specs::Forms::sync_form))]
-fn read_sync(operands: &[&[u8]]) -> Option<Command>
+pub(super) fn read_sync(operands: &[&[u8]]) -> Option<Command>
     ensures { result ≡ sync_form (map (λ w. w.now) operands.now) }
 {
     Some(Command::Sync(read_extent(operands)?))
@@ -273,7 +266,7 @@ fn read_sync(operands: &[&[u8]]) -> Option<Command>
 
 // `flush C O N`
 #[tactic(auto, unfolding(crate::specs::Forms::flush_form))]
-fn read_flush(operands: &[&[u8]]) -> Option<Command>
+pub(super) fn read_flush(operands: &[&[u8]]) -> Option<Command>
     ensures { result ≡ flush_form (map (λ w. w.now) operands.now) }
 {
     Some(Command::Flush(read_extent(operands)?))
@@ -281,7 +274,7 @@ fn read_flush(operands: &[&[u8]]) -> Option<Command>
 
 // `invalidate C O N`
 #[tactic(auto, unfolding(crate::specs::Forms::invalidate_form))]
-fn read_invalidate(operands: &[&[u8]]) -> Option<Command>
+pub(super) fn read_invalidate(operands: &[&[u8]]) -> Option<Command>
     ensures { result ≡ invalidate_form (map (λ w. w.now) operands.now) }
 {
     Some(Command::Invalidate(read_extent(operands)?))
@@ -289,7 +282,7 @@ fn read_invalidate(operands: &[&[u8]]) -> Option<Command>
 
 // `pageout N`
 #[tactic(auto, unfolding(crate::specs::Forms::pageout_form))]
-fn read_pageout(operands: &[&[u8]]) -> Option<Command>
+pub(super) fn read_pageout(operands: &[&[u8]]) -> Option<Command>
     ensures { result ≡ pageout_form (map (λ w. w.now) operands.now) }
 {
     match operands {
@@ -300,7 +293,7 @@ fn read_pageout(operands: &[&[u8]]) -> Option<Command>
 
 // `chain C P`
 #[tactic(auto, unfolding(crate::specs::Forms::chain_form))]
-fn read_chain(operands: &[&[u8]]) -> Option<Command>
+pub(super) fn read_chain(operands: &[&[u8]]) -> Option<Command>
     ensures { result ≡ chain_form (map (λ w. w.now) operands.now) }
 {
     match operands {
@@ -315,139 +308,11 @@ fn read_chain(operands: &[&[u8]]) -> Option<Command>
 
 // `stat`
 #[tactic(auto, unfolding(crate::specs::Forms::stat_form))]
-fn read_stat(operands: &[&[u8]]) -> Option<Command>
+pub(super) fn read_stat(operands: &[&[u8]]) -> Option<Command>
     ensures { result ≡ stat_form (map (λ w. w.now) operands.now) }
 {
     match operands {
         [] => Some(Command::Stat),
         _ => None,
-    }
-}
-
-// The form of a verb that is neither `load` nor `store`.
-#[tactic(auto, unfolding(crate::specs::Forms::verb_form))]
-fn read_any(verb: &[u8], operands: &[&[u8]]) -> Option<Command>
-    ensures { result ≡
-        (if bytes_eq verb.now (codes "load") || bytes_eq verb.now (codes "store") then None
-        else verb_form verb.now (map (λ w. w.now) operands.now)) }
-{
-    if is(verb, b"load") || is(verb, b"store") {
-        return None;
-    }
-    if is(verb, b"actor") {
-        return read_actor(operands);
-    }
-    if is(verb, b"exit") {
-        return read_exit(operands);
-    }
-    if is(verb, b"temp") {
-        return read_temp(operands);
-    }
-    if is(verb, b"open") {
-        return read_open(operands);
-    }
-    if is(verb, b"destroy") {
-        return read_destroy(operands);
-    }
-    if is(verb, b"copy") {
-        return read_copy(operands);
-    }
-    if is(verb, b"move") {
-        return read_move(operands);
-    }
-    if is(verb, b"map") {
-        return read_map(operands);
-    }
-    if is(verb, b"split") {
-        return read_split(operands);
-    }
-    if is(verb, b"protect") {
-        return read_protect(operands);
-    }
-    if is(verb, b"lock") {
-        return read_lock(operands);
-    }
-    if is(verb, b"unlock") {
-        return read_unlock(operands);
-    }
-    if is(verb, b"unmap") {
-        return read_unmap(operands);
-    }
-    if is(verb, b"status") {
-        return read_status(operands);
-    }
-    if is(verb, b"find") {
-        return read_find(operands);
-    }
-    if is(verb, b"sync") {
-        return read_sync(operands);
-    }
-    if is(verb, b"flush") {
-        return read_flush(operands);
-    }
-    if is(verb, b"invalidate") {
-        return read_invalidate(operands);
-    }
-    if is(verb, b"pageout") {
-        return read_pageout(operands);
-    }
-    if is(verb, b"chain") {
-        return read_chain(operands);
-    }
-    if is(verb, b"stat") {
-        return read_stat(operands);
-    }
-    None
-}
-
-// The form of a verb that asks no load and no store.
-#[tactic(auto, using(crate::proofs::Accesses::other_form))]
-fn read_verb(verb: &[u8], operands: &[&[u8]]) -> Option<Command>
-    requires { actor_of_line (ok_or (verb_form verb.now (map (λ w. w.now) operands.now)) BadLine) ≡ None }
-    ensures { result ≡ verb_form verb.now (map (λ w. w.now) operands.now) }
-{
-    read_any(verb, operands)
-}
-
-fn read_form(words: &[&[u8]]) -> Option<Command>
-    requires { actor_of_line (ok_or (form_of (map (λ w. w.now) words.now)) BadLine) ≡ None }
-    ensures { result ≡ form_of (map (λ w. w.now) words.now) }
-{
-    match words {
-        [verb, operands @ ..] => read_verb(verb, operands),
-        [] => None,
-    }
-}
-
-/// Reads a line, which has no line feed and asks no load and no store, as a command.
-///
-/// `BadLine` exactly where the line has more than 256 bytes or none of the other forms of the
-/// script language.
-#[tactic(auto, unfolding(crate::specs::Forms::command_of))]
-pub fn read_other(line: &[u8]) -> Result<Command, Refusal>
-    requires { actor_of_line (command_of line.now) ≡ None }
-    ensures command { result ≡ command_of line.now }
-    ensures well_formed { IfOk result IsWellFormed }
-{
-    if line.len() > LONGEST_LINE {
-        return Err(Refusal::BadLine);
-    }
-    match split_words(line) {
-        Some(words) => read_form(words.as_slice()).ok_or(Refusal::BadLine),
-        None => Err(Refusal::BadLine),
-    }
-}
-
-/// Reads a line, which has no line feed, as a command.
-///
-/// `BadLine` exactly where the line has more than 256 bytes or none of the forms of the script
-/// language.
-pub fn read_line(line: &[u8]) -> Result<Command, Refusal>
-    ensures command { result ≡ command_of line.now }
-    ensures well_formed { IfOk result IsWellFormed }
-{
-    match read_access(line) {
-        Some((actor, access)) => Ok(command_for(actor, access)),
-        None => read_other(line),
     }
 }

@@ -1,7 +1,7 @@
 use Rattle.std.proofs.Common.{sym}
 use Rattle.actor_script.proofs.Forms.{too_many_words}
 use Rattle.actor_script.proofs.WellFormed.{read_form, form}
-use Rattle.actor_script.proofs.reading.forms.read_other.Goals as goal
+use Rattle.actor_script.proofs.reading.lines.read_other.Goals as goal
 
 pub returns-in-Some-clause-well_formed : goal.returns-in-Some-clause-well_formed
 returns-in-Some-clause-well_formed c = rw c.ok_or.ensures.value (rw c.read_form.ensures (read_form _ (form _)))
