@@ -1,8 +1,8 @@
 -- Operands that have a space in them are no numbers and no bytes.
-use Rattle.std.proofs.Common.{◌≡◌, ◌==◌, ◌<◌, ◌≤◌, ◌⊎◌, ◌∙◌, ℕ, Bool, true, false, cond, List, [], ◌∷◌, length, Option, Some, None, Result, Ok, Err, refl, sym, ap, arith, inl, inr, subst}
+use Rattle.std.proofs.Common.{◌≡◌, ◌==◌, ◌≤◌, ◌⊎◌, ◌∙◌, ℕ, Bool, true, false, List, [], ◌∷◌, length, Option, Some, None, Result, Ok, Err, refl, sym, ap, arith, inl, inr}
 use Rattle.std.specs.Prelude.{option_and_then, if◌then◌else◌}
 use Rattle.std.specs.Char.{is_digit}
-use Rattle.std.specs.List.{list_all, slice_split, onto_first}
+use Rattle.std.specs.List.{list_all, slice_split}
 use Rattle.std.specs.Result.{result_ok}
 use Rattle.std.proofs.lemmas.Bool.{and_parts, eqb-true, cases_Bool}
 use Rattle.std.proofs.lemmas.List.Sums.{list_all-from_AllPass}
@@ -12,7 +12,7 @@ use Rattle.hex.proofs.HexLemmas.{decode_of-ok}
 use Rattle.vm_ids.specs.declared.command.Command.{Command}
 use Rattle.vm_ids.specs.declared.command.Command.TheVariants as commands
 use Rattle.actor_script.specs.Words.{words_of}
-use Rattle.actor_script.specs.Operands.{number_of, count_of, unless_zero, length_of, if_few, bytes_of, lettered, address_of}
+use Rattle.actor_script.specs.Operands.{count_of, unless_zero, length_of, if_few, bytes_of, lettered, address_of}
 use Rattle.actor_script.specs.Forms.{load_form, store_form}
 use Rattle.actor_script.proofs.Numbers.{no_number}
 
