@@ -129,6 +129,6 @@ store_short (a ∷ []) few = refl
 store_short (a ∷ b ∷ []) few = refl
 store_short (a ∷ b ∷ c ∷ ws) few = absurd (omega arith)
 
-pub ruleset of_load = (load_whole, load_short)
+pub ruleset loads = (load_whole, load_short)
 
-pub ruleset of_store = (store_whole, store_short)
+pub ruleset stores = (store_whole, store_short)

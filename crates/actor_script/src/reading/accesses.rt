@@ -21,7 +21,7 @@ pub(super) fn command_for(actor: ActorId, access: Access) -> Command
 }
 
 // `A ADDR LEN`
-#[tactic(auto, using(crate::proofs::Operands::of_load), unfolding(crate::specs::Forms::load_form))]
+#[tactic(auto, using(crate::proofs::Operands::loads), unfolding(crate::specs::Forms::load_form))]
 fn read_load(operands: &[u8]) -> Option<(ActorId, Access)>
     ensures { MatchOption result (load_form (words_of operands.now) ≡ None) (λ found.
         load_form (words_of operands.now) ≡ Some (command_for found.0 found.1)) }
@@ -34,7 +34,7 @@ fn read_load(operands: &[u8]) -> Option<(ActorId, Access)>
 }
 
 // `A ADDR BYTES`
-#[tactic(auto, using(crate::proofs::Operands::of_store), unfolding(crate::specs::Forms::store_form))]
+#[tactic(auto, using(crate::proofs::Operands::stores), unfolding(crate::specs::Forms::store_form))]
 fn read_store(operands: &[u8]) -> Option<(ActorId, Access)>
     ensures { MatchOption result (store_form (words_of operands.now) ≡ None) (λ found.
         store_form (words_of operands.now) ≡ Some (command_for found.0 found.1)) }
