@@ -10,16 +10,17 @@
 //! (`Going`), and how a replay ends (`Ending`); events, and the order of answers that follows from
 //! them, are those of the plain machine's crate. The rest serves the contracts of the parts alone:
 //! answers that are put (`Putting`), accesses that are parked (`Parking`), texts that are gathered
-//! (`Gathering`), how far a replay has come (`Underway`), and tallies (`Tallying`). Where no line is
-//! an access, lines are answered one after another: so says a law ([`laws`], `Alone`).
+//! (`Gathering`), how far a replay has come (`Underway`), and tallies (`Tallying`). Where no line
+//! is an access, lines are answered one after another: so says a law ([`laws`], `Alone`).
 //!
 //! It stands on the traits of the outside, the definition of a run by events, the list of parked
-//! accesses, what a manager's delivery tells, and the script language; it knows no manager. Whoever answers lines stands on it, so
-//! that each word of the program has the same promise over its own meaning of a line. The way of a
-//! byte: `replaying` reads pieces, `feeding` finds lines, `answering` answers or parks one line,
-//! `asking` asks the dispatcher, `delivering` answers what was parked, `gathered` keeps the
-//! replies. Those to one piece go out together, and before the next piece is read. `made` has the
-//! loop over lines that are made. Beside the calls of a service nothing here takes memory.
+//! accesses, what a manager's delivery tells, and the script language; it knows no manager. Whoever
+//! answers lines stands on it, so that each word of the program has the same promise over its own
+//! meaning of a line. The way of a byte: `replaying` reads pieces, `feeding` finds lines,
+//! `answering` answers or parks one line, `asking` asks the dispatcher, `delivering` answers what
+//! was parked, `gathered` keeps the replies. Those to one piece go out together, and before the next
+//! piece is read. `made` has the loop over lines that are made. Beside the calls of a service
+//! nothing here takes memory.
 #![tactic(auto)]
 
 mod answering;

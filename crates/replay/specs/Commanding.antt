@@ -89,7 +89,8 @@ if_fitting frames page = if nat_le (frames * page) most_frame_bytes
 -- what the values of `--frames`, `--page` and `--segments` ask for
 abbrev pub asked_for : Option (List ℕ) → Option (List ℕ) → Option (List ℕ) → Option Size
 asked_for frames page folder = if option_map_or is_folder_name folder true
-    then option_and_then (λ f. option_and_then (if_fitting f) (option_map_or page_of page (Some PAGE)))
+    then option_and_then
+    (λ f. option_and_then (if_fitting f) (option_map_or page_of page (Some PAGE)))
     (option_and_then frames_of frames)
     else None
 

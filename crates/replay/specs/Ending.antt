@@ -74,8 +74,8 @@ EndsAs statuses.NoMemory before now left left_now = ⊥
 -- How a run that was asked for ends, where the scenes at its begin and now are those of a machine
 -- and a forest: it began with the empty machine and the empty page forest, and the last forest has
 -- its shape and agrees with the last machine.
-pub record RunEnds (status : Status) (size : Size) (before now : Machine → PageForest → CommandScene)
-    (left left_now : Told) : Type 0 where
+pub record RunEnds (status : Status) (size : Size)
+    (before now : Machine → PageForest → CommandScene) (left left_now : Told) : Type 0 where
   pub last : Machine
   pub forest : PageForest
   pub ends : EndsAs status (before (start size.frames size.page_bytes) no_forest)

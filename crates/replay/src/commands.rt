@@ -14,7 +14,8 @@ use line_service::Service;
 use vm_ids::{Access, ActorId, Answer, Trouble};
 use vm_port::{Chooser, Mapper};
 
-/// A manager that answers the commands of a script. A load or a store may have to wait for its page.
+/// A manager that answers the commands of a script. A load or a store may have to wait for its
+/// page.
 #[derive(Drop)]
 pub struct Commands<G> {
     pub gmi: G,

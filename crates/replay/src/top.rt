@@ -30,8 +30,8 @@ use vm_port::{Chooser, Dispatcher, Mapper, Sink, Source};
 ///
 /// Whatever the source, the sink, the mapper, the chooser and the dispatcher: the lines written
 /// are, in the order written, the replies of a machine that keeps each cache as plain bytes and
-/// copies at once, and each page pushed to a segment is what that machine holds for it. Each line is
-/// answered once, and a later one before an earlier one only where both are loads or stores, of
+/// copies at once, and each page pushed to a segment is what that machine holds for it. Each line
+/// is answered once, and a later one before an earlier one only where both are loads or stores, of
 /// different actors. Chains and counts are those of the page forest, which follows each answer by
 /// its command's rule and agrees with that machine at the end. However reads cut the script, it is
 /// the same script.
