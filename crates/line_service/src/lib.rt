@@ -18,8 +18,8 @@
 //! answers lines stands on it, so that each word of the program has the same promise over its own
 //! meaning of a line. The way of a byte: `replaying` reads pieces, `feeding` finds lines,
 //! `answering` answers or parks one line, `asking` asks the dispatcher, `delivering` answers what
-//! was parked, `gathered` keeps the replies. Those to one piece go out together, and before the next
-//! piece is read. `made` has the loop over lines that are made. Beside the calls of a service
+//! was parked, `gathered` keeps the replies. Those to one piece go out together, and before the
+//! next piece is read. `made` has the loop over lines that are made. Beside the calls of a service
 //! nothing here takes memory.
 #![tactic(auto)]
 

@@ -3,8 +3,8 @@
 //!
 //! Its model is in specs/. What a reader must believe: the words of a command line (`Commanding`),
 //! and how a run ends (`Ending`), which says of the commands of a script what `line_service` says
-//! of lines. The rest serves the contracts of the parts alone: what clap reads (`Reading`), and what
-//! it takes to call a manager (`Managing`, `Few`).
+//! of lines. The rest serves the contracts of the parts alone: what clap reads (`Reading`), and
+//! what it takes to call a manager (`Managing`, `Few`).
 //!
 //! It stands on the loop over lines (`line_service`), for which a manager of the interface answers
 //! the commands of a script (`commands`); only [`run`] names the manager, which is the demand-paged

@@ -7,9 +7,8 @@ use super::following::Follower;
 use super::playing::{failing, said, text, written, written_at_once};
 use super::rows;
 use super::segment_rows::{
-    A_SAVE_FAILS, A_SAVE_FAILS_REPLIES, FAILING_DISK_EXAMPLE, FAILING_DISK_EXAMPLE_REPLIES,
-    HOSTILE, HOSTILE_REPLIES, SAVES, SAVES_REPLIES, TEXT_SHARED_AND_DATA_FORKED,
-    TEXT_SHARED_AND_DATA_FORKED_REPLIES,
+    A_SAVE_FAILS, A_SAVE_FAILS_REPLIES, HOSTILE, HOSTILE_REPLIES, SAVES, SAVES_REPLIES,
+    TEXT_SHARED_AND_DATA_FORKED, TEXT_SHARED_AND_DATA_FORKED_REPLIES,
 };
 use std::alloc::Global;
 use std::process::Abort;
@@ -347,32 +346,5 @@ fn saves_and_swaps_fail_in_four_frames(rt: HostRuntime) -> Result<(), NoMemory> 
 fn locks_fail_in_five_frames(rt: HostRuntime) -> Result<(), NoMemory> {
     let wanted = ["35 fault mapper page 4", "35 fault mapper page 5"];
     pulls_and_pushes_fail(&rt, rt.alloc(), 5, &wanted)?;
-    Ok(())
-}
-
-#[test]
-fn a_failing_disk_loses_nothing(rt: HostRuntime) -> Result<(), NoMemory> {
-    let fails = [
-        CallNo {
-            kind: CallKind::Size,
-            nth: 1,
-        },
-        CallNo {
-            kind: CallKind::SwapOut,
-            nth: 1,
-        },
-        CallNo {
-            kind: CallKind::SwapOut,
-            nth: 2,
-        },
-    ];
-    let sink = written(
-        &rt,
-        rt.alloc(),
-        &["run", "--frames", "3"],
-        FAILING_DISK_EXAMPLE,
-        &mut failing(rt.alloc(), &fails)?,
-    )?;
-    assert_eq!(&rt; sink.written(), FAILING_DISK_EXAMPLE_REPLIES.as_bytes());
     Ok(())
 }

@@ -17,14 +17,13 @@ mod transit;
 mod words;
 
 use crate::{Status, page_size, run};
-use playing::written_by;
 use std::alloc::Global;
 use std::cell::Cell;
 use std::process::Abort;
 use vm_ids::{NoMemory, PAGE};
 use vm_port::{
-    CallKind, CallNo, Clock, Failed, ListedTurns, MemoryMapper, MemorySink, MemorySource, Rotor,
-    Sink, Source,
+    CallKind, CallNo, Clock, Failed, ListedTurns, MemoryMapper, MemorySink, MemorySource, Sink,
+    Source,
 };
 
 // Slots enough for each script here.
@@ -150,34 +149,6 @@ fn scripts_have_their_replies_however_they_are_cut(rt: HostRuntime) -> Result<()
         ),
     ] {
         has_its_replies(&rt, rt.alloc(), frames, script, replies)?;
-    }
-    Ok(())
-}
-
-// As the program itself runs them.
-#[test]
-fn examples_have_their_replies(rt: HostRuntime) -> Result<(), NoMemory> {
-    for (script, replies) in [
-        (rows::COPY_EXAMPLE, rows::COPY_EXAMPLE_REPLIES),
-        (rows::FORK_EXAMPLE, rows::FORK_EXAMPLE_REPLIES),
-        (
-            rows::COPY_OF_A_COPY_EXAMPLE,
-            rows::COPY_OF_A_COPY_EXAMPLE_REPLIES,
-        ),
-        (rows::MESSAGES_EXAMPLE, rows::MESSAGES_EXAMPLE_REPLIES),
-        (transit::TWO_PAGES, transit::LATER_FIRST),
-    ] {
-        let mut mapper = swap_area(rt.alloc(), PAGE as u32, &[])?;
-        let sink = written_by(
-            &rt,
-            rt.alloc(),
-            &["run", "--frames", "3"],
-            script,
-            &mut mapper,
-            &mut Clock::new(),
-            &mut Rotor::new(),
-        )?;
-        assert_eq!(&rt; sink.written(), replies.as_bytes(), "{script}");
     }
     Ok(())
 }

@@ -150,22 +150,6 @@ fn a_save_that_fails_leaves_the_cache(rt: HostRuntime) -> Result<(), NoMemory> {
 }
 
 #[test]
-fn a_mapped_file_is_written_by_sync_alone(rt: HostRuntime) -> Result<(), NoMemory> {
-    let segments = [b"hello, segment\n".to_vec(rt.alloc())?];
-    let mapper = play(
-        &rt,
-        rt.alloc(),
-        rows::MAPPED_FILE_EXAMPLE,
-        rows::MAPPED_FILE_EXAMPLE_REPLIES,
-        &segments,
-        &[],
-        &[],
-    )?;
-    begins(&rt, &mapper, SegId(1), PageNo(0), b"Hello, segment\n\0");
-    Ok(())
-}
-
-#[test]
 fn text_is_shared_and_data_forked_in_six_frames(rt: HostRuntime) -> Result<(), NoMemory> {
     let mut text = zeros(rt.alloc(), 2 * PAGE)?;
     text[0] = 0x7f;

@@ -10,8 +10,8 @@ use std::process::Abort;
 use vm_ids::{NoMemory, PAGE};
 use vm_port::{CallKind, CallNo, Chooser, Clock, Listed, ListedTurns, MemoryMapper};
 
-// Two actors wait for a page each. It lies in examples/ too.
-pub const TWO_PAGES: &str = "actor
+// Two actors wait for a page each.
+const TWO_PAGES: &str = "actor
 actor
 temp 2
 map a1 c1 0 2 10000 rw
@@ -25,7 +25,7 @@ stat
 ";
 
 // The later one first; and the page of the earlier one doesn't come.
-pub const LATER_FIRST: &str = "1 ok a1
+const LATER_FIRST: &str = "1 ok a1
 2 ok a2
 3 ok c1
 4 ok r1
