@@ -1,5 +1,5 @@
 // Stretches in order, and what is done to them.
-ghost use Rattle.std.specs.Prelude.{◌≡◌, ℕ, ◌+◌, ◌≤◌, [], length, IfSome, IsOk, IsSome, MatchOption, None, OnOk};
+ghost use Rattle.std.specs.Prelude.{◌≡◌, ℕ, ◌+◌, ◌<◌, ◌≤◌, [], length, IfSome, IsOk, IsSome, MatchOption, None, OnOk};
 ghost use Rattle.std.specs.FinMap as map;
 ghost use Rattle.stretches.specs.Cells.{cells, with_stretch, without_stretch};
 ghost use Rattle.stretches.specs.Changes.{IsVacantFor, SayAlso, SayNoMore, SayOfOne, SaySame};
@@ -156,6 +156,23 @@ impl<V: Says> StretchList<V> {
             Some(at) => self.stretches.remove(at),
             None => unreachable!(),
         }
+    }
+
+    /// Takes out numbers that are in one stretch, so many from one on.
+    pub fn remove_part(&mut self, first: u64, count: u32) -> Stretch<V>
+        requires some { 0 < count }
+        requires together { AreTogether self.old.list first count }
+        requires places { HasPlaces self.old }
+        ensures from { IsStretchFrom V.Says self.old.list first result }
+        ensures whole { result.count ≡ count }
+        ensures cells { cells V.Says self.new.list
+            ≡ without_stretch (cells V.Says self.old.list) result }
+        ensures less { SayNoMore V.Says self.old.list result self.new.list }
+        ensures count { number_count self.new.list + count ≡ number_count self.old.list }
+        ensures places { self.new.places ≡ self.old.places }
+    {
+        let at = isolate(&mut self.stretches, first, count);
+        self.stretches.remove(at)
     }
 
     /// Says something else of numbers that are in one stretch: what this stretch says of them. It
