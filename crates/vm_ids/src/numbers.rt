@@ -21,6 +21,10 @@ pub struct CacheId(pub u32);
 #[derive(Clone, Copy, Debug, PartialEq, Eq)]
 pub struct RegionId(pub u32);
 
+/// The number of a process, counted from 1 in the order of making and never used again.
+#[derive(Clone, Copy, Debug, PartialEq, Eq)]
+pub struct ProcId(pub u32);
+
 /// The number of a segment, as its mapper gives it.
 #[derive(Clone, Copy, Debug, PartialEq, Eq)]
 pub struct SegId(pub u32);
