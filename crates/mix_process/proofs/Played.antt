@@ -10,6 +10,7 @@ use Rattle.vm_model.specs.Answering.{Answer}
 use Rattle.vm_model.specs.Machine.{Page}
 use Rattle.mix_process.specs.ProcessMachine.{ProcessMachine, start}
 use Rattle.mix_process.specs.Answering.{Answered, answer_of, exec_of, exit_of, fork_of, grow_of, load_of, store_of, unless, with_ok, with_some}
+use Rattle.mix_process.specs.Rows as rows
 use Rattle.mix_process.specs.Rows.{AnswersAs, ForkedAndGrown, RefusedProcesses, answers_from, answers_on, page, segments}
 
 -- What std's maps hold doesn't compute, so a script reads the segments by a function that does.
@@ -47,8 +48,8 @@ answers_as cs answers e = same_answers cs (start 4096) ∙ e
 
 pub forked_and_grown : ForkedAndGrown
 unfolding exec_of fork_of exit_of grow_of load_of store_of unless with_some with_ok
-forked_and_grown = answers_as _ _ refl
+forked_and_grown = answers_as rows.forked_and_grown _ refl
 
 pub refused_processes : RefusedProcesses
 unfolding exec_of fork_of exit_of grow_of load_of store_of unless with_some with_ok
-refused_processes = answers_as _ _ refl
+refused_processes = answers_as rows.refused_processes _ refl

@@ -55,9 +55,9 @@ with_image m seg held = imaged m seg (image_of m seg) held
 -- Text and data are pages of the image, one behind the other, and the stack is zeros.
 abbrev pub process_from : ℕ → List Page → ℕ → ℕ → ℕ → Process
 process_from page_bytes pages text data_pages stack = record {
-  text = take text pages;
-  data = take data_pages (drop text pages);
-  stack = replicate stack (zero_page page_bytes);
+  text_pages = take text pages;
+  data_pages = take data_pages (drop text pages);
+  stack_pages = replicate stack (zero_page page_bytes);
   grown = 0;
 }
 
@@ -97,13 +97,13 @@ exit_of m process =
 -- the process with so many more pages of zeros behind its data
 abbrev pub grown_by : ℕ → ℕ → Process → Process
 grown_by page_bytes pages p =
-    record p { data = p.data ++ replicate pages (zero_page page_bytes); grown = p.grown + 1 }
+    record p { data_pages = p.data_pages ++ replicate pages (zero_page page_bytes); grown = p.grown + 1 }
 
 -- grow: zeros are appended to the data of the process
 unfoldable pub grow_of : ProcessMachine → ℕ → ℕ → Answered
 grow_of m process pages =
     with_some (process_of m process) NoProcess m (λ p.
-    unless (nat_lt MOST_DATA (length p.data + pages)) TooLarge m
+    unless (nat_lt MOST_DATA (length p.data_pages + pages)) TooLarge m
     (reply replies.Done (put_process m process (Some (grown_by m.page_bytes pages p)))))
 
 -- the page of a place, empty where there is none

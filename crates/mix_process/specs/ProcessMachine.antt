@@ -9,9 +9,9 @@ use Rattle.mix_process.specs.declared.area.TheConstants.{DATA_START, STACK_START
 
 -- What a process has in memory, and how often its data were grown.
 pub record Process : Type 0 where
-  pub text : List Page
-  pub data : List Page
-  pub stack : List Page
+  pub text_pages : List Page
+  pub data_pages : List Page
+  pub stack_pages : List Page
   pub grown : ℕ
 
 -- Processes are numbered from 1 in the order of making, so the number made is the length; one that
@@ -44,14 +44,14 @@ area_start Data = DATA_START
 area_start Stack = STACK_START
 
 abbrev pub pages_of : Process → Area → List Page
-pages_of p Text = p.text
-pages_of p Data = p.data
-pages_of p Stack = p.stack
+pages_of p Text = p.text_pages
+pages_of p Data = p.data_pages
+pages_of p Stack = p.stack_pages
 
 abbrev pub with_pages : Area → List Page → Process → Process
-with_pages Text pages p = record p { text = pages }
-with_pages Data pages p = record p { data = pages }
-with_pages Stack pages p = record p { stack = pages }
+with_pages Text pages p = record p { text_pages = pages }
+with_pages Data pages p = record p { data_pages = pages }
+with_pages Stack pages p = record p { stack_pages = pages }
 
 -- the text alone is not for writing
 abbrev pub may_write : Area → Bool

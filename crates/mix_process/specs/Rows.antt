@@ -74,18 +74,23 @@ no r = Err (Refused r)
 
 -- A process is made and forked; each of the two has its own data from then on, and they share their
 -- text.
-abbrev pub ForkedAndGrown : Type 0
-ForkedAndGrown = AnswersAs
-    (exec 1 1 2 1 ∷ store 1 0x1000_0000 0x61 ∷ fork 1 ∷ store 1 0x1000_0000 0x62
+abbrev pub forked_and_grown : List MixCommand
+forked_and_grown =
+    exec 1 1 2 1 ∷ store 1 0x1000_0000 0x61 ∷ fork 1 ∷ store 1 0x1000_0000 0x62
     ∷ load 2 0x1000_0000 ∷ load 2 0x1000_1000 ∷ load 1 0x40_0000 ∷ store 1 0x40_0000 0
-    ∷ grow 1 1 ∷ load 1 0x1000_2000 ∷ load 2 0x1000_2000 ∷ exit_ 1 ∷ load 2 0x1000_0000 ∷ [])
+    ∷ grow 1 1 ∷ load 1 0x1000_2000 ∷ load 2 0x1000_2000 ∷ exit_ 1 ∷ load 2 0x1000_0000 ∷ []
+
+abbrev pub ForkedAndGrown : Type 0
+ForkedAndGrown = AnswersAs forked_and_grown
     (ok_p 1 ∷ ok ∷ ok_p 2 ∷ ok
     ∷ ok_byte 0x61 ∷ ok_byte 0x42 ∷ ok_byte 0x7f ∷ no refusals.Protection
     ∷ ok ∷ ok_byte 0 ∷ no refusals.BadAddress ∷ ok ∷ ok_byte 0x61 ∷ [])
 
 -- Each command is refused by a rule of its own.
+abbrev pub refused_processes : List MixCommand
+refused_processes = fork 9 ∷ exec 1 2 2 1 ∷ exec 1 1025 1 1 ∷ exec 2 1 1 1 ∷ []
+
 abbrev pub RefusedProcesses : Type 0
-RefusedProcesses = AnswersAs
-    (fork 9 ∷ exec 1 2 2 1 ∷ exec 1 1025 1 1 ∷ exec 2 1 1 1 ∷ [])
+RefusedProcesses = AnswersAs refused_processes
     (no refusals.NoProcess ∷ no refusals.BadImage ∷ no refusals.TooLarge ∷ no refusals.NoSegment
     ∷ [])
