@@ -3,3 +3,5 @@ pub mod Rows
 pub mod Lists
 pub mod Areas
 pub mod Lasting
+pub mod Looking
+pub mod Seeing

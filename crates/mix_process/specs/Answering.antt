@@ -47,7 +47,7 @@ with_ok (Ok x) m go = go x
 abbrev pub imaged : ProcessMachine → ℕ → Option (List Page) → Option (List Page) → ProcessMachine
 imaged m seg (Some image) held = m
 imaged m seg None None = m
-imaged m seg None (Some pages) = record m { images = (seg, pages) ∷ m.images }
+imaged m seg None (Some pages) = record m { images = m.images ++ (seg, pages) ∷ [] }
 
 abbrev pub with_image : ProcessMachine → ℕ → Option (List Page) → ProcessMachine
 with_image m seg held = imaged m seg (image_of m seg) held

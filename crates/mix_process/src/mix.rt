@@ -1,10 +1,17 @@
 // The processes, and the calls of them.
+ghost use Rattle.std.specs.Prelude.{◌≡◌, ◌≤◌, ◌^◌};
+ghost use Rattle.vm_model.specs.Answering.{answer_by};
+ghost use Rattle.gmi_calls.specs.Calling.{done_by};
+ghost use Rattle.mix_process.specs.Calling.{MixCall};
+ghost use Rattle.mix_process.specs.Tying.{CanCall};
+
 use crate::area::{MOST_DATA, MOST_STACK, MOST_TEXT};
 use crate::process::{Part, Process, mapping_behind, pages_in};
 use crate::Area;
 use gmi_calls::Gmi;
 use std::alloc::Global;
-use vm_ids::{ActorId, CacheId, PageNo, Piece, ProcId, Refusal, SegId, Span, Trouble};
+use vm_ids::{CacheId, MixCommand, PageNo, Piece, ProcId, Refusal, Reply, SegId, Span, Trouble};
+use vm_model::numbered;
 use vm_port::{Chooser, Mapper};
 
 // The cache of a segment of which a process was made, or was to be. It stays open.
@@ -132,8 +139,17 @@ impl<G> Mix<G> {
     ) -> Result<Piece, Trouble>
     where
         G: Gmi<M, C>,
+        requires some { 1 ≤ length }
+        requires few { length ≤ 64 }
+        requires can { CanCall G.Gmi self.old (M.held mapper.old) (M.page_bytes mapper.old) }
+        requires made { G.made self.old.gmi ≤ 2 ^ 61 }
+        ensures { MixCall M.Mapper G.Gmi mapper.old self.old (MixCommand.Load of address length) (answer_by Reply.Bytes result)
+            mapper.new self.new }
     {
-        let actor = self.actor_of(of)?;
+        let Some(process) = numbered(&self.processes, of.0) else {
+            return Err(Trouble::Refused(Refusal::NoProcess));
+        };
+        let actor = process.actor;
         self.gmi.load(actor, address, length, mapper, chooser)
     }
 
@@ -149,8 +165,15 @@ impl<G> Mix<G> {
     ) -> Result<(), Trouble>
     where
         G: Gmi<M, C>,
+        requires can { CanCall G.Gmi self.old (M.held mapper.old) (M.page_bytes mapper.old) }
+        requires made { G.made self.old.gmi ≤ 2 ^ 61 }
+        ensures { MixCall M.Mapper G.Gmi mapper.old self.old (MixCommand.Store of address piece.now) (done_by result)
+            mapper.new self.new }
     {
-        let actor = self.actor_of(of)?;
+        let Some(process) = numbered(&self.processes, of.0) else {
+            return Err(Trouble::Refused(Refusal::NoProcess));
+        };
+        let actor = process.actor;
         self.gmi.store(actor, address, piece, mapper, chooser)
     }
 
@@ -163,6 +186,11 @@ impl<G> Mix<G> {
     ) -> Result<(), Trouble>
     where
         G: Gmi<M, C>,
+        requires some { 1 ≤ count }
+        requires can { CanCall G.Gmi self.old (M.held mapper.old) (M.page_bytes mapper.old) }
+        requires made { G.made self.old.gmi ≤ 2 ^ 61 }
+        ensures { MixCall M.Mapper G.Gmi mapper.old self.old (MixCommand.PageOut count) (done_by result)
+            mapper.new self.new }
     {
         self.gmi.page_out(count, mapper, chooser)
     }
@@ -174,17 +202,6 @@ impl<G> Mix<G> {
         }
         match self.processes.get(of.0 as usize - 1) {
             Some(Some(_)) => Ok(of.0 as usize - 1),
-            _ => Err(Refusal::NoProcess),
-        }
-    }
-
-    // The actor of a living process.
-    fn actor_of(&self, of: ProcId) -> Result<ActorId, Refusal> {
-        if of.0 == 0 {
-            return Err(Refusal::NoProcess);
-        }
-        match self.processes.get(of.0 as usize - 1) {
-            Some(Some(process)) => Ok(process.actor),
             _ => Err(Refusal::NoProcess),
         }
     }
