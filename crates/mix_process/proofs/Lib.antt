@@ -5,3 +5,5 @@ pub mod Areas
 pub mod Lasting
 pub mod Looking
 pub mod Seeing
+pub mod Shapes
+pub mod Loading

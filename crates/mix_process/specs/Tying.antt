@@ -56,6 +56,11 @@ pub record IsSmall (parts : List Part) : Type 0 where
   pub data_pages : pages_in Data parts ≤ 65536
   pub stack : pages_in Stack parts ≤ 1024
 
+-- Text and stack are one part each.
+abbrev pub IsSingle : List Part → Type 0
+IsSingle parts = (before behind : List Part) (part : Part) → parts ≡ before ++ part ∷ behind
+    → part.area ≢ Data → pages_in part.area before ≡ 0
+
 -- A process is an actor with the parts mapped, each of a live cache.
 pub record IsRun (m : Machine) (p : Process) : Type 0 where
   pub regions : Actor
@@ -63,6 +68,7 @@ pub record IsRun (m : Machine) (p : Process) : Type 0 where
   pub mapped : AreMapped p.parts.items regions
   pub parts : AllByRecursion (λ (part : Part). IsPart m part.area part) p.parts.items
   pub small : IsSmall p.parts.items
+  pub single : IsSingle p.parts.items
 
 -- a part of a process whose cache is the process's own
 abbrev pub IsOwnPart : Part → Type 0
