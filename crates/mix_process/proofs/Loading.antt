@@ -8,7 +8,9 @@ use Rattle.vm_ids.specs.declared.command.Command.TheVariants as vm_commands
 use Rattle.vm_ids.specs.declared.command.MixCommand.TheVariants as commands
 use Rattle.vm_ids.specs.declared.command.Mapping.{Mapping}
 use Rattle.vm_ids.specs.declared.numbers.ActorId.{ActorId}
+use Rattle.vm_ids.specs.declared.numbers.PageNo.{PageNo}
 use Rattle.vm_ids.specs.declared.numbers.ProcId.{ProcId}
+use Rattle.vm_ids.specs.declared.reply.FaultAt.{FaultAt}
 use Rattle.vm_ids.specs.declared.refusal.Refusal.{Refusal}
 use Rattle.vm_ids.specs.declared.refusal.Refusal.TheVariants as refusals
 use Rattle.vm_ids.specs.declared.reply.FaultAt.TheVariants as faults
@@ -32,9 +34,10 @@ use Rattle.mix_process.specs.Tying.{AreTied, IsRun}
 use Rattle.mix_process.specs.declared.area.Area.{Area}
 use Rattle.mix_process.specs.declared.area.Area.TheVariants.{Data, Stack, Text}
 use Rattle.mix_process.specs.declared.mix.Image.{Image}
+use Rattle.mix_process.specs.declared.process.Part.{Part}
 use Rattle.mix_process.specs.declared.process.Process.{Process}
 use Rattle.mix_process.proofs.Areas.{page_number}
-use Rattle.mix_process.proofs.Seeing.{IsBare, IsSpot, located, seen_at}
+use Rattle.mix_process.proofs.Seeing.{AreParts, IsBare, IsSpot, located, seen_at}
 
 -- The pages of an area of a process that is seen
 pub seen_pages : (m : Machine) (p : Process) (area : Area) → pages_of (process_seen m p) area ≡ area_seen m area p.parts.items
@@ -87,3 +90,119 @@ module _ (m : Machine) (table : List (Option Process)) (images : List Image) (n 
       let first = subst (λ (o : Option Actor). AreSame m p r.regions address (vm_place.place_of_actor 4096 o address length) (model.place_of 4096 (Some (process_seen m p)) address length)) (sym r.there) both in
       let second = subst (λ (o : Option model.Process). AreSame m p r.regions address (vm_place.place_of_actor 4096 (actor_of m p.actor.0) address length) (model.place_of 4096 o address length)) (sym process_is) first in
       subst (λ (b : ℕ). AreSame m p r.regions address (vm_place.place_of_actor b (actor_of m p.actor.0) address length) (model.place_of b (model.process_of (processes_seen m table images) n) address length)) (sym live.page) second
+
+-- The page at a place
+
+unwrapped : (o : Option Cache) (k : ℕ) → option_map_or (λ (c : Cache). unwrap_or (slice_get c.pages k) []) o [] ≡ unwrap_or (slice_get (option_map_or (λ (c : Cache). c.pages) o []) k) []
+unwrapped None k = refl
+unwrapped (Some c) k = refl
+
+below : (a : Area) (before page number : ℕ) → number ≡ before + page → (a ≢ Data → before ≡ 0) → IsPageIn a number page
+below Text before page number e first = let none : before ≡ 0 = first (λ e. cc) in omega (arith, e, none)
+below Data before page number e first = omega (arith, e)
+below Stack before page number e first = let none : before ≡ 0 = first (λ e. cc) in omega (arith, e, none)
+
+module _ (m : Machine) (p : Process) (run : IsRun m p) (address : ℕ) where
+  -- the page of the spot among the pages of its area
+  pub spot_page : (s : IsSpot m p run.regions address) → slice_get (pages_of (process_seen m p) s.found.part.area) (page_number s.found.part.area address) ≡ slice_get (cache_pages m s.found.part.cache.0) s.page
+  spot_page s =
+      let f = s.found in
+      ap (λ (pages : List Page). slice_get pages (page_number f.part.area address)) (seen_pages m p f.part.area)
+      ∙ ap (slice_get (area_seen m f.part.area p.parts.items)) s.number
+      ∙ ap (λ (parts : List Part). slice_get (area_seen m f.part.area parts) (pages_in f.part.area f.before + s.page)) f.is
+      ∙ seen_at m f.before f.part f.behind s.page (subst (λ (parts : List Part). AreParts m parts) f.is run.parts) s.within
+
+  pub page_same : (at : vm_place.Place) (here : model.Place) → IsSame m p run.regions address at here → vm.page_at m at ≡ mix.page_at here
+  page_same at here s =
+      let f = s.spot.found in
+      let cache : f.region.cache ≡ f.part.cache.0 = ap (λ (q : Mapping). q.extent.cache.0) f.mapping in
+      ap (vm.page_at m) s.at_is
+      ∙ unwrapped (cache_of m f.region.cache) s.spot.page
+      ∙ ap (λ (c : ℕ). unwrap_or (slice_get (cache_pages m c) s.spot.page) []) cache
+      ∙ ap (λ (o : Option Page). unwrap_or o []) (sym (spot_page s.spot))
+      ∙ sym (ap mix.page_at s.here_is)
+
+  -- its number, as the manager counts it
+  pub page_below : (at : vm_place.Place) (here : model.Place) → IsSame m p run.regions address at here → IsPageIn here.area here.page at.page
+  page_below at here s =
+      let f = s.spot.found in
+      let is : IsPageIn f.part.area (page_number f.part.area address) s.spot.page = below f.part.area (pages_in f.part.area f.before) s.spot.page (page_number f.part.area address) s.spot.number (run.single f.before f.behind f.part f.is) in
+      subst (λ (here : model.Place). IsPageIn here.area here.page at.page) (sym s.here_is) (subst (λ (at : vm_place.Place). IsPageIn f.part.area (page_number f.part.area address) at.page) (sym s.at_is) is)
+
+  pub byte_same : (at : vm_place.Place) (here : model.Place) → IsSame m p run.regions address at here → at.byte ≡ here.byte
+  byte_same at here s = ap (λ (at : vm_place.Place). at.byte) s.at_is ∙ sym (ap (λ (here : model.Place). here.byte) s.here_is)
+
+-- Loads
+
+abbrev vm_load : Machine → ℕ → Result vm_place.Place Refusal → vm.Answered
+vm_load m length o = vm.with_ok o m (λ at. vm.reply (replies.Bytes (vm.bytes_at m at length)) m)
+
+abbrev mix_load : ProcessMachine → ℕ → Result model.Place Refusal → mix.Answered
+mix_load s length o = mix.with_ok o s (λ at. mix.reply (replies.Bytes (take length (drop at.byte (mix.page_at at)))) s)
+
+module _ (m : Machine) (p : Process) (run : IsRun m p) (address length : ℕ) (s : ProcessMachine) where
+  load_row : {o : Result vm_place.Place Refusal} {here : Result model.Place Refusal} (a : Answer) (next : Machine) → AreSame m p run.regions address o here → vm_load m length o ≡ record { answer = a; next = next }
+      → (mix_load s length here ≡ record { answer = a; next = s }) × (next ≡ m)
+  unfolding vm.with_ok mix.with_ok
+  load_row a next crosses h = (λ i. record { answer = (h i).answer; next = s }, sym (ap (λ (x : vm.Answered). x.next) h))
+  load_row a next nowhere h = (λ i. record { answer = (h i).answer; next = s }, sym (ap (λ (x : vm.Answered). x.next) h))
+  load_row a next (same at here is) h =
+      let bytes : take length (drop here.byte (mix.page_at here)) ≡ vm.bytes_at m at length = λ i. take length (drop (sym (byte_same m p run address at here is) i) (sym (page_same m p run address at here is) i)) in
+      let answer : Ok (replies.Bytes (take length (drop here.byte (mix.page_at here)))) ≡ a = ap (λ (xs : List ℕ). let r : Answer = Ok (replies.Bytes xs) in r) bytes ∙ ap (λ (x : vm.Answered). x.answer) h in
+      (ap (λ (r : Answer). let x : mix.Answered = record { answer = r; next = s } in x) answer, sym (ap (λ (x : vm.Answered). x.next) h))
+
+  -- a load isn't refused for want of room
+  load_few : {o : Result vm_place.Place Refusal} {here : Result model.Place Refusal} (next : Machine) → AreSame m p run.regions address o here → vm_load m length o ≡ record { answer = Err (troubles.Refused refusals.TooMany); next = next } → ⊥
+  unfolding vm.with_ok
+  load_few next crosses h = absurd (cc (ap (λ (x : vm.Answered). x.answer) h))
+  load_few next nowhere h = absurd (cc (ap (λ (x : vm.Answered). x.answer) h))
+  load_few next (same at here is) h = absurd (cc (ap (λ (x : vm.Answered). x.answer) h))
+
+  load_goes : {o : Result vm_place.Place Refusal} {here : Result model.Place Refusal} → AreSame m p run.regions address o here → IsNotRefused (vm_load m length o).answer → IsNotRefused (mix_load s length here).answer
+  unfolding vm.with_ok mix.with_ok
+  load_goes crosses h = h
+  load_goes nowhere h = h
+  load_goes (same at here is) h = tt
+
+  missed : {o : Result vm_place.Place Refusal} {here : Result model.Place Refusal} (page : ℕ) → AreSame m p run.regions address o here → IsOkAnd o (λ (at : vm_place.Place). at.page ≡ page) → IsOkAnd here (λ (at : model.Place). IsPageIn at.area at.page page)
+  missed page crosses h = h
+  missed page nowhere h = h
+  missed page (same at here is) h = subst (IsPageIn here.area here.page) h (page_below m p run address at here is)
+
+not_refused : (a : Answer) (at : FaultAt) → (at ≡ faults.Victim) ⊎ ((page : PageNo) × (at ≡ faults.Page page)) → vm_outcome.NotRefusedButFor at a → IsNotRefused a
+not_refused (Ok r) at which h = tt
+not_refused (Err e) at (inl v) h = absurd (subst (λ (at : FaultAt). vm_outcome.NotRefusedButFor at (Err e)) v h)
+not_refused (Err e) at (inr p) h = absurd (subst (λ (at : FaultAt). vm_outcome.NotRefusedButFor at (Err e)) p.1 h)
+
+module _ (m : Machine) (table : List (Option Process)) (images : List Image) (of : ProcId) (p : Process) (live : IsLiving m table of.0 p) (f : Option PageForest) (u : Usage) (h : Segments) where
+  abbrev seen : ProcessMachine
+  seen = processes_seen m table images
+
+  load_answered : (address length : ℕ) (a : Answer) (next : Machine) → vm.load_of m p.actor.0 address length ≡ record { answer = a; next = next } → (mix.load_of seen of.0 address length ≡ record { answer = a; next = seen }) × (next ≡ m)
+  unfolding vm.load_of mix.load_of
+  load_answered address length a next o = load_row m p live.run address length seen a next (places_same m table images of.0 p live address length) o
+
+  never_many : (address length : ℕ) (next : Machine) → vm.load_of m p.actor.0 address length ≡ record { answer = Err (troubles.Refused refusals.TooMany); next = next } → ⊥
+  unfolding vm.load_of
+  never_many address length next o = load_few m p live.run address length seen next (places_same m table images of.0 p live address length) o
+
+  goes_on : (address length : ℕ) → IsNotRefused (vm.load_of m p.actor.0 address length).answer → IsNotRefused (mix.load_of seen of.0 address length).answer
+  unfolding vm.load_of mix.load_of
+  goes_on address length o = load_goes m p live.run address length seen (places_same m table images of.0 p live address length) o
+
+  load_fault : (address length : ℕ) (at : FaultAt) (next : Machine) (rises : MapperCounts) → next ≡ m → 0 < rises.faults → vm_outcome.MayFault m f (vm_commands.Load p.actor address length) h at rises → vm_outcome.NotRefusedButFor at (vm.load_of m p.actor.0 address length).answer
+      → Outcome seen u (commands.Load of address length) h (Err (troubles.Mapper at)) seen rises
+  load_fault address length (faults.Page page) next rises stays rose may refused =
+      (refl, rose, (missed m p live.run address length seen page.0 (places_same m table images of.0 p live address length) may.0, may.1), goes_on address length (not_refused (vm.load_of m p.actor.0 address length).answer (faults.Page page) (inr (page, refl)) refused))
+  load_fault address length faults.Victim next rises stays rose may refused =
+      (refl, rose, may, goes_on address length (not_refused (vm.load_of m p.actor.0 address length).answer faults.Victim (inl refl) refused))
+  load_fault address length at next rises stays rose may refused = absurd may
+
+  -- a load as it may come out
+  pub load_outcome : (address length : ℕ) (a : Answer) (next : Machine) (rises : MapperCounts) → vm_outcome.Outcome m f (vm_commands.Load p.actor address length) h a next rises
+      → Outcome seen u (commands.Load of address length) h a seen rises × (next ≡ m)
+  load_outcome address length (Ok r) next rises o = load_answered address length (Ok r) next o
+  load_outcome address length (Err (troubles.Refused refusals.TooMany)) next rises o = absurd (never_many address length next o)
+  load_outcome address length (Err (troubles.Refused r)) next rises o = load_answered address length (Err (troubles.Refused r)) next o
+  load_outcome address length (Err (troubles.Mapper at)) next rises o = (load_fault address length at next rises o.0 o.1 o.2 o.3, o.0)
+  load_outcome address length (Err troubles.Memory) next rises o = absurd o.1
