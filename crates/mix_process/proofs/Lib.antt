@@ -6,4 +6,5 @@ pub mod Lasting
 pub mod Looking
 pub mod Seeing
 pub mod Shapes
+pub mod Pushes
 pub mod Loading
