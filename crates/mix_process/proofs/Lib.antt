@@ -8,3 +8,4 @@ pub mod Seeing
 pub mod Shapes
 pub mod Pushes
 pub mod Loading
+pub mod Single
