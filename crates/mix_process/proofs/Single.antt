@@ -1,7 +1,7 @@
 -- Calls of the processes that are one call of the manager each.
-use Rattle.std.proofs.Common.{◌≡◌, ◌≢◌, ◌⊎◌, inl, inr, ℕ, ◌+◌, ◌*◌, ◌^◌, ◌≤◌, Bool, true, false, List, [], ◌∷◌, length, Option, Some, None, refl, sym, ap, subst, ◌∙◌, arith}
-use Rattle.std.specs.Prelude.{Ok, Err, is_some, slice_get, IfSome}
-use Rattle.vm_ids.specs.Counting.{MapperCounts}
+use Rattle.std.proofs.Common.{◌≡◌, ◌≢◌, ◌⊎◌, inl, inr, ℕ, ◌+◌, ◌*◌, ◌^◌, ◌≤◌, Bool, true, false, List, [], ◌∷◌, length, take, drop, Option, Some, None, refl, sym, ap, subst, ◌∙◌, arith}
+use Rattle.std.specs.Prelude.{Ok, Err, Result, is_some, not, option_map, slice_get, IfSome}
+use Rattle.vm_ids.specs.Counting.{MapperCounts, no_counts}
 use Rattle.vm_ids.specs.Held.{Held, Segments, segments_of}
 use Rattle.vm_ids.specs.declared.command.Command.{Command}
 use Rattle.vm_ids.specs.declared.command.Command.TheVariants as vm_commands
@@ -25,17 +25,21 @@ use Rattle.vm_model.specs.Run as vm_run
 use Rattle.vm_model.specs.declared.limits.TheConstants.{LIVE_PAGES, LIVING_ACTORS}
 use Rattle.vm_model.proofs.Outcomes.Kept.{IsKept, kept}
 use Rattle.vm_model.proofs.Outcomes.Rows.{each_ok}
+use Rattle.vm_model.proofs.Parts.Lists.{numbered-map}
 use Rattle.vm_port.specs.declared.traits.mapper.Mapper.{Ghosts as GhostsOfMapper}
 use Rattle.gmi_calls.specs.Calling.{Fits, MapperCall, RaisesMade}
 use Rattle.gmi_calls.specs.Managing.{meanings_of}
 use Rattle.gmi_calls.specs.Room.{CallWithin}
 use Rattle.gmi_calls.specs.declared.gmi.Gmi.{Ghosts as GhostsOfGmi}
 use Rattle.gmi_calls.proofs.Living.{stays_few}
+use Rattle.gmi_calls.proofs.Rising.{rise_none}
 use Rattle.mix_process.specs.Answering as mix
+use Rattle.mix_process.specs.ProcessMachine as model
+use Rattle.mix_process.specs.ProcessMachine.{ProcessMachine, place_of, process_of}
 use Rattle.mix_process.specs.Calling.{MixCall, StepAt, StepOver, call_budget}
 use Rattle.mix_process.specs.Outcome as mix_outcome
 use Rattle.mix_process.specs.Outcome.{RaisedBy, Usage, makes, usage_of}
-use Rattle.mix_process.specs.Seen.{cache_pages, processes_seen, state_of}
+use Rattle.mix_process.specs.Seen.{cache_pages, process_seen, processes_seen, state_of}
 use Rattle.mix_process.specs.Tying.{AreSynchronised, AreTied, CanCall}
 use Rattle.mix_process.specs.declared.mix.Image.{Image}
 use Rattle.mix_process.specs.declared.mix.Mix.{Mix}
@@ -156,3 +160,71 @@ module _ {Manager X Chooser : Type 0} (M : GhostsOfMapper X) (G : GhostsOfGmi Ma
         outcome = subst (λ (x : Machine). mix_outcome.Outcome (processes_seen m old.processes.items old.images.items) (usage_of m) command h answer (processes_seen x old.processes.items old.images.items) is.rises) (sym same) (outcome h o);
         raised = subst (λ (x : Machine). RaisedBy (makes (processes_seen m old.processes.items old.images.items) command h) (usage_of m) (usage_of x)) (sym same) (raised_none _ (usage_of m));
       })
+
+-- The calls
+
+paged : (m next : Machine) (s : Answer) → vm.reply replies.Done m ≡ record { answer = s; next = next } → s ≡ Ok replies.Done
+paged m next s h = sym (ap (λ (a : vm.Answered). a.answer) h)
+
+pub page_out_outcome : (m next : Machine) (f : Option PageForest) (s : ProcessMachine) (u : Usage) (h : Segments) (count : ℕ) (a : Answer) (rises : MapperCounts)
+    → Outcome m f (vm_commands.PageOut count) h a next rises → mix_outcome.Outcome s u (commands.PageOut count) h a s rises
+page_out_outcome m next f s u h count (Ok r) rises o = ap (λ (r : Answer). let x : mix.Answered = record { answer = r; next = s } in x) (sym (paged m next (Ok r) o))
+page_out_outcome m next f s u h count (Err (troubles.Refused r)) rises o = absurd (cc (paged m next (Err (troubles.Refused r)) o))
+page_out_outcome m next f s u h count (Err (troubles.Mapper faults.Victim)) rises o = (refl, o.1, o.2, tt)
+page_out_outcome m next f s u h count (Err (troubles.Mapper at)) rises o = absurd o.2
+page_out_outcome m next f s u h count (Err troubles.Memory) rises o = absurd o.1
+
+module _ {Manager X Chooser : Type 0} (M : GhostsOfMapper X) (G : GhostsOfGmi Manager X Chooser) (old : Mix Manager) (before : X) (can : CanCall G old (M.held before) (M.page_bytes before)) where
+  abbrev s : ProcessMachine
+  s = processes_seen (G.machine old.gmi (M.held before)) old.processes.items old.images.items
+
+  abbrev u : Usage
+  u = usage_of (G.machine old.gmi (M.held before))
+
+  -- a call that is refused before the manager is called
+  pub refused_called : (command : MixCommand) (answer : Answer) → ((h : Segments) → mix_outcome.Outcome s u command h answer s no_counts) → MixCall M G before old command answer before old
+  refused_called command answer outcome = record {
+    can = can;
+    made = omega arith;
+    rises = no_counts;
+    rose = rise_none (M.counts before);
+    step = go (segments_of (M.held before));
+  }
+    where
+      go : (told : Option Segments) → StepAt told (state_of G old (M.held before)) command answer no_counts (state_of G old (M.held before))
+      go None = tt
+      go (Some h) = record { outcome = outcome h; raised = raised_none (makes s command h) u }
+
+  module _ (gmi : Manager) (after : X) where
+    pub page_out_called : (count : ℕ) (a : Answer) → MapperCall M (meanings_of G) before old.gmi (vm_commands.PageOut count) a after gmi → MixCall M G before old (commands.PageOut count) a after (record old { gmi = gmi })
+    page_out_called count a call =
+        called_steady M G old gmi before after (vm_commands.PageOut count) a can call (commands.PageOut count) a (omega arith) (λ m f h. refl)
+        (λ h o. page_out_outcome (G.machine old.gmi (M.held before)) (G.machine gmi (M.held after)) (G.forest old.gmi (M.held before)) s u h count a _ o)
+
+    pub load_called : (of : ProcId) (p : Process) → numbered old.processes.items of.0 ≡ Some p → (address length : ℕ) (a : Answer)
+        → MapperCall M (meanings_of G) before old.gmi (vm_commands.Load p.actor address length) a after gmi → MixCall M G before old (commands.Load of address length) a after (record old { gmi = gmi })
+    load_called of p there address length a call =
+        let live : IsLiving (G.machine old.gmi (M.held before)) old.processes.items of.0 p = record { page = can.tied.page; there = there; run = can.tied.run of.0 p there } in
+        called_steady M G old gmi before after (vm_commands.Load p.actor address length) a can call (commands.Load of address length) a (omega arith) (λ m f h. load_steady p.actor.0 address m length)
+        (λ h o. (load_outcome (G.machine old.gmi (M.held before)) old.processes.items old.images.items of p live (G.forest old.gmi (M.held before)) u h address length a (G.machine gmi (M.held after)) _ o).0)
+
+  -- no living process has the number
+  none_here : (n : ℕ) → numbered old.processes.items n ≡ None → process_of s n ≡ None
+  none_here n none = numbered-map (process_seen (G.machine old.gmi (M.held before))) old.processes.items n ∙ ap (option_map (process_seen (G.machine old.gmi (M.held before)))) none
+
+  nobody : (length : ℕ) (b : ℕ) (address : ℕ) (o : Option model.Process) → o ≡ None → place_of b o address length ≡ Err refusals.NoProcess
+  nobody length b address o e = ap (λ (o : Option model.Process). place_of b o address length) e
+
+  load_row_nobody : (of : ProcId) (address length : ℕ) → numbered old.processes.items of.0 ≡ None → mix.load_of s of.0 address length ≡ record { answer = Err (troubles.Refused refusals.NoProcess); next = s }
+  unfolding mix.load_of mix.with_ok
+  load_row_nobody of address length none = ap (λ (o : Result model.Place Refusal). mix.with_ok o s (λ at. mix.reply (replies.Bytes (take length (drop at.byte (mix.page_at at)))) s)) (nobody length s.page_bytes address (process_of s of.0) (none_here of.0 none))
+
+  pub load_nobody : (of : ProcId) (address length : ℕ) → numbered old.processes.items of.0 ≡ None → MixCall M G before old (commands.Load of address length) (Err (troubles.Refused refusals.NoProcess)) before old
+  load_nobody of address length none = refused_called (commands.Load of address length) (Err (troubles.Refused refusals.NoProcess)) (λ h. load_row_nobody of address length none)
+
+  store_row_nobody : (of : ProcId) (address : ℕ) (piece : List ℕ) → numbered old.processes.items of.0 ≡ None → mix.store_of s of.0 address piece ≡ record { answer = Err (troubles.Refused refusals.NoProcess); next = s }
+  unfolding mix.store_of mix.with_ok
+  store_row_nobody of address piece none = ap (λ (o : Result model.Place Refusal). mix.with_ok o s (λ at. mix.unless (not (model.may_write at.area)) refusals.Protection s (mix.reply replies.Done (mix.put_process s of.0 (Some (mix.written_at at piece)))))) (nobody (length piece) s.page_bytes address (process_of s of.0) (none_here of.0 none))
+
+  pub store_nobody : (of : ProcId) (address : ℕ) (piece : List ℕ) → numbered old.processes.items of.0 ≡ None → MixCall M G before old (commands.Store of address piece) (Err (troubles.Refused refusals.NoProcess)) before old
+  store_nobody of address piece none = refused_called (commands.Store of address piece) (Err (troubles.Refused refusals.NoProcess)) (λ h. store_row_nobody of address piece none)

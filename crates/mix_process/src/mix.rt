@@ -146,10 +146,10 @@ impl<G> Mix<G> {
         ensures { MixCall M.Mapper G.Gmi mapper.old self.old (MixCommand.Load of address length) (answer_by Reply.Bytes result)
             mapper.new self.new }
     {
-        let Some(process) = numbered(&self.processes, of.0) else {
-            return Err(Trouble::Refused(Refusal::NoProcess));
+        let actor = match numbered(&self.processes, of.0) {
+            Some(process) => process.actor,
+            None => return Err(Trouble::Refused(Refusal::NoProcess)),
         };
-        let actor = process.actor;
         self.gmi.load(actor, address, length, mapper, chooser)
     }
 
@@ -170,10 +170,10 @@ impl<G> Mix<G> {
         ensures { MixCall M.Mapper G.Gmi mapper.old self.old (MixCommand.Store of address piece.now) (done_by result)
             mapper.new self.new }
     {
-        let Some(process) = numbered(&self.processes, of.0) else {
-            return Err(Trouble::Refused(Refusal::NoProcess));
+        let actor = match numbered(&self.processes, of.0) {
+            Some(process) => process.actor,
+            None => return Err(Trouble::Refused(Refusal::NoProcess)),
         };
-        let actor = process.actor;
         self.gmi.store(actor, address, piece, mapper, chooser)
     }
 
