@@ -9,3 +9,4 @@ pub mod Shapes
 pub mod Pushes
 pub mod Loading
 pub mod Single
+pub mod Putting
