@@ -20,9 +20,9 @@ use Rattle.mix_process.specs.declared.area.Area.TheVariants.{Data, Stack, Text}
 use Rattle.mix_process.specs.declared.mix.Image.{Image}
 use Rattle.mix_process.specs.declared.process.Part.{Part}
 use Rattle.mix_process.specs.declared.process.Process.{Process}
-use Rattle.mix_process.proofs.Lists.{get_last, number_at}
+use Rattle.mix_process.proofs.Lists.{get_append, get_past, number_at}
 use Rattle.mix_process.proofs.Looking.{area_same, same_self}
-use Rattle.mix_process.proofs.Seeing.{AreParts, pages_there, seen-append, seen_length}
+use Rattle.mix_process.proofs.Seeing.{AreParts, all_parts, pages_there, part_length, seen-append, seen_length}
 use Rattle.mix_process.proofs.Shapes.{HasShape, IsLike}
 
 -- Lists
@@ -131,3 +131,136 @@ process_same m n p h = λ i. record {
   stack_pages = seen_same m n Stack p.parts.items h i;
   grown = parts_in Data p.parts.items - 1;
 }
+
+-- The page is of one part
+
+module _ (m n : Machine) (before : List Part) (part : Part) (behind : List Part) (parts_are : AreParts m (before ++ part ∷ behind)) (page : ℕ) (bytes : Page) (within : page < part.pages)
+    (here : cache_pages n part.cache.0 ≡ set (cache_pages m part.cache.0) page bytes)
+    (others : (j : ℕ) (other : Part) → slice_get (before ++ part ∷ behind) j ≡ Some other → j ≢ length before → cache_pages n other.cache.0 ≡ cache_pages m other.cache.0) where
+  front_same : (area : Area) → area_seen n area before ≡ area_seen m area before
+  front_same area = seen_same m n area before (λ j other e. others j other (get_append before (part ∷ behind) j other e) (let less : j < length before = slice_get_within before j other e in λ q. omega (arith, less, q)))
+
+  back_same : (area : Area) → area_seen n area behind ≡ area_seen m area behind
+  back_same area = seen_same m n area behind (λ j other e. others (length before + suc j) other (get_behind_all before part behind j ∙ e) (λ q. omega (arith, q)))
+    where
+      get_behind_all : (xs : List Part) (x : Part) (ys : List Part) (j : ℕ) → slice_get (xs ++ x ∷ ys) (length xs + suc j) ≡ slice_get ys j
+      get_behind_all xs x ys j = get_past xs (x ∷ ys) (length xs + suc j) (omega arith) ∙ ap (slice_get (x ∷ ys)) (let q : length xs + suc j - length xs ≡ suc j = omega arith in q)
+
+  -- areas that the part isn't of stay
+  pub stays : (area : Area) → same_area part.area area ≡ false → area_seen n area (before ++ part ∷ behind) ≡ area_seen m area (before ++ part ∷ behind)
+  stays area other =
+      seen-append n area before (part ∷ behind)
+      ∙ (λ i. front_same area i ++ (cond (same_area part.area area) (part_seen n part) [] ++ back_same area i))
+      ∙ ap (λ (b : Bool). area_seen m area before ++ (cond b (part_seen n part) [] ++ area_seen m area behind)) other
+      ∙ ap (λ (b : Bool). area_seen m area before ++ (cond b (part_seen m part) [] ++ area_seen m area behind)) (sym other)
+      ∙ sym (seen-append m area before (part ∷ behind))
+
+  part_put : part_seen n part ≡ set (part_seen m part) page bytes
+  part_put = ap (take part.pages) here ∙ take_set (cache_pages m part.cache.0) part.pages page bytes
+
+  -- a page of its own area changes
+  pub changes : area_seen n part.area (before ++ part ∷ behind) ≡ set (area_seen m part.area (before ++ part ∷ behind)) (pages_in part.area before + page) bytes
+  changes =
+      let split = all_parts (λ (p : Part). IsPart m p.area p) before (part ∷ behind) parts_are in
+      let rest : List Page = area_seen m part.area behind in
+      let long : page < length (part_seen m part) = omega (arith, within, part_length m part split.1.0) in
+      seen-append n part.area before (part ∷ behind)
+      ∙ (λ i. front_same part.area i ++ (cond (same_area part.area part.area) (part_put i) [] ++ back_same part.area i))
+      ∙ ap (λ (b : Bool). area_seen m part.area before ++ (cond b (set (part_seen m part) page bytes) [] ++ rest)) (same_self part.area)
+      ∙ ap (λ (xs : List Page). area_seen m part.area before ++ xs) (sym (set_left (part_seen m part) rest page bytes long))
+      ∙ sym (set_right (area_seen m part.area before) (part_seen m part ++ rest) (pages_in part.area before) page bytes (seen_length m part.area before split.0))
+      ∙ ap (λ (b : Bool). set (area_seen m part.area before ++ (cond b (part_seen m part) [] ++ rest)) (pages_in part.area before + page) bytes) (sym (same_self part.area))
+      ∙ ap (λ (xs : List Page). set xs (pages_in part.area before + page) bytes) (sym (seen-append m part.area before (part ∷ behind)))
+
+different : (a b : Area) → a ≢ b → same_area a b ≡ false
+different Text Text other = absurd (other refl)
+different Text Data other = refl
+different Text Stack other = refl
+different Data Text other = refl
+different Data Data other = absurd (other refl)
+different Data Stack other = refl
+different Stack Text other = refl
+different Stack Data other = refl
+different Stack Stack other = absurd (other refl)
+
+-- a process with the pages of one area changed
+seen_changed : (m n : Machine) (p : Process) (area : Area) (pages : List Page) → area_seen n area p.parts.items ≡ pages → ((other : Area) → area ≢ other → area_seen n other p.parts.items ≡ area_seen m other p.parts.items) → process_seen n p ≡ with_pages area pages (process_seen m p)
+seen_changed m n p Text pages is others = λ i. record { text_pages = is i; data_pages = others Data (λ e. cc) i; stack_pages = others Stack (λ e. cc) i; grown = parts_in Data p.parts.items - 1 }
+seen_changed m n p Data pages is others = λ i. record { text_pages = others Text (λ e. cc) i; data_pages = is i; stack_pages = others Stack (λ e. cc) i; grown = parts_in Data p.parts.items - 1 }
+seen_changed m n p Stack pages is others = λ i. record { text_pages = others Text (λ e. cc) i; data_pages = others Data (λ e. cc) i; stack_pages = is i; grown = parts_in Data p.parts.items - 1 }
+
+-- a process of which a page of one part changed
+pub process_put : (m n : Machine) (p : Process) (before : List Part) (part : Part) (behind : List Part) → p.parts.items ≡ before ++ part ∷ behind → AreParts m p.parts.items → (page : ℕ) (bytes : Page) → page < part.pages
+    → cache_pages n part.cache.0 ≡ set (cache_pages m part.cache.0) page bytes
+    → ((j : ℕ) (other : Part) → slice_get p.parts.items j ≡ Some other → j ≢ length before → cache_pages n other.cache.0 ≡ cache_pages m other.cache.0)
+    → process_seen n p ≡ with_pages part.area (set (area_seen m part.area p.parts.items) (pages_in part.area before + page) bytes) (process_seen m p)
+process_put m n p before part behind is all page bytes within here others =
+    let all_split : AreParts m (before ++ part ∷ behind) = subst (AreParts m) is all in
+    let others_split = λ (j : ℕ) (other : Part) (e : slice_get (before ++ part ∷ behind) j ≡ Some other). others j other (ap (λ (xs : List Part). slice_get xs j) is ∙ e) in
+    seen_changed m n p part.area (set (area_seen m part.area p.parts.items) (pages_in part.area before + page) bytes)
+    (ap (area_seen n part.area) is ∙ changes m n before part behind all_split page bytes within here others_split ∙ ap (λ (xs : List Part). set (area_seen m part.area xs) (pages_in part.area before + page) bytes) (sym is))
+    (λ other differs. ap (area_seen n other) is ∙ stays m n before part behind all_split page bytes within here others_split other (different part.area other differs) ∙ ap (area_seen m other) (sym is))
+
+-- Among all processes
+
+named_apart : (c d : Cache) (seg : ℕ) → c.segment ≡ None → d.segment ≡ Some seg → Some c ≡ Some d → ⊥
+named_apart c d seg none some e =
+    let same : c ≡ d = cc in
+    let f : None ≡ Some seg = sym none ∙ ap (λ (c : Cache). c.segment) same ∙ some in
+    absurd (cc f)
+
+module _ (m : Machine) (table : List (Option Process)) (spare : List ℕ) (images : List Image) (t : AreTied m (numbered table) spare images) (n : ℕ) (p : Process) (live : numbered table n ≡ Some p)
+    (before : List Part) (part : Part) (behind : List Part) (is : p.parts.items ≡ before ++ part ∷ behind) (own : IsOwnPart part) (c : Cache) (there : cache_of m part.cache.0 ≡ Some c) (temporary : c.segment ≡ None)
+    (page : ℕ) (bytes : Page) (within : page < part.pages) where
+  abbrev next : Machine
+  next = put_cache m part.cache.0 (put_page page bytes c)
+
+  has : slice_get p.parts.items (length before) ≡ Some part
+  has = ap (λ (xs : List Part). slice_get xs (length before)) is ∙ get_middle before part behind
+
+  owner : Owns (numbered table) n (length before) part.cache.0
+  owner = record { process = p; part = part; there = live; has = has; own = own; is = refl }
+
+  -- another part has another cache
+  other_cache : (k : ℕ) (q : Process) (j : ℕ) (other : Part) → numbered table k ≡ Some q → slice_get q.parts.items j ≡ Some other → ((n ≡ k) → length before ≡ j → ⊥) → other.cache.0 ≢ part.cache.0
+  other_cache k q j other alive found differs same = go other.area refl
+    where
+      is_part : IsPart m other.area other
+      is_part = all_at (λ (part : Part). IsPart m part.area part) q.parts.items j other (t.run k q alive).parts found
+      owned : other.area ≢ Text → ⊥
+      owned own_other = let both = t.caches_apart n k (length before) j part.cache.0 owner (record { process = q; part = other; there = alive; has = found; own = own_other; is = same }) in differs both.0 both.1
+      go : (a : Area) → other.area ≡ a → ⊥
+      go Text e =
+          let image : IsImageCache m other = subst (λ (a : Area). IsPart m a other) e is_part in
+          named_apart c image.cache image.seg temporary image.named (sym there ∙ ap (cache_of m) (sym same) ∙ image.there)
+      go Data e = owned (λ f. let g : Data ≡ Text = sym e ∙ f in absurd (cc g))
+      go Stack e = owned (λ f. let g : Stack ≡ Text = sym e ∙ f in absurd (cc g))
+
+  image_other : (i : ℕ) (image : Image) → slice_get images i ≡ Some image → image.cache.0 ≢ part.cache.0
+  image_other i image e same =
+      let d = t.images_there i image e in
+      named_apart c d.0 image.seg.0 temporary d.2 (sym there ∙ ap (cache_of m) (sym same) ∙ d.1)
+
+  pub images_put : (i : ℕ) (image : Image) → slice_get images i ≡ Some image → cache_pages next image.cache.0 ≡ cache_pages m image.cache.0
+  images_put i image e = pages_other m part.cache.0 c there page bytes image.cache.0 (image_other i image e)
+
+  -- the process itself
+  here_put : process_seen next p ≡ with_pages part.area (set (area_seen m part.area p.parts.items) (pages_in part.area before + page) bytes) (process_seen m p)
+  here_put = process_put m next p before part behind is (t.run n p live).parts page bytes within (pages_put m part.cache.0 c there page bytes)
+      (λ j other found differs. pages_other m part.cache.0 c there page bytes other.cache.0 (other_cache n p j other live found (λ q r. differs (sym r))))
+
+  -- and the others
+  other_put : (i : ℕ) (o : Option Process) → slice_get table i ≡ Some o → i ≢ n - 1 → option_map (process_seen next) o ≡ option_map (process_seen m) o
+  other_put i None found differs = refl
+  other_put i (Some q) found differs =
+      let alive : numbered table (i + 1) ≡ Some q = number_at table (i + 1) (Some q) (omega arith) (ap (slice_get table) (let e : i + 1 - 1 ≡ i = omega arith in e) ∙ found) in
+      ap (λ (x : model.Process). Some x) (process_same m next q (λ j other e. pages_other m part.cache.0 c there page bytes other.cache.0 (other_cache (i + 1) q j other alive e (λ same r. differs (omega (arith, same))))))
+
+  pub processes_put : processes_seen next table images ≡ put_process (processes_seen m table images) n (Some (with_pages part.area (set (area_seen m part.area p.parts.items) (pages_in part.area before + page) bytes) (process_seen m p)))
+  processes_put =
+      let at = numbered_place table n p live in
+      λ i. record {
+        page_bytes = m.page_bytes;
+        processes = map_but (option_map (process_seen next)) (option_map (process_seen m)) table (n - 1) (Some p) (Some (with_pages part.area (set (area_seen m part.area p.parts.items) (pages_in part.area before + page) bytes) (process_seen m p))) at.1 (ap (λ (x : model.Process). Some x) here_put) other_put i;
+        images = map_same (image_seen next) (image_seen m) images (λ k image e. ap (λ (pages : List Page). let x : ℕ × List Page = (image.seg.0, pages) in x) (images_put k image e)) i;
+      }

@@ -38,7 +38,7 @@ enough m Text p h = omega (arith, h.many, ap length (pages_there m p.cache.0 h.c
 enough m Data p h = omega (arith, h.many, ap length (pages_there m p.cache.0 h.cache h.there))
 enough m Stack p h = omega (arith, h.many, ap length (pages_there m p.cache.0 h.cache h.there))
 
-part_length : (m : Machine) (p : Part) → IsPart m p.area p → length (part_seen m p) ≡ p.pages
+pub part_length : (m : Machine) (p : Part) → IsPart m p.area p → length (part_seen m p) ≡ p.pages
 part_length m p h = length-take-le p.pages (cache_pages m p.cache.0) (enough m p.area p h)
 
 -- The pages of an area
