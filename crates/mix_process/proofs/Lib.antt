@@ -10,3 +10,4 @@ pub mod Pushes
 pub mod Loading
 pub mod Single
 pub mod Putting
+pub mod Storing

@@ -164,12 +164,12 @@ module _ (m : Machine) (p : Process) (run : IsRun m p) (address length : ℕ) (s
   load_goes nowhere h = h
   load_goes (same at here is) h = tt
 
-  missed : {o : Result vm_place.Place Refusal} {here : Result model.Place Refusal} (page : ℕ) → AreSame m p run.regions address o here → IsOkAnd o (λ (at : vm_place.Place). at.page ≡ page) → IsOkAnd here (λ (at : model.Place). IsPageIn at.area at.page page)
+  pub missed : {o : Result vm_place.Place Refusal} {here : Result model.Place Refusal} (page : ℕ) → AreSame m p run.regions address o here → IsOkAnd o (λ (at : vm_place.Place). at.page ≡ page) → IsOkAnd here (λ (at : model.Place). IsPageIn at.area at.page page)
   missed page crosses h = h
   missed page nowhere h = h
   missed page (same at here is) h = subst (IsPageIn here.area here.page) h (page_below m p run address at here is)
 
-not_refused : (a : Answer) (at : FaultAt) → (at ≡ faults.Victim) ⊎ ((page : PageNo) × (at ≡ faults.Page page)) → vm_outcome.NotRefusedButFor at a → IsNotRefused a
+pub not_refused : (a : Answer) (at : FaultAt) → (at ≡ faults.Victim) ⊎ ((page : PageNo) × (at ≡ faults.Page page)) → vm_outcome.NotRefusedButFor at a → IsNotRefused a
 not_refused (Ok r) at which h = tt
 not_refused (Err e) at (inl v) h = absurd (subst (λ (at : FaultAt). vm_outcome.NotRefusedButFor at (Err e)) v h)
 not_refused (Err e) at (inr p) h = absurd (subst (λ (at : FaultAt). vm_outcome.NotRefusedButFor at (Err e)) p.1 h)

@@ -1,9 +1,14 @@
 -- The ties hold of each machine of the same shape: with the same actors, and as many pages in each
 -- cache.
-use Rattle.std.proofs.Common.{◌≡◌, ◌≢◌, ◌⊎◌, inl, inr, ℕ, ◌+◌, ◌-◌, ◌≤◌, List, [], ◌∷◌, length, Option, Some, None, refl, sym, ap, subst, ◌∙◌, arith}
-use Rattle.std.specs.Prelude.{slice_get}
+use Rattle.std.proofs.Common.{◌≡◌, ◌≢◌, ◌⊎◌, inl, inr, ℕ, ◌+◌, ◌-◌, ◌≤◌, List, [], ◌∷◌, length, map, Option, Some, None, refl, sym, ap, subst, ◌∙◌, arith}
+use Rattle.std.specs.Prelude.{option_map, slice_get}
+use Rattle.std.specs.Option.{option_map_or}
+use Rattle.std.proofs.lemmas.List.{length-map}
 use Rattle.std.specs.List.{AllByRecursion}
-use Rattle.vm_model.specs.Machine.{Actor, Cache, Machine, actor_of, cache_of, numbered}
+use Rattle.vm_model.specs.Machine.{Actor, Cache, Machine, Page, actor_of, cache_of, numbered}
+use Rattle.vm_model.specs.Outcome.{blank, blank_cache}
+use Rattle.vm_model.proofs.Parts.Lists.{numbered-map}
+use Rattle.mix_process.specs.Seen.{cache_pages}
 use Rattle.mix_process.specs.Tying.{AreTied, IsImageCache, IsOwnCache, IsPart, IsRun}
 use Rattle.mix_process.specs.declared.area.Area.{Area}
 use Rattle.mix_process.specs.declared.area.Area.TheVariants.{Data, Stack, Text}
@@ -33,6 +38,43 @@ shape_self m = record {
   there = λ cache c e. (c, e, record { segment = refl; many = refl });
   back = λ cache c e. (c, e, record { segment = refl; many = refl });
 }
+
+pub shape_back : (m n : Machine) → HasShape m n → HasShape n m
+shape_back m n s = record { page = sym s.page; actors = sym s.actors; there = s.back; back = s.there }
+
+likes_then : (m n o : Machine) → HasLikes m n → HasLikes n o → HasLikes m o
+likes_then m n o f g = λ k c e. (let d = f k c e in let x = g k d.0 d.1 in (x.0, x.1, record { segment = x.2.segment ∙ d.2.segment; many = x.2.many ∙ d.2.many }))
+
+pub shape_then : (m n o : Machine) → HasShape m n → HasShape n o → HasShape m o
+shape_then m n o s t = record { page = t.page ∙ s.page; actors = t.actors ∙ s.actors; there = likes_then m n o s.there t.there; back = likes_then o n m t.back s.back }
+
+-- Machines without bytes
+
+blank_at : (w : Machine) (k : ℕ) → cache_of (blank w) k ≡ option_map blank_cache (cache_of w k)
+blank_at w k = numbered-map blank_cache w.caches k
+
+mapped_some : {A B : Type 0} (f : A → B) (o : Option A) (y : B) → option_map f o ≡ Some y → (x : A) × (o ≡ Some x) × (f x ≡ y)
+mapped_some f None y e = absurd (cc e)
+mapped_some f (Some x) y e = (x, refl, cc e)
+
+abbrev emptied : Page → Page
+emptied page = []
+
+pub blank_shape : (w : Machine) → HasShape w (blank w)
+blank_shape w = record {
+  page = refl;
+  actors = refl;
+  there = λ k c e. (blank_cache c, blank_at w k ∙ ap (option_map blank_cache) e, record { segment = refl; many = length-map c.pages emptied });
+  back = λ k d e. (let x = mapped_some blank_cache (cache_of w k) d (sym (blank_at w k) ∙ e) in
+      (x.0, x.1, record { segment = ap (λ (c : Cache). c.segment) x.2; many = sym (length-map x.0.pages emptied) ∙ ap (λ (c : Cache). length c.pages) x.2 }));
+}
+
+blank_of : (o : Option Cache) → option_map_or (λ (c : Cache). c.pages) (option_map blank_cache o) [] ≡ map (λ _. []) (option_map_or (λ (c : Cache). c.pages) o [])
+blank_of None = refl
+blank_of (Some c) = refl
+
+pub blank_pages : (w : Machine) (k : ℕ) → cache_pages (blank w) k ≡ map (λ _. []) (cache_pages w k)
+blank_pages w k = ap (λ (o : Option Cache). option_map_or (λ (c : Cache). c.pages) o []) (blank_at w k) ∙ blank_of (cache_of w k)
 
 module _ (m n : Machine) (s : HasShape m n) where
   own_like : (p : Part) → IsOwnCache m p → IsOwnCache n p
