@@ -8,6 +8,6 @@ pub mod Seeing
 pub mod Shapes
 pub mod Pushes
 pub mod Loading
-pub mod Single
 pub mod Putting
 pub mod Storing
+pub mod Single

@@ -47,6 +47,7 @@ use Rattle.mix_process.specs.declared.process.Process.{Process}
 use Rattle.mix_process.proofs.Loading.{IsLiving, load_outcome}
 use Rattle.mix_process.proofs.Pushes.{still_synchronised}
 use Rattle.mix_process.proofs.Shapes.{HasShape, shape_self, tied_like}
+use Rattle.mix_process.proofs.Storing.{IsPut, store_outcome, store_put}
 
 -- Commands that leave the machine
 
@@ -97,21 +98,21 @@ raised_none more u = record { actors = omega arith; caches = omega arith; region
 
 module _ {Manager X Chooser : Type 0} (M : GhostsOfMapper X) (G : GhostsOfGmi Manager X Chooser) (old : Mix Manager) (gmi : Manager) (before after : X) (c : Command) (a : Answer)
     (can : CanCall G old (M.held before) (M.page_bytes before)) (call : MapperCall M (meanings_of G) before old.gmi c a after gmi) where
-  abbrev m : Machine
+  abbrev pub m : Machine
   m = G.machine old.gmi (M.held before)
 
-  abbrev n : Machine
+  abbrev pub n : Machine
   n = G.machine gmi (M.held after)
 
   -- the processes over the manager as it is then
   abbrev pub with_manager : Mix Manager
   with_manager = record old { gmi = gmi }
 
-  abbrev is : CallIs (M.counts before) (M.counts after) (vm_run.state_of G.machine G.forest old.gmi (M.held before)) c a (vm_run.state_of G.machine G.forest gmi (M.held after))
-  is = subst (λ (room : Option ℕ). CallWithin room (M.counts before) (M.counts after) (vm_run.state_of G.machine G.forest old.gmi (M.held before)) c a (vm_run.state_of G.machine G.forest gmi (M.held after))) can.unlimited call.answers
+  abbrev pub call_is : CallIs (M.counts before) (M.counts after) (vm_run.state_of G.machine G.forest old.gmi (M.held before)) c a (vm_run.state_of G.machine G.forest gmi (M.held after))
+  call_is = subst (λ (room : Option ℕ). CallWithin room (M.counts before) (M.counts after) (vm_run.state_of G.machine G.forest old.gmi (M.held before)) c a (vm_run.state_of G.machine G.forest gmi (M.held after))) can.unlimited call.answers
 
   keeps : IsKept m c a n
-  keeps = kept (segments_of (M.held after)) m n (G.forest old.gmi (M.held before)) c a is.rises is.is.outcome
+  keeps = kept (segments_of (M.held after)) m n (G.forest old.gmi (M.held before)) c a call_is.rises call_is.is.outcome
 
   images_like : (told : Option Held) (images : List Image) → ((i : ℕ) (image : Image) → slice_get images i ≡ Some image → cache_pages n image.cache.0 ≡ cache_pages m image.cache.0) → AreSynchronised m images told → AreSynchronised n images told
   images_like None images alike sync = tt
@@ -124,40 +125,40 @@ module _ {Manager X Chooser : Type 0} (M : GhostsOfMapper X) (G : GhostsOfGmi Ma
     unlimited = unlimited_still (G.room old.gmi) (G.room gmi) can.unlimited call.room;
     fits = fits_still (M.page_bytes before) (M.page_bytes after) m n call.page shape.page can.fits;
     live = keeps.live can.live;
-    living = stays_few (segments_of (M.held after)) m n (G.forest old.gmi (M.held before)) c a is.rises is.is.outcome can.living;
+    living = stays_few (segments_of (M.held after)) m n (G.forest old.gmi (M.held before)) c a call_is.rises call_is.is.outcome can.living;
     few = omega (arith, can.few, ap length shape.actors);
     made = omega (arith, can.made, ap length shape.actors);
     tied = tied_like m n shape (numbered old.processes.items) [] old.images.items can.tied;
-    synchronised = images_like (M.held after) old.images.items alike (still_synchronised m (numbered old.processes.items) [] old.images.items can.tied (M.held before) (M.held after) is.pushes is.is.pushed can.synchronised);
+    synchronised = images_like (M.held after) old.images.items alike (still_synchronised m (numbered old.processes.items) [] old.images.items can.tied (M.held before) (M.held after) call_is.pushes call_is.is.pushed can.synchronised);
   }
 
   -- The call, where it touches one page at most and an outcome of the one is an outcome of the other.
   pub called : (command : MixCommand) (answer : Answer) → pages_touched m c ≤ 1 → HasShape m n
       → ((i : ℕ) (image : Image) → slice_get old.images.items i ≡ Some image → cache_pages n image.cache.0 ≡ cache_pages m image.cache.0)
-      → ((h : Segments) → Outcome m (G.forest old.gmi (M.held before)) c h a n is.rises → StepOver h (state_of G old (M.held before)) command answer is.rises (state_of G with_manager (M.held after)))
+      → ((h : Segments) → Outcome m (G.forest old.gmi (M.held before)) c h a n call_is.rises → StepOver h (state_of G old (M.held before)) command answer call_is.rises (state_of G with_manager (M.held after)))
       → MixCall M G before old command answer after with_manager
   called command answer one shape alike step = record {
     can = can_after shape alike;
     made = raises_little m n c a (G.made old.gmi) (G.made gmi) one (keeps.live can.live) call.made;
-    rises = is.rises;
-    rose = is.rose;
-    step = go (segments_of (M.held after)) is.is.outcome;
+    rises = call_is.rises;
+    rose = call_is.rose;
+    step = go (segments_of (M.held after)) call_is.is.outcome;
   }
     where
-      go : (told : Option Segments) → OutcomeAt told m (G.forest old.gmi (M.held before)) c a n is.rises → StepAt told (state_of G old (M.held before)) command answer is.rises (state_of G with_manager (M.held after))
+      go : (told : Option Segments) → OutcomeAt told m (G.forest old.gmi (M.held before)) c a n call_is.rises → StepAt told (state_of G old (M.held before)) command answer call_is.rises (state_of G with_manager (M.held after))
       go None o = tt
       go (Some h) o = step h o
 
   -- a call that leaves the machine
   pub called_steady : (command : MixCommand) (answer : Answer) → pages_touched m c ≤ 1 → IsSteady c
-      → ((h : Segments) → Outcome m (G.forest old.gmi (M.held before)) c h a n is.rises
-      → mix_outcome.Outcome (processes_seen m old.processes.items old.images.items) (usage_of m) command h answer (processes_seen m old.processes.items old.images.items) is.rises)
+      → ((h : Segments) → Outcome m (G.forest old.gmi (M.held before)) c h a n call_is.rises
+      → mix_outcome.Outcome (processes_seen m old.processes.items old.images.items) (usage_of m) command h answer (processes_seen m old.processes.items old.images.items) call_is.rises)
       → MixCall M G before old command answer after with_manager
   called_steady command answer one steady outcome =
-      let same : n ≡ m = steady_at (segments_of (M.held after)) c steady m (G.forest old.gmi (M.held before)) a n is.rises is.is.outcome in
+      let same : n ≡ m = steady_at (segments_of (M.held after)) c steady m (G.forest old.gmi (M.held before)) a n call_is.rises call_is.is.outcome in
       called command answer one (subst (HasShape m) (sym same) (shape_self m)) (λ i image e. ap (λ (x : Machine). cache_pages x image.cache.0) same)
       (λ h o. record {
-        outcome = subst (λ (x : Machine). mix_outcome.Outcome (processes_seen m old.processes.items old.images.items) (usage_of m) command h answer (processes_seen x old.processes.items old.images.items) is.rises) (sym same) (outcome h o);
+        outcome = subst (λ (x : Machine). mix_outcome.Outcome (processes_seen m old.processes.items old.images.items) (usage_of m) command h answer (processes_seen x old.processes.items old.images.items) call_is.rises) (sym same) (outcome h o);
         raised = subst (λ (x : Machine). RaisedBy (makes (processes_seen m old.processes.items old.images.items) command h) (usage_of m) (usage_of x)) (sym same) (raised_none _ (usage_of m));
       })
 
@@ -207,6 +208,19 @@ module _ {Manager X Chooser : Type 0} (M : GhostsOfMapper X) (G : GhostsOfGmi Ma
         let live : IsLiving (G.machine old.gmi (M.held before)) old.processes.items of.0 p = record { page = can.tied.page; there = there; run = can.tied.run of.0 p there } in
         called_steady M G old gmi before after (vm_commands.Load p.actor address length) a can call (commands.Load of address length) a (omega arith) (λ m f h. load_steady p.actor.0 address m length)
         (λ h o. (load_outcome (G.machine old.gmi (M.held before)) old.processes.items old.images.items of p live (G.forest old.gmi (M.held before)) u h address length a (G.machine gmi (M.held after)) _ o).0)
+
+    pub store_called : (of : ProcId) (p : Process) → numbered old.processes.items of.0 ≡ Some p → (address : ℕ) (piece : List ℕ) (a : Answer)
+        → MapperCall M (meanings_of G) before old.gmi (vm_commands.Store p.actor address piece) a after gmi → MixCall M G before old (commands.Store of address piece) a after (record old { gmi = gmi })
+    store_called of p there address piece a call =
+        let m : Machine = G.machine old.gmi (M.held before) in
+        let live : IsLiving m old.processes.items of.0 p = record { page = can.tied.page; there = there; run = can.tied.run of.0 p there } in
+        let it = call_is M G old gmi before after (vm_commands.Store p.actor address piece) a can call in
+        let put : IsPut m (G.machine gmi (M.held after)) old.images.items = store_put (segments_of (M.held after)) m old.processes.items [] old.images.items can.tied of p there (G.forest old.gmi (M.held before)) address piece a (G.machine gmi (M.held after)) it.rises it.is.outcome in
+        called M G old gmi before after (vm_commands.Store p.actor address piece) a can call (commands.Store of address piece) a (omega arith) put.shape put.alike
+        (λ h o. record {
+          outcome = (store_outcome m old.processes.items [] old.images.items can.tied of p live (G.forest old.gmi (M.held before)) u h address piece a (G.machine gmi (M.held after)) it.rises o).0;
+          raised = record { actors = omega (arith, ap length put.shape.actors); caches = omega (arith, put.caches); regions = omega (arith, put.regions) };
+        })
 
   -- no living process has the number
   none_here : (n : ℕ) → numbered old.processes.items n ≡ None → process_of s n ≡ None
