@@ -24,7 +24,7 @@ put_back [] i x e = refl
 put_back (y ∷ xs) zero x e = let same : y ≡ x = cc in ap (λ z. z ∷ xs) (sym same)
 put_back (y ∷ xs) (suc i) x e = ap (λ zs. y ∷ zs) (put_back xs i x e)
 
-module _ (m : Machine) (processes : ℕ → Option Process) (spare : List ℕ) (images : List Image) (t : AreTied m processes spare images) where
+module _ (m : Machine) (processes : ℕ → Option Process) (spare : ℕ → Type 0) (images : List Image) (t : AreTied m processes spare images) where
   -- the segments hold what the images have
   abbrev Sync : Segments → Type 0
   Sync s = (i : ℕ) (image : Image) → slice_get images i ≡ Some image → get s.pages image.seg.0 ≡ Some (cache_pages m image.cache.0)

@@ -209,7 +209,7 @@ named_apart c d seg none some e =
     let f : None ≡ Some seg = sym none ∙ ap (λ (c : Cache). c.segment) same ∙ some in
     absurd (cc f)
 
-module _ (m : Machine) (table : List (Option Process)) (spare : List ℕ) (images : List Image) (t : AreTied m (numbered table) spare images) (n : ℕ) (p : Process) (live : numbered table n ≡ Some p)
+module _ (m : Machine) (table : List (Option Process)) (spare : ℕ → Type 0) (images : List Image) (t : AreTied m (numbered table) spare images) (n : ℕ) (p : Process) (live : numbered table n ≡ Some p)
     (before : List Part) (part : Part) (behind : List Part) (is : p.parts.items ≡ before ++ part ∷ behind) (own : IsOwnPart part) (c : Cache) (there : cache_of m part.cache.0 ≡ Some c) (temporary : c.segment ≡ None)
     (page : ℕ) (bytes : Page) (within : page < part.pages) where
   abbrev next : Machine

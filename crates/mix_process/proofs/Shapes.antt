@@ -80,7 +80,7 @@ module _ (m n : Machine) (s : HasShape m n) where
   own_like : (p : Part) → IsOwnCache m p → IsOwnCache n p
   own_like p h =
       let d = s.there p.cache.0 h.cache h.there in
-      record { cache = d.0; there = d.1; temporary = d.2.segment ∙ h.temporary; many = d.2.many ∙ h.many }
+      record { cache = d.0; there = d.1; temporary = d.2.segment ∙ h.temporary; some = h.some; many = d.2.many ∙ h.many }
 
   image_like : (p : Part) → IsImageCache m p → IsImageCache n p
   image_like p h =
@@ -106,17 +106,16 @@ module _ (m n : Machine) (s : HasShape m n) where
     single = h.single;
   }
 
-  pub tied_like : (processes : ℕ → Option Process) (spare : List ℕ) (images : List Image) → AreTied m processes spare images → AreTied n processes spare images
+  pub tied_like : (processes : ℕ → Option Process) (spare : ℕ → Type 0) (images : List Image) → AreTied m processes spare images → AreTied n processes spare images
   tied_like processes spare images t = record {
     page = s.page ∙ t.page;
     run = λ k p e. run_like p (t.run k p e);
     actors_apart = t.actors_apart;
     caches_apart = t.caches_apart;
-    spares = λ i cache e. (let c = t.spares i cache e in let d = s.there cache c.0 c.1 in (d.0, d.1, d.2.segment ∙ c.2));
-    spares_apart = t.spares_apart;
+    spares = λ cache e. (let c = t.spares cache e in let d = s.there cache c.0 c.1 in (d.0, d.1, d.2.segment ∙ c.2));
     spares_free = t.spares_free;
     no_more_actors = λ actor regions e. t.no_more_actors actor regions (ap (λ (actors : List (Option Actor)). numbered actors actor) (sym s.actors) ∙ e);
-    no_more_caches = λ cache d e temporary spared. (let c = s.back cache d e in t.no_more_caches cache c.0 c.1 (c.2.segment ∙ temporary) spared);
+    no_more_caches = λ cache d e temporary. (let c = s.back cache d e in t.no_more_caches cache c.0 c.1 (c.2.segment ∙ temporary));
     images_there = λ i image e. (let c = t.images_there i image e in let d = s.there image.cache.0 c.0 c.1 in (d.0, d.1, d.2.segment ∙ c.2));
     images_apart = t.images_apart;
     no_more_images = λ cache seg d e named. (let c = s.back cache d e in t.no_more_images cache seg c.0 c.1 (c.2.segment ∙ named));

@@ -40,7 +40,7 @@ use Rattle.mix_process.specs.Calling.{MixCall, StepAt, StepOver, call_budget}
 use Rattle.mix_process.specs.Outcome as mix_outcome
 use Rattle.mix_process.specs.Outcome.{RaisedBy, Usage, makes, usage_of}
 use Rattle.mix_process.specs.Seen.{cache_pages, process_seen, processes_seen, state_of}
-use Rattle.mix_process.specs.Tying.{AreSynchronised, AreTied, CanCall}
+use Rattle.mix_process.specs.Tying.{AreSynchronised, AreTied, CanCall, none_spare}
 use Rattle.mix_process.specs.declared.mix.Image.{Image}
 use Rattle.mix_process.specs.declared.mix.Mix.{Mix}
 use Rattle.mix_process.specs.declared.process.Process.{Process}
@@ -127,9 +127,9 @@ module _ {Manager X Chooser : Type 0} (M : GhostsOfMapper X) (G : GhostsOfGmi Ma
     live = keeps.live can.live;
     living = stays_few (segments_of (M.held after)) m n (G.forest old.gmi (M.held before)) c a call_is.rises call_is.is.outcome can.living;
     few = omega (arith, can.few, ap length shape.actors);
-    made = omega (arith, can.made, ap length shape.actors);
-    tied = tied_like m n shape (numbered old.processes.items) [] old.images.items can.tied;
-    synchronised = images_like (M.held after) old.images.items alike (still_synchronised m (numbered old.processes.items) [] old.images.items can.tied (M.held before) (M.held after) call_is.pushes call_is.is.pushed can.synchronised);
+    most = omega (arith, can.most, ap length shape.actors);
+    tied = tied_like m n shape (numbered old.processes.items) none_spare old.images.items can.tied;
+    synchronised = images_like (M.held after) old.images.items alike (still_synchronised m (numbered old.processes.items) none_spare old.images.items can.tied (M.held before) (M.held after) call_is.pushes call_is.is.pushed can.synchronised);
   }
 
   -- The call, where it touches one page at most and an outcome of the one is an outcome of the other.
@@ -215,10 +215,10 @@ module _ {Manager X Chooser : Type 0} (M : GhostsOfMapper X) (G : GhostsOfGmi Ma
         let m : Machine = G.machine old.gmi (M.held before) in
         let live : IsLiving m old.processes.items of.0 p = record { page = can.tied.page; there = there; run = can.tied.run of.0 p there } in
         let it = call_is M G old gmi before after (vm_commands.Store p.actor address piece) a can call in
-        let put : IsPut m (G.machine gmi (M.held after)) old.images.items = store_put (segments_of (M.held after)) m old.processes.items [] old.images.items can.tied of p there (G.forest old.gmi (M.held before)) address piece a (G.machine gmi (M.held after)) it.rises it.is.outcome in
+        let put : IsPut m (G.machine gmi (M.held after)) old.images.items = store_put (segments_of (M.held after)) m old.processes.items none_spare old.images.items can.tied of p there (G.forest old.gmi (M.held before)) address piece a (G.machine gmi (M.held after)) it.rises it.is.outcome in
         called M G old gmi before after (vm_commands.Store p.actor address piece) a can call (commands.Store of address piece) a (omega arith) put.shape put.alike
         (λ h o. record {
-          outcome = (store_outcome m old.processes.items [] old.images.items can.tied of p live (G.forest old.gmi (M.held before)) u h address piece a (G.machine gmi (M.held after)) it.rises o).0;
+          outcome = (store_outcome m old.processes.items none_spare old.images.items can.tied of p live (G.forest old.gmi (M.held before)) u h address piece a (G.machine gmi (M.held after)) it.rises o).0;
           raised = record { actors = omega (arith, ap length put.shape.actors); caches = omega (arith, put.caches); regions = omega (arith, put.regions) };
         })
 

@@ -94,7 +94,7 @@ abbrev mix_store : ProcessMachine → ℕ → List ℕ → Result model.Place Re
 mix_store s n bytes o =
     mix.with_ok o s (λ at. mix.unless (not (may_write at.area)) refusals.Protection s (mix.reply replies.Done (mix.put_process s n (Some (mix.written_at at bytes)))))
 
-module _ (m : Machine) (table : List (Option Process)) (spare : List ℕ) (images : List Image) (t : AreTied m (numbered table) spare images) (n : ℕ) (p : Process) (live : IsLiving m table n p) (address : ℕ) (bytes : List ℕ) where
+module _ (m : Machine) (table : List (Option Process)) (spare : ℕ → Type 0) (images : List Image) (t : AreTied m (numbered table) spare images) (n : ℕ) (p : Process) (live : IsLiving m table n p) (address : ℕ) (bytes : List ℕ) where
   abbrev s : ProcessMachine
   s = processes_seen m table images
 
@@ -222,7 +222,7 @@ module _ (m : Machine) (table : List (Option Process)) (spare : List ℕ) (image
 
 -- Outcomes
 
-module _ (m : Machine) (table : List (Option Process)) (spare : List ℕ) (images : List Image) (t : AreTied m (numbered table) spare images) (of : ProcId) (p : Process) (live : IsLiving m table of.0 p) (f : Option PageForest) (u : Usage) (h : Segments) (address : ℕ) (bytes : List ℕ) where
+module _ (m : Machine) (table : List (Option Process)) (spare : ℕ → Type 0) (images : List Image) (t : AreTied m (numbered table) spare images) (of : ProcId) (p : Process) (live : IsLiving m table of.0 p) (f : Option PageForest) (u : Usage) (h : Segments) (address : ℕ) (bytes : List ℕ) where
   abbrev seen : ProcessMachine
   seen = processes_seen m table images
 
@@ -261,7 +261,7 @@ module _ (m : Machine) (table : List (Option Process)) (spare : List ℕ) (image
   store_outcome (Err troubles.Memory) next rises o = absurd o.1
 
 -- it leaves the shape, with the segments told and without
-pub store_put : (told : Option Segments) (m : Machine) (table : List (Option Process)) (spare : List ℕ) (images : List Image) → AreTied m (numbered table) spare images → (of : ProcId) (p : Process) → numbered table of.0 ≡ Some p
+pub store_put : (told : Option Segments) (m : Machine) (table : List (Option Process)) (spare : ℕ → Type 0) (images : List Image) → AreTied m (numbered table) spare images → (of : ProcId) (p : Process) → numbered table of.0 ≡ Some p
     → (f : Option PageForest) (address : ℕ) (bytes : List ℕ) (a : Answer) (next : Machine) (rises : MapperCounts) → OutcomeAt told m f (vm_commands.Store p.actor address bytes) a next rises → IsPut m next images
 store_put (Some h) m table spare images t of p there f address bytes a next rises o =
     (store_outcome m table spare images t of p (record { page = t.page; there = there; run = t.run of.0 p there }) f (record { living = 0; actors = 0; caches = 0; regions = 0; pages = 0 }) h address bytes a next rises o).1

@@ -1,5 +1,5 @@
 -- How the processes are tied to the machine that their manager stands for.
-use Rattle.std.specs.Prelude.{◌≡◌, ◌≢◌, ◌≤◌, ℕ, false, List, [], ◌∷◌, ◌++◌, length, Option, Some, None, slice_get, IfSome}
+use Rattle.std.specs.Prelude.{◌≡◌, ◌≢◌, ◌≤◌, ◌⊎◌, ℕ, false, List, [], ◌∷◌, ◌++◌, length, Option, Some, None, slice_get, IfSome}
 use Rattle.std.specs.List.{AllByRecursion, list_any}
 use Rattle.std.specs.FinMap.{get}
 use Rattle.vm_ids.specs.Held.{Held}
@@ -35,6 +35,7 @@ pub record IsOwnCache (m : Machine) (p : Part) : Type 0 where
   pub cache : Cache
   pub there : cache_of m p.cache.0 ≡ Some cache
   pub temporary : cache.segment ≡ None
+  pub some : 1 ≤ p.pages
   pub many : length cache.pages ≡ p.pages
 
 -- The cache of an image, which has the pages of the part and may have more.
@@ -83,9 +84,9 @@ pub record Owns (processes : ℕ → Option Process) (n i cache : ℕ) : Type 0 
   pub own : IsOwnPart part
   pub is : part.cache.0 ≡ cache
 
--- The processes, by their numbers; and the caches of none that are to be mapped or destroyed. The
--- machine has no actors and caches but theirs and those of the images.
-pub record AreTied (m : Machine) (processes : ℕ → Option Process) (spare : List ℕ)
+-- The processes, by their numbers; and spare caches of none, which are to be mapped or destroyed.
+-- The machine has no actors and caches but theirs and those of the images.
+pub record AreTied (m : Machine) (processes : ℕ → Option Process) (spare : ℕ → Type 0)
     (images : List Image) : Type 0 where
   pub page : m.page_bytes ≡ 4096
   pub run : (n : ℕ) (p : Process) → processes n ≡ Some p → IsRun m p
@@ -93,17 +94,13 @@ pub record AreTied (m : Machine) (processes : ℕ → Option Process) (spare : L
       → p.actor.0 ≡ q.actor.0 → n ≡ k
   pub caches_apart : (n k i j cache : ℕ) → Owns processes n i cache → Owns processes k j cache
       → (n ≡ k) × (i ≡ j)
-  pub spares : (i cache : ℕ) → slice_get spare i ≡ Some cache → (c : Cache)
+  pub spares : (cache : ℕ) → spare cache → (c : Cache)
       × (cache_of m cache ≡ Some c) × (c.segment ≡ None)
-  pub spares_apart : (i j cache : ℕ) → slice_get spare i ≡ Some cache
-      → slice_get spare j ≡ Some cache → i ≡ j
-  pub spares_free : (i n k cache : ℕ) → slice_get spare i ≡ Some cache
-      → Owns processes n k cache → ⊥
+  pub spares_free : (n i cache : ℕ) → spare cache → Owns processes n i cache → ⊥
   pub no_more_actors : (actor : ℕ) (regions : Actor) → actor_of m actor ≡ Some regions
       → (n : ℕ) × (p : Process) × (processes n ≡ Some p) × (p.actor.0 ≡ actor)
   pub no_more_caches : (cache : ℕ) (c : Cache) → cache_of m cache ≡ Some c → c.segment ≡ None
-      → (spared : (i : ℕ) → slice_get spare i ≡ Some cache → ⊥)
-      → (n : ℕ) × (i : ℕ) × Owns processes n i cache
+      → spare cache ⊎ ((n : ℕ) × (i : ℕ) × Owns processes n i cache)
   pub images_there : (i : ℕ) (image : Image) → slice_get images i ≡ Some image → (c : Cache)
       × (cache_of m image.cache.0 ≡ Some c) × (c.segment ≡ Some image.seg.0)
   pub images_apart : (i j : ℕ) (image other : Image) → slice_get images i ≡ Some image
@@ -118,16 +115,28 @@ AreSynchronised m images told = IfSome told (λ h. (i : ℕ) (image : Image)
     → slice_get images i ≡ Some image
     → get h.segments image.seg.0 ≡ Some (cache_pages m image.cache.0))
 
--- What it takes to call the processes, given what the mapper holds and how many bytes its pages
--- have, where that is told. `G` is the ghost members of the manager.
-pub record CanCall {Manager Mapper Chooser : Type 0} (G : GhostsOfGmi Manager Mapper Chooser)
-    (mix : Mix Manager) (told : Option Held) (page_bytes : Option ℕ) : Type 0 where
-  pub valid : G.valid mix.gmi told
-  pub unlimited : G.room mix.gmi ≡ None
-  pub fits : Fits page_bytes (G.machine mix.gmi told)
-  pub live : live_pages (G.machine mix.gmi told) ≤ LIVE_PAGES
-  pub living : living_actors (G.machine mix.gmi told) ≤ LIVING_ACTORS
-  pub few : length mix.processes.items ≤ length (G.machine mix.gmi told).actors
-  pub made : length (G.machine mix.gmi told).actors ≤ MOST_MADE
-  pub tied : AreTied (G.machine mix.gmi told) (numbered mix.processes.items) [] mix.images.items
-  pub synchronised : AreSynchronised (G.machine mix.gmi told) mix.images.items told
+-- no cache is spare
+abbrev pub none_spare : ℕ → Type 0
+none_spare cache = ⊥
+
+-- What it takes to call the manager, given what the mapper holds and how many bytes its pages have,
+-- where that is told; which processes are tied to it, and which caches are spare. `G` is the ghost
+-- members of the manager.
+pub record AreAble {Manager Mapper Chooser : Type 0} (G : GhostsOfGmi Manager Mapper Chooser)
+    (gmi : Manager) (images : List Image) (told : Option Held) (page_bytes : Option ℕ) (made : ℕ)
+    (processes : ℕ → Option Process) (spare : ℕ → Type 0) : Type 0 where
+  pub valid : G.valid gmi told
+  pub unlimited : G.room gmi ≡ None
+  pub fits : Fits page_bytes (G.machine gmi told)
+  pub live : live_pages (G.machine gmi told) ≤ LIVE_PAGES
+  pub living : living_actors (G.machine gmi told) ≤ LIVING_ACTORS
+  pub few : made ≤ length (G.machine gmi told).actors
+  pub most : length (G.machine gmi told).actors ≤ MOST_MADE
+  pub tied : AreTied (G.machine gmi told) processes spare images
+  pub synchronised : AreSynchronised (G.machine gmi told) images told
+
+-- what it takes to call the processes
+abbrev pub CanCall : {Manager Mapper Chooser : Type 0} → GhostsOfGmi Manager Mapper Chooser
+    → Mix Manager → Option Held → Option ℕ → Type 0
+CanCall G mix told page_bytes = AreAble G mix.gmi mix.images.items told page_bytes
+    (length mix.processes.items) (numbered mix.processes.items) none_spare
