@@ -11,3 +11,4 @@ pub mod Loading
 pub mod Putting
 pub mod Storing
 pub mod Single
+pub mod Clearing

@@ -27,11 +27,11 @@ use Rattle.mix_process.proofs.Shapes.{HasShape, IsLike}
 
 -- Lists
 
-map_same : {A B : Type 0} (f g : A → B) (xs : List A) → ((i : ℕ) (x : A) → slice_get xs i ≡ Some x → f x ≡ g x) → map f xs ≡ map g xs
+pub map_same : {A B : Type 0} (f g : A → B) (xs : List A) → ((i : ℕ) (x : A) → slice_get xs i ≡ Some x → f x ≡ g x) → map f xs ≡ map g xs
 map_same f g [] h = refl
 map_same f g (x ∷ xs) h = λ j. h 0 x refl j ∷ map_same f g xs (λ i y e. h (suc i) y e) j
 
-map_but : {A B : Type 0} (f g : A → B) (xs : List A) (k : ℕ) (x : A) (v : B) → slice_get xs k ≡ Some x → f x ≡ v → ((i : ℕ) (y : A) → slice_get xs i ≡ Some y → i ≢ k → f y ≡ g y) → map f xs ≡ set (map g xs) k v
+pub map_but : {A B : Type 0} (f g : A → B) (xs : List A) (k : ℕ) (x : A) (v : B) → slice_get xs k ≡ Some x → f x ≡ v → ((i : ℕ) (y : A) → slice_get xs i ≡ Some y → i ≢ k → f y ≡ g y) → map f xs ≡ set (map g xs) k v
 map_but f g [] k x v there is h = absurd (cc there)
 map_but f g (y ∷ xs) zero x v there is h =
     let same : y ≡ x = cc in
@@ -227,14 +227,14 @@ module _ (m : Machine) (table : List (Option Process)) (spare : ℕ → Type 0) 
     where
       is_part : IsPart m other.area other
       is_part = all_at (λ (part : Part). IsPart m part.area part) q.parts.items j other (t.run k q alive).parts found
-      owned : other.area ≢ Text → ⊥
+      owned : may_write other.area ≡ true → ⊥
       owned own_other = let both = t.caches_apart n k (length before) j part.cache.0 owner (record { process = q; part = other; there = alive; has = found; own = own_other; is = same }) in differs both.0 both.1
       go : (a : Area) → other.area ≡ a → ⊥
       go Text e =
           let image : IsImageCache m other = subst (λ (a : Area). IsPart m a other) e is_part in
           named_apart c image.cache image.seg temporary image.named (sym there ∙ ap (cache_of m) (sym same) ∙ image.there)
-      go Data e = owned (λ f. let g : Data ≡ Text = sym e ∙ f in absurd (cc g))
-      go Stack e = owned (λ f. let g : Stack ≡ Text = sym e ∙ f in absurd (cc g))
+      go Data e = owned (ap may_write e)
+      go Stack e = owned (ap may_write e)
 
   image_other : (i : ℕ) (image : Image) → slice_get images i ≡ Some image → image.cache.0 ≢ part.cache.0
   image_other i image e same =

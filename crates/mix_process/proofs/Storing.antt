@@ -50,11 +50,6 @@ own_cache m Text p e h = absurd (cc e)
 own_cache m Data p e h = h
 own_cache m Stack p e h = h
 
-pub own_area : (a : Area) → may_write a ≡ true → a ≢ Text
-own_area Text e = absurd (cc e)
-own_area Data e = λ f. absurd (cc f)
-own_area Stack e = λ f. absurd (cc f)
-
 -- a temporary cache is named by no segment, and none of its pages is denied
 not_denied : (m : Machine) (h : Segments) (cache page : ℕ) (c : Cache) → cache_of m cache ≡ Some c → c.segment ≡ None → vm.is_denied_page m h cache page ≡ false
 not_denied m h cache page c there none =
@@ -123,7 +118,7 @@ module _ (m : Machine) (table : List (Option Process)) (spare : ℕ → Type 0) 
           ap (λ (x : Page). with_pages here.area (set (pages_of here.process here.area) here.page x) here.process) new_is
           ∙ ap (λ (here : model.Place). with_pages here.area (set (pages_of here.process here.area) here.page new) here.process) is.here_is
           ∙ (λ i. with_pages f.part.area (set (seen_pages m p f.part.area i) (spot.number i) new) (process_seen m p)) in
-      let seen_next = processes_put m table spare images t n p live.there f.before f.part f.behind f.is (own_area f.part.area writes_part) own.cache own.there own.temporary spot.page new spot.within in
+      let seen_next = processes_put m table spare images t n p live.there f.before f.part f.behind f.is writes_part own.cache own.there own.temporary spot.page new spot.within in
       (not_denied m h at.region.cache at.page own.cache there own.temporary,
       record {
         is = (λ i. mix.reply replies.Done (mix.put_process s n (Some (written i)))) ∙ ap (λ (x : ProcessMachine). mix.reply replies.Done x) (sym seen_next) ∙ ap (λ (x : Machine). mix.reply replies.Done (processes_seen x table images)) (sym next_is);
@@ -131,7 +126,7 @@ module _ (m : Machine) (table : List (Option Process)) (spare : ℕ → Type 0) 
           shape = put_shape m f.part.cache.0 own.cache own.there spot.page new;
           caches = length-set m.caches (f.part.cache.0 - 1) (Some (put_page spot.page new own.cache));
           regions = refl;
-          alike = images_put m table spare images t n p live.there f.before f.part f.behind f.is (own_area f.part.area writes_part) own.cache own.there own.temporary spot.page new spot.within;
+          alike = images_put m table spare images t n p live.there f.before f.part f.behind f.is writes_part own.cache own.there own.temporary spot.page new spot.within;
         });
       })
 

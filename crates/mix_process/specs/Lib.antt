@@ -3,6 +3,7 @@ pub mod Answering
 pub mod Outcome
 pub mod Seen
 pub mod Tying
+pub mod Inner
 pub mod Calling
 pub mod Rows
 pub mod Laws

@@ -1,5 +1,5 @@
 -- How the processes are tied to the machine that their manager stands for.
-use Rattle.std.specs.Prelude.{◌≡◌, ◌≢◌, ◌≤◌, ◌⊎◌, ℕ, false, List, [], ◌∷◌, ◌++◌, length, Option, Some, None, slice_get, IfSome}
+use Rattle.std.specs.Prelude.{◌≡◌, ◌≢◌, ◌≤◌, ◌⊎◌, ℕ, false, true, List, [], ◌∷◌, ◌++◌, length, Option, Some, None, slice_get, IfSome}
 use Rattle.std.specs.List.{AllByRecursion, list_any}
 use Rattle.std.specs.FinMap.{get}
 use Rattle.vm_ids.specs.Held.{Held}
@@ -9,6 +9,7 @@ use Rattle.vm_model.specs.Regions.{mapping_of}
 use Rattle.vm_model.specs.declared.limits.TheConstants.{LIVE_PAGES, LIVING_ACTORS, MOST_MADE}
 use Rattle.gmi_calls.specs.Calling.{Fits}
 use Rattle.gmi_calls.specs.declared.gmi.Gmi.{Ghosts as GhostsOfGmi}
+use Rattle.mix_process.specs.ProcessMachine.{may_write}
 use Rattle.mix_process.specs.Seen.{cache_pages, mapping_behind, pages_in}
 use Rattle.mix_process.specs.declared.area.Area.TheVariants.{Data, Stack, Text}
 use Rattle.mix_process.specs.declared.area.Area.{Area}
@@ -73,7 +74,7 @@ pub record IsRun (m : Machine) (p : Process) : Type 0 where
 
 -- a part of a process whose cache is the process's own
 abbrev pub IsOwnPart : Part → Type 0
-IsOwnPart part = part.area ≢ Text
+IsOwnPart part = may_write part.area ≡ true
 
 -- This process has this part, of its own.
 pub record Owns (processes : ℕ → Option Process) (n i cache : ℕ) : Type 0 where
