@@ -12,3 +12,4 @@ pub mod Putting
 pub mod Storing
 pub mod Single
 pub mod Clearing
+pub mod Able

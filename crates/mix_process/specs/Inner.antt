@@ -1,14 +1,15 @@
 -- What the inner calls say, by which processes are made and ended.
-use Rattle.std.specs.Prelude.{◌≡◌, ◌≤◌, ℕ, ◌+◌, ◌*◌, true, List, [], ◌∷◌, length, Some, slice_get, if◌then◌else◌}
+use Rattle.std.specs.Prelude.{◌≡◌, ◌==◌, ◌≤◌, ℕ, ◌+◌, ◌*◌, ◌^◌, true, List, [], ◌∷◌, length, Option, Some, slice_get, if◌then◌else◌}
 use Rattle.vm_ids.specs.Counting.{MapperCounts, Rise}
 use Rattle.vm_model.specs.Machine.{Machine, numbered}
 use Rattle.vm_port.specs.declared.traits.mapper.Mapper.{Ghosts as GhostsOfMapper}
 use Rattle.gmi_calls.specs.declared.gmi.Gmi.{Ghosts as GhostsOfGmi}
 use Rattle.mix_process.specs.ProcessMachine.{may_write}
 use Rattle.mix_process.specs.Seen.{processes_seen}
-use Rattle.mix_process.specs.Tying.{AreAble, IsOwnCache, IsOwnPart}
+use Rattle.mix_process.specs.Tying.{AreAble, CanCall, IsOwnCache, IsOwnPart}
 use Rattle.mix_process.specs.declared.mix.Mix.{Mix}
 use Rattle.mix_process.specs.declared.process.Part.{Part}
+use Rattle.mix_process.specs.declared.process.Process.{Process}
 
 -- the cache is one of its own of these parts
 abbrev pub spare_of : List Part → ℕ → Type 0
@@ -49,6 +50,27 @@ pub record AreCleared {Manager Mapper Chooser : Type 0} (M : GhostsOfMapper Mapp
   pub seen : processes_seen (G.machine new.gmi (M.held after)) old.processes.items old.images.items
       ≡ processes_seen (G.machine old.gmi (M.held before)) old.processes.items old.images.items
   pub made : G.made new.gmi + 16 * own_pages left ≤ G.made old.gmi + 16 * own_pages parts
+  pub alike : IsMadeAlike (G.machine old.gmi (M.held before)) (G.machine new.gmi (M.held after))
+  pub rises : MapperCounts
+  pub rose : Rise (M.counts before) (M.counts after) rises
+
+-- these processes, and one more under the number 0
+abbrev pub with_extra : Process → (ℕ → Option Process) → ℕ → Option Process
+with_extra process processes n = if n == 0 then Some process else processes n
+
+-- how far the ending of a process may raise the number that bounds the manager's counters
+abbrev pub end_budget : ℕ
+end_budget = 2 ^ 22
+
+-- A process that is none of these was ended; they stay as they were.
+pub record IsEnded {Manager Mapper Chooser : Type 0} (M : GhostsOfMapper Mapper)
+    (G : GhostsOfGmi Manager Mapper Chooser) (before : Mapper) (old : Mix Manager) (after : Mapper)
+    (new : Mix Manager) : Type 0 where
+  pub able : CanCall G new (M.held after) (M.page_bytes after)
+  pub same : new ≡ record old { gmi = new.gmi }
+  pub seen : processes_seen (G.machine new.gmi (M.held after)) old.processes.items old.images.items
+      ≡ processes_seen (G.machine old.gmi (M.held before)) old.processes.items old.images.items
+  pub made : G.made new.gmi ≤ G.made old.gmi + end_budget
   pub alike : IsMadeAlike (G.machine old.gmi (M.held before)) (G.machine new.gmi (M.held after))
   pub rises : MapperCounts
   pub rose : Rise (M.counts before) (M.counts after) rises

@@ -1,12 +1,14 @@
 // The processes, and the calls of them.
-ghost use Rattle.std.specs.Prelude.{◌≡◌, ◌≤◌, ◌^◌};
+ghost use Rattle.std.specs.Prelude.{◌≡◌, ◌≤◌, ◌+◌, ◌*◌, ◌^◌, [], length};
 ghost use Rattle.vm_model.specs.Answering.{answer_by};
+ghost use Rattle.vm_model.specs.Machine.{numbered};
 ghost use Rattle.gmi_calls.specs.Calling.{done_by};
 ghost use Rattle.mix_process.specs.Calling.{MixCall};
-ghost use Rattle.mix_process.specs.Tying.{CanCall};
+ghost use Rattle.mix_process.specs.Inner.{AreApart, AreCleared, AreOwn, IsEnded, own_pages, spare_of, with_extra};
+ghost use Rattle.mix_process.specs.Tying.{AreAble, CanCall, none_spare};
 
 use crate::area::{MOST_DATA, MOST_STACK, MOST_TEXT};
-use crate::process::{Part, Process, mapping_behind, pages_in};
+use crate::process::{Part, Process, mapping_behind, may_write, pages_in};
 use crate::Area;
 use gmi_calls::Gmi;
 use std::alloc::Global;
@@ -403,11 +405,37 @@ impl<G> Mix<G> {
     fn end<M: Mapper, C: Chooser>(&mut self, process: Process, mapper: &mut M, chooser: &mut C)
     where
         G: Gmi<M, C>,
+        requires able { AreAble G.Gmi self.old.gmi self.old.images.items (M.held mapper.old)
+            (M.page_bytes mapper.old) (length self.old.processes.items)
+            (with_extra process (numbered self.old.processes.items)) none_spare }
+        requires made { G.made self.old.gmi ≤ 2 ^ 61 + 2 ^ 30 }
+        ensures { IsEnded M.Mapper G.Gmi mapper.old self.old mapper.new self.new }
     {
-        let Process { actor, mut parts } = process;
+        let Process { actor, parts } = process;
         let _ = self.gmi.exit_actor(actor);
+        self.destroy_own(parts, mapper, chooser);
+    }
+
+    // Destroys the caches of their own that parts had which no region maps any more, the last one
+    // first.
+    fn destroy_own<M: Mapper, C: Chooser>(
+        &mut self,
+        mut parts: Vec<Part>,
+        mapper: &mut M,
+        chooser: &mut C,
+    )
+    where
+        G: Gmi<M, C>,
+        requires able { AreAble G.Gmi self.old.gmi self.old.images.items (M.held mapper.old)
+            (M.page_bytes mapper.old) (length self.old.processes.items)
+            (numbered self.old.processes.items) (spare_of parts.items) }
+        requires apart { AreApart parts.items }
+        requires own { AreOwn (G.machine self.old.gmi (M.held mapper.old)) parts.items }
+        requires made { G.made self.old.gmi + 16 * own_pages parts.items ≤ 2 ^ 62 }
+        ensures { AreCleared M.Mapper G.Gmi mapper.old self.old parts.items [] mapper.new self.new }
+    {
         while let Some(part) = parts.pop() {
-            if part.area != Area::Text {
+            if may_write(part.area) {
                 let _ = self.gmi.destroy(part.cache, mapper, chooser);
             }
         }

@@ -1,4 +1,7 @@
 // One process: its actor, and which caches are mapped into it.
+ghost use Rattle.std.specs.Prelude.{◌≡◌};
+ghost use Rattle.mix_process.specs.ProcessMachine.{area_start, may_write};
+
 use crate::Area;
 use crate::area::{DATA_START, STACK_START, TEXT_START};
 use vm_ids::{ActorId, CacheId, Extent, Mapping, PAGE, PageNo, Prot};
@@ -20,11 +23,23 @@ pub(crate) struct Process {
 }
 
 // Where an area begins.
-pub(crate) fn start_of(area: Area) -> u64 {
+pub(crate) fn start_of(area: Area) -> u64
+    ensures { result ≡ area_start area }
+{
     match area {
         Area::Text => TEXT_START,
         Area::Data => DATA_START,
         Area::Stack => STACK_START,
+    }
+}
+
+// Whether an area is for writing: each but the text.
+pub(crate) fn may_write(area: Area) -> bool
+    ensures { result ≡ may_write area }
+{
+    match area {
+        Area::Text => false,
+        Area::Data | Area::Stack => true,
     }
 }
 
@@ -49,7 +64,7 @@ pub(crate) fn mapping_behind(parts: &[Part], part: Part) -> Mapping {
         },
         address: start_of(part.area) + PAGE as u64 * pages_in(part.area, parts),
         prot: Prot {
-            write: part.area != Area::Text,
+            write: may_write(part.area),
         },
     }
 }
