@@ -163,3 +163,34 @@ module _ (m : Machine) (processes others : ℕ → Option Process) (images : Lis
     images_apart = t.images_apart;
     no_more_images = t.no_more_images;
   }
+
+-- The same caches are spare, in other words
+
+tied_respared : (m : Machine) (processes : ℕ → Option Process) (spare others : ℕ → Type 0) (images : List Image) → AreTied m processes spare images → ((k : ℕ) → spare k → others k) → ((k : ℕ) → others k → spare k) → AreTied m processes others images
+tied_respared m processes spare others images t to from = record {
+  page = t.page;
+  run = t.run;
+  actors_apart = t.actors_apart;
+  caches_apart = t.caches_apart;
+  spares = λ k s. t.spares k (from k s);
+  spares_free = λ n i k s o. t.spares_free n i k (from k s) o;
+  no_more_actors = t.no_more_actors;
+  no_more_caches = λ k c e temporary. elim (t.no_more_caches k c e temporary) [ inl s ↦ inl (to k s) | inr o ↦ inr o ];
+  images_there = t.images_there;
+  images_apart = t.images_apart;
+  no_more_images = t.no_more_images;
+}
+
+pub respared : {Manager X Chooser : Type 0} {G : GhostsOfGmi Manager X Chooser} {gmi : Manager} {images : List Image} {told : Option Held} {page : Option ℕ} {made : ℕ} (processes : ℕ → Option Process) (spare others : ℕ → Type 0)
+    → AreAble G gmi images told page made processes spare → ((k : ℕ) → spare k → others k) → ((k : ℕ) → others k → spare k) → AreAble G gmi images told page made processes others
+respared {Manager} {X} {Chooser} {G} {gmi} {images} {told} {page} {made} processes spare others can to from = record {
+  valid = can.valid;
+  unlimited = can.unlimited;
+  fits = can.fits;
+  live = can.live;
+  living = can.living;
+  few = can.few;
+  most = can.most;
+  tied = tied_respared (G.machine gmi told) processes spare others images can.tied to from;
+  synchronised = can.synchronised;
+}

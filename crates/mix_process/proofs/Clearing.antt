@@ -131,7 +131,7 @@ module _ (m : Machine) (cache : ℕ) (c : Cache) (there : cache_of m cache ≡ S
   ]
 
 -- parts whose caches are kept
-own_kept : (m n : Machine) (p : Part) → cache_of n p.cache.0 ≡ cache_of m p.cache.0 → IsOwnCache m p → IsOwnCache n p
+pub own_kept : (m n : Machine) (p : Part) → cache_of n p.cache.0 ≡ cache_of m p.cache.0 → IsOwnCache m p → IsOwnCache n p
 own_kept m n p e h = record { cache = h.cache; there = e ∙ h.there; temporary = h.temporary; some = h.some; many = h.many }
 
 image_part_kept : (m n : Machine) (p : Part) → cache_of n p.cache.0 ≡ cache_of m p.cache.0 → IsImageCache m p → IsImageCache n p

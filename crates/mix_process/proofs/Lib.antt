@@ -13,3 +13,4 @@ pub mod Storing
 pub mod Single
 pub mod Clearing
 pub mod Able
+pub mod Destroying
