@@ -21,7 +21,7 @@ use Rattle.vm_model.specs.Answering.{Answer, Answered, answer_of, destroy_of, ex
 use Rattle.vm_model.specs.Outcome.{BlankOutcome, IsAlike, IsNamed, MayFault, MayLackMemory, Outcome, OutcomeAt, blank, blank_cache}
 use Rattle.vm_model.proofs.Parts.Lists.{numbered-map}
 
-map-set : {A B : Type 0} (f : A → B) (xs : List A) (i : ℕ) (x : A) → map f (set xs i x) ≡ set (map f xs) i (f x)
+pub map-set : {A B : Type 0} (f : A → B) (xs : List A) (i : ℕ) (x : A) → map f (set xs i x) ≡ set (map f xs) i (f x)
 map-set f [] i x = refl
 map-set f (y ∷ xs) zero x = refl
 map-set f (y ∷ xs) (suc i) x = ap (λ zs. f y ∷ zs) (map-set f xs i x)

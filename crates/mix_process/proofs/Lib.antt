@@ -14,3 +14,4 @@ pub mod Single
 pub mod Clearing
 pub mod Able
 pub mod Destroying
+pub mod Ending

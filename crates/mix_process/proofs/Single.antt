@@ -223,7 +223,7 @@ module _ {Manager X Chooser : Type 0} (M : GhostsOfMapper X) (G : GhostsOfGmi Ma
         })
 
   -- no living process has the number
-  none_here : (n : ℕ) → numbered old.processes.items n ≡ None → process_of s n ≡ None
+  pub none_here : (n : ℕ) → numbered old.processes.items n ≡ None → process_of s n ≡ None
   none_here n none = numbered-map (process_seen (G.machine old.gmi (M.held before))) old.processes.items n ∙ ap (option_map (process_seen (G.machine old.gmi (M.held before)))) none
 
   nobody : (length : ℕ) (b : ℕ) (address : ℕ) (o : Option model.Process) → o ≡ None → place_of b o address length ≡ Err refusals.NoProcess

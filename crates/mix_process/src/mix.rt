@@ -1,5 +1,5 @@
 // The processes, and the calls of them.
-ghost use Rattle.std.specs.Prelude.{◌≡◌, ◌≤◌, ◌+◌, ◌*◌, ◌^◌, [], length};
+ghost use Rattle.std.specs.Prelude.{◌≡◌, ◌≤◌, ◌+◌, ◌-◌, ◌*◌, ◌^◌, [], length, slice_set, None, Some, IfNone, IfSome};
 ghost use Rattle.vm_model.specs.Answering.{answer_by};
 ghost use Rattle.vm_model.specs.Machine.{numbered};
 ghost use Rattle.gmi_calls.specs.Calling.{done_by};
@@ -102,12 +102,18 @@ impl<G> Mix<G> {
     ) -> Result<(), Trouble>
     where
         G: Gmi<M, C>,
+        requires can { CanCall G.Gmi self.old (M.held mapper.old) (M.page_bytes mapper.old) }
+        requires made { G.made self.old.gmi ≤ 2 ^ 61 }
+        ensures { MixCall M.Mapper G.Gmi mapper.old self.old (MixCommand.Exit of) (done_by result)
+            mapper.new self.new }
     {
-        let place = self.place_of(of)?;
-        if let Some(process) = self.processes[place].take() {
-            self.end(process, mapper, chooser);
+        match take(&mut self.processes, of) {
+            Some(process) => {
+                self.end(process, mapper, chooser);
+                Ok(())
+            }
+            None => Err(Trouble::Refused(Refusal::NoProcess)),
         }
-        Ok(())
     }
 
     /// Appends pages of zeros to the data of a process. Refused as `NoProcess` or `TooLarge`, in
@@ -440,6 +446,19 @@ impl<G> Mix<G> {
             }
         }
     }
+}
+
+// Takes a process out of the table, where it is alive.
+fn take(processes: &mut [Option<Process>], of: ProcId) -> Option<Process>
+    ensures taken { IfSome result (λ p. numbered processes.old of.0 ≡ Some p) }
+    ensures gone { IfSome result (λ _. processes.new ≡ slice_set processes.old (of.0 - 1) None) }
+    ensures nobody { IfNone result (numbered processes.old of.0 ≡ None) }
+    ensures same { IfNone result (processes.new ≡ processes.old) }
+{
+    if of.0 == 0 || of.0 as usize > processes.len() {
+        return None;
+    }
+    processes[of.0 as usize - 1].take()
 }
 
 // The cache of a segment among these.
