@@ -1,5 +1,5 @@
 -- How a process ends.
-use Rattle.std.proofs.Common.{◌≡◌, ◌≢◌, ◌⊎◌, inl, inr, ◌==◌, ℕ, zero, suc, ◌+◌, ◌-◌, ◌*◌, ◌^◌, ◌≤◌, ◌<◌, Bool, true, false, cond, List, [], ◌∷◌, ◌++◌, length, map, set, Option, Some, None, refl, sym, ap, subst, ◌∙◌, arith}
+use Rattle.std.proofs.Common.{◌≡◌, ◌≢◌, ◌⊎◌, inl, inr, ◌==◌, ℕ, zero, suc, ◌+◌, ◌-◌, ◌*◌, ◌^◌, ◌≤◌, ◌<◌, Bool, true, false, cond, List, [], ◌∷◌, ◌++◌, length, map, set, take, drop, Option, Some, None, refl, sym, ap, subst, ◌∙◌, arith}
 use Rattle.std.specs.Prelude.{Ok, Err, Result, option_map, slice_get}
 use Rattle.std.proofs.lemmas.Bool.{cases_eq}
 use Rattle.std.proofs.lemmas.Bool.Decides.{nat_tests}
@@ -36,6 +36,7 @@ use Rattle.mix_process.specs.declared.mix.Mix.{Mix}
 use Rattle.mix_process.specs.declared.process.Part.{Part}
 use Rattle.mix_process.specs.declared.process.Process.{Process}
 use Rattle.mix_process.proofs.Able.{AreRenamed, able_after, ended, is_call, own_caches, parts_apart, respared, sync_after, tied_ended, tied_renamed}
+use Rattle.mix_process.proofs.Clearing.{own_kept}
 use Rattle.mix_process.proofs.Lists.{number_at}
 use Rattle.mix_process.proofs.Putting.{number_other}
 use Rattle.mix_process.proofs.Single.{none_here, refused_called}
@@ -87,7 +88,8 @@ module _ {Manager X Chooser : Type 0} (M : GhostsOfMapper X) (G : GhostsOfGmi Ma
   apart_then = parts_apart m (with_extra process (numbered old.processes.items)) (numbered old.processes.items) old.images.items can.tied 0 process refl (λ k other. extra_other process (numbered old.processes.items) k other) refl
 
   pub own_then : AreOwn n process.parts.items
-  own_then = subst (λ (x : Machine). AreOwn x process.parts.items) (sym exits.next_is) (own_caches m (with_extra process (numbered old.processes.items)) (numbered old.processes.items) old.images.items can.tied 0 process refl (λ k other. extra_other process (numbered old.processes.items) k other) refl)
+  own_then = subst (λ (x : Machine). AreOwn x process.parts.items) (sym exits.next_is)
+      (λ j p e own. own_kept m (ended m process.actor.0) p refl (own_caches m (with_extra process (numbered old.processes.items)) (numbered old.processes.items) old.images.items can.tied 0 process refl (λ k other. extra_other process (numbered old.processes.items) k other) refl j p e own))
 
   pub able_then : AreAble G gmi old.images.items (M.held mapper) (M.page_bytes mapper) (length old.processes.items) (numbered old.processes.items) (spare_of process.parts.items)
   able_then =
@@ -127,6 +129,17 @@ module _ {Manager X Chooser : Type 0} (M : GhostsOfMapper X) (G : GhostsOfGmi Ma
   }
 
 -- A process is taken out of the table
+
+take_front : {A : Type 0} (xs ys : List A) (n : ℕ) → n ≡ length xs → take n (xs ++ ys) ≡ xs
+take_front [] ys zero e = refl
+take_front [] ys (suc n) e = absurd (omega (arith, e))
+take_front (x ∷ xs) ys zero e = absurd (omega (arith, e))
+take_front (x ∷ xs) ys (suc n) e = ap (λ zs. x ∷ zs) (take_front xs ys n (omega (arith, e)))
+
+-- what is written through a slice of a vector is in the vector
+pub written_back : {A : Type 0} (items slice new : List A) (len k : ℕ) (v : A) → slice ≡ items → new ≡ set slice k v → len ≡ length items → take len (new ++ drop (length new) items) ≡ set items k v
+written_back items slice new len k v same e many =
+    take_front new (drop (length new) items) len (omega (arith, many, ap length e, ap length same, length-set slice k v)) ∙ e ∙ ap (λ xs. set xs k v) same
 
 some_is : {A : Type 0} (x y : A) → Some x ≡ Some y → x ≡ y
 some_is x y e = cc e

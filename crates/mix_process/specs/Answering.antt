@@ -58,7 +58,7 @@ process_from page_bytes pages text data_pages stack = record {
   text_pages = take text pages;
   data_pages = take data_pages (drop text pages);
   stack_pages = replicate stack (zero_page page_bytes);
-  grown = 0;
+  pieces = 1;
 }
 
 -- a new process, under the next number
@@ -97,7 +97,7 @@ exit_of m process =
 -- the process with so many more pages of zeros behind its data
 abbrev pub grown_by : ℕ → ℕ → Process → Process
 grown_by page_bytes pages p =
-    record p { data_pages = p.data_pages ++ replicate pages (zero_page page_bytes); grown = p.grown + 1 }
+    record p { data_pages = p.data_pages ++ replicate pages (zero_page page_bytes); pieces = p.pieces + 1 }
 
 -- grow: zeros are appended to the data of the process
 unfoldable pub grow_of : ProcessMachine → ℕ → ℕ → Answered

@@ -49,7 +49,7 @@ usage_for caches pages =
 
 -- a fork makes as much as the process has
 abbrev pub usage_to_fork : Process → Usage
-usage_to_fork p = usage_for (3 + p.grown) (length p.text_pages + length p.data_pages + length p.stack_pages)
+usage_to_fork p = usage_for (2 + p.pieces) (length p.text_pages + length p.data_pages + length p.stack_pages)
 
 -- What a call makes at most. An exec makes three caches: one for the segment, if none was made for
 -- it yet, one for the data and one for the stack.

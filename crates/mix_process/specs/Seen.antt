@@ -56,7 +56,7 @@ process_seen m p = record {
   text_pages = area_seen m Text p.parts.items;
   data_pages = area_seen m Data p.parts.items;
   stack_pages = area_seen m Stack p.parts.items;
-  grown = parts_in Data p.parts.items - 1;
+  pieces = parts_in Data p.parts.items;
 }
 
 abbrev pub image_seen : Machine → Image → ℕ × List Page

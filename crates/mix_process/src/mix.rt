@@ -59,6 +59,14 @@ impl<G> Mix<G> {
     ) -> Result<ProcId, Trouble>
     where
         G: Gmi<M, C>,
+        requires text { 1 ≤ text_pages }
+        requires some { 1 ≤ data_pages }
+        requires stack { 1 ≤ stack_pages }
+        requires can { CanCall G.Gmi self.old (M.held mapper.old) (M.page_bytes mapper.old) }
+        requires made { G.made self.old.gmi ≤ 2 ^ 61 }
+        ensures { MixCall M.Mapper G.Gmi mapper.old self.old
+            (MixCommand.Exec seg text_pages data_pages stack_pages) (answer_by Reply.Process result)
+            mapper.new self.new }
     {
         if text_pages > MOST_TEXT || data_pages > MOST_DATA || stack_pages > MOST_STACK {
             return Err(Trouble::Refused(Refusal::TooLarge));
@@ -85,6 +93,11 @@ impl<G> Mix<G> {
     ) -> Result<ProcId, Trouble>
     where
         G: Gmi<M, C>,
+        requires can { CanCall G.Gmi self.old (M.held mapper.old) (M.page_bytes mapper.old) }
+        requires made { G.made self.old.gmi ≤ 2 ^ 61 }
+        ensures { MixCall M.Mapper G.Gmi mapper.old self.old
+            (MixCommand.Fork of) (answer_by Reply.Process result)
+            mapper.new self.new }
     {
         let parent = self.place_of(of)?;
         self.make_process()?;
@@ -107,12 +120,16 @@ impl<G> Mix<G> {
         ensures { MixCall M.Mapper G.Gmi mapper.old self.old (MixCommand.Exit of) (done_by result)
             mapper.new self.new }
     {
+        match numbered(&self.processes, of.0) {
+            Some(_) => {}
+            None => return Err(Trouble::Refused(Refusal::NoProcess)),
+        }
         match take(&mut self.processes, of) {
             Some(process) => {
                 self.end(process, mapper, chooser);
                 Ok(())
             }
-            None => Err(Trouble::Refused(Refusal::NoProcess)),
+            None => unreachable!(),
         }
     }
 
@@ -127,6 +144,12 @@ impl<G> Mix<G> {
     ) -> Result<(), Trouble>
     where
         G: Gmi<M, C>,
+        requires some { 1 ≤ pages }
+        requires can { CanCall G.Gmi self.old (M.held mapper.old) (M.page_bytes mapper.old) }
+        requires made { G.made self.old.gmi ≤ 2 ^ 61 }
+        ensures { MixCall M.Mapper G.Gmi mapper.old self.old
+            (MixCommand.Grow of pages) (done_by result)
+            mapper.new self.new }
     {
         let place = self.place_of(of)?;
         if self.data_pages(place) + pages as u64 > MOST_DATA as u64 {
