@@ -29,7 +29,7 @@ use Rattle.mix_process.proofs.Storing.{own_cache}
 
 -- Regions are of caches of parts
 
-inserted_one : (r : Region) (rs : Actor) (k : ℕ) (x : Region) → slice_get (insert_region r rs) k ≡ Some x → (x ≡ r) ⊎ ((j : ℕ) × (slice_get rs j ≡ Some x))
+pub inserted_one : (r : Region) (rs : Actor) (k : ℕ) (x : Region) → slice_get (insert_region r rs) k ≡ Some x → (x ≡ r) ⊎ ((j : ℕ) × (slice_get rs j ≡ Some x))
 inserted_one r [] zero x e = inl (let same : r ≡ x = cc in sym same)
 inserted_one r [] (suc k) x e = absurd (cc e)
 inserted_one r (y ∷ ys) k x e = go (nat_lt r.start y.start) k e (λ j f. inserted_one r ys j x f)
@@ -48,7 +48,7 @@ region_part (more before rs p r rest is) k x e = elim (inserted_one r rs k x e) 
   | inr f ↦ (let found = region_part rest f.0 x f.1 in (found.0, found.1, get_append before (p ∷ []) found.0 found.1 found.2, found.3))
 ]
 
-none_any : {A : Type 0} (p : A → Bool) (xs : List A) → ((i : ℕ) (x : A) → slice_get xs i ≡ Some x → p x ≡ false) → list_any p xs ≡ false
+pub none_any : {A : Type 0} (p : A → Bool) (xs : List A) → ((i : ℕ) (x : A) → slice_get xs i ≡ Some x → p x ≡ false) → list_any p xs ≡ false
 none_any p [] h = refl
 none_any p (x ∷ xs) h = λ i. h 0 x refl i || none_any p xs (λ j y e. h (suc j) y e) i
 

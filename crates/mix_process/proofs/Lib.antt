@@ -15,3 +15,5 @@ pub mod Clearing
 pub mod Able
 pub mod Destroying
 pub mod Ending
+pub mod Taking
+pub mod Mapping
