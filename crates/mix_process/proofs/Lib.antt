@@ -17,3 +17,4 @@ pub mod Destroying
 pub mod Ending
 pub mod Taking
 pub mod Mapping
+pub mod Starting

@@ -8,19 +8,19 @@ use Rattle.std.proofs.lemmas.Option.{slice_get_within}
 use Rattle.vm_ids.specs.declared.command.Mapping.{Mapping}
 use Rattle.vm_ids.specs.declared.numbers.ActorId.{ActorId}
 use Rattle.vm_model.specs.Answering.{add_region, insert_region, overlaps, region_of}
-use Rattle.vm_model.specs.Machine.{Actor, Cache, Machine, Region, actor_of, cache_of}
+use Rattle.vm_model.specs.Machine.{Actor, Cache, Machine, Region, actor_of, cache_of, numbered}
 use Rattle.vm_model.specs.Regions.{mapping_of}
 use Rattle.vm_model.proofs.Parts.Lists.{get_set_same, numbered_place}
 use Rattle.mix_process.specs.ProcessMachine.{area_start, may_write}
 use Rattle.mix_process.specs.Seen.{mapping_behind, pages_in, same_area}
-use Rattle.mix_process.specs.Tying.{AreMapped, AreTied, IsPart, IsRegionOf, IsRun, IsSingle, IsSmall, Owns, none_spare}
+use Rattle.mix_process.specs.Tying.{AreMapped, AreTied, IsPart, IsOwnPart, IsRegionOf, IsRun, IsSingle, IsSmall, Owns, none_spare}
 use Rattle.mix_process.specs.Tying.AreMapped.{none, more}
 use Rattle.mix_process.specs.declared.area.Area.{Area}
 use Rattle.mix_process.specs.declared.area.Area.TheVariants.{Data, Stack, Text}
 use Rattle.mix_process.specs.declared.mix.Image.{Image}
 use Rattle.mix_process.specs.declared.process.Part.{Part}
 use Rattle.mix_process.specs.declared.process.Process.{Process}
-use Rattle.mix_process.proofs.Clearing.{inserted_one, none_any, parts_kept}
+use Rattle.mix_process.proofs.Clearing.{inserted_one, none_any, parts_kept, run_kept}
 use Rattle.mix_process.proofs.Destroying.{get_snoc}
 use Rattle.mix_process.proofs.Lists.{get_append, get_last, number_at}
 use Rattle.mix_process.proofs.Looking.{pages-append, same_self}
@@ -112,7 +112,7 @@ small_more parts p small few = record { text = by Text p.area refl few small.tex
       | inr other ↦ omega (arith, less, pages-append a parts (p ∷ []), (let zero_more : cond (same_area p.area a) p.pages 0 ≡ 0 = ap (λ (x : Area). cond (same_area x a) p.pages 0) e ∙ ap (λ (t : Bool). cond t p.pages 0) other in zero_more))
     ]
 
-all_snoc : {A : Type 0} (P : A → Type 0) (xs : List A) (x : A) → AllByRecursion P xs → P x → AllByRecursion P (xs ++ x ∷ [])
+pub all_snoc : {A : Type 0} (P : A → Type 0) (xs : List A) (x : A) → AllByRecursion P xs → P x → AllByRecursion P (xs ++ x ∷ [])
 all_snoc P [] x all h = (h, tt)
 all_snoc P (y ∷ xs) x all h = (all.0, all_snoc P xs x all.1 h)
 
@@ -146,7 +146,7 @@ module _ (m : Machine) (p : Process) (run : IsRun m p) (part : Part) (is_part : 
   abbrev pub mapped_to : Machine
   mapped_to = add_region m p.actor.0 run.regions (mapping_behind p.parts.items part)
 
-  new : Region
+  abbrev pub new : Region
   new = region_of (m.regions_made + 1) (mapping_behind p.parts.items part)
 
   place : (1 ≤ p.actor.0) × (slice_get m.actors (p.actor.0 - 1) ≡ Some (Some run.regions))
@@ -167,4 +167,98 @@ module _ (m : Machine) (p : Process) (run : IsRun m p) (part : Part) (is_part : 
     parts = subst (λ (xs : List Part). AllByRecursion (λ (x : Part). IsPart mapped_to x.area x) xs) (sym parts) (parts_kept m mapped_to (p.parts.items ++ part ∷ []) (λ j x e. refl) (all_snoc (λ (x : Part). IsPart m x.area x) p.parts.items part run.parts is_part));
     small = subst IsSmall (sym parts) (small_more p.parts.items part run.small few);
     single = subst IsSingle (sym parts) (single_more p.parts.items part run.single first);
+  }
+
+-- The ties of the machine with the new region
+
+module _ (m : Machine) (table : List (Option Process)) (spare : ℕ → Type 0) (images : List Image) (t : AreTied m (numbered table) spare images) (n0 : ℕ) (p q : Process) (alive : numbered table n0 ≡ Some p)
+    (part : Part) (is_part : IsPart m part.area part) (few : pages_in part.area p.parts.items + part.pages ≤ most_of part.area) (first : part.area ≢ Data → pages_in part.area p.parts.items ≡ 0)
+    (spare_is : (k : ℕ) → spare k → IsOwnPart part × (k ≡ part.cache.0)) (is_spare : IsOwnPart part → spare part.cache.0)
+    (actor : q.actor ≡ p.actor) (parts : q.parts.items ≡ p.parts.items ++ part ∷ []) where
+  run : IsRun m p
+  run = t.run n0 p alive
+
+  abbrev pub table_with : List (Option Process)
+  table_with = set table (n0 - 1) (Some q)
+
+  abbrev pub machine_with : Machine
+  machine_with = add_region m p.actor.0 (t.run n0 p alive).regions (mapping_behind p.parts.items part)
+
+  at : (1 ≤ n0) × (slice_get table (n0 - 1) ≡ Some (Some p))
+  at = numbered_place table n0 p alive
+
+  q_there : numbered table_with n0 ≡ Some q
+  q_there = number_at table_with n0 (Some q) at.0 (get_set_same table (n0 - 1) (Some q) (slice_get_within table (n0 - 1) (Some p) at.1))
+
+  others_same : (k : ℕ) → k ≢ n0 → numbered table_with k ≡ numbered table k
+  others_same k other = number_other table n0 k (Some q) at.0 other
+
+  -- the process of a number is the new one, or what it was
+  which : (k : ℕ) (r : Process) → numbered table_with k ≡ Some r → ((k ≡ n0) × (r ≡ q)) ⊎ ((k ≢ n0) × (numbered table k ≡ Some r))
+  which k r e = elim (cases_eq k n0) [
+    | inl same ↦ inl (same, (let both : Some r ≡ Some q = sym e ∙ ap (numbered table_with) same ∙ q_there in cc both))
+    | inr other ↦ inr (other, sym (others_same k other) ∙ e)
+  ]
+
+  -- its actor was there under the same number
+  had : (k : ℕ) (r : Process) → numbered table_with k ≡ Some r → (x : Process) × (numbered table k ≡ Some x) × (x.actor ≡ r.actor)
+  had k r e = elim (which k r e) [
+    | inl f ↦ (p, ap (numbered table) f.0 ∙ alive, sym actor ∙ sym (ap (λ (x : Process). x.actor) f.1))
+    | inr f ↦ (r, f.1, refl)
+  ]
+
+  -- whose a cache is now: it was so before, or it is the new part's
+  owned : (k i cache : ℕ) → Owns (numbered table_with) k i cache → Owns (numbered table) k i cache ⊎ ((k ≡ n0) × (i ≡ length p.parts.items) × (cache ≡ part.cache.0) × IsOwnPart part)
+  owned k i cache o = elim (which k o.process o.there) [
+    | inr f ↦ inl (record { process = o.process; part = o.part; there = f.1; has = o.has; own = o.own; is = o.is })
+    | inl f ↦ (let has : slice_get (p.parts.items ++ part ∷ []) i ≡ Some o.part = ap (λ (xs : List Part). slice_get xs i) (sym parts) ∙ ap (λ (x : Process). slice_get x.parts.items i) (sym f.1) ∙ o.has in
+        elim (get_snoc p.parts.items part i o.part has) [
+        | inl g ↦ inl (record { process = p; part = o.part; there = ap (numbered table) f.0 ∙ alive; has = g; own = o.own; is = o.is })
+        | inr g ↦ inr (f.0, g.0, sym o.is ∙ ap (λ (x : Part). x.cache.0) g.1, ap (λ (x : Part). may_write x.area) (sym g.1) ∙ o.own)
+        ])
+  ]
+
+  -- and the other way round
+  still_owned : (k i cache : ℕ) → Owns (numbered table) k i cache → Owns (numbered table_with) k i cache
+  still_owned k i cache o = elim (cases_eq k n0) [
+    | inr other ↦ record { process = o.process; part = o.part; there = others_same k other ∙ o.there; has = o.has; own = o.own; is = o.is }
+    | inl same ↦ (let who : Some o.process ≡ Some p = sym o.there ∙ ap (numbered table) same ∙ alive in let it : o.process ≡ p = cc who in
+        record { process = q; part = o.part; there = ap (numbered table_with) same ∙ q_there; has = ap (λ (xs : List Part). slice_get xs i) parts ∙ get_append p.parts.items (part ∷ []) i o.part (ap (λ (x : Process). slice_get x.parts.items i) (sym it) ∙ o.has); own = o.own; is = o.is })
+  ]
+
+  apart_now : (k j i l cache : ℕ) → Owns (numbered table_with) k i cache → Owns (numbered table_with) j l cache → (k ≡ j) × (i ≡ l)
+  apart_now k j i l cache o x = go (owned k i cache o) (owned j l cache x)
+    where
+      go : Owns (numbered table) k i cache ⊎ ((k ≡ n0) × (i ≡ length p.parts.items) × (cache ≡ part.cache.0) × IsOwnPart part) → Owns (numbered table) j l cache ⊎ ((j ≡ n0) × (l ≡ length p.parts.items) × (cache ≡ part.cache.0) × IsOwnPart part) → (k ≡ j) × (i ≡ l)
+      go (inl a) (inl b) = t.caches_apart k j i l cache a b
+      go (inl a) (inr b) = absurd (t.spares_free k i cache (subst spare (sym b.2) (is_spare b.3)) a)
+      go (inr a) (inl b) = absurd (t.spares_free j l cache (subst spare (sym a.2) (is_spare a.3)) b)
+      go (inr a) (inr b) = (a.0 ∙ sym b.0, a.1 ∙ sym b.1)
+
+  run_now : (k : ℕ) (r : Process) → numbered table_with k ≡ Some r → IsRun machine_with r
+  run_now k r e = elim (which k r e) [
+    | inl f ↦ subst (IsRun machine_with) (sym f.1) (run_more m p (t.run n0 p alive) part is_part few first q actor parts)
+    | inr f ↦ run_kept m machine_with r (actor_other m p (t.run n0 p alive) part is_part few first r.actor.0 (λ same. f.0 (t.actors_apart k n0 r p f.1 alive same))) (λ j x g. refl) (t.run k r f.1)
+  ]
+
+  pub tied_mapped : AreTied machine_with (numbered table_with) none_spare images
+  tied_mapped = record {
+    page = t.page;
+    run = run_now;
+    actors_apart = λ k j r x e f same. (let a = had k r e in let b = had j x f in t.actors_apart k j a.0 b.0 a.1 b.1 (ap (λ (z : ActorId). z.0) a.2 ∙ same ∙ ap (λ (z : ActorId). z.0) (sym b.2)));
+    caches_apart = apart_now;
+    spares = λ cache s. absurd s;
+    spares_free = λ k i cache s o. s;
+    no_more_actors = λ number regions e. elim (cases_eq number p.actor.0) [
+      | inl same ↦ (n0, q, q_there, ap (λ (z : ActorId). z.0) actor ∙ sym same)
+      | inr other ↦ (let f = t.no_more_actors number regions (sym (actor_other m p (t.run n0 p alive) part is_part few first number other) ∙ e) in
+          (f.0, f.1, others_same f.0 (λ same. other (sym f.3 ∙ (let who : Some f.1 ≡ Some p = sym f.2 ∙ ap (numbered table) same ∙ alive in ap (λ (x : Process). x.actor.0) (let it : f.1 ≡ p = cc who in it)))) ∙ f.2, f.3))
+    ];
+    no_more_caches = λ cache c e temporary. elim (t.no_more_caches cache c e temporary) [
+      | inl s ↦ (let own = spare_is cache s in inr (n0, length p.parts.items, record { process = q; part = part; there = q_there; has = ap (λ (xs : List Part). slice_get xs (length p.parts.items)) parts ∙ get_last p.parts.items part; own = own.0; is = sym own.1 }))
+      | inr o ↦ inr (o.0, o.1, still_owned o.0 o.1 cache o.2)
+    ];
+    images_there = t.images_there;
+    images_apart = t.images_apart;
+    no_more_images = t.no_more_images;
   }

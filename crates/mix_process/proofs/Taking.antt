@@ -99,11 +99,11 @@ fresh_numbered xs x = number_at (xs ++ x ∷ []) (length xs + 1) x (omega arith)
 pub used : {A : Type 0} (xs : List (Option A)) (n : ℕ) (y : A) → numbered xs n ≡ Some y → n ≢ length xs + 1
 used xs n y e same = let at = numbered_place xs n y e in let within : n - 1 < length xs = slice_get_within xs (n - 1) (Some y) at.1 in omega (arith, within, at.0, same)
 
-abbrev segment_in : Option Cache → Option ℕ
+abbrev pub segment_in : Option Cache → Option ℕ
 segment_in None = None
 segment_in (Some c) = c.segment
 
-part_cache : (m : Machine) (a : Area) (p : Part) → IsPart m a p → (c : Cache) × (cache_of m p.cache.0 ≡ Some c)
+pub part_cache : (m : Machine) (a : Area) (p : Part) → IsPart m a p → (c : Cache) × (cache_of m p.cache.0 ≡ Some c)
 part_cache m Text p h = (h.cache, h.there)
 part_cache m Data p h = (h.cache, h.there)
 part_cache m Stack p h = (h.cache, h.there)
