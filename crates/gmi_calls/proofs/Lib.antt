@@ -9,6 +9,7 @@ pub mod Pushing
 pub mod Ready
 pub mod Rising
 pub mod Still
+pub mod Temporary
 pub mod Storing
 -- What an access keeps of a machine, and what its answers are.
 pub mod AccessAnswers

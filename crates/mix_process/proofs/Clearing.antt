@@ -69,8 +69,10 @@ module _ (m : Machine) (processes : ℕ → Option Process) (spare : ℕ → Typ
     where
       is_part : IsPart m part.area part
       is_part = all_at (λ (part : Part). IsPart m part.area part) p.parts.items j part (t.run n p alive).parts found
+
       owned : may_write part.area ≡ true → ⊥
       owned own = t.spares_free n j cache spared (record { process = p; part = part; there = alive; has = found; own = own; is = same })
+
       go : (a : Area) → part.area ≡ a → ⊥
       go Text e =
           let image : IsImageCache m part = subst (λ (a : Area). IsPart m a part) e is_part in
@@ -95,6 +97,7 @@ module _ (m : Machine) (processes : ℕ → Option Process) (spare : ℕ → Typ
           let same : run.regions ≡ regions = cc in
           let found = region_part run.mapped k r (ap (λ (rs : Actor). slice_get rs k) same ∙ f) in
           not_equal r.cache cache (λ q. part_kept whose.0 whose.1 found.0 found.1 cache whose.2 found.2 spared (sym found.3 ∙ q))
+
       by_actor : (i : ℕ) (o : Option Actor) → slice_get m.actors i ≡ Some o → maps_in cache o ≡ false
       by_actor i None e = refl
       by_actor i (Some regions) e = none_any (λ (r : Region). r.cache == cache) regions (by_region i regions e)

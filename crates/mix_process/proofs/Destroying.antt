@@ -75,8 +75,8 @@ module _ {Manager X Chooser : Type 0} (M : GhostsOfMapper X) (G : GhostsOfGmi Ma
     cleared_skip text = record {
       able = respared (numbered old.processes.items) (spare_of (rest ++ part ∷ [])) (spare_of rest) c.able
           (λ k s. elim (get_snoc rest part s.0 s.1 s.2) [
-          | inl f ↦ (s.0, s.1, f, s.3, s.4)
-          | inr f ↦ absurd (let wrong : true ≡ false = sym s.3 ∙ ap (λ (p : Part). may_write p.area) f.1 ∙ text in cc wrong)
+            | inl f ↦ (s.0, s.1, f, s.3, s.4)
+            | inr f ↦ absurd (let wrong : true ≡ false = sym s.3 ∙ ap (λ (p : Part). may_write p.area) f.1 ∙ text in cc wrong)
           ])
           (λ k s. (s.0, s.1, get_append rest (part ∷ []) s.0 s.1 s.2, s.3, s.4));
       same = c.same;
@@ -104,12 +104,12 @@ module _ {Manager X Chooser : Type 0} (M : GhostsOfMapper X) (G : GhostsOfGmi Ma
         let fewer = λ (k : ℕ) (s : spare_of rest k). (let have : spare_of (rest ++ part ∷ []) k = (s.0, s.1, get_append rest (part ∷ []) s.0 s.1 s.2, s.3, s.4) in let apart : k ≢ part.cache.0 = λ e. other writes s.0 s.1 s.2 s.3 (s.4 ∙ e) in let both : spare_of (rest ++ part ∷ []) k × (k ≢ part.cache.0) = (have, apart) in both) in
         let others = λ (k : ℕ) (s : spare_of (rest ++ part ∷ []) k). (let which : (k ≡ part.cache.0) ⊎ spare_of rest k = elim (get_snoc rest part s.0 s.1 s.2) [ inl f ↦ inr (s.0, s.1, f, s.3, s.4) | inr f ↦ inl (sym s.4 ∙ ap (λ (p : Part). p.cache.0) f.1) ] in which) in
         let tied : AreTied (G.machine gmi (M.held after)) (numbered old.processes.items) (spare_of rest) old.images.items =
-            subst (λ (x : Machine). AreTied x (numbered old.processes.items) (spare_of rest) old.images.items) (sym done.next_is) (tied_without m (numbered old.processes.items) (spare_of (rest ++ part ∷ [])) (spare_of rest) old.images.items t part.cache.0 spared fewer others) in
+        subst (λ (x : Machine). AreTied x (numbered old.processes.items) (spare_of rest) old.images.items) (sym done.next_is) (tied_without m (numbered old.processes.items) (spare_of (rest ++ part ∷ [])) (spare_of rest) old.images.items t part.cache.0 spared fewer others) in
         let place = numbered_place m.caches part.cache.0 own.cache own.there in
         let less : live_pages (without m part.cache.0) ≤ live_pages m = sum_by_less pages_in m.caches (part.cache.0 - 1) (Some own.cache) None place.1 (omega arith) in
         let raised : RaisesMade m (vm_commands.Destroy part.cache) (Ok replies.Done) (without m part.cache.0) (G.made mix.gmi) (G.made gmi) =
-            subst (λ (x : Machine). RaisesMade m (vm_commands.Destroy part.cache) (Ok replies.Done) x (G.made mix.gmi) (G.made gmi)) done.next_is
-            (subst (λ (b : Answer). RaisesMade m (vm_commands.Destroy part.cache) b (G.machine gmi (M.held after)) (G.made mix.gmi) (G.made gmi)) done.answer_is call.made) in
+        subst (λ (x : Machine). RaisesMade m (vm_commands.Destroy part.cache) (Ok replies.Done) x (G.made mix.gmi) (G.made gmi)) done.next_is
+        (subst (λ (b : Answer). RaisesMade m (vm_commands.Destroy part.cache) b (G.machine gmi (M.held after)) (G.made mix.gmi) (G.made gmi)) done.answer_is call.made) in
         let many : pages_in (cache_of m part.cache.0) ≡ part.pages = ap pages_in own.there ∙ own.many in
         record {
           able = able_after M G mix.gmi gmi now after (vm_commands.Destroy part.cache) a old.images.items (length old.processes.items) (numbered old.processes.items) (spare_of (rest ++ part ∷ [])) c.able call old.images.items (length old.processes.items) (numbered old.processes.items) (spare_of rest)

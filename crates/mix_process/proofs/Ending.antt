@@ -246,16 +246,20 @@ module _ {Manager X Chooser : Type 0} (M : GhostsOfMapper X) (G : GhostsOfGmi Ma
     where
       n : Machine
       n = G.machine new.gmi (M.held after)
+
       seen : processes_seen (G.machine new.gmi (M.held after)) new.processes.items new.images.items ≡ mix.put_process s of.0 None
       seen =
           ap (λ (x : Mix Manager). processes_seen (G.machine new.gmi (M.held after)) x.processes.items x.images.items) e.same
           ∙ e.seen
           ∙ (λ i. processes_seen (G.machine (gmi i) (M.held mapper)) (items i) (images i).items)
           ∙ (λ i. record s { processes = map-set (option_map (process_seen (G.machine old.gmi (M.held mapper)))) old.processes.items (of.0 - 1) None i })
+
       living : process_of s of.0 ≡ Some (process_seen (G.machine old.gmi (M.held mapper)) p)
       living = numbered-map (process_seen (G.machine old.gmi (M.held mapper))) old.processes.items of.0 ∙ ap (option_map (process_seen (G.machine old.gmi (M.held mapper)))) there
+
       before_is : G.machine between.gmi (M.held mapper) ≡ G.machine old.gmi (M.held mapper)
       before_is = ap (λ (g : Manager). G.machine g (M.held mapper)) gmi
+
       go : (told : Option Segments) → StepAt told (state_of G old (M.held mapper)) (commands.Exit of) (Ok replies.Done) e.rises (state_of G new (M.held after))
       go None = tt
       go (Some h) = record {

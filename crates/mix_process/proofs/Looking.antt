@@ -99,6 +99,7 @@ still_outside before p r address is free outside area from to = go (same_area p.
   where
     many : (b : Bool) → same_area p.area area ≡ b → pages_in area (before ++ p ∷ []) ≡ pages_in area before + cond b p.pages 0
     many b e = pages-append area before (p ∷ []) ∙ ap (λ (c : Bool). pages_in area before + (cond c p.pages 0 + 0)) e ∙ (let same : pages_in area before + (cond b p.pages 0 + 0) ≡ pages_in area before + cond b p.pages 0 = omega arith in same)
+
     go : (b : Bool) → same_area p.area area ≡ b → ⊥
     go false e = outside area from (omega (arith, to, many false e))
     go true e =
@@ -115,15 +116,24 @@ Looked parts regions address = IsFound parts regions address ⊎ IsNowhere parts
 -- one more part was mapped
 looked_more : (address : ℕ) (before : List Part) (regions : Actor) (p : Part) (r : Region) → IsRegionOf before regions p r → (b : Bool) → holds 4096 address r ≡ b → Looked before regions address → Looked (before ++ p ∷ []) (insert_region r regions) address
 looked_more address before regions p r is true e inner = inl (record {
-  before = before; part = p; behind = []; region = r; is = refl;
+  before = before;
+  part = p;
+  behind = [];
+  region = r;
+  is = refl;
   at = inserted_at address r regions is.apart ∙ ap (λ (b : Bool). cond b (Some r) (region_at 4096 address regions)) e;
-  mapping = is.mapping; holds = held_within address r e;
+  mapping = is.mapping;
+  holds = held_within address r e;
 })
 looked_more address before regions p r is false e (inl f) = inl (record {
-  before = f.before; part = f.part; behind = f.behind ++ p ∷ []; region = f.region;
+  before = f.before;
+  part = f.part;
+  behind = f.behind ++ p ∷ [];
+  region = f.region;
   is = ap (λ (xs : List Part). xs ++ p ∷ []) f.is ∙ append_assoc f.before (f.part ∷ f.behind) (p ∷ []);
   at = inserted_at address r regions is.apart ∙ ap (λ (b : Bool). cond b (Some r) (region_at 4096 address regions)) e ∙ f.at;
-  mapping = f.mapping; holds = f.holds;
+  mapping = f.mapping;
+  holds = f.holds;
 })
 looked_more address before regions p r is false e (inr n) = inr (record {
   at = inserted_at address r regions is.apart ∙ ap (λ (b : Bool). cond b (Some r) (region_at 4096 address regions)) e ∙ n.at;

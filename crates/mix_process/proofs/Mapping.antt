@@ -213,8 +213,8 @@ module _ (m : Machine) (table : List (Option Process)) (spare : ℕ → Type 0) 
     | inr f ↦ inl (record { process = o.process; part = o.part; there = f.1; has = o.has; own = o.own; is = o.is })
     | inl f ↦ (let has : slice_get (p.parts.items ++ part ∷ []) i ≡ Some o.part = ap (λ (xs : List Part). slice_get xs i) (sym parts) ∙ ap (λ (x : Process). slice_get x.parts.items i) (sym f.1) ∙ o.has in
         elim (get_snoc p.parts.items part i o.part has) [
-        | inl g ↦ inl (record { process = p; part = o.part; there = ap (numbered table) f.0 ∙ alive; has = g; own = o.own; is = o.is })
-        | inr g ↦ inr (f.0, g.0, sym o.is ∙ ap (λ (x : Part). x.cache.0) g.1, ap (λ (x : Part). may_write x.area) (sym g.1) ∙ o.own)
+          | inl g ↦ inl (record { process = p; part = o.part; there = ap (numbered table) f.0 ∙ alive; has = g; own = o.own; is = o.is })
+          | inr g ↦ inr (f.0, g.0, sym o.is ∙ ap (λ (x : Part). x.cache.0) g.1, ap (λ (x : Part). may_write x.area) (sym g.1) ∙ o.own)
         ])
   ]
 

@@ -56,6 +56,7 @@ module _ (m : Machine) (processes : ℕ → Option Process) (spare : ℕ → Typ
       got : get (put_segment_page seg page (unwrap_or (page_named m seg page) []) s).pages image.seg.0
           ≡ cond (eq_by_cmp nat_cmp image.seg.0 seg) (Some (set (unwrap_or (get s.pages seg) []) page (unwrap_or (page_named m seg page) []))) (get s.pages image.seg.0)
       got = get-insert nat_cmp_total s.pages seg (set (unwrap_or (get s.pages seg) []) page (unwrap_or (page_named m seg page) [])) image.seg.0
+
       go : (image.seg.0 ≡ seg) ⊎ (image.seg.0 ≢ seg) → get (put_segment_page seg page (unwrap_or (page_named m seg page) []) s).pages image.seg.0 ≡ Some (cache_pages m image.cache.0)
       go (inr other) = got ∙ ap (λ (b : Bool). cond b (Some (set (unwrap_or (get s.pages seg) []) page (unwrap_or (page_named m seg page) []))) (get s.pages image.seg.0)) (unsigned_tied image.seg.0 seg ∙ ne_eqb image.seg.0 seg other) ∙ sync i image e
       go (inl same) =

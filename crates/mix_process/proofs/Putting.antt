@@ -105,6 +105,7 @@ module _ (m : Machine) (number : ℕ) (c : Cache) (there : cache_of m number ≡
           let is : Some d ≡ Some c = sym e ∙ ap (cache_of m) same ∙ there in
           let like : d ≡ c = cc in
           (put_page page bytes c, ap (cache_of after) same ∙ put_there, record { segment = ap (λ (c : Cache). c.segment) (sym like); many = length-set c.pages page bytes ∙ ap (λ (c : Cache). length c.pages) (sym like) })
+
       back : (k : ℕ) (d : Cache) → cache_of after k ≡ Some d → (k ≡ number) ⊎ (k ≢ number) → (x : Cache) × (cache_of m k ≡ Some x) × IsLike d x
       back k d e (inr other) = (d, sym (put_other k other) ∙ e, record { segment = refl; many = refl })
       back k d e (inl same) =
@@ -227,8 +228,10 @@ module _ (m : Machine) (table : List (Option Process)) (spare : ℕ → Type 0) 
     where
       is_part : IsPart m other.area other
       is_part = all_at (λ (part : Part). IsPart m part.area part) q.parts.items j other (t.run k q alive).parts found
+
       owned : may_write other.area ≡ true → ⊥
       owned own_other = let both = t.caches_apart n k (length before) j part.cache.0 owner (record { process = q; part = other; there = alive; has = found; own = own_other; is = same }) in differs both.0 both.1
+
       go : (a : Area) → other.area ≡ a → ⊥
       go Text e =
           let image : IsImageCache m other = subst (λ (a : Area). IsPart m a other) e is_part in

@@ -112,23 +112,24 @@ module _ (m : Machine) (table : List (Option Process)) (spare : ℕ → Type 0) 
       let new : Page = overwrite at.byte bytes (vm.page_at m at) in
       let there : cache_of m at.region.cache ≡ Some own.cache = ap (cache_of m) cache ∙ own.there in
       let next_is : vm.write_at m at bytes ≡ put_cache m f.part.cache.0 (put_page spot.page new own.cache) =
-          ap (λ (o : Option Cache). option_map_or (λ c. put_cache m at.region.cache (put_page at.page new c)) o m) there ∙ (λ i. put_cache m (cache i) (put_page (page i) new own.cache)) in
+      ap (λ (o : Option Cache). option_map_or (λ c. put_cache m at.region.cache (put_page at.page new c)) o m) there ∙ (λ i. put_cache m (cache i) (put_page (page i) new own.cache)) in
       let new_is : overwrite here.byte bytes (mix.page_at here) ≡ new = λ i. overwrite (sym (byte_same m p live.run address at here is) i) bytes (sym (page_same m p live.run address at here is) i) in
       let written : mix.written_at here bytes ≡ with_pages f.part.area (set (area_seen m f.part.area p.parts.items) (pages_in f.part.area f.before + spot.page) new) (process_seen m p) =
-          ap (λ (x : Page). with_pages here.area (set (pages_of here.process here.area) here.page x) here.process) new_is
-          ∙ ap (λ (here : model.Place). with_pages here.area (set (pages_of here.process here.area) here.page new) here.process) is.here_is
-          ∙ (λ i. with_pages f.part.area (set (seen_pages m p f.part.area i) (spot.number i) new) (process_seen m p)) in
-      let seen_next = processes_put m table spare images t n p live.there f.before f.part f.behind f.is writes_part own.cache own.there own.temporary spot.page new spot.within in
-      (not_denied m h at.region.cache at.page own.cache there own.temporary,
-      record {
-        is = (λ i. mix.reply replies.Done (mix.put_process s n (Some (written i)))) ∙ ap (λ (x : ProcessMachine). mix.reply replies.Done x) (sym seen_next) ∙ ap (λ (x : Machine). mix.reply replies.Done (processes_seen x table images)) (sym next_is);
-        put = subst (λ (x : Machine). IsPut m x images) (sym next_is) (record {
-          shape = put_shape m f.part.cache.0 own.cache own.there spot.page new;
-          caches = length-set m.caches (f.part.cache.0 - 1) (Some (put_page spot.page new own.cache));
-          regions = refl;
-          alike = images_put m table spare images t n p live.there f.before f.part f.behind f.is writes_part own.cache own.there own.temporary spot.page new spot.within;
-        });
-      })
+      ap (λ (x : Page). with_pages here.area (set (pages_of here.process here.area) here.page x) here.process) new_is
+      ∙ ap (λ (here : model.Place). with_pages here.area (set (pages_of here.process here.area) here.page new) here.process) is.here_is
+      ∙ (λ i. with_pages f.part.area (set (seen_pages m p f.part.area i) (spot.number i) new) (process_seen m p)) in
+      let seen_next = processes_put m table spare images t n p live.there f.before f.part f.behind f.is writes_part own.cache own.there own.temporary spot.page new spot.within in (
+        not_denied m h at.region.cache at.page own.cache there own.temporary,
+        record {
+          is = (λ i. mix.reply replies.Done (mix.put_process s n (Some (written i)))) ∙ ap (λ (x : ProcessMachine). mix.reply replies.Done x) (sym seen_next) ∙ ap (λ (x : Machine). mix.reply replies.Done (processes_seen x table images)) (sym next_is);
+          put = subst (λ (x : Machine). IsPut m x images) (sym next_is) (record {
+            shape = put_shape m f.part.cache.0 own.cache own.there spot.page new;
+            caches = length-set m.caches (f.part.cache.0 - 1) (Some (put_page spot.page new own.cache));
+            regions = refl;
+            alike = images_put m table spare images t n p live.there f.before f.part f.behind f.is writes_part own.cache own.there own.temporary spot.page new spot.within;
+          });
+        },
+      )
 
   -- both machines' regions and areas allow the same
   allows : (at : vm_place.Place) (here : model.Place) → IsSame m p live.run.regions address at here → at.region.may_write ≡ may_write here.area

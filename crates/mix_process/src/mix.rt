@@ -7,9 +7,9 @@ ghost use Rattle.mix_process.specs.Calling.{MixCall};
 ghost use Rattle.mix_process.specs.Inner.{AreApart, AreCleared, AreOwn, IsEnded, own_pages, spare_of, with_extra};
 ghost use Rattle.mix_process.specs.Tying.{AreAble, CanCall, none_spare};
 
+use crate::Area;
 use crate::area::{MOST_DATA, MOST_STACK, MOST_TEXT};
 use crate::process::{Part, Process, mapping_behind, may_write, pages_in};
-use crate::Area;
 use gmi_calls::Gmi;
 use std::alloc::Global;
 use vm_ids::{CacheId, MixCommand, PageNo, Piece, ProcId, Refusal, Reply, SegId, Span, Trouble};
@@ -264,11 +264,7 @@ impl<G> Mix<G> {
     }
 
     // Whether an image has so many pages, at least 1.
-    fn check_image<M: Mapper, C: Chooser>(
-        &self,
-        image: CacheId,
-        pages: u32,
-    ) -> Result<(), Trouble>
+    fn check_image<M: Mapper, C: Chooser>(&self, image: CacheId, pages: u32) -> Result<(), Trouble>
     where
         G: Gmi<M, C>,
     {
@@ -287,8 +283,7 @@ impl<G> Mix<G> {
         self.processes.reserve(1)?;
         let actor = self.gmi.make_actor()?;
         let parts = Vec::new(self.alloc);
-        self.processes
-            .push_reserved(Some(Process { actor, parts }));
+        self.processes.push_reserved(Some(Process { actor, parts }));
         Ok(())
     }
 
