@@ -18,3 +18,4 @@ pub mod Ending
 pub mod Taking
 pub mod Mapping
 pub mod Starting
+pub mod Beginning

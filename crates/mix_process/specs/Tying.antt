@@ -141,3 +141,13 @@ abbrev pub CanCall : {Manager Mapper Chooser : Type 0} → GhostsOfGmi Manager M
     → Mix Manager → Option Held → Option ℕ → Type 0
 CanCall G mix told page_bytes = AreAble G mix.gmi mix.images.items told page_bytes
     (length mix.processes.items) (numbered mix.processes.items) none_spare
+
+-- A manager without caches and actors whose room isn't limited, with pages of 4,096 bytes.
+pub record IsBare {Manager Mapper Chooser : Type 0} (G : GhostsOfGmi Manager Mapper Chooser)
+    (gmi : Manager) (told : Option Held) (page_bytes : Option ℕ) : Type 0 where
+  pub valid : G.valid gmi told
+  pub unlimited : G.room gmi ≡ None
+  pub fits : Fits page_bytes (G.machine gmi told)
+  pub page : (G.machine gmi told).page_bytes ≡ 4096
+  pub caches : (G.machine gmi told).caches ≡ []
+  pub actors : (G.machine gmi told).actors ≡ []

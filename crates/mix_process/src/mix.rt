@@ -1,11 +1,12 @@
 // The processes, and the calls of them.
-ghost use Rattle.std.specs.Prelude.{◌≡◌, ◌≤◌, ◌+◌, ◌-◌, ◌*◌, ◌^◌, [], length, slice_set, None, Some, IfNone, IfSome};
+ghost use Rattle.std.specs.Prelude.{◌≡◌, ℕ, Option, ◌≤◌, ◌+◌, ◌-◌, ◌*◌, ◌^◌, [], length, slice_set, None, Some, IfNone, IfSome};
+ghost use Rattle.vm_ids.specs.Held.{Held};
 ghost use Rattle.vm_model.specs.Answering.{answer_by};
 ghost use Rattle.vm_model.specs.Machine.{numbered};
 ghost use Rattle.gmi_calls.specs.Calling.{done_by};
 ghost use Rattle.mix_process.specs.Calling.{MixCall};
 ghost use Rattle.mix_process.specs.Inner.{AreApart, AreCleared, AreOwn, IsEnded, own_pages, spare_of, with_extra};
-ghost use Rattle.mix_process.specs.Tying.{AreAble, CanCall, none_spare};
+ghost use Rattle.mix_process.specs.Tying.{AreAble, CanCall, IsBare, none_spare};
 
 use crate::Area;
 use crate::area::{MOST_DATA, MOST_STACK, MOST_TEXT};
@@ -35,8 +36,14 @@ pub struct Mix<G> {
 }
 
 impl<G> Mix<G> {
-    /// No processes, over a manager without caches and actors whose room isn't limited.
-    pub fn new(alloc: Global, gmi: G) -> Mix<G> {
+    /// No processes. They can be called where the manager has no caches and actors, its room isn't
+    /// limited, and its pages have 4,096 bytes.
+    pub fn new<M: Mapper, C: Chooser>(alloc: Global, gmi: G) -> Mix<G>
+    where
+        G: Gmi<M, C>,
+        ensures { (told : Option Held) (page_bytes : Option ℕ) → IsBare G.Gmi gmi told page_bytes
+            → CanCall G.Gmi result told page_bytes }
+    {
         Mix {
             alloc,
             gmi,
