@@ -17,5 +17,6 @@ pub mod Destroying
 pub mod Ending
 pub mod Taking
 pub mod Mapping
+pub mod Regions
 pub mod Starting
 pub mod Beginning
