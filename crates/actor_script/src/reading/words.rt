@@ -1,5 +1,5 @@
 // The words of a line.
-ghost use Rattle.std.specs.Prelude.{◌≡◌, ◌≤◌, ◌<◌, ◌==◌, [], ◌∷◌, bytes_eq, length, map, position, IfSome, MatchOption};
+ghost use Rattle.std.specs.Prelude.{◌≡◌, ◌≤◌, ◌<◌, ◌==◌, ◌⊎◌, [], ◌∷◌, bytes_eq, length, map, position, IfSome, MatchOption};
 ghost use Rattle.actor_script.specs.Words.{words_of};
 
 use arrayvec::ArrayVec;
@@ -38,9 +38,9 @@ pub fn two_words(text: &[u8]) -> Option<(&[u8], &[u8], &[u8])>
     Some((first, second, rest))
 }
 
-/// The words of a line, which stand between its spaces. `None` exactly where there are more than
-/// any form has.
-pub fn split_words(line: &[u8]) -> Option<ArrayVec<&[u8], MOST_WORDS>>
+// The words of a line, which stand between its spaces. `None` exactly where there are more than any
+// form has.
+fn split_words(line: &[u8]) -> Option<ArrayVec<&[u8], MOST_WORDS>>
     ensures { MatchOption result (MOST_WORDS < length (words_of line.now)) (λ words.
         map (λ w. w.now) words.items ≡ words_of line.now) }
 {
@@ -56,6 +56,20 @@ pub fn split_words(line: &[u8]) -> Option<ArrayVec<&[u8], MOST_WORDS>>
         Ok(()) => Some(words),
         Err(_) => None,
     }
+}
+
+/// The words of a line that may be a command. `None` exactly where the line is too long, or has
+/// more words than any form.
+pub fn words_within(line: &[u8]) -> Option<ArrayVec<&[u8], MOST_WORDS>>
+    ensures { MatchOption result
+        ((LONGEST_LINE < length line.now) ⊎ (MOST_WORDS < length (words_of line.now)))
+        (λ words. (length line.now ≤ LONGEST_LINE)
+            × (map (λ w. w.now) words.items ≡ words_of line.now)) }
+{
+    if line.len() > LONGEST_LINE {
+        return None;
+    }
+    split_words(line)
 }
 
 /// Whether a verb is this word. Most others are told from it by their length.
