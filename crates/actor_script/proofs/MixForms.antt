@@ -30,8 +30,8 @@ exec_is (a ∷ b ∷ c ∷ []) = none_is _
 exec_is (a ∷ b ∷ c ∷ d ∷ []) = record {
   few = λ h. absurd (omega arith);
   formed =
-    any_then (number_of a) _ IsMixWellFormed (λ s.
-    pages_then b _ (λ t some. pages_then c _ (λ e more. pages_then d _ (λ k last. (some, more, last)))));
+      any_then (number_of a) _ IsMixWellFormed (λ s.
+      pages_then b _ (λ t some. pages_then c _ (λ e more. pages_then d _ (λ k last. (some, more, last)))));
 }
 exec_is (a ∷ b ∷ c ∷ d ∷ e ∷ xs) = none_is _
 
@@ -65,9 +65,9 @@ load_is (a ∷ b ∷ []) = none_is _
 load_is (a ∷ b ∷ c ∷ []) = record {
   few = λ h. absurd (omega arith);
   formed =
-    any_then (process_of a) _ IsMixWellFormed (λ p.
-    any_then (address_of b) _ IsMixWellFormed (λ at.
-    such_then (length_of c) _ (λ n. (1 ≤ n) × (n ≤ 64)) IsMixWellFormed (lengths c) (λ n within. within)));
+      any_then (process_of a) _ IsMixWellFormed (λ p.
+      any_then (address_of b) _ IsMixWellFormed (λ at.
+      such_then (length_of c) _ (λ n. (1 ≤ n) × (n ≤ 64)) IsMixWellFormed (lengths c) (λ n within. within)));
 }
 load_is (a ∷ b ∷ c ∷ d ∷ xs) = none_is _
 
@@ -79,9 +79,9 @@ store_is (a ∷ b ∷ []) = none_is _
 store_is (a ∷ b ∷ c ∷ []) = record {
   few = λ h. absurd (omega arith);
   formed =
-    any_then (process_of a) _ IsMixWellFormed (λ p.
-    any_then (address_of b) _ IsMixWellFormed (λ at.
-    any_then (bytes_of c) _ IsMixWellFormed (λ piece. tt)));
+      any_then (process_of a) _ IsMixWellFormed (λ p.
+      any_then (address_of b) _ IsMixWellFormed (λ at.
+      any_then (bytes_of c) _ IsMixWellFormed (λ piece. tt)));
 }
 store_is (a ∷ b ∷ c ∷ d ∷ xs) = none_is _
 

@@ -25,12 +25,7 @@ fn read_exec(operands: &[&[u8]]) -> Option<MixCommand>
             let text_pages = read_count(text_pages)?;
             let data_pages = read_count(data_pages)?;
             let stack_pages = read_count(stack_pages)?;
-            Some(MixCommand::Exec(
-                segment,
-                text_pages,
-                data_pages,
-                stack_pages,
-            ))
+            Some(MixCommand::Exec(segment, text_pages, data_pages, stack_pages))
         }
         _ => None,
     }

@@ -64,7 +64,7 @@ pub fn words_within(line: &[u8]) -> Option<ArrayVec<&[u8], MOST_WORDS>>
     ensures { MatchOption result
         ((LONGEST_LINE < length line.now) ⊎ (MOST_WORDS < length (words_of line.now)))
         (λ words. (length line.now ≤ LONGEST_LINE)
-            × (map (λ w. w.now) words.items ≡ words_of line.now)) }
+        × (map (λ w. w.now) words.items ≡ words_of line.now)) }
 {
     if line.len() > LONGEST_LINE {
         return None;
