@@ -2,10 +2,11 @@
 ghost use Rattle.std.specs.Prelude.{◌≡◌, ◌≢◌, ℕ, ◌<◌, ◌≤◌, None, Some, max, IsOk, OnErr, OnOk};
 ghost use Rattle.std.specs.FinMap as map;
 
-use crate::cell::Cell;
+use crate::cell::{Cell, Link};
 use crate::chains::{make_place, place_in, put_in, take_out};
 use crate::hashes::{bucket_of_hash, hash};
 use crate::head::Head;
+use crate::recent::Recent;
 use std::alloc::{AllocError, Global};
 use std::marker::Model;
 
@@ -21,6 +22,8 @@ pub struct Index {
     mask: usize,
     // For so many places there is memory.
     room: u32,
+    // Where keys were found lately.
+    recent: Recent,
 }
 
 impl Model for Index {
@@ -48,6 +51,7 @@ impl Index {
             cells: Vec::new(alloc),
             mask: 0,
             room: 0,
+            recent: Recent::new(),
         }
     }
 
@@ -68,9 +72,39 @@ impl Index {
     }
 
     /// The place at which a key is entered. `None` exactly where it isn't entered.
+    #[inline]
     pub fn find(&self, key: u64) -> Option<u32>
         ensures { result ≡ map.get self.now.places key }
     {
+        let lately = self.recent.place(key);
+        if self.is_at(key, lately) {
+            return Some(lately);
+        }
+        self.search_anew(key)
+    }
+
+    // The same, where it isn't found at once. It is remembered.
+    fn search_anew(&self, key: u64) -> Option<u32> {
+        let place = self.search(key)?;
+        self.recent.remember(key, place);
+        Some(place)
+    }
+
+    /// The key that is entered at a place, at which one is.
+    pub fn key(&self, place: u32) -> u64 {
+        self.cells[place as usize].key
+    }
+
+    // Whether a key is entered at this place.
+    fn is_at(&self, key: u64, place: u32) -> bool {
+        match self.cells.get(place as usize) {
+            Some(cell) => cell.key == key && !matches!(cell.link, Link::Free),
+            None => false,
+        }
+    }
+
+    // The same as `find`, by the chain of the key's bucket.
+    fn search(&self, key: u64) -> Option<u32> {
         if self.heads.is_empty() {
             return None;
         }

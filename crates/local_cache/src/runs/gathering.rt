@@ -1,0 +1,46 @@
+// Nodes of pages that stand by themselves and are alike, put into one run.
+use crate::runs::{NodeRuns, Run};
+use stretches::{Says, Stretch};
+
+// Fewer aren't worth a run.
+const FEWEST: u32 = 8;
+
+impl NodeRuns {
+    // Puts alike nodes of pages that stand by themselves, from one on, as far as so many, into one
+    // run. Where they are fewer than 8 nothing changes.
+    pub(crate) fn gather_from(&mut self, node: u64, most: u32) {
+        if let Some(run) = self.run_alone(node) {
+            let count = self.count_alike(node, run, most);
+            if count >= FEWEST {
+                self.gather(node, run, count);
+            }
+        }
+    }
+
+    // What a run of a node alone would say, where the node stands by itself and is a page's.
+    fn run_alone(&self, node: u64) -> Option<Run> {
+        self.nodes.find(node)?.as_run()
+    }
+
+    // How many nodes that stand by themselves this run can say, as far as so many.
+    fn count_alike(&self, node: u64, run: Run, most: u32) -> u32 {
+        let mut count = 1;
+        while count < most {
+            match self.run_alone(node + count as u64) {
+                Some(next) if next.is_same(run.after(count)) => count += 1,
+                _ => return count,
+            }
+        }
+        count
+    }
+
+    // So many nodes that stand by themselves, and of which this run says all, become the run.
+    fn gather(&mut self, node: u64, run: Run, count: u32) {
+        self.nodes.clear(node, count);
+        self.nodes.fill(Stretch {
+            first: node,
+            count,
+            value: run,
+        });
+    }
+}

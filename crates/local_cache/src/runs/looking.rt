@@ -1,0 +1,153 @@
+// What is asked of several page nodes, or of all of one.
+use crate::Look;
+use crate::runs::pieces::{next_if, numbers_from};
+use crate::runs::run::own_of_plain;
+use crate::runs::{NodeRuns, PlainState, Run, Single};
+use stretches::Stretch;
+use vm_ids::{NodeId, NodeName};
+
+// All that is asked of the first node of some that stand in one run.
+fn look_at_run(node: NodeId, nodes: Stretch<Run>) -> Look {
+    Look {
+        node,
+        own: own_of_plain(nodes.value.own),
+        child: nodes.value.tree_child(0),
+        parent: nodes.value.parent,
+        by_stub: false,
+        has_stubs: false,
+        alike: alike_of(nodes),
+    }
+}
+
+// All that is asked of a node that stands by itself.
+fn look_at_single(node: NodeId, single: &Single) -> Look {
+    Look {
+        node,
+        own: single.own,
+        child: single.links.older(),
+        parent: single.links.parent(),
+        by_stub: single.links.by_stub,
+        has_stubs: single.links.has_stub(),
+        alike: single.is_alike() as u32,
+    }
+}
+
+// How many nodes of one run are alike.
+pub(crate) fn alike_of(nodes: Stretch<Run>) -> u32 {
+    let parents = numbers_from(nodes.value.parent, nodes.count);
+    let older = numbers_from(nodes.value.older, parents);
+    numbers_from(nodes.value.newer, older)
+}
+
+// Where a way up ends: at a node with an own page, or at the next one to be looked at.
+#[derive(Clone, Copy)]
+enum Way {
+    Owner(u64),
+    On(u64),
+}
+
+// What is asked of each node of a row.
+#[derive(Clone, Copy)]
+struct Member {
+    name: NodeName,
+    child: Option<NodeId>,
+    has_two: bool,
+    // so many stand in one run
+    count: u32,
+}
+
+impl NodeRuns {
+    // All that is asked of a node at once.
+    pub(crate) fn look(&self, node: NodeId) -> Look {
+        match self.nodes.find(node.0) {
+            Some(single) => look_at_single(node, single),
+            None => look_at_run(node, self.run_from(node.0)),
+        }
+    }
+
+    fn member(&self, node: u64) -> Option<Member> {
+        match self.nodes.find(node) {
+            Some(single) => Some(Member {
+                name: single.name,
+                child: single.links.older(),
+                has_two: single.links.newer().is_some(),
+                count: 1,
+            }),
+            None => {
+                let nodes = self.nodes.stretch_from(node)?;
+                Some(Member {
+                    name: nodes.value.name.first(),
+                    child: nodes.value.tree_child(0),
+                    has_two: nodes.value.tree_child(1).is_some(),
+                    count: nodes.count,
+                })
+            }
+        }
+    }
+
+    // How many nodes, from one of a page on, are in a row, as far as so many: their numbers follow
+    // one another, and so do the pages that they are of and their only tree children, if they have
+    // some. There is none where the first one has two tree children.
+    pub(crate) fn row_from(&self, first: u64, most: u32) -> u32 {
+        let Some(start) = self.member(first) else {
+            return 0;
+        };
+        let NodeName::Live(cache, page) = start.name else {
+            return 0;
+        };
+        if start.has_two {
+            return 0;
+        }
+        let mut count = start.count.min(most);
+        while count < most {
+            let Some(next) = self.member(first + count as u64) else {
+                return count;
+            };
+            let is_next = match next.name {
+                NodeName::Live(of, at) => of.0 == cache.0 && at.0 == page.0 + count,
+                NodeName::Working(_) => false,
+            };
+            if !is_next || next.has_two || next.child != next_if(start.child, count) {
+                return count;
+            }
+            count += next.count.min(most - count);
+        }
+        count
+    }
+
+    // The first node with an own page on the way up from a node.
+    pub(crate) fn owner_from(&self, first: u64) -> NodeId {
+        let mut node = first;
+        loop {
+            match self.nodes.find(node) {
+                Some(single) => {
+                    if !single.own.is_absent() {
+                        return NodeId(node);
+                    }
+                    node = single.links.parent().unwrap().0;
+                }
+                None => match self.way_up(node) {
+                    Way::Owner(owner) => return NodeId(owner),
+                    Way::On(next) => node = next,
+                },
+            }
+        }
+    }
+
+    // The way up from a node that stands in a run, as long as each next node stands in a run right
+    // beside that of the one before.
+    fn way_up(&self, first: u64) -> Way {
+        let nodes = self.run_from(first);
+        if nodes.value.own != PlainState::Absent {
+            return Way::Owner(first);
+        }
+        let mut node = nodes.value.parent.unwrap().0;
+        while let Some(nodes) = self.nodes.stretch_beside(node) {
+            if nodes.value.own != PlainState::Absent {
+                return Way::Owner(node);
+            }
+            node = nodes.value.parent.unwrap().0 + (node - nodes.first);
+        }
+        Way::On(node)
+    }
+}

@@ -1,0 +1,235 @@
+// Page nodes that come and go, and that get other names.
+use crate::OwnState;
+use crate::runs::page_number::page_number;
+use crate::runs::pieces::Piece;
+use crate::runs::{NodeRuns, PlainState, Run, RunName, plain};
+use stretches::{Says, Stretch};
+use vm_ids::{CacheId, NodeId, NodeName, PageNo};
+
+impl NodeRuns {
+    // Makes the first node of each of so many pages of a cache.
+    pub(crate) fn make_first(&mut self, cache: CacheId, count: u32, own: PlainState) {
+        let number = page_number(cache, PageNo(0));
+        self.add_many(Stretch {
+            first: number,
+            count,
+            value: Run::fresh(RunName::Pages(cache, PageNo(0)), own),
+        });
+        self.pages.enter(number, count, number);
+        self.counters.nodes += count;
+        self.counters.live += count;
+    }
+
+    // Makes so many working nodes of which this is said, but for their names, under the next names
+    // and numbers. The first of them.
+    pub(crate) fn make_working(&mut self, count: u32, run: Run) -> u64 {
+        let first = self.counters.next_working();
+        self.add_many(Stretch {
+            first,
+            count,
+            value: Run {
+                name: RunName::Working(self.counters.made + 1),
+                ..run
+            },
+        });
+        self.counters.nodes += count;
+        self.counters.made += count as u64;
+        self.counters.working += count as u64;
+        first
+    }
+
+    // Gives so many nodes of pages, from one on, this own state, and neither parents nor children:
+    // at once those of one run.
+    pub(crate) fn renew_from(&mut self, first: u64, count: u32, state: OwnState) {
+        if count == 1 {
+            let slot = self.single(first);
+            self.nodes.get_mut(slot).renew(state);
+            return;
+        }
+        let mut done = 0;
+        while done < count {
+            done += self.renew_some(first + done as u64, count - done, state);
+        }
+    }
+
+    fn renew_some(&mut self, node: u64, most: u32, state: OwnState) -> u32 {
+        match self.some_from(node, most) {
+            Piece::Run(nodes) => {
+                self.put_run(nodes, Run::fresh(nodes.value.name, plain(state)));
+                nodes.count
+            }
+            Piece::Single(slot) => {
+                self.nodes.get_mut(slot).renew(state);
+                1
+            }
+        }
+    }
+
+    // The page of a node gets a new one with this own state, and that node the next working name.
+    pub(crate) fn replace_one(&mut self, node: u64, state: OwnState) -> u64 {
+        let slot = self.single(node);
+        let NodeName::Live(cache, page) = self.nodes.get(slot).name else {
+            unreachable!()
+        };
+        self.name_working(slot);
+        let fresh = self.counters.next_fresh();
+        let name = RunName::Pages(cache, page);
+        let slot = self.enter_single(fresh, Run::fresh(name, PlainState::Absent));
+        self.nodes.get_mut(slot).own = state;
+        self.pages.set(page_number(cache, page), 1, fresh);
+        self.counters.fresh += 1;
+        self.counters.nodes += 1;
+        fresh
+    }
+
+    // Names a node that stands by itself by the next working name.
+    fn name_working(&mut self, slot: u32) {
+        self.counters.made += 1;
+        let single = self.nodes.get_mut(slot);
+        single.name = NodeName::Working(self.counters.made);
+        let now = single.thin_number();
+        self.thin.change(slot, None, now);
+    }
+
+    // Names so many nodes of pages, from one on, by the next working names: at once those of one
+    // run. The pages have no nodes then.
+    pub(crate) fn name_working_from(&mut self, first: u64, count: u32) {
+        let mut done = 0;
+        while done < count {
+            done += self.name_working_some(first + done as u64, count - done);
+        }
+        self.counters.live -= count;
+    }
+
+    fn name_working_some(&mut self, node: u64, most: u32) -> u32 {
+        match self.some_from(node, most) {
+            Piece::Run(nodes) => {
+                self.leave_pages(nodes.value.name.first(), nodes.count);
+                let name = RunName::Working(self.counters.made + 1);
+                let run = Run {
+                    name,
+                    ..nodes.value
+                };
+                self.put_run(nodes, run);
+                self.counters.made += nodes.count as u64;
+                nodes.count
+            }
+            Piece::Single(slot) => {
+                self.leave_pages(self.nodes.get(slot).name, 1);
+                self.name_working(slot);
+                1
+            }
+        }
+    }
+
+    // So many pages, from that of a name on, have no nodes any more. A working name is no page's.
+    fn leave_pages(&mut self, name: NodeName, count: u32) {
+        if let NodeName::Live(cache, page) = name {
+            self.pages.leave(page_number(cache, page), count);
+        }
+    }
+
+    // The node of a page gets another one's page, and that one its.
+    pub(crate) fn exchange_one(&mut self, node: u64, other: u64) {
+        let slot = self.single(node);
+        let other_slot = self.single(other);
+        let name = self.nodes.get(slot).name;
+        let other_name = self.nodes.get(other_slot).name;
+        self.nodes.get_mut(slot).name = other_name;
+        self.nodes.get_mut(other_slot).name = name;
+        self.set_page(name, other);
+        self.set_page(other_name, node);
+    }
+
+    // The page of this name has this node.
+    fn set_page(&mut self, name: NodeName, node: u64) {
+        if let NodeName::Live(cache, page) = name {
+            self.pages.set(page_number(cache, page), 1, node);
+        }
+    }
+
+    // So many nodes of pages, from one on, are those of these pages.
+    pub(crate) fn rename_from(&mut self, first: u64, count: u32, cache: CacheId, page: PageNo) {
+        let mut done = 0;
+        while done < count {
+            let next = PageNo(page.0 + done);
+            done += self.rename_some(first + done as u64, count - done, cache, next);
+        }
+        self.pages.set(page_number(cache, page), count, first);
+    }
+
+    fn rename_some(&mut self, node: u64, most: u32, cache: CacheId, page: PageNo) -> u32 {
+        match self.some_from(node, most) {
+            Piece::Run(nodes) => {
+                let run = Run {
+                    name: RunName::Pages(cache, page),
+                    ..nodes.value
+                };
+                self.put_run(nodes, run);
+                nodes.count
+            }
+            Piece::Single(slot) => {
+                self.nodes.get_mut(slot).name = NodeName::Live(cache, page);
+                1
+            }
+        }
+    }
+
+    // Takes out so many nodes, from one on: at once those of one run.
+    pub(crate) fn free_from(&mut self, first: u64, count: u32) {
+        let mut done = 0;
+        while done < count {
+            done += self.free_some(first + done as u64, count - done);
+        }
+        self.counters.nodes -= count;
+    }
+
+    fn free_some(&mut self, node: u64, most: u32) -> u32 {
+        match self.some_from(node, most) {
+            Piece::Run(nodes) => {
+                self.thin.leave_run(nodes);
+                self.nodes.cut(nodes.first, nodes.count);
+                self.free_name(nodes.value.name.first(), nodes.count);
+                nodes.count
+            }
+            Piece::Single(slot) => {
+                self.free_single(node, slot);
+                1
+            }
+        }
+    }
+
+    // Takes out a node that stands by itself.
+    fn free_single(&mut self, node: u64, slot: u32) {
+        let single = self.nodes.remove(node, slot);
+        self.thin.change(slot, single.thin_number(), None);
+        self.free_name(single.name, 1);
+    }
+
+    // Takes out a node.
+    pub(crate) fn free_one(&mut self, node: u64) {
+        match self.nodes.slot(node) {
+            Some(slot) => {
+                self.free_single(node, slot);
+                self.counters.nodes -= 1;
+            }
+            None => self.free_from(node, 1),
+        }
+    }
+
+    // So many nodes of these names are gone.
+    fn free_name(&mut self, name: NodeName, count: u32) {
+        if let NodeName::Live(..) = name {
+            self.leave_pages(name, count);
+            self.counters.live -= count;
+        }
+    }
+
+    // The name of a node.
+    pub(crate) fn name_of(&self, node: NodeId) -> NodeName {
+        match self.nodes.find(node.0) {
+            Some(single) => single.name,
+            None => self.run_from(node.0).value.name.first(),
+        }
+    }
+}
