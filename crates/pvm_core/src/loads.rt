@@ -24,6 +24,13 @@ use regions::Place;
 use vm_ids::{ActorId, Command, NodeId, Piece, Refusal, Reply, Trouble};
 use vm_port::{Chooser, Mapper};
 
+// The node of a page, and the node whose page it reads.
+#[derive(Clone, Copy)]
+pub(crate) struct NodesAt {
+    pub(crate) node: NodeId,
+    pub(crate) owner: NodeId,
+}
+
 impl Pvm {
     // A load whose page a translation leads to. `None` where none does.
     pub(crate) fn load_seen(&mut self, actor: ActorId, address: u64, bytes: u8) -> Option<Piece>
@@ -115,16 +122,17 @@ impl Pvm {
         ensures loaded { IfOk result (IsLoaded (M.counts mapper.old) (M.counts mapper.new)
             (M.given mapper.new) self.old self.new actor.0 address bytes) }
     {
-        let owner = self.owner_at(place);
+        let owner = self.nodes_at(place).owner;
         self.load_from(owner, place, actor, address, bytes, mapper, chooser)
     }
 
-    // The owner of the page at a place.
-    pub(crate) fn owner_at(&self, place: Place) -> NodeId {
-        owner_of(
-            &self.caches,
-            node_of(&self.caches, place.cache, place.page),
-        )
+    // The node of the page at a place, and its owner.
+    pub(crate) fn nodes_at(&self, place: Place) -> NodesAt {
+        let node = node_of(&self.caches, place.cache, place.page);
+        NodesAt {
+            node,
+            owner: owner_of(&self.caches, node),
+        }
     }
 
     // A load at a place, the owner of whose page is told.
@@ -181,7 +189,7 @@ impl Pvm {
             Some(piece) => Some(Ok(piece)),
             None => match self.locate(actor, address, bytes) {
                 Ok(place) => {
-                    let owner = self.owner_at(place);
+                    let owner = self.nodes_at(place).owner;
                     if has_page_here(&self.caches, owner) {
                         Some(self.load_from(
                             owner, place, actor, address, bytes, mapper, chooser,
@@ -225,7 +233,7 @@ impl Pvm {
             Some(piece) => (Ok(piece), true),
             None => match self.locate(actor, address, bytes) {
                 Ok(place) => {
-                    let owner = self.owner_at(place);
+                    let owner = self.nodes_at(place).owner;
                     let ready = has_page_here(&self.caches, owner);
                     match self.load_from(owner, place, actor, address, bytes, mapper, chooser) {
                         Ok(piece) => (Ok(piece), true),

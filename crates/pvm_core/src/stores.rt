@@ -16,7 +16,8 @@ ghost use Rattle.pvm_core.specs.Manager.{IsValid, machine_of, meaning, numbered,
 ghost use Rattle.pvm_core.specs.Translated.{found_for, frame_to_write};
 
 use crate::Pvm;
-use crate::nodes::{has_page_here, node_of};
+use crate::loads::NodesAt;
+use crate::nodes::has_page_here;
 use crate::pieces::{fault_of, write_found, write_frame};
 use crate::translations::{byte_at, remember, translated_for_writing};
 use crate::writes::grant_range;
@@ -140,14 +141,14 @@ impl Pvm {
         ensures translated { OnOk result (IsSome (frame_to_write (found_for self.new.page_bytes
             self.new.store.tables actor.0 address (length piece.now)))) }
     {
-        let owner = self.owner_at(place);
-        self.store_from(owner, place, actor, address, piece, mapper, chooser)
+        let nodes = self.nodes_at(place);
+        self.store_from(nodes, place, actor, address, piece, mapper, chooser)
     }
 
     // A store at a place where the page may be written, whose owner is told.
     fn store_from<M: Mapper, C: Chooser>(
         &mut self,
-        owner: NodeId,
+        nodes: NodesAt,
         place: Place,
         actor: ActorId,
         address: u64,
@@ -156,12 +157,11 @@ impl Pvm {
         chooser: &mut C,
     ) -> Result<(), Trouble> {
         let bytes = piece.as_slice();
-        let node = node_of(&self.caches, place.cache, place.page);
         match write_fault(
             &mut self.store,
             &mut self.caches,
-            node,
-            owner,
+            nodes.node,
+            nodes.owner,
             mapper,
             chooser,
         ) {
@@ -247,10 +247,10 @@ impl Pvm {
         }
         match self.place_to_write(actor, address, piece, mapper) {
             Ok(place) => {
-                let owner = self.owner_at(place);
-                if has_page_here(&self.caches, owner) {
+                let nodes = self.nodes_at(place);
+                if has_page_here(&self.caches, nodes.owner) {
                     Some(self.store_from(
-                        owner, place, actor, address, piece, mapper, chooser,
+                        nodes, place, actor, address, piece, mapper, chooser,
                     ))
                 } else {
                     None
@@ -294,14 +294,14 @@ impl Pvm {
             Ok(place) => place,
             Err(trouble) => return (Err(trouble), self.is_ready(actor, address)),
         };
-        let owner = self.owner_at(place);
-        if !has_page_here(&self.caches, owner) {
-            if let Err(trouble) = self.bring_page(owner, place, mapper, chooser) {
+        let nodes = self.nodes_at(place);
+        if !has_page_here(&self.caches, nodes.owner) {
+            if let Err(trouble) = self.bring_page(nodes.owner, place, mapper, chooser) {
                 return (Err(trouble), false);
             }
         }
         (
-            self.store_from(owner, place, actor, address, piece, mapper, chooser),
+            self.store_from(nodes, place, actor, address, piece, mapper, chooser),
             true,
         )
     }

@@ -1,36 +1,9 @@
 // What is asked of several page nodes, or of all of one.
 use crate::Look;
 use crate::runs::pieces::{next_if, numbers_from};
-use crate::runs::run::own_of_plain;
 use crate::runs::{NodeRuns, PlainState, Run, Single};
 use stretches::Stretch;
 use vm_ids::{NodeId, NodeName};
-
-// All that is asked of the first node of some that stand in one run.
-fn look_at_run(node: NodeId, nodes: Stretch<Run>) -> Look {
-    Look {
-        node,
-        own: own_of_plain(nodes.value.own),
-        child: nodes.value.tree_child(0),
-        parent: nodes.value.parent,
-        by_stub: false,
-        has_stubs: false,
-        alike: alike_of(nodes),
-    }
-}
-
-// All that is asked of a node that stands by itself.
-fn look_at_single(node: NodeId, single: &Single) -> Look {
-    Look {
-        node,
-        own: single.own,
-        child: single.links.older(),
-        parent: single.links.parent(),
-        by_stub: single.links.by_stub,
-        has_stubs: single.links.has_stub(),
-        alike: single.is_alike() as u32,
-    }
-}
 
 // How many nodes of one run are alike.
 pub(crate) fn alike_of(nodes: Stretch<Run>) -> u32 {
@@ -60,8 +33,22 @@ impl NodeRuns {
     // All that is asked of a node at once.
     pub(crate) fn look(&self, node: NodeId) -> Look {
         match self.nodes.find(node.0) {
-            Some(single) => look_at_single(node, single),
-            None => look_at_run(node, self.run_from(node.0)),
+            Some(single) => Look {
+                node,
+                single: *single,
+                run: 0,
+            },
+            None => self.look_at_run(node),
+        }
+    }
+
+    // The same for one that stands in a run.
+    fn look_at_run(&self, node: NodeId) -> Look {
+        let nodes = self.run_from(node.0);
+        Look {
+            node,
+            single: Single::first_of(nodes.value),
+            run: alike_of(nodes),
         }
     }
 
