@@ -72,7 +72,7 @@ impl Index {
     }
 
     /// The place at which a key is entered. `None` exactly where it isn't entered.
-    #[inline]
+    #[inline(always)]
     pub fn find(&self, key: u64) -> Option<u32>
         ensures { result ≡ map.get self.now.places key }
     {
@@ -84,6 +84,7 @@ impl Index {
     }
 
     // The same, where it isn't found at once. It is remembered.
+    #[inline(never)]
     fn search_anew(&self, key: u64) -> Option<u32> {
         let place = self.search(key)?;
         self.recent.remember(key, place);
@@ -96,6 +97,7 @@ impl Index {
     }
 
     // Whether a key is entered at this place.
+    #[inline(always)]
     fn is_at(&self, key: u64, place: u32) -> bool {
         match self.cells.get(place as usize) {
             Some(cell) => cell.key == key && !matches!(cell.link, Link::Free),

@@ -13,6 +13,7 @@ pub(crate) struct Recent {
 }
 
 // The kind of a key. Keys that differ above their last 32 bits alone are of several kinds.
+#[inline(always)]
 fn kind_of(key: u64) -> usize {
     key.wrapping_add((key >> 32).wrapping_mul(57)) as usize % PLACES
 }
@@ -26,6 +27,7 @@ impl Recent {
     }
 
     // What was remembered last for keys such as this one.
+    #[inline(always)]
     pub(crate) fn place(&self, key: u64) -> u32 {
         self.places[kind_of(key)].get()
     }

@@ -6,7 +6,7 @@ use stretches::Stretch;
 use vm_ids::{NodeId, NodeName};
 
 // How many nodes of one run are alike.
-pub(crate) fn alike_of(nodes: Stretch<Run>) -> u32 {
+fn alike_of(nodes: Stretch<Run>) -> u32 {
     let parents = numbers_from(nodes.value.parent, nodes.count);
     let older = numbers_from(nodes.value.older, parents);
     numbers_from(nodes.value.newer, older)
@@ -43,6 +43,7 @@ impl NodeRuns {
     }
 
     // The same for one that stands in a run.
+    #[inline(never)]
     fn look_at_run(&self, node: NodeId) -> Look {
         let nodes = self.run_from(node.0);
         Look {
@@ -50,6 +51,12 @@ impl NodeRuns {
             single: Single::first_of(nodes.value),
             run: alike_of(nodes),
         }
+    }
+
+    // How many nodes from one on that stands in a run are alike.
+    #[inline(never)]
+    pub(crate) fn alike_among(&self, node: NodeId) -> u32 {
+        alike_of(self.run_from(node.0))
     }
 
     fn member(&self, node: u64) -> Option<Member> {

@@ -40,13 +40,13 @@ impl<V: Says, S: Copy> MixedMap<V, S> {
     }
 
     /// The slot of a number that stands alone.
-    #[inline]
+    #[inline(always)]
     pub(crate) fn slot(&self, number: u64) -> Option<u32> {
         self.index.find(number)
     }
 
     /// What a number that stands alone has.
-    #[inline]
+    #[inline(always)]
     pub(crate) fn find(&self, number: u64) -> Option<&S> {
         let slot = self.index.find(number)?;
         Some(&self.slots[slot as usize])
@@ -58,13 +58,13 @@ impl<V: Says, S: Copy> MixedMap<V, S> {
     }
 
     /// What stands alone in a slot.
-    #[inline]
+    #[inline(always)]
     pub(crate) fn get(&self, slot: u32) -> &S {
         &self.slots[slot as usize]
     }
 
     /// The same, to be changed.
-    #[inline]
+    #[inline(always)]
     pub(crate) fn get_mut(&mut self, slot: u32) -> &mut S {
         &mut self.slots[slot as usize]
     }

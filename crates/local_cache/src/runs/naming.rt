@@ -229,7 +229,7 @@ impl NodeRuns {
     pub(crate) fn name_of(&self, node: NodeId) -> NodeName {
         match self.nodes.find(node.0) {
             Some(single) => single.name,
-            None => self.run_from(node.0).value.name.first(),
+            None => self.among(node.0).name,
         }
     }
 }

@@ -25,7 +25,7 @@ impl PageTable {
     }
 
     // The node of a page.
-    #[inline]
+    #[inline(always)]
     pub(crate) fn node_of(&self, page: u64) -> Option<u64> {
         match self.nodes.find(page) {
             Some(node) => Some(*node),
@@ -34,6 +34,7 @@ impl PageTable {
     }
 
     // The same for a page that stands in a stretch.
+    #[inline(never)]
     fn node_among(&self, page: u64) -> Option<u64> {
         Some(self.nodes.stretch_from(page)?.value.0)
     }

@@ -63,7 +63,7 @@ impl ThinNodes {
     }
 
     // A node that stands alone, in this slot, had this number as a thin one, and has this one now.
-    #[inline]
+    #[inline(always)]
     pub(crate) fn change(&mut self, slot: u32, before: Option<u64>, now: Option<u64>) {
         match (before, now) {
             (None, None) => {}
