@@ -1,7 +1,6 @@
 // What is asked of several page nodes, or of all of one.
-use crate::Look;
 use crate::runs::pieces::{next_if, numbers_from};
-use crate::runs::{NodeRuns, PlainState, Run, Single};
+use crate::runs::{NodeRuns, PlainState, Run};
 use stretches::Stretch;
 use vm_ids::{NodeId, NodeName};
 
@@ -30,29 +29,6 @@ struct Member {
 }
 
 impl NodeRuns {
-    // All that is asked of a node at once.
-    pub(crate) fn look(&self, node: NodeId) -> Look {
-        match self.nodes.find(node.0) {
-            Some(single) => Look {
-                node,
-                single: *single,
-                run: 0,
-            },
-            None => self.look_at_run(node),
-        }
-    }
-
-    // The same for one that stands in a run.
-    #[inline(never)]
-    fn look_at_run(&self, node: NodeId) -> Look {
-        let nodes = self.run_from(node.0);
-        Look {
-            node,
-            single: Single::first_of(nodes.value),
-            run: alike_of(nodes),
-        }
-    }
-
     // How many nodes from one on that stands in a run are alike.
     #[inline(never)]
     pub(crate) fn alike_among(&self, node: NodeId) -> u32 {
