@@ -72,23 +72,25 @@ impl Index {
     }
 
     /// The place at which a key is entered. `None` exactly where it isn't entered.
-    #[inline(always)]
+    #[inline(never)]
     pub fn find(&self, key: u64) -> Option<u32>
         ensures { result ≡ map.get self.now.places key }
     {
-        let lately = self.recent.place(key);
-        if self.is_at(key, lately) {
-            return Some(lately);
-        }
-        self.search_anew(key)
-    }
-
-    // The same, where it isn't found at once. It is remembered.
-    #[inline(never)]
-    fn search_anew(&self, key: u64) -> Option<u32> {
         let place = self.search(key)?;
         self.recent.remember(key, place);
         Some(place)
+    }
+
+    /// The place at which a key is entered, where it is the one that was found last for keys such as
+    /// this one. `None` says nothing.
+    #[inline(always)]
+    pub fn lately(&self, key: u64) -> Option<u32> {
+        let lately = self.recent.place(key);
+        if self.is_at(key, lately) {
+            Some(lately)
+        } else {
+            None
+        }
     }
 
     /// The key that is entered at a place, at which one is.

@@ -29,10 +29,13 @@ struct Member {
 }
 
 impl NodeRuns {
-    // How many nodes from one on that stands in a run are alike.
+    // How many nodes from one on are alike, wherever it stands.
     #[inline(never)]
-    pub(crate) fn alike_among(&self, node: NodeId) -> u32 {
-        alike_of(self.run_from(node.0))
+    pub(crate) fn count_from(&self, node: u64) -> u32 {
+        match self.nodes.find(node) {
+            Some(single) => single.is_alike() as u32,
+            None => alike_of(self.run_from(node)),
+        }
     }
 
     fn member(&self, node: u64) -> Option<Member> {
@@ -87,6 +90,19 @@ impl NodeRuns {
 
     // The first node with an own page on the way up from a node.
     pub(crate) fn owner_from(&self, first: u64) -> NodeId {
+        let mut node = first;
+        while let Some(single) = self.nodes.lately(node) {
+            if !single.own.is_absent() {
+                return NodeId(node);
+            }
+            node = single.links.parent().unwrap().0;
+        }
+        self.search_owner(node)
+    }
+
+    // The same, wherever the nodes stand.
+    #[inline(never)]
+    fn search_owner(&self, first: u64) -> NodeId {
         let mut node = first;
         loop {
             match self.nodes.find(node) {

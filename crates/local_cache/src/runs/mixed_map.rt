@@ -42,13 +42,28 @@ impl<V: Says, S: Copy> MixedMap<V, S> {
     /// The slot of a number that stands alone.
     #[inline(always)]
     pub(crate) fn slot(&self, number: u64) -> Option<u32> {
-        self.index.find(number)
+        match self.index.lately(number) {
+            Some(slot) => Some(slot),
+            None => self.index.find(number),
+        }
+    }
+
+    /// The same, where it was found lately. `None` says nothing.
+    #[inline(always)]
+    pub(crate) fn lately_slot(&self, number: u64) -> Option<u32> {
+        self.index.lately(number)
     }
 
     /// What a number that stands alone has.
-    #[inline(always)]
     pub(crate) fn find(&self, number: u64) -> Option<&S> {
-        let slot = self.index.find(number)?;
+        let slot = self.slot(number)?;
+        Some(&self.slots[slot as usize])
+    }
+
+    /// The same, where it was found lately. `None` says nothing.
+    #[inline(always)]
+    pub(crate) fn lately(&self, number: u64) -> Option<&S> {
+        let slot = self.index.lately(number)?;
         Some(&self.slots[slot as usize])
     }
 

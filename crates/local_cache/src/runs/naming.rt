@@ -227,9 +227,9 @@ impl NodeRuns {
 
     // The name of a node.
     pub(crate) fn name_of(&self, node: NodeId) -> NodeName {
-        match self.nodes.find(node.0) {
+        match self.nodes.lately(node.0) {
             Some(single) => single.name,
-            None => self.among(node.0).name,
+            None => self.search(node.0).name,
         }
     }
 }

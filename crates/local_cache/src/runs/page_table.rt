@@ -27,16 +27,19 @@ impl PageTable {
     // The node of a page.
     #[inline(always)]
     pub(crate) fn node_of(&self, page: u64) -> Option<u64> {
-        match self.nodes.find(page) {
+        match self.nodes.lately(page) {
             Some(node) => Some(*node),
-            None => self.node_among(page),
+            None => self.search(page),
         }
     }
 
-    // The same for a page that stands in a stretch.
+    // The same, wherever it stands.
     #[inline(never)]
-    fn node_among(&self, page: u64) -> Option<u64> {
-        Some(self.nodes.stretch_from(page)?.value.0)
+    fn search(&self, page: u64) -> Option<u64> {
+        match self.nodes.find(page) {
+            Some(node) => Some(*node),
+            None => Some(self.nodes.stretch_from(page)?.value.0),
+        }
     }
 
     // Enters so many pages, from one on, which have no nodes: the next one of these is that of the
