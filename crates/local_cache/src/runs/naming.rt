@@ -65,6 +65,24 @@ impl NodeRuns {
         }
     }
 
+    // A node of a page on which nothing hangs, and which hangs by no stub link, leaves its parent's
+    // tree children, and gets this own state and no parent. Its own state before; or `None`, and
+    // nothing changes.
+    pub(crate) fn renew_leaf(&mut self, node: u64, state: OwnState) -> Option<OwnState> {
+        let slot = self.nodes.slot(node)?;
+        let single = self.nodes.get_mut(slot);
+        if single.links.by_stub || !single.links.is_leaf() {
+            return None;
+        }
+        let before = single.own;
+        let parent = single.links.parent();
+        single.renew(state);
+        if let Some(parent) = parent {
+            self.exchange_child(parent.0, NodeId(node), None);
+        }
+        Some(before)
+    }
+
     // The page of a node gets a new one with this own state, and that node the next working name.
     pub(crate) fn replace_one(&mut self, node: u64, state: OwnState) -> u64 {
         let slot = self.single(node);
