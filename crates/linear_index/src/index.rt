@@ -1,5 +1,5 @@
 // The index: a map from keys to places.
-ghost use Rattle.std.specs.Prelude.{◌≡◌, ◌≢◌, ℕ, ◌<◌, ◌≤◌, None, Some, max, IsOk, OnErr, OnOk};
+ghost use Rattle.std.specs.Prelude.{◌≡◌, ◌≢◌, ℕ, ◌<◌, ◌≤◌, ◌↔◌, None, Some, max, IfSome, IsOk, IsTrue, OnErr, OnOk};
 ghost use Rattle.std.specs.FinMap as map;
 
 use crate::cell::{Cell, Link};
@@ -84,7 +84,9 @@ impl Index {
     /// The place at which a key is entered, where it is the one that was found last for keys such as
     /// this one. `None` says nothing.
     #[inline(always)]
-    pub fn lately(&self, key: u64) -> Option<u32> {
+    pub fn lately(&self, key: u64) -> Option<u32>
+        ensures { IfSome result (λ place. map.get self.now.places key ≡ Some place) }
+    {
         let lately = self.recent.place(key);
         if self.is_at(key, lately) {
             Some(lately)
@@ -94,13 +96,18 @@ impl Index {
     }
 
     /// The key that is entered at a place, at which one is.
-    pub fn key(&self, place: u32) -> u64 {
+    pub fn key(&self, place: u32) -> u64
+        requires { (key : ℕ) × (map.get self.now.places key ≡ Some place) }
+        ensures { map.get self.now.places result ≡ Some place }
+    {
         self.cells[place as usize].key
     }
 
     // Whether a key is entered at this place.
     #[inline(always)]
-    fn is_at(&self, key: u64, place: u32) -> bool {
+    fn is_at(&self, key: u64, place: u32) -> bool
+        ensures { IsTrue result ↔ (map.get self.now.places key ≡ Some place) }
+    {
         match self.cells.get(place as usize) {
             Some(cell) => cell.key == key && !matches!(cell.link, Link::Free),
             None => false,
@@ -108,7 +115,9 @@ impl Index {
     }
 
     // The same as `find`, by the chain of the key's bucket.
-    fn search(&self, key: u64) -> Option<u32> {
+    fn search(&self, key: u64) -> Option<u32>
+        ensures { result ≡ map.get self.now.places key }
+    {
         if self.heads.is_empty() {
             return None;
         }

@@ -59,7 +59,7 @@ fn entries_stand_alone_or_in_stretches(rt: HostRuntime) -> Result<(), Fail> {
     });
     assert_eq!(rt; frame_of(&pages, 23), Some(501));
     if frame_of(&pages, 23).is_some() {
-        assert_eq!(rt; pages.remove(23).number, 501);
+        pages.remove_range(23, 1);
     }
     assert_eq!(rt; frame_of(&pages, 23), None);
     Ok(())
@@ -163,7 +163,7 @@ fn remove_both(
     ensures { pages.new.count + free.new ≤ pages.new.room }
 {
     if frame_of(pages, page).is_some() {
-        pages.remove(page);
+        pages.remove_range(page, 1);
         plain.set(page, None);
         *free = free.saturating_add(1);
     }

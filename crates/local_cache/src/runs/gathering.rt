@@ -19,7 +19,7 @@ impl NodeRuns {
 
     // What a run of a node alone would say, where the node stands by itself and is a page's.
     fn run_alone(&self, node: u64) -> Option<Run> {
-        self.nodes.find(node)?.as_run()
+        self.nodes.lone(node)?.as_run()
     }
 
     // How many nodes that stand by themselves this run can say, as far as so many.
@@ -36,8 +36,7 @@ impl NodeRuns {
 
     // So many nodes that stand by themselves, and of which this run says all, become the run.
     fn gather(&mut self, node: u64, run: Run, count: u32) {
-        self.nodes.clear(node, count);
-        self.nodes.fill(Stretch {
+        self.nodes.gather(Stretch {
             first: node,
             count,
             value: run,

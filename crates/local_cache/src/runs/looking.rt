@@ -32,14 +32,14 @@ impl NodeRuns {
     // How many nodes from one on are alike, wherever it stands.
     #[inline(never)]
     pub(crate) fn count_from(&self, node: u64) -> u32 {
-        match self.nodes.find(node) {
+        match self.nodes.lone(node) {
             Some(single) => single.is_alike() as u32,
             None => alike_of(self.run_from(node)),
         }
     }
 
     fn member(&self, node: u64) -> Option<Member> {
-        match self.nodes.find(node) {
+        match self.nodes.lone(node) {
             Some(single) => Some(Member {
                 name: single.name,
                 child: single.links.older(),
@@ -91,7 +91,7 @@ impl NodeRuns {
     // The first node with an own page on the way up from a node.
     pub(crate) fn owner_from(&self, first: u64) -> NodeId {
         let mut node = first;
-        while let Some(single) = self.nodes.lately(node) {
+        while let Some(single) = self.nodes.recent(node) {
             if !single.own.is_absent() {
                 return NodeId(node);
             }
@@ -105,7 +105,7 @@ impl NodeRuns {
     fn search_owner(&self, first: u64) -> NodeId {
         let mut node = first;
         loop {
-            match self.nodes.find(node) {
+            match self.nodes.lone(node) {
                 Some(single) => {
                     if !single.own.is_absent() {
                         return NodeId(node);

@@ -3,7 +3,8 @@ use crate::OwnState;
 use crate::runs::page_number::page_number;
 use crate::runs::pieces::Piece;
 use crate::runs::{NodeRuns, PlainState, Run, RunName, plain};
-use stretches::{Says, Stretch};
+use mixed_map::Place;
+use stretches::Stretch;
 use vm_ids::{CacheId, NodeId, NodeName, PageNo};
 
 impl NodeRuns {
@@ -15,7 +16,7 @@ impl NodeRuns {
             count,
             value: Run::fresh(RunName::Pages(cache, PageNo(0)), own),
         });
-        self.pages.enter(number, count, number);
+        self.pages.enter(number, count, NodeId(number));
         self.counters.nodes += count;
         self.counters.live += count;
     }
@@ -42,8 +43,8 @@ impl NodeRuns {
     // at once those of one run.
     pub(crate) fn renew_from(&mut self, first: u64, count: u32, state: OwnState) {
         if count == 1 {
-            let slot = self.single(first);
-            self.nodes.get_mut(slot).renew(state);
+            let place = self.single(first);
+            self.nodes.at_mut(place).renew(state);
             return;
         }
         let mut done = 0;
@@ -58,8 +59,8 @@ impl NodeRuns {
                 self.put_run(nodes, Run::fresh(nodes.value.name, plain(state)));
                 nodes.count
             }
-            Piece::Single(slot) => {
-                self.nodes.get_mut(slot).renew(state);
+            Piece::Single(place) => {
+                self.nodes.at_mut(place).renew(state);
                 1
             }
         }
@@ -69,8 +70,8 @@ impl NodeRuns {
     // tree children, and gets this own state and no parent. Its own state before; or `None`, and
     // nothing changes.
     pub(crate) fn renew_leaf(&mut self, node: u64, state: OwnState) -> Option<OwnState> {
-        let slot = self.nodes.slot(node)?;
-        let single = self.nodes.get_mut(slot);
+        let place = self.nodes.place(node)?;
+        let single = self.nodes.at_mut(place);
         if single.links.by_stub || !single.links.is_leaf() {
             return None;
         }
@@ -85,28 +86,28 @@ impl NodeRuns {
 
     // The page of a node gets a new one with this own state, and that node the next working name.
     pub(crate) fn replace_one(&mut self, node: u64, state: OwnState) -> u64 {
-        let slot = self.single(node);
-        let NodeName::Live(cache, page) = self.nodes.get(slot).name else {
+        let place = self.single(node);
+        let NodeName::Live(cache, page) = self.nodes.at(place).name else {
             unreachable!()
         };
-        self.name_working(slot);
+        self.name_working(place);
         let fresh = self.counters.next_fresh();
         let name = RunName::Pages(cache, page);
-        let slot = self.enter_single(fresh, Run::fresh(name, PlainState::Absent));
-        self.nodes.get_mut(slot).own = state;
-        self.pages.set(page_number(cache, page), 1, fresh);
+        let place = self.enter_single(fresh, Run::fresh(name, PlainState::Absent));
+        self.nodes.at_mut(place).own = state;
+        self.pages.set(page_number(cache, page), 1, NodeId(fresh));
         self.counters.fresh += 1;
         self.counters.nodes += 1;
         fresh
     }
 
     // Names a node that stands by itself by the next working name.
-    fn name_working(&mut self, slot: u32) {
+    fn name_working(&mut self, place: Place) {
         self.counters.made += 1;
-        let single = self.nodes.get_mut(slot);
+        let single = self.nodes.at_mut(place);
         single.name = NodeName::Working(self.counters.made);
         let now = single.thin_number();
-        self.thin.change(slot, None, now);
+        self.thin.change(place.slot, None, now);
     }
 
     // Names so many nodes of pages, from one on, by the next working names: at once those of one
@@ -132,9 +133,9 @@ impl NodeRuns {
                 self.counters.made += nodes.count as u64;
                 nodes.count
             }
-            Piece::Single(slot) => {
-                self.leave_pages(self.nodes.get(slot).name, 1);
-                self.name_working(slot);
+            Piece::Single(place) => {
+                self.leave_pages(self.nodes.at(place).name, 1);
+                self.name_working(place);
                 1
             }
         }
@@ -149,12 +150,12 @@ impl NodeRuns {
 
     // The node of a page gets another one's page, and that one its.
     pub(crate) fn exchange_one(&mut self, node: u64, other: u64) {
-        let slot = self.single(node);
-        let other_slot = self.single(other);
-        let name = self.nodes.get(slot).name;
-        let other_name = self.nodes.get(other_slot).name;
-        self.nodes.get_mut(slot).name = other_name;
-        self.nodes.get_mut(other_slot).name = name;
+        let place = self.single(node);
+        let other_place = self.single(other);
+        let name = self.nodes.at(place).name;
+        let other_name = self.nodes.get(other_place).name;
+        self.nodes.at_mut(place).name = other_name;
+        self.nodes.get_mut(other_place).name = name;
         self.set_page(name, other);
         self.set_page(other_name, node);
     }
@@ -162,7 +163,7 @@ impl NodeRuns {
     // The page of this name has this node.
     fn set_page(&mut self, name: NodeName, node: u64) {
         if let NodeName::Live(cache, page) = name {
-            self.pages.set(page_number(cache, page), 1, node);
+            self.pages.set(page_number(cache, page), 1, NodeId(node));
         }
     }
 
@@ -173,7 +174,7 @@ impl NodeRuns {
             let next = PageNo(page.0 + done);
             done += self.rename_some(first + done as u64, count - done, cache, next);
         }
-        self.pages.set(page_number(cache, page), count, first);
+        self.pages.set(page_number(cache, page), count, NodeId(first));
     }
 
     fn rename_some(&mut self, node: u64, most: u32, cache: CacheId, page: PageNo) -> u32 {
@@ -186,8 +187,8 @@ impl NodeRuns {
                 self.put_run(nodes, run);
                 nodes.count
             }
-            Piece::Single(slot) => {
-                self.nodes.get_mut(slot).name = NodeName::Live(cache, page);
+            Piece::Single(place) => {
+                self.nodes.at_mut(place).name = NodeName::Live(cache, page);
                 1
             }
         }
@@ -206,29 +207,29 @@ impl NodeRuns {
         match self.some_from(node, most) {
             Piece::Run(nodes) => {
                 self.thin.leave_run(nodes);
-                self.nodes.cut(nodes.first, nodes.count);
+                self.nodes.remove_stretch(nodes.first, nodes.count);
                 self.free_name(nodes.value.name.first(), nodes.count);
                 nodes.count
             }
-            Piece::Single(slot) => {
-                self.free_single(node, slot);
+            Piece::Single(place) => {
+                self.free_single(place);
                 1
             }
         }
     }
 
     // Takes out a node that stands by itself.
-    fn free_single(&mut self, node: u64, slot: u32) {
-        let single = self.nodes.remove(node, slot);
-        self.thin.change(slot, single.thin_number(), None);
+    fn free_single(&mut self, place: Place) {
+        let single = self.nodes.remove(place);
+        self.thin.change(place.slot, single.thin_number(), None);
         self.free_name(single.name, 1);
     }
 
     // Takes out a node.
     pub(crate) fn free_one(&mut self, node: u64) {
-        match self.nodes.slot(node) {
-            Some(slot) => {
-                self.free_single(node, slot);
+        match self.nodes.place(node) {
+            Some(place) => {
+                self.free_single(place);
                 self.counters.nodes -= 1;
             }
             None => self.free_from(node, 1),
@@ -245,7 +246,7 @@ impl NodeRuns {
 
     // The name of a node.
     pub(crate) fn name_of(&self, node: NodeId) -> NodeName {
-        match self.nodes.lately(node.0) {
+        match self.nodes.recent(node.0) {
             Some(single) => single.name,
             None => self.search(node.0).name,
         }

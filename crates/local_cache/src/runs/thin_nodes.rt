@@ -1,5 +1,5 @@
 // The working nodes with fewer than two children.
-use crate::runs::{Run, RunName};
+use crate::runs::{Run, RunName, clear_many};
 use least_heap::LeastHeap;
 use std::alloc::Global;
 use stretches::{Rising, Stretch, StretchList};
@@ -89,10 +89,7 @@ impl ThinNodes {
     // Nodes of a run go.
     pub(crate) fn leave_run(&mut self, nodes: Stretch<Run>) {
         if let Some(number) = thin_number(nodes.value) {
-            let mut done = 0;
-            while done < nodes.count {
-                done += self.runs.cut_from(number + done as u64, nodes.count - done);
-            }
+            clear_many(&mut self.runs, number, nodes.count);
         }
     }
 }
