@@ -1,11 +1,12 @@
 // Nodes of pages that stand by themselves and are alike, put into one run.
-use crate::runs::{NodeRuns, Run};
+use crate::runs::{NodeRuns, NodeTable, Run};
 use stretches::{Says, Stretch};
+use vm_ids::NodeId;
 
 // Fewer aren't worth a run.
 const FEWEST: u32 = 8;
 
-impl NodeRuns {
+impl NodeTable {
     // Puts alike nodes of pages that stand by themselves, from one on, as far as so many, into one
     // run. Where they are fewer than 8 nothing changes.
     pub(crate) fn gather_from(&mut self, node: u64, most: u32) {
@@ -41,5 +42,15 @@ impl NodeRuns {
             count,
             value: run,
         });
+    }
+}
+
+impl NodeRuns {
+    // The same of the nodes of pages.
+    pub(crate) fn gather(&mut self, node: NodeId, most: u32)
+        requires { HasNode self.old node }
+        ensures { self.new ≡ self.old }
+    {
+        self.table.gather_from(node.0, most);
     }
 }

@@ -1,6 +1,6 @@
 // What is asked of several page nodes, or of all of one.
 use crate::runs::pieces::{next_if, numbers_from};
-use crate::runs::{NodeRuns, PlainState, Run};
+use crate::runs::{NodeTable, PlainState, Run};
 use stretches::Stretch;
 use vm_ids::{NodeId, NodeName};
 
@@ -28,7 +28,21 @@ struct Member {
     count: u32,
 }
 
-impl NodeRuns {
+impl NodeTable {
+    // How many nodes from this one on are alike: one run says all of them, each a step further on
+    // than the one before. There is none only where a run can't say all of this node.
+    #[inline(always)]
+    pub(crate) fn stretch(&self, node: u64) -> u32
+        requires { HasCell self.now.cells node }
+        ensures alike { AreSaidAlike self.now.cells node result }
+        ensures some { CanBeAlike (cell_at self.now.cells node) → 0 < result }
+    {
+        match self.nodes.recent(node) {
+            Some(single) => single.is_alike() as u32,
+            None => self.count_from(node),
+        }
+    }
+
     // How many nodes from one on are alike, wherever it stands.
     #[inline(never)]
     pub(crate) fn count_from(&self, node: u64) -> u32 {
@@ -41,9 +55,9 @@ impl NodeRuns {
     fn member(&self, node: u64) -> Option<Member> {
         match self.nodes.lone(node) {
             Some(single) => Some(Member {
-                name: single.name,
-                child: single.links.older(),
-                has_two: single.links.newer().is_some(),
+                name: single.name(),
+                child: single.older(),
+                has_two: single.newer().is_some(),
                 count: 1,
             }),
             None => {
@@ -92,10 +106,10 @@ impl NodeRuns {
     pub(crate) fn owner_from(&self, first: u64) -> NodeId {
         let mut node = first;
         while let Some(single) = self.nodes.recent(node) {
-            if !single.own.is_absent() {
+            if !single.own().is_absent() {
                 return NodeId(node);
             }
-            node = single.links.parent().unwrap().0;
+            node = single.parent().unwrap().0;
         }
         self.search_owner(node)
     }
@@ -107,10 +121,10 @@ impl NodeRuns {
         loop {
             match self.nodes.lone(node) {
                 Some(single) => {
-                    if !single.own.is_absent() {
+                    if !single.own().is_absent() {
                         return NodeId(node);
                     }
-                    node = single.links.parent().unwrap().0;
+                    node = single.parent().unwrap().0;
                 }
                 None => match self.way_up(node) {
                     Way::Owner(owner) => return NodeId(owner),

@@ -1,17 +1,77 @@
 // Page nodes that come and go, and that get other names.
+ghost use Rattle.std.specs.Prelude.{◌≡◌, ℕ, ◌+◌, ◌<◌, ◌≤◌, ◌^◌, None};
+ghost use Rattle.std.specs.FinMap as map;
+ghost use Rattle.local_cache.specs.Arena.{new_cell};
+ghost use Rattle.local_cache.specs.NodeCells.{HasCell, HaveCells, cell_at, is_page, run_cell};
+ghost use Rattle.local_cache.specs.PageNodes.{HasNode, HaveNodes, as_working, as_working_many, exchanged_many, exchanged_names, find, made_first, made_working, page_number, with_new, without, without_many, without_names};
+
 use crate::OwnState;
+use crate::runs::changes::{NameOfPage, NameWorking};
 use crate::runs::page_number::page_number;
 use crate::runs::pieces::Piece;
-use crate::runs::{NodeRuns, PlainState, Run, RunName, plain};
-use mixed_map::Place;
+use crate::runs::{NodeRuns, NodeTable, PageTable, PlainState, Run, RunName, Single};
 use stretches::Stretch;
 use vm_ids::{CacheId, NodeId, NodeName, PageNo};
 
+// The pages that so many nodes are of, from one on, have no nodes any more. How many they are.
+fn leave_pages(nodes: &NodeTable, pages: &mut PageTable, first: u64, count: u32) -> u32
+    requires held { HaveCells nodes.now.cells first count }
+    requires paged { ArePaged nodes.now.cells pages.old.nodes.cells }
+    ensures pages { pages.new.nodes.cells ≡ without_names pages.old.nodes.cells nodes.now.cells first count }
+    ensures count { result + map.len pages.new.nodes.cells ≡ map.len pages.old.nodes.cells }
+    ensures room { pages.new.nodes.room ≡ pages.old.nodes.room }
+{
+    let mut done = 0;
+    let mut live = 0;
+    while done < count {
+        let some = first_name(nodes, first + done as u64, count - done);
+        live += pages.leave_named(some.name, some.count);
+        done += some.count;
+    }
+    live
+}
+
+// So many nodes are named by this name and the next ones.
+#[derive(Clone, Copy)]
+struct Names {
+    name: NodeName,
+    count: u32,
+}
+
+// The name of the first of so many nodes, and how many are named by it and the next names.
+fn first_name(nodes: &NodeTable, first: u64, most: u32) -> Names
+    requires held { HasCell nodes.now.cells first }
+    requires some { 0 < most }
+    ensures some { 0 < result.count }
+    ensures within { result.count ≤ most }
+    ensures names { (k : ℕ) → k < result.count
+        → (cell_at nodes.now.cells (first + k)).name ≡ name_behind result.name k }
+{
+    match nodes.some_from(first, most) {
+        Piece::Run(run) => Names {
+            name: run.value.name.first(),
+            count: run.count,
+        },
+        Piece::Single(place) => Names {
+            name: nodes.nodes.at(place).name(),
+            count: 1,
+        },
+    }
+}
+
 impl NodeRuns {
-    // Makes the first node of each of so many pages of a cache.
-    pub(crate) fn make_first(&mut self, cache: CacheId, count: u32, own: PlainState) {
+    // Makes the first node of each of so many pages of a cache, under the numbers of the pages.
+    pub(crate) fn make_pages(&mut self, cache: CacheId, count: u32, own: PlainState)
+        requires cache { cache.0 < 2 ^ 29 }
+        requires room { count ≤ self.old.room }
+        requires vacant { (page : ℕ) → page < count
+            → map.get self.old.pages (page_number cache.0 page) ≡ None }
+        requires numbers { (page : ℕ) → page < count
+            → map.get self.old.cells (page_number cache.0 page) ≡ None }
+        ensures { self.new ≡ made_first self.old cache (own_of_plain own) count }
+    {
         let number = page_number(cache, PageNo(0));
-        self.add_many(Stretch {
+        self.table.insert_run(Stretch {
             first: number,
             count,
             value: Run::fresh(RunName::Pages(cache, PageNo(0)), own),
@@ -23,9 +83,16 @@ impl NodeRuns {
 
     // Makes so many working nodes of which this is said, but for their names, under the next names
     // and numbers. The first of them.
-    pub(crate) fn make_working(&mut self, count: u32, run: Run) -> u64 {
+    pub(crate) fn make_working(&mut self, count: u32, run: Run) -> NodeId
+        requires room { count ≤ self.old.room }
+        requires made { self.old.made + count ≤ 3 * 2 ^ 61 }
+        requires fit { HasNumbers run count }
+        ensures new { HaveNone self.old result count }
+        ensures short { result.0 + count ≤ 2 ^ 64 }
+        ensures made { self.new ≡ made_working self.old result run count }
+    {
         let first = self.counters.next_working();
-        self.add_many(Stretch {
+        self.table.insert_run(Stretch {
             first,
             count,
             value: Run {
@@ -36,219 +103,107 @@ impl NodeRuns {
         self.counters.nodes += count;
         self.counters.made += count as u64;
         self.counters.working += count as u64;
-        first
-    }
-
-    // Gives so many nodes of pages, from one on, this own state, and neither parents nor children:
-    // at once those of one run.
-    pub(crate) fn renew_from(&mut self, first: u64, count: u32, state: OwnState) {
-        if count == 1 {
-            let place = self.single(first);
-            self.nodes.at_mut(place).renew(state);
-            return;
-        }
-        let mut done = 0;
-        while done < count {
-            done += self.renew_some(first + done as u64, count - done, state);
-        }
-    }
-
-    fn renew_some(&mut self, node: u64, most: u32, state: OwnState) -> u32 {
-        match self.some_from(node, most) {
-            Piece::Run(nodes) => {
-                self.put_run(nodes, Run::fresh(nodes.value.name, plain(state)));
-                nodes.count
-            }
-            Piece::Single(place) => {
-                self.nodes.at_mut(place).renew(state);
-                1
-            }
-        }
-    }
-
-    // A node of a page on which nothing hangs, and which hangs by no stub link, leaves its parent's
-    // tree children, and gets this own state and no parent. Its own state before; or `None`, and
-    // nothing changes.
-    pub(crate) fn renew_leaf(&mut self, node: u64, state: OwnState) -> Option<OwnState> {
-        let place = self.nodes.place(node)?;
-        let single = self.nodes.at_mut(place);
-        if single.links.by_stub || !single.links.is_leaf() {
-            return None;
-        }
-        let before = single.own;
-        let parent = single.links.parent();
-        single.renew(state);
-        if let Some(parent) = parent {
-            self.exchange_child(parent.0, NodeId(node), None);
-        }
-        Some(before)
+        NodeId(first)
     }
 
     // The page of a node gets a new one with this own state, and that node the next working name.
-    pub(crate) fn replace_one(&mut self, node: u64, state: OwnState) -> u64 {
-        let place = self.single(node);
-        let NodeName::Live(cache, page) = self.nodes.at(place).name else {
-            unreachable!()
-        };
-        self.name_working(place);
-        let fresh = self.counters.next_fresh();
-        let name = RunName::Pages(cache, page);
-        let place = self.enter_single(fresh, Run::fresh(name, PlainState::Absent));
-        self.nodes.at_mut(place).own = state;
-        self.pages.set(page_number(cache, page), 1, NodeId(fresh));
+    // The new node.
+    pub(crate) fn replace(&mut self, node: NodeId, own: OwnState) -> NodeId
+        requires held { HasNode self.old node }
+        requires page { is_page (cell self.old node).name ≡ true }
+        requires room { 1 ≤ self.old.room }
+        requires made { self.old.made < 3 * 2 ^ 61 }
+        ensures new { find self.old result ≡ None }
+        ensures replaced { self.new
+            ≡ with_new (as_working self.old node) result (cell self.old node).name own }
+    {
+        let name = self.table.name(node.0);
+        let fresh = NodeId(self.counters.next_fresh());
+        self.table
+            .change(node.0, NameWorking(self.counters.made + 1));
+        self.table.insert(fresh.0, Single::new(name, own));
+        self.pages.set_named(name, 1, fresh);
+        self.counters.made += 1;
         self.counters.fresh += 1;
         self.counters.nodes += 1;
         fresh
     }
 
-    // Names a node that stands by itself by the next working name.
-    fn name_working(&mut self, place: Place) {
-        self.counters.made += 1;
-        let single = self.nodes.at_mut(place);
-        single.name = NodeName::Working(self.counters.made);
-        let now = single.thin_number();
-        self.thin.change(place.slot, None, now);
-    }
-
     // Names so many nodes of pages, from one on, by the next working names: at once those of one
     // run. The pages have no nodes then.
-    pub(crate) fn name_working_from(&mut self, first: u64, count: u32) {
-        let mut done = 0;
-        while done < count {
-            done += self.name_working_some(first + done as u64, count - done);
-        }
-        self.counters.live -= count;
+    pub(crate) fn to_working_many(&mut self, node: NodeId, count: u32)
+        requires held { HaveNodes self.old node count }
+        requires pages { (k : ℕ) → k < count
+            → is_page (cell self.old (next_node node k)).name ≡ true }
+        requires made { self.old.made + count ≤ 3 * 2 ^ 61 }
+        ensures { self.new ≡ as_working_many self.old node count }
+    {
+        self.counters.live -= leave_pages(&self.table, &mut self.pages, node.0, count);
+        self.table
+            .change_each(node.0, count, NameWorking(self.counters.made + 1));
+        self.counters.made += count as u64;
     }
 
-    fn name_working_some(&mut self, node: u64, most: u32) -> u32 {
-        match self.some_from(node, most) {
-            Piece::Run(nodes) => {
-                self.leave_pages(nodes.value.name.first(), nodes.count);
-                let name = RunName::Working(self.counters.made + 1);
-                let run = Run {
-                    name,
-                    ..nodes.value
-                };
-                self.put_run(nodes, run);
-                self.counters.made += nodes.count as u64;
-                nodes.count
-            }
-            Piece::Single(place) => {
-                self.leave_pages(self.nodes.at(place).name, 1);
-                self.name_working(place);
-                1
-            }
-        }
-    }
-
-    // So many pages, from that of a name on, have no nodes any more. A working name is no page's.
-    fn leave_pages(&mut self, name: NodeName, count: u32) {
-        if let NodeName::Live(cache, page) = name {
-            self.pages.leave(page_number(cache, page), count);
-        }
-    }
-
-    // The node of a page gets another one's page, and that one its.
-    pub(crate) fn exchange_one(&mut self, node: u64, other: u64) {
-        let place = self.single(node);
-        let other_place = self.single(other);
-        let name = self.nodes.at(place).name;
-        let other_name = self.nodes.get(other_place).name;
-        self.nodes.at_mut(place).name = other_name;
-        self.nodes.get_mut(other_place).name = name;
-        self.set_page(name, other);
-        self.set_page(other_name, node);
-    }
-
-    // The page of this name has this node.
-    fn set_page(&mut self, name: NodeName, node: u64) {
-        if let NodeName::Live(cache, page) = name {
-            self.pages.set(page_number(cache, page), 1, NodeId(node));
-        }
-    }
-
-    // So many nodes of pages, from one on, are those of these pages.
-    pub(crate) fn rename_from(&mut self, first: u64, count: u32, cache: CacheId, page: PageNo) {
-        let mut done = 0;
-        while done < count {
-            let next = PageNo(page.0 + done);
-            done += self.rename_some(first + done as u64, count - done, cache, next);
-        }
-        self.pages.set(page_number(cache, page), count, NodeId(first));
-    }
-
-    fn rename_some(&mut self, node: u64, most: u32, cache: CacheId, page: PageNo) -> u32 {
-        match self.some_from(node, most) {
-            Piece::Run(nodes) => {
-                let run = Run {
-                    name: RunName::Pages(cache, page),
-                    ..nodes.value
-                };
-                self.put_run(nodes, run);
-                nodes.count
-            }
-            Piece::Single(place) => {
-                self.nodes.at_mut(place).name = NodeName::Live(cache, page);
-                1
-            }
-        }
+    // So many pages, from that of a node on, get the nodes from another one on, and the pages of
+    // those get these: at once those of one run.
+    pub(crate) fn exchange_names(&mut self, node: NodeId, other: NodeId, count: u32)
+        requires nodes { AreNamedFrom self.old node count }
+        requires others { AreNamedFrom self.old other count }
+        requires apart { AreApart self.old node other count }
+        ensures { self.new ≡ exchanged_many self.old node other count }
+    {
+        let name = self.table.name(node.0);
+        let other_name = self.table.name(other.0);
+        self.table.rename(node.0, count, other_name);
+        self.table.rename(other.0, count, name);
+        self.pages.set_named(name, count, other);
+        self.pages.set_named(other_name, count, node);
     }
 
     // Takes out so many nodes, from one on: at once those of one run.
-    pub(crate) fn free_from(&mut self, first: u64, count: u32) {
-        let mut done = 0;
-        while done < count {
-            done += self.free_some(first + done as u64, count - done);
-        }
+    pub(crate) fn free_many(&mut self, node: NodeId, count: u32)
+        requires { HaveNodes self.old node count }
+        ensures { self.new ≡ without_many self.old node count }
+    {
+        self.counters.live -= leave_pages(&self.table, &mut self.pages, node.0, count);
+        self.table.remove_each(node.0, count);
         self.counters.nodes -= count;
     }
 
-    fn free_some(&mut self, node: u64, most: u32) -> u32 {
-        match self.some_from(node, most) {
-            Piece::Run(nodes) => {
-                self.thin.leave_run(nodes);
-                self.nodes.remove_stretch(nodes.first, nodes.count);
-                self.free_name(nodes.value.name.first(), nodes.count);
-                nodes.count
-            }
-            Piece::Single(place) => {
-                self.free_single(place);
-                1
-            }
-        }
-    }
-
-    // Takes out a node that stands by itself.
-    fn free_single(&mut self, place: Place) {
-        let single = self.nodes.remove(place);
-        self.thin.change(place.slot, single.thin_number(), None);
-        self.free_name(single.name, 1);
-    }
-
     // Takes out a node.
-    pub(crate) fn free_one(&mut self, node: u64) {
-        match self.nodes.place(node) {
+    pub(crate) fn free_one(&mut self, node: NodeId)
+        requires { HasNode self.old node }
+        ensures { self.new ≡ without self.old node }
+    {
+        match self.table.nodes.place(node.0) {
             Some(place) => {
-                self.free_single(place);
+                let single = self.table.remove_at(place);
+                self.counters.live -= self.pages.leave_named(single.name(), 1);
                 self.counters.nodes -= 1;
             }
-            None => self.free_from(node, 1),
+            None => self.free_many(node, 1),
         }
     }
+}
 
-    // So many nodes of these names are gone.
-    fn free_name(&mut self, name: NodeName, count: u32) {
-        if let NodeName::Live(..) = name {
-            self.leave_pages(name, count);
-            self.counters.live -= count;
-        }
-    }
-
-    // The name of a node.
-    pub(crate) fn name_of(&self, node: NodeId) -> NodeName {
-        match self.nodes.recent(node.0) {
-            Some(single) => single.name,
-            None => self.search(node.0).name,
+impl NodeTable {
+    // Names so many nodes of pages, from one on, by the page of this name and the next ones. A
+    // working name changes nothing.
+    fn rename(&mut self, node: u64, count: u32, name: NodeName)
+        requires held { HaveCells self.old.cells node count }
+        requires names { IsShortFor name count }
+        requires page { is_page name ≡ true }
+        ensures cells { self.new.cells ≡ renamed_each self.old.cells node name count }
+        ensures count { self.new.count ≡ self.old.count }
+        ensures room { self.new.room ≡ self.old.room }
+    {
+        if let NodeName::Live(cache, page) = name {
+            let change = NameOfPage { cache, page };
+            if count == 1 {
+                self.change(node, change);
+            } else {
+                self.change_each(node, count, change);
+            }
         }
     }
 }

@@ -1,7 +1,16 @@
 // The working nodes with fewer than two children.
-use crate::runs::{Run, RunName, clear_many};
+ghost use Rattle.std.specs.Prelude.{◌≡◌, ℕ, ◌+◌, ◌<◌, ◌≤◌, None, max, IfSome, IsOk, MatchOption, OnErr, OnOk};
+ghost use Rattle.std.specs.FinMap as map;
+ghost use Rattle.stretches.specs.Stretch.{IsFit};
+ghost use Rattle.local_cache.specs.NodeCells.{run_cell};
+ghost use Rattle.local_cache.specs.Runs.{run, run_after};
+ghost use Rattle.local_cache.specs.Thin.{thin_number};
+ghost use Rattle.local_cache.specs.ThinNodes.{HasNone, IsFirst, changed_to, with_run, without_run};
+
+use crate::runs::{Run, clear_many};
 use least_heap::LeastHeap;
 use std::alloc::Global;
+use std::marker::Model;
 use stretches::{Rising, Stretch, StretchList};
 use vm_ids::NoMemory;
 
@@ -13,6 +22,18 @@ pub(crate) struct ThinNodes {
     runs: StretchList<Rising>,
 }
 
+impl Model for ThinNodes {
+    ghost use Rattle.local_cache.specs.ThinNodes.{IsCountedFor, Thin, seen, thin_code};
+
+    ghost Value = { Thin };
+
+    ghost coded = { thin_code };
+
+    ghost view = { λ t. seen t.alone t.runs };
+
+    ghost invariant = { λ t. IsCountedFor t.alone t.runs };
+}
+
 /// The thin node with the least number.
 #[derive(Clone, Copy)]
 pub(crate) enum FirstThin {
@@ -22,32 +43,32 @@ pub(crate) enum FirstThin {
     Among(u64),
 }
 
-// The first of the working numbers of a run, where its nodes are thin.
-fn thin_number(run: Run) -> Option<u64> {
-    match run.name {
-        RunName::Working(number) if run.is_thin() => Some(number),
-        _ => None,
-    }
-}
-
 impl ThinNodes {
     // No node, and no memory for one.
-    pub(crate) fn new(alloc: Global) -> Self {
+    pub(crate) fn new(alloc: Global) -> Self
+        ensures { result ≡ record { alone = map.empty; among = map.empty; room = 0 } }
+    {
         ThinNodes {
             alone: LeastHeap::new(alloc),
             runs: StretchList::new(alloc),
         }
     }
 
-    // Makes room for so many nodes in all.
-    pub(crate) fn reserve(&mut self, total: u32) -> Result<(), NoMemory> {
-        self.alone.reserve(total)?;
+    // Makes room for so many nodes in all. After an error there is no less than before.
+    pub(crate) fn reserve(&mut self, total: u32) -> Result<(), NoMemory>
+        ensures ok { OnOk result (self.new ≡ record self.old { room = max self.old.room total }) }
+        ensures err { OnErr result (self.new ≡ self.old) }
+        ensures enough { total ≤ self.old.room → IsOk result }
+    {
         self.runs.reserve(total as usize)?;
+        self.alone.reserve(total)?;
         Ok(())
     }
 
     // The thin node with the least number.
-    pub(crate) fn first(&self) -> Option<FirstThin> {
+    pub(crate) fn first(&self) -> Option<FirstThin>
+        ensures { MatchOption result (HasNone self.now) (IsFirst self.now) }
+    {
         let run = if self.runs.len() > 0 {
             self.runs.next_from(0)
         } else {
@@ -64,18 +85,32 @@ impl ThinNodes {
 
     // A node that stands alone, in this slot, had this number as a thin one, and has this one now.
     #[inline(always)]
-    pub(crate) fn change(&mut self, slot: u32, before: Option<u64>, now: Option<u64>) {
-        match (before, now) {
-            (None, None) => {}
-            (Some(_), Some(_)) => {}
-            (None, Some(number)) => self.alone.enter(number, slot),
-            (Some(_), None) => self.alone.leave(slot),
+    pub(crate) fn change(&mut self, slot: u32, before: Option<u64>, now: Option<u64>)
+        requires before { map.get self.old.alone slot ≡ before }
+        requires room { slot < self.old.room }
+        ensures { self.new ≡ record self.old { alone = changed_to self.old.alone slot now } }
+    {
+        if before == now {
+            return;
+        }
+        if before.is_some() {
+            self.alone.leave(slot);
+        }
+        if let Some(number) = now {
+            self.alone.enter(number, slot);
         }
     }
 
-    // Nodes of a run come.
-    pub(crate) fn enter_run(&mut self, nodes: Stretch<Run>) {
-        if let Some(number) = thin_number(nodes.value) {
+    // Nodes of a run come, whose numbers no node of a run has.
+    pub(crate) fn enter_run(&mut self, nodes: Stretch<Run>)
+        requires fit { IsFit run nodes }
+        requires vacant { (k : ℕ) → k < nodes.count
+            → IfSome (thin_number (run_cell (run_after nodes.value k)))
+            (λ n. map.get self.old.among n ≡ None) }
+        requires room { map.len self.old.among + nodes.count ≤ self.old.room }
+        ensures { self.new ≡ record self.old { among = with_run self.old.among nodes } }
+    {
+        if let Some(number) = nodes.value.thin_number() {
             self.runs.insert(Stretch {
                 first: number,
                 count: nodes.count,
@@ -87,8 +122,11 @@ impl ThinNodes {
     }
 
     // Nodes of a run go.
-    pub(crate) fn leave_run(&mut self, nodes: Stretch<Run>) {
-        if let Some(number) = thin_number(nodes.value) {
+    pub(crate) fn leave_run(&mut self, nodes: Stretch<Run>)
+        requires fit { IsFit run nodes }
+        ensures { self.new ≡ record self.old { among = without_run self.old.among nodes } }
+    {
+        if let Some(number) = nodes.value.thin_number() {
             clear_many(&mut self.runs, number, nodes.count);
         }
     }
