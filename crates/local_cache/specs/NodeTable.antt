@@ -1,5 +1,5 @@
 -- The page nodes by their numbers, as they stand.
-use Rattle.std.specs.Prelude.{◌≡◌, ◌↔◌, ℕ, ◌+◌, ◌≤◌, ◌<◌, ◌^◌, true, Option, Some, None, IfSome, option_and_then}
+use Rattle.std.specs.Prelude.{◌≡◌, ◌↔◌, ℕ, ◌+◌, ◌≤◌, ◌<◌, ◌^◌, true, Option, Some, None, IfSome, IsSome}
 use Rattle.std.specs.FinMap as map
 use Rattle.stretches.specs.Stretch.{IsFit, is_in}
 use Rattle.stretches.specs.Stretches.{AreTogether, said}
@@ -13,7 +13,7 @@ use Rattle.local_cache.specs.declared.runs.pieces.Piece.TheVariants.{Run as InRu
 use Rattle.local_cache.specs.declared.runs.run.Run.{Run}
 use Rattle.local_cache.specs.Arena.{Cell}
 use Rattle.local_cache.specs.ManyNodes.{each}
-use Rattle.local_cache.specs.NodeCells.{Cells, cell_at, changed, run_cell}
+use Rattle.local_cache.specs.NodeCells.{Cells, cell_at, changed, is_page, run_cell}
 use Rattle.local_cache.specs.NodeKeys.{key_at, working_number}
 use Rattle.local_cache.specs.Runs.{run, run_after}
 use Rattle.local_cache.specs.Thin.{thin_number}
@@ -28,6 +28,22 @@ pub record SeesSame (old new : Table) : Type 0 where
   pub count : new.count ≡ old.count
   pub room : new.room ≡ old.room
   pub slots : (n slot : ℕ) → map.get old.slots n ≡ Some slot → map.get new.slots n ≡ Some slot
+
+-- the same, where nodes that stood alone may stand in a run
+pub record SeesSameCells (old new : Table) : Type 0 where
+  pub cells : new.cells ≡ old.cells
+  pub count : new.count ≡ old.count
+  pub room : new.room ≡ old.room
+
+-- the node stands alone, is a page's, and is what this run says of its first node
+pub record IsStandingAs (t : Table) (n : ℕ) (r : Run) : Type 0 where
+  pub said : map.get t.cells n ≡ Some (run_cell r)
+  pub page : is_page (run_cell r).name ≡ true
+  pub alone : IsSome (map.get t.slots n)
+
+-- so many nodes from one on do, each a step further on than the one before
+abbrev pub AreSaidBy : Table → ℕ → Run → ℕ → Type 0
+AreSaidBy t n r count = (k : ℕ) → k < count → IsStandingAs t (n + k) (run_after r k)
 
 -- some nodes from this one on, at most so many: of one run, or one by itself
 abbrev pub IsPiece : Table → ℕ → ℕ → Piece → Type 0

@@ -40,7 +40,7 @@ IsNameOfPage rows (Working k) = Unit {0}
 -- The node of a page is found under the page's number, and the page is one of a live cache, so no
 -- number at or above those of the next cache has a node. The numbers of two caches are apart.
 pub record ArePlaced (m : PageNodes) (rows : List (Option CacheRow)) : Type 0 where
-  pub paged : ArePaged m
+  pub paged : ArePaged m.cells m.pages
   pub placed : (n : NodeId) (d : Cell) → find m n ≡ Some d → IsNameOfPage rows d.name
   pub short : AreShort rows
 

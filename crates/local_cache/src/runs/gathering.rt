@@ -1,4 +1,12 @@
 // Nodes of pages that stand by themselves and are alike, put into one run.
+ghost use Rattle.std.specs.Prelude.{◌≡◌, ℕ, ◌+◌, ◌<◌, ◌≤◌, true, IfSome};
+ghost use Rattle.mixed_map.specs.Mixed.{AreAlone};
+ghost use Rattle.stretches.specs.Stretch.{IsFit};
+ghost use Rattle.local_cache.specs.NodeCells.{cell_at, is_page, run_cell};
+ghost use Rattle.local_cache.specs.NodeTable.{AreSaidBy, IsStandingAs, SeesSameCells};
+ghost use Rattle.local_cache.specs.PageNodes.{HasNode};
+ghost use Rattle.local_cache.specs.Runs.{run};
+
 use crate::runs::{NodeRuns, NodeTable, Run};
 use stretches::{Says, Stretch};
 use vm_ids::NodeId;
@@ -9,7 +17,9 @@ const FEWEST: u32 = 8;
 impl NodeTable {
     // Puts alike nodes of pages that stand by themselves, from one on, as far as so many, into one
     // run. Where they are fewer than 8 nothing changes.
-    pub(crate) fn gather_from(&mut self, node: u64, most: u32) {
+    pub(crate) fn gather_from(&mut self, node: u64, most: u32)
+        ensures { SeesSameCells self.old self.new }
+    {
         if let Some(run) = self.run_alone(node) {
             let count = self.count_alike(node, run, most);
             if count >= FEWEST {
@@ -19,12 +29,20 @@ impl NodeTable {
     }
 
     // What a run of a node alone would say, where the node stands by itself and is a page's.
-    fn run_alone(&self, node: u64) -> Option<Run> {
+    fn run_alone(&self, node: u64) -> Option<Run>
+        ensures { IfSome result (IsStandingAs self.now node) }
+    {
         self.nodes.lone(node)?.as_run()
     }
 
     // How many nodes that stand by themselves this run can say, as far as so many.
-    fn count_alike(&self, node: u64, run: Run, most: u32) -> u32 {
+    fn count_alike(&self, node: u64, run: Run, most: u32) -> u32
+        requires some { 0 < most }
+        requires first { IsStandingAs self.now node run }
+        ensures some { 0 < result }
+        ensures within { result ≤ most }
+        ensures alike { AreSaidBy self.now node run result }
+    {
         let mut count = 1;
         while count < most {
             match self.run_alone(node + count as u64) {
@@ -36,7 +54,10 @@ impl NodeTable {
     }
 
     // So many nodes that stand by themselves, and of which this run says all, become the run.
-    fn gather(&mut self, node: u64, run: Run, count: u32) {
+    fn gather(&mut self, node: u64, run: Run, count: u32)
+        requires { AreSaidBy self.old node run count }
+        ensures { SeesSameCells self.old self.new }
+    {
         self.nodes.gather(Stretch {
             first: node,
             count,

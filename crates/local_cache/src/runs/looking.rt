@@ -1,11 +1,29 @@
-// What is asked of several page nodes, or of all of one.
+// What is asked of several page nodes.
+ghost use Rattle.std.specs.Prelude.{◌≡◌, ℕ, ◌+◌, ◌<◌, ◌≤◌, ◌^◌, None, true, IfSome, IsSome, MatchOption, slice_get};
+ghost use Rattle.std.specs.FinMap as map;
+ghost use Rattle.mixed_map.specs.Mixed.{Tells};
+ghost use Rattle.stretches.specs.Stretch.{IsFit};
+ghost use Rattle.stretches.specs.Stretches.{said};
+ghost use Rattle.local_cache.specs.Looking.{AreAllMembers, IsInRow, IsMember, IsOnWay, IsOwner};
+ghost use Rattle.local_cache.specs.Many.{CanBeAlike};
+ghost use Rattle.local_cache.specs.NodeCells.{HasCell, cell_at, is_page, run_cell};
+ghost use Rattle.local_cache.specs.NodeTable.{AreSaidAlike};
+ghost use Rattle.local_cache.specs.Runs.{run};
+
 use crate::runs::pieces::{next_if, numbers_from};
 use crate::runs::{NodeTable, PlainState, Run};
 use stretches::Stretch;
 use vm_ids::{NodeId, NodeName};
 
 // How many nodes of one run are alike.
-fn alike_of(nodes: Stretch<Run>) -> u32 {
+fn alike_of(nodes: Stretch<Run>) -> u32
+    requires { 0 < nodes.count }
+    ensures within { result ≤ nodes.count }
+    ensures parent { IfSome nodes.value.parent (λ n. n.0 + result ≤ 2 ^ 64) }
+    ensures older { IfSome nodes.value.older (λ n. n.0 + result ≤ 2 ^ 64) }
+    ensures newer { IfSome nodes.value.newer (λ n. n.0 + result ≤ 2 ^ 64) }
+    ensures some { 0 < result }
+{
     let parents = numbers_from(nodes.value.parent, nodes.count);
     let older = numbers_from(nodes.value.older, parents);
     numbers_from(nodes.value.newer, older)
@@ -45,14 +63,23 @@ impl NodeTable {
 
     // How many nodes from one on are alike, wherever it stands.
     #[inline(never)]
-    pub(crate) fn count_from(&self, node: u64) -> u32 {
+    fn count_from(&self, node: u64) -> u32
+        requires { HasCell self.now.cells node }
+        ensures alike { AreSaidAlike self.now.cells node result }
+        ensures some { CanBeAlike (cell_at self.now.cells node) → 0 < result }
+    {
         match self.nodes.lone(node) {
             Some(single) => single.is_alike() as u32,
             None => alike_of(self.run_from(node)),
         }
     }
 
-    fn member(&self, node: u64) -> Option<Member> {
+    // What is asked of a node and of those that stand in one run with it, from it on; or `None`
+    // exactly where there is no node.
+    fn member(&self, node: u64) -> Option<Member>
+        ensures { MatchOption result (map.get self.now.cells node ≡ None)
+            (AreAllMembers self.now.cells node) }
+    {
         match self.nodes.lone(node) {
             Some(single) => Some(Member {
                 name: single.name(),
@@ -75,7 +102,13 @@ impl NodeTable {
     // How many nodes, from one of a page on, are in a row, as far as so many: their numbers follow
     // one another, and so do the pages that they are of and their only tree children, if they have
     // some. There is none where the first one has two tree children.
-    pub(crate) fn row_from(&self, first: u64, most: u32) -> u32 {
+    pub(crate) fn row_from(&self, first: u64, most: u32) -> u32
+        requires { HasCell self.now.cells first }
+        ensures row { (k : ℕ) → k < result → IsInRow self.now.cells first k }
+        ensures within { result ≤ most }
+        ensures some { 0 < most → is_page (cell_at self.now.cells first).name ≡ true
+            → slice_get (cell_at self.now.cells first).tree 1 ≡ None → 0 < result }
+    {
         let Some(start) = self.member(first) else {
             return 0;
         };
@@ -103,7 +136,10 @@ impl NodeTable {
     }
 
     // The first node with an own page on the way up from a node.
-    pub(crate) fn owner_from(&self, first: u64) -> NodeId {
+    pub(crate) fn owner_from(&self, first: u64) -> NodeId
+        requires { (owner : ℕ) × IsOwner self.now.cells first owner }
+        ensures { IsOwner self.now.cells first result.0 }
+    {
         let mut node = first;
         while let Some(single) = self.nodes.recent(node) {
             if !single.own().is_absent() {
@@ -116,7 +152,10 @@ impl NodeTable {
 
     // The same, wherever the nodes stand.
     #[inline(never)]
-    fn search_owner(&self, first: u64) -> NodeId {
+    fn search_owner(&self, first: u64) -> NodeId
+        requires { (owner : ℕ) × IsOwner self.now.cells first owner }
+        ensures { IsOwner self.now.cells first result.0 }
+    {
         let mut node = first;
         loop {
             match self.nodes.lone(node) {
@@ -136,7 +175,11 @@ impl NodeTable {
 
     // The way up from a node that stands in a run, as long as each next node stands in a run right
     // beside that of the one before.
-    fn way_up(&self, first: u64) -> Way {
+    fn way_up(&self, first: u64) -> Way
+        requires owner { (owner : ℕ) × IsOwner self.now.cells first owner }
+        requires told { IsSome (said run self.now.list first) }
+        ensures { IsOnWay self.now.cells first result }
+    {
         let nodes = self.run_from(first);
         if nodes.value.own != PlainState::Absent {
             return Way::Owner(first);
