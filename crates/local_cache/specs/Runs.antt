@@ -1,5 +1,5 @@
 -- What one entry says of page nodes that are alike, each a step further on than the one before.
-use Rattle.std.specs.Prelude.{◌≡◌, ℕ, ◌+◌, ◌-◌, ◌*◌, ◌<◌, ◌^◌, max, min, Option, Some, None}
+use Rattle.std.specs.Prelude.{◌≡◌, ℕ, ◌+◌, ◌-◌, ◌*◌, ◌<◌, ◌≤◌, ◌^◌, max, min, Option, Some, None, IfSome}
 use Rattle.stretches.specs.declared.says.Says.{Ghosts}
 use Rattle.vm_ids.specs.declared.node_name.NodeName.{NodeName}
 use Rattle.vm_ids.specs.declared.node_name.NodeName.TheVariants.{Live, Working as WorkingNode}
@@ -45,3 +45,9 @@ run_after r by =
 -- how a run goes on, which is as long as it has names
 abbrev pub run : Ghosts Run
 run = record { after = run_after; lasts = λ r by. HasNames r.name by }
+
+-- there are so many numbers from each node on that a run names
+pub record HasNumbers (r : Run) (count : ℕ) : Type 0 where
+  pub parent : IfSome r.parent (λ n. n.0 + count ≤ 2 ^ 64)
+  pub older : IfSome r.older (λ n. n.0 + count ≤ 2 ^ 64)
+  pub newer : IfSome r.newer (λ n. n.0 + count ≤ 2 ^ 64)

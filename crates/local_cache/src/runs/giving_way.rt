@@ -1,6 +1,8 @@
 // A page node that gives way to its only child.
-ghost use Rattle.std.specs.Prelude.{◌≡◌};
-ghost use Rattle.local_cache.specs.PageNodes.{HasNode, cell, given_way, passes};
+ghost use Rattle.std.specs.Prelude.{◌≡◌, ◌≢◌, IfSome, and, not};
+ghost use Rattle.local_cache.specs.NodeCells.{inheriting};
+ghost use Rattle.local_cache.specs.Own.{is_absent};
+ghost use Rattle.local_cache.specs.PageNodes.{HasNode, cell, given_way, on_cell, passes};
 
 use crate::OwnState;
 use crate::runs::NodeRuns;
@@ -36,7 +38,7 @@ impl NodeRuns {
     // it got one.
     fn take_place(&mut self, node: NodeId, own: OwnState, parent: Option<NodeId>) -> bool
         requires { HasNode self.old node }
-        ensures passed { result ≡ has_page own && not (has_page (cell self.old node).own) }
+        ensures passed { result ≡ and (not (is_absent own)) (is_absent (cell self.old node).own) }
         ensures taken { self.new ≡ on_cell self.old node (inheriting own parent) }
     {
         let passes = !own.is_absent() && self.table.own_state(node.0).is_absent();

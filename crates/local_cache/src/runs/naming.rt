@@ -1,9 +1,12 @@
 // Page nodes that come and go, and that get other names.
-ghost use Rattle.std.specs.Prelude.{◌≡◌, ℕ, ◌+◌, ◌<◌, ◌≤◌, ◌^◌, None};
+ghost use Rattle.std.specs.Prelude.{◌≡◌, ℕ, ◌+◌, ◌*◌, ◌<◌, ◌≤◌, ◌^◌, None, true};
 ghost use Rattle.std.specs.FinMap as map;
-ghost use Rattle.local_cache.specs.Arena.{new_cell};
-ghost use Rattle.local_cache.specs.NodeCells.{HasCell, HaveCells, cell_at, is_page, run_cell};
-ghost use Rattle.local_cache.specs.PageNodes.{HasNode, HaveNodes, as_working, as_working_many, exchanged_many, exchanged_names, find, made_first, made_working, page_number, with_new, without, without_many, without_names};
+ghost use Rattle.local_cache.specs.ManyNodes.{next_node};
+ghost use Rattle.local_cache.specs.NodeCells.{HasCell, HaveCells, cell_at, is_page, own_of_plain};
+ghost use Rattle.local_cache.specs.NodeKeys.{page_number};
+ghost use Rattle.local_cache.specs.PageNodes.{AreApart, AreNamedFrom, ArePaged, HasNode, HaveNodes, HaveNone, as_working, as_working_many, cell, exchanged_many, find, made_first, made_working, name_behind, renamed_each, with_new, without, without_many, without_names};
+ghost use Rattle.local_cache.specs.Pages.{IsShortFor};
+ghost use Rattle.local_cache.specs.Runs.{HasNumbers};
 
 use crate::OwnState;
 use crate::runs::changes::{NameOfPage, NameWorking};
