@@ -9,7 +9,7 @@ use Rattle.linear_index.specs.Chains.{cell_at, Ends, IsIn}
 use Rattle.linear_index.proofs.Masks.{bucket_below}
 use Rattle.linear_index.proofs.Placed.{known}
 use Rattle.linear_index.proofs.Buckets.{found_is, none_found}
-use Rattle.linear_index.proofs.index.Index.find.Goals as goal
+use Rattle.linear_index.proofs.index.Index.search.Goals as goal
 
 -- the bucket of the key
 bucket : (heads : List (Option ℕ)) (cells : List Cell) (mask key b n hash : ℕ) → IsHashed heads cells mask → 0 < length heads → n ≡ length heads → hash ≡ hash_of key → b ≡ bucket_of mask n hash → (b ≡ bucket_of mask (length heads) (hash_of key)) × (b < length heads)
