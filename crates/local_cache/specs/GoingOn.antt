@@ -1,5 +1,5 @@
 -- How what the entries of the lists say goes on.
-use Rattle.std.proofs.Common.{◌≡◌, ℕ, ◌+◌, ◌-◌, ◌*◌, ◌^◌, max, min, Option, Some, None, refl, ap, arith}
+use Rattle.std.proofs.Common.{◌≡◌, ℕ, ◌+◌, ◌-◌, ◌^◌, max, min, Option, Some, None, refl, ap, arith}
 use Rattle.std.specs.Prelude.{◌↔◌}
 use Rattle.stretches.specs.GoingOn.{GoesOn}
 use Rattle.vm_ids.specs.declared.numbers.NodeId.{NodeId}

@@ -1,6 +1,5 @@
 -- What is asked of several page nodes.
 use Rattle.std.specs.Prelude.{◌≡◌, ℕ, zero, suc, ◌+◌, ◌<◌, ◌≤◌, true, false, Option, None, Some, is_some, option_and_then, option_map, slice_get}
-use Rattle.vm_ids.specs.declared.numbers.NodeId.{NodeId}
 use Rattle.local_cache.specs.declared.runs.looking.Member.{Member}
 use Rattle.local_cache.specs.declared.runs.looking.Way.{Way}
 use Rattle.local_cache.specs.declared.runs.looking.Way.TheVariants.{Owner, On}

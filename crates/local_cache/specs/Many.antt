@@ -1,6 +1,6 @@
 -- Many page nodes of the caches changed at once: as the calls for one change them, one after the
 -- other.
-use Rattle.std.specs.Prelude.{◌≡◌, ℕ, zero, suc, ◌+◌, ◌<◌, [], ◌∷◌, map, None, Some}
+use Rattle.std.specs.Prelude.{◌≡◌, ℕ, ◌+◌, ◌<◌, [], ◌∷◌, map, None, Some}
 use Rattle.vm_ids.specs.declared.command.Span.{Span}
 use Rattle.vm_ids.specs.declared.node_name.NodeName.TheVariants.{Live, Working}
 use Rattle.vm_ids.specs.declared.numbers.CacheId.{CacheId}

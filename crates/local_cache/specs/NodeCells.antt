@@ -1,5 +1,5 @@
 -- The cells of page nodes: what a run says of its nodes, and what is done to a cell.
-use Rattle.std.specs.Prelude.{◌≡◌, ℕ, ◌+◌, ◌<◌, ◌==◌, cond, List, [], ◌∷◌, Bool, true, false, Option, Some, None, unwrap_or, IsSome, option_and_then}
+use Rattle.std.specs.Prelude.{ℕ, ◌+◌, ◌<◌, ◌==◌, cond, List, [], ◌∷◌, Bool, true, false, Option, Some, None, unwrap_or, IsSome}
 use Rattle.std.specs.List.{filter_map}
 use Rattle.std.specs.Ordering.{nat_cmp}
 use Rattle.std.specs.FinMap.{FinMap}

@@ -1,9 +1,6 @@
 -- What the page nodes, the pages and the counters stand for, and what holds of them.
 use Rattle.std.specs.Prelude.{◌≡◌, ◌⊎◌, ℕ, ◌+◌, ◌*◌, ◌-◌, ◌<◌, ◌≤◌, ◌^◌, Some}
 use Rattle.std.specs.FinMap as map
-use Rattle.stretches.specs.declared.rising.Rising.{Rising}
-use Rattle.mixed_map.specs.Mixed.{Mixed}
-use Rattle.vm_ids.specs.declared.numbers.NodeId.{NodeId}
 use Rattle.local_cache.specs.declared.runs.counters.Counters.{Counters}
 use Rattle.local_cache.specs.declared.runs.page_table.PageTable.{PageTable}
 use Rattle.local_cache.specs.NodeCells.{Cells, HasCell}

@@ -1,9 +1,8 @@
 -- The page nodes by their numbers, as they stand.
 use Rattle.std.specs.Prelude.{◌≡◌, ◌↔◌, ℕ, ◌+◌, ◌≤◌, ◌<◌, ◌^◌, true, Option, Some, None, IfSome, IsSome}
 use Rattle.std.specs.FinMap as map
-use Rattle.stretches.specs.Stretch.{IsFit, is_in}
+use Rattle.stretches.specs.Stretch.{IsFit}
 use Rattle.stretches.specs.Stretches.{AreTogether, said}
-use Rattle.stretches.specs.declared.rising.Rising.{Rising}
 use Rattle.stretches.specs.declared.stretch.Stretch.{Stretch}
 use Rattle.mixed_map.specs.Mixed.{Mixed, Tells}
 use Rattle.mixed_map.specs.Place.{IsPlace}

@@ -1,17 +1,15 @@
 -- Cells of the arena changed: that of one node, those of many, and those of nodes that are linked.
-use Rattle.std.specs.Prelude.{◌≡◌, ◌≢◌, ℕ, zero, suc, ◌+◌, ◌<◌, ◌≤◌, ◌^◌, [], Bool, true, false, and, not, length, Option, Some, None, option_and_then, slice_get}
-use Rattle.vm_ids.specs.declared.node_name.NodeName.{NodeName}
+use Rattle.std.specs.Prelude.{◌≡◌, ℕ, zero, suc, ◌<◌, ◌≤◌, Bool, true, false, and, not, Option, Some, None, option_and_then, slice_get}
 use Rattle.vm_ids.specs.declared.node_name.NodeName.TheVariants.{Live}
 use Rattle.vm_ids.specs.declared.numbers.CacheId.{CacheId}
 use Rattle.vm_ids.specs.declared.numbers.NodeId.{NodeId}
 use Rattle.vm_ids.specs.declared.numbers.PageNo.{PageNo}
 use Rattle.local_cache.specs.declared.own_state.OwnState.{OwnState}
 use Rattle.local_cache.specs.Arena.{Arena, Cell, HasNode, as_working, cell, put, tables_with, with_new, without}
-use Rattle.local_cache.specs.Many.{AreNamed, HaveNodes, over_two_many, hung_many, with_working_many}
+use Rattle.local_cache.specs.Many.{AreNamed, over_two_many, hung_many, with_working_many}
 use Rattle.local_cache.specs.ManyNodes.{each, next_if, next_node}
 use Rattle.local_cache.specs.NodeCells.{inheriting, named, renewed, with_child}
 use Rattle.local_cache.specs.Own.{is_absent}
-use Rattle.local_cache.specs.PageNodes.{IsFreeLeaf}
 
 abbrev pub on_cell : Arena → NodeId → (Cell → Cell) → Arena
 on_cell a n change = put a n (change (cell a n))

@@ -1,8 +1,7 @@
 -- A cell in few bytes.
 use Rattle.std.specs.Prelude.{◌≡◌, ℕ, List, [], ◌∷◌, Bool, true, false, Option, Some, None, is_some}
 use Rattle.vm_ids.specs.declared.numbers.NodeId.{NodeId}
-use Rattle.local_cache.specs.declared.runs.single.Has.{Has}
-use Rattle.local_cache.specs.declared.runs.single.Single.{Inside}
+use Rattle.local_cache.specs.declared.runs.single.Single.TheInside.{Inside}
 use Rattle.local_cache.specs.Arena.{Cell}
 use Rattle.local_cache.specs.NodeCells.{tree_of}
 

@@ -1,21 +1,20 @@
 -- What a contract sees of the page nodes: their cells by number, and the nodes of pages. Each call
 -- is one equation on these two maps.
-use Rattle.std.specs.Prelude.{◌≡◌, ◌≢◌, ◌↔◌, ℕ, ◌+◌, ◌-◌, ◌<◌, ◌≤◌, ◌^◌, [], Bool, true, false, Option, Some, None, IsSome, option_and_then, and, not}
+use Rattle.std.specs.Prelude.{◌≡◌, ◌≢◌, ◌↔◌, ℕ, ◌+◌, ◌-◌, ◌<◌, ◌≤◌, ◌^◌, [], Bool, false, Option, Some, None, and, not}
 use Rattle.std.specs.FinMap as ids
 use Rattle.vm_ids.specs.declared.node_name.NodeName.{NodeName}
 use Rattle.vm_ids.specs.declared.node_name.NodeName.TheVariants.{Live, Working}
 use Rattle.vm_ids.specs.declared.numbers.CacheId.{CacheId}
 use Rattle.vm_ids.specs.declared.numbers.NodeId.{NodeId}
 use Rattle.local_cache.specs.declared.own_state.OwnState.{OwnState}
-use Rattle.local_cache.specs.declared.own_state.OwnState.TheVariants.{Absent}
 use Rattle.local_cache.specs.declared.runs.run.Run.{Run}
 use Rattle.local_cache.specs.declared.runs.run.RunName.TheVariants.{Working as WorkingRun}
 use Rattle.local_cache.specs.Arena.{Cell, new_cell}
 use Rattle.local_cache.specs.ManyNodes.{each, next_node}
-use Rattle.local_cache.specs.NodeCells.{Cells, HasCell, HaveCells, cell_at, changed, changed_each, inheriting, is_page, named, renewed, run_cell, with_child}
+use Rattle.local_cache.specs.NodeCells.{Cells, HasCell, HaveCells, cell_at, changed, changed_each, inheriting, named, renewed, run_cell, with_child}
 use Rattle.local_cache.specs.NodeKeys.{key_at, page_key, page_number}
 use Rattle.local_cache.specs.Own.{is_absent}
-use Rattle.local_cache.specs.Pages.{Pages, pages_from, pages_with, with_pages}
+use Rattle.local_cache.specs.Pages.{Pages, pages_with, with_pages}
 use Rattle.local_cache.specs.Runs.{run_after}
 
 -- the nodes by number, the node of each page by the number of the page among those of all caches,

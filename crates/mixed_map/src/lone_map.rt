@@ -1,5 +1,5 @@
 // Entries by number, each in a slot of its own.
-ghost use Rattle.std.specs.Prelude.{◌≡◌, ◌≢◌, ℕ, ◌<◌, ◌≤◌, None, Some, max, IfNone, IfSome, IsOk, MatchOption, OnErr, OnOk, option_copied};
+ghost use Rattle.std.specs.Prelude.{◌≡◌, ◌≢◌, ℕ, ◌<◌, ◌≤◌, None, Some, max, IfNone, IfSome, IsOk, OnErr, OnOk, option_copied};
 ghost use Rattle.std.specs.Borrow.{sem};
 ghost use Rattle.std.specs.FinMap as map;
 ghost use Rattle.mixed_map.specs.Place.{IsPlace};

@@ -1,5 +1,5 @@
 // The changes of page nodes.
-ghost use Rattle.std.specs.Prelude.{◌+◌, ◌<◌, ◌^◌, IfSome, Some};
+ghost use Rattle.std.specs.Prelude.{◌+◌, ◌<◌, ◌^◌, IfSome};
 ghost use Rattle.std.proofs.Common.{rules};
 ghost use Rattle.vm_ids.specs.declared.node_name.NodeName.TheVariants.{Live, Working};
 ghost use Rattle.local_cache.specs.Many.{IsPlain};

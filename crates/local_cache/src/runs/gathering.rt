@@ -1,8 +1,5 @@
 // Nodes of pages that stand by themselves and are alike, put into one run.
-ghost use Rattle.std.specs.Prelude.{◌≡◌, ℕ, ◌+◌, ◌<◌, ◌≤◌, true, IfSome};
-ghost use Rattle.mixed_map.specs.Mixed.{AreAlone};
-ghost use Rattle.stretches.specs.Stretch.{IsFit};
-ghost use Rattle.local_cache.specs.NodeCells.{cell_at, is_page, run_cell};
+ghost use Rattle.std.specs.Prelude.{◌≡◌, ◌<◌, ◌≤◌, IfSome};
 ghost use Rattle.local_cache.specs.NodeTable.{AreSaidBy, IsStandingAs, SeesSameCells};
 ghost use Rattle.local_cache.specs.PageNodes.{HasNode};
 ghost use Rattle.local_cache.specs.Runs.{run};

@@ -1,12 +1,10 @@
 // What is asked of several page nodes.
 ghost use Rattle.std.specs.Prelude.{◌≡◌, ℕ, ◌+◌, ◌<◌, ◌≤◌, ◌^◌, None, true, IfSome, IsSome, MatchOption, slice_get};
 ghost use Rattle.std.specs.FinMap as map;
-ghost use Rattle.mixed_map.specs.Mixed.{Tells};
-ghost use Rattle.stretches.specs.Stretch.{IsFit};
 ghost use Rattle.stretches.specs.Stretches.{said};
-ghost use Rattle.local_cache.specs.Looking.{AreAllMembers, IsInRow, IsMember, IsOnWay, IsOwner};
+ghost use Rattle.local_cache.specs.Looking.{AreAllMembers, IsInRow, IsOnWay, IsOwner};
 ghost use Rattle.local_cache.specs.Many.{CanBeAlike};
-ghost use Rattle.local_cache.specs.NodeCells.{HasCell, cell_at, is_page, run_cell};
+ghost use Rattle.local_cache.specs.NodeCells.{HasCell, cell_at, is_page};
 ghost use Rattle.local_cache.specs.NodeTable.{AreSaidAlike};
 ghost use Rattle.local_cache.specs.Runs.{run};
 

@@ -1,7 +1,6 @@
 // Which page has which node.
 ghost use Rattle.std.specs.Prelude.{◌≡◌, ℕ, ◌+◌, ◌<◌, ◌≤◌, ◌^◌, None, max, IsOk, IsSome, OnErr, OnOk};
 ghost use Rattle.std.specs.FinMap as map;
-ghost use Rattle.mixed_map.specs.Mixed.{without_range};
 ghost use Rattle.local_cache.specs.Pages.{HaveNodes, IsShortFor, pages_from, with_pages, without_pages};
 
 use crate::runs::page_number::page_number;
