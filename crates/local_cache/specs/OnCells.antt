@@ -1,5 +1,5 @@
 -- Cells of the arena changed: that of one node, those of many, and those of nodes that are linked.
-use Rattle.std.specs.Prelude.{◌≡◌, ℕ, zero, suc, ◌<◌, ◌≤◌, Bool, true, false, and, not, Option, Some, None, option_and_then, slice_get}
+use Rattle.std.specs.Prelude.{◌≡◌, ℕ, zero, suc, ◌<◌, ◌≤◌, Bool, true, false, ◌&&◌, not, Option, Some, None, option_and_then, slice_get}
 use Rattle.vm_ids.specs.declared.node_name.NodeName.TheVariants.{Live}
 use Rattle.vm_ids.specs.declared.numbers.CacheId.{CacheId}
 use Rattle.vm_ids.specs.declared.numbers.NodeId.{NodeId}
@@ -29,7 +29,7 @@ leaf_renewed a n s = cut_from (on_cell a n (renewed s)) (cell a n).links.parent 
 
 -- the child gets the own page of a node that gives way to it
 abbrev pub passes : Arena → NodeId → NodeId → Bool
-passes a n child = and (not (is_absent (cell a n).own)) (is_absent (cell a child).own)
+passes a n child = not (is_absent (cell a n).own) && is_absent (cell a child).own
 
 -- the child in the place of a node, which is gone
 abbrev pub given_way : Arena → NodeId → NodeId → Arena

@@ -1,6 +1,6 @@
 -- What a contract sees of the page nodes: their cells by number, and the nodes of pages. Each call
 -- is one equation on these two maps.
-use Rattle.std.specs.Prelude.{◌≡◌, ◌≢◌, ◌↔◌, ℕ, ◌+◌, ◌-◌, ◌<◌, ◌≤◌, ◌^◌, [], Bool, false, Option, Some, None, and, not}
+use Rattle.std.specs.Prelude.{◌≡◌, ◌≢◌, ◌↔◌, ℕ, ◌+◌, ◌-◌, ◌<◌, ◌≤◌, ◌^◌, [], Bool, false, Option, Some, None, ◌&&◌, not}
 use Rattle.std.specs.FinMap as ids
 use Rattle.vm_ids.specs.declared.node_name.NodeName.{NodeName}
 use Rattle.vm_ids.specs.declared.node_name.NodeName.TheVariants.{Live, Working}
@@ -109,7 +109,7 @@ exchanged_many m n o count =
 pub record AreNamedFrom (m : PageNodes) (n : NodeId) (count : ℕ) : Type 0 where
   pub cache : CacheId
   pub page : ℕ
-  pub few : page + count ≤ 2 ^ 32
+  pub few : page + count < 2 ^ 32
   pub held : HaveNodes m n count
   pub named : (k : ℕ) → k < count
       → (cell m (next_node n k)).name ≡ Live cache (record { 0 = page + k })
@@ -172,7 +172,7 @@ without_many m n count = each (λ k p. without p (next_node n k)) count m
 
 -- the child gets the own page of a node that gives way to it
 abbrev pub passes : PageNodes → NodeId → NodeId → Bool
-passes m n child = and (not (is_absent (cell m n).own)) (is_absent (cell m child).own)
+passes m n child = not (is_absent (cell m n).own) && is_absent (cell m child).own
 
 -- the child in the place of a node, which is gone
 abbrev pub given_way : PageNodes → NodeId → NodeId → PageNodes

@@ -34,7 +34,7 @@ HaveNodes m (Working k) count = Unit {0}
 
 -- from the page of a name on a cache has so many
 abbrev pub IsShortFor : NodeName → ℕ → Type 0
-IsShortFor (Live cache page) count = (cache.0 < 2 ^ 32) × (page.0 + count ≤ 2 ^ 32)
+IsShortFor (Live cache page) count = (cache.0 < 2 ^ 32) × (page.0 + count < 2 ^ 32)
 IsShortFor (Working k) count = Unit {0}
 
 -- the pages with another node, or none, at the page of this name

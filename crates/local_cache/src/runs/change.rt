@@ -1,7 +1,7 @@
 // What is done to one page node, or to each of many.
-ghost use Rattle.std.specs.Prelude.{◌≡◌, ℕ, ◌+◌};
+ghost use Rattle.std.specs.Prelude.{◌≡◌, ℕ};
 ghost use Rattle.local_cache.specs.Arena.{Cell};
-ghost use Rattle.local_cache.specs.Changing.{IsSaidAfter};
+ghost use Rattle.local_cache.specs.Changing.{GoesOn, IsSaidAfter};
 
 use crate::runs::{Run, Single};
 
@@ -20,8 +20,11 @@ pub(crate) trait ChangeEach: Change {
     /// What is done to the node so many numbers behind the first one.
     ghost after: { Self → ℕ → Self };
 
-    /// From the first node on there are so many numbers and names.
+    /// So many numbers behind the nodes that it names there are nodes.
     ghost lasts: { Self → ℕ → Type 0 };
+
+    /// From the first name on that it gives there are so many.
+    ghost has_names: { Self → ℕ → Type 0 };
 
     /// A run can say what it sets.
     ghost is_plain: { Self → Type 0 };
@@ -33,11 +36,8 @@ pub(crate) trait ChangeEach: Change {
     /// What becomes of nodes of which a run says this.
     fn of_run(self, run: Run) -> Run
         requires { is_plain self }
-        ensures { IsSaidAfter run result (λ k. cell (after self k)) (lasts self) };
+        ensures { IsSaidAfter run result (λ k. cell (after self k)) (lasts self)
+            (has_names self) };
 
-    ghost starts: { (c : Self) → after c 0 ≡ c };
-
-    ghost composes: { (c : Self) (a b : ℕ) → after (after c a) b ≡ after c (a + b) };
-
-    ghost stays_plain: { (c : Self) (a : ℕ) → is_plain c → is_plain (after c a) };
+    ghost laws: { GoesOn after lasts has_names is_plain };
 }

@@ -109,6 +109,8 @@ impl ChangeEach for Hang {
 
     ghost lasts = { λ c by. IfSome c.0 (λ p. p.0 + by < 2 ^ 64) };
 
+    ghost has_names = { λ _ _. Unit {0} };
+
     ghost is_plain = { λ _. Unit {0} };
 
     fn after(self, by: u32) -> Self {
@@ -122,11 +124,13 @@ impl ChangeEach for Hang {
         }
     }
 
-    ghost starts = { Prim.search rules };
-
-    ghost composes = { Prim.search rules };
-
-    ghost stays_plain = { λ _ _ h. h };
+    ghost laws = { record {
+      starts = Prim.search rules;
+      composes = Prim.search rules;
+      numbers = Prim.search rules;
+      names = Prim.search rules;
+      plain = λ _ _ h. h;
+    } };
 }
 
 /// Gives it these tree children; each next one the next ones.
@@ -150,6 +154,8 @@ impl ChangeEach for Adopt {
     ghost lasts = { λ c by. IfSome c.older (λ n. n.0 + by < 2 ^ 64)
         × IfSome c.newer (λ n. n.0 + by < 2 ^ 64) };
 
+    ghost has_names = { λ _ _. Unit {0} };
+
     ghost is_plain = { λ _. Unit {0} };
 
     fn after(self, by: u32) -> Self {
@@ -167,11 +173,13 @@ impl ChangeEach for Adopt {
         }
     }
 
-    ghost starts = { Prim.search rules };
-
-    ghost composes = { Prim.search rules };
-
-    ghost stays_plain = { λ _ _ h. h };
+    ghost laws = { record {
+      starts = Prim.search rules;
+      composes = Prim.search rules;
+      numbers = Prim.search rules;
+      names = Prim.search rules;
+      plain = λ _ _ h. h;
+    } };
 }
 
 /// Among its tree children another one comes in the place of one, or none; of each next one the
@@ -199,6 +207,8 @@ impl ChangeEach for Exchange {
     ghost lasts = { λ c by. (c.gone.0 + by < 2 ^ 64)
         × IfSome c.instead (λ n. n.0 + by < 2 ^ 64) };
 
+    ghost has_names = { λ _ _. Unit {0} };
+
     ghost is_plain = { λ _. Unit {0} };
 
     fn after(self, by: u32) -> Self {
@@ -225,11 +235,13 @@ impl ChangeEach for Exchange {
         .ordered()
     }
 
-    ghost starts = { Prim.search rules };
-
-    ghost composes = { Prim.search rules };
-
-    ghost stays_plain = { λ _ _ h. h };
+    ghost laws = { record {
+      starts = Prim.search rules;
+      composes = Prim.search rules;
+      numbers = Prim.search rules;
+      names = Prim.search rules;
+      plain = λ _ _ h. h;
+    } };
 }
 
 /// Hangs it on a parent by a tree link, or on none, and gives it an own page where it has none; each
@@ -256,6 +268,8 @@ impl ChangeEach for Inherit {
 
     ghost lasts = { λ c by. IfSome c.parent (λ p. p.0 + by < 2 ^ 64) };
 
+    ghost has_names = { λ _ _. Unit {0} };
+
     ghost is_plain = { λ c. IsPlain c.own };
 
     fn after(self, by: u32) -> Self {
@@ -277,11 +291,13 @@ impl ChangeEach for Inherit {
         }
     }
 
-    ghost starts = { Prim.search rules };
-
-    ghost composes = { Prim.search rules };
-
-    ghost stays_plain = { λ _ _ h. h };
+    ghost laws = { record {
+      starts = Prim.search rules;
+      composes = Prim.search rules;
+      numbers = Prim.search rules;
+      names = Prim.search rules;
+      plain = λ _ _ h. h;
+    } };
 }
 
 /// Makes it as new: it has this own state, and neither parent nor children.
@@ -301,6 +317,8 @@ impl ChangeEach for Renew {
 
     ghost lasts = { λ _ _. Unit {0} };
 
+    ghost has_names = { λ _ _. Unit {0} };
+
     ghost is_plain = { λ c. IsPlain c.0 };
 
     fn after(self, _by: u32) -> Self {
@@ -311,11 +329,13 @@ impl ChangeEach for Renew {
         Run::fresh(run.name, plain(self.0))
     }
 
-    ghost starts = { Prim.search rules };
-
-    ghost composes = { Prim.search rules };
-
-    ghost stays_plain = { λ _ _ h. h };
+    ghost laws = { record {
+      starts = Prim.search rules;
+      composes = Prim.search rules;
+      numbers = Prim.search rules;
+      names = Prim.search rules;
+      plain = λ _ _ h. h;
+    } };
 }
 
 /// Names it by this page; each next one by the next page.
@@ -338,6 +358,8 @@ impl ChangeEach for NameOfPage {
 
     ghost lasts = { λ c by. c.page.0 + by < 2 ^ 32 };
 
+    ghost has_names = { λ c by. c.page.0 + by < 2 ^ 32 };
+
     ghost is_plain = { λ _. Unit {0} };
 
     fn after(self, by: u32) -> Self {
@@ -354,11 +376,13 @@ impl ChangeEach for NameOfPage {
         }
     }
 
-    ghost starts = { Prim.search rules };
-
-    ghost composes = { Prim.search rules };
-
-    ghost stays_plain = { λ _ _ h. h };
+    ghost laws = { record {
+      starts = Prim.search rules;
+      composes = Prim.search rules;
+      numbers = Prim.search rules;
+      names = Prim.search rules;
+      plain = λ _ _ h. h;
+    } };
 }
 
 /// Names it by this working number; each next one by the next number.
@@ -378,6 +402,8 @@ impl ChangeEach for NameWorking {
 
     ghost lasts = { λ c by. c.0 + by < 2 ^ 64 };
 
+    ghost has_names = { λ c by. c.0 + by < 2 ^ 64 };
+
     ghost is_plain = { λ _. Unit {0} };
 
     fn after(self, by: u32) -> Self {
@@ -391,9 +417,11 @@ impl ChangeEach for NameWorking {
         }
     }
 
-    ghost starts = { Prim.search rules };
-
-    ghost composes = { Prim.search rules };
-
-    ghost stays_plain = { λ _ _ h. h };
+    ghost laws = { record {
+      starts = Prim.search rules;
+      composes = Prim.search rules;
+      numbers = Prim.search rules;
+      names = Prim.search rules;
+      plain = λ _ _ h. h;
+    } };
 }

@@ -1,5 +1,5 @@
 // A page node that gives way to its only child.
-ghost use Rattle.std.specs.Prelude.{◌≡◌, ◌≢◌, IfSome, and, not};
+ghost use Rattle.std.specs.Prelude.{◌≡◌, ◌≢◌, IfSome, ◌&&◌, not};
 ghost use Rattle.local_cache.specs.NodeCells.{inheriting};
 ghost use Rattle.local_cache.specs.Own.{is_absent};
 ghost use Rattle.local_cache.specs.PageNodes.{HasNode, cell, given_way, on_cell, passes};
@@ -38,7 +38,7 @@ impl NodeRuns {
     // it got one.
     fn take_place(&mut self, node: NodeId, own: OwnState, parent: Option<NodeId>) -> bool
         requires { HasNode self.old node }
-        ensures passed { result ≡ and (not (is_absent own)) (is_absent (cell self.old node).own) }
+        ensures passed { result ≡ (not (is_absent own) && is_absent (cell self.old node).own) }
         ensures taken { self.new ≡ on_cell self.old node (inheriting own parent) }
     {
         let passes = !own.is_absent() && self.table.own_state(node.0).is_absent();
