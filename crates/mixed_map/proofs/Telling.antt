@@ -17,13 +17,13 @@ use Rattle.stretches.specs.Stretches as stretches
 use Rattle.stretches.proofs.Cells.{in_front}
 use Rattle.stretches.proofs.Reading.Numbers.{high, low, out_before, out_behind, within}
 use Rattle.mixed_map.specs.Lone.{Lone}
-use Rattle.mixed_map.specs.Mixed.{IsMixed, IsStretchFrom, Mixed, Tells, with_first, with_stretch, with_told, without_first, without_stretch}
+use Rattle.mixed_map.specs.Mixed.{IsMixed, IsStretchFrom, Mixed, Tells, with_first, with_stretch, with_told, without_range, without_stretch}
 use Rattle.mixed_map.proofs.Maps.{insert_other, insert_same, remove_other, remove_same, same, tied, untied}
 
 module _ {V S : Type 0} where
-  get_without : (m : FinMap nat_cmp S) (r : Stretch V) (k n : ℕ) → map.get (without_first m r k) n ≡ cond (in_front r k n) None (map.get m n)
+  get_without : (m : FinMap nat_cmp S) (r : Stretch V) (k n : ℕ) → map.get (without_range m r.first k) n ≡ cond (in_front r k n) None (map.get m n)
   get_without m r zero n = (let none : in_front r 0 n ≡ false = grind (arith, nat_tests) in sym (cond-false _ _ _ none))
-  get_without m r (suc k) n = get-remove nat_cmp_total (without_first m r k) (r.first + k) n ∙ elim (cases_eq n (r.first + k)) [
+  get_without m r (suc k) n = get-remove nat_cmp_total (without_range m r.first k) (r.first + k) n ∙ elim (cases_eq n (r.first + k)) [
     | inl at ↦
         let inside : in_front r (suc k) n ≡ true = grind (arith, nat_tests) in
         cond-true _ _ _ (tied n (r.first + k) at) ∙ sym (cond-true _ _ _ inside)
@@ -78,8 +78,9 @@ module _ {V S : Type 0} (G : Ghosts V) (told : V → S) where
   abbrev pub the_mixed : Lone S → Stretches V → Mixed V S
   the_mixed lone s = record {
     cells = with_told G told lone.entries s.list;
+    slots = lone.slots;
     list = s.list;
-    count = lone.count + number_count s.list;
+    count = map.len lone.slots + number_count s.list;
     room = lone.room;
   }
 
@@ -89,8 +90,8 @@ module _ {V S : Type 0} (G : Ghosts V) (told : V → S) where
   pub said_seen : (lone : Lone S) (s : Stretches V) (now : Mixed V S) → the_mixed lone s ≡ now → (n : ℕ) → said G s.list n ≡ said G now.list n
   said_seen lone s now view n = ap (λ (v : Mixed V S). said G v.list n) view
 
-  pub seen : (m n : FinMap nat_cmp S) (rs ss : List (Stretch V)) (a b r s : ℕ) → m ≡ n → rs ≡ ss → a ≡ b → r ≡ s → ◌≡◌ {A = Mixed V S} (record { cells = m; list = rs; count = a; room = r }) (record { cells = n; list = ss; count = b; room = s })
-  seen m n rs ss a b r s e f g h = λ i. record { cells = e i; list = f i; count = g i; room = h i }
+  pub seen : (m n : FinMap nat_cmp S) (p q : FinMap nat_cmp ℕ) (rs ss : List (Stretch V)) (a b r s : ℕ) → m ≡ n → p ≡ q → rs ≡ ss → a ≡ b → r ≡ s → ◌≡◌ {A = Mixed V S} (record { cells = m; slots = p; list = rs; count = a; room = r }) (record { cells = n; slots = q; list = ss; count = b; room = s })
+  seen m n p q rs ss a b r s e j f g h = λ i. record { cells = e i; slots = j i; list = f i; count = g i; room = h i }
 
   -- an entry alone changes, of a number that no stretch has
   pub told_insert : (m : FinMap nat_cmp S) (rs : List (Stretch V)) (n : ℕ) (x : S) → said G rs n ≡ None → with_told G told (map.insert m n x) rs ≡ map.insert (with_told G told m rs) n x
@@ -173,7 +174,7 @@ module _ {V S : Type 0} (G : Ghosts V) (told : V → S) where
   is_told (Some v) p some none = refl
 
   -- no more numbers stand alone than before
-  pub mixed_changed : (lone new : Lone S) (s : Stretches V) → IsMixed G lone s → ((n : ℕ) (v : V) → said G s.list n ≡ Some v → map.get lone.entries n ≡ None → map.get new.entries n ≡ None) → new.room ≡ lone.room → new.count + number_count s.list ≤ new.room → IsMixed G new s
+  pub mixed_changed : (lone new : Lone S) (s : Stretches V) → IsMixed G lone s → ((n : ℕ) (v : V) → said G s.list n ≡ Some v → map.get lone.entries n ≡ None → map.get new.entries n ≡ None) → new.room ≡ lone.room → map.len new.slots + number_count s.list ≤ new.room → IsMixed G new s
   mixed_changed lone new s k none room few = record {
     apart = λ n v e. none n v e (k.apart n v e);
     places = omega (arith, k.places, room);
@@ -191,7 +192,7 @@ module _ {V S : Type 0} (G : Ghosts V) (told : V → S) where
   none_less m n q was = elim (cases_eq q n) [ inl at ↦ remove_same m n q at | inr other ↦ remove_other m n q other ∙ was ]
 
   -- the stretches say this too, of numbers that don't stand alone
-  pub mixed_also : (lone : Lone S) (s new : Stretches V) (r : Stretch V) → IsMixed G lone s → SayAlso G s.list r new.list → ((n : ℕ) → is_in r n ≡ true → map.get lone.entries n ≡ None) → new.places ≡ s.places → lone.count + number_count new.list ≤ lone.room → IsMixed G lone new
+  pub mixed_also : (lone : Lone S) (s new : Stretches V) (r : Stretch V) → IsMixed G lone s → SayAlso G s.list r new.list → ((n : ℕ) → is_in r n ≡ true → map.get lone.entries n ≡ None) → new.places ≡ s.places → map.len lone.slots + number_count new.list ≤ lone.room → IsMixed G lone new
   mixed_also lone s new r k also none places few = record {
     apart = λ n v e. by_in n v (is_in r n) refl (sym (also n) ∙ e);
     places = omega (arith, k.places, places);

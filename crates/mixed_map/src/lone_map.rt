@@ -1,5 +1,5 @@
 // Entries by number, each in a slot of its own.
-ghost use Rattle.std.specs.Prelude.{◌≡◌, ◌≢◌, ℕ, ◌<◌, ◌≤◌, None, Some, max, IfNone, IfSome, IsOk, OnErr, OnOk, option_copied};
+ghost use Rattle.std.specs.Prelude.{◌≡◌, ◌≢◌, ℕ, ◌+◌, ◌<◌, ◌≤◌, None, Some, max, IfNone, IfSome, IsOk, OnErr, OnOk, option_copied};
 ghost use Rattle.std.specs.Borrow.{sem};
 ghost use Rattle.std.specs.FinMap as map;
 ghost use Rattle.mixed_map.specs.Place.{IsPlace};
@@ -160,6 +160,7 @@ impl<S: Copy> LoneMap<S> {
           entries = map.insert self.old.entries number entry;
           slots = map.insert self.old.slots number result.slot;
         } }
+        ensures count { map.len self.new.slots ≡ map.len self.old.slots + 1 }
     {
         match self.vacant.pop() {
             Some(slot) => {
@@ -184,6 +185,7 @@ impl<S: Copy> LoneMap<S> {
           entries = map.remove self.old.entries place.number;
           slots = map.remove self.old.slots place.number;
         } }
+        ensures count { map.len self.new.slots + 1 ≡ map.len self.old.slots }
     {
         self.index.leave(place.number, place.slot);
         self.vacant.push_reserved(place.slot);
