@@ -2,7 +2,7 @@
 ghost use Rattle.std.specs.Prelude.{◌≡◌, ◌≢◌, ℕ, ◌<◌, ◌≤◌, ◌↔◌, None, Some, max, IfSome, IsOk, IsTrue, OnErr, OnOk};
 ghost use Rattle.std.specs.FinMap as map;
 
-use crate::cell::{Cell, Link};
+use crate::cell::Cell;
 use crate::chains::{make_place, place_in, put_in, take_out};
 use crate::hashes::{bucket_of_hash, hash};
 use crate::head::Head;
@@ -109,7 +109,7 @@ impl Index {
         ensures { IsTrue result ↔ (map.get self.now.places key ≡ Some place) }
     {
         match self.cells.get(place as usize) {
-            Some(cell) => cell.key == key && !matches!(cell.link, Link::Free),
+            Some(cell) => cell.has(key),
             None => false,
         }
     }
