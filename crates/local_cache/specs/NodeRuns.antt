@@ -27,6 +27,8 @@ IsGiven c n =
 pub record AreNumbered (cells : Cells) (c : Counters) : Type 0 where
   pub given : (n : ℕ) → HasCell cells n → IsGiven c n
   pub named : (n k : ℕ) → key_at working_number cells n ≡ Some k → k ≤ c.made
+  pub apart : (n m k : ℕ) → key_at working_number cells n ≡ Some k
+      → key_at working_number cells m ≡ Some k → n ≡ m
   pub fresh : c.fresh ≤ c.made
   pub working : c.working ≤ c.made
   pub made : c.made ≤ 3 * 2 ^ 61
