@@ -227,8 +227,7 @@ impl<V: Says, S: Alone<V>> MixedMap<V, S> {
     {
         if stretch.count > 1 {
             self.stretches.insert(stretch);
-            self.stretches
-                .join_at(stretch.first + stretch.count as u64);
+            self.stretches.join_at(stretch.first + stretch.count as u64);
             self.stretches.join_at(stretch.first);
         } else if stretch.count == 1 {
             self.insert(stretch.first, S::from_stretch(stretch.value));
