@@ -82,8 +82,8 @@ IsLeastThin m None = (n k : ℕ) → IsThin m n k → ⊥
 IsLeastThin m (Some n) =
     (k : ℕ) × IsThin m n.0 k × ((other j : ℕ) → IsThin m other j → k ≤ j)
 
--- so many nodes from one on are what a run says, and there are as many numbers behind each node that
--- it names
+-- so many nodes from one on are what a run says, and there are as many numbers behind each node
+-- that it names
 pub record AreSaidAlike (m : Cells) (n count : ℕ) : Type 0 where
   pub run : Run
   pub said : (k : ℕ) → k < count → map.get m (n + k) ≡ Some (run_cell (run_after run k))

@@ -115,7 +115,8 @@ impl<V: Says, S: Alone<V>> MixedMap<V, S> {
         ensures place { IfSome result (λ place. (place.number ≡ number)
             × IsPlace self.now.slots place) }
         ensures none { IfNone result ((map.get self.now.slots number ≡ None)
-            × (IsSome (map.get self.now.cells number) → IsSome (said V.Says self.now.list number))) }
+            × (IsSome (map.get self.now.cells number)
+            → IsSome (said V.Says self.now.list number))) }
     {
         self.lone.place(number)
     }
@@ -151,7 +152,8 @@ impl<V: Says, S: Alone<V>> MixedMap<V, S> {
     #[inline(always)]
     pub fn at_mut(&mut self, place: Place) -> &mut S
         requires { IsPlace self.old.slots place }
-        ensures* writes_back { sem 𝓛 (LendsEntry V.row S.row V.Says S.Alone self.entry place result) }
+        ensures* writes_back { sem 𝓛 (LendsEntry V.row S.row V.Says S.Alone self.entry place
+            result) }
         ensures entry { map.get self.old.cells place.number ≡ Some result.now }
     {
         self.lone.at_mut(place)

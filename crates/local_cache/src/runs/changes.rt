@@ -244,8 +244,8 @@ impl ChangeEach for Exchange {
     } };
 }
 
-/// Hangs it on a parent by a tree link, or on none, and gives it an own page where it has none; each
-/// next one on the next parent.
+/// Hangs it on a parent by a tree link, or on none, and gives it an own page where it has none;
+/// each next one on the next parent.
 #[derive(Clone, Copy)]
 pub(crate) struct Inherit {
     pub own: OwnState,

@@ -20,7 +20,8 @@ use vm_ids::{CacheId, NodeId, NodeName, PageNo};
 fn leave_pages(nodes: &NodeTable, pages: &mut PageTable, first: u64, count: u32) -> u32
     requires held { HaveCells nodes.now.cells first count }
     requires paged { ArePaged nodes.now.cells pages.old.nodes.cells }
-    ensures pages { pages.new.nodes.cells ≡ without_names pages.old.nodes.cells nodes.now.cells first count }
+    ensures pages { pages.new.nodes.cells
+        ≡ without_names pages.old.nodes.cells nodes.now.cells first count }
     ensures count { result + map.len pages.new.nodes.cells ≡ map.len pages.old.nodes.cells }
     ensures room { pages.new.nodes.room ≡ pages.old.nodes.room }
 {
