@@ -90,9 +90,18 @@ impl ThinNodes {
         requires room { slot < self.old.room }
         ensures { self.new ≡ record self.old { alone = changed_to self.old.alone slot now } }
     {
-        if before == now {
-            return;
+        if before != now {
+            self.exchange(slot, before, now);
         }
+    }
+
+    // The same, where the numbers are two.
+    #[inline(never)]
+    fn exchange(&mut self, slot: u32, before: Option<u64>, now: Option<u64>)
+        requires before { map.get self.old.alone slot ≡ before }
+        requires room { slot < self.old.room }
+        ensures { self.new ≡ record self.old { alone = changed_to self.old.alone slot now } }
+    {
         if before.is_some() {
             self.alone.leave(slot);
         }
