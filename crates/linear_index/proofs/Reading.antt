@@ -1,21 +1,15 @@
 -- The cell of a place, read.
-use Rattle.std.proofs.Common.{◌≡◌, ℕ, zero, suc, ◌<◌, List, [], ◌∷◌, length, Some, None, refl, arith}
-use Rattle.std.specs.Prelude.{slice_get}
+use Rattle.std.proofs.Common.{◌≡◌, ℕ, zero, suc, ◌<◌, ◌≤◌, List, [], ◌∷◌, length, Some, None, refl, arith}
 use Rattle.linear_index.specs.declared.cell.Cell.{Cell}
 use Rattle.linear_index.specs.declared.cell.Link.{Link}
 use Rattle.linear_index.specs.declared.cell.Link.TheVariants.{Free, Last, Before}
-use Rattle.linear_index.specs.Chains.{cell_at, key_at, key_by}
-
-pub read : (cells : List Cell) (p : ℕ) (d : Cell) → slice_get cells p ≡ Some d → cell_at cells p ≡ d
-read [] p d e = absurd (cc)
-read (x ∷ xs) zero d e = cc
-read (x ∷ xs) (suc p) d e = read xs p d e
+use Rattle.linear_index.specs.Chains.{key_at, key_by}
 
 -- a place past the last is free
-pub past : (cells : List Cell) (p : ℕ) → slice_get cells p ≡ None → key_at cells p ≡ None
+pub past : (cells : List Cell) (p : ℕ) → length cells ≤ p → key_at cells p ≡ None
 past [] p e = refl
-past (x ∷ xs) zero e = absurd (cc)
-past (x ∷ xs) (suc p) e = past xs p e
+past (x ∷ xs) zero e = absurd (omega arith)
+past (x ∷ xs) (suc p) e = past xs p (omega arith)
 
 -- a place with a key isn't past the last
 pub below : (cells : List Cell) (p k : ℕ) → key_at cells p ≡ Some k → p < length cells
