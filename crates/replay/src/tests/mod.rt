@@ -2,6 +2,7 @@
 ghost use Rattle.std.specs.Prelude.{◌≡◌, ◌≤◌, ◌^◌, None, IfOk};
 
 mod drawn;
+mod draws;
 mod failing_calls;
 mod following;
 mod generated;
@@ -9,6 +10,7 @@ mod lines;
 mod lying;
 mod page_forest;
 mod playing;
+mod processes;
 mod rows;
 mod segment_rows;
 mod segments;

@@ -1,0 +1,15 @@
+pub mod ProcessMachine
+pub mod Answering
+pub mod Outcome
+pub mod Stepping
+pub mod Seen
+pub mod Tying
+pub mod Use
+pub mod Inner
+pub mod Starting
+pub mod Adding
+pub mod Loaded
+pub mod Copying
+pub mod Calling
+pub mod Rows
+pub mod Laws
