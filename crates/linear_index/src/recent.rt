@@ -1,4 +1,6 @@
 // At which places keys were found lately, so that most searches end where they begin.
+ghost use Rattle.std.specs.Prelude.{◌<◌};
+
 use std::array;
 use std::cell::Cell;
 
@@ -14,7 +16,9 @@ pub(crate) struct Recent {
 
 // The kind of a key. Keys that differ above their last 32 bits alone are of several kinds.
 #[inline(always)]
-fn kind_of(key: u64) -> usize {
+fn kind_of(key: u64) -> usize
+    ensures { result < PLACES }
+{
     key.wrapping_add((key >> 32).wrapping_mul(57)) as usize % PLACES
 }
 

@@ -1,4 +1,4 @@
-use Rattle.std.proofs.Common.{◌≡◌, ◌≤◌, ℕ, false, true, List, length, Some, None, sym, ap, subst, ◌∙◌}
+use Rattle.std.proofs.Common.{◌≡◌, ◌≤◌, false, true, List, length, Some, None, sym, ap, subst, ◌∙◌}
 use Rattle.linear_index.specs.declared.cell.Cell.{Cell}
 use Rattle.linear_index.specs.Chains.{cell_at, free, key_at, key_in}
 use Rattle.linear_index.proofs.Placed.{known}
