@@ -1,7 +1,7 @@
 use Rattle.std.proofs.Common.{List, [], get_or, sym, ap, ◌∙◌}
 use Rattle.stretches.specs.Leaves.{Leaves}
 use Rattle.stretches.proofs.Leaves.Entries.{get_flat}
-use Rattle.stretches.proofs.directory.Directory.get.Goals as goal
+use Rattle.stretches.proofs.directory.Directory.at.Goals as goal
 
 pub returns : goal.returns
 returns g c =
