@@ -17,8 +17,7 @@ pub returns : goal.returns
 returns g c =
     let l = c.args.stretches.now in
     let at = index l c.args.spot in
-    let within = held_within l c.args.spot c.requires.held in
-    (
+    let within = held_within l c.args.spot c.requires.held in (
       (λ yes. record { within = within; has = λ d. ap (λ (r : Stretch _). is_in r c.args.number) (any_default _ at d _ within ∙ sym c.get.ensures) ∙ sym c.has.ensures ∙ yes }),
       (λ has. c.has.ensures ∙ ap (λ (r : Stretch _). is_in r c.args.number) c.get.ensures ∙ has.has c.get.result),
     )

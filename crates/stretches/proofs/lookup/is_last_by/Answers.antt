@@ -1,12 +1,9 @@
-use Rattle.std.proofs.Common.{◌≡◌, ◌+◌, ℕ, get_or, sym, ap, subst, ◌∙◌, arith}
+use Rattle.std.proofs.Common.{◌≡◌, ◌+◌, ℕ, get_or, sym, ap, ◌∙◌, arith}
 use Rattle.std.proofs.lemmas.Bool.{ltb-true}
 use Rattle.stretches.specs.Leaves.{entries}
 use Rattle.stretches.specs.Spots.{index}
-use Rattle.stretches.specs.declared.stretch.Stretch.{Stretch}
-use Rattle.stretches.specs.Stretch.{IsFit, is_in}
 use Rattle.stretches.proofs.Leaves.Held.{held_within}
-use Rattle.stretches.proofs.Reading.Numbers.{any_default}
-use Rattle.stretches.proofs.Reading.Order.{behind_between, behind_has, fit_at}
+use Rattle.stretches.proofs.Reading.Order.{behind_between, behind_has}
 use Rattle.stretches.proofs.lookup.is_last_by.Goals as goal
 
 pub returns-then-stretch-number : goal.returns-then-stretch-number

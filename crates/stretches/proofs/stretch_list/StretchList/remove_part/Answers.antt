@@ -1,9 +1,8 @@
-use Rattle.std.proofs.Common.{◌≡◌, ◌+◌, ◌<◌, ℕ, ◌∙◌, ap, subst, sym, arith, cond, get_or, List, None}
+use Rattle.std.proofs.Common.{◌+◌, ◌∙◌, ap, subst, sym, arith, cond, List, None}
 use Rattle.stretches.specs.declared.stretch.Stretch.{Stretch}
-use Rattle.stretches.specs.Places.{HasAt, IsPart}
 use Rattle.stretches.specs.Leaves.{entries}
 use Rattle.stretches.specs.Stretch.{is_in}
-use Rattle.stretches.specs.Stretches.{AreInOrder, IsStretchFrom, IsStretchWith, Stretches, number_count, said}
+use Rattle.stretches.specs.Stretches.{AreInOrder, IsStretchWith, Stretches, number_count, said}
 use Rattle.stretches.proofs.Cells.{fewer_cells}
 use Rattle.stretches.proofs.Changes.Removal.{count_removed, order_removed, said_removed}
 use Rattle.stretches.proofs.Reading.Sayings.{stretch_at_place}
