@@ -96,17 +96,18 @@ impl<V: Says, S: Alone<V>> MixedMap<V, S> {
             (λ entry. IsSome (map.get self.now.slots number)) }
         ensures entry { IfSome result (λ entry. map.get self.now.cells number ≡ Some entry.now) }
     {
-        self.lone.get(number)
+        let place = self.place(number)?;
+        Some(self.at(place))
     }
 
-    /// The same, where it was found lately. `None` says nothing.
+    /// The same, where it was found lately; or else `None`.
     #[inline(always)]
     pub fn recent(&self, number: u64) -> Option<&S>
         ensures slot { IfSome result (λ entry. IsSome (map.get self.now.slots number)) }
         ensures entry { IfSome result (λ entry. map.get self.now.cells number ≡ Some entry.now) }
     {
-        let place = self.lone.recent_place(number)?;
-        Some(self.lone.at(place))
+        let place = self.recent_place(number)?;
+        Some(self.at(place))
     }
 
     /// Where the entry of a number stands that stands alone, or `None` exactly where it doesn't.
@@ -114,6 +115,7 @@ impl<V: Says, S: Alone<V>> MixedMap<V, S> {
     pub fn place(&self, number: u64) -> Option<Place>
         ensures place { IfSome result (λ place. (place.number ≡ number)
             × IsPlace self.now.slots place) }
+        ensures alone { IfSome result (λ place. said V.Says self.now.list number ≡ None) }
         ensures none { IfNone result ((map.get self.now.slots number ≡ None)
             × (IsSome (map.get self.now.cells number)
             → IsSome (said V.Says self.now.list number))) }
@@ -121,7 +123,7 @@ impl<V: Says, S: Alone<V>> MixedMap<V, S> {
         self.lone.place(number)
     }
 
-    /// The same, where it was found lately. `None` says nothing.
+    /// The same, where it was found lately; or else `None`.
     #[inline(always)]
     pub fn recent_place(&self, number: u64) -> Option<Place>
         ensures { IfSome result (λ place. (place.number ≡ number)
@@ -180,8 +182,8 @@ impl<V: Says, S: Alone<V>> MixedMap<V, S> {
         self.stretches.stretch_with(number)
     }
 
-    /// The stretch that has a number, where it is the one that was found last, or right beside.
-    /// `None` says nothing.
+    /// The stretch that has a number, where it is the one that was found last, or right beside; or
+    /// else `None`.
     pub fn stretch_beside(&self, number: u64) -> Option<&Stretch<V>>
         ensures with { IfSome result (λ r. IsStretchWith V.Says self.now.list number r.now) }
         ensures told { IfSome result (λ r. Tells V.Says S.told self.now.cells r.now) }
@@ -260,6 +262,7 @@ impl<V: Says, S: Alone<V>> MixedMap<V, S> {
         ensures less { SayNoMore V.Says self.old.list result self.new.list }
         ensures slots { self.new.slots ≡ self.old.slots }
         ensures count { self.new.count + count ≡ self.old.count }
+        ensures fits { self.new.count + count ≤ self.new.room }
         ensures room { self.new.room ≡ self.old.room }
     {
         self.stretches.remove_part(first, count)
@@ -289,6 +292,7 @@ impl<V: Says, S: Alone<V>> MixedMap<V, S> {
         requires { IsPlace self.old.slots place }
         ensures entry { map.get self.old.cells place.number ≡ Some result }
         ensures count { self.new.count + 1 ≡ self.old.count }
+        ensures fits { self.new.count < self.new.room }
         ensures removed { self.new ≡ record self.old {
           cells = map.remove self.old.cells place.number;
           slots = map.remove self.old.slots place.number;
@@ -305,6 +309,7 @@ impl<V: Says, S: Alone<V>> MixedMap<V, S> {
         ensures cells { self.new.cells ≡ without_range self.old.cells first count }
         ensures slots { self.new.slots ≡ without_range self.old.slots first count }
         ensures count { self.new.count + count ≡ self.old.count }
+        ensures fits { 0 < count → self.new.count + count ≤ self.new.room }
         ensures room { self.new.room ≡ self.old.room }
     {
         let mut done = 0;
@@ -323,6 +328,7 @@ impl<V: Says, S: Alone<V>> MixedMap<V, S> {
         ensures cells { self.new.cells ≡ without_range self.old.cells number result }
         ensures slots { self.new.slots ≡ without_range self.old.slots number result }
         ensures count { self.new.count + result ≡ self.old.count }
+        ensures fits { self.new.count + result ≤ self.new.room }
         ensures room { self.new.room ≡ self.old.room }
     {
         match self.place(number) {
@@ -344,6 +350,7 @@ impl<V: Says, S: Alone<V>> MixedMap<V, S> {
         ensures cells { self.new.cells ≡ without_range self.old.cells number result }
         ensures slots { self.new.slots ≡ self.old.slots }
         ensures count { self.new.count + result ≡ self.old.count }
+        ensures fits { self.new.count + result ≤ self.new.room }
         ensures room { self.new.room ≡ self.old.room }
     {
         match self.stretch_from(number) {

@@ -3,7 +3,7 @@ use Rattle.std.specs.FinMap as map
 use Rattle.stretches.specs.Stretches.{said}
 use Rattle.mixed_map.specs.Lone.{Lone}
 use Rattle.mixed_map.specs.Mixed.{IsMixed, Mixed}
-use Rattle.mixed_map.proofs.Telling.{get_seen, mixed_changed, none_less, not_told, or_told, seen, the_mixed, told_remove}
+use Rattle.mixed_map.proofs.Telling.{cell_alone, mixed_changed, none_less, seen, the_mixed, told_remove}
 use Rattle.mixed_map.proofs.mixed_map.MixedMap.remove.Goals as goal
 
 pub take-requires : goal.take-requires
@@ -17,15 +17,11 @@ invariant_of-self g c =
     (λ q v e was. none_less g.V.Says g.S.Alone.told c.self.inside.lone.entries c.args.place.number q was) refl (omega (arith, less, c.take.ensures.count, c.self.invariant.few)))
 
 pub returns-clause-entry : goal.returns-clause-entry
-returns-clause-entry g c =
-    let there = c.take.ensures.entry in
-    let none = not_told g.V.Says g.S.Alone.told c.self.inside.lone c.self.inside.stretches c.self.invariant c.args.place.number (λ e. (let never = sym there ∙ e in absurd (cc))) in
-    get_seen g.V.Says g.S.Alone.told c.self.inside.lone c.self.inside.stretches c.args.self.now c.self.view_is c.args.place.number ∙ ap (λ (o : Option _). or_told g.V.Says g.S.Alone.told o (map.get c.self.inside.lone.entries c.args.place.number)) none ∙ there
+returns-clause-entry g c = (cell_alone g.V.Says g.S.Alone.told c.self.inside.lone c.self.inside.stretches c.args.self.now c.self.view_is c.self.invariant c.args.place.number _ c.take.ensures.entry).0
 
 pub returns-clause-removed : goal.returns-clause-removed
 returns-clause-removed g c =
-    let there = c.take.ensures.entry in
-    let none = not_told g.V.Says g.S.Alone.told c.self.inside.lone c.self.inside.stretches c.self.invariant c.args.place.number (λ e. (let never = sym there ∙ e in absurd (cc))) in
+    let none = (cell_alone g.V.Says g.S.Alone.told c.self.inside.lone c.self.inside.stretches c.args.self.now c.self.view_is c.self.invariant c.args.place.number _ c.take.ensures.entry).1 in
     seen g.V.Says g.S.Alone.told _ _ _ _ _ _ _ _ _ _
     (ap (λ (l : Lone _). (the_mixed g.V.Says g.S.Alone.told l c.self.inside.stretches).cells) c.take.ensures.taken
     ∙ told_remove g.V.Says g.S.Alone.told c.self.inside.lone.entries c.self.inside.stretches.list c.args.place.number none
