@@ -72,6 +72,19 @@ module _ {X : Type 0} where
   range_behind m first zero n h = refl
   range_behind m first (suc k) n h = remove_other (without_range m first k) (first + k) n (λ e. omega arith) ∙ range_behind m first k n (omega arith)
 
+  remove_none : (m : FinMap nat_cmp X) (n : ℕ) → map.get m n ≡ None → map.remove m n ≡ m
+  remove_none m n none = same _ _ (λ q. elim (cases_eq q n) [
+    | inl at ↦ remove_same m n q at ∙ sym (ap (map.get m) at ∙ none)
+    | inr other ↦ remove_other m n q other
+  ])
+
+  -- a range without a number of the map
+  pub range_none : (m : FinMap nat_cmp X) (first k : ℕ) → ((j : ℕ) → j < k → map.get m (first + j) ≡ None) → without_range m first k ≡ m
+  range_none m first zero h = refl
+  range_none m first (suc k) h =
+      ap (λ (q : FinMap nat_cmp X). map.remove q (first + k)) (range_none m first k (λ j less. h j (omega arith)))
+      ∙ remove_none m (first + k) (h k (omega arith))
+
   -- what follows where there is none
   pub if_none : (o : Option X) {P Q : Type 0} → IfNone o P → (P → Q) → IfNone o Q
   if_none None h f = f h

@@ -155,6 +155,13 @@ module _ {V S : Type 0} (G : Ghosts V) (told : V → S) where
     by_said None e = refl
     by_said (Some v) e = absurd (alone (k.apart n v e))
 
+  -- nor is one with a slot
+  pub placed_alone : (lone : Lone S) (s : Stretches V) → IsMixed G lone s → (n p : ℕ) → map.get lone.slots n ≡ Some p → said G s.list n ≡ None
+  placed_alone lone s k n p at = by_said (said G s.list n) refl where
+    by_said : (o : Option V) → said G s.list n ≡ o → o ≡ None
+    by_said None e = refl
+    by_said (Some v) e = (let none = k.placed n (k.apart n v e) in absurd (cc))
+
   -- an entry that stands alone is the number's
   pub cell_alone : (lone : Lone S) (s : Stretches V) (now : Mixed V S) → the_mixed lone s ≡ now → IsMixed G lone s → (n : ℕ) (x : S) → map.get lone.entries n ≡ Some x → (map.get now.cells n ≡ Some x) × (said G s.list n ≡ None)
   cell_alone lone s now view k n x there =
@@ -167,12 +174,27 @@ module _ {V S : Type 0} (G : Ghosts V) (told : V → S) where
   is_told (Some v) p some none = refl
 
   -- no more numbers stand alone than before
-  pub mixed_changed : (lone new : Lone S) (s : Stretches V) → IsMixed G lone s → ((n : ℕ) (v : V) → said G s.list n ≡ Some v → map.get lone.entries n ≡ None → map.get new.entries n ≡ None) → new.room ≡ lone.room → map.len new.slots + number_count s.list ≤ new.room → IsMixed G new s
-  mixed_changed lone new s k none room few = record {
+  pub mixed_changed : (lone new : Lone S) (s : Stretches V) → IsMixed G lone s → ((n : ℕ) (v : V) → said G s.list n ≡ Some v → map.get lone.entries n ≡ None → map.get new.entries n ≡ None) → ((n : ℕ) → map.get new.entries n ≡ None → map.get new.slots n ≡ None) → new.room ≡ lone.room → map.len new.slots + number_count s.list ≤ new.room → IsMixed G new s
+  mixed_changed lone new s k none placed room few = record {
     apart = λ n v e. none n v e (k.apart n v e);
+    placed = placed;
     places = omega (arith, k.places, room);
     few = few;
   }
+
+  -- a number with an entry set has one
+  pub none_set : (m : FinMap nat_cmp S) (n : ℕ) (x : S) (q : ℕ) → map.get (map.insert m n x) q ≡ None → (q ≢ n) × (map.get m q ≡ None)
+  none_set m n x q e = elim (cases_eq q n) [
+    | inl at ↦ (let some = insert_same m n x q at in absurd (cc))
+    | inr other ↦ (other, sym (insert_other m n x q other) ∙ e)
+  ]
+
+  -- and one that is removed, or had none, has none
+  pub none_left : (lone : Lone S) (n q : ℕ) → ((p : ℕ) → map.get lone.entries p ≡ None → map.get lone.slots p ≡ None) → map.get (map.remove lone.entries n) q ≡ None → map.get (map.remove lone.slots n) q ≡ None
+  none_left lone n q placed e = elim (cases_eq q n) [
+    | inl at ↦ remove_same lone.slots n q at
+    | inr other ↦ remove_other lone.slots n q other ∙ placed q (sym (remove_other lone.entries n q other) ∙ e)
+  ]
 
   -- other numbers than one stand alone as before, and no stretch has this
   pub none_of : (m : FinMap nat_cmp S) (rs : List (Stretch V)) (n : ℕ) (x : S) → said G rs n ≡ None → (q : ℕ) (v : V) → said G rs q ≡ Some v → map.get m q ≡ None → map.get (map.insert m n x) q ≡ None
@@ -188,6 +210,7 @@ module _ {V S : Type 0} (G : Ghosts V) (told : V → S) where
   pub mixed_also : (lone : Lone S) (s new : Stretches V) (r : Stretch V) → IsMixed G lone s → SayAlso G s.list r new.list → ((n : ℕ) → is_in r n ≡ true → map.get lone.entries n ≡ None) → new.places ≡ s.places → map.len lone.slots + number_count new.list ≤ lone.room → IsMixed G lone new
   mixed_also lone s new r k also none places few = record {
     apart = λ n v e. by_in n v (is_in r n) refl (sym (also n) ∙ e);
+    placed = k.placed;
     places = omega (arith, k.places, places);
     few = few;
   } where

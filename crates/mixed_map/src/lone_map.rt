@@ -1,5 +1,5 @@
 // Entries by number, each in a slot of its own.
-ghost use Rattle.std.specs.Prelude.{◌≡◌, ◌≢◌, ℕ, ◌+◌, ◌<◌, ◌≤◌, None, Some, max, IfNone, IfSome, IsOk, IsSome, OnErr, OnOk, option_copied};
+ghost use Rattle.std.specs.Prelude.{◌≡◌, ◌≢◌, ℕ, ◌+◌, ◌<◌, ◌≤◌, None, Some, max, IfNone, IfSome, IsOk, OnErr, OnOk, option_copied};
 ghost use Rattle.std.specs.Borrow.{sem};
 ghost use Rattle.std.specs.FinMap as map;
 ghost use Rattle.mixed_map.specs.Place.{IsPlace};
@@ -80,7 +80,6 @@ impl<S: Copy> LoneMap<S> {
     pub(crate) fn place(&self, number: u64) -> Option<Place>
         ensures place { IfSome result (λ place. (place.number ≡ number)
             × IsPlace self.now.slots place) }
-        ensures entry { IfSome result (λ place. IsSome (map.get self.now.entries number)) }
         ensures none { IfNone result ((map.get self.now.slots number ≡ None)
             × (map.get self.now.entries number ≡ None)) }
     {
@@ -94,7 +93,6 @@ impl<S: Copy> LoneMap<S> {
     fn search(&self, number: u64) -> Option<Place>
         ensures place { IfSome result (λ place. (place.number ≡ number)
             × IsPlace self.now.slots place) }
-        ensures entry { IfSome result (λ place. IsSome (map.get self.now.entries number)) }
         ensures none { IfNone result ((map.get self.now.slots number ≡ None)
             × (map.get self.now.entries number ≡ None)) }
     {

@@ -258,6 +258,7 @@ impl<V: Says, S: Alone<V>> MixedMap<V, S> {
         requires together { AreTogether self.old.list first count }
         ensures from { IsStretchFrom V.Says S.told self.old.cells first result }
         ensures whole { result.count ≡ count }
+        ensures apart { (n : ℕ) → is_in result n ≡ true → map.get self.old.slots n ≡ None }
         ensures cells { self.new.cells ≡ without_stretch self.old.cells result }
         ensures less { SayNoMore V.Says self.old.list result self.new.list }
         ensures slots { self.new.slots ≡ self.old.slots }
@@ -348,7 +349,7 @@ impl<V: Says, S: Alone<V>> MixedMap<V, S> {
         ensures some { 0 < result }
         ensures within { result ≤ most }
         ensures cells { self.new.cells ≡ without_range self.old.cells number result }
-        ensures slots { self.new.slots ≡ self.old.slots }
+        ensures slots { self.new.slots ≡ without_range self.old.slots number result }
         ensures count { self.new.count + result ≡ self.old.count }
         ensures fits { self.new.count + result ≤ self.new.room }
         ensures room { self.new.room ≡ self.old.room }

@@ -2,7 +2,7 @@ use Rattle.std.proofs.Common.{refl, ap, ◌∙◌}
 use Rattle.std.specs.FinMap as map
 use Rattle.mixed_map.specs.Lone.{Lone}
 use Rattle.mixed_map.specs.Mixed.{Mixed}
-use Rattle.mixed_map.proofs.Telling.{cell_alone, mixed_changed, none_of, seen, told_insert}
+use Rattle.mixed_map.proofs.Telling.{cell_alone, mixed_changed, none_of, none_set, seen, told_insert}
 use Rattle.mixed_map.proofs.mixed_map.MixedMap.at_mut.Goals as goal
 
 pub at_mut-requires : goal.at_mut-requires
@@ -14,7 +14,7 @@ invariant_of-self-lent g c w =
     let lone = c.self.inside.lone in
     let alone = cell_alone g.V.Says g.S.Alone.told c.self.inside.lone c.self.inside.stretches c.args.self.now c.self.view_is c.self.invariant n _ c.at_mut.ensures.entry in
     let new : Lone _ = record lone { entries = map.insert lone.entries n w } in
-    mixed_changed g.V.Says g.S.Alone.told lone new c.self.inside.stretches c.self.invariant (none_of g.V.Says g.S.Alone.told lone.entries c.self.inside.stretches.list n w alone.1) refl c.self.invariant.few
+    mixed_changed g.V.Says g.S.Alone.told lone new c.self.inside.stretches c.self.invariant (none_of g.V.Says g.S.Alone.told lone.entries c.self.inside.stretches.list n w alone.1) (λ q e. c.self.invariant.placed q (none_set g.V.Says g.S.Alone.told lone.entries n w q e).1) refl c.self.invariant.few
 
 pub returns : goal.returns
 returns g c =
