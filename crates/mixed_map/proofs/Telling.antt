@@ -19,6 +19,11 @@ use Rattle.mixed_map.specs.Lone.{Lone}
 use Rattle.mixed_map.specs.Mixed.{IsMixed, IsStretchFrom, Mixed, Tells, with_first, with_stretch, with_told, without_range, without_stretch}
 use Rattle.mixed_map.proofs.Maps.{insert_other, insert_same, remove_other, remove_same, same, tied, untied}
 
+module _ {V : Type 0} where
+  -- fewer numbers that are together
+  pub together_fewer : (rs : List (Stretch V)) (first count many : ℕ) → many ≤ count → AreTogether rs first count → AreTogether rs first many
+  together_fewer rs first count many le c = record { at = c.at; within = c.within; from = c.from; to = λ d. omega (arith, c.to d, le) }
+
 module _ {V S : Type 0} where
   get_without : (m : FinMap nat_cmp S) (r : Stretch V) (k n : ℕ) → map.get (without_range m r.first k) n ≡ cond (in_front r k n) None (map.get m n)
   get_without m r zero n = (let none : in_front r 0 n ≡ false = grind (arith, nat_tests) in sym (cond-false _ _ _ none))
@@ -37,10 +42,6 @@ module _ {V S : Type 0} where
   -- the numbers of a stretch go
   pub is_without : (m new : FinMap nat_cmp S) (r : Stretch V) → ((n : ℕ) → map.get new n ≡ cond (is_in r n) None (map.get m n)) → new ≡ without_stretch m r
   is_without m new r h = same _ _ (λ n. h n ∙ sym (gone m r n))
-
-  -- fewer numbers that are together
-  pub together_fewer : (rs : List (Stretch V)) (first count many : ℕ) → many ≤ count → AreTogether rs first count → AreTogether rs first many
-  together_fewer rs first count many le c = record { at = c.at; within = c.within; from = c.from; to = λ d. omega (arith, c.to d, le) }
 
 module _ {V S : Type 0} (G : Ghosts V) (told : V → S) where
   get_first : (m : FinMap nat_cmp S) (r : Stretch V) (k n : ℕ) → map.get (with_first G told m r k) n ≡ cond (in_front r k n) (Some (told (value_at G r n))) (map.get m n)

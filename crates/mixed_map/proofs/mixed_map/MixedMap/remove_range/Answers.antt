@@ -7,8 +7,8 @@ use Rattle.mixed_map.specs.Mixed.{without_range}
 use Rattle.mixed_map.proofs.Maps.{range_behind, range_more}
 use Rattle.mixed_map.proofs.mixed_map.MixedMap.remove_range.Goals as goal
 
-pub remove_some-requires-clause-held : goal.remove_some-requires-clause-held
-remove_some-requires-clause-held g c =
+pub remove_some-done-requires-clause-held : goal.remove_some-done-requires-clause-held
+remove_some-done-requires-clause-held g c =
     let first = c.args.first in
     let done = c.loop-done.done in
     let left = ap (λ (m : FinMap nat_cmp _). map.get m (first + done)) c.loop-done.invariant.cells ∙ range_behind c.args.self.now.cells first done (first + done) (omega arith) in
@@ -18,13 +18,13 @@ pub loop-done-preserved : goal.loop-done-preserved
 loop-done-preserved g c =
     let first = c.args.first in
     let done = c.loop-done.done in
-    let some = c.remove_some.result in record {
-      within = omega (arith, c.loop-done.invariant.within, c.remove_some.ensures.within, c.loop-done-test.true);
-      cells = c.remove_some.ensures.cells ∙ ap (λ (m : FinMap nat_cmp _). without_range m (first + done) some) c.loop-done.invariant.cells ∙ range_more c.args.self.now.cells first done some;
-      slots = c.remove_some.ensures.slots ∙ ap (λ (m : FinMap nat_cmp _). without_range m (first + done) some) c.loop-done.invariant.slots ∙ range_more c.args.self.now.slots first done some;
-      count = omega (arith, c.loop-done.invariant.count, c.remove_some.ensures.count);
-      fits = λ h. omega (arith, c.remove_some.ensures.fits, c.remove_some.ensures.count, c.remove_some.ensures.room, c.loop-done.invariant.fits);
-      room = c.remove_some.ensures.room ∙ c.loop-done.invariant.room;
+    let some = c.remove_some-done.result in record {
+      within = omega (arith, c.loop-done.invariant.within, c.remove_some-done.ensures.within, c.loop-done-test.true);
+      cells = c.remove_some-done.ensures.cells ∙ ap (λ (m : FinMap nat_cmp _). without_range m (first + done) some) c.loop-done.invariant.cells ∙ range_more c.args.self.now.cells first done some;
+      slots = c.remove_some-done.ensures.slots ∙ ap (λ (m : FinMap nat_cmp _). without_range m (first + done) some) c.loop-done.invariant.slots ∙ range_more c.args.self.now.slots first done some;
+      count = omega (arith, c.loop-done.invariant.count, c.remove_some-done.ensures.count);
+      fits = λ h. omega (arith, c.remove_some-done.ensures.fits, c.remove_some-done.ensures.count, c.remove_some-done.ensures.room, c.loop-done.invariant.fits);
+      room = c.remove_some-done.ensures.room ∙ c.loop-done.invariant.room;
     }
 
 pub returns-clause-cells : goal.returns-clause-cells
