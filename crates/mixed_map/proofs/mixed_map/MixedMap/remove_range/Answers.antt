@@ -1,4 +1,5 @@
-use Rattle.std.proofs.Common.{◌≡◌, ◌+◌, ℕ, sym, ap, subst, ◌∙◌, arith}
+use Rattle.std.proofs.Common.{◌≡◌, ◌+◌, ℕ, inl, inr, sym, ap, subst, ◌∙◌, arith}
+use Rattle.std.proofs.lemmas.Bool.{cases_eq}
 use Rattle.std.specs.Prelude.{IsSome}
 use Rattle.std.specs.Ordering.{nat_cmp}
 use Rattle.std.specs.FinMap.{FinMap}
@@ -23,7 +24,12 @@ loop-done-preserved g c =
       cells = c.remove_some-done.ensures.cells ∙ ap (λ (m : FinMap nat_cmp _). without_range m (first + done) some) c.loop-done.invariant.cells ∙ range_more c.args.self.now.cells first done some;
       slots = c.remove_some-done.ensures.slots ∙ ap (λ (m : FinMap nat_cmp _). without_range m (first + done) some) c.loop-done.invariant.slots ∙ range_more c.args.self.now.slots first done some;
       count = omega (arith, c.loop-done.invariant.count, c.remove_some-done.ensures.count);
-      fits = λ h. omega (arith, c.remove_some-done.ensures.fits, c.remove_some-done.ensures.count, c.remove_some-done.ensures.room, c.loop-done.invariant.fits);
+      fits = λ h. elim (cases_eq done 0) [
+        | inl none ↦ omega (arith, c.remove_some-done.ensures.fits)
+        | inr other ↦
+            let before = c.loop-done.invariant.fits (omega arith) in
+            omega (arith, before, c.remove_some-done.ensures.count, c.remove_some-done.ensures.room)
+      ];
       room = c.remove_some-done.ensures.room ∙ c.loop-done.invariant.room;
     }
 
