@@ -16,6 +16,3 @@ mod contexts;
 mod spaces;
 
 pub use contexts::Contexts;
-
-#[cfg(test)]
-mod tests;

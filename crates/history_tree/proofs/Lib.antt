@@ -4,8 +4,6 @@ pub mod Children
 pub mod Hang
 -- The heir, read off the caches.
 pub mod Inheriting
--- Caches with one node, which has an own page.
-pub mod OneNode
 -- The way up from a node, read off the caches.
 pub mod Upward
 -- The rule link is followed with any pages, as it is with own states.

@@ -125,7 +125,8 @@ pub record CanMove (l : NodeLists) (node : ℕ) (before now : Keys) : Type 0 whe
   pub fit_odd : map.len (cells thin_nodes l.odd.list) ≤ l.capacity
 
 -- a node stands under other keys than before
-pub record HasMoved (old : NodeLists) (node : ℕ) (before now : Keys) (new : NodeLists) : Type 0 where
+pub record HasMoved (old : NodeLists) (node : ℕ) (before now : Keys) (new : NodeLists)
+    : Type 0 where
   pub kept : AreListsKept new
   pub others : new ≡ record old { pages = new.pages; even = new.even; odd = new.odd }
   pub pages : cells rising new.pages.list

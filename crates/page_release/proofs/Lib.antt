@@ -26,5 +26,3 @@ pub mod RetiredPages
 pub mod CopiedPages
 -- The pages of a move, one by one or many at once, and the store follows.
 pub mod MovedPages
--- What the tests know of their pages.
-mod Tried

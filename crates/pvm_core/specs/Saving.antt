@@ -62,7 +62,8 @@ IsPushed range p h g = ArePushed (machine_of p h) (segments_of g) range.cache.0 
 
 -- The mapper failed at this page of a range, and before it the segment holds the pages of the
 -- range.
-pub record FailedToPush (range : Extent) (page : ℕ) (p q : Manager) (h g : Option Held) : Type 0 where
+pub record FailedToPush (range : Extent) (page : ℕ) (p q : Manager) (h g : Option Held)
+    : Type 0 where
   pub named : is_named p.caches range.cache.0 ≡ true
   pub kept : KeepsForest p q h g
   pub stop : IsPageOf range page
@@ -143,7 +144,8 @@ all_of a cache = record {
 
 -- The pages that a call copied are those of the saves of a range: all of them, or those that were
 -- done before one failed.
-abbrev pub CopiesSaved : Extent → Manager → Option Held → Manager → Result (Unit {0}) Trouble → Type 0
+abbrev pub CopiesSaved : Extent → Manager → Option Held → Manager → Result (Unit {0}) Trouble
+    → Type 0
 CopiesSaved range p h q (Ok x) = q.caches.copies
     ≡ (saved (is_named p.caches range.cache.0) (extent_names range) (forest_of p h)).copies
 CopiesSaved range p h q (Err (Mapper (Save done))) = q.caches.copies ≡ p.caches.copies + done

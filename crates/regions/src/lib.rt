@@ -19,6 +19,3 @@ mod search;
 
 pub use map::RegionMap;
 pub use region::{Place, RegionView};
-
-#[cfg(test)]
-mod tests;

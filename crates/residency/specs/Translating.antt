@@ -41,7 +41,8 @@ pub record IsEmptied (frame : ℕ) (old new : Store) : Type 0 where
 --     only      a frame that had a node is one of these only where it lost the node, or the node
 --     came
 --     comes     each node in a frame was there before, or came
-pub record Drops (came : NodeId → Type 0) (a : Arena) (s : Store) (b : Arena) (t : Store) : Type 0 where
+pub record Drops (came : NodeId → Type 0) (a : Arena) (s : Store) (b : Arena) (t : Store)
+    : Type 0 where
   pub frames : ℕ → Bool
   pub tables : t.tables ≡ without frames s.tables
   pub seen : (x : NodeName) (f : ℕ) → frames f ≡ false → seen_in a s.map x ≡ Some f

@@ -27,6 +27,3 @@ mod store;
 
 pub use miss::Miss;
 pub use store::Store;
-
-#[cfg(test)]
-mod tests;

@@ -7,7 +7,6 @@ pub mod PushedPage
 pub mod Saves
 pub mod StillRange
 pub mod SyncedPages
-pub mod Tried
 pub mod Unsaved
 pub mod Values
 pub mod Wholly

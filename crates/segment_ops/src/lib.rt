@@ -27,6 +27,3 @@ mod saving;
 pub use access::write_access;
 pub use pushing::push_range;
 pub use saving::save_range;
-
-#[cfg(test)]
-mod tests;

@@ -9,7 +9,8 @@ module _ {V : Type 0} where
   pub record IsFirstBehind (rs : List (Stretch V)) (n at : ℕ) : Type 0 where
     pub within : at ≤ length rs
     pub before : (k : ℕ) (d : Stretch V) → k < at → (slice_index_or rs k d).first ≤ n
-    pub behind : (k : ℕ) (d : Stretch V) → at ≤ k → k < length rs → n < (slice_index_or rs k d).first
+    pub behind : (k : ℕ) (d : Stretch V) → at ≤ k → k < length rs
+        → n < (slice_index_or rs k d).first
 
   -- the stretch at this place has the number
   pub record HasAt (rs : List (Stretch V)) (n at : ℕ) : Type 0 where

@@ -28,7 +28,8 @@ pub record State : Type 0 where
 -- follows. Where the segments are told, the machine's pages have all their bytes.
 pub record AnswerIs (before : State) (command : Command) (answer : Answer) (pushes : List (ℕ × ℕ))
     (rises : MapperCounts) (after : State) : Type 0 where
-  pub outcome : OutcomeAt after.segments before.machine before.forest command answer after.machine rises
+  pub outcome : OutcomeAt after.segments before.machine before.forest command answer
+      after.machine rises
   pub forest : after.forest
       ≡ option_map (λ f. forest_after f before.machine command answer after.machine) before.forest
   pub reaches : ReachesMapper command rises

@@ -58,7 +58,8 @@ pub(crate) fn put_in_cache(tables: &mut Tables, number: u32, first: usize, pages
     ensures sound { AreTablesSound tables.new }
     ensures machine { machine_seen tables.new ≡ record (machine_seen tables.old) {
       caches = slice_set (machine_seen tables.old).caches (number - 1)
-          (option_map (λ c. put_pages first (map (λ p. p.items) pages.items) (cache_seen c)) (numbered tables.old.caches.items number));
+          (option_map (λ c. put_pages first (map (λ p. p.items) pages.items) (cache_seen c))
+          (numbered tables.old.caches.items number));
     } }
 {
     match &mut tables.caches[number as usize - 1] {

@@ -25,8 +25,6 @@ mod numbering;
 mod place;
 mod tables;
 mod telling;
-#[cfg(test)]
-mod tests;
 
 pub use eager_machine::EagerMachine;
 pub use limits::{LIVE_PAGES, LIVING_ACTORS, MOST_MADE, UNLOCKED_FRAMES};

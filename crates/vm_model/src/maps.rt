@@ -86,7 +86,8 @@ fn place_region(actors: &mut Vec<Option<Actor>>, actor: u32, region: Region) -> 
     requires { IsSome (numbered actors.old.items actor) }
     ensures seen { OnOk result
         (actors_seen actors.new.items ≡ slice_set (actors_seen actors.old.items) (actor - 1)
-        (option_map (λ a. insert_region (region_seen region) (actor_seen a)) (numbered actors.old.items actor))) }
+        (option_map (λ a. insert_region (region_seen region) (actor_seen a))
+        (numbered actors.old.items actor))) }
     ensures err { OnErr result (actors_seen actors.new.items ≡ actors_seen actors.old.items) }
     ensures placed { (b : ℕ) (cs : List (Option Cache)) → IsPlaced b cs region
         → All (ArePlaced b cs) actors.old.items → All (ArePlaced b cs) actors.new.items }
@@ -107,7 +108,8 @@ fn put_region(tables: &mut Tables, actor: u32, region: Region) -> Result<(), NoM
     ensures ok { OnOk result (machine_seen tables.new ≡ record (machine_seen tables.old) {
       regions_made = tables.old.regions_made + 1;
       actors = slice_set (machine_seen tables.old).actors (actor - 1)
-          (option_map (λ a. insert_region (region_seen region) (actor_seen a)) (numbered tables.old.actors.items actor));
+          (option_map (λ a. insert_region (region_seen region) (actor_seen a))
+          (numbered tables.old.actors.items actor));
     }) }
     ensures err { OnErr result (machine_seen tables.new ≡ machine_seen tables.old) }
 {

@@ -55,7 +55,3 @@ module _ (a b : Arena) (same : SameCaches a b) (cache : CacheId) where
 -- a node whose own page isn't one that its segment holds may be retired
 pub unclean_may : (a : Arena) (x : NodeName) → IsUnclean a x → MayGo a x
 unclean_may a x unclean = inl unclean
-
--- What calls ask of a temporary cache
-pub temporary_saved : (a : Arena) (cache : CacheId) (names : List NodeName) → is_named a cache ≡ false → AreAllSaved a cache names
-temporary_saved a cache names out named = absurd (false≢true (sym out ∙ named))

@@ -45,9 +45,6 @@ absent_still a b pages n = page_there b n ∙ ap (λ (o : Option (Option (List �
 pub absent_stays : (a b : World) → Still a b → (n : NodeId) → is_absent (own_of b.caches n) ≡ is_absent (own_of a.caches n)
 absent_stays a b s = absent_still a b s.stays.pages
 
-pub own_page_stays : (a b : World) → Still a b → (n : NodeId) → HasOwnPage a.caches n → HasOwnPage b.caches n
-own_page_stays a b s n h = record { node = held_stays a.caches b.caches s.stays.caches n h.node; own_page = absent_stays a b s n ∙ h.own_page }
-
 abbrev pub pin_set : World → ℕ → Bool → World
 pin_set w f t = record w { frames = record w.frames { pinned = set w.frames.pinned f t } }
 
@@ -162,11 +159,3 @@ slots_right w n right = record {
   granted = record { granted = right.granted.granted; allowed = right.granted.allowed };
   capacity = omega (arith, length-append w.slots (replicate n false), right.capacity);
 }
-
--- a node without a home isn't clean
-pub homeless_dirty : (w : World) (n : NodeId) → IsStoreRight w → home_of w.caches n ≡ None → is_clean (own_of w.caches n) ≡ false
-homeless_dirty w n right none = by_mark (is_clean (own_of w.caches n)) refl
-  where
-    by_mark : (t : Bool) → is_clean (own_of w.caches n) ≡ t → t ≡ false
-    by_mark false e = refl
-    by_mark true e = absurd (let some = right.tied.backed.homes n e in let out : is_some (home_of w.caches n) ≡ false = ap is_some none in cc)

@@ -72,7 +72,14 @@ impl MemoryMapper {
           denied = denied_seen denied.now;
           page_bytes = page;
           fails = fails.now;
-          calls = record { size = 0; pull_in = 0; push_out = 0; access = 0; swap_in = 0; swap_out = 0 };
+          calls = record {
+            size = 0;
+            pull_in = 0;
+            push_out = 0;
+            access = 0;
+            swap_in = 0;
+            swap_out = 0;
+          };
           counts = no_counts;
         }) }
     {

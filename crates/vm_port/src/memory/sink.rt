@@ -70,7 +70,8 @@ impl Sink for MemorySink {
         ensures least { IfOk result (λ n. 0 < n) }
         ensures most { IfOk result (λ n. n ≤ length from.now) }
         ensures taken { IfOk result (λ n.
-            Some self.new.written ≡ option_map (λ old. old ++ take n from.now) (Some self.old.written)) }
+            Some self.new.written
+            ≡ option_map (λ old. old ++ take n from.now) (Some self.old.written)) }
         ensures err { OnErr result (Some self.new.written ≡ Some self.old.written) }
         ensures cause { HasCause self.old.faults self.new.faults result }
         // It fails exactly at the calls told and where no room is left.

@@ -83,7 +83,8 @@ impl<'a> Source for MemorySource<'a> {
         requires { 0 < length into.old }
         ensures most { IfOk result (λ n. n ≤ length into.new) }
         ensures front { IfOk result (λ n.
-            Some self.old.left ≡ option_map (λ rest. take n into.new ++ rest) (Some self.new.left)) }
+            Some self.old.left
+            ≡ option_map (λ rest. take n into.new ++ rest) (Some self.new.left)) }
         ensures end { IfOk result (λ n. n ≡ 0 → IfSome (Some self.old.left) (λ rest. rest ≡ [])) }
         ensures err { OnErr result (Some self.new.left ≡ Some self.old.left) }
         ensures cause { HasCause self.old.faults self.new.faults result }

@@ -1,0 +1,4 @@
+pub mod Maps
+mod Filling
+mod Keeping
+mod Telling

@@ -1,0 +1,53 @@
+-- Entries by number, each in a place that an index knows.
+use Rattle.std.specs.Prelude.{◌≡◌, ◌≢◌, ℕ, ◌+◌, ◌<◌, ◌≤◌, refl, List, [], ◌∷◌, length, Option, Some, None, slice_get, slice_index_or}
+use Rattle.std.specs.Ordering.{nat_cmp}
+use Rattle.std.specs.FinMap.{FinMap}
+use Rattle.std.specs.FinMap as map
+use Rattle.std.specs.Coded.{Coded, code_by, coded×, coded_ℕ}
+
+-- the entry of each number, how many entries there are, and for how many there is room
+pub record Lone (S : Type 0) : Type 0 where
+  pub entries : FinMap nat_cmp S
+  pub count : ℕ
+  pub room : ℕ
+
+-- it is stored as the tuple of its fields
+abbrev pub lone_code : {S : Type 0} → Coded S → Coded (Lone S)
+lone_code {S} code =
+    code_by
+    (FinMap nat_cmp S × (ℕ × ℕ))
+    (coded× (map.code coded_ℕ code) (coded× coded_ℕ coded_ℕ))
+    (λ l. (l.entries, (l.count, l.room)))
+    (λ p. record { entries = p.0; count = p.1.0; room = p.1.1 })
+    (λ _. refl)
+
+module _ {S : Type 0} where
+  -- what stands at a place, if one is given
+  abbrev pub slot_at : List S → Option ℕ → Option S
+  slot_at slots None = None
+  slot_at slots (Some place) = slice_get slots place
+
+  -- the map with this at a number, or with nothing there
+  abbrev pub written : FinMap nat_cmp S → ℕ → Option S → FinMap nat_cmp S
+  written m n None = map.remove m n
+  written m n (Some x) = map.insert m n x
+
+  -- the entry of each number, by the numbers and their places
+  unfoldable pub filled : List S → List (ℕ × ℕ) → FinMap nat_cmp S
+  filled slots [] = map.empty
+  filled slots (e ∷ es) = written (filled slots es) e.0 (slice_get slots e.1)
+
+  -- what is known of the places of numbers, of the slots, and of the vacant places among them
+  pub record IsKept (places : FinMap nat_cmp ℕ) (slots : List S) (vacant : List ℕ)
+      (room slots_limit vacant_limit : ℕ) : Type 0 where
+    pub within : (n place : ℕ) → map.get places n ≡ Some place → place < length slots
+    pub once : (n m place : ℕ) → map.get places n ≡ Some place → map.get places m ≡ Some place
+        → n ≡ m
+    pub free : (i : ℕ) → i < length vacant → (slice_index_or vacant i 0 < length slots)
+        × ((n : ℕ) → map.get places n ≢ Some (slice_index_or vacant i 0))
+    pub apart : (i j : ℕ) → i < j → j < length vacant
+        → slice_index_or vacant i 0 ≢ slice_index_or vacant j 0
+    pub counted : map.len places + length vacant ≡ length slots
+    pub few : length slots ≤ room
+    pub slots_room : room ≤ slots_limit
+    pub vacant_room : room ≤ vacant_limit

@@ -1,0 +1,33 @@
+//! Entries by number: one finite map, in which an entry stands alone or in a stretch.
+//!
+//! Of many numbers in a row entries are alike, each as it follows from the one before: they stand
+//! in one stretch, and cost what one entry costs. An entry that is like none of its neighbours
+//! stands alone: it has a slot of its own, which an index finds in constant time, and changing it
+//! moves nothing else. Whoever keeps entries in a [`MixedMap`] sees one map, and need not know
+//! which way an entry stands: `get` finds it either way ([`Found`]), by the index first. What is
+//! set by itself stands alone from then on, cut out of its stretch; what is put as a stretch stays
+//! one. A stretch of one number costs more than a slot, so a number that is left alone before or
+//! behind one that is cut out stands alone too.
+//!
+//! How a lone entry is had from what a stretch says is the trait [`Alone`]'s. The model is a finite
+//! map from numbers to entries, the stretches that tell some of them, how many entries there are,
+//! and for how many there is room: the calls are equations on it. Which numbers are in one stretch
+//! matters only to loops that go from stretch to stretch (`stretch_from`). None but `reserve` takes
+//! memory, and that takes addresses alone.
+//!
+//! This crate stands on `stretches`, whose list keeps the stretches, and on `linear_index`, whose
+//! index finds the slots. It is made for page nodes.
+#![tactic(auto)]
+
+mod alone;
+mod found;
+mod lone_map;
+mod mixed_map;
+
+pub use alone::Alone;
+pub use found::Found;
+pub(crate) use lone_map::LoneMap;
+pub use mixed_map::MixedMap;
+
+#[cfg(test)]
+mod tests;
