@@ -1,12 +1,13 @@
--- Lines of many words.
-use Rattle.std.proofs.Common.{◌≡◌, ◌<◌, ℕ, List, [], ◌∷◌, length, Option, None, Bool, true, false, nat_lt, refl, ap, arith}
-use Rattle.std.specs.Prelude.{bytes_eq, codes, if◌then◌else◌, option_map, ok_or, Err}
+-- Lines that are too long, or of too many words.
+use Rattle.std.proofs.Common.{◌≡◌, ◌<◌, ◌⊎◌, ℕ, List, [], ◌∷◌, length, Option, None, Bool, true, false, nat_lt, refl, ap, arith, inl, inr}
+use Rattle.std.specs.Prelude.{bytes_eq, codes, if◌then◌else◌, option_map, ok_or, Result, Err}
+use Rattle.std.proofs.lemmas.Bool.{lt-ltb}
+use Rattle.vm_ids.specs.declared.refusal.Refusal.{Refusal}
 use Rattle.vm_ids.specs.declared.refusal.Refusal.TheVariants.{BadLine}
-use Rattle.vm_model.specs.Run.{Read}
 use Rattle.actor_script.specs.Words.{words_of}
 use Rattle.vm_ids.specs.declared.command.Command.{Command}
 use Rattle.vm_ids.specs.declared.command.Command.TheVariants as commands
-use Rattle.actor_script.specs.Forms.{command_of, form_of, verb_form, actor_form, exit_form, temp_form, open_form, destroy_form, span_of, copy_form, move_form, map_form, split_form, protect_form, lock_form, unlock_form, unmap_form, status_form, find_form, load_form, store_form, extent_of, sync_form, flush_form, invalidate_form, pageout_form, chain_form, stat_form}
+use Rattle.actor_script.specs.Forms.{asked_by, command_of, form_of, verb_form, actor_form, exit_form, temp_form, open_form, destroy_form, span_of, copy_form, move_form, map_form, split_form, protect_form, lock_form, unlock_form, unmap_form, status_form, find_form, load_form, store_form, extent_of, sync_form, flush_form, invalidate_form, pageout_form, chain_form, stat_form}
 
 neither : (b : Bool) (o p : Option Command) → o ≡ None → p ≡ None → (if b then o else p) ≡ None
 neither true o p e f = e
@@ -201,10 +202,16 @@ no_longer_form : (words : List (List ℕ)) → 7 < length words → form_of word
 no_longer_form [] h = absurd (omega arith)
 no_longer_form (v ∷ xs) h = no_verb v xs (omega arith)
 
-bad : (b : Bool) (o : Option Command) → o ≡ None → (let r : Read = if b then Err BadLine else ok_or o BadLine in r) ≡ Err BadLine
-bad true o e = refl
-bad false o e = ap (λ (x : Option Command). ok_or x BadLine) e
+module _ {C : Type 0} (form : List (List ℕ) → Option C) (no_longer : (words : List (List ℕ)) → 7 < length words → form words ≡ None) (line : List ℕ) where
+  bad : (b : Bool) (o : Option C) → (b ≡ true) ⊎ (o ≡ None) → (let r : Result C Refusal = if b then Err BadLine else ok_or o BadLine in r) ≡ Err BadLine
+  bad true o e = refl
+  bad false o (inl e) = absurd (cc e)
+  bad false o (inr e) = ap (λ (x : Option C). ok_or x BadLine) e
 
-pub too_many_words : (line : List ℕ) → 7 < length (words_of line) → command_of line ≡ Err BadLine
+  pub not_asked : (256 < length line) ⊎ (7 < length (words_of line)) → asked_by form line ≡ Err BadLine
+  not_asked (inl h) = bad (nat_lt 256 (length line)) (form (words_of line)) (inl (lt-ltb 256 (length line) h))
+  not_asked (inr h) = bad (nat_lt 256 (length line)) (form (words_of line)) (inr (no_longer (words_of line) h))
+
+pub no_command : (line : List ℕ) → (256 < length line) ⊎ (7 < length (words_of line)) → command_of line ≡ Err BadLine
 unfolding command_of
-too_many_words line h = bad (nat_lt 256 (length line)) (form_of (words_of line)) (no_longer_form (words_of line) h)
+no_command line h = not_asked form_of no_longer_form line h

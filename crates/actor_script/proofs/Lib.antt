@@ -2,6 +2,9 @@ pub mod Digits
 pub mod Forms
 pub mod Generated
 pub mod Hexadecimal
+-- Lines of scripts of processes.
+pub mod MixForms
+pub mod MixWorked
 pub mod Numbers
 -- Operands that have a space in them.
 pub mod Operands

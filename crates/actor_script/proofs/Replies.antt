@@ -18,6 +18,8 @@ long_answer (Ok (replies.Bytes b)) items e = absurd (cc e)
 long_answer (Ok (replies.Status status)) items e = absurd (cc e)
 long_answer (Ok (replies.Chain all)) items e = let same : all ≡ items = cc e in ap (λ (xs : List ChainItem). codes "chain" ++ (flat_map item_text xs ++ codes "*")) same
 long_answer (Ok (replies.Stat counts)) items e = absurd (cc e)
+long_answer (Ok (replies.Process process)) items e = absurd (cc e)
+long_answer (Ok (replies.Port port)) items e = absurd (cc e)
 long_answer (Err trouble) items e = absurd (cc e)
 
 pub long_line : (number : ℕ) (a : Answer) (items : List ChainItem) → chain_in a ≡ Some items → ((decimal number ++ codes " ") ++ answer_front a) ++ (flat_map item_text items ++ codes "*\n") ≡ text_of number a

@@ -15,12 +15,12 @@ use Rattle.actor_script.specs.Operands.{number_of, count_of, unless_zero, length
 use Rattle.actor_script.specs.Forms.{form_of, command_of, verb_form, actor_form, exit_form, temp_form, open_form, destroy_form, span_of, copy_form, move_form, map_form, split_form, protect_form, lock_form, unlock_form, unmap_form, status_form, find_form, load_form, store_form, extent_of, sync_form, flush_form, invalidate_form, pageout_form, chain_form, stat_form}
 
 -- what holds of all that a step gives, whatever it is given
-any_then : {A B : Type 0} (o : Option A) (f : A → Option B) (P : B → Type 0) → ((x : A) → IfSome (f x) P) → IfSome (option_and_then f o) P
+pub any_then : {A B : Type 0} (o : Option A) (f : A → Option B) (P : B → Type 0) → ((x : A) → IfSome (f x) P) → IfSome (option_and_then f o) P
 any_then None f P h = tt
 any_then (Some x) f P h = h x
 
 -- or where it is given something that Q holds of
-such_then : {A B : Type 0} (o : Option A) (f : A → Option B) (Q : A → Type 0) (P : B → Type 0) → IfSome o Q → ((x : A) → Q x → IfSome (f x) P) → IfSome (option_and_then f o) P
+pub such_then : {A B : Type 0} (o : Option A) (f : A → Option B) (Q : A → Type 0) (P : B → Type 0) → IfSome o Q → ((x : A) → Q x → IfSome (f x) P) → IfSome (option_and_then f o) P
 such_then None f Q P q h = tt
 such_then (Some x) f Q P q h = h x q
 
@@ -28,11 +28,11 @@ if_true : {A : Type 0} (b : Bool) (o p : Option A) (P : A → Type 0) → (b ≡
 if_true true o p P h k = h refl
 if_true false o p P h k = k refl
 
-counts : (word : List ℕ) → IfSome (count_of word) (λ n. 1 ≤ n)
+pub counts : (word : List ℕ) → IfSome (count_of word) (λ n. 1 ≤ n)
 unfolding count_of
 counts word = any_then (number_of word) unless_zero (λ n. 1 ≤ n) (λ n. if_true (n == 0) None (Some n) (λ n. 1 ≤ n) (λ e. tt) (λ e. grind (arith, eqb-false n 0 e)))
 
-lengths : (word : List ℕ) → IfSome (length_of word) (λ n. (1 ≤ n) × (n ≤ 64))
+pub lengths : (word : List ℕ) → IfSome (length_of word) (λ n. (1 ≤ n) × (n ≤ 64))
 unfolding length_of
 lengths word = such_then (count_of word) if_few (λ n. 1 ≤ n) (λ n. (1 ≤ n) × (n ≤ 64)) (counts word)
     (λ n some. if_true (nat_le n 64) (Some n) None (λ n. (1 ≤ n) × (n ≤ 64)) (λ e. (some, leb-true n 64 e)) (λ e. tt))
@@ -279,13 +279,13 @@ pub form : (words : List (List ℕ)) → IfSome (form_of words) IsWellFormed
 form [] = tt
 form (verb ∷ operands) = well verb (verb_form verb operands) (verb_is verb operands)
 
-pub read_form : (o : Option Command) → IfSome o IsWellFormed → IfOk (ok_or o BadLine) IsWellFormed
-read_form None h = tt
-read_form (Some command) h = h
+pub read_form : {C : Type 0} (P : C → Type 0) (o : Option C) → IfSome o P → IfOk (ok_or o BadLine) P
+read_form P None h = tt
+read_form P (Some command) h = h
 
 read_long : (b : Bool) (o : Option Command) → IfSome o IsWellFormed → IfOk (if b then ok_or None BadLine else ok_or o BadLine) IsWellFormed
 read_long true o h = tt
-read_long false o h = read_form o h
+read_long false o h = read_form IsWellFormed o h
 
 pub well_formed : (line : List ℕ) → IfOk (command_of line) IsWellFormed
 unfolding command_of

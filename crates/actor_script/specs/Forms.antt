@@ -1,9 +1,10 @@
 -- The command of a line.
-use Rattle.std.specs.Prelude.{ℕ, List, [], ◌∷◌, length, nat_lt, bytes_eq, codes, Option, Some, None, option_map, option_and_then, ok_or, Err, if◌then◌else◌}
+use Rattle.std.specs.Prelude.{ℕ, List, [], ◌∷◌, length, nat_lt, bytes_eq, codes, Option, Some, None, option_map, option_and_then, ok_or, Result, Err, if◌then◌else◌}
 use Rattle.vm_ids.specs.declared.command.Command.{Command}
 use Rattle.vm_ids.specs.declared.command.Command.TheVariants as commands
 use Rattle.vm_ids.specs.declared.command.Extent.{Extent}
 use Rattle.vm_ids.specs.declared.command.Span.{Span}
+use Rattle.vm_ids.specs.declared.refusal.Refusal.{Refusal}
 use Rattle.vm_ids.specs.declared.refusal.Refusal.TheVariants.{BadLine}
 use Rattle.vm_model.specs.Run.{Read}
 use Rattle.actor_script.specs.Words.{words_of}
@@ -235,10 +236,11 @@ abbrev pub form_of : List (List ℕ) → Option Command
 form_of [] = None
 form_of (verb ∷ operands) = verb_form verb operands
 
--- What a line of one of the forms asks.
-abbrev pub read_of : List ℕ → Read
-read_of line = ok_or (form_of (words_of line)) BadLine
+-- What a line asks that has at most 256 bytes, and whose words have one of some forms.
+abbrev pub asked_by : {C : Type 0} → (List (List ℕ) → Option C) → List ℕ → Result C Refusal
+asked_by form line =
+    if nat_lt 256 (length line) then Err BadLine else ok_or (form (words_of line)) BadLine
 
 -- The command of a line, which has at most 256 bytes and one of the forms.
 unfoldable pub command_of : List ℕ → Read
-command_of line = if nat_lt 256 (length line) then Err BadLine else read_of line
+command_of line = asked_by form_of line

@@ -1,5 +1,6 @@
 pub mod Forms
 pub mod Generator
+pub mod MixForms
 pub mod Operands
 pub mod Summary
 pub mod Text

@@ -40,6 +40,13 @@ refusal_name refusals.NotTemp = codes "NotTemp"
 refusal_name refusals.NotNamed = codes "NotNamed"
 refusal_name refusals.NotLocked = codes "NotLocked"
 refusal_name refusals.Full = codes "Full"
+refusal_name refusals.NoProcess = codes "NoProcess"
+refusal_name refusals.BadImage = codes "BadImage"
+refusal_name refusals.TooLarge = codes "TooLarge"
+refusal_name refusals.NoPort = codes "NoPort"
+refusal_name refusals.PortFull = codes "PortFull"
+refusal_name refusals.PortEmpty = codes "PortEmpty"
+refusal_name refusals.NotOpen = codes "NotOpen"
 
 -- The name of a page node: `cC:P` for page P of cache C, `wK` for a working node.
 abbrev pub name_text : NodeName → List ℕ
@@ -82,6 +89,8 @@ ok_text (replies.Chain items) = codes "chain" ++ flat_map item_text items ++ cod
 ok_text (replies.Stat counts) =
     codes "stat live " ++ decimal counts.live ++ codes " working " ++ decimal counts.working
     ++ codes " copies " ++ decimal counts.copies
+ok_text (replies.Process process) = codes "ok p" ++ decimal process.0
+ok_text (replies.Port port) = codes "ok q" ++ decimal port.0
 
 abbrev pub fault_text : FaultAt → List ℕ
 fault_text faults.Opening = codes "fault mapper open"

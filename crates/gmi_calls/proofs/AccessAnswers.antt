@@ -117,6 +117,8 @@ alike_memory (Ok (replies.Bytes bytes)) h = h
 alike_memory (Ok (replies.Status status)) h = h
 alike_memory (Ok (replies.Chain items)) h = h
 alike_memory (Ok (replies.Stat counts)) h = h
+alike_memory (Ok (replies.Process process)) h = h
+alike_memory (Ok (replies.Port port)) h = h
 alike_memory (Err e) h = h
 
 pub remembers : (told : Option Segments) (m next : Machine) (f : Option PageForest) (actor : ActorId) (x : Access) (rises : MapperCounts) → OutcomeAt told m f (command_for actor x) (Err troubles.Memory) next rises → ⊥

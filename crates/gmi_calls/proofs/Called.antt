@@ -42,6 +42,8 @@ alike_same (Ok (replies.Bytes b)) = refl
 alike_same (Ok (replies.Status status)) = refl
 alike_same (Ok (replies.Chain items)) = refl
 alike_same (Ok (replies.Stat counts)) = refl
+alike_same (Ok (replies.Process process)) = refl
+alike_same (Ok (replies.Port port)) = refl
 alike_same (Err e) = refl
 
 -- Outcomes

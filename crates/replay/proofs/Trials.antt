@@ -46,6 +46,8 @@ counts_at None m f counts o = by o.whole_answer o.alike o.outcome
     by (Ok (replies.Bytes bytes)) alike outcome = absurd (cc)
     by (Ok (replies.Status status)) alike outcome = absurd (cc)
     by (Ok (replies.Chain items)) alike outcome = absurd (cc)
+    by (Ok (replies.Process process)) alike outcome = absurd (cc)
+    by (Ok (replies.Port port)) alike outcome = absurd (cc)
     by (Ok (replies.Stat own)) alike outcome = counted o.whole o.whole_next f own outcome ∙ same_counts own counts alike
 
 pub counts_told : (s : State) (f : PageForest) (counts : Counts) → s.forest ≡ Some f → TellsCounts s counts → counts_of f ≡ counts

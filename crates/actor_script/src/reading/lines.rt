@@ -7,7 +7,7 @@ ghost use Rattle.actor_script.specs.Forms.{command_of, form_of, verb_form};
 
 use super::accesses::{command_for, read_access};
 use super::forms;
-use super::words::{LONGEST_LINE, is, split_words};
+use super::words::{is, words_within};
 use vm_ids::{Command, Refusal};
 
 // The form of a verb that is neither `load` nor `store`.
@@ -116,10 +116,7 @@ pub fn read_other(line: &[u8]) -> Result<Command, Refusal>
     ensures command { result ≡ command_of line.now }
     ensures well_formed { IfOk result IsWellFormed }
 {
-    if line.len() > LONGEST_LINE {
-        return Err(Refusal::BadLine);
-    }
-    match split_words(line) {
+    match words_within(line) {
         Some(words) => read_form(words.as_slice()).ok_or(Refusal::BadLine),
         None => Err(Refusal::BadLine),
     }

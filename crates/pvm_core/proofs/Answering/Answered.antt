@@ -41,6 +41,8 @@ alike_itself (Ok (replies.Region x)) = refl
 alike_itself (Ok (replies.Chain x)) = refl
 alike_itself (Ok (replies.Status x)) = refl
 alike_itself (Ok (replies.Stat x)) = refl
+alike_itself (Ok (replies.Process x)) = refl
+alike_itself (Ok (replies.Port x)) = refl
 alike_itself (Err e) = refl
 
 -- Where the answer is that of a machine with the pages of any forest, it is the manager's, told or

@@ -71,6 +71,13 @@ not_written_cases e p q h g (troubles.Refused refusals.NotTemp) d = absurd d
 not_written_cases e p q h g (troubles.Refused refusals.NotNamed) d = absurd d
 not_written_cases e p q h g (troubles.Refused refusals.NotLocked) d = absurd d
 not_written_cases e p q h g (troubles.Refused refusals.Full) d = absurd d
+not_written_cases e p q h g (troubles.Refused refusals.NoProcess) d = absurd d
+not_written_cases e p q h g (troubles.Refused refusals.BadImage) d = absurd d
+not_written_cases e p q h g (troubles.Refused refusals.TooLarge) d = absurd d
+not_written_cases e p q h g (troubles.Refused refusals.NoPort) d = absurd d
+not_written_cases e p q h g (troubles.Refused refusals.PortFull) d = absurd d
+not_written_cases e p q h g (troubles.Refused refusals.PortEmpty) d = absurd d
+not_written_cases e p q h g (troubles.Refused refusals.NotOpen) d = absurd d
 not_written_cases e p q h g (troubles.Refused refusals.WriteDenied) d = absurd d
 
 module _ (p q : Manager) (h g : Option Held) (c d : MapperCounts) (cache : CacheId) (pages : ℕ) (keeps : KeepsMachine p q h g c d) (nodes : IsWhole p.caches) (then : IsWhole q.caches) (now : IsValid q g)

@@ -53,6 +53,13 @@ module _ (range : Extent) (told : Option Held) (s : SegId) (a b : Arena) where
   denied_cases (Refused refusals.NotNamed) d = absurd d
   denied_cases (Refused refusals.NotLocked) d = absurd d
   denied_cases (Refused refusals.Full) d = absurd d
+  denied_cases (Refused refusals.NoProcess) d = absurd d
+  denied_cases (Refused refusals.BadImage) d = absurd d
+  denied_cases (Refused refusals.TooLarge) d = absurd d
+  denied_cases (Refused refusals.NoPort) d = absurd d
+  denied_cases (Refused refusals.PortFull) d = absurd d
+  denied_cases (Refused refusals.PortEmpty) d = absurd d
+  denied_cases (Refused refusals.NotOpen) d = absurd d
 
 -- segments of which this page alone is denied
 abbrev pub one_denied : ℕ → ℕ → Segments

@@ -130,6 +130,13 @@ module _ (range : Extent) (p q : Manager) (h g : Option Held) where
   not_ready_cases (troubles.Refused refusals.NotNamed) d = absurd d
   not_ready_cases (troubles.Refused refusals.NotLocked) d = absurd d
   not_ready_cases (troubles.Refused refusals.Full) d = absurd d
+  not_ready_cases (troubles.Refused refusals.NoProcess) d = absurd d
+  not_ready_cases (troubles.Refused refusals.BadImage) d = absurd d
+  not_ready_cases (troubles.Refused refusals.TooLarge) d = absurd d
+  not_ready_cases (troubles.Refused refusals.NoPort) d = absurd d
+  not_ready_cases (troubles.Refused refusals.PortFull) d = absurd d
+  not_ready_cases (troubles.Refused refusals.PortEmpty) d = absurd d
+  not_ready_cases (troubles.Refused refusals.NotOpen) d = absurd d
 
 -- The answers
 
