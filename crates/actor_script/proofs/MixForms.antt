@@ -5,7 +5,8 @@ use Rattle.vm_ids.specs.declared.command.MixCommand.{MixCommand}
 use Rattle.vm_ids.specs.declared.refusal.Refusal.TheVariants.{BadLine}
 use Rattle.actor_script.specs.Words.{words_of}
 use Rattle.actor_script.specs.Operands.{number_of, count_of, length_of, address_of, bytes_of}
-use Rattle.actor_script.specs.MixForms.{IsMixWellFormed, process_of, exec_form, fork_form, exit_form, grow_form, load_form, store_form, pageout_form, mix_verb_form, mix_form_of, mix_command_of}
+use Rattle.vm_ids.specs.MixAsking.{IsMixWellFormed}
+use Rattle.actor_script.specs.MixForms.{process_of, exec_form, fork_form, exit_form, grow_form, load_form, store_form, pageout_form, mix_verb_form, mix_form_of, mix_command_of}
 use Rattle.actor_script.proofs.Forms.{not_asked}
 use Rattle.actor_script.proofs.WellFormed.{any_then, such_then, counts, lengths}
 

@@ -1,5 +1,5 @@
 -- The command of a line of a script of processes.
-use Rattle.std.specs.Prelude.{◌≤◌, ℕ, List, [], ◌∷◌, bytes_eq, codes, Option, Some, None, Result, if◌then◌else◌}
+use Rattle.std.specs.Prelude.{ℕ, List, [], ◌∷◌, bytes_eq, codes, Option, Some, None, Result, if◌then◌else◌}
 use Rattle.vm_ids.specs.declared.command.MixCommand.{MixCommand}
 use Rattle.vm_ids.specs.declared.command.MixCommand.TheVariants as commands
 use Rattle.vm_ids.specs.declared.numbers.ProcId.{ProcId}
@@ -93,11 +93,3 @@ mix_form_of (verb ∷ operands) = mix_verb_form verb operands
 -- The command of a line, which has at most 256 bytes and one of the forms.
 unfoldable pub mix_command_of : List ℕ → Result MixCommand Refusal
 mix_command_of line = asked_by mix_form_of line
-
--- counts of pages are at least 1, and a load is of 1 to 64 bytes
-abbrev pub IsMixWellFormed : MixCommand → Type 0
-IsMixWellFormed (commands.Exec segment t d k) = (1 ≤ t) × (1 ≤ d) × (1 ≤ k)
-IsMixWellFormed (commands.Grow process pages) = 1 ≤ pages
-IsMixWellFormed (commands.Load process address length) = (1 ≤ length) × (length ≤ 64)
-IsMixWellFormed (commands.PageOut count) = 1 ≤ count
-IsMixWellFormed command = Unit {0}

@@ -4,4 +4,5 @@ pub mod Forest
 pub mod Denying
 pub mod Dispatching
 pub mod Held
+pub mod MixAsking
 pub mod Refusing

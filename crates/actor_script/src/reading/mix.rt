@@ -1,6 +1,7 @@
 // The lines of scripts of processes.
 ghost use Rattle.std.specs.Prelude.{◌≡◌, map, IfOk};
-ghost use Rattle.actor_script.specs.MixForms.{exec_form, fork_form, exit_form, grow_form, load_form, store_form, pageout_form, mix_verb_form, mix_form_of, mix_command_of, process_of, IsMixWellFormed};
+ghost use Rattle.vm_ids.specs.MixAsking.{IsMixWellFormed};
+ghost use Rattle.actor_script.specs.MixForms.{exec_form, fork_form, exit_form, grow_form, load_form, store_form, pageout_form, mix_verb_form, mix_form_of, mix_command_of, process_of};
 
 use super::hexadecimal::{read_address, read_bytes};
 use super::numbers::{read_count, read_length, read_lettered, read_number};

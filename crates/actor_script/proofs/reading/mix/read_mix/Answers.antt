@@ -1,5 +1,5 @@
 use Rattle.std.proofs.Common.{sym}
-use Rattle.actor_script.specs.MixForms.{IsMixWellFormed}
+use Rattle.vm_ids.specs.MixAsking.{IsMixWellFormed}
 use Rattle.actor_script.proofs.MixForms.{no_command, formed}
 use Rattle.actor_script.proofs.WellFormed.{read_form}
 use Rattle.actor_script.proofs.reading.mix.read_mix.Goals as goal
