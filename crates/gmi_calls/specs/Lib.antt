@@ -4,3 +4,4 @@ pub mod Managing
 pub mod Parking
 pub mod Reaching
 pub mod Room
+pub mod Untold
