@@ -1,0 +1,244 @@
+-- Calls of the processes that are one call of the manager each.
+use Rattle.std.proofs.Common.{◌≡◌, ◌≢◌, ◌⊎◌, inl, inr, ℕ, ◌+◌, ◌*◌, ◌^◌, ◌≤◌, Bool, true, false, List, [], ◌∷◌, length, take, drop, Option, Some, None, refl, sym, ap, subst, ◌∙◌, arith}
+use Rattle.std.specs.Prelude.{Ok, Err, Result, is_some, not, option_map, slice_get, IfSome}
+use Rattle.vm_ids.specs.Counting.{MapperCounts, no_counts}
+use Rattle.vm_ids.specs.Held.{Held, Segments, segments_of}
+use Rattle.vm_ids.specs.declared.command.Command.{Command}
+use Rattle.vm_ids.specs.declared.command.Command.TheVariants as vm_commands
+use Rattle.vm_ids.specs.declared.command.MixCommand.{MixCommand}
+use Rattle.vm_ids.specs.declared.command.MixCommand.TheVariants as commands
+use Rattle.vm_ids.specs.declared.numbers.ProcId.{ProcId}
+use Rattle.vm_ids.specs.declared.reply.FaultAt.{FaultAt}
+use Rattle.vm_ids.specs.declared.reply.FaultAt.TheVariants as faults
+use Rattle.vm_ids.specs.declared.reply.Reply.TheVariants as replies
+use Rattle.vm_ids.specs.declared.refusal.Refusal.{Refusal}
+use Rattle.vm_ids.specs.declared.refusal.Refusal.TheVariants as refusals
+use Rattle.vm_ids.specs.declared.reply.Trouble.TheVariants as troubles
+use Rattle.vm_model.specs.Answering as vm
+use Rattle.vm_model.specs.Answering.{Answer, answer_of}
+use Rattle.vm_model.specs.Asking.{pages_touched}
+use Rattle.vm_model.specs.Machine.{Machine, Page, cache_of, live_pages, living_actors, numbered}
+use Rattle.vm_model.specs.Outcome.{Outcome, OutcomeAt, blank}
+use Rattle.vm_model.specs.PageForest.{PageForest, forest_shown}
+use Rattle.vm_model.specs.Run.{CallIs}
+use Rattle.vm_model.specs.Run as vm_run
+use Rattle.vm_model.specs.declared.limits.TheConstants.{LIVE_PAGES, LIVING_ACTORS}
+use Rattle.vm_model.proofs.Outcomes.Kept.{IsKept, kept}
+use Rattle.vm_model.proofs.Outcomes.Rows.{each_ok}
+use Rattle.vm_model.proofs.Parts.Lists.{numbered-map}
+use Rattle.vm_port.specs.declared.traits.mapper.Mapper.{Ghosts as GhostsOfMapper}
+use Rattle.gmi_calls.specs.Calling.{Fits, MapperCall, RaisesMade}
+use Rattle.gmi_calls.specs.Managing.{meanings_of}
+use Rattle.gmi_calls.specs.Room.{CallWithin}
+use Rattle.gmi_calls.specs.declared.gmi.Gmi.{Ghosts as GhostsOfGmi}
+use Rattle.gmi_calls.proofs.Living.{stays_few}
+use Rattle.gmi_calls.proofs.Rising.{rise_none}
+use Rattle.mix_process.specs.Answering as mix
+use Rattle.mix_process.specs.ProcessMachine as model
+use Rattle.mix_process.specs.ProcessMachine.{ProcessMachine, place_of, process_of}
+use Rattle.mix_process.specs.Calling.{MixCall, StepAt, StepOver, call_budget}
+use Rattle.mix_process.specs.Outcome as mix_outcome
+use Rattle.mix_process.specs.Outcome.{RaisedBy, Usage, makes, usage_of}
+use Rattle.mix_process.specs.Seen.{cache_pages, process_seen, processes_seen, state_of}
+use Rattle.mix_process.specs.Tying.{AreSynchronised, AreTied, CanCall, none_spare}
+use Rattle.mix_process.specs.declared.mix.Image.{Image}
+use Rattle.mix_process.specs.declared.mix.Mix.{Mix}
+use Rattle.mix_process.specs.declared.process.Process.{Process}
+use Rattle.mix_process.proofs.Loading.{IsLiving, load_outcome}
+use Rattle.mix_process.proofs.Pushes.{still_synchronised}
+use Rattle.mix_process.proofs.Shapes.{HasShape, shape_self, tied_like}
+use Rattle.mix_process.proofs.Storing.{IsPut, store_outcome, store_put}
+
+-- Commands that leave the machine
+
+abbrev pub IsSteady : Command → Type 0
+IsSteady c = (m : Machine) (f : PageForest) (h : Segments) → (answer_of m f c h).next ≡ m
+
+pub load_steady : (actor address : ℕ) (m : Machine) (length : ℕ) → (vm.load_of m actor address length).next ≡ m
+unfolding vm.load_of
+load_steady actor address m length = each_ok (λ (a : vm.Answered). a.next ≡ m) _ m _ (λ r. refl) (λ at is. refl)
+
+row_steady : (c : Command) → IsSteady c → (m : Machine) (f : PageForest) (h : Segments) (a : vm.Answered) → answer_of m f c h ≡ a → a.next ≡ m
+row_steady c steady m f h a e = subst (λ (a : vm.Answered). a.next ≡ m) e (steady m f h)
+
+outcome_steady : (c : Command) → IsSteady c → (m : Machine) (f : Option PageForest) (h : Segments) (a : Answer) (next : Machine) (rises : MapperCounts) → Outcome m f c h a next rises → next ≡ m
+outcome_steady c steady m f h (Ok r) next rises o = row_steady c steady m (forest_shown f m) h _ o
+outcome_steady c steady m f h (Err (troubles.Refused r)) next rises o = row_steady c steady m (forest_shown f m) h _ o
+outcome_steady c steady m f h (Err (troubles.Mapper at)) next rises o = o.0
+outcome_steady c steady m f h (Err troubles.Memory) next rises o = o.0
+
+pub steady_at : (told : Option Segments) (c : Command) → IsSteady c → (m : Machine) (f : Option PageForest) (a : Answer) (next : Machine) (rises : MapperCounts) → OutcomeAt told m f c a next rises → next ≡ m
+steady_at (Some h) c steady m f a next rises o = outcome_steady c steady m f h a next rises o
+steady_at None c steady m f a next rises o = o.is_next ∙ ap blank (outcome_steady c steady o.whole f o.segments o.whole_answer o.whole_next rises o.outcome) ∙ sym o.is
+
+-- Numbers
+
+pub unlimited_still : (before now : Option ℕ) → before ≡ None → is_some now ≡ is_some before → now ≡ None
+unlimited_still before None e h = refl
+unlimited_still before (Some n) e h = absurd (let yes : true ≡ is_some before = h in cc (yes, ap is_some e))
+
+pub fits_still : (told now : Option ℕ) (m next : Machine) → now ≡ told → next.page_bytes ≡ m.page_bytes → Fits told m → Fits now next
+fits_still told now m next same page fits = subst (λ (o : Option ℕ). Fits o next) (sym same) (go told fits)
+  where
+    go : (told : Option ℕ) → Fits told m → Fits told next
+    go None fits = fits
+    go (Some n) fits = fits ∙ sym page
+
+-- a command that touches one page at most, and takes none
+pub raises_little : (m next : Machine) (c : Command) (a : Answer) (before now : ℕ) → pages_touched m c ≤ 1 → live_pages next ≤ LIVE_PAGES → RaisesMade m c a next before now → now ≤ before + call_budget
+raises_little m next c (Ok r) before now one live made = omega (arith, made, one, live)
+raises_little m next c (Err (troubles.Refused r)) before now one live made = omega (arith, made)
+raises_little m next c (Err (troubles.Mapper at)) before now one live made = omega (arith, made, one, live)
+raises_little m next c (Err troubles.Memory) before now one live made = omega (arith, made, one, live)
+
+raised_none : (more u : Usage) → RaisedBy more u u
+raised_none more u = record { actors = omega arith; caches = omega arith; regions = omega arith }
+
+-- One call of the manager
+
+module _ {Manager X Chooser : Type 0} (M : GhostsOfMapper X) (G : GhostsOfGmi Manager X Chooser) (old : Mix Manager) (gmi : Manager) (before after : X) (c : Command) (a : Answer)
+    (can : CanCall G old (M.held before) (M.page_bytes before)) (call : MapperCall M (meanings_of G) before old.gmi c a after gmi) where
+  abbrev pub m : Machine
+  m = G.machine old.gmi (M.held before)
+
+  abbrev pub n : Machine
+  n = G.machine gmi (M.held after)
+
+  -- the processes over the manager as it is then
+  abbrev pub with_manager : Mix Manager
+  with_manager = record old { gmi = gmi }
+
+  abbrev pub call_is : CallIs (M.counts before) (M.counts after) (vm_run.state_of G.machine G.forest old.gmi (M.held before)) c a (vm_run.state_of G.machine G.forest gmi (M.held after))
+  call_is = subst (λ (room : Option ℕ). CallWithin room (M.counts before) (M.counts after) (vm_run.state_of G.machine G.forest old.gmi (M.held before)) c a (vm_run.state_of G.machine G.forest gmi (M.held after))) can.unlimited call.answers
+
+  keeps : IsKept m c a n
+  keeps = kept (segments_of (M.held after)) m n (G.forest old.gmi (M.held before)) c a call_is.rises call_is.is.outcome
+
+  images_like : (told : Option Held) (images : List Image) → ((i : ℕ) (image : Image) → slice_get images i ≡ Some image → cache_pages n image.cache.0 ≡ cache_pages m image.cache.0) → AreSynchronised m images told → AreSynchronised n images told
+  images_like None images alike sync = tt
+  images_like (Some h) images alike sync = λ i image e. sync i image e ∙ ap (λ (pages : List Page). Some pages) (sym (alike i image e))
+
+  -- they can be called again, where the machine has the shape that it had, and the images
+  pub can_after : HasShape m n → ((i : ℕ) (image : Image) → slice_get old.images.items i ≡ Some image → cache_pages n image.cache.0 ≡ cache_pages m image.cache.0) → CanCall G with_manager (M.held after) (M.page_bytes after)
+  can_after shape alike = record {
+    valid = call.valid;
+    unlimited = unlimited_still (G.room old.gmi) (G.room gmi) can.unlimited call.room;
+    fits = fits_still (M.page_bytes before) (M.page_bytes after) m n call.page shape.page can.fits;
+    live = keeps.live can.live;
+    living = stays_few (segments_of (M.held after)) m n (G.forest old.gmi (M.held before)) c a call_is.rises call_is.is.outcome can.living;
+    few = omega (arith, can.few, ap length shape.actors);
+    most = omega (arith, can.most, ap length shape.actors);
+    tied = tied_like m n shape (numbered old.processes.items) none_spare old.images.items can.tied;
+    synchronised = images_like (M.held after) old.images.items alike (still_synchronised m (numbered old.processes.items) none_spare old.images.items can.tied (M.held before) (M.held after) call_is.pushes call_is.is.pushed can.synchronised);
+  }
+
+  -- The call, where it touches one page at most and an outcome of the one is an outcome of the other.
+  pub called : (command : MixCommand) (answer : Answer) → pages_touched m c ≤ 1 → HasShape m n
+      → ((i : ℕ) (image : Image) → slice_get old.images.items i ≡ Some image → cache_pages n image.cache.0 ≡ cache_pages m image.cache.0)
+      → ((h : Segments) → Outcome m (G.forest old.gmi (M.held before)) c h a n call_is.rises → StepOver h (state_of G old (M.held before)) command answer call_is.rises (state_of G with_manager (M.held after)))
+      → MixCall M G before old command answer after with_manager
+  called command answer one shape alike step = record {
+    can = can_after shape alike;
+    made = raises_little m n c a (G.made old.gmi) (G.made gmi) one (keeps.live can.live) call.made;
+    rises = call_is.rises;
+    rose = call_is.rose;
+    step = go (segments_of (M.held after)) call_is.is.outcome;
+  }
+    where
+      go : (told : Option Segments) → OutcomeAt told m (G.forest old.gmi (M.held before)) c a n call_is.rises → StepAt told (state_of G old (M.held before)) command answer call_is.rises (state_of G with_manager (M.held after))
+      go None o = tt
+      go (Some h) o = step h o
+
+  -- a call that leaves the machine
+  pub called_steady : (command : MixCommand) (answer : Answer) → pages_touched m c ≤ 1 → IsSteady c
+      → ((h : Segments) → Outcome m (G.forest old.gmi (M.held before)) c h a n call_is.rises
+      → mix_outcome.Outcome (processes_seen m old.processes.items old.images.items) (usage_of m) command h answer (processes_seen m old.processes.items old.images.items) call_is.rises)
+      → MixCall M G before old command answer after with_manager
+  called_steady command answer one steady outcome =
+      let same : n ≡ m = steady_at (segments_of (M.held after)) c steady m (G.forest old.gmi (M.held before)) a n call_is.rises call_is.is.outcome in
+      called command answer one (subst (HasShape m) (sym same) (shape_self m)) (λ i image e. ap (λ (x : Machine). cache_pages x image.cache.0) same)
+      (λ h o. record {
+        outcome = subst (λ (x : Machine). mix_outcome.Outcome (processes_seen m old.processes.items old.images.items) (usage_of m) command h answer (processes_seen x old.processes.items old.images.items) call_is.rises) (sym same) (outcome h o);
+        raised = subst (λ (x : Machine). RaisedBy (makes (processes_seen m old.processes.items old.images.items) command h) (usage_of m) (usage_of x)) (sym same) (raised_none _ (usage_of m));
+      })
+
+-- The calls
+
+paged : (m next : Machine) (s : Answer) → vm.reply replies.Done m ≡ record { answer = s; next = next } → s ≡ Ok replies.Done
+paged m next s h = sym (ap (λ (a : vm.Answered). a.answer) h)
+
+pub page_out_outcome : (m next : Machine) (f : Option PageForest) (s : ProcessMachine) (u : Usage) (h : Segments) (count : ℕ) (a : Answer) (rises : MapperCounts)
+    → Outcome m f (vm_commands.PageOut count) h a next rises → mix_outcome.Outcome s u (commands.PageOut count) h a s rises
+page_out_outcome m next f s u h count (Ok r) rises o = ap (λ (r : Answer). let x : mix.Answered = record { answer = r; next = s } in x) (sym (paged m next (Ok r) o))
+page_out_outcome m next f s u h count (Err (troubles.Refused r)) rises o = absurd (cc (paged m next (Err (troubles.Refused r)) o))
+page_out_outcome m next f s u h count (Err (troubles.Mapper faults.Victim)) rises o = (refl, o.1, o.2, tt)
+page_out_outcome m next f s u h count (Err (troubles.Mapper at)) rises o = absurd o.2
+page_out_outcome m next f s u h count (Err troubles.Memory) rises o = absurd o.1
+
+module _ {Manager X Chooser : Type 0} (M : GhostsOfMapper X) (G : GhostsOfGmi Manager X Chooser) (old : Mix Manager) (before : X) (can : CanCall G old (M.held before) (M.page_bytes before)) where
+  abbrev s : ProcessMachine
+  s = processes_seen (G.machine old.gmi (M.held before)) old.processes.items old.images.items
+
+  abbrev u : Usage
+  u = usage_of (G.machine old.gmi (M.held before))
+
+  -- a call that is refused before the manager is called
+  pub refused_called : (command : MixCommand) (answer : Answer) → ((h : Segments) → mix_outcome.Outcome s u command h answer s no_counts) → MixCall M G before old command answer before old
+  refused_called command answer outcome = record {
+    can = can;
+    made = omega arith;
+    rises = no_counts;
+    rose = rise_none (M.counts before);
+    step = go (segments_of (M.held before));
+  }
+    where
+      go : (told : Option Segments) → StepAt told (state_of G old (M.held before)) command answer no_counts (state_of G old (M.held before))
+      go None = tt
+      go (Some h) = record { outcome = outcome h; raised = raised_none (makes s command h) u }
+
+  module _ (gmi : Manager) (after : X) where
+    pub page_out_called : (count : ℕ) (a : Answer) → MapperCall M (meanings_of G) before old.gmi (vm_commands.PageOut count) a after gmi → MixCall M G before old (commands.PageOut count) a after (record old { gmi = gmi })
+    page_out_called count a call =
+        called_steady M G old gmi before after (vm_commands.PageOut count) a can call (commands.PageOut count) a (omega arith) (λ m f h. refl)
+        (λ h o. page_out_outcome (G.machine old.gmi (M.held before)) (G.machine gmi (M.held after)) (G.forest old.gmi (M.held before)) s u h count a _ o)
+
+    pub load_called : (of : ProcId) (p : Process) → numbered old.processes.items of.0 ≡ Some p → (address length : ℕ) (a : Answer)
+        → MapperCall M (meanings_of G) before old.gmi (vm_commands.Load p.actor address length) a after gmi → MixCall M G before old (commands.Load of address length) a after (record old { gmi = gmi })
+    load_called of p there address length a call =
+        let live : IsLiving (G.machine old.gmi (M.held before)) old.processes.items of.0 p = record { page = can.tied.page; there = there; run = can.tied.run of.0 p there } in
+        called_steady M G old gmi before after (vm_commands.Load p.actor address length) a can call (commands.Load of address length) a (omega arith) (λ m f h. load_steady p.actor.0 address m length)
+        (λ h o. (load_outcome (G.machine old.gmi (M.held before)) old.processes.items old.images.items of p live (G.forest old.gmi (M.held before)) u h address length a (G.machine gmi (M.held after)) _ o).0)
+
+    pub store_called : (of : ProcId) (p : Process) → numbered old.processes.items of.0 ≡ Some p → (address : ℕ) (piece : List ℕ) (a : Answer)
+        → MapperCall M (meanings_of G) before old.gmi (vm_commands.Store p.actor address piece) a after gmi → MixCall M G before old (commands.Store of address piece) a after (record old { gmi = gmi })
+    store_called of p there address piece a call =
+        let m : Machine = G.machine old.gmi (M.held before) in
+        let live : IsLiving m old.processes.items of.0 p = record { page = can.tied.page; there = there; run = can.tied.run of.0 p there } in
+        let it = call_is M G old gmi before after (vm_commands.Store p.actor address piece) a can call in
+        let put : IsPut m (G.machine gmi (M.held after)) old.images.items = store_put (segments_of (M.held after)) m old.processes.items none_spare old.images.items can.tied of p there (G.forest old.gmi (M.held before)) address piece a (G.machine gmi (M.held after)) it.rises it.is.outcome in
+        called M G old gmi before after (vm_commands.Store p.actor address piece) a can call (commands.Store of address piece) a (omega arith) put.shape put.alike
+        (λ h o. record {
+          outcome = (store_outcome m old.processes.items none_spare old.images.items can.tied of p live (G.forest old.gmi (M.held before)) u h address piece a (G.machine gmi (M.held after)) it.rises o).0;
+          raised = record { actors = omega (arith, ap length put.shape.actors); caches = omega (arith, put.caches); regions = omega (arith, put.regions) };
+        })
+
+  -- no living process has the number
+  pub none_here : (n : ℕ) → numbered old.processes.items n ≡ None → process_of s n ≡ None
+  none_here n none = numbered-map (process_seen (G.machine old.gmi (M.held before))) old.processes.items n ∙ ap (option_map (process_seen (G.machine old.gmi (M.held before)))) none
+
+  nobody : (length : ℕ) (b : ℕ) (address : ℕ) (o : Option model.Process) → o ≡ None → place_of b o address length ≡ Err refusals.NoProcess
+  nobody length b address o e = ap (λ (o : Option model.Process). place_of b o address length) e
+
+  load_row_nobody : (of : ProcId) (address length : ℕ) → numbered old.processes.items of.0 ≡ None → mix.load_of s of.0 address length ≡ record { answer = Err (troubles.Refused refusals.NoProcess); next = s }
+  unfolding mix.load_of mix.with_ok
+  load_row_nobody of address length none = ap (λ (o : Result model.Place Refusal). mix.with_ok o s (λ at. mix.reply (replies.Bytes (take length (drop at.byte (mix.page_at at)))) s)) (nobody length s.page_bytes address (process_of s of.0) (none_here of.0 none))
+
+  pub load_nobody : (of : ProcId) (address length : ℕ) → numbered old.processes.items of.0 ≡ None → MixCall M G before old (commands.Load of address length) (Err (troubles.Refused refusals.NoProcess)) before old
+  load_nobody of address length none = refused_called (commands.Load of address length) (Err (troubles.Refused refusals.NoProcess)) (λ h. load_row_nobody of address length none)
+
+  store_row_nobody : (of : ProcId) (address : ℕ) (piece : List ℕ) → numbered old.processes.items of.0 ≡ None → mix.store_of s of.0 address piece ≡ record { answer = Err (troubles.Refused refusals.NoProcess); next = s }
+  unfolding mix.store_of mix.with_ok
+  store_row_nobody of address piece none = ap (λ (o : Result model.Place Refusal). mix.with_ok o s (λ at. mix.unless (not (model.may_write at.area)) refusals.Protection s (mix.reply replies.Done (mix.put_process s of.0 (Some (mix.written_at at piece)))))) (nobody (length piece) s.page_bytes address (process_of s of.0) (none_here of.0 none))
+
+  pub store_nobody : (of : ProcId) (address : ℕ) (piece : List ℕ) → numbered old.processes.items of.0 ≡ None → MixCall M G before old (commands.Store of address piece) (Err (troubles.Refused refusals.NoProcess)) before old
+  store_nobody of address piece none = refused_called (commands.Store of address piece) (Err (troubles.Refused refusals.NoProcess)) (λ h. store_row_nobody of address piece none)
