@@ -3,7 +3,6 @@ use Rattle.std.specs.Prelude.{◌≤◌, ℕ, ◌+◌, ◌^◌, Option, Some, No
 use Rattle.vm_ids.specs.Counting.{MapperCounts, Rise}
 use Rattle.vm_ids.specs.Held.{Segments}
 use Rattle.vm_ids.specs.declared.command.MixCommand.{MixCommand}
-use Rattle.vm_ids.specs.declared.command.MixCommand.TheVariants as commands
 use Rattle.vm_ids.specs.declared.reply.Reply.TheVariants.{Done}
 use Rattle.vm_ids.specs.declared.reply.Trouble.{Trouble}
 use Rattle.vm_model.specs.Answering.{Answer, answer_by}
@@ -13,14 +12,6 @@ use Rattle.mix_process.specs.Outcome.{Outcome, RaisedBy, makes}
 use Rattle.mix_process.specs.Seen.{State, state_of}
 use Rattle.mix_process.specs.Tying.{CanCall}
 use Rattle.mix_process.specs.declared.mix.Mix.{Mix}
-
--- counts of pages are at least 1, and a load is of 1 to 64 bytes
-abbrev pub IsWellFormed : MixCommand → Type 0
-IsWellFormed (commands.Exec seg text data_pages stack) = (1 ≤ text) × (1 ≤ data_pages) × (1 ≤ stack)
-IsWellFormed (commands.Grow process pages) = 1 ≤ pages
-IsWellFormed (commands.Load process address length) = (1 ≤ length) × (length ≤ 64)
-IsWellFormed (commands.PageOut count) = 1 ≤ count
-IsWellFormed command = Unit {0}
 
 -- A call raises the number that bounds the manager's counters by no more than this.
 abbrev pub call_budget : ℕ

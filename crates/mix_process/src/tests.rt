@@ -1,6 +1,7 @@
 // The worked scripts, as calls over the eager machine.
 ghost use Rattle.std.specs.Prelude.{◌≤◌, ◌+◌, ◌^◌, IfOk};
-ghost use Rattle.mix_process.specs.Calling.{IsWellFormed, call_budget};
+ghost use Rattle.vm_ids.specs.MixAsking.{IsMixWellFormed};
+ghost use Rattle.mix_process.specs.Calling.{call_budget};
 ghost use Rattle.mix_process.specs.Tying.{CanCall};
 
 use crate::Mix;
@@ -71,7 +72,7 @@ fn ask<G: Gmi<M, C>, M: Mapper, C: Chooser>(
     mapper: &mut M,
     chooser: &mut C,
 ) -> Shown
-    requires formed { IsWellFormed command.now }
+    requires formed { IsMixWellFormed command.now }
     requires can { CanCall G.Gmi mix.old (M.held mapper.old) (M.page_bytes mapper.old) }
     requires made { G.made mix.old.gmi ≤ 2 ^ 61 }
     ensures can { CanCall G.Gmi mix.new (M.held mapper.new) (M.page_bytes mapper.new) }
@@ -98,20 +99,20 @@ fn exec(seg: u32, text: u32, data: u32, stack: u32) -> MixCommand
     requires text { 1 ≤ text }
     requires some { 1 ≤ data }
     requires stack { 1 ≤ stack }
-    ensures { IsWellFormed result }
+    ensures { IsMixWellFormed result }
 {
     MixCommand::Exec(SegId(seg), text, data, stack)
 }
 
 fn store(of: u32, address: u64, byte: u8) -> Result<MixCommand, Fail>
-    ensures { IfOk result (λ c. IsWellFormed c) }
+    ensures { IfOk result (λ c. IsMixWellFormed c) }
 {
     let piece = Piece::new(&[byte]).ok_or("no piece")?;
     Ok(MixCommand::Store(ProcId(of), address, piece))
 }
 
 fn load(of: u32, address: u64) -> MixCommand
-    ensures { IsWellFormed result }
+    ensures { IsMixWellFormed result }
 {
     MixCommand::Load(ProcId(of), address, 1)
 }
