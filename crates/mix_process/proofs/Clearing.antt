@@ -138,7 +138,7 @@ pub own_kept : (m n : Machine) (p : Part) → cache_of n p.cache.0 ≡ cache_of 
 own_kept m n p e h = record { cache = h.cache; there = e ∙ h.there; temporary = h.temporary; some = h.some; many = h.many }
 
 image_part_kept : (m n : Machine) (p : Part) → cache_of n p.cache.0 ≡ cache_of m p.cache.0 → IsImageCache m p → IsImageCache n p
-image_part_kept m n p e h = record { cache = h.cache; seg = h.seg; there = e ∙ h.there; named = h.named; many = h.many }
+image_part_kept m n p e h = record { cache = h.cache; seg = h.seg; there = e ∙ h.there; named = h.named; some = h.some; many = h.many }
 
 one_kept : (m n : Machine) (a : Area) (p : Part) → cache_of n p.cache.0 ≡ cache_of m p.cache.0 → IsPart m a p → IsPart n a p
 one_kept m n Text p e h = image_part_kept m n p e h

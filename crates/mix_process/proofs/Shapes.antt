@@ -85,7 +85,7 @@ module _ (m n : Machine) (s : HasShape m n) where
   image_like : (p : Part) → IsImageCache m p → IsImageCache n p
   image_like p h =
       let d = s.there p.cache.0 h.cache h.there in
-      record { cache = d.0; seg = h.seg; there = d.1; named = d.2.segment ∙ h.named; many = omega (arith, h.many, d.2.many) }
+      record { cache = d.0; seg = h.seg; there = d.1; named = d.2.segment ∙ h.named; some = h.some; many = omega (arith, h.many, d.2.many) }
 
   part_like : (a : Area) (p : Part) → IsPart m a p → IsPart n a p
   part_like Text p h = image_like p h

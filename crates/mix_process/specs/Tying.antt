@@ -45,6 +45,7 @@ pub record IsImageCache (m : Machine) (p : Part) : Type 0 where
   pub seg : ℕ
   pub there : cache_of m p.cache.0 ≡ Some cache
   pub named : cache.segment ≡ Some seg
+  pub some : 1 ≤ p.pages
   pub many : p.pages ≤ length cache.pages
 
 abbrev pub IsPart : Machine → Area → Part → Type 0
