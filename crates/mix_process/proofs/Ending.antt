@@ -126,6 +126,7 @@ module _ {Manager X Chooser : Type 0} (M : GhostsOfMapper X) (G : GhostsOfGmi Ma
     };
     rises = c.rises;
     rose = c.rose;
+    segments = c.segments;
   }
 
 -- A process is taken out of the table
@@ -241,7 +242,7 @@ module _ {Manager X Chooser : Type 0} (M : GhostsOfMapper X) (G : GhostsOfGmi Ma
     made = omega (arith, e.made, ap G.made gmi);
     rises = e.rises;
     rose = e.rose;
-    step = go (segments_of (M.held after));
+    is = record { step = go (segments_of (M.held after)); segments = e.segments };
   }
     where
       n : Machine

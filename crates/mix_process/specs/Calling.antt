@@ -1,5 +1,5 @@
 -- What the calls of the processes have in common.
-use Rattle.std.specs.Prelude.{◌≤◌, ℕ, ◌+◌, ◌^◌, Option, Some, None, Result, Ok, Err}
+use Rattle.std.specs.Prelude.{◌≡◌, ◌≤◌, ℕ, ◌+◌, ◌^◌, Option, Some, None, Result, Ok, Err}
 use Rattle.vm_ids.specs.Counting.{MapperCounts, Rise}
 use Rattle.vm_ids.specs.Held.{Segments}
 use Rattle.vm_ids.specs.declared.command.MixCommand.{MixCommand}
@@ -29,6 +29,12 @@ abbrev pub StepAt : Option Segments → State → MixCommand → Answer → Mapp
 StepAt None before command answer rises after = Unit {0}
 StepAt (Some h) before command answer rises after = StepOver h before command answer rises after
 
+-- One answer of the processes over a manager. No segment changes.
+pub record AnswerIs (before : State) (command : MixCommand) (answer : Answer) (rises : MapperCounts)
+    (after : State) : Type 0 where
+  pub step : StepAt after.segments before command answer rises after
+  pub segments : after.segments ≡ before.segments
+
 -- A call of the processes. `M` and `G` are the ghost members of the mapper and the manager.
 pub record MixCall {Manager Mapper Chooser : Type 0} (M : GhostsOfMapper Mapper)
     (G : GhostsOfGmi Manager Mapper Chooser) (before : Mapper) (old : Mix Manager)
@@ -37,5 +43,5 @@ pub record MixCall {Manager Mapper Chooser : Type 0} (M : GhostsOfMapper Mapper)
   pub made : G.made new.gmi ≤ G.made old.gmi + call_budget
   pub rises : MapperCounts
   pub rose : Rise (M.counts before) (M.counts after) rises
-  pub step : StepAt (state_of G new (M.held after)).segments (state_of G old (M.held before))
-      command answer rises (state_of G new (M.held after))
+  pub is : AnswerIs (state_of G old (M.held before)) command answer rises
+      (state_of G new (M.held after))
