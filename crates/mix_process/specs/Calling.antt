@@ -13,6 +13,11 @@ use Rattle.mix_process.specs.Seen.{State, state_of}
 use Rattle.mix_process.specs.Tying.{CanCall}
 use Rattle.mix_process.specs.declared.mix.Mix.{Mix}
 
+-- the number that bounds the counters of the manager below
+abbrev pub made_by : {Manager Mapper Chooser : Type 0} → GhostsOfGmi Manager Mapper Chooser
+    → Mix Manager → ℕ
+made_by G mix = G.made mix.gmi
+
 -- A call raises the number that bounds the manager's counters by no more than this.
 abbrev pub call_budget : ℕ
 call_budget = 2 ^ 30

@@ -18,6 +18,7 @@
 //! segment holds.
 #![tactic(auto)]
 
+mod answering;
 mod area;
 pub mod laws;
 mod mix;

@@ -1,8 +1,8 @@
 -- What was answered and written when the program ends.
 use Rattle.std.specs.Prelude.{◌≡◌, ◌≤◌, ℕ, Bool, true, false, List, [], ◌++◌, length, map, codes, Option, Some, IfSome, IsSomeAnd, Ok}
 use Rattle.std.specs.List.{flat_map}
-use Rattle.vm_ids.specs.Counting.{no_counts}
-use Rattle.vm_ids.specs.Held.{segments_of}
+use Rattle.vm_ids.specs.Counting.{MapperCounts, no_counts}
+use Rattle.vm_ids.specs.Held.{Segments, segments_of}
 use Rattle.vm_ids.specs.declared.command.Command.TheVariants.{Stat}
 use Rattle.vm_ids.specs.declared.reply.Reply.TheVariants as replies
 use Rattle.vm_ids.specs.Forest.Nodes.{no_forest}
@@ -13,9 +13,10 @@ use Rattle.vm_model.specs.Laws.{IsFollowed}
 use Rattle.vm_model.specs.Machine.{Machine, start}
 use Rattle.vm_model.specs.PageForest.{PageForest}
 use Rattle.vm_model.specs.Run.{AnswerIs, Read, State, command_semantics}
-use Rattle.vm_model.specs.Steps.{Step}
+use Rattle.vm_model.specs.Steps.{Semantics, Step}
 use Rattle.actor_script.specs.Forms.{command_of}
 use Rattle.actor_script.specs.Generator.{generated}
+use Rattle.actor_script.specs.MixForms.{mix_command_of}
 use Rattle.actor_script.specs.Summary.{summary_of, tally_of}
 use Rattle.actor_script.specs.Writing.{Writes, WritesFront}
 use Rattle.actor_script.specs.declared.tally.Tally.{Tally}
@@ -25,6 +26,10 @@ use Rattle.line_service.specs.Script.{most_bytes}
 use Rattle.line_service.specs.declared.ended.Ended.{Ended}
 use Rattle.line_service.specs.declared.ended.Ended.TheVariants as ended
 use Rattle.vm_port.specs.declared.traits.mapper.Mapper.{Ghosts as GhostsOfMapper}
+use Rattle.mix_process.specs.Outcome.{Usage, no_usage}
+use Rattle.mix_process.specs.ProcessMachine.{ProcessMachine}
+use Rattle.mix_process.specs.ProcessMachine.{start as no_processes}
+use Rattle.replay.specs.Processing.{process_semantics}
 use Rattle.replay.specs.declared.status.Status.{Status}
 use Rattle.replay.specs.declared.status.Status.TheVariants as statuses
 use Rattle.replay.specs.declared.asked.Asked.{Asked}
@@ -32,23 +37,49 @@ use Rattle.replay.specs.declared.asked.Asked.TheVariants as asks
 use Rattle.replay.specs.declared.asked.Generated.{Generated}
 use Rattle.replay.specs.declared.asked.Size.{Size}
 
--- What there is between two lines: the machine, its page forest and the mapper's segments, the
--- mapper's counts, the turns that the dispatcher has left, and what was written.
+-- What there is between two lines of a script of commands: the machine, its page forest and the
+-- mapper's segments, the mapper's counts, the turns that the dispatcher has left, and what was
+-- written.
 abbrev pub CommandScene : Type 0
 CommandScene = Scene command_semantics Told
 
--- the scene of a machine and of the page forest that is kept for it, beside a mapper
-abbrev pub scene_with : {Mapper : Type 0} → GhostsOfMapper Mapper → Mapper
-    → Option (List (Option ℕ)) → Told → Machine → PageForest → CommandScene
-scene_with M mapper turns written machine forest = record {
-  state = record {
-    machine = machine;
-    forest = Some forest;
-    segments = segments_of (M.held mapper);
-  };
+-- And of a script of processes: the processes, what the manager has, and the same besides.
+abbrev pub ProcessScene : Type 0
+ProcessScene = Scene process_semantics Told
+
+-- What a scene has besides: the mapper's segments, where they are told, its counts, the turns that
+-- the dispatcher has left, and what was written.
+pub record Outside : Type 0 where
+  pub segments : Option Segments
+  pub counts : MapperCounts
+  pub turns : Option (List (Option ℕ))
+  pub written : Told
+
+abbrev pub outside_of : {Mapper : Type 0} → GhostsOfMapper Mapper → Mapper
+    → Option (List (Option ℕ)) → Told → Outside
+outside_of M mapper turns written = record {
+  segments = segments_of (M.held mapper);
   counts = M.counts mapper;
   turns = turns;
   written = written;
+}
+
+-- the scene of a machine and of the page forest that is kept for it
+abbrev pub scene_with : Outside → Machine → PageForest → CommandScene
+scene_with o machine forest = record {
+  state = record { machine = machine; forest = Some forest; segments = o.segments };
+  counts = o.counts;
+  turns = o.turns;
+  written = o.written;
+}
+
+-- the scene of processes over a manager that has so much
+abbrev pub scene_of_processes : Outside → ProcessMachine → Usage → ProcessScene
+scene_of_processes o processes usage = record {
+  state = record { processes = processes; usage = usage; segments = o.segments };
+  counts = o.counts;
+  turns = o.turns;
+  written = o.written;
 }
 
 -- the exit status by how a replay ends
@@ -58,29 +89,38 @@ status_of ended.SourceFault = statuses.SourceFault
 status_of ended.SinkFault = statuses.SinkFault
 status_of ended.TooLong = statuses.TooLong
 
--- How a replay of what the source had left ends.
-abbrev pub EndsAs : Status → CommandScene → CommandScene → Told → Told → Type 0
-EndsAs statuses.Done before now left left_now =
-    Ends ended.Done command_semantics command_of before now left left_now
-EndsAs statuses.SourceFault before now left left_now =
-    Ends ended.SourceFault command_semantics command_of before now left left_now
-EndsAs statuses.SinkFault before now left left_now =
-    Ends ended.SinkFault command_semantics command_of before now left left_now
-EndsAs statuses.TooLong before now left left_now =
-    Ends ended.TooLong command_semantics command_of before now left left_now
-EndsAs statuses.Usage before now left left_now = ⊥
-EndsAs statuses.NoMemory before now left left_now = ⊥
+-- How a replay of what the source had left ends, for whoever reads lines so and means this by them.
+abbrev pub EndsAs : Status → (S : Semantics) → (List ℕ → S.Read) → Scene S Told → Scene S Told
+    → Told → Told → Type 0
+EndsAs statuses.Done S read before now left left_now =
+    Ends ended.Done S read before now left left_now
+EndsAs statuses.SourceFault S read before now left left_now =
+    Ends ended.SourceFault S read before now left left_now
+EndsAs statuses.SinkFault S read before now left left_now =
+    Ends ended.SinkFault S read before now left left_now
+EndsAs statuses.TooLong S read before now left left_now =
+    Ends ended.TooLong S read before now left left_now
+EndsAs statuses.Usage S read before now left left_now = ⊥
+EndsAs statuses.NoMemory S read before now left left_now = ⊥
 
--- How a run that was asked for ends, where the scenes at its begin and now are those of a machine
--- and a forest: it began with the empty machine and the empty page forest, and the last forest has
--- its shape and agrees with the last machine.
-pub record RunEnds (status : Status) (size : Size)
-    (before now : Machine → PageForest → CommandScene) (left left_now : Told) : Type 0 where
+-- How a run that was asked for ends: it began with the empty machine and the empty page forest, and
+-- the last forest has its shape and agrees with the last machine.
+pub record RunEnds (status : Status) (size : Size) (before now : Outside) (left left_now : Told)
+    : Type 0 where
   pub last : Machine
   pub forest : PageForest
-  pub ends : EndsAs status (before (start size.frames size.page_bytes) no_forest)
-      (now last forest) left left_now
+  pub ends : EndsAs status command_semantics command_of
+      (scene_with before (start size.frames size.page_bytes) no_forest)
+      (scene_with now last forest) left left_now
   pub followed : IsFollowed last forest
+
+-- How a script of processes ends: it began without any, over a manager that has nothing.
+pub record MixEnds (status : Status) (before now : Outside) (left left_now : Told) : Type 0 where
+  pub last : ProcessMachine
+  pub usage : Usage
+  pub ends : EndsAs status process_semantics mix_command_of
+      (scene_of_processes before (no_processes PAGE) no_usage)
+      (scene_of_processes now last usage) left left_now
 
 -- All of a text was written; or, where a write failed, a front of it.
 abbrev pub WritesAs : Status → Option (List ℕ) → Option (List ℕ) → List ℕ → Type 0
@@ -97,10 +137,10 @@ abbrev pub with_feeds : List (List ℕ) → List ℕ
 with_feeds lines = flat_map (λ (line : List ℕ). line ++ codes "\n") lines
 
 -- The lines of the script were written, or a front of them, and nothing else happened.
-pub record GenerateEnds (status : Status) (script : Generated) (before now : CommandScene)
+pub record GenerateEnds (status : Status) (script : Generated) (before now : Outside)
     : Type 0 where
   pub writes : WritesAs status before.written now.written (with_feeds (lines_made script))
-  pub state : now.state ≡ before.state
+  pub segments : now.segments ≡ before.segments
   pub counts : now.counts ≡ before.counts
   pub turns : now.turns ≡ before.turns
 
@@ -125,30 +165,33 @@ TellsCounts state counts = AnswerIs state Stat (Ok (replies.Stat counts)) [] no_
 
 -- How a trial that was asked for ends: as a run over the lines of the script, whose summary is
 -- written with the counts of the last forest.
-pub record TrialEnds (status : Status) (script : Generated) (frames : ℕ)
-    (before now : Machine → PageForest → CommandScene) : Type 0 where
+pub record TrialEnds (status : Status) (script : Generated) (frames : ℕ) (before now : Outside)
+    : Type 0 where
   pub last : Machine
   pub forest : PageForest
-  pub summed : Summed status (before (start frames PAGE) no_forest) (now last forest)
-      (map command_of (lines_made script)) (counts_of forest)
+  pub summed : Summed status (scene_with before (start frames PAGE) no_forest)
+      (scene_with now last forest) (map command_of (lines_made script)) (counts_of forest)
   pub followed : IsFollowed last forest
 
 -- How each thing that may be asked for ends.
-abbrev pub AskedEnds : Status → Asked → (Machine → PageForest → CommandScene)
-    → (Machine → PageForest → CommandScene) → Told → Told → Type 0
+abbrev pub AskedEnds : Status → Asked → (before now : Outside) → Told → Told → Type 0
 AskedEnds status (asks.Run size) before now left left_now =
     RunEnds status size before now left left_now
 AskedEnds status (asks.Generate script) before now left left_now =
-    (m : Machine) (f : PageForest) → GenerateEnds status script (before m f) (now m f)
+    GenerateEnds status script before now
 AskedEnds status (asks.Trial script frames) before now left left_now =
     TrialEnds status script frames before now
+AskedEnds status (asks.Mix frames) before now left left_now =
+    MixEnds status before now left left_now
 
--- only a run reads the source
+-- only the replay of a script reads the source
 abbrev pub reads_source : Asked → Bool
 reads_source (asks.Run size) = true
+reads_source (asks.Mix frames) = true
 reads_source asked = false
 
 -- What is asked for reads no source, or one that tells no more bytes than a script may have.
 abbrev pub IsWithinLimit : Asked → Option (List ℕ) → Type 0
 IsWithinLimit (asks.Run size) left = IsSomeAnd left (λ all. length all ≤ most_bytes)
+IsWithinLimit (asks.Mix frames) left = IsSomeAnd left (λ all. length all ≤ most_bytes)
 IsWithinLimit asked left = Unit {0}

@@ -6,7 +6,8 @@ use Rattle.vm_ids.specs.Held.{Held}
 use Rattle.vm_model.specs.Machine.{actor_of}
 use Rattle.vm_model.proofs.Parts.Distinct.{AreDistinct as AreApart}
 use Rattle.actor_script.specs.Forms.{command_of}
-use Rattle.actor_script.proofs.Fronts.{command_of-front}
+use Rattle.actor_script.specs.MixForms.{mix_command_of}
+use Rattle.actor_script.proofs.Fronts.{command_of-front, mix_command_of-front}
 use Rattle.gmi_calls.specs.declared.gmi.Gmi.{Ghosts as GhostsOfGmi}
 use Rattle.gmi_calls.proofs.FewAlive.{few_alive}
 use Rattle.replay.specs.Managing.{CanCall}
@@ -27,3 +28,12 @@ few_living {Manager} {Mapper} {Chooser} {G} {gmi} {held} actors can distinct ali
 
 pub fronts : (line : List ℕ) → command_of (front_of_line line) ≡ command_of line
 fronts line = command_of-front line
+
+pub mix_fronts : (line : List ℕ) → mix_command_of (front_of_line line) ≡ mix_command_of line
+mix_fronts line = mix_command_of-front line
+
+-- where nobody is alive, few are
+pub nobody : (actors : List ℕ) → AreDistinct actors → AllByRecursion (λ actor. ⊥) actors
+    → length actors ≤ 256
+nobody [] distinct alive = omega arith
+nobody (actor ∷ actors) distinct alive = absurd alive.0
