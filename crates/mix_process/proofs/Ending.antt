@@ -25,7 +25,8 @@ use Rattle.gmi_calls.proofs.Temporary.{IsDone, living_exited, map-set}
 use Rattle.mix_process.specs.ProcessMachine as model
 use Rattle.mix_process.specs.ProcessMachine.{ProcessMachine, may_write, process_of}
 use Rattle.mix_process.specs.Answering as mix
-use Rattle.mix_process.specs.Calling.{MixCall, StepAt}
+use Rattle.mix_process.specs.Calling.{MixCall}
+use Rattle.mix_process.specs.Stepping.{StepAt}
 use Rattle.mix_process.specs.Inner.{AreApart, AreCleared, AreOwn, IsEnded, own_pages, spare_of, with_extra}
 use Rattle.mix_process.specs.Seen.{cache_pages, pages_in, process_seen, processes_seen, same_area, state_of}
 use Rattle.mix_process.specs.Tying.{AreAble, AreTied, CanCall, IsRun, none_spare}

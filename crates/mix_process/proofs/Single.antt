@@ -36,7 +36,8 @@ use Rattle.gmi_calls.proofs.Rising.{rise_none}
 use Rattle.mix_process.specs.Answering as mix
 use Rattle.mix_process.specs.ProcessMachine as model
 use Rattle.mix_process.specs.ProcessMachine.{ProcessMachine, place_of, process_of}
-use Rattle.mix_process.specs.Calling.{MixCall, StepAt, StepOver, call_budget}
+use Rattle.mix_process.specs.Calling.{MixCall, call_budget}
+use Rattle.mix_process.specs.Stepping.{StepAt, StepOver}
 use Rattle.mix_process.specs.Outcome as mix_outcome
 use Rattle.mix_process.specs.Outcome.{RaisedBy, Usage, makes, usage_of}
 use Rattle.mix_process.specs.Seen.{cache_pages, process_seen, processes_seen, state_of}
