@@ -1,12 +1,16 @@
 -- What the calls of the processes have in common.
 use Rattle.std.specs.Prelude.{◌≤◌, ℕ, ◌+◌, ◌^◌, Option}
 use Rattle.vm_ids.specs.Counting.{MapperCounts, Rise}
+use Rattle.vm_ids.specs.Held.{Segments}
 use Rattle.vm_ids.specs.declared.command.MixCommand.{MixCommand}
 use Rattle.vm_model.specs.Answering.{Answer}
+use Rattle.vm_model.specs.Machine.{Machine}
 use Rattle.vm_port.specs.declared.traits.mapper.Mapper.{Ghosts as GhostsOfMapper}
 use Rattle.gmi_calls.specs.declared.gmi.Gmi.{Ghosts as GhostsOfGmi}
+use Rattle.mix_process.specs.Outcome.{usage_of}
+use Rattle.mix_process.specs.ProcessMachine.{start}
 use Rattle.mix_process.specs.Seen.{state_of}
-use Rattle.mix_process.specs.Stepping.{AnswerIs}
+use Rattle.mix_process.specs.Stepping.{AnswerIs, State}
 use Rattle.mix_process.specs.Tying.{CanCall}
 use Rattle.mix_process.specs.declared.mix.Mix.{Mix}
 
@@ -14,6 +18,14 @@ use Rattle.mix_process.specs.declared.mix.Mix.{Mix}
 abbrev pub made_by : {Manager Mapper Chooser : Type 0} → GhostsOfGmi Manager Mapper Chooser
     → Mix Manager → ℕ
 made_by G mix = G.made mix.gmi
+
+-- there is no process, over a manager that stands for this machine
+abbrev pub beginning : Machine → Option Segments → State
+beginning m segments = record {
+  processes = start m.page_bytes;
+  usage = usage_of m;
+  segments = segments;
+}
 
 -- A call raises the number that bounds the manager's counters by no more than this.
 abbrev pub call_budget : ℕ

@@ -13,7 +13,7 @@ use Rattle.vm_model.specs.Laws.{IsFollowed}
 use Rattle.vm_model.specs.Machine.{Machine, live_pages, living_actors, start}
 use Rattle.vm_model.specs.PageForest.{PageForest}
 use Rattle.vm_model.specs.Run.{Read, State, command_semantics}
-use Rattle.vm_model.specs.Steps.{Chain, Step, lines_answered, numbered_from}
+use Rattle.vm_model.specs.Steps.{Chain, Semantics, Step, lines_answered, numbered_from}
 use Rattle.vm_model.specs.declared.limits.TheConstants.{LIVE_PAGES, LIVING_ACTORS}
 use Rattle.vm_model.proofs.WholeRuns.Chains.{runs_are_chains}
 use Rattle.vm_model.proofs.WholeRuns.Runs.{runs_are_followed}
@@ -22,7 +22,7 @@ use Rattle.actor_script.proofs.WellFormed.{well_formed}
 use Rattle.gmi_calls.specs.Calling.{Fits}
 use Rattle.vm_ids.specs.declared.access.Parked.{Parked}
 use Rattle.vm_port.specs.declared.traits.mapper.Mapper.{Ghosts as GhostsOfMapper}
-use Rattle.line_service.specs.Ending.{Ends, Ran, Took}
+use Rattle.line_service.specs.Ending.{Ends, Ran, Told, Took}
 use Rattle.line_service.specs.Serving.{answer_budget}
 use Rattle.line_service.specs.Underway.{CanAnswer}
 use Rattle.line_service.specs.declared.service.Service.{Ghosts as GhostsOfService}
@@ -30,7 +30,7 @@ use Rattle.line_service.specs.Going.{IsScript, Known, Scene, Writing}
 use Rattle.line_service.specs.Script.{IsFront, lines_of, most_bytes}
 use Rattle.line_service.specs.declared.ended.Ended.{Ended}
 use Rattle.line_service.specs.declared.ended.Ended.TheVariants as ended
-use Rattle.replay.specs.Ending.{CommandScene, EndsAs, RunEnds, status_of}
+use Rattle.replay.specs.Ending.{CommandScene, EndsAs, Outside, RunEnds, scene_with, status_of}
 use Rattle.replay.specs.declared.status.Status.{Status}
 use Rattle.replay.specs.declared.asked.Asked.{Asked}
 use Rattle.replay.specs.declared.asked.Size.{Size}
@@ -85,7 +85,7 @@ module _ (a : CommandScene) (frames page : ℕ) (some : 1 ≤ page) (told : Opti
       runs_are_followed frames page told steps last.state some formed (subst (λ (s : State). Chain command_semantics s steps last.state) begins chain) in
       subst (λ (s : State). IsSomeAnd s.forest (IsFollowed s.machine)) ran.state_is followed
 
-  pub ends_followed : (status : Status) (b : CommandScene) (l k : Option (List ℕ)) → EndsAs status a b l k → IsSomeAnd b.state.forest (IsFollowed b.state.machine)
+  pub ends_followed : (status : Status) (b : CommandScene) (l k : Option (List ℕ)) → EndsAs status command_semantics command_of a b l k → IsSomeAnd b.state.forest (IsFollowed b.state.machine)
   ends_followed statuses.Done b l k h = ran_followed _ _ a.written b.written b _ _ refl (lines_formed (lines_of h.script)) h.answered.ran
   ends_followed statuses.SourceFault b l k h = ran_followed _ _ a.written b.written b _ _ (front_all _) (lines_formed _) h.2.answered.ran
   ends_followed statuses.SinkFault b l k h = ran_followed _ _ a.written b.written b _ _ h.of_taken (lines_formed (lines_of h.script)) h.ran
@@ -95,21 +95,17 @@ module _ (a : CommandScene) (frames page : ℕ) (some : 1 ≤ page) (told : Opti
 
 -- the promise, from a replay that began with some machine and some forest, which were those of the
 -- start
-pub run_ends : (status : Status) (size : Size) (old now : Machine → PageForest → CommandScene) (l k : Option (List ℕ)) (told : Option Segments) (m last : Machine) (f forest : PageForest)
-    → ((m : Machine) (f : PageForest) → (old m f).state ≡ record { machine = m; forest = Some f; segments = told })
-    → ((m : Machine) (f : PageForest) → ((now m f).state.machine ≡ m) × ((now m f).state.forest ≡ Some f))
-    → 1 ≤ size.page_bytes → m ≡ start size.frames size.page_bytes → f ≡ no_forest → EndsAs status (old m f) (now last forest) l k → RunEnds status size old now l k
-run_ends status size old now l k told m last f forest old_is now_is some machine_is forest_is ends =
+pub run_ends : (status : Status) (size : Size) (old now : Outside) (l k : Option (List ℕ)) (m last : Machine) (f forest : PageForest)
+    → 1 ≤ size.page_bytes → m ≡ start size.frames size.page_bytes → f ≡ no_forest → EndsAs status command_semantics command_of (scene_with old m f) (scene_with now last forest) l k → RunEnds status size old now l k
+run_ends status size old now l k m last f forest some machine_is forest_is ends =
     let begun = start size.frames size.page_bytes in
-    let from : EndsAs status (old begun no_forest) (now last forest) l k =
-    subst (λ (x : Machine). EndsAs status (old x no_forest) (now last forest) l k) machine_is (subst (λ (x : PageForest). EndsAs status (old m x) (now last forest) l k) forest_is ends) in
-    let followed : IsSomeAnd (now last forest).state.forest (IsFollowed (now last forest).state.machine) = ends_followed (old begun no_forest) size.frames size.page_bytes some told (old_is _ _) status (now last forest) l k from in
-    let by_forest : IsSomeAnd (Some forest) (IsFollowed (now last forest).state.machine) = subst (λ (o : Option PageForest). IsSomeAnd o (IsFollowed (now last forest).state.machine)) (now_is last forest).1 followed in
+    let from : EndsAs status command_semantics command_of (scene_with old begun no_forest) (scene_with now last forest) l k =
+    subst (λ (x : Machine). EndsAs status command_semantics command_of (scene_with old x no_forest) (scene_with now last forest) l k) machine_is (subst (λ (x : PageForest). EndsAs status command_semantics command_of (scene_with old m x) (scene_with now last forest) l k) forest_is ends) in
     record {
       last = last;
       forest = forest;
       ends = from;
-      followed = subst (λ (x : Machine). IsFollowed x forest) (now_is last forest).0 by_forest;
+      followed = ends_followed (scene_with old begun no_forest) size.frames size.page_bytes some old.segments refl status (scene_with now last forest) l k from;
     }
 
 pub as_asked : (asked : Asked) (words : Option Asked) (P : Asked → Type 0) → Some asked ≡ words → P asked → IfSome words P
@@ -142,14 +138,6 @@ limited_yes (Some all) (Some rest) P script surely size t =
     let n = taken (Some all) (Some rest) script t in
     (λ p. omega (arith, n, size), λ e. surely)
 
-pub limited : (status : Status) (a b : CommandScene) (l k : Option (List ℕ)) → EndsAs status a b l k → Limited l k (status ≡ statuses.TooLong)
-limited statuses.Done a b l k h = limited_no l k _ h.script (λ e. cc) h.within h.took
-limited statuses.SourceFault a b l k h = limited_no l k _ h.0 (λ e. cc) h.1 h.2.took
-limited statuses.SinkFault a b l k h = limited_no l k _ h.script (λ e. cc) h.within h.took
-limited statuses.TooLong a b l k h = limited_yes l k _ h.0 refl h.1 h.2.took
-limited statuses.Usage a b l k h = absurd h
-limited statuses.NoMemory a b l k h = absurd h
-
 pub limited_same : (l : Option (List ℕ)) (P : Type 0) → (P → ⊥) → Limited l l P
 limited_same None P never = tt
 limited_same (Some all) P never = (λ p. absurd (never p), λ e. absurd (omega arith))
@@ -159,29 +147,6 @@ too_many : (l k : Option (List ℕ)) (script : List ℕ) → length script ≡ m
 too_many None k script size t h = absurd h
 too_many (Some all) None script size t h = absurd (cc)
 too_many (Some all) (Some rest) script size t h = let n = taken (Some all) (Some rest) script t in absurd (omega (arith, n, size, h))
-
--- where nothing fails the run is done
-pub complete : (status : Status) (a b : CommandScene) (l k : Option (List ℕ)) (reads reads_now writes writes_now : ℕ) → EndsAs status a b l k → (status ≡ statuses.SourceFault → Rose reads reads_now) → (status ≡ statuses.SinkFault → Rose writes writes_now)
-    → IsSomeAnd l (λ all. length all ≤ most_bytes) → reads_now ≡ reads → reads_now < last_count → writes_now ≡ writes → writes_now < last_count → (status ≡ statuses.Done) ⊎ (status ≡ statuses.NoMemory)
-complete statuses.Done a b l k reads reads_now writes writes_now h sr kr few r rl w wl = inl refl
-complete statuses.SourceFault a b l k reads reads_now writes writes_now h sr kr few r rl w wl = absurd (omega (arith, sr refl rl))
-complete statuses.SinkFault a b l k reads reads_now writes writes_now h sr kr few r rl w wl = absurd (omega (arith, kr refl wl))
-complete statuses.TooLong a b l k reads reads_now writes writes_now h sr kr few r rl w wl = absurd (too_many l k h.0 h.1 h.2.took few)
-complete statuses.Usage a b l k reads reads_now writes writes_now h sr kr few r rl w wl = absurd h
-complete statuses.NoMemory a b l k reads reads_now writes writes_now h sr kr few r rl w wl = absurd h
-
--- a replay that began ends as neither of these
-pub began : (status : Status) (a b : CommandScene) (l k : Option (List ℕ)) → EndsAs status a b l k → (status ≡ statuses.Usage) ⊎ (status ≡ statuses.NoMemory) → ⊥
-began statuses.Done a b l k h (inl e) = cc
-began statuses.Done a b l k h (inr e) = cc
-began statuses.SourceFault a b l k h (inl e) = cc
-began statuses.SourceFault a b l k h (inr e) = cc
-began statuses.SinkFault a b l k h (inl e) = cc
-began statuses.SinkFault a b l k h (inr e) = cc
-began statuses.TooLong a b l k h (inl e) = cc
-began statuses.TooLong a b l k h (inr e) = cc
-began statuses.Usage a b l k h e = h
-began statuses.NoMemory a b l k h e = h
 
 -- what it takes to answer the first line
 
@@ -198,13 +163,6 @@ live_start frames bytes m e = subst (λ (x : Machine). live_pages x ≤ LIVE_PAG
 pub living_start : (frames bytes : ℕ) (m : Machine) → m ≡ start frames bytes → living_actors m ≤ LIVING_ACTORS
 living_start frames bytes m e = subst (λ (x : Machine). living_actors x ≤ LIVING_ACTORS) (sym e) (omega arith)
 
--- by the exit status, as the replay ends
-pub ends_as : (e : Ended) (a b : CommandScene) (l k : Option (List ℕ)) → Ends e command_semantics command_of a b l k → EndsAs (status_of e) a b l k
-ends_as ended.Done a b l k h = h
-ends_as ended.SourceFault a b l k h = h
-ends_as ended.SinkFault a b l k h = h
-ends_as ended.TooLong a b l k h = h
-
 pub of_source_fault : (e : Ended) → status_of e ≡ statuses.SourceFault → e ≡ ended.SourceFault
 of_source_fault ended.Done h = absurd (cc h)
 of_source_fault ended.SourceFault h = refl
@@ -217,8 +175,49 @@ of_sink_fault ended.SourceFault h = absurd (cc h)
 of_sink_fault ended.SinkFault h = refl
 of_sink_fault ended.TooLong h = absurd (cc h)
 
-pub ends_at : (status : Status) (e : Ended) (a b : CommandScene) (l k : Option (List ℕ)) → status ≡ status_of e → Ends e command_semantics command_of a b l k → EndsAs status a b l k
-ends_at status e a b l k is h = subst (λ (s : Status). EndsAs s a b l k) (sym is) (ends_as e a b l k h)
+-- The same for whatever lines mean
+
+module _ (S : Semantics) (read : List ℕ → S.Read) where
+  pub limited : (status : Status) (a b : Scene S Told) (l k : Option (List ℕ)) → EndsAs status S read a b l k → Limited l k (status ≡ statuses.TooLong)
+  limited statuses.Done a b l k h = limited_no l k _ h.script (λ e. cc) h.within h.took
+  limited statuses.SourceFault a b l k h = limited_no l k _ h.0 (λ e. cc) h.1 h.2.took
+  limited statuses.SinkFault a b l k h = limited_no l k _ h.script (λ e. cc) h.within h.took
+  limited statuses.TooLong a b l k h = limited_yes l k _ h.0 refl h.1 h.2.took
+  limited statuses.Usage a b l k h = absurd h
+  limited statuses.NoMemory a b l k h = absurd h
+
+  -- where nothing fails the run is done
+  pub complete : (status : Status) (a b : Scene S Told) (l k : Option (List ℕ)) (reads reads_now writes writes_now : ℕ) → EndsAs status S read a b l k → (status ≡ statuses.SourceFault → Rose reads reads_now) → (status ≡ statuses.SinkFault → Rose writes writes_now)
+      → IsSomeAnd l (λ all. length all ≤ most_bytes) → reads_now ≡ reads → reads_now < last_count → writes_now ≡ writes → writes_now < last_count → (status ≡ statuses.Done) ⊎ (status ≡ statuses.NoMemory)
+  complete statuses.Done a b l k reads reads_now writes writes_now h sr kr few r rl w wl = inl refl
+  complete statuses.SourceFault a b l k reads reads_now writes writes_now h sr kr few r rl w wl = absurd (omega (arith, sr refl rl))
+  complete statuses.SinkFault a b l k reads reads_now writes writes_now h sr kr few r rl w wl = absurd (omega (arith, kr refl wl))
+  complete statuses.TooLong a b l k reads reads_now writes writes_now h sr kr few r rl w wl = absurd (too_many l k h.0 h.1 h.2.took few)
+  complete statuses.Usage a b l k reads reads_now writes writes_now h sr kr few r rl w wl = absurd h
+  complete statuses.NoMemory a b l k reads reads_now writes writes_now h sr kr few r rl w wl = absurd h
+
+  -- a replay that began ends as neither of these
+  pub began : (status : Status) (a b : Scene S Told) (l k : Option (List ℕ)) → EndsAs status S read a b l k → (status ≡ statuses.Usage) ⊎ (status ≡ statuses.NoMemory) → ⊥
+  began statuses.Done a b l k h (inl e) = cc
+  began statuses.Done a b l k h (inr e) = cc
+  began statuses.SourceFault a b l k h (inl e) = cc
+  began statuses.SourceFault a b l k h (inr e) = cc
+  began statuses.SinkFault a b l k h (inl e) = cc
+  began statuses.SinkFault a b l k h (inr e) = cc
+  began statuses.TooLong a b l k h (inl e) = cc
+  began statuses.TooLong a b l k h (inr e) = cc
+  began statuses.Usage a b l k h e = h
+  began statuses.NoMemory a b l k h e = h
+
+  -- by the exit status, as the replay ends
+  pub ends_as : (e : Ended) (a b : Scene S Told) (l k : Option (List ℕ)) → Ends e S read a b l k → EndsAs (status_of e) S read a b l k
+  ends_as ended.Done a b l k h = h
+  ends_as ended.SourceFault a b l k h = h
+  ends_as ended.SinkFault a b l k h = h
+  ends_as ended.TooLong a b l k h = h
+
+  pub ends_at : (status : Status) (e : Ended) (a b : Scene S Told) (l k : Option (List ℕ)) → status ≡ status_of e → Ends e S read a b l k → EndsAs status S read a b l k
+  ends_at status e a b l k is h = subst (λ (s : Status). EndsAs s S read a b l k) (sym is) (ends_as e a b l k h)
 
 -- what it takes to answer the first line, where nothing is parked
 pub can_start : {Service Mapper Chooser : Type 0} (V : GhostsOfService Service Mapper Chooser) (M : GhostsOfMapper Mapper) (service : Service) (mapper : Mapper) (waits : List Parked) → waits ≡ [] → V.able service (M.held mapper) (M.page_bytes mapper) → V.made service ≤ answer_budget → CanAnswer V M 1 service mapper waits

@@ -17,7 +17,7 @@ use Rattle.vm_model.specs.PageForest.{PageForest}
 use Rattle.vm_model.specs.Run.{State}
 use Rattle.actor_script.specs.Forms.{command_of}
 use Rattle.line_service.specs.Going.Known.{whole}
-use Rattle.replay.specs.Ending.{CommandScene, Summary, Summed, TellsCounts, TrialEnds, lines_made}
+use Rattle.replay.specs.Ending.{Outside, Summary, Summed, TellsCounts, TrialEnds, lines_made, scene_with}
 use Rattle.replay.specs.declared.asked.Generated.{Generated}
 use Rattle.replay.specs.declared.status.Status.{Status}
 use Rattle.replay.proofs.Promise.{lines_formed, ran_followed}
@@ -54,21 +54,16 @@ pub counts_told : (s : State) (f : PageForest) (counts : Counts) → s.forest �
 counts_told s f counts shown tells = counts_at s.segments s.machine f counts (subst (λ (o : Option PageForest). OutcomeAt s.segments s.machine o Stat (Ok (replies.Stat counts)) s.machine no_counts) shown tells.outcome)
 
 -- from a trial that began with some machine and some forest, which were those of the start
-pub trial_ends : (status : Status) (script : Generated) (frames : ℕ) (old now : Machine → PageForest → CommandScene) (told : Option Segments) (m last : Machine) (f forest : PageForest) (counts : Counts)
-    → ((m : Machine) (f : PageForest) → (old m f).state ≡ record { machine = m; forest = Some f; segments = told })
-    → ((m : Machine) (f : PageForest) → ((now m f).state.machine ≡ m) × ((now m f).state.forest ≡ Some f))
-    → m ≡ start frames PAGE → f ≡ no_forest → TellsCounts (now last forest).state counts → Summed status (old m f) (now last forest) (map command_of (lines_made script)) counts → TrialEnds status script frames old now
-trial_ends status script frames old now told m last f forest counts old_is now_is machine_is forest_is tells summed =
+pub trial_ends : (status : Status) (script : Generated) (frames : ℕ) (old now : Outside) (m last : Machine) (f forest : PageForest) (counts : Counts)
+    → m ≡ start frames PAGE → f ≡ no_forest → TellsCounts (scene_with now last forest).state counts → Summed status (scene_with old m f) (scene_with now last forest) (map command_of (lines_made script)) counts → TrialEnds status script frames old now
+trial_ends status script frames old now m last f forest counts machine_is forest_is tells summed =
     let begun = start frames PAGE in
     let reads = map command_of (lines_made script) in
-    let from : Summed status (old begun no_forest) (now last forest) reads counts =
-    subst (λ (x : Machine). Summed status (old x no_forest) (now last forest) reads counts) machine_is (subst (λ (x : PageForest). Summed status (old m x) (now last forest) reads counts) forest_is summed) in
-    let followed : IsSomeAnd (now last forest).state.forest (IsFollowed (now last forest).state.machine) =
-    ran_followed (old begun no_forest) frames PAGE (omega arith) told (old_is _ _) (Summary status counts) (whole reads) (old begun no_forest).written (now last forest).written (now last forest) _ reads refl (lines_formed (lines_made script)) from.ran in
-    let by_forest : IsSomeAnd (Some forest) (IsFollowed (now last forest).state.machine) = subst (λ (o : Option PageForest). IsSomeAnd o (IsFollowed (now last forest).state.machine)) (now_is last forest).1 followed in
+    let from : Summed status (scene_with old begun no_forest) (scene_with now last forest) reads counts =
+    subst (λ (x : Machine). Summed status (scene_with old x no_forest) (scene_with now last forest) reads counts) machine_is (subst (λ (x : PageForest). Summed status (scene_with old m x) (scene_with now last forest) reads counts) forest_is summed) in
     record {
       last = last;
       forest = forest;
-      summed = subst (Summed status (old begun no_forest) (now last forest) reads) (sym (counts_told (now last forest).state forest counts (now_is last forest).1 tells)) from;
-      followed = subst (λ (x : Machine). IsFollowed x forest) (now_is last forest).0 by_forest;
+      summed = subst (Summed status (scene_with old begun no_forest) (scene_with now last forest) reads) (sym (counts_told (scene_with now last forest).state forest counts refl tells)) from;
+      followed = ran_followed (scene_with old begun no_forest) frames PAGE (omega arith) old.segments refl (Summary status counts) (whole reads) old.written now.written (scene_with now last forest) _ reads refl (lines_formed (lines_made script)) from.ran;
     }

@@ -6,8 +6,7 @@ use Rattle.vm_ids.specs.declared.refusal.Refusal.{Refusal}
 use Rattle.vm_ids.specs.declared.reply.Trouble.TheVariants.{Refused}
 use Rattle.vm_model.specs.Answering.{Answer}
 use Rattle.vm_model.specs.Steps.{Semantics}
-use Rattle.mix_process.specs.Calling.{AnswerIs}
-use Rattle.mix_process.specs.Seen.{State}
+use Rattle.mix_process.specs.Stepping.{AnswerIs, State}
 
 -- a line as it was read: a command, or why it is none
 abbrev pub Read : Type 0
