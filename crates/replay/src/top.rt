@@ -2,23 +2,25 @@
 ghost use Rattle.std.specs.Prelude.{◌≡◌, ◌≢◌, ◌↔◌, ◌⊎◌, ◌<◌, ◌+◌, false, length, map, None, IfSome, IsSomeAnd};
 ghost use Rattle.vm_ids.specs.Counting.{Rose, last_count};
 ghost use Rattle.replay.specs.Commanding.{asked_by, page_size_of};
-ghost use Rattle.replay.specs.Ending.{AskedEnds, IsWithinLimit, reads_source, scene_with};
+ghost use Rattle.replay.specs.Ending.{AskedEnds, IsWithinLimit, outside_of, reads_source};
 ghost use Rattle.line_service.specs.Script.{most_bytes};
 
 use crate::Status;
 use crate::asked::Asked;
 use crate::commands::Commands;
 use crate::generating::generate;
+use crate::processes::Processes;
 use crate::trying::trial;
 use crate::words::read_words;
 use line_service::replay;
+use mix_process::Mix;
 use pull_wait::PullWait;
 use pvm_core::Pvm;
 use std::alloc::Global;
 use vm_ids::PAGE;
 use vm_port::{Chooser, Dispatcher, Mapper, Sink, Source};
 
-/// Runs the program for the words of a command line, which ask for one of three things:
+/// Runs the program for the words of a command line, which ask for one of four things:
 ///
 /// - `run --frames F [--page B] [--segments DIR]` replays the script that the source has left, over
 ///   a demand-paged manager of F page frames of B bytes, and writes a reply for each line. The
@@ -27,6 +29,8 @@ use vm_port::{Chooser, Dispatcher, Mapper, Sink, Source};
 /// - `trial N L --frames F [--segments DIR]` replays these lines over a manager of F page frames of
 ///   4,096 bytes. In place of the replies it writes their summary: how many there are, how many of
 ///   them begin with `ok`, the sum of all bytes loaded modulo 2^64, and the counts of pages.
+/// - `mix --frames F [--segments DIR]` replays the script of processes that the source has left,
+///   over a manager of F page frames of 4,096 bytes, and writes a reply for each line.
 ///
 /// Whatever the source, the sink, the mapper, the chooser and the dispatcher: the lines written
 /// are, in the order written, the replies of a machine that keeps each cache as plain bytes and
@@ -34,22 +38,23 @@ use vm_port::{Chooser, Dispatcher, Mapper, Sink, Source};
 /// is answered once, and a later one before an earlier one only where both are loads or stores, of
 /// different actors. Chains and counts are those of the page forest, which follows each answer by
 /// its command's rule and agrees with that machine at the end. However reads cut the script, it is
-/// the same script.
+/// the same script. The replies to a script of processes are those of processes that have plain
+/// pages of bytes, which a fork copies at once; no segment changes.
 ///
-/// - `Done`: of a run the source has nothing left, and each line is answered; of the others all is
-///   written.
+/// - `Done`: where a script is read, the source has nothing left, and each line is answered; else all
+///   is written.
 /// - `Usage` exactly where the words aren't those, but for want of memory. The options stand in any
 ///   order, each once at most, as two words or as one with `=`, in a trial also before and between
 ///   N and L. F is from 3 to 65,536; B is 512, 1,024, 2,048, 4,096 (where it isn't given), 8,192,
 ///   16,384, 32,768 or 65,536; N is up to 4,294,967,295; L is from 1 to 1,000,000; all are decimal
 ///   with no leading zero, and F times B is 268,435,456 at most; DIR isn't empty, and no hyphen
 ///   begins it. Nothing was read or written.
-/// - `SourceFault`, of a run alone, only where the source's count of faults rose; each line that
+/// - `SourceFault`, where a script is read, only where the source's count of faults rose; each line that
 ///   ended before is answered, or is a load or a store that waits for its page.
 /// - `SinkFault` only where the sink's count of faults rose; a front of the text was written.
 /// - `NoMemory` where there is none to read the words, or for the frames. Nothing was read or
 ///   written.
-/// - `TooLong`, of a run alone, exactly where byte 67,108,865 of the script was taken; each line
+/// - `TooLong`, where a script is read, exactly where byte 67,108,865 of the script was taken; each line
 ///   that ended before is answered, or waits, as after `SourceFault`.
 pub fn run<S: Source, K: Sink, M: Mapper, C: Chooser, D: Dispatcher>(
     alloc: Global,
@@ -67,8 +72,8 @@ pub fn run<S: Source, K: Sink, M: Mapper, C: Chooser, D: Dispatcher>(
     // replies or their summary are written; or the lines that were asked for are written.
     ensures ends { result ≢ Status.NoMemory →
         IfSome (asked_by (map (λ w. w.now) words.now)) (λ asked. AskedEnds result asked
-        (scene_with M.Mapper mapper.old (D.turns dispatcher.old) (K.written sink.old))
-        (scene_with M.Mapper mapper.new (D.turns dispatcher.new) (K.written sink.new))
+        (outside_of M.Mapper mapper.old (D.turns dispatcher.old) (K.written sink.old))
+        (outside_of M.Mapper mapper.new (D.turns dispatcher.new) (K.written sink.new))
         (S.left source.old) (S.left source.new)) }
     // Usage: exactly for other words, but for want of memory.
     ensures usage { result ≢ Status.NoMemory →
@@ -87,7 +92,7 @@ pub fn run<S: Source, K: Sink, M: Mapper, C: Chooser, D: Dispatcher>(
         (source.new ≡ source.old) × (sink.new ≡ sink.old)
         × (mapper.new ≡ mapper.old) × (chooser.new ≡ chooser.old)
         × (dispatcher.new ≡ dispatcher.old) }
-    // Only a run reads.
+    // Only the replay of a script reads.
     ensures unread { IsSomeAnd (asked_by (map (λ w. w.now) words.now))
         (λ asked. reads_source asked ≡ false) → source.new ≡ source.old }
     // Right words, a script within the limit, and no fault of source and sink: it is done, but for
@@ -144,6 +149,28 @@ pub fn run<S: Source, K: Sink, M: Mapper, C: Chooser, D: Dispatcher>(
                 sink,
                 script,
             )
+        }
+        Asked::Mix(frames) => {
+            let manager = match Pvm::new(alloc, frames, PAGE as u32) {
+                Ok(manager) => manager,
+                Err(_) => return Status::NoMemory,
+            };
+            let mut waits = match PullWait::new(alloc) {
+                Ok(waits) => waits,
+                Err(_) => return Status::NoMemory,
+            };
+            let mut processes = Processes {
+                mix: Mix::new::<M, C>(alloc, manager),
+            };
+            Status::of(replay(
+                &mut processes,
+                mapper,
+                chooser,
+                &mut waits,
+                dispatcher,
+                source,
+                sink,
+            ))
         }
     }
 }

@@ -1,7 +1,10 @@
 use Rattle.std.proofs.Common.{◌∙◌, Some, ap, refl, rules, sym}
-use Rattle.vm_ids.specs.Held.{segments_of}
 use Rattle.replay.specs.declared.asked.Asked.TheVariants as asks
-use Rattle.replay.specs.Ending.{scene_with}
+use Rattle.vm_model.specs.Run.{command_semantics}
+use Rattle.actor_script.specs.Forms.{command_of}
+use Rattle.actor_script.specs.MixForms.{mix_command_of}
+use Rattle.replay.specs.Ending.{outside_of}
+use Rattle.replay.specs.Processing.{process_semantics}
 use Rattle.replay.proofs.CommandLine.Kinds.{run_bounds, run_page, trial_bounds, trial_few, trial_page}
 use Rattle.replay.proofs.Promise.{as_asked, asked_holds, can_start, complete, ends_at, fits_start, limited, live_start, living_start, of_sink_fault, of_source_fault, run_ends}
 use Rattle.replay.proofs.Trials.{trial_ends}
@@ -65,17 +68,17 @@ returns-in-Ok-new-clause-ends g c = λ some.
     let told = M.held c.args.mapper.now in
     let size = c.in-Run.size in
     as_asked (asks.Run size) _ _ (sym (ap Some c.in-Run.is) ∙ sym c.in-Ok-Some.field-0-is ∙ c.in-Ok-Some.ensures)
-    (run_ends c.of.result size (scene_with M c.args.mapper.now (D.turns c.args.dispatcher.now) (K.written c.args.sink.now)) (scene_with M c.replay.new.mapper (D.turns c.replay.new.dispatcher) (K.written c.replay.new.sink)) _ _
-    (segments_of told) _ _ _ _ (λ m f. refl) (λ m f. (refl, refl)) (run_bounds _ size (sym c.in-Ok-Some.ensures ∙ c.in-Ok-Some.field-0-is ∙ ap Some c.in-Run.is)).some (c.in-Ok.ensures.machine told) (c.in-Ok.ensures.forest told)
-    (ends_at c.of.result c.replay.result _ _ _ _ c.of.ensures c.replay.ensures.ends))
+    (run_ends c.of.result size (outside_of M c.args.mapper.now (D.turns c.args.dispatcher.now) (K.written c.args.sink.now)) (outside_of M c.replay.new.mapper (D.turns c.replay.new.dispatcher) (K.written c.replay.new.sink)) _ _
+    _ _ _ _ (run_bounds _ size (sym c.in-Ok-Some.ensures ∙ c.in-Ok-Some.field-0-is ∙ ap Some c.in-Run.is)).some (c.in-Ok.ensures.machine told) (c.in-Ok.ensures.forest told)
+    (ends_at command_semantics command_of c.of.result c.replay.result _ _ _ _ c.of.ensures c.replay.ensures.ends))
 
 pub returns-in-Ok-new-clause-too_long_exactly : goal.returns-in-Ok-new-clause-too_long_exactly
-returns-in-Ok-new-clause-too_long_exactly g c = limited c.of.result _ _ _ _ (ends_at c.of.result c.replay.result _ _ _ _ c.of.ensures c.replay.ensures.ends)
+returns-in-Ok-new-clause-too_long_exactly g c = limited command_semantics command_of c.of.result _ _ _ _ (ends_at command_semantics command_of c.of.result c.replay.result _ _ _ _ c.of.ensures c.replay.ensures.ends)
 
 pub returns-in-Ok-new-clause-complete : goal.returns-in-Ok-new-clause-complete
 returns-in-Ok-new-clause-complete g c = λ short reads readable writes writable.
     let few = asked_holds (asks.Run c.in-Run.size) _ _ (sym (ap Some c.in-Run.is) ∙ sym c.in-Ok-Some.field-0-is ∙ c.in-Ok-Some.ensures) short in
-    complete c.of.result _ _ _ _ _ _ _ _ (ends_at c.of.result c.replay.result _ _ _ _ c.of.ensures c.replay.ensures.ends)
+    complete command_semantics command_of c.of.result _ _ _ _ _ _ _ _ (ends_at command_semantics command_of c.of.result c.replay.result _ _ _ _ c.of.ensures c.replay.ensures.ends)
     (λ f. c.replay.ensures.source_fault (of_source_fault c.replay.result (sym c.of.ensures ∙ f)))
     (λ f. c.replay.ensures.sink_fault (of_sink_fault c.replay.result (sym c.of.ensures ∙ f))) few reads readable writes writable
 
@@ -87,5 +90,5 @@ returns-in-Ok-new-3-clause-ends g c = λ some.
     let told = M.held c.args.mapper.now in
     let ends = c.trial.ensures.ends in
     as_asked (asks.Trial c.in-Trial.script c.in-Trial.frames) _ _ (sym (ap Some c.in-Trial.is) ∙ sym c.in-Ok-Some.field-0-is ∙ c.in-Ok-Some.ensures)
-    (trial_ends c.trial.result c.in-Trial.script c.in-Trial.frames (scene_with M c.args.mapper.now (D.turns c.args.dispatcher.now) (K.written c.args.sink.now)) (scene_with M c.trial.new.mapper (D.turns c.trial.new.dispatcher) (K.written c.trial.new.sink))
-    (segments_of told) _ _ _ _ ends.0 (λ m f. refl) (λ m f. (refl, refl)) (c.in-Ok-new-2.ensures.machine told) (c.in-Ok-new-2.ensures.forest told) ends.1 ends.2)
+    (trial_ends c.trial.result c.in-Trial.script c.in-Trial.frames (outside_of M c.args.mapper.now (D.turns c.args.dispatcher.now) (K.written c.args.sink.now)) (outside_of M c.trial.new.mapper (D.turns c.trial.new.dispatcher) (K.written c.trial.new.sink))
+    _ _ _ _ ends.0 (c.in-Ok-new-2.ensures.machine told) (c.in-Ok-new-2.ensures.forest told) ends.1 ends.2)
