@@ -9,6 +9,7 @@ mod lines;
 mod lying;
 mod page_forest;
 mod playing;
+mod processes;
 mod rows;
 mod segment_rows;
 mod segments;
