@@ -2,6 +2,7 @@
 // at once to the lines in the order in which they were answered.
 ghost use Rattle.std.specs.Prelude.{◌<◌};
 
+use super::draws::Draws;
 use super::playing::{said, text, written_at_once, written_by};
 use super::swap_area;
 use actor_script::read_number;
@@ -14,25 +15,6 @@ use vm_port::{Clock, ListedTurns};
 const SCRIPTS: u64 = 12;
 
 const LINES: u32 = 80;
-
-// Numbers that look like chance.
-#[derive(Drop)]
-struct Draws {
-    state: u64,
-}
-
-impl Draws {
-    fn below(&mut self, bound: u32) -> u32
-        requires { 0 < bound }
-        ensures { result < bound }
-    {
-        self.state = self
-            .state
-            .wrapping_mul(6364136223846793005)
-            .wrapping_add(1442695040888963407);
-        (self.state >> 33) as u32 % bound
-    }
-}
 
 // Whose pages an actor loads and stores.
 #[derive(Clone, Copy, PartialEq)]

@@ -2,6 +2,7 @@
 ghost use Rattle.std.specs.Prelude.{◌≡◌, ◌≤◌, ◌^◌, None, IfOk};
 
 mod drawn;
+mod draws;
 mod failing_calls;
 mod following;
 mod generated;

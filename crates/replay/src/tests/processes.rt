@@ -2,6 +2,7 @@
 // calls of the mapper that fail.
 ghost use Rattle.std.specs.Prelude.{◌≡◌, ◌<◌, ◌≤◌, IfOk};
 
+use super::draws::Draws;
 use super::playing::{said, text, written};
 use std::alloc::Global;
 use std::process::Abort;
@@ -107,25 +108,6 @@ fn worked_scripts_of_processes(rt: HostRuntime) -> Result<(), NoMemory> {
         assert_eq!(&rt; text(&rt, &sink), replies);
     }
     Ok(())
-}
-
-// Numbers that look like chance.
-#[derive(Drop)]
-struct Draws {
-    state: u64,
-}
-
-impl Draws {
-    fn below(&mut self, bound: u32) -> u32
-        requires { 0 < bound }
-        ensures { result < bound }
-    {
-        self.state = self
-            .state
-            .wrapping_mul(6364136223846793005)
-            .wrapping_add(1442695040888963407);
-        (self.state >> 33) as u32 % bound
-    }
 }
 
 // A process by the first byte of each of its pages.
