@@ -162,7 +162,7 @@ pub fn run<S: Source, K: Sink, M: Mapper, C: Chooser, D: Dispatcher>(
             let mut processes = Processes {
                 mix: Mix::new::<M, C>(alloc, manager),
             };
-            Status::of(replay(
+            let ended = replay(
                 &mut processes,
                 mapper,
                 chooser,
@@ -170,7 +170,8 @@ pub fn run<S: Source, K: Sink, M: Mapper, C: Chooser, D: Dispatcher>(
                 dispatcher,
                 source,
                 sink,
-            ))
+            );
+            Status::of(ended)
         }
     }
 }

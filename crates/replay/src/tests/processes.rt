@@ -119,8 +119,8 @@ struct Plain {
 }
 
 impl Plain {
-    fn of_image(alloc: Global, data: usize, stack: usize) -> Result<Plain, NoMemory>
-        requires { data ≤ 4 }
+    fn of_image(alloc: Global, behind: usize, stack: usize) -> Result<Plain, NoMemory>
+        requires { behind ≤ 4 }
     {
         let mut plain = Plain {
             text: Vec::new(alloc),
@@ -128,7 +128,7 @@ impl Plain {
             stack: Vec::new(alloc),
         };
         plain.text.push(IMAGE[0])?;
-        plain.data.extend_from_slice(&IMAGE[1..data + 1])?;
+        plain.data.extend_from_slice(&IMAGE[1..behind + 1])?;
         for _ in 0..stack {
             plain.stack.push(0)?;
         }
@@ -211,7 +211,12 @@ fn store(process: &mut Plain, area: Area, page: u32, byte: u8) -> &'static str {
 }
 
 // A drawn command of one process, which is alive.
-fn command(alloc: Global, draws: &mut Draws, number: u32, process: &mut Plain) -> Result<Turn, NoMemory> {
+fn command(
+    alloc: Global,
+    draws: &mut Draws,
+    number: u32,
+    process: &mut Plain,
+) -> Result<Turn, NoMemory> {
     let area = area_of(draws.below(4));
     let page = draws.below(6);
     let address = address_of(area, page);
@@ -330,9 +335,7 @@ fn drawn(alloc: Global, seed: u64, lines: u32) -> Result<Drawn, NoMemory>
         drawn
             .script
             .push_str(format!(in alloc; "{}\n", turn.line.as_str())?.as_str())?;
-        drawn
-            .replies
-            .push_str(format!(in alloc; "{number} {}\n", turn.reply.as_str())?.as_str())?;
+        drawn.replies.push_str(format!(in alloc; "{number} {}\n", turn.reply.as_str())?.as_str())?;
     }
     Ok(drawn)
 }
@@ -353,7 +356,9 @@ fn drawn_scripts_of_processes(rt: HostRuntime) -> Result<(), NoMemory> {
 
 // The line that tells a fault, counted from 0.
 fn faulted(replies: &str) -> Option<usize> {
-    replies.lines().position(|reply| said(reply).starts_with("fault"))
+    replies
+        .lines()
+        .position(|reply| said(reply).starts_with("fault"))
 }
 
 // A script with a line that is no command in place of one.
@@ -373,7 +378,12 @@ fn calls_of_the_mapper_fail_in_turn(rt: HostRuntime) -> Result<(), NoMemory> {
     let drawn = drawn(rt.alloc(), 5, 60)?;
     let script = drawn.script.as_str();
     let words = ["mix", "--frames", "3"];
-    for kind in [CallKind::Size, CallKind::PullIn, CallKind::SwapIn, CallKind::SwapOut] {
+    for kind in [
+        CallKind::Size,
+        CallKind::PullIn,
+        CallKind::SwapIn,
+        CallKind::SwapOut,
+    ] {
         for nth in 1..60 {
             let mut mapper = images(rt.alloc(), &[CallNo { kind, nth }])?;
             let sink = written(&rt, rt.alloc(), &words, script, &mut mapper)?;
@@ -385,7 +395,10 @@ fn calls_of_the_mapper_fail_in_turn(rt: HostRuntime) -> Result<(), NoMemory> {
             let mut mapper = images(rt.alloc(), &[])?;
             let sink = written(&rt, rt.alloc(), &words, left.as_str(), &mut mapper)?;
             for (reply, other) in replies.lines().zip(text(&rt, &sink).lines()) {
-                assert!(&rt; reply == other || said(other) == "no BadLine", "{nth} {reply}");
+                assert!(&rt;
+                    reply == other || said(other) == "no BadLine",
+                    "{nth} {reply}"
+                );
             }
         }
     }
