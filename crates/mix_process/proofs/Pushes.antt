@@ -26,13 +26,16 @@ put_back (y ∷ xs) zero x e = let same : y ≡ x = cc in ap (λ z. z ∷ xs) (s
 put_back (y ∷ xs) (suc i) x e = ap (λ zs. y ∷ zs) (put_back xs i x e)
 
 -- the cache that a segment names stands somewhere
-named_at : (seg : ℕ) (cs : List (Option Cache)) (c : Cache) → cache_named cs seg ≡ Some c → (i : ℕ) × (slice_get cs i ≡ Some (Some c)) × (is_named_by seg (Some c) ≡ true)
+abbrev IsNamedAt : ℕ → List (Option Cache) → Cache → Type 0
+IsNamedAt seg cs c = (i : ℕ) × (slice_get cs i ≡ Some (Some c)) × (is_named_by seg (Some c) ≡ true)
+
+here_or_behind : (seg : ℕ) (o : Option Cache) (cs : List (Option Cache)) (c : Cache) (b : Bool) → is_named_by seg o ≡ b → cond b o (cache_named cs seg) ≡ Some c → (cache_named cs seg ≡ Some c → IsNamedAt seg cs c) → IsNamedAt seg (o ∷ cs) c
+here_or_behind seg o cs c true named e behind = (0, ap (λ (x : Option Cache). Some x) e, ap (is_named_by seg) (sym e) ∙ named)
+here_or_behind seg o cs c false named e behind = let r = behind e in (suc r.0, r.1, r.2)
+
+named_at : (seg : ℕ) (cs : List (Option Cache)) (c : Cache) → cache_named cs seg ≡ Some c → IsNamedAt seg cs c
 named_at seg [] c e = absurd (cc e)
-named_at seg (o ∷ cs) c e = go (is_named_by seg o) refl e
-  where
-    go : (b : Bool) → is_named_by seg o ≡ b → cond b o (cache_named cs seg) ≡ Some c → (i : ℕ) × (slice_get (o ∷ cs) i ≡ Some (Some c)) × (is_named_by seg (Some c) ≡ true)
-    go true named e = (0, ap (λ (x : Option Cache). Some x) e, ap (is_named_by seg) (sym e) ∙ named)
-    go false named e = let r = named_at seg cs c e in (suc r.0, r.1, r.2)
+named_at seg (o ∷ cs) c e = here_or_behind seg o cs c (is_named_by seg o) refl e (named_at seg cs c)
 
 named_by : (o : Option ℕ) (seg : ℕ) → option_map_or (λ s. s == seg) o false ≡ true → o ≡ Some seg
 named_by None seg e = absurd (cc e)
@@ -48,7 +51,10 @@ module _ (m : Machine) (processes : ℕ → Option Process) (spare : ℕ → Typ
   pushed_one s seg page some sync = at (cache_named m.caches seg) refl
     where
       at : (o : Option Cache) → cache_named m.caches seg ≡ o → put_segment_page seg page (unwrap_or (page_named m seg page) []) s ≡ s
-      at None e = absurd (subst (λ (o : Option Cache). IsSome (option_and_then (λ (c : Cache). slice_get c.pages page) o)) e some)
+      at None e =
+          let has = is_there (page_named m seg page) some in
+          let wrong : option_and_then (λ (c : Cache). slice_get c.pages page) None ≡ Some has.0 = sym (ap (option_and_then (λ (c : Cache). slice_get c.pages page)) e) ∙ has.1 in
+          absurd (cc wrong)
       at (Some c) e =
           let place = named_at seg m.caches c e in
           let named : c.segment ≡ Some seg = named_by c.segment seg place.2 in

@@ -4,7 +4,9 @@ pub mod Outcome
 pub mod Stepping
 pub mod Seen
 pub mod Tying
+pub mod Use
 pub mod Inner
+pub mod Adding
 pub mod Calling
 pub mod Rows
 pub mod Laws
