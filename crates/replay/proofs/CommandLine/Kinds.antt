@@ -1,5 +1,5 @@
 -- What words are that ask for something.
-use Rattle.std.proofs.Common.{◌≡◌, ◌≤◌, ◌^◌, ℕ, Bool, true, false, cond, List, [], ◌∷◌, Option, Some, None, is_some, refl, sym, ap, ◌∙◌, subst, codes, bytes_eq, arith, nat_le, option_map, option_and_then, unwrap_or}
+use Rattle.std.proofs.Common.{◌≡◌, ◌≤◌, ◌^◌, ℕ, Bool, true, false, cond, List, [], ◌∷◌, Option, Some, None, refl, sym, ap, ◌∙◌, subst, codes, bytes_eq, arith, nat_le, option_map, option_and_then, unwrap_or}
 use Rattle.std.specs.Prelude.{◌&&◌, IfOk, Result, Ok, Err}
 use Rattle.std.proofs.lemmas.Bool.{leb-true}
 use Rattle.vm_ids.specs.declared.numbers.TheConstants.{PAGE}
@@ -8,8 +8,8 @@ use Rattle.replay.specs.declared.asked.Asked.{Asked}
 use Rattle.replay.specs.declared.asked.Asked.TheVariants as asks
 use Rattle.replay.specs.declared.asked.Generated.{Generated}
 use Rattle.replay.specs.declared.asked.Size.{Size}
-use Rattle.replay.specs.Commanding.{asked_behind, asked_by, first_value, if_lines, line_count_of, options_among, others_among, page_of, page_size_of, script_of, trial_behind, trial_of}
-use Rattle.replay.proofs.CommandLine.First.{page_behind}
+use Rattle.replay.specs.Commanding.{asked_behind, asked_by, if_lines, line_count_of, options_among, others_among, page_of, page_size_of, plain_options, run_options, script_of, trial_behind, trial_of}
+use Rattle.replay.proofs.CommandLine.First.{no_page_among, page_behind}
 use Rattle.replay.proofs.CommandLine.Right.{few_frames, right, small_page}
 use Rattle.replay.proofs.CommandLine.Values.{and_both, same_text}
 
@@ -32,7 +32,7 @@ made_by_then f (Some x) y e = record { value = x; is = refl; holds = e }
 pub record IsRun (words : List (List ℕ)) (size : Size) : Type 0 where
   pub options : List (List ℕ)
   pub words_are : words ≡ codes "run" ∷ options
-  pub size_is : asked_behind options ≡ Some size
+  pub size_is : asked_behind run_options options ≡ Some size
 
 -- `generate` and a script
 pub record IsGenerate (words : List (List ℕ)) (script : Generated) : Type 0 where
@@ -43,10 +43,9 @@ pub record IsGenerate (words : List (List ℕ)) (script : Generated) : Type 0 wh
 pub record IsTrial (words : List (List ℕ)) (script : Generated) (frames : ℕ) : Type 0 where
   pub rest : List (List ℕ)
   pub words_are : words ≡ codes "trial" ∷ rest
-  pub no_page : is_some (first_value (codes "--page") rest) ≡ false
   pub script_is : script_of (others_among false rest) ≡ Some script
   pub size : Size
-  pub size_is : asked_behind (options_among false rest) ≡ Some size
+  pub size_is : asked_behind plain_options (options_among false rest) ≡ Some size
   pub frames_are : size.frames ≡ frames
 
 abbrev IsKind : List (List ℕ) → Asked → Type 0
@@ -55,25 +54,20 @@ IsKind words (asks.Generate script) = IsGenerate words script
 IsKind words (asks.Trial script frames) = IsTrial words script frames
 
 abbrev with_script : List (List ℕ) → Generated → Option Asked
-with_script rest script = option_map (λ (size : Size). asks.Trial script size.frames) (asked_behind (options_among false rest))
+with_script rest script = option_map (λ (size : Size). asks.Trial script size.frames) (asked_behind plain_options (options_among false rest))
 
 trial_is : (rest : List (List ℕ)) (asked : Asked) → trial_behind rest ≡ Some asked → IsKind (codes "trial" ∷ rest) asked
-trial_is rest asked e = by (is_some (first_value (codes "--page") rest)) refl e
-  where
-    by : (b : Bool) → is_some (first_value (codes "--page") rest) ≡ b → cond b None (option_and_then (with_script rest) (script_of (others_among false rest))) ≡ Some asked → IsKind (codes "trial" ∷ rest) asked
-    by true t e = absurd (cc)
-    by false t e =
-        let script = made_by_then (with_script rest) (script_of (others_among false rest)) asked e in
-        let size = made_by_map (λ (size : Size). asks.Trial script.value size.frames) (asked_behind (options_among false rest)) asked script.holds in
-        subst (IsKind (codes "trial" ∷ rest)) size.holds (record {
-          rest = rest;
-          words_are = refl;
-          no_page = t;
-          script_is = script.is;
-          size = size.value;
-          size_is = size.is;
-          frames_are = refl;
-        })
+trial_is rest asked e =
+    let script = made_by_then (with_script rest) (script_of (others_among false rest)) asked e in
+    let size = made_by_map (λ (size : Size). asks.Trial script.value size.frames) (asked_behind plain_options (options_among false rest)) asked script.holds in
+    subst (IsKind (codes "trial" ∷ rest)) size.holds (record {
+      rest = rest;
+      words_are = refl;
+      script_is = script.is;
+      size = size.value;
+      size_is = size.is;
+      frames_are = refl;
+    })
 
 kind_of_words : (words : List (List ℕ)) (asked : Asked) → asked_by words ≡ Some asked → IsKind words asked
 unfolding asked_by
@@ -94,9 +88,9 @@ kind_of_words (command ∷ words) asked e = by_run (bytes_eq command (codes "run
     by_generate false e = by_trial (bytes_eq command (codes "trial")) refl e
 
     by_run : (b : Bool) → bytes_eq command (codes "run") ≡ b
-        → cond b (option_map asks.Run (asked_behind words)) (cond (bytes_eq command (codes "generate")) (option_map asks.Generate (script_of words)) (cond (bytes_eq command (codes "trial")) (trial_behind words) None)) ≡ Some asked → IsKind (command ∷ words) asked
+        → cond b (option_map asks.Run (asked_behind run_options words)) (cond (bytes_eq command (codes "generate")) (option_map asks.Generate (script_of words)) (cond (bytes_eq command (codes "trial")) (trial_behind words) None)) ≡ Some asked → IsKind (command ∷ words) asked
     by_run true t e =
-        let size = made_by_map asks.Run (asked_behind words) asked e in
+        let size = made_by_map asks.Run (asked_behind run_options words) asked e in
         subst (λ (all : List (List ℕ)). IsKind all asked) (sym (with_command (codes "run") t))
         (subst (IsKind (codes "run" ∷ words)) size.holds (record { options = words; words_are = refl; size_is = size.is }))
     by_run false t e = by_generate (bytes_eq command (codes "generate")) e
@@ -112,16 +106,12 @@ is_trial words script frames e = kind_of_words words (asks.Trial script frames) 
 pub run_page : (words : List (List ℕ)) (size : Size) → asked_by words ≡ Some (asks.Run size) → page_size_of words ≡ size.page_bytes
 run_page words size e =
     let run = is_run words size e in
-    ap page_size_of run.words_are ∙ page_behind run.options size run.size_is
+    ap page_size_of run.words_are ∙ page_behind run_options run.options size run.size_is
 
 pub trial_page : (words : List (List ℕ)) (script : Generated) (frames : ℕ) → asked_by words ≡ Some (asks.Trial script frames) → page_size_of words ≡ PAGE
 trial_page words script frames e =
     let trial = is_trial words script frames e in
-    ap page_size_of trial.words_are ∙ by (first_value (codes "--page") trial.rest) trial.no_page
-  where
-    by : (o : Option (List ℕ)) → is_some o ≡ false → unwrap_or (option_and_then page_of o) PAGE ≡ PAGE
-    by None t = refl
-    by (Some word) t = absurd (cc)
+    ap page_size_of trial.words_are ∙ ap (λ (o : Option (List ℕ)). unwrap_or (option_and_then page_of o) PAGE) (no_page_among trial.rest trial.size trial.size_is)
 
 -- The frames and the bytes of a page that words ask for are within what a manager takes.
 pub record HasBounds (count bytes : ℕ) : Type 0 where
@@ -130,20 +120,20 @@ pub record HasBounds (count bytes : ℕ) : Type 0 where
   pub some : 1 ≤ bytes
   pub page : bytes ≤ 2 ^ 16
 
-size_bounds : (options : List (List ℕ)) (size : Size) → asked_behind options ≡ Some size → HasBounds size.frames size.page_bytes
-size_bounds options size e =
-    let h = (right options size e).forms in
-    let frames = few_frames _ _ _ size h in
-    let page = small_page _ _ _ size h in
+size_bounds : (known options : List (List ℕ)) (size : Size) → asked_behind known options ≡ Some size → HasBounds size.frames size.page_bytes
+size_bounds known options size e =
+    let h = (right known options size e).forms in
+    let frames = few_frames _ _ size h in
+    let page = small_page _ _ size h in
     record { few = frames.0; frames = omega (arith, frames.1); some = page.0; page = page.1 }
 
 pub run_bounds : (words : List (List ℕ)) (size : Size) → asked_by words ≡ Some (asks.Run size) → HasBounds size.frames size.page_bytes
-run_bounds words size e = let run = is_run words size e in size_bounds run.options size run.size_is
+run_bounds words size e = let run = is_run words size e in size_bounds run_options run.options size run.size_is
 
 pub trial_bounds : (words : List (List ℕ)) (script : Generated) (frames : ℕ) → asked_by words ≡ Some (asks.Trial script frames) → HasBounds frames PAGE
 trial_bounds words script frames e =
     let trial = is_trial words script frames e in
-    let h = size_bounds (options_among false trial.rest) trial.size trial.size_is in
+    let h = size_bounds plain_options (options_among false trial.rest) trial.size trial.size_is in
     record { few = omega (arith, h.few, trial.frames_are); frames = omega (arith, h.frames, trial.frames_are); some = omega arith; page = omega arith }
 
 -- a script has 1 to 1,000,000 lines
@@ -175,14 +165,7 @@ pub trial_few : (words : List (List ℕ)) (script : Generated) (frames : ℕ) �
 trial_few words script frames e = let trial = is_trial words script frames e in (script_few (others_among false trial.rest) script trial.script_is).1
 
 -- what the code finds in the words of a trial
-
-pub is_some_map : {A B : Type 0} (f : A → B) (o : Option A) → is_some (option_map f o) ≡ is_some o
-is_some_map f None = refl
-is_some_map f (Some x) = refl
-
-pub trial_asks : {E : Type 0} (r : Result (Option Asked) E) (words others options : List (List ℕ)) → is_some (first_value (codes "--page") words) ≡ false → others ≡ others_among false words → options ≡ options_among false words
+pub trial_asks : {E : Type 0} (r : Result (Option Asked) E) (words others options : List (List ℕ)) → others ≡ others_among false words → options ≡ options_among false words
     → IfOk r (λ asked. asked ≡ trial_of others options) → IfOk r (λ asked. asked ≡ trial_behind words)
-trial_asks (Err e) words others options none script rest h = tt
-trial_asks (Ok asked) words others options none script rest h =
-    h ∙ ap (λ (x : List (List ℕ)). trial_of x options) script ∙ ap (trial_of (others_among false words)) rest
-    ∙ sym (ap (λ (b : Bool). cond b None (trial_of (others_among false words) (options_among false words))) none)
+trial_asks (Err e) words others options script rest h = tt
+trial_asks (Ok asked) words others options script rest h = h ∙ ap (λ (x : List (List ℕ)). trial_of x options) script ∙ ap (trial_of (others_among false words)) rest

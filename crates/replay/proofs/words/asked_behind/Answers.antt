@@ -15,7 +15,7 @@ pub returns-then-contains : goal.returns-then-contains
 returns-then-contains c =
     let words = map (λ w. w.now) c.args.words.now in
     let escape : has_escape words ≡ true = sym (list_any-map (λ word. bytes_eq word (codes "--")) (λ w. w.now) c.args.words.now) ∙ sym c.contains.ensures.value ∙ c.if-contains.true in
-    escape_asks_nothing words escape
+    escape_asks_nothing (map (λ w. w.now) c.args.known.now) words c.requires escape
 
 pub returns-in-Ok : goal.returns-in-Ok
 returns-in-Ok c =
@@ -24,7 +24,7 @@ returns-in-Ok c =
     c.asked_in.ensures ∙ sym (c.in-Ok.ensures.read escape)
 
 pub returns-in-Err-2 : goal.returns-in-Err-2
-returns-in-Err-2 c = by (asked_behind (map (λ w. w.now) c.args.words.now)) c.in-Err.ensures.refused
+returns-in-Err-2 c = by (asked_behind (map (λ w. w.now) c.args.known.now) (map (λ w. w.now) c.args.words.now)) c.in-Err.ensures.refused
   where
     by : (o : Option Size) → (Rattle.std.specs.Prelude.IsSome o → kind_of c.in-Err.error ≡ kind.OutOfMemory) → None ≡ o
     by None refused = refl
