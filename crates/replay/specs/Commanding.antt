@@ -68,6 +68,21 @@ are_proper known [] = true
 are_proper known (o ∷ options) = (is_known known o.name && is_value o.value)
     && (not (list_any (λ later. bytes_eq o.name later.name) options) && are_proper known options)
 
+-- what a name finds, without the hyphens
+abbrev pub Values : Type 0
+Values = List ℕ → Option (List ℕ)
+
+-- the values of options, where these are proper
+abbrev pub values_of : List (List ℕ) → List CommandOption → Option Values
+values_of known options = if are_proper known options
+    then Some (λ name. value_named (hyphened name) options)
+    else None
+
+-- The values that words give to options of these names: each word is an option, or its name or its
+-- value. None for other words.
+abbrev pub values_behind : List (List ℕ) → List (List ℕ) → Option Values
+values_behind known words = option_and_then (values_of known) (options_of words)
+
 -- a number of page frames, 3 to 65,536
 abbrev pub if_frames : ℕ → Option ℕ
 if_frames n = if nat_le 3 n && nat_le n 65536 then Some n else None
@@ -98,21 +113,19 @@ if_fitting frames page = if nat_le (frames * page) most_frame_bytes
     then Some (record { frames = frames; page_bytes = page })
     else None
 
--- what the values of `--frames` and `--page` ask for
+-- the size that the values of `--frames` and `--page` ask for
 abbrev pub asked_for : Option (List ℕ) → Option (List ℕ) → Option Size
 asked_for frames page =
     option_and_then (λ f. option_and_then (if_fitting f) (option_map_or page_of page (Some PAGE)))
     (option_and_then frames_of frames)
 
--- what options ask for, where these are known
-abbrev pub asked_in : List (List ℕ) → List CommandOption → Option Size
-asked_in known options = if are_proper known options
-    then asked_for (value_named (codes "--frames") options) (value_named (codes "--page") options)
-    else None
+-- the size that values ask for
+abbrev pub size_of : Values → Option Size
+size_of values = asked_for (values (codes "frames")) (values (codes "page"))
 
--- what words ask for that are options of these names: each is one, or its name or its value
+-- and that words ask for which are options of these names
 abbrev pub asked_behind : List (List ℕ) → List (List ℕ) → Option Size
-asked_behind known words = option_and_then (asked_in known) (options_of words)
+asked_behind known words = option_and_then size_of (values_behind known words)
 
 -- the value in one word, where its option has this name
 abbrev pub value_in : List ℕ → List ℕ → Option (List ℕ)

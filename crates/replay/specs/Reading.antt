@@ -6,8 +6,7 @@ use Rattle.clap.specs.Simple.{App, new_app, new_rule, on_top, with_rule}
 use Rattle.clap.specs.Walk.{Rule}
 use Rattle.clap.specs.Words.{first_value, found_of}
 use Rattle.clap.specs.declared.parser.matches.ArgMatches.{ArgMatches}
-use Rattle.replay.specs.declared.asked.Size.{Size}
-use Rattle.replay.specs.Commanding.{asked_for, is_value}
+use Rattle.replay.specs.Commanding.{Values, is_value}
 
 -- a word is `--`, which clap takes where no word is behind it
 abbrev pub has_escape : List (List ℕ) → Bool
@@ -34,15 +33,13 @@ abbrev pub are_named : List (List ℕ) → Bool
 are_named names = list_all (λ name. nat_le 1 (length name)) names
 
 -- what was found for each of these options is a value
-abbrev pub have_values : (List ℕ → Option (List ℕ)) → List (List ℕ) → Bool
+abbrev pub have_values : Values → List (List ℕ) → Bool
 have_values found known = list_all (λ name. option_map_or is_value (found name) true) known
 
--- what the values ask for that were found for known options
-abbrev pub asked_with : List (List ℕ) → (List ℕ → Option (List ℕ)) → Option Size
-asked_with known found = if have_values found known
-    then asked_for (found (codes "frames")) (found (codes "page"))
-    else None
+-- the values that were found for known options, where each is one
+abbrev pub values_with : List (List ℕ) → Values → Option Values
+values_with known found = if have_values found known then Some found else None
 
 -- and that clap found
-abbrev pub asked_of : List (List ℕ) → ArgMatches → Option Size
-asked_of known m = asked_with known (first_value (found_of m))
+abbrev pub values_in : List (List ℕ) → ArgMatches → Option Values
+values_in known m = values_with known (first_value (found_of m))

@@ -1,8 +1,8 @@
 // The words of a command line.
 ghost use Rattle.std.specs.Prelude.{◌≡◌, ◌≤◌, ◌^◌, false, map, true, option_map, IfErr, IfOk, IsSome};
 ghost use Rattle.clap.specs.Words.{app_of, first_value as found_first, found_of, kind_of};
-ghost use Rattle.replay.specs.Commanding.{asked_behind, asked_by, first_value, folder_of, frames_of, is_value, page_of, page_size_of, value_in};
-ghost use Rattle.replay.specs.Reading.{are_named, asked_of, has_escape, have_values, with_options};
+ghost use Rattle.replay.specs.Commanding.{asked_behind, asked_by, first_value, folder_of, frames_of, is_value, page_of, page_size_of, size_of, value_in, values_behind};
+ghost use Rattle.replay.specs.Reading.{are_named, has_escape, have_values, values_in, with_options};
 
 use crate::asked::{Asked, Size};
 use crate::trial_words::{script_in, trial_behind};
@@ -80,14 +80,11 @@ fn have_values(matches: &ArgMatches<'_>, known: &[&str]) -> bool
     }
 }
 
-// What the values that clap found ask for: it knows the options, and this the forms of their
-// values.
-fn asked_in(matches: &ArgMatches<'_>, known: &[&str]) -> Option<Size>
-    ensures { result ≡ asked_of (map (λ w. w.now) known.now) matches.now }
+// The size that the values ask for which clap found: it knows the options, and this the forms of
+// their values.
+fn size_in(matches: &ArgMatches<'_>) -> Option<Size>
+    ensures { result ≡ size_of (found_first (found_of matches.now)) }
 {
-    if !have_values(matches, known) {
-        return None;
-    }
     let frames = frames_in(matches.get_str("frames")?)?;
     let page_bytes = match matches.get_str("page") {
         Some(word) => page_in(word)?,
@@ -125,10 +122,10 @@ fn matches_in<'a>(
 ) -> Result<ArgMatches<'a>, Error>
     requires { are_named (map (λ w. w.now) known.now) ≡ true }
     ensures read { IfOk result (λ m. has_escape (map (λ w. w.now) words.now) ≡ false →
-        asked_behind (map (λ w. w.now) known.now) (map (λ w. w.now) words.now)
-        ≡ asked_of (map (λ w. w.now) known.now) m) }
+        values_behind (map (λ w. w.now) known.now) (map (λ w. w.now) words.now)
+        ≡ values_in (map (λ w. w.now) known.now) m) }
     ensures refused { IfErr result (λ e.
-        IsSome (asked_behind (map (λ w. w.now) known.now) (map (λ w. w.now) words.now)) →
+        IsSome (values_behind (map (λ w. w.now) known.now) (map (λ w. w.now) words.now)) →
         kind_of e ≡ ErrorKind.OutOfMemory) }
 {
     let bare = Command::new(alloc, "options")
@@ -139,7 +136,33 @@ fn matches_in<'a>(
     command.try_get_matches_from(words)
 }
 
-/// What words ask for that are options of these names: `None` exactly for other words.
+// The values that words give to options of these names: `None` exactly for other words.
+fn values_behind<'a>(
+    alloc: Global,
+    known: &[&'static str],
+    words: &'a [&'a str],
+) -> Result<Option<ArgMatches<'a>>, NoMemory>
+    requires { are_named (map (λ w. w.now) known.now) ≡ true }
+    ensures { IfOk result (λ found. option_map (λ m. found_first (found_of m)) found
+        ≡ values_behind (map (λ w. w.now) known.now) (map (λ w. w.now) words.now)) }
+{
+    if words.contains(&ESCAPE) {
+        return Ok(None);
+    }
+    match matches_in(alloc, known, words) {
+        Ok(matches) => {
+            if have_values(&matches, known) {
+                Ok(Some(matches))
+            } else {
+                Ok(None)
+            }
+        }
+        Err(error) if error.kind() == ErrorKind::OutOfMemory => Err(NoMemory),
+        Err(_) => Ok(None),
+    }
+}
+
+/// The size that words ask for which are options of these names: `None` exactly for other words.
 pub fn asked_behind(
     alloc: Global,
     known: &[&'static str],
@@ -149,13 +172,9 @@ pub fn asked_behind(
     ensures { IfOk result (λ asked.
         asked ≡ asked_behind (map (λ w. w.now) known.now) (map (λ w. w.now) words.now)) }
 {
-    if words.contains(&ESCAPE) {
-        return Ok(None);
-    }
-    match matches_in(alloc, known, words) {
-        Ok(matches) => Ok(asked_in(&matches, known)),
-        Err(error) if error.kind() == ErrorKind::OutOfMemory => Err(NoMemory),
-        Err(_) => Ok(None),
+    match values_behind(alloc, known, words)? {
+        Some(values) => Ok(size_in(&values)),
+        None => Ok(None),
     }
 }
 

@@ -1,5 +1,5 @@
 -- The command that clap is given, and what a parse of it says.
-use Rattle.std.proofs.Common.{◌≡◌, ◌||◌, ◌&&◌, ℕ, Bool, true, false, cond, not, List, [], ◌∷◌, ◌++◌, append_assoc, append-nil, map, fold, Option, Some, None, refl, sym, ap, subst, ◌∙◌, inl, inr, codes, option_and_then}
+use Rattle.std.proofs.Common.{◌≡◌, ◌||◌, ◌&&◌, ℕ, Bool, true, false, cond, not, List, [], ◌∷◌, ◌++◌, append_assoc, append-nil, map, fold, Option, Some, None, refl, sym, ap, subst, ◌∙◌, inl, inr, option_and_then}
 use Rattle.std.specs.Prelude.{IfErr, IfOk, IsSome, Result, Ok, Err}
 use Rattle.std.specs.List.{list_all, list_any}
 use Rattle.clap.specs.Walk.{Held, Row, Rule, Text, finished, first_of, has_row, is_early_multiple, rows_after, rows_of, settled, walked, with_default}
@@ -14,9 +14,8 @@ use Rattle.clap.specs.Matches.{first_value, found_of}
 use Rattle.clap.specs.Values.{kind_of}
 use Rattle.clap.specs.declared.error.Error.{Error}
 use Rattle.clap.specs.declared.parser.matches.ArgMatches.{ArgMatches}
-use Rattle.replay.specs.declared.asked.Size.{Size}
-use Rattle.replay.specs.Commanding.{CommandOption, asked_behind, asked_for, asked_in, hyphened, options_of, value_named}
-use Rattle.replay.specs.Reading.{are_named, asked_of, asked_with, bare_command, has_escape, have_values, told_rule, with_options}
+use Rattle.replay.specs.Commanding.{CommandOption, Values, hyphened, value_named, values_behind, values_of}
+use Rattle.replay.specs.Reading.{are_named, bare_command, has_escape, told_rule, values_in, values_with, with_options}
 use Rattle.replay.proofs.CommandLine.Turns.{held, none_both, none_first, none_then, opt, shape_with, standing}
 use Rattle.replay.proofs.CommandLine.Walks.{reads, row_of, takes}
 use Rattle.replay.proofs.CommandLine.Values.{fits_own, options_alone, own_fits, own_known, proper_is, rules_of, value_found}
@@ -126,17 +125,17 @@ check_passes known rows = ap (λ (b : Bool). cond b (kind.MissingRequiredArgumen
 
 -- clap takes what the definition takes
 
-pub taken : (known words : List Text) (asked : Size) → are_named known ≡ true → asked_behind known words ≡ Some asked → fault_of (told known) words ≡ []
-taken known words asked named e =
+pub taken : (known words : List Text) (values : Values) → are_named known ≡ true → values_behind known words ≡ Some values → fault_of (told known) words ≡ []
+taken known words values named e =
     let c = rules_of known in
-    let r = right known words asked e in
+    let r = right known words values e in
     let go = takes c (options_alone known named) words r.options r.cut [] None refl (own_fits known named r.options r.own) r.plain in
     level known words
     ∙ none_both _ _ go.no_fault (none_both _ _ go.settles (none_both _ _ (defaults_pass known (settled c (end_of known words)).rows) (check_passes known (finished c (end_of known words)))))
 
 -- the definition takes what clap takes, with the values that clap finds
 
-pub found : (known words : List Text) → are_named known ≡ true → has_escape words ≡ false → fault_of (told known) words ≡ [] → asked_behind known words ≡ asked_with known (λ name. first_of name (matches_of (told known) words))
+pub found : (known words : List Text) → are_named known ≡ true → has_escape words ≡ false → fault_of (told known) words ≡ [] → values_behind known words ≡ values_with known (λ name. first_of name (matches_of (told known) words))
 found known words named escape none =
     let c = rules_of known in
     let faults = sym (level known words) ∙ none in
@@ -144,9 +143,9 @@ found known words named escape none =
     let r = reads c (options_alone known named) words [] None escape (none_first _ _ faults) (none_first _ _ rest) in
     let own = fits_own known r.options r.fits in
     let rows : matches_of (told known) words ≡ map row_of r.options = matches_are known words ∙ no_defaults known (settled c (end_of known words)).rows ∙ r.ends in
-    ap (option_and_then (asked_in known)) r.cut
-    ∙ ap (λ (b : Bool). cond b (asked_for (value_named (codes "--frames") r.options) (value_named (codes "--page") r.options)) None) (proper_is known r.options own)
-    ∙ sym (ap (λ (l : List Row). asked_with known (λ name. first_of name l)) rows ∙ (λ i. asked_with known (λ name. value_found name c r.options (own_known known named r.options own) i)))
+    ap (option_and_then (values_of known)) r.cut
+    ∙ ap (λ (b : Bool). cond b (Some (λ (name : Text). value_named (hyphened name) r.options)) None) (proper_is known r.options own)
+    ∙ sym (ap (λ (l : List Row). values_with known (λ name. first_of name l)) rows ∙ (λ i. values_with known (λ name. value_found name c r.options (own_known known named r.options own) i)))
 
 -- a parse by the command says what the words ask for
 
@@ -154,19 +153,19 @@ abbrev Fails : App → List Text → Result ArgMatches Error → Type 0
 Fails a words r = is_simple_and_free a ≡ true → FailsBy (fault_of a words) r
 
 module _ (known words : List Text) (named : are_named known ≡ true) (a : App) (is : a ≡ told known) where
-  values_of : (m : ArgMatches) (rows : List Row) → rows_of (found_of m) ≡ rows → asked_with known (λ name. first_of name rows) ≡ asked_of known m
-  values_of m rows e = ap (λ (l : List Row). asked_with known (λ name. first_of name l)) (sym e) ∙ sym (λ i. asked_with known (λ name. first_value-rows (found_of m) name i))
+  found_values : (m : ArgMatches) (rows : List Row) → rows_of (found_of m) ≡ rows → values_with known (λ name. first_of name rows) ≡ values_in known m
+  found_values m rows e = ap (λ (l : List Row). values_with known (λ name. first_of name l)) (sym e) ∙ sym (λ i. values_with known (λ name. first_value-rows (found_of m) name i))
 
-  pub parse_read : (r : Result ArgMatches Error) → IfOk r (HasMatchesOf a words) → Fails a words r → IfOk r (λ (m : ArgMatches). has_escape words ≡ false → asked_behind known words ≡ asked_of known m)
+  pub parse_read : (r : Result ArgMatches Error) → IfOk r (HasMatchesOf a words) → Fails a words r → IfOk r (λ (m : ArgMatches). has_escape words ≡ false → values_behind known words ≡ values_in known m)
   parse_read (Ok m) matches fails = λ escape.
       let none : fault_of (told known) words ≡ [] = subst (λ (x : App). is_simple_and_free x ≡ true → fault_of x words ≡ []) is fails (told_free known) in
       let rows : rows_of (found_of m) ≡ matches_of (told known) words = (subst (λ (x : App). HasMatchesOf x words m) is matches (told_simple known)).0 in
-      found known words named escape none ∙ values_of m (matches_of (told known) words) rows
+      found known words named escape none ∙ found_values m (matches_of (told known) words) rows
   parse_read (Err e) matches fails = tt
 
-  pub parse_refused : (r : Result ArgMatches Error) → Fails a words r → IfErr r (λ (e : Error). IsSome (asked_behind known words) → kind_of e ≡ kind.OutOfMemory)
+  pub parse_refused : (r : Result ArgMatches Error) → Fails a words r → IfErr r (λ (e : Error). IsSome (values_behind known words) → kind_of e ≡ kind.OutOfMemory)
   parse_refused (Ok m) fails = tt
-  parse_refused (Err e) fails = λ some. by (asked_behind known words) refl some (subst (λ (x : App). Fails x words (Err e)) is fails (told_free known))
+  parse_refused (Err e) fails = λ some. by (values_behind known words) refl some (subst (λ (x : App). Fails x words (Err e)) is fails (told_free known))
     where
       memory : (kinds : Kinds) → kinds ≡ [] → FailsBy {T = ArgMatches} kinds (Err e) → kind_of e ≡ kind.OutOfMemory
       memory [] none h = elim h [
@@ -175,6 +174,6 @@ module _ (known words : List Text) (named : are_named known ≡ true) (a : App) 
       ]
       memory (k ∷ ks) none h = absurd (cc)
 
-      by : (o : Option Size) → asked_behind known words ≡ o → IsSome o → FailsBy {T = ArgMatches} (fault_of (told known) words) (Err e) → kind_of e ≡ kind.OutOfMemory
+      by : (o : Option Values) → values_behind known words ≡ o → IsSome o → FailsBy {T = ArgMatches} (fault_of (told known) words) (Err e) → kind_of e ≡ kind.OutOfMemory
       by None is some h = absurd (cc)
-      by (Some asked) is some h = memory (fault_of (told known) words) (taken known words asked named is) h
+      by (Some values) is some h = memory (fault_of (told known) words) (taken known words values named is) h

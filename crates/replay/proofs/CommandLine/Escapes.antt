@@ -1,8 +1,7 @@
--- Words that ask for something have no `--` among them.
+-- Words that give values have no `--` among them.
 use Rattle.std.proofs.Common.{◌≡◌, ◌||◌, ℕ, Bool, true, false, List, [], ◌∷◌, drop, Option, Some, None, refl, sym, ap, ◌∙◌, bytes_eq}
 use Rattle.clap.specs.Walk.{Rule}
-use Rattle.replay.specs.declared.asked.Size.{Size}
-use Rattle.replay.specs.Commanding.{CommandOption, asked_behind, hyphened, option_in, options_of}
+use Rattle.replay.specs.Commanding.{CommandOption, Values, hyphened, option_in, options_of, values_behind}
 use Rattle.replay.specs.Reading.{are_named, has_escape}
 use Rattle.replay.proofs.CommandLine.Spelling.{plain_word, spelled}
 use Rattle.replay.proofs.CommandLine.Cutting.{by_cut}
@@ -40,13 +39,13 @@ module _ (c : List Rule) where
   pub without : (words : List (List ℕ)) (options : List CommandOption) → options_of words ≡ Some options → Without words options
   without = by_cut Without (λ known plain. refl) joined_without apart_without
 
--- words among which is `--` ask for nothing
-pub escape_asks_nothing : (known words : List (List ℕ)) → are_named known ≡ true → has_escape words ≡ true → None ≡ asked_behind known words
-escape_asks_nothing known words named e = by (asked_behind known words) refl
+-- words among which is `--` give none
+pub escape_gives_nothing : (known words : List (List ℕ)) → are_named known ≡ true → has_escape words ≡ true → None ≡ values_behind known words
+escape_gives_nothing known words named e = by (values_behind known words) refl
   where
-    by : (o : Option Size) → asked_behind known words ≡ o → None ≡ o
+    by : (o : Option Values) → values_behind known words ≡ o → None ≡ o
     by None t = refl
-    by (Some asked) t =
-        let r = right known words asked t in
+    by (Some values) t =
+        let r = right known words values t in
         let none : has_escape words ≡ false = without (rules_of known) words r.options r.cut (own_known known named r.options r.own) r.plain in
         absurd (cc)

@@ -4,12 +4,12 @@ use Rattle.std.specs.List.{after_first, before_first, list_any}
 use Rattle.std.specs.Option.{option_map_or, option_or}
 use Rattle.vm_ids.specs.declared.numbers.TheConstants.{PAGE}
 use Rattle.replay.specs.declared.asked.Size.{Size}
-use Rattle.replay.specs.Commanding.{CommandOption, asked_behind, first_value, is_equals, is_hyphened, is_known, is_value, option_in, options_among, options_of, page_of, plain_options, value_in, value_named}
+use Rattle.replay.specs.Commanding.{CommandOption, Values, asked_behind, first_value, is_equals, is_hyphened, is_known, is_value, option_in, options_among, options_of, page_of, value_in, value_named, values_behind}
 use Rattle.replay.proofs.CommandLine.Spelling.{begins, spelled}
 use Rattle.replay.proofs.CommandLine.Cutting.{by_cut}
 use Rattle.replay.proofs.CommandLine.Walks.{ArePlain}
 use Rattle.replay.proofs.CommandLine.Values.{AreOwn, not_true, or_none, same_text}
-use Rattle.replay.proofs.CommandLine.Right.{right}
+use Rattle.replay.proofs.CommandLine.Right.{right, sized}
 
 -- a name that a hyphen begins, without the sign
 module _ (rest : List ℕ) (alone : option_in (45 ∷ rest) ≡ None) where
@@ -148,8 +148,8 @@ module _ (rest : List ℕ) (alone : option_in (45 ∷ rest) ≡ None) where
       by true t = let yes : true ≡ false = sym own.0 ∙ ap (is_known known) (same_text o.name name t) ∙ none in absurd (cc)
       by false t = refl
 
-  pub unknown_lacks : (known words : List (List ℕ)) (asked : Size) → asked_behind known words ≡ Some asked → is_known known name ≡ false → Lacks words
-  unknown_lacks known words asked e none = let r = right known words asked e in spares words r.options r.cut r.plain (own_spares known r.options r.own none)
+  pub unknown_lacks : (known words : List (List ℕ)) (values : Values) → values_behind known words ≡ Some values → is_known known name ≡ false → Lacks words
+  unknown_lacks known words values e none = let r = right known words values e in spares words r.options r.cut r.plain (own_spares known r.options r.own none)
 
   -- nor is any of the words among which these options are
   pub among_lacks : (flag : Bool) (words : List (List ℕ)) → Lacks (options_among flag words) → Lacks words
@@ -169,20 +169,23 @@ module _ (rest : List ℕ) (alone : option_in (45 ∷ rest) ≡ None) where
 
 -- the page size that words name is the one that they ask for
 
-pub page_behind : (known words : List (List ℕ)) (asked : Size) → asked_behind known words ≡ Some asked → unwrap_or (option_and_then page_of (first_value (codes "--page") words)) PAGE ≡ asked.page_bytes
-page_behind known words asked e =
-    let r = right known words asked e in
-    ap (λ (o : Option (List ℕ)). unwrap_or (option_and_then page_of o) PAGE) (finds (45 ∷ codes "page") refl words r.options r.cut r.plain) ∙ by (value_named (codes "--page") r.options) r.forms.page_is
+pub page_behind : (known words : List (List ℕ)) (size : Size) → asked_behind known words ≡ Some size → unwrap_or (option_and_then page_of (first_value (codes "--page") words)) PAGE ≡ size.page_bytes
+page_behind known words size e =
+    let s = sized known words size e in
+    let r = right known words s.values s.values_are in
+    ap (λ (o : Option (List ℕ)). unwrap_or (option_and_then page_of o) PAGE) (finds (45 ∷ codes "page") refl words r.options r.cut r.plain ∙ ap (λ (v : Values). v (codes "page")) r.values_are) ∙ by (s.values (codes "page")) s.forms.page_is
   where
-    by : (o : Option (List ℕ)) → option_map_or page_of o (Some PAGE) ≡ Some asked.page_bytes → unwrap_or (option_and_then page_of o) PAGE ≡ asked.page_bytes
+    by : (o : Option (List ℕ)) → option_map_or page_of o (Some PAGE) ≡ Some size.page_bytes → unwrap_or (option_and_then page_of o) PAGE ≡ size.page_bytes
     by None e = cc
     by (Some word) e = ap (λ (p : Option ℕ). unwrap_or p PAGE) e
 
--- Words whose options are plain name none, and neither do words with others among them.
-pub no_page : (words : List (List ℕ)) (asked : Size) → asked_behind plain_options words ≡ Some asked → first_value (codes "--page") words ≡ None
-no_page words asked e = lacking (45 ∷ codes "page") refl words (unknown_lacks (45 ∷ codes "page") refl plain_options words asked e refl)
+-- Where no option of a word has pages, its words name none, and neither do words with others among
+-- them.
+module _ (known : List (List ℕ)) (unpaged : is_known known (codes "--page") ≡ false) where
+  pub no_page : (words : List (List ℕ)) (values : Values) → values_behind known words ≡ Some values → first_value (codes "--page") words ≡ None
+  no_page words values e = lacking (45 ∷ codes "page") refl words (unknown_lacks (45 ∷ codes "page") refl known words values e unpaged)
 
-pub no_page_among : (words : List (List ℕ)) (asked : Size) → asked_behind plain_options (options_among false words) ≡ Some asked → first_value (codes "--page") words ≡ None
-no_page_among words asked e =
-    let rest = 45 ∷ codes "page" in
-    lacking rest refl words (among_lacks rest refl false words (unknown_lacks rest refl plain_options (options_among false words) asked e refl))
+  pub no_page_among : (words : List (List ℕ)) (values : Values) → values_behind known (options_among false words) ≡ Some values → first_value (codes "--page") words ≡ None
+  no_page_among words values e =
+      let rest = 45 ∷ codes "page" in
+      lacking rest refl words (among_lacks rest refl false words (unknown_lacks rest refl known (options_among false words) values e unpaged))

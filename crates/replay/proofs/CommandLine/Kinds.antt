@@ -1,5 +1,5 @@
 -- What words are that ask for something.
-use Rattle.std.proofs.Common.{◌≡◌, ◌≤◌, ◌^◌, ℕ, Bool, true, false, cond, List, [], ◌∷◌, Option, Some, None, refl, sym, ap, ◌∙◌, subst, codes, bytes_eq, arith, nat_le, option_map, option_and_then, unwrap_or}
+use Rattle.std.proofs.Common.{◌≡◌, ◌≤◌, ◌^◌, ◌⊎◌, ℕ, Bool, true, false, cond, List, [], ◌∷◌, Option, Some, None, refl, sym, ap, ◌∙◌, inl, inr, subst, codes, bytes_eq, arith, nat_le, option_map, option_and_then, unwrap_or}
 use Rattle.std.specs.Prelude.{◌&&◌, IfOk, Result, Ok, Err}
 use Rattle.std.proofs.lemmas.Bool.{leb-true}
 use Rattle.vm_ids.specs.declared.numbers.TheConstants.{PAGE}
@@ -10,29 +10,14 @@ use Rattle.replay.specs.declared.asked.Generated.{Generated}
 use Rattle.replay.specs.declared.asked.Size.{Size}
 use Rattle.replay.specs.Commanding.{asked_behind, asked_by, if_lines, line_count_of, options_among, others_among, page_of, page_size_of, plain_options, run_options, script_of, trial_behind, trial_of}
 use Rattle.replay.proofs.CommandLine.First.{no_page_among, page_behind}
-use Rattle.replay.proofs.CommandLine.Right.{few_frames, right, small_page}
+use Rattle.replay.proofs.CommandLine.Right.{few_frames, made_by_map, made_by_test, made_by_then, sized, small_page}
 use Rattle.replay.proofs.CommandLine.Values.{and_both, same_text}
 
--- what an option that is there was made of
-
-pub record Made {A : Type 0} (o : Option A) (P : A → Type 0) : Type 0 where
-  pub value : A
-  pub is : o ≡ Some value
-  pub holds : P value
-
-pub made_by_map : {A B : Type 0} (f : A → B) (o : Option A) (y : B) → option_map f o ≡ Some y → Made o (λ x. f x ≡ y)
-made_by_map f None y e = absurd (cc)
-made_by_map f (Some x) y e = record { value = x; is = refl; holds = cc }
-
-pub made_by_then : {A B : Type 0} (f : A → Option B) (o : Option A) (y : B) → option_and_then f o ≡ Some y → Made o (λ x. f x ≡ Some y)
-made_by_then f None y e = absurd (cc)
-made_by_then f (Some x) y e = record { value = x; is = refl; holds = e }
-
--- `run` and its options
-pub record IsRun (words : List (List ℕ)) (size : Size) : Type 0 where
+-- a word and options that ask for a size
+pub record IsSized (name : List ℕ) (known words : List (List ℕ)) (size : Size) : Type 0 where
   pub options : List (List ℕ)
-  pub words_are : words ≡ codes "run" ∷ options
-  pub size_is : asked_behind run_options options ≡ Some size
+  pub words_are : words ≡ name ∷ options
+  pub size_is : asked_behind known options ≡ Some size
 
 -- `generate` and a script
 pub record IsGenerate (words : List (List ℕ)) (script : Generated) : Type 0 where
@@ -49,17 +34,25 @@ pub record IsTrial (words : List (List ℕ)) (script : Generated) (frames : ℕ)
   pub frames_are : size.frames ≡ frames
 
 abbrev IsKind : List (List ℕ) → Asked → Type 0
-IsKind words (asks.Run size) = IsRun words size
+IsKind words (asks.Run size) = IsSized (codes "run") run_options words size
 IsKind words (asks.Generate script) = IsGenerate words script
 IsKind words (asks.Trial script frames) = IsTrial words script frames
 
-abbrev with_script : List (List ℕ) → Generated → Option Asked
-with_script rest script = option_map (λ (size : Size). asks.Trial script size.frames) (asked_behind plain_options (options_among false rest))
+run_is : (rest : List (List ℕ)) (asked : Asked) → option_map asks.Run (asked_behind run_options rest) ≡ Some asked → IsKind (codes "run" ∷ rest) asked
+run_is rest asked e =
+    let size = made_by_map asks.Run (asked_behind run_options rest) asked e in
+    subst (IsKind (codes "run" ∷ rest)) size.holds (record { options = rest; words_are = refl; size_is = size.is })
+
+generate_is : (rest : List (List ℕ)) (asked : Asked) → option_map asks.Generate (script_of rest) ≡ Some asked → IsKind (codes "generate" ∷ rest) asked
+generate_is rest asked e =
+    let script = made_by_map asks.Generate (script_of rest) asked e in
+    subst (IsKind (codes "generate" ∷ rest)) script.holds (record { rest = rest; script_is = script.is })
 
 trial_is : (rest : List (List ℕ)) (asked : Asked) → trial_behind rest ≡ Some asked → IsKind (codes "trial" ∷ rest) asked
 trial_is rest asked e =
-    let script = made_by_then (with_script rest) (script_of (others_among false rest)) asked e in
-    let size = made_by_map (λ (size : Size). asks.Trial script.value size.frames) (asked_behind plain_options (options_among false rest)) asked script.holds in
+    let options = options_among false rest in
+    let script = made_by_then (λ (script : Generated). option_map (λ (size : Size). asks.Trial script size.frames) (asked_behind plain_options options)) (script_of (others_among false rest)) asked e in
+    let size = made_by_map (λ (size : Size). asks.Trial script.value size.frames) (asked_behind plain_options options) asked script.holds in
     subst (IsKind (codes "trial" ∷ rest)) size.holds (record {
       rest = rest;
       words_are = refl;
@@ -69,33 +62,29 @@ trial_is rest asked e =
       frames_are = refl;
     })
 
+-- what the first test that holds makes
+chosen : {A : Type 0} (b : Bool) (x y : Option A) (a : A) → cond b x y ≡ Some a → ((b ≡ true) × (x ≡ Some a)) ⊎ (y ≡ Some a)
+chosen true x y a e = inl (refl, e)
+chosen false x y a e = inr e
+
 kind_of_words : (words : List (List ℕ)) (asked : Asked) → asked_by words ≡ Some asked → IsKind words asked
 unfolding asked_by
 kind_of_words [] asked e = absurd (cc)
-kind_of_words (command ∷ words) asked e = by_run (bytes_eq command (codes "run")) refl e
+kind_of_words (command ∷ rest) asked e = elim (chosen (bytes_eq command (codes "run")) _ _ asked e) [
+  | inl run ↦ as_word (codes "run") run.0 (run_is rest asked run.1)
+  | inr e ↦ elim (chosen (bytes_eq command (codes "generate")) _ _ asked e) [
+    | inl generate ↦ as_word (codes "generate") generate.0 (generate_is rest asked generate.1)
+    | inr e ↦ elim (chosen (bytes_eq command (codes "trial")) _ _ asked e) [
+      | inl trial ↦ as_word (codes "trial") trial.0 (trial_is rest asked trial.1)
+      | inr e ↦ absurd (cc)
+    ]
+  ]
+]
   where
-    with_command : (name : List ℕ) → bytes_eq command name ≡ true → command ∷ words ≡ name ∷ words
-    with_command name t = ap (λ (w : List ℕ). w ∷ words) (same_text command name t)
+    as_word : (name : List ℕ) → bytes_eq command name ≡ true → IsKind (name ∷ rest) asked → IsKind (command ∷ rest) asked
+    as_word name t kind = subst (λ (word : List ℕ). IsKind (word ∷ rest) asked) (sym (same_text command name t)) kind
 
-    by_trial : (b : Bool) → bytes_eq command (codes "trial") ≡ b → cond b (trial_behind words) None ≡ Some asked → IsKind (command ∷ words) asked
-    by_trial true t e = subst (λ (all : List (List ℕ)). IsKind all asked) (sym (with_command (codes "trial") t)) (trial_is words asked e)
-    by_trial false t e = absurd (cc)
-
-    by_generate : (b : Bool) → cond b (option_map asks.Generate (script_of words)) (cond (bytes_eq command (codes "trial")) (trial_behind words) None) ≡ Some asked → IsKind (command ∷ words) asked
-    by_generate true e =
-        let script = made_by_map asks.Generate (script_of words) asked e in
-        subst (IsKind (command ∷ words)) script.holds (record { rest = words; script_is = script.is })
-    by_generate false e = by_trial (bytes_eq command (codes "trial")) refl e
-
-    by_run : (b : Bool) → bytes_eq command (codes "run") ≡ b
-        → cond b (option_map asks.Run (asked_behind run_options words)) (cond (bytes_eq command (codes "generate")) (option_map asks.Generate (script_of words)) (cond (bytes_eq command (codes "trial")) (trial_behind words) None)) ≡ Some asked → IsKind (command ∷ words) asked
-    by_run true t e =
-        let size = made_by_map asks.Run (asked_behind run_options words) asked e in
-        subst (λ (all : List (List ℕ)). IsKind all asked) (sym (with_command (codes "run") t))
-        (subst (IsKind (codes "run" ∷ words)) size.holds (record { options = words; words_are = refl; size_is = size.is }))
-    by_run false t e = by_generate (bytes_eq command (codes "generate")) e
-
-pub is_run : (words : List (List ℕ)) (size : Size) → asked_by words ≡ Some (asks.Run size) → IsRun words size
+pub is_run : (words : List (List ℕ)) (size : Size) → asked_by words ≡ Some (asks.Run size) → IsSized (codes "run") run_options words size
 is_run words size e = kind_of_words words (asks.Run size) e
 
 pub is_trial : (words : List (List ℕ)) (script : Generated) (frames : ℕ) → asked_by words ≡ Some (asks.Trial script frames) → IsTrial words script frames
@@ -111,9 +100,11 @@ run_page words size e =
 pub trial_page : (words : List (List ℕ)) (script : Generated) (frames : ℕ) → asked_by words ≡ Some (asks.Trial script frames) → page_size_of words ≡ PAGE
 trial_page words script frames e =
     let trial = is_trial words script frames e in
-    ap page_size_of trial.words_are ∙ ap (λ (o : Option (List ℕ)). unwrap_or (option_and_then page_of o) PAGE) (no_page_among trial.rest trial.size trial.size_is)
+    let s = sized plain_options (options_among false trial.rest) trial.size trial.size_is in
+    ap page_size_of trial.words_are ∙ ap (λ (o : Option (List ℕ)). unwrap_or (option_and_then page_of o) PAGE) (no_page_among plain_options refl trial.rest s.values s.values_are)
 
--- The frames and the bytes of a page that words ask for are within what a manager takes.
+-- bounds
+
 pub record HasBounds (count bytes : ℕ) : Type 0 where
   pub few : 3 ≤ count
   pub frames : count ≤ 2 ^ 16
@@ -122,9 +113,9 @@ pub record HasBounds (count bytes : ℕ) : Type 0 where
 
 size_bounds : (known options : List (List ℕ)) (size : Size) → asked_behind known options ≡ Some size → HasBounds size.frames size.page_bytes
 size_bounds known options size e =
-    let h = (right known options size e).forms in
-    let frames = few_frames _ _ size h in
-    let page = small_page _ _ size h in
+    let s = sized known options size e in
+    let frames = few_frames _ _ size s.forms in
+    let page = small_page _ _ size s.forms in
     record { few = frames.0; frames = omega (arith, frames.1); some = page.0; page = page.1 }
 
 pub run_bounds : (words : List (List ℕ)) (size : Size) → asked_by words ≡ Some (asks.Run size) → HasBounds size.frames size.page_bytes
@@ -142,14 +133,10 @@ abbrev HasFewLines : ℕ → Type 0
 HasFewLines n = (1 ≤ n) × (n ≤ 1000000)
 
 few_if : (n lines : ℕ) → if_lines n ≡ Some lines → HasFewLines lines
-few_if n lines e = by (nat_le 1 n && nat_le n 1000000) refl e
-  where
-    by : (b : Bool) → (nat_le 1 n && nat_le n 1000000) ≡ b → cond b (Some n) None ≡ Some lines → HasFewLines lines
-    by true t e =
-        let same : n ≡ lines = cc in
-        let both = and_both _ _ t in
-        subst HasFewLines same (leb-true 1 n both.0, leb-true n 1000000 both.1)
-    by false t e = absurd (cc)
+few_if n lines e =
+    let test = made_by_test (nat_le 1 n && nat_le n 1000000) n lines e in
+    let both = and_both _ _ test.0 in
+    subst HasFewLines test.1 (leb-true 1 n both.0, leb-true n 1000000 both.1)
 
 script_few : (words : List (List ℕ)) (script : Generated) → script_of words ≡ Some script → HasFewLines script.lines
 script_few [] script e = absurd (cc)

@@ -1,66 +1,75 @@
 -- Words that ask for something: their options, and the forms of the values of these.
-use Rattle.std.proofs.Common.{◌≡◌, ◌==◌, ◌||◌, ◌&&◌, ◌≤◌, ◌^◌, ℕ, Bool, true, false, cond, List, [], ◌∷◌, Option, Some, None, nat_le, refl, sym, ap, subst, ◌∙◌, arith, codes, option_and_then, eqb-true, leb-true}
+use Rattle.std.proofs.Common.{◌≡◌, ◌==◌, ◌||◌, ◌&&◌, ◌≤◌, ◌^◌, ℕ, Bool, true, false, cond, List, [], ◌∷◌, Option, Some, None, nat_le, refl, sym, ap, subst, ◌∙◌, arith, codes, option_map, option_and_then, eqb-true, leb-true}
 use Rattle.std.specs.List.{list_all, list_any}
 use Rattle.std.specs.Option.{option_map_or}
 use Rattle.vm_ids.specs.declared.numbers.TheConstants.{PAGE}
 use Rattle.actor_script.specs.Operands.{number_of}
 use Rattle.replay.specs.declared.asked.Size.{Size}
-use Rattle.replay.specs.Commanding.{CommandOption, are_proper, asked_behind, asked_for, asked_in, frames_of, if_fitting, if_frames, if_page, options_of, page_of, page_sizes, value_named}
+use Rattle.replay.specs.Commanding.{CommandOption, Values, are_proper, asked_behind, asked_for, frames_of, hyphened, if_fitting, if_frames, if_page, options_of, page_of, page_sizes, size_of, value_named, values_behind, values_of}
 use Rattle.replay.proofs.CommandLine.Walks.{ArePlain}
 use Rattle.replay.proofs.CommandLine.Values.{AreOwn, and_both, proper_parts}
 
--- what the values of right options are
+-- what an option that is there was made of
 
--- where these values ask for something each has its form
-pub record HasForms (frames page : Option (List ℕ)) (asked : Size) : Type 0 where
-  pub frames_are : option_and_then frames_of frames ≡ Some asked.frames
-  pub page_is : option_map_or page_of page (Some PAGE) ≡ Some asked.page_bytes
+pub record Made {A : Type 0} (o : Option A) (P : A → Type 0) : Type 0 where
+  pub value : A
+  pub is : o ≡ Some value
+  pub holds : P value
 
-forms : (frames page : Option (List ℕ)) (asked : Size) → asked_for frames page ≡ Some asked → HasForms frames page asked
-forms frames page asked e = by (option_and_then frames_of frames) (option_map_or page_of page (Some PAGE)) refl refl e
-  where
-    last : (f p : ℕ) (b : Bool) → cond b (Some (record { frames = f; page_bytes = p })) None ≡ Some asked → (f ≡ asked.frames) × (p ≡ asked.page_bytes)
-    last f p true e = let same : record { frames = f; page_bytes = p } ≡ asked = cc in (ap (λ (a : Size). a.frames) same, ap (λ (a : Size). a.page_bytes) same)
-    last f p false e = absurd (cc)
+pub made_by_map : {A B : Type 0} (f : A → B) (o : Option A) (y : B) → option_map f o ≡ Some y → Made o (λ x. f x ≡ y)
+made_by_map f None y e = absurd (cc)
+made_by_map f (Some x) y e = record { value = x; is = refl; holds = cc }
 
-    by : (f p : Option ℕ) → option_and_then frames_of frames ≡ f → option_map_or page_of page (Some PAGE) ≡ p
-        → option_and_then (λ (x : ℕ). option_and_then (if_fitting x) p) f ≡ Some asked → HasForms frames page asked
-    by None p t u e = absurd (cc)
-    by (Some f) None t u e = absurd (cc)
-    by (Some f) (Some p) t u e = let same = last f p _ e in record { frames_are = t ∙ ap Some same.0; page_is = u ∙ ap Some same.1 }
+pub made_by_then : {A B : Type 0} (f : A → Option B) (o : Option A) (y : B) → option_and_then f o ≡ Some y → Made o (λ x. f x ≡ Some y)
+made_by_then f None y e = absurd (cc)
+made_by_then f (Some x) y e = record { value = x; is = refl; holds = e }
 
--- where words ask for something: the options that they are cut into, and what is so of these
-pub record Right (known words : List (List ℕ)) (asked : Size) : Type 0 where
+pub made_by_test : {A : Type 0} (b : Bool) (x y : A) → cond b (Some x) None ≡ Some y → (b ≡ true) × (x ≡ y)
+made_by_test true x y e = (refl, cc)
+made_by_test false x y e = absurd (cc)
+
+-- where words give values: the options that they are cut into, and what is so of these
+pub record Right (known words : List (List ℕ)) (values : Values) : Type 0 where
   pub options : List CommandOption
   pub cut : options_of words ≡ Some options
   pub own : AreOwn known options
   pub plain : ArePlain options
-  pub forms : HasForms (value_named (codes "--frames") options) (value_named (codes "--page") options) asked
+  pub values_are : (λ name. value_named (hyphened name) options) ≡ values
 
-pub right : (known words : List (List ℕ)) (asked : Size) → asked_behind known words ≡ Some asked → Right known words asked
-right known words asked e = by (options_of words) refl e
-  where
-    in_options : (options : List CommandOption) → options_of words ≡ Some options → (b : Bool) → are_proper known options ≡ b
-        → cond b (asked_for (value_named (codes "--frames") options) (value_named (codes "--page") options)) None ≡ Some asked → Right known words asked
-    in_options options cut true t e = let parts = proper_parts known options t in record { options = options; cut = cut; own = parts.0; plain = parts.1; forms = forms _ _ asked e }
-    in_options options cut false t e = absurd (cc)
+pub right : (known words : List (List ℕ)) (values : Values) → values_behind known words ≡ Some values → Right known words values
+right known words values e =
+    let made = made_by_then (values_of known) (options_of words) values e in
+    let test = made_by_test (are_proper known made.value) (λ name. value_named (hyphened name) made.value) values made.holds in
+    let parts = proper_parts known made.value test.0 in
+    record { options = made.value; cut = made.is; own = parts.0; plain = parts.1; values_are = test.1 }
 
-    by : (o : Option (List CommandOption)) → options_of words ≡ o → option_and_then (asked_in known) o ≡ Some asked → Right known words asked
-    by None cut e = absurd (cc)
-    by (Some options) cut e = in_options options cut (are_proper known options) refl e
+-- where these values ask for something each has its form
+pub record HasForms (frames page : Option (List ℕ)) (size : Size) : Type 0 where
+  pub frames_are : option_and_then frames_of frames ≡ Some size.frames
+  pub page_is : option_map_or page_of page (Some PAGE) ≡ Some size.page_bytes
+
+forms : (frames page : Option (List ℕ)) (size : Size) → asked_for frames page ≡ Some size → HasForms frames page size
+forms frames page size e =
+    let f = made_by_then (λ (f : ℕ). option_and_then (if_fitting f) (option_map_or page_of page (Some PAGE))) (option_and_then frames_of frames) size e in
+    let p = made_by_then (if_fitting f.value) (option_map_or page_of page (Some PAGE)) size f.holds in
+    let same = (made_by_test _ _ size p.holds).1 in
+    record { frames_are = f.is ∙ ap (λ (s : Size). Some s.frames) same; page_is = p.is ∙ ap (λ (s : Size). Some s.page_bytes) same }
+
+-- words that ask for a size give values, which do
+pub record Sized (known words : List (List ℕ)) (size : Size) : Type 0 where
+  pub values : Values
+  pub values_are : values_behind known words ≡ Some values
+  pub forms : HasForms (values (codes "frames")) (values (codes "page")) size
+
+pub sized : (known words : List (List ℕ)) (size : Size) → asked_behind known words ≡ Some size → Sized known words size
+sized known words size e =
+    let made = made_by_then size_of (values_behind known words) size e in
+    record { values = made.value; values_are = made.is; forms = forms _ _ size made.holds }
 
 -- bounds
 
-frames_within : (n f : ℕ) → if_frames n ≡ Some f → (3 ≤ f) × (f ≤ 65536)
-frames_within n f e = by (nat_le 3 n) (nat_le n 65536) refl refl
-  where
-    by : (least most : Bool) → nat_le 3 n ≡ least → nat_le n 65536 ≡ most → (3 ≤ f) × (f ≤ 65536)
-    by true true s t =
-        let is : Some n ≡ Some f = sym (ap (λ (b : Bool). cond (b && nat_le n 65536) (Some n) None) s ∙ ap (λ (b : Bool). cond b (Some n) None) t) ∙ e in
-        let same : n ≡ f = cc in
-        (subst (λ (k : ℕ). 3 ≤ k) same (leb-true 3 n s), subst (λ (k : ℕ). k ≤ 65536) same (leb-true n 65536 t))
-    by true false s t = let none : None ≡ Some f = sym (ap (λ (b : Bool). cond (b && nat_le n 65536) (Some n) None) s ∙ ap (λ (b : Bool). cond b (Some n) None) t) ∙ e in absurd (cc)
-    by false most s t = let none : None ≡ Some f = sym (ap (λ (b : Bool). cond (b && nat_le n 65536) (Some n) None) s) ∙ e in absurd (cc)
+abbrev AreFew : ℕ → Type 0
+AreFew n = (3 ≤ n) × (n ≤ 65536)
 
 abbrev IsPageSize : ℕ → Type 0
 IsPageSize n = (1 ≤ n) × (n ≤ 2 ^ 16)
@@ -76,32 +85,21 @@ among (size ∷ sizes) n e all = by (size == n) refl e (and_both _ _ all) (among
         subst IsPageSize (eqb-true size n t) (leb-true 1 size within.0, leb-true size (2 ^ 16) within.1)
     by false t e all rest = rest e all.1
 
-page_within : (n b : ℕ) → if_page n ≡ Some b → IsPageSize b
-page_within n b e = by (list_any (λ size. size == n) page_sizes) refl e
-  where
-    by : (t : Bool) → list_any (λ size. size == n) page_sizes ≡ t → cond t (Some n) None ≡ Some b → IsPageSize b
-    by true t e = let same : n ≡ b = cc in subst IsPageSize same (among page_sizes n t refl)
-    by false t e = absurd (cc)
+module _ (frames page : Option (List ℕ)) (size : Size) (h : HasForms frames page size) where
+  pub few_frames : AreFew size.frames
+  few_frames =
+      let word = made_by_then frames_of frames size.frames h.frames_are in
+      let n = made_by_then if_frames (number_of word.value) size.frames word.holds in
+      let test = made_by_test (nat_le 3 n.value && nat_le n.value 65536) n.value size.frames n.holds in
+      let both = and_both _ _ test.0 in
+      subst AreFew test.1 (leb-true 3 n.value both.0, leb-true n.value 65536 both.1)
 
-module _ (frames page : Option (List ℕ)) (asked : Size) (h : HasForms frames page asked) where
-  pub few_frames : (3 ≤ asked.frames) × (asked.frames ≤ 65536)
-  few_frames = by frames h.frames_are
-    where
-      number : (o : Option ℕ) → option_and_then if_frames o ≡ Some asked.frames → (3 ≤ asked.frames) × (asked.frames ≤ 65536)
-      number None e = absurd (cc)
-      number (Some n) e = frames_within n asked.frames e
-
-      by : (o : Option (List ℕ)) → option_and_then frames_of o ≡ Some asked.frames → (3 ≤ asked.frames) × (asked.frames ≤ 65536)
-      by None e = absurd (cc)
-      by (Some word) e = number (number_of word) e
-
-  pub small_page : IsPageSize asked.page_bytes
+  pub small_page : IsPageSize size.page_bytes
   small_page = by page h.page_is
     where
-      number : (o : Option ℕ) → option_and_then if_page o ≡ Some asked.page_bytes → IsPageSize asked.page_bytes
-      number None e = absurd (cc)
-      number (Some n) e = page_within n asked.page_bytes e
-
-      by : (o : Option (List ℕ)) → option_map_or page_of o (Some PAGE) ≡ Some asked.page_bytes → IsPageSize asked.page_bytes
-      by None e = let same : PAGE ≡ asked.page_bytes = cc in subst IsPageSize same (omega arith, omega arith)
-      by (Some word) e = number (number_of word) e
+      by : (o : Option (List ℕ)) → option_map_or page_of o (Some PAGE) ≡ Some size.page_bytes → IsPageSize size.page_bytes
+      by None e = let same : PAGE ≡ size.page_bytes = cc in subst IsPageSize same (omega arith, omega arith)
+      by (Some word) e =
+          let n = made_by_then if_page (number_of word) size.page_bytes e in
+          let test = made_by_test (list_any (λ size. size == n.value) page_sizes) n.value size.page_bytes n.holds in
+          subst IsPageSize test.1 (among page_sizes n.value test.0 refl)

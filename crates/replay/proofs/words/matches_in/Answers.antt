@@ -11,7 +11,7 @@ pub returns : goal.returns
 returns c =
     let known = map (λ w. w.now) c.args.known.now in
     let words = map (λ w. w.now) c.args.words.now in
-    let bare_is : app_of c.disable_version_flag.result ≡ bare_command = ap app_of_fields c.disable_version_flag.ensures
+    let bare_is : app_of c.disable_version_flag-bare.result ≡ bare_command = ap app_of_fields c.disable_version_flag-bare.ensures
     ∙ ap (λ (f : Command-F Command). app_of_fields (record f { disable_version_flag = true })) c.disable_help_flag.ensures
     ∙ ap (λ (f : Command-F Command). app_of_fields (record f { disable_help_flag = true; disable_version_flag = true })) c.no_binary_name.ensures
     ∙ ap (λ (a : App). record a { top = record a.top { no_binary_name = true; disable_help_flag = true; disable_version_flag = true } }) c.new.ensures.app in
