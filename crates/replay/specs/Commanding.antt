@@ -124,8 +124,13 @@ abbrev pub size_of : Values → Option Size
 size_of values = asked_for (values (codes "frames")) (values (codes "page"))
 
 -- and that words ask for which are options of these names
-abbrev pub asked_behind : List (List ℕ) → List (List ℕ) → Option Size
-asked_behind known words = option_and_then size_of (values_behind known words)
+abbrev pub size_behind : List (List ℕ) → List (List ℕ) → Option Size
+size_behind known words = option_and_then size_of (values_behind known words)
+
+-- the number of page frames that words ask for whose pages have 4,096 bytes
+abbrev pub frames_behind : List (List ℕ) → Option ℕ
+frames_behind words =
+    option_map (λ (size : Size). size.frames) (size_behind plain_options words)
 
 -- the value in one word, where its option has this name
 abbrev pub value_in : List ℕ → List ℕ → Option (List ℕ)
@@ -179,8 +184,7 @@ others_among false (word ∷ words) = if is_hyphened word
 -- what the words of a script and those of options ask for
 abbrev pub trial_of : List (List ℕ) → List (List ℕ) → Option Asked
 trial_of words options = option_and_then
-    (λ script. option_map (λ (size : Size). asks.Trial script size.frames)
-    (asked_behind plain_options options))
+    (λ script. option_map (asks.Trial script) (frames_behind options))
     (script_of words)
 
 -- What the words behind `trial` ask for: a script, and options before, between or behind its two
@@ -193,7 +197,7 @@ trial_behind words = trial_of (others_among false words) (options_among false wo
 unfoldable pub asked_by : List (List ℕ) → Option Asked
 asked_by [] = None
 asked_by (command ∷ words) =
-    if bytes_eq command (codes "run") then option_map asks.Run (asked_behind run_options words)
+    if bytes_eq command (codes "run") then option_map asks.Run (size_behind run_options words)
     else if bytes_eq command (codes "generate") then option_map asks.Generate (script_of words)
     else if bytes_eq command (codes "trial") then trial_behind words
     else None

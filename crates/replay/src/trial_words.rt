@@ -4,7 +4,7 @@ ghost use Rattle.std.specs.List.{list_any};
 ghost use Rattle.replay.specs.Commanding.{is_equals, is_hyphened, line_count_of, options_among, others_among, script_of, trial_behind, trial_of};
 
 use crate::asked::{Asked, Generated};
-use crate::words::{PLAIN_OPTIONS, asked_behind};
+use crate::words::frames_behind;
 use actor_script::read_number;
 use std::alloc::Global;
 use vm_ids::NoMemory;
@@ -90,8 +90,8 @@ fn trial_of(alloc: Global, script: &[&str], options: &[&str]) -> Result<Option<A
     let Some(script) = script_in(script) else {
         return Ok(None);
     };
-    match asked_behind(alloc, &PLAIN_OPTIONS, options)? {
-        Some(size) => Ok(Some(Asked::Trial(script, size.frames))),
+    match frames_behind(alloc, options)? {
+        Some(frames) => Ok(Some(Asked::Trial(script, frames))),
         None => Ok(None),
     }
 }

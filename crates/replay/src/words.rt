@@ -1,8 +1,8 @@
 // The words of a command line.
 ghost use Rattle.std.specs.Prelude.{◌≡◌, ◌≤◌, ◌^◌, false, map, true, option_map, IfErr, IfOk, IsSome};
 ghost use Rattle.clap.specs.Words.{app_of, first_value as found_first, found_of, kind_of};
-ghost use Rattle.replay.specs.Commanding.{asked_behind, asked_by, first_value, folder_of, frames_of, is_value, page_of, page_size_of, size_of, value_in, values_behind};
-ghost use Rattle.replay.specs.Reading.{are_named, has_escape, have_values, values_in, with_options};
+ghost use Rattle.replay.specs.Commanding.{asked_by, first_value, folder_of, frames_behind, frames_of, is_value, page_of, page_size_of, size_behind, size_of, value_in, values_behind};
+ghost use Rattle.replay.specs.Reading.{are_named, bare_command, has_escape, have_values, values_in, with_options};
 
 use crate::asked::{Asked, Size};
 use crate::trial_words::{script_in, trial_behind};
@@ -26,8 +26,8 @@ const PAGE_SIZES: [u32; 8] = [512, 1024, 2048, 4096, 8192, 16384, 32768, 65536];
 // The names of the options of `run`.
 const RUN_OPTIONS: [&str; 3] = ["frames", "page", "segments"];
 
-/// The names of the options of each word whose pages have 4,096 bytes.
-pub const PLAIN_OPTIONS: [&str; 2] = ["frames", "segments"];
+// The names of the options of each word whose pages have 4,096 bytes.
+const PLAIN_OPTIONS: [&str; 2] = ["frames", "segments"];
 
 // The word behind which clap takes each word as it stands. It lets it stand last, too.
 const ESCAPE: &str = "--";
@@ -96,6 +96,16 @@ fn size_in(matches: &ArgMatches<'_>) -> Option<Size>
     Some(Size { frames, page_bytes })
 }
 
+// A command that takes no program's name and knows no option.
+fn bare_command<'a>(alloc: Global) -> Command<'a>
+    ensures { app_of result ≡ bare_command }
+{
+    Command::new(alloc, "options")
+        .no_binary_name(true)
+        .disable_help_flag(true)
+        .disable_version_flag(true)
+}
+
 // A command that knows these options besides its own.
 fn with_options<'a>(
     alloc: Global,
@@ -128,11 +138,7 @@ fn matches_in<'a>(
         IsSome (values_behind (map (λ w. w.now) known.now) (map (λ w. w.now) words.now)) →
         kind_of e ≡ ErrorKind.OutOfMemory) }
 {
-    let bare = Command::new(alloc, "options")
-        .no_binary_name(true)
-        .disable_help_flag(true)
-        .disable_version_flag(true);
-    let command = with_options(alloc, bare, known)?;
+    let command = with_options(alloc, bare_command(alloc), known)?;
     command.try_get_matches_from(words)
 }
 
@@ -162,18 +168,29 @@ fn values_behind<'a>(
     }
 }
 
-/// The size that words ask for which are options of these names: `None` exactly for other words.
-pub fn asked_behind(
+// The size that words ask for which are options of these names: `None` exactly for other words.
+fn size_behind(
     alloc: Global,
     known: &[&'static str],
     words: &[&str],
 ) -> Result<Option<Size>, NoMemory>
     requires { are_named (map (λ w. w.now) known.now) ≡ true }
     ensures { IfOk result (λ asked.
-        asked ≡ asked_behind (map (λ w. w.now) known.now) (map (λ w. w.now) words.now)) }
+        asked ≡ size_behind (map (λ w. w.now) known.now) (map (λ w. w.now) words.now)) }
 {
     match values_behind(alloc, known, words)? {
         Some(values) => Ok(size_in(&values)),
+        None => Ok(None),
+    }
+}
+
+/// The number of page frames that words ask for whose pages have 4,096 bytes: `None` exactly for
+/// other words.
+pub fn frames_behind(alloc: Global, words: &[&str]) -> Result<Option<u32>, NoMemory>
+    ensures { IfOk result (λ frames. frames ≡ frames_behind (map (λ w. w.now) words.now)) }
+{
+    match size_behind(alloc, &PLAIN_OPTIONS, words)? {
+        Some(size) => Ok(Some(size.frames)),
         None => Ok(None),
     }
 }
@@ -187,7 +204,7 @@ pub fn read_words(alloc: Global, words: &[&str]) -> Result<Option<Asked>, NoMemo
 {
     match words {
         [command, options @ ..] if *command == "run" => {
-            match asked_behind(alloc, &RUN_OPTIONS, options)? {
+            match size_behind(alloc, &RUN_OPTIONS, options)? {
                 Some(size) => Ok(Some(Asked::Run(size))),
                 None => Ok(None),
             }

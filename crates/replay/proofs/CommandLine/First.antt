@@ -4,7 +4,7 @@ use Rattle.std.specs.List.{after_first, before_first, list_any}
 use Rattle.std.specs.Option.{option_map_or, option_or}
 use Rattle.vm_ids.specs.declared.numbers.TheConstants.{PAGE}
 use Rattle.replay.specs.declared.asked.Size.{Size}
-use Rattle.replay.specs.Commanding.{CommandOption, Values, asked_behind, first_value, is_equals, is_hyphened, is_known, is_value, option_in, options_among, options_of, page_of, value_in, value_named, values_behind}
+use Rattle.replay.specs.Commanding.{CommandOption, Values, size_behind, first_value, is_equals, is_hyphened, is_known, is_value, option_in, options_among, options_of, page_of, value_in, value_named, values_behind}
 use Rattle.replay.proofs.CommandLine.Spelling.{begins, spelled}
 use Rattle.replay.proofs.CommandLine.Cutting.{by_cut}
 use Rattle.replay.proofs.CommandLine.Walks.{ArePlain}
@@ -169,13 +169,16 @@ module _ (rest : List ℕ) (alone : option_in (45 ∷ rest) ≡ None) where
 
 -- the page size that words name is the one that they ask for
 
-pub page_behind : (known words : List (List ℕ)) (size : Size) → asked_behind known words ≡ Some size → unwrap_or (option_and_then page_of (first_value (codes "--page") words)) PAGE ≡ size.page_bytes
+abbrev pub page_or : Option (List ℕ) → ℕ
+page_or word = unwrap_or (option_and_then page_of word) PAGE
+
+pub page_behind : (known words : List (List ℕ)) (size : Size) → size_behind known words ≡ Some size → page_or (first_value (codes "--page") words) ≡ size.page_bytes
 page_behind known words size e =
     let s = sized known words size e in
     let r = right known words s.values s.values_are in
-    ap (λ (o : Option (List ℕ)). unwrap_or (option_and_then page_of o) PAGE) (finds (45 ∷ codes "page") refl words r.options r.cut r.plain ∙ ap (λ (v : Values). v (codes "page")) r.values_are) ∙ by (s.values (codes "page")) s.forms.page_is
+    ap page_or (finds (45 ∷ codes "page") refl words r.options r.cut r.plain ∙ ap (λ (v : Values). v (codes "page")) r.values_are) ∙ by (s.values (codes "page")) s.forms.page_is
   where
-    by : (o : Option (List ℕ)) → option_map_or page_of o (Some PAGE) ≡ Some size.page_bytes → unwrap_or (option_and_then page_of o) PAGE ≡ size.page_bytes
+    by : (o : Option (List ℕ)) → option_map_or page_of o (Some PAGE) ≡ Some size.page_bytes → page_or o ≡ size.page_bytes
     by None e = cc
     by (Some word) e = ap (λ (p : Option ℕ). unwrap_or p PAGE) e
 

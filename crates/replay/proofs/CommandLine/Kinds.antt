@@ -1,5 +1,5 @@
 -- What words are that ask for something.
-use Rattle.std.proofs.Common.{◌≡◌, ◌≤◌, ◌^◌, ◌⊎◌, ℕ, Bool, true, false, cond, List, [], ◌∷◌, Option, Some, None, refl, sym, ap, ◌∙◌, inl, inr, subst, codes, bytes_eq, arith, nat_le, option_map, option_and_then, unwrap_or}
+use Rattle.std.proofs.Common.{◌≡◌, ◌≤◌, ◌^◌, ◌⊎◌, ℕ, Bool, true, false, cond, List, [], ◌∷◌, Option, Some, None, refl, sym, ap, ◌∙◌, inl, inr, subst, codes, bytes_eq, arith, nat_le, option_map}
 use Rattle.std.specs.Prelude.{◌&&◌, IfOk, Result, Ok, Err}
 use Rattle.std.proofs.lemmas.Bool.{leb-true}
 use Rattle.vm_ids.specs.declared.numbers.TheConstants.{PAGE}
@@ -8,59 +8,38 @@ use Rattle.replay.specs.declared.asked.Asked.{Asked}
 use Rattle.replay.specs.declared.asked.Asked.TheVariants as asks
 use Rattle.replay.specs.declared.asked.Generated.{Generated}
 use Rattle.replay.specs.declared.asked.Size.{Size}
-use Rattle.replay.specs.Commanding.{asked_behind, asked_by, if_lines, line_count_of, options_among, others_among, page_of, page_size_of, plain_options, run_options, script_of, trial_behind, trial_of}
-use Rattle.replay.proofs.CommandLine.First.{no_page_among, page_behind}
-use Rattle.replay.proofs.CommandLine.Right.{few_frames, made_by_map, made_by_test, made_by_then, sized, small_page}
+use Rattle.replay.specs.Commanding.{asked_by, frames_behind, if_lines, line_count_of, options_among, others_among, page_size_of, plain_options, run_options, script_of, size_behind, trial_behind, trial_of}
+use Rattle.replay.proofs.CommandLine.First.{no_page_among, page_behind, page_or}
+use Rattle.replay.proofs.CommandLine.Right.{Made, few_frames, made_by_map, made_by_test, made_by_then, sized, small_page}
 use Rattle.replay.proofs.CommandLine.Values.{and_both, same_text}
 
--- a word and options that ask for a size
-pub record IsSized (name : List ℕ) (known words : List (List ℕ)) (size : Size) : Type 0 where
-  pub options : List (List ℕ)
-  pub words_are : words ≡ name ∷ options
-  pub size_is : asked_behind known options ≡ Some size
-
--- `generate` and a script
-pub record IsGenerate (words : List (List ℕ)) (script : Generated) : Type 0 where
+-- a word, and what is so of the words behind it
+pub record IsWord (name : List ℕ) (P : List (List ℕ) → Type 0) (words : List (List ℕ)) : Type 0 where
   pub rest : List (List ℕ)
-  pub script_is : script_of rest ≡ Some script
+  pub words_are : words ≡ name ∷ rest
+  pub holds : P rest
 
--- `trial`, a script and options
-pub record IsTrial (words : List (List ℕ)) (script : Generated) (frames : ℕ) : Type 0 where
-  pub rest : List (List ℕ)
-  pub words_are : words ≡ codes "trial" ∷ rest
+-- a script, and options before, between and behind its words
+pub record IsTrial (script : Generated) (frames : ℕ) (rest : List (List ℕ)) : Type 0 where
   pub script_is : script_of (others_among false rest) ≡ Some script
-  pub size : Size
-  pub size_is : asked_behind plain_options (options_among false rest) ≡ Some size
-  pub frames_are : size.frames ≡ frames
+  pub frames_are : frames_behind (options_among false rest) ≡ Some frames
 
 abbrev IsKind : List (List ℕ) → Asked → Type 0
-IsKind words (asks.Run size) = IsSized (codes "run") run_options words size
-IsKind words (asks.Generate script) = IsGenerate words script
-IsKind words (asks.Trial script frames) = IsTrial words script frames
+IsKind words (asks.Run size) = IsWord (codes "run") (λ rest. size_behind run_options rest ≡ Some size) words
+IsKind words (asks.Generate script) = IsWord (codes "generate") (λ rest. script_of rest ≡ Some script) words
+IsKind words (asks.Trial script frames) = IsWord (codes "trial") (IsTrial script frames) words
 
-run_is : (rest : List (List ℕ)) (asked : Asked) → option_map asks.Run (asked_behind run_options rest) ≡ Some asked → IsKind (codes "run" ∷ rest) asked
-run_is rest asked e =
-    let size = made_by_map asks.Run (asked_behind run_options rest) asked e in
-    subst (IsKind (codes "run" ∷ rest)) size.holds (record { options = rest; words_are = refl; size_is = size.is })
-
-generate_is : (rest : List (List ℕ)) (asked : Asked) → option_map asks.Generate (script_of rest) ≡ Some asked → IsKind (codes "generate" ∷ rest) asked
-generate_is rest asked e =
-    let script = made_by_map asks.Generate (script_of rest) asked e in
-    subst (IsKind (codes "generate" ∷ rest)) script.holds (record { rest = rest; script_is = script.is })
+-- what a word asks for is made of what its words are
+mapped : {A : Type 0} (name : List ℕ) (rest : List (List ℕ)) (make : A → Asked) (o : Option A) (asked : Asked) → ((x : A) → o ≡ Some x → IsKind (name ∷ rest) (make x)) → option_map make o ≡ Some asked → IsKind (name ∷ rest) asked
+mapped name rest make o asked h e =
+    let made = made_by_map make o asked e in
+    subst (IsKind (name ∷ rest)) made.holds (h made.value made.is)
 
 trial_is : (rest : List (List ℕ)) (asked : Asked) → trial_behind rest ≡ Some asked → IsKind (codes "trial" ∷ rest) asked
 trial_is rest asked e =
-    let options = options_among false rest in
-    let script = made_by_then (λ (script : Generated). option_map (λ (size : Size). asks.Trial script size.frames) (asked_behind plain_options options)) (script_of (others_among false rest)) asked e in
-    let size = made_by_map (λ (size : Size). asks.Trial script.value size.frames) (asked_behind plain_options options) asked script.holds in
-    subst (IsKind (codes "trial" ∷ rest)) size.holds (record {
-      rest = rest;
-      words_are = refl;
-      script_is = script.is;
-      size = size.value;
-      size_is = size.is;
-      frames_are = refl;
-    })
+    let script = made_by_then (λ (script : Generated). option_map (asks.Trial script) (frames_behind (options_among false rest))) (script_of (others_among false rest)) asked e in
+    mapped (codes "trial") rest (asks.Trial script.value) (frames_behind (options_among false rest)) asked
+    (λ frames is. record { rest = rest; words_are = refl; holds = record { script_is = script.is; frames_are = is } }) script.holds
 
 -- what the first test that holds makes
 chosen : {A : Type 0} (b : Bool) (x y : Option A) (a : A) → cond b x y ≡ Some a → ((b ≡ true) × (x ≡ Some a)) ⊎ (y ≡ Some a)
@@ -71,9 +50,9 @@ kind_of_words : (words : List (List ℕ)) (asked : Asked) → asked_by words ≡
 unfolding asked_by
 kind_of_words [] asked e = absurd (cc)
 kind_of_words (command ∷ rest) asked e = elim (chosen (bytes_eq command (codes "run")) _ _ asked e) [
-  | inl run ↦ as_word (codes "run") run.0 (run_is rest asked run.1)
+  | inl run ↦ as_word (codes "run") run.0 (mapped (codes "run") rest asks.Run _ asked (λ size is. record { rest = rest; words_are = refl; holds = is }) run.1)
   | inr e ↦ elim (chosen (bytes_eq command (codes "generate")) _ _ asked e) [
-    | inl generate ↦ as_word (codes "generate") generate.0 (generate_is rest asked generate.1)
+    | inl generate ↦ as_word (codes "generate") generate.0 (mapped (codes "generate") rest asks.Generate _ asked (λ script is. record { rest = rest; words_are = refl; holds = is }) generate.1)
     | inr e ↦ elim (chosen (bytes_eq command (codes "trial")) _ _ asked e) [
       | inl trial ↦ as_word (codes "trial") trial.0 (trial_is rest asked trial.1)
       | inr e ↦ absurd (cc)
@@ -84,24 +63,23 @@ kind_of_words (command ∷ rest) asked e = elim (chosen (bytes_eq command (codes
     as_word : (name : List ℕ) → bytes_eq command name ≡ true → IsKind (name ∷ rest) asked → IsKind (command ∷ rest) asked
     as_word name t kind = subst (λ (word : List ℕ). IsKind (word ∷ rest) asked) (sym (same_text command name t)) kind
 
-pub is_run : (words : List (List ℕ)) (size : Size) → asked_by words ≡ Some (asks.Run size) → IsSized (codes "run") run_options words size
-is_run words size e = kind_of_words words (asks.Run size) e
-
-pub is_trial : (words : List (List ℕ)) (script : Generated) (frames : ℕ) → asked_by words ≡ Some (asks.Trial script frames) → IsTrial words script frames
-is_trial words script frames e = kind_of_words words (asks.Trial script frames) e
+-- words whose pages have 4,096 bytes ask for a size, too
+plain_size : (words : List (List ℕ)) (frames : ℕ) → frames_behind words ≡ Some frames → Made (size_behind plain_options words) (λ size. size.frames ≡ frames)
+plain_size words frames e = made_by_map (λ (size : Size). size.frames) (size_behind plain_options words) frames e
 
 -- the page size that the words name is the one of what they ask for
 
 pub run_page : (words : List (List ℕ)) (size : Size) → asked_by words ≡ Some (asks.Run size) → page_size_of words ≡ size.page_bytes
 run_page words size e =
-    let run = is_run words size e in
-    ap page_size_of run.words_are ∙ page_behind run_options run.options size run.size_is
+    let run = kind_of_words words (asks.Run size) e in
+    ap page_size_of run.words_are ∙ page_behind run_options run.rest size run.holds
 
 pub trial_page : (words : List (List ℕ)) (script : Generated) (frames : ℕ) → asked_by words ≡ Some (asks.Trial script frames) → page_size_of words ≡ PAGE
 trial_page words script frames e =
-    let trial = is_trial words script frames e in
-    let s = sized plain_options (options_among false trial.rest) trial.size trial.size_is in
-    ap page_size_of trial.words_are ∙ ap (λ (o : Option (List ℕ)). unwrap_or (option_and_then page_of o) PAGE) (no_page_among plain_options refl trial.rest s.values s.values_are)
+    let trial = kind_of_words words (asks.Trial script frames) e in
+    let size = plain_size (options_among false trial.rest) frames trial.holds.frames_are in
+    let s = sized plain_options (options_among false trial.rest) size.value size.is in
+    ap page_size_of trial.words_are ∙ ap page_or (no_page_among plain_options refl trial.rest s.values s.values_are)
 
 -- bounds
 
@@ -111,21 +89,26 @@ pub record HasBounds (count bytes : ℕ) : Type 0 where
   pub some : 1 ≤ bytes
   pub page : bytes ≤ 2 ^ 16
 
-size_bounds : (known options : List (List ℕ)) (size : Size) → asked_behind known options ≡ Some size → HasBounds size.frames size.page_bytes
-size_bounds known options size e =
-    let s = sized known options size e in
+size_bounds : (known words : List (List ℕ)) (size : Size) → size_behind known words ≡ Some size → HasBounds size.frames size.page_bytes
+size_bounds known words size e =
+    let s = sized known words size e in
     let frames = few_frames _ _ size s.forms in
     let page = small_page _ _ size s.forms in
     record { few = frames.0; frames = omega (arith, frames.1); some = page.0; page = page.1 }
 
+plain_bounds : (words : List (List ℕ)) (frames : ℕ) → frames_behind words ≡ Some frames → HasBounds frames PAGE
+plain_bounds words frames e =
+    let size = plain_size words frames e in
+    let h = size_bounds plain_options words size.value size.is in
+    record { few = omega (arith, h.few, size.holds); frames = omega (arith, h.frames, size.holds); some = omega arith; page = omega arith }
+
 pub run_bounds : (words : List (List ℕ)) (size : Size) → asked_by words ≡ Some (asks.Run size) → HasBounds size.frames size.page_bytes
-run_bounds words size e = let run = is_run words size e in size_bounds run_options run.options size run.size_is
+run_bounds words size e = let run = kind_of_words words (asks.Run size) e in size_bounds run_options run.rest size run.holds
 
 pub trial_bounds : (words : List (List ℕ)) (script : Generated) (frames : ℕ) → asked_by words ≡ Some (asks.Trial script frames) → HasBounds frames PAGE
 trial_bounds words script frames e =
-    let trial = is_trial words script frames e in
-    let h = size_bounds plain_options (options_among false trial.rest) trial.size trial.size_is in
-    record { few = omega (arith, h.few, trial.frames_are); frames = omega (arith, h.frames, trial.frames_are); some = omega arith; page = omega arith }
+    let trial = kind_of_words words (asks.Trial script frames) e in
+    plain_bounds (options_among false trial.rest) frames trial.holds.frames_are
 
 -- a script has 1 to 1,000,000 lines
 
@@ -149,7 +132,7 @@ script_few (number ∷ lines ∷ []) script e =
 script_few (number ∷ lines ∷ word ∷ words) script e = absurd (cc)
 
 pub trial_few : (words : List (List ℕ)) (script : Generated) (frames : ℕ) → asked_by words ≡ Some (asks.Trial script frames) → script.lines ≤ 1000000
-trial_few words script frames e = let trial = is_trial words script frames e in (script_few (others_among false trial.rest) script trial.script_is).1
+trial_few words script frames e = let trial = kind_of_words words (asks.Trial script frames) e in (script_few (others_among false trial.rest) script trial.holds.script_is).1
 
 -- what the code finds in the words of a trial
 pub trial_asks : {E : Type 0} (r : Result (Option Asked) E) (words others options : List (List ℕ)) → others ≡ others_among false words → options ≡ options_among false words

@@ -5,7 +5,7 @@ use Rattle.std.specs.Option.{option_map_or}
 use Rattle.vm_ids.specs.declared.numbers.TheConstants.{PAGE}
 use Rattle.actor_script.specs.Operands.{number_of}
 use Rattle.replay.specs.declared.asked.Size.{Size}
-use Rattle.replay.specs.Commanding.{CommandOption, Values, are_proper, asked_behind, asked_for, frames_of, hyphened, if_fitting, if_frames, if_page, options_of, page_of, page_sizes, size_of, value_named, values_behind, values_of}
+use Rattle.replay.specs.Commanding.{CommandOption, Values, are_proper, size_behind, asked_for, frames_of, hyphened, if_fitting, if_frames, if_page, options_of, page_of, page_sizes, size_of, value_named, values_behind, values_of}
 use Rattle.replay.proofs.CommandLine.Walks.{ArePlain}
 use Rattle.replay.proofs.CommandLine.Values.{AreOwn, and_both, proper_parts}
 
@@ -61,7 +61,7 @@ pub record Sized (known words : List (List ℕ)) (size : Size) : Type 0 where
   pub values_are : values_behind known words ≡ Some values
   pub forms : HasForms (values (codes "frames")) (values (codes "page")) size
 
-pub sized : (known words : List (List ℕ)) (size : Size) → asked_behind known words ≡ Some size → Sized known words size
+pub sized : (known words : List (List ℕ)) (size : Size) → size_behind known words ≡ Some size → Sized known words size
 sized known words size e =
     let made = made_by_then size_of (values_behind known words) size e in
     record { values = made.value; values_are = made.is; forms = forms _ _ size made.holds }
