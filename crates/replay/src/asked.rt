@@ -27,4 +27,7 @@ pub enum Asked {
     Generate(Generated),
     /// The summary of a replay of such a script, over so many page frames of 4,096 bytes.
     Trial(Generated, u32),
+    /// The replay of the script of processes that the source has left, over so many page frames of
+    /// 4,096 bytes.
+    Mix { frames: u32 },
 }

@@ -9,7 +9,7 @@ use Rattle.replay.specs.declared.asked.Asked.TheVariants as asks
 use Rattle.replay.specs.declared.asked.Generated.{Generated}
 use Rattle.replay.specs.declared.asked.Size.{Size}
 use Rattle.replay.specs.Commanding.{asked_by, frames_behind, if_lines, line_count_of, options_among, others_among, page_size_of, plain_options, run_options, script_of, size_behind, trial_behind, trial_of}
-use Rattle.replay.proofs.CommandLine.First.{no_page_among, page_behind, page_or}
+use Rattle.replay.proofs.CommandLine.First.{no_page, no_page_among, page_behind, page_or}
 use Rattle.replay.proofs.CommandLine.Right.{Made, few_frames, made_by_map, made_by_test, made_by_then, sized, small_page}
 use Rattle.replay.proofs.CommandLine.Values.{and_both, same_text}
 
@@ -28,6 +28,7 @@ abbrev IsKind : List (List ℕ) → Asked → Type 0
 IsKind words (asks.Run size) = IsWord (codes "run") (λ rest. size_behind run_options rest ≡ Some size) words
 IsKind words (asks.Generate script) = IsWord (codes "generate") (λ rest. script_of rest ≡ Some script) words
 IsKind words (asks.Trial script frames) = IsWord (codes "trial") (IsTrial script frames) words
+IsKind words (asks.Mix frames) = IsWord (codes "mix") (λ rest. frames_behind rest ≡ Some frames) words
 
 -- what a word asks for is made of what its words are
 mapped : {A : Type 0} (name : List ℕ) (rest : List (List ℕ)) (make : A → Asked) (o : Option A) (asked : Asked) → ((x : A) → o ≡ Some x → IsKind (name ∷ rest) (make x)) → option_map make o ≡ Some asked → IsKind (name ∷ rest) asked
@@ -55,7 +56,10 @@ kind_of_words (command ∷ rest) asked e = elim (chosen (bytes_eq command (codes
     | inl generate ↦ as_word (codes "generate") generate.0 (mapped (codes "generate") rest asks.Generate _ asked (λ script is. record { rest = rest; words_are = refl; holds = is }) generate.1)
     | inr e ↦ elim (chosen (bytes_eq command (codes "trial")) _ _ asked e) [
       | inl trial ↦ as_word (codes "trial") trial.0 (trial_is rest asked trial.1)
-      | inr e ↦ absurd (cc)
+      | inr e ↦ elim (chosen (bytes_eq command (codes "mix")) _ _ asked e) [
+        | inl mix ↦ as_word (codes "mix") mix.0 (mapped (codes "mix") rest asks.Mix _ asked (λ frames is. record { rest = rest; words_are = refl; holds = is }) mix.1)
+        | inr e ↦ absurd (cc)
+      ]
     ]
   ]
 ]
@@ -80,6 +84,13 @@ trial_page words script frames e =
     let size = plain_size (options_among false trial.rest) frames trial.holds.frames_are in
     let s = sized plain_options (options_among false trial.rest) size.value size.is in
     ap page_size_of trial.words_are ∙ ap page_or (no_page_among plain_options refl trial.rest s.values s.values_are)
+
+pub mix_page : (words : List (List ℕ)) (frames : ℕ) → asked_by words ≡ Some (asks.Mix frames) → page_size_of words ≡ PAGE
+mix_page words frames e =
+    let mix = kind_of_words words (asks.Mix frames) e in
+    let size = plain_size mix.rest frames mix.holds in
+    let s = sized plain_options mix.rest size.value size.is in
+    ap page_size_of mix.words_are ∙ ap page_or (no_page plain_options refl mix.rest s.values s.values_are)
 
 -- bounds
 
@@ -109,6 +120,9 @@ pub trial_bounds : (words : List (List ℕ)) (script : Generated) (frames : ℕ)
 trial_bounds words script frames e =
     let trial = kind_of_words words (asks.Trial script frames) e in
     plain_bounds (options_among false trial.rest) frames trial.holds.frames_are
+
+pub mix_bounds : (words : List (List ℕ)) (frames : ℕ) → asked_by words ≡ Some (asks.Mix frames) → HasBounds frames PAGE
+mix_bounds words frames e = let mix = kind_of_words words (asks.Mix frames) e in plain_bounds mix.rest frames mix.holds
 
 -- a script has 1 to 1,000,000 lines
 
