@@ -6,15 +6,15 @@ use Rattle.clap.specs.Walk.{Held, Row, Rule, Text, finished, first_of, has_row, 
 use Rattle.clap.specs.Simple.{App, HasMatchesOf, built, filled_from, is_simple, matches_of, on_top, with_rule}
 use Rattle.clap.specs.Takes.{is_given}
 use Rattle.clap.specs.Kinds.{FailsBy, Kinds, or_else}
-use Rattle.clap.specs.Faults.{check_fault, default_fault, defaults_fault, fault_of, given_default_fault, is_simple_and_free, level_fault, settle_fault, walk_fault}
+use Rattle.clap.specs.Faults.{check_fault, defaults_fault, fault_of, given_default_fault, is_simple_and_free, level_fault, settle_fault, walk_fault}
 use Rattle.clap.proofs.FaultLemmas.{leaf_fault}
 use Rattle.clap.proofs.WalkLemmas.{first_value-rows}
 use Rattle.clap.specs.declared.error.ErrorKind.TheVariants as kind
-use Rattle.clap.specs.Matches.{first_value, found_of}
+use Rattle.clap.specs.Matches.{found_of}
 use Rattle.clap.specs.Values.{kind_of}
 use Rattle.clap.specs.declared.error.Error.{Error}
 use Rattle.clap.specs.declared.parser.matches.ArgMatches.{ArgMatches}
-use Rattle.replay.specs.Commanding.{CommandOption, Values, hyphened, value_named, values_behind, values_of}
+use Rattle.replay.specs.Commanding.{Values, hyphened, value_named, values_behind, values_of}
 use Rattle.replay.specs.Reading.{are_named, bare_command, has_escape, told_rule, values_in, values_with, with_options}
 use Rattle.replay.proofs.CommandLine.Turns.{held, none_both, none_first, none_then, opt, shape_with, standing}
 use Rattle.replay.proofs.CommandLine.Walks.{reads, row_of, takes}

@@ -1,5 +1,5 @@
 -- What words are that ask for something.
-use Rattle.std.proofs.Common.{◌≡◌, ◌≤◌, ◌^◌, ◌⊎◌, ℕ, Bool, true, false, cond, List, [], ◌∷◌, Option, Some, None, refl, sym, ap, ◌∙◌, inl, inr, subst, codes, bytes_eq, arith, nat_le, option_map}
+use Rattle.std.proofs.Common.{◌≡◌, ◌≤◌, ◌^◌, ◌⊎◌, ℕ, Bool, true, false, cond, List, [], ◌∷◌, Option, Some, refl, sym, ap, ◌∙◌, inl, inr, subst, codes, bytes_eq, arith, nat_le, option_map}
 use Rattle.std.specs.Prelude.{◌&&◌, IfOk, Result, Ok, Err}
 use Rattle.std.proofs.lemmas.Bool.{leb-true}
 use Rattle.vm_ids.specs.declared.numbers.TheConstants.{PAGE}

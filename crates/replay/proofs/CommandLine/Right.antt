@@ -1,5 +1,5 @@
 -- Words that ask for something: their options, and the forms of the values of these.
-use Rattle.std.proofs.Common.{◌≡◌, ◌==◌, ◌||◌, ◌&&◌, ◌≤◌, ◌^◌, ℕ, Bool, true, false, cond, List, [], ◌∷◌, Option, Some, None, nat_le, refl, sym, ap, subst, ◌∙◌, arith, codes, option_map, option_and_then, eqb-true, leb-true}
+use Rattle.std.proofs.Common.{◌≡◌, ◌==◌, ◌||◌, ◌&&◌, ◌≤◌, ◌^◌, ℕ, Bool, true, false, cond, List, [], ◌∷◌, Option, Some, None, nat_le, refl, ap, subst, ◌∙◌, arith, codes, option_map, option_and_then, eqb-true, leb-true}
 use Rattle.std.specs.List.{list_all, list_any}
 use Rattle.std.specs.Option.{option_map_or}
 use Rattle.vm_ids.specs.declared.numbers.TheConstants.{PAGE}

@@ -1,11 +1,10 @@
 -- What clap's walk does at a word, over long options that take a value each.
-use Rattle.std.proofs.Common.{◌≡◌, ◌==◌, ◌||◌, ◌&&◌, ◌⊎◌, ◌+◌, ℕ, zero, suc, Bool, true, false, cond, not, List, [], ◌∷◌, ◌++◌, length, drop, Option, Some, None, refl, sym, ap, ap₂, append-nil, subst, ◌∙◌, arith, codes, bytes_eq, encode_utf8, chars, slice_get, inl, inr, nat_lt, option_map, option_and_then}
-use Rattle.std.specs.List.{list_any}
+use Rattle.std.proofs.Common.{◌≡◌, ◌||◌, ◌&&◌, ◌⊎◌, ℕ, zero, suc, Bool, true, false, cond, not, List, [], ◌∷◌, ◌++◌, length, drop, Option, Some, None, refl, sym, ap, ap₂, append-nil, subst, ◌∙◌, codes, bytes_eq, encode_utf8, chars, slice_get, inl, inr, nat_lt}
 use Rattle.std.specs.Option.{option_map_or}
 use Rattle.clap.specs.Lexer.{long_of, short_of}
 use Rattle.std.proofs.lemmas.Slice.Eq.{bytes_eq-Decides}
 use Rattle.clap.specs.declared.error.ErrorKind.TheVariants as kind
-use Rattle.clap.specs.Walk.{at_row, more_values, positional, subcommand_met, subcommand_or_other, trailing, with_values, Held, Outcome, Row, Rule, Step, Text, Waiting, Walk, after_flag, after_step, arg_by_id, arg_by_index, arg_by_long, arg_by_short, bundle_met, bundle_step, has_row, idle, long_met, long_or_other, next, option_word, option, plain, plain_word, settled_rows, short_or_plain, used, value as goes_to_position, walked, word_met}
+use Rattle.clap.specs.Walk.{at_row, more_values, positional, subcommand_met, subcommand_or_other, trailing, with_values, Held, Outcome, Row, Rule, Step, Text, Waiting, Walk, after_flag, after_step, arg_by_id, arg_by_index, arg_by_long, arg_by_short, bundle_met, bundle_step, has_row, idle, long_met, long_or_other, option_word, option, plain, plain_word, settled_rows, short_or_plain, used, value as goes_to_position, walked, word_met}
 use Rattle.clap.specs.Simple.{Shape, new_rule, new_shape}
 use Rattle.clap.specs.Kinds.{Kinds, or_else}
 use Rattle.clap.specs.Faults.{bundle_fault, bundle_step_fault, flag_word_fault, flags_fault, long_fault, option_fault, positional_fault, short_fault, step_fault, other_fault, settle_fault, turn_fault, use_fault, word_fault}

@@ -1,13 +1,12 @@
 -- The options that a word knows: which are proper, and what their values are.
 use Rattle.std.proofs.Common.{◌≡◌, ◌||◌, ◌&&◌, ◌⊎◌, ℕ, Bool, true, false, cond, not, List, [], ◌∷◌, ◌++◌, drop, find, length, map, nat_le, Option, Some, None, refl, sym, ap, subst, ◌∙◌, inl, inr, bytes_eq, slice_get, option_map, option_and_then}
-use Rattle.std.specs.List.{AllByRecursion, list_all, list_any}
+use Rattle.std.specs.List.{AllByRecursion, list_any}
 use Rattle.std.specs.Option.{option_map_or}
 use Rattle.std.proofs.lemmas.List.Folds.{list_any-append}
 use Rattle.std.proofs.lemmas.Slice.Eq.{bytes_eq-Decides}
 use Rattle.clap.specs.Walk.{Row, Rule, Text, arg_by_id, arg_by_index, arg_by_long, arg_by_short, first_of, has_row}
 use Rattle.replay.specs.Commanding.{CommandOption, are_proper, hyphened, is_known, is_value, value_named}
 use Rattle.replay.specs.Reading.{are_named, have_values}
-use Rattle.replay.proofs.CommandLine.Spelling.{spelled}
 use Rattle.replay.proofs.CommandLine.Turns.{IsOption, IsOptions, opt, same_bytes}
 use Rattle.replay.proofs.CommandLine.Walks.{ArePlain, Fits, Known, id_of, row_of}
 

@@ -1,16 +1,15 @@
 -- What clap's walk makes of words, beside the options that the definition cuts them into.
-use Rattle.std.proofs.Common.{◌≡◌, ◌==◌, ◌||◌, ◌⊎◌, ℕ, Bool, true, false, List, [], ◌∷◌, ◌++◌, drop, map, fold, Option, Some, None, refl, sym, ap, subst, ◌∙◌, append-nil, append_assoc, inl, inr, bytes_eq, option_map}
-use Rattle.std.specs.List.{AllByRecursion, list_any}
+use Rattle.std.proofs.Common.{◌≡◌, ◌||◌, ℕ, Bool, true, false, List, [], ◌∷◌, ◌++◌, drop, map, fold, Option, Some, None, refl, sym, ap, subst, ◌∙◌, append-nil, append_assoc, inl, inr, bytes_eq}
+use Rattle.std.specs.List.{AllByRecursion}
 use Rattle.std.specs.Option.{option_map_or}
 use Rattle.clap.specs.Lexer.{long_of}
-use Rattle.clap.specs.Walk.{Row, Rule, Text, Walk, has_row, settled, settled_rows, used, used_by_id, walked}
-use Rattle.clap.specs.Kinds.{or_else}
+use Rattle.clap.specs.Walk.{Row, Rule, Text, Walk, has_row, settled, settled_rows, used_by_id, walked}
 use Rattle.clap.specs.Faults.{option_fault, settle_fault, turn_fault, use_fault, walk_fault}
 use Rattle.replay.specs.Commanding.{CommandOption, hyphened, is_value, option_in, options_of}
 use Rattle.replay.specs.Reading.{has_escape}
-use Rattle.replay.proofs.CommandLine.Spelling.{alone_long, joined_long, long_alone, long_joined, long_no_escape, plain_word as plain_value, spelled}
+use Rattle.replay.proofs.CommandLine.Spelling.{alone_long, joined_long, long_alone, long_joined, plain_word as plain_value, spelled}
 use Rattle.replay.proofs.CommandLine.Cutting.{by_cut, cut_apart, cut_joined}
-use Rattle.replay.proofs.CommandLine.Turns.{IsOption, IsOptions, awaiting, fault_long, fault_no_value, fault_stray, fault_unknown, fault_value, held, none_both, none_first, none_then, opt, option_after, row, shape_with, standing, use_of_none, use_of_one, used_once, used_twice, walked_long, walked_value}
+use Rattle.replay.proofs.CommandLine.Turns.{IsOption, IsOptions, awaiting, fault_long, fault_no_value, fault_stray, fault_unknown, fault_value, held, none_both, none_first, none_then, opt, row, shape_with, standing, use_of_none, use_of_one, used_once, used_twice, walked_long, walked_value}
 
 -- what clap finds for an option
 abbrev pub id_of : CommandOption → Text

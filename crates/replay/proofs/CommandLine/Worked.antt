@@ -5,7 +5,7 @@ use Rattle.actor_script.specs.Operands.{number_of}
 use Rattle.actor_script.specs.Words.{words_of}
 use Rattle.replay.specs.declared.asked.Asked.{Asked}
 use Rattle.replay.specs.declared.asked.Asked.TheVariants as asks
-use Rattle.replay.specs.Commanding.{asked_by, folder_of, options_among, options_of, others_among, page_size_of}
+use Rattle.replay.specs.Commanding.{asked_by, options_among, options_of, others_among}
 
 abbrev runs : ℕ → ℕ → Option Asked
 runs frames page = Some (asks.Run (record { frames = frames; page_bytes = page }))
