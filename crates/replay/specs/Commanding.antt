@@ -1,5 +1,5 @@
 -- The words of a command line, and the exit statuses.
-use Rattle.std.specs.Prelude.{◌==◌, ◌&&◌, ◌*◌, ℕ, Bool, true, false, not, is_some, nat_le, List, [], ◌∷◌, find, slice_get, bytes_eq, codes, Option, Some, None, option_map, option_and_then, unwrap_or, if◌then◌else◌}
+use Rattle.std.specs.Prelude.{◌==◌, ◌&&◌, ◌*◌, ℕ, Bool, true, false, not, nat_le, List, [], ◌∷◌, find, slice_get, bytes_eq, codes, Option, Some, None, option_map, option_and_then, unwrap_or, if◌then◌else◌}
 use Rattle.std.specs.List.{after_first, before_first, list_any}
 use Rattle.std.specs.Option.{option_map_or, option_or}
 use Rattle.vm_ids.specs.declared.numbers.TheConstants.{PAGE}
@@ -41,15 +41,47 @@ options_of (word ∷ next ∷ words) = option_map_or
 abbrev pub value_named : List ℕ → List CommandOption → Option (List ℕ)
 value_named name options = option_map (λ o. o.value) (find (λ o. bytes_eq o.name name) options)
 
--- the names of the options of `run`
-abbrev pub option_names : List (List ℕ)
-option_names = codes "--frames" ∷ codes "--page" ∷ codes "--segments" ∷ []
+-- the names of the options of `run`, without the hyphens
+abbrev pub run_options : List (List ℕ)
+run_options = codes "frames" ∷ codes "page" ∷ codes "segments" ∷ []
 
--- each option has one of these names, and no two have the same
-abbrev pub are_proper : List CommandOption → Bool
-are_proper [] = true
-are_proper (o ∷ options) = list_any (λ name. bytes_eq name o.name) option_names
-    && (not (list_any (λ later. bytes_eq o.name later.name) options) && are_proper options)
+-- and of each word whose pages have 4,096 bytes
+abbrev pub plain_options : List (List ℕ)
+plain_options = codes "frames" ∷ codes "segments" ∷ []
+
+-- a name, with the hyphens
+abbrev pub hyphened : List ℕ → List ℕ
+hyphened name = 45 ∷ 45 ∷ name
+
+-- it is one of these names
+abbrev pub is_known : List (List ℕ) → List ℕ → Bool
+is_known known name = list_any (λ own. bytes_eq (hyphened own) name) known
+
+-- a value isn't empty, and no hyphen begins it
+abbrev pub is_value : List ℕ → Bool
+is_value [] = false
+is_value (b ∷ bs) = not (b == 45)
+
+-- each option has one of these names and a value, and no two have the same name
+abbrev pub are_proper : List (List ℕ) → List CommandOption → Bool
+are_proper known [] = true
+are_proper known (o ∷ options) = (is_known known o.name && is_value o.value)
+    && (not (list_any (λ later. bytes_eq o.name later.name) options) && are_proper known options)
+
+-- what a name finds, without the hyphens
+abbrev pub Values : Type 0
+Values = List ℕ → Option (List ℕ)
+
+-- the values of options, where these are proper
+abbrev pub values_of : List (List ℕ) → List CommandOption → Option Values
+values_of known options = if are_proper known options
+    then Some (λ name. value_named (hyphened name) options)
+    else None
+
+-- The values that words give to options of these names: each word is an option, or its name or its
+-- value. None for other words.
+abbrev pub values_behind : List (List ℕ) → List (List ℕ) → Option Values
+values_behind known words = option_and_then (values_of known) (options_of words)
 
 -- a number of page frames, 3 to 65,536
 abbrev pub if_frames : ℕ → Option ℕ
@@ -71,11 +103,6 @@ if_page n = if list_any (λ size. size == n) page_sizes then Some n else None
 abbrev pub page_of : List ℕ → Option ℕ
 page_of word = option_and_then if_page (number_of word)
 
--- the name of a folder isn't empty, and no hyphen begins it
-abbrev pub is_folder_name : List ℕ → Bool
-is_folder_name [] = false
-is_folder_name (b ∷ bs) = not (b == 45)
-
 -- all page frames together have at most so many bytes
 abbrev pub most_frame_bytes : ℕ
 most_frame_bytes = 268435456
@@ -86,24 +113,24 @@ if_fitting frames page = if nat_le (frames * page) most_frame_bytes
     then Some (record { frames = frames; page_bytes = page })
     else None
 
--- what the values of `--frames`, `--page` and `--segments` ask for
-abbrev pub asked_for : Option (List ℕ) → Option (List ℕ) → Option (List ℕ) → Option Size
-asked_for frames page folder = if option_map_or is_folder_name folder true
-    then option_and_then
-    (λ f. option_and_then (if_fitting f) (option_map_or page_of page (Some PAGE)))
+-- the size that the values of `--frames` and `--page` ask for
+abbrev pub asked_for : Option (List ℕ) → Option (List ℕ) → Option Size
+asked_for frames page =
+    option_and_then (λ f. option_and_then (if_fitting f) (option_map_or page_of page (Some PAGE)))
     (option_and_then frames_of frames)
-    else None
 
--- what options ask for
-abbrev pub asked_in : List CommandOption → Option Size
-asked_in options = if are_proper options
-    then asked_for (value_named (codes "--frames") options) (value_named (codes "--page") options)
-    (value_named (codes "--segments") options)
-    else None
+-- the size that values ask for
+abbrev pub size_of : Values → Option Size
+size_of values = asked_for (values (codes "frames")) (values (codes "page"))
 
--- what the words behind `run` ask for: each is an option, or its name or its value
-abbrev pub asked_behind : List (List ℕ) → Option Size
-asked_behind words = option_and_then asked_in (options_of words)
+-- and that words ask for which are options of these names
+abbrev pub size_behind : List (List ℕ) → List (List ℕ) → Option Size
+size_behind known words = option_and_then size_of (values_behind known words)
+
+-- the number of page frames that words ask for whose pages have 4,096 bytes
+abbrev pub frames_behind : List (List ℕ) → Option ℕ
+frames_behind words =
+    option_map (λ (size : Size). size.frames) (size_behind plain_options words)
 
 -- the value in one word, where its option has this name
 abbrev pub value_in : List ℕ → List ℕ → Option (List ℕ)
@@ -157,24 +184,23 @@ others_among false (word ∷ words) = if is_hyphened word
 -- what the words of a script and those of options ask for
 abbrev pub trial_of : List (List ℕ) → List (List ℕ) → Option Asked
 trial_of words options = option_and_then
-    (λ script. option_map (λ (size : Size). asks.Trial script size.frames) (asked_behind options))
+    (λ script. option_map (asks.Trial script) (frames_behind options))
     (script_of words)
 
--- What the words behind `trial` ask for: a script, and the options of `run` but `--page`, before,
--- between or behind its two words.
+-- What the words behind `trial` ask for: a script, and options before, between or behind its two
+-- words.
 abbrev pub trial_behind : List (List ℕ) → Option Asked
-trial_behind words = if is_some (first_value (codes "--page") words)
-    then None
-    else trial_of (others_among false words) (options_among false words)
+trial_behind words = trial_of (others_among false words) (options_among false words)
 
 -- What the words of a command line ask for: they are `run` and its options, `generate` and a
--- script, or `trial`, a script and options. None for other words.
+-- script, `trial`, a script and options, or `mix` and options. None for other words.
 unfoldable pub asked_by : List (List ℕ) → Option Asked
 asked_by [] = None
 asked_by (command ∷ words) =
-    if bytes_eq command (codes "run") then option_map asks.Run (asked_behind words)
+    if bytes_eq command (codes "run") then option_map asks.Run (size_behind run_options words)
     else if bytes_eq command (codes "generate") then option_map asks.Generate (script_of words)
     else if bytes_eq command (codes "trial") then trial_behind words
+    else if bytes_eq command (codes "mix") then option_map asks.Mix (frames_behind words)
     else None
 
 -- the folder that words name, or the working folder

@@ -29,5 +29,5 @@ pub enum Asked {
     Trial(Generated, u32),
     /// The replay of the script of processes that the source has left, over so many page frames of
     /// 4,096 bytes.
-    Mix(u32),
+    Mix { frames: u32 },
 }

@@ -150,7 +150,7 @@ pub fn run<S: Source, K: Sink, M: Mapper, C: Chooser, D: Dispatcher>(
                 script,
             )
         }
-        Asked::Mix(frames) => {
+        Asked::Mix { frames } => {
             let manager = match Pvm::new(alloc, frames, PAGE as u32) {
                 Ok(manager) => manager,
                 Err(_) => return Status::NoMemory,

@@ -4,7 +4,7 @@ ghost use Rattle.std.specs.List.{list_any};
 ghost use Rattle.replay.specs.Commanding.{is_equals, is_hyphened, line_count_of, options_among, others_among, script_of, trial_behind, trial_of};
 
 use crate::asked::{Asked, Generated};
-use crate::words::{asked_behind, first_value};
+use crate::words::frames_behind;
 use actor_script::read_number;
 use std::alloc::Global;
 use vm_ids::NoMemory;
@@ -90,8 +90,8 @@ fn trial_of(alloc: Global, script: &[&str], options: &[&str]) -> Result<Option<A
     let Some(script) = script_in(script) else {
         return Ok(None);
     };
-    match asked_behind(alloc, options)? {
-        Some(size) => Ok(Some(Asked::Trial(script, size.frames))),
+    match frames_behind(alloc, options)? {
+        Some(frames) => Ok(Some(Asked::Trial(script, frames))),
         None => Ok(None),
     }
 }
@@ -101,9 +101,6 @@ fn trial_of(alloc: Global, script: &[&str], options: &[&str]) -> Result<Option<A
 pub fn trial_behind(alloc: Global, words: &[&str]) -> Result<Option<Asked>, NoMemory>
     ensures { IfOk result (λ asked. asked ≡ trial_behind (map (λ w. w.now) words.now)) }
 {
-    if first_value("--page", words).is_some() {
-        return Ok(None);
-    }
     match part(alloc, words) {
         Ok(parted) => trial_of(alloc, &parted.others, &parted.options),
         Err(error) => Err(error),

@@ -1,15 +1,15 @@
 // The words of a command line.
-ghost use Rattle.std.specs.Prelude.{◌≡◌, ◌≤◌, ◌^◌, false, map, option_map, IfErr, IfOk, IsSome};
-ghost use Rattle.clap.specs.Words.{kind_of};
-ghost use Rattle.replay.specs.Commanding.{asked_behind, asked_by, first_value, folder_of, frames_of, is_folder_name, page_of, page_size_of, value_in};
-ghost use Rattle.replay.specs.Reading.{asked_of, has_escape};
+ghost use Rattle.std.specs.Prelude.{◌≡◌, ◌≤◌, ◌^◌, false, map, true, option_map, IfErr, IfOk, IsSome};
+ghost use Rattle.clap.specs.Words.{app_of, first_value as found_first, found_of, kind_of};
+ghost use Rattle.replay.specs.Commanding.{asked_by, first_value, folder_of, frames_behind, frames_of, is_value, page_of, page_size_of, size_behind, size_of, value_in, values_behind};
+ghost use Rattle.replay.specs.Reading.{are_named, bare_command, has_escape, have_values, values_in, with_options};
 
 use crate::asked::{Asked, Size};
 use crate::trial_words::{script_in, trial_behind};
 use actor_script::read_number;
 use clap::error::ErrorKind;
 use clap::{Arg, ArgMatches, Command, Error};
-use std::alloc::Global;
+use std::alloc::{AllocError, Global};
 use vm_ids::{NoMemory, PAGE};
 
 // A run has so many page frames at least, and at most.
@@ -22,6 +22,12 @@ const MOST_FRAME_BYTES: u64 = 1 << 28;
 
 // The sizes that a page may have.
 const PAGE_SIZES: [u32; 8] = [512, 1024, 2048, 4096, 8192, 16384, 32768, 65536];
+
+// The names of the options of `run`.
+const RUN_OPTIONS: [&str; 3] = ["frames", "page", "segments"];
+
+// The names of the options of each word whose pages have 4,096 bytes.
+const PLAIN_OPTIONS: [&str; 2] = ["frames", "segments"];
 
 // The word behind which clap takes each word as it stands. It lets it stand last, too.
 const ESCAPE: &str = "--";
@@ -50,23 +56,35 @@ fn page_in(word: &str) -> Option<u32>
     }
 }
 
-// Whether a word may be the name of a folder.
-fn is_folder_name(word: &str) -> bool
-    ensures { result ≡ is_folder_name word.now }
+// Whether a word may be the value of an option.
+fn is_value(word: &str) -> bool
+    ensures { result ≡ is_value word.now }
 {
     !word.is_empty() && !word.starts_with('-')
 }
 
-// What the values that clap found ask for: it knows the options, and this the forms of their
-// values.
-fn asked_in(matches: &ArgMatches<'_>) -> Option<Size>
-    ensures { result ≡ asked_of matches.now }
+// Whether each of these options that clap found is given a value.
+fn have_values(matches: &ArgMatches<'_>, known: &[&str]) -> bool
+    ensures { result
+        ≡ have_values (found_first (found_of matches.now)) (map (λ w. w.now) known.now) }
 {
-    if let Some(folder) = matches.get_str("segments") {
-        if !is_folder_name(folder) {
-            return None;
+    match known {
+        [name, names @ ..] => {
+            let is_given = match matches.get_str(name) {
+                Some(word) => is_value(word),
+                None => true,
+            };
+            is_given && have_values(matches, names)
         }
+        [] => true,
     }
+}
+
+// The size that the values ask for which clap found: it knows the options, and this the forms of
+// their values.
+fn size_in(matches: &ArgMatches<'_>) -> Option<Size>
+    ensures { result ≡ size_of (found_first (found_of matches.now)) }
+{
     let frames = frames_in(matches.get_str("frames")?)?;
     let page_bytes = match matches.get_str("page") {
         Some(word) => page_in(word)?,
@@ -78,57 +96,128 @@ fn asked_in(matches: &ArgMatches<'_>) -> Option<Size>
     Some(Size { frames, page_bytes })
 }
 
-// What clap reads in the words behind the command word.
-fn matches_in<'a>(alloc: Global, words: &'a [&'a str]) -> Result<ArgMatches<'a>, Error>
-    ensures read { IfOk result (λ m. has_escape (map (λ w. w.now) words.now) ≡ false →
-        asked_behind (map (λ w. w.now) words.now) ≡ asked_of m) }
-    ensures refused { IfErr result (λ e. IsSome (asked_behind (map (λ w. w.now) words.now)) →
-        kind_of e ≡ ErrorKind.OutOfMemory) }
+// A command that takes no program's name and knows no option.
+fn bare_command<'a>(alloc: Global) -> Command<'a>
+    ensures { app_of result ≡ bare_command }
 {
-    let frames = Arg::new(alloc, "frames").long("frames").required(true);
-    let page = Arg::new(alloc, "page").long("page");
-    let segments = Arg::new(alloc, "segments").long("segments");
-    let command = Command::new(alloc, "run")
+    Command::new(alloc, "options")
         .no_binary_name(true)
         .disable_help_flag(true)
         .disable_version_flag(true)
-        .arg(frames)?
-        .arg(page)?
-        .arg(segments)?;
+}
+
+// A command that knows these options besides its own.
+fn with_options<'a>(
+    alloc: Global,
+    command: Command<'a>,
+    names: &[&'static str],
+) -> Result<Command<'a>, AllocError>
+    ensures { IfOk result (λ c. app_of c
+        ≡ with_options (app_of command.entry) (map (λ w. w.now) names.now)) }
+{
+    match names {
+        [name, rest @ ..] => {
+            let command = command.arg(Arg::new(alloc, name).long(name))?;
+            with_options(alloc, command, rest)
+        }
+        [] => Ok(command),
+    }
+}
+
+// What clap reads in words that are options of these names.
+fn matches_in<'a>(
+    alloc: Global,
+    known: &[&'static str],
+    words: &'a [&'a str],
+) -> Result<ArgMatches<'a>, Error>
+    requires { are_named (map (λ w. w.now) known.now) ≡ true }
+    ensures read { IfOk result (λ m. has_escape (map (λ w. w.now) words.now) ≡ false →
+        values_behind (map (λ w. w.now) known.now) (map (λ w. w.now) words.now)
+        ≡ values_in (map (λ w. w.now) known.now) m) }
+    ensures refused { IfErr result (λ e.
+        IsSome (values_behind (map (λ w. w.now) known.now) (map (λ w. w.now) words.now)) →
+        kind_of e ≡ ErrorKind.OutOfMemory) }
+{
+    let command = with_options(alloc, bare_command(alloc), known)?;
     command.try_get_matches_from(words)
 }
 
-/// What the words behind `run` ask for, which are options: `None` exactly for other words.
-pub fn asked_behind(alloc: Global, words: &[&str]) -> Result<Option<Size>, NoMemory>
-    ensures { IfOk result (λ asked. asked ≡ asked_behind (map (λ w. w.now) words.now)) }
+// The values that words give to options of these names: `None` exactly for other words.
+fn values_behind<'a>(
+    alloc: Global,
+    known: &[&'static str],
+    words: &'a [&'a str],
+) -> Result<Option<ArgMatches<'a>>, NoMemory>
+    requires { are_named (map (λ w. w.now) known.now) ≡ true }
+    ensures { IfOk result (λ found. option_map (λ m. found_first (found_of m)) found
+        ≡ values_behind (map (λ w. w.now) known.now) (map (λ w. w.now) words.now)) }
 {
     if words.contains(&ESCAPE) {
         return Ok(None);
     }
-    match matches_in(alloc, words) {
-        Ok(matches) => Ok(asked_in(&matches)),
+    match matches_in(alloc, known, words) {
+        Ok(matches) => {
+            if have_values(&matches, known) {
+                Ok(Some(matches))
+            } else {
+                Ok(None)
+            }
+        }
         Err(error) if error.kind() == ErrorKind::OutOfMemory => Err(NoMemory),
         Err(_) => Ok(None),
     }
 }
 
+// The size that words ask for which are options of these names: `None` exactly for other words.
+fn size_behind(
+    alloc: Global,
+    known: &[&'static str],
+    words: &[&str],
+) -> Result<Option<Size>, NoMemory>
+    requires { are_named (map (λ w. w.now) known.now) ≡ true }
+    ensures { IfOk result (λ asked.
+        asked ≡ size_behind (map (λ w. w.now) known.now) (map (λ w. w.now) words.now)) }
+{
+    match values_behind(alloc, known, words)? {
+        Some(values) => Ok(size_in(&values)),
+        None => Ok(None),
+    }
+}
+
+/// The number of page frames that words ask for whose pages have 4,096 bytes: `None` exactly for
+/// other words.
+pub fn frames_behind(alloc: Global, words: &[&str]) -> Result<Option<u32>, NoMemory>
+    ensures { IfOk result (λ frames. frames ≡ frames_behind (map (λ w. w.now) words.now)) }
+{
+    match size_behind(alloc, &PLAIN_OPTIONS, words)? {
+        Some(size) => Ok(Some(size.frames)),
+        None => Ok(None),
+    }
+}
+
 /// What the words of a command line ask for, which are `run --frames F [--page B] [--segments
-/// DIR]`, `generate N L` or `trial N L --frames F [--segments DIR]`: `None` exactly for other
-/// words. `NoMemory` where there is none to read them.
+/// DIR]`, `generate N L`, `trial N L --frames F [--segments DIR]` or `mix --frames F [--segments
+/// DIR]`: `None` exactly for other words. `NoMemory` where there is none to read them.
 #[tactic(auto, unfolding(crate::specs::Commanding::asked_by))]
 pub fn read_words(alloc: Global, words: &[&str]) -> Result<Option<Asked>, NoMemory>
     ensures { IfOk result (λ asked. asked ≡ asked_by (map (λ w. w.now) words.now)) }
 {
     match words {
-        [command, options @ ..] if *command == "run" => match asked_behind(alloc, options)? {
-            Some(size) => Ok(Some(Asked::Run(size))),
-            None => Ok(None),
-        },
+        [command, options @ ..] if *command == "run" => {
+            match size_behind(alloc, &RUN_OPTIONS, options)? {
+                Some(size) => Ok(Some(Asked::Run(size))),
+                None => Ok(None),
+            }
+        }
         [command, script @ ..] if *command == "generate" => match script_in(script) {
             Some(script) => Ok(Some(Asked::Generate(script))),
             None => Ok(None),
         },
         [command, rest @ ..] if *command == "trial" => trial_behind(alloc, rest),
+        [command, options @ ..] if *command == "mix" => match frames_behind(alloc, options)? {
+            Some(frames) => Ok(Some(Asked::Mix { frames })),
+            None => Ok(None),
+        },
         _ => Ok(None),
     }
 }

@@ -1,149 +1,179 @@
 -- The command that clap is given, and what a parse of it says.
-use Rattle.std.proofs.Common.{◌≡◌, ◌||◌, ◌&&◌, Bool, true, false, cond, not, List, [], ◌∷◌, map, fold, Option, Some, None, is_some, refl, sym, ap, ap₂, subst, ◌∙◌, append-nil, codes, option_map, option_and_then}
-use Rattle.std.specs.List.{list_any}
-use Rattle.clap.specs.Walk.{Held, Row, Rule, Text, Walk, finished, first_of, has_row, settled, walk, walked, with_default}
-use Rattle.clap.specs.Simple.{App, built, is_simple, matches_of, new_app, new_rule, on_top, with_rule}
-use Rattle.clap.specs.Takes.{is_given}
-use Rattle.clap.specs.Kinds.{Kinds, or_else}
-use Rattle.clap.specs.Faults.{check_fault, default_fault, defaults_fault, fault_of, given_default_fault, is_simple_and_free, settle_fault, walk_fault}
-use Rattle.clap.proofs.FaultLemmas.{leaf_fault}
-use Rattle.clap.proofs.OnLiterals.{clap_on_literals}
-use Rattle.clap.specs.declared.error.ErrorKind.TheVariants as kind
+use Rattle.std.proofs.Common.{◌≡◌, ◌||◌, ◌&&◌, ℕ, Bool, true, false, cond, not, List, [], ◌∷◌, ◌++◌, append_assoc, append-nil, map, fold, Option, Some, None, refl, sym, ap, subst, ◌∙◌, inl, inr, option_and_then}
 use Rattle.std.specs.Prelude.{IfErr, IfOk, IsSome, Result, Ok, Err}
-use Rattle.std.proofs.Common.{inl, inr}
-use Rattle.clap.specs.Matches.{first_value, found_of}
+use Rattle.std.specs.List.{list_all, list_any}
+use Rattle.clap.specs.Walk.{Held, Row, Rule, Text, finished, first_of, has_row, is_early_multiple, rows_after, rows_of, settled, walked, with_default}
+use Rattle.clap.specs.Simple.{App, HasMatchesOf, built, filled_from, is_simple, matches_of, on_top, with_rule}
+use Rattle.clap.specs.Takes.{is_given}
+use Rattle.clap.specs.Kinds.{FailsBy, Kinds, or_else}
+use Rattle.clap.specs.Faults.{check_fault, defaults_fault, fault_of, given_default_fault, is_simple_and_free, level_fault, settle_fault, walk_fault}
+use Rattle.clap.proofs.FaultLemmas.{leaf_fault}
+use Rattle.clap.proofs.WalkLemmas.{first_value-rows}
+use Rattle.clap.specs.declared.error.ErrorKind.TheVariants as kind
+use Rattle.clap.specs.Matches.{found_of}
 use Rattle.clap.specs.Values.{kind_of}
-use Rattle.clap.specs.Walk.{rows_of}
-use Rattle.clap.specs.Simple.{HasMatchesOf}
-use Rattle.clap.specs.Kinds.{FailsBy}
 use Rattle.clap.specs.declared.error.Error.{Error}
 use Rattle.clap.specs.declared.parser.matches.ArgMatches.{ArgMatches}
-use Rattle.clap.proofs.WalkLemmas.{first_value-rows}
-use Rattle.replay.specs.declared.asked.Size.{Size}
-use Rattle.replay.specs.Commanding.{CommandOption, are_proper, asked_behind, asked_for, asked_in, frames_of, options_of, value_named}
-use Rattle.replay.specs.Reading.{asked_of, has_escape}
+use Rattle.replay.specs.Commanding.{Values, hyphened, value_named, values_behind, values_of}
+use Rattle.replay.specs.Reading.{are_named, bare_command, has_escape, told_rule, values_in, values_with, with_options}
 use Rattle.replay.proofs.CommandLine.Turns.{held, none_both, none_first, none_then, opt, shape_with, standing}
 use Rattle.replay.proofs.CommandLine.Walks.{reads, row_of, takes}
-use Rattle.replay.proofs.CommandLine.Values.{AreKnown, fits, given, proper, proper_known, run_options, run_rules, value_found}
-use Rattle.replay.proofs.CommandLine.Right.{right, right_plain}
+use Rattle.replay.proofs.CommandLine.Values.{fits_own, options_alone, own_fits, own_known, proper_is, rules_of, value_found}
+use Rattle.replay.proofs.CommandLine.Right.{right}
 
-abbrev pub long_rule : Text → Bool → Rule
-long_rule id required = record (new_rule id) { long = Some id; required = required }
+both_true : (a b : Bool) → a ≡ true → b ≡ true → (a && b) ≡ true
+both_true a b e f = ap (λ (x : Bool). x && b) e ∙ f
 
--- the command before it has arguments, and before it is built
-abbrev pub bare_app : App
-bare_app = on_top (λ s. record s { no_binary_name = true; disable_help_flag = true; disable_version_flag = true }) (new_app (codes "run"))
+-- the command with the rules of some options
 
-abbrev pub run_app : App
-run_app = with_rule (with_rule (with_rule bare_app (long_rule (codes "frames") true)) (long_rule (codes "page") false)) (long_rule (codes "segments") false)
+abbrev pub told_rules : List Text → List Rule
+told_rules known = map told_rule known
 
-pub is_simple_run : is_simple run_app ≡ true
-unfolding clap_on_literals
-is_simple_run = refl
+abbrev pub with_rules : App → List Rule → App
+with_rules a rules = on_top (λ s. record s { rules = s.rules ++ rules }) a
 
-pub is_free_run : is_simple_and_free run_app ≡ true
-unfolding clap_on_literals
-is_free_run = refl
+pub options_told : (a : App) (known : List Text) → with_options a known ≡ with_rules a (told_rules known)
+options_told a [] = ap (λ (rules : List Rule). on_top (λ s. record s { rules = rules }) a) (sym (append-nil a.top.rules))
+options_told a (name ∷ known) =
+    options_told (with_rule a (told_rule name)) known
+    ∙ ap (λ (rules : List Rule). on_top (λ s. record s { rules = rules }) a) (append_assoc a.top.rules (told_rule name ∷ []) (told_rules known))
+
+abbrev pub told : List Text → App
+told known = with_rules bare_command (told_rules known)
+
+-- what holds of the rule of each option holds of all
+
+filled_rules : (known : List Text) → filled_from 1 (told_rules known) ≡ rules_of known
+filled_rules [] = refl
+filled_rules (name ∷ known) = ap (λ (rules : List Rule). opt name ∷ rules) (filled_rules known)
+
+simple_told : (known : List Text) → list_all (λ (a : Rule). a.is_simple) (told_rules known) ≡ true
+simple_told [] = refl
+simple_told (name ∷ known) = simple_told known
+
+simple_rules : (known : List Text) → list_all (λ (a : Rule). a.is_simple) (rules_of known) ≡ true
+simple_rules [] = refl
+simple_rules (name ∷ known) = simple_rules known
+
+free_rules : (known : List Text) → list_all (λ (a : Rule). a.is_free) (rules_of known) ≡ true
+free_rules [] = refl
+free_rules (name ∷ known) = free_rules known
+
+in_order : (n : ℕ) (known : List Text) → list_any (is_early_multiple n) (rules_of known) ≡ false
+in_order n [] = refl
+in_order n (name ∷ known) = in_order n known
+
+none_required : (known : List Text) (rows : List Row) → list_any (λ (a : Rule). a.required && not (is_given a.id rows)) (rules_of known) ≡ false
+none_required [] rows = refl
+none_required (name ∷ known) rows = none_required known rows
+
+abbrev IsFree : List Rule → Type 0
+IsFree c = (list_all (λ (a : Rule). a.is_simple) c ≡ true) × ((n : ℕ) → list_any (is_early_multiple n) c ≡ false) × (list_all (λ (a : Rule). a.is_free) c ≡ true)
+
+built_free : (known : List Text) → IsFree (filled_from 1 (told_rules known))
+built_free known = subst IsFree (sym (filled_rules known)) (simple_rules known, (λ n. in_order n known), free_rules known)
+
+pub told_simple : (known : List Text) → is_simple (told known) ≡ true
+told_simple known =
+    let free = built_free known in
+    both_true _ _ (both_true _ _ (simple_told known) refl) (both_true _ _ (both_true _ _ free.0 (ap not (free.1 _))) refl)
+
+pub told_free : (known : List Text) → is_simple_and_free (told known) ≡ true
+told_free known = both_true _ _ (told_simple known) (both_true _ _ (built_free known).2 refl)
 
 -- where a walk over the words ends
-abbrev end_of : List Text → Held
-end_of words = (fold (walked run_rules []) (standing [] None) words).held
+abbrev end_of : List Text → List Text → Held
+end_of known words = (fold (walked (rules_of known) []) (standing [] None) words).held
 
-level : (words : List Text) → fault_of run_app words ≡ or_else (walk_fault (shape_with run_rules) [] (standing [] None) words)
-    (or_else (settle_fault run_rules false (end_of words)) (or_else (defaults_fault (settled run_rules (end_of words)).rows run_rules) (check_fault (shape_with run_rules) (finished run_rules (end_of words)) false)))
-level words = leaf_fault (built run_app) (held [] None) words refl
+module _ (known words : List Text) where
+  abbrev c : List Rule
+  c = rules_of known
 
-no_default : (id : Text) (required : Bool) (rows : List Row) → with_default rows (opt id required) ≡ rows
-no_default id required rows = by (has_row id rows)
+  abbrev end : Held
+  end = end_of known words
+
+  level : fault_of (told known) words ≡ or_else (walk_fault (shape_with c) [] (standing [] None) words)
+      (or_else (settle_fault c false end) (or_else (defaults_fault (settled c end).rows c) (check_fault (shape_with c) (finished c end) false)))
+  level = leaf_fault (built (told known)) (held [] None) words refl ∙ ap (λ (rules : List Rule). level_fault (shape_with rules) [] (held [] None) words false []) (filled_rules known)
+
+  matches_are : matches_of (told known) words ≡ finished c end
+  matches_are = ap (λ (rules : List Rule). rows_after rules [] words) (filled_rules known)
+
+no_default : (name : Text) (rows : List Row) → with_default rows (opt name) ≡ rows
+no_default name rows = by (has_row name rows)
   where
     by : (b : Bool) → cond b rows rows ≡ rows
     by true = refl
     by false = refl
 
-finished_is : (h : Held) → finished run_rules h ≡ (settled run_rules h).rows
-finished_is h =
-    let rows = (settled run_rules h).rows in
-    ap (λ (l : List Row). with_default (with_default l (opt (codes "page") false)) (opt (codes "segments") false)) (no_default (codes "frames") true rows)
-    ∙ ap (λ (l : List Row). with_default l (opt (codes "segments") false)) (no_default (codes "page") false rows) ∙ no_default (codes "segments") false rows
+no_defaults : (known : List Text) (rows : List Row) → fold with_default rows (rules_of known) ≡ rows
+no_defaults [] rows = refl
+no_defaults (name ∷ known) rows = ap (λ (l : List Row). fold with_default l (rules_of known)) (no_default name rows) ∙ no_defaults known rows
 
 -- no option has a default that could be wrong
-defaults_pass : (rows : List Row) → defaults_fault rows run_rules ≡ []
+defaults_pass : (known : List Text) (rows : List Row) → defaults_fault rows (rules_of known) ≡ []
 unfolding defaults_fault
-defaults_pass rows =
-    none_both _ _ (no_fault (codes "frames") true rows) (none_both _ _ (no_fault (codes "page") false (with_default rows (opt (codes "frames") true)))
-    (none_both _ _ (no_fault (codes "segments") false (with_default (with_default rows (opt (codes "frames") true)) (opt (codes "page") false))) refl))
+defaults_pass [] rows = refl
+defaults_pass (name ∷ known) rows = none_both _ _ (by (has_row name rows)) (defaults_pass known (with_default rows (opt name)))
   where
-    no_fault : (id : Text) (required : Bool) (rows : List Row) → default_fault rows (opt id required) ≡ []
-    no_fault id required rows = by (has_row id rows)
-      where
-        by : (b : Bool) → cond (b || true) [] (given_default_fault (opt id required) []) ≡ []
-        by true = refl
-        by false = refl
+    by : (b : Bool) → cond (b || true) [] (given_default_fault (opt name) []) ≡ []
+    by true = refl
+    by false = refl
 
-required_given : (rows : List Row) → is_given (codes "frames") rows ≡ true → check_fault (shape_with run_rules) rows false ≡ []
-required_given rows e = ap (λ (b : Bool). cond (not b || false) (kind.MissingRequiredArgument ∷ []) []) e
-
-some_value : {A B : Type 0} (f : A → Option B) (o : Option A) (y : B) → option_and_then f o ≡ Some y → is_some o ≡ true
-some_value f None y e = absurd (cc)
-some_value f (Some x) y e = refl
+check_passes : (known : List Text) (rows : List Row) → check_fault (shape_with (rules_of known)) rows false ≡ []
+check_passes known rows = ap (λ (b : Bool). cond b (kind.MissingRequiredArgument ∷ []) []) (none_required known rows)
 
 -- clap takes what the definition takes
 
-pub taken : (words : List Text) (asked : Size) → asked_behind words ≡ Some asked → fault_of run_app words ≡ []
-taken words asked e =
-    let r = right words asked e in
-    let known = proper_known r.options r.proper in
-    let go = takes run_rules run_options words r.options r.cut [] None refl (fits r.options r.proper) (right_plain words asked r) in
-    let rows : finished run_rules (end_of words) ≡ map row_of r.options = finished_is (end_of words) ∙ go.ends in
-    let frames : is_given (codes "frames") (map row_of r.options) ≡ true = sym (given (codes "frames") r.options known) ∙ some_value frames_of (value_named (codes "--frames") r.options) asked.frames r.forms.frames_are in
-    level words
-    ∙ none_both _ _ go.no_fault (none_both _ _ go.settles (none_both _ _ (defaults_pass (settled run_rules (end_of words)).rows) (required_given (finished run_rules (end_of words)) (ap (is_given (codes "frames")) rows ∙ frames))))
+pub taken : (known words : List Text) (values : Values) → are_named known ≡ true → values_behind known words ≡ Some values → fault_of (told known) words ≡ []
+taken known words values named e =
+    let c = rules_of known in
+    let r = right known words values e in
+    let go = takes c (options_alone known named) words r.options r.cut [] None refl (own_fits known named r.options r.own) r.plain in
+    level known words
+    ∙ none_both _ _ go.no_fault (none_both _ _ go.settles (none_both _ _ (defaults_pass known (settled c (end_of known words)).rows) (check_passes known (finished c (end_of known words)))))
 
 -- the definition takes what clap takes, with the values that clap finds
 
-abbrev asked_from : List Row → Option Size
-asked_from rows = asked_for (first_of (codes "frames") rows) (first_of (codes "page") rows) (first_of (codes "segments") rows)
-
-asked_rows : (options : List CommandOption) → AreKnown options → asked_from (map row_of options) ≡ asked_for (value_named (codes "--frames") options) (value_named (codes "--page") options) (value_named (codes "--segments") options)
-asked_rows options known = λ i. asked_for (value_found (codes "frames") options known i) (value_found (codes "page") options known i) (value_found (codes "segments") options known i)
-
-pub found : (words : List Text) → has_escape words ≡ false → fault_of run_app words ≡ [] → asked_behind words ≡ asked_from (matches_of run_app words)
-found words escape none =
-    let faults = sym (level words) ∙ none in
-    let rest = none_then (walk_fault (shape_with run_rules) [] (standing [] None) words) _ faults in
-    let r = reads run_rules run_options words [] None escape (none_first _ _ faults) (none_first _ _ rest) in
-    let right = proper r.options r.fits in
-    let rows : matches_of run_app words ≡ map row_of r.options = finished_is (end_of words) ∙ r.ends in
-    ap (option_and_then asked_in) r.cut
-    ∙ ap (λ (b : Bool). cond b (asked_for (value_named (codes "--frames") r.options) (value_named (codes "--page") r.options) (value_named (codes "--segments") r.options)) None) right.0
-    ∙ sym (ap asked_from rows ∙ asked_rows r.options right.1)
+pub found : (known words : List Text) → are_named known ≡ true → has_escape words ≡ false → fault_of (told known) words ≡ [] → values_behind known words ≡ values_with known (λ name. first_of name (matches_of (told known) words))
+found known words named escape none =
+    let c = rules_of known in
+    let faults = sym (level known words) ∙ none in
+    let rest = none_then (walk_fault (shape_with c) [] (standing [] None) words) _ faults in
+    let r = reads c (options_alone known named) words [] None escape (none_first _ _ faults) (none_first _ _ rest) in
+    let own = fits_own known r.options r.fits in
+    let rows : matches_of (told known) words ≡ map row_of r.options = matches_are known words ∙ no_defaults known (settled c (end_of known words)).rows ∙ r.ends in
+    ap (option_and_then (values_of known)) r.cut
+    ∙ ap (λ (b : Bool). cond b (Some (λ (name : Text). value_named (hyphened name) r.options)) None) (proper_is known r.options own)
+    ∙ sym (ap (λ (l : List Row). values_with known (λ name. first_of name l)) rows ∙ (λ i. values_with known (λ name. value_found name c r.options (own_known known named r.options own) i)))
 
 -- a parse by the command says what the words ask for
 
 abbrev Fails : App → List Text → Result ArgMatches Error → Type 0
 Fails a words r = is_simple_and_free a ≡ true → FailsBy (fault_of a words) r
 
-values_of : (m : ArgMatches) (rows : List Row) → rows_of (found_of m) ≡ rows → asked_from rows ≡ asked_of m
-values_of m rows e = ap asked_from (sym e) ∙ sym (λ i. asked_for (first_value-rows (found_of m) (codes "frames") i) (first_value-rows (found_of m) (codes "page") i) (first_value-rows (found_of m) (codes "segments") i))
+module _ (known words : List Text) (named : are_named known ≡ true) (a : App) (is : a ≡ told known) where
+  found_values : (m : ArgMatches) (rows : List Row) → rows_of (found_of m) ≡ rows → values_with known (λ name. first_of name rows) ≡ values_in known m
+  found_values m rows e = ap (λ (l : List Row). values_with known (λ name. first_of name l)) (sym e) ∙ sym (λ i. values_with known (λ name. first_value-rows (found_of m) name i))
 
-pub parse_read : (r : Result ArgMatches Error) (a : App) (words : List Text) → a ≡ run_app → IfOk r (HasMatchesOf a words) → Fails a words r → IfOk r (λ (m : ArgMatches). has_escape words ≡ false → asked_behind words ≡ asked_of m)
-parse_read (Ok m) a words is matches fails = λ escape.
-    let none : fault_of run_app words ≡ [] = subst (λ (x : App). is_simple_and_free x ≡ true → fault_of x words ≡ []) is fails is_free_run in
-    let rows : rows_of (found_of m) ≡ matches_of run_app words = (subst (λ (x : App). HasMatchesOf x words m) is matches is_simple_run).0 in
-    found words escape none ∙ values_of m (matches_of run_app words) rows
-parse_read (Err e) a words is matches fails = tt
+  pub parse_read : (r : Result ArgMatches Error) → IfOk r (HasMatchesOf a words) → Fails a words r → IfOk r (λ (m : ArgMatches). has_escape words ≡ false → values_behind known words ≡ values_in known m)
+  parse_read (Ok m) matches fails = λ escape.
+      let none : fault_of (told known) words ≡ [] = subst (λ (x : App). is_simple_and_free x ≡ true → fault_of x words ≡ []) is fails (told_free known) in
+      let rows : rows_of (found_of m) ≡ matches_of (told known) words = (subst (λ (x : App). HasMatchesOf x words m) is matches (told_simple known)).0 in
+      found known words named escape none ∙ found_values m (matches_of (told known) words) rows
+  parse_read (Err e) matches fails = tt
 
-pub parse_refused : (r : Result ArgMatches Error) (a : App) (words : List Text) → a ≡ run_app → Fails a words r → IfErr r (λ (e : Error). IsSome (asked_behind words) → kind_of e ≡ kind.OutOfMemory)
-parse_refused (Ok m) a words is fails = tt
-parse_refused (Err e) a words is fails = λ some. by (asked_behind words) refl some (subst (λ (x : App). Fails x words (Err e)) is fails is_free_run)
-  where
-    memory : (kinds : Kinds) → kinds ≡ [] → FailsBy {T = ArgMatches} kinds (Err e) → kind_of e ≡ kind.OutOfMemory
-    memory [] none h = elim h [
-      | inl m ↦ m
-      | inr other ↦ absurd other
-    ]
-    memory (k ∷ ks) none h = absurd (cc)
+  pub parse_refused : (r : Result ArgMatches Error) → Fails a words r → IfErr r (λ (e : Error). IsSome (values_behind known words) → kind_of e ≡ kind.OutOfMemory)
+  parse_refused (Ok m) fails = tt
+  parse_refused (Err e) fails = λ some. by (values_behind known words) refl some (subst (λ (x : App). Fails x words (Err e)) is fails (told_free known))
+    where
+      memory : (kinds : Kinds) → kinds ≡ [] → FailsBy {T = ArgMatches} kinds (Err e) → kind_of e ≡ kind.OutOfMemory
+      memory [] none h = elim h [
+        | inl m ↦ m
+        | inr other ↦ absurd other
+      ]
+      memory (k ∷ ks) none h = absurd (cc)
 
-    by : (o : Option Size) → asked_behind words ≡ o → IsSome o → FailsBy {T = ArgMatches} (fault_of run_app words) (Err e) → kind_of e ≡ kind.OutOfMemory
-    by None is some h = absurd (cc)
-    by (Some asked) is some h = memory (fault_of run_app words) (taken words asked is) h
+      by : (o : Option Values) → values_behind known words ≡ o → IsSome o → FailsBy {T = ArgMatches} (fault_of (told known) words) (Err e) → kind_of e ≡ kind.OutOfMemory
+      by None is some h = absurd (cc)
+      by (Some values) is some h = memory (fault_of (told known) words) (taken known words values named is) h

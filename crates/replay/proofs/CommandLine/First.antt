@@ -1,43 +1,55 @@
 -- The first value of a name in words that ask for something is that of the option of this name.
-use Rattle.std.proofs.Common.{◌≡◌, ◌==◌, ◌||◌, ◌≤◌, ◌^◌, ℕ, Bool, true, false, cond, not, List, [], ◌∷◌, find, Option, Some, None, refl, sym, ap, ◌∙◌, codes, bytes_eq, arith, option_map, option_and_then, slice_get, unwrap_or}
+use Rattle.std.proofs.Common.{◌≡◌, ◌==◌, ◌||◌, ℕ, Bool, true, false, cond, not, List, [], ◌∷◌, find, Option, Some, None, refl, sym, ap, ◌∙◌, codes, bytes_eq, option_map, option_and_then, is_some, slice_get, unwrap_or}
 use Rattle.std.specs.List.{after_first, before_first, list_any}
 use Rattle.std.specs.Option.{option_map_or, option_or}
 use Rattle.vm_ids.specs.declared.numbers.TheConstants.{PAGE}
 use Rattle.replay.specs.declared.asked.Size.{Size}
-use Rattle.replay.specs.Commanding.{CommandOption, asked_behind, first_value, is_equals, is_folder_name, option_in, options_of, page_of, value_in, value_named}
+use Rattle.replay.specs.Commanding.{CommandOption, Values, size_behind, first_value, is_equals, is_hyphened, is_known, is_value, option_in, options_among, options_of, page_of, value_in, value_named, values_behind}
 use Rattle.replay.proofs.CommandLine.Spelling.{begins, spelled}
 use Rattle.replay.proofs.CommandLine.Cutting.{by_cut}
 use Rattle.replay.proofs.CommandLine.Walks.{ArePlain}
-use Rattle.replay.proofs.CommandLine.Values.{same_text}
-use Rattle.replay.proofs.CommandLine.Right.{Right, right, right_plain}
+use Rattle.replay.proofs.CommandLine.Values.{AreOwn, not_true, or_none, same_text}
+use Rattle.replay.proofs.CommandLine.Right.{right, sized}
 
 -- a name that a hyphen begins, without the sign
 module _ (rest : List ℕ) (alone : option_in (45 ∷ rest) ≡ None) where
   abbrev name : List ℕ
   name = 45 ∷ rest
 
-  -- a value is no such name, and gives it none
+  -- a word that no hyphen begins is no such name, and gives it no value
 
-  plain_differs : (word : List ℕ) → is_folder_name word ≡ true → bytes_eq word name ≡ false
-  plain_differs word plain = by (bytes_eq word name) refl
+  other_differs : (word : List ℕ) → is_hyphened word ≡ false → bytes_eq word name ≡ false
+  other_differs word other = by (bytes_eq word name) refl
     where
       by : (b : Bool) → bytes_eq word name ≡ b → b ≡ false
-      by true t = let no : false ≡ true = sym (ap is_folder_name (same_text word name t)) ∙ plain in absurd (cc)
+      by true t = let yes : true ≡ false = sym (ap is_hyphened (same_text word name t)) ∙ other in absurd (cc)
       by false t = refl
 
-  plain_gives_none : (word : List ℕ) → is_folder_name word ≡ true → value_in name word ≡ None
-  plain_gives_none word plain = by (list_any is_equals word)
+  other_gives_none : (word : List ℕ) → is_hyphened word ≡ false → value_in name word ≡ None
+  other_gives_none word other = by (list_any is_equals word)
     where
-      other : (b : Bool) → bytes_eq (before_first is_equals word) name ≡ b → b ≡ false
-      other true t =
-          let first = begins is_equals word 45 rest (same_text (before_first is_equals word) name t) in
-          let no : false ≡ true = sym (ap is_folder_name first.word_is) ∙ plain in
+      first : (b : Bool) → bytes_eq (before_first is_equals word) name ≡ b → b ≡ false
+      first true t =
+          let begin = begins is_equals word 45 rest (same_text (before_first is_equals word) name t) in
+          let yes : true ≡ false = sym (ap is_hyphened begin.word_is) ∙ other in
           absurd (cc)
-      other false t = refl
+      first false t = refl
 
       by : (b : Bool) → option_and_then (λ (o : CommandOption). cond (bytes_eq o.name name) (Some o.value) None) (cond b (Some (record { name = before_first is_equals word; value = after_first is_equals word })) None) ≡ None
-      by true = ap (λ (b : Bool). cond b (Some (after_first is_equals word)) None) (other (bytes_eq (before_first is_equals word) name) refl)
+      by true = ap (λ (b : Bool). cond b (Some (after_first is_equals word)) None) (first (bytes_eq (before_first is_equals word) name) refl)
       by false = refl
+
+  -- and so is a value
+
+  value_other : (word : List ℕ) → is_value word ≡ true → is_hyphened word ≡ false
+  value_other [] plain = refl
+  value_other (b ∷ bs) plain = not_true (b == 45) plain
+
+  plain_differs : (word : List ℕ) → is_value word ≡ true → bytes_eq word name ≡ false
+  plain_differs word plain = other_differs word (value_other word plain)
+
+  plain_gives_none : (word : List ℕ) → is_value word ≡ true → value_in name word ≡ None
+  plain_gives_none word plain = other_gives_none word (value_other word plain)
 
   joined_differs : (word : List ℕ) (o : CommandOption) → option_in word ≡ Some o → bytes_eq word name ≡ false
   joined_differs word o is = by (bytes_eq word name) refl
@@ -84,13 +96,99 @@ module _ (rest : List ℕ) (alone : option_in (45 ∷ rest) ≡ None) where
   pub finds : (words : List (List ℕ)) (options : List CommandOption) → options_of words ≡ Some options → Finds words options
   finds = by_cut Finds (λ plain. refl) joined_finds apart_finds
 
--- the page size that the words of `run` name is the one that they ask for
+  -- Where no option has the name, none of the words is it or gives it a value.
 
-pub page_behind : (words : List (List ℕ)) (asked : Size) → asked_behind words ≡ Some asked → unwrap_or (option_and_then page_of (first_value (codes "--page") words)) PAGE ≡ asked.page_bytes
-page_behind words asked e =
-    let r = right words asked e in
-    ap (λ (o : Option (List ℕ)). unwrap_or (option_and_then page_of o) PAGE) (finds (45 ∷ codes "page") refl words r.options r.cut (right_plain words asked r)) ∙ by (value_named (codes "--page") r.options) r.forms.page_is
+  abbrev gives : List ℕ → Bool
+  gives word = bytes_eq word name || is_some (value_in name word)
+
+  abbrev Lacks : List (List ℕ) → Type 0
+  Lacks words = list_any gives words ≡ false
+
+  first_lacks : (word : List ℕ) (words : List (List ℕ)) → bytes_eq word name ≡ false → value_in name word ≡ None → Lacks words → Lacks (word ∷ words)
+  first_lacks word words differs none lacks =
+      ap (λ (b : Bool). (b || is_some (value_in name word)) || list_any gives words) differs
+      ∙ ap (λ (o : Option (List ℕ)). is_some o || list_any gives words) none ∙ lacks
+
+  pub lacking : (words : List (List ℕ)) → Lacks words → first_value name words ≡ None
+  lacking [] lacks = refl
+  lacking (word ∷ words) lacks =
+      let first = or_none (gives word) (list_any gives words) lacks in
+      let parts = or_none (bytes_eq word name) (is_some (value_in name word)) first.0 in
+      ap (λ (b : Bool). cond b (slice_get words 0) (option_or (value_in name word) (first_value name words))) parts.0
+      ∙ ap (λ (o : Option (List ℕ)). option_or o (first_value name words)) (none_of (value_in name word) parts.1) ∙ lacking words first.1
+    where
+      none_of : (o : Option (List ℕ)) → is_some o ≡ false → o ≡ None
+      none_of None e = refl
+      none_of (Some x) e = absurd (cc)
+
+  abbrev Spares : List (List ℕ) → List CommandOption → Type 0
+  Spares words options = ArePlain options → list_any (λ (o : CommandOption). bytes_eq o.name name) options ≡ false → Lacks words
+
+  joined_spares : (word : List ℕ) (words : List (List ℕ)) (o : CommandOption) (options : List CommandOption) → option_in word ≡ Some o → Spares words options → Spares (word ∷ words) (o ∷ options)
+  joined_spares word words o options is spares plain none =
+      let parts = or_none _ _ none in
+      first_lacks word words (joined_differs word o is)
+      (ap (option_and_then (λ (o : CommandOption). cond (bytes_eq o.name name) (Some o.value) None)) is ∙ ap (λ (b : Bool). cond b (Some o.value) None) parts.0)
+      (spares plain.1 parts.1)
+
+  apart_spares : (word value : List ℕ) (words : List (List ℕ)) (options : List CommandOption) → option_in word ≡ None → Spares words options → Spares (word ∷ value ∷ words) (spelled word value ∷ options)
+  apart_spares word value words options is spares plain none =
+      let parts = or_none _ _ none in
+      first_lacks word (value ∷ words) parts.0 (ap (option_and_then (λ (o : CommandOption). cond (bytes_eq o.name name) (Some o.value) None)) is)
+      (first_lacks value words (plain_differs value plain.0) (plain_gives_none value plain.0) (spares plain.1 parts.1))
+
+  spares : (words : List (List ℕ)) (options : List CommandOption) → options_of words ≡ Some options → Spares words options
+  spares = by_cut Spares (λ plain none. refl) joined_spares apart_spares
+
+  own_spares : (known : List (List ℕ)) (options : List CommandOption) → AreOwn known options → is_known known name ≡ false → list_any (λ (o : CommandOption). bytes_eq o.name name) options ≡ false
+  own_spares known [] own none = refl
+  own_spares known (o ∷ options) own none = ap (λ (b : Bool). b || list_any (λ (o : CommandOption). bytes_eq o.name name) options) (by (bytes_eq o.name name) refl) ∙ own_spares known options own.2 none
+    where
+      by : (b : Bool) → bytes_eq o.name name ≡ b → b ≡ false
+      by true t = let yes : true ≡ false = sym own.0 ∙ ap (is_known known) (same_text o.name name t) ∙ none in absurd (cc)
+      by false t = refl
+
+  pub unknown_lacks : (known words : List (List ℕ)) (values : Values) → values_behind known words ≡ Some values → is_known known name ≡ false → Lacks words
+  unknown_lacks known words values e none = let r = right known words values e in spares words r.options r.cut r.plain (own_spares known r.options r.own none)
+
+  -- nor is any of the words among which these options are
+  pub among_lacks : (flag : Bool) (words : List (List ℕ)) → Lacks (options_among flag words) → Lacks words
+  unfolding options_among
+  among_lacks flag [] lacks = refl
+  among_lacks true (word ∷ words) lacks =
+      let parts = or_none (gives word) (list_any gives (options_among false words)) lacks in
+      ap (λ (b : Bool). b || list_any gives words) parts.0 ∙ among_lacks false words parts.1
+  among_lacks false (word ∷ words) lacks = by (is_hyphened word) refl lacks (among_lacks (not (list_any is_equals word)) words) (among_lacks false words)
+    where
+      by : (b : Bool) → is_hyphened word ≡ b → Lacks (cond b (word ∷ options_among (not (list_any is_equals word)) words) (options_among false words))
+          → (Lacks (options_among (not (list_any is_equals word)) words) → Lacks words) → (Lacks (options_among false words) → Lacks words) → Lacks (word ∷ words)
+      by true t lacks option rest =
+          let parts = or_none (gives word) (list_any gives (options_among (not (list_any is_equals word)) words)) lacks in
+          ap (λ (b : Bool). b || list_any gives words) parts.0 ∙ option parts.1
+      by false t lacks option rest = first_lacks word words (other_differs word t) (other_gives_none word t) (rest lacks)
+
+-- the page size that words name is the one that they ask for
+
+abbrev pub page_or : Option (List ℕ) → ℕ
+page_or word = unwrap_or (option_and_then page_of word) PAGE
+
+pub page_behind : (known words : List (List ℕ)) (size : Size) → size_behind known words ≡ Some size → page_or (first_value (codes "--page") words) ≡ size.page_bytes
+page_behind known words size e =
+    let s = sized known words size e in
+    let r = right known words s.values s.values_are in
+    ap page_or (finds (45 ∷ codes "page") refl words r.options r.cut r.plain ∙ ap (λ (v : Values). v (codes "page")) r.values_are) ∙ by (s.values (codes "page")) s.forms.page_is
   where
-    by : (o : Option (List ℕ)) → option_map_or page_of o (Some PAGE) ≡ Some asked.page_bytes → unwrap_or (option_and_then page_of o) PAGE ≡ asked.page_bytes
+    by : (o : Option (List ℕ)) → option_map_or page_of o (Some PAGE) ≡ Some size.page_bytes → page_or o ≡ size.page_bytes
     by None e = cc
     by (Some word) e = ap (λ (p : Option ℕ). unwrap_or p PAGE) e
+
+-- Where no option of a word has pages, its words name none, and neither do words with others among
+-- them.
+module _ (known : List (List ℕ)) (unpaged : is_known known (codes "--page") ≡ false) where
+  pub no_page : (words : List (List ℕ)) (values : Values) → values_behind known words ≡ Some values → first_value (codes "--page") words ≡ None
+  no_page words values e = lacking (45 ∷ codes "page") refl words (unknown_lacks (45 ∷ codes "page") refl known words values e unpaged)
+
+  pub no_page_among : (words : List (List ℕ)) (values : Values) → values_behind known (options_among false words) ≡ Some values → first_value (codes "--page") words ≡ None
+  no_page_among words values e =
+      let rest = 45 ∷ codes "page" in
+      lacking rest refl words (among_lacks rest refl false words (unknown_lacks rest refl known (options_among false words) values e unpaged))

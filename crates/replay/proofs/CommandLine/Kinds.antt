@@ -1,5 +1,5 @@
 -- What words are that ask for something.
-use Rattle.std.proofs.Common.{◌≡◌, ◌≤◌, ◌^◌, ℕ, Bool, true, false, cond, List, [], ◌∷◌, Option, Some, None, is_some, refl, sym, ap, ◌∙◌, subst, codes, bytes_eq, arith, nat_le, option_map, option_and_then, unwrap_or}
+use Rattle.std.proofs.Common.{◌≡◌, ◌≤◌, ◌^◌, ◌⊎◌, ℕ, Bool, true, false, cond, List, [], ◌∷◌, Option, Some, refl, sym, ap, ◌∙◌, inl, inr, subst, codes, bytes_eq, arith, nat_le, option_map}
 use Rattle.std.specs.Prelude.{◌&&◌, IfOk, Result, Ok, Err}
 use Rattle.std.proofs.lemmas.Bool.{leb-true}
 use Rattle.vm_ids.specs.declared.numbers.TheConstants.{PAGE}
@@ -8,143 +8,121 @@ use Rattle.replay.specs.declared.asked.Asked.{Asked}
 use Rattle.replay.specs.declared.asked.Asked.TheVariants as asks
 use Rattle.replay.specs.declared.asked.Generated.{Generated}
 use Rattle.replay.specs.declared.asked.Size.{Size}
-use Rattle.replay.specs.Commanding.{asked_behind, asked_by, first_value, if_lines, line_count_of, options_among, others_among, page_of, page_size_of, script_of, trial_behind, trial_of}
-use Rattle.replay.proofs.CommandLine.First.{page_behind}
-use Rattle.replay.proofs.CommandLine.Right.{few_frames, right, small_page}
+use Rattle.replay.specs.Commanding.{asked_by, frames_behind, if_lines, line_count_of, options_among, others_among, page_size_of, plain_options, run_options, script_of, size_behind, trial_behind, trial_of}
+use Rattle.replay.proofs.CommandLine.First.{no_page, no_page_among, page_behind, page_or}
+use Rattle.replay.proofs.CommandLine.Right.{Made, few_frames, made_by_map, made_by_test, made_by_then, sized, small_page}
 use Rattle.replay.proofs.CommandLine.Values.{and_both, same_text}
 
--- what an option that is there was made of
-
-pub record Made {A : Type 0} (o : Option A) (P : A → Type 0) : Type 0 where
-  pub value : A
-  pub is : o ≡ Some value
-  pub holds : P value
-
-pub made_by_map : {A B : Type 0} (f : A → B) (o : Option A) (y : B) → option_map f o ≡ Some y → Made o (λ x. f x ≡ y)
-made_by_map f None y e = absurd (cc)
-made_by_map f (Some x) y e = record { value = x; is = refl; holds = cc }
-
-pub made_by_then : {A B : Type 0} (f : A → Option B) (o : Option A) (y : B) → option_and_then f o ≡ Some y → Made o (λ x. f x ≡ Some y)
-made_by_then f None y e = absurd (cc)
-made_by_then f (Some x) y e = record { value = x; is = refl; holds = e }
-
--- `run` and its options
-pub record IsRun (words : List (List ℕ)) (size : Size) : Type 0 where
-  pub options : List (List ℕ)
-  pub words_are : words ≡ codes "run" ∷ options
-  pub size_is : asked_behind options ≡ Some size
-
--- `generate` and a script
-pub record IsGenerate (words : List (List ℕ)) (script : Generated) : Type 0 where
+-- a word, and what is so of the words behind it
+pub record IsWord (name : List ℕ) (P : List (List ℕ) → Type 0) (words : List (List ℕ)) : Type 0 where
   pub rest : List (List ℕ)
-  pub script_is : script_of rest ≡ Some script
+  pub words_are : words ≡ name ∷ rest
+  pub holds : P rest
 
--- `trial`, a script and options
-pub record IsTrial (words : List (List ℕ)) (script : Generated) (frames : ℕ) : Type 0 where
-  pub rest : List (List ℕ)
-  pub words_are : words ≡ codes "trial" ∷ rest
-  pub no_page : is_some (first_value (codes "--page") rest) ≡ false
+-- a script, and options before, between and behind its words
+pub record IsTrial (script : Generated) (frames : ℕ) (rest : List (List ℕ)) : Type 0 where
   pub script_is : script_of (others_among false rest) ≡ Some script
-  pub size : Size
-  pub size_is : asked_behind (options_among false rest) ≡ Some size
-  pub frames_are : size.frames ≡ frames
+  pub frames_are : frames_behind (options_among false rest) ≡ Some frames
 
 abbrev IsKind : List (List ℕ) → Asked → Type 0
-IsKind words (asks.Run size) = IsRun words size
-IsKind words (asks.Generate script) = IsGenerate words script
-IsKind words (asks.Trial script frames) = IsTrial words script frames
+IsKind words (asks.Run size) = IsWord (codes "run") (λ rest. size_behind run_options rest ≡ Some size) words
+IsKind words (asks.Generate script) = IsWord (codes "generate") (λ rest. script_of rest ≡ Some script) words
+IsKind words (asks.Trial script frames) = IsWord (codes "trial") (IsTrial script frames) words
+IsKind words (asks.Mix frames) = IsWord (codes "mix") (λ rest. frames_behind rest ≡ Some frames) words
 
-abbrev with_script : List (List ℕ) → Generated → Option Asked
-with_script rest script = option_map (λ (size : Size). asks.Trial script size.frames) (asked_behind (options_among false rest))
+-- what a word asks for is made of what its words are
+mapped : {A : Type 0} (name : List ℕ) (rest : List (List ℕ)) (make : A → Asked) (o : Option A) (asked : Asked) → ((x : A) → o ≡ Some x → IsKind (name ∷ rest) (make x)) → option_map make o ≡ Some asked → IsKind (name ∷ rest) asked
+mapped name rest make o asked h e =
+    let made = made_by_map make o asked e in
+    subst (IsKind (name ∷ rest)) made.holds (h made.value made.is)
 
 trial_is : (rest : List (List ℕ)) (asked : Asked) → trial_behind rest ≡ Some asked → IsKind (codes "trial" ∷ rest) asked
-trial_is rest asked e = by (is_some (first_value (codes "--page") rest)) refl e
-  where
-    by : (b : Bool) → is_some (first_value (codes "--page") rest) ≡ b → cond b None (option_and_then (with_script rest) (script_of (others_among false rest))) ≡ Some asked → IsKind (codes "trial" ∷ rest) asked
-    by true t e = absurd (cc)
-    by false t e =
-        let script = made_by_then (with_script rest) (script_of (others_among false rest)) asked e in
-        let size = made_by_map (λ (size : Size). asks.Trial script.value size.frames) (asked_behind (options_among false rest)) asked script.holds in
-        subst (IsKind (codes "trial" ∷ rest)) size.holds (record {
-          rest = rest;
-          words_are = refl;
-          no_page = t;
-          script_is = script.is;
-          size = size.value;
-          size_is = size.is;
-          frames_are = refl;
-        })
+trial_is rest asked e =
+    let script = made_by_then (λ (script : Generated). option_map (asks.Trial script) (frames_behind (options_among false rest))) (script_of (others_among false rest)) asked e in
+    mapped (codes "trial") rest (asks.Trial script.value) (frames_behind (options_among false rest)) asked
+    (λ frames is. record { rest = rest; words_are = refl; holds = record { script_is = script.is; frames_are = is } }) script.holds
+
+-- what the first test that holds makes
+chosen : {A : Type 0} (b : Bool) (x y : Option A) (a : A) → cond b x y ≡ Some a → ((b ≡ true) × (x ≡ Some a)) ⊎ (y ≡ Some a)
+chosen true x y a e = inl (refl, e)
+chosen false x y a e = inr e
 
 kind_of_words : (words : List (List ℕ)) (asked : Asked) → asked_by words ≡ Some asked → IsKind words asked
 unfolding asked_by
 kind_of_words [] asked e = absurd (cc)
-kind_of_words (command ∷ words) asked e = by_run (bytes_eq command (codes "run")) refl e
+kind_of_words (command ∷ rest) asked e = elim (chosen (bytes_eq command (codes "run")) _ _ asked e) [
+  | inl run ↦ as_word (codes "run") run.0 (mapped (codes "run") rest asks.Run _ asked (λ size is. record { rest = rest; words_are = refl; holds = is }) run.1)
+  | inr e ↦ elim (chosen (bytes_eq command (codes "generate")) _ _ asked e) [
+    | inl generate ↦ as_word (codes "generate") generate.0 (mapped (codes "generate") rest asks.Generate _ asked (λ script is. record { rest = rest; words_are = refl; holds = is }) generate.1)
+    | inr e ↦ elim (chosen (bytes_eq command (codes "trial")) _ _ asked e) [
+      | inl trial ↦ as_word (codes "trial") trial.0 (trial_is rest asked trial.1)
+      | inr e ↦ elim (chosen (bytes_eq command (codes "mix")) _ _ asked e) [
+        | inl mix ↦ as_word (codes "mix") mix.0 (mapped (codes "mix") rest asks.Mix _ asked (λ frames is. record { rest = rest; words_are = refl; holds = is }) mix.1)
+        | inr e ↦ absurd (cc)
+      ]
+    ]
+  ]
+]
   where
-    with_command : (name : List ℕ) → bytes_eq command name ≡ true → command ∷ words ≡ name ∷ words
-    with_command name t = ap (λ (w : List ℕ). w ∷ words) (same_text command name t)
+    as_word : (name : List ℕ) → bytes_eq command name ≡ true → IsKind (name ∷ rest) asked → IsKind (command ∷ rest) asked
+    as_word name t kind = subst (λ (word : List ℕ). IsKind (word ∷ rest) asked) (sym (same_text command name t)) kind
 
-    by_trial : (b : Bool) → bytes_eq command (codes "trial") ≡ b → cond b (trial_behind words) None ≡ Some asked → IsKind (command ∷ words) asked
-    by_trial true t e = subst (λ (all : List (List ℕ)). IsKind all asked) (sym (with_command (codes "trial") t)) (trial_is words asked e)
-    by_trial false t e = absurd (cc)
-
-    by_generate : (b : Bool) → cond b (option_map asks.Generate (script_of words)) (cond (bytes_eq command (codes "trial")) (trial_behind words) None) ≡ Some asked → IsKind (command ∷ words) asked
-    by_generate true e =
-        let script = made_by_map asks.Generate (script_of words) asked e in
-        subst (IsKind (command ∷ words)) script.holds (record { rest = words; script_is = script.is })
-    by_generate false e = by_trial (bytes_eq command (codes "trial")) refl e
-
-    by_run : (b : Bool) → bytes_eq command (codes "run") ≡ b
-        → cond b (option_map asks.Run (asked_behind words)) (cond (bytes_eq command (codes "generate")) (option_map asks.Generate (script_of words)) (cond (bytes_eq command (codes "trial")) (trial_behind words) None)) ≡ Some asked → IsKind (command ∷ words) asked
-    by_run true t e =
-        let size = made_by_map asks.Run (asked_behind words) asked e in
-        subst (λ (all : List (List ℕ)). IsKind all asked) (sym (with_command (codes "run") t))
-        (subst (IsKind (codes "run" ∷ words)) size.holds (record { options = words; words_are = refl; size_is = size.is }))
-    by_run false t e = by_generate (bytes_eq command (codes "generate")) e
-
-pub is_run : (words : List (List ℕ)) (size : Size) → asked_by words ≡ Some (asks.Run size) → IsRun words size
-is_run words size e = kind_of_words words (asks.Run size) e
-
-pub is_trial : (words : List (List ℕ)) (script : Generated) (frames : ℕ) → asked_by words ≡ Some (asks.Trial script frames) → IsTrial words script frames
-is_trial words script frames e = kind_of_words words (asks.Trial script frames) e
+-- words whose pages have 4,096 bytes ask for a size, too
+plain_size : (words : List (List ℕ)) (frames : ℕ) → frames_behind words ≡ Some frames → Made (size_behind plain_options words) (λ size. size.frames ≡ frames)
+plain_size words frames e = made_by_map (λ (size : Size). size.frames) (size_behind plain_options words) frames e
 
 -- the page size that the words name is the one of what they ask for
 
 pub run_page : (words : List (List ℕ)) (size : Size) → asked_by words ≡ Some (asks.Run size) → page_size_of words ≡ size.page_bytes
 run_page words size e =
-    let run = is_run words size e in
-    ap page_size_of run.words_are ∙ page_behind run.options size run.size_is
+    let run = kind_of_words words (asks.Run size) e in
+    ap page_size_of run.words_are ∙ page_behind run_options run.rest size run.holds
 
 pub trial_page : (words : List (List ℕ)) (script : Generated) (frames : ℕ) → asked_by words ≡ Some (asks.Trial script frames) → page_size_of words ≡ PAGE
 trial_page words script frames e =
-    let trial = is_trial words script frames e in
-    ap page_size_of trial.words_are ∙ by (first_value (codes "--page") trial.rest) trial.no_page
-  where
-    by : (o : Option (List ℕ)) → is_some o ≡ false → unwrap_or (option_and_then page_of o) PAGE ≡ PAGE
-    by None t = refl
-    by (Some word) t = absurd (cc)
+    let trial = kind_of_words words (asks.Trial script frames) e in
+    let size = plain_size (options_among false trial.rest) frames trial.holds.frames_are in
+    let s = sized plain_options (options_among false trial.rest) size.value size.is in
+    ap page_size_of trial.words_are ∙ ap page_or (no_page_among plain_options refl trial.rest s.values s.values_are)
 
--- The frames and the bytes of a page that words ask for are within what a manager takes.
+pub mix_page : (words : List (List ℕ)) (frames : ℕ) → asked_by words ≡ Some (asks.Mix frames) → page_size_of words ≡ PAGE
+mix_page words frames e =
+    let mix = kind_of_words words (asks.Mix frames) e in
+    let size = plain_size mix.rest frames mix.holds in
+    let s = sized plain_options mix.rest size.value size.is in
+    ap page_size_of mix.words_are ∙ ap page_or (no_page plain_options refl mix.rest s.values s.values_are)
+
+-- bounds
+
 pub record HasBounds (count bytes : ℕ) : Type 0 where
   pub few : 3 ≤ count
   pub frames : count ≤ 2 ^ 16
   pub some : 1 ≤ bytes
   pub page : bytes ≤ 2 ^ 16
 
-size_bounds : (options : List (List ℕ)) (size : Size) → asked_behind options ≡ Some size → HasBounds size.frames size.page_bytes
-size_bounds options size e =
-    let h = (right options size e).forms in
-    let frames = few_frames _ _ _ size h in
-    let page = small_page _ _ _ size h in
+size_bounds : (known words : List (List ℕ)) (size : Size) → size_behind known words ≡ Some size → HasBounds size.frames size.page_bytes
+size_bounds known words size e =
+    let s = sized known words size e in
+    let frames = few_frames _ _ size s.forms in
+    let page = small_page _ _ size s.forms in
     record { few = frames.0; frames = omega (arith, frames.1); some = page.0; page = page.1 }
 
+plain_bounds : (words : List (List ℕ)) (frames : ℕ) → frames_behind words ≡ Some frames → HasBounds frames PAGE
+plain_bounds words frames e =
+    let size = plain_size words frames e in
+    let h = size_bounds plain_options words size.value size.is in
+    record { few = omega (arith, h.few, size.holds); frames = omega (arith, h.frames, size.holds); some = omega arith; page = omega arith }
+
 pub run_bounds : (words : List (List ℕ)) (size : Size) → asked_by words ≡ Some (asks.Run size) → HasBounds size.frames size.page_bytes
-run_bounds words size e = let run = is_run words size e in size_bounds run.options size run.size_is
+run_bounds words size e = let run = kind_of_words words (asks.Run size) e in size_bounds run_options run.rest size run.holds
 
 pub trial_bounds : (words : List (List ℕ)) (script : Generated) (frames : ℕ) → asked_by words ≡ Some (asks.Trial script frames) → HasBounds frames PAGE
 trial_bounds words script frames e =
-    let trial = is_trial words script frames e in
-    let h = size_bounds (options_among false trial.rest) trial.size trial.size_is in
-    record { few = omega (arith, h.few, trial.frames_are); frames = omega (arith, h.frames, trial.frames_are); some = omega arith; page = omega arith }
+    let trial = kind_of_words words (asks.Trial script frames) e in
+    plain_bounds (options_among false trial.rest) frames trial.holds.frames_are
+
+pub mix_bounds : (words : List (List ℕ)) (frames : ℕ) → asked_by words ≡ Some (asks.Mix frames) → HasBounds frames PAGE
+mix_bounds words frames e = let mix = kind_of_words words (asks.Mix frames) e in plain_bounds mix.rest frames mix.holds
 
 -- a script has 1 to 1,000,000 lines
 
@@ -152,14 +130,10 @@ abbrev HasFewLines : ℕ → Type 0
 HasFewLines n = (1 ≤ n) × (n ≤ 1000000)
 
 few_if : (n lines : ℕ) → if_lines n ≡ Some lines → HasFewLines lines
-few_if n lines e = by (nat_le 1 n && nat_le n 1000000) refl e
-  where
-    by : (b : Bool) → (nat_le 1 n && nat_le n 1000000) ≡ b → cond b (Some n) None ≡ Some lines → HasFewLines lines
-    by true t e =
-        let same : n ≡ lines = cc in
-        let both = and_both _ _ t in
-        subst HasFewLines same (leb-true 1 n both.0, leb-true n 1000000 both.1)
-    by false t e = absurd (cc)
+few_if n lines e =
+    let test = made_by_test (nat_le 1 n && nat_le n 1000000) n lines e in
+    let both = and_both _ _ test.0 in
+    subst HasFewLines test.1 (leb-true 1 n both.0, leb-true n 1000000 both.1)
 
 script_few : (words : List (List ℕ)) (script : Generated) → script_of words ≡ Some script → HasFewLines script.lines
 script_few [] script e = absurd (cc)
@@ -172,17 +146,10 @@ script_few (number ∷ lines ∷ []) script e =
 script_few (number ∷ lines ∷ word ∷ words) script e = absurd (cc)
 
 pub trial_few : (words : List (List ℕ)) (script : Generated) (frames : ℕ) → asked_by words ≡ Some (asks.Trial script frames) → script.lines ≤ 1000000
-trial_few words script frames e = let trial = is_trial words script frames e in (script_few (others_among false trial.rest) script trial.script_is).1
+trial_few words script frames e = let trial = kind_of_words words (asks.Trial script frames) e in (script_few (others_among false trial.rest) script trial.holds.script_is).1
 
 -- what the code finds in the words of a trial
-
-pub is_some_map : {A B : Type 0} (f : A → B) (o : Option A) → is_some (option_map f o) ≡ is_some o
-is_some_map f None = refl
-is_some_map f (Some x) = refl
-
-pub trial_asks : {E : Type 0} (r : Result (Option Asked) E) (words others options : List (List ℕ)) → is_some (first_value (codes "--page") words) ≡ false → others ≡ others_among false words → options ≡ options_among false words
+pub trial_asks : {E : Type 0} (r : Result (Option Asked) E) (words others options : List (List ℕ)) → others ≡ others_among false words → options ≡ options_among false words
     → IfOk r (λ asked. asked ≡ trial_of others options) → IfOk r (λ asked. asked ≡ trial_behind words)
-trial_asks (Err e) words others options none script rest h = tt
-trial_asks (Ok asked) words others options none script rest h =
-    h ∙ ap (λ (x : List (List ℕ)). trial_of x options) script ∙ ap (trial_of (others_among false words)) rest
-    ∙ sym (ap (λ (b : Bool). cond b None (trial_of (others_among false words) (options_among false words))) none)
+trial_asks (Err e) words others options script rest h = tt
+trial_asks (Ok asked) words others options script rest h = h ∙ ap (λ (x : List (List ℕ)). trial_of x options) script ∙ ap (trial_of (others_among false words)) rest

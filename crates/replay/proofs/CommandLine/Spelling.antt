@@ -4,7 +4,7 @@ use Rattle.std.specs.List.{after_first, before_first, list_any, position_or_len}
 use Rattle.std.specs.Prelude.{option_and_then}
 use Rattle.std.proofs.lemmas.Slice.Eq.{bytes_eq-Decides}
 use Rattle.clap.specs.Lexer.{long_of, long_of_rest, name_and_value, short_of, short_of_rest, strip_byte}
-use Rattle.replay.specs.Commanding.{CommandOption, is_equals, is_folder_name, option_in}
+use Rattle.replay.specs.Commanding.{CommandOption, hyphened, is_equals, is_value, option_in}
 
 -- cutting at the first element that passes
 
@@ -54,9 +54,6 @@ begins p (a ∷ word) b bs e = by (p a) refl
         record { rest = word; word_is = ap (λ (x : ℕ). x ∷ word) same; before = cc }
 
 -- a word with two hyphens in front
-
-abbrev pub hyphened : List ℕ → List ℕ
-hyphened name = 45 ∷ 45 ∷ name
 
 abbrev pub spelled : List ℕ → List ℕ → CommandOption
 spelled name value = record { name = name; value = value }
@@ -193,7 +190,7 @@ pub record IsPlain (word : List ℕ) : Type 0 where
   pub short : short_of word ≡ None
   pub escape : bytes_eq word (hyphened []) ≡ false
 
-pub plain_word : (word : List ℕ) → is_folder_name word ≡ true → IsPlain word
+pub plain_word : (word : List ℕ) → is_value word ≡ true → IsPlain word
 plain_word [] e = absurd (cc)
 plain_word (b ∷ word) e = by (b == 45) refl
   where

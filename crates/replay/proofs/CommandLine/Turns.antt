@@ -1,11 +1,10 @@
 -- What clap's walk does at a word, over long options that take a value each.
-use Rattle.std.proofs.Common.{◌≡◌, ◌==◌, ◌||◌, ◌&&◌, ◌⊎◌, ◌+◌, ℕ, zero, suc, Bool, true, false, cond, not, List, [], ◌∷◌, ◌++◌, length, drop, Option, Some, None, refl, sym, ap, ap₂, append-nil, subst, ◌∙◌, arith, codes, bytes_eq, encode_utf8, chars, slice_get, inl, inr, nat_lt, option_map, option_and_then}
-use Rattle.std.specs.List.{list_any}
+use Rattle.std.proofs.Common.{◌≡◌, ◌||◌, ◌&&◌, ◌⊎◌, ℕ, zero, suc, Bool, true, false, cond, not, List, [], ◌∷◌, ◌++◌, length, drop, Option, Some, None, refl, sym, ap, ap₂, append-nil, subst, ◌∙◌, codes, bytes_eq, encode_utf8, chars, slice_get, inl, inr, nat_lt}
 use Rattle.std.specs.Option.{option_map_or}
 use Rattle.clap.specs.Lexer.{long_of, short_of}
 use Rattle.std.proofs.lemmas.Slice.Eq.{bytes_eq-Decides}
 use Rattle.clap.specs.declared.error.ErrorKind.TheVariants as kind
-use Rattle.clap.specs.Walk.{at_row, more_values, positional, subcommand_met, subcommand_or_other, trailing, with_values, Held, Outcome, Row, Rule, Step, Text, Waiting, Walk, after_flag, after_step, arg_by_id, arg_by_index, arg_by_long, arg_by_short, bundle_met, bundle_step, has_row, idle, long_met, long_or_other, next, option_word, option, plain, plain_word, settled_rows, short_or_plain, used, value as goes_to_position, walked, word_met}
+use Rattle.clap.specs.Walk.{at_row, more_values, positional, subcommand_met, subcommand_or_other, trailing, with_values, Held, Outcome, Row, Rule, Step, Text, Waiting, Walk, after_flag, after_step, arg_by_id, arg_by_index, arg_by_long, arg_by_short, bundle_met, bundle_step, has_row, idle, long_met, long_or_other, option_word, option, plain, plain_word, settled_rows, short_or_plain, used, value as goes_to_position, walked, word_met}
 use Rattle.clap.specs.Simple.{Shape, new_rule, new_shape}
 use Rattle.clap.specs.Kinds.{Kinds, or_else}
 use Rattle.clap.specs.Faults.{bundle_fault, bundle_step_fault, flag_word_fault, flags_fault, long_fault, option_fault, positional_fault, short_fault, step_fault, other_fault, settle_fault, turn_fault, use_fault, word_fault}
@@ -13,21 +12,21 @@ use Rattle.clap.specs.declared.builder.ArgAction.TheVariants.{Set}
 use Rattle.clap.specs.declared.builder.value_parser.ValueParser.TheVariants as vp
 use Rattle.clap.specs.declared.parser.matches.ValueSource.TheVariants.{CommandLine}
 use Rattle.clap.specs.declared.builder.value_parser.Reading.TheVariants as reading
-use Rattle.replay.proofs.CommandLine.Spelling.{IsPlain, hyphened, long_no_escape}
+use Rattle.replay.specs.Commanding.{hyphened}
+use Rattle.replay.proofs.CommandLine.Spelling.{IsPlain, long_no_escape}
 
 -- the rule of an option that takes a value, as a built command has it
-abbrev pub opt : Text → Bool → Rule
-opt id required = record (new_rule id) {
+abbrev pub opt : Text → Rule
+opt id = record (new_rule id) {
   long = Some id;
   action = Some Set;
   range = Some (record { start_inclusive = 1; end_inclusive = 1 });
   parser = Some vp.String;
-  required = required;
 }
 
 -- a built command with these rules
 abbrev pub shape_with : List Rule → Shape
-shape_with c = record (new_shape (codes "run")) {
+shape_with c = record (new_shape (codes "options")) {
   rules = c;
   no_binary_name = true;
   disable_help_flag = true;
@@ -42,10 +41,9 @@ row id value = record { id = id; values = value ∷ []; count = None; source = S
 
 -- The rules have an option of this name.
 pub record IsOption (c : List Rule) (name : Text) : Type 0 where
-  pub required : Bool
   pub some : name ≡ [] → ⊥
-  pub long : arg_by_long c name ≡ Some (opt name required)
-  pub id : arg_by_id c name ≡ Some (opt name required)
+  pub long : arg_by_long c name ≡ Some (opt name)
+  pub id : arg_by_id c name ≡ Some (opt name)
 
 -- The rules have long options alone.
 pub record IsOptions (c : List Rule) : Type 0 where
@@ -85,14 +83,14 @@ none_both (k ∷ ks) b e f = absurd (cc)
 abbrev once_fault : Bool → Kinds
 once_fault again = or_else (cond (again && not false) (kind.ArgumentConflict ∷ []) []) []
 
-pub use_of_one : (id : Text) (required : Bool) (value : Text) (rows : List Row) → has_row id rows ≡ false → use_fault false (opt id required) (value ∷ []) rows ≡ []
-use_of_one id required value rows e = ap once_fault e
+pub use_of_one : (id : Text) (value : Text) (rows : List Row) → has_row id rows ≡ false → use_fault false (opt id) (value ∷ []) rows ≡ []
+use_of_one id value rows e = ap once_fault e
 
-pub use_of_none : (id : Text) (required : Bool) (rows : List Row) → use_fault false (opt id required) [] rows ≡ [] → ⊥
-use_of_none id required rows e = let bad : kind.InvalidValue ∷ [] ≡ [] = e in cc
+pub use_of_none : (id : Text) (rows : List Row) → use_fault false (opt id) [] rows ≡ [] → ⊥
+use_of_none id rows e = let bad : kind.InvalidValue ∷ [] ≡ [] = e in cc
 
-pub used_twice : (id : Text) (required : Bool) (value : Text) (rows : List Row) → use_fault false (opt id required) (value ∷ []) rows ≡ [] → has_row id rows ≡ false
-used_twice id required value rows e = by (has_row id rows) refl
+pub used_twice : (id : Text) (value : Text) (rows : List Row) → use_fault false (opt id) (value ∷ []) rows ≡ [] → has_row id rows ≡ false
+used_twice id value rows e = by (has_row id rows) refl
   where
     by : (b : Bool) → has_row id rows ≡ b → b ≡ false
     by true t = let bad : kind.ArgumentConflict ∷ [] ≡ [] = sym (ap once_fault t) ∙ e in absurd (cc)
@@ -108,8 +106,8 @@ row_missing id change missing (r ∷ rows) e =
     let past = first_row id r rows (bytes_eq r.id id) refl e in
     ap (λ (b : Bool). cond b (change r ++ rows) (r ∷ at_row id change missing rows)) past.0 ∙ ap (λ (l : List Row). r ∷ l) (row_missing id change missing rows past.1)
 
-pub used_once : (id : Text) (required : Bool) (value : Text) (rows : List Row) → has_row id rows ≡ false → used (opt id required) (value ∷ []) rows ≡ rows ++ row id value ∷ []
-used_once id required value rows e =
+pub used_once : (id : Text) (value : Text) (rows : List Row) → has_row id rows ≡ false → used (opt id) (value ∷ []) rows ≡ rows ++ row id value ∷ []
+used_once id value rows e =
     ap (with_values id reading.AsWritten CommandLine (value ∷ [])) (row_missing id (λ _. []) [] rows e ∙ append-nil rows)
     ∙ row_missing id (more_values CommandLine (value ∷ [])) (row id value ∷ []) rows e
 
@@ -142,7 +140,7 @@ module _ (c : List Rule) (ready : IsOptions c) where
   -- a long option
 
   abbrev pub option_after : Text → Option Text → List Row → Option (Text × List Text) → Walk
-  option_after name (Some v) rows pending = standing (used (opt name false) (v ∷ []) (settled_rows c pending rows)) None
+  option_after name (Some v) rows pending = standing (used (opt name) (v ∷ []) (settled_rows c pending rows)) None
   option_after name None rows pending = awaiting (settled_rows c pending rows) name
 
   pub walked_long : (word name : Text) (v : Option Text) (rows : List Row) (pending : Option (Text × List Text)) → IsOption c name → long_of word ≡ Some (name, v)
@@ -154,19 +152,19 @@ module _ (c : List Rule) (ready : IsOptions c) where
       ∙ ap (λ (r : Option Rule). after_flag c idle word (long_met c r v (held rows pending)).0 (long_met c r v (held rows pending)).1) o.long)
       ∙ by v
     where
-      by : (v : Option Text) → after_step c word (standing rows pending) (after_flag c idle word (long_met c (Some (opt name o.required)) v (held rows pending)).0 (long_met c (Some (opt name o.required)) v (held rows pending)).1).0
-          (after_flag c idle word (long_met c (Some (opt name o.required)) v (held rows pending)).0 (long_met c (Some (opt name o.required)) v (held rows pending)).1).1 ≡ option_after name v rows pending
+      by : (v : Option Text) → after_step c word (standing rows pending) (after_flag c idle word (long_met c (Some (opt name)) v (held rows pending)).0 (long_met c (Some (opt name)) v (held rows pending)).1).0
+          (after_flag c idle word (long_met c (Some (opt name)) v (held rows pending)).0 (long_met c (Some (opt name)) v (held rows pending)).1).1 ≡ option_after name v rows pending
       by (Some v) = refl
       by None = refl
 
   -- its fault is that of what it settles, and of its use where it has its value
   pub fault_long : (word name : Text) (v : Option Text) (rows : List Row) (pending : Option (Text × List Text)) (o : IsOption c name) → long_of word ≡ Some (name, v)
-      → turn_fault (shape_with c) [] (standing rows pending) word ≡ option_fault c false (opt name o.required) v (held rows pending)
+      → turn_fault (shape_with c) [] (standing rows pending) word ≡ option_fault c false (opt name) v (held rows pending)
   fault_long word name v rows pending o e =
       let h = held rows pending in
       let escape = long_no_escape word name v e in
-      let first : word_fault (shape_with c) [] false idle word h ≡ option_fault c false (opt name o.required) v h = fault_met idle word h (Some (name, v)) escape e ∙ ap (λ (r : Option Rule). long_fault c false r v h) o.long in
-      let then : word_met c [] false idle 1 word h ≡ after_flag c idle word (long_met c (Some (opt name o.required)) v h).0 (long_met c (Some (opt name o.required)) v h).1 =
+      let first : word_fault (shape_with c) [] false idle word h ≡ option_fault c false (opt name) v h = fault_met idle word h (Some (name, v)) escape e ∙ ap (λ (r : Option Rule). long_fault c false r v h) o.long in
+      let then : word_met c [] false idle 1 word h ≡ after_flag c idle word (long_met c (Some (opt name)) v h).0 (long_met c (Some (opt name)) v h).1 =
       met idle word h (Some (name, v)) escape e ∙ ap (λ (r : Option Rule). after_flag c idle word (long_met c r v h).0 (long_met c r v h).1) o.long in
       ap₂ (λ (f : Kinds) (m : Held × Step). or_else f (step_fault (shape_with c) 1 m.0 m.1)) first then
       ∙ last v
@@ -175,9 +173,9 @@ module _ (c : List Rule) (ready : IsOptions c) where
       alone [] = refl
       alone (k ∷ ks) = refl
 
-      last : (v : Option Text) → or_else (option_fault c false (opt name o.required) v (held rows pending))
-          (step_fault (shape_with c) 1 (after_flag c idle word (long_met c (Some (opt name o.required)) v (held rows pending)).0 (long_met c (Some (opt name o.required)) v (held rows pending)).1).0
-          (after_flag c idle word (long_met c (Some (opt name o.required)) v (held rows pending)).0 (long_met c (Some (opt name o.required)) v (held rows pending)).1).1) ≡ option_fault c false (opt name o.required) v (held rows pending)
+      last : (v : Option Text) → or_else (option_fault c false (opt name) v (held rows pending))
+          (step_fault (shape_with c) 1 (after_flag c idle word (long_met c (Some (opt name)) v (held rows pending)).0 (long_met c (Some (opt name)) v (held rows pending)).1).0
+          (after_flag c idle word (long_met c (Some (opt name)) v (held rows pending)).0 (long_met c (Some (opt name)) v (held rows pending)).1).1) ≡ option_fault c false (opt name) v (held rows pending)
       last (Some v) = alone _
       last None = alone _
 
@@ -248,7 +246,7 @@ module _ (c : List Rule) (ready : IsOptions c) where
       let h = held rows (Some (id, [])) in
       let first : long_fault c false (arg_by_long c name) v h ≡ [] = sym (fault_met (option id) word h (Some (name, v)) (long_no_escape word name v e) e) ∙ none_first _ _ none in
       elim (ready.long name) [
-        | inl other ↦ unsettled (settles (opt name other.required) v (sym (ap (λ (r : Option Rule). long_fault c false r v h) other.long) ∙ first))
+        | inl other ↦ unsettled (settles (opt name) v (sym (ap (λ (r : Option Rule). long_fault c false r v h) other.long) ∙ first))
         | inr unknown ↦ (let bad : kind.UnknownArgument ∷ [] ≡ [] = sym (ap (λ (r : Option Rule). long_fault c false r v h) unknown) ∙ first in cc)
       ]
     where
@@ -257,4 +255,4 @@ module _ (c : List Rule) (ready : IsOptions c) where
       settles a None e = e
 
       unsettled : settle_fault c false (held rows (Some (id, []))) ≡ [] → ⊥
-      unsettled e = use_of_none id o.required rows (sym (ap (λ (r : Option Rule). option_map_or (λ a. use_fault false a [] rows) r []) o.id) ∙ e)
+      unsettled e = use_of_none id rows (sym (ap (λ (r : Option Rule). option_map_or (λ a. use_fault false a [] rows) r []) o.id) ∙ e)

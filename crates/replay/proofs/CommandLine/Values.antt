@@ -1,96 +1,17 @@
--- The options of `run`: which are proper, and what their values are.
-use Rattle.std.proofs.Common.{◌≡◌, ◌||◌, ◌&&◌, ◌⊎◌, Bool, true, false, cond, not, List, [], ◌∷◌, ◌++◌, map, find, Option, Some, None, is_some, refl, sym, ap, subst, ◌∙◌, inl, inr, codes, bytes_eq, slice_get, option_map, option_and_then}
+-- The options that a word knows: which are proper, and what their values are.
+use Rattle.std.proofs.Common.{◌≡◌, ◌||◌, ◌&&◌, ◌⊎◌, ℕ, Bool, true, false, cond, not, List, [], ◌∷◌, ◌++◌, drop, find, length, map, nat_le, Option, Some, None, refl, sym, ap, subst, ◌∙◌, inl, inr, bytes_eq, slice_get, option_map, option_and_then}
 use Rattle.std.specs.List.{AllByRecursion, list_any}
 use Rattle.std.specs.Option.{option_map_or}
 use Rattle.std.proofs.lemmas.List.Folds.{list_any-append}
 use Rattle.std.proofs.lemmas.Slice.Eq.{bytes_eq-Decides}
-use Rattle.clap.specs.Walk.{Row, Rule, Text, arg_by_long, first_of, has_row}
-use Rattle.clap.specs.Facts.{explicit_source}
-use Rattle.clap.specs.Takes.{is_given}
-use Rattle.replay.specs.Commanding.{CommandOption, are_proper, option_names, value_named}
-use Rattle.replay.proofs.CommandLine.Spelling.{hyphened, spelled}
-use Rattle.replay.proofs.CommandLine.Turns.{IsOption, IsOptions, opt}
-use Rattle.replay.proofs.CommandLine.Walks.{Fits, Known, id_of, row_of}
-
--- the rules of `run`, as the built command has them
-abbrev pub run_rules : List Rule
-run_rules = opt (codes "frames") true ∷ opt (codes "page") false ∷ opt (codes "segments") false ∷ []
+use Rattle.clap.specs.Walk.{Row, Rule, Text, arg_by_id, arg_by_index, arg_by_long, arg_by_short, first_of, has_row}
+use Rattle.replay.specs.Commanding.{CommandOption, are_proper, hyphened, is_known, is_value, value_named}
+use Rattle.replay.specs.Reading.{are_named, have_values}
+use Rattle.replay.proofs.CommandLine.Turns.{IsOption, IsOptions, opt, same_bytes}
+use Rattle.replay.proofs.CommandLine.Walks.{ArePlain, Fits, Known, id_of, row_of}
 
 pub same_text : (a b : Text) → bytes_eq a b ≡ true → a ≡ b
 same_text a b e = (bytes_eq-Decides a b).0 e
-
--- the rule of a name, by the names that it is
-abbrev chosen : Bool → Bool → Bool → Option Rule
-chosen f p s = cond (f || false) (Some (opt (codes "frames") true)) (cond (p || false) (Some (opt (codes "page") false)) (cond (s || false) (Some (opt (codes "segments") false)) None))
-
-chosen_none : (f p s : Bool) → f ≡ false → p ≡ false → s ≡ false → chosen f p s ≡ None
-chosen_none f p s e g h = ap (λ (b : Bool). chosen b p s) e ∙ ap (λ (b : Bool). chosen false b s) g ∙ ap (λ (b : Bool). chosen false false b) h
-
-frames_option : IsOption run_rules (codes "frames")
-frames_option = record { required = true; some = λ n. cc; long = refl; id = refl }
-
-page_option : IsOption run_rules (codes "page")
-page_option = record { required = false; some = λ n. cc; long = refl; id = refl }
-
-segments_option : IsOption run_rules (codes "segments")
-segments_option = record { required = false; some = λ n. cc; long = refl; id = refl }
-
-run_long : (name : Text) → IsOption run_rules name ⊎ (arg_by_long run_rules name ≡ None)
-run_long name = by (bytes_eq (codes "frames") name) (bytes_eq (codes "page") name) (bytes_eq (codes "segments") name) refl refl refl
-  where
-    by : (f p s : Bool) → bytes_eq (codes "frames") name ≡ f → bytes_eq (codes "page") name ≡ p → bytes_eq (codes "segments") name ≡ s → IsOption run_rules name ⊎ (arg_by_long run_rules name ≡ None)
-    by true p s e g h = inl (subst (IsOption run_rules) (same_text (codes "frames") name e) frames_option)
-    by false true s e g h = inl (subst (IsOption run_rules) (same_text (codes "page") name g) page_option)
-    by false false true e g h = inl (subst (IsOption run_rules) (same_text (codes "segments") name h) segments_option)
-    by false false false e g h = inr (chosen_none _ _ _ e g h)
-
-pub run_options : IsOptions run_rules
-run_options = record { long = run_long; short = λ x. refl; position = refl }
-
--- the known options are those of the definition's names
-
-abbrev pub is_known : Text → Bool
-is_known name = list_any (λ (known : Text). bytes_eq known name) option_names
-
-known_from : (name value : Text) → is_known name ≡ true → Known run_rules (spelled name value)
-known_from name value e = by (bytes_eq (codes "--frames") name) (bytes_eq (codes "--page") name) (bytes_eq (codes "--segments") name) refl refl refl
-  where
-    at : (known : Text) → Known run_rules (spelled known value) → bytes_eq known name ≡ true → Known run_rules (spelled name value)
-    at known k same = subst (λ (n : Text). Known run_rules (spelled n value)) (same_text known name same) k
-
-    by : (f p s : Bool) → bytes_eq (codes "--frames") name ≡ f → bytes_eq (codes "--page") name ≡ p → bytes_eq (codes "--segments") name ≡ s → Known run_rules (spelled name value)
-    by true p s f g h = at (codes "--frames") (record { name_is = refl; option = frames_option }) f
-    by false true s f g h = at (codes "--page") (record { name_is = refl; option = page_option }) g
-    by false false true f g h = at (codes "--segments") (record { name_is = refl; option = segments_option }) h
-    by false false false f g h =
-        let none : is_known name ≡ false = ap (λ (b : Bool). b || (bytes_eq (codes "--page") name || (bytes_eq (codes "--segments") name || false))) f
-        ∙ ap (λ (b : Bool). b || (bytes_eq (codes "--segments") name || false)) g ∙ ap (λ (b : Bool). b || false) h in
-        absurd (cc)
-
-option_known : (id : Text) → IsOption run_rules id → is_known (hyphened id) ≡ true
-option_known id o = by (bytes_eq (codes "frames") id) (bytes_eq (codes "page") id) (bytes_eq (codes "segments") id) refl refl refl
-  where
-    at : (known : Text) → is_known (hyphened known) ≡ true → bytes_eq known id ≡ true → is_known (hyphened id) ≡ true
-    at known k same = subst (λ (n : Text). is_known (hyphened n) ≡ true) (same_text known id same) k
-
-    by : (f p s : Bool) → bytes_eq (codes "frames") id ≡ f → bytes_eq (codes "page") id ≡ p → bytes_eq (codes "segments") id ≡ s → is_known (hyphened id) ≡ true
-    by true p s f g h = at (codes "frames") refl f
-    by false true s f g h = at (codes "page") refl g
-    by false false true f g h = at (codes "segments") refl h
-    by false false false f g h = let none : None ≡ Some (opt id o.required) = sym (chosen_none _ _ _ f g h) ∙ o.long in absurd (cc)
-
--- options that fit are proper
-
-abbrev pub AreKnown : List CommandOption → Type 0
-AreKnown options = AllByRecursion (Known run_rules) options
-
--- no option has the id of one of the rows
-abbrev Apart : List Row → List CommandOption → Type 0
-Apart rows options = AllByRecursion (λ (o : CommandOption). has_row (id_of o) rows ≡ false) options
-
--- no option has the name
-abbrev pub is_again : Text → List CommandOption → Bool
-is_again name options = list_any (λ (later : CommandOption). bytes_eq name later.name) options
 
 pub or_none : (a b : Bool) → (a || b) ≡ false → (a ≡ false) × (b ≡ false)
 or_none true b e = absurd (cc)
@@ -104,70 +25,241 @@ pub not_true : (a : Bool) → not a ≡ true → a ≡ false
 not_true true e = absurd (cc)
 not_true false e = refl
 
-same_names : (o later : CommandOption) → Known run_rules o → Known run_rules later → bytes_eq o.name later.name ≡ bytes_eq (id_of o) (id_of later)
-same_names o later k l = ap (λ (n : Text). bytes_eq n later.name) k.name_is ∙ ap (bytes_eq (hyphened (id_of o))) l.name_is
+same_truth : (a b : Bool) → (a ≡ true → b ≡ true) → (b ≡ true → a ≡ true) → a ≡ b
+same_truth true b h k = sym (h refl)
+same_truth false true h k = k refl
+same_truth false false h k = refl
 
-row_last : (rows : List Row) (o later : CommandOption) → Known run_rules o → Known run_rules later → has_row (id_of later) (rows ++ row_of o ∷ []) ≡ (has_row (id_of later) rows || (bytes_eq o.name later.name || false))
-row_last rows o later k l = list_any-append (λ (r : Row). bytes_eq r.id (id_of later)) rows (row_of o ∷ []) ∙ ap (λ (b : Bool). has_row (id_of later) rows || (b || false)) (sym (same_names o later k l))
+-- the rules of options with these names, as the built command has them
+abbrev pub rules_of : List Text → List Rule
+rules_of known = map opt known
 
-apart_first : (rows : List Row) (o : CommandOption) (options : List CommandOption) → Known run_rules o → AreKnown options → Apart (rows ++ row_of o ∷ []) options → Apart rows options × (is_again o.name options ≡ false)
-apart_first rows o [] k ks a = (tt, refl)
-apart_first rows o (later ∷ options) k ks a =
-    let rest = apart_first rows o options k ks.1 a.1 in
-    let parts = or_none _ _ (sym (row_last rows o later k ks.0) ∙ a.0) in
-    ((parts.0, rest.0), ap (λ (b : Bool). b || is_again o.name options) (or_none _ _ parts.1).0 ∙ rest.1)
+by_long : (own : Text) (c : List Rule) (name : Text) → arg_by_long (opt own ∷ c) name ≡ cond (bytes_eq own name) (Some (opt own)) (arg_by_long c name)
+by_long own c name = by (bytes_eq own name)
+  where
+    by : (b : Bool) → cond (b || false) (Some (opt own)) (arg_by_long c name) ≡ cond b (Some (opt own)) (arg_by_long c name)
+    by true = refl
+    by false = refl
 
-apart_last : (rows : List Row) (o : CommandOption) (options : List CommandOption) → Known run_rules o → AreKnown options → Apart rows options → is_again o.name options ≡ false → Apart (rows ++ row_of o ∷ []) options
-apart_last rows o [] k ks a none = tt
-apart_last rows o (later ∷ options) k ks a none =
-    let parts = or_none _ _ none in
-    (row_last rows o later k ks.0 ∙ ap (λ (b : Bool). b || (bytes_eq o.name later.name || false)) a.0 ∙ ap (λ (b : Bool). b || false) parts.0, apart_last rows o options k ks.1 a.1 parts.1)
+-- a known name is that of an option, and no other is
 
-fits_known : (rows : List Row) (options : List CommandOption) → Fits run_rules rows options → AreKnown options
-fits_known rows [] fits = tt
-fits_known rows (o ∷ options) fits = (fits.0, fits_known (rows ++ row_of o ∷ []) options fits.2)
+pub known_option : (known : List Text) → are_named known ≡ true → (name : Text) → is_known known (hyphened name) ≡ true → IsOption (rules_of known) name
+known_option [] named name e = absurd (cc)
+known_option (own ∷ known) named name e = by (bytes_eq own name) refl e (known_option known (and_both _ _ named).1 name)
+  where
+    by : (b : Bool) → bytes_eq own name ≡ b → (b || is_known known (hyphened name)) ≡ true → (is_known known (hyphened name) ≡ true → IsOption (rules_of known) name) → IsOption (rules_of (own ∷ known)) name
+    by true t e rest =
+        let same = same_text own name t in
+        record {
+          some = λ none. (let bad : false ≡ true = sym (ap (λ (n : Text). nat_le 1 (length n)) (same ∙ none)) ∙ (and_both _ _ named).0 in cc);
+          long = by_long own (rules_of known) name ∙ ap (λ (b : Bool). cond b (Some (opt own)) (arg_by_long (rules_of known) name)) t ∙ ap (λ (n : Text). Some (opt n)) same;
+          id = ap (λ (b : Bool). cond b (Some (opt own)) (arg_by_id (rules_of known) name)) t ∙ ap (λ (n : Text). Some (opt n)) same;
+        }
+    by false t e rest =
+        let o = rest e in
+        record {
+          some = o.some;
+          long = by_long own (rules_of known) name ∙ ap (λ (b : Bool). cond b (Some (opt own)) (arg_by_long (rules_of known) name)) t ∙ o.long;
+          id = ap (λ (b : Bool). cond b (Some (opt own)) (arg_by_id (rules_of known) name)) t ∙ o.id;
+        }
 
-fits_proper : (rows : List Row) (options : List CommandOption) → Fits run_rules rows options → (are_proper options ≡ true) × Apart rows options
-fits_proper rows [] fits = (refl, tt)
-fits_proper rows (o ∷ options) fits =
-    let rest = fits_proper (rows ++ row_of o ∷ []) options fits.2 in
-    let first = apart_first rows o options fits.0 (fits_known (rows ++ row_of o ∷ []) options fits.2) rest.1 in
-    let known : is_known o.name ≡ true = ap is_known fits.0.name_is ∙ option_known (id_of o) fits.0.option in (
-      ap (λ (b : Bool). b && (not (is_again o.name options) && are_proper options)) known ∙ ap (λ (b : Bool). not b && are_proper options) first.1 ∙ rest.0,
-      (fits.1, first.0),
-    )
+unknown_none : (known : List Text) (name : Text) → is_known known (hyphened name) ≡ false → arg_by_long (rules_of known) name ≡ None
+unknown_none [] name e = refl
+unknown_none (own ∷ known) name e =
+    let parts = or_none (bytes_eq own name) (is_known known (hyphened name)) e in
+    by_long own (rules_of known) name ∙ ap (λ (b : Bool). cond b (Some (opt own)) (arg_by_long (rules_of known) name)) parts.0 ∙ unknown_none known name parts.1
 
-pub proper : (options : List CommandOption) → Fits run_rules [] options → (are_proper options ≡ true) × AreKnown options
-proper options fits = ((fits_proper [] options fits).0, fits_known [] options fits)
+option_known : (known : List Text) (name : Text) → IsOption (rules_of known) name → is_known known (hyphened name) ≡ true
+option_known known name o = by (is_known known (hyphened name)) refl
+  where
+    by : (b : Bool) → is_known known (hyphened name) ≡ b → b ≡ true
+    by true t = refl
+    by false t = let none : None ≡ Some (opt name) = sym (unknown_none known name t) ∙ o.long in absurd (cc)
 
--- proper options fit
+none_short : (known : List Text) (x : ℕ) → arg_by_short (rules_of known) x ≡ None
+none_short [] x = refl
+none_short (own ∷ known) x = none_short known x
 
-pub proper_known : (options : List CommandOption) → are_proper options ≡ true → AreKnown options
-proper_known [] e = tt
-proper_known (o ∷ options) e =
+none_placed : (known : List Text) → arg_by_index (rules_of known) 1 ≡ None
+none_placed [] = refl
+none_placed (own ∷ known) = none_placed known
+
+pub options_alone : (known : List Text) → are_named known ≡ true → IsOptions (rules_of known)
+options_alone known named = record { long = λ name. by name (is_known known (hyphened name)) refl; short = none_short known; position = none_placed known }
+  where
+    by : (name : Text) (b : Bool) → is_known known (hyphened name) ≡ b → IsOption (rules_of known) name ⊎ (arg_by_long (rules_of known) name ≡ None)
+    by name true t = inl (known_option known named name t)
+    by name false t = inr (unknown_none known name t)
+
+-- a known name has its hyphens
+known_name : (known : List Text) (name : Text) → is_known known name ≡ true → name ≡ hyphened (drop 2 name)
+known_name [] name e = absurd (cc)
+known_name (own ∷ known) name e = by (bytes_eq (hyphened own) name) refl e (known_name known name)
+  where
+    by : (b : Bool) → bytes_eq (hyphened own) name ≡ b → (b || is_known known name) ≡ true → (is_known known name ≡ true → name ≡ hyphened (drop 2 name)) → name ≡ hyphened (drop 2 name)
+    by true t e rest = subst (λ (n : Text). n ≡ hyphened (drop 2 n)) (same_text (hyphened own) name t) refl
+    by false t e rest = rest e
+
+-- options with known names
+
+abbrev pub AreKnown : List Rule → List CommandOption → Type 0
+AreKnown c options = AllByRecursion (Known c) options
+
+-- a later option has the name
+abbrev pub is_again : Text → List CommandOption → Bool
+is_again name options = list_any (λ (later : CommandOption). bytes_eq name later.name) options
+
+-- The options have known names, and no two have the same.
+abbrev pub AreOwn : List Text → List CommandOption → Type 0
+AreOwn known [] = Unit {0}
+AreOwn known (o ∷ options) = (is_known known o.name ≡ true) × (is_again o.name options ≡ false) × AreOwn known options
+
+pub own_known : (known : List Text) → are_named known ≡ true → (options : List CommandOption) → AreOwn known options → AreKnown (rules_of known) options
+own_known known named [] own = tt
+own_known known named (o ∷ options) own =
+    let name = known_name known o.name own.0 in
+    (record { name_is = name; option = known_option known named (id_of o) (sym (ap (is_known known) name) ∙ own.0) }, own_known known named options own.2)
+
+-- proper options are such that have values
+
+pub proper_parts : (known : List Text) (options : List CommandOption) → are_proper known options ≡ true → AreOwn known options × ArePlain options
+proper_parts known [] e = (tt, tt)
+proper_parts known (o ∷ options) e =
     let parts = and_both _ _ e in
-    (known_from o.name o.value parts.0, proper_known options (and_both _ _ parts.1).1)
+    let first = and_both _ _ parts.0 in
+    let later = and_both _ _ parts.1 in
+    let rest = proper_parts known options later.1 in
+    ((first.0, not_true _ later.0, rest.0), (first.1, rest.1))
 
-proper_fits : (rows : List Row) (options : List CommandOption) → are_proper options ≡ true → Apart rows options → Fits run_rules rows options
-proper_fits rows [] e a = tt
-proper_fits rows (o ∷ options) e a =
-    let parts = and_both _ _ e in
-    let rest = and_both _ _ parts.1 in
-    let known = known_from o.name o.value parts.0 in
-    (known, a.0, proper_fits (rows ++ row_of o ∷ []) options rest.1 (apart_last rows o options known (proper_known options rest.1) a.1 (not_true _ rest.0)))
+proper_whole : (known : List Text) (options : List CommandOption) → AreOwn known options → ArePlain options → are_proper known options ≡ true
+proper_whole known [] own plain = refl
+proper_whole known (o ∷ options) own plain =
+    ap (λ (b : Bool). (b && is_value o.value) && (not (is_again o.name options) && are_proper known options)) own.0
+    ∙ ap (λ (b : Bool). b && (not (is_again o.name options) && are_proper known options)) plain.0
+    ∙ ap (λ (b : Bool). not b && are_proper known options) own.1 ∙ proper_whole known options own.2 plain.1
 
-apart_none : (options : List CommandOption) → Apart [] options
-apart_none [] = tt
-apart_none (o ∷ options) = (refl, apart_none options)
+-- the value that a name finds
 
-pub fits : (options : List CommandOption) → are_proper options ≡ true → Fits run_rules [] options
-fits options e = proper_fits [] options e (apart_none options)
+plain_named : (name : Text) (options : List CommandOption) → ArePlain options → option_map_or is_value (value_named name options) true ≡ true
+plain_named name [] plain = refl
+plain_named name (o ∷ options) plain = by (bytes_eq o.name name) (plain_named name options plain.1)
+  where
+    by : (b : Bool) → option_map_or is_value (value_named name options) true ≡ true → option_map_or is_value (option_map (λ (x : CommandOption). x.value) (cond b (Some o) (find (λ (x : CommandOption). bytes_eq x.name name) options))) true ≡ true
+    by true rest = plain.0
+    by false rest = rest
+
+all_named : (known : List Text) (options : List CommandOption) → ArePlain options → have_values (λ name. value_named (hyphened name) options) known ≡ true
+all_named [] options plain = refl
+all_named (own ∷ known) options plain =
+    ap (λ (b : Bool). b && have_values (λ name. value_named (hyphened name) options) known) (plain_named (hyphened own) options plain) ∙ all_named known options plain
+
+-- what holds of what every known name finds
+one_named : (found : Text → Option Text) (known : List Text) (name : Text) → have_values found known ≡ true → is_known known (hyphened name) ≡ true → option_map_or is_value (found name) true ≡ true
+one_named found [] name all e = absurd (cc)
+one_named found (own ∷ known) name all e = by (bytes_eq own name) refl e (one_named found known name (and_both _ _ all).1)
+  where
+    by : (b : Bool) → bytes_eq own name ≡ b → (b || is_known known (hyphened name)) ≡ true → (is_known known (hyphened name) ≡ true → option_map_or is_value (found name) true ≡ true) → option_map_or is_value (found name) true ≡ true
+    by true t e rest = subst (λ (n : Text). option_map_or is_value (found n) true ≡ true) (same_text own name t) (and_both _ _ all).0
+    by false t e rest = rest e
+
+-- each option is the one that its name finds
+
+found_again : (name : Text) (options : List CommandOption) (x : Text) → value_named name options ≡ Some x → is_again name options ≡ true
+found_again name [] x e = absurd (cc)
+found_again name (o ∷ options) x e = by (bytes_eq o.name name) refl e (found_again name options x)
+  where
+    by : (b : Bool) → bytes_eq o.name name ≡ b → option_map (λ (o : CommandOption). o.value) (cond b (Some o) (find (λ (o : CommandOption). bytes_eq o.name name) options)) ≡ Some x
+        → (value_named name options ≡ Some x → is_again name options ≡ true) → is_again name (o ∷ options) ≡ true
+    by true t e later = ap (λ (b : Bool). b || is_again name options) (ap (bytes_eq name) (same_text o.name name t) ∙ same_bytes name)
+    by false t e later = or_right (bytes_eq name o.name) (is_again name options) (later e)
+      where
+        or_right : (a b : Bool) → b ≡ true → (a || b) ≡ true
+        or_right true b e = refl
+        or_right false b e = e
+
+each_plain : (known : List Text) (options : List CommandOption) → AreOwn known options → ((name x : Text) → is_known known name ≡ true → value_named name options ≡ Some x → is_value x ≡ true) → ArePlain options
+each_plain known [] own h = tt
+each_plain known (o ∷ options) own h = (
+  h o.name o.value own.0 (ap (λ (b : Bool). option_map (λ (x : CommandOption). x.value) (cond b (Some o) (find (λ (x : CommandOption). bytes_eq x.name o.name) options))) (same_bytes o.name)),
+  each_plain known options own.2 (λ name x is found. h name x is (passed name x found (bytes_eq o.name name) refl)),
+)
+  where
+    passed : (name x : Text) → value_named name options ≡ Some x → (b : Bool) → bytes_eq o.name name ≡ b → value_named name (o ∷ options) ≡ Some x
+    passed name x found true t =
+        let yes : is_again o.name options ≡ true = found_again o.name options x (ap (λ (n : Text). value_named n options) (same_text o.name name t) ∙ found) in
+        let no : is_again o.name options ≡ false = own.1 in
+        absurd (cc)
+    passed name x found false t = ap (λ (b : Bool). option_map (λ (x : CommandOption). x.value) (cond b (Some o) (find (λ (x : CommandOption). bytes_eq x.name name) options))) t ∙ found
+
+all_plain : (known : List Text) (options : List CommandOption) → AreOwn known options → have_values (λ name. value_named (hyphened name) options) known ≡ true → ArePlain options
+all_plain known options own all = each_plain known options own (λ name x is found.
+    let hyphens = known_name known name is in
+    sym (ap (λ (o : Option Text). option_map_or is_value o true) (sym (ap (λ (n : Text). value_named n options) hyphens) ∙ found))
+    ∙ one_named (λ name. value_named (hyphened name) options) known (drop 2 name) all (sym (ap (is_known known) hyphens) ∙ is))
+
+pub proper_is : (known : List Text) (options : List CommandOption) → AreOwn known options → are_proper known options ≡ have_values (λ name. value_named (hyphened name) options) known
+proper_is known options own = same_truth _ _ (λ e. all_named known options (proper_parts known options e).1) (λ e. proper_whole known options own (all_plain known options own e))
+
+-- options that fit are the known ones
+
+-- no option has the id of one of the rows
+abbrev Apart : List Row → List CommandOption → Type 0
+Apart rows options = AllByRecursion (λ (o : CommandOption). has_row (id_of o) rows ≡ false) options
+
+module _ (c : List Rule) where
+  same_names : (o later : CommandOption) → Known c o → Known c later → bytes_eq o.name later.name ≡ bytes_eq (id_of o) (id_of later)
+  same_names o later k l = ap (λ (n : Text). bytes_eq n later.name) k.name_is ∙ ap (bytes_eq (hyphened (id_of o))) l.name_is
+
+  row_last : (rows : List Row) (o later : CommandOption) → Known c o → Known c later → has_row (id_of later) (rows ++ row_of o ∷ []) ≡ (has_row (id_of later) rows || (bytes_eq o.name later.name || false))
+  row_last rows o later k l = list_any-append (λ (r : Row). bytes_eq r.id (id_of later)) rows (row_of o ∷ []) ∙ ap (λ (b : Bool). has_row (id_of later) rows || (b || false)) (sym (same_names o later k l))
+
+  apart_first : (rows : List Row) (o : CommandOption) (options : List CommandOption) → Known c o → AreKnown c options → Apart (rows ++ row_of o ∷ []) options → Apart rows options × (is_again o.name options ≡ false)
+  apart_first rows o [] k ks a = (tt, refl)
+  apart_first rows o (later ∷ options) k ks a =
+      let rest = apart_first rows o options k ks.1 a.1 in
+      let parts = or_none _ _ (sym (row_last rows o later k ks.0) ∙ a.0) in
+      ((parts.0, rest.0), ap (λ (b : Bool). b || is_again o.name options) (or_none _ _ parts.1).0 ∙ rest.1)
+
+  apart_last : (rows : List Row) (o : CommandOption) (options : List CommandOption) → Known c o → AreKnown c options → Apart rows options → is_again o.name options ≡ false → Apart (rows ++ row_of o ∷ []) options
+  apart_last rows o [] k ks a none = tt
+  apart_last rows o (later ∷ options) k ks a none =
+      let parts = or_none _ _ none in
+      (row_last rows o later k ks.0 ∙ ap (λ (b : Bool). b || (bytes_eq o.name later.name || false)) a.0 ∙ ap (λ (b : Bool). b || false) parts.0, apart_last rows o options k ks.1 a.1 parts.1)
+
+  fits_known : (rows : List Row) (options : List CommandOption) → Fits c rows options → AreKnown c options
+  fits_known rows [] fits = tt
+  fits_known rows (o ∷ options) fits = (fits.0, fits_known (rows ++ row_of o ∷ []) options fits.2)
+
+fits_apart : (known : List Text) (rows : List Row) (options : List CommandOption) → Fits (rules_of known) rows options → AreOwn known options × Apart rows options
+fits_apart known rows [] fits = (tt, tt)
+fits_apart known rows (o ∷ options) fits =
+    let rest = fits_apart known (rows ++ row_of o ∷ []) options fits.2 in
+    let first = apart_first (rules_of known) rows o options fits.0 (fits_known (rules_of known) (rows ++ row_of o ∷ []) options fits.2) rest.1 in
+    let name : is_known known o.name ≡ true = ap (is_known known) fits.0.name_is ∙ option_known known (id_of o) fits.0.option in
+    ((name, first.1, rest.0), (fits.1, first.0))
+
+pub fits_own : (known : List Text) (options : List CommandOption) → Fits (rules_of known) [] options → AreOwn known options
+fits_own known options fits = (fits_apart known [] options fits).0
+
+module _ (known : List Text) (named : are_named known ≡ true) where
+  own_apart : (rows : List Row) (options : List CommandOption) → AreOwn known options → Apart rows options → Fits (rules_of known) rows options
+  own_apart rows [] own a = tt
+  own_apart rows (o ∷ options) own a =
+      let all = own_known known named (o ∷ options) own in
+      (all.0, a.0, own_apart (rows ++ row_of o ∷ []) options own.2 (apart_last (rules_of known) rows o options all.0 all.1 a.1 own.1))
+
+  apart_none : (options : List CommandOption) → Apart [] options
+  apart_none [] = tt
+  apart_none (o ∷ options) = (refl, apart_none options)
+
+  pub own_fits : (options : List CommandOption) → AreOwn known options → Fits (rules_of known) [] options
+  own_fits options own = own_apart [] options own (apart_none options)
 
 -- the values that clap finds are those of the options
 
-pub value_found : (id : Text) (options : List CommandOption) → AreKnown options → first_of id (map row_of options) ≡ value_named (hyphened id) options
-value_found id [] ks = refl
-value_found id (o ∷ options) ks = by (bytes_eq (id_of o) id) refl (value_found id options ks.1)
+pub value_found : (id : Text) (c : List Rule) (options : List CommandOption) → AreKnown c options → first_of id (map row_of options) ≡ value_named (hyphened id) options
+value_found id c [] ks = refl
+value_found id c (o ∷ options) ks = by (bytes_eq (id_of o) id) refl (value_found id c options ks.1)
   where
     name_is : bytes_eq o.name (hyphened id) ≡ bytes_eq (id_of o) id
     name_is = ap (λ (n : Text). bytes_eq n (hyphened id)) ks.0.name_is
@@ -180,19 +272,3 @@ value_found id (o ∷ options) ks = by (bytes_eq (id_of o) id) refl (value_found
         ap (λ (b : Bool). option_and_then (λ (r : Row). slice_get r.values 0) (cond b (Some (row_of o)) (find (λ (r : Row). bytes_eq r.id id) (map row_of options)))) e
         ∙ rest
         ∙ sym (ap (λ (b : Bool). option_map (λ (x : CommandOption). x.value) (cond b (Some o) (find (λ (x : CommandOption). bytes_eq x.name (hyphened id)) options))) (name_is ∙ e))
-
-pub given : (id : Text) (options : List CommandOption) → AreKnown options → is_some (value_named (hyphened id) options) ≡ is_given id (map row_of options)
-given id [] ks = refl
-given id (o ∷ options) ks = by (bytes_eq (id_of o) id) refl (given id options ks.1)
-  where
-    name_is : bytes_eq o.name (hyphened id) ≡ bytes_eq (id_of o) id
-    name_is = ap (λ (n : Text). bytes_eq n (hyphened id)) ks.0.name_is
-
-    by : (b : Bool) → bytes_eq (id_of o) id ≡ b → is_some (value_named (hyphened id) options) ≡ is_given id (map row_of options) → is_some (value_named (hyphened id) (o ∷ options)) ≡ is_given id (map row_of (o ∷ options))
-    by true e rest =
-        ap (λ (b : Bool). is_some (option_map (λ (x : CommandOption). x.value) (cond b (Some o) (find (λ (x : CommandOption). bytes_eq x.name (hyphened id)) options)))) (name_is ∙ e)
-        ∙ sym (ap (λ (b : Bool). option_map_or (λ (r : Row). explicit_source r.source) (cond b (Some (row_of o)) (find (λ (r : Row). bytes_eq r.id id) (map row_of options))) false) e)
-    by false e rest =
-        ap (λ (b : Bool). is_some (option_map (λ (x : CommandOption). x.value) (cond b (Some o) (find (λ (x : CommandOption). bytes_eq x.name (hyphened id)) options)))) (name_is ∙ e)
-        ∙ rest
-        ∙ sym (ap (λ (b : Bool). option_map_or (λ (r : Row). explicit_source r.source) (cond b (Some (row_of o)) (find (λ (r : Row). bytes_eq r.id id) (map row_of options))) false) e)

@@ -1,16 +1,15 @@
 -- What clap's walk makes of words, beside the options that the definition cuts them into.
-use Rattle.std.proofs.Common.{◌≡◌, ◌==◌, ◌||◌, ◌⊎◌, ℕ, Bool, true, false, List, [], ◌∷◌, ◌++◌, drop, map, fold, Option, Some, None, refl, sym, ap, subst, ◌∙◌, append-nil, append_assoc, inl, inr, bytes_eq, option_map}
-use Rattle.std.specs.List.{AllByRecursion, list_any}
+use Rattle.std.proofs.Common.{◌≡◌, ◌||◌, ℕ, Bool, true, false, List, [], ◌∷◌, ◌++◌, drop, map, fold, Option, Some, None, refl, sym, ap, subst, ◌∙◌, append-nil, append_assoc, inl, inr, bytes_eq}
+use Rattle.std.specs.List.{AllByRecursion}
 use Rattle.std.specs.Option.{option_map_or}
 use Rattle.clap.specs.Lexer.{long_of}
-use Rattle.clap.specs.Walk.{Row, Rule, Text, Walk, has_row, settled, settled_rows, used, used_by_id, walked}
-use Rattle.clap.specs.Kinds.{or_else}
+use Rattle.clap.specs.Walk.{Row, Rule, Text, Walk, has_row, settled, settled_rows, used_by_id, walked}
 use Rattle.clap.specs.Faults.{option_fault, settle_fault, turn_fault, use_fault, walk_fault}
-use Rattle.replay.specs.Commanding.{CommandOption, is_folder_name, option_in, options_of}
+use Rattle.replay.specs.Commanding.{CommandOption, hyphened, is_value, option_in, options_of}
 use Rattle.replay.specs.Reading.{has_escape}
-use Rattle.replay.proofs.CommandLine.Spelling.{alone_long, hyphened, joined_long, long_alone, long_joined, long_no_escape, plain_word as plain_value, spelled}
+use Rattle.replay.proofs.CommandLine.Spelling.{alone_long, joined_long, long_alone, long_joined, plain_word as plain_value, spelled}
 use Rattle.replay.proofs.CommandLine.Cutting.{by_cut, cut_apart, cut_joined}
-use Rattle.replay.proofs.CommandLine.Turns.{IsOption, IsOptions, awaiting, fault_long, fault_no_value, fault_stray, fault_unknown, fault_value, held, none_both, none_first, none_then, opt, option_after, row, shape_with, standing, use_of_none, use_of_one, used_once, used_twice, walked_long, walked_value}
+use Rattle.replay.proofs.CommandLine.Turns.{IsOption, IsOptions, awaiting, fault_long, fault_no_value, fault_stray, fault_unknown, fault_value, held, none_both, none_first, none_then, opt, row, shape_with, standing, use_of_none, use_of_one, used_once, used_twice, walked_long, walked_value}
 
 -- what clap finds for an option
 abbrev pub id_of : CommandOption → Text
@@ -30,7 +29,7 @@ Fits c rows (o ∷ options) = Known c o × (has_row (id_of o) rows ≡ false) ×
 
 -- no hyphen begins a value
 abbrev pub ArePlain : List CommandOption → Type 0
-ArePlain options = AllByRecursion (λ (o : CommandOption). is_folder_name o.value ≡ true) options
+ArePlain options = AllByRecursion (λ (o : CommandOption). is_value o.value ≡ true) options
 
 -- The walk over the words has no fault, and these rows at its end.
 pub record Passes (c : List Rule) (w : Walk) (words : List Text) (rows : List Row) : Type 0 where
@@ -49,8 +48,8 @@ module _ (c : List Rule) (ready : IsOptions c) where
 
   settled_one : (id value : Text) (rows : List Row) → IsOption c id → has_row id rows ≡ false → (settle_fault c false (held rows (Some (id, value ∷ []))) ≡ []) × (settled_rows c (Some (id, value ∷ [])) rows ≡ rows ++ row id value ∷ [])
   settled_one id value rows o new = (
-    ap (λ (r : Option Rule). option_map_or (λ a. use_fault false a (value ∷ []) rows) r []) o.id ∙ use_of_one id o.required value rows new,
-    ap (λ (r : Option Rule). used_by_id r (value ∷ []) rows) o.id ∙ used_once id o.required value rows new,
+    ap (λ (r : Option Rule). option_map_or (λ a. use_fault false a (value ∷ []) rows) r []) o.id ∙ use_of_one id value rows new,
+    ap (λ (r : Option Rule). used_by_id r (value ∷ []) rows) o.id ∙ used_once id value rows new,
   )
 
   abbrev Goes : List Text → List CommandOption → Type 0
@@ -64,9 +63,9 @@ module _ (c : List Rule) (ready : IsOptions c) where
       let after = before ++ row_of o ∷ [] in
       let known = fits.0 in
       let long : long_of word ≡ Some (id, Some o.value) = joined_long word id o.value known.option.some (e ∙ ap (λ (n : List ℕ). Some (spelled n o.value)) known.name_is) in
-      let once : use_fault false (opt id known.option.required) (o.value ∷ []) before ≡ [] = use_of_one id known.option.required o.value before fits.1 in
+      let once : use_fault false (opt id) (o.value ∷ []) before ≡ [] = use_of_one id o.value before fits.1 in
       let none : turn_fault (shape_with c) [] (standing rows pending) word ≡ [] = fault_long c ready word id (Some o.value) rows pending known.option long ∙ none_both _ _ settles once in
-      let next : walked c [] (standing rows pending) word ≡ standing after None = walked_long c ready word id (Some o.value) rows pending known.option long ∙ ap (λ (l : List Row). standing l None) (used_once id false o.value before fits.1) in
+      let next : walked c [] (standing rows pending) word ≡ standing after None = walked_long c ready word id (Some o.value) rows pending known.option long ∙ ap (λ (l : List Row). standing l None) (used_once id o.value before fits.1) in
       let rest : Passes c (standing after None) words (after ++ map row_of options) = go after None refl fits.2 plains.1 in
       pass_more (standing rows pending) (standing after None) word words _ none next
       (subst (Passes c (standing after None) words) (append_assoc before (row_of o ∷ []) (map row_of options)) rest)
@@ -140,9 +139,9 @@ module _ (c : List Rule) (ready : IsOptions c) where
   came_joined word name value words o long came rows pending escape none settles =
       let before = settled_rows c pending rows in
       let after = before ++ row name value ∷ [] in
-      let turn : option_fault c false (opt name o.required) (Some value) (held rows pending) ≡ [] = sym (fault_long c ready word name (Some value) rows pending o long) ∙ first_turn (standing rows pending) word words none in
-      let new : has_row name before ≡ false = used_twice name o.required value before (none_then _ _ turn) in
-      let e : walked c [] (standing rows pending) word ≡ standing after None = walked_long c ready word name (Some value) rows pending o long ∙ ap (λ (l : List Row). standing l None) (used_once name false value before new) in
+      let turn : option_fault c false (opt name) (Some value) (held rows pending) ≡ [] = sym (fault_long c ready word name (Some value) rows pending o long) ∙ first_turn (standing rows pending) word words none in
+      let new : has_row name before ≡ false = used_twice name value before (none_then _ _ turn) in
+      let e : walked c [] (standing rows pending) word ≡ standing after None = walked_long c ready word name (Some value) rows pending o long ∙ ap (λ (l : List Row). standing l None) (used_once name value before new) in
       let b = behind (standing rows pending) (standing after None) word words e none settles in
       let rest = came after None (no_escape word words escape).1 b.1 b.2 in
       record {
@@ -158,13 +157,13 @@ module _ (c : List Rule) (ready : IsOptions c) where
       let before = settled_rows c pending rows in
       let waits = Some (name, value ∷ []) in
       let escape_too = no_escape value words (no_escape word (value ∷ words) escape).1 in
-      let turn : option_fault c false (opt name o.required) None (held rows pending) ≡ [] = sym (fault_long c ready word name None rows pending o long) ∙ first_turn (standing rows pending) word (value ∷ words) none in
+      let turn : option_fault c false (opt name) None (held rows pending) ≡ [] = sym (fault_long c ready word name None rows pending o long) ∙ first_turn (standing rows pending) word (value ∷ words) none in
       let e : walked c [] (standing rows pending) word ≡ awaiting before name = walked_long c ready word name None rows pending o long in
       let b = behind (standing rows pending) (awaiting before name) word (value ∷ words) e none settles in
       let e_too : walked c [] (awaiting before name) value ≡ standing before waits = walked_value c ready name value before o escape_too.0 plain (first_turn (awaiting before name) value words b.1) in
       let b_too = behind (awaiting before name) (standing before waits) value words e_too b.1 b.2 in
       let rest = came before waits escape_too.1 b_too.1 b_too.2 in
-      let new : has_row name before ≡ false = used_twice name o.required value before (sym (ap (λ (r : Option Rule). option_map_or (λ a. use_fault false a (value ∷ []) before) r []) o.id) ∙ rest.settles) in
+      let new : has_row name before ≡ false = used_twice name value before (sym (ap (λ (r : Option Rule). option_map_or (λ a. use_fault false a (value ∷ []) before) r []) o.id) ∙ rest.settles) in
       let one = settled_one c ready name value before o new in
       let alone = long_alone word name long in
       record {
@@ -190,7 +189,7 @@ module _ (c : List Rule) (ready : IsOptions c) where
   came_alone word name o long rows pending escape none settles =
       let before = settled_rows c pending rows in
       let b = behind (standing rows pending) (awaiting before name) word [] (walked_long c ready word name None rows pending o long) none settles in
-      absurd (use_of_none name o.required before (sym (ap (λ (r : Option Rule). option_map_or (λ a. use_fault false a [] before) r []) o.id) ∙ b.2))
+      absurd (use_of_none name before (sym (ap (λ (r : Option Rule). option_map_or (λ a. use_fault false a [] before) r []) o.id) ∙ b.2))
 
   came_first : (word : Text) (words : List Text) → ((name : Text) → IsOption c name → long_of word ≡ Some (name, None) → Came (word ∷ words)) → Came words → Came (word ∷ words)
   came_first word words apart came rows pending escape none settles = by (long_of word) refl

@@ -5,7 +5,7 @@ use Rattle.actor_script.specs.Operands.{number_of}
 use Rattle.actor_script.specs.Words.{words_of}
 use Rattle.replay.specs.declared.asked.Asked.{Asked}
 use Rattle.replay.specs.declared.asked.Asked.TheVariants as asks
-use Rattle.replay.specs.Commanding.{asked_by, folder_of, options_among, options_of, others_among, page_size_of}
+use Rattle.replay.specs.Commanding.{asked_by, options_among, options_of, others_among}
 
 abbrev runs : ℕ → ℕ → Option Asked
 runs frames page = Some (asks.Run (record { frames = frames; page_bytes = page }))
@@ -15,6 +15,9 @@ generates number lines = Some (asks.Generate (record { number = number; lines = 
 
 abbrev tries : ℕ → ℕ → ℕ → Option Asked
 tries number lines frames = Some (asks.Trial (record { number = number; lines = lines }) frames)
+
+abbrev mixes : ℕ → Option Asked
+mixes frames = Some (asks.Mix frames)
 
 abbrev line_asks : List ℕ → Option Asked
 line_asks line = asked_by (words_of line)
@@ -59,6 +62,15 @@ rows = (codes "run --frames 8", runs 8 4096)
     ∷ (codes "trial 0 11 --frame 8", None)
     ∷ (codes "trial 0 11 --frames 8 --frames 8", None)
     ∷ (codes "trial -1 11 --frames 8", None)
+    ∷ (codes "mix --frames 65536", mixes 65536)
+    ∷ (codes "mix --segments=d --frames=3", mixes 3)
+    ∷ (codes "mix", None)
+    ∷ (codes "mix --frames 2", None)
+    ∷ (codes "mix --frames 65537", None)
+    ∷ (codes "mix --frames 8 --page 4096", None)
+    ∷ (codes "mix --frames 8 --frames 8", None)
+    ∷ (codes "mix 0 11 --frames 8", None)
+    ∷ (codes "mix --frames 8 --", None)
     ∷ (codes "help", None)
     ∷ []
 
