@@ -5,7 +5,8 @@ use Rattle.std.specs.List.{AllByRecursion}
 use Rattle.std.proofs.lemmas.List.{length-append}
 use Rattle.std.proofs.lemmas.List.Sorted.{All-permutation}
 use Rattle.vm_ids.specs.Counting.{Rose, last_count}
-use Rattle.vm_ids.specs.Held.{Segments}
+use Rattle.vm_ids.specs.Held.{Held, Segments}
+use Rattle.vm_ids.specs.declared.numbers.TheConstants.{PAGE}
 use Rattle.vm_ids.specs.Forest.Nodes.{no_forest}
 use Rattle.vm_model.specs.Asking.{IsWellFormed}
 use Rattle.vm_model.specs.Events.{Stand, steps_of}
@@ -18,6 +19,7 @@ use Rattle.vm_model.specs.declared.limits.TheConstants.{LIVE_PAGES, LIVING_ACTOR
 use Rattle.vm_model.proofs.WholeRuns.Chains.{runs_are_chains}
 use Rattle.vm_model.proofs.WholeRuns.Runs.{runs_are_followed}
 use Rattle.actor_script.specs.Forms.{command_of}
+use Rattle.actor_script.specs.MixForms.{mix_command_of}
 use Rattle.actor_script.proofs.WellFormed.{well_formed}
 use Rattle.gmi_calls.specs.Calling.{Fits}
 use Rattle.vm_ids.specs.declared.access.Parked.{Parked}
@@ -30,7 +32,14 @@ use Rattle.line_service.specs.Going.{IsScript, Known, Scene, Writing}
 use Rattle.line_service.specs.Script.{IsFront, lines_of, most_bytes}
 use Rattle.line_service.specs.declared.ended.Ended.{Ended}
 use Rattle.line_service.specs.declared.ended.Ended.TheVariants as ended
-use Rattle.replay.specs.Ending.{CommandScene, EndsAs, Outside, RunEnds, scene_with, status_of}
+use Rattle.gmi_calls.specs.declared.gmi.Gmi.{Ghosts as GhostsOfGmi}
+use Rattle.mix_process.specs.Calling.{beginning}
+use Rattle.mix_process.specs.Outcome.{Usage}
+use Rattle.mix_process.specs.ProcessMachine.{ProcessMachine}
+use Rattle.mix_process.specs.Stepping.{State as ProcessState}
+use Rattle.mix_process.specs.Tying.{IsBare}
+use Rattle.replay.specs.Ending.{CommandScene, EndsAs, MixEnds, Outside, RunEnds, scene_of_processes, scene_with, status_of}
+use Rattle.replay.specs.Processing.{process_semantics}
 use Rattle.replay.specs.declared.status.Status.{Status}
 use Rattle.replay.specs.declared.asked.Asked.{Asked}
 use Rattle.replay.specs.declared.asked.Size.{Size}
@@ -108,6 +117,39 @@ run_ends status size old now l k m last f forest some machine_is forest_is ends 
       followed = ends_followed (scene_with old begun no_forest) size.frames size.page_bytes some old.segments refl status (scene_with now last forest) l k from;
     }
 
+-- the promise for a script of processes, from a replay that began with none, over a manager that
+-- began
+pub mix_ends : (status : Status) (frames : ℕ) (old now : Outside) (l k : Option (List ℕ)) (begun : ProcessState) (m : Machine) (processes : ProcessMachine) (usage : Usage)
+    → begun ≡ beginning m old.segments → m ≡ start frames PAGE
+    → EndsAs status process_semantics mix_command_of (record { state = begun; counts = old.counts; turns = old.turns; written = old.written }) (scene_of_processes now processes usage) l k
+    → MixEnds status old now l k
+mix_ends status frames old now l k begun m processes usage begins machine ends = record {
+  last = processes;
+  usage = usage;
+  ends = subst (λ (s : ProcessState). EndsAs status process_semantics mix_command_of (record { state = s; counts = old.counts; turns = old.turns; written = old.written }) (scene_of_processes now processes usage) l k)
+      (begins ∙ ap (λ (x : Machine). beginning x old.segments) machine) ends;
+}
+
+-- the mapper takes pages of the size that was asked for
+pub fits_start : (told : Option ℕ) (frames bytes named : ℕ) (m : Machine) → IfSome told (λ n. n ≡ named) → named ≡ bytes → m ≡ start frames bytes → Fits told m
+fits_start told frames bytes named m h same e = subst (Fits told) (sym e) (by told h)
+  where
+    by : (told : Option ℕ) → IfSome told (λ n. n ≡ named) → Fits told (start frames bytes)
+    by None h = tt
+    by (Some n) h = h ∙ same
+
+-- what it takes to make processes over a manager that began
+pub bare_start : {Manager Mapper Chooser : Type 0} (G : GhostsOfGmi Manager Mapper Chooser) (gmi : Manager) (told : Option Held) (page_bytes : Option ℕ) (frames named : ℕ)
+    → G.valid gmi told → G.room gmi ≡ None → IfSome page_bytes (λ n. n ≡ named) → named ≡ PAGE → G.machine gmi told ≡ start frames PAGE → IsBare G gmi told page_bytes
+bare_start G gmi told page_bytes frames named valid unlimited pages same starts = record {
+  valid = valid;
+  unlimited = unlimited;
+  fits = fits_start page_bytes frames PAGE named (G.machine gmi told) pages same starts;
+  page = ap (λ (m : Machine). m.page_bytes) starts;
+  caches = ap (λ (m : Machine). m.caches) starts;
+  actors = ap (λ (m : Machine). m.actors) starts;
+}
+
 pub as_asked : (asked : Asked) (words : Option Asked) (P : Asked → Type 0) → Some asked ≡ words → P asked → IfSome words P
 as_asked asked words P is h = subst (λ (o : Option Asked). IfSome o P) is h
 
@@ -149,13 +191,6 @@ too_many (Some all) None script size t h = absurd (cc)
 too_many (Some all) (Some rest) script size t h = let n = taken (Some all) (Some rest) script t in absurd (omega (arith, n, size, h))
 
 -- what it takes to answer the first line
-
-pub fits_start : (told : Option ℕ) (frames bytes named : ℕ) (m : Machine) → IfSome told (λ n. n ≡ named) → named ≡ bytes → m ≡ start frames bytes → Fits told m
-fits_start told frames bytes named m h same e = subst (Fits told) (sym e) (by told h)
-  where
-    by : (told : Option ℕ) → IfSome told (λ n. n ≡ named) → Fits told (start frames bytes)
-    by None h = tt
-    by (Some n) h = h ∙ same
 
 pub live_start : (frames bytes : ℕ) (m : Machine) → m ≡ start frames bytes → live_pages m ≤ LIVE_PAGES
 live_start frames bytes m e = subst (λ (x : Machine). live_pages x ≤ LIVE_PAGES) (sym e) (omega arith)

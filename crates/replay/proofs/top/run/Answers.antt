@@ -5,8 +5,8 @@ use Rattle.actor_script.specs.Forms.{command_of}
 use Rattle.actor_script.specs.MixForms.{mix_command_of}
 use Rattle.replay.specs.Ending.{outside_of}
 use Rattle.replay.specs.Processing.{process_semantics}
-use Rattle.replay.proofs.CommandLine.Kinds.{run_bounds, run_page, trial_bounds, trial_few, trial_page}
-use Rattle.replay.proofs.Promise.{as_asked, asked_holds, can_start, complete, ends_at, fits_start, limited, live_start, living_start, of_sink_fault, of_source_fault, run_ends}
+use Rattle.replay.proofs.CommandLine.Kinds.{mix_bounds, mix_page, run_bounds, run_page, trial_bounds, trial_few, trial_page}
+use Rattle.replay.proofs.Promise.{as_asked, asked_holds, bare_start, can_start, complete, ends_at, fits_start, limited, live_start, living_start, mix_ends, of_sink_fault, of_source_fault, run_ends}
 use Rattle.replay.proofs.Trials.{trial_ends}
 use Rattle.replay.proofs.top.run.Goals as goal
 
@@ -92,3 +92,40 @@ returns-in-Ok-new-3-clause-ends g c = λ some.
     as_asked (asks.Trial c.in-Trial.script c.in-Trial.frames) _ _ (sym (ap Some c.in-Trial.is) ∙ sym c.in-Ok-Some.field-0-is ∙ c.in-Ok-Some.ensures)
     (trial_ends c.trial.result c.in-Trial.script c.in-Trial.frames (outside_of M c.args.mapper.now (D.turns c.args.dispatcher.now) (K.written c.args.sink.now)) (outside_of M c.trial.new.mapper (D.turns c.trial.new.dispatcher) (K.written c.trial.new.sink))
     _ _ _ _ ends.0 (c.in-Ok-new-2.ensures.machine told) (c.in-Ok-new-2.ensures.forest told) ends.1 ends.2)
+
+pub new-requires-in-Mix-clause-few : goal.new-requires-in-Mix-clause-few
+new-requires-in-Mix-clause-few g c = (mix_bounds _ c.in-Mix.frames (sym c.in-Ok-Some.ensures ∙ c.in-Ok-Some.field-0-is ∙ ap Some c.in-Mix.is)).few
+
+pub new-requires-in-Mix-clause-frames : goal.new-requires-in-Mix-clause-frames
+new-requires-in-Mix-clause-frames g c = (mix_bounds _ c.in-Mix.frames (sym c.in-Ok-Some.ensures ∙ c.in-Ok-Some.field-0-is ∙ ap Some c.in-Mix.is)).frames
+
+pub replay-requires-in-Mix-clause-able : goal.replay-requires-in-Mix-clause-able
+replay-requires-in-Mix-clause-able g c =
+    let M = g.M.Mapper in
+    let told = M.held c.args.mapper.now in
+    let frames = c.in-Mix.frames in
+    can_start _ M _ c.args.mapper.now _ c.in-Ok-new-3.ensures
+    (c.new-mix.ensures.can told (M.page_bytes c.args.mapper.now)
+    (bare_start _ _ told (M.page_bytes c.args.mapper.now) frames _ (c.in-Ok-new-2.ensures.valid told) refl c.requires (mix_page _ frames (sym c.in-Ok-Some.ensures ∙ c.in-Ok-Some.field-0-is ∙ ap Some c.in-Mix.is)) (c.in-Ok-new-2.ensures.machine told)))
+    (search rules)
+
+pub returns-in-Mix-clause-ends : goal.returns-in-Mix-clause-ends
+returns-in-Mix-clause-ends g c = λ some.
+    let M = g.M.Mapper in
+    let K = g.K.Sink in
+    let D = g.D.Dispatcher in
+    let told = M.held c.args.mapper.now in
+    as_asked (asks.Mix c.in-Mix.frames) _ _ (sym (ap Some c.in-Mix.is) ∙ sym c.in-Ok-Some.field-0-is ∙ c.in-Ok-Some.ensures)
+    (mix_ends c.of.result c.in-Mix.frames (outside_of M c.args.mapper.now (D.turns c.args.dispatcher.now) (K.written c.args.sink.now)) (outside_of M c.replay.new.mapper (D.turns c.replay.new.dispatcher) (K.written c.replay.new.sink)) _ _
+    _ _ _ _ (c.new-mix.ensures.begins told) (c.in-Ok-new-2.ensures.machine told)
+    (ends_at process_semantics mix_command_of c.of.result c.replay.result _ _ _ _ c.of.ensures c.replay.ensures.ends))
+
+pub returns-in-Mix-clause-too_long_exactly : goal.returns-in-Mix-clause-too_long_exactly
+returns-in-Mix-clause-too_long_exactly g c = limited process_semantics mix_command_of c.of.result _ _ _ _ (ends_at process_semantics mix_command_of c.of.result c.replay.result _ _ _ _ c.of.ensures c.replay.ensures.ends)
+
+pub returns-in-Mix-clause-complete : goal.returns-in-Mix-clause-complete
+returns-in-Mix-clause-complete g c = λ short reads readable writes writable.
+    let few = asked_holds (asks.Mix c.in-Mix.frames) _ _ (sym (ap Some c.in-Mix.is) ∙ sym c.in-Ok-Some.field-0-is ∙ c.in-Ok-Some.ensures) short in
+    complete process_semantics mix_command_of c.of.result _ _ _ _ _ _ _ _ (ends_at process_semantics mix_command_of c.of.result c.replay.result _ _ _ _ c.of.ensures c.replay.ensures.ends)
+    (λ f. c.replay.ensures.source_fault (of_source_fault c.replay.result (sym c.of.ensures ∙ f)))
+    (λ f. c.replay.ensures.sink_fault (of_sink_fault c.replay.result (sym c.of.ensures ∙ f))) few reads readable writes writable
