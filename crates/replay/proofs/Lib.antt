@@ -12,3 +12,5 @@ pub mod Tallying
 pub mod Statuses
 -- What a trial promises, from how its lines are answered.
 pub mod Trials
+-- Processes as whoever answers the lines of a script.
+pub mod Processes

@@ -11,6 +11,7 @@ use Rattle.actor_script.proofs.Fronts.{command_of-front, mix_command_of-front}
 use Rattle.gmi_calls.specs.declared.gmi.Gmi.{Ghosts as GhostsOfGmi}
 use Rattle.gmi_calls.proofs.FewAlive.{few_alive}
 use Rattle.replay.specs.Managing.{CanCall}
+pub use Rattle.replay.proofs.Processes.{nobody}
 use Rattle.line_service.specs.Script.{front_of_line}
 use Rattle.line_service.specs.Serving.{AreDistinct}
 
@@ -31,9 +32,3 @@ fronts line = command_of-front line
 
 pub mix_fronts : (line : List ℕ) → mix_command_of (front_of_line line) ≡ mix_command_of line
 mix_fronts line = mix_command_of-front line
-
--- where nobody is alive, few are
-pub nobody : (actors : List ℕ) → AreDistinct actors → AllByRecursion (λ actor. ⊥) actors
-    → length actors ≤ 256
-nobody [] distinct alive = omega arith
-nobody (actor ∷ actors) distinct alive = absurd alive.0
