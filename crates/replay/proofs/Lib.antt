@@ -13,4 +13,4 @@ pub mod Statuses
 -- What a trial promises, from how its lines are answered.
 pub mod Trials
 -- Processes as whoever answers the lines of a script.
-pub mod Processes
+pub mod Answered

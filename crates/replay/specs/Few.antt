@@ -11,7 +11,7 @@ use Rattle.actor_script.proofs.Fronts.{command_of-front, mix_command_of-front}
 use Rattle.gmi_calls.specs.declared.gmi.Gmi.{Ghosts as GhostsOfGmi}
 use Rattle.gmi_calls.proofs.FewAlive.{few_alive}
 use Rattle.replay.specs.Managing.{CanCall}
-pub use Rattle.replay.proofs.Processes.{nobody}
+pub use Rattle.replay.proofs.Answered.{nobody}
 use Rattle.line_service.specs.Script.{front_of_line}
 use Rattle.line_service.specs.Serving.{AreDistinct}
 

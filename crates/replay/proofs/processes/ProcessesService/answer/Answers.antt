@@ -1,4 +1,4 @@
-use Rattle.replay.proofs.Processes.{answered, refused}
+use Rattle.replay.proofs.Answered.{answered, refused}
 use Rattle.replay.proofs.processes.ProcessesService.answer.Goals as goal
 
 pub returns-in-Ok-clause-answered : goal.returns-in-Ok-clause-answered

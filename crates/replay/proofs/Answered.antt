@@ -1,4 +1,4 @@
--- Processes as whoever answers the lines of a script.
+-- Processes as whoever answers the lines of a script: what was answered, and that nobody waits.
 use Rattle.std.proofs.Common.{◌≡◌, ◌≤◌, ℕ, List, [], ◌∷◌, length, Ok, Err, refl, subst, arith}
 use Rattle.std.specs.List.{AllByRecursion}
 use Rattle.vm_ids.specs.Counting.{MapperCounts, no_counts}
