@@ -1,6 +1,5 @@
--- Processes as whoever answers the lines of a script: what was answered, and that nobody waits.
-use Rattle.std.proofs.Common.{◌≡◌, ◌≤◌, ℕ, List, [], ◌∷◌, length, Ok, Err, refl, subst, arith}
-use Rattle.std.specs.List.{AllByRecursion}
+-- Processes as whoever answers the lines of a script: what was answered.
+use Rattle.std.proofs.Common.{◌≡◌, ℕ, List, Ok, Err, refl, subst}
 use Rattle.vm_ids.specs.Counting.{MapperCounts, no_counts}
 use Rattle.vm_ids.specs.declared.command.MixCommand.{MixCommand}
 use Rattle.vm_ids.specs.declared.refusal.Refusal.{Refusal}
@@ -14,13 +13,8 @@ use Rattle.mix_process.specs.Calling.{MixCall}
 use Rattle.mix_process.specs.Seen.{state_of}
 use Rattle.mix_process.specs.Stepping.{State}
 use Rattle.mix_process.specs.declared.mix.Mix.{Mix}
-use Rattle.line_service.specs.Serving.{AnswersBy, AnyRise, AreDistinct}
+use Rattle.line_service.specs.Serving.{AnswersBy, AnyRise}
 use Rattle.replay.specs.Processing.{Read, StepIs, process_semantics}
-
--- where nobody is alive, few are
-pub nobody : (actors : List ℕ) → AreDistinct actors → AllByRecursion (λ actor. ⊥) actors → length actors ≤ 256
-nobody [] distinct alive = omega arith
-nobody (actor ∷ actors) distinct alive = absurd alive.0
 
 -- a line that is no command
 pub refused : (line : List ℕ) (refusal : Refusal) (c : MapperCounts) (s : State) → Err refusal ≡ mix_command_of line → AnswersBy process_semantics AnyRise c c s (mix_command_of line) (Err (Refused refusal)) s

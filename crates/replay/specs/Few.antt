@@ -1,6 +1,7 @@
 -- Why few actors are alive, and why the front of a line is read as the line. The laws of a service
 -- cite them.
 use Rattle.std.specs.Prelude.{◌≡◌, ◌≢◌, ◌≤◌, ℕ, List, [], ◌∷◌, length, Option, IsSome}
+use Rattle.std.proofs.Common.{zero-le}
 use Rattle.std.specs.List.{AllByRecursion}
 use Rattle.vm_ids.specs.Held.{Held}
 use Rattle.vm_model.specs.Machine.{actor_of}
@@ -11,7 +12,6 @@ use Rattle.actor_script.proofs.Fronts.{command_of-front, mix_command_of-front}
 use Rattle.gmi_calls.specs.declared.gmi.Gmi.{Ghosts as GhostsOfGmi}
 use Rattle.gmi_calls.proofs.FewAlive.{few_alive}
 use Rattle.replay.specs.Managing.{CanCall}
-pub use Rattle.replay.proofs.Answered.{nobody}
 use Rattle.line_service.specs.Script.{front_of_line}
 use Rattle.line_service.specs.Serving.{AreDistinct}
 
@@ -32,3 +32,9 @@ fronts line = command_of-front line
 
 pub mix_fronts : (line : List ℕ) → mix_command_of (front_of_line line) ≡ mix_command_of line
 mix_fronts line = mix_command_of-front line
+
+-- where nobody is alive, few are
+pub nobody : (actors : List ℕ) → AreDistinct actors → AllByRecursion (λ actor. ⊥) actors
+    → length actors ≤ 256
+nobody [] distinct alive = zero-le
+nobody (actor ∷ actors) distinct alive = absurd alive.0
