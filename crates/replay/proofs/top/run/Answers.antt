@@ -99,33 +99,33 @@ new-requires-in-Mix-clause-few g c = (mix_bounds _ c.in-Mix.frames (sym c.in-Ok-
 pub new-requires-in-Mix-clause-frames : goal.new-requires-in-Mix-clause-frames
 new-requires-in-Mix-clause-frames g c = (mix_bounds _ c.in-Mix.frames (sym c.in-Ok-Some.ensures ∙ c.in-Ok-Some.field-0-is ∙ ap Some c.in-Mix.is)).frames
 
-pub replay-requires-in-Mix-clause-able : goal.replay-requires-in-Mix-clause-able
-replay-requires-in-Mix-clause-able g c =
+pub replay-ended-requires-clause-able : goal.replay-ended-requires-clause-able
+replay-ended-requires-clause-able g c =
     let M = g.M.Mapper in
     let told = M.held c.args.mapper.now in
     let frames = c.in-Mix.frames in
-    can_start _ M _ c.args.mapper.now _ c.in-Ok-new-3.ensures
-    (c.new-mix.ensures.can told (M.page_bytes c.args.mapper.now)
-    (bare_start _ _ told (M.page_bytes c.args.mapper.now) frames _ (c.in-Ok-new-2.ensures.valid told) refl c.requires (mix_page _ frames (sym c.in-Ok-Some.ensures ∙ c.in-Ok-Some.field-0-is ∙ ap Some c.in-Mix.is)) (c.in-Ok-new-2.ensures.machine told)))
+    can_start _ M _ c.args.mapper.now _ c.in-Ok-new-5.ensures
+    (c.new-in-Mix-3.ensures.can told (M.page_bytes c.args.mapper.now)
+    (bare_start _ _ told (M.page_bytes c.args.mapper.now) frames _ (c.in-Ok-new-4.ensures.valid told) refl c.requires (mix_page _ frames (sym c.in-Ok-Some.ensures ∙ c.in-Ok-Some.field-0-is ∙ ap Some c.in-Mix.is)) (c.in-Ok-new-4.ensures.machine told)))
     (search rules)
 
-pub returns-in-Mix-clause-ends : goal.returns-in-Mix-clause-ends
-returns-in-Mix-clause-ends g c = λ some.
+pub returns-in-Ok-new-5-clause-ends : goal.returns-in-Ok-new-5-clause-ends
+returns-in-Ok-new-5-clause-ends g c = λ some.
     let M = g.M.Mapper in
     let K = g.K.Sink in
     let D = g.D.Dispatcher in
     let told = M.held c.args.mapper.now in
     as_asked (asks.Mix c.in-Mix.frames) _ _ (sym (ap Some c.in-Mix.is) ∙ sym c.in-Ok-Some.field-0-is ∙ c.in-Ok-Some.ensures)
-    (mix_ends c.of.result c.in-Mix.frames (outside_of M c.args.mapper.now (D.turns c.args.dispatcher.now) (K.written c.args.sink.now)) (outside_of M c.replay.new.mapper (D.turns c.replay.new.dispatcher) (K.written c.replay.new.sink)) _ _
-    _ _ _ _ (c.new-mix.ensures.begins told) (c.in-Ok-new-2.ensures.machine told)
-    (ends_at process_semantics mix_command_of c.of.result c.replay.result _ _ _ _ c.of.ensures c.replay.ensures.ends))
+    (mix_ends c.of-in-Mix.result c.in-Mix.frames (outside_of M c.args.mapper.now (D.turns c.args.dispatcher.now) (K.written c.args.sink.now)) (outside_of M c.replay-ended.new.mapper (D.turns c.replay-ended.new.dispatcher) (K.written c.replay-ended.new.sink)) _ _
+    _ _ _ _ (c.new-in-Mix-3.ensures.begins told) (c.in-Ok-new-4.ensures.machine told)
+    (ends_at process_semantics mix_command_of c.of-in-Mix.result c.replay-ended.result _ _ _ _ c.of-in-Mix.ensures c.replay-ended.ensures.ends))
 
-pub returns-in-Mix-clause-too_long_exactly : goal.returns-in-Mix-clause-too_long_exactly
-returns-in-Mix-clause-too_long_exactly g c = limited process_semantics mix_command_of c.of.result _ _ _ _ (ends_at process_semantics mix_command_of c.of.result c.replay.result _ _ _ _ c.of.ensures c.replay.ensures.ends)
+pub returns-in-Ok-new-5-clause-too_long_exactly : goal.returns-in-Ok-new-5-clause-too_long_exactly
+returns-in-Ok-new-5-clause-too_long_exactly g c = limited process_semantics mix_command_of c.of-in-Mix.result _ _ _ _ (ends_at process_semantics mix_command_of c.of-in-Mix.result c.replay-ended.result _ _ _ _ c.of-in-Mix.ensures c.replay-ended.ensures.ends)
 
-pub returns-in-Mix-clause-complete : goal.returns-in-Mix-clause-complete
-returns-in-Mix-clause-complete g c = λ short reads readable writes writable.
+pub returns-in-Ok-new-5-clause-complete : goal.returns-in-Ok-new-5-clause-complete
+returns-in-Ok-new-5-clause-complete g c = λ short reads readable writes writable.
     let few = asked_holds (asks.Mix c.in-Mix.frames) _ _ (sym (ap Some c.in-Mix.is) ∙ sym c.in-Ok-Some.field-0-is ∙ c.in-Ok-Some.ensures) short in
-    complete process_semantics mix_command_of c.of.result _ _ _ _ _ _ _ _ (ends_at process_semantics mix_command_of c.of.result c.replay.result _ _ _ _ c.of.ensures c.replay.ensures.ends)
-    (λ f. c.replay.ensures.source_fault (of_source_fault c.replay.result (sym c.of.ensures ∙ f)))
-    (λ f. c.replay.ensures.sink_fault (of_sink_fault c.replay.result (sym c.of.ensures ∙ f))) few reads readable writes writable
+    complete process_semantics mix_command_of c.of-in-Mix.result _ _ _ _ _ _ _ _ (ends_at process_semantics mix_command_of c.of-in-Mix.result c.replay-ended.result _ _ _ _ c.of-in-Mix.ensures c.replay-ended.ensures.ends)
+    (λ f. c.replay-ended.ensures.source_fault (of_source_fault c.replay-ended.result (sym c.of-in-Mix.ensures ∙ f)))
+    (λ f. c.replay-ended.ensures.sink_fault (of_sink_fault c.replay-ended.result (sym c.of-in-Mix.ensures ∙ f))) few reads readable writes writable
