@@ -6,7 +6,7 @@ use Rattle.vm_ids.specs.declared.numbers.TheConstants.{PAGE}
 use Rattle.actor_script.specs.Operands.{number_of}
 use Rattle.replay.specs.declared.asked.Size.{Size}
 use Rattle.replay.specs.Commanding.{CommandOption, Values, are_proper, size_behind, asked_for, frames_of, hyphened, if_fitting, if_frames, if_page, options_of, page_of, page_sizes, size_of, value_named, values_behind, values_of}
-use Rattle.replay.proofs.CommandLine.Walks.{ArePlain}
+use Rattle.replay.proofs.CommandLine.Cutting.{ArePlain}
 use Rattle.replay.proofs.CommandLine.Values.{AreOwn, and_both, proper_parts}
 
 -- what an option that is there was made of

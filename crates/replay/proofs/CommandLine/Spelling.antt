@@ -204,13 +204,13 @@ plain_word (b ∷ word) e = by (b == 45) refl
           escape = ap (λ (s : Bool). s && bytes_eq word (45 ∷ [])) t;
         }
 
+pub differs : (a b : List ℕ) → (a ≡ b → ⊥) → bytes_eq a b ≡ false
+differs a b other = by (bytes_eq a b) refl
+  where
+    by : (t : Bool) → bytes_eq a b ≡ t → t ≡ false
+    by true t = absurd (other ((bytes_eq-Decides a b).0 t))
+    by false t = refl
+
 -- what clap reads as a long option isn't `--`
 pub long_no_escape : (word name : List ℕ) (value : Option (List ℕ)) → long_of word ≡ Some (name, value) → bytes_eq word (hyphened []) ≡ false
-long_no_escape word name value e = by (bytes_eq word (hyphened [])) refl
-  where
-    by : (b : Bool) → bytes_eq word (hyphened []) ≡ b → b ≡ false
-    by true t =
-        let same : word ≡ hyphened [] = (bytes_eq-Decides word (hyphened [])).0 t in
-        let none : None ≡ Some (name, value) = sym (ap long_of same) ∙ e in
-        absurd (cc)
-    by false t = refl
+long_no_escape word name value e = differs word (hyphened []) (λ same. let none : None ≡ Some (name, value) = sym (ap long_of same) ∙ e in cc)

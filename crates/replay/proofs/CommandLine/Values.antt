@@ -7,8 +7,9 @@ use Rattle.std.proofs.lemmas.Slice.Eq.{bytes_eq-Decides}
 use Rattle.clap.specs.Walk.{Row, Rule, Text, arg_by_id, arg_by_index, arg_by_long, arg_by_short, first_of, has_row}
 use Rattle.replay.specs.Commanding.{CommandOption, are_proper, hyphened, is_known, is_value, value_named}
 use Rattle.replay.specs.Reading.{are_named, have_values}
+use Rattle.replay.proofs.CommandLine.Cutting.{ArePlain}
 use Rattle.replay.proofs.CommandLine.Turns.{IsOption, IsOptions, opt, same_bytes}
-use Rattle.replay.proofs.CommandLine.Walks.{ArePlain, Fits, Known, id_of, row_of}
+use Rattle.replay.proofs.CommandLine.Walks.{Fits, Known, id_of, row_of}
 
 pub same_text : (a b : Text) → bytes_eq a b ≡ true → a ≡ b
 same_text a b e = (bytes_eq-Decides a b).0 e
@@ -259,16 +260,12 @@ module _ (known : List Text) (named : are_named known ≡ true) where
 
 pub value_found : (id : Text) (c : List Rule) (options : List CommandOption) → AreKnown c options → first_of id (map row_of options) ≡ value_named (hyphened id) options
 value_found id c [] ks = refl
-value_found id c (o ∷ options) ks = by (bytes_eq (id_of o) id) refl (value_found id c options ks.1)
+value_found id c (o ∷ options) ks =
+    by (bytes_eq (id_of o) id) (value_found id c options ks.1)
+    ∙ sym (ap (λ (n : Text). option_map (λ (x : CommandOption). x.value) (cond (bytes_eq n (hyphened id)) (Some o) (find (λ (x : CommandOption). bytes_eq x.name (hyphened id)) options))) ks.0.name_is)
   where
-    name_is : bytes_eq o.name (hyphened id) ≡ bytes_eq (id_of o) id
-    name_is = ap (λ (n : Text). bytes_eq n (hyphened id)) ks.0.name_is
-
-    by : (b : Bool) → bytes_eq (id_of o) id ≡ b → first_of id (map row_of options) ≡ value_named (hyphened id) options → first_of id (map row_of (o ∷ options)) ≡ value_named (hyphened id) (o ∷ options)
-    by true e rest =
-        ap (λ (b : Bool). option_and_then (λ (r : Row). slice_get r.values 0) (cond b (Some (row_of o)) (find (λ (r : Row). bytes_eq r.id id) (map row_of options)))) e
-        ∙ sym (ap (λ (b : Bool). option_map (λ (x : CommandOption). x.value) (cond b (Some o) (find (λ (x : CommandOption). bytes_eq x.name (hyphened id)) options))) (name_is ∙ e))
-    by false e rest =
-        ap (λ (b : Bool). option_and_then (λ (r : Row). slice_get r.values 0) (cond b (Some (row_of o)) (find (λ (r : Row). bytes_eq r.id id) (map row_of options)))) e
-        ∙ rest
-        ∙ sym (ap (λ (b : Bool). option_map (λ (x : CommandOption). x.value) (cond b (Some o) (find (λ (x : CommandOption). bytes_eq x.name (hyphened id)) options))) (name_is ∙ e))
+    by : (b : Bool) → first_of id (map row_of options) ≡ value_named (hyphened id) options
+        → option_and_then (λ (r : Row). slice_get r.values 0) (cond b (Some (row_of o)) (find (λ (r : Row). bytes_eq r.id id) (map row_of options)))
+        ≡ option_map (λ (x : CommandOption). x.value) (cond b (Some o) (find (λ (x : CommandOption). bytes_eq x.name (hyphened id)) options))
+    by true rest = refl
+    by false rest = rest
