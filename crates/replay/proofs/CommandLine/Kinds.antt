@@ -8,7 +8,7 @@ use Rattle.replay.specs.declared.asked.Asked.{Asked}
 use Rattle.replay.specs.declared.asked.Asked.TheVariants as asks
 use Rattle.replay.specs.declared.asked.Generated.{Generated}
 use Rattle.replay.specs.declared.asked.Size.{Size}
-use Rattle.replay.specs.Commanding.{asked_by, frames_behind, if_lines, line_count_of, options_among, others_among, page_size_of, plain_options, run_options, script_of, size_behind, trial_behind, trial_of}
+use Rattle.replay.specs.Commanding.{asked_by, first_value, frames_behind, if_lines, line_count_of, options_among, others_among, page_size_of, plain_options, run_options, script_of, size_behind, trial_behind, trial_of}
 use Rattle.replay.proofs.CommandLine.First.{no_page, no_page_among, page_behind, page_or}
 use Rattle.replay.proofs.CommandLine.Right.{Made, few_frames, made_by_map, made_by_test, made_by_then, sized, small_page}
 use Rattle.replay.proofs.CommandLine.Values.{and_both, same_text}
@@ -71,6 +71,12 @@ kind_of_words (command ∷ rest) asked e = elim (chosen (bytes_eq command (codes
 plain_size : (words : List (List ℕ)) (frames : ℕ) → frames_behind words ≡ Some frames → Made (size_behind plain_options words) (λ size. size.frames ≡ frames)
 plain_size words frames e = made_by_map (λ (size : Size). size.frames) (size_behind plain_options words) frames e
 
+plain_page : (words : List (List ℕ)) (frames : ℕ) → frames_behind words ≡ Some frames → page_or (first_value (codes "--page") words) ≡ PAGE
+plain_page words frames e =
+    let size = plain_size words frames e in
+    let s = sized plain_options words size.value size.is in
+    ap page_or (no_page plain_options refl words s.values s.values_are)
+
 -- the page size that the words name is the one of what they ask for
 
 pub run_page : (words : List (List ℕ)) (size : Size) → asked_by words ≡ Some (asks.Run size) → page_size_of words ≡ size.page_bytes
@@ -88,9 +94,7 @@ trial_page words script frames e =
 pub mix_page : (words : List (List ℕ)) (frames : ℕ) → asked_by words ≡ Some (asks.Mix frames) → page_size_of words ≡ PAGE
 mix_page words frames e =
     let mix = kind_of_words words (asks.Mix frames) e in
-    let size = plain_size mix.rest frames mix.holds in
-    let s = sized plain_options mix.rest size.value size.is in
-    ap page_size_of mix.words_are ∙ ap page_or (no_page plain_options refl mix.rest s.values s.values_are)
+    ap page_size_of mix.words_are ∙ plain_page mix.rest frames mix.holds
 
 -- bounds
 
@@ -103,8 +107,8 @@ pub record HasBounds (count bytes : ℕ) : Type 0 where
 size_bounds : (known words : List (List ℕ)) (size : Size) → size_behind known words ≡ Some size → HasBounds size.frames size.page_bytes
 size_bounds known words size e =
     let s = sized known words size e in
-    let frames = few_frames _ _ size s.forms in
-    let page = small_page _ _ size s.forms in
+    let frames = few_frames _ size.frames s.forms.frames_are in
+    let page = small_page _ size.page_bytes s.forms.page_is in
     record { few = frames.0; frames = omega (arith, frames.1); some = page.0; page = page.1 }
 
 plain_bounds : (words : List (List ℕ)) (frames : ℕ) → frames_behind words ≡ Some frames → HasBounds frames PAGE
