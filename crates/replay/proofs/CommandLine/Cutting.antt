@@ -1,6 +1,7 @@
 -- Words that are cut into options, one option after another.
-use Rattle.std.proofs.Common.{◌≡◌, ◌||◌, Bool, true, false, List, ℕ, [], ◌∷◌, Option, Some, None, refl, ap, subst, ◌∙◌, option_map}
+use Rattle.std.proofs.Common.{◌≡◌, Bool, true, false, List, ℕ, [], ◌∷◌, Option, Some, None, refl, ap, subst, ◌∙◌, option_map}
 use Rattle.std.specs.List.{AllByRecursion, list_any}
+use Rattle.std.proofs.lemmas.Bool.{or_from}
 use Rattle.std.specs.Option.{option_map_or}
 use Rattle.replay.specs.Commanding.{CommandOption, is_value, option_in, options_of}
 use Rattle.replay.proofs.CommandLine.Spelling.{spelled}
@@ -61,9 +62,6 @@ module _ (P : List (List ℕ) → List CommandOption → Type 0) (none : P [] []
 abbrev pub ArePlain : List CommandOption → Type 0
 ArePlain options = AllByRecursion (λ (o : CommandOption). is_value o.value ≡ true) options
 
-pub or_false : (a b : Bool) → a ≡ false → b ≡ false → (a || b) ≡ false
-or_false a b e f = ap (λ (a : Bool). a || b) e ∙ f
-
 -- A test that fails at an option in one word, at its name and at a plain value fails at each word.
 module _ (test : List ℕ → Bool) (Q : CommandOption → Type 0)
     (joined : (word : List ℕ) (o : CommandOption) → option_in word ≡ Some o → Q o → test word ≡ false)
@@ -74,5 +72,5 @@ module _ (test : List ℕ → Bool) (Q : CommandOption → Type 0)
 
   pub fails : (words : List (List ℕ)) (options : List CommandOption) → options_of words ≡ Some options → Fails words options
   fails = by_cut Fails (λ qs plains. refl)
-      (λ word words o options is rest qs plains. or_false _ _ (joined word o is qs.0) (rest qs.1 plains.1))
-      (λ word value words options is rest qs plains. or_false _ _ (alone word value is qs.0) (or_false _ _ (plain value plains.0) (rest qs.1 plains.1)))
+      (λ word words o options is rest qs plains. or_from _ _ (joined word o is qs.0) (rest qs.1 plains.1))
+      (λ word value words options is rest qs plains. or_from _ _ (alone word value is qs.0) (or_from _ _ (plain value plains.0) (rest qs.1 plains.1)))

@@ -1,13 +1,14 @@
 -- The first value of a name in words that ask for something is that of the option of this name.
 use Rattle.std.proofs.Common.{◌≡◌, ◌==◌, ◌||◌, ℕ, Bool, true, false, cond, not, List, [], ◌∷◌, find, Option, Some, None, refl, sym, ap, ◌∙◌, codes, bytes_eq, option_map, option_and_then, is_some, slice_get, unwrap_or}
 use Rattle.std.specs.List.{AllByRecursion, after_first, before_first, list_any}
+use Rattle.std.proofs.lemmas.Bool.{not-true, or_from, or_parts}
 use Rattle.std.specs.Option.{option_map_or, option_or}
 use Rattle.vm_ids.specs.declared.numbers.TheConstants.{PAGE}
 use Rattle.replay.specs.declared.asked.Size.{Size}
 use Rattle.replay.specs.Commanding.{CommandOption, Values, size_behind, first_value, is_equals, is_hyphened, is_known, is_value, option_in, options_among, options_of, page_of, value_in, value_named, values_behind}
 use Rattle.replay.proofs.CommandLine.Spelling.{begins, differs, spelled}
-use Rattle.replay.proofs.CommandLine.Cutting.{ArePlain, by_cut, fails, or_false}
-use Rattle.replay.proofs.CommandLine.Values.{AreOwn, not_true, or_none}
+use Rattle.replay.proofs.CommandLine.Cutting.{ArePlain, by_cut, fails}
+use Rattle.replay.proofs.CommandLine.Values.{AreOwn}
 use Rattle.replay.proofs.CommandLine.Right.{right, sized}
 
 -- a name that a hyphen begins, without the sign
@@ -34,7 +35,7 @@ module _ (rest : List ℕ) (alone : option_in (45 ∷ rest) ≡ None) where
 
   value_other : (word : List ℕ) → is_value word ≡ true → is_hyphened word ≡ false
   value_other [] plain = refl
-  value_other (b ∷ bs) plain = not_true (b == 45) plain
+  value_other (b ∷ bs) plain = not-true (b == 45) plain
 
   plain_differs : (word : List ℕ) → is_value word ≡ true → bytes_eq word name ≡ false
   plain_differs word plain = other_differs word (value_other word plain)
@@ -94,8 +95,8 @@ module _ (rest : List ℕ) (alone : option_in (45 ∷ rest) ≡ None) where
   pub lacking : (words : List (List ℕ)) → Lacks words → first_value name words ≡ None
   lacking [] lacks = refl
   lacking (word ∷ words) lacks =
-      let first = or_none (gives word) (list_any gives words) lacks in
-      let parts = or_none (bytes_eq word name) (is_some (value_in name word)) first.0 in
+      let first = or_parts (gives word) (list_any gives words) lacks in
+      let parts = or_parts (bytes_eq word name) (is_some (value_in name word)) first.0 in
       ap (λ (b : Bool). cond b (slice_get words 0) (option_or (value_in name word) (first_value name words))) parts.0
       ∙ ap (λ (o : Option (List ℕ)). option_or o (first_value name words)) (none_of (value_in name word) parts.1) ∙ lacking words first.1
     where
@@ -111,9 +112,9 @@ module _ (rest : List ℕ) (alone : option_in (45 ∷ rest) ≡ None) where
   unknown_lacks known words values e none =
       let r = right known words values e in
       fails gives (λ (o : CommandOption). bytes_eq o.name name ≡ false)
-      (λ word o is other. or_false _ _ (joined_differs word o is) (ap is_some (ap (option_and_then (λ (o : CommandOption). cond (bytes_eq o.name name) (Some o.value) None)) is ∙ ap (λ (b : Bool). cond b (Some o.value) None) other)))
-      (λ word value is other. or_false _ _ other (ap (λ (x : Option CommandOption). is_some (option_and_then (λ (o : CommandOption). cond (bytes_eq o.name name) (Some o.value) None) x)) is))
-      (λ word plain. or_false _ _ (plain_differs word plain) (ap is_some (plain_gives_none word plain)))
+      (λ word o is other. or_from _ _ (joined_differs word o is) (ap is_some (ap (option_and_then (λ (o : CommandOption). cond (bytes_eq o.name name) (Some o.value) None)) is ∙ ap (λ (b : Bool). cond b (Some o.value) None) other)))
+      (λ word value is other. or_from _ _ other (ap (λ (x : Option CommandOption). is_some (option_and_then (λ (o : CommandOption). cond (bytes_eq o.name name) (Some o.value) None) x)) is))
+      (λ word plain. or_from _ _ (plain_differs word plain) (ap is_some (plain_gives_none word plain)))
       words r.options r.cut (own_other known r.options r.own none) r.plain
 
   -- nor is any of the words among which these options are
@@ -121,16 +122,16 @@ module _ (rest : List ℕ) (alone : option_in (45 ∷ rest) ≡ None) where
   unfolding options_among
   among_lacks flag [] lacks = refl
   among_lacks true (word ∷ words) lacks =
-      let parts = or_none (gives word) (list_any gives (options_among false words)) lacks in
+      let parts = or_parts (gives word) (list_any gives (options_among false words)) lacks in
       ap (λ (b : Bool). b || list_any gives words) parts.0 ∙ among_lacks false words parts.1
   among_lacks false (word ∷ words) lacks = by (is_hyphened word) refl lacks (among_lacks (not (list_any is_equals word)) words) (among_lacks false words)
     where
       by : (b : Bool) → is_hyphened word ≡ b → Lacks (cond b (word ∷ options_among (not (list_any is_equals word)) words) (options_among false words))
           → (Lacks (options_among (not (list_any is_equals word)) words) → Lacks words) → (Lacks (options_among false words) → Lacks words) → Lacks (word ∷ words)
       by true t lacks option rest =
-          let parts = or_none (gives word) (list_any gives (options_among (not (list_any is_equals word)) words)) lacks in
+          let parts = or_parts (gives word) (list_any gives (options_among (not (list_any is_equals word)) words)) lacks in
           ap (λ (b : Bool). b || list_any gives words) parts.0 ∙ option parts.1
-      by false t lacks option rest = or_false _ _ (or_false _ _ (other_differs word t) (ap is_some (other_gives_none word t))) (rest lacks)
+      by false t lacks option rest = or_from _ _ (or_from _ _ (other_differs word t) (ap is_some (other_gives_none word t))) (rest lacks)
 
 -- the page size that words name is the one that they ask for
 

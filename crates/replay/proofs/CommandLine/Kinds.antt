@@ -1,7 +1,7 @@
 -- What words are that ask for something.
 use Rattle.std.proofs.Common.{◌≡◌, ◌≤◌, ◌^◌, ◌⊎◌, ℕ, Bool, true, false, cond, List, [], ◌∷◌, Option, Some, refl, sym, ap, ◌∙◌, inl, inr, subst, codes, bytes_eq, arith, nat_le, option_map}
 use Rattle.std.specs.Prelude.{◌&&◌, IfOk, Result, Ok, Err}
-use Rattle.std.proofs.lemmas.Bool.{leb-true}
+use Rattle.std.proofs.lemmas.Bool.{and_parts, leb-true}
 use Rattle.vm_ids.specs.declared.numbers.TheConstants.{PAGE}
 use Rattle.actor_script.specs.Operands.{number_of}
 use Rattle.replay.specs.declared.asked.Asked.{Asked}
@@ -11,7 +11,7 @@ use Rattle.replay.specs.declared.asked.Size.{Size}
 use Rattle.replay.specs.Commanding.{asked_by, first_value, frames_behind, if_lines, line_count_of, options_among, others_among, page_size_of, plain_options, run_options, script_of, size_behind, trial_behind, trial_of}
 use Rattle.replay.proofs.CommandLine.First.{no_page, no_page_among, page_behind, page_or}
 use Rattle.replay.proofs.CommandLine.Right.{Made, few_frames, made_by_map, made_by_test, made_by_then, sized, small_page}
-use Rattle.replay.proofs.CommandLine.Values.{and_both, same_text}
+use Rattle.replay.proofs.CommandLine.Values.{same_text}
 
 -- a word, and what is so of the words behind it
 pub record IsWord (name : List ℕ) (P : List (List ℕ) → Type 0) (words : List (List ℕ)) : Type 0 where
@@ -136,7 +136,7 @@ HasFewLines n = (1 ≤ n) × (n ≤ 1000000)
 few_if : (n lines : ℕ) → if_lines n ≡ Some lines → HasFewLines lines
 few_if n lines e =
     let test = made_by_test (nat_le 1 n && nat_le n 1000000) n lines e in
-    let both = and_both _ _ test.0 in
+    let both = and_parts _ _ test.0 in
     subst HasFewLines test.1 (leb-true 1 n both.0, leb-true n 1000000 both.1)
 
 script_few : (words : List (List ℕ)) (script : Generated) → script_of words ≡ Some script → HasFewLines script.lines

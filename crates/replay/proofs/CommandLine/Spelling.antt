@@ -2,6 +2,7 @@
 use Rattle.std.proofs.Common.{◌≡◌, ◌==◌, ◌||◌, ◌&&◌, ◌+◌, ℕ, suc, Bool, true, false, cond, not, List, [], ◌∷◌, take, drop, Option, Some, None, refl, sym, ap, ◌∙◌, arith, one-add, eqb-true, bytes_eq}
 use Rattle.std.specs.List.{after_first, before_first, list_any, position_or_len}
 use Rattle.std.specs.Prelude.{option_and_then, option_map}
+use Rattle.std.proofs.lemmas.Bool.{false_from_ne_true}
 use Rattle.std.proofs.lemmas.Slice.Eq.{bytes_eq-Decides}
 use Rattle.clap.specs.Lexer.{long_of, long_of_rest, name_and_value, short_of, short_of_rest, strip_byte}
 use Rattle.replay.specs.Commanding.{CommandOption, hyphened, is_equals, is_value, option_in}
@@ -189,11 +190,7 @@ plain_word (b ∷ word) e = by (b == 45) refl
         }
 
 pub differs : (a b : List ℕ) → (a ≡ b → ⊥) → bytes_eq a b ≡ false
-differs a b other = by (bytes_eq a b) refl
-  where
-    by : (t : Bool) → bytes_eq a b ≡ t → t ≡ false
-    by true t = absurd (other ((bytes_eq-Decides a b).0 t))
-    by false t = refl
+differs a b other = false_from_ne_true (bytes_eq a b) (λ t. other ((bytes_eq-Decides a b).0 t))
 
 -- what clap reads as a long option isn't `--`
 pub long_no_escape : (word name : List ℕ) (value : Option (List ℕ)) → long_of word ≡ Some (name, value) → bytes_eq word (hyphened []) ≡ false

@@ -2,29 +2,18 @@
 use Rattle.std.proofs.Common.{◌≡◌, ◌||◌, ◌&&◌, ◌⊎◌, ℕ, Bool, true, false, cond, not, List, [], ◌∷◌, ◌++◌, drop, find, map, Option, Some, None, refl, sym, ap, ap₂, subst, ◌∙◌, inl, inr, bytes_eq, slice_get, option_map, option_and_then}
 use Rattle.std.specs.List.{AllByRecursion, list_any}
 use Rattle.std.specs.Option.{option_map_or}
+use Rattle.std.proofs.lemmas.Bool.{and_parts, not-true, or_from, or_parts, or_right, true_from_ne_false}
 use Rattle.std.proofs.lemmas.List.Folds.{list_any-append}
 use Rattle.std.proofs.lemmas.Slice.Eq.{bytes_eq-Decides}
 use Rattle.clap.specs.Walk.{Row, Rule, Text, arg_by_id, arg_by_index, arg_by_long, arg_by_short, first_of, has_row}
 use Rattle.replay.specs.Commanding.{CommandOption, are_proper, hyphened, is_known, is_value, value_named}
 use Rattle.replay.specs.Reading.{are_named, have_values}
-use Rattle.replay.proofs.CommandLine.Cutting.{ArePlain, or_false}
+use Rattle.replay.proofs.CommandLine.Cutting.{ArePlain}
 use Rattle.replay.proofs.CommandLine.Turns.{IsOption, IsOptions, opt, same_bytes}
 use Rattle.replay.proofs.CommandLine.Walks.{Fits, Known, id_of, row_of}
 
 pub same_text : (a b : Text) → bytes_eq a b ≡ true → a ≡ b
 same_text a b e = (bytes_eq-Decides a b).0 e
-
-pub or_none : (a b : Bool) → (a || b) ≡ false → (a ≡ false) × (b ≡ false)
-or_none true b e = absurd (cc)
-or_none false b e = (refl, e)
-
-pub and_both : (a b : Bool) → (a && b) ≡ true → (a ≡ true) × (b ≡ true)
-and_both true b e = (refl, e)
-and_both false b e = absurd (cc)
-
-pub not_true : (a : Bool) → not a ≡ true → a ≡ false
-not_true true e = absurd (cc)
-not_true false e = refl
 
 same_truth : (a b : Bool) → (a ≡ true → b ≡ true) → (b ≡ true → a ≡ true) → a ≡ b
 same_truth true b h k = sym (h refl)
@@ -57,7 +46,7 @@ rule_found (own ∷ known) name = by (bytes_eq own name) refl (rule_found known 
 unnamed : (known : List Text) → are_named known ≡ true → is_known known (hyphened []) ≡ false
 unnamed [] named = refl
 unnamed ([] ∷ known) named = absurd (cc)
-unnamed ((x ∷ xs) ∷ known) named = unnamed known (and_both _ _ named).1
+unnamed ((x ∷ xs) ∷ known) named = unnamed known (and_parts _ _ named).1
 
 pub known_option : (known : List Text) → are_named known ≡ true → (name : Text) → is_known known (hyphened name) ≡ true → IsOption (rules_of known) name
 known_option known named name e =
@@ -72,11 +61,7 @@ unknown_none : (known : List Text) (name : Text) → is_known known (hyphened na
 unknown_none known name e = long_is_id known name ∙ rule_found known name ∙ ap (λ (b : Bool). cond b (Some (opt name)) None) e
 
 option_known : (known : List Text) (name : Text) → IsOption (rules_of known) name → is_known known (hyphened name) ≡ true
-option_known known name o = by (is_known known (hyphened name)) (sym (rule_found known name) ∙ o.id)
-  where
-    by : (b : Bool) → cond b (Some (opt name)) None ≡ Some (opt name) → b ≡ true
-    by true e = refl
-    by false e = absurd (cc)
+option_known known name o = true_from_ne_false (is_known known (hyphened name)) (λ f. let none : None ≡ Some (opt name) = sym (unknown_none known name f) ∙ o.long in cc)
 
 none_short : (known : List Text) (x : ℕ) → arg_by_short (rules_of known) x ≡ None
 none_short [] x = refl
@@ -127,11 +112,11 @@ own_known known named (o ∷ options) own =
 pub proper_parts : (known : List Text) (options : List CommandOption) → are_proper known options ≡ true → AreOwn known options × ArePlain options
 proper_parts known [] e = (tt, tt)
 proper_parts known (o ∷ options) e =
-    let parts = and_both _ _ e in
-    let first = and_both _ _ parts.0 in
-    let later = and_both _ _ parts.1 in
+    let parts = and_parts _ _ e in
+    let first = and_parts _ _ parts.0 in
+    let later = and_parts _ _ parts.1 in
     let rest = proper_parts known options later.1 in
-    ((first.0, not_true _ later.0, rest.0), (first.1, rest.1))
+    ((first.0, not-true _ later.0, rest.0), (first.1, rest.1))
 
 proper_whole : (known : List Text) (options : List CommandOption) → AreOwn known options → ArePlain options → are_proper known options ≡ true
 proper_whole known [] own plain = refl
@@ -158,10 +143,10 @@ all_named (own ∷ known) options plain =
 -- what holds of what every known name finds
 one_named : (found : Text → Option Text) (known : List Text) (name : Text) → have_values found known ≡ true → is_known known (hyphened name) ≡ true → option_map_or is_value (found name) true ≡ true
 one_named found [] name all e = absurd (cc)
-one_named found (own ∷ known) name all e = by (bytes_eq own name) refl e (one_named found known name (and_both _ _ all).1)
+one_named found (own ∷ known) name all e = by (bytes_eq own name) refl e (one_named found known name (and_parts _ _ all).1)
   where
     by : (b : Bool) → bytes_eq own name ≡ b → (b || is_known known (hyphened name)) ≡ true → (is_known known (hyphened name) ≡ true → option_map_or is_value (found name) true ≡ true) → option_map_or is_value (found name) true ≡ true
-    by true t e rest = subst (λ (n : Text). option_map_or is_value (found n) true ≡ true) (same_text own name t) (and_both _ _ all).0
+    by true t e rest = subst (λ (n : Text). option_map_or is_value (found n) true ≡ true) (same_text own name t) (and_parts _ _ all).0
     by false t e rest = rest e
 
 -- each option is the one that its name finds
@@ -174,10 +159,6 @@ found_again name (o ∷ options) x e = by (bytes_eq o.name name) refl e (found_a
         → (value_named name options ≡ Some x → is_again name options ≡ true) → is_again name (o ∷ options) ≡ true
     by true t e later = ap (λ (b : Bool). b || is_again name options) (ap (bytes_eq name) (same_text o.name name t) ∙ same_bytes name)
     by false t e later = or_right (bytes_eq name o.name) (is_again name options) (later e)
-      where
-        or_right : (a b : Bool) → b ≡ true → (a || b) ≡ true
-        or_right true b e = refl
-        or_right false b e = e
 
 each_plain : (known : List Text) (options : List CommandOption) → AreOwn known options → ((name x : Text) → is_known known name ≡ true → value_named name options ≡ Some x → is_value x ≡ true) → ArePlain options
 each_plain known [] own h = tt
@@ -238,9 +219,9 @@ fits_apart known rows [] fits = (tt, refl)
 fits_apart known rows (o ∷ options) fits =
     let more = rows ++ row_of o ∷ [] in
     let rest = fits_apart known more options fits.2 in
-    let parts = or_none _ _ (sym (meet_last (rules_of known) rows o options fits.0 (fits_known (rules_of known) more options fits.2)) ∙ rest.1) in
+    let parts = or_parts _ _ (sym (meet_last (rules_of known) rows o options fits.0 (fits_known (rules_of known) more options fits.2)) ∙ rest.1) in
     let name : is_known known o.name ≡ true = ap (is_known known) fits.0.name_is ∙ option_known known (id_of o) fits.0.option in
-    ((name, parts.1, rest.0), or_false _ _ fits.1 parts.0)
+    ((name, parts.1, rest.0), or_from _ _ fits.1 parts.0)
 
 pub fits_own : (known : List Text) (options : List CommandOption) → Fits (rules_of known) [] options → AreOwn known options
 fits_own known options fits = (fits_apart known [] options fits).0
@@ -250,8 +231,8 @@ module _ (known : List Text) (named : are_named known ≡ true) where
   own_apart rows [] own apart = tt
   own_apart rows (o ∷ options) own apart =
       let all = own_known known named (o ∷ options) own in
-      let parts = or_none _ _ apart in
-      (all.0, parts.0, own_apart (rows ++ row_of o ∷ []) options own.2 (meet_last (rules_of known) rows o options all.0 all.1 ∙ or_false _ _ parts.1 own.1))
+      let parts = or_parts _ _ apart in
+      (all.0, parts.0, own_apart (rows ++ row_of o ∷ []) options own.2 (meet_last (rules_of known) rows o options all.0 all.1 ∙ or_from _ _ parts.1 own.1))
 
   pub own_fits : (options : List CommandOption) → AreOwn known options → Fits (rules_of known) [] options
   own_fits options own = own_apart [] options own (meet_none options)
