@@ -1,5 +1,5 @@
 -- What words are that ask for something.
-use Rattle.std.proofs.Common.{◌≡◌, ◌≤◌, ◌^◌, ◌⊎◌, ℕ, Bool, true, false, cond, List, [], ◌∷◌, Option, Some, refl, sym, ap, ◌∙◌, inl, inr, subst, codes, bytes_eq, arith, nat_le, option_map}
+use Rattle.std.proofs.Common.{◌≡◌, ◌≤◌, ◌^◌, ℕ, Bool, true, false, cond, List, [], ◌∷◌, Option, Some, refl, sym, ap, ◌∙◌, subst, codes, bytes_eq, arith, nat_le, option_map}
 use Rattle.std.specs.Prelude.{◌&&◌, IfOk, Result, Ok, Err}
 use Rattle.std.proofs.lemmas.Bool.{and_parts, leb-true}
 use Rattle.vm_ids.specs.declared.numbers.TheConstants.{PAGE}
@@ -42,30 +42,24 @@ trial_is rest asked e =
     mapped (codes "trial") rest (asks.Trial script.value) (frames_behind (options_among false rest)) asked
     (λ frames is. record { rest = rest; words_are = refl; holds = record { script_is = script.is; frames_are = is } }) script.holds
 
--- what the first test that holds makes
-chosen : {A : Type 0} (b : Bool) (x y : Option A) (a : A) → cond b x y ≡ Some a → ((b ≡ true) × (x ≡ Some a)) ⊎ (y ≡ Some a)
-chosen true x y a e = inl (refl, e)
-chosen false x y a e = inr e
+-- a word is this one, or one of the others
+this_or : (name command : List ℕ) (rest : List (List ℕ)) (asked : Asked) (this others : Option Asked) → cond (bytes_eq command name) this others ≡ Some asked
+    → (this ≡ Some asked → IsKind (name ∷ rest) asked) → (others ≡ Some asked → IsKind (command ∷ rest) asked) → IsKind (command ∷ rest) asked
+this_or name command rest asked this others e f g = by (bytes_eq command name) refl e
+  where
+    by : (b : Bool) → bytes_eq command name ≡ b → cond b this others ≡ Some asked → IsKind (command ∷ rest) asked
+    by true t e = subst (λ (word : List ℕ). IsKind (word ∷ rest) asked) (sym (same_text command name t)) (f e)
+    by false t e = g e
 
 kind_of_words : (words : List (List ℕ)) (asked : Asked) → asked_by words ≡ Some asked → IsKind words asked
 unfolding asked_by
 kind_of_words [] asked e = absurd (cc)
-kind_of_words (command ∷ rest) asked e = elim (chosen (bytes_eq command (codes "run")) _ _ asked e) [
-  | inl run ↦ as_word (codes "run") run.0 (mapped (codes "run") rest asks.Run _ asked (λ size is. record { rest = rest; words_are = refl; holds = is }) run.1)
-  | inr e ↦ elim (chosen (bytes_eq command (codes "generate")) _ _ asked e) [
-    | inl generate ↦ as_word (codes "generate") generate.0 (mapped (codes "generate") rest asks.Generate _ asked (λ script is. record { rest = rest; words_are = refl; holds = is }) generate.1)
-    | inr e ↦ elim (chosen (bytes_eq command (codes "trial")) _ _ asked e) [
-      | inl trial ↦ as_word (codes "trial") trial.0 (trial_is rest asked trial.1)
-      | inr e ↦ elim (chosen (bytes_eq command (codes "mix")) _ _ asked e) [
-        | inl mix ↦ as_word (codes "mix") mix.0 (mapped (codes "mix") rest asks.Mix _ asked (λ frames is. record { rest = rest; words_are = refl; holds = is }) mix.1)
-        | inr e ↦ absurd (cc)
-      ]
-    ]
-  ]
-]
-  where
-    as_word : (name : List ℕ) → bytes_eq command name ≡ true → IsKind (name ∷ rest) asked → IsKind (command ∷ rest) asked
-    as_word name t kind = subst (λ (word : List ℕ). IsKind (word ∷ rest) asked) (sym (same_text command name t)) kind
+kind_of_words (command ∷ rest) asked e =
+    this_or (codes "run") command rest asked _ _ e (mapped (codes "run") rest asks.Run _ asked (λ size is. record { rest = rest; words_are = refl; holds = is }))
+    (λ e. this_or (codes "generate") command rest asked _ _ e (mapped (codes "generate") rest asks.Generate _ asked (λ script is. record { rest = rest; words_are = refl; holds = is }))
+    (λ e. this_or (codes "trial") command rest asked _ _ e (trial_is rest asked)
+    (λ e. this_or (codes "mix") command rest asked _ _ e (mapped (codes "mix") rest asks.Mix _ asked (λ frames is. record { rest = rest; words_are = refl; holds = is }))
+    (λ e. absurd (cc)))))
 
 -- words whose pages have 4,096 bytes ask for a size, too
 plain_size : (words : List (List ℕ)) (frames : ℕ) → frames_behind words ≡ Some frames → Made (size_behind plain_options words) (λ size. size.frames ≡ frames)
